@@ -1,0 +1,89 @@
+ghost use Rattle.std.specs.Prelude.{◌≡◌, All, IfOk, OnOk, OnErr, map, string_bytes, option_map, Some};
+ghost use Rattle.std.specs.Ordering.{nat_cmp};
+ghost use Rattle.std.specs.Cmp.Lexicographic.{slice_cmp};
+ghost use Rattle.std.specs.List.Sorted.{IsStrictlySortedBy};
+ghost use Rattle.std.specs.FinMap.{empty, get, insert, remove, keys};
+ghost use Rattle.bx_io.specs.Names.{IsName};
+
+use crate::fault::Memory;
+use std::alloc::Global;
+use std::collections::BTreeMap;
+use std::marker::Model;
+
+/// Bytes under names, in memory. All that keepers in memory hold stands in one of these.
+#[derive(Drop)]
+pub struct Holdings {
+    map: BTreeMap<String, Vec<u8>>,
+}
+
+impl Model for Holdings {
+    ghost use Rattle.bx_io.specs.Holdings as told;
+    ghost use Rattle.bx_io.specs.Kept.{holdings_code};
+
+    ghost Value = { told.Holdings };
+
+    ghost coded = { holdings_code };
+
+    ghost use Rattle.bx_io.specs.Stored.{holdings_of, HoldsNames};
+
+    ghost view = { λ h. holdings_of h.map };
+
+    ghost invariant = { λ h. HoldsNames h.map };
+}
+
+impl Holdings {
+    /// Nothing is held.
+    pub fn new(alloc: Global) -> Holdings
+        ensures { result ≡ empty }
+    {
+        Holdings {
+            map: BTreeMap::new(alloc),
+        }
+    }
+
+    /// The bytes under the name.
+    pub fn get(&self, name: &str) -> Option<&Vec<u8>>
+        ensures { option_map (λ bytes. bytes.now.items) result ≡ get self.now name.now }
+    {
+        self.map.get(name)
+    }
+
+    /// Holds the bytes under the name, in place of what was held there.
+    pub fn put(&mut self, name: String, bytes: Vec<u8>) -> Result<(), Memory>
+        requires { IsName (string_bytes name) }
+        ensures held { OnOk result (self.new ≡ insert self.old (string_bytes name) bytes.items) }
+        ensures refused { OnErr result (self.new ≡ self.old) }
+    {
+        self.map.insert(name, bytes)?;
+        Ok(())
+    }
+
+    /// Holds nothing under the name.
+    pub fn drop_name(&mut self, name: &str)
+        ensures { self.new ≡ remove self.old name.now }
+    {
+        self.map.remove(name);
+    }
+
+    /// The held names, rising by bytes.
+    pub fn names(&self, alloc: Global) -> Result<Vec<String>, Memory>
+        ensures held { IfOk result (λ names. map string_bytes names.items ≡ keys self.now) }
+        ensures names { IfOk result (λ names. All (λ name. IsName (string_bytes name)) names.items) }
+        ensures rising { IfOk result (λ names. IsStrictlySortedBy (slice_cmp nat_cmp) (map string_bytes names.items)) }
+    {
+        let mut names = Vec::new(alloc);
+        for name in self.map.keys() {
+            names.push(name.clone()?)?;
+        }
+        Ok(names)
+    }
+
+    /// The same holdings once more.
+    pub fn copy(&self) -> Result<Holdings, Memory>
+        ensures { IfOk result (λ copy. copy ≡ self.now) }
+    {
+        Ok(Holdings {
+            map: self.map.clone()?,
+        })
+    }
+}

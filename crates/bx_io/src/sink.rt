@@ -1,0 +1,24 @@
+ghost use Rattle.std.specs.Prelude.{◌≡◌, ℕ, ◌<◌, ◌≤◌, List, Option, length, take, IsErr, IfOk, OnErr};
+ghost use Rattle.std.specs.Io.KnownBytes.{Appends};
+ghost use Rattle.bx_io.specs.Causes.{HasCause};
+
+use crate::fault::Failed;
+
+/// Where bytes go, in order. A sink tells what it has taken or does not; what is said of its bytes is said
+/// where it tells.
+pub trait Sink {
+    // The bytes that were taken, where they are told.
+    ghost taken: { Self → Option (List ℕ) };
+
+    // How often the sink has failed.
+    ghost faults: { Self → ℕ };
+
+    /// Takes the first bytes of `piece`, and answers how many: at least one, where there is one.
+    /// After a fault none was taken.
+    fn write(&mut self, piece: &[u8]) -> Result<usize, Failed>
+        ensures at_most { IfOk result (λ n. n ≤ length piece.now) }
+        ensures at_least { 0 < length piece.now → IfOk result (λ n. 1 ≤ n) }
+        ensures appended { IfOk result (λ n. Appends (taken self.old) (taken self.new) (take n piece.now)) }
+        ensures failed { OnErr result (taken self.new ≡ taken self.old) }
+        ensures cause { HasCause (faults self.old) (faults self.new) (IsErr result) };
+}
