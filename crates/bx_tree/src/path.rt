@@ -1,0 +1,224 @@
+ghost use Rattle.std.specs.Prelude.{◌≡◌, ◌==◌, ◌↔◌, ℕ, List, [], ◌∷◌, ◌++◌, IsTrue, IfOk, MatchResult};
+ghost use Rattle.std.specs.List.{AllByRecursion, slice_split};
+ghost use Rattle.std.specs.Ordering.{as_partial_cmp};
+ghost use Rattle.std.proofs.Common.{rules};
+ghost use Rattle.bx_tree.specs.Paths.{IsAtom, TextBelow, IsBelow, IsPath, IsPathText, Names, is_atom_byte as atom_byte, path_cmp, path_text, same_path};
+ghost use Rattle.bx_tree.specs.Orders.{path_cmp_total, path_cmp_matches, same_path_equiv, path_cmp_partial, same_path_partial};
+
+use std::alloc::{AllocError, AllocFailed, Global};
+use std::cmp::Ordering;
+use std::marker::Model;
+use std::str;
+use std::sync::Arc;
+
+/// The largest number of bytes in a path's text.
+const MAX_PATH: usize = 1024;
+
+/// The largest number of bytes in an atom.
+const MAX_ATOM: usize = 255;
+
+/// Why a text gives no path.
+#[derive(Clone, Copy, Debug, PartialEq, Eq)]
+pub enum PathFault {
+    /// The text is no path text.
+    BadPath,
+    /// There was no memory.
+    Memory,
+}
+
+impl From<AllocError> for PathFault {
+    ghost use Rattle.std.specs.Prelude.{◌≡◌};
+    ghost use Rattle.bx_tree.specs.declared.path.PathFault.TheVariants as path_faults;
+
+    ghost from_gives = { λ _ e. e ≡ path_faults.Memory };
+
+    fn from(_: AllocError) -> Self {
+        PathFault::Memory
+    }
+}
+
+impl<T: Drop> From<AllocFailed<T>> for PathFault {
+    ghost use Rattle.std.specs.Prelude.{◌≡◌};
+    ghost use Rattle.bx_tree.specs.declared.path.PathFault.TheVariants as path_faults;
+
+    ghost from_gives = { λ _ e. e ≡ path_faults.Memory };
+
+    fn from(_: AllocFailed<T>) -> Self {
+        PathFault::Memory
+    }
+}
+
+fn is_atom_byte(byte: u8) -> bool
+    ensures { result ≡ atom_byte byte }
+{
+    matches!(byte, b'A'..=b'Z' | b'a'..=b'z' | b'0'..=b'9' | b'.' | b'_' | b'-')
+}
+
+fn has_atom_bytes(text: &[u8]) -> bool
+    ensures { IsTrue result ↔ AllByRecursion (λ b. IsTrue (atom_byte b)) text.now }
+{
+    text.iter().all(|byte| is_atom_byte(*byte))
+}
+
+/// Whether a text is an atom: 1 to 255 bytes of `A-Z a-z 0-9 . _ -`, and neither `.` nor `..`.
+pub fn is_atom(text: &[u8]) -> bool
+    ensures { IsTrue result ↔ IsAtom text.now }
+{
+    if text.is_empty() || text.len() > MAX_ATOM {
+        return false;
+    }
+    if text == b".".as_slice() || text == b"..".as_slice() {
+        return false;
+    }
+    has_atom_bytes(text)
+}
+
+fn has_atoms(text: &[u8]) -> bool
+    ensures { IsTrue result ↔ AllByRecursion IsAtom (slice_split (λ b. b == 47) text.now) }
+{
+    text.split(|byte| *byte == b'/').all(is_atom)
+}
+
+/// Whether a text names a path: one or more atoms joined by `/`, at most 1,024 bytes in all. An
+/// atom is 1 to 255 bytes of `A-Z a-z 0-9 . _ -`, and neither `.` nor `..`.
+pub fn is_path(text: &[u8]) -> bool
+    ensures { IsTrue result ↔ IsPathText text.now }
+{
+    if text.len() > MAX_PATH {
+        return false;
+    }
+    has_atoms(text)
+}
+
+// Whether a text begins with a directory's text and a `/`.
+pub(crate) fn has_front(text: &[u8], dir: &[u8]) -> bool
+    ensures { IsTrue result ↔ ((rest : List ℕ) × (text.now ≡ dir.now ++ 47 ∷ rest)) }
+{
+    if text.len() <= dir.len() {
+        return false;
+    }
+    if text[dir.len()] != b'/' {
+        return false;
+    }
+    text.starts_with(dir)
+}
+
+fn lies_below(text: &[u8], dir: &[u8]) -> bool
+    ensures { IsTrue result ↔ TextBelow dir.now text.now }
+{
+    if dir == b".".as_slice() {
+        text != b".".as_slice()
+    } else {
+        has_front(text, dir)
+    }
+}
+
+/// The path of a file or a directory, shared. Contracts see it as the list of its atoms, from the
+/// root down; the root has none. Paths are ordered by the bytes of their texts.
+#[derive(Drop)]
+pub struct Path {
+    text: Arc<String>,
+}
+
+impl Model for Path {
+    ghost use Rattle.std.specs.Prelude.{List, ℕ};
+    ghost use Rattle.std.specs.Arc.{arc_value};
+    ghost use Rattle.std.specs.String.{string_bytes};
+    ghost use Rattle.bx_tree.specs.Paths.{path_of, IsKept};
+
+    ghost Value = { List (List ℕ) };
+
+    ghost view = { λ p. path_of (string_bytes (arc_value p.text)) };
+
+    ghost invariant = { λ p. IsKept (string_bytes (arc_value p.text)) };
+}
+
+impl Path {
+    /// The path that a text names. The root has no such text: see [`Path::root`].
+    pub fn read(alloc: Global, text: &[u8]) -> Result<Path, PathFault>
+        ensures { MatchResult result
+            (λ path. Names text.now path)
+            (λ fault. fault ≡ PathFault.BadPath → IsPathText text.now → ⊥) }
+    {
+        let Ok(name) = str::from_utf8(text) else {
+            return Err(PathFault::BadPath);
+        };
+        if !is_path(text) {
+            return Err(PathFault::BadPath);
+        }
+        Ok(Path {
+            text: Arc::new(alloc, String::from_str(alloc, name)?)?,
+        })
+    }
+
+    /// The root, which lies above all other paths.
+    pub fn root(alloc: Global) -> Result<Path, AllocError>
+        ensures { IfOk result (λ path. path ≡ []) }
+    {
+        Ok(Path {
+            text: Arc::new(alloc, String::from_str(alloc, ".")?)?,
+        })
+    }
+
+    /// The text: atoms joined by `/`, and `.` for the root.
+    pub fn text(&self) -> &str
+        ensures text { result.now ≡ path_text self.now }
+        ensures is_path { IsPath self.now }
+    {
+        self.text.as_str()
+    }
+
+    /// Whether the path lies strictly below a directory.
+    pub fn is_below(&self, dir: &Path) -> bool
+        ensures { IsTrue result ↔ IsBelow self.now dir.now }
+    {
+        lies_below(self.text().as_bytes(), dir.text().as_bytes())
+    }
+
+    /// The same path, shared.
+    pub fn share(&self) -> Result<Path, AllocError>
+        ensures { IfOk result (λ path. path ≡ self.now) }
+    {
+        Ok(Path {
+            text: self.text.clone()?,
+        })
+    }
+}
+
+impl PartialEq for Path {
+    ghost eq = { same_path };
+
+    ghost laws = { same_path_partial };
+
+    fn eq(&self, other: &Path) -> bool {
+        self.text() == other.text()
+    }
+}
+
+impl Eq for Path {
+    ghost laws = { same_path_equiv };
+}
+
+impl Ord for Path {
+    ghost cmp = { path_cmp };
+
+    ghost total = { path_cmp_total };
+
+    ghost matches_partial_cmp = { Prim.search rules };
+
+    ghost matches_eq = { path_cmp_matches };
+
+    fn cmp(&self, other: &Path) -> Ordering {
+        self.text().cmp(other.text())
+    }
+}
+
+impl PartialOrd for Path {
+    ghost partial_cmp = { as_partial_cmp path_cmp };
+
+    ghost laws = { path_cmp_partial };
+
+    fn partial_cmp(&self, other: &Path) -> Option<Ordering> {
+        Some(self.cmp(other))
+    }
+}
