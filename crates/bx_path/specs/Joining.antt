@@ -1,0 +1,35 @@
+-- What a text joined to a path makes of it.
+use Rattle.std.specs.Prelude.{ℕ, Bool, not, ◌&&◌, ◌==◌, nat_le, List, [], ◌∷◌, ◌++◌, length, take, codes, Option, Some, None, option_and_then, if◌then◌else◌}
+use Rattle.std.specs.List.{list_all, slice_split}
+use Rattle.std.specs.Str.{bytes_eq}
+use Rattle.bx_tree.specs.Paths.{Atoms, is_atom_byte, path_text}
+
+-- whether a text is an atom: 1 to 255 bytes of those that atoms have, and neither `.` nor `..`
+abbrev pub is_atom : List ℕ → Bool
+is_atom text =
+    nat_le 1 (length text) && nat_le (length text) 255 && list_all is_atom_byte text && not (bytes_eq text (codes ".")) && not (bytes_eq text (codes ".."))
+
+-- the path without its last atom; the root has none
+abbrev pub parent : Atoms → Option Atoms
+parent [] = None
+parent (atom ∷ rest) = Some (take (length rest) (atom ∷ rest))
+
+-- where one part leads: `.` stays, `..` goes up, an atom goes down, and nothing else leads anywhere
+abbrev pub step : Atoms → List ℕ → Option Atoms
+step path part =
+    if bytes_eq part (codes ".") then Some path else
+    (if bytes_eq part (codes "..") then parent path else
+    (if is_atom part then Some (path ++ part ∷ []) else None))
+
+-- where the parts lead, one after the other
+abbrev pub walk : Atoms → List (List ℕ) → Option Atoms
+walk path [] = Some path
+walk path (part ∷ parts) = option_and_then (λ next. walk next parts) (step path part)
+
+-- a path whose text has at most 1,024 bytes
+abbrev pub if_short : Atoms → Option Atoms
+if_short path = if nat_le (length (path_text path)) 1024 then Some path else None
+
+-- where the parts of a text between its `/` lead from a path, if the end is short enough to be a path
+abbrev pub join_of : Atoms → List ℕ → Option Atoms
+join_of base text = option_and_then if_short (walk base (slice_split (λ b. b == 47) text))

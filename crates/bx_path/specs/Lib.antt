@@ -1,0 +1,4 @@
+pub mod Joining
+pub mod Globbing
+pub mod Parts
+pub mod Rows

@@ -1,0 +1,144 @@
+ghost use Rattle.std.specs.Prelude.{◌≡◌, ◌≢◌, ◌==◌, ◌↔◌, ◌∷◌, ◌++◌, Some, IsTrue, MatchOption, MatchResult};
+ghost use Rattle.std.specs.List.{AllByRecursion, slice_split};
+ghost use Rattle.bx_tree.specs.Paths.{IsAtom, IsBelow};
+ghost use Rattle.bx_path.specs.Globbing.{IsPattern, glob_of, is_pattern_byte as pattern_byte, behind, is_hit as is_hit_of, last_meets as last_meets_pattern};
+
+use crate::matching::meets;
+use bx_tree::{Path, Tree};
+use std::alloc::{AllocError, AllocFailed, Global};
+
+/// The largest number of bytes in a pattern.
+const MAX_PATTERN: usize = 255;
+
+/// Why a glob gives no files.
+#[derive(Clone, Copy, Debug, PartialEq, Eq)]
+pub enum GlobFault {
+    /// The pattern is not 1 to 255 bytes of `A-Z a-z 0-9 . _ - * ?`.
+    BadPattern,
+    /// There was no memory.
+    Memory,
+}
+
+impl From<AllocError> for GlobFault {
+    ghost use Rattle.std.specs.Prelude.{◌≡◌};
+    ghost use Rattle.bx_path.specs.declared.globbing.GlobFault.TheVariants as glob_faults;
+
+    ghost from_gives = { λ _ e. e ≡ glob_faults.Memory };
+
+    fn from(_: AllocError) -> Self {
+        GlobFault::Memory
+    }
+}
+
+impl<T: Drop> From<AllocFailed<T>> for GlobFault {
+    ghost use Rattle.std.specs.Prelude.{◌≡◌};
+    ghost use Rattle.bx_path.specs.declared.globbing.GlobFault.TheVariants as glob_faults;
+
+    ghost from_gives = { λ _ e. e ≡ glob_faults.Memory };
+
+    fn from(_: AllocFailed<T>) -> Self {
+        GlobFault::Memory
+    }
+}
+
+fn is_pattern_byte(byte: u8) -> bool
+    ensures { result ≡ pattern_byte byte }
+{
+    matches!(byte, b'A'..=b'Z' | b'a'..=b'z' | b'0'..=b'9' | b'.' | b'_' | b'-' | b'*' | b'?')
+}
+
+fn has_pattern_bytes(text: &[u8]) -> bool
+    ensures { IsTrue result ↔ AllByRecursion (λ b. IsTrue (pattern_byte b)) text.now }
+{
+    text.iter().all(|byte| is_pattern_byte(*byte))
+}
+
+fn is_pattern(text: &[u8]) -> bool
+    ensures { IsTrue result ↔ IsPattern text.now }
+{
+    if text.is_empty() || text.len() > MAX_PATTERN {
+        return false;
+    }
+    has_pattern_bytes(text)
+}
+
+// What stands before and behind the first `/`.
+fn cut_at_slash(text: &[u8]) -> Option<(&[u8], &[u8])>
+    ensures { MatchOption result
+        (AllByRecursion (λ b. b ≢ 47) text.now)
+        (λ parts. AllByRecursion (λ b. b ≢ 47) parts.0.now × (text.now ≡ parts.0.now ++ 47 ∷ parts.1.now)) }
+{
+    for (i, b) in text.iter().enumerate() {
+        if *b == b'/' {
+            return Some((&text[..i], &text[i + 1..]));
+        }
+    }
+    None
+}
+
+// Whether the last atom of a text meets a pattern, and is its only one unless the glob is deep.
+fn last_meets(text: &[u8], pattern: &[u8], deep: bool) -> bool
+    requires { AllByRecursion IsAtom (slice_split (λ b. b == 47) text.now) }
+    ensures { result ≡ last_meets_pattern pattern.now deep (slice_split (λ b. b == 47) text.now) }
+{
+    let mut rest = text;
+    'parts: loop {
+        let Some((_, after)) = cut_at_slash(rest) else {
+            return meets(pattern, rest);
+        };
+        if !deep {
+            return false;
+        }
+        rest = after;
+    }
+}
+
+// The part of a path's text that stands behind a directory above it.
+fn text_behind<'a>(dir: &Path, path: &'a Path) -> &'a [u8]
+    requires { IsBelow path.now dir.now }
+    ensures behind { behind dir.now path.entry.now ≡ Some (slice_split (λ b. b == 47) result.now) }
+    ensures atoms { AllByRecursion IsAtom (slice_split (λ b. b == 47) result.now) }
+{
+    let text = path.text().as_bytes();
+    let front = dir.text();
+    if front == "." {
+        return text;
+    }
+    let (_, rest) = text.split_at(front.len() + 1);
+    rest
+}
+
+fn is_hit(dir: &Path, path: &Path, pattern: &[u8], deep: bool) -> bool
+    ensures { result ≡ is_hit_of dir.now pattern.now deep path.now }
+{
+    if !path.is_below(dir) {
+        return false;
+    }
+    last_meets(text_behind(dir, path), pattern, deep)
+}
+
+/// The files of a tree, in order, that lie in a directory, or anywhere below it where the glob is
+/// deep, and whose last atom meets a pattern: `*` stands for any run of bytes, `?` for one.
+pub fn glob(
+    alloc: Global,
+    tree: &Tree,
+    dir: &Path,
+    pattern: &[u8],
+    deep: bool,
+) -> Result<Vec<Path>, GlobFault>
+    ensures { MatchResult result
+        (λ paths. IsPattern pattern.now × (paths.items ≡ glob_of tree.now dir.now pattern.now deep))
+        (λ fault. fault ≡ GlobFault.BadPattern → IsPattern pattern.now → ⊥) }
+{
+    if !is_pattern(pattern) {
+        return Err(GlobFault::BadPattern);
+    }
+    let files = tree.files();
+    let mut paths = Vec::new(alloc);
+    for file in files {
+        if is_hit(dir, &file.path, pattern, deep) {
+            paths.push(file.path.share()?)?;
+        }
+    }
+    Ok(paths)
+}

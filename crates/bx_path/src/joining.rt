@@ -1,0 +1,94 @@
+ghost use Rattle.std.specs.Prelude.{◌≡◌, ◌==◌, None, Some, IfOk, OnOk, MatchResult};
+ghost use Rattle.std.specs.List.{AllByRecursion, join_with_byte, slice_split};
+ghost use Rattle.bx_tree.specs.Paths.{IsAtom};
+ghost use Rattle.bx_path.specs.Joining.{if_short, join_of, step};
+ghost use Rattle.bx_path.specs.Parts.{parts_now};
+
+use bx_tree::{Path, PathFault, is_atom};
+use std::alloc::{AllocError, Global};
+
+// The parts of a text between its `/`.
+fn parts_of(alloc: Global, text: &[u8]) -> Result<Vec<&[u8]>, AllocError>
+    ensures { IfOk result (λ parts. parts_now parts.items ≡ slice_split (λ b. b == 47) text.entry.now) }
+{
+    text.split(|byte| *byte == b'/').collect(alloc)
+}
+
+// The atoms of a path.
+fn atoms_of(alloc: Global, path: &Path) -> Result<Vec<&[u8]>, AllocError>
+    ensures atoms { IfOk result (λ atoms. parts_now atoms.items ≡ path.entry.now) }
+    ensures valid { IfOk result (λ atoms. AllByRecursion IsAtom (parts_now atoms.items)) }
+{
+    let text = path.text().as_bytes();
+    if text == b".".as_slice() {
+        return Ok(Vec::new(alloc));
+    }
+    parts_of(alloc, text)
+}
+
+// Takes the step of one part.
+fn take_step<'a>(atoms: &mut Vec<&'a [u8]>, part: &'a [u8]) -> Result<(), PathFault>
+    requires { AllByRecursion IsAtom (parts_now atoms.old.items) }
+    ensures ok { OnOk result (step (parts_now atoms.old.items) part.entry.now ≡ Some (parts_now atoms.new.items)) }
+    ensures valid { OnOk result (AllByRecursion IsAtom (parts_now atoms.new.items)) }
+    ensures bad { result ≡ Err PathFault.BadPath → step (parts_now atoms.old.items) part.entry.now ≡ None }
+{
+    if part == b".".as_slice() {
+        return Ok(());
+    }
+    if part == b"..".as_slice() {
+        return match atoms.pop() {
+            Some(_) => Ok(()),
+            None => Err(PathFault::BadPath),
+        };
+    }
+    if !is_atom(part) {
+        return Err(PathFault::BadPath);
+    }
+    atoms.push(part)?;
+    Ok(())
+}
+
+// The text of atoms.
+fn text_of(alloc: Global, atoms: &[&[u8]]) -> Result<Vec<u8>, AllocError>
+    ensures { IfOk result (λ text. text.items ≡ join_with_byte 47 (parts_now atoms.now)) }
+{
+    let mut text = Vec::new(alloc);
+    for (i, atom) in atoms.iter().enumerate() {
+        if i > 0 {
+            text.push(b'/')?;
+        }
+        text.extend_from_slice(atom)?;
+    }
+    Ok(text)
+}
+
+// The path of atoms, if its text is short enough.
+fn path_of(alloc: Global, atoms: &[&[u8]]) -> Result<Path, PathFault>
+    requires { AllByRecursion IsAtom (parts_now atoms.now) }
+    ensures { MatchResult result
+        (λ path. if_short (parts_now atoms.now) ≡ Some path)
+        (λ fault. fault ≡ PathFault.BadPath → if_short (parts_now atoms.now) ≡ None) }
+{
+    if atoms.is_empty() {
+        return Ok(Path::root(alloc)?);
+    }
+    let text = text_of(alloc, atoms)?;
+    Path::read(alloc, text.as_slice())
+}
+
+/// The path that a text leads to from another: its parts between `/` are taken in order, `.` stays,
+/// `..` goes up and an atom goes down. Any other part, `..` at the root, and an end of more than
+/// 1,024 bytes are a bad path.
+pub fn join(alloc: Global, base: &Path, text: &[u8]) -> Result<Path, PathFault>
+    ensures { MatchResult result
+        (λ path. join_of base.now text.now ≡ Some path)
+        (λ fault. fault ≡ PathFault.BadPath → join_of base.now text.now ≡ None) }
+{
+    let mut atoms = atoms_of(alloc, base)?;
+    let parts = parts_of(alloc, text)?;
+    for part in &parts {
+        take_step(&mut atoms, part)?;
+    }
+    path_of(alloc, atoms.as_slice())
+}
