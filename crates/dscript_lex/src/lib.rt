@@ -5,6 +5,26 @@
 //! grammar gives, and is refused exactly where it gives none.
 #![tactic(auto)]
 
+mod brackets;
+mod bytes;
+mod comments;
+mod enclosed;
+mod fault;
+mod fronts;
+mod laws;
+mod lexing;
+mod numbers;
+mod opening;
+mod piece;
+mod signs;
 mod token;
+mod words;
 
+pub use fault::LexFault;
+pub use laws::{one_reading, places, respelled, same_anywhere, spaced_tokens};
+pub use lexing::lex;
 pub use token::{Token, TokenKind};
+pub use words::is_reserved;
+
+#[cfg(test)]
+mod tests;

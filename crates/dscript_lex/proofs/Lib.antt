@@ -1,0 +1,12 @@
+pub mod OneReading
+pub mod Enclosing
+pub mod Closing
+pub mod Digits
+pub mod Prefixes
+pub mod Reaching
+pub mod Marks
+pub mod Longest
+pub mod Cutting
+pub mod Standing
+pub mod Spacing
+pub mod Respelling

@@ -1,0 +1,5 @@
+use Rattle.dscript_lex.proofs.Standing.{places as law}
+use Rattle.dscript_lex.proofs.laws.places.Goals as goal
+
+pub returns : goal.returns
+returns c = law
