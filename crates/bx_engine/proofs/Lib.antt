@@ -1,0 +1,10 @@
+mod KnownBytes
+mod Counts
+mod Delimited
+mod Tails
+mod KnownPaths
+mod BundleFaults
+mod Rising
+mod Outputs
+mod Fronts
+mod Statuses

@@ -1,0 +1,29 @@
+//! The whole engine as one call: from the words of the command line and the bytes of an input to a status, the
+//! bytes of the output and what is told.
+//!
+//! This crate stands on `bx_io` for the outside, on `bx_tree` for bundles and on `dscript_lex` for tokens. It carries the
+//! promise that all others are for: the call writes the bytes and gives the status that the definition of a build
+//! gives for the input, on both sides of every refusal.
+#![tactic(auto)]
+
+mod build;
+mod fault;
+mod form;
+mod item;
+mod judging;
+mod order;
+mod reading;
+mod report;
+mod response;
+mod status;
+mod top;
+mod verdict;
+mod writing;
+
+pub use fault::{InputFault, SpecificationFault};
+pub use order::{Order, WordFault, read_words};
+pub use status::Status;
+pub use top::command;
+
+#[cfg(test)]
+mod tests;

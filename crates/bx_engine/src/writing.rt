@@ -1,0 +1,21 @@
+ghost use Rattle.std.specs.Prelude.{◌≡◌, [], IsErr, OnErr, OnOk};
+ghost use Rattle.std.specs.Io.KnownBytes.{Appends};
+ghost use Rattle.bx_io.specs.Causes.{HasCause};
+ghost use Rattle.bx_engine.specs.Known.{AppendsFront};
+
+use bx_io::{Failed, Sink};
+
+/// Writes all the bytes, in as many calls as the sink wants.
+pub(crate) fn write_all<O: Sink>(out: &mut O, bytes: &[u8]) -> Result<(), Failed>
+    ensures whole { OnOk result (Appends (O.taken out.old) (O.taken out.new) bytes.now) }
+    ensures front { OnErr result (AppendsFront (O.taken out.old) (O.taken out.new) bytes.now) }
+    ensures nothing { bytes.now ≡ [] → out.new ≡ out.old }
+    ensures cause { HasCause (O.faults out.old) (O.faults out.new) (IsErr result) }
+{
+    let mut rest = bytes;
+    'pieces: while !rest.is_empty() {
+        let count = out.write(rest)?;
+        rest = &rest[count..];
+    }
+    Ok(())
+}
