@@ -8,3 +8,4 @@ mod Rising
 mod Outputs
 mod Fronts
 mod Statuses
+mod OneVerdict

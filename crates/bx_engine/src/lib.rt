@@ -11,6 +11,7 @@ mod fault;
 mod form;
 mod item;
 mod judging;
+mod laws;
 mod order;
 mod reading;
 mod report;
@@ -21,6 +22,7 @@ mod verdict;
 mod writing;
 
 pub use fault::{InputFault, SpecificationFault};
+pub use laws::one_end;
 pub use order::{Order, WordFault, read_words};
 pub use status::Status;
 pub use top::command;

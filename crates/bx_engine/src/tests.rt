@@ -1,4 +1,4 @@
-use crate::command;
+use crate::{Order, WordFault, command, read_words};
 use bx_io::{MemSink, MemSource, NoFaultKeeper, OpenGate};
 use std::alloc::{AllocError, Global};
 use std::process::Abort;
@@ -211,11 +211,13 @@ fn refuses_each_broken_input_by_its_first_fault(rt: HostRuntime) -> Result<(), F
 }
 
 #[test]
-fn refuses_each_front_of_a_bundle(rt: HostRuntime) -> Result<(), Fail> {
+fn refuses_each_front_of_a_bundle_and_one_byte_more(rt: HostRuntime) -> Result<(), Fail> {
     for count in 0..FRONT.len() {
         check_input(&rt, rt.alloc(), &FRONT[..count], "BadBundle")?;
     }
-    Ok(())
+    let mut more = ITEM.to_vec(rt.alloc())?;
+    more.push(b'\n')?;
+    check_input(&rt, rt.alloc(), &more, "BadBundle")
 }
 
 /// The bundle of so many empty files.
@@ -273,6 +275,22 @@ fn refuses_other_texts(rt: HostRuntime) -> Result<(), Fail> {
     check_texts(&rt, alloc, OF_ANOTHER_FORM, "Unsupported")
 }
 
+/// The item without its last sign and what follows.
+const CUT_ITEM: &[u8] =
+    b"const x = Transformer.writeAllText({outputPath: p`out/a.txt`, text: \"hi\"})";
+
+#[test]
+fn refuses_each_front_of_an_item(rt: HostRuntime) -> Result<(), Fail> {
+    for count in 1..CUT_ITEM.len() + 1 {
+        // A template and a string that are not closed are no tokens.
+        let is_open = (count > 49 && count <= 59) || (count > 68 && count <= 71);
+        let kind = if is_open { "Lex" } else { "Unsupported" };
+        let input = bundle(rt.alloc(), "build.dsc", &CUT_ITEM[..count])?;
+        check_tree(&rt, rt.alloc(), &input, kind)?;
+    }
+    Ok(())
+}
+
 #[test]
 fn refuses_other_trees(rt: HostRuntime) -> Result<(), Fail> {
     for tree in OTHER_TREES.split(|byte| *byte == b'#') {
@@ -288,12 +306,62 @@ const ITEMS: &[u8] =
 const DEEP_ITEM: &[u8] =
     b"const x = Transformer.writeAllText({outputPath: p`out/.a..b/c`, text: \" ~'`$\"});";
 
+const EMPTY_ITEM: &[u8] =
+    b"const x = Transformer.writeAllText({outputPath: p`out/a/b`, text: \"\"});";
+
 #[test]
 fn makes_the_file_that_an_item_asks_for(rt: HostRuntime) -> Result<(), Fail> {
     for text in ITEMS.split(|byte| *byte == b'#') {
         check_made(&rt, rt.alloc(), text, "out/a", b"a")?;
     }
-    check_made(&rt, rt.alloc(), DEEP_ITEM, "out/.a..b/c", b" ~'`$")
+    check_made(&rt, rt.alloc(), DEEP_ITEM, "out/.a..b/c", b" ~'`$")?;
+    check_made(&rt, rt.alloc(), EMPTY_ITEM, "out/a/b", b"")
+}
+
+/// The item with this path and no text.
+fn item_at(alloc: Global, path: &str) -> Result<Vec<u8>, AllocError> {
+    let text = format!(in alloc;
+        "const x = Transformer.writeAllText({{outputPath: p`{path}`, text: \"\"}});"
+    )?;
+    text.as_bytes().to_vec(alloc)
+}
+
+/// A path below `out` whose last atom has so many bytes.
+fn long_path(alloc: Global, count: usize) -> Result<String, AllocError> {
+    let mut path = String::from_str(alloc, "out/")?;
+    for _ in 0..count {
+        path.push('a')?;
+    }
+    Ok(path)
+}
+
+#[test]
+fn bounds_the_atoms_of_a_path(rt: HostRuntime) -> Result<(), Fail> {
+    let most = long_path(rt.alloc(), 255)?;
+    let item = item_at(rt.alloc(), most.as_str())?;
+    check_made(&rt, rt.alloc(), &item, most.as_str(), b"")?;
+    let more = long_path(rt.alloc(), 256)?;
+    let input = bundle(
+        rt.alloc(),
+        "build.dsc",
+        &item_at(rt.alloc(), more.as_str())?,
+    )?;
+    check_tree(&rt, rt.alloc(), &input, "Unsupported")
+}
+
+#[test]
+fn reads_the_one_word_as_the_build_with_its_defaults(rt: HostRuntime) -> Result<(), Fail> {
+    let mut words = Vec::new(rt.alloc());
+    words.push(String::from_str(rt.alloc(), "build")?)?;
+    let order = Order::Build {
+        workers: 4,
+        cached: true,
+        eval_budget: 10_000_000,
+        tool_budget: 100_000,
+    };
+    assert_eq!(rt; read_words(&words), Ok(order));
+    assert_eq!(rt; read_words(&words[..0]), Err(WordFault::NoCommand));
+    Ok(())
 }
 
 /// The item with a text of so many bytes.

@@ -2,8 +2,8 @@
 //!
 //! This crate makes the real outside and hands it to the engine. It stands on `bx_io`, whose traits its
 //! adapters meet, and on `bx_engine`. The adapters are the trusted edge: what a stream gives or takes
-//! cannot be proved, so they tell nothing of content, and carry only that a fault is told where the stream
-//! itself failed.
+//! cannot be proved, so they tell nothing of content, and carry only that they count a fault where they
+//! tell one.
 #![tactic(auto)]
 
 mod std_sink;
@@ -15,24 +15,27 @@ use crate::std_sink::StdSink;
 use crate::std_source::StdSource;
 use bx_engine::command;
 use bx_io::{NoFaultKeeper, OpenGate};
+use std::alloc::AllocError;
 use std::env;
 use std::io::ErrorKind;
 use std::process::ExitCode;
+use std::rt::Env;
 
 /// The status where main itself finds no memory.
 const NO_MEMORY: u8 = 7;
 
-/// The status of words that are no text.
-const NO_COMMAND: u8 = 2;
+/// The words behind the program's name. Words that are no text are no command, as no words are none.
+fn words<R: Env + AllocGlobal>(rt: &R) -> Result<Vec<String>, AllocError> {
+    match env::args(rt) {
+        Ok(args) => args.skip(1).collect(rt.alloc()),
+        Err(error) if error.kind() == ErrorKind::OutOfMemory => Err(AllocError),
+        Err(_) => Ok(Vec::new(rt.alloc())),
+    }
+}
 
 fn main(rt: HostRuntime) -> ExitCode {
     let alloc = rt.alloc();
-    let words = match env::args(&rt) {
-        Ok(args) => args.skip(1).collect::<Vec<String>>(alloc),
-        Err(error) if error.kind() == ErrorKind::OutOfMemory => return ExitCode::from(NO_MEMORY),
-        Err(_) => return ExitCode::from(NO_COMMAND),
-    };
-    let Ok(words) = words else {
+    let Ok(words) = words(&rt) else {
         return ExitCode::from(NO_MEMORY);
     };
     let status = command(

@@ -1,0 +1,168 @@
+-- An input ends in one way.
+use Rattle.std.proofs.Common.{◌≡◌, ℕ, ◌⊎◌, inl, inr, List, [], ◌∷◌, refl, ap, sym, subst, ◌∙◌}
+use Rattle.dscript_lex.specs.declared.token.Token.{Token}
+use Rattle.dscript_lex.specs.declared.token.TokenKind.{TokenKind}
+use Rattle.dscript_lex.specs.Tokens.{AreTokens}
+use Rattle.dscript_lex.proofs.OneReading.{one_reading as one_list}
+use Rattle.bx_tree.specs.Paths.{Atoms, Names}
+use Rattle.bx_tree.specs.Trees.{Files}
+use Rattle.bx_tree.specs.Bundle.{Faults, IsBundle}
+use Rattle.bx_tree.specs.declared.bundle.BundleFault.{BundleFault}
+use Rattle.bx_tree.specs.declared.bundle.BundleFault.TheVariants as bundle_faults
+use Rattle.bx_tree.proofs.Unique.{one_tree, one_fault, no_fault}
+use Rattle.bx_tree.proofs.Cutting.{one_path}
+use Rattle.bx_engine.specs.declared.fault.InputFault.{InputFault}
+use Rattle.bx_engine.specs.declared.fault.InputFault.TheVariants as input_faults
+use Rattle.bx_engine.specs.declared.fault.SpecificationFault.{SpecificationFault}
+use Rattle.bx_engine.specs.declared.fault.SpecificationFault.TheVariants as specification_faults
+use Rattle.bx_engine.specs.Form.{AsksFor, AsksForFile, HasForm, item_kinds, kinds_of}
+use Rattle.bx_engine.specs.Ends.{AreSources, Ends, HasReserved, IsSpecification, Makes, RefusesInput, RefusesSpecification}
+use Rattle.bx_engine.specs.Verdict.{Verdict, InputRefused, SpecificationRefused, Succeeded}
+
+-- ## Inputs
+
+-- the fault of a bundle that a fault of an input is; being reserved is none
+abbrev pub bundle_fault : InputFault → BundleFault
+bundle_fault input_faults.BadBundle = bundle_faults.BadBundle
+bundle_fault input_faults.BadPath = bundle_faults.BadPath
+bundle_fault input_faults.Unordered = bundle_faults.Unordered
+bundle_fault input_faults.Nested = bundle_faults.Nested
+bundle_fault input_faults.TooManyFiles = bundle_faults.TooManyFiles
+bundle_fault input_faults.TooLarge = bundle_faults.TooLarge
+bundle_fault input_faults.Reserved = bundle_faults.Memory
+
+abbrev pub input_fault : BundleFault → InputFault
+input_fault bundle_faults.BadBundle = input_faults.BadBundle
+input_fault bundle_faults.BadPath = input_faults.BadPath
+input_fault bundle_faults.Unordered = input_faults.Unordered
+input_fault bundle_faults.Nested = input_faults.Nested
+input_fault bundle_faults.TooManyFiles = input_faults.TooManyFiles
+input_fault bundle_faults.TooLarge = input_faults.TooLarge
+input_fault bundle_faults.Memory = input_faults.Reserved
+
+there_and_back : (f : InputFault) → input_fault (bundle_fault f) ≡ f
+there_and_back input_faults.BadBundle = refl
+there_and_back input_faults.BadPath = refl
+there_and_back input_faults.Unordered = refl
+there_and_back input_faults.Nested = refl
+there_and_back input_faults.TooManyFiles = refl
+there_and_back input_faults.TooLarge = refl
+there_and_back input_faults.Reserved = refl
+
+-- a refused input has a fault of its bundle, or a reserved file
+kinds_of_refusal : (input : List ℕ) (f : InputFault) → RefusesInput input f
+    → Faults input (bundle_fault f) ⊎ ((f ≡ input_faults.Reserved) × (sources : Files) × IsBundle input sources × HasReserved sources)
+kinds_of_refusal input input_faults.BadBundle h = inl h
+kinds_of_refusal input input_faults.BadPath h = inl h
+kinds_of_refusal input input_faults.Unordered h = inl h
+kinds_of_refusal input input_faults.Nested h = inl h
+kinds_of_refusal input input_faults.TooManyFiles h = inl h
+kinds_of_refusal input input_faults.TooLarge h = inl h
+kinds_of_refusal input input_faults.Reserved h = inr (refl, h.0, h.1, h.2)
+
+one_input_fault : (input : List ℕ) (f g : InputFault) → RefusesInput input f → RefusesInput input g → f ≡ g
+one_input_fault input f g h k = elim (kinds_of_refusal input f h) [
+  | inl a ↦ elim (kinds_of_refusal input g k) [
+    | inl b ↦ sym (there_and_back f) ∙ ap input_fault (one_fault input (bundle_fault f) (bundle_fault g) a b) ∙ there_and_back g
+    | inr b ↦ absurd (no_fault input b.1 (bundle_fault f) b.2 a)
+  ]
+  | inr a ↦ elim (kinds_of_refusal input g k) [
+    | inl b ↦ absurd (no_fault input a.1 (bundle_fault g) a.2 b)
+    | inr b ↦ a.0 ∙ sym b.0
+  ]
+]
+
+refused_or_not : (input : List ℕ) (f : InputFault) (sources : Files) → RefusesInput input f → AreSources input sources → ⊥
+refused_or_not input f sources h k = elim (kinds_of_refusal input f h) [
+  | inl a ↦ no_fault input sources (bundle_fault f) k.bundle a
+  | inr a ↦ k.free (subst HasReserved (one_tree input a.1 sources a.2 k.bundle) a.3)
+]
+
+-- ## Specifications
+
+abbrev first_bytes : Files → List ℕ
+first_bytes [] = []
+first_bytes (f ∷ fs) = f.1
+
+one_text : (sources : Files) (s t : List ℕ) → IsSpecification sources s → IsSpecification sources t → s ≡ t
+one_text sources s t h k = ap first_bytes (sym h ∙ k)
+
+no_item : (name path text : List ℕ) → item_kinds name path text ≡ [] → ⊥
+no_item name path text e = cc
+
+same_path_text : (n p t m q u : List ℕ) → item_kinds n p t ≡ item_kinds m q u → p ≡ q
+same_path_text n p t m q u e = cc
+
+same_text : (n p t m q u : List ℕ) → item_kinds n p t ≡ item_kinds m q u → t ≡ u
+same_text n p t m q u e = cc
+
+same_file : (f g : Atoms × List ℕ) → f.0 ≡ g.0 → f.1 ≡ g.1 → f ≡ g
+same_file f g e k = ap (λ (p : Atoms). (p, f.1)) e ∙ ap (λ (t : List ℕ). (g.0, t)) k
+
+one_file : (kinds : List TokenKind) (f g : Atoms × List ℕ) → AsksForFile kinds f → AsksForFile kinds g → f ≡ g
+one_file kinds f g h k =
+    let e = sym h.item ∙ k.item in
+    let path = same_path_text h.name h.path_text f.1 k.name k.path_text g.1 e in
+    same_file f g
+    (one_path k.path_text f.0 g.0 (subst (λ (t : List ℕ). Names t f.0) path h.names) k.names)
+    (same_text h.name h.path_text f.1 k.name k.path_text g.1 e)
+
+one_asking : (kinds : List TokenKind) (fs gs : Files) → AsksFor kinds fs → AsksFor kinds gs → fs ≡ gs
+one_asking kinds [] [] h k = refl
+one_asking kinds [] (g ∷ []) h k = absurd (no_item k.name k.path_text g.1 (sym k.item ∙ h))
+one_asking kinds (f ∷ []) [] h k = absurd (no_item h.name h.path_text f.1 (sym h.item ∙ k))
+one_asking kinds (f ∷ []) (g ∷ []) h k = ap (λ x. x ∷ []) (one_file kinds f g h k)
+one_asking kinds (f ∷ x ∷ xs) gs h k = absurd h
+one_asking kinds [] (g ∷ y ∷ ys) h k = absurd k
+one_asking kinds (f ∷ []) (g ∷ y ∷ ys) h k = absurd k
+
+one_form : (text : List ℕ) (ts us : List Token) (fs gs : Files) → AreTokens text ts → AreTokens text us → HasForm text ts fs → HasForm text us gs → fs ≡ gs
+one_form text ts us fs gs a b h k =
+    one_asking (kinds_of us) fs gs (subst (λ (x : List Token). AsksFor (kinds_of x) fs) (one_list text ts us a b) h.asks) k.asks
+
+made_or_refused : (sources : Files) (fault : SpecificationFault) (files : Files) → RefusesSpecification sources fault → Makes sources files → ⊥
+made_or_refused sources specification_faults.Lex files h k = h.2 k.2 (subst (λ (t : List ℕ). AreTokens t k.2) (one_text sources k.0 h.0 k.1 h.1) k.3)
+made_or_refused sources specification_faults.Unsupported files h k = elim h [
+  | inl none ↦ none k.0 k.1
+  | inr lacks ↦
+      let e = one_text sources k.0 lacks.0 k.1 lacks.1 in
+      let are = subst (λ (t : List ℕ). AreTokens t k.2) e k.3 in
+      lacks.2.2 files (subst (λ (x : List Token). HasForm lacks.0 x files) (one_list lacks.0 k.2 lacks.2.0 are lacks.2.1) (subst (λ (t : List ℕ). HasForm t k.2 files) e k.4))
+]
+
+tokens_or_none : (sources : Files) → RefusesSpecification sources specification_faults.Lex → RefusesSpecification sources specification_faults.Unsupported → ⊥
+tokens_or_none sources h k = elim k [
+  | inl none ↦ none h.0 h.1
+  | inr lacks ↦ h.2 lacks.2.0 (subst (λ (t : List ℕ). AreTokens t lacks.2.0) (one_text sources lacks.0 h.0 lacks.1 h.1) lacks.2.1)
+]
+
+one_specification_fault : (sources : Files) (f g : SpecificationFault) → RefusesSpecification sources f → RefusesSpecification sources g → f ≡ g
+one_specification_fault sources specification_faults.Lex specification_faults.Lex h k = refl
+one_specification_fault sources specification_faults.Lex specification_faults.Unsupported h k = absurd (tokens_or_none sources h k)
+one_specification_fault sources specification_faults.Unsupported specification_faults.Lex h k = absurd (tokens_or_none sources k h)
+one_specification_fault sources specification_faults.Unsupported specification_faults.Unsupported h k = refl
+
+one_making : (sources : Files) (fs gs : Files) → Makes sources fs → Makes sources gs → fs ≡ gs
+one_making sources fs gs h k =
+    let e = one_text sources h.0 k.0 h.1 k.1 in
+    one_form k.0 h.2 k.2 fs gs (subst (λ (t : List ℕ). AreTokens t h.2) e h.3) k.3 (subst (λ (t : List ℕ). HasForm t h.2 fs) e h.4) k.4
+
+one_source : (input : List ℕ) (s t : Files) → AreSources input s → AreSources input t → s ≡ t
+one_source input s t h k = one_tree input s t h.bundle k.bundle
+
+-- ## Whole inputs
+
+pub one_verdict : (input : List ℕ) (v w : Verdict) → Ends input v → Ends input w → v ≡ w
+one_verdict input (InputRefused f) (InputRefused g) h k = ap InputRefused (one_input_fault input f g h k)
+one_verdict input (InputRefused f) (SpecificationRefused g) h k = absurd (refused_or_not input f k.0 h k.1)
+one_verdict input (InputRefused f) (Succeeded gs) h k = absurd (refused_or_not input f k.0 h k.1)
+one_verdict input (SpecificationRefused f) (InputRefused g) h k = absurd (refused_or_not input g h.0 k h.1)
+one_verdict input (SpecificationRefused f) (SpecificationRefused g) h k =
+    ap SpecificationRefused (one_specification_fault k.0 f g (subst (λ (s : Files). RefusesSpecification s f) (one_source input h.0 k.0 h.1 k.1) h.2) k.2)
+one_verdict input (SpecificationRefused f) (Succeeded gs) h k =
+    absurd (made_or_refused k.0 f gs (subst (λ (s : Files). RefusesSpecification s f) (one_source input h.0 k.0 h.1 k.1) h.2) k.2)
+one_verdict input (Succeeded fs) (InputRefused g) h k = absurd (refused_or_not input g h.0 k h.1)
+one_verdict input (Succeeded fs) (SpecificationRefused g) h k =
+    absurd (made_or_refused h.0 g fs (subst (λ (s : Files). RefusesSpecification s g) (one_source input k.0 h.0 k.1 h.1) k.2) h.2)
+one_verdict input (Succeeded fs) (Succeeded gs) h k =
+    ap Succeeded (one_making k.0 fs gs (subst (λ (s : Files). Makes s fs) (one_source input h.0 k.0 h.1 k.1) h.2) k.2)
