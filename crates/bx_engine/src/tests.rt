@@ -1,5 +1,5 @@
 use crate::{Order, WordFault, command, read_words};
-use bx_io::{MemSink, MemSource, NoFaultKeeper, OpenGate};
+use bx_io::{Gate, MemSink, MemSource, NoFaultKeeper};
 use std::alloc::{AllocError, Global};
 use std::process::Abort;
 use std::sync::Wait;
@@ -47,6 +47,18 @@ fn failing(alloc: Global, number: u64) -> Result<Vec<u64>, AllocError> {
     Ok(numbers)
 }
 
+/// A gate that no call may pass.
+#[derive(Drop)]
+struct ShutGate<'a, H> {
+    rt: &'a H,
+}
+
+impl<H: Abort + Sync> Gate for ShutGate<'_, H> {
+    fn pass(&self, _pip: u32) {
+        assert!(self.rt; false);
+    }
+}
+
 fn check<H: Threads + Wait + Sync + Abort>(
     rt: &H,
     alloc: Global,
@@ -73,7 +85,7 @@ fn check<H: Threads + Wait + Sync + Abort>(
         &mut out,
         &mut notes,
         &mut keeper,
-        &OpenGate,
+        &ShutGate { rt },
     );
     assert_eq!(rt; status.code(), want.code);
     assert_eq!(rt; out.taken(), want.written);
