@@ -5,3 +5,4 @@ pub mod Heads
 pub mod Between
 pub mod Fronts
 pub mod Unique
+pub mod Checked

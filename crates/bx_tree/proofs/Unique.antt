@@ -191,7 +191,7 @@ unfolding IsStrictlySortedBy
 front_sorted R [] y ys h = tt
 front_sorted R (x ∷ xs) y ys h = (at_cut (λ z. R x z ≡ Less) xs y ys h.0, front_sorted R xs y ys h.1)
 
-front_all : {X : Type 0} (P : X → Type 0) (xs ys : List X) → AllByRecursion P (xs ++ ys) → AllByRecursion P xs
+pub front_all : {X : Type 0} (P : X → Type 0) (xs ys : List X) → AllByRecursion P (xs ++ ys) → AllByRecursion P xs
 front_all P [] ys h = tt
 front_all P (x ∷ xs) ys h = (h.0, front_all P xs ys h.1)
 
@@ -209,24 +209,43 @@ apart_texts [] p h k r a = tt
 apart_texts (f ∷ fs) p h k r a =
     ((λ rest e. a.0 (below_from_front p f.0 k h.0 r.0 rest e)), apart_texts fs p h.1 k r.1 a.1)
 
+none_above : (ps : List Atoms) (p : Atoms) (qs : List Atoms) → NoneNested (ps ++ p ∷ qs) → AllByRecursion (λ q. IsBelow p q → ⊥) ps
+none_above ps p qs n =
+    recursion_from_All (λ q. IsBelow p q → ⊥) ps (λ k d l.
+    n (get_or ps k d) p (Contains-append_left ps (p ∷ qs) (get_or ps k d) (Contains-get_or ps k d l)) (Contains-middle ps p qs))
+
+-- what a file that follows others in a tree owes them
+pub record Follows (before : Files) (path : Atoms) : Type 0 where
+  pub is_path : IsPath path
+  pub not_root : path ≢ []
+  pub above : IsAboveAll before (path_text path)
+  pub apart : IsApart before (path_text path)
+
+pub follows : (before : Files) (g : Atoms × List ℕ) (more : Files) → IsTree (before ++ g ∷ more) → Follows before g.0
+follows before g more t =
+    let paths = paths_on before g more in
+    let all_paths = subst (AllByRecursion IsPath) paths t.paths in
+    let roots = subst (AllByRecursion (λ q. q ≢ [])) paths t.no_root in
+    let is_path = at_cut IsPath (paths_of before) g.0 (paths_of more) all_paths in
+    let before_paths = front_all IsPath (paths_of before) (g.0 ∷ paths_of more) all_paths in
+    let before_roots = front_all (λ q. q ≢ []) (paths_of before) (g.0 ∷ paths_of more) roots in
+    record {
+      is_path = is_path;
+      not_root = at_cut (λ q. q ≢ []) (paths_of before) g.0 (paths_of more) roots;
+      above = above_texts before g.0 before_paths is_path
+          (front_sorted path_cmp (paths_of before) g.0 (paths_of more) (subst (IsStrictlySortedBy path_cmp) paths t.rising));
+      apart = apart_texts before g.0 before_paths is_path before_roots (none_above (paths_of before) g.0 (paths_of more) (subst NoneNested paths t.unnested));
+    }
+
 -- a text that goes on with a file that may follow has no fault there
 goes_on : (before : Files) (g : Atoms × List ℕ) (more : Files) (tail : List ℕ) (a : BundleFault) → IsTree (before ++ g ∷ more) → IsInSize (before ++ g ∷ more)
     → RestFault before (file_text g ++ tail) a → ⊥
 unfolding header_for
 goes_on before g more tail a t s u =
-    let paths = paths_on before g more in
-    let all_paths = subst (AllByRecursion IsPath) paths t.paths in
-    let roots = subst (AllByRecursion (λ q. q ≢ [])) paths t.no_root in
-    let is_path = at_cut IsPath (paths_of before) g.0 (paths_of more) all_paths in
-    let root = at_cut (λ q. q ≢ []) (paths_of before) g.0 (paths_of more) roots in
+    let f = follows before g more t in
     let size = at_cut (λ f. length f.1 ≤ 16777216) before g more s.sizes in
-    let here : IsHeld g = record { is_path = is_path; not_root = root; size = size } in
+    let here : IsHeld g = record { is_path = f.is_path; not_root = f.not_root; size = size } in
     let begins = begins_file g tail here in
-    let before_paths = front_all IsPath (paths_of before) (g.0 ∷ paths_of more) all_paths in
-    let before_roots = front_all (λ q. q ≢ []) (paths_of before) (g.0 ∷ paths_of more) roots in
-    let above = above_texts before g.0 before_paths is_path
-    (front_sorted path_cmp (paths_of before) g.0 (paths_of more) (subst (IsStrictlySortedBy path_cmp) paths t.rising)) in
-    let apart = apart_texts before g.0 before_paths is_path before_roots (none_above (paths_of before) g.0 (paths_of more) (subst NoneNested paths t.unnested)) in
     let value = (decimal_is_IsNumeral (length g.1) (omega (arith, size))).1 in
     elim u [
       | inl x ↦ x.1 (header_for g tail) begins
@@ -236,17 +255,12 @@ goes_on before g more tail a t s u =
             let same = same_header x.0 (header_for g tail) (one_header (file_text g ++ tail) x.0 (header_for g tail) x.1 begins) in
             unless_none (subst (λ h. HeaderFault before h a) same x.2) (omega (arith, value, size))
             (λ u. unless_none u (omega (arith, s.count, length-append before (g ∷ more)))
-            (λ u. unless_none u (g.0, record { is_path = is_path; not_root = root; text_is = refl })
-            (λ u. unless_none u above
-            (λ u. unless_none u apart
+            (λ u. unless_none u (g.0, record { is_path = f.is_path; not_root = f.not_root; text_is = refl })
+            (λ u. unless_none u f.above
+            (λ u. unless_none u f.apart
             (λ u. unless_none u (g.1, tail, sym value, refl) (λ n. n))))))
       ]
     ]
-  where
-    none_above : (ps : List Atoms) (p : Atoms) (qs : List Atoms) → NoneNested (ps ++ p ∷ qs) → AllByRecursion (λ q. IsBelow p q → ⊥) ps
-    none_above ps p qs n =
-        recursion_from_All (λ q. IsBelow p q → ⊥) ps (λ k d l.
-        n (get_or ps k d) p (Contains-append_left ps (p ∷ qs) (get_or ps k d) (Contains-get_or ps k d l)) (Contains-middle ps p qs))
 
 -- ## The laws
 

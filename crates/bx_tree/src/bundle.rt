@@ -10,14 +10,13 @@ use crate::order::{is_above, is_apart};
 use crate::path::{Path, PathFault};
 use crate::tree::Tree;
 use crate::tree_file::TreeFile;
+use std::alloc::{AllocError, AllocFailed, Global};
 
 /// The largest number of bytes in a bundle.
 const MAX_BUNDLE: usize = 67_108_864;
 
 /// The largest number of files in a bundle.
 const MAX_FILES: usize = 16_384;
-
-use std::alloc::{AllocError, AllocFailed, Global};
 
 /// Why a text is no bundle within the limits.
 #[derive(Clone, Copy, Debug, PartialEq, Eq)]

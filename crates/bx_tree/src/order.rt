@@ -1,7 +1,10 @@
-ghost use Rattle.std.specs.Prelude.{◌≡◌, ◌↔◌, ◌<◌, ◌≤◌, ◌≢◌, IsTrue, length, slice_index, take};
+ghost use Rattle.std.specs.Prelude.{◌≡◌, ◌∷◌, ◌++◌, ◌↔◌, ◌<◌, ◌≤◌, ◌≢◌, [], IsTrue, length, slice_index, take};
+ghost use Rattle.std.specs.List.Sorted.{IsPermutation, IsSortedBy};
+ghost use Rattle.std.specs.Ordering.{is_lt};
+ghost use Rattle.bx_tree.specs.Paths.{path_cmp};
 ghost use Rattle.bx_tree.specs.Bundle.{IsAboveAll, IsApart};
 ghost use Rattle.bx_tree.specs.Trees.{IsTree};
-ghost use Rattle.bx_tree.specs.Views.{files_of};
+ghost use Rattle.bx_tree.specs.Views.{file_of, files_of};
 
 use crate::tree::{place_of, text_order};
 use crate::tree_file::TreeFile;
@@ -52,4 +55,40 @@ pub(crate) fn is_apart(files: &[TreeFile], text: &[u8]) -> bool
         return true;
     }
     place_of(files, &text[..shared]).is_none()
+}
+
+// The files in the order of their paths.
+pub(crate) fn by_path(mut files: Vec<TreeFile>) -> Vec<TreeFile>
+    ensures same { IsPermutation files.items result.items }
+    ensures sorted { IsSortedBy (λ a b. is_lt (path_cmp a.path b.path)) result.items }
+{
+    files.sort_unstable_by(|a, b| a.path.cmp(&b.path));
+    files
+}
+
+// Whether the files of a tree, with this one behind them, are a tree.
+fn may_follow(before: &[TreeFile], file: &TreeFile) -> bool
+    requires { IsTree (files_of before.now) }
+    ensures { IsTrue result ↔ IsTree (files_of before.now ++ file_of file.now ∷ []) }
+{
+    let text = file.path.text();
+    if text == "." {
+        return false;
+    }
+    if !is_above(before, text.as_bytes()) {
+        return false;
+    }
+    is_apart(before, text.as_bytes())
+}
+
+// Whether files are a tree in the order in which they stand.
+pub(crate) fn is_tree(files: &[TreeFile]) -> bool
+    ensures { IsTrue result ↔ IsTree (files_of files.now) }
+{
+    'files: for (count, file) in files.iter().enumerate() {
+        if !may_follow(&files[..count], file) {
+            return false;
+        }
+    }
+    true
 }

@@ -130,6 +130,37 @@ fn files_make_a_tree(rt: HostRuntime) -> Result<(), Fail> {
     Ok(())
 }
 
+/// Files at these paths, each with its path as its text.
+fn files_at(alloc: Global, paths: &[&[u8]]) -> Result<Vec<TreeFile>, Fail> {
+    let mut files = Vec::new(alloc);
+    for path in paths {
+        files.push(TreeFile::new(Path::read(alloc, path)?, path.to_vec(alloc)?))?;
+    }
+    Ok(files)
+}
+
+#[test]
+fn files_are_a_tree_where_paths_are_distinct_and_apart(rt: HostRuntime) -> Result<(), Fail> {
+    let files = files_at(rt.alloc(), &[b"b", b"a/c", b"a-b", b"A"])?;
+    let tree = Tree::checked(files).map(Tree::into_files);
+    assert!(rt;
+        tree.is_some_and(|files| {
+            files.len() == 4
+                && files[0].path.text() == "A"
+                && files[1].path.text() == "a-b"
+                && files[2].path.text() == "a/c"
+                && files[3].bytes.as_slice() == b"b".as_slice()
+        })
+    );
+    let none = files_at(rt.alloc(), &[])?;
+    assert!(rt; Tree::checked(none).is_some());
+    let twice = files_at(rt.alloc(), &[b"b", b"a", b"b"])?;
+    assert!(rt; Tree::checked(twice).is_none());
+    let nested = files_at(rt.alloc(), &[b"a/c", b"a-b", b"a"])?;
+    assert!(rt; Tree::checked(nested).is_none());
+    Ok(())
+}
+
 #[test]
 fn reserved_trees_have_a_first_atom_of_the_output(rt: HostRuntime) -> Result<(), Fail> {
     let cases: [(&[u8], bool); 6] = [

@@ -1,13 +1,14 @@
-ghost use Rattle.std.specs.Prelude.{◌≡◌, ◌≢◌, ◌↔◌, ◌∷◌, ℕ, List, [], IsTrue, IsSome, IfSome, IfNone, All, Any, Contains};
+ghost use Rattle.std.specs.Prelude.{◌≡◌, ◌≢◌, ◌↔◌, ◌∷◌, ℕ, List, [], IsTrue, IsSome, IfSome, IfNone, MatchOption, All, Any, Contains};
 ghost use Rattle.std.specs.List.{IsDistinct};
 ghost use Rattle.std.specs.List.Sorted.{IsPermutation};
 ghost use Rattle.std.specs.Cmp.Lexicographic.{slice_cmp};
 ghost use Rattle.std.specs.Ordering.{nat_cmp};
 ghost use Rattle.std.specs.Option.{option_copied};
 ghost use Rattle.bx_tree.specs.Paths.{IsAtom, path_text, same_path};
-ghost use Rattle.bx_tree.specs.Trees.{IsFirst, IsReserved, IsTree, NoneNested, file_at, paths_of};
+ghost use Rattle.bx_tree.specs.Trees.{Files, IsFirst, IsReserved, IsTree, NoneNested, file_at, paths_of};
 ghost use Rattle.bx_tree.specs.Views.{IsPlaceOf, files_of};
 
+use crate::order::{by_path, is_tree};
 use crate::path::{Path, has_front};
 use crate::tree_file::TreeFile;
 use std::cmp::Ordering;
@@ -35,15 +36,31 @@ impl Model for Tree {
 
 impl Tree {
     /// The tree of these files.
-    pub fn of(mut files: Vec<TreeFile>) -> Tree
+    pub fn of(files: Vec<TreeFile>) -> Tree
         requires no_root { All (λ f. f.path ≢ []) files.items }
         requires distinct { IsDistinct same_path (paths_of (files_of files.items)) }
         requires unnested { NoneNested (paths_of (files_of files.items)) }
         ensures same { IsPermutation (files_of files.items) result }
         ensures tree { IsTree result }
     {
-        files.sort_unstable_by(|a, b| a.path.cmp(&b.path));
-        Tree { files }
+        Tree {
+            files: by_path(files),
+        }
+    }
+
+    /// The tree of these files, or nothing where they are none: where two of them have one path, or one is the
+    /// root or a directory of another.
+    pub fn checked(files: Vec<TreeFile>) -> Option<Tree>
+        ensures { MatchOption result
+            ((tree : Files) → IsPermutation (files_of files.items) tree → IsTree tree → ⊥)
+            (λ tree. IsPermutation (files_of files.items) tree × IsTree tree) }
+    {
+        let files = by_path(files);
+        if is_tree(files.as_slice()) {
+            Some(Tree { files })
+        } else {
+            None
+        }
     }
 
     // The tree of files that are in order already.
@@ -60,6 +77,13 @@ impl Tree {
         ensures tree { IsTree self.now }
     {
         self.files.as_slice()
+    }
+
+    /// The files, in order, without the tree.
+    pub fn into_files(self) -> Vec<TreeFile>
+        ensures { files_of result.items ≡ self }
+    {
+        self.files
     }
 
     /// The bytes of the file at a path, if there is one.
