@@ -9,7 +9,7 @@ use std::alloc::AllocError;
 
 /// A bracket that is open.
 #[derive(Clone, Copy)]
-pub(crate) enum Bracket {
+pub enum Bracket {
     /// The hole of a template.
     Hole,
     /// A brace of the text.

@@ -5,7 +5,7 @@ use crate::bytes::{is_blank, is_word_start};
 
 /// Which piece a byte begins.
 #[derive(Clone, Copy)]
-pub(crate) enum Opening {
+pub enum Opening {
     /// A blank, of one byte.
     Blank,
     Word,

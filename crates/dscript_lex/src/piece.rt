@@ -1,7 +1,7 @@
 use crate::token::TokenKind;
 /// What a piece of a text is.
 #[derive(Drop)]
-pub(crate) enum Sense {
+pub enum Sense {
     Blank,
     Comment,
     /// The spelling of a token.
@@ -10,7 +10,7 @@ pub(crate) enum Sense {
 
 /// The longest piece at the front of a text, and how many bytes it takes.
 #[derive(Drop)]
-pub(crate) struct Front {
+pub struct Front {
     pub sense: Sense,
     pub len: usize,
 }
