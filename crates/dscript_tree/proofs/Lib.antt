@@ -1,0 +1,13 @@
+pub mod Readers
+pub mod Rows
+pub mod TypesFound
+pub mod TypesRead
+pub mod ExprsFound
+pub mod ExprsEat
+pub mod ExprsStart
+pub mod ExprsRead
+pub mod FilesFound
+pub mod FilesRead
+pub mod Whole
+pub mod Examples
+pub mod Made

@@ -1,0 +1,13 @@
+pub mod Language
+pub mod TypeTree
+pub mod ExprTree
+pub mod FileTree
+pub mod TypeGrammar
+pub mod ExprGrammar
+pub mod FileGrammar
+pub mod Derives
+pub mod Reading
+pub mod TypeReading
+pub mod ExprReading
+pub mod FileReading
+pub mod Views
