@@ -1,0 +1,5 @@
+pub mod Operators
+pub mod Posts
+pub mod HoleFronts
+pub mod Chains
+pub mod Optional

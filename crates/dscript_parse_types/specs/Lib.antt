@@ -1,0 +1,3 @@
+pub mod Gives
+pub mod Fronts
+pub mod TypeFronts
