@@ -1,0 +1,10 @@
+pub mod Spelled
+pub mod Shown
+pub mod TypesShown
+pub mod ExprsShown
+pub mod FilesShown
+pub mod Sources
+pub mod Steps
+pub mod Arms
+pub mod Promised
+pub mod Declarations

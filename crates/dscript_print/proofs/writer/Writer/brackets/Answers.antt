@@ -1,0 +1,6 @@
+use Rattle.dscript_print.proofs.Steps.{repeated_step}
+use Rattle.dscript_print.proofs.writer.Writer.brackets.Goals as goal
+
+pub loop-level-preserved : goal.loop-level-preserved
+loop-level-preserved c =
+    repeated_step (c.loop-level._level) _ _ _ _ _ _ c.loop-level.invariant c.in_ok-sign.ensures c.in_ok-sign-2.ensures

@@ -1,0 +1,9 @@
+mod Laying
+mod Between
+mod Decimals
+mod Apart
+mod Places
+mod Inverting
+mod Chosen
+mod Beside
+mod Whole

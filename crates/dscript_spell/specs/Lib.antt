@@ -1,0 +1,5 @@
+pub mod Spellable
+pub mod Writable
+pub mod Sides
+pub mod Spellings
+pub mod Layout

@@ -1,0 +1,21 @@
+//! Texts that have exactly given tokens.
+//!
+//! Each token gets a spelling of its own, what is asked for stands between them, and a blank where
+//! two would run together. This crate stands on `dscript_lex`, whose tokens these are, and on
+//! `bx_tree` for shared texts. It carries the promise that a text that is written has the tokens that
+//! were given, no others, and in their order.
+#![tactic(auto)]
+
+mod enclosed;
+mod laid;
+mod laws;
+mod side;
+mod spelling;
+mod writing;
+
+pub use laid::{Gap, Laid};
+pub use laws::spelled_tokens;
+pub use writing::spell;
+
+#[cfg(test)]
+mod tests;
