@@ -1,6 +1,5 @@
 mod KnownBytes
 mod Counts
-mod Delimited
 mod Tails
 mod KnownPaths
 mod BundleFaults
@@ -8,4 +7,8 @@ mod Rising
 mod Outputs
 mod Fronts
 mod Statuses
+mod Items
+mod OneForm
 mod OneVerdict
+mod Asking
+mod Naming

@@ -1,22 +1,24 @@
 -- An input ends in one way.
 use Rattle.std.proofs.Common.{◌≡◌, ℕ, ◌⊎◌, inl, inr, List, [], ◌∷◌, refl, ap, sym, subst, ◌∙◌}
 use Rattle.dscript_lex.specs.declared.token.Token.{Token}
-use Rattle.dscript_lex.specs.declared.token.TokenKind.{TokenKind}
 use Rattle.dscript_lex.specs.Tokens.{AreTokens}
 use Rattle.dscript_lex.proofs.OneReading.{one_reading as one_list}
-use Rattle.bx_tree.specs.Paths.{Atoms, Names}
 use Rattle.bx_tree.specs.Trees.{Files}
 use Rattle.bx_tree.specs.Bundle.{Faults, IsBundle}
 use Rattle.bx_tree.specs.declared.bundle.BundleFault.{BundleFault}
 use Rattle.bx_tree.specs.declared.bundle.BundleFault.TheVariants as bundle_faults
 use Rattle.bx_tree.proofs.Unique.{one_tree, one_fault, no_fault}
-use Rattle.bx_tree.proofs.Cutting.{one_path}
 use Rattle.bx_engine.specs.declared.fault.InputFault.{InputFault}
 use Rattle.bx_engine.specs.declared.fault.InputFault.TheVariants as input_faults
 use Rattle.bx_engine.specs.declared.fault.SpecificationFault.{SpecificationFault}
 use Rattle.bx_engine.specs.declared.fault.SpecificationFault.TheVariants as specification_faults
-use Rattle.bx_engine.specs.Form.{AsksFor, AsksForFile, HasForm, item_kinds, kinds_of}
-use Rattle.bx_engine.specs.Ends.{AreSources, Ends, HasReserved, IsSpecification, Makes, RefusesInput, RefusesSpecification}
+use Rattle.dscript_tree.specs.Derives.{Derives}
+use Rattle.dscript_tree.specs.FileTree.{FileTree}
+use Rattle.dscript_tree.specs.declared.file.Form.TheVariants as forms
+use Rattle.dscript_tree.proofs.Whole.{one_file as one_file_of}
+use Rattle.bx_engine.specs.Form.{HasForm}
+use Rattle.bx_engine.specs.Ends.{AreSources, Ends, HasReserved, IsFile, IsNoFile, IsSpecification, Makes, RefusesInput, RefusesSpecification, kinds_of}
+use Rattle.bx_engine.proofs.OneForm.{one_form}
 use Rattle.bx_engine.specs.Verdict.{Verdict, InputRefused, SpecificationRefused, Succeeded}
 
 -- ## Inputs
@@ -87,65 +89,60 @@ first_bytes (f ∷ fs) = f.1
 one_text : (sources : Files) (s t : List ℕ) → IsSpecification sources s → IsSpecification sources t → s ≡ t
 one_text sources s t h k = ap first_bytes (sym h ∙ k)
 
-no_item : (name path text : List ℕ) → item_kinds name path text ≡ [] → ⊥
-no_item name path text e = cc
+-- a text is one file
+one_file : (text : List ℕ) (f g : FileTree) → IsFile text f → IsFile text g → f ≡ g
+one_file text f g h k =
+    one_file_of forms.Project (kinds_of k.0) f g h.2 k.2
+    (subst (λ (ts : List Token). Derives forms.Project (kinds_of ts) f h.2) (one_list text h.0 k.0 h.1 k.1) h.3) k.3
 
-same_path_text : (n p t m q u : List ℕ) → item_kinds n p t ≡ item_kinds m q u → p ≡ q
-same_path_text n p t m q u e = cc
+file_or_none : (text : List ℕ) (f : FileTree) → IsFile text f → IsNoFile text → ⊥
+file_or_none text f h k = k.2 f h.2 (subst (λ (ts : List Token). Derives forms.Project (kinds_of ts) f h.2) (one_list text h.0 k.0 h.1 k.1) h.3)
 
-same_text : (n p t m q u : List ℕ) → item_kinds n p t ≡ item_kinds m q u → t ≡ u
-same_text n p t m q u e = cc
-
-same_file : (f g : Atoms × List ℕ) → f.0 ≡ g.0 → f.1 ≡ g.1 → f ≡ g
-same_file f g e k = ap (λ (p : Atoms). (p, f.1)) e ∙ ap (λ (t : List ℕ). (g.0, t)) k
-
-one_file : (kinds : List TokenKind) (f g : Atoms × List ℕ) → AsksForFile kinds f → AsksForFile kinds g → f ≡ g
-one_file kinds f g h k =
-    let e = sym h.item ∙ k.item in
-    let path = same_path_text h.name h.path_text f.1 k.name k.path_text g.1 e in
-    same_file f g
-    (one_path k.path_text f.0 g.0 (subst (λ (t : List ℕ). Names t f.0) path h.names) k.names)
-    (same_text h.name h.path_text f.1 k.name k.path_text g.1 e)
-
-one_asking : (kinds : List TokenKind) (fs gs : Files) → AsksFor kinds fs → AsksFor kinds gs → fs ≡ gs
-one_asking kinds [] [] h k = refl
-one_asking kinds [] (g ∷ []) h k = absurd (no_item k.name k.path_text g.1 (sym k.item ∙ h))
-one_asking kinds (f ∷ []) [] h k = absurd (no_item h.name h.path_text f.1 (sym h.item ∙ k))
-one_asking kinds (f ∷ []) (g ∷ []) h k = ap (λ x. x ∷ []) (one_file kinds f g h k)
-one_asking kinds (f ∷ x ∷ xs) gs h k = absurd h
-one_asking kinds [] (g ∷ y ∷ ys) h k = absurd k
-one_asking kinds (f ∷ []) (g ∷ y ∷ ys) h k = absurd k
-
-one_form : (text : List ℕ) (ts us : List Token) (fs gs : Files) → AreTokens text ts → AreTokens text us → HasForm text ts fs → HasForm text us gs → fs ≡ gs
-one_form text ts us fs gs a b h k =
-    one_asking (kinds_of us) fs gs (subst (λ (x : List Token). AsksFor (kinds_of x) fs) (one_list text ts us a b) h.asks) k.asks
+no_tokens_or_file : (text : List ℕ) (f : FileTree) → ((tokens : List Token) → AreTokens text tokens → ⊥) → IsFile text f → ⊥
+no_tokens_or_file text f none h = none h.0 h.1
 
 made_or_refused : (sources : Files) (fault : SpecificationFault) (files : Files) → RefusesSpecification sources fault → Makes sources files → ⊥
-made_or_refused sources specification_faults.Lex files h k = h.2 k.2 (subst (λ (t : List ℕ). AreTokens t k.2) (one_text sources k.0 h.0 k.1 h.1) k.3)
+made_or_refused sources specification_faults.Lex files h k =
+    no_tokens_or_file h.0 k.2 h.2 (subst (λ (t : List ℕ). IsFile t k.2) (one_text sources k.0 h.0 k.1 h.1) k.3)
+made_or_refused sources specification_faults.Syntax files h k =
+    file_or_none h.0 k.2 (subst (λ (t : List ℕ). IsFile t k.2) (one_text sources k.0 h.0 k.1 h.1) k.3) h.2
 made_or_refused sources specification_faults.Unsupported files h k = elim h [
   | inl none ↦ none k.0 k.1
   | inr lacks ↦
-      let e = one_text sources k.0 lacks.0 k.1 lacks.1 in
-      let are = subst (λ (t : List ℕ). AreTokens t k.2) e k.3 in
-      lacks.2.2 files (subst (λ (x : List Token). HasForm lacks.0 x files) (one_list lacks.0 k.2 lacks.2.0 are lacks.2.1) (subst (λ (t : List ℕ). HasForm t k.2 files) e k.4))
+      let is = subst (λ (t : List ℕ). IsFile t k.2) (one_text sources k.0 lacks.0 k.1 lacks.1) k.3 in
+      lacks.2.2 files (subst (λ (f : FileTree). HasForm f files) (one_file lacks.0 k.2 lacks.2.0 is lacks.2.1) k.4)
 ]
 
 tokens_or_none : (sources : Files) → RefusesSpecification sources specification_faults.Lex → RefusesSpecification sources specification_faults.Unsupported → ⊥
 tokens_or_none sources h k = elim k [
   | inl none ↦ none h.0 h.1
-  | inr lacks ↦ h.2 lacks.2.0 (subst (λ (t : List ℕ). AreTokens t lacks.2.0) (one_text sources lacks.0 h.0 lacks.1 h.1) lacks.2.1)
+  | inr lacks ↦ no_tokens_or_file h.0 lacks.2.0 h.2 (subst (λ (t : List ℕ). IsFile t lacks.2.0) (one_text sources lacks.0 h.0 lacks.1 h.1) lacks.2.1)
+]
+
+tokens_or_not : (sources : Files) → RefusesSpecification sources specification_faults.Lex → RefusesSpecification sources specification_faults.Syntax → ⊥
+tokens_or_not sources h k = h.2 k.2.0 (subst (λ (t : List ℕ). AreTokens t k.2.0) (one_text sources k.0 h.0 k.1 h.1) k.2.1)
+
+form_or_none : (sources : Files) → RefusesSpecification sources specification_faults.Syntax → RefusesSpecification sources specification_faults.Unsupported → ⊥
+form_or_none sources h k = elim k [
+  | inl none ↦ none h.0 h.1
+  | inr lacks ↦ file_or_none h.0 lacks.2.0 (subst (λ (t : List ℕ). IsFile t lacks.2.0) (one_text sources lacks.0 h.0 lacks.1 h.1) lacks.2.1) h.2
 ]
 
 one_specification_fault : (sources : Files) (f g : SpecificationFault) → RefusesSpecification sources f → RefusesSpecification sources g → f ≡ g
 one_specification_fault sources specification_faults.Lex specification_faults.Lex h k = refl
+one_specification_fault sources specification_faults.Lex specification_faults.Syntax h k = absurd (tokens_or_not sources h k)
 one_specification_fault sources specification_faults.Lex specification_faults.Unsupported h k = absurd (tokens_or_none sources h k)
+one_specification_fault sources specification_faults.Syntax specification_faults.Lex h k = absurd (tokens_or_not sources k h)
+one_specification_fault sources specification_faults.Syntax specification_faults.Syntax h k = refl
+one_specification_fault sources specification_faults.Syntax specification_faults.Unsupported h k = absurd (form_or_none sources h k)
 one_specification_fault sources specification_faults.Unsupported specification_faults.Lex h k = absurd (tokens_or_none sources k h)
+one_specification_fault sources specification_faults.Unsupported specification_faults.Syntax h k = absurd (form_or_none sources k h)
 one_specification_fault sources specification_faults.Unsupported specification_faults.Unsupported h k = refl
 
 one_making : (sources : Files) (fs gs : Files) → Makes sources fs → Makes sources gs → fs ≡ gs
 one_making sources fs gs h k =
-    let e = one_text sources h.0 k.0 h.1 k.1 in
-    one_form k.0 h.2 k.2 fs gs (subst (λ (t : List ℕ). AreTokens t h.2) e h.3) k.3 (subst (λ (t : List ℕ). HasForm t h.2 fs) e h.4) k.4
+    let is = subst (λ (t : List ℕ). IsFile t h.2) (one_text sources h.0 k.0 h.1 k.1) h.3 in
+    one_form k.2 fs gs (subst (λ (f : FileTree). HasForm f fs) (one_file k.0 h.2 k.2 is k.3) h.4) k.4
 
 one_source : (input : List ℕ) (s t : Files) → AreSources input s → AreSources input t → s ≡ t
 one_source input s t h k = one_tree input s t h.bundle k.bundle

@@ -1,22 +1,21 @@
 -- A tree of outputs: files below `out`, and the report behind them.
-use Rattle.std.proofs.Common.{◌≡◌, ◌≢◌, ℕ, ◌+◌, ◌<◌, suc, inl, inr, Bool, false, List, [], ◌∷◌, ◌++◌, length, drop, get_or, drop-cons, add-one, append_assoc, codes, refl, ap, sym, subst, ◌∙◌}
+use Rattle.std.proofs.Common.{◌≡◌, ◌≢◌, ℕ, ◌+◌, ◌<◌, suc, inl, inr, List, [], ◌∷◌, ◌++◌, length, drop, get_or, drop-cons, add-one, append_assoc, codes, refl, ap, sym, subst, ◌∙◌}
 use Rattle.std.specs.Fmt.{decimal}
-use Rattle.std.proofs.lemmas.List.{append_cancel_left, append-nil}
-use Rattle.dscript_lex.specs.declared.token.TokenKind.{TokenKind}
-use Rattle.std.specs.List.{All, AllByRecursion, Contains, IsDistinct}
+use Rattle.dscript_tree.specs.FileTree.{FileTree}
+use Rattle.std.specs.List.{All, AllByRecursion, Contains}
 use Rattle.std.specs.List.Sorted.{IsStrictlySortedBy, IsPermutation}
 use Rattle.std.specs.declared.cmp.Ordering.TheVariants.{Less}
-use Rattle.std.specs.Ordering.{on, eq_by_cmp}
+use Rattle.std.specs.Ordering.{on}
 use Rattle.std.proofs.lemmas.Cmp.{on_total}
 use Rattle.std.proofs.lemmas.List.{map-append}
-use Rattle.std.proofs.lemmas.List.Elements.{All-from_recursion, Contains-push_cases}
-use Rattle.std.proofs.lemmas.Map.Keys.{IsDistinct-from_sorted}
-use Rattle.bx_tree.specs.Paths.{Atoms, IsPath, IsBelow, Names, path_cmp, same_path}
+use Rattle.std.proofs.lemmas.List.Elements.{All-from_recursion, recursion_from_All, Contains-push_cases}
+use Rattle.std.proofs.lemmas.List.Sorted.{All-permutation, IsPermutation-map}
+use Rattle.bx_tree.specs.Paths.{Atoms, IsPath, IsBelow, Names, path_cmp}
 use Rattle.bx_tree.specs.Trees.{Files, IsTree, NoneNested, paths_of}
 use Rattle.bx_tree.specs.Views.{file_of, files_of}
-use Rattle.bx_tree.specs.Orders.{path_cmp_total, path_cmp_matches}
+use Rattle.bx_tree.specs.Orders.{path_cmp_total}
 use Rattle.bx_tree.specs.declared.tree_file.TreeFile.{TreeFile}
-use Rattle.bx_engine.specs.Form.{AsksFor, IsBelowOut, kinds_of}
+use Rattle.bx_engine.specs.Form.{HasForm, IsAllowed, IsBelowOut, Write, made}
 use Rattle.bx_engine.specs.Verdict.{Verdict, InputRefused, SpecificationRefused, Succeeded, made_of, pip_lines, report_path}
 use Rattle.bx_engine.specs.Ends.{Ends}
 use Rattle.bx_tree.proofs.Cutting.{one_path}
@@ -37,7 +36,7 @@ before_report : (path : Atoms) → IsBelowOut path → path_cmp path report_path
 before_report path h = subst (λ p. path_cmp p report_path ≡ Less) (sym h.2) (out_first h.0 h.1)
 
 -- one more element in a list where each is so
-all_pushed : {X : Type 0} (P : X → Type 0) (xs : List X) (x : X) → AllByRecursion P xs → P x → AllByRecursion P (xs ++ x ∷ [])
+pub all_pushed : {X : Type 0} (P : X → Type 0) (xs : List X) (x : X) → AllByRecursion P xs → P x → AllByRecursion P (xs ++ x ∷ [])
 all_pushed P [] x all h = (h, tt)
 all_pushed P (y ∷ ys) x all h = (all.0, all_pushed P ys x all.1 h)
 
@@ -103,16 +102,6 @@ with_report files bytes h =
 
 -- ## What sorting needs and gives
 
-distinct_by : {K : Type 0} (E F : K → K → Bool) → ((x y : K) → E x y ≡ F x y) → (ks : List K) → IsDistinct F ks → IsDistinct E ks
-unfolding IsDistinct
-distinct_by E F same [] h = tt
-distinct_by E F same (k ∷ ks) h =
-    (all_weaker (λ y. F k y ≡ false) (λ y. E k y ≡ false) (λ y e. same k y ∙ e) ks h.0, distinct_by E F same ks h.1)
-
--- the paths of a tree are distinct
-pub distinct_paths : (files : Files) → IsTree files → IsDistinct same_path (paths_of files)
-distinct_paths files h = distinct_by same_path (eq_by_cmp path_cmp) path_cmp_matches (paths_of files) (IsDistinct-from_sorted path_cmp (paths_of files) h.rising)
-
 no_roots_by_recursion : (items : List TreeFile) → AllByRecursion (λ p. p ≢ []) (paths_of (files_of items)) → AllByRecursion (λ f. f.path ≢ []) items
 no_roots_by_recursion [] h = tt
 no_roots_by_recursion (f ∷ fs) h = (h.0, no_roots_by_recursion fs h.1)
@@ -139,38 +128,23 @@ one_tree xs ys s t p =
 no_member : {X : Type 0} (x : X) → Contains [] x → ⊥
 no_member x h = in_from_contains [] x h
 
-only_member : {X : Type 0} (y x : X) → Contains (y ∷ []) x → y ≡ x
-only_member y x h = elim (in_from_contains (y ∷ []) x h) [ inl e ↦ e | inr k ↦ absurd k ]
-
--- no path lies below itself
-not_below_self : (path : Atoms) → IsBelow path path → ⊥
-not_below_self path b = b.1 (sym (append_cancel_left path [] b.0 (append-nil path ∙ b.2)))
-
-below_is_no_root : (path : Atoms) → IsBelowOut path → path ≢ []
-below_is_no_root path h e = let k : codes "out" ∷ h.0 ≡ [] = sym h.2 ∙ e in cc
-
 no_outputs : AreOutputs []
 unfolding IsStrictlySortedBy
 no_outputs = record { tree = record { paths = tt; no_root = tt; rising = tt; unnested = λ dir path d p is. no_member dir d }; below = tt }
 
-one_output : (file : Atoms × List ℕ) → IsPath file.0 → IsBelowOut file.0 → AreOutputs (file ∷ [])
-unfolding IsStrictlySortedBy
-one_output file is below = record {
-  tree = record {
-    paths = (is, tt);
-    no_root = (below_is_no_root file.0 below, tt);
-    rising = (tt, tt);
-    unnested = λ dir path d p b. not_below_self file.0
-        (subst (λ q. IsBelow q file.0) (sym (only_member file.0 path p)) (subst (λ q. IsBelow path q) (sym (only_member file.0 dir d)) b));
-  };
-  below = (below, tt);
-}
+made_below : (writes : List Write) → AllByRecursion IsAllowed writes → AllByRecursion IsBelowOut (paths_of (made writes))
+made_below [] h = tt
+made_below (w ∷ ws) h = (h.0.below_out, made_below ws h.1)
 
 -- the files that the form asks for may be made
-pub asked_are_outputs : (kinds : List TokenKind) (files : Files) → AsksFor kinds files → AreOutputs files
-asked_are_outputs kinds [] h = no_outputs
-asked_are_outputs kinds (file ∷ []) h = one_output file h.names.is_path h.below_out
-asked_are_outputs kinds (file ∷ other ∷ files) h = absurd h
+pub asked_are_outputs : (file : FileTree) (files : Files) → HasForm file files → AreOutputs files
+asked_are_outputs file files h = record {
+  tree = h.tree;
+  below = recursion_from_All IsBelowOut (paths_of files)
+      (All-permutation IsBelowOut (paths_of (made h.writes)) (paths_of files)
+      (IsPermutation-map (λ (f : Atoms × List ℕ). f.0) (made h.writes) files h.same)
+      (All-from_recursion IsBelowOut (paths_of (made h.writes)) (made_below h.writes h.allowed)));
+}
 
 -- ## The lines of the report
 
@@ -200,7 +174,7 @@ report_pushed items new f p report e at holds named =
 pub ends_with_outputs : (input : List ℕ) (verdict : Verdict) → Ends input verdict → AreOutputs (made_of verdict)
 ends_with_outputs input (InputRefused fault) h = no_outputs
 ends_with_outputs input (SpecificationRefused fault) h = no_outputs
-ends_with_outputs input (Succeeded files) h = asked_are_outputs (kinds_of h.2.2) files h.2.4.asks
+ends_with_outputs input (Succeeded files) h = asked_are_outputs h.2.2 files h.2.4
 
 -- which are a tree
 pub pushed_tree : (items new : List TreeFile) (f : TreeFile) (p : Atoms) (report : Vec ℕ Global) → AreOutputs (files_of items) → new ≡ items ++ f ∷ [] → f.path ≡ p

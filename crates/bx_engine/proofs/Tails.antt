@@ -5,10 +5,6 @@ use Rattle.std.specs.Cmp.Lexicographic.{pointwise}
 use Rattle.std.proofs.lemmas.Bool.Decides.{nat_tests}
 use Rattle.std.proofs.lemmas.Slice.Eq.{bytes_eq-Decides}
 
--- one list has one tail
-pub behind : {A : Type 0} {ks r s : List A} {k l : A} → ks ≡ k ∷ r → ks ≡ l ∷ s → r ≡ s
-behind {k = k} {l = l} h e = cc
-
 full : (n : ℕ) → (suc n == 0) ≡ true → ⊥
 full n e = grind (arith, nat_tests)
 
@@ -28,8 +24,3 @@ one_word f ws w rest spelled text e none is same =
     ap (map f) e
     ∙ ap (λ more. f w ∷ map f more) (no_more rest none)
     ∙ ap (λ t. t ∷ []) (sym is ∙ (bytes_eq-Decides spelled text).0 (same_bytes (pointwise eqb spelled text) same))
-
--- behind eight
-pub behind_eight : {A : Type 0} {ks r s : List A} {a b c d e f g h i j k l m n o p : A}
-    → ks ≡ a ∷ b ∷ c ∷ d ∷ e ∷ f ∷ g ∷ h ∷ r → ks ≡ i ∷ j ∷ k ∷ l ∷ m ∷ n ∷ o ∷ p ∷ s → r ≡ s
-behind_eight x y = let both = sym x ∙ y in cc

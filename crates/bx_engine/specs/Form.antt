@@ -1,97 +1,63 @@
--- The form of specification that is built so far: nothing but blanks, or one item that writes a file.
-use Rattle.std.specs.Prelude.{◌≡◌, ◌≢◌, ℕ, ◌≤◌, Bool, false, IsTrue, List, [], ◌∷◌, ◌++◌, map, length, drop, slice_range, codes, nat_le, ◌&&◌, not, ◌==◌}
-use Rattle.std.specs.List.{AllByRecursion}
-use Rattle.dscript_lex.specs.Bytes.{is_blank}
-use Rattle.dscript_lex.specs.Words.{is_reserved_word}
-use Rattle.dscript_lex.specs.declared.token.Token.{Token}
-use Rattle.dscript_lex.specs.declared.token.TokenKind.{TokenKind}
-use Rattle.dscript_lex.specs.declared.token.TokenKind.TheVariants.{Word, Str, Whole, Punct}
+-- The form of specification that is built so far: a list of constants, each of which is a call that writes a file.
+use Rattle.std.specs.Prelude.{◌≡◌, ◌≢◌, ℕ, ◌≤◌, List, [], ◌∷◌, map, length, None, codes, bytes_eq}
+use Rattle.std.specs.List.{AllByRecursion, IsDistinct}
+use Rattle.std.specs.List.Sorted.{IsPermutation}
 use Rattle.bx_tree.specs.Paths.{Atoms, Names}
-use Rattle.bx_tree.specs.Trees.{Files}
-
--- ## How the text is spelled
-
-abbrev pub AreBlanks : List ℕ → Type 0
-AreBlanks text = AllByRecursion (λ b. IsTrue (is_blank b)) text
-
--- a string in `"` or a template that has no escape: between its delimiters stands just what it stands for
-abbrev pub IsPlain : TokenKind → List ℕ → Type 0
-IsPlain (Str value) spelling = spelling ≡ 0x22 ∷ (value ++ 0x22 ∷ [])
-IsPlain (Whole value) spelling = spelling ≡ 0x60 ∷ (value ++ 0x60 ∷ [])
-IsPlain _ spelling = Unit {0}
-
--- the token stands behind this place with blanks alone between, and is plain
-pub record StandsPlainly (text : List ℕ) (at : ℕ) (token : Token) : Type 0 where
-  pub behind : at ≤ token.start
-  pub forward : token.start ≤ token.end
-  pub within : token.end ≤ length text
-  pub gap : AreBlanks (slice_range text at token.start)
-  pub plain : IsPlain token.kind (slice_range text token.start token.end)
-
--- from this place on the text is the tokens, each plain, with blanks alone before, between and behind them
-abbrev pub IsSpelledPlainly : List ℕ → ℕ → List Token → Type 0
-IsSpelledPlainly text at [] = (at ≤ length text) × AreBlanks (drop at text)
-IsSpelledPlainly text at (token ∷ tokens) = StandsPlainly text at token × IsSpelledPlainly text token.end tokens
-
--- ## What the tokens are
-
-abbrev pub kinds_of : List Token → List TokenKind
-kinds_of tokens = map (λ t. t.kind) tokens
-
--- const NAME = Transformer.writeAllText({
-abbrev pub call_kinds : List ℕ → List TokenKind → List TokenKind
-call_kinds name rest =
-    Word (codes "const") ∷ Word name ∷ Punct (codes "=") ∷ Word (codes "Transformer") ∷ Punct (codes ".")
-    ∷ Word (codes "writeAllText") ∷ Punct (codes "(") ∷ Punct (codes "{") ∷ rest
-
--- outputPath: p`PATH`,
-abbrev pub path_kinds : List ℕ → List TokenKind → List TokenKind
-path_kinds path rest =
-    Word (codes "outputPath") ∷ Punct (codes ":") ∷ Word (codes "p") ∷ Whole path ∷ Punct (codes ",") ∷ rest
-
--- text: "VALUE"});
-abbrev pub text_kinds : List ℕ → List TokenKind
-text_kinds value =
-    Word (codes "text") ∷ Punct (codes ":") ∷ Str value ∷ Punct (codes "}") ∷ Punct (codes ")") ∷ Punct (codes ";") ∷ []
-
-abbrev pub item_kinds : List ℕ → List ℕ → List ℕ → List TokenKind
-item_kinds name path value = call_kinds name (path_kinds path (text_kinds value))
-
--- the name is free for a declaration
-pub record IsFreeName (name : List ℕ) : Type 0 where
-  pub not_reserved : is_reserved_word name ≡ false
-  pub not_transformer : name ≢ codes "Transformer"
+use Rattle.bx_tree.specs.Trees.{Files, IsTree}
+use Rattle.dscript_tree.specs.ExprTree.{ExprTree, Post, Name, Path, Str, Object, Member, Call, Named, to_exprs, to_parts, to_props, to_holes}
+use Rattle.dscript_tree.specs.FileTree.{ItemTree, Declared, Marked, Const, FileTree, Project}
+use Rattle.dscript_tree.specs.declared.expr.PathKind.TheVariants as letters
+use Rattle.dscript_tree.specs.declared.file.Mark.TheVariants as marks
 
 -- a file that may be made: strictly below `out`
 abbrev pub IsBelowOut : Atoms → Type 0
 IsBelowOut path = (rest : Atoms) × (rest ≢ []) × (path ≡ codes "out" ∷ rest)
 
--- a printable byte of ASCII other than `"` and a backslash
-abbrev pub is_plain_byte : ℕ → Bool
-is_plain_byte b = nat_le 0x20 b && nat_le b 0x7e && not (b == 0x22) && not (b == 0x5c)
+-- ## One item
 
--- the bytes that a file is made of
-pub record IsPlainText (value : List ℕ) : Type 0 where
-  pub short : length value ≤ 1048576
-  pub bytes : AllByRecursion (λ b. IsTrue (is_plain_byte b)) value
-
--- the item asks for this file
-pub record AsksForFile (kinds : List TokenKind) (file : Atoms × List ℕ) : Type 0 where
+-- what one item says: the name of the constant, the path as it is written and as it is meant, and the text
+pub record Write : Type 0 where
   pub name : List ℕ
   pub path_text : List ℕ
-  pub item : kinds ≡ item_kinds name path_text file.1
-  pub free : IsFreeName name
-  pub names : Names path_text file.0
-  pub below_out : IsBelowOut file.0
-  pub plain : IsPlainText file.1
+  pub path : Atoms
+  pub text : List ℕ
 
--- no item asks for no file, and the one item for its own
-abbrev pub AsksFor : List TokenKind → Files → Type 0
-AsksFor kinds [] = kinds ≡ []
-AsksFor kinds (file ∷ []) = AsksForFile kinds file
-AsksFor kinds (file ∷ other ∷ files) = ⊥
+-- {outputPath: p`PATH`, text: "TEXT"}
+abbrev pub arguments_tree : List ℕ → List ℕ → ExprTree
+arguments_tree path_text text =
+    Object
+    (to_props (Named (codes "outputPath") (Path letters.Path path_text (to_holes [])) ∷ Named (codes "text") (Str text) ∷ []))
 
--- the text, which has these tokens, is of the form, and asks for these files
-pub record HasForm (text : List ℕ) (tokens : List Token) (files : Files) : Type 0 where
-  pub plainly : IsSpelledPlainly text 0 tokens
-  pub asks : AsksFor (kinds_of tokens) files
+-- Transformer.writeAllText(...)
+abbrev pub call_tree : List ℕ → List ℕ → ExprTree
+call_tree path_text text =
+    Post (Name (codes "Transformer"))
+    (to_parts (Member (codes "writeAllText") ∷ Call (to_exprs (arguments_tree path_text text ∷ [])) ∷ []))
+
+-- const NAME = Transformer.writeAllText(...); without a mark and without a type
+abbrev pub write_item : Write → ItemTree
+write_item w = Declared (Marked marks.Plain (Const w.name None (call_tree w.path_text w.text)))
+
+-- the item may stand in a specification
+pub record IsAllowed (w : Write) : Type 0 where
+  pub free : w.name ≢ codes "Transformer"
+  pub names : Names w.path_text w.path
+  pub below_out : IsBelowOut w.path
+  pub short : length w.text ≤ 1048576
+
+-- ## All items
+
+-- the files that the items ask for, in their order
+abbrev pub made : List Write → Files
+made writes = map (λ w. (w.path, w.text)) writes
+
+-- The file is a list of such items with distinct names, and these are the files that they ask for, by path. As
+-- they are a tree, no two items ask for one path, and none for a directory of another's.
+pub record HasForm (file : FileTree) (files : Files) : Type 0 where
+  pub writes : List Write
+  pub project : file ≡ Project (map write_item writes)
+  pub few : length writes ≤ 16384
+  pub allowed : AllByRecursion IsAllowed writes
+  pub distinct : IsDistinct bytes_eq (map (λ w. w.name) writes)
+  pub same : IsPermutation (made writes) files
+  pub tree : IsTree files

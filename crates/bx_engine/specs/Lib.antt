@@ -6,3 +6,4 @@ pub mod Output
 pub mod Verdict
 pub mod Views
 pub mod Words
+pub mod Writes

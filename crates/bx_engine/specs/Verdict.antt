@@ -15,7 +15,7 @@ pub data Verdict : Type 0 where
   InputRefused : InputFault → Verdict
   -- the specification is refused
   SpecificationRefused : SpecificationFault → Verdict
-  -- each pip succeeded; these files were made, one by each write pip, in the order of the pips and by path
+  -- each pip succeeded; these files were made, one by each write pip, and stand here by path
   Succeeded : Files → Verdict
 
 -- ## Names
@@ -31,6 +31,7 @@ input_fault_name input_faults.Reserved = codes "Reserved"
 
 abbrev pub specification_fault_name : SpecificationFault → List ℕ
 specification_fault_name specification_faults.Lex = codes "Lex"
+specification_fault_name specification_faults.Syntax = codes "Syntax"
 specification_fault_name specification_faults.Unsupported = codes "Unsupported"
 
 -- the path of the one specification file

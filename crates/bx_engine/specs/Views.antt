@@ -1,5 +1,4 @@
 -- A verdict without where its files lie in memory.
-use Rattle.bx_tree.specs.Views.{files_of}
 use Rattle.bx_engine.specs.Verdict.{Verdict, InputRefused, SpecificationRefused, Succeeded}
 use Rattle.bx_engine.specs.declared.verdict.Verdict as stored
 use Rattle.bx_engine.specs.declared.verdict.Verdict.TheVariants as verdicts
@@ -7,4 +6,4 @@ use Rattle.bx_engine.specs.declared.verdict.Verdict.TheVariants as verdicts
 abbrev pub seen : stored.Verdict → Verdict
 seen (verdicts.InputRefused fault) = InputRefused fault
 seen (verdicts.SpecificationRefused fault) = SpecificationRefused fault
-seen (verdicts.Succeeded files) = Succeeded (files_of files.items)
+seen (verdicts.Succeeded files) = Succeeded files

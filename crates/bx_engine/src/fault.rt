@@ -18,6 +18,8 @@ pub enum InputFault {
 pub enum SpecificationFault {
     /// It is no list of tokens.
     Lex,
+    /// The grammar derives no file from its tokens.
+    Syntax,
     /// It is not of the form that is built so far.
     Unsupported,
 }

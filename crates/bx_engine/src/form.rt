@@ -1,88 +1,110 @@
-//! Reads a specification of the form that is built so far.
+//! Reads a specification of the form that is built so far: a list of write items.
 
-ghost use Rattle.std.specs.Prelude.{◌≡◌, ◌∷◌, ◌++◌, ◌↔◌, [], ℕ, List, IsTrue, MatchOption, map};
-ghost use Rattle.bx_engine.specs.Form.{AreBlanks, IsPlain, IsPlainText, IsSpelledPlainly, StandsPlainly, kinds_of};
-ghost use Rattle.dscript_lex.specs.Bytes.{is_blank as blank};
-ghost use Rattle.bx_engine.specs.Form.{is_plain_byte as plain_byte};
+ghost use Rattle.std.specs.Prelude.{◌↔◌, List, IfOk, IsTrue, MatchOption, bytes_eq, map};
+ghost use Rattle.std.specs.List.{IsDistinct};
+ghost use Rattle.bx_tree.specs.Trees.{Files};
+ghost use Rattle.bx_tree.specs.Views.{file_of, files_of};
+ghost use Rattle.bx_engine.specs.Form.{HasForm, Write};
+ghost use Rattle.bx_engine.specs.Writes.{AreWrites, Asks, IsWrite, Writes};
+ghost use Rattle.dscript_tree.specs.Views.{file_tree, item_tree};
 
-use dscript_lex::{Token, TokenKind};
+use crate::item::read_item;
+use crate::paths::read_output_path;
+use bx_tree::{Text, Tree, TreeFile};
+use dscript_tree::{File, Item};
+use std::alloc::{AllocError, Global};
+
+/// How many items a file may have.
+const MAX_ITEMS: usize = 16_384;
 
 /// How many bytes the text of one file may have.
 const MAX_TEXT: usize = 1_048_576;
 
-fn is_blank(byte: u8) -> bool
-    ensures { result ≡ blank byte }
-{
-    matches!(byte, b'\t' | b'\n' | b'\r' | b' ')
+/// What an item asks for.
+#[derive(Drop)]
+struct Asked {
+    name: Text,
+    file: TreeFile,
 }
 
-fn are_blanks(text: &[u8]) -> bool
-    ensures { IsTrue result ↔ AreBlanks text.now }
-{
-    text.iter().all(|byte| is_blank(*byte))
+/// What the items of a file ask for, in their order.
+#[derive(Drop)]
+struct AllAsked {
+    names: Vec<Text>,
+    files: Vec<TreeFile>,
 }
 
-/// Whether the spelling is the value between two of these delimiters.
-fn is_between(spelling: &[u8], delimiter: u8, value: &[u8]) -> bool
-    ensures { IsTrue result ↔ (spelling.now ≡ delimiter ∷ (value.now ++ delimiter ∷ [])) }
+/// What one item asks for, if it is a write item that may stand in a specification.
+fn read_write_item(alloc: Global, item: &Item) -> Result<Option<Asked>, AllocError>
+    ensures { IfOk result (λ found. MatchOption found
+        ((write : Write) → IsWrite (item_tree item.now) write → ⊥)
+        (λ x. Writes (item_tree item.now) x.name (file_of x.file))) }
 {
-    let Some((first, rest)) = spelling.split_first() else {
-        return false;
+    let Some(write) = read_item(item) else {
+        return Ok(None);
     };
-    let Some((last, inner)) = rest.split_last() else {
-        return false;
+    if write.name.bytes() == b"Transformer".as_slice() {
+        return Ok(None);
+    }
+    if write.text.len() > MAX_TEXT {
+        return Ok(None);
+    }
+    let Some(path) = read_output_path(alloc, write.path)? else {
+        return Ok(None);
     };
-    if *first != delimiter || *last != delimiter {
-        return false;
+    let bytes = write.text.to_vec(alloc)?;
+    Ok(Some(Asked {
+        name: write.name.share()?,
+        file: TreeFile::new(path, bytes),
+    }))
+}
+
+/// What the items ask for, if each is a write item that may stand in a specification.
+fn read_write_items(alloc: Global, items: &[Item]) -> Result<Option<AllAsked>, AllocError>
+    ensures { IfOk result (λ found. MatchOption found
+        ((writes : List Write) → AreWrites (map item_tree items.now) writes → ⊥)
+        (λ x. Asks (map item_tree items.now) x.names.items (files_of x.files.items))) }
+{
+    let mut names = Vec::new(alloc);
+    let mut files = Vec::new(alloc);
+    'items: for item in items {
+        let Some(asked) = read_write_item(alloc, item)? else {
+            return Ok(None);
+        };
+        names.push(asked.name)?;
+        files.push(asked.file)?;
     }
-    inner == value
+    Ok(Some(AllAsked { names, files }))
 }
 
-fn is_plain(kind: &TokenKind, spelling: &[u8]) -> bool
-    ensures { IsTrue result ↔ IsPlain kind.now spelling.now }
+/// Whether no two of the names are the same.
+fn are_distinct(names: Vec<Text>) -> bool
+    ensures { IsTrue result ↔ IsDistinct bytes_eq names.items }
 {
-    match kind {
-        TokenKind::Str(value) => is_between(spelling, b'"', value.bytes()),
-        TokenKind::Whole(value) => is_between(spelling, b'`', value.bytes()),
-        _ => true,
+    let mut names = names;
+    names.sort_unstable_by(|a, b| a.bytes().cmp(b.bytes()));
+    names
+        .as_slice()
+        .is_sorted_by(|a, b| a.bytes().cmp(b.bytes()).is_lt())
+}
+
+/// The files that a specification asks for, if it has the form that is built so far.
+pub(crate) fn files_asked(alloc: Global, file: &File) -> Result<Option<Tree>, AllocError>
+    ensures { IfOk result (λ found. MatchOption found
+        ((files : Files) → HasForm (file_tree file.now) files → ⊥)
+        (λ files. HasForm (file_tree file.now) files)) }
+{
+    let File::Project(items) = file else {
+        return Ok(None);
+    };
+    if items.len() > MAX_ITEMS {
+        return Ok(None);
     }
-}
-
-/// Whether the token is spelled plainly behind blanks from this byte on.
-fn stands_plainly(text: &[u8], at: usize, token: &Token) -> bool
-    ensures { IsTrue result ↔ StandsPlainly text.now at token.now }
-{
-    let start = token.start as usize;
-    let end = token.end as usize;
-    if at > start || start > end || end > text.len() {
-        return false;
+    let Some(asked) = read_write_items(alloc, items.as_slice())? else {
+        return Ok(None);
+    };
+    if !are_distinct(asked.names) {
+        return Ok(None);
     }
-    are_blanks(&text[at..start]) && is_plain(&token.kind, &text[start..end])
-}
-
-/// Whether the text is these tokens, spelled plainly, and blanks.
-pub(crate) fn is_spelled_plainly(text: &[u8], tokens: &[Token]) -> bool
-    ensures { IsTrue result ↔ IsSpelledPlainly text.now 0 tokens.now }
-{
-    let mut at = 0;
-    'tokens: for token in tokens {
-        if !stands_plainly(text, at, token) {
-            return false;
-        }
-        at = token.end as usize;
-    }
-    at <= text.len() && are_blanks(&text[at..])
-}
-
-fn is_plain_byte(byte: u8) -> bool
-    ensures { result ≡ plain_byte byte }
-{
-    matches!(byte, b' '..=b'~') && byte != b'"' && byte != b'\\'
-}
-
-/// Whether a file may be made of these bytes.
-pub(crate) fn is_plain_text(value: &[u8]) -> bool
-    ensures { IsTrue result ↔ IsPlainText value.now }
-{
-    value.len() <= MAX_TEXT && value.iter().all(|byte| is_plain_byte(*byte))
+    Ok(Tree::checked(asked.files))
 }

@@ -1,139 +1,172 @@
-//! Reads the one kind of item that is built so far, token by token.
+//! Reads one item of the form that is built so far: a constant that is the call of a writer.
 
-ghost use Rattle.std.specs.Prelude.{◌≡◌, ◌∷◌, ℕ, List, MatchOption};
-ghost use Rattle.dscript_lex.specs.declared.token.TokenKind.{TokenKind as Kind};
-ghost use Rattle.dscript_lex.specs.declared.token.TokenKind.TheVariants as kinds;
-ghost use Rattle.bx_engine.specs.Form.{call_kinds, item_kinds, kinds_of, path_kinds, text_kinds};
+ghost use Rattle.std.specs.Prelude.{◌≡◌, ◌∷◌, ◌↔◌, [], ℕ, List, IsTrue, MatchOption, None};
+ghost use Rattle.bx_engine.specs.Form.{arguments_tree, call_tree};
+ghost use Rattle.bx_engine.specs.Writes.{item_of, marked_of};
+ghost use Rattle.dscript_tree.specs.ExprTree as trees;
+ghost use Rattle.dscript_tree.specs.ExprTree.{ExprTree, to_exprs, to_holes};
+ghost use Rattle.dscript_tree.specs.FileTree as files;
+ghost use Rattle.dscript_tree.specs.Views.{decl_tree, expr_tree, item_tree, marked_tree, part_tree, prop_tree};
+ghost use Rattle.dscript_tree.specs.declared.expr.PathKind.TheVariants as letters;
 
-use dscript_lex::{Token, TokenKind};
+use bx_tree::Text;
+use dscript_tree::{Decl, Expr, Item, Mark, Marked, PathKind, PostPart, Prop};
 
-/// What stands behind this word, if it comes first.
-fn behind_word<'a>(tokens: &'a [Token], spelling: &[u8]) -> Option<&'a [Token]>
+/// The bytes of a string.
+fn read_string(value: &Expr) -> Option<&[u8]>
     ensures { MatchOption result
-        ((rest : List Kind) → kinds_of tokens.entry.now ≡ kinds.Word spelling.now ∷ rest → ⊥)
-        (λ rest. kinds_of tokens.entry.now ≡ kinds.Word spelling.now ∷ kinds_of rest.now) }
+        ((text : List ℕ) → expr_tree value.entry.now ≡ trees.Str text → ⊥)
+        (λ text. expr_tree value.entry.now ≡ trees.Str text.now) }
 {
-    let (first, rest) = tokens.split_first()?;
-    match &first.kind {
-        TokenKind::Word(word) if word.bytes() == spelling => Some(rest),
+    match value {
+        Expr::Str(text) => Some(text.bytes()),
         _ => None,
     }
 }
 
-/// What stands behind this sign, if it comes first.
-fn behind_sign<'a>(tokens: &'a [Token], spelling: &[u8]) -> Option<&'a [Token]>
+/// The text of a path without holes.
+fn read_path(value: &Expr) -> Option<&[u8]>
     ensures { MatchOption result
-        ((rest : List Kind) → kinds_of tokens.entry.now ≡ kinds.Punct spelling.now ∷ rest → ⊥)
-        (λ rest. kinds_of tokens.entry.now ≡ kinds.Punct spelling.now ∷ kinds_of rest.now) }
+        ((text : List ℕ) → expr_tree value.entry.now ≡ trees.Path letters.Path text (to_holes []) → ⊥)
+        (λ text. expr_tree value.entry.now ≡ trees.Path letters.Path text.now (to_holes [])) }
 {
-    let (first, rest) = tokens.split_first()?;
-    match &first.kind {
-        TokenKind::Punct(sign) if sign.bytes() == spelling => Some(rest),
+    let Expr::Path(PathKind::Path, text, holes) = value else {
+        return None;
+    };
+    if holes.is_empty() {
+        Some(text.bytes())
+    } else {
+        None
+    }
+}
+
+fn is_name(value: &Expr, name: &[u8]) -> bool
+    ensures { IsTrue result ↔ (expr_tree value.now ≡ trees.Name name.now) }
+{
+    match value {
+        Expr::Name(text) => text.bytes() == name,
+        _ => false,
+    }
+}
+
+fn is_member(part: &PostPart, name: &[u8]) -> bool
+    ensures { IsTrue result ↔ (part_tree part.now ≡ trees.Member name.now) }
+{
+    match part {
+        PostPart::Member(text) => text.bytes() == name,
+        _ => false,
+    }
+}
+
+/// The argument of a call that has one.
+fn read_argument(part: &PostPart) -> Option<&Expr>
+    ensures { MatchOption result
+        ((value : ExprTree) → part_tree part.entry.now ≡ trees.Call (to_exprs (value ∷ [])) → ⊥)
+        (λ value. part_tree part.entry.now ≡ trees.Call (to_exprs (expr_tree value.now ∷ []))) }
+{
+    let PostPart::Call(values) = part else {
+        return None;
+    };
+    if values.len() == 1 {
+        Some(&values[0])
+    } else {
+        None
+    }
+}
+
+/// The value of the property, if it has this name.
+fn read_property<'a>(prop: &'a Prop, name: &[u8]) -> Option<&'a Expr>
+    ensures { MatchOption result
+        ((value : ExprTree) → prop_tree prop.entry.now ≡ trees.Named name.now value → ⊥)
+        (λ value. prop_tree prop.entry.now ≡ trees.Named name.now (expr_tree value.now)) }
+{
+    match prop {
+        Prop::Named(text, value) if text.bytes() == name => Some(value),
         _ => None,
     }
 }
 
-/// The word that comes first, and what stands behind it.
-fn first_word(tokens: &[Token]) -> Option<(&[u8], &[Token])>
+/// The path and the text of `{outputPath: p`PATH`, text: "TEXT"}`.
+fn read_arguments(value: &Expr) -> Option<(&[u8], &[u8])>
     ensures { MatchOption result
-        ((word : List ℕ) (rest : List Kind) → kinds_of tokens.entry.now ≡ kinds.Word word ∷ rest → ⊥)
-        (λ x. kinds_of tokens.entry.now ≡ kinds.Word x.0.now ∷ kinds_of x.1.now) }
+        ((path text : List ℕ) → expr_tree value.entry.now ≡ arguments_tree path text → ⊥)
+        (λ x. expr_tree value.entry.now ≡ arguments_tree x.0.now x.1.now) }
 {
-    let (first, rest) = tokens.split_first()?;
-    match &first.kind {
-        TokenKind::Word(word) => Some((word.bytes(), rest)),
-        _ => None,
+    let Expr::Object(props) = value else {
+        return None;
+    };
+    if props.len() != 2 {
+        return None;
     }
+    let path = read_path(read_property(&props[0], b"outputPath")?)?;
+    let text = read_string(read_property(&props[1], b"text")?)?;
+    Some((path, text))
 }
 
-/// The template without holes that comes first, and what stands behind it.
-fn first_whole(tokens: &[Token]) -> Option<(&[u8], &[Token])>
+/// The path and the text of `Transformer.writeAllText({outputPath: p`PATH`, text: "TEXT"})`.
+fn read_call(value: &Expr) -> Option<(&[u8], &[u8])>
     ensures { MatchOption result
-        ((text : List ℕ) (rest : List Kind) → kinds_of tokens.entry.now ≡ kinds.Whole text ∷ rest → ⊥)
-        (λ x. kinds_of tokens.entry.now ≡ kinds.Whole x.0.now ∷ kinds_of x.1.now) }
+        ((path text : List ℕ) → expr_tree value.entry.now ≡ call_tree path text → ⊥)
+        (λ x. expr_tree value.entry.now ≡ call_tree x.0.now x.1.now) }
 {
-    let (first, rest) = tokens.split_first()?;
-    match &first.kind {
-        TokenKind::Whole(text) => Some((text.bytes(), rest)),
-        _ => None,
+    let Expr::Post(callee, parts) = value else {
+        return None;
+    };
+    if parts.len() != 2 {
+        return None;
     }
-}
-
-/// The string that comes first, and what stands behind it.
-fn first_str(tokens: &[Token]) -> Option<(&[u8], &[Token])>
-    ensures { MatchOption result
-        ((text : List ℕ) (rest : List Kind) → kinds_of tokens.entry.now ≡ kinds.Str text ∷ rest → ⊥)
-        (λ x. kinds_of tokens.entry.now ≡ kinds.Str x.0.now ∷ kinds_of x.1.now) }
-{
-    let (first, rest) = tokens.split_first()?;
-    match &first.kind {
-        TokenKind::Str(text) => Some((text.bytes(), rest)),
-        _ => None,
+    if !is_name(callee, b"Transformer") {
+        return None;
     }
+    if !is_member(&parts[0], b"writeAllText") {
+        return None;
+    }
+    read_arguments(read_argument(&parts[1])?)
 }
 
-/// The name of a call `const NAME = Transformer.writeAllText({`, and what stands behind it.
-fn read_call(tokens: &[Token]) -> Option<(&[u8], &[Token])>
-    ensures { MatchOption result
-        ((name : List ℕ) (rest : List Kind) → kinds_of tokens.entry.now ≡ call_kinds name rest → ⊥)
-        (λ x. kinds_of tokens.entry.now ≡ call_kinds x.0.now (kinds_of x.1.now)) }
-{
-    let tokens = behind_word(tokens, b"const")?;
-    let (name, tokens) = first_word(tokens)?;
-    let tokens = behind_sign(tokens, b"=")?;
-    let tokens = behind_word(tokens, b"Transformer")?;
-    let tokens = behind_sign(tokens, b".")?;
-    let tokens = behind_word(tokens, b"writeAllText")?;
-    let tokens = behind_sign(tokens, b"(")?;
-    let tokens = behind_sign(tokens, b"{")?;
-    Some((name, tokens))
-}
-
-/// The path of a field `outputPath`, and what stands behind it.
-fn read_path(tokens: &[Token]) -> Option<(&[u8], &[Token])>
-    ensures { MatchOption result
-        ((path : List ℕ) (rest : List Kind) → kinds_of tokens.entry.now ≡ path_kinds path rest → ⊥)
-        (λ x. kinds_of tokens.entry.now ≡ path_kinds x.0.now (kinds_of x.1.now)) }
-{
-    let tokens = behind_word(tokens, b"outputPath")?;
-    let tokens = behind_sign(tokens, b":")?;
-    let tokens = behind_word(tokens, b"p")?;
-    let (path, tokens) = first_whole(tokens)?;
-    let tokens = behind_sign(tokens, b",")?;
-    Some((path, tokens))
-}
-
-/// The value of a field `text`, with the end of the item behind it and nothing more.
-fn read_text(tokens: &[Token]) -> Option<&[u8]>
-    ensures { MatchOption result
-        ((value : List ℕ) → kinds_of tokens.entry.now ≡ text_kinds value → ⊥)
-        (λ value. kinds_of tokens.entry.now ≡ text_kinds value.now) }
-{
-    let tokens = behind_word(tokens, b"text")?;
-    let tokens = behind_sign(tokens, b":")?;
-    let (value, tokens) = first_str(tokens)?;
-    let tokens = behind_sign(tokens, b"}")?;
-    let tokens = behind_sign(tokens, b")")?;
-    let tokens = behind_sign(tokens, b";")?;
-    if tokens.is_empty() { Some(value) } else { None }
-}
-
-/// What an item names: itself, the file and its text.
+/// What an item says: its name, and the path and the text of the file.
 #[derive(Drop)]
-pub(crate) struct Item<'a> {
-    pub name: &'a [u8],
+pub(crate) struct WriteItem<'a> {
+    pub name: &'a Text,
     pub path: &'a [u8],
     pub text: &'a [u8],
 }
 
-/// The one item that the tokens are.
-pub(crate) fn read_item(tokens: &[Token]) -> Option<Item<'_>>
+/// What a constant without a type says.
+fn read_constant(decl: &Decl) -> Option<WriteItem<'_>>
     ensures { MatchOption result
-        ((name path text : List ℕ) → kinds_of tokens.entry.now ≡ item_kinds name path text → ⊥)
-        (λ item. kinds_of tokens.entry.now ≡ item_kinds item.name.now item.path.now item.text.now) }
+        ((name path text : List ℕ) → decl_tree decl.entry.now ≡ files.Const name None (call_tree path text) → ⊥)
+        (λ x. decl_tree decl.entry.now ≡ files.Const x.name.now None (call_tree x.path.now x.text.now)) }
 {
-    let (name, tokens) = read_call(tokens)?;
-    let (path, tokens) = read_path(tokens)?;
-    let text = read_text(tokens)?;
-    Some(Item { name, path, text })
+    match decl {
+        Decl::Const(name, None, value) => {
+            let (path, text) = read_call(value)?;
+            Some(WriteItem { name, path, text })
+        }
+        _ => None,
+    }
+}
+
+/// What a constant without a mark says.
+fn read_marked(marked: &Marked) -> Option<WriteItem<'_>>
+    ensures { MatchOption result
+        ((name path text : List ℕ) → marked_tree marked.entry.now ≡ marked_of name path text → ⊥)
+        (λ x. marked_tree marked.entry.now ≡ marked_of x.name.now x.path.now x.text.now) }
+{
+    match marked.mark {
+        Mark::Plain => read_constant(&marked.decl),
+        Mark::Export | Mark::Public => None,
+    }
+}
+
+/// What a declaration of such a constant says.
+pub(crate) fn read_item(item: &Item) -> Option<WriteItem<'_>>
+    ensures { MatchOption result
+        ((name path text : List ℕ) → item_tree item.entry.now ≡ item_of name path text → ⊥)
+        (λ x. item_tree item.entry.now ≡ item_of x.name.now x.path.now x.text.now) }
+{
+    match item {
+        Item::Declared(marked) => read_marked(marked),
+        _ => None,
+    }
 }

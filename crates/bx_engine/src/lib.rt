@@ -1,9 +1,9 @@
 //! The whole engine as one call: from the words of the command line and the bytes of an input to a status, the
 //! bytes of the output and what is told.
 //!
-//! This crate stands on `bx_io` for the outside, on `bx_tree` for bundles and on `dscript_lex` for tokens. It carries the
-//! promise that all others are for: the call writes the bytes and gives the status that the definition of a build
-//! gives for the input, on both sides of every refusal.
+//! This crate stands on `bx_io` for the outside, on `bx_tree` for bundles, and on `dscript_lex`, `dscript_parse` and
+//! `dscript_tree` for specifications. It carries the promise that all others are for: the call writes the bytes and
+//! gives the status that the definition of a build gives for the input, on both sides of every refusal.
 #![tactic(auto)]
 
 mod build;
@@ -13,6 +13,7 @@ mod item;
 mod judging;
 mod laws;
 mod order;
+mod paths;
 mod reading;
 mod report;
 mod response;

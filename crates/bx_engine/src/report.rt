@@ -32,6 +32,7 @@ fn specification_name(fault: SpecificationFault) -> &'static str
 {
     match fault {
         SpecificationFault::Lex => "Lex",
+        SpecificationFault::Syntax => "Syntax",
         SpecificationFault::Unsupported => "Unsupported",
     }
 }
@@ -72,7 +73,7 @@ pub(crate) fn report(alloc: Global, verdict: &Verdict) -> Result<Vec<u8>, AllocE
     match verdict {
         Verdict::InputRefused(fault) => input_report(alloc, *fault),
         Verdict::SpecificationRefused(fault) => specification_report(alloc, *fault),
-        Verdict::Succeeded(files) => success_report(alloc, files.as_slice()),
+        Verdict::Succeeded(files) => success_report(alloc, files.files()),
     }
 }
 

@@ -8,7 +8,8 @@ ghost use Rattle.bx_engine.specs.Output.{AreOutputs};
 ghost use Rattle.bx_engine.specs.Verdict.{made_of, output_of, report_path, status_of};
 ghost use Rattle.bx_engine.specs.Views.{seen};
 
-use crate::judging::{known_path, verdict_of};
+use crate::judging::verdict_of;
+use crate::paths::known_path;
 use crate::report::{notes, report};
 use crate::verdict::Verdict;
 use bx_tree::{Tree, TreeFile, write_bundle};
@@ -37,7 +38,7 @@ fn files_made(alloc: Global, verdict: Verdict) -> Vec<TreeFile>
     ensures { files_of result.items ≡ made_of (seen verdict) }
 {
     match verdict {
-        Verdict::Succeeded(files) => files,
+        Verdict::Succeeded(files) => files.into_files(),
         _ => Vec::new(alloc),
     }
 }

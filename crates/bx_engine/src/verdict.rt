@@ -1,7 +1,7 @@
 //! How a build may end.
 
 use crate::fault::{InputFault, SpecificationFault};
-use bx_tree::TreeFile;
+use bx_tree::Tree;
 
 /// How a build ends, with what must be told of it.
 #[derive(Drop)]
@@ -11,5 +11,5 @@ pub(crate) enum Verdict {
     /// The specification is refused.
     SpecificationRefused(SpecificationFault),
     /// Each pip succeeded, and these files were made, one by each write pip.
-    Succeeded(Vec<TreeFile>),
+    Succeeded(Tree),
 }

@@ -1,7 +1,9 @@
-use Rattle.bx_engine.proofs.Tails.{behind_eight}
+use Rattle.bx_engine.proofs.Items.{declared_is, declared_from, match_weaker}
 use Rattle.bx_engine.proofs.item.read_item.Goals as goal
 
-pub returns-in_err-path : goal.returns-in_err-path
-returns-in_err-path c =
-    rw c.from_residual-in_err-path.ensures (λ name path text e.
-    c.in_err-path.ensures _ _ (behind_eight c.in_ok-name.ensures e))
+pub returns-in-Declared : goal.returns-in-Declared
+returns-in-Declared c =
+    match_weaker c.read_marked.result _ _ _ _
+    (λ none name path text h. none name path text (declared_is c.args.item.now c.in-Declared.marked name path text c.in-Declared.is h))
+    (λ x told. declared_from c.args.item.now c.in-Declared.marked x.name.now x.path.now x.text.now c.in-Declared.is told)
+    c.read_marked.ensures

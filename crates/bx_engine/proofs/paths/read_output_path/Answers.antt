@@ -1,6 +1,6 @@
 use Rattle.std.proofs.lemmas.Bool.{false≢true}
 use Rattle.bx_engine.proofs.KnownPaths.{named_out, not_below_out}
-use Rattle.bx_engine.proofs.judging.read_output_path.Goals as goal
+use Rattle.bx_engine.proofs.paths.read_output_path.Goals as goal
 
 pub known_path-requires : goal.known_path-requires
 known_path-requires c = (_, named_out)
