@@ -1,3 +1,3 @@
-pub mod Walking
-pub mod Matches
-pub mod Listing
+pub mod StepsOfTexts
+pub mod RowsMatch
+pub mod LastAtoms

@@ -1,52 +1,54 @@
--- What a pattern meets, and which files of a tree a glob lists.
-use Rattle.std.specs.Prelude.{ℕ, ◌<◌, ◌≤◌, Bool, true, false, IsTrue, ◌&&◌, ◌||◌, ◌==◌, List, [], ◌∷◌, length, filter, Option, Some, None, if◌then◌else◌}
+-- Which atoms match a pattern, and which files of a tree a glob lists.
+use Rattle.std.specs.Prelude.{ℕ, ◌<◌, ◌≤◌, Bool, true, false, IsTrue, ◌&&◌, ◌||◌, ◌==◌, if◌then◌else◌}
+use Rattle.std.specs.Prelude.{List, [], ◌∷◌, length, filter, Option, Some, None}
 use Rattle.std.specs.List.{AllByRecursion}
 use Rattle.std.specs.Option.{option_map_or}
 use Rattle.std.specs.Str.{bytes_eq}
 use Rattle.bx_tree.specs.Paths.{Atoms, is_atom_byte}
 use Rattle.bx_tree.specs.Trees.{Files, paths_of}
+use Rattle.bx_path.specs.declared.globbing.TheConstants.{MAX_PATTERN_BYTES}
 
 -- a byte of an atom, `*` or `?`
 abbrev pub is_pattern_byte : ℕ → Bool
 is_pattern_byte b = is_atom_byte b || b == 42 || b == 63
 
--- a pattern: 1 to 255 such bytes
+-- a pattern: at least one such byte
 pub record IsPattern (text : List ℕ) : Type 0 where
   pub some : 0 < length text
-  pub short : length text ≤ 255
+  pub short : length text ≤ MAX_PATTERN_BYTES
   pub bytes : AllByRecursion (λ b. IsTrue (is_pattern_byte b)) text
 
--- the test holds of what is left when some bytes, or none, are taken off the front
-abbrev pub some_tail : (List ℕ → Bool) → List ℕ → Bool
-some_tail test [] = test []
-some_tail test (b ∷ bs) = test (b ∷ bs) || some_tail test bs
+-- the test holds of some suffix of the text
+abbrev pub some_suffix : (List ℕ → Bool) → List ℕ → Bool
+some_suffix test [] = test []
+some_suffix test (b ∷ bs) = test (b ∷ bs) || some_suffix test bs
 
--- there is a first byte, `?` or this byte stands for it, and the test holds of the rest
+-- the text has a first byte, the pattern's byte is `?` or this byte, and the test holds of the rest
 abbrev pub one_byte : ℕ → (List ℕ → Bool) → List ℕ → Bool
 one_byte p test [] = false
 one_byte p test (b ∷ bs) = (p == 63 || p == b) && test bs
 
--- whether an atom meets a pattern: `*` stands for any run of bytes, `?` for one byte, and any other for itself
-abbrev pub meets : List ℕ → List ℕ → Bool
-meets [] [] = true
-meets [] (b ∷ bs) = false
-meets (p ∷ ps) atom = if p == 42 then some_tail (meets ps) atom else one_byte p (meets ps) atom
+-- whether an atom matches a pattern: `*` matches any run of bytes, `?` any byte, and any other byte itself
+abbrev pub is_match : List ℕ → List ℕ → Bool
+is_match [] [] = true
+is_match [] (b ∷ bs) = false
+is_match (p ∷ ps) atom = if p == 42 then some_suffix (is_match ps) atom else one_byte p (is_match ps) atom
 
--- what follows a directory's atoms in a path, if the path begins with them
-abbrev pub behind : Atoms → Atoms → Option Atoms
-behind [] path = Some path
-behind (d ∷ ds) [] = None
-behind (d ∷ ds) (a ∷ as') = if bytes_eq d a then behind ds as' else None
+-- the atoms of a path after those of a directory, if the path starts with these
+abbrev pub strip_dir : Atoms → Atoms → Option Atoms
+strip_dir [] path = Some path
+strip_dir (d ∷ ds) [] = None
+strip_dir (d ∷ ds) (a ∷ as') = if bytes_eq d a then strip_dir ds as' else None
 
--- the last of the atoms meets the pattern, and it is the only one unless the glob is deep
-abbrev pub last_meets : List ℕ → Bool → Atoms → Bool
-last_meets pattern deep [] = false
-last_meets pattern deep (atom ∷ []) = meets pattern atom
-last_meets pattern deep (atom ∷ next ∷ rest) = deep && last_meets pattern deep (next ∷ rest)
+-- the last of the atoms matches the pattern, and it is the only one unless the glob is deep
+abbrev pub last_is_match : List ℕ → Bool → Atoms → Bool
+last_is_match pattern deep [] = false
+last_is_match pattern deep (atom ∷ []) = is_match pattern atom
+last_is_match pattern deep (atom ∷ next ∷ rest) = deep && last_is_match pattern deep (next ∷ rest)
 
--- the path lies in the directory, or where the glob is deep anywhere below it, and its last atom meets the pattern
+-- a path in the directory, or anywhere below it if the glob is deep, whose last atom matches the pattern
 abbrev pub is_hit : Atoms → List ℕ → Bool → Atoms → Bool
-is_hit dir pattern deep path = option_map_or (last_meets pattern deep) (behind dir path) false
+is_hit dir pattern deep path = option_map_or (last_is_match pattern deep) (strip_dir dir path) false
 
 -- the paths of these files, in their order
 abbrev pub glob_of : Files → Atoms → List ℕ → Bool → List Atoms

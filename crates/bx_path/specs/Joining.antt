@@ -1,13 +1,16 @@
--- What a text joined to a path makes of it.
-use Rattle.std.specs.Prelude.{ℕ, Bool, not, ◌&&◌, ◌==◌, nat_le, List, [], ◌∷◌, ◌++◌, length, take, codes, Option, Some, None, option_and_then, if◌then◌else◌}
+-- The path that a text leads to from another path.
+use Rattle.std.specs.Prelude.{ℕ, Bool, not, ◌&&◌, ◌==◌, nat_le, if◌then◌else◌}
+use Rattle.std.specs.Prelude.{List, [], ◌∷◌, ◌++◌, length, take, codes, Option, Some, None, option_and_then}
 use Rattle.std.specs.List.{list_all, slice_split}
 use Rattle.std.specs.Str.{bytes_eq}
 use Rattle.bx_tree.specs.Paths.{Atoms, is_atom_byte, path_text}
+use Rattle.bx_tree.specs.declared.limits.TheConstants.{MAX_ATOM_BYTES, MAX_PATH_BYTES}
 
--- whether a text is an atom: 1 to 255 bytes of those that atoms have, and neither `.` nor `..`
+-- whether a text is an atom: at least one byte, each of those that atoms have, and neither `.` nor `..`
 abbrev pub is_atom : List ℕ → Bool
 is_atom text =
-    nat_le 1 (length text) && nat_le (length text) 255 && list_all is_atom_byte text && not (bytes_eq text (codes ".")) && not (bytes_eq text (codes ".."))
+    nat_le 1 (length text) && nat_le (length text) MAX_ATOM_BYTES && list_all is_atom_byte text
+    && not (bytes_eq text (codes ".")) && not (bytes_eq text (codes ".."))
 
 -- the path without its last atom; the root has none
 abbrev pub parent : Atoms → Option Atoms
@@ -26,9 +29,9 @@ abbrev pub walk : Atoms → List (List ℕ) → Option Atoms
 walk path [] = Some path
 walk path (part ∷ parts) = option_and_then (λ next. walk next parts) (step path part)
 
--- a path whose text has at most 1,024 bytes
+-- the path, if its text is short enough
 abbrev pub if_short : Atoms → Option Atoms
-if_short path = if nat_le (length (path_text path)) 1024 then Some path else None
+if_short path = if nat_le (length (path_text path)) MAX_PATH_BYTES then Some path else None
 
 -- where the parts of a text between its `/` lead from a path, if the end is short enough to be a path
 abbrev pub join_of : Atoms → List ℕ → Option Atoms

@@ -1,31 +1,34 @@
+//! Globs: the files of a tree whose last atom matches a pattern.
+
 ghost use Rattle.std.specs.Prelude.{◌≡◌, ◌≢◌, ◌==◌, ◌↔◌, ◌∷◌, ◌++◌, Some, IsTrue, MatchOption, MatchResult};
 ghost use Rattle.std.specs.List.{AllByRecursion, slice_split};
 ghost use Rattle.bx_tree.specs.Paths.{IsAtom, IsBelow};
-ghost use Rattle.bx_path.specs.Globbing.{IsPattern, glob_of, is_pattern_byte as pattern_byte, behind, is_hit as is_hit_of, last_meets as last_meets_pattern};
+ghost use Rattle.bx_path.specs.Globbing.{IsPattern, glob_of, is_pattern_byte as pattern_byte, strip_dir};
+ghost use Rattle.bx_path.specs.Globbing.{is_hit as is_hit_of, last_is_match as last_pattern_match};
 
-use crate::matching::meets;
-use bx_tree::{Path, Tree};
-use std::alloc::{AllocError, AllocFailed, Global};
+use crate::matching::is_match;
+use bx_tree::{Memory, Path, Tree};
+use std::alloc::{AllocFailed, Global};
 
 /// The largest number of bytes in a pattern.
-const MAX_PATTERN: usize = 255;
+pub const MAX_PATTERN_BYTES: usize = 255;
 
 /// Why a glob gives no files.
 #[derive(Clone, Copy, Debug, PartialEq, Eq)]
 pub enum GlobFault {
-    /// The pattern is not 1 to 255 bytes of `A-Z a-z 0-9 . _ - * ?`.
+    /// The pattern is not 1 to [`MAX_PATTERN_BYTES`] bytes of `A-Z a-z 0-9 . _ - * ?`.
     BadPattern,
-    /// There was no memory.
+    /// Out of memory.
     Memory,
 }
 
-impl From<AllocError> for GlobFault {
+impl From<Memory> for GlobFault {
     ghost use Rattle.std.specs.Prelude.{◌≡◌};
     ghost use Rattle.bx_path.specs.declared.globbing.GlobFault.TheVariants as glob_faults;
 
     ghost from_gives = { λ _ e. e ≡ glob_faults.Memory };
 
-    fn from(_: AllocError) -> Self {
+    fn from(_: Memory) -> Self {
         GlobFault::Memory
     }
 }
@@ -56,14 +59,14 @@ fn has_pattern_bytes(text: &[u8]) -> bool
 fn is_pattern(text: &[u8]) -> bool
     ensures { IsTrue result ↔ IsPattern text.now }
 {
-    if text.is_empty() || text.len() > MAX_PATTERN {
+    if text.is_empty() || text.len() > MAX_PATTERN_BYTES {
         return false;
     }
     has_pattern_bytes(text)
 }
 
-// What stands before and behind the first `/`.
-fn cut_at_slash(text: &[u8]) -> Option<(&[u8], &[u8])>
+// The parts of a text before and after the first `/`.
+fn split_at_slash(text: &[u8]) -> Option<(&[u8], &[u8])>
     ensures { MatchOption result
         (AllByRecursion (λ b. b ≢ 47) text.now)
         (λ parts. AllByRecursion (λ b. b ≢ 47) parts.0.now × (text.now ≡ parts.0.now ++ 47 ∷ parts.1.now)) }
@@ -76,15 +79,15 @@ fn cut_at_slash(text: &[u8]) -> Option<(&[u8], &[u8])>
     None
 }
 
-// Whether the last atom of a text meets a pattern, and is its only one unless the glob is deep.
-fn last_meets(text: &[u8], pattern: &[u8], deep: bool) -> bool
+// Whether the last atom of a text matches a pattern, and is the only atom unless the glob is deep.
+fn last_is_match(text: &[u8], pattern: &[u8], deep: bool) -> bool
     requires { AllByRecursion IsAtom (slice_split (λ b. b == 47) text.now) }
-    ensures { result ≡ last_meets_pattern pattern.now deep (slice_split (λ b. b == 47) text.now) }
+    ensures { result ≡ last_pattern_match pattern.now deep (slice_split (λ b. b == 47) text.now) }
 {
     let mut rest = text;
     'parts: loop {
-        let Some((_, after)) = cut_at_slash(rest) else {
-            return meets(pattern, rest);
+        let Some((_, after)) = split_at_slash(rest) else {
+            return is_match(pattern, rest);
         };
         if !deep {
             return false;
@@ -93,32 +96,33 @@ fn last_meets(text: &[u8], pattern: &[u8], deep: bool) -> bool
     }
 }
 
-// The part of a path's text that stands behind a directory above it.
-fn text_behind<'a>(dir: &Path, path: &'a Path) -> &'a [u8]
+// The part of a path's text after the text of a directory that contains it and a `/`.
+fn text_below<'a>(dir: &Path, path: &'a Path) -> &'a [u8]
     requires { IsBelow path.now dir.now }
-    ensures behind { behind dir.now path.entry.now ≡ Some (slice_split (λ b. b == 47) result.now) }
+    ensures rest { strip_dir dir.now path.entry.now ≡ Some (slice_split (λ b. b == 47) result.now) }
     ensures atoms { AllByRecursion IsAtom (slice_split (λ b. b == 47) result.now) }
 {
     let text = path.text().as_bytes();
-    let front = dir.text();
-    if front == "." {
+    let prefix = dir.text();
+    if prefix == "." {
         return text;
     }
-    let (_, rest) = text.split_at(front.len() + 1);
+    let (_, rest) = text.split_at(prefix.len() + 1);
     rest
 }
 
+// Whether a glob of this directory lists a path.
 fn is_hit(dir: &Path, path: &Path, pattern: &[u8], deep: bool) -> bool
     ensures { result ≡ is_hit_of dir.now pattern.now deep path.now }
 {
     if !path.is_below(dir) {
         return false;
     }
-    last_meets(text_behind(dir, path), pattern, deep)
+    last_is_match(text_below(dir, path), pattern, deep)
 }
 
 /// The files of a tree, in order, that lie in a directory, or anywhere below it where the glob is
-/// deep, and whose last atom meets a pattern: `*` stands for any run of bytes, `?` for one.
+/// deep, and whose last atom matches a pattern: `*` matches any run of bytes, `?` any one byte.
 pub fn glob(
     alloc: Global,
     tree: &Tree,

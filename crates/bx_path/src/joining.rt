@@ -1,21 +1,23 @@
+//! Relative paths: the path that a text leads to from another path.
+
 ghost use Rattle.std.specs.Prelude.{◌≡◌, ◌==◌, None, Some, IfOk, OnOk, MatchResult};
 ghost use Rattle.std.specs.List.{AllByRecursion, join_with_byte, slice_split};
 ghost use Rattle.bx_tree.specs.Paths.{IsAtom};
 ghost use Rattle.bx_path.specs.Joining.{if_short, join_of, step};
 ghost use Rattle.bx_path.specs.Parts.{parts_now};
 
-use bx_tree::{Path, PathFault, is_atom};
-use std::alloc::{AllocError, Global};
+use bx_tree::{Memory, Path, PathFault, is_atom};
+use std::alloc::Global;
 
 // The parts of a text between its `/`.
-fn parts_of(alloc: Global, text: &[u8]) -> Result<Vec<&[u8]>, AllocError>
+fn parts_of(alloc: Global, text: &[u8]) -> Result<Vec<&[u8]>, Memory>
     ensures { IfOk result (λ parts. parts_now parts.items ≡ slice_split (λ b. b == 47) text.entry.now) }
 {
     text.split(|byte| *byte == b'/').collect(alloc)
 }
 
 // The atoms of a path.
-fn atoms_of(alloc: Global, path: &Path) -> Result<Vec<&[u8]>, AllocError>
+fn atoms_of(alloc: Global, path: &Path) -> Result<Vec<&[u8]>, Memory>
     ensures atoms { IfOk result (λ atoms. parts_now atoms.items ≡ path.entry.now) }
     ensures valid { IfOk result (λ atoms. AllByRecursion IsAtom (parts_now atoms.items)) }
 {
@@ -26,10 +28,11 @@ fn atoms_of(alloc: Global, path: &Path) -> Result<Vec<&[u8]>, AllocError>
     parts_of(alloc, text)
 }
 
-// Takes the step of one part.
+// Takes one step: `.` stays, `..` goes up, an atom goes down.
 fn take_step<'a>(atoms: &mut Vec<&'a [u8]>, part: &'a [u8]) -> Result<(), PathFault>
     requires { AllByRecursion IsAtom (parts_now atoms.old.items) }
-    ensures ok { OnOk result (step (parts_now atoms.old.items) part.entry.now ≡ Some (parts_now atoms.new.items)) }
+    ensures ok { OnOk result (step (parts_now atoms.old.items) part.entry.now
+        ≡ Some (parts_now atoms.new.items)) }
     ensures valid { OnOk result (AllByRecursion IsAtom (parts_now atoms.new.items)) }
     ensures bad { result ≡ Err PathFault.BadPath → step (parts_now atoms.old.items) part.entry.now ≡ None }
 {
@@ -49,8 +52,8 @@ fn take_step<'a>(atoms: &mut Vec<&'a [u8]>, part: &'a [u8]) -> Result<(), PathFa
     Ok(())
 }
 
-// The text of atoms.
-fn text_of(alloc: Global, atoms: &[&[u8]]) -> Result<Vec<u8>, AllocError>
+// The text of atoms, joined by `/`.
+fn text_of(alloc: Global, atoms: &[&[u8]]) -> Result<Vec<u8>, Memory>
     ensures { IfOk result (λ text. text.items ≡ join_with_byte 47 (parts_now atoms.now)) }
 {
     let mut text = Vec::new(alloc);
@@ -79,7 +82,7 @@ fn path_of(alloc: Global, atoms: &[&[u8]]) -> Result<Path, PathFault>
 
 /// The path that a text leads to from another: its parts between `/` are taken in order, `.` stays,
 /// `..` goes up and an atom goes down. Any other part, `..` at the root, and an end of more than
-/// 1,024 bytes are a bad path.
+/// [`MAX_PATH_BYTES`](bx_tree::MAX_PATH_BYTES) bytes are a bad path.
 pub fn join(alloc: Global, base: &Path, text: &[u8]) -> Result<Path, PathFault>
     ensures { MatchResult result
         (λ path. join_of base.now text.now ≡ Some path)

@@ -1,5 +1,5 @@
 use super::*;
-use bx_tree::{Path, PathFault, read_bundle};
+use bx_tree::{MAX_ATOM_BYTES, MAX_PATH_BYTES, Path, PathFault, read_bundle};
 use std::alloc::Global;
 use std::test::Fail;
 
@@ -61,12 +61,12 @@ fn only_the_end_is_measured(rt: HostRuntime) -> Result<(), Fail> {
     text.push(b'a')?;
     assert!(rt; joined_is(rt.alloc(), &base, &text, b"a"));
     let mut long = Vec::new(rt.alloc());
-    for _ in 0..512usize {
+    for _ in 0..MAX_PATH_BYTES / 2 {
         long.extend_from_slice(b"a/")?;
     }
     long.push(b'a')?;
     assert!(rt; is_bad(rt.alloc(), &base, &long));
-    let mut wide = vec![in rt.alloc(); b'a'; 256]?;
+    let mut wide = vec![in rt.alloc(); b'a'; MAX_ATOM_BYTES + 1]?;
     wide.extend_from_slice(b"/..")?;
     assert!(rt; is_bad(rt.alloc(), &base, &wide));
     Ok(())
@@ -86,7 +86,7 @@ fn listed(alloc: Global, dir: &Path, pattern: &[u8], deep: bool) -> Result<Strin
 }
 
 #[test]
-fn a_glob_lists_the_files_whose_last_atom_meets_it(rt: HostRuntime) -> Result<(), Fail> {
+fn a_glob_lists_the_files_whose_last_atom_matches_it(rt: HostRuntime) -> Result<(), Fail> {
     let root = Path::root(rt.alloc())?;
     let dir = Path::read(rt.alloc(), b"s")?;
     assert_eq!(rt; listed(rt.alloc(), &root, b"?.c", false)?.as_str(), "a.c ");
@@ -130,12 +130,12 @@ fn is_bad_pattern(alloc: Global, pattern: &[u8]) -> bool {
 }
 
 #[test]
-fn a_pattern_has_1_to_255_bytes_of_its_own(rt: HostRuntime) -> Result<(), Fail> {
+fn a_pattern_has_a_limited_length_and_its_own_bytes(rt: HostRuntime) -> Result<(), Fail> {
     let bad: [&[u8]; 4] = [b"", b"a/b", b"[a]", b"a b"];
     for pattern in bad {
         assert!(rt; is_bad_pattern(rt.alloc(), pattern));
     }
-    let mut pattern = vec![in rt.alloc(); b'*'; 255]?;
+    let mut pattern = vec![in rt.alloc(); b'*'; MAX_PATTERN_BYTES]?;
     assert!(rt; !is_bad_pattern(rt.alloc(), &pattern));
     pattern.push(b'a')?;
     assert!(rt; is_bad_pattern(rt.alloc(), &pattern));

@@ -1,8 +1,9 @@
-pub mod Cutting
-pub mod Listed
-pub mod Placed
-pub mod Heads
-pub mod Between
-pub mod Fronts
-pub mod Unique
-pub mod Checked
+pub mod PathTexts
+pub mod AnyElement
+pub mod FileSearch
+pub mod HeaderParts
+pub mod AncestorSearch
+pub mod TreeGrowth
+pub mod OneReading
+pub mod TreeCheck
+pub mod SomeReading

@@ -1,8 +1,8 @@
 pub mod Paths
 pub mod Trees
-pub mod Views
 pub mod Bundle
-pub mod Orders
-pub mod Single
-pub mod Reading
+pub mod Views
 pub mod Headers
+pub mod Reading
+pub mod Orders
+pub mod IsPathProp

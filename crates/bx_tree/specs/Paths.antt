@@ -1,9 +1,11 @@
 -- Paths: lists of atoms, their texts, which path is below which, and their order.
-use Rattle.std.specs.Prelude.{◌≡◌, ◌≢◌, ℕ, ◌<◌, ◌≤◌, Bool, IsTrue, ◌&&◌, ◌||◌, ◌==◌, nat_le, List, [], ◌∷◌, ◌++◌, length, codes, cond, nat_eq, ◌⊎◌}
+use Rattle.std.specs.Prelude.{◌≡◌, ◌≢◌, ℕ, ◌<◌, ◌≤◌, Bool, IsTrue, ◌&&◌, ◌||◌, ◌==◌, nat_le, nat_eq, cond}
+use Rattle.std.specs.Prelude.{List, [], ◌∷◌, ◌++◌, length, codes, ◌⊎◌}
 use Rattle.std.specs.List.{AllByRecursion, join_with_byte, slice_split}
 use Rattle.std.specs.Cmp.Lexicographic.{slice_cmp, pointwise}
 use Rattle.std.specs.Ordering.{nat_cmp, on, then_cmp}
 use Rattle.std.specs.declared.cmp.Ordering.{Ordering}
+use Rattle.bx_tree.specs.declared.limits.TheConstants.{MAX_ATOM_BYTES, MAX_PATH_BYTES}
 
 -- a path: its atoms, from the root down; the root has none
 abbrev pub Atoms : Type 0
@@ -12,12 +14,13 @@ Atoms = List (List ℕ)
 -- a letter, a digit, `.`, `_` or `-`
 abbrev pub is_atom_byte : ℕ → Bool
 is_atom_byte b =
-    (nat_le 65 b && nat_le b 90) || (nat_le 97 b && nat_le b 122) || (nat_le 48 b && nat_le b 57) || b == 46 || b == 95 || b == 45
+    (nat_le 65 b && nat_le b 90) || (nat_le 97 b && nat_le b 122) || (nat_le 48 b && nat_le b 57)
+    || b == 46 || b == 95 || b == 45
 
--- an atom: 1 to 255 such bytes, and neither `.` nor `..`
+-- an atom: at least one such byte, and neither `.` nor `..`
 pub record IsAtom (atom : List ℕ) : Type 0 where
   pub some : 0 < length atom
-  pub short : length atom ≤ 255
+  pub short : length atom ≤ MAX_ATOM_BYTES
   pub bytes : AllByRecursion (λ b. IsTrue (is_atom_byte b)) atom
   pub not_dot : atom ≢ codes "."
   pub not_dots : atom ≢ codes ".."
@@ -27,10 +30,10 @@ abbrev pub path_text : Atoms → List ℕ
 path_text [] = codes "."
 path_text (atom ∷ rest) = join_with_byte 47 (atom ∷ rest)
 
--- a path: atoms whose text has at most 1,024 bytes; the root is one
+-- a path: atoms whose text is short enough; the root is one
 pub record IsPath (path : Atoms) : Type 0 where
   pub atoms : AllByRecursion IsAtom path
-  pub short : length (path_text path) ≤ 1024
+  pub short : length (path_text path) ≤ MAX_PATH_BYTES
 
 -- the text names this path, which is not the root
 pub record Names (text : List ℕ) (path : Atoms) : Type 0 where
@@ -46,25 +49,27 @@ IsPathText text = (path : Atoms) × Names text path
 abbrev pub IsBelow : Atoms → Atoms → Type 0
 IsBelow path dir = (rest : Atoms) × (rest ≢ []) × (path ≡ dir ++ rest)
 
--- the same of their texts: all but the root lie below the root, and the text of any other directory,
--- followed by `/`, begins the texts of what lies below it
+-- Which path is below which, by their texts: all but the root lie below the root, and a path below any other
+-- directory has a text that starts with the directory's text and a `/`.
 abbrev pub TextBelow : List ℕ → List ℕ → Type 0
-TextBelow dir text = ((dir ≡ codes ".") × (text ≢ codes ".")) ⊎ ((dir ≢ codes ".") × ((rest : List ℕ) × (text ≡ dir ++ 47 ∷ rest)))
+TextBelow dir text =
+    ((dir ≡ codes ".") × (text ≢ codes "."))
+    ⊎ ((dir ≢ codes ".") × ((rest : List ℕ) × (text ≡ dir ++ 47 ∷ rest)))
 
--- The order of paths is that of the bytes of their texts. Two lists of atoms with one text are equal where
--- they are paths; the second comparison only tells lists apart that are none.
+-- The order of paths is that of the bytes of their texts. Paths with equal texts are equal; the second
+-- comparison makes the order total on lists of atoms that are no paths.
 abbrev pub path_cmp : Atoms → Atoms → Ordering
 path_cmp = then_cmp (on path_text (slice_cmp nat_cmp)) (slice_cmp (slice_cmp nat_cmp))
 
--- one path, tested atom by atom
+-- whether two paths are equal, atom by atom
 abbrev pub same_path : Atoms → Atoms → Bool
 same_path = pointwise (pointwise nat_eq)
 
--- the path that a text names: what stands between its `/`, and the root for `.`
+-- the path that a text names: its parts between `/`, and the root for `.`
 abbrev pub path_of : List ℕ → Atoms
 path_of text = cond (pointwise nat_eq text (codes ".")) [] (slice_split (λ b. b == 47) text)
 
--- a text as a path keeps it: the root's, or a path text
+-- a text that a `Path` holds: the root's, or a path text
 pub record IsKept (text : List ℕ) : Type 0 where
   pub is_path : IsPath (path_of text)
   pub text_is : path_text (path_of text) ≡ text

@@ -1,5 +1,6 @@
 -- Trees: files by path, in order, none a directory of another.
-use Rattle.std.specs.Prelude.{◌≡◌, ◌≢◌, ℕ, List, [], ◌∷◌, ◌++◌, map, Option, Some, None, if◌then◌else◌, codes, Contains, ◌⊎◌}
+use Rattle.std.specs.Prelude.{◌≡◌, ◌≢◌, ℕ, List, [], ◌∷◌, ◌++◌, map, Option, Some, None}
+use Rattle.std.specs.Prelude.{if◌then◌else◌, codes, Contains, ◌⊎◌}
 use Rattle.std.specs.List.{AllByRecursion}
 use Rattle.std.specs.List.Sorted.{IsStrictlySortedBy}
 use Rattle.bx_tree.specs.Paths.{Atoms, IsPath, IsBelow, path_cmp, same_path}
@@ -8,14 +9,16 @@ use Rattle.bx_tree.specs.Paths.{Atoms, IsPath, IsBelow, path_cmp, same_path}
 abbrev pub Files : Type 0
 Files = List (Atoms × List ℕ)
 
+-- their paths, in order
 abbrev pub paths_of : Files → List Atoms
 paths_of files = map (λ f. f.0) files
 
 -- no path of the list is a directory of another
 abbrev pub NoneNested : List Atoms → Type 0
-NoneNested paths = (dir path : Atoms) → Contains paths dir → Contains paths path → IsBelow path dir → ⊥
+NoneNested paths =
+    (dir path : Atoms) → Contains paths dir → Contains paths path → IsBelow path dir → ⊥
 
--- a tree: files that rise by path text, none of them the root or a directory of another
+-- a tree: files in strictly ascending order of path texts, none of them the root or a directory of another
 pub record IsTree (files : Files) : Type 0 where
   pub paths : AllByRecursion IsPath (paths_of files)
   pub no_root : AllByRecursion (λ path. path ≢ []) (paths_of files)
@@ -27,10 +30,11 @@ abbrev pub file_at : Files → Atoms → Option (List ℕ)
 file_at [] path = None
 file_at (f ∷ fs) path = if same_path f.0 path then Some f.1 else file_at fs path
 
--- the text is that of the atom alone, or begins with it and a `/`
-abbrev pub IsFirst : List ℕ → List ℕ → Type 0
-IsFirst atom text = (text ≡ atom) ⊎ ((rest : List ℕ) × (text ≡ atom ++ 47 ∷ rest))
+-- the text is the atom, or starts with the atom and a `/`
+abbrev pub IsFirstAtom : List ℕ → List ℕ → Type 0
+IsFirstAtom atom text = (text ≡ atom) ⊎ ((rest : List ℕ) × (text ≡ atom ++ 47 ∷ rest))
 
 -- the path has `out` or `report.txt` as its first atom
 abbrev pub IsReserved : Atoms → Type 0
-IsReserved path = (rest : Atoms) × ((path ≡ codes "out" ∷ rest) ⊎ (path ≡ codes "report.txt" ∷ rest))
+IsReserved path =
+    (rest : Atoms) × ((path ≡ codes "out" ∷ rest) ⊎ (path ≡ codes "report.txt" ∷ rest))

@@ -1,49 +1,48 @@
+//! Reading and writing the one text of a tree.
+
 ghost use Rattle.std.specs.Prelude.{◌≡◌, ◌≢◌, ◌↔◌, ◌++◌, IsTrue, IfOk, OnOk, MatchResult};
-ghost use Rattle.bx_tree.specs.Bundle.{Faults, HeaderFault, IsBundle, IsLength, bundle, file_text};
-ghost use Rattle.bx_tree.specs.Headers.{HoldsBytes, header_of};
-ghost use Rattle.bx_tree.specs.Reading.{Announces, BodyFaults, IsBody};
+ghost use Rattle.bx_tree.specs.Bundle.{Faults, IsBundle, IsLength, bundle, file_text};
+ghost use Rattle.bx_tree.specs.Headers.{StartsWithBytes, header_of};
+ghost use Rattle.bx_tree.specs.Reading.{Announces, IsBody, IsFirstBodyFault, IsFirstHeaderFault};
 ghost use Rattle.bx_tree.specs.Trees.{IsTree};
 ghost use Rattle.bx_tree.specs.Views.{file_of, files_of};
 
-use crate::header::{Header, after_front, read_header, size_of};
-use crate::order::{is_above, is_apart};
+use crate::Memory;
+use crate::header::{Header, after_prefix, read_header, size_of};
+use crate::limits::{MAX_BUNDLE_BYTES, MAX_FILES};
+use crate::order::{comes_after, has_no_ancestor};
 use crate::path::{Path, PathFault};
 use crate::tree::Tree;
 use crate::tree_file::TreeFile;
-use std::alloc::{AllocError, AllocFailed, Global};
-
-/// The largest number of bytes in a bundle.
-const MAX_BUNDLE: usize = 67_108_864;
-
-/// The largest number of files in a bundle.
-const MAX_FILES: usize = 16_384;
+use std::alloc::{AllocFailed, Global};
 
 /// Why a text is no bundle within the limits.
 #[derive(Clone, Copy, Debug, PartialEq, Eq)]
 pub enum BundleFault {
-    /// The first line, a header, the bytes that it announces or the end is missing, or more follows.
+    /// The first line, a header, the bytes that it announces or the end is missing, or bytes follow the end.
     BadBundle,
     /// A header names no path.
     BadPath,
-    /// A path is not above the one before it.
+    /// A path does not come after the one before it, in the order of path texts.
     Unordered,
     /// An earlier file is a directory of this one.
     Nested,
-    /// There are more than 16,384 files.
+    /// There are more than [`MAX_FILES`](crate::MAX_FILES) files.
     TooManyFiles,
-    /// The text has more than 67,108,864 bytes, or a file more than 16,777,216.
+    /// The text has more than [`MAX_BUNDLE_BYTES`](crate::MAX_BUNDLE_BYTES) bytes, or a file more than
+    /// [`MAX_FILE_BYTES`](crate::MAX_FILE_BYTES).
     TooLarge,
-    /// There was no memory.
+    /// Out of memory.
     Memory,
 }
 
-impl From<AllocError> for BundleFault {
+impl From<Memory> for BundleFault {
     ghost use Rattle.std.specs.Prelude.{◌≡◌};
     ghost use Rattle.bx_tree.specs.declared.bundle.BundleFault.TheVariants as bundle_faults;
 
     ghost from_gives = { λ _ e. e ≡ bundle_faults.Memory };
 
-    fn from(_: AllocError) -> Self {
+    fn from(_: Memory) -> Self {
         BundleFault::Memory
     }
 }
@@ -59,20 +58,20 @@ impl<T: Drop> From<AllocFailed<T>> for BundleFault {
     }
 }
 
-// Whether the bytes of a file and their newline stand at the front of a text.
-fn has_bytes(text: &[u8], size: usize) -> bool
-    ensures { IsTrue result ↔ HoldsBytes size text.now }
+// Whether a text starts with this many bytes and a newline.
+fn starts_with_bytes(text: &[u8], size: usize) -> bool
+    ensures { IsTrue result ↔ StartsWithBytes size text.now }
 {
     text.len() > size && text[size] == b'\n'
 }
 
-// The file that a header announces behind the files before it, or the first thing that is wrong with it.
+// The file that a header announces, which follows the files read before it, or the header's first fault.
 fn read_file(alloc: Global, before: &[TreeFile], header: Header) -> Result<TreeFile, BundleFault>
     requires tree { IsTree (files_of before.now) }
     requires length_is { IsLength header.digits.now }
     ensures { MatchResult result
         (λ file. Announces (files_of before.now) (header_of header.entry) (file_of file))
-        (λ fault. fault ≢ BundleFault.Memory → HeaderFault (files_of before.now) (header_of header.entry) fault) }
+        (λ fault. IsFirstHeaderFault (files_of before.now) (header_of header.entry) fault) }
 {
     let Some(size) = size_of(header.digits) else {
         return Err(BundleFault::TooLarge);
@@ -85,29 +84,29 @@ fn read_file(alloc: Global, before: &[TreeFile], header: Header) -> Result<TreeF
         Err(PathFault::BadPath) => return Err(BundleFault::BadPath),
         Err(PathFault::Memory) => return Err(BundleFault::Memory),
     };
-    if !is_above(before, header.path) {
+    if !comes_after(before, header.path) {
         return Err(BundleFault::Unordered);
     }
-    if !is_apart(before, header.path) {
+    if !has_no_ancestor(before, header.path) {
         return Err(BundleFault::Nested);
     }
-    if !has_bytes(header.rest, size) {
+    if !starts_with_bytes(header.rest, size) {
         return Err(BundleFault::BadBundle);
     }
     let bytes = Vec::from_slice(alloc, &header.rest[..size])?;
     Ok(TreeFile::new(path, bytes))
 }
 
-// The files that a text has up to its end.
+// The files of the text after a bundle's first line, up to and including its end.
 fn read_files(alloc: Global, text: &[u8]) -> Result<Tree, BundleFault>
     ensures { MatchResult result
         (λ tree. IsBody text.now tree)
-        (λ fault. fault ≢ BundleFault.Memory → BodyFaults text.now fault) }
+        (λ fault. IsFirstBodyFault text.now fault) }
 {
     let mut files = Vec::new(alloc);
     let mut rest = text;
     'files: loop {
-        if let Some(more) = after_front(rest, b"end\n") {
+        if let Some(more) = after_prefix(rest, b"end\n") {
             if !more.is_empty() {
                 return Err(BundleFault::BadBundle);
             }
@@ -128,16 +127,17 @@ pub fn read_bundle(alloc: Global, bytes: &[u8]) -> Result<Tree, BundleFault>
         (λ tree. IsBundle bytes.now tree)
         (λ fault. fault ≢ BundleFault.Memory → Faults bytes.now fault) }
 {
-    if bytes.len() > MAX_BUNDLE {
+    if bytes.len() > MAX_BUNDLE_BYTES {
         return Err(BundleFault::TooLarge);
     }
-    let Some(rest) = after_front(bytes, b"bundle 1\n") else {
+    let Some(rest) = after_prefix(bytes, b"bundle 1\n") else {
         return Err(BundleFault::BadBundle);
     };
     read_files(alloc, rest)
 }
 
-fn append_file(alloc: Global, text: &mut Vec<u8>, file: &TreeFile) -> Result<(), AllocError>
+// Appends the text of one file: its header, its bytes and a newline.
+fn append_file(alloc: Global, text: &mut Vec<u8>, file: &TreeFile) -> Result<(), Memory>
     ensures { OnOk result (text.new.items ≡ text.old.items ++ file_text (file_of file.now)) }
 {
     let length = file.bytes.len();
@@ -150,7 +150,7 @@ fn append_file(alloc: Global, text: &mut Vec<u8>, file: &TreeFile) -> Result<(),
 }
 
 /// The one text of a tree.
-pub fn write_bundle(alloc: Global, tree: &Tree) -> Result<Vec<u8>, AllocError>
+pub fn write_bundle(alloc: Global, tree: &Tree) -> Result<Vec<u8>, Memory>
     ensures { IfOk result (λ text. text.items ≡ bundle tree.now) }
 {
     let mut text = Vec::from_slice(alloc, b"bundle 1\n")?;

@@ -1,13 +1,16 @@
-ghost use Rattle.std.specs.Prelude.{◌≡◌, ◌≢◌, ◌↔◌, ◌<◌, ◌≤◌, ◌∷◌, ◌++◌, ℕ, List, IsTrue, MatchOption};
+//! The line before the bytes of each file in a bundle: its length and its path.
+
+ghost use Rattle.std.specs.Prelude.{◌≡◌, ◌≢◌, ◌↔◌, ◌<◌, ◌≤◌, ◌++◌, ℕ, List, IsTrue, MatchOption};
 ghost use Rattle.std.specs.Int.{IsInRange};
 ghost use Rattle.std.specs.List.{AllByRecursion};
 ghost use Rattle.std.specs.Str.Parse.{digits_value};
-ghost use Rattle.bx_tree.specs.Bundle.{Begins, IsLength};
+ghost use Rattle.bx_tree.specs.Bundle.{StartsWithHeader, IsLength};
+ghost use Rattle.bx_tree.specs.Headers.{HasNo, IsSplitOnce, header_of};
+ghost use Rattle.bx_tree.specs.declared.limits.TheConstants.{MAX_FILE_BYTES};
 
-/// The largest number of bytes in a file.
-pub(crate) const MAX_FILE: usize = 16_777_216;
+use crate::limits::MAX_FILE_BYTES;
 
-// The parts of a complete header, and what follows it.
+// The digits of the length and the path of a complete header, and the text after it.
 #[derive(Clone, Copy)]
 pub(crate) struct Header<'a> {
     pub(crate) digits: &'a [u8],
@@ -15,20 +18,20 @@ pub(crate) struct Header<'a> {
     pub(crate) rest: &'a [u8],
 }
 
-// What stands behind a front of a text.
-pub(crate) fn after_front<'a>(text: &'a [u8], front: &[u8]) -> Option<&'a [u8]>
+// The text after a prefix, if the text starts with it.
+pub(crate) fn after_prefix<'a>(text: &'a [u8], prefix: &[u8]) -> Option<&'a [u8]>
     ensures { MatchOption result
-        ((rest : List ℕ) → text.entry.now ≢ front.now ++ rest)
-        (λ rest. text.entry.now ≡ front.now ++ rest.now) }
+        ((rest : List ℕ) → text.entry.now ≢ prefix.now ++ rest)
+        (λ rest. text.entry.now ≡ prefix.now ++ rest.now) }
 {
-    text.strip_prefix(front)
+    text.strip_prefix(prefix)
 }
 
-// What stands before and behind the first such byte.
-fn cut_at(text: &[u8], byte: u8) -> Option<(&[u8], &[u8])>
+// The parts of a text before and after the first such byte.
+fn split_once(text: &[u8], byte: u8) -> Option<(&[u8], &[u8])>
     ensures { MatchOption result
-        (AllByRecursion (λ b. b ≢ byte) text.now)
-        (λ parts. AllByRecursion (λ b. b ≢ byte) parts.0.now × (text.now ≡ parts.0.now ++ byte ∷ parts.1.now)) }
+        (HasNo byte text.now)
+        (λ parts. IsSplitOnce byte text.now parts.0.now parts.1.now) }
 {
     for (i, b) in text.iter().enumerate() {
         if *b == byte {
@@ -63,34 +66,34 @@ fn is_length(text: &[u8]) -> bool
     has_digits(text)
 }
 
-// The number that a length stands for, if it is within the limit for a file.
+// The value of a length, if a file may have this many bytes.
 pub(crate) fn size_of(digits: &[u8]) -> Option<usize>
     requires { IsLength digits.now }
     ensures { MatchOption result
-        (16777216 < digits_value 10 digits.now)
-        (λ size. (size ≡ digits_value 10 digits.now) × (size ≤ 16777216)) }
+        (MAX_FILE_BYTES < digits_value 10 digits.now)
+        (λ size. (size ≡ digits_value 10 digits.now) × (size ≤ MAX_FILE_BYTES)) }
 {
     let mut size = 0;
     for digit in digits {
         size = 10 * size + (*digit - b'0') as usize;
-        if size > MAX_FILE {
+        if size > MAX_FILE_BYTES {
             return None;
         }
     }
     Some(size)
 }
 
-// The header at the front of a text, if a complete one stands there.
+// The header that a text starts with, if it starts with a complete one.
 pub(crate) fn read_header(text: &[u8]) -> Option<Header<'_>>
     ensures { MatchOption result
-        ((h : _) → Begins text.now h → ⊥)
-        (λ h. Begins text.now (record { digits = h.digits.now; path = h.path.now; rest = h.rest.now })) }
+        ((h : _) → StartsWithHeader text.now h → ⊥)
+        (λ h. StartsWithHeader text.now (header_of h)) }
 {
-    let after = after_front(text, b"file ")?;
-    let (digits, after) = cut_at(after, b' ')?;
+    let after = after_prefix(text, b"file ")?;
+    let (digits, after) = split_once(after, b' ')?;
     if !is_length(digits) {
         return None;
     }
-    let (path, rest) = cut_at(after, b'\n')?;
+    let (path, rest) = split_once(after, b'\n')?;
     Some(Header { digits, path, rest })
 }

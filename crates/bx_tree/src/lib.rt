@@ -1,14 +1,15 @@
 //! Paths, shared texts, source trees, and the one text of a tree: its bundle.
 //!
 //! Everything that the engine reads or makes is a tree of files, and a tree goes in and out as a
-//! bundle. This crate stands on nothing but std. It carries the promise that bundles are read and
-//! written both ways, exactly.
+//! bundle. This crate depends on nothing but std. It carries the promise of the round trip: each text
+//! is the bundle of exactly one tree or has exactly one fault, and is read and written accordingly.
 #![tactic(auto)]
 
 mod bundle;
 mod file_input;
 mod header;
 mod laws;
+mod limits;
 mod order;
 mod path;
 mod text;
@@ -17,13 +18,14 @@ mod tree_file;
 
 pub use bundle::{BundleFault, read_bundle, write_bundle};
 pub use file_input::FileInput;
-pub use laws::{one_path, one_reading};
+pub use laws::{one_path, one_reading, some_reading};
+pub use limits::{MAX_ATOM_BYTES, MAX_BUNDLE_BYTES, MAX_FILE_BYTES, MAX_FILES, MAX_PATH_BYTES};
 pub use path::{Path, PathFault, is_atom, is_path};
 pub use text::Text;
 pub use tree::{Tree, reserved};
 pub use tree_file::TreeFile;
 
-/// Want of memory, the one refusal that no contract ties to a cause.
+/// Out of memory: the one error whose cause no contract states.
 pub type Memory = std::alloc::AllocError;
 
 #[cfg(test)]

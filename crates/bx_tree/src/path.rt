@@ -1,38 +1,38 @@
+//! Paths and their texts.
+
 ghost use Rattle.std.specs.Prelude.{◌≡◌, ◌==◌, ◌↔◌, ℕ, List, [], ◌∷◌, ◌++◌, IsTrue, IfOk, MatchResult};
 ghost use Rattle.std.specs.List.{AllByRecursion, slice_split};
 ghost use Rattle.std.specs.Ordering.{as_partial_cmp};
 ghost use Rattle.std.proofs.Common.{rules};
-ghost use Rattle.bx_tree.specs.Paths.{IsAtom, TextBelow, IsBelow, IsPath, IsPathText, Names, is_atom_byte as atom_byte, path_cmp, path_text, same_path};
-ghost use Rattle.bx_tree.specs.Orders.{path_cmp_total, path_cmp_matches, same_path_equiv, path_cmp_partial, same_path_partial};
+ghost use Rattle.bx_tree.specs.Paths.{IsAtom, TextBelow, IsBelow, IsPath, IsPathText, Names};
+ghost use Rattle.bx_tree.specs.Paths.{is_atom_byte as atom_byte, path_cmp, path_text, same_path};
+ghost use Rattle.bx_tree.specs.Orders.{path_cmp_total, path_cmp_matches, path_cmp_partial};
+ghost use Rattle.bx_tree.specs.Orders.{same_path_equiv, same_path_partial};
 
-use std::alloc::{AllocError, AllocFailed, Global};
+use crate::Memory;
+use crate::limits::{MAX_ATOM_BYTES, MAX_PATH_BYTES};
+use std::alloc::{AllocFailed, Global};
 use std::cmp::Ordering;
 use std::marker::Model;
 use std::str;
 use std::sync::Arc;
 
-/// The largest number of bytes in a path's text.
-const MAX_PATH: usize = 1024;
-
-/// The largest number of bytes in an atom.
-const MAX_ATOM: usize = 255;
-
 /// Why a text gives no path.
 #[derive(Clone, Copy, Debug, PartialEq, Eq)]
 pub enum PathFault {
-    /// The text is no path text.
+    /// The text names no path.
     BadPath,
-    /// There was no memory.
+    /// Out of memory.
     Memory,
 }
 
-impl From<AllocError> for PathFault {
+impl From<Memory> for PathFault {
     ghost use Rattle.std.specs.Prelude.{◌≡◌};
     ghost use Rattle.bx_tree.specs.declared.path.PathFault.TheVariants as path_faults;
 
     ghost from_gives = { λ _ e. e ≡ path_faults.Memory };
 
-    fn from(_: AllocError) -> Self {
+    fn from(_: Memory) -> Self {
         PathFault::Memory
     }
 }
@@ -60,11 +60,12 @@ fn has_atom_bytes(text: &[u8]) -> bool
     text.iter().all(|byte| is_atom_byte(*byte))
 }
 
-/// Whether a text is an atom: 1 to 255 bytes of `A-Z a-z 0-9 . _ -`, and neither `.` nor `..`.
+/// Whether a text is an atom: 1 to [`MAX_ATOM_BYTES`](crate::MAX_ATOM_BYTES) bytes of
+/// `A-Z a-z 0-9 . _ -`, and neither `.` nor `..`.
 pub fn is_atom(text: &[u8]) -> bool
     ensures { IsTrue result ↔ IsAtom text.now }
 {
-    if text.is_empty() || text.len() > MAX_ATOM {
+    if text.is_empty() || text.len() > MAX_ATOM_BYTES {
         return false;
     }
     if text == b".".as_slice() || text == b"..".as_slice() {
@@ -79,19 +80,19 @@ fn has_atoms(text: &[u8]) -> bool
     text.split(|byte| *byte == b'/').all(is_atom)
 }
 
-/// Whether a text names a path: one or more atoms joined by `/`, at most 1,024 bytes in all. An
-/// atom is 1 to 255 bytes of `A-Z a-z 0-9 . _ -`, and neither `.` nor `..`.
+/// Whether a text names a path: one or more atoms (see [`is_atom`]) joined by `/`, at most
+/// [`MAX_PATH_BYTES`](crate::MAX_PATH_BYTES) bytes in all.
 pub fn is_path(text: &[u8]) -> bool
     ensures { IsTrue result ↔ IsPathText text.now }
 {
-    if text.len() > MAX_PATH {
+    if text.len() > MAX_PATH_BYTES {
         return false;
     }
     has_atoms(text)
 }
 
-// Whether a text begins with a directory's text and a `/`.
-pub(crate) fn has_front(text: &[u8], dir: &[u8]) -> bool
+// Whether a text starts with a directory's text and a `/`.
+pub(crate) fn has_dir_prefix(text: &[u8], dir: &[u8]) -> bool
     ensures { IsTrue result ↔ ((rest : List ℕ) × (text.now ≡ dir.now ++ 47 ∷ rest)) }
 {
     if text.len() <= dir.len() {
@@ -109,7 +110,7 @@ fn lies_below(text: &[u8], dir: &[u8]) -> bool
     if dir == b".".as_slice() {
         text != b".".as_slice()
     } else {
-        has_front(text, dir)
+        has_dir_prefix(text, dir)
     }
 }
 
@@ -152,7 +153,7 @@ impl Path {
     }
 
     /// The root, which lies above all other paths.
-    pub fn root(alloc: Global) -> Result<Path, AllocError>
+    pub fn root(alloc: Global) -> Result<Path, Memory>
         ensures { IfOk result (λ path. path ≡ []) }
     {
         Ok(Path {
@@ -175,8 +176,8 @@ impl Path {
         lies_below(self.text().as_bytes(), dir.text().as_bytes())
     }
 
-    /// The same path, shared.
-    pub fn share(&self) -> Result<Path, AllocError>
+    /// Another owner of this path. The text is not copied.
+    pub fn share(&self) -> Result<Path, Memory>
         ensures { IfOk result (λ path. path ≡ self.now) }
     {
         Ok(Path {

@@ -36,7 +36,7 @@ fn a_text_without_its_first_line_headers_or_end_is_no_bundle(rt: HostRuntime) ->
 }
 
 #[test]
-fn each_broken_header_tells_its_first_fault(rt: HostRuntime) -> Result<(), Fail> {
+fn each_broken_header_has_its_first_fault(rt: HostRuntime) -> Result<(), Fail> {
     let cases: [(&[u8], BundleFault); 16] = [
         (b"bundle 1\nfile 0 \n\nend\n", BundleFault::BadPath),
         (b"bundle 1\nfile 0 .\n\nend\n", BundleFault::BadPath),
@@ -130,7 +130,7 @@ fn files_make_a_tree(rt: HostRuntime) -> Result<(), Fail> {
     Ok(())
 }
 
-/// Files at these paths, each with its path as its text.
+// Files at these paths, each with its path's text as its bytes.
 fn files_at(alloc: Global, paths: &[&[u8]]) -> Result<Vec<TreeFile>, Fail> {
     let mut files = Vec::new(alloc);
     for path in paths {
@@ -180,16 +180,16 @@ fn reserved_trees_have_a_first_atom_of_the_output(rt: HostRuntime) -> Result<(),
 
 #[test]
 fn paths_end_at_their_limits(rt: HostRuntime) -> Result<(), Fail> {
-    let mut atom = vec![in rt.alloc(); b'a'; 255]?;
+    let mut atom = vec![in rt.alloc(); b'a'; MAX_ATOM_BYTES]?;
     assert!(rt; is_path(&atom) && is_atom(&atom));
     atom.push(b'a')?;
     assert!(rt; !is_path(&atom) && !is_atom(&atom));
     let mut path = Vec::new(rt.alloc());
-    for _ in 0..511usize {
+    for _ in 0..MAX_PATH_BYTES / 2 - 1 {
         path.extend_from_slice(b"a/")?;
     }
     path.extend_from_slice(b"-_")?;
-    assert_eq!(rt; path.len(), 1024);
+    assert_eq!(rt; path.len(), MAX_PATH_BYTES);
     assert!(rt; is_path(&path));
     path.push(b'a')?;
     assert!(rt; !is_path(&path));
@@ -200,14 +200,14 @@ fn paths_end_at_their_limits(rt: HostRuntime) -> Result<(), Fail> {
 fn paths_are_ordered_by_their_texts(rt: HostRuntime) -> Result<(), Fail> {
     let root = Path::root(rt.alloc())?;
     let dir = Path::read(rt.alloc(), b"a")?;
-    let beside = Path::read(rt.alloc(), b"a-b")?;
+    let sibling = Path::read(rt.alloc(), b"a-b")?;
     let below = Path::read(rt.alloc(), b"a/c")?;
     assert_eq!(rt; root.text(), ".");
     assert_eq!(rt; below.text(), "a/c");
-    assert!(rt; dir < beside && beside < below && root < dir);
+    assert!(rt; dir < sibling && sibling < below && root < dir);
     assert!(rt; below.is_below(&dir) && below.is_below(&root) && dir.is_below(&root));
-    assert!(rt; !beside.is_below(&dir) && !dir.is_below(&dir) && !root.is_below(&root));
-    assert!(rt; below.share()? == below && below != beside);
+    assert!(rt; !sibling.is_below(&dir) && !dir.is_below(&dir) && !root.is_below(&root));
+    assert!(rt; below.share()? == below && below != sibling);
     assert!(rt; Path::read(rt.alloc(), b".").is_err());
     Ok(())
 }

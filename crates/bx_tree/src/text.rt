@@ -1,6 +1,9 @@
+//! Shared byte strings.
+
 ghost use Rattle.std.specs.Prelude.{◌≡◌, IfOk};
 
-use std::alloc::{AllocError, Global};
+use crate::Memory;
+use std::alloc::Global;
 use std::marker::Model;
 use std::sync::Arc;
 
@@ -21,7 +24,7 @@ impl Model for Text {
 
 impl Text {
     /// The text of these bytes.
-    pub fn new(alloc: Global, bytes: Vec<u8>) -> Result<Text, AllocError>
+    pub fn new(alloc: Global, bytes: Vec<u8>) -> Result<Text, Memory>
         ensures { IfOk result (λ text. text ≡ bytes.items) }
     {
         Ok(Text {
@@ -36,8 +39,8 @@ impl Text {
         self.bytes.as_slice()
     }
 
-    /// The same text, shared.
-    pub fn share(&self) -> Result<Text, AllocError>
+    /// Another owner of this text. The bytes are not copied.
+    pub fn share(&self) -> Result<Text, Memory>
         ensures { IfOk result (λ text. text ≡ self.now) }
     {
         Ok(Text {

@@ -1,15 +1,18 @@
-ghost use Rattle.std.specs.Prelude.{◌≡◌, ◌≢◌, ◌↔◌, ◌∷◌, ℕ, List, [], IsTrue, IsSome, IfSome, IfNone, MatchOption, All, Any, Contains};
+//! Trees of files, and the files in them.
+
+ghost use Rattle.std.specs.Prelude.{◌≡◌, ◌≢◌, ◌↔◌, ◌∷◌, ℕ, List, []};
+ghost use Rattle.std.specs.Prelude.{IsTrue, IsSome, IfSome, IfNone, MatchOption, All, Any, Contains};
 ghost use Rattle.std.specs.List.{IsDistinct};
 ghost use Rattle.std.specs.List.Sorted.{IsPermutation};
 ghost use Rattle.std.specs.Cmp.Lexicographic.{slice_cmp};
 ghost use Rattle.std.specs.Ordering.{nat_cmp};
 ghost use Rattle.std.specs.Option.{option_copied};
 ghost use Rattle.bx_tree.specs.Paths.{IsAtom, path_text, same_path};
-ghost use Rattle.bx_tree.specs.Trees.{Files, IsFirst, IsReserved, IsTree, NoneNested, file_at, paths_of};
-ghost use Rattle.bx_tree.specs.Views.{IsPlaceOf, files_of};
+ghost use Rattle.bx_tree.specs.Trees.{Files, IsFirstAtom, IsReserved, IsTree, NoneNested, file_at, paths_of};
+ghost use Rattle.bx_tree.specs.Views.{IsPositionOf, files_of};
 
 use crate::order::{by_path, is_tree};
-use crate::path::{Path, has_front};
+use crate::path::{Path, has_dir_prefix};
 use crate::tree_file::TreeFile;
 use std::cmp::Ordering;
 use std::marker::Model;
@@ -48,8 +51,8 @@ impl Tree {
         }
     }
 
-    /// The tree of these files, or nothing where they are none: where two of them have one path, or one is the
-    /// root or a directory of another.
+    /// The tree of these files. There is none if two files have equal paths, or if the path of one is the
+    /// root or a directory of another's.
     pub fn checked(files: Vec<TreeFile>) -> Option<Tree>
         ensures { MatchOption result
             ((tree : Files) → IsPermutation (files_of files.items) tree → IsTree tree → ⊥)
@@ -63,7 +66,7 @@ impl Tree {
         }
     }
 
-    // The tree of files that are in order already.
+    // The tree of files that are already in order.
     pub(crate) fn in_order(files: Vec<TreeFile>) -> Tree
         requires { IsTree (files_of files.items) }
         ensures { result ≡ files_of files.items }
@@ -92,8 +95,8 @@ impl Tree {
         ensures there { IsSome result ↔ Contains (paths_of self.now) path.now }
     {
         let files = self.files();
-        let place = place_of(files, path.text().as_bytes())?;
-        Some(files[place].bytes.as_slice())
+        let position = position_of(files, path.text().as_bytes())?;
+        Some(files[position].bytes.as_slice())
     }
 }
 
@@ -104,10 +107,10 @@ pub(crate) fn text_order(path: &Path, text: &[u8]) -> Ordering
     path.text().as_bytes().cmp(text)
 }
 
-// The place of the file whose path has this text.
-pub(crate) fn place_of(files: &[TreeFile], text: &[u8]) -> Option<usize>
+// The position of the file whose path has this text.
+pub(crate) fn position_of(files: &[TreeFile], text: &[u8]) -> Option<usize>
     requires { IsTree (files_of files.now) }
-    ensures found { IfSome result (λ place. IsPlaceOf text.now place files.now) }
+    ensures found { IfSome result (λ position. IsPositionOf text.now position files.now) }
     ensures none { IfNone result (All (λ f. path_text f.path ≢ text.now) files.now) }
 {
     files
@@ -115,24 +118,24 @@ pub(crate) fn place_of(files: &[TreeFile], text: &[u8]) -> Option<usize>
         .ok()
 }
 
-fn is_first(text: &[u8], atom: &[u8]) -> bool
-    ensures { IsTrue result ↔ IsFirst atom.now text.now }
+fn is_first_atom(text: &[u8], atom: &[u8]) -> bool
+    ensures { IsTrue result ↔ IsFirstAtom atom.now text.now }
 {
-    text == atom || has_front(text, atom)
+    text == atom || has_dir_prefix(text, atom)
 }
 
-// Whether an atom stands first in a path.
-fn begins_at(path: &Path, atom: &[u8]) -> bool
+// Whether the first atom of a path is this one.
+fn has_first_atom(path: &Path, atom: &[u8]) -> bool
     requires { IsAtom atom.now }
     ensures { IsTrue result ↔ ((rest : List (List ℕ)) × (path.now ≡ atom.now ∷ rest)) }
 {
-    is_first(path.text().as_bytes(), atom)
+    is_first_atom(path.text().as_bytes(), atom)
 }
 
 fn is_reserved(path: &Path) -> bool
     ensures { IsTrue result ↔ IsReserved path.now }
 {
-    begins_at(path, b"out") || begins_at(path, b"report.txt")
+    has_first_atom(path, b"out") || has_first_atom(path, b"report.txt")
 }
 
 fn has_reserved(files: &[TreeFile]) -> bool

@@ -1,13 +1,17 @@
+//! A file with its path.
+
 ghost use Rattle.std.specs.Prelude.{◌≡◌};
 ghost use Rattle.bx_tree.specs.Paths.{IsPath};
-ghost use Rattle.bx_tree.specs.Single.{IsPath-prop};
+ghost use Rattle.bx_tree.specs.IsPathProp.{IsPath-prop};
 
 use crate::path::Path;
 
-/// A file of a tree: where it stands, and its bytes.
+/// A file of a tree: its path and its bytes.
 #[derive(Drop)]
 pub struct TreeFile {
+    /// The path from the root of the tree.
     pub path: Path,
+    /// The content.
     pub bytes: Vec<u8>,
     ghost is_path: { IsPath path } by { IsPath-prop path },
 }

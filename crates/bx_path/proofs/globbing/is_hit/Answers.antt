@@ -1,6 +1,6 @@
 use Rattle.std.proofs.Common.{sym, ◌∙◌}
 use Rattle.std.proofs.lemmas.Bool.{false≢true}
-use Rattle.bx_path.proofs.Listing.{not_below}
+use Rattle.bx_path.proofs.LastAtoms.{not_below}
 use Rattle.bx_path.proofs.globbing.is_hit.Goals as goal
 
 pub returns-then-not-is_below : goal.returns-then-not-is_below

@@ -5,7 +5,7 @@ use Rattle.std.proofs.lemmas.Result.{IfOk-weaker}
 use Rattle.std.proofs.lemmas.Slice.Eq.{bytes_eq-Decides}
 use Rattle.bx_tree.specs.Paths.{IsAtom, path_text}
 use Rattle.bx_path.specs.Parts.{parts_now}
-use Rattle.bx_path.proofs.Walking.{root_from_text, atoms_from_text}
+use Rattle.bx_path.proofs.StepsOfTexts.{root_from_text, atoms_from_text}
 use Rattle.bx_path.proofs.joining.atoms_of.Goals as goal
 
 pub returns-then-eq-clause-atoms : goal.returns-then-eq-clause-atoms

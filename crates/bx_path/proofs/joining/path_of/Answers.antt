@@ -3,7 +3,7 @@ use Rattle.std.specs.Borrow.{Bor}
 use Rattle.std.proofs.lemmas.Result.{MatchResult-weaker}
 use Rattle.std.proofs.lemmas.List.{length-map}
 use Rattle.bx_path.specs.Parts.{parts_now}
-use Rattle.bx_path.proofs.Walking.{short_from_names, none_from_no_path}
+use Rattle.bx_path.proofs.StepsOfTexts.{short_from_names, none_from_no_path}
 use Rattle.bx_path.proofs.joining.path_of.Goals as goal
 
 pub returns : goal.returns

@@ -6,13 +6,13 @@ use Rattle.std.proofs.lemmas.Bool.{false≢true}
 use Rattle.std.proofs.lemmas.List.{map-append, map_push}
 use Rattle.bx_tree.specs.Paths.{IsAtom}
 use Rattle.bx_path.specs.Parts.{parts_now}
-use Rattle.bx_path.proofs.Walking.{step_none, step_down, front_valid}
+use Rattle.bx_path.proofs.StepsOfTexts.{step_none, step_down, prefix_valid}
 use Rattle.bx_path.proofs.joining.take_step.Goals as goal
 
 pub returns-in-Some-clause-valid : goal.returns-in-Some-clause-valid
 returns-in-Some-clause-valid c =
     let rest = c.in-Some.ensures.items in
-    front_valid IsAtom (parts_now c.pop.new.self.items) _
+    prefix_valid IsAtom (parts_now c.pop.new.self.items) _
     (subst (AllByRecursion IsAtom) (ap parts_now rest ∙ map-append (λ (part : Bor (List ℕ)). part.now) c.pop.new.self.items _) c.requires)
 
 pub returns-then-not-is_atom-clause-bad : goal.returns-then-not-is_atom-clause-bad

@@ -2,7 +2,7 @@ use Rattle.std.proofs.Common.{◌≡◌, List, ℕ, [], ◌∷◌, ◌++◌, ap,
 use Rattle.std.specs.Borrow.{Bor}
 use Rattle.std.specs.List.{join_with_byte}
 use Rattle.bx_path.specs.Parts.{parts_now}
-use Rattle.bx_path.proofs.Walking.{first_text, next_text}
+use Rattle.bx_path.proofs.StepsOfTexts.{first_text, next_text}
 use Rattle.bx_path.proofs.joining.text_of.Goals as goal
 use Rattle.bx_path.proofs.joining.text_of.Goals.{then-i-gt0+in_ok-push, else-i-gt0}
 

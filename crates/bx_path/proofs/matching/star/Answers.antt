@@ -1,7 +1,7 @@
 use Rattle.std.proofs.Common.{◌≡◌, ◌+◌, ◌-◌, ◌||◌, Bool, true, false, List, get_or, set, arith, refl, ap, sym, ◌∙◌}
 use Rattle.std.proofs.lemmas.Bool.{or_right}
 use Rattle.std.proofs.lemmas.List.{get_or-set_same, get_or-set_other, length-set}
-use Rattle.bx_path.proofs.Matches.{star_more, star_row}
+use Rattle.bx_path.proofs.RowsMatch.{star_more, star_row}
 use Rattle.bx_path.proofs.matching.star.Goals as goal
 
 or_false : (b : Bool) → b ≡ (b || false)

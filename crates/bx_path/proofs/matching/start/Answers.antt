@@ -1,5 +1,5 @@
 use Rattle.std.proofs.Common.{arith, refl, ◌∙◌}
-use Rattle.bx_path.proofs.Matches.{start_row}
+use Rattle.bx_path.proofs.RowsMatch.{start_row}
 use Rattle.bx_path.proofs.matching.start.Goals as goal
 
 pub returns : goal.returns

@@ -1,5 +1,5 @@
 use Rattle.std.proofs.Common.{arith, length, ◌<◌}
-use Rattle.bx_tree.proofs.Heads.{length_with, range_from_digits}
+use Rattle.bx_tree.proofs.HeaderParts.{length_with, range_from_digits}
 use Rattle.bx_tree.proofs.header.is_length.Goals as goal
 
 pub returns : goal.returns

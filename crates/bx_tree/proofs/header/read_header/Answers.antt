@@ -1,6 +1,6 @@
 use Rattle.std.proofs.Common.{sym, ◌∙◌}
 use Rattle.std.proofs.lemmas.Bool.{false≢true}
-use Rattle.bx_tree.proofs.Heads.{no_header_blank, no_header_length, no_header_line, begins_from}
+use Rattle.bx_tree.proofs.HeaderParts.{no_header_blank, no_header_length, no_header_line, begins_from}
 use Rattle.bx_tree.proofs.header.read_header.Goals as goal
 
 pub returns-in_err-digits : goal.returns-in_err-digits

@@ -1,4 +1,4 @@
-use Rattle.bx_tree.proofs.Cutting as cutting
+use Rattle.bx_tree.proofs.PathTexts as cutting
 use Rattle.bx_tree.proofs.laws.one_path.Goals as goal
 
 pub returns-clause-same : goal.returns-clause-same

@@ -1,4 +1,4 @@
-use Rattle.bx_tree.proofs.Unique.{one_tree, one_fault, no_fault}
+use Rattle.bx_tree.proofs.OneReading.{one_tree, one_fault, no_fault}
 use Rattle.bx_tree.proofs.laws.one_reading.Goals as goal
 
 pub returns-clause-tree : goal.returns-clause-tree

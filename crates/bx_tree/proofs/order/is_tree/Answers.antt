@@ -3,8 +3,8 @@ use Rattle.std.proofs.lemmas.Bool.{false≢true}
 use Rattle.bx_tree.specs.Trees.{IsTree}
 use Rattle.bx_tree.specs.Views.{file_of, files_of}
 use Rattle.bx_tree.specs.declared.tree_file.TreeFile.{TreeFile}
-use Rattle.bx_tree.proofs.Checked.{front_files, one_more}
-use Rattle.bx_tree.proofs.Fronts.{no_files}
+use Rattle.bx_tree.proofs.TreeCheck.{prefix_files, one_more}
+use Rattle.bx_tree.proofs.TreeGrowth.{no_files}
 use Rattle.bx_tree.proofs.order.is_tree.Goals as goal
 
 pub files-init : goal.files-init
@@ -15,7 +15,7 @@ returns-then-not-may_follow c = (
   λ e. absurd (false≢true e),
   λ t. absurd (false≢true (sym c.if-not-may_follow.true ∙ c.may_follow.ensures.1
       (subst (λ (f : TreeFile). IsTree (files_of (take c.files.count c.args.files.now) ++ file_of f ∷ [])) (sym c.index-files-count.is)
-      (subst IsTree (one_more c.args.files.now c.files.count c.index-files-count.result c.files-test.true) (front_files c.args.files.now _ t))))),
+      (subst IsTree (one_more c.args.files.now c.files.count c.index-files-count.result c.files-test.true) (prefix_files c.args.files.now _ t))))),
 )
 
 pub files-preserved : goal.files-preserved

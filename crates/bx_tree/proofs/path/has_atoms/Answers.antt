@@ -5,7 +5,7 @@ use Rattle.std.proofs.lemmas.Iterator.{cases_from_all}
 use Rattle.std.proofs.lemmas.Iterator.Splits.{YieldsList-from_slice_split}
 use Rattle.std.proofs.lemmas.List.Elements.{recursion_from_All, All-from_recursion, All-from_all_within}
 use Rattle.bx_tree.specs.Paths.{IsAtom}
-use Rattle.bx_tree.proofs.Cutting.{is_slash}
+use Rattle.bx_tree.proofs.PathTexts.{is_slash}
 use Rattle.bx_tree.proofs.path.has_atoms.Goals as goal
 
 all_or_not : {X : Type 0} (P : X → Type 0) (r : Bool) (xs : List X)

@@ -2,7 +2,7 @@ use Rattle.std.proofs.Common.{rules}
 use Rattle.std.proofs.lemmas.Iterator.{cases_from_any, YieldsList-from_slice}
 use Rattle.bx_tree.specs.Trees.{IsReserved}
 use Rattle.bx_tree.specs.declared.tree_file.TreeFile.{TreeFile}
-use Rattle.bx_tree.proofs.Listed.{any_or_none}
+use Rattle.bx_tree.proofs.AnyElement.{any_or_none}
 use Rattle.bx_tree.proofs.tree.has_reserved.Goals as goal
 
 pub returns : goal.returns

@@ -1,8 +1,8 @@
 use Rattle.std.proofs.Common.{refl, lit<, lit≤}
 use Rattle.bx_tree.proofs.tree.is_reserved.Goals as goal
 
-pub begins_at-requires : goal.begins_at-requires
-begins_at-requires c = record {
+pub has_first_atom-requires : goal.has_first_atom-requires
+has_first_atom-requires c = record {
   some = lit< tt;
   short = lit≤ tt;
   bytes = (refl, (refl, (refl, tt)));

@@ -3,7 +3,7 @@ use Rattle.std.specs.List.{Any}
 use Rattle.bx_tree.specs.Paths.{Atoms}
 use Rattle.bx_tree.specs.Trees.{IsReserved}
 use Rattle.bx_tree.specs.Views.{file_of}
-use Rattle.bx_tree.proofs.Listed.{Any-map, Any-from_map}
+use Rattle.bx_tree.proofs.AnyElement.{Any-map, Any-from_map}
 use Rattle.bx_tree.proofs.tree.reserved.Goals as goal
 
 pub returns : goal.returns

@@ -1,8 +1,8 @@
-use Rattle.bx_tree.proofs.Cutting.{TextBelow-is}
+use Rattle.bx_tree.proofs.PathTexts.{TextBelow-is}
 use Rattle.bx_tree.proofs.path.Path.is_below.Goals as goal
 
 pub returns : goal.returns
 returns c =
-    let told = rw (c.as_bytes-2.ensures.value, c.as_bytes.ensures.value, c.text-2.ensures.text, c.text.ensures.text) at c.lies_below.ensures in
+    let known = rw (c.as_bytes-2.ensures.value, c.as_bytes.ensures.value, c.text-2.ensures.text, c.text.ensures.text) at c.lies_below.ensures in
     let both = TextBelow-is c.args.self.now c.args.dir.now c.text.ensures.is_path c.text-2.ensures.is_path in
-    (λ t. both.0 (told.0 t), λ b. told.1 (both.1 b))
+    (λ t. both.0 (known.0 t), λ b. known.1 (both.1 b))

@@ -2,7 +2,7 @@ use Rattle.std.proofs.Common.{◌≡◌, ◌∙◌, ap}
 use Rattle.std.specs.String.{string_bytes}
 use Rattle.std.specs.Arc.{arc_value}
 use Rattle.bx_tree.specs.Paths.{IsPathText}
-use Rattle.bx_tree.proofs.Cutting.{path_text-is_utf8, kept_is}
+use Rattle.bx_tree.proofs.PathTexts.{path_text-is_utf8, kept_is}
 use Rattle.bx_tree.proofs.path.Path.read.Goals as goal
 
 pub returns-in_default : goal.returns-in_default

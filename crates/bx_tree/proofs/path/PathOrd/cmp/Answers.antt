@@ -1,5 +1,5 @@
 use Rattle.std.proofs.Common.{sym, ◌∙◌}
-use Rattle.bx_tree.proofs.Cutting.{path_cmp-is}
+use Rattle.bx_tree.proofs.PathTexts.{path_cmp-is}
 use Rattle.bx_tree.proofs.path.PathOrd.cmp.Goals as goal
 
 pub returns : goal.returns

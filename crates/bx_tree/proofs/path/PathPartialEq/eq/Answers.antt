@@ -1,5 +1,5 @@
 use Rattle.std.proofs.Common.{sym, ◌∙◌}
-use Rattle.bx_tree.proofs.Cutting.{same_path-is}
+use Rattle.bx_tree.proofs.PathTexts.{same_path-is}
 use Rattle.bx_tree.proofs.path.PathPartialEq.eq.Goals as goal
 
 pub returns : goal.returns

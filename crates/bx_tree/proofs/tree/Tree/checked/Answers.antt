@@ -4,7 +4,7 @@ use Rattle.std.proofs.lemmas.List.Sorted.{IsPermutation-map}
 use Rattle.bx_tree.specs.Trees.{IsTree}
 use Rattle.bx_tree.specs.Views.{file_of, files_of}
 use Rattle.bx_tree.specs.declared.tree_file.TreeFile.{TreeFile}
-use Rattle.bx_tree.proofs.Checked.{tree_from_some}
+use Rattle.bx_tree.proofs.TreeCheck.{tree_from_some}
 use Rattle.bx_tree.proofs.tree.Tree.checked.Goals as goal
 
 pub returns-then-is_tree : goal.returns-then-is_tree

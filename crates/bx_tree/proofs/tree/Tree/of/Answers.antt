@@ -1,6 +1,6 @@
 use Rattle.std.proofs.lemmas.List.Sorted.{IsPermutation-map}
 use Rattle.bx_tree.specs.Views.{file_of}
-use Rattle.bx_tree.proofs.Placed.{sorted_tree}
+use Rattle.bx_tree.proofs.FileSearch.{sorted_tree}
 use Rattle.bx_tree.proofs.tree.Tree.of.Goals as goal
 
 pub invariant_of-result : goal.invariant_of-result

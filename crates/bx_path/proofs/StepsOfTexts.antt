@@ -1,0 +1,130 @@
+-- The steps of a relative text lead where the definition says, and give short paths exactly.
+use Rattle.bx_tree.specs.declared.limits.TheConstants.{MAX_ATOM_BYTES}
+use Rattle.bx_tree.specs.declared.limits.TheConstants.{MAX_PATH_BYTES}
+use Rattle.std.proofs.Common.{inl, inr, ◌==◌, append_assoc, ◌≡◌, ◌≢◌, ℕ, ◌<◌, ◌≤◌, ◌+◌, true, false, not, cond, ◌&&◌, nat_le, IsTrue, List, [], ◌∷◌, ◌++◌, length, get_or, take, codes, Some, None, refl, ap, sym, ◌∙◌, subst, arith, lit≤}
+use Rattle.std.specs.Borrow.{Bor}
+use Rattle.std.specs.List.{AllByRecursion, join_with_byte, list_all, slice_split}
+use Rattle.std.specs.Str.{bytes_eq}
+use Rattle.std.proofs.lemmas.Bool.{and_from, and_parts, cases_Bool, false≢true, le-leb, leb-true, lt-leb, not-true, cases_lt}
+use Rattle.std.proofs.lemmas.List.{take_more, map_push, length-map, length-take-le}
+use Rattle.std.proofs.lemmas.Slice.Eq.{bytes_eq-Decides}
+use Rattle.bx_tree.specs.Paths.{Atoms, IsAtom, IsPath, IsPathText, Names, is_atom_byte, path_text}
+use Rattle.bx_tree.proofs.PathTexts.{atoms_again, one_path, same_from_text, join-append}
+use Rattle.bx_path.specs.Joining.{is_atom, parent, step, if_short}
+use Rattle.bx_path.specs.Parts.{parts_now}
+
+-- ## Atoms by a test
+
+all_bytes : (bs : List ℕ) → AllByRecursion (λ b. IsTrue (is_atom_byte b)) bs → list_all is_atom_byte bs ≡ true
+all_bytes [] h = refl
+all_bytes (b ∷ bs) h = and_from (is_atom_byte b) (list_all is_atom_byte bs) h.0 (all_bytes bs h.1)
+
+bytes_all : (bs : List ℕ) → list_all is_atom_byte bs ≡ true → AllByRecursion (λ b. IsTrue (is_atom_byte b)) bs
+bytes_all [] h = tt
+bytes_all (b ∷ bs) h = let parts = and_parts (is_atom_byte b) (list_all is_atom_byte bs) h in (parts.0, bytes_all bs parts.1)
+
+differs : (a b : List ℕ) → a ≢ b → not (bytes_eq a b) ≡ true
+differs a b n = elim (cases_Bool (bytes_eq a b)) [
+  | inl e ↦ absurd (n ((bytes_eq-Decides a b).0 e))
+  | inr e ↦ ap not e
+]
+
+other_bytes : (a b : List ℕ) → not (bytes_eq a b) ≡ true → a ≢ b
+other_bytes a b h e = false≢true (sym (not-true (bytes_eq a b) h) ∙ (bytes_eq-Decides a b).1 e)
+
+pub is_atom_true : (text : List ℕ) → IsAtom text → is_atom text ≡ true
+is_atom_true text h =
+    and_from _ _ (and_from _ _ (and_from _ _ (and_from _ _
+    (le-leb 1 (length text) h.some) (le-leb (length text) MAX_ATOM_BYTES h.short)) (all_bytes text h.bytes))
+    (differs text (codes ".") h.not_dot)) (differs text (codes "..") h.not_dots)
+
+pub is_atom_false : (text : List ℕ) → (IsAtom text → ⊥) → is_atom text ≡ false
+is_atom_false text n = elim (cases_Bool (is_atom text)) [
+  | inl e ↦
+      let a = and_parts (nat_le 1 (length text) && nat_le (length text) MAX_ATOM_BYTES && list_all is_atom_byte text && not (bytes_eq text (codes "."))) (not (bytes_eq text (codes ".."))) e in
+      let b = and_parts (nat_le 1 (length text) && nat_le (length text) MAX_ATOM_BYTES && list_all is_atom_byte text) (not (bytes_eq text (codes "."))) a.0 in
+      let d = and_parts (nat_le 1 (length text) && nat_le (length text) MAX_ATOM_BYTES) (list_all is_atom_byte text) b.0 in
+      let f = and_parts (nat_le 1 (length text)) (nat_le (length text) MAX_ATOM_BYTES) d.0 in
+      absurd (n (record {
+        some = leb-true 1 (length text) f.0;
+        short = leb-true (length text) MAX_ATOM_BYTES f.1;
+        bytes = bytes_all text d.1;
+        not_dot = other_bytes text (codes ".") b.1;
+        not_dots = other_bytes text (codes "..") a.1;
+      }))
+  | inr e ↦ e
+]
+
+-- ## Steps
+
+step_other : (path : Atoms) (part : List ℕ) → bytes_eq part (codes ".") ≡ false → bytes_eq part (codes "..") ≡ false
+    → step path part ≡ cond (is_atom part) (Some (path ++ part ∷ [])) None
+step_other path part e f =
+    ap (λ b. cond b (Some path) (cond (bytes_eq part (codes "..")) (parent path) (cond (is_atom part) (Some (path ++ part ∷ [])) None))) e
+    ∙ ap (λ b. cond b (parent path) (cond (is_atom part) (Some (path ++ part ∷ [])) None)) f
+
+pub step_down : (path : Atoms) (part : List ℕ) → bytes_eq part (codes ".") ≡ false → bytes_eq part (codes "..") ≡ false → IsAtom part
+    → step path part ≡ Some (path ++ part ∷ [])
+step_down path part e f h = step_other path part e f ∙ ap (λ b. cond b (Some (path ++ part ∷ [])) None) (is_atom_true part h)
+
+pub step_none : (path : Atoms) (part : List ℕ) → bytes_eq part (codes ".") ≡ false → bytes_eq part (codes "..") ≡ false → (IsAtom part → ⊥)
+    → step path part ≡ None
+step_none path part e f n = step_other path part e f ∙ ap (λ b. cond b (Some (path ++ part ∷ [])) None) (is_atom_false part n)
+
+pub prefix_valid : {X : Type 0} (P : X → Type 0) (xs ys : List X) → AllByRecursion P (xs ++ ys) → AllByRecursion P xs
+prefix_valid P [] ys h = tt
+prefix_valid P (x ∷ xs) ys h = (h.0, prefix_valid P xs ys h.1)
+
+pub push_valid : {X : Type 0} (P : X → Type 0) (xs : List X) (y : X) → AllByRecursion P xs → P y → AllByRecursion P (xs ++ y ∷ [])
+push_valid P [] y h p = (p, tt)
+push_valid P (x ∷ xs) y h p = (h.0, push_valid P xs y h.1 p)
+
+-- ## The atoms of a path
+
+root_path : IsPath []
+root_path = record { atoms = tt; short = lit≤ tt }
+
+pub root_from_text : (path : Atoms) → IsPath path → path_text path ≡ codes "." → path ≡ []
+root_from_text path h e = same_from_text path [] h root_path e
+
+pub atoms_from_text : (path : Atoms) → IsPath path → path_text path ≢ codes "." → slice_split (λ b. b == 47) (path_text path) ≡ path
+atoms_from_text path h n = atoms_again (path_text path) path (record { is_path = h; not_root = λ e. n (ap path_text e); text_is = refl })
+
+-- ## The text of atoms
+
+pub join-push : (xs : Atoms) (y : List ℕ) → 0 < length xs → join_with_byte 47 (xs ++ y ∷ []) ≡ join_with_byte 47 xs ++ (47 ∷ []) ++ y
+join-push [] y l = absurd (omega (arith, l))
+join-push (x ∷ xs) y l = join-append x xs y [] ∙ sym (append_assoc (join_with_byte 47 (x ∷ xs)) (47 ∷ []) y)
+
+-- the text of one more atom
+pub first_text : (atoms : List (Bor (List ℕ))) (i : ℕ) (d : Bor (List ℕ)) → i < length atoms → i ≡ 0
+    → join_with_byte 47 (parts_now (take i atoms)) ++ (get_or atoms i d).now ≡ join_with_byte 47 (parts_now (take (i + 1) atoms))
+first_text [] i d l e = absurd (omega (arith, l))
+first_text (a ∷ atoms) i d l e = subst (λ k. join_with_byte 47 (parts_now (take k (a ∷ atoms))) ++ (get_or (a ∷ atoms) k d).now ≡ join_with_byte 47 (parts_now (take (k + 1) (a ∷ atoms)))) (sym e) refl
+
+pub next_text : (atoms : List (Bor (List ℕ))) (i : ℕ) (d : Bor (List ℕ)) → i < length atoms → 0 < i
+    → join_with_byte 47 (parts_now (take i atoms)) ++ (47 ∷ []) ++ (get_or atoms i d).now ≡ join_with_byte 47 (parts_now (take (i + 1) atoms))
+next_text atoms i d l some =
+    let n : 0 < length (parts_now (take i atoms)) =
+    omega (arith, length-map (take i atoms) (λ (part : Bor (List ℕ)). part.now), length-take-le i atoms (omega arith)) in
+    sym (join-push (parts_now (take i atoms)) (get_or atoms i d).now n)
+    ∙ ap (join_with_byte 47) (sym (ap parts_now (take_more atoms i d l) ∙ map_push (λ (part : Bor (List ℕ)). part.now) (take i atoms) (get_or atoms i d)))
+
+-- ## The path of atoms
+
+named_by_atoms : (a : List ℕ) (as' : Atoms) → AllByRecursion IsAtom (a ∷ as') → length (path_text (a ∷ as')) ≤ MAX_PATH_BYTES → Names (path_text (a ∷ as')) (a ∷ as')
+named_by_atoms a as' h s = record { is_path = record { atoms = h; short = s }; not_root = λ e. cc; text_is = refl }
+
+pub short_from_names : (path atoms : Atoms) (text : List ℕ) → 0 < length atoms → AllByRecursion IsAtom atoms → text ≡ join_with_byte 47 atoms → Names text path → if_short atoms ≡ Some path
+short_from_names path [] text l h e n = absurd (omega (arith, l))
+short_from_names path (a ∷ as') text l h e n =
+    let short : length (path_text (a ∷ as')) ≤ MAX_PATH_BYTES = omega (arith, ap length (sym e ∙ n.text_is), n.is_path.short) in
+    let same : path ≡ a ∷ as' = one_path text path (a ∷ as') n (subst (λ t. Names t (a ∷ as')) (sym e) (named_by_atoms a as' h short)) in
+    ap (λ b. cond b (Some (a ∷ as')) None) (le-leb (length (path_text (a ∷ as'))) MAX_PATH_BYTES short) ∙ ap Some (sym same)
+
+pub none_from_no_path : (atoms : Atoms) (text : List ℕ) → 0 < length atoms → AllByRecursion IsAtom atoms → text ≡ join_with_byte 47 atoms → (IsPathText text → ⊥) → if_short atoms ≡ None
+none_from_no_path [] text l h e n = absurd (omega (arith, l))
+none_from_no_path (a ∷ as') text l h e n = elim (cases_lt MAX_PATH_BYTES (length (path_text (a ∷ as')))) [
+  | inl long ↦ ap (λ b. cond b (Some (a ∷ as')) None) (lt-leb (length (path_text (a ∷ as'))) MAX_PATH_BYTES long)
+  | inr short ↦ absurd (n (a ∷ as', subst (λ t. Names t (a ∷ as')) (sym e) (named_by_atoms a as' h short)))
+]
