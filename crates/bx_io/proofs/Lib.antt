@@ -1,2 +1,5 @@
 pub mod Pieces
 pub mod Mapped
+pub mod Planned
+pub mod Changes
+pub mod Examples

@@ -1,9 +1,10 @@
--- A map from texts to bytes, against the finite map that it stands for.
+-- A map from texts to bytes, and the finite map that it means.
 use Rattle.std.proofs.Common.{◌≡◌, ℕ, Bool, true, false, cond, List, [], ◌∷◌, Option, Some, None, map, refl, sym, ap, subst, ◌∙◌, string_bytes, String, Vec, Bor, vec_len, ◌++◌, append_assoc, append-nil}
 use Rattle.std.specs.Prelude.{option_map, option_copied, All, T, ◌&&◌}
 use Rattle.std.specs.declared.alloc.Global.{Global}
 use Rattle.std.specs.declared.cmp.Ordering.TheVariants.{Less}
 use Rattle.std.specs.Ordering.{nat_cmp, is_eq, is_lt, eq_by_cmp}
+use Rattle.std.specs.Cmp.{Equal-is}
 use Rattle.std.specs.Cmp.Lexicographic.{slice_cmp, nat_list_cmp_total, nat_list_eq_equiv}
 use Rattle.std.specs.Str.{bytes_eq}
 use Rattle.std.specs.String.{string_cmp}
@@ -19,8 +20,8 @@ use Rattle.std.proofs.lemmas.List.{map-append}
 use Rattle.std.proofs.lemmas.Map.Keys.{sorted_head, sorted_tail}
 use Rattle.std.proofs.lemmas.List.Elements.{All-nil, All-cons, All-head, All-tail}
 use Rattle.bx_io.specs.Names.{IsName}
-use Rattle.bx_io.specs.Holdings.{Holdings}
-use Rattle.bx_io.specs.Stored.{contents, holdings_of}
+use Rattle.bx_io.specs.Holdings.{Holdings, AreNames}
+use Rattle.bx_io.specs.Stored.{contents, holdings_of, HoldsNames}
 
 -- the bytes that are found are those of the stored vector
 find-contents : (q : List ℕ) (es : List (String Global × Vec ℕ Global)) → find (slice_cmp nat_cmp) q (contents es) ≡ option_map (λ v. v.items) (lookup (is_at (text_cmp q)) es)
@@ -33,7 +34,7 @@ find-contents q (e ∷ es) =
 pub get-holdings_of : (m : BTreeMap (String Global) (Vec ℕ Global)) (q : List ℕ) → get (holdings_of m) q ≡ option_map (λ v. v.items) (tree.get_by_text m q)
 get-holdings_of m q = get-from_entries nat_list_cmp_total (contents m.entries) q ∙ find-contents q m.entries
 
--- the bytes behind a lent vector
+-- the bytes of a borrowed vector
 pub items_lent : (lent : Option (Bor (Vec ℕ Global))) → option_map (λ b. b.now.items) lent ≡ option_map (λ v. v.items) (option_copied lent)
 items_lent None = refl
 items_lent (Some b) = refl
@@ -140,3 +141,26 @@ pub listed_all : (names rest start keys : List (String Global))
     → rest ≡ [] → start ≡ keys → map string_bytes names ++ map string_bytes rest ≡ map string_bytes start → map string_bytes names ≡ map string_bytes keys
 listed_all names rest start keys none from so_far =
     sym (append-nil (map string_bytes names)) ∙ subst (λ left. map string_bytes names ++ map string_bytes left ≡ map string_bytes start) none so_far ∙ ap (map string_bytes) from
+
+-- an entry that is asked for is under the name that is asked for
+same_name : (q name : List ℕ) → is_eq (slice_cmp nat_cmp q name) ≡ true → IsName name → IsName q
+same_name q name here named =
+    subst IsName (sym (slice_cmp-IsAntisymmetric nat_cmp-IsAntisymmetric q name ((Equal-is (slice_cmp nat_cmp q name)).0 here))) named
+
+-- what is found first or further on is found under a name
+found_in : (b : Bool) (q name bytes first : List ℕ) (rest : Option (List ℕ)) → is_eq (slice_cmp nat_cmp q name) ≡ b → IsName name → (rest ≡ Some bytes → IsName q)
+    → cond b (Some first) rest ≡ Some bytes → IsName q
+found_in true q name bytes first rest here named further found = same_name q name here named
+found_in false q name bytes first rest other named further found = further found
+
+-- what is found among entries under names is found under a name
+found_name : (q bytes : List ℕ) (es : List (String Global × Vec ℕ Global)) → All (λ key. IsName (string_bytes key)) (keys_of es) → find (slice_cmp nat_cmp) q (contents es) ≡ Some bytes → IsName q
+found_name q bytes [] names found = absurd (cc)
+found_name q bytes (e ∷ es) names found =
+    found_in (is_eq (slice_cmp nat_cmp q (string_bytes e.0))) q (string_bytes e.0) bytes e.1.items (find (slice_cmp nat_cmp) q (contents es)) refl
+    (All-head (λ key. IsName (string_bytes key)) e.0 (keys_of es) names)
+    (found_name q bytes es (All-tail (λ key. IsName (string_bytes key)) e.0 (keys_of es) names)) found
+
+pub held_names : (m : BTreeMap (String Global) (Vec ℕ Global)) → HoldsNames m → AreNames (holdings_of m)
+held_names m names =
+    record { each = λ q bytes found. found_name q bytes m.entries names (sym (get-from_entries nat_list_cmp_total (contents m.entries) q) ∙ found) }

@@ -1,4 +1,4 @@
--- Pieces of a list that are moved from its front.
+-- Pieces that are moved from the start of a list.
 use Rattle.std.proofs.Common.{◌≡◌, ℕ, ◌+◌, List, ◌++◌, length, take, drop, sym, ap, ◌∙◌, ◌≤◌, arith}
 use Rattle.std.proofs.lemmas.List.{take-append-drop, drop-append-le, drop-drop}
 use Rattle.std.proofs.Math.Seq.{take-append_seam}
@@ -10,12 +10,12 @@ piece_moved xs ys zs g n len is =
     let further : drop (g + n) xs ≡ drop n (drop g xs) = sym (drop-drop n g xs) in
     rw (seam, is, further) (sym (take-append-drop n (drop g xs)))
 
--- what lies behind the first n of a buffer stays as it was, where that is so in the buffer's front ys, of at least n
+-- what follows the first n of a buffer is as it was, where it is in the prefix of the buffer, of at least n
 pub rest_kept : (into ys : List ℕ) (k n : ℕ) → n ≤ length ys → length ys ≡ length (take k into) → drop n ys ≡ drop n (take k into)
     → drop n (ys ++ drop k into) ≡ drop n into
 rest_kept into ys k n within len same =
-    let within_front : n ≤ length (take k into) = omega arith in
+    let within_prefix : n ≤ length (take k into) = omega arith in
     drop-append-le n ys (drop k into) within
-    ∙ ap (λ front. front ++ drop k into) same
-    ∙ sym (drop-append-le n (take k into) (drop k into) within_front)
+    ∙ ap (λ prefix. prefix ++ drop k into) same
+    ∙ sym (drop-append-le n (take k into) (drop k into) within_prefix)
     ∙ ap (drop n) (take-append-drop k into)

@@ -1,5 +1,5 @@
--- What the answers of a keeper say of what it holds, where that is told.
-use Rattle.std.specs.Prelude.{◌≡◌, ℕ, List, map, All, Option, Some, string_bytes, ⊤}
+-- What the answers of a keeper say of what it holds, where that is known.
+use Rattle.std.specs.Prelude.{◌≡◌, ℕ, List, map, All, IsSome, Option, Some, string_bytes, ⊤}
 use Rattle.std.specs.Prelude as prelude
 use Rattle.std.specs.Ordering.{nat_cmp}
 use Rattle.std.specs.Cmp.Lexicographic.{slice_cmp}
@@ -12,14 +12,19 @@ use Rattle.bx_io.specs.declared.keeper.Got.TheVariants as got
 use Rattle.bx_io.specs.declared.keeper.Listed.{Listed}
 use Rattle.bx_io.specs.declared.keeper.Listed.TheVariants as listed
 
--- The answer for a name: what was found is what is held under it, and None says that it is not held. A fault or want
--- of memory says nothing of it, nor does an answer of a keeper that does not tell what it holds.
+-- The answer for a name: what was found is held under it, and None says that nothing is. The other answers
+-- say nothing of the name, nor does any where the holdings are unknown.
 abbrev pub Finds : Option Holdings → List ℕ → Got → Type 0
 Finds prelude.None name answer = ⊤
 Finds (Some held) name (got.Found bytes) = get held name ≡ Some bytes.items
 Finds (Some held) name got.None = get held name ≡ prelude.None
 Finds (Some held) name got.Failed = ⊤
 Finds (Some held) name got.Memory = ⊤
+
+-- Something is held under the name, or the holdings are unknown.
+abbrev pub MayBeHeld : Option Holdings → List ℕ → Type 0
+MayBeHeld prelude.None name = ⊤
+MayBeHeld (Some held) name = IsSome (get held name)
 
 -- The names that were listed are the held ones, each once, rising by bytes.
 abbrev pub Lists : Option Holdings → Listed → Type 0

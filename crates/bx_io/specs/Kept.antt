@@ -1,13 +1,9 @@
--- What contracts see of a keeper in memory.
+-- How what contracts see of a keeper in memory is stored.
 use Rattle.std.specs.Prelude.{◌≡◌, ℕ, List, Option, Some, None, refl}
 use Rattle.std.specs.Coded.{Coded, code_by, coded×, coded_ℕ, coded_list, coded_option}
 use Rattle.std.specs.FinMap as map
-use Rattle.bx_io.specs.Holdings.{Holdings, Change, Put, Drop}
-
--- what is held, and the changes that led there
-pub record Kept : Type 0 where
-  pub held : Holdings
-  pub changes : List Change
+use Rattle.bx_io.specs.Holdings.{Holdings, Change, Kept, Put, Drop}
+use Rattle.bx_io.specs.Numbered.{Script}
 
 abbrev pub holdings_code : Coded Holdings
 holdings_code = map.code (coded_list coded_ℕ) (coded_list coded_ℕ)
@@ -27,10 +23,17 @@ with_parts-parts (Drop name) = refl
 
 abbrev pub changes_code : Coded (List Change)
 changes_code =
-    coded_list (code_by (List ℕ × Option (List ℕ)) (coded× (coded_list coded_ℕ) (coded_option (coded_list coded_ℕ)))
+    coded_list (code_by (List ℕ × Option (List ℕ))
+    (coded× (coded_list coded_ℕ) (coded_option (coded_list coded_ℕ)))
     parts (λ p. with_parts p.0 p.1) with_parts-parts)
 
 abbrev pub kept_code : Coded Kept
 kept_code =
     code_by (Holdings × List Change) (coded× holdings_code changes_code) (λ k. (k.held, k.changes))
     (λ p. record { held = p.0; changes = p.1 }) (λ _. refl)
+
+abbrev pub script_code : Coded Script
+script_code =
+    code_by (List ℕ × (ℕ × ℕ)) (coded× (coded_list coded_ℕ) (coded× coded_ℕ coded_ℕ))
+    (λ s. (s.failing, (s.calls, s.faults))) (λ p. record { failing = p.0; calls = p.1.0; faults = p.1.1 })
+    (λ _. refl)

@@ -1,3 +1,5 @@
+//! The changes of a keeper in memory, as data.
+
 ghost use Rattle.std.specs.Prelude.{◌≡◌, ◌-◌, [], ◌∷◌, ◌++◌, length, take, OnOk, OnErr};
 ghost use Rattle.bx_io.specs.Stored.{change_of};
 
@@ -22,10 +24,10 @@ pub struct History {
 
 impl Model for History {
     ghost use Rattle.std.specs.Prelude.{List, map};
-    ghost use Rattle.bx_io.specs.Holdings as told;
+    ghost use Rattle.bx_io.specs.Holdings as specs;
     ghost use Rattle.bx_io.specs.Kept.{changes_code};
 
-    ghost Value = { List told.Change };
+    ghost Value = { List specs.Change };
 
     ghost coded = { changes_code };
 

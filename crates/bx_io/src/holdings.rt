@@ -1,26 +1,31 @@
-ghost use Rattle.std.specs.Prelude.{◌≡◌, All, IfOk, OnOk, OnErr, map, string_bytes, option_map, Some};
+//! Bytes under names, in memory.
+
+ghost use Rattle.std.specs.Prelude.{◌≡◌, ◌≢◌, All, IfOk, OnOk, OnErr, map, string_bytes, option_map, Some};
 ghost use Rattle.std.specs.Ordering.{nat_cmp};
 ghost use Rattle.std.specs.Cmp.Lexicographic.{slice_cmp};
 ghost use Rattle.std.specs.List.Sorted.{IsStrictlySortedBy};
 ghost use Rattle.std.specs.FinMap.{empty, get, insert, remove, keys};
+ghost use Rattle.bx_io.specs.Answers.{Finds, Lists, ListsNames, MayBeHeld};
+ghost use Rattle.bx_io.specs.Holdings.{AreNames};
 ghost use Rattle.bx_io.specs.Names.{IsName};
 
 use crate::fault::Memory;
+use crate::keeper::{Got, Listed};
 use std::alloc::Global;
 use std::collections::BTreeMap;
 use std::marker::Model;
 
-/// Bytes under names, in memory. All that keepers in memory hold stands in one of these.
+/// Bytes under names. All reasoning about maps is that of this type.
 #[derive(Drop)]
 pub struct Holdings {
     map: BTreeMap<String, Vec<u8>>,
 }
 
 impl Model for Holdings {
-    ghost use Rattle.bx_io.specs.Holdings as told;
+    ghost use Rattle.bx_io.specs.Holdings as specs;
     ghost use Rattle.bx_io.specs.Kept.{holdings_code};
 
-    ghost Value = { told.Holdings };
+    ghost Value = { specs.Holdings };
 
     ghost coded = { holdings_code };
 
@@ -69,7 +74,8 @@ impl Holdings {
     pub fn names(&self, alloc: Global) -> Result<Vec<String>, Memory>
         ensures held { IfOk result (λ names. map string_bytes names.items ≡ keys self.now) }
         ensures names { IfOk result (λ names. All (λ name. IsName (string_bytes name)) names.items) }
-        ensures rising { IfOk result (λ names. IsStrictlySortedBy (slice_cmp nat_cmp) (map string_bytes names.items)) }
+        ensures rising { IfOk result
+            (λ names. IsStrictlySortedBy (slice_cmp nat_cmp) (map string_bytes names.items)) }
     {
         let mut names = Vec::new(alloc);
         for name in self.map.keys() {
@@ -78,9 +84,37 @@ impl Holdings {
         Ok(names)
     }
 
-    /// The same holdings once more.
+    /// The answer to a look under the name.
+    pub fn look(&self, alloc: Global, name: &str) -> Got
+        ensures found { Finds (Some self.now) name.now result }
+        ensures memory { result ≡ Got.Memory → MayBeHeld (Some self.now) name.now }
+        ensures no_fault { result ≢ Got.Failed }
+    {
+        match self.get(name) {
+            None => Got::None,
+            Some(bytes) => match bytes.to_vec(alloc) {
+                Ok(copy) => Got::Found(copy),
+                Err(_) => Got::Memory,
+            },
+        }
+    }
+
+    /// The answer to a question for all names.
+    pub fn list(&self, alloc: Global) -> Listed
+        ensures listed { Lists (Some self.now) result }
+        ensures names { ListsNames result }
+        ensures no_fault { result ≢ Listed.Failed }
+    {
+        match self.names(alloc) {
+            Ok(names) => Listed::Names(names),
+            Err(_) => Listed::Memory,
+        }
+    }
+
+    /// A copy of the holdings.
     pub fn copy(&self) -> Result<Holdings, Memory>
-        ensures { IfOk result (λ copy. copy ≡ self.now) }
+        ensures same { IfOk result (λ copy. copy ≡ self.now) }
+        ensures names { AreNames self.now }
     {
         Ok(Holdings {
             map: self.map.clone()?,

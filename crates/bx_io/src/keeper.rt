@@ -1,8 +1,10 @@
-ghost use Rattle.std.specs.Prelude.{◌≡◌, ℕ, ◌-◌, ◌^◌, ◌<◌, ◌≤◌, List, Option, IsSome, IfSome, IfOk, OnOk, OnErr, Err};
-ghost use Rattle.bx_io.specs.Causes.{HasCause};
+//! Keepers of results and their readers: what they hold, and when they may fail.
+
+ghost use Rattle.std.specs.Prelude.{◌≡◌, ◌≢◌, ℕ, ◌-◌, ◌^◌, ◌<◌, ◌≤◌, [], ◌∷◌, Option, IfOk, IfSome, OnOk, OnErr, Err};
+ghost use Rattle.bx_io.specs.Causes.{CanRise, HasCause, IsWithin};
 ghost use Rattle.bx_io.specs.Names.{IsName};
-ghost use Rattle.bx_io.specs.Holdings.{Holdings, Change, Put, Drop, with_name, without_name, with_change};
-ghost use Rattle.bx_io.specs.Answers.{Finds, Lists, ListsNames};
+ghost use Rattle.bx_io.specs.Holdings.{AreNames, Holdings, Kept, Put, Drop, held_in, known_after};
+ghost use Rattle.bx_io.specs.Answers.{Finds, Lists, ListsNames, MayBeHeld};
 
 use crate::fault::Memory;
 use std::alloc::{AllocError, AllocFailed, Global};
@@ -14,18 +16,18 @@ pub enum Got {
     Found(Vec<u8>),
     /// Nothing is held under it.
     None,
-    /// The keeper failed.
+    /// The keeper or reader failed.
     Failed,
-    /// There was no memory for the bytes. The count of faults is as before.
+    /// Out of memory for the bytes.
     Memory,
 }
 
-/// Why a change was refused. What is held is then as before.
+/// Why a change was not made.
 #[derive(Debug, Drop)]
 pub enum PutFault {
     /// The keeper failed.
     Failed,
-    /// There was no memory for the change. The count of faults is as before.
+    /// Out of memory for the change.
     Memory,
 }
 
@@ -36,13 +38,13 @@ pub enum Listed {
     Names(Vec<String>),
     /// The keeper failed.
     Failed,
-    /// There was no memory for the names. The count of faults is as before.
+    /// Out of memory for the names.
     Memory,
 }
 
 /// Reads what a keeper held when the reader was made. It may go to another thread.
 pub trait KeepReader: Send + Drop {
-    // The held bytes by name, where they are told.
+    // The held bytes by name, where they are known.
     ghost held: { Self → Option Holdings };
 
     // How often the reader has failed.
@@ -51,35 +53,28 @@ pub trait KeepReader: Send + Drop {
     // How often it may fail, where that is bounded.
     ghost bound: { Self → Option ℕ };
 
-    /// The bytes that are held under the name, or that none are. After any other answer nothing is known of the
-    /// name.
+    /// The bytes that are held under the name, or that none are.
     fn get(&mut self, alloc: Global, name: &str) -> Got
         requires { IsName name.now }
         ensures found { Finds (held self.old) name.now result }
+        ensures memory { result ≡ Got.Memory → MayBeHeld (held self.old) name.now }
         ensures held { held self.new ≡ held self.old }
         ensures bound { bound self.new ≡ bound self.old }
+        ensures within { IsWithin (bound self.new) (faults self.new) }
+        ensures can_rise { CanRise (bound self.new) (faults self.new) }
         ensures cause { HasCause (faults self.old) (faults self.new) (result ≡ Got.Failed) }
-        ensures memory { result ≡ Got.Memory → faults self.new ≡ faults self.old };
-
-    // The count keeps within the bound.
-    ghost within_bound: { (reader : Self) → IfSome (bound reader) (λ most. faults reader ≤ most) };
-
-    // The count of a reader with a bound never stands where counters stand still.
-    ghost counts_on: { (reader : Self) → IsSome (bound reader) → faults reader < 2 ^ 64 - 1 };
+        ensures no_fault { result ≢ Got.Failed → faults self.new ≡ faults self.old };
 }
 
-/// Holds bytes under names, from one build to the next. A keeper tells what it holds, and the changes that
-/// led there, or does not; what is said of its content is said where it tells.
+/// Holds bytes under names, from one build to the next. What a keeper holds and the changes that led there
+/// are known, as of a keeper in memory, or not, as of a folder; what is said of them is said where they are
+/// known.
 pub trait Keeper {
     /// Reads what the keeper held at one moment.
     type Reader: KeepReader;
 
-    // The held bytes by name, where they are told.
-    ghost held: { Self → Option Holdings };
-
-    // The changes so far, in order, where they are told: a put or a drop that is answered by Ok adds one, and one
-    // that is refused adds none.
-    ghost changes: { Self → Option (List Change) };
+    // The held bytes by name and all changes so far, where they are known.
+    ghost known: { Self → Option Kept };
 
     // How often the keeper has failed.
     ghost faults: { Self → ℕ };
@@ -87,62 +82,54 @@ pub trait Keeper {
     // How often each of its readers may fail, where that is bounded.
     ghost bound: { Self → Option ℕ };
 
-    /// A reader of what the keeper holds now. It is refused for want of memory alone.
+    /// A reader of what the keeper holds now. Only running out of memory is an error.
     fn reader(&self, alloc: Global) -> Result<Self::Reader, Memory>
-        ensures held { IfOk result (λ reader. Self.Reader.held reader ≡ held self.now) }
+        ensures held { IfOk result (λ reader. Self.Reader.held reader ≡ held_in (known self.now)) }
+        ensures names { IfSome (held_in (known self.now)) AreNames }
         ensures bound { IfOk result (λ reader. Self.Reader.bound reader ≡ bound self.now) }
         ensures faults { IfOk result (λ reader. Self.Reader.faults reader ≡ 0) };
 
-    /// The bytes that are held under the name, or that none are. After any other answer nothing is known of the
-    /// name.
+    /// The bytes that are held under the name, or that none are.
     fn get(&mut self, alloc: Global, name: &str) -> Got
         requires { IsName name.now }
-        ensures found { Finds (held self.old) name.now result }
-        ensures held { held self.new ≡ held self.old }
-        ensures changes { changes self.new ≡ changes self.old }
+        ensures found { Finds (held_in (known self.old)) name.now result }
+        ensures known { known self.new ≡ known self.old }
         ensures bound { bound self.new ≡ bound self.old }
+        ensures can_rise { CanRise (bound self.new) (faults self.new) }
         ensures cause { HasCause (faults self.old) (faults self.new) (result ≡ Got.Failed) }
-        ensures memory { result ≡ Got.Memory → faults self.new ≡ faults self.old };
+        ensures no_fault { result ≢ Got.Failed → faults self.new ≡ faults self.old };
 
-    /// Holds the bytes under the name, in place of what was held there. A stop at any moment leaves the
-    /// bytes or what was there before; after a refusal what is held is as before.
+    /// Holds the bytes under the name, in place of what was held there. A stop at any moment leaves the new
+    /// bytes or what was there before.
     fn put(&mut self, alloc: Global, name: &str, bytes: &[u8]) -> Result<(), PutFault>
         requires { IsName name.now }
-        ensures held { OnOk result (held self.new ≡ with_name (held self.old) name.now bytes.now) }
-        ensures changes { OnOk result (changes self.new ≡ with_change (changes self.old) (Put name.now bytes.now)) }
-        ensures refused { OnErr result (held self.new ≡ held self.old) }
-        ensures unchanged { OnErr result (changes self.new ≡ changes self.old) }
+        ensures made { OnOk result
+            (known self.new ≡ known_after (known self.old) (Put name.now bytes.now ∷ [])) }
+        ensures refused { OnErr result (known self.new ≡ known self.old) }
         ensures bound { bound self.new ≡ bound self.old }
+        ensures can_rise { CanRise (bound self.new) (faults self.new) }
         ensures cause { HasCause (faults self.old) (faults self.new) (result ≡ Err PutFault.Failed) }
-        ensures memory { result ≡ Err PutFault.Memory → faults self.new ≡ faults self.old };
+        ensures no_fault { result ≢ Err PutFault.Failed → faults self.new ≡ faults self.old };
 
-    /// Holds nothing under the name. A stop at any moment leaves nothing there or what was there before; after
-    /// a refusal what is held is as before.
+    /// Holds nothing under the name. A stop at any moment leaves nothing there or what was there before.
     fn drop_name(&mut self, alloc: Global, name: &str) -> Result<(), PutFault>
         requires { IsName name.now }
-        ensures held { OnOk result (held self.new ≡ without_name (held self.old) name.now) }
-        ensures changes { OnOk result (changes self.new ≡ with_change (changes self.old) (Drop name.now)) }
-        ensures refused { OnErr result (held self.new ≡ held self.old) }
-        ensures unchanged { OnErr result (changes self.new ≡ changes self.old) }
+        ensures made { OnOk result (known self.new ≡ known_after (known self.old) (Drop name.now ∷ [])) }
+        ensures refused { OnErr result (known self.new ≡ known self.old) }
         ensures bound { bound self.new ≡ bound self.old }
+        ensures can_rise { CanRise (bound self.new) (faults self.new) }
         ensures cause { HasCause (faults self.old) (faults self.new) (result ≡ Err PutFault.Failed) }
-        ensures memory { result ≡ Err PutFault.Memory → faults self.new ≡ faults self.old };
+        ensures no_fault { result ≢ Err PutFault.Failed → faults self.new ≡ faults self.old };
 
     /// The held names, each once, rising by bytes.
     fn names(&mut self, alloc: Global) -> Listed
-        ensures listed { Lists (held self.old) result }
+        ensures listed { Lists (held_in (known self.old)) result }
         ensures names { ListsNames result }
-        ensures held { held self.new ≡ held self.old }
-        ensures changes { changes self.new ≡ changes self.old }
+        ensures known { known self.new ≡ known self.old }
         ensures bound { bound self.new ≡ bound self.old }
+        ensures can_rise { CanRise (bound self.new) (faults self.new) }
         ensures cause { HasCause (faults self.old) (faults self.new) (result ≡ Listed.Failed) }
-        ensures memory { result ≡ Listed.Memory → faults self.new ≡ faults self.old };
-
-    // The count of a keeper with a bound never stands where counters stand still.
-    ghost counts_on: { (keeper : Self) → IsSome (bound keeper) → faults keeper < 2 ^ 64 - 1 };
-
-    // A keeper that tells what it holds tells its changes too.
-    ghost told_changes: { (keeper : Self) → IsSome (held keeper) → IsSome (changes keeper) };
+        ensures no_fault { result ≢ Listed.Failed → faults self.new ≡ faults self.old };
 }
 
 impl From<AllocError> for PutFault {

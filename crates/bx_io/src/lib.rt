@@ -1,16 +1,23 @@
 //! The outside of the engine: where its input comes from, where its output goes, and what keeps results.
 //!
-//! Each of these is a trait whose contract says what may be relied on, whatever stands behind it, and
-//! counts its faults, so that no layer above can tell of a fault that never was. Beside the traits stand
-//! objects in memory that meet them. The crate stands on std alone. It carries the promise that every
-//! answer which blames the outside has its cause there.
+//! Each of these is a trait whose contract holds for streams, folders and memory alike. It counts its faults,
+//! and the count rises in every call that fails and in no other, so that no layer above can report a fault
+//! that never was. Objects in memory that meet the traits, and fail where a test asks them to, are here too.
+//! The crate depends on std alone. It carries the promise that every answer which blames the outside has its
+//! cause there.
 #![tactic(auto)]
 
+mod archive;
+mod fail_keeper;
 mod fault;
+mod fault_plan;
 mod gate;
 mod history;
 mod holdings;
 mod keeper;
+mod laws;
+mod mem_keeper;
+mod mem_reader;
 mod mem_sink;
 mod mem_source;
 mod name;
@@ -19,16 +26,22 @@ mod no_fault_source;
 mod script;
 mod sink;
 mod source;
+mod stop_keeper;
 #[cfg(test)]
 mod tests;
 
+pub use fail_keeper::FailKeeper;
 pub use fault::{Failed, Memory};
 pub use gate::{Gate, OpenGate};
 pub use keeper::{Got, KeepReader, Keeper, Listed, PutFault};
+pub use laws::{changes_in_order, counts_with_a_bound};
+pub use mem_keeper::MemKeeper;
+pub use mem_reader::{FailReader, MemReader};
 pub use mem_sink::MemSink;
 pub use mem_source::MemSource;
-pub use name::is_name;
-pub use no_fault_keeper::{NoFaultKeeper, NoFaultReader};
+pub use name::{NAME_LENGTH, is_name};
+pub use no_fault_keeper::NoFaultKeeper;
 pub use no_fault_source::NoFaultSource;
 pub use sink::Sink;
 pub use source::Source;
+pub use stop_keeper::StopKeeper;

@@ -1,4 +1,4 @@
-ghost use Rattle.std.specs.Prelude.{◌≡◌, ◌≤◌, ◌<◌, ◌-◌, ◌↔◌, ◌⊎◌, [], ◌++◌, length, take, min, Some, IsErr, IfOk, OnErr};
+ghost use Rattle.std.specs.Prelude.{◌≡◌, ◌≤◌, ◌<◌, ◌-◌, ◌↔◌, ◌⊎◌, [], ◌++◌, length, take, min, Some, IsErr, IfOk, OnOk, OnErr};
 ghost use Rattle.bx_io.specs.Causes.{HasCause};
 ghost use Rattle.bx_io.specs.Numbered.{IsFaultDue, after_work, after_fault};
 
@@ -23,9 +23,11 @@ impl Model for MemSink {
 
     ghost Value = { Store };
 
-    ghost view = { λ s. record { taken = s.bytes.items; capacity = s.capacity; chunk = s.chunk; script = s.script } };
+    ghost view = { λ s.
+        record { taken = s.bytes.items; capacity = s.capacity; chunk = s.chunk; script = s.script } };
 
-    ghost invariant = { λ s. (vec_len s.bytes ≤ s.capacity) × (s.capacity ≤ vec_capacity s.bytes) × (1 ≤ s.chunk) };
+    ghost invariant = { λ s. (vec_len s.bytes ≤ s.capacity) × (s.capacity ≤ vec_capacity s.bytes)
+        × (1 ≤ s.chunk) };
 }
 
 impl MemSink {
@@ -87,6 +89,7 @@ impl Sink for MemSink {
         ensures appended { IfOk result (λ n. self.new.taken ≡ self.old.taken ++ take n piece.now) }
         ensures failed { OnErr result (self.new.taken ≡ self.old.taken) }
         ensures cause { HasCause self.old.script.faults self.new.script.faults (IsErr result) }
+        ensures no_fault { OnOk result (self.new.script.faults ≡ self.old.script.faults) }
     {
         let room = self.capacity - self.bytes.len();
         if self.script.is_fault_due() || (room == 0 && !piece.is_empty()) {

@@ -1,4 +1,4 @@
-ghost use Rattle.std.specs.Prelude.{◌≡◌, ◌≤◌, ◌<◌, ◌↔◌, [], ◌++◌, length, take, drop, min, Some, Ok, IsSome, IsOk, IsErr, IfOk, OnErr};
+ghost use Rattle.std.specs.Prelude.{◌≡◌, ◌≤◌, ◌<◌, ◌↔◌, [], ◌++◌, length, take, drop, min, Some, Ok, IsSome, IsOk, IsErr, IfOk, OnOk, OnErr};
 ghost use Rattle.std.specs.Io.KnownBytes.{Consumes, IsAtEnd};
 ghost use Rattle.bx_io.specs.Causes.{HasCause};
 ghost use Rattle.bx_io.specs.Numbered.{IsFaultDue, after_work, after_fault};
@@ -9,7 +9,7 @@ use crate::script::Script;
 use crate::source::Source;
 use std::marker::Model;
 
-/// Bytes in memory, given from the front in pieces, with the faults that its maker asked for.
+/// Bytes in memory, given from the start in pieces; calls with the numbers that its maker gave fail.
 #[derive(Drop)]
 pub struct MemSource {
     source: NoFaultSource,
@@ -57,7 +57,8 @@ impl Source for MemSource {
 
     fn read(&mut self, into: &mut [u8]) -> Result<usize, Failed>
         ensures fails { IsErr result ↔ IsFaultDue self.old.script }
-        ensures count { IfOk result (λ n. n ≡ min (min self.old.chunk (length into.old)) (length self.old.left)) }
+        ensures count { IfOk result
+            (λ n. n ≡ min (min self.old.chunk (length into.old)) (length self.old.left)) }
         ensures given { IfOk result (λ n. self.new ≡ record self.old {
           left = drop n self.old.left;
           script = after_work self.old.script;
@@ -69,6 +70,7 @@ impl Source for MemSource {
         ensures end { 0 < length into.old → result ≡ Ok 0 → self.old.left ≡ [] }
         ensures failed { OnErr result (self.new.left ≡ self.old.left) }
         ensures cause { HasCause self.old.script.faults self.new.script.faults (IsErr result) }
+        ensures no_fault { OnOk result (self.new.script.faults ≡ self.old.script.faults) }
     {
         if self.script.is_fault_due() {
             self.script.count_fault();

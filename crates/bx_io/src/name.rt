@@ -1,5 +1,10 @@
+//! The names under which a keeper holds bytes.
+
 ghost use Rattle.std.specs.Prelude.{◌↔◌, IsTrue};
 ghost use Rattle.bx_io.specs.Names.{IsKindLetter, IsLowerHexDigit, IsName};
+
+/// The bytes of a name: the letter of a kind, a slash and the digits of a digest.
+pub const NAME_LENGTH: usize = 66;
 
 fn is_kind_letter(c: u8) -> bool
     ensures { IsTrue result ↔ IsKindLetter c }
@@ -18,7 +23,7 @@ fn is_lower_hex_digit(c: u8) -> bool
 pub fn is_name(text: &[u8]) -> bool
     ensures { IsTrue result ↔ IsName text.now }
 {
-    text.len() == 66
+    text.len() == NAME_LENGTH
         && is_kind_letter(text[0])
         && text[1] == b'/'
         && text[2..].iter().all(|c| is_lower_hex_digit(*c))

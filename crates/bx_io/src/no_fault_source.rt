@@ -4,7 +4,7 @@ use crate::fault::Failed;
 use crate::source::Source;
 use std::marker::Model;
 
-/// Bytes in memory, given from the front, as many a call as there is room for. It never fails.
+/// Bytes in memory, given from the start, as many in a call as fit its buffer. It never fails.
 #[derive(Drop)]
 pub struct NoFaultSource {
     bytes: Vec<u8>,

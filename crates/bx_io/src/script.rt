@@ -1,11 +1,13 @@
+//! Numbered calls, of which some fail.
+
 ghost use Rattle.std.specs.Prelude.{◌≡◌, ◌↔◌, IsTrue};
 ghost use Rattle.bx_io.specs.Causes.{HasCause};
 ghost use Rattle.bx_io.specs.Numbered.{IsFaultDue, after_work, after_fault};
 
 use std::marker::Model;
 
-/// Numbers the calls of an object from 1, and says which of them fail. Both of its counters stand still at
-/// their last value, and no call is numbered from then on.
+/// Numbers the calls of an object from 1, and says which of them fail. Both of its counters stay at their
+/// last value, and no call is numbered from then on.
 #[derive(Drop)]
 pub struct Script {
     failing: Vec<u64>,
@@ -38,6 +40,13 @@ impl Script {
         ensures { IsTrue result ↔ IsFaultDue self.now }
     {
         self.calls < u64::MAX && self.failing.contains(&(self.calls + 1))
+    }
+
+    /// How many calls failed.
+    pub fn faults(&self) -> u64
+        ensures { result ≡ self.now.faults }
+    {
+        self.faults
     }
 
     /// Counts a call that does its work.

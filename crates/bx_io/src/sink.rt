@@ -1,13 +1,15 @@
-ghost use Rattle.std.specs.Prelude.{◌≡◌, ℕ, ◌<◌, ◌≤◌, List, Option, length, take, IsErr, IfOk, OnErr};
+//! Sinks for bytes.
+
+ghost use Rattle.std.specs.Prelude.{◌≡◌, ℕ, ◌<◌, ◌≤◌, List, Option, length, take, IsErr, IfOk, OnOk, OnErr};
 ghost use Rattle.std.specs.Io.KnownBytes.{Appends};
 ghost use Rattle.bx_io.specs.Causes.{HasCause};
 
 use crate::fault::Failed;
 
-/// Where bytes go, in order. A sink tells what it has taken or does not; what is said of its bytes is said
-/// where it tells.
+/// Where bytes go, in order. What a sink has taken is known, as of one in memory, or not, as of a stream;
+/// what is said of its bytes is said where they are known.
 pub trait Sink {
-    // The bytes that were taken, where they are told.
+    // The bytes that were taken, where they are known.
     ghost taken: { Self → Option (List ℕ) };
 
     // How often the sink has failed.
@@ -20,5 +22,6 @@ pub trait Sink {
         ensures at_least { 0 < length piece.now → IfOk result (λ n. 1 ≤ n) }
         ensures appended { IfOk result (λ n. Appends (taken self.old) (taken self.new) (take n piece.now)) }
         ensures failed { OnErr result (taken self.new ≡ taken self.old) }
-        ensures cause { HasCause (faults self.old) (faults self.new) (IsErr result) };
+        ensures cause { HasCause (faults self.old) (faults self.new) (IsErr result) }
+        ensures no_fault { OnOk result (faults self.new ≡ faults self.old) };
 }

@@ -1,0 +1,82 @@
+-- Worked examples of changes, of their prefixes and of counts.
+use Rattle.std.proofs.Common.{◌≡◌, ℕ, ◌+◌, ◌-◌, ◌^◌, ◌≤◌, List, [], ◌∷◌, ◌++◌, Option, Some, None, codes, refl, ap, arith, rules}
+use Rattle.std.specs.FinMap.{empty, get, gets, same_map, slice_cmp-IsAntisymmetric, nat_cmp-IsAntisymmetric}
+use Rattle.std.specs.Ordering.{nat_cmp}
+use Rattle.std.specs.Cmp.Lexicographic.{nat_list_cmp_total}
+use Rattle.bx_io.specs.Causes.{Rose, last_count, IsWithin, CanRise}
+use Rattle.bx_io.specs.Holdings.{Holdings, Change, Put, Drop, after, Kept, known_after, IsPrefix, MakesPrefix}
+
+abbrev a : List ℕ
+a = codes "b/0a"
+
+abbrev b : List ℕ
+b = codes "b/0b"
+
+abbrev one : List ℕ
+one = 1 ∷ []
+
+abbrev two : List ℕ
+two = 2 ∷ []
+
+abbrev none : Holdings
+none = empty
+
+same : (m n : Holdings) → ((q : List ℕ) → get m q ≡ get n q) → m ≡ n
+same = same_map nat_list_cmp_total (slice_cmp-IsAntisymmetric nat_cmp-IsAntisymmetric)
+
+no_change : after none [] ≡ none
+no_change = refl
+
+put_is_held : get (after none (Put a one ∷ [])) a ≡ Some one
+put_is_held = grind (gets, rules)
+
+others_are_not : get (after none (Put a one ∷ [])) b ≡ None
+others_are_not = grind (gets, rules)
+
+later_put_counts : get (after none (Put a one ∷ Put a two ∷ [])) a ≡ Some two
+later_put_counts = grind (gets, rules)
+
+dropped_is_gone : get (after none (Put a one ∷ Drop a ∷ [])) a ≡ None
+dropped_is_gone = grind (gets, rules)
+
+put_after_drop : get (after none (Drop a ∷ Put a one ∷ [])) a ≡ Some one
+put_after_drop = grind (gets, rules)
+
+drop_of_nothing : after none (Drop a ∷ []) ≡ none
+drop_of_nothing = same (after none (Drop a ∷ [])) none (λ q. grind (gets, rules))
+
+drop_leaves_others : get (after none (Put a one ∷ Put b two ∷ Drop a ∷ [])) b ≡ Some two
+drop_leaves_others = grind (gets, rules)
+
+other_name_stays : get (after none (Put b two ∷ Put a one ∷ [])) b ≡ Some two
+other_name_stays = grind (gets, rules)
+
+-- a change that changes nothing is listed too
+listed_anyway : known_after (Some (record { held = none; changes = Put b two ∷ [] })) (Drop a ∷ []) ≡ Some (record { held = none; changes = Put b two ∷ Drop a ∷ [] })
+listed_anyway = ap (λ (held : Holdings). Some (record { held = held; changes = Put b two ∷ Drop a ∷ [] })) drop_of_nothing
+
+nothing_is_known : known_after None (Put a one ∷ []) ≡ None
+nothing_is_known = refl
+
+first_is_prefix : IsPrefix (Put a one ∷ []) (Put a one ∷ Put b two ∷ [])
+first_is_prefix = record { rest = Put b two ∷ []; joined = refl }
+
+none_is_prefix : IsPrefix [] (Put a one ∷ [])
+none_is_prefix = record { rest = Put a one ∷ []; joined = refl }
+
+all_is_prefix : IsPrefix (Put a one ∷ []) (Put a one ∷ [])
+all_is_prefix = record { rest = []; joined = refl }
+
+second_is_no_prefix : IsPrefix (Put b two ∷ []) (Put a one ∷ Put b two ∷ []) → ⊥
+second_is_no_prefix prefix =
+    let joined : Put b two ∷ prefix.rest ≡ Put a one ∷ Put b two ∷ [] = prefix.joined in
+    cc
+
+rises_by_one : Rose 0 1
+rises_by_one = omega arith
+
+stays_below : Rose 1 1 → ⊥
+stays_below rose = omega (arith, rose)
+
+last_counts_as_risen : Rose last_count last_count
+last_counts_as_risen = omega arith
