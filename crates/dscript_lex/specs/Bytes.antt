@@ -1,4 +1,4 @@
--- Which bytes stand where in a text.
+-- Which bytes are of which kind.
 use Rattle.std.specs.Prelude.{ℕ, ◌-◌, Bool, false, not, ◌&&◌, ◌||◌, ◌==◌, nat_le, List, [], ◌∷◌, Option, Some, None, if◌then◌else◌}
 use Rattle.std.specs.Char.{is_ascii_digit, is_ascii_alphabetic}
 
@@ -23,13 +23,14 @@ abbrev pub begins_with : (ℕ → Bool) → List ℕ → Bool
 begins_with test [] = false
 begins_with test (b ∷ bs) = test b
 
--- a printable byte of ASCII that is no digit, `x` or `u`: behind a backslash it stands for itself,
--- where it is none of the letters that name a control byte
+-- a printable byte of ASCII that is no digit, `x` or `u`: after a backslash it spells itself, unless it
+-- is a letter that names a control byte
 abbrev pub is_escaped_as_itself : ℕ → Bool
-is_escaped_as_itself b = nat_le 0x20 b && nat_le b 0x7e && not (is_ascii_digit b) && not (b == 0x78) && not (b == 0x75)
+is_escaped_as_itself b =
+    nat_le 0x20 b && nat_le b 0x7e && not (is_ascii_digit b) && not (b == 0x78) && not (b == 0x75)
 
--- What a backslash and this byte stand for: `\n \r \t \b \f \v` are control bytes, `\0` is the
--- byte 0 where no digit follows, and the others stand for themselves.
+-- The byte that a backslash and this byte spell: `\n \r \t \b \f \v` spell control bytes, `\0` spells
+-- the byte 0 where no digit follows, and the others spell themselves.
 abbrev pub escape_of : ℕ → List ℕ → Option ℕ
 escape_of b rest =
     if b == 0x6e then Some 10

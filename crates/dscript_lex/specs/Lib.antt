@@ -1,8 +1,5 @@
 pub mod Bytes
-pub mod Signs
-pub mod Pieces
+pub mod Punctuators
+pub mod Lexemes
 pub mod Tokens
-pub mod Fronts
-pub mod Words
-pub mod Spaced
-pub mod Spelling
+pub mod Scanning

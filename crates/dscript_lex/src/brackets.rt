@@ -1,9 +1,9 @@
 //! The brackets that are open: the holes of templates, and braces.
 
 ghost use Rattle.std.specs.Prelude.{◌≡◌, ◌↔◌, reverse, IsTrue, OnOk};
-ghost use Rattle.dscript_lex.specs.Tokens.{behind, behind_sign, closed, in_hole, NoHole};
+ghost use Rattle.dscript_lex.specs.Tokens.{brackets_after, after_punctuator, closed, in_hole, NoHole};
 
-use crate::piece::Sense;
+use crate::lexeme::LexemeKind;
 use crate::token::TokenKind;
 use std::alloc::AllocError;
 
@@ -26,11 +26,12 @@ pub(crate) fn in_hole(brackets: &[Bracket]) -> bool
     }
 }
 
-/// Opens or closes what a sign opens or closes.
-fn follow_sign(brackets: &mut Vec<Bracket>, sign: &[u8]) -> Result<(), AllocError>
-    ensures { OnOk result (reverse brackets.new.items ≡ behind_sign sign.now (reverse brackets.old.items)) }
+/// Opens or closes the brace that a punctuator opens or closes.
+fn follow_punctuator(brackets: &mut Vec<Bracket>, punctuator: &[u8]) -> Result<(), AllocError>
+    ensures { OnOk result
+        (reverse brackets.new.items ≡ after_punctuator punctuator.now (reverse brackets.old.items)) }
 {
-    match sign {
+    match punctuator {
         [b'{'] => brackets.push(Bracket::Brace)?,
         [b'}'] => {
             brackets.pop();
@@ -40,11 +41,12 @@ fn follow_sign(brackets: &mut Vec<Bracket>, sign: &[u8]) -> Result<(), AllocErro
     Ok(())
 }
 
-/// Opens and closes what the piece opens and closes.
-pub(crate) fn follow(brackets: &mut Vec<Bracket>, sense: &Sense) -> Result<(), AllocError>
-    ensures { OnOk result (reverse brackets.new.items ≡ behind sense.now (reverse brackets.old.items)) }
+/// Opens and closes the brackets that the lexeme opens and closes.
+pub(crate) fn follow(brackets: &mut Vec<Bracket>, kind: &LexemeKind) -> Result<(), AllocError>
+    ensures { OnOk result
+        (reverse brackets.new.items ≡ brackets_after kind.now (reverse brackets.old.items)) }
 {
-    let Sense::Spelled(kind) = sense else {
+    let LexemeKind::Spelled(kind) = kind else {
         return Ok(());
     };
     match kind {
@@ -56,7 +58,7 @@ pub(crate) fn follow(brackets: &mut Vec<Bracket>, sense: &Sense) -> Result<(), A
         TokenKind::Tail(_) => {
             brackets.pop();
         }
-        TokenKind::Punct(sign) => follow_sign(brackets, sign.bytes())?,
+        TokenKind::Punct(punctuator) => follow_punctuator(brackets, punctuator.bytes())?,
         _ => {}
     }
     Ok(())

@@ -1,4 +1,4 @@
-//! Which bytes stand where in a text.
+//! Which bytes are of which kind.
 
 ghost use Rattle.std.specs.Prelude.{◌≡◌, ◌≤◌, length};
 ghost use Rattle.std.specs.Char.{is_ascii_hexdigit};
@@ -23,7 +23,7 @@ pub(crate) fn is_word_byte(byte: u8) -> bool
     is_word_start(byte) || byte.is_ascii_digit()
 }
 
-/// How many bytes at the front go on with a word.
+/// How many bytes at the start go on with a word.
 pub(crate) fn word_len(bytes: &[u8]) -> usize
     ensures len { result ≡ prefix_len is_word_byte bytes.now }
     ensures in_range { result ≤ length bytes.now }

@@ -2,9 +2,9 @@
 
 ghost use Rattle.std.specs.Prelude.{◌≡◌, ◌+◌, ◌<◌, ◌≤◌, ◌&&◌, ◌==◌, length, not, slice_index, IfSome, IsTrue};
 ghost use Rattle.std.specs.List.{prefix_len};
-ghost use Rattle.dscript_lex.specs.Fronts.{close_len, comment_len, NeverCloses};
+ghost use Rattle.dscript_lex.specs.Scanning.{close_len, comment_len, NeverCloses};
 
-/// Whether `*/` stands at this place.
+/// Whether `*/` begins at this place.
 fn closes(bytes: &[u8], at: usize) -> bool
     requires { at + 1 < length bytes.now }
     ensures { result
@@ -36,8 +36,8 @@ fn line_len(bytes: &[u8]) -> usize
     bytes.iter().take_while(|byte| **byte != b'\n').count()
 }
 
-/// How many bytes a comment takes behind its `/*`. `unclosed` says that nothing closes it, which is
-/// then not looked for again.
+/// How many bytes a comment takes after its `/*`. `unclosed` says that no `*/` follows, so that none is
+/// searched for again.
 fn block_len(bytes: &[u8], unclosed: &mut bool) -> Option<usize>
     requires { IsTrue unclosed.old → close_len bytes.now ≡ None }
     ensures len { result ≡ close_len bytes.now }
@@ -52,15 +52,15 @@ fn block_len(bytes: &[u8], unclosed: &mut bool) -> Option<usize>
     len
 }
 
-/// How many bytes the comment at the front takes. `unclosed` says that no `/*` here closes.
+/// How many bytes the comment at the start takes. `unclosed` says that no `/*` here is closed.
 pub(crate) fn comment_len(bytes: &[u8], unclosed: &mut bool) -> Option<usize>
     requires { IsTrue unclosed.old → NeverCloses bytes.now }
     ensures len { result ≡ comment_len bytes.now }
     ensures in_range { IfSome result (λ len. (0 < len) × (len ≤ length bytes.now)) }
     ensures unclosed { IsTrue unclosed.new → NeverCloses bytes.now }
 {
-    let (first, behind) = bytes.split_first()?;
-    let (second, rest) = behind.split_first()?;
+    let (first, others) = bytes.split_first()?;
+    let (second, rest) = others.split_first()?;
     if *first != b'/' {
         return None;
     }

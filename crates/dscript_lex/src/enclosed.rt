@@ -1,26 +1,26 @@
-//! What stands between the delimiters of a string, of a template and of its parts.
+//! The values between the delimiters of strings, of templates and of their parts.
 
 ghost use Rattle.std.specs.Prelude.{◌≡◌, ◌≤◌, length, IfOk, IfSome};
 ghost use Rattle.dscript_lex.specs.Bytes.{escape_of};
-ghost use Rattle.dscript_lex.specs.Fronts.{step_of, reach, Means};
+ghost use Rattle.dscript_lex.specs.Scanning.{step_of, reach, Means};
 
 use crate::bytes::is_escaped_as_itself;
 use bx_tree::Text;
 use std::alloc::{AllocError, Global};
 
-/// What stands at one place between delimiters, and how many bytes it takes.
+/// What comes next between delimiters, and how many bytes it takes.
 #[derive(Clone, Copy)]
 pub(crate) enum Step {
     /// A byte of the value, plain or escaped.
     Byte(u8, usize),
     /// The closing delimiter; whether it opens a hole.
     End(bool, usize),
-    /// Nothing that may stand there.
+    /// Nothing that is allowed there.
     Bad,
 }
 
-/// What stands behind an opening delimiter, whether a hole ends it, and how many bytes it takes, the
-/// closing delimiter among them.
+/// The value after an opening delimiter, whether a hole ends it, and how many bytes it takes with its
+/// closing delimiter.
 #[derive(Drop)]
 pub(crate) struct Reach {
     pub value: Text,
@@ -28,7 +28,7 @@ pub(crate) struct Reach {
     pub len: usize,
 }
 
-/// What a backslash and this byte stand for, before the rest.
+/// The byte that a backslash and this byte spell before the rest.
 fn escape_of(byte: u8, rest: &[u8]) -> Option<u8>
     ensures { result ≡ escape_of byte rest.now }
 {
@@ -47,18 +47,18 @@ fn escape_of(byte: u8, rest: &[u8]) -> Option<u8>
     }
 }
 
-/// What stands at the front of these bytes.
-#[tactic(auto, unfolding(crate::specs::Fronts::step_of))]
+/// What these bytes begin with.
+#[tactic(auto, unfolding(crate::specs::Scanning::step_of))]
 fn step_of(bytes: &[u8], delimiter: u8) -> Step
     ensures { result ≡ step_of delimiter bytes.now }
 {
-    let Some((first, behind)) = bytes.split_first() else {
+    let Some((first, others)) = bytes.split_first() else {
         return Step::Bad;
     };
     if *first == delimiter {
         return Step::End(false, 1);
     }
-    let Some((second, rest)) = behind.split_first() else {
+    let Some((second, rest)) = others.split_first() else {
         return Step::Bad;
     };
     if *first == b'\\' {
@@ -75,14 +75,14 @@ fn step_of(bytes: &[u8], delimiter: u8) -> Step
     }
 }
 
-/// The same, with what it says of how far the bytes reach.
+/// What these bytes begin with, seen as the first step of the value that they begin.
 fn next_step(bytes: &[u8], delimiter: u8) -> Step
     ensures { Means delimiter bytes.now result (reach delimiter bytes.now) }
 {
     step_of(bytes, delimiter)
 }
 
-/// What the bytes behind an opening delimiter stand for, and how far they reach.
+/// The value after an opening delimiter, if a closing one ends it.
 pub(crate) fn enclosed(
     alloc: Global,
     bytes: &[u8],

@@ -1,4 +1,4 @@
-//! Why a text could not be cut into tokens.
+//! Why a text has no tokens.
 
 ghost use Rattle.std.specs.Prelude.{◌≡◌};
 ghost use Rattle.dscript_lex.specs.declared.fault.LexFault.TheVariants.{Memory};
@@ -8,9 +8,11 @@ use std::alloc::{AllocError, AllocFailed};
 /// Why there are no tokens.
 #[derive(Clone, Copy, Debug, PartialEq, Eq)]
 pub enum LexFault {
-    /// The bytes are the text of no list of tokens.
-    Lex,
-    /// Memory ran out.
+    /// No blank, comment or token begins at byte `at`, or the text ends there inside a template's hole.
+    /// A string or a template that is broken begins at its delimiter, a later part of a template at its
+    /// `}`. Bytes are counted from 0, the byte order mark among them.
+    Lex { at: u32 },
+    /// Out of memory.
     Memory,
 }
 

@@ -1,14 +1,18 @@
+//! Cutting a text into lexemes.
+
 ghost use Rattle.std.specs.Prelude.{◌≡◌, ◌≤◌, ◌++◌, length, MatchResult, OnOk};
 ghost use Rattle.dscript_lex.specs.Tokens.{mark_len, token_of, AreTokens, Refuses};
 
 use crate::brackets::{follow, has_no_hole, in_hole};
 use crate::fault::LexFault;
-use crate::fronts::front_of;
-use crate::piece::Sense;
+use crate::lexeme::LexemeKind;
+use crate::limits::MAX_TEXT_BYTES;
+use crate::punctuator_texts::PunctuatorTexts;
+use crate::scanner::scan;
 use crate::token::Token;
 use std::alloc::{AllocError, Global};
 
-/// How many bytes the mark takes with which a text may begin.
+/// How many bytes the byte order mark takes with which a text may begin.
 fn mark_len(bytes: &[u8]) -> usize
     ensures len { result ≡ mark_len bytes.now }
     ensures in_range { result ≤ length bytes.now }
@@ -20,18 +24,18 @@ fn mark_len(bytes: &[u8]) -> usize
     }
 }
 
-/// Adds the token that a piece spells, if it spells one.
+/// Adds the token that a lexeme spells, if it spells one.
 fn push_token(
     tokens: &mut Vec<Token>,
-    sense: Sense,
+    kind: LexemeKind,
     start: usize,
     end: usize,
 ) -> Result<(), AllocError>
-    requires start { start ≤ 16777216 }
-    requires end { end ≤ 16777216 }
-    ensures { OnOk result (tokens.new.items ≡ tokens.old.items ++ token_of start end sense) }
+    requires start { start ≤ MAX_TEXT_BYTES }
+    requires end { end ≤ MAX_TEXT_BYTES }
+    ensures { OnOk result (tokens.new.items ≡ tokens.old.items ++ token_of start end kind) }
 {
-    if let Sense::Spelled(kind) = sense {
+    if let LexemeKind::Spelled(kind) = kind {
         tokens.push(Token {
             kind,
             start: start as u32,
@@ -42,31 +46,30 @@ fn push_token(
 }
 
 /// The tokens of a text, in order. docs/FORMATS.md says how tokens are spelled.
-///
-/// `Lex` says that the bytes are the text of no list of tokens.
 pub fn lex(alloc: Global, bytes: &[u8]) -> Result<Vec<Token>, LexFault>
-    requires { length bytes.now ≤ 16777216 }
+    requires { length bytes.now ≤ MAX_TEXT_BYTES }
     ensures { MatchResult result
         (λ tokens. AreTokens bytes.now tokens.items)
         (λ fault. Refuses fault bytes.now) }
 {
     let mut tokens = Vec::new(alloc);
     let mut brackets = Vec::new(alloc);
+    let mut texts = PunctuatorTexts::new(alloc)?;
     let mut unclosed = false;
     let mut at = mark_len(bytes);
-    'pieces: while at < bytes.len() {
-        let rest = &bytes[at..];
-        let Some(front) = front_of(alloc, in_hole(&brackets), rest, &mut unclosed)? else {
-            return Err(LexFault::Lex);
+    'lexemes: while at < bytes.len() {
+        let is_in_hole = in_hole(&brackets);
+        let Some(scanned) = scan(alloc, is_in_hole, &bytes[at..], &mut unclosed, &mut texts)? else {
+            return Err(LexFault::Lex { at: at as u32 });
         };
-        let end = at + front.len;
-        follow(&mut brackets, &front.sense)?;
-        push_token(&mut tokens, front.sense, at, end)?;
+        let end = at + scanned.len;
+        follow(&mut brackets, &scanned.kind)?;
+        push_token(&mut tokens, scanned.kind, at, end)?;
         at = end;
     }
     if has_no_hole(brackets) {
         Ok(tokens)
     } else {
-        Err(LexFault::Lex)
+        Err(LexFault::Lex { at: at as u32 })
     }
 }

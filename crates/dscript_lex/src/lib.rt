@@ -1,8 +1,9 @@
 //! The tokens of DScript texts.
 //!
-//! A text of bytes is cut into blanks, comments and tokens. This crate stands on `bx_tree` for its
-//! shared texts. It carries the promise that a text is read as exactly the tokens that the lexical
-//! grammar gives, and is refused exactly where it gives none.
+//! A text is cut into lexemes: blanks, comments and the spellings of tokens. This crate stands on
+//! `bx_tree` for its shared texts. It carries the promise that `lex` finds exactly the tokens that the
+//! lexical grammar gives a text, and refuses exactly a text that has none, at the first byte at which
+//! no lexeme begins.
 #![tactic(auto)]
 
 mod brackets;
@@ -10,21 +11,24 @@ mod bytes;
 mod comments;
 mod enclosed;
 mod fault;
-mod fronts;
 mod laws;
+mod lexeme;
 mod lexing;
+mod limits;
 mod numbers;
 mod opening;
-mod piece;
-mod signs;
+mod punctuator_texts;
+mod punctuators;
+mod scanner;
 mod token;
-mod words;
 
 pub use fault::LexFault;
-pub use laws::{one_reading, places, respelled, same_anywhere, spaced_tokens};
+pub use laws::{
+    failing_text_has_no_tokens, one_place, one_reading, place_in_text, places, tokens_or_failure,
+};
 pub use lexing::lex;
+pub use limits::{MAX_NUMBER, MAX_TEXT_BYTES};
 pub use token::{Token, TokenKind};
-pub use words::is_reserved;
 
 #[cfg(test)]
 mod tests;

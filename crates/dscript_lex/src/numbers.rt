@@ -3,14 +3,12 @@
 ghost use Rattle.std.specs.Prelude.{◌≡◌, ◌≤◌, Some};
 ghost use Rattle.std.specs.List.{list_all};
 ghost use Rattle.std.specs.Char.{is_ascii_digit, is_ascii_hexdigit};
-ghost use Rattle.dscript_lex.specs.Pieces.{value_in, at_most_max, hexadecimal_of, number_of};
+ghost use Rattle.dscript_lex.specs.Lexemes.{value_in, at_most_max, hexadecimal_of, number_of};
 
 use crate::bytes::digit_value;
+use crate::limits::MAX_NUMBER;
 
-/// The largest number.
-const LARGEST: u64 = 2147483647;
-
-/// The number that the digits of a base stand for, if it is not too large.
+/// The value of the digits in a base, if it is at most `MAX_NUMBER`.
 fn value_in(base: u64, digits: &[u8]) -> Option<u64>
     requires least { 1 ≤ base }
     requires most { base ≤ 16 }
@@ -19,7 +17,7 @@ fn value_in(base: u64, digits: &[u8]) -> Option<u64>
     let mut value = 0;
     'digits: for digit in digits {
         value = base * value + u64::from(digit_value(*digit));
-        if value > LARGEST {
+        if value > MAX_NUMBER {
             return None;
         }
     }
@@ -38,7 +36,7 @@ fn are_hexadecimal(bytes: &[u8]) -> bool
     bytes.iter().all(|byte| byte.is_ascii_hexdigit())
 }
 
-/// The number that the digits behind `0x` stand for, if they are digits, and not too many.
+/// The value of the digits after `0x`, if they are digits, and it is at most `MAX_NUMBER`.
 fn hexadecimal_of(digits: &[u8]) -> Option<u64>
     ensures { result ≡ at_most_max (hexadecimal_of digits.now) }
 {
@@ -48,7 +46,7 @@ fn hexadecimal_of(digits: &[u8]) -> Option<u64>
     value_in(16, digits)
 }
 
-/// The number that a text spells, if it is one.
+/// The number that a text spells, if it spells one.
 pub(crate) fn number_of(text: &[u8]) -> Option<u64>
     ensures { result ≡ number_of text.now }
 {

@@ -1,9 +1,9 @@
 ghost use Rattle.std.specs.Prelude.{◌≡◌};
-ghost use Rattle.dscript_lex.specs.Pieces.{opening_of};
+ghost use Rattle.dscript_lex.specs.Lexemes.{opening_of};
 
 use crate::bytes::{is_blank, is_word_start};
 
-/// Which piece a byte begins.
+/// Which lexeme a byte begins.
 #[derive(Clone, Copy)]
 pub enum Opening {
     /// A blank, of one byte.
@@ -16,11 +16,11 @@ pub enum Opening {
     Template,
     /// A further part of a template.
     Part,
-    /// A comment or a sign, or nothing.
-    Sign,
+    /// A comment, a punctuator, or nothing.
+    Other,
 }
 
-/// Which piece the byte begins.
+/// Which lexeme the byte begins, inside a template's hole or not.
 pub(crate) fn opening_of(in_hole: bool, byte: u8) -> Opening
     ensures { result ≡ opening_of in_hole byte }
 {
@@ -37,6 +37,6 @@ pub(crate) fn opening_of(in_hole: bool, byte: u8) -> Opening
     } else if in_hole && byte == b'}' {
         Opening::Part
     } else {
-        Opening::Sign
+        Opening::Other
     }
 }

@@ -1,4 +1,5 @@
 use super::*;
+use crate::limits::MAX_TEXT_BYTES;
 use std::alloc::{AllocError, Global};
 use std::test::Fail;
 
@@ -33,10 +34,10 @@ fn push_kind(alloc: Global, out: &mut String, kind: &TokenKind) -> Result<(), Al
     }
 }
 
-/// The kinds of the tokens of a text, or `Lex `.
+/// The kinds of the tokens of a text, or the place at which it fails.
 fn kinds(alloc: Global, text: &[u8]) -> Result<String, LexFault> {
     let mut out = String::new(alloc);
-    if text.len() > 1000 {
+    if text.len() > MAX_TEXT_BYTES {
         return Ok(out);
     }
     match lex(alloc, text) {
@@ -46,8 +47,9 @@ fn kinds(alloc: Global, text: &[u8]) -> Result<String, LexFault> {
             }
             Ok(out)
         }
-        Err(LexFault::Lex) => {
-            out.push_str("Lex ")?;
+        Err(LexFault::Lex { at }) => {
+            let place = format!(in alloc; "Lex {at} ")?;
+            out.push_str(&place)?;
             Ok(out)
         }
         Err(LexFault::Memory) => Err(LexFault::Memory),
@@ -57,7 +59,7 @@ fn kinds(alloc: Global, text: &[u8]) -> Result<String, LexFault> {
 /// The kinds and places of the tokens of a text.
 fn places_of(alloc: Global, text: &[u8]) -> Result<String, LexFault> {
     let mut out = String::new(alloc);
-    if text.len() > 1000 {
+    if text.len() > MAX_TEXT_BYTES {
         return Ok(out);
     }
     let tokens = lex(alloc, text)?;
@@ -71,7 +73,7 @@ fn places_of(alloc: Global, text: &[u8]) -> Result<String, LexFault> {
     Ok(out)
 }
 
-// Each text stands before the tokens that it has, two lines for each.
+// Two lines for each text: the text, and its tokens or the place at which it fails.
 const CASES: &str = r##"const x = 1;
 W<const> W<x> P<=> N<1> P<;> 
 a
@@ -81,9 +83,9 @@ W<_a1$> W<$> W<_> W<A9z>
 0
 N<0> 
 00
-Lex 
+Lex 0 
 01
-Lex 
+Lex 0 
 7
 N<7> 
 10 42
@@ -91,15 +93,15 @@ N<10> N<42>
 2147483647
 N<2147483647> 
 2147483648
-Lex 
+Lex 0 
 9999999999999999999999999
-Lex 
+Lex 0 
 1a
-Lex 
+Lex 0 
 1_
-Lex 
+Lex 0 
 1$
-Lex 
+Lex 0 
 1.5
 N<1> P<.> N<5> 
 1..2
@@ -107,19 +109,19 @@ N<1> P<.> P<.> N<2>
 1...2
 N<1> P<...> N<2> 
 0x
-Lex 
+Lex 0 
 0xg
-Lex 
+Lex 0 
 0x1g
-Lex 
+Lex 0 
 0X1
-Lex 
+Lex 0 
 0xfF09
 N<65289> 
 0x00000000000007fffffff
 N<2147483647> 
 0x80000000
-Lex 
+Lex 0 
 1-2
 N<1> P<-> N<2> 
 "a"
@@ -131,9 +133,9 @@ S<a> W<b>
 ""''
 S<> S<> 
 "a
-Lex 
+Lex 0 
 'a"
-Lex 
+Lex 0 
 "\n\r\t\b\f\v\0"
 S<[0a][0d][09][08][0c][0b][00]> 
 "\\\"\'\`\$\a\ \~"
@@ -141,25 +143,25 @@ S<\"'`$a ~>
 "\0a"
 S<[00]a> 
 "\01"
-Lex 
+Lex 0 
 "\1"
-Lex 
+Lex 0 
 "\9"
-Lex 
+Lex 0 
 "\x41"
-Lex 
+Lex 0 
 "\u0041"
-Lex 
+Lex 0 
 "\
-Lex 
+Lex 0 
 "\"
-Lex 
+Lex 0 
 `a`
 Whole<a> 
 ``
 Whole<> 
 `a
-Lex 
+Lex 0 
 `$`
 Whole<$> 
 `$$`
@@ -171,7 +173,7 @@ Whole<${a}>
 `a\`b`
 Whole<a`b> 
 `${`
-Lex 
+Lex 3 
 `${}`
 Head<> Tail<> 
 `$${1}`
@@ -189,13 +191,13 @@ Head<> S<}> Tail<>
 `${/*}*/1}`
 Head<> N<1> Tail<> 
 `${1
-Lex 
+Lex 4 
 `${1}
-Lex 
+Lex 4 
 `${1}\1`
-Lex 
+Lex 4 
 `${1}b${2}
-Lex 
+Lex 9 
 {`${1}`}
 P<{> Head<> N<1> Tail<> P<}> 
 {{
@@ -269,23 +271,35 @@ P<--> P<>>
 @@@@
 P<@@> P<@@> 
 @
-Lex 
+Lex 0 
 @@@
-Lex 
+Lex 2 
 #
-Lex 
+Lex 0 
 \
-Lex 
+Lex 0 
 a"b"
 W<a> S<b> 
 1"b"
 N<1> S<b> 
 "#
-Lex 
+Lex 0 
+a #
+Lex 2 
+const x = "a
+Lex 10 
+{`${
+Lex 4 
+`${{}
+Lex 5 
+`${1 #`
+Lex 5 
+`${"a}`
+Lex 3 
 "##;
 
 #[test]
-fn texts_have_their_tokens_or_none(rt: HostRuntime) -> Result<(), Fail> {
+fn texts_have_tokens_or_fail_at_a_place(rt: HostRuntime) -> Result<(), Fail> {
     let mut lines = CASES.lines();
     let mut count = 0u64;
     while let Some(text) = lines.next() {
@@ -296,34 +310,33 @@ fn texts_have_their_tokens_or_none(rt: HostRuntime) -> Result<(), Fail> {
         assert_eq!(rt; found.as_str(), wanted, "of {text}");
         count = count.wrapping_add(1);
     }
-    assert_eq!(rt; count, 105);
+    assert_eq!(rt; count, 111);
     Ok(())
 }
 
 #[test]
-fn control_bytes_stand_in_strings_templates_and_comments_alone(
-    rt: HostRuntime,
-) -> Result<(), Fail> {
-    let cases: [(&[u8], &str); 16] = [
+fn control_bytes_are_in_strings_templates_and_comments_alone(rt: HostRuntime) -> Result<(), Fail> {
+    let cases: [(&[u8], &str); 17] = [
         (b"a\tb\r\nc", "W<a> W<b> W<c> "),
-        (b"\"a\nb\"", "Lex "),
+        (b"\"a\nb\"", "Lex 0 "),
         (
             b"\"a\r\tb\x01\x7f\x80\xff\"",
             "S<a[0d][09]b[01][7f][80][ff]> ",
         ),
-        (b"'\\\n'", "Lex "),
-        (b"'\\\x7f'", "Lex "),
-        (b"'\\\x80'", "Lex "),
+        (b"'\\\n'", "Lex 0 "),
+        (b"'\\\x7f'", "Lex 0 "),
+        (b"'\\\x80'", "Lex 0 "),
         (b"`a\nb\x00\xc3\xa4`", "Whole<a[0a]b[00][c3][a4]> "),
         (b"//a\rb\x80\nc", "W<c> "),
         (b"/*\n\x00\xff*/c", "W<c> "),
-        (b"\x0b", "Lex "),
-        (b"\x0c", "Lex "),
-        (b"a\x7f", "Lex "),
-        (b"a\x80", "Lex "),
+        (b"\x0b", "Lex 0 "),
+        (b"\x0c", "Lex 0 "),
+        (b"a\x7f", "Lex 1 "),
+        (b"a\x80", "Lex 1 "),
         (b"\xef\xbb\xbfa", "W<a> "),
         (b"\xef\xbb\xbf", ""),
-        (b"a\xef\xbb\xbf", "Lex "),
+        (b"a\xef\xbb\xbf", "Lex 1 "),
+        (b"\xef\xbb\xbf#", "Lex 3 "),
     ];
     for (text, wanted) in cases {
         let found = kinds(rt.alloc(), text)?;

@@ -1,27 +1,29 @@
+//! Tokens.
+
 use bx_tree::Text;
 
-/// What a token is, and what it stands for.
+/// What a token is, and its value.
 #[derive(Drop)]
 pub enum TokenKind {
     /// A word, reserved or not, by its spelling.
     Word(Text),
     /// A number, by its value.
     Number(i32),
-    /// A string, by the bytes that it stands for.
+    /// A string, by its value.
     Str(Text),
-    /// A template without holes, by the bytes that it stands for.
+    /// A template without holes, by its value.
     Whole(Text),
-    /// What stands in a template before its first hole.
+    /// The part of a template before its first hole, by its value.
     Head(Text),
-    /// What stands in a template between two holes.
+    /// The part of a template between two holes, by its value.
     Middle(Text),
-    /// What stands in a template behind its last hole.
+    /// The part of a template after its last hole, by its value.
     Tail(Text),
-    /// A bracket, an operator or another sign, by its spelling.
+    /// A bracket, an operator or another punctuator, by its spelling.
     Punct(Text),
 }
 
-/// A token, and where its spelling stands in the text: from byte `start` to before byte `end`.
+/// A token, and the place of its spelling in the text: from byte `start` to before byte `end`.
 #[derive(Drop)]
 pub struct Token {
     pub kind: TokenKind,

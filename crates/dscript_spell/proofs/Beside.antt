@@ -7,18 +7,18 @@ use Rattle.std.proofs.lemmas.Bool.{or_left, or_parts, and_parts, not-true, both_
 use Rattle.dscript_lex.specs.declared.token.TokenKind.{TokenKind}
 use Rattle.dscript_lex.specs.declared.token.TokenKind.TheVariants.{Word, Number, Str, Whole, Head, Middle, Tail, Punct}
 use Rattle.dscript_lex.specs.Bytes.{is_word_start, is_word_byte, begins_with}
-use Rattle.dscript_lex.specs.Signs.{is_sign}
+use Rattle.dscript_lex.specs.Punctuators.{is_punctuator}
 use Rattle.dscript_spell.specs.declared.laid.Gap.{Gap}
 use Rattle.dscript_spell.specs.declared.laid.Gap.TheVariants as gaps
 use Rattle.dscript_spell.specs.declared.side.Side.{Side}
 use Rattle.dscript_spell.specs.declared.side.Side.TheVariants as sides
-use Rattle.dscript_spell.specs.Sides.{side_of, sign_side, run_together, joins}
+use Rattle.dscript_spell.specs.Sides.{side_of, punctuator_side, run_together, joins}
 use Rattle.dscript_spell.specs.Writable.{is_word, IsWritable}
 use Rattle.dscript_spell.specs.Spellings.{spelling}
 use Rattle.dscript_spell.specs.Layout.{blanks}
-use Rattle.dscript_spell.proofs.Apart.{stands_apart, apart_is_no_more, sign_begins}
+use Rattle.dscript_spell.proofs.Apart.{keeps_apart, apart_is_no_more, punctuator_begins}
 use Rattle.dscript_spell.proofs.Decimals.{number_begins}
-use Rattle.dscript_spell.proofs.Chosen.{no_empty_sign, is_a_sign}
+use Rattle.dscript_spell.proofs.Chosen.{no_empty_punctuator, is_a_punctuator}
 
 -- nothing of these bytes joins such a token
 abbrev pub IsApart : Side → List ℕ → Type 0
@@ -29,28 +29,28 @@ nothing_joins [] = refl
 nothing_joins (b ∷ bs) = refl
 
 -- a blank, a quote, a backquote and a `}` join nothing
-byte_apart : (before : Side) (b : ℕ) → is_word_byte b ≡ false → stands_apart b ≡ true → joins before b ≡ false
+byte_apart : (before : Side) (b : ℕ) → is_word_byte b ≡ false → keeps_apart b ≡ true → joins before b ≡ false
 byte_apart sides.Word b no_word apart = no_word
-byte_apart (sides.Sign first) b no_word apart = apart_is_no_more first b apart
+byte_apart (sides.Punctuator first) b no_word apart = apart_is_no_more first b apart
 byte_apart sides.Other b no_word apart = refl
 
-word_apart : (first : ℕ) (text rest : List ℕ) → begins_with is_word_byte text ≡ true → IsApart (sides.Sign first) (text ++ rest)
+word_apart : (first : ℕ) (text rest : List ℕ) → begins_with is_word_byte text ≡ true → IsApart (sides.Punctuator first) (text ++ rest)
 word_apart first [] rest begins = cc
 word_apart first (b ∷ bs) rest begins = apart_is_no_more first b (or_left _ _ (or_left _ _ (or_left _ _ (or_left _ _ begins))))
 
 word_beside : (before : Side) (text rest : List ℕ) → run_together before sides.Word ≡ false → begins_with is_word_byte text ≡ true → IsApart before (text ++ rest)
 word_beside sides.Word text rest not_together begins = cc
-word_beside (sides.Sign first) text rest not_together begins = word_apart first text rest begins
+word_beside (sides.Punctuator first) text rest not_together begins = word_apart first text rest begins
 word_beside sides.Other text rest not_together begins = nothing_joins (text ++ rest)
 
-no_word_byte : (b : ℕ) (bs : List ℕ) → is_sign (b ∷ bs) ≡ true → is_word_byte b ≡ false
-no_word_byte b bs sign = (or_parts _ _ (or_parts _ _ (or_parts _ _ (not-true _ (sign_begins b bs sign))).0).0).1
+no_word_byte : (b : ℕ) (bs : List ℕ) → is_punctuator (b ∷ bs) ≡ true → is_word_byte b ≡ false
+no_word_byte b bs punctuator = (or_parts _ _ (or_parts _ _ (or_parts _ _ (not-true _ (punctuator_begins b bs punctuator))).0).0).1
 
-sign_beside : (before : Side) (sign rest : List ℕ) → run_together before (sign_side sign) ≡ false → is_sign sign ≡ true → IsApart before (sign ++ rest)
-sign_beside before [] rest not_together sign = absurd (both_ways (is_sign []) no_empty_sign sign)
-sign_beside sides.Word (b ∷ bs) rest not_together sign = no_word_byte b bs sign
-sign_beside (sides.Sign first) (b ∷ bs) rest not_together sign = not_together
-sign_beside sides.Other (b ∷ bs) rest not_together sign = refl
+punctuator_beside : (before : Side) (punctuator rest : List ℕ) → run_together before (punctuator_side punctuator) ≡ false → is_punctuator punctuator ≡ true → IsApart before (punctuator ++ rest)
+punctuator_beside before [] rest not_together punctuator = absurd (both_ways (is_punctuator []) no_empty_punctuator punctuator)
+punctuator_beside sides.Word (b ∷ bs) rest not_together punctuator = no_word_byte b bs punctuator
+punctuator_beside (sides.Punctuator first) (b ∷ bs) rest not_together punctuator = not_together
+punctuator_beside sides.Other (b ∷ bs) rest not_together punctuator = refl
 
 word_begins : (word : List ℕ) → is_word word ≡ true → begins_with is_word_byte word ≡ true
 word_begins [] is = cc
@@ -66,7 +66,7 @@ beside hole (Whole value) is before not_together rest = byte_apart before 0x60 r
 beside hole (Head value) is before not_together rest = byte_apart before 0x60 refl refl
 beside hole (Middle value) is before not_together rest = byte_apart before 0x7d refl refl
 beside hole (Tail value) is before not_together rest = byte_apart before 0x7d refl refl
-beside hole (Punct sign) is before not_together rest = sign_beside before sign rest not_together (is_a_sign hole sign is)
+beside hole (Punct punctuator) is before not_together rest = punctuator_beside before punctuator rest not_together (is_a_punctuator hole punctuator is)
 
 -- the gap keeps them apart where they would run together
 gap_beside : (gap : Gap) (before : Side) (together : Bool) (text : List ℕ) → (together ≡ false → IsApart before text) → IsApart before (blanks gap together ++ text)

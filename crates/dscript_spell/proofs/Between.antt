@@ -1,9 +1,9 @@
--- What stands between delimiters is read as the value that was written.
+-- The bytes between delimiters have the value that was written.
 use Rattle.std.proofs.Common.{◌≡◌, ℕ, Bool, true, false, cond, not, ◌&&◌, ◌||◌, eqb, List, [], ◌∷◌, ◌++◌, Option, Some, None, refl, sym, ap, ◌∙◌, ⊎_elim}
 use Rattle.std.proofs.lemmas.Bool.{cond-false, or_cases, or_parts, and_parts, eqb-true}
 use Rattle.std.proofs.lemmas.List.{append_assoc}
 use Rattle.dscript_lex.specs.Bytes.{begins_with, escape_of}
-use Rattle.dscript_lex.specs.Pieces.{Enclosed, enclosed, with_byte}
+use Rattle.dscript_lex.specs.Lexemes.{Enclosed, enclosed, with_byte}
 use Rattle.dscript_spell.specs.Spellings.{escaped, string_byte, in_string, ends_a_part, part_byte, in_part}
 
 abbrev pub read_as : List ℕ → Bool → Option Enclosed
@@ -26,7 +26,7 @@ escaped_byte : (d c x : ℕ) (s v : List ℕ) (h : Bool) → eqb 0x5c d ≡ fals
 unfolding enclosed
 escaped_byte d c x s v h not_end escapes is = cond-false (eqb 0x5c d) None _ not_end ∙ (λ i. with_byte (escapes i) (is i))
 
--- an escaped byte that stands for itself
+-- an escaped byte that spells itself
 itself : (b c : ℕ) (s : List ℕ) → eqb b c ≡ true → escape_of c s ≡ Some c → escape_of b s ≡ Some b
 itself b c s same is = let e : b ≡ c = eqb-true b c same in ap (λ x. escape_of x s) e ∙ is ∙ ap Some (sym e)
 

@@ -8,16 +8,17 @@ use Rattle.std.proofs.lemmas.Bool.Decides.{nat_tests}
 use Rattle.std.proofs.lemmas.Fmt.{decimal_by_steps, decimal_digit}
 use Rattle.std.proofs.lemmas.List.Folds.{list_all-append}
 use Rattle.std.proofs.lemmas.List.Sums.{fold_push}
+use Rattle.dscript_lex.specs.declared.limits.TheConstants.{MAX_NUMBER}
 use Rattle.dscript_lex.specs.declared.token.TokenKind.TheVariants.{Number}
-use Rattle.dscript_lex.specs.declared.piece.Sense.TheVariants.{Spelled}
+use Rattle.dscript_lex.specs.declared.lexeme.LexemeKind.TheVariants.{Spelled}
 use Rattle.dscript_lex.specs.declared.opening.Opening.TheVariants as openings
 use Rattle.dscript_lex.specs.Bytes.{is_blank, is_word_start, is_word_byte, digit_value, begins_with}
-use Rattle.dscript_lex.specs.Pieces.{opening_of, value_in, at_most_max, number_of, number_sense, sense_as, sense_of}
+use Rattle.dscript_lex.specs.Lexemes.{opening_of, value_in, at_most_max, number_of, number_lexeme, lexeme_as, lexeme_of}
 
 abbrev is_zero : ℕ → Bool
 is_zero d = eqb d 0x30
 
--- these digits stand for that number, and begin with no zero unless it is zero
+-- these digits have that value, and begin with no zero unless it is zero
 pub record AreDigits (n : ℕ) (ds : List ℕ) : Type 0 where
   pub digits : list_all is_ascii_digit ds ≡ true
   pub value : value_in 10 ds ≡ n
@@ -71,31 +72,31 @@ no_word_start d digit = grind (arith, nat_tests)
 opens_number : (hole : Bool) (d : ℕ) → is_ascii_digit d ≡ true → opening_of hole d ≡ openings.Number
 opens_number hole d digit = cond-false (is_blank d) _ _ (no_blank d digit) ∙ cond-false (is_word_start d) _ _ (no_word_start d digit) ∙ cond-true (is_ascii_digit d) _ _ digit
 
-digits_number : (n : ℕ) (ds : List ℕ) → AreDigits n ds → 0 < n → n ≤ 2147483647 → number_of ds ≡ Some n
+digits_number : (n : ℕ) (ds : List ℕ) → AreDigits n ds → 0 < n → n ≤ MAX_NUMBER → number_of ds ≡ Some n
 digits_number n [] are some le = absurd (omega (arith, are.some))
 digits_number n (d ∷ ds) are some le =
     ap at_most_max (cond-false (is_zero d) _ _ (are.first some) ∙ cond-true (list_all is_ascii_digit (d ∷ ds)) _ None are.digits ∙ ap Some are.value)
-    ∙ cond-true (leb n 2147483647) (Some n) None (le-leb n 2147483647 le)
+    ∙ cond-true (leb n MAX_NUMBER) (Some n) None (le-leb n MAX_NUMBER le)
 
-digits_sense : (hole : Bool) (n : ℕ) (ds : List ℕ) → AreDigits n ds → number_of ds ≡ Some n → sense_of hole ds ≡ Some (Spelled (Number (pos n)))
-unfolding sense_of sense_as
-digits_sense hole n [] are is = absurd (omega (arith, are.some))
-digits_sense hole n (d ∷ ds) are is =
-    ap (λ o. sense_as o d ds) (opens_number hole d (and_parts (is_ascii_digit d) (list_all is_ascii_digit ds) are.digits).0) ∙ ap number_sense is
+digits_lexeme : (hole : Bool) (n : ℕ) (ds : List ℕ) → AreDigits n ds → number_of ds ≡ Some n → lexeme_of hole ds ≡ Some (Spelled (Number (pos n)))
+unfolding lexeme_of lexeme_as
+digits_lexeme hole n [] are is = absurd (omega (arith, are.some))
+digits_lexeme hole n (d ∷ ds) are is =
+    ap (λ o. lexeme_as o d ds) (opens_number hole d (and_parts (is_ascii_digit d) (list_all is_ascii_digit ds) are.digits).0) ∙ ap number_lexeme is
 
 zero_number : (n : ℕ) → n ≡ 0 → number_of (decimal n) ≡ Some n
 zero_number n e = ap (λ m. number_of (decimal m)) e ∙ ap number_of (decimal_digit 0 (omega arith)) ∙ ap Some (sym e)
 
-decimal_number : (n : ℕ) → n ≤ 2147483647 → number_of (decimal n) ≡ Some n
+decimal_number : (n : ℕ) → n ≤ MAX_NUMBER → number_of (decimal n) ≡ Some n
 decimal_number zero le = zero_number zero refl
 decimal_number (suc n) le = digits_number (suc n) (decimal (suc n)) (decimal_digits (suc n) (omega arith)) (omega arith) le
 
-pub number_is : (hole : Bool) (n : ℕ) → n ≤ 2147483647 → sense_of hole (decimal n) ≡ Some (Spelled (Number (pos n)))
-number_is hole n le = digits_sense hole n (decimal n) (decimal_digits n (omega arith)) (decimal_number n le)
+pub number_is : (hole : Bool) (n : ℕ) → n ≤ MAX_NUMBER → lexeme_of hole (decimal n) ≡ Some (Spelled (Number (pos n)))
+number_is hole n le = digits_lexeme hole n (decimal n) (decimal_digits n (omega arith)) (decimal_number n le)
 
 begins_word : (ds : List ℕ) → 0 < length ds → list_all is_ascii_digit ds ≡ true → begins_with is_word_byte ds ≡ true
 begins_word [] some digits = absurd (omega arith)
 begins_word (d ∷ ds) some digits = or_right (is_word_start d) (is_ascii_digit d) (and_parts (is_ascii_digit d) (list_all is_ascii_digit ds) digits).0
 
-pub number_begins : (n : ℕ) → n ≤ 2147483647 → begins_with is_word_byte (decimal n) ≡ true
+pub number_begins : (n : ℕ) → n ≤ MAX_NUMBER → begins_with is_word_byte (decimal n) ≡ true
 number_begins n le = let are = decimal_digits n (omega arith) in begins_word (decimal n) are.some are.digits

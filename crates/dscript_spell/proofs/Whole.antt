@@ -4,22 +4,23 @@ use lib.Pointwise.{pointwise}
 use Rattle.std.specs.Prelude.{map, replicate}
 use Rattle.std.specs.List.{list_all, flat_map}
 use Rattle.std.proofs.lemmas.Bool.{cond-false, and_parts, and_left, eqb-true}
+use Rattle.std.proofs.lemmas.List.{append_assoc, append-nil}
 use Rattle.dscript_lex.specs.declared.token.Token.{Token}
 use Rattle.dscript_lex.specs.declared.token.TokenKind.{TokenKind}
-use Rattle.dscript_lex.specs.declared.piece.Sense.{Sense}
-use Rattle.dscript_lex.specs.declared.piece.Sense.TheVariants.{Blank, Comment, Spelled}
+use Rattle.dscript_lex.specs.declared.lexeme.LexemeKind.{LexemeKind}
+use Rattle.dscript_lex.specs.declared.lexeme.LexemeKind.TheVariants.{Blank, Comment, Spelled}
 use Rattle.dscript_lex.specs.declared.opening.Opening.TheVariants as openings
 use Rattle.dscript_lex.specs.declared.brackets.Bracket.{Bracket}
 use Rattle.dscript_lex.specs.Bytes.{is_blank}
-use Rattle.dscript_lex.specs.Signs.{is_sign}
-use Rattle.dscript_lex.specs.Pieces.{opening_of, sense_as, sense_of}
-use Rattle.dscript_lex.specs.Tokens.{Piece, texts, IsLongest, IsCut, NoHole, behind, in_hole, token_of, tokens_of, mark_len}
+use Rattle.dscript_lex.specs.Punctuators.{is_punctuator}
+use Rattle.dscript_lex.specs.Lexemes.{opening_of, lexeme_as, lexeme_of}
+use Rattle.dscript_lex.specs.Tokens.{Lexeme, texts, IsLongest, CutTo, NoHole, brackets_after, in_hole, token_of, tokens_of, mark_len}
 use Rattle.dscript_spell.specs.declared.laid.Laid.{Laid}
 use Rattle.dscript_spell.specs.declared.laid.Gap.{Gap}
 use Rattle.dscript_spell.specs.declared.laid.Gap.TheVariants as gaps
 use Rattle.dscript_spell.specs.declared.side.Side.{Side}
 use Rattle.dscript_spell.specs.declared.side.Side.TheVariants.{Other}
-use Rattle.dscript_spell.specs.Spellable.{kinds, HasSpelling, AreSpellableBehind, AreSpellable, HasKinds}
+use Rattle.dscript_spell.specs.Spellable.{kinds, HasSpelling, AreSpellableAfter, AreSpellable, HasKinds}
 use Rattle.dscript_spell.specs.Sides.{side_of, run_together}
 use Rattle.dscript_spell.specs.Spellings.{spelling}
 use Rattle.dscript_spell.specs.Layout.{blanks, written}
@@ -28,46 +29,52 @@ use Rattle.dscript_spell.proofs.Inverting.{writable}
 use Rattle.dscript_spell.proofs.Chosen.{spelling_is}
 use Rattle.dscript_spell.proofs.Beside.{IsApart, laid_beside, end_beside}
 
--- the tokens among pieces, without their places
-abbrev kind_of : Sense → List TokenKind
-kind_of (Spelled kind) = kind ∷ []
-kind_of _ = []
+-- the tokens among lexemes, without their places
+abbrev token_kinds : LexemeKind → List TokenKind
+token_kinds (Spelled kind) = kind ∷ []
+token_kinds _ = []
 
-abbrev kinds_of : List Piece → List TokenKind
-kinds_of ps = flat_map (λ p. kind_of p.sense) ps
+abbrev kinds_of : List Lexeme → List TokenKind
+kinds_of ps = flat_map (λ p. token_kinds p.kind) ps
 
--- behind these open brackets the text is cut into pieces, and these tokens are among them
-pub record Writes (open_ones : List Bracket) (text : List ℕ) (all : List TokenKind) : Type 0 where
-  pub pieces : List Piece
-  pub cut : texts pieces ≡ text
-  pub longest : IsCut open_ones pieces
-  pub spelled : kinds_of pieces ≡ all
+-- where these brackets are open before it, the text is cut into lexemes, and these tokens are among them
+pub record Writes (brackets : List Bracket) (text : List ℕ) (all : List TokenKind) : Type 0 where
+  pub lexemes : List Lexeme
+  pub after : List Bracket
+  pub whole : texts lexemes ++ [] ≡ text
+  pub longest : CutTo brackets lexemes [] after
+  pub no_hole : NoHole after
+  pub spelled : kinds_of lexemes ≡ all
 
-write_nothing : (open_ones : List Bracket) → NoHole open_ones → Writes open_ones [] []
-write_nothing open_ones none = record { pieces = []; cut = refl; longest = none; spelled = refl }
+write_nothing : (brackets : List Bracket) → NoHole brackets → Writes brackets [] []
+write_nothing brackets none = record { lexemes = []; after = brackets; whole = refl; longest = refl; no_hole = none; spelled = refl }
 
-write_blank : (open_ones : List Bracket) (b : ℕ) (text : List ℕ) (all : List TokenKind) → is_blank b ≡ true → Writes open_ones text all → Writes open_ones (b ∷ text) all
-write_blank open_ones b text all blank writes = record {
-  pieces = record { text = b ∷ []; sense = Blank } ∷ writes.pieces;
-  cut = ap (λ t. b ∷ t) writes.cut;
-  longest = (blank_longest (in_hole open_ones) b (texts writes.pieces) blank, writes.longest);
+write_blank : (brackets : List Bracket) (b : ℕ) (text : List ℕ) (all : List TokenKind) → is_blank b ≡ true → Writes brackets text all → Writes brackets (b ∷ text) all
+write_blank brackets b text all blank writes = record {
+  lexemes = record { text = b ∷ []; kind = Blank } ∷ writes.lexemes;
+  after = writes.after;
+  whole = ap (λ t. b ∷ t) writes.whole;
+  longest = (blank_longest (in_hole brackets) b (texts writes.lexemes ++ []) blank, writes.longest);
+  no_hole = writes.no_hole;
   spelled = writes.spelled;
 }
 
-write_blanks : (open_ones : List Bracket) (bs text : List ℕ) (all : List TokenKind) → list_all is_blank bs ≡ true → Writes open_ones text all → Writes open_ones (bs ++ text) all
-write_blanks open_ones [] text all blank writes = writes
-write_blanks open_ones (b ∷ bs) text all blank writes =
+write_blanks : (brackets : List Bracket) (bs text : List ℕ) (all : List TokenKind) → list_all is_blank bs ≡ true → Writes brackets text all → Writes brackets (bs ++ text) all
+write_blanks brackets [] text all blank writes = writes
+write_blanks brackets (b ∷ bs) text all blank writes =
     let parts = and_parts (is_blank b) (list_all is_blank bs) blank in
-    write_blank open_ones b (bs ++ text) all parts.0 (write_blanks open_ones bs text all parts.1 writes)
+    write_blank brackets b (bs ++ text) all parts.0 (write_blanks brackets bs text all parts.1 writes)
 
-write_token : (open_ones : List Bracket) (kind : TokenKind) (text : List ℕ) (all : List TokenKind) → HasSpelling (in_hole open_ones) kind → IsApart (side_of kind) text → Writes (behind (Spelled kind) open_ones) text all → Writes open_ones (spelling kind ++ text) (kind ∷ all)
-write_token open_ones kind text all has apart writes =
-    let hole = in_hole open_ones in
+write_token : (brackets : List Bracket) (kind : TokenKind) (text : List ℕ) (all : List TokenKind) → HasSpelling (in_hole brackets) kind → IsApart (side_of kind) text → Writes (brackets_after (Spelled kind) brackets) text all → Writes brackets (spelling kind ++ text) (kind ∷ all)
+write_token brackets kind text all has apart writes =
+    let hole = in_hole brackets in
     let longest = token_longest hole (spelling kind) text kind (spelling_is hole kind (writable hole kind has)) apart in
     record {
-      pieces = record { text = spelling kind; sense = Spelled kind } ∷ writes.pieces;
-      cut = ap (λ t. spelling kind ++ t) writes.cut;
-      longest = (subst (λ t. IsLongest hole (spelling kind) t (Spelled kind)) (sym writes.cut) longest, writes.longest);
+      lexemes = record { text = spelling kind; kind = Spelled kind } ∷ writes.lexemes;
+      after = writes.after;
+      whole = append_assoc (spelling kind) (texts writes.lexemes) [] ∙ ap (λ t. spelling kind ++ t) writes.whole;
+      longest = (subst (λ t. IsLongest hole (spelling kind) t (Spelled kind)) (sym writes.whole) longest, writes.longest);
+      no_hole = writes.no_hole;
       spelled = ap (λ ks. kind ∷ ks) writes.spelled;
     }
 
@@ -81,73 +88,80 @@ blanks_blank gaps.None false = refl
 blanks_blank gaps.Space together = refl
 blanks_blank (gaps.Line levels) together = spaces_blank (4 * levels)
 
-written_apart : (open_ones : List Bracket) (before : Side) (laid : List Laid) → AreSpellableBehind open_ones (kinds laid) → IsApart before (written before laid)
+written_apart : (brackets : List Bracket) (before : Side) (laid : List Laid) → AreSpellableAfter brackets (kinds laid) → IsApart before (written before laid)
 unfolding written
-written_apart open_ones before [] are = end_beside before
-written_apart open_ones before (l ∷ ls) are =
-    laid_beside (in_hole open_ones) l.kind (writable (in_hole open_ones) l.kind are.0) l.gap before (written (side_of l.kind) ls)
+written_apart brackets before [] are = end_beside before
+written_apart brackets before (l ∷ ls) are =
+    laid_beside (in_hole brackets) l.kind (writable (in_hole brackets) l.kind are.0) l.gap before (written (side_of l.kind) ls)
 
-written_writes : (open_ones : List Bracket) (before : Side) (laid : List Laid) → AreSpellableBehind open_ones (kinds laid) → Writes open_ones (written before laid) (kinds laid)
+written_writes : (brackets : List Bracket) (before : Side) (laid : List Laid) → AreSpellableAfter brackets (kinds laid) → Writes brackets (written before laid) (kinds laid)
 unfolding written
-written_writes open_ones before [] none = write_blank open_ones 0x0a [] [] refl (write_nothing open_ones none)
-written_writes open_ones before (l ∷ ls) are =
-    let inner = behind (Spelled l.kind) open_ones in
+written_writes brackets before [] none = write_blank brackets 0x0a [] [] refl (write_nothing brackets none)
+written_writes brackets before (l ∷ ls) are =
+    let inner = brackets_after (Spelled l.kind) brackets in
     let rest = written_writes inner (side_of l.kind) ls are.1 in
-    write_blanks open_ones (blanks l.gap (run_together before (side_of l.kind))) (spelling l.kind ++ written (side_of l.kind) ls) (kinds (l ∷ ls)) (blanks_blank l.gap (run_together before (side_of l.kind)))
-    (write_token open_ones l.kind (written (side_of l.kind) ls) (kinds ls) are.0 (written_apart inner (side_of l.kind) ls are.1) rest)
+    write_blanks brackets (blanks l.gap (run_together before (side_of l.kind))) (spelling l.kind ++ written (side_of l.kind) ls) (kinds (l ∷ ls)) (blanks_blank l.gap (run_together before (side_of l.kind)))
+    (write_token brackets l.kind (written (side_of l.kind) ls) (kinds ls) are.0 (written_apart inner (side_of l.kind) ls are.1) rest)
 
--- the tokens of the pieces are these
-same_token : (start end : ℕ) (sense : Sense) (tokens : List Token) (all : List TokenKind) → map (λ t. t.kind) tokens ≡ all → map (λ t. t.kind) (token_of start end sense ++ tokens) ≡ kind_of sense ++ all
+-- the tokens of the lexemes are these
+same_token : (start end : ℕ) (kind : LexemeKind) (tokens : List Token) (all : List TokenKind) → map (λ t. t.kind) tokens ≡ all → map (λ t. t.kind) (token_of start end kind ++ tokens) ≡ token_kinds kind ++ all
 same_token start end (Spelled kind) tokens all same = ap (λ ks. kind ∷ ks) same
 same_token start end Blank tokens all same = same
 same_token start end Comment tokens all same = same
 
-same_kinds : (start : ℕ) (ps : List Piece) → map (λ t. t.kind) (tokens_of start ps) ≡ kinds_of ps
+same_kinds : (start : ℕ) (ps : List Lexeme) → map (λ t. t.kind) (tokens_of start ps) ≡ kinds_of ps
 same_kinds start [] = refl
-same_kinds start (p ∷ ps) = same_token start (start + length p.text) p.sense (tokens_of (start + length p.text) ps) (kinds_of ps) (same_kinds (start + length p.text) ps)
+same_kinds start (p ∷ ps) = same_token start (start + length p.text) p.kind (tokens_of (start + length p.text) ps) (kinds_of ps) (same_kinds (start + length p.text) ps)
 
--- a piece does not begin as the mark does with which a text may begin
-opens_sign : (hole : Bool) → opening_of hole 0xef ≡ openings.Sign
-opens_sign true = refl
-opens_sign false = refl
+-- no lexeme begins with the first byte of a byte order mark
+opens_other : (hole : Bool) → opening_of hole 0xef ≡ openings.Other
+opens_other true = refl
+opens_other false = refl
 
-no_sign : (bs : List ℕ) → sense_as openings.Sign 0xef bs ≡ None
-unfolding sense_as is_sign
-no_sign [] = refl
-no_sign (b ∷ []) = refl
-no_sign (b ∷ c ∷ []) = refl
-no_sign (b ∷ c ∷ d ∷ bs) = refl
+no_punctuator : (bs : List ℕ) → lexeme_as openings.Other 0xef bs ≡ None
+unfolding lexeme_as is_punctuator
+no_punctuator [] = refl
+no_punctuator (b ∷ []) = refl
+no_punctuator (b ∷ c ∷ []) = refl
+no_punctuator (b ∷ c ∷ d ∷ bs) = refl
 
-no_sense : (hole : Bool) (bs : List ℕ) → sense_of hole (0xef ∷ bs) ≡ None
-unfolding sense_of
-no_sense hole bs = ap (λ o. sense_as o 0xef bs) (opens_sign hole) ∙ no_sign bs
+no_lexeme : (hole : Bool) (bs : List ℕ) → lexeme_of hole (0xef ∷ bs) ≡ None
+unfolding lexeme_of
+no_lexeme hole bs = ap (λ o. lexeme_as o 0xef bs) (opens_other hole) ∙ no_punctuator bs
 
 no_mark_byte : (b : ℕ) (bs : List ℕ) → eqb 0xef b ≡ false → mark_len (b ∷ bs) ≡ 0
 no_mark_byte b bs other = cond-false (eqb 0xef b && pointwise eqb (0xbb ∷ 0xbf ∷ []) (take 2 bs)) 3 0 (and_left (eqb 0xef b) _ other)
 
-no_text : (hole : Bool) (sense : Sense) → sense_of hole [] ≡ Some sense → None ≡ Some sense
-unfolding sense_of
-no_text hole sense is = is
+no_text : (hole : Bool) (kind : LexemeKind) → lexeme_of hole [] ≡ Some kind → None ≡ Some kind
+unfolding lexeme_of
+no_text hole kind is = is
 
-no_mark_text : (hole : Bool) (text rest : List ℕ) (sense : Sense) → sense_of hole text ≡ Some sense → mark_len (text ++ rest) ≡ 0
-no_mark_text hole [] rest sense is = let none : None ≡ Some sense = no_text hole sense is in cc
-no_mark_text hole (b ∷ bs) rest sense is = by_b (eqb 0xef b) refl
+no_mark_text : (hole : Bool) (text rest : List ℕ) (kind : LexemeKind) → lexeme_of hole text ≡ Some kind → mark_len (text ++ rest) ≡ 0
+no_mark_text hole [] rest kind is = let none : None ≡ Some kind = no_text hole kind is in cc
+no_mark_text hole (b ∷ bs) rest kind is = by_b (eqb 0xef b) refl
   where
     by_b : (t : Bool) → eqb 0xef b ≡ t → mark_len (b ∷ (bs ++ rest)) ≡ 0
-    by_b true same = let none : None ≡ Some sense = sym (no_sense hole bs) ∙ ap (λ x. sense_of hole (x ∷ bs)) (eqb-true 0xef b same) ∙ is in cc
+    by_b true same = let none : None ≡ Some kind = sym (no_lexeme hole bs) ∙ ap (λ x. lexeme_of hole (x ∷ bs)) (eqb-true 0xef b same) ∙ is in cc
     by_b false other = no_mark_byte b (bs ++ rest) other
 
-no_mark : (open_ones : List Bracket) (ps : List Piece) → IsCut open_ones ps → mark_len (texts ps) ≡ 0
-no_mark open_ones [] cut = refl
-no_mark open_ones (p ∷ ps) cut = no_mark_text (in_hole open_ones) p.text (texts ps) p.sense cut.0.stands.is
+no_mark : (brackets after : List Bracket) (ls : List Lexeme) → CutTo brackets ls [] after → mark_len (texts ls) ≡ 0
+no_mark brackets after [] cut = refl
+no_mark brackets after (l ∷ ls) cut = no_mark_text (in_hole brackets) l.text (texts ls) l.kind cut.0.lexeme.is
 
 pub whole : (text : List ℕ) (all : List TokenKind) → Writes [] text all → HasKinds text all
 whole text all writes =
-    let mark : mark_len text ≡ 0 = ap mark_len (sym writes.cut) ∙ no_mark [] writes.pieces writes.longest in
+    let same : texts writes.lexemes ≡ text = sym (append-nil (texts writes.lexemes)) ∙ writes.whole in
+    let mark : mark_len text ≡ 0 = ap mark_len (sym same) ∙ no_mark [] writes.after writes.lexemes writes.longest in
     record {
-      tokens = tokens_of (mark_len text) writes.pieces;
-      are = record { pieces = writes.pieces; cut = writes.cut ∙ ap (λ n. drop n text) (sym mark); longest = writes.longest; spelled = refl };
-      same = same_kinds (mark_len text) writes.pieces ∙ writes.spelled;
+      tokens = tokens_of (mark_len text) writes.lexemes;
+      are = record {
+        lexemes = writes.lexemes;
+        open_brackets = writes.after;
+        cut = record { whole = writes.whole ∙ ap (λ n. drop n text) (sym mark); longest = writes.longest };
+        no_hole = writes.no_hole;
+        spelled = refl;
+      };
+      same = same_kinds (mark_len text) writes.lexemes ∙ writes.spelled;
     }
 
 pub written_has_kinds : (laid : List Laid) → AreSpellable (kinds laid) → HasKinds (written Other laid) (kinds laid)

@@ -13,7 +13,7 @@ blanks gaps.None together = if together then 0x20 ∷ [] else []
 blanks gaps.Space together = 0x20 ∷ []
 blanks (gaps.Line levels) together = 0x0a ∷ replicate (4 * levels) 0x20
 
--- the tokens behind such a token, up to the newline at the end
+-- the tokens after such a token, and the newline at the end
 unfoldable pub written : Side → List Laid → List ℕ
 written before [] = 0x0a ∷ []
 written before (l ∷ ls) =

@@ -1,4 +1,4 @@
-//! What stands between the delimiters of strings and templates.
+//! The values between the delimiters of strings and templates.
 
 ghost use Rattle.std.specs.Prelude.{◌≡◌, ◌++◌, OnOk};
 ghost use Rattle.dscript_spell.specs.Spellings.{string_byte, in_string, ends_a_part, part_byte, in_part};
@@ -17,7 +17,7 @@ fn push_string_byte(text: &mut Vec<u8>, byte: u8) -> Result<(), AllocError>
     Ok(())
 }
 
-/// Appends the value of a string that stands in `"`.
+/// Appends the value of a string in `"`.
 pub(crate) fn push_in_string(text: &mut Vec<u8>, value: &[u8]) -> Result<(), AllocError>
     ensures { OnOk result (text.new.items ≡ text.old.items ++ in_string value.now) }
 {

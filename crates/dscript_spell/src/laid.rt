@@ -1,17 +1,17 @@
 use dscript_lex::TokenKind;
 
-/// What stands before a token.
+/// The blanks before a token.
 #[derive(Clone, Copy)]
 pub enum Gap {
     /// Nothing, or one space where the token would run together with the one before it.
     None,
     /// One space.
     Space,
-    /// A newline, and four spaces for each of so many levels.
+    /// A newline, and four spaces for each of these levels.
     Line(u32),
 }
 
-/// A token that is to be written, and what stands before it.
+/// A token that is to be written, and the blanks before it.
 #[derive(Drop)]
 pub struct Laid {
     pub kind: TokenKind,

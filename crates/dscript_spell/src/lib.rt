@@ -1,6 +1,6 @@
 //! Texts that have exactly given tokens.
 //!
-//! Each token gets a spelling of its own, what is asked for stands between them, and a blank where
+//! Each token gets a spelling of its own, with the blanks between them that are asked for, and one where
 //! two would run together. This crate stands on `dscript_lex`, whose tokens these are, and on
 //! `bx_tree` for shared texts. It carries the promise that a text that is written has the tokens that
 //! were given, no others, and in their order.

@@ -10,15 +10,15 @@ use dscript_lex::TokenKind;
 pub(crate) enum Side {
     /// A word or a number: no word byte may follow.
     Word,
-    /// A sign, by its first byte.
-    Sign(u8),
+    /// A punctuator, by its first byte.
+    Punctuator(u8),
     /// Anything may follow.
     Other,
 }
 
-/// Whether a sign that begins with the one byte could be read as a longer sign, or as a comment,
+/// Whether a punctuator that begins with the one byte could be lexed as a longer one, or as a comment,
 /// before the other.
-#[tactic(auto, unfolding(dscript_lex::specs::Signs::is_sign, crate::specs::Sides::goes_on))]
+#[tactic(auto, unfolding(dscript_lex::specs::Punctuators::is_punctuator, crate::specs::Sides::goes_on))]
 fn goes_on(first: u8, next: u8) -> bool
     ensures { result ≡ goes_on first next }
 {
@@ -38,21 +38,21 @@ pub(crate) fn side_of(kind: &TokenKind) -> Side
 {
     match kind {
         TokenKind::Word(_) | TokenKind::Number(_) => Side::Word,
-        TokenKind::Punct(sign) => match sign.bytes().first() {
-            Some(first) => Side::Sign(*first),
+        TokenKind::Punct(punctuator) => match punctuator.bytes().first() {
+            Some(first) => Side::Punctuator(*first),
             None => Side::Other,
         },
         _ => Side::Other,
     }
 }
 
-/// Whether the two would run together, the one directly behind the other.
-pub(crate) fn run_together(before: Side, behind: Side) -> bool
-    ensures { result ≡ run_together before behind }
+/// Whether the two would run together, the one directly after the other.
+pub(crate) fn run_together(before: Side, after: Side) -> bool
+    ensures { result ≡ run_together before after }
 {
-    match (before, behind) {
+    match (before, after) {
         (Side::Word, Side::Word) => true,
-        (Side::Sign(first), Side::Sign(next)) => goes_on(first, next),
+        (Side::Punctuator(first), Side::Punctuator(next)) => goes_on(first, next),
         _ => false,
     }
 }

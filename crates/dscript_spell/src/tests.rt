@@ -18,7 +18,7 @@ enum Form {
     Punct,
 }
 
-/// A token of a test: its form, its spelling or what it stands for, and what stands before it.
+/// A token of a test: its form, its spelling or its value, and the blanks before it.
 type Row = (Form, &'static str, Gap);
 
 fn text_of(alloc: Global, text: &str) -> Result<Text, Fail> {
@@ -138,10 +138,10 @@ fn keeps_apart_what_would_run_together(rt: HostRuntime) -> Result<(), Fail> {
         ((Str, "a"), (Str, "b"), "\"a\"\"b\"\n"),
         ((Word, "d"), (Whole, "."), "d`.`\n"),
     ];
-    for (before, behind, text) in table {
+    for (before, after, text) in table {
         let rows = [
             (before.0, before.1, Gap::None),
-            (behind.0, behind.1, Gap::None),
+            (after.0, after.1, Gap::None),
         ];
         assert_eq!(rt; written(rt.alloc(), &rows)?.as_str(), text);
     }

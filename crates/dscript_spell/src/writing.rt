@@ -9,7 +9,7 @@ use crate::spelling::push_spelling;
 use bx_tree::Memory;
 use std::alloc::{AllocError, Global};
 
-/// Appends four spaces for each of so many levels.
+/// Appends four spaces for each level.
 fn push_levels(text: &mut Vec<u8>, levels: u32) -> Result<(), AllocError>
     ensures { OnOk result (text.new.items ≡ text.old.items ++ replicate (4 * levels) 0x20) }
 {
@@ -19,7 +19,7 @@ fn push_levels(text: &mut Vec<u8>, levels: u32) -> Result<(), AllocError>
     Ok(())
 }
 
-/// Appends what stands before a token, which may run together with the one before it.
+/// Appends the blanks before a token, which may run together with the token before it.
 fn push_gap(text: &mut Vec<u8>, gap: Gap, together: bool) -> Result<(), AllocError>
     ensures { OnOk result (text.new.items ≡ text.old.items ++ blanks gap together) }
 {
@@ -57,7 +57,7 @@ pub(crate) fn write(alloc: Global, laid: &[Laid]) -> Result<Vec<u8>, AllocError>
 /// A text that has these tokens, in order, laid out as asked, where some text can have them. It ends
 /// with a newline, unless there is no token.
 ///
-/// Strings stand in `"`, numbers are decimal, and a byte is escaped only where it has to be.
+/// Strings are in `"`, numbers are decimal, and a byte is escaped only where it has to be.
 /// docs/FORMATS.md says how tokens are spelled.
 pub fn spell(alloc: Global, laid: &[Laid]) -> Result<Vec<u8>, Memory>
     ensures { IfOk result (λ text. AreSpellable (kinds laid.now) → HasKinds text.items (kinds laid.now)) }

@@ -1,6 +1,6 @@
 use Rattle.std.proofs.Common.{sym, ◌∙◌, arith, ap}
-use Rattle.dscript_lex.specs.Fronts.{option_more}
-use Rattle.dscript_lex.proofs.Closing.{close_here, close_later, close_end}
+use Rattle.dscript_lex.specs.Scanning.{option_more}
+use Rattle.dscript_lex.proofs.CommentClose.{close_here, close_later, close_end}
 use Rattle.dscript_lex.proofs.comments.close_len.Goals as goal
 
 pub returns-then-closes-clause-len : goal.returns-then-closes-clause-len

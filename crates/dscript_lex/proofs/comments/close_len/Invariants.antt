@@ -1,5 +1,5 @@
 use Rattle.std.proofs.Common.{length, ◌-◌, ◌≡◌, ◌≤◌, drop}
-use Rattle.dscript_lex.specs.Fronts.{close_len, option_more}
+use Rattle.dscript_lex.specs.Scanning.{close_len, option_more}
 use Rattle.dscript_lex.proofs.comments.close_len.Given as goal
 
 abbrev pub invariant-search : goal.invariant-search

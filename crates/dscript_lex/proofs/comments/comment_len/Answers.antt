@@ -1,4 +1,4 @@
-use Rattle.dscript_lex.proofs.Closing.{closes_nowhere, nowhere_closes}
+use Rattle.dscript_lex.proofs.CommentClose.{closes_nowhere, nowhere_closes}
 use Rattle.dscript_lex.proofs.comments.comment_len.Goals as goal
 
 pub block_len-requires : goal.block_len-requires

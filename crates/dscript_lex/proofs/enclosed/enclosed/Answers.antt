@@ -1,7 +1,7 @@
 use Rattle.std.proofs.Common.{sym, ap, ◌∙◌, arith}
 use Rattle.std.proofs.lemmas.List.{drop_all}
-use Rattle.dscript_lex.specs.Fronts.{reach}
-use Rattle.dscript_lex.proofs.Enclosing.{resume}
+use Rattle.dscript_lex.specs.Scanning.{reach}
+use Rattle.dscript_lex.proofs.ReachByStep.{resume}
 use Rattle.dscript_lex.proofs.enclosed.enclosed.Goals as goal
 
 -- nothing reaches past the end

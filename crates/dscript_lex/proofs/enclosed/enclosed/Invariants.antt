@@ -1,6 +1,6 @@
 use Rattle.std.proofs.Common.{length, ◌-◌, ◌≡◌, ◌≤◌, drop}
-use Rattle.dscript_lex.specs.Fronts.{reach}
-use Rattle.dscript_lex.proofs.Enclosing.{resume}
+use Rattle.dscript_lex.specs.Scanning.{reach}
+use Rattle.dscript_lex.proofs.ReachByStep.{resume}
 use Rattle.dscript_lex.proofs.enclosed.enclosed.Given as goal
 
 abbrev pub invariant-steps : goal.invariant-steps

@@ -1,6 +1,6 @@
 use Rattle.std.proofs.Common.{sym, subst}
-use Rattle.dscript_lex.specs.Fronts.{Means, reach}
-use Rattle.dscript_lex.proofs.Enclosing.{means}
+use Rattle.dscript_lex.specs.Scanning.{Means, reach}
+use Rattle.dscript_lex.proofs.ReachByStep.{means}
 use Rattle.dscript_lex.proofs.enclosed.next_step.Goals as goal
 
 pub returns : goal.returns

@@ -1,4 +1,4 @@
-use Rattle.dscript_lex.proofs.Standing.{places as law}
+use Rattle.dscript_lex.proofs.TokenPlaces.{places as law}
 use Rattle.dscript_lex.proofs.laws.places.Goals as goal
 
 pub returns : goal.returns

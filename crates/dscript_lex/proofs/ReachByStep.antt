@@ -5,7 +5,7 @@ use Rattle.dscript_lex.specs.declared.enclosed.Reach.{Reach}
 use Rattle.dscript_lex.specs.declared.enclosed.Step.{Step}
 use Rattle.dscript_lex.specs.declared.enclosed.Step.TheVariants.{End, Bad}
 use Rattle.dscript_lex.specs.Bytes.{escape_of}
-use Rattle.dscript_lex.specs.Fronts.{further, reach, escaped_step, step_of, Means}
+use Rattle.dscript_lex.specs.Scanning.{further, reach, escaped_step, step_of, Means}
 
 both : (d : ℕ) (s : List ℕ) (t : Bool) (x y : Step) (r q : Option Reach) → Means d s x r → Means d s y q → Means d s (cond t x y) (cond t r q)
 both d s true x y r q a b = a
@@ -26,14 +26,14 @@ means d (b ∷ c ∷ bs) =
     (both d s (eqb d 0x60 && eqb b 0x24 && eqb c 0x7b) _ _ _ _ (omega arith, refl)
     (both d s (not (eqb d 0x60) && eqb b 0x0a) _ _ _ _ refl (omega arith, omega arith, refl))))
 
--- what was read before, and what is reached from there
+-- the value before a place, and how it goes on from there
 abbrev pub resume : List ℕ → ℕ → Option Reach → Option Reach
-resume front n None = None
-resume front n (Some r) = Some (record { value = front ++ r.value; hole = r.hole; len = n + r.len })
+resume prefix n None = None
+resume prefix n (Some r) = Some (record { value = prefix ++ r.value; hole = r.hole; len = n + r.len })
 
-pub resume_more : (front : List ℕ) (at b n : ℕ) (r : Option Reach) → resume front at (further (Some b) n r) ≡ resume (front ++ b ∷ []) (at + n) r
-resume_more front at b n None = refl
-resume_more front at b n (Some r) =
-    let values : front ++ (b ∷ r.value) ≡ (front ++ b ∷ []) ++ r.value = sym (append_assoc front (b ∷ []) r.value) in
+pub resume_more : (prefix : List ℕ) (at b n : ℕ) (r : Option Reach) → resume prefix at (further (Some b) n r) ≡ resume (prefix ++ b ∷ []) (at + n) r
+resume_more prefix at b n None = refl
+resume_more prefix at b n (Some r) =
+    let values : prefix ++ (b ∷ r.value) ≡ (prefix ++ b ∷ []) ++ r.value = sym (append_assoc prefix (b ∷ []) r.value) in
     let lens : at + (n + r.len) ≡ at + n + r.len = omega arith in
     λ i. Some (record { value = values i; hole = r.hole; len = lens i })

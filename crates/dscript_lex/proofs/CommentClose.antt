@@ -1,9 +1,9 @@
 -- Where a comment closes.
 use Rattle.std.proofs.Common.{◌≡◌, ℕ, zero, suc, ◌+◌, ◌<◌, ◌≤◌, Bool, true, false, cond, ◌&&◌, eqb, List, [], ◌∷◌, length, get_or, drop, Option, Some, None, refl, sym, ap, ◌∙◌, subst, arith}
 use Rattle.std.proofs.lemmas.List.{drop_more, drop-drop, length-drop}
-use Rattle.dscript_lex.specs.Fronts.{close_len, option_more, NeverCloses}
+use Rattle.dscript_lex.specs.Scanning.{close_len, option_more, NeverCloses}
 
--- where two bytes are left, either they close the comment or the search goes on behind the first
+-- where two bytes are left, either they close the comment or the search goes on after the first
 pub close_more : (s : List ℕ) (at : ℕ) → at + 1 < length s → close_len (drop at s) ≡ cond (eqb (get_or s at 0) 0x2a && eqb (get_or s (at + 1) 0) 0x2f) (Some 2) (option_more 1 (close_len (drop (at + 1) s)))
 unfolding close_len
 close_more s at two_left =
@@ -21,7 +21,7 @@ short (a ∷ b ∷ bs) le = absurd (omega arith)
 pub close_end : (s : List ℕ) (at : ℕ) → length s ≤ at + 1 → close_len (drop at s) ≡ None
 close_end s at le = short (drop at s) (omega (arith, length-drop at s))
 
--- whether `*/` stands at a place
+-- whether `*/` begins at a place
 abbrev pub closes : List ℕ → ℕ → Bool
 closes s at = eqb (get_or s at 0) 0x2a && eqb (get_or s (at + 1) 0) 0x2f
 
@@ -37,7 +37,7 @@ pub close_later : (s : List ℕ) (at : ℕ) → at + 1 < length s → closes s a
 close_later s at two_left not_here =
     sym (ap (option_more at) (close_more s at two_left ∙ ap (λ t. cond t (Some 2) (option_more 1 (close_len (drop (at + 1) s)))) not_here) ∙ more_more at (close_len (drop (at + 1) s)))
 
--- what does not close now closes nowhere behind it
+-- a comment that is closed nowhere is closed nowhere later
 tail_none : (o : Option ℕ) → option_more 1 o ≡ None → o ≡ None
 tail_none None e = refl
 tail_none (Some n) e = cc
@@ -62,7 +62,7 @@ never_closes_behind s k never = λ n.
     let e : k + (n + 2) ≡ (k + n) + 2 = omega arith in
     ap close_len (drop-drop (n + 2) k s ∙ ap (λ m. drop m s) e) ∙ never (k + n)
 
--- the same of bytes that begin with two
+-- bytes that begin with two others
 two_first : (s r rest : List ℕ) (a b : ℕ) → s ≡ a ∷ r → r ≡ b ∷ rest → s ≡ a ∷ b ∷ rest
 two_first s r rest a b first second = first ∙ ap (λ x. a ∷ x) second
 
