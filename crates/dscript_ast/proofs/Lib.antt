@@ -1,0 +1,2 @@
+pub mod TreeLists
+pub mod NodeViews

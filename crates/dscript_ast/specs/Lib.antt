@@ -1,0 +1,5 @@
+pub mod Operators
+pub mod TypeTree
+pub mod ExprTree
+pub mod FileTree
+pub mod Views

@@ -1,0 +1,15 @@
+pub mod Combinators
+pub mod TypeSound
+pub mod TypeComplete
+pub mod ExprSound
+pub mod ExprLengths
+pub mod ExprFirst
+pub mod ExprComplete
+pub mod FileSound
+pub mod FileComplete
+pub mod Items
+pub mod WholeFile
+pub mod FileLaws
+pub mod ContextFree
+pub mod Places
+pub mod Examples

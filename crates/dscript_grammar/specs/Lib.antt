@@ -1,0 +1,10 @@
+pub mod Language
+pub mod TypeGrammar
+pub mod ExprGrammar
+pub mod FileGrammar
+pub mod Derives
+pub mod Place
+pub mod Reading
+pub mod TypeReading
+pub mod ExprReading
+pub mod FileReading

@@ -1,0 +1,20 @@
+//! The grammar of DScript: which list of tokens is which file.
+//!
+//! `specs/` has the rules as a relation between trees and lists of tokens, and the same rules once more as a
+//! reader, which finds the one tree. docs/FORMATS.md has the rules in prose. This crate stands on
+//! `dscript_ast` for trees and on `dscript_lex` for tokens. It carries the promises that a list of tokens has
+//! one file at most, that the reader is sound and complete, and that a list of tokens without a file has one
+//! place where it is refused.
+#![tactic(auto)]
+
+mod height;
+mod laws;
+
+pub use height::MAX_HEIGHT;
+pub use laws::{
+    at_most_one_file, at_most_one_place, file_or_place, heights_that_count, items_are_prefix_free,
+    reading_finds_the_place, reading_is_deriving,
+};
+
+#[cfg(test)]
+mod tests;
