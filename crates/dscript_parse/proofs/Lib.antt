@@ -1,1 +1,3 @@
+pub mod TokenCount
 pub mod WholeFiles
+pub mod ItemLoop

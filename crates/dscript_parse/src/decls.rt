@@ -1,292 +1,248 @@
-ghost use Rattle.std.specs.Prelude.{◌≡◌, ◌+◌, ◌<◌, ◌≤◌, suc, IfOk, length, map, max, not};
-ghost use Rattle.dscript_parse_types.specs.Gives.{kinds, Gives, GivesFlat};
-ghost use Rattle.dscript_tree.specs.ExprReading.{read_expr, read_stmt, read_value};
-ghost use Rattle.dscript_tree.specs.FileReading.{read_alias, read_const, read_decl, read_declared, read_extends, read_function, read_interface, read_mark, read_marked, read_namespace, read_type_params};
-ghost use Rattle.dscript_tree.specs.Reading.{at_sign, read_id, read_many, read_separated};
-ghost use Rattle.dscript_tree.specs.Views.{decl_tree, expr_tree, marked_tree, type_tree};
+//! Declarations.
+
+ghost use Rattle.std.specs.Prelude.{◌≡◌, suc, length, map};
+ghost use Rattle.dscript_ast.specs.Views.{decl_tree, marked_tree, type_tree};
+ghost use Rattle.dscript_grammar.specs.FileReading.{read_alias, read_const, read_decl, read_declared, read_extends};
+ghost use Rattle.dscript_grammar.specs.FileReading.{read_function, read_interface, read_mark, read_marked};
+ghost use Rattle.dscript_grammar.specs.FileReading.{read_namespace, read_type_params};
+ghost use Rattle.dscript_parse_tokens.specs.Enclosed.{read_closed_many};
+ghost use Rattle.dscript_parse_tokens.specs.Gives.{kinds, MayRead, Reads};
 
 use bx_tree::Text;
+use dscript_ast::{Decl, Mark, Marked, TypeNode};
 use dscript_lex::Token;
-use dscript_parse_exprs::{block, expr, note, params};
-use dscript_parse_types::{
-    SyntaxFault, at_punct, body, dotted, higher, id, punct, take_punct, take_word, type_list,
-    type_node, word,
+use dscript_parse_exprs::{block, note, params, value};
+use dscript_parse_tokens::{
+    Depth, Parse, Parsed, dotted, higher, identifier, keyword, names, punctuator, take_keyword,
+    take_punctuator, until,
 };
-use dscript_tree::{Decl, Expr, Mark, Marked, TypeNode};
+use dscript_parse_types::{body, type_list, type_node};
 use std::alloc::Global;
 
 /// Who may see the declaration that follows.
-#[tactic(auto, unfolding(dscript_tree::specs::FileReading::read_mark, dscript_tree::specs::Reading::choose, dscript_tree::specs::Reading::and_then))]
-fn mark(tokens: &[Token]) -> Result<(Mark, &[Token]), SyntaxFault>
-    ensures read { GivesFlat (λ m. m) result (read_mark (kinds tokens.now)) }
-    ensures shorter { IfOk result (λ x. length (kinds x.1.now) ≤ length (kinds tokens.now)) }
+#[tactic(auto, unfolding(dscript_grammar::specs::FileReading::read_mark, dscript_grammar::specs::Reading::choose, dscript_grammar::specs::Reading::and_then))]
+pub(crate) fn mark(tokens: &[Token]) -> Parse<'_, Mark>
+    ensures { MayRead (λ m. m) read_mark 0 tokens.now result }
 {
-    if let Some(rest) = take_punct(tokens, b"@@") {
-        let rest = word(rest, b"public")?;
-        let rest = word(rest, b"export")?;
-        return Ok((Mark::Public, rest));
+    if let Some(rest) = take_punctuator(tokens, b"@@") {
+        let rest = keyword(rest, b"public")?;
+        let rest = keyword(rest, b"export")?;
+        return Ok(Parsed {
+            value: Mark::Public,
+            height: 0,
+            rest: rest,
+        });
     }
-    match take_word(tokens, b"export") {
-        Some(rest) => Ok((Mark::Export, rest)),
-        None => Ok((Mark::Plain, tokens)),
+    if let Some(rest) = take_keyword(tokens, b"export") {
+        return Ok(Parsed {
+            value: Mark::Export,
+            height: 0,
+            rest: rest,
+        });
     }
+    Ok(Parsed {
+        value: Mark::Plain,
+        height: 0,
+        rest: tokens,
+    })
 }
 
-/// Names with commas between them.
-fn name_list(alloc: Global, tokens: &[Token]) -> Result<(Vec<Text>, &[Token]), SyntaxFault>
-    ensures read { GivesFlat (λ v. v.items) result (read_separated "," read_id (length (kinds tokens.now)) (kinds tokens.now)) }
-    ensures shorter { IfOk result (λ x. length (kinds x.1.now) < length (kinds tokens.now)) }
+/// Type parameters in angle brackets, if there are any.
+#[tactic(auto, unfolding(dscript_grammar::specs::FileReading::read_type_params, dscript_grammar::specs::Reading::choose, dscript_grammar::specs::Reading::and_then))]
+pub(crate) fn type_params<'a>(
+    alloc: Global,
+    depth: Depth,
+    tokens: &'a [Token],
+) -> Parse<'a, Vec<Text>>
+    ensures { MayRead (λ v. v.items) read_type_params depth.levels tokens.now result }
 {
-    let mut names = Vec::new(alloc);
-    let mut rest = tokens;
-    'names: loop {
-        let (name, behind) = id(rest)?;
-        names.push(name)?;
-        match take_punct(behind, b",") {
-            Some(next) => rest = next,
-            None => return Ok((names, behind)),
-        }
-    }
-}
-
-/// Type parameters in angle brackets, where there are any.
-#[tactic(auto, unfolding(dscript_tree::specs::FileReading::read_type_params, dscript_tree::specs::Reading::choose, dscript_tree::specs::Reading::and_then))]
-fn type_params(alloc: Global, tokens: &[Token]) -> Result<(Vec<Text>, &[Token]), SyntaxFault>
-    ensures read { GivesFlat (λ v. v.items) result (read_type_params (kinds tokens.now)) }
-    ensures shorter { IfOk result (λ x. length (kinds x.1.now) ≤ length (kinds tokens.now)) }
-{
-    let Some(rest) = take_punct(tokens, b"<") else {
-        return Ok((Vec::new(alloc), tokens));
+    let Some(rest) = take_punctuator(tokens, b"<") else {
+        return Ok(Parsed {
+            value: Vec::new(alloc),
+            height: 0,
+            rest: tokens,
+        });
     };
-    let (names, rest) = name_list(alloc, rest)?;
-    let rest = punct(rest, b">")?;
-    Ok((names, rest))
+    let names = names(alloc, depth, rest)?;
+    let rest = punctuator(names.rest, b">")?;
+    Ok(Parsed {
+        value: names.value,
+        height: 0,
+        rest: rest,
+    })
 }
 
-/// The types that an interface extends, where there are any.
-#[tactic(auto, unfolding(dscript_tree::specs::FileReading::read_extends, dscript_tree::specs::Reading::choose))]
-fn extends<'a>(
+/// The types that an interface extends, if there are any.
+#[tactic(auto, unfolding(dscript_grammar::specs::FileReading::read_extends, dscript_grammar::specs::Reading::choose))]
+pub(crate) fn extends<'a>(
     alloc: Global,
-    room: u32,
+    depth: Depth,
     tokens: &'a [Token],
-) -> Result<(Vec<TypeNode>, u32, &'a [Token]), SyntaxFault>
-    requires { room ≤ 200 }
-    ensures read { Gives (λ v. map type_tree v.items) result (read_extends room (kinds tokens.now)) }
-    ensures high { IfOk result (λ x. x.1 ≤ room) }
-    ensures shorter { IfOk result (λ x. length (kinds x.2.now) ≤ length (kinds tokens.now)) }
+) -> Parse<'a, Vec<TypeNode>>
+    ensures { MayRead (λ v. map type_tree v.items) (read_extends depth.levels) depth.levels tokens.now result }
 {
-    match take_word(tokens, b"extends") {
-        Some(rest) => type_list(alloc, room, rest),
-        None => Ok((Vec::new(alloc), 0, tokens)),
+    match take_keyword(tokens, b"extends") {
+        Some(rest) => type_list(alloc, depth, rest),
+        None => Ok(Parsed {
+            value: Vec::new(alloc),
+            height: 0,
+            rest: tokens,
+        }),
     }
 }
 
-/// A value between `=` and `;`.
-#[tactic(auto, unfolding(dscript_tree::specs::ExprReading::read_value, dscript_tree::specs::Reading::and_then))]
-fn value<'a>(
-    alloc: Global,
-    room: u32,
-    tokens: &'a [Token],
-) -> Result<(Expr, u32, &'a [Token]), SyntaxFault>
-    requires { room ≤ 200 }
-    ensures read { Gives expr_tree result (read_value room (read_expr room) (read_stmt room) (kinds tokens.now)) }
-    ensures high { IfOk result (λ x. x.1 ≤ room) }
-    ensures shorter { IfOk result (λ x. length (kinds x.2.now) < length (kinds tokens.now)) }
+/// A constant, after its keyword.
+#[tactic(auto, using(dscript_ast::proofs::NodeViews::tree_views), unfolding(dscript_grammar::specs::FileReading::read_const, dscript_grammar::specs::Reading::and_then))]
+pub(crate) fn constant<'a>(alloc: Global, depth: Depth, tokens: &'a [Token]) -> Parse<'a, Decl>
+    ensures { Reads decl_tree
+        (read_const depth.levels (read_marked depth.levels)) depth.levels tokens.now result }
 {
-    let rest = punct(tokens, b"=")?;
-    let (value, height, rest) = expr(alloc, room, rest)?;
-    let rest = punct(rest, b";")?;
-    Ok((value, height, rest))
+    let name = identifier(tokens)?;
+    let note = note(alloc, depth, name.rest)?;
+    let value = value(alloc, depth, note.rest)?;
+    Ok(Parsed {
+        value: Decl::Const(name.value, note.value, value.value),
+        height: higher(note.height, value.height),
+        rest: value.rest,
+    })
 }
 
-/// A constant behind its word.
-#[tactic(auto, using(dscript_tree::proofs::Made::made_trees), unfolding(dscript_tree::specs::FileReading::read_const, dscript_tree::specs::Reading::and_then))]
-fn constant<'a>(
-    alloc: Global,
-    room: u32,
-    tokens: &'a [Token],
-) -> Result<(Decl, u32, &'a [Token]), SyntaxFault>
-    requires { room ≤ 200 }
-    ensures read { Gives decl_tree result (read_const room (read_marked room) (kinds tokens.now)) }
-    ensures high { IfOk result (λ x. x.1 ≤ room) }
-    ensures shorter { IfOk result (λ x. length (kinds x.2.now) < length (kinds tokens.now)) }
+/// A function, after its keyword.
+#[tactic(auto, using(dscript_ast::proofs::NodeViews::tree_views), unfolding(dscript_grammar::specs::FileReading::read_function, dscript_grammar::specs::Reading::and_then))]
+pub(crate) fn function<'a>(alloc: Global, depth: Depth, tokens: &'a [Token]) -> Parse<'a, Decl>
+    ensures { Reads decl_tree
+        (read_function depth.levels (read_marked depth.levels)) depth.levels tokens.now result }
 {
-    let (name, rest) = id(tokens)?;
-    let (type_node, type_height, rest) = note(alloc, room, rest)?;
-    let (value, height, rest) = value(alloc, room, rest)?;
-    let decl = Decl::Const(name, type_node, value);
-    Ok((decl, higher(type_height, height), rest))
+    let name = identifier(tokens)?;
+    let types = type_params(alloc, depth, name.rest)?;
+    let params = params(alloc, depth, types.rest)?;
+    let note = note(alloc, depth, params.rest)?;
+    let body = block(alloc, depth, note.rest)?;
+    let height = higher(params.height, higher(note.height, body.height));
+    let function = Decl::Function(
+        name.value,
+        types.value,
+        params.value,
+        note.value,
+        body.value,
+    );
+    Ok(Parsed {
+        value: function,
+        height,
+        rest: body.rest,
+    })
 }
 
-/// A function behind its word.
-#[tactic(auto, using(dscript_tree::proofs::Made::made_trees), unfolding(dscript_tree::specs::FileReading::read_function, dscript_tree::specs::Reading::and_then))]
-fn function<'a>(
-    alloc: Global,
-    room: u32,
-    tokens: &'a [Token],
-) -> Result<(Decl, u32, &'a [Token]), SyntaxFault>
-    requires { room ≤ 200 }
-    ensures read { Gives decl_tree result (read_function room (read_marked room) (kinds tokens.now)) }
-    ensures high { IfOk result (λ x. x.1 ≤ room) }
-    ensures shorter { IfOk result (λ x. length (kinds x.2.now) < length (kinds tokens.now)) }
+/// An interface, after its keyword.
+#[tactic(auto, using(dscript_ast::proofs::NodeViews::tree_views), unfolding(dscript_grammar::specs::FileReading::read_interface, dscript_grammar::specs::Reading::and_then))]
+pub(crate) fn interface<'a>(alloc: Global, depth: Depth, tokens: &'a [Token]) -> Parse<'a, Decl>
+    ensures { Reads decl_tree
+        (read_interface depth.levels (read_marked depth.levels)) depth.levels tokens.now result }
 {
-    let (name, rest) = id(tokens)?;
-    let (type_params, rest) = type_params(alloc, rest)?;
-    let (params, params_height, rest) = params(alloc, room, rest)?;
-    let (type_node, type_height, rest) = note(alloc, room, rest)?;
-    let (stmts, height, rest) = block(alloc, room, rest)?;
-    let decl = Decl::Function(name, type_params, params, type_node, stmts);
-    let highest = higher(params_height, higher(type_height, height));
-    Ok((decl, highest, rest))
+    let name = identifier(tokens)?;
+    let types = type_params(alloc, depth, name.rest)?;
+    let extended = extends(alloc, depth, types.rest)?;
+    let members = body(alloc, depth, extended.rest)?;
+    let interface = Decl::Interface(name.value, types.value, extended.value, members.value);
+    Ok(Parsed {
+        value: interface,
+        height: higher(extended.height, members.height),
+        rest: members.rest,
+    })
 }
 
-/// An interface behind its word.
-#[tactic(auto, using(dscript_tree::proofs::Made::made_trees), unfolding(dscript_tree::specs::FileReading::read_interface, dscript_tree::specs::Reading::and_then))]
-fn interface<'a>(
-    alloc: Global,
-    room: u32,
-    tokens: &'a [Token],
-) -> Result<(Decl, u32, &'a [Token]), SyntaxFault>
-    requires { room ≤ 200 }
-    ensures read { Gives decl_tree result (read_interface room (read_marked room) (kinds tokens.now)) }
-    ensures high { IfOk result (λ x. x.1 ≤ room) }
-    ensures shorter { IfOk result (λ x. length (kinds x.2.now) < length (kinds tokens.now)) }
+/// A name for a type, after its keyword.
+#[tactic(auto, using(dscript_ast::proofs::NodeViews::tree_views), unfolding(dscript_grammar::specs::FileReading::read_alias, dscript_grammar::specs::Reading::and_then))]
+pub(crate) fn type_alias<'a>(alloc: Global, depth: Depth, tokens: &'a [Token]) -> Parse<'a, Decl>
+    ensures { Reads decl_tree
+        (read_alias depth.levels (read_marked depth.levels)) depth.levels tokens.now result }
 {
-    let (name, rest) = id(tokens)?;
-    let (type_params, rest) = type_params(alloc, rest)?;
-    let (types, types_height, rest) = extends(alloc, room, rest)?;
-    let (members, height, rest) = body(alloc, room, rest)?;
-    let decl = Decl::Interface(name, type_params, types, members);
-    Ok((decl, higher(types_height, height), rest))
+    let name = identifier(tokens)?;
+    let types = type_params(alloc, depth, name.rest)?;
+    let rest = punctuator(types.rest, b"=")?;
+    let named = type_node(alloc, depth, rest)?;
+    let rest = punctuator(named.rest, b";")?;
+    Ok(Parsed {
+        value: Decl::TypeAlias(name.value, types.value, named.value),
+        height: named.height,
+        rest: rest,
+    })
 }
 
-/// A name for a type, behind its word.
-#[tactic(auto, using(dscript_tree::proofs::Made::made_trees), unfolding(dscript_tree::specs::FileReading::read_alias, dscript_tree::specs::Reading::and_then))]
-fn type_alias<'a>(
-    alloc: Global,
-    room: u32,
-    tokens: &'a [Token],
-) -> Result<(Decl, u32, &'a [Token]), SyntaxFault>
-    requires { room ≤ 200 }
-    ensures read { Gives decl_tree result (read_alias room (read_marked room) (kinds tokens.now)) }
-    ensures high { IfOk result (λ x. x.1 ≤ room) }
-    ensures shorter { IfOk result (λ x. length (kinds x.2.now) < length (kinds tokens.now)) }
-{
-    let (name, rest) = id(tokens)?;
-    let (type_params, rest) = type_params(alloc, rest)?;
-    let rest = punct(rest, b"=")?;
-    let (type_node, height, rest) = type_node(alloc, room, rest)?;
-    let rest = punct(rest, b";")?;
-    let decl = Decl::TypeAlias(name, type_params, type_node);
-    Ok((decl, height, rest))
-}
-
-/// Declarations up to a closing brace.
+/// Declarations, and the brace after them.
 #[cycle(decls)]
-fn marked_list<'a>(
-    alloc: Global,
-    room: u32,
-    tokens: &'a [Token],
-) -> Result<(Vec<Marked>, u32, &'a [Token]), SyntaxFault>
-    requires { room ≤ 200 }
-    ensures read { Gives (λ v. map marked_tree v.items) result (read_many (λ us. not (at_sign "}" us)) (read_marked room) (suc (length (kinds tokens.now))) (kinds tokens.now)) }
-    ensures high { IfOk result (λ x. x.1 ≤ room) }
-    ensures shorter { IfOk result (λ x. length (kinds x.2.now) ≤ length (kinds tokens.now)) }
+fn declarations<'a>(alloc: Global, depth: Depth, tokens: &'a [Token]) -> Parse<'a, Vec<Marked>>
+    ensures { Reads (λ v. map marked_tree v.items)
+        (read_closed_many "}" (read_marked depth.levels)) depth.levels tokens.now result }
 {
-    let mut decls = Vec::new(alloc);
-    let mut height = 0;
-    let mut rest = tokens;
-    'decls: while !at_punct(rest, b"}") {
-        let (decl, decl_height, behind) = marked(alloc, room, rest)?;
-        decls.push(decl)?;
-        height = higher(height, decl_height);
-        rest = behind;
-    }
-    Ok((decls, height, rest))
+    until(alloc, depth, b"}", tokens, marked)
 }
 
-/// A namespace behind its word.
+/// A namespace, after its keyword.
 #[cycle(decls)]
-#[tactic(auto, using(dscript_tree::proofs::Made::made_trees), unfolding(dscript_tree::specs::FileReading::read_namespace, dscript_tree::specs::Reading::and_then))]
-fn namespace<'a>(
-    alloc: Global,
-    room: u32,
-    tokens: &'a [Token],
-) -> Result<(Decl, u32, &'a [Token]), SyntaxFault>
-    requires { room ≤ 200 }
-    ensures read { Gives decl_tree result (read_namespace room (read_marked room) (kinds tokens.now)) }
-    ensures high { IfOk result (λ x. x.1 ≤ room) }
-    ensures shorter { IfOk result (λ x. length (kinds x.2.now) < length (kinds tokens.now)) }
+#[tactic(auto, using(dscript_ast::proofs::NodeViews::tree_views), unfolding(dscript_grammar::specs::FileReading::read_namespace, dscript_grammar::specs::Reading::and_then))]
+fn namespace<'a>(alloc: Global, depth: Depth, tokens: &'a [Token]) -> Parse<'a, Decl>
+    ensures { Reads decl_tree
+        (read_namespace depth.levels (read_marked depth.levels)) depth.levels tokens.now result }
 {
-    let (names, rest) = dotted(alloc, tokens)?;
-    let rest = punct(rest, b"{")?;
-    let (decls, height, rest) = marked_list(alloc, room, rest)?;
-    let rest = punct(rest, b"}")?;
-    Ok((Decl::Namespace(names, decls), height, rest))
+    let names = dotted(alloc, depth, tokens)?;
+    let rest = punctuator(names.rest, b"{")?;
+    let declarations = declarations(alloc, depth, rest)?;
+    Ok(Parsed {
+        value: Decl::Namespace(names.value, declarations.value),
+        height: declarations.height,
+        rest: declarations.rest,
+    })
 }
 
-/// A declaration without its mark, with room for so many nodes below it.
+/// A declaration without its mark.
 #[cycle(decls)]
-#[tactic(auto, unfolding(dscript_tree::specs::FileReading::read_decl, dscript_tree::specs::Reading::choose, dscript_tree::specs::Reading::and_then))]
-fn decl<'a>(
-    alloc: Global,
-    room: u32,
-    tokens: &'a [Token],
-) -> Result<(Decl, u32, &'a [Token]), SyntaxFault>
-    requires { room ≤ 200 }
-    ensures read { Gives decl_tree result (read_decl room (read_marked room) (kinds tokens.now)) }
-    ensures high { IfOk result (λ x. x.1 ≤ room) }
-    ensures shorter { IfOk result (λ x. length (kinds x.2.now) < length (kinds tokens.now)) }
+#[tactic(auto, unfolding(dscript_grammar::specs::FileReading::read_decl, dscript_grammar::specs::Reading::choose, dscript_grammar::specs::Reading::and_then))]
+fn declaration<'a>(alloc: Global, depth: Depth, tokens: &'a [Token]) -> Parse<'a, Decl>
+    ensures { Reads decl_tree
+        (read_decl depth.levels (read_marked depth.levels)) depth.levels tokens.now result }
 {
-    if let Some(rest) = take_word(tokens, b"const") {
-        return constant(alloc, room, rest);
+    if let Some(rest) = take_keyword(tokens, b"const") {
+        return constant(alloc, depth, rest);
     }
-    if let Some(rest) = take_word(tokens, b"function") {
-        return function(alloc, room, rest);
+    if let Some(rest) = take_keyword(tokens, b"function") {
+        return function(alloc, depth, rest);
     }
-    if let Some(rest) = take_word(tokens, b"namespace") {
-        return namespace(alloc, room, rest);
+    if let Some(rest) = take_keyword(tokens, b"namespace") {
+        return namespace(alloc, depth, rest);
     }
-    if let Some(rest) = take_word(tokens, b"interface") {
-        return interface(alloc, room, rest);
+    if let Some(rest) = take_keyword(tokens, b"interface") {
+        return interface(alloc, depth, rest);
     }
-    let rest = word(tokens, b"type")?;
-    type_alias(alloc, room, rest)
+    let rest = keyword(tokens, b"type")?;
+    type_alias(alloc, depth, rest)
 }
 
-/// A declaration with its mark, with room for so many nodes below it.
+/// A declaration with its mark, over the levels that are left below it.
 #[cycle(decls)]
-#[tactic(auto, using(dscript_tree::proofs::Made::made_trees), unfolding(dscript_tree::specs::FileReading::read_declared, dscript_tree::specs::Reading::and_then))]
-fn declared<'a>(
-    alloc: Global,
-    room: u32,
-    tokens: &'a [Token],
-) -> Result<(Marked, u32, &'a [Token]), SyntaxFault>
-    requires { room ≤ 200 }
-    ensures read { Gives marked_tree result (read_declared room (read_marked room) (kinds tokens.now)) }
-    ensures high { IfOk result (λ x. x.1 ≤ room + 1) }
-    ensures shorter { IfOk result (λ x. length (kinds x.2.now) < length (kinds tokens.now)) }
+#[tactic(auto, using(dscript_ast::proofs::NodeViews::tree_views), unfolding(dscript_grammar::specs::FileReading::read_declared, dscript_grammar::specs::Reading::and_then))]
+fn declared<'a>(alloc: Global, depth: Depth, tokens: &'a [Token]) -> Parse<'a, Marked>
+    ensures { Reads marked_tree
+        (read_declared depth.levels (read_marked depth.levels)) (suc depth.levels) tokens.now result }
 {
-    let (mark, rest) = mark(tokens)?;
-    let (decl, height, rest) = decl(alloc, room, rest)?;
-    Ok((Marked { mark, decl }, height + 1, rest))
+    let mark = mark(tokens)?;
+    let decl = declaration(alloc, depth, mark.rest)?;
+    let marked = Marked {
+        mark: mark.value,
+        decl: decl.value,
+    };
+    Ok(Parsed {
+        value: marked,
+        height: decl.height + 1,
+        rest: decl.rest,
+    })
 }
 
-/// A declaration with its mark, with room for so many nodes one above another.
+/// A declaration with its mark.
 #[cycle(decls)]
-#[tactic(auto, unfolding(dscript_tree::specs::FileReading::read_marked))]
-pub(crate) fn marked<'a>(
-    alloc: Global,
-    room: u32,
-    tokens: &'a [Token],
-) -> Result<(Marked, u32, &'a [Token]), SyntaxFault>
-    requires { room ≤ 200 }
-    ensures read { Gives marked_tree result (read_marked room (kinds tokens.now)) }
-    ensures high { IfOk result (λ x. x.1 ≤ room) }
-    ensures shorter { IfOk result (λ x. length (kinds x.2.now) < length (kinds tokens.now)) }
+#[tactic(auto, unfolding(dscript_grammar::specs::FileReading::read_marked))]
+pub(crate) fn marked<'a>(alloc: Global, depth: Depth, tokens: &'a [Token]) -> Parse<'a, Marked>
+    ensures { Reads marked_tree (read_marked depth.levels) depth.levels tokens.now result }
 {
-    if room == 0 {
-        return Err(SyntaxFault::Syntax);
-    }
-    declared(alloc, room - 1, tokens)
+    declared(alloc, depth.below()?, tokens)
 }

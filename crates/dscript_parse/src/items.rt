@@ -1,160 +1,143 @@
-ghost use Rattle.std.specs.Prelude.{◌≡◌, ◌<◌, ◌≤◌, suc, IfOk, length, map, not};
-ghost use Rattle.dscript_parse_types.specs.Gives.{kinds, Gives, GivesFlat};
-ghost use Rattle.dscript_tree.specs.FileReading.{at_end, read_import, read_import_all, read_import_name, read_import_names, read_item, read_source};
-ghost use Rattle.dscript_tree.specs.Reading.{read_list, read_many};
-ghost use Rattle.dscript_tree.specs.Views.{import_tree, item_tree};
+//! Items of a project file, which is a list of them.
+
+ghost use Rattle.std.specs.Prelude.{◌≡◌, length, map};
+ghost use Rattle.dscript_ast.specs.Views.{import_tree, item_tree};
+ghost use Rattle.dscript_grammar.specs.FileReading.{read_import, read_import_all, read_import_name, read_import_names};
+ghost use Rattle.dscript_grammar.specs.FileReading.{read_item, read_source};
+ghost use Rattle.dscript_parse_tokens.specs.Enclosed.{read_closed_list};
+ghost use Rattle.dscript_parse_tokens.specs.Gives.{kinds, Reads};
 
 use crate::decls::marked;
 use bx_tree::Text;
+use dscript_ast::{ImportName, ImportedNames, Item};
 use dscript_lex::Token;
-use dscript_parse_types::{
-    SyntaxFault, at_punct, higher, id, punct, string, take_punct, take_word, word,
+use dscript_parse_tokens::{
+    Depth, Parse, Parsed, identifier, keyword, list, punctuator, string, take_keyword,
+    take_punctuator,
 };
-use dscript_tree::{ImportName, Item};
 use std::alloc::Global;
 
-/// A name that is imported, and the name behind `as` where there is one.
-#[tactic(auto, unfolding(dscript_tree::specs::FileReading::read_import_name, dscript_tree::specs::Reading::choose, dscript_tree::specs::Reading::and_then))]
-fn import_name(tokens: &[Token]) -> Result<(ImportName, &[Token]), SyntaxFault>
-    ensures read { GivesFlat import_tree result (read_import_name (kinds tokens.now)) }
-    ensures shorter { IfOk result (λ x. length (kinds x.1.now) < length (kinds tokens.now)) }
+/// A name that is imported, and its name in the file if it is another.
+#[tactic(auto, unfolding(dscript_grammar::specs::FileReading::read_import_name, dscript_grammar::specs::Reading::choose, dscript_grammar::specs::Reading::and_then))]
+pub(crate) fn import_name<'a>(
+    _alloc: Global,
+    depth: Depth,
+    tokens: &'a [Token],
+) -> Parse<'a, ImportName>
+    ensures { Reads import_tree read_import_name depth.levels tokens.now result }
 {
-    let (name, rest) = id(tokens)?;
-    let Some(rest) = take_word(rest, b"as") else {
-        return Ok((ImportName { name, alias: None }, rest));
+    let name = identifier(tokens)?;
+    let Some(rest) = take_keyword(name.rest, b"as") else {
+        let import = ImportName {
+            name: name.value,
+            alias: None,
+        };
+        return Ok(Parsed {
+            value: import,
+            height: 0,
+            rest: name.rest,
+        });
     };
-    let (alias, rest) = id(rest)?;
+    let alias = identifier(rest)?;
     let import = ImportName {
-        name,
-        alias: Some(alias),
+        name: name.value,
+        alias: Some(alias.value),
     };
-    Ok((import, rest))
+    Ok(Parsed {
+        value: import,
+        height: 0,
+        rest: alias.rest,
+    })
 }
 
-/// Names that are imported, up to a closing brace.
-fn import_name_list(
-    alloc: Global,
-    tokens: &[Token],
-) -> Result<(Vec<ImportName>, &[Token]), SyntaxFault>
-    ensures read { GivesFlat (λ v. map import_tree v.items) result (read_list "}" read_import_name (suc (length (kinds tokens.now))) (kinds tokens.now)) }
-    ensures shorter { IfOk result (λ x. length (kinds x.1.now) ≤ length (kinds tokens.now)) }
+/// Names that are imported, and the brace after them.
+fn imported<'a>(alloc: Global, depth: Depth, tokens: &'a [Token]) -> Parse<'a, Vec<ImportName>>
+    ensures { Reads (λ v. map import_tree v.items)
+        (read_closed_list "}" read_import_name) depth.levels tokens.now result }
 {
-    let mut names = Vec::new(alloc);
-    let mut rest = tokens;
-    'names: while !at_punct(rest, b"}") {
-        let (name, behind) = import_name(rest)?;
-        names.push(name)?;
-        match take_punct(behind, b",") {
-            Some(next) => rest = next,
-            None => return Ok((names, behind)),
-        }
-    }
-    Ok((names, rest))
+    list(alloc, depth, b"}", tokens, import_name)
 }
 
-/// The name of the module that an import is from.
-#[tactic(auto, unfolding(dscript_tree::specs::FileReading::read_source, dscript_tree::specs::Reading::and_then))]
-fn module_name(tokens: &[Token]) -> Result<(Text, &[Token]), SyntaxFault>
-    ensures read { GivesFlat (λ x. x) result (read_source (kinds tokens.now)) }
-    ensures shorter { IfOk result (λ x. length (kinds x.1.now) < length (kinds tokens.now)) }
+/// The name of the module of an import, after its names.
+#[tactic(auto, unfolding(dscript_grammar::specs::FileReading::read_source, dscript_grammar::specs::Reading::and_then))]
+fn source(tokens: &[Token]) -> Parse<'_, Text>
+    ensures { Reads (λ x. x) read_source 0 tokens.now result }
 {
-    let rest = word(tokens, b"from")?;
-    let (module, rest) = string(rest)?;
-    let rest = punct(rest, b";")?;
-    Ok((module, rest))
+    let rest = keyword(tokens, b"from")?;
+    let module = string(rest)?;
+    let rest = punctuator(module.rest, b";")?;
+    Ok(Parsed {
+        value: module.value,
+        height: 0,
+        rest: rest,
+    })
 }
 
-/// The import of a whole module, behind `*`.
-#[tactic(auto, unfolding(dscript_tree::specs::FileReading::read_import_all, dscript_tree::specs::Reading::and_then))]
-fn import_all(tokens: &[Token]) -> Result<(Item, u32, &[Token]), SyntaxFault>
-    ensures read { Gives item_tree result (read_import_all (kinds tokens.now)) }
-    ensures high { IfOk result (λ x. x.1 ≡ 1) }
-    ensures shorter { IfOk result (λ x. length (kinds x.2.now) < length (kinds tokens.now)) }
+/// The import of a whole module, after its `*`.
+#[tactic(auto, unfolding(dscript_grammar::specs::FileReading::read_import_all, dscript_grammar::specs::Reading::and_then))]
+fn import_all(tokens: &[Token]) -> Parse<'_, Item>
+    ensures { Reads item_tree read_import_all 1 tokens.now result }
 {
-    let rest = word(tokens, b"as")?;
-    let (name, rest) = id(rest)?;
-    let (module, rest) = module_name(rest)?;
-    Ok((Item::ImportAll(name, module), 1, rest))
+    let rest = keyword(tokens, b"as")?;
+    let name = identifier(rest)?;
+    let module = source(name.rest)?;
+    Ok(Parsed {
+        value: Item::ImportAll(name.value, module.value),
+        height: 1,
+        rest: module.rest,
+    })
 }
 
-/// An import of names, behind its word.
-#[tactic(auto, unfolding(dscript_tree::specs::FileReading::read_import_names, dscript_tree::specs::Reading::and_then))]
-fn import_names(alloc: Global, tokens: &[Token]) -> Result<(Item, u32, &[Token]), SyntaxFault>
-    ensures read { Gives item_tree result (read_import_names (kinds tokens.now)) }
-    ensures high { IfOk result (λ x. x.1 ≡ 1) }
-    ensures shorter { IfOk result (λ x. length (kinds x.2.now) < length (kinds tokens.now)) }
+/// The import of names, after its keyword.
+#[tactic(auto, unfolding(dscript_grammar::specs::FileReading::read_import_names, dscript_grammar::specs::Reading::and_then))]
+fn import_names<'a>(alloc: Global, depth: Depth, tokens: &'a [Token]) -> Parse<'a, Item>
+    ensures { Reads item_tree read_import_names 1 tokens.now result }
 {
-    let rest = punct(tokens, b"{")?;
-    let (names, rest) = import_name_list(alloc, rest)?;
-    let rest = punct(rest, b"}")?;
-    let (module, rest) = module_name(rest)?;
-    Ok((Item::ImportNames(names, module), 1, rest))
+    let rest = punctuator(tokens, b"{")?;
+    let names = imported(alloc, depth, rest)?;
+    let module = source(names.rest)?;
+    let import = ImportedNames {
+        names: names.value,
+        module: module.value,
+    };
+    Ok(Parsed {
+        value: Item::ImportNames(Box::new(alloc, import)?),
+        height: 1,
+        rest: module.rest,
+    })
 }
 
-/// An import behind its word.
-#[tactic(auto, unfolding(dscript_tree::specs::FileReading::read_import, dscript_tree::specs::Reading::choose))]
-fn import_item(alloc: Global, tokens: &[Token]) -> Result<(Item, u32, &[Token]), SyntaxFault>
-    ensures read { Gives item_tree result (read_import (kinds tokens.now)) }
-    ensures high { IfOk result (λ x. x.1 ≡ 1) }
-    ensures shorter { IfOk result (λ x. length (kinds x.2.now) < length (kinds tokens.now)) }
+/// An import, after its keyword.
+#[tactic(auto, unfolding(dscript_grammar::specs::FileReading::read_import, dscript_grammar::specs::Reading::choose))]
+fn import<'a>(alloc: Global, depth: Depth, tokens: &'a [Token]) -> Parse<'a, Item>
+    ensures { Reads item_tree read_import 1 tokens.now result }
 {
-    match take_punct(tokens, b"*") {
+    match take_punctuator(tokens, b"*") {
         Some(rest) => import_all(rest),
-        None => import_names(alloc, tokens),
+        None => import_names(alloc, depth, tokens),
     }
 }
 
-/// An item, with room for so many nodes one above another.
-#[tactic(auto, unfolding(dscript_tree::specs::FileReading::read_item, dscript_tree::specs::Reading::choose, dscript_tree::specs::Reading::and_then))]
-fn item<'a>(
-    alloc: Global,
-    room: u32,
-    tokens: &'a [Token],
-) -> Result<(Item, u32, &'a [Token]), SyntaxFault>
-    requires { room ≤ 200 }
-    ensures read { Gives item_tree result (read_item room (kinds tokens.now)) }
-    ensures high { IfOk result (λ x. x.1 ≤ room) }
-    ensures shorter { IfOk result (λ x. length (kinds x.2.now) < length (kinds tokens.now)) }
+/// An item.
+#[tactic(auto, unfolding(dscript_grammar::specs::FileReading::read_item, dscript_grammar::specs::Reading::choose, dscript_grammar::specs::Reading::and_then))]
+pub(crate) fn item<'a>(alloc: Global, depth: Depth, tokens: &'a [Token]) -> Parse<'a, Item>
+    ensures { Reads item_tree (read_item depth.levels) depth.levels tokens.now result }
 {
-    if room == 0 {
-        return Err(SyntaxFault::Syntax);
+    depth.below()?;
+    if let Some(rest) = take_punctuator(tokens, b";") {
+        return Ok(Parsed {
+            value: Item::Empty,
+            height: 1,
+            rest: rest,
+        });
     }
-    if let Some(rest) = take_punct(tokens, b";") {
-        return Ok((Item::Empty, 1, rest));
+    if let Some(rest) = take_keyword(tokens, b"import") {
+        return import(alloc, depth, rest);
     }
-    if let Some(rest) = take_word(tokens, b"import") {
-        return import_item(alloc, rest);
-    }
-    let (decl, height, rest) = marked(alloc, room, tokens)?;
-    Ok((Item::Declared(decl), height, rest))
-}
-
-/// Whether no token is left.
-#[tactic(auto, unfolding(dscript_tree::specs::FileReading::at_end))]
-pub(crate) fn at_end(tokens: &[Token]) -> bool
-    ensures { result ≡ at_end (kinds tokens.now) }
-{
-    tokens.split_first().is_none()
-}
-
-/// Items up to the end.
-pub(crate) fn item_list<'a>(
-    alloc: Global,
-    room: u32,
-    tokens: &'a [Token],
-) -> Result<(Vec<Item>, u32, &'a [Token]), SyntaxFault>
-    requires { room ≤ 200 }
-    ensures read { Gives (λ v. map item_tree v.items) result (read_many (λ us. not (at_end us)) (read_item room) (suc (length (kinds tokens.now))) (kinds tokens.now)) }
-    ensures high { IfOk result (λ x. x.1 ≤ room) }
-{
-    let mut items = Vec::new(alloc);
-    let mut height = 0;
-    let mut rest = tokens;
-    'items: while !at_end(rest) {
-        let (item, item_height, behind) = item(alloc, room, rest)?;
-        items.push(item)?;
-        height = higher(height, item_height);
-        rest = behind;
-    }
-    Ok((items, height, rest))
+    let declared = marked(alloc, depth, tokens)?;
+    Ok(Parsed {
+        value: Item::Declared(Box::new(alloc, declared.value)?),
+        height: declared.height,
+        rest: declared.rest,
+    })
 }

@@ -2,55 +2,57 @@ mod heights;
 mod long;
 mod needed;
 mod texts;
-mod trees;
 
 use super::*;
-use bx_tree::Text;
-use dscript_lex::{Token, lex};
-use dscript_tree::{
-    ArrowHead, Decl, Expr, File, Form, Item, LoopKind, Mark, Member, Operand, Operator, PathKind,
-    PostPart, Prop, Sign, Stmt, TypeNode,
-};
+use dscript_ast::{Decl, Expr, File, Form, Item};
+use dscript_lex::{MAX_TEXT_BYTES, Token, lex};
 use std::alloc::Global;
 use std::test::Fail;
 
 /// The tokens of a text.
 fn tokens_of(alloc: Global, text: &str) -> Result<Vec<Token>, Fail> {
-    if text.len() > 16777216 {
+    if text.len() > MAX_TEXT_BYTES {
         return Err(Fail::new("a text too long for a file"));
     }
     Ok(lex(alloc, text.as_bytes())?)
 }
 
-/// Whether the tokens are a file of this form.
-fn is_file(alloc: Global, tokens: &[Token], form: Form) -> Result<bool, Fail> {
+/// The place where the tokens are refused, if they are no file of this form.
+fn place_in(alloc: Global, tokens: &[Token], form: Form) -> Result<Option<u32>, Fail> {
+    if tokens.len() > MAX_TEXT_BYTES {
+        return Err(Fail::new("too many tokens for a file"));
+    }
     match parse(alloc, tokens, form) {
-        Ok(_) => Ok(true),
-        Err(SyntaxFault::Syntax) => Ok(false),
+        Ok(_) => Ok(None),
+        Err(SyntaxFault::Syntax { at }) => Ok(Some(at)),
         Err(SyntaxFault::Memory) => Err(Fail::from(SyntaxFault::Memory)),
     }
 }
 
-/// Whether the text is a file of this form.
-fn parses(alloc: Global, text: &str, form: Form) -> Result<bool, Fail> {
+/// The place where the text is refused, if it is no file of this form.
+fn place_of(alloc: Global, text: &str, form: Form) -> Result<Option<u32>, Fail> {
     let tokens = tokens_of(alloc, text)?;
-    is_file(alloc, &tokens, form)
+    place_in(alloc, &tokens, form)
 }
 
-/// Those lines that are a file of this form where they should be none, or the other way round, once
-/// they stand between two texts.
+/// Whether the text is a file of this form.
+fn parses(alloc: Global, text: &str, form: Form) -> Result<bool, Fail> {
+    Ok(place_of(alloc, text, form)?.is_none())
+}
+
+/// The lines that, put between two texts, are refused at another place than the wanted one.
 fn wrong_lines(
     alloc: Global,
     lines: &str,
     form: Form,
     before: &str,
     after: &str,
-    wanted: bool,
+    wanted: Option<u32>,
 ) -> Result<String, Fail> {
     let mut wrong = String::new(alloc);
     for line in lines.lines() {
         let text = format!(in alloc; "{before}{line}{after}")?;
-        if parses(alloc, &text, form)? != wanted {
+        if place_of(alloc, &text, form)? != wanted {
             wrong.push_str(line)?;
             wrong.push('\n')?;
         }
@@ -58,40 +60,14 @@ fn wrong_lines(
     Ok(wrong)
 }
 
-/// A text that repeats itself: what stands before all, what opens each turn, what stands in the middle,
-/// what closes each turn, and what stands behind all.
-type Nest = [&'static str; 5];
+/// A text that repeats itself: a text before all, the start of each turn, a text in the middle, the end of each
+/// turn, and a text after all.
+type Nest<'a> = [&'a str; 5];
 
-/// The text with so many turns.
-fn repeated(alloc: Global, nest: Nest, turns: usize) -> Result<String, Fail> {
+/// The text with this many turns.
+fn repeated(alloc: Global, nest: Nest<'_>, turns: usize) -> Result<String, Fail> {
     let [before, opening, middle, closing, after] = nest;
     let openings = opening.repeat(alloc, turns)?;
     let closings = closing.repeat(alloc, turns)?;
     Ok(format!(in alloc; "{before}{openings}{middle}{closings}{after}")?)
-}
-
-/// The items of a project.
-fn items_of(alloc: Global, text: &str) -> Result<Vec<Item>, Fail> {
-    let tokens = tokens_of(alloc, text)?;
-    match parse(alloc, &tokens, Form::Project)? {
-        File::Project(items) => Ok(items),
-        _ => Err(Fail::new("no project")),
-    }
-}
-
-/// The last declaration of a project.
-fn decl_of(alloc: Global, text: &str) -> Result<Decl, Fail> {
-    match items_of(alloc, text)?.pop() {
-        Some(Item::Declared(marked)) => Ok(marked.decl),
-        _ => Err(Fail::new("no declaration")),
-    }
-}
-
-/// The expression that a text is.
-fn value_of(alloc: Global, text: &str) -> Result<Expr, Fail> {
-    let text = format!(in alloc; "const a = {text};")?;
-    match decl_of(alloc, &text)? {
-        Decl::Const(_, _, value) => Ok(value),
-        _ => Err(Fail::new("no constant")),
-    }
 }

@@ -1,5 +1,5 @@
-pub mod Operators
-pub mod Posts
-pub mod HoleFronts
-pub mod Chains
-pub mod Optional
+pub mod OperatorSearch
+pub mod PostfixNodes
+pub mod OptionalParts
+pub mod LevelChains
+pub mod HolesLoop

@@ -1,2 +1,3 @@
-pub mod Pieces
-pub mod HoleFronts
+pub mod Levels
+pub mod TemplateView
+pub mod HolesInvariant

@@ -1,16 +1,14 @@
-//! The second layer of the parser of DScript: expressions and statements.
+//! The layer of the parser of DScript that reads expressions and statements.
 //!
-//! Each function gives what the reader of `dscript_tree` that has its name gives, and refuses
-//! exactly where that one does. Expressions and statements contain each other, and so they are read
-//! by one cycle of functions, whose depth is bounded by the room that is left.
+//! Expressions and statements contain each other, and so one cycle of functions reads them; the levels of nesting that
+//! are left bound its depth.
 #![tactic(auto)]
 
+mod exprs;
 mod lookahead;
 mod parts;
-mod trees;
+mod stmts;
 
+pub use exprs::expr;
 pub use parts::{note, params};
-pub use trees::{block, expr};
-
-#[cfg(test)]
-mod tests;
+pub use stmts::{block, value};

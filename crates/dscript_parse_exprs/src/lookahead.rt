@@ -1,67 +1,82 @@
-ghost use Rattle.std.specs.Prelude.{◌≡◌, ◌<◌, ◌||◌, IfSome, IfOk, codes, length};
-ghost use Rattle.dscript_parse_types.specs.Gives.{kinds, Offers, GivesFlat};
-ghost use Rattle.dscript_tree.specs.ExprGrammar.{precedence, spelling};
-ghost use Rattle.dscript_tree.specs.ExprReading.{at_template, ends_param, optional_param, closes_params, behind_name, at_params, at_arrow, at_assign, at_part, at_prefix, letter_of, read_letter, read_loop_word, read_one_of, read_operator, read_prefix, strength, read_whole, read_head, read_middle, read_tail};
+//! Tests on the next tokens, and tokens that only expressions and statements have.
+
+ghost use Rattle.std.specs.Prelude.{◌≡◌, length};
+ghost use Rattle.dscript_ast.specs.Operators.{precedence, spelling};
+ghost use Rattle.dscript_grammar.specs.ExprReading.{after_param_name, at_arrow, at_assign, at_params, at_part, at_prefix};
+ghost use Rattle.dscript_grammar.specs.ExprReading.{at_template, closes_params, ends_param, letter_of, optional_param};
+ghost use Rattle.dscript_grammar.specs.ExprReading.{read_letter, read_loop_keyword, read_one_of, read_operator, read_prefix};
+ghost use Rattle.dscript_grammar.specs.ExprReading.{operator_precedence, read_whole, read_head, read_middle, read_tail};
+ghost use Rattle.dscript_parse_tokens.specs.Gives.{kinds, Offers, Reads};
 
 use bx_tree::Text;
+use dscript_ast::{BinaryOp, LoopKind, PathKind, UnaryOp};
 use dscript_lex::{Token, TokenKind};
-use dscript_parse_types::{SyntaxFault, at_punct, is_text, take_punct, take_word};
-use dscript_tree::{LoopKind, Operator, PathKind, Sign};
+use dscript_parse_tokens::{
+    Depth, Parse, Parsed, Refusal, at_punctuator, is_text, take_keyword, take_punctuator,
+};
+use std::alloc::Global;
 
-/// A template without holes, if it stands at the front.
-#[tactic(auto, unfolding(dscript_tree::specs::ExprReading::read_whole))]
-pub(crate) fn template_whole(tokens: &[Token]) -> Option<(&Text, &[Token])>
-    ensures read { Offers (λ x. x.now) result (read_whole (kinds tokens.now)) }
-    ensures shorter { IfSome result (λ x. length (kinds x.1.now) < length (kinds tokens.now)) }
+/// What a token is, which has no height, and the tokens after it.
+fn flat<'a, T>(value: T, rest: &'a [Token]) -> Parsed<'a, T>
+    ensures { result ≡ record { value = value; height = 0; rest = rest.entry } }
+{
+    Parsed {
+        value,
+        height: 0,
+        rest,
+    }
+}
+
+/// A template without holes, if it is the first token.
+#[tactic(auto, unfolding(dscript_grammar::specs::ExprReading::read_whole))]
+pub(crate) fn template_whole(tokens: &[Token]) -> Option<Parsed<'_, &Text>>
+    ensures { Offers (λ x. x.now) (read_whole (kinds tokens.now)) (length (kinds tokens.now)) result }
 {
     let (token, rest) = tokens.split_first()?;
     match &token.kind {
-        TokenKind::Whole(text) => Some((text, rest)),
+        TokenKind::Whole(text) => Some(flat(text, rest)),
         _ => None,
     }
 }
 
-/// The text before the first hole of a template, if it stands at the front.
-#[tactic(auto, unfolding(dscript_tree::specs::ExprReading::read_head))]
-pub(crate) fn template_head(tokens: &[Token]) -> Option<(&Text, &[Token])>
-    ensures read { Offers (λ x. x.now) result (read_head (kinds tokens.now)) }
-    ensures shorter { IfSome result (λ x. length (kinds x.1.now) < length (kinds tokens.now)) }
+/// The text before the first hole of a template, if it is the first token.
+#[tactic(auto, unfolding(dscript_grammar::specs::ExprReading::read_head))]
+pub(crate) fn template_head(tokens: &[Token]) -> Option<Parsed<'_, &Text>>
+    ensures { Offers (λ x. x.now) (read_head (kinds tokens.now)) (length (kinds tokens.now)) result }
 {
     let (token, rest) = tokens.split_first()?;
     match &token.kind {
-        TokenKind::Head(text) => Some((text, rest)),
+        TokenKind::Head(text) => Some(flat(text, rest)),
         _ => None,
     }
 }
 
-/// The text between two holes, if it stands at the front.
-#[tactic(auto, unfolding(dscript_tree::specs::ExprReading::read_middle))]
-pub(crate) fn template_middle(tokens: &[Token]) -> Option<(&Text, &[Token])>
-    ensures read { Offers (λ x. x.now) result (read_middle (kinds tokens.now)) }
-    ensures shorter { IfSome result (λ x. length (kinds x.1.now) < length (kinds tokens.now)) }
+/// The text between two holes, if it is the first token.
+#[tactic(auto, unfolding(dscript_grammar::specs::ExprReading::read_middle))]
+pub(crate) fn template_middle(tokens: &[Token]) -> Option<Parsed<'_, &Text>>
+    ensures { Offers (λ x. x.now) (read_middle (kinds tokens.now)) (length (kinds tokens.now)) result }
 {
     let (token, rest) = tokens.split_first()?;
     match &token.kind {
-        TokenKind::Middle(text) => Some((text, rest)),
+        TokenKind::Middle(text) => Some(flat(text, rest)),
         _ => None,
     }
 }
 
-/// The text behind the last hole, if it stands at the front.
-#[tactic(auto, unfolding(dscript_tree::specs::ExprReading::read_tail))]
-pub(crate) fn template_tail(tokens: &[Token]) -> Option<(&Text, &[Token])>
-    ensures read { Offers (λ x. x.now) result (read_tail (kinds tokens.now)) }
-    ensures shorter { IfSome result (λ x. length (kinds x.1.now) < length (kinds tokens.now)) }
+/// The text after the last hole, if it is the first token.
+#[tactic(auto, unfolding(dscript_grammar::specs::ExprReading::read_tail))]
+pub(crate) fn template_tail(tokens: &[Token]) -> Option<Parsed<'_, &Text>>
+    ensures { Offers (λ x. x.now) (read_tail (kinds tokens.now)) (length (kinds tokens.now)) result }
 {
     let (token, rest) = tokens.split_first()?;
     match &token.kind {
-        TokenKind::Tail(text) => Some((text, rest)),
+        TokenKind::Tail(text) => Some(flat(text, rest)),
         _ => None,
     }
 }
 
-/// Whether a template stands at the front.
-#[tactic(auto, unfolding(dscript_tree::specs::ExprReading::at_template))]
+/// Whether the first token begins a template.
+#[tactic(auto, unfolding(dscript_grammar::specs::ExprReading::at_template))]
 pub(crate) fn at_template(tokens: &[Token]) -> bool
     ensures { result ≡ at_template (kinds tokens.now) }
 {
@@ -71,8 +86,8 @@ pub(crate) fn at_template(tokens: &[Token]) -> bool
     }
 }
 
-/// The kind of literal that the letter stands for.
-#[tactic(auto, unfolding(dscript_tree::specs::ExprReading::letter_of, dscript_tree::specs::Reading::pick))]
+/// The kind of literal that a letter means.
+#[tactic(auto, unfolding(dscript_grammar::specs::ExprReading::letter_of, dscript_grammar::specs::Reading::pick))]
 fn letter_of(text: &Text) -> Option<PathKind>
     ensures { result ≡ letter_of text.now }
 {
@@ -94,11 +109,10 @@ fn letter_of(text: &Text) -> Option<PathKind>
     None
 }
 
-/// The letter of a literal, if it stands at the front and a template behind it.
-#[tactic(auto, unfolding(dscript_tree::specs::ExprReading::read_letter, dscript_tree::specs::Reading::pick, dscript_tree::specs::Reading::choose))]
-pub(crate) fn letter(tokens: &[Token]) -> Option<(PathKind, &[Token])>
-    ensures read { Offers (λ k. k) result (read_letter (kinds tokens.now)) }
-    ensures shorter { IfSome result (λ x. length (kinds x.1.now) < length (kinds tokens.now)) }
+/// The letter of a literal, if it is the first token and a template is the next.
+#[tactic(auto, unfolding(dscript_grammar::specs::ExprReading::read_letter, dscript_grammar::specs::Reading::pick, dscript_grammar::specs::Reading::choose))]
+pub(crate) fn letter(tokens: &[Token]) -> Option<Parsed<'_, PathKind>>
+    ensures { Offers (λ k. k) (read_letter (kinds tokens.now)) (length (kinds tokens.now)) result }
 {
     let (token, rest) = tokens.split_first()?;
     match &token.kind {
@@ -107,163 +121,129 @@ pub(crate) fn letter(tokens: &[Token]) -> Option<(PathKind, &[Token])>
                 return None;
             }
             let kind = letter_of(text)?;
-            Some((kind, rest))
+            Some(flat(kind, rest))
         }
         _ => None,
     }
 }
 
-/// How an operator is written.
-fn spelling(operator: Operator) -> &'static [u8]
-    ensures { result.now ≡ codes (spelling operator) }
-{
-    match operator {
-        Operator::Or => b"||",
-        Operator::And => b"&&",
-        Operator::Same => b"===",
-        Operator::Differs => b"!==",
-        Operator::Less => b"<",
-        Operator::AtMost => b"<=",
-        Operator::Greater => b">",
-        Operator::AtLeast => b">=",
-        Operator::Plus => b"+",
-        Operator::Minus => b"-",
-        Operator::Times => b"*",
-    }
-}
-
-/// The precedence of an operator: from 3, which binds tightest, to 8.
-pub(crate) fn precedence(operator: Operator) -> u32
-    ensures { result ≡ precedence operator }
-{
-    match operator {
-        Operator::Or => 8,
-        Operator::And => 7,
-        Operator::Same | Operator::Differs => 6,
-        Operator::Less | Operator::AtMost | Operator::Greater | Operator::AtLeast => 5,
-        Operator::Plus | Operator::Minus => 4,
-        Operator::Times => 3,
-    }
-}
-
-/// The first of these operators that stands at the front.
-fn one_of<'a>(operators: &[Operator], tokens: &'a [Token]) -> Option<(Operator, &'a [Token])>
-    ensures read { Offers (λ o. o) result (read_one_of operators.now (kinds tokens.now)) }
-    ensures shorter { IfSome result (λ x. length (kinds x.1.now) < length (kinds tokens.now)) }
+/// The first of these operators that is the first token.
+fn one_of<'a>(operators: &[BinaryOp], tokens: &'a [Token]) -> Option<Parsed<'a, BinaryOp>>
+    ensures { Offers (λ o. o) (read_one_of operators.now (kinds tokens.now))
+        (length (kinds tokens.now)) result }
 {
     'operators: for operator in operators {
-        if let Some(rest) = take_punct(tokens, spelling(*operator)) {
-            return Some((*operator, rest));
+        if let Some(rest) = take_punctuator(tokens, operator.spelling()) {
+            return Some(flat(*operator, rest));
         }
     }
     None
 }
 
-/// The operator between two operands that stands at the front.
-#[tactic(auto, unfolding(dscript_tree::specs::ExprReading::read_operator))]
-pub(crate) fn operator(tokens: &[Token]) -> Option<(Operator, &[Token])>
-    ensures read { Offers (λ o. o) result (read_operator (kinds tokens.now)) }
-    ensures shorter { IfSome result (λ x. length (kinds x.1.now) < length (kinds tokens.now)) }
+/// The operator between two operands, if it is the first token.
+#[tactic(auto, unfolding(dscript_grammar::specs::ExprReading::read_operator))]
+pub(crate) fn operator(tokens: &[Token]) -> Option<Parsed<'_, BinaryOp>>
+    ensures { Offers (λ o. o) (read_operator (kinds tokens.now)) (length (kinds tokens.now)) result }
 {
     let operators = [
-        Operator::Or,
-        Operator::And,
-        Operator::Same,
-        Operator::Differs,
-        Operator::Less,
-        Operator::AtMost,
-        Operator::Greater,
-        Operator::AtLeast,
-        Operator::Plus,
-        Operator::Minus,
-        Operator::Times,
+        BinaryOp::Or,
+        BinaryOp::And,
+        BinaryOp::Equal,
+        BinaryOp::NotEqual,
+        BinaryOp::Less,
+        BinaryOp::LessOrEqual,
+        BinaryOp::Greater,
+        BinaryOp::GreaterOrEqual,
+        BinaryOp::Add,
+        BinaryOp::Subtract,
+        BinaryOp::Multiply,
     ];
     one_of(&operators, tokens)
 }
 
-/// The precedence of the operator at the front, where a smaller number binds tighter; 100 where
-/// there is none.
-#[tactic(auto, unfolding(dscript_tree::specs::ExprReading::strength, dscript_tree::specs::Reading::choose))]
-pub(crate) fn strength(tokens: &[Token]) -> u32
-    ensures { result ≡ strength (kinds tokens.now) }
+/// The level of the operator that is the first token; 100 where it is none.
+#[tactic(auto, unfolding(dscript_grammar::specs::ExprReading::operator_precedence, dscript_grammar::specs::Reading::choose))]
+pub(crate) fn next_precedence(tokens: &[Token]) -> u32
+    ensures { result ≡ operator_precedence (kinds tokens.now) }
 {
     match operator(tokens) {
-        Some((operator, _)) => precedence(operator),
+        Some(operator) => operator.value.precedence(),
         None => 100,
     }
 }
 
-/// The operator in front of an operand, if it stands at the front.
-#[tactic(auto, unfolding(dscript_tree::specs::ExprReading::read_prefix, dscript_tree::specs::Reading::choose))]
-pub(crate) fn prefix(tokens: &[Token]) -> Option<(Sign, &[Token])>
-    ensures read { Offers (λ o. o) result (read_prefix (kinds tokens.now)) }
-    ensures shorter { IfSome result (λ x. length (kinds x.1.now) < length (kinds tokens.now)) }
-{
-    if let Some(rest) = take_punct(tokens, b"!") {
-        return Some((Sign::Not, rest));
-    }
-    let rest = take_punct(tokens, b"-")?;
-    Some((Sign::Negative, rest))
-}
-
-/// Whether an operator in front of an operand stands at the front.
-#[tactic(auto, unfolding(dscript_tree::specs::ExprReading::at_prefix))]
+/// Whether the first token is an operator before an operand.
+#[tactic(auto, unfolding(dscript_grammar::specs::ExprReading::at_prefix))]
 pub(crate) fn at_prefix(tokens: &[Token]) -> bool
     ensures { result ≡ at_prefix (kinds tokens.now) }
 {
-    at_punct(tokens, b"!") || at_punct(tokens, b"-")
+    at_punctuator(tokens, b"!") || at_punctuator(tokens, b"-")
 }
 
-/// Whether a member, an index or arguments stand at the front.
-#[tactic(auto, unfolding(dscript_tree::specs::ExprReading::at_part))]
+/// An operator before an operand.
+#[tactic(auto, unfolding(dscript_grammar::specs::ExprReading::read_prefix, dscript_grammar::specs::Reading::choose))]
+pub(crate) fn prefix<'a>(_alloc: Global, depth: Depth, tokens: &'a [Token]) -> Parse<'a, UnaryOp>
+    ensures { Reads (λ o. o) read_prefix depth.levels tokens.now result }
+{
+    if let Some(rest) = take_punctuator(tokens, b"!") {
+        return Ok(flat(UnaryOp::Not, rest));
+    }
+    match take_punctuator(tokens, b"-") {
+        Some(rest) => Ok(flat(UnaryOp::Negate, rest)),
+        None => Err(Refusal::Syntax),
+    }
+}
+
+/// Whether the tokens begin with a member, an index or arguments.
+#[tactic(auto, unfolding(dscript_grammar::specs::ExprReading::at_part))]
 pub(crate) fn at_part(tokens: &[Token]) -> bool
     ensures { result ≡ at_part (kinds tokens.now) }
 {
-    at_punct(tokens, b".") || at_punct(tokens, b"[") || at_punct(tokens, b"(")
+    at_punctuator(tokens, b".") || at_punctuator(tokens, b"[") || at_punctuator(tokens, b"(")
 }
 
-/// Whether a parameter ends here.
-#[tactic(auto, unfolding(dscript_tree::specs::ExprReading::ends_param))]
+/// Whether a parameter ends before the first token.
+#[tactic(auto, unfolding(dscript_grammar::specs::ExprReading::ends_param))]
 fn ends_param(tokens: &[Token]) -> bool
     ensures { result ≡ ends_param (kinds tokens.now) }
 {
-    at_punct(tokens, b")") || at_punct(tokens, b",") || at_punct(tokens, b":")
+    at_punctuator(tokens, b")") || at_punctuator(tokens, b",") || at_punctuator(tokens, b":")
 }
 
-/// Whether a `?` stands here, and a parameter ends behind it.
-#[tactic(auto, unfolding(dscript_tree::specs::ExprReading::optional_param, dscript_tree::specs::Reading::choose))]
+/// Whether the first token is `?`, and a parameter ends after it.
+#[tactic(auto, unfolding(dscript_grammar::specs::ExprReading::optional_param, dscript_grammar::specs::Reading::choose))]
 fn optional_param(tokens: &[Token]) -> bool
     ensures { result ≡ optional_param (kinds tokens.now) }
 {
-    match take_punct(tokens, b"?") {
+    match take_punctuator(tokens, b"?") {
         Some(rest) => ends_param(rest),
         None => false,
     }
 }
 
-/// Whether parameters are closed here, and `=>` stands behind them.
-#[tactic(auto, unfolding(dscript_tree::specs::ExprReading::closes_params, dscript_tree::specs::Reading::choose))]
+/// Whether the first tokens are `)` and `=>`.
+#[tactic(auto, unfolding(dscript_grammar::specs::ExprReading::closes_params, dscript_grammar::specs::Reading::choose))]
 fn closes_params(tokens: &[Token]) -> bool
     ensures { result ≡ closes_params (kinds tokens.now) }
 {
-    match take_punct(tokens, b")") {
-        Some(rest) => at_punct(rest, b"=>"),
+    match take_punctuator(tokens, b")") {
+        Some(rest) => at_punctuator(rest, b"=>"),
         None => false,
     }
 }
 
-/// Whether the name of a parameter of an arrow function stands before these tokens.
-fn behind_name(tokens: &[Token]) -> bool
-    ensures { result ≡ behind_name (kinds tokens.now) }
+/// Whether a name before these tokens is a parameter of an arrow function.
+fn after_param_name(tokens: &[Token]) -> bool
+    ensures { result ≡ after_param_name (kinds tokens.now) }
 {
-    at_punct(tokens, b",")
-        || at_punct(tokens, b":")
+    at_punctuator(tokens, b",")
+        || at_punctuator(tokens, b":")
         || optional_param(tokens)
         || closes_params(tokens)
 }
 
-/// Whether parameters of an arrow function stand here, and no expression in parentheses.
-#[tactic(auto, unfolding(dscript_tree::specs::ExprReading::at_params))]
+/// Whether the tokens after a `(` are parameters of an arrow function, and no expression.
+#[tactic(auto, unfolding(dscript_grammar::specs::ExprReading::at_params))]
 fn at_params(tokens: &[Token]) -> bool
     ensures { result ≡ at_params (kinds tokens.now) }
 {
@@ -271,13 +251,13 @@ fn at_params(tokens: &[Token]) -> bool
         return false;
     };
     match &token.kind {
-        TokenKind::Word(_) => behind_name(rest),
-        _ => at_punct(tokens, b")"),
+        TokenKind::Word(_) => after_param_name(rest),
+        _ => at_punctuator(tokens, b")"),
     }
 }
 
-/// Whether an arrow function stands at the front.
-#[tactic(auto, unfolding(dscript_tree::specs::ExprReading::at_arrow, dscript_tree::specs::Reading::choose))]
+/// Whether the tokens begin with an arrow function.
+#[tactic(auto, unfolding(dscript_grammar::specs::ExprReading::at_arrow, dscript_grammar::specs::Reading::choose))]
 pub(crate) fn at_arrow(tokens: &[Token]) -> bool
     ensures { result ≡ at_arrow (kinds tokens.now) }
 {
@@ -285,16 +265,16 @@ pub(crate) fn at_arrow(tokens: &[Token]) -> bool
         return false;
     };
     match &token.kind {
-        TokenKind::Word(_) => at_punct(rest, b"=>"),
-        _ => match take_punct(tokens, b"(") {
-            Some(behind) => at_params(behind),
+        TokenKind::Word(_) => at_punctuator(rest, b"=>"),
+        _ => match take_punctuator(tokens, b"(") {
+            Some(inner) => at_params(inner),
             None => false,
         },
     }
 }
 
-/// Whether an assignment stands at the front.
-#[tactic(auto, unfolding(dscript_tree::specs::ExprReading::at_assign))]
+/// Whether the tokens begin with an assignment.
+#[tactic(auto, unfolding(dscript_grammar::specs::ExprReading::at_assign))]
 pub(crate) fn at_assign(tokens: &[Token]) -> bool
     ensures { result ≡ at_assign (kinds tokens.now) }
 {
@@ -302,22 +282,21 @@ pub(crate) fn at_assign(tokens: &[Token]) -> bool
         return false;
     };
     match &token.kind {
-        TokenKind::Word(_) => at_punct(rest, b"="),
+        TokenKind::Word(_) => at_punctuator(rest, b"="),
         _ => false,
     }
 }
 
 /// How the variable of a loop is declared.
-#[tactic(auto, unfolding(dscript_tree::specs::ExprReading::read_loop_word, dscript_tree::specs::Reading::choose, dscript_tree::specs::Reading::and_then))]
-pub(crate) fn loop_kind(tokens: &[Token]) -> Result<(LoopKind, &[Token]), SyntaxFault>
-    ensures read { GivesFlat (λ k. k) result (read_loop_word (kinds tokens.now)) }
-    ensures shorter { IfOk result (λ x. length (kinds x.1.now) < length (kinds tokens.now)) }
+#[tactic(auto, unfolding(dscript_grammar::specs::ExprReading::read_loop_keyword, dscript_grammar::specs::Reading::choose, dscript_grammar::specs::Reading::and_then))]
+pub(crate) fn loop_kind(tokens: &[Token]) -> Parse<'_, LoopKind>
+    ensures { Reads (λ k. k) read_loop_keyword 0 tokens.now result }
 {
-    if let Some(rest) = take_word(tokens, b"const") {
-        return Ok((LoopKind::Const, rest));
+    if let Some(rest) = take_keyword(tokens, b"const") {
+        return Ok(flat(LoopKind::Const, rest));
     }
-    match take_word(tokens, b"let") {
-        Some(rest) => Ok((LoopKind::Let, rest)),
-        None => Err(SyntaxFault::Syntax),
+    match take_keyword(tokens, b"let") {
+        Some(rest) => Ok(flat(LoopKind::Let, rest)),
+        None => Err(Refusal::Syntax),
     }
 }

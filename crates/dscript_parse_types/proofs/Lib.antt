@@ -1,3 +1,1 @@
-pub mod Fronts
-pub mod Refusals
-pub mod TypeFronts
+pub mod UnionLoops

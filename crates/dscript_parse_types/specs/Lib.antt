@@ -1,3 +1,1 @@
-pub mod Gives
-pub mod Fronts
-pub mod TypeFronts
+pub mod UnionInvariants

@@ -1,548 +1,425 @@
-ghost use Rattle.std.specs.Prelude.{◌≡◌, ◌+◌, ◌<◌, ◌≤◌, suc, IfOk, IsTrue, length, map, not};
-ghost use Rattle.dscript_parse_types.specs.Gives.{kinds, Gives, GivesFlat};
-ghost use Rattle.dscript_tree.specs.Reading.{at_sign, read_id, read_many, read_separated, read_list};
-ghost use Rattle.dscript_tree.specs.TypeReading.{at_fields, at_function, read_type, read_any, read_union, as_union, read_array, as_array, read_brackets, read_function, read_base, read_enclosed, read_literal, read_named, read_arguments, read_body, read_ended, past_end, read_member, read_method, read_fields, read_field};
-ghost use Rattle.dscript_tree.specs.TypeTree.{to_types, to_fields, to_members};
-ghost use Rattle.dscript_tree.specs.Views.{type_tree, member_tree, field_tree};
+//! Types.
 
-use crate::fault::SyntaxFault;
-use crate::tokens::{at_id, at_punct, flag, higher, id, is_text, name, punct, take_punct};
+ghost use Rattle.std.specs.Prelude.{◌≡◌, ◌+◌, ◌≤◌, suc, length, map};
+ghost use Rattle.dscript_parse_tokens.specs.Gives.{kinds, Gives, MayRead, Reads};
+ghost use Rattle.dscript_grammar.specs.TypeReading.{at_fields, at_function, after_member_end};
+ghost use Rattle.dscript_grammar.specs.TypeReading.{read_type, read_any, read_union, as_union, read_array, as_array};
+ghost use Rattle.dscript_grammar.specs.TypeReading.{read_brackets, read_function, read_base, read_enclosed};
+ghost use Rattle.dscript_grammar.specs.TypeReading.{read_literal, read_named, read_arguments, read_body, read_ended};
+ghost use Rattle.dscript_grammar.specs.TypeReading.{read_member, read_method, read_fields, read_field};
+ghost use Rattle.dscript_grammar.specs.Reading.{read_separated};
+ghost use Rattle.dscript_ast.specs.TypeTree.{to_types};
+ghost use Rattle.dscript_ast.specs.Views.{type_tree, member_tree, field_tree};
+
 use bx_tree::Text;
+use dscript_ast::{Field, Member, TypeNode};
 use dscript_lex::{Token, TokenKind};
-use dscript_tree::{Field, Member, TypeNode};
+use dscript_parse_tokens::{
+    Depth, Parse, Parsed, Refusal, at_identifier, at_punctuator, dotted, flag, higher, identifier,
+    is_text, list, name, node, punctuator, separated, take_punctuator, until,
+};
 use std::alloc::Global;
 
-/// Names with dots between them.
-pub fn dotted(alloc: Global, tokens: &[Token]) -> Result<(Vec<Text>, &[Token]), SyntaxFault>
-    ensures read { GivesFlat (λ v. v.items) result (read_separated "." read_id (length (kinds tokens.now)) (kinds tokens.now)) }
-    ensures shorter { IfOk result (λ x. length (kinds x.1.now) < length (kinds tokens.now)) }
-{
-    let mut names = Vec::new(alloc);
-    let mut rest = tokens;
-    'names: loop {
-        let (name, behind) = id(rest)?;
-        names.push(name)?;
-        match take_punct(behind, b".") {
-            Some(next) => rest = next,
-            None => return Ok((names, behind)),
-        }
-    }
-}
-
-/// Whether the parameters of a function type stand at the front, and no type.
-#[tactic(auto, unfolding(dscript_tree::specs::TypeReading::at_fields))]
-fn at_fields(tokens: &[Token]) -> bool
+/// Whether the tokens begin with the parameters of a function type, and not with a type.
+#[tactic(auto, unfolding(dscript_grammar::specs::TypeReading::at_fields))]
+pub(crate) fn at_fields(tokens: &[Token]) -> bool
     ensures { result ≡ at_fields (kinds tokens.now) }
 {
     let Some((token, rest)) = tokens.split_first() else {
         return false;
     };
     match &token.kind {
-        TokenKind::Word(_) => at_punct(rest, b":") || at_punct(rest, b"?"),
-        _ => at_punct(tokens, b")"),
+        TokenKind::Word(_) => at_punctuator(rest, b":") || at_punctuator(rest, b"?"),
+        _ => at_punctuator(tokens, b")"),
     }
 }
 
-/// Whether a function type stands at the front.
-#[tactic(auto, unfolding(dscript_tree::specs::TypeReading::at_function, dscript_tree::specs::Reading::choose))]
-fn at_function(tokens: &[Token]) -> bool
+/// Whether the tokens begin with a function type.
+#[tactic(auto, unfolding(dscript_grammar::specs::TypeReading::at_function, dscript_grammar::specs::Reading::choose))]
+pub(crate) fn at_function(tokens: &[Token]) -> bool
     ensures { result ≡ at_function (kinds tokens.now) }
 {
-    match take_punct(tokens, b"(") {
+    match take_punctuator(tokens, b"(") {
         Some(rest) => at_fields(rest),
         None => false,
     }
 }
 
-/// What stands behind the `;` or `,` of a member, if one of them is there.
-#[tactic(auto, unfolding(dscript_tree::specs::TypeReading::past_end, dscript_tree::specs::Reading::choose))]
-fn past_end(tokens: &[Token]) -> &[Token]
-    ensures behind { kinds result.now ≡ past_end (kinds tokens.now) }
-    ensures no_longer { length (kinds result.now) ≤ length (kinds tokens.now) }
+/// The tokens after the `;` or `,` of a member, if one of them is there.
+#[tactic(auto, unfolding(dscript_grammar::specs::TypeReading::after_member_end, dscript_grammar::specs::Reading::choose))]
+pub(crate) fn after_member_end(tokens: &[Token]) -> &[Token]
+    ensures after { kinds result.now ≡ after_member_end (kinds tokens.now) }
+    ensures not_longer { length (kinds result.now) ≤ length (kinds tokens.now) }
 {
-    if let Some(rest) = take_punct(tokens, b";") {
+    if let Some(rest) = take_punctuator(tokens, b";") {
         return rest;
     }
-    if let Some(rest) = take_punct(tokens, b",") {
+    if let Some(rest) = take_punctuator(tokens, b",") {
         return rest;
     }
     tokens
 }
 
-/// A type, with room for so many nodes one above another.
+/// A type.
 #[cycle(types)]
-#[tactic(auto, unfolding(dscript_tree::specs::TypeReading::read_type))]
-pub fn type_node<'a>(
-    alloc: Global,
-    room: u32,
-    tokens: &'a [Token],
-) -> Result<(TypeNode, u32, &'a [Token]), SyntaxFault>
-    requires { room ≤ 200 }
-    ensures read { Gives type_tree result (read_type room (kinds tokens.now)) }
-    ensures high { IfOk result (λ x. x.1 ≤ room) }
-    ensures shorter { IfOk result (λ x. length (kinds x.2.now) < length (kinds tokens.now)) }
+#[tactic(auto, unfolding(dscript_grammar::specs::TypeReading::read_type))]
+pub fn type_node<'a>(alloc: Global, depth: Depth, tokens: &'a [Token]) -> Parse<'a, TypeNode>
+    ensures { Reads type_tree (read_type depth.levels) depth.levels tokens.now result }
 {
-    if room == 0 {
-        return Err(SyntaxFault::Syntax);
-    }
-    any_type(alloc, room - 1, tokens)
+    any_type(alloc, depth.below()?, tokens)
 }
 
 /// A parameter with its type.
 #[cycle(types)]
-#[tactic(auto, using(dscript_tree::proofs::Made::made_types), unfolding(dscript_tree::specs::TypeReading::read_field, dscript_tree::specs::Reading::and_then))]
-fn field<'a>(
-    alloc: Global,
-    room: u32,
-    tokens: &'a [Token],
-) -> Result<(Field, u32, &'a [Token]), SyntaxFault>
-    requires { room ≤ 200 }
-    ensures read { Gives field_tree result (read_field (read_type room) (kinds tokens.now)) }
-    ensures high { IfOk result (λ x. x.1 ≤ room) }
-    ensures shorter { IfOk result (λ x. length (kinds x.2.now) < length (kinds tokens.now)) }
+#[tactic(auto, using(dscript_ast::proofs::NodeViews::type_views), unfolding(dscript_grammar::specs::TypeReading::read_field, dscript_grammar::specs::Reading::and_then))]
+fn field<'a>(alloc: Global, depth: Depth, tokens: &'a [Token]) -> Parse<'a, Field>
+    ensures { Reads field_tree (read_field (read_type depth.levels)) depth.levels tokens.now result }
 {
-    let (name, rest) = id(tokens)?;
-    let (optional, rest) = flag(rest, b"?");
-    let rest = punct(rest, b":")?;
-    let (type_node, height, rest) = type_node(alloc, room, rest)?;
+    let name = identifier(tokens)?;
+    let (optional, rest) = flag(name.rest, b"?");
+    let rest = punctuator(rest, b":")?;
+    let field_type = type_node(alloc, depth, rest)?;
     let field = Field {
-        name,
+        name: name.value,
         optional,
-        type_node,
+        type_node: field_type.value,
     };
-    Ok((field, height, rest))
-}
-
-/// Parameters up to a closing parenthesis.
-#[cycle(types)]
-fn field_list<'a>(
-    alloc: Global,
-    room: u32,
-    tokens: &'a [Token],
-) -> Result<(Vec<Field>, u32, &'a [Token]), SyntaxFault>
-    requires { room ≤ 200 }
-    ensures read { Gives (λ v. map field_tree v.items) result (read_list ")" (read_field (read_type room)) (suc (length (kinds tokens.now))) (kinds tokens.now)) }
-    ensures high { IfOk result (λ x. x.1 ≤ room) }
-    ensures shorter { IfOk result (λ x. length (kinds x.2.now) ≤ length (kinds tokens.now)) }
-{
-    let mut fields = Vec::new(alloc);
-    let mut height = 0;
-    let mut rest = tokens;
-    'fields: while !at_punct(rest, b")") {
-        let (field, field_height, behind) = field(alloc, room, rest)?;
-        fields.push(field)?;
-        height = higher(height, field_height);
-        match take_punct(behind, b",") {
-            Some(next) => rest = next,
-            None => return Ok((fields, height, behind)),
-        }
-    }
-    Ok((fields, height, rest))
+    Ok(Parsed {
+        value: field,
+        height: field_type.height,
+        rest: field_type.rest,
+    })
 }
 
 /// Parameters in parentheses.
 #[cycle(types)]
-#[tactic(auto, unfolding(dscript_tree::specs::TypeReading::read_fields, dscript_tree::specs::Reading::and_then))]
-fn fields<'a>(
-    alloc: Global,
-    room: u32,
-    tokens: &'a [Token],
-) -> Result<(Vec<Field>, u32, &'a [Token]), SyntaxFault>
-    requires { room ≤ 200 }
-    ensures read { Gives (λ v. map field_tree v.items) result (read_fields (read_type room) (kinds tokens.now)) }
-    ensures high { IfOk result (λ x. x.1 ≤ room) }
-    ensures shorter { IfOk result (λ x. length (kinds x.2.now) < length (kinds tokens.now)) }
+#[tactic(auto, unfolding(dscript_grammar::specs::TypeReading::read_fields, dscript_grammar::specs::Reading::and_then))]
+fn fields<'a>(alloc: Global, depth: Depth, tokens: &'a [Token]) -> Parse<'a, Vec<Field>>
+    ensures { Reads (λ v. map field_tree v.items)
+        (read_fields (read_type depth.levels)) depth.levels tokens.now result }
 {
-    let rest = punct(tokens, b"(")?;
-    let (fields, height, rest) = field_list(alloc, room, rest)?;
-    let rest = punct(rest, b")")?;
-    Ok((fields, height, rest))
+    let rest = punctuator(tokens, b"(")?;
+    list(alloc, depth, b")", rest, field)
 }
 
 /// The parameters and the result of a method.
 #[cycle(types)]
-#[tactic(auto, using(dscript_tree::proofs::Made::made_types), unfolding(dscript_tree::specs::TypeReading::read_method, dscript_tree::specs::Reading::and_then))]
+#[tactic(auto, using(dscript_ast::proofs::NodeViews::type_views), unfolding(dscript_grammar::specs::TypeReading::read_method, dscript_grammar::specs::Reading::and_then))]
 fn method<'a>(
     alloc: Global,
-    room: u32,
+    depth: Depth,
     name: Text,
     optional: bool,
     tokens: &'a [Token],
-) -> Result<(Member, u32, &'a [Token]), SyntaxFault>
-    requires { room ≤ 200 }
-    ensures read { Gives member_tree result (read_method (read_type room) name optional (kinds tokens.now)) }
-    ensures high { IfOk result (λ x. x.1 ≤ room) }
-    ensures shorter { IfOk result (λ x. length (kinds x.2.now) < length (kinds tokens.now)) }
+) -> Parse<'a, Member>
+    ensures { Reads member_tree (read_method (read_type depth.levels) name optional) depth.levels tokens.now
+        result }
 {
-    let (fields, fields_height, rest) = fields(alloc, room, tokens)?;
-    let rest = punct(rest, b":")?;
-    let (type_node, height, rest) = type_node(alloc, room, rest)?;
-    let member = Member::Method(name, optional, fields, type_node);
-    Ok((member, higher(fields_height, height), rest))
+    let fields = fields(alloc, depth, tokens)?;
+    let rest = punctuator(fields.rest, b":")?;
+    let result = type_node(alloc, depth, rest)?;
+    Ok(Parsed {
+        value: Member::Method(name, optional, fields.value, result.value),
+        height: higher(fields.height, result.height),
+        rest: result.rest,
+    })
 }
 
 /// A member.
 #[cycle(types)]
-#[tactic(auto, using(dscript_tree::proofs::Made::made_types), unfolding(dscript_tree::specs::TypeReading::read_member, dscript_tree::specs::Reading::and_then, dscript_tree::specs::Reading::choose))]
-fn member<'a>(
-    alloc: Global,
-    room: u32,
-    tokens: &'a [Token],
-) -> Result<(Member, u32, &'a [Token]), SyntaxFault>
-    requires { room ≤ 200 }
-    ensures read { Gives member_tree result (read_member (read_type room) (kinds tokens.now)) }
-    ensures high { IfOk result (λ x. x.1 ≤ room) }
-    ensures shorter { IfOk result (λ x. length (kinds x.2.now) < length (kinds tokens.now)) }
+#[tactic(auto, using(dscript_ast::proofs::NodeViews::type_views), unfolding(dscript_grammar::specs::TypeReading::read_member, dscript_grammar::specs::Reading::and_then, dscript_grammar::specs::Reading::choose))]
+fn member<'a>(alloc: Global, depth: Depth, tokens: &'a [Token]) -> Parse<'a, Member>
+    ensures { Reads member_tree (read_member (read_type depth.levels)) depth.levels tokens.now result }
 {
-    let (name, rest) = name(tokens)?;
-    let (optional, rest) = flag(rest, b"?");
-    let Some(rest) = take_punct(rest, b":") else {
-        return method(alloc, room, name, optional, rest);
+    let name = name(tokens)?;
+    let (optional, rest) = flag(name.rest, b"?");
+    let Some(rest) = take_punctuator(rest, b":") else {
+        return method(alloc, depth, name.value, optional, rest);
     };
-    let (type_node, height, rest) = type_node(alloc, room, rest)?;
-    let member = Member::Property(name, optional, type_node);
-    Ok((member, height, rest))
+    let property = type_node(alloc, depth, rest)?;
+    Ok(Parsed {
+        value: Member::Property(name.value, optional, property.value),
+        height: property.height,
+        rest: property.rest,
+    })
 }
 
 /// A member and its end.
 #[cycle(types)]
-#[tactic(auto, unfolding(dscript_tree::specs::TypeReading::read_ended, dscript_tree::specs::Reading::and_then))]
-fn ended_member<'a>(
-    alloc: Global,
-    room: u32,
-    tokens: &'a [Token],
-) -> Result<(Member, u32, &'a [Token]), SyntaxFault>
-    requires { room ≤ 200 }
-    ensures read { Gives member_tree result (read_ended (read_type room) (kinds tokens.now)) }
-    ensures high { IfOk result (λ x. x.1 ≤ room) }
-    ensures shorter { IfOk result (λ x. length (kinds x.2.now) < length (kinds tokens.now)) }
+#[tactic(auto, unfolding(dscript_grammar::specs::TypeReading::read_ended, dscript_grammar::specs::Reading::and_then))]
+fn ended_member<'a>(alloc: Global, depth: Depth, tokens: &'a [Token]) -> Parse<'a, Member>
+    ensures { Reads member_tree (read_ended (read_type depth.levels)) depth.levels tokens.now result }
 {
-    let (member, height, rest) = member(alloc, room, tokens)?;
-    Ok((member, height, past_end(rest)))
-}
-
-/// Members up to a closing brace.
-#[cycle(types)]
-fn member_list<'a>(
-    alloc: Global,
-    room: u32,
-    tokens: &'a [Token],
-) -> Result<(Vec<Member>, u32, &'a [Token]), SyntaxFault>
-    requires { room ≤ 200 }
-    ensures read { Gives (λ v. map member_tree v.items) result (read_many (λ us. not (at_sign "}" us)) (read_ended (read_type room)) (suc (length (kinds tokens.now))) (kinds tokens.now)) }
-    ensures high { IfOk result (λ x. x.1 ≤ room) }
-    ensures shorter { IfOk result (λ x. length (kinds x.2.now) ≤ length (kinds tokens.now)) }
-{
-    let mut members = Vec::new(alloc);
-    let mut height = 0;
-    let mut rest = tokens;
-    'members: while !at_punct(rest, b"}") {
-        let (member, member_height, behind) = ended_member(alloc, room, rest)?;
-        members.push(member)?;
-        height = higher(height, member_height);
-        rest = behind;
-    }
-    Ok((members, height, rest))
+    let member = member(alloc, depth, tokens)?;
+    Ok(Parsed {
+        value: member.value,
+        height: member.height,
+        rest: after_member_end(member.rest),
+    })
 }
 
 /// Members in braces.
 #[cycle(types)]
-#[tactic(auto, unfolding(dscript_tree::specs::TypeReading::read_body, dscript_tree::specs::Reading::and_then))]
-pub fn body<'a>(
-    alloc: Global,
-    room: u32,
-    tokens: &'a [Token],
-) -> Result<(Vec<Member>, u32, &'a [Token]), SyntaxFault>
-    requires { room ≤ 200 }
-    ensures read { Gives (λ v. map member_tree v.items) result (read_body (read_type room) (kinds tokens.now)) }
-    ensures high { IfOk result (λ x. x.1 ≤ room) }
-    ensures shorter { IfOk result (λ x. length (kinds x.2.now) < length (kinds tokens.now)) }
+#[tactic(auto, unfolding(dscript_grammar::specs::TypeReading::read_body, dscript_grammar::specs::Reading::and_then))]
+pub fn body<'a>(alloc: Global, depth: Depth, tokens: &'a [Token]) -> Parse<'a, Vec<Member>>
+    ensures { Reads (λ v. map member_tree v.items)
+        (read_body (read_type depth.levels)) depth.levels tokens.now result }
 {
-    let rest = punct(tokens, b"{")?;
-    let (members, height, rest) = member_list(alloc, room, rest)?;
-    let rest = punct(rest, b"}")?;
-    Ok((members, height, rest))
+    let rest = punctuator(tokens, b"{")?;
+    until(alloc, depth, b"}", rest, ended_member)
 }
 
 /// Types with commas between them.
 #[cycle(types)]
-pub fn type_list<'a>(
-    alloc: Global,
-    room: u32,
-    tokens: &'a [Token],
-) -> Result<(Vec<TypeNode>, u32, &'a [Token]), SyntaxFault>
-    requires { room ≤ 200 }
-    ensures read { Gives (λ v. map type_tree v.items) result (read_separated "," (read_type room) (length (kinds tokens.now)) (kinds tokens.now)) }
-    ensures high { IfOk result (λ x. x.1 ≤ room) }
-    ensures shorter { IfOk result (λ x. length (kinds x.2.now) < length (kinds tokens.now)) }
+pub fn type_list<'a>(alloc: Global, depth: Depth, tokens: &'a [Token]) -> Parse<'a, Vec<TypeNode>>
+    ensures { Reads (λ v. map type_tree v.items)
+        (λ ts. read_separated "," (read_type depth.levels) (length ts) ts)
+        depth.levels tokens.now result }
 {
-    let mut types = Vec::new(alloc);
-    let mut height = 0;
-    let mut rest = tokens;
-    'types: loop {
-        let (type_node, type_height, behind) = type_node(alloc, room, rest)?;
-        types.push(type_node)?;
-        height = higher(height, type_height);
-        match take_punct(behind, b",") {
-            Some(next) => rest = next,
-            None => return Ok((types, height, behind)),
-        }
-    }
+    separated(alloc, depth, b",", tokens, type_node)
 }
 
-/// The types in angle brackets, where there are any.
+/// The types in angle brackets, if there are any.
 #[cycle(types)]
-#[tactic(auto, unfolding(dscript_tree::specs::TypeReading::read_arguments, dscript_tree::specs::Reading::and_then, dscript_tree::specs::Reading::choose))]
-fn arguments<'a>(
-    alloc: Global,
-    room: u32,
-    tokens: &'a [Token],
-) -> Result<(Vec<TypeNode>, u32, &'a [Token]), SyntaxFault>
-    requires { room ≤ 200 }
-    ensures read { Gives (λ v. to_types (map type_tree v.items)) result (read_arguments (read_type room) (kinds tokens.now)) }
-    ensures high { IfOk result (λ x. x.1 ≤ room) }
-    ensures shorter { IfOk result (λ x. length (kinds x.2.now) ≤ length (kinds tokens.now)) }
+#[tactic(auto, unfolding(dscript_grammar::specs::TypeReading::read_arguments, dscript_grammar::specs::Reading::and_then, dscript_grammar::specs::Reading::choose))]
+fn arguments<'a>(alloc: Global, depth: Depth, tokens: &'a [Token]) -> Parse<'a, Vec<TypeNode>>
+    ensures { MayRead (λ v. to_types (map type_tree v.items))
+        (read_arguments (read_type depth.levels)) depth.levels
+        tokens.now result }
 {
-    let Some(rest) = take_punct(tokens, b"<") else {
-        return Ok((Vec::new(alloc), 0, tokens));
+    let Some(rest) = take_punctuator(tokens, b"<") else {
+        return Ok(Parsed {
+            value: Vec::new(alloc),
+            height: 0,
+            rest: tokens,
+        });
     };
-    let (types, height, rest) = type_list(alloc, room, rest)?;
-    let rest = punct(rest, b">")?;
-    Ok((types, height, rest))
+    let types = type_list(alloc, depth, rest)?;
+    Ok(Parsed {
+        value: types.value,
+        height: types.height,
+        rest: punctuator(types.rest, b">")?,
+    })
 }
 
 /// A dotted name and its arguments.
 #[cycle(types)]
-#[tactic(auto, using(dscript_tree::proofs::Made::made_types), unfolding(dscript_tree::specs::TypeReading::read_named, dscript_tree::specs::Reading::and_then))]
-fn named<'a>(
-    alloc: Global,
-    room: u32,
-    tokens: &'a [Token],
-) -> Result<(TypeNode, u32, &'a [Token]), SyntaxFault>
-    requires { room ≤ 200 }
-    ensures read { Gives type_tree result (read_named (read_type room) (kinds tokens.now)) }
-    ensures high { IfOk result (λ x. x.1 ≤ room + 1) }
-    ensures shorter { IfOk result (λ x. length (kinds x.2.now) < length (kinds tokens.now)) }
+#[tactic(auto, using(dscript_ast::proofs::NodeViews::type_views), unfolding(dscript_grammar::specs::TypeReading::read_named, dscript_grammar::specs::Reading::and_then))]
+fn named<'a>(alloc: Global, depth: Depth, tokens: &'a [Token]) -> Parse<'a, TypeNode>
+    ensures { Reads type_tree (read_named (read_type depth.levels)) (suc depth.levels) tokens.now result }
 {
-    let (names, rest) = dotted(alloc, tokens)?;
-    let (types, height, rest) = arguments(alloc, room, rest)?;
-    Ok((TypeNode::Named(names, types), height + 1, rest))
+    let names = dotted(alloc, depth, tokens)?;
+    let arguments = arguments(alloc, depth, names.rest)?;
+    Ok(Parsed {
+        value: TypeNode::Named(names.value, arguments.value),
+        height: arguments.height + 1,
+        rest: arguments.rest,
+    })
 }
 
 /// A type that is one token.
-#[tactic(auto, using(dscript_tree::proofs::Made::made_types), unfolding(dscript_tree::specs::TypeReading::read_literal, dscript_tree::specs::Reading::pick))]
-fn literal(tokens: &[Token]) -> Result<(TypeNode, u32, &[Token]), SyntaxFault>
-    ensures read { Gives type_tree result (read_literal (kinds tokens.now)) }
-    ensures high { IfOk result (λ x. x.1 ≡ 1) }
-    ensures shorter { IfOk result (λ x. length (kinds x.2.now) < length (kinds tokens.now)) }
+#[tactic(auto, using(dscript_ast::proofs::NodeViews::type_views), unfolding(dscript_grammar::specs::TypeReading::read_literal, dscript_grammar::specs::Reading::pick))]
+pub(crate) fn literal(tokens: &[Token]) -> Parse<'_, TypeNode>
+    ensures { Reads type_tree read_literal 1 tokens.now result }
 {
     let Some((token, rest)) = tokens.split_first() else {
-        return Err(SyntaxFault::Syntax);
+        return Err(Refusal::Syntax);
     };
-    match &token.kind {
-        TokenKind::Str(text) => Ok((TypeNode::Str(text.share()?), 1, rest)),
-        TokenKind::Number(number) => Ok((TypeNode::Number(*number), 1, rest)),
-        TokenKind::Word(text) if is_text(text, b"undefined") => Ok((TypeNode::Undefined, 1, rest)),
-        TokenKind::Word(text) if is_text(text, b"true") => Ok((TypeNode::True, 1, rest)),
-        TokenKind::Word(text) if is_text(text, b"false") => Ok((TypeNode::False, 1, rest)),
-        _ => Err(SyntaxFault::Syntax),
-    }
+    let value = match &token.kind {
+        TokenKind::Str(text) => TypeNode::Str(text.share()?),
+        TokenKind::Number(number) => TypeNode::Number(*number),
+        TokenKind::Word(text) if is_text(text, b"undefined") => TypeNode::Undefined,
+        TokenKind::Word(text) if is_text(text, b"true") => TypeNode::True,
+        TokenKind::Word(text) if is_text(text, b"false") => TypeNode::False,
+        _ => return Err(Refusal::Syntax),
+    };
+    Ok(Parsed {
+        value,
+        height: 1,
+        rest,
+    })
 }
 
-/// A type in parentheses.
+/// A type in parentheses, after the opening one.
 #[cycle(types)]
-#[tactic(auto, unfolding(dscript_tree::specs::TypeReading::read_enclosed, dscript_tree::specs::Reading::and_then))]
-fn enclosed<'a>(
-    alloc: Global,
-    room: u32,
-    tokens: &'a [Token],
-) -> Result<(TypeNode, u32, &'a [Token]), SyntaxFault>
-    requires { room ≤ 200 }
-    ensures read { Gives type_tree result (read_enclosed (read_type room) (kinds tokens.now)) }
-    ensures high { IfOk result (λ x. x.1 ≤ room + 1) }
-    ensures shorter { IfOk result (λ x. length (kinds x.2.now) < length (kinds tokens.now)) }
+#[tactic(auto, unfolding(dscript_grammar::specs::TypeReading::read_enclosed, dscript_grammar::specs::Reading::and_then))]
+fn enclosed<'a>(alloc: Global, depth: Depth, tokens: &'a [Token]) -> Parse<'a, TypeNode>
+    ensures { Reads type_tree (read_enclosed (read_type depth.levels)) (suc depth.levels) tokens.now result }
 {
-    let (type_node, height, rest) = type_node(alloc, room, tokens)?;
-    let rest = punct(rest, b")")?;
-    Ok((type_node, height + 1, rest))
+    let inner = type_node(alloc, depth, tokens)?;
+    Ok(Parsed {
+        value: inner.value,
+        height: inner.height + 1,
+        rest: punctuator(inner.rest, b")")?,
+    })
 }
 
-/// A type that `[` may stand behind.
+/// A type that `[` may follow.
 #[cycle(types)]
-#[tactic(auto, using(dscript_tree::proofs::Made::made_types), unfolding(dscript_tree::specs::TypeReading::read_base, dscript_tree::specs::Reading::and_then, dscript_tree::specs::Reading::choose, dscript_tree::specs::Reading::pick))]
-fn base<'a>(
-    alloc: Global,
-    room: u32,
-    tokens: &'a [Token],
-) -> Result<(TypeNode, u32, &'a [Token]), SyntaxFault>
-    requires { room ≤ 200 }
-    ensures read { Gives type_tree result (read_base (read_type room) (kinds tokens.now)) }
-    ensures high { IfOk result (λ x. x.1 ≤ room + 1) }
-    ensures shorter { IfOk result (λ x. length (kinds x.2.now) < length (kinds tokens.now)) }
+#[tactic(auto, using(dscript_ast::proofs::NodeViews::type_views), unfolding(dscript_grammar::specs::TypeReading::read_base, dscript_grammar::specs::Reading::and_then, dscript_grammar::specs::Reading::choose, dscript_grammar::specs::Reading::pick))]
+fn base<'a>(alloc: Global, depth: Depth, tokens: &'a [Token]) -> Parse<'a, TypeNode>
+    ensures { Reads type_tree (read_base (read_type depth.levels)) (suc depth.levels) tokens.now result }
 {
-    if let Some(rest) = take_punct(tokens, b"(") {
-        return enclosed(alloc, room, rest);
+    if let Some(rest) = take_punctuator(tokens, b"(") {
+        return enclosed(alloc, depth, rest);
     }
-    if at_punct(tokens, b"{") {
-        let (members, height, rest) = body(alloc, room, tokens)?;
-        return Ok((TypeNode::Body(members), height + 1, rest));
+    if at_punctuator(tokens, b"{") {
+        let members = body(alloc, depth, tokens)?;
+        return Ok(Parsed {
+            value: TypeNode::Body(members.value),
+            height: members.height + 1,
+            rest: members.rest,
+        });
     }
-    if at_id(tokens) {
-        return named(alloc, room, tokens);
+    if at_identifier(tokens) {
+        return named(alloc, depth, tokens);
     }
     literal(tokens)
 }
 
 /// A function type.
 #[cycle(types)]
-#[tactic(auto, using(dscript_tree::proofs::Made::made_types), unfolding(dscript_tree::specs::TypeReading::read_function, dscript_tree::specs::Reading::and_then))]
-fn function<'a>(
-    alloc: Global,
-    room: u32,
-    tokens: &'a [Token],
-) -> Result<(TypeNode, u32, &'a [Token]), SyntaxFault>
-    requires { room ≤ 200 }
-    ensures read { Gives type_tree result (read_function (read_type room) (kinds tokens.now)) }
-    ensures high { IfOk result (λ x. x.1 ≤ room + 1) }
-    ensures shorter { IfOk result (λ x. length (kinds x.2.now) < length (kinds tokens.now)) }
+#[tactic(auto, using(dscript_ast::proofs::NodeViews::type_views), unfolding(dscript_grammar::specs::TypeReading::read_function, dscript_grammar::specs::Reading::and_then))]
+fn function<'a>(alloc: Global, depth: Depth, tokens: &'a [Token]) -> Parse<'a, TypeNode>
+    ensures { Reads type_tree (read_function (read_type depth.levels)) (suc depth.levels) tokens.now result }
 {
-    let (fields, fields_height, rest) = fields(alloc, room, tokens)?;
-    let rest = punct(rest, b"=>")?;
-    let (type_node, height, rest) = type_node(alloc, room, rest)?;
-    let function = TypeNode::Function(fields, Box::new(alloc, type_node)?);
-    Ok((function, higher(fields_height, height) + 1, rest))
+    let fields = fields(alloc, depth, tokens)?;
+    let rest = punctuator(fields.rest, b"=>")?;
+    let result = type_node(alloc, depth, rest)?;
+    Ok(Parsed {
+        value: TypeNode::Function(fields.value, Box::new(alloc, result.value)?),
+        height: higher(fields.height, result.height) + 1,
+        rest: result.rest,
+    })
 }
 
-/// How many `[]` stand at the front.
-fn brackets(tokens: &[Token]) -> Result<(usize, &[Token]), SyntaxFault>
-    ensures read { GivesFlat (λ n. n) result (read_brackets (length (kinds tokens.now)) (kinds tokens.now)) }
-    ensures no_longer { IfOk result (λ x. x.0 + length (kinds x.1.now) ≤ length (kinds tokens.now)) }
+/// How many `[]` the tokens begin with.
+pub(crate) fn brackets(tokens: &[Token]) -> Parse<'_, usize>
+    ensures { MayRead (λ n. n) (λ ts. read_brackets (length ts) ts) 0 tokens.now result }
 {
     let mut count = 0;
     let mut rest = tokens;
-    'brackets: while let Some(behind) = take_punct(rest, b"[") {
-        rest = punct(behind, b"]")?;
+    'brackets: while let Some(inner) = take_punctuator(rest, b"[") {
+        rest = punctuator(inner, b"]")?;
         count += 1;
     }
-    Ok((count, rest))
-}
-
-/// A type with so many `[]` behind it.
-#[tactic(auto, using(dscript_tree::proofs::Made::made_types), unfolding(dscript_tree::specs::TypeReading::as_array, dscript_tree::specs::TypeReading::above, dscript_tree::specs::Reading::pick))]
-fn as_array<'a>(
-    alloc: Global,
-    room: u32,
-    type_node: TypeNode,
-    height: u32,
-    count: usize,
-    rest: &'a [Token],
-) -> Result<(TypeNode, u32, &'a [Token]), SyntaxFault>
-    requires room { room ≤ 200 }
-    requires height { height ≤ room + 1 }
-    ensures read { Gives type_tree result (as_array (read_type room) room (type_tree type_node) height count (kinds rest.now)) }
-    ensures high { IfOk result (λ x. x.1 ≤ room + 1) }
-    ensures same { IfOk result (λ x. kinds x.2.now ≡ kinds rest.now) }
-{
-    if count == 0 {
-        return Ok((type_node, height, rest));
-    }
-    if height > room {
-        return Err(SyntaxFault::Syntax);
-    }
-    Ok((
-        TypeNode::Array(Box::new(alloc, type_node)?, count),
-        height + 1,
+    Ok(Parsed {
+        value: count,
+        height: 0,
         rest,
-    ))
+    })
 }
 
-/// A type, and the `[]` behind it.
-#[cycle(types)]
-#[tactic(auto, unfolding(dscript_tree::specs::TypeReading::read_array, dscript_tree::specs::Reading::and_then))]
-fn array<'a>(
+/// A type with this many `[]` after it.
+#[tactic(auto, using(dscript_ast::proofs::NodeViews::type_views), unfolding(dscript_grammar::specs::TypeReading::as_array, dscript_grammar::specs::Reading::pick))]
+pub(crate) fn as_array<'a>(
     alloc: Global,
-    room: u32,
-    tokens: &'a [Token],
-) -> Result<(TypeNode, u32, &'a [Token]), SyntaxFault>
-    requires { room ≤ 200 }
-    ensures read { Gives type_tree result (read_array (read_type room) room (kinds tokens.now)) }
-    ensures high { IfOk result (λ x. x.1 ≤ room + 1) }
-    ensures shorter { IfOk result (λ x. length (kinds x.2.now) < length (kinds tokens.now)) }
+    depth: Depth,
+    element: Parsed<'a, TypeNode>,
+    brackets: Parsed<'a, usize>,
+) -> Parse<'a, TypeNode>
+    requires { element.height ≤ suc depth.levels }
+    ensures { Gives type_tree
+        (as_array (read_type depth.levels) depth.levels (type_tree element.entry.value) element.entry.height
+        brackets.entry.value (kinds brackets.entry.rest.now))
+        (suc depth.levels) (suc (length (kinds brackets.entry.rest.now))) result }
 {
-    let (type_node, height, rest) = base(alloc, room, tokens)?;
-    let (count, rest) = brackets(rest)?;
-    as_array(alloc, room, type_node, height, count, rest)
+    if brackets.value == 0 {
+        return Ok(Parsed {
+            value: element.value,
+            height: element.height,
+            rest: brackets.rest,
+        });
+    }
+    let array = TypeNode::Array(Box::new(alloc, element.value)?, brackets.value);
+    node(depth, array, element.height, brackets.rest)
+}
+
+/// A type, and the `[]` after it.
+#[cycle(types)]
+#[tactic(auto, unfolding(dscript_grammar::specs::TypeReading::read_array, dscript_grammar::specs::Reading::and_then))]
+fn array<'a>(alloc: Global, depth: Depth, tokens: &'a [Token]) -> Parse<'a, TypeNode>
+    ensures { Reads type_tree (read_array (read_type depth.levels) depth.levels)
+        (suc depth.levels) tokens.now result }
+{
+    let element = base(alloc, depth, tokens)?;
+    let brackets = brackets(element.rest)?;
+    as_array(alloc, depth, element, brackets)
 }
 
 /// Types with `|` between them; a function type is the last.
 #[cycle(types)]
-fn union<'a>(
-    alloc: Global,
-    room: u32,
-    tokens: &'a [Token],
-) -> Result<(Vec<TypeNode>, u32, &'a [Token]), SyntaxFault>
-    requires { room ≤ 200 }
-    ensures read { Gives (λ v. map type_tree v.items) result (read_union (read_type room) room (suc (length (kinds tokens.now))) (kinds tokens.now)) }
-    ensures high { IfOk result (λ x. x.1 ≤ room + 1) }
-    ensures shorter { IfOk result (λ x. length (kinds x.2.now) < length (kinds tokens.now)) }
+fn union<'a>(alloc: Global, depth: Depth, tokens: &'a [Token]) -> Parse<'a, Vec<TypeNode>>
+    ensures { Reads (λ v. map type_tree v.items)
+        (λ ts. read_union (read_type depth.levels) depth.levels (suc (length ts)) ts)
+        (suc depth.levels) tokens.now result }
 {
     let mut types = Vec::new(alloc);
     let mut height = 0;
     let mut rest = tokens;
     'alternatives: while !at_function(rest) {
-        let (type_node, type_height, behind) = array(alloc, room, rest)?;
-        types.push(type_node)?;
-        height = higher(height, type_height);
-        match take_punct(behind, b"|") {
+        let alternative = array(alloc, depth, rest)?;
+        let after = alternative.rest;
+        height = higher(height, alternative.height);
+        types.push(alternative.value)?;
+        match take_punctuator(after, b"|") {
             Some(next) => rest = next,
-            None => return Ok((types, height, behind)),
+            None => {
+                return Ok(Parsed {
+                    value: types,
+                    height,
+                    rest: after,
+                });
+            }
         }
     }
-    let (type_node, type_height, behind) = function(alloc, room, rest)?;
-    types.push(type_node)?;
-    Ok((types, higher(height, type_height), behind))
+    let last = function(alloc, depth, rest)?;
+    types.push(last.value)?;
+    Ok(Parsed {
+        value: types,
+        height: higher(height, last.height),
+        rest: last.rest,
+    })
 }
 
 /// The union of types, or the only one.
-#[tactic(auto, using(dscript_tree::proofs::Made::made_types), unfolding(dscript_tree::specs::TypeReading::as_union, dscript_tree::specs::TypeReading::above, dscript_tree::specs::Reading::pick))]
-fn as_union<'a>(
-    room: u32,
-    types: Vec<TypeNode>,
-    height: u32,
-    rest: &'a [Token],
-) -> Result<(TypeNode, u32, &'a [Token]), SyntaxFault>
-    requires room { room ≤ 200 }
-    requires height { height ≤ room + 1 }
-    ensures read { Gives type_tree result (as_union (read_type room) room (map type_tree types.items) height (kinds rest.now)) }
-    ensures high { IfOk result (λ x. x.1 ≤ room + 1) }
-    ensures same { IfOk result (λ x. kinds x.2.now ≡ kinds rest.now) }
+#[tactic(auto, using(dscript_ast::proofs::NodeViews::type_views), unfolding(dscript_grammar::specs::TypeReading::as_union, dscript_grammar::specs::Reading::pick))]
+pub(crate) fn as_union<'a>(
+    depth: Depth,
+    alternatives: Parsed<'a, Vec<TypeNode>>,
+) -> Parse<'a, TypeNode>
+    requires { alternatives.height ≤ suc depth.levels }
+    ensures { Gives type_tree
+        (as_union (read_type depth.levels) depth.levels (map type_tree alternatives.entry.value.items)
+        alternatives.entry.height (kinds alternatives.entry.rest.now))
+        (suc depth.levels) (suc (length (kinds alternatives.entry.rest.now))) result }
 {
-    let mut types = types;
+    let mut types = alternatives.value;
     if types.len() > 1 {
-        if height > room {
-            return Err(SyntaxFault::Syntax);
-        }
-        return Ok((TypeNode::Union(types), height + 1, rest));
+        return node(
+            depth,
+            TypeNode::Union(types),
+            alternatives.height,
+            alternatives.rest,
+        );
     }
     match types.pop() {
-        Some(type_node) => Ok((type_node, height, rest)),
-        None => Err(SyntaxFault::Syntax),
+        Some(only) => Ok(Parsed {
+            value: only,
+            height: alternatives.height,
+            rest: alternatives.rest,
+        }),
+        None => Err(Refusal::Syntax),
     }
 }
 
-/// A type, with room for so many nodes below it.
+/// A type, as high as one more than the levels that are left below it.
 #[cycle(types)]
-#[tactic(auto, unfolding(dscript_tree::specs::TypeReading::read_any, dscript_tree::specs::Reading::and_then))]
-fn any_type<'a>(
-    alloc: Global,
-    room: u32,
-    tokens: &'a [Token],
-) -> Result<(TypeNode, u32, &'a [Token]), SyntaxFault>
-    requires { room ≤ 200 }
-    ensures read { Gives type_tree result (read_any (read_type room) room (kinds tokens.now)) }
-    ensures high { IfOk result (λ x. x.1 ≤ room + 1) }
-    ensures shorter { IfOk result (λ x. length (kinds x.2.now) < length (kinds tokens.now)) }
+#[tactic(auto, unfolding(dscript_grammar::specs::TypeReading::read_any, dscript_grammar::specs::Reading::and_then))]
+fn any_type<'a>(alloc: Global, depth: Depth, tokens: &'a [Token]) -> Parse<'a, TypeNode>
+    ensures { Reads type_tree (read_any (read_type depth.levels) depth.levels)
+        (suc depth.levels) tokens.now result }
 {
-    let (types, height, rest) = union(alloc, room, tokens)?;
-    as_union(room, types, height, rest)
+    let alternatives = union(alloc, depth, tokens)?;
+    as_union(depth, alternatives)
 }

@@ -1,3 +1,5 @@
+//! Which tokens of a text may be left out.
+
 use super::*;
 
 /// The tokens of a text but one.
@@ -18,10 +20,9 @@ fn needed_tokens(alloc: Global, text: &str, form: Form) -> Result<String, Fail> 
     let mut mask = String::new(alloc);
     for place in 0..count {
         let others = tokens_without(alloc, text, place)?;
-        let letter = if is_file(alloc, &others, form)? {
-            'o'
-        } else {
-            'x'
+        let letter = match place_in(alloc, &others, form)? {
+            None => 'o',
+            Some(_) => 'x',
         };
         mask.push(letter)?;
     }

@@ -1,7 +1,9 @@
+//! Texts that are files and texts that are none, each with the place where it is refused.
+
 use super::*;
 
-// One text a line. Types stand behind `type A =`, expressions behind `const a =` and statements in the
-// body of a function.
+// One text a line. A type is tried after `type A =`, an expression after `const a =` and a statement in the body of
+// a function.
 
 const ITEMS: &str = r#";
 ;;;
@@ -135,7 +137,6 @@ function f<A extends B>() {}
 function f(): {}
 function f() => a
 function f() { return a }
-function f() { return a; } }
 namespace {}
 namespace a
 namespace a;
@@ -166,7 +167,6 @@ interface A { (): B }
 interface A { "a": B }
 interface A { 1: B }
 interface A { [a: B]: C }
-interface A { a: B } extends C
 interface A = B;
 type A
 type A;
@@ -625,35 +625,75 @@ config({});
 const a = 1;
 "#;
 
+// A text a line, after the number of its tokens before the place where it is refused.
+const PLACES: &str = r#"0 a
+0 const
+0 const a = 1
+1 ; a
+5 const a = 1; const b
+5 const a = 1; }
+5 const a = 1; 1; const b = 2;
+6 ; const a = 1; import {,} from "m"; ;
+7 import * as a from "m"; import * as b from "n"
+9 function f() { return a; } }
+7 interface A { a: B } extends C
+0 namespace a { const b = 1; a; }
+11 namespace a { const b = 1; } ;; namespace c { d }
+0 config({});
+"#;
+
 #[test]
-fn texts_are_files_or_none(rt: HostRuntime) -> Result<(), Fail> {
+fn texts_are_files_or_refused_at_a_place(rt: HostRuntime) -> Result<(), Fail> {
     let tables = [
-        (ITEMS, 11, Form::Project, "", "", true),
-        (NO_ITEMS, 43, Form::Project, "", "", false),
-        (DECLARATIONS, 37, Form::Project, "", "", true),
-        (NO_DECLARATIONS, 75, Form::Project, "", "", false),
-        (TYPES, 36, Form::Project, "type A = ", ";", true),
-        (NO_TYPES, 38, Form::Project, "type A = ", ";", false),
-        (EXPRESSIONS, 99, Form::Project, "const a = ", ";", true),
-        (NO_EXPRESSIONS, 127, Form::Project, "const a = ", ";", false),
-        (STATEMENTS, 32, Form::Project, "function f() { ", " }", true),
+        (ITEMS, 11, Form::Project, "", "", None),
+        (NO_ITEMS, 43, Form::Project, "", "", Some(0)),
+        (DECLARATIONS, 37, Form::Project, "", "", None),
+        (NO_DECLARATIONS, 73, Form::Project, "", "", Some(0)),
+        (TYPES, 36, Form::Project, "type A = ", ";", None),
+        (NO_TYPES, 38, Form::Project, ";; type A = ", ";", Some(2)),
+        (EXPRESSIONS, 99, Form::Project, "const a = ", ";", None),
+        (
+            NO_EXPRESSIONS,
+            127,
+            Form::Project,
+            "const b = 1; const a = ",
+            ";",
+            Some(5),
+        ),
+        (STATEMENTS, 32, Form::Project, "function f() { ", " }", None),
         (
             NO_STATEMENTS,
             57,
             Form::Project,
-            "function f() { ",
+            "; function f() { ",
             " }",
-            false,
+            Some(1),
         ),
-        (CONFIGURATIONS, 5, Form::Config, "", "", true),
-        (NO_CONFIGURATIONS, 19, Form::Config, "", "", false),
-        (MODULES, 4, Form::Module, "", "", true),
-        (NO_MODULES, 11, Form::Module, "", "", false),
+        (CONFIGURATIONS, 5, Form::Config, "", "", None),
+        (NO_CONFIGURATIONS, 19, Form::Config, "", "", Some(0)),
+        (MODULES, 4, Form::Module, "", "", None),
+        (NO_MODULES, 11, Form::Module, "", "", Some(0)),
     ];
     for (lines, count, form, before, after, wanted) in tables {
         let wrong = wrong_lines(rt.alloc(), lines, form, before, after, wanted)?;
-        assert_eq!(rt; wrong.as_str(), "", "wanted: {wanted}");
+        assert_eq!(rt; wrong.as_str(), "", "wanted: {wanted:?}");
         assert_eq!(rt; lines.lines().count(), count);
     }
+    Ok(())
+}
+
+#[test]
+fn a_project_is_refused_at_its_first_wrong_item(rt: HostRuntime) -> Result<(), Fail> {
+    let mut found = String::new(rt.alloc());
+    for line in PLACES.lines() {
+        let Some((_, text)) = line.split_once(' ') else {
+            continue;
+        };
+        if let Some(place) = place_of(rt.alloc(), text, Form::Project)? {
+            let line = format!(in rt.alloc(); "{place} {text}\n")?;
+            found.push_str(&line)?;
+        }
+    }
+    assert_eq!(rt; found.as_str(), PLACES);
     Ok(())
 }

@@ -1,6 +1,6 @@
 use Rattle.std.proofs.Common.{◌≡◌, drop}
-use Rattle.dscript_tree.specs.ExprReading.{read_one_of}
-use Rattle.dscript_parse_types.specs.Gives.{kinds}
+use Rattle.dscript_grammar.specs.ExprReading.{read_one_of}
+use Rattle.dscript_parse_tokens.specs.Gives.{kinds}
 use Rattle.dscript_parse_exprs.proofs.lookahead.one_of.Given as goal
 
 abbrev pub invariant-operators : goal.invariant-operators

@@ -1,10 +1,10 @@
 use Rattle.std.proofs.Common.{length}
-use Rattle.dscript_parse_types.specs.Gives.{kinds}
-use Rattle.dscript_parse_types.specs.TypeFronts.{BracketsFront}
+use Rattle.dscript_parse_tokens.specs.Gives.{kinds}
+use Rattle.dscript_parse_types.specs.UnionInvariants.{BracketsInvariant}
 use Rattle.dscript_parse_types.proofs.types.brackets.Given as goal
 
 abbrev pub invariant-brackets : goal.invariant-brackets
-invariant-brackets l = BracketsFront l.count (kinds l.rest) (kinds l.tokens)
+invariant-brackets l = BracketsInvariant l.count (kinds l.rest) (kinds l.tokens)
 
 abbrev pub decreases-brackets : goal.decreases-brackets
 decreases-brackets l = length (kinds l.rest)

@@ -1,0 +1,5 @@
+pub mod Loops
+pub mod Closing
+pub mod NameLists
+pub mod Refusals
+pub mod Steps

@@ -1,0 +1,21 @@
+//! The lowest layer of the parser of DScript: single tokens, lists, and what a function of the parser gives.
+//!
+//! A function of the parser reads from the start of a list of tokens, with as many levels of nesting
+//! as are left. It gives what the reader of the grammar that has its name gives, and refuses exactly
+//! where that one does: `specs/Gives.antt` says it once for all of them.
+#![tactic(auto)]
+
+mod depth;
+mod lists;
+mod parsed;
+mod syntax;
+mod tokens;
+
+pub use depth::Depth;
+pub use lists::{dotted, list, many, names, separated, until};
+pub use parsed::{Parse, Parsed, Refusal, higher, node};
+pub use syntax::Syntax;
+pub use tokens::{
+    at_identifier, at_punctuator, flag, identifier, is_text, keyword, name, punctuator, string,
+    string_at, take_keyword, take_punctuator,
+};
