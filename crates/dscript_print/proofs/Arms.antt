@@ -1,21 +1,21 @@
--- What is written of each kind of expression and statement, step by step.
+-- The tokens of expressions and statements, step by step, and of lists of their parts.
 use Rattle.std.proofs.Common.{◌≡◌, ℕ, Bool, true, false, List, [], ◌∷◌, ◌++◌, map, length, refl, ap, sym, ◌∙◌, append_assoc, arith, zero, suc, ◌≤◌, take}
 use Rattle.dscript_lex.specs.declared.token.TokenKind.{TokenKind}
 use Rattle.dscript_lex.specs.declared.token.TokenKind.TheVariants as kinds
-use Rattle.dscript_tree.specs.ExprTree.{ExprTree, Cond, Chain, Signed, Post, Path, StmtTree, For, Return, Value, MaybeExpr, HoleTree, Hole, to_exprs, to_operands, to_parts, to_elements, to_props, to_holes, to_stmts}
-use Rattle.dscript_tree.specs.Views.{expr_tree, operand_tree, part_tree, element_tree, prop_tree, hole_tree, stmt_tree}
-use Rattle.dscript_tree.specs.declared.expr.Expr.{Expr}
-use Rattle.dscript_tree.specs.declared.expr.Stmt.{Stmt}
-use Rattle.dscript_tree.specs.declared.expr.PostPart.{PostPart}
-use Rattle.dscript_tree.specs.declared.expr.Prop.{Prop}
-use Rattle.dscript_tree.specs.declared.expr.Operand as operands
-use Rattle.dscript_tree.specs.declared.expr.Element as elements
-use Rattle.dscript_tree.specs.declared.expr.Hole as holes
-use Rattle.dscript_tree.specs.declared.expr.LoopKind.{LoopKind}
-use Rattle.dscript_tree.specs.declared.expr.PathKind.{PathKind}
-use Rattle.dscript_tree.specs.declared.expr.Sign.{Sign}
+use Rattle.dscript_ast.specs.ExprTree.{ExprTree, Cond, Chain, Unary, Postfix, Path, StmtTree, For, Return, Value, MaybeExpr, HoleTree, Hole, to_exprs, to_operands, to_parts, to_elements, to_props, to_holes, to_stmts}
+use Rattle.dscript_ast.specs.Views.{expr_tree, operand_tree, part_tree, element_tree, prop_tree, hole_tree, stmt_tree}
+use Rattle.dscript_ast.specs.declared.expr.Expr.{Expr}
+use Rattle.dscript_ast.specs.declared.expr.Stmt.{Stmt}
+use Rattle.dscript_ast.specs.declared.expr.PostfixPart.{PostfixPart}
+use Rattle.dscript_ast.specs.declared.expr.Prop.{Prop}
+use Rattle.dscript_ast.specs.declared.expr.Operand as operands
+use Rattle.dscript_ast.specs.declared.expr.Element as elements
+use Rattle.dscript_ast.specs.declared.expr.Hole as holes
+use Rattle.dscript_ast.specs.declared.expr.LoopKind.{LoopKind}
+use Rattle.dscript_ast.specs.declared.expr.PathKind.{PathKind}
+use Rattle.dscript_ast.specs.declared.operator.UnaryOp.{UnaryOp}
 use Rattle.dscript_print.specs.Runs.{punct, keyword, joined}
-use Rattle.dscript_print.specs.Printed.{middle_run, tail_run}
+use Rattle.dscript_print.specs.Written.{middle_run, tail_run}
 use Rattle.dscript_print.specs.ExprKinds.{tighter, prefix_kind, letter_kind, loop_kind, node_kinds, expr_kinds, exprs_kinds, operands_kinds, operand_kinds, parts_kinds, part_kinds, elements_kinds, element_kinds, props_kinds, prop_kinds, holes_kinds, hole_kinds, first_text, stmt_kinds, stmts_kinds, maybe_kinds}
 
 pub two_steps : (o s n a b k : List TokenKind) → k ≡ a ++ b → s ≡ o ++ a → n ≡ s ++ b → n ≡ o ++ k
@@ -30,28 +30,28 @@ four_steps o s u v n a b d f k e p q r t = two_steps o s n a (b ++ (d ++ f)) k e
 pub five_steps : (o s u v w n a b d f g k : List TokenKind) → k ≡ a ++ (b ++ (d ++ (f ++ g))) → s ≡ o ++ a → u ≡ s ++ b → v ≡ u ++ d → w ≡ v ++ f → n ≡ w ++ g → n ≡ o ++ k
 five_steps o s u v w n a b d f g k e p q r t x = two_steps o s n a (b ++ (d ++ (f ++ g))) k e p (four_steps s u v w n b d f g (b ++ (d ++ (f ++ g))) refl q r t x)
 
-pub chain_run : (front : Bool) (x : ExprTree) (loose : ℕ) (d : Expr) (l : List operands.Operand) → x ≡ Chain loose (expr_tree d) (to_operands (map operand_tree l))
-    → node_kinds x front ≡ expr_kinds front (tighter loose) (expr_tree d) ++ joined (operands_kinds (tighter loose) (to_operands (map operand_tree l)))
+pub chain_run : (unbraced : Bool) (x : ExprTree) (level : ℕ) (d : Expr) (l : List operands.Operand) → x ≡ Chain level (expr_tree d) (to_operands (map operand_tree l))
+    → node_kinds x unbraced ≡ expr_kinds unbraced (tighter level) (expr_tree d) ++ joined (operands_kinds (tighter level) (to_operands (map operand_tree l)))
 unfolding node_kinds
-chain_run front x loose d l e = ap (λ y. node_kinds y front) e
+chain_run unbraced x level d l e = ap (λ y. node_kinds y unbraced) e
 
-pub cond_run : (front : Bool) (x : ExprTree) (a b d : Expr) → x ≡ Cond (expr_tree a) (expr_tree b) (expr_tree d)
-    → node_kinds x front ≡ expr_kinds front 8 (expr_tree a) ++ ((punct "?" ∷ []) ++ (expr_kinds false 10 (expr_tree b) ++ ((punct ":" ∷ []) ++ expr_kinds false 10 (expr_tree d))))
+pub cond_run : (unbraced : Bool) (x : ExprTree) (a b d : Expr) → x ≡ Cond (expr_tree a) (expr_tree b) (expr_tree d)
+    → node_kinds x unbraced ≡ expr_kinds unbraced 8 (expr_tree a) ++ ((punct "?" ∷ expr_kinds false 10 (expr_tree b)) ++ (punct ":" ∷ expr_kinds false 10 (expr_tree d)))
 unfolding node_kinds
-cond_run front x a b d e = ap (λ y. node_kinds y front) e
+cond_run unbraced x a b d e = ap (λ y. node_kinds y unbraced) e
 
-pub signed_run : (front : Bool) (x : ExprTree) (ops : List Sign) (d : Expr) → x ≡ Signed ops (expr_tree d) → node_kinds x front ≡ map prefix_kind ops ++ expr_kinds false 1 (expr_tree d)
+pub signed_run : (unbraced : Bool) (x : ExprTree) (ops : List UnaryOp) (d : Expr) → x ≡ Unary ops (expr_tree d) → node_kinds x unbraced ≡ map prefix_kind ops ++ expr_kinds false 1 (expr_tree d)
 unfolding node_kinds
-signed_run front x ops d e = ap (λ y. node_kinds y front) e
+signed_run unbraced x ops d e = ap (λ y. node_kinds y unbraced) e
 
-pub post_run : (front : Bool) (x : ExprTree) (d : Expr) (l : List PostPart) → x ≡ Post (expr_tree d) (to_parts (map part_tree l)) → node_kinds x front ≡ expr_kinds front 0 (expr_tree d) ++ joined (parts_kinds (to_parts (map part_tree l)))
+pub post_run : (unbraced : Bool) (x : ExprTree) (d : Expr) (l : List PostfixPart) → x ≡ Postfix (expr_tree d) (to_parts (map part_tree l)) → node_kinds x unbraced ≡ expr_kinds unbraced 0 (expr_tree d) ++ joined (parts_kinds (to_parts (map part_tree l)))
 unfolding node_kinds
-post_run front x d l e = ap (λ y. node_kinds y front) e
+post_run unbraced x d l e = ap (λ y. node_kinds y unbraced) e
 
-pub path_run : (front : Bool) (x : ExprTree) (k : PathKind) (text : List ℕ) (l : List holes.Hole) → x ≡ Path k text (to_holes (map hole_tree l))
-    → node_kinds x front ≡ (letter_kind k ∷ []) ++ (first_text (to_holes (map hole_tree l)) text ∷ holes_kinds (to_holes (map hole_tree l)))
+pub path_run : (unbraced : Bool) (x : ExprTree) (k : PathKind) (text : List ℕ) (l : List holes.Hole) → x ≡ Path k text (to_holes (map hole_tree l))
+    → node_kinds x unbraced ≡ (letter_kind k ∷ []) ++ (first_text (to_holes (map hole_tree l)) text ∷ holes_kinds (to_holes (map hole_tree l)))
 unfolding node_kinds
-path_run front x k text l e = ap (λ y. node_kinds y front) e
+path_run unbraced x k text l e = ap (λ y. node_kinds y unbraced) e
 
 pub for_run : (x : StmtTree) (k : LoopKind) (name : List ℕ) (d : Expr) (b : Stmt) → x ≡ For k name (expr_tree d) (stmt_tree b)
     → stmt_kinds x ≡ (keyword "for" ∷ punct "(" ∷ loop_kind k ∷ kinds.Word name ∷ keyword "of" ∷ []) ++ (expr_kinds false 10 (expr_tree d) ++ ((punct ")" ∷ []) ++ stmt_kinds (stmt_tree b)))
@@ -77,7 +77,7 @@ unfolding exprs_kinds
 operands_listed tight [] = refl
 operands_listed tight (x ∷ xs) = ap (λ ys. operand_kinds tight (operand_tree x) ∷ ys) (operands_listed tight xs)
 
-pub parts_listed : (xs : List PostPart) → parts_kinds (to_parts (map part_tree xs)) ≡ map (λ x. part_kinds (part_tree x)) xs
+pub parts_listed : (xs : List PostfixPart) → parts_kinds (to_parts (map part_tree xs)) ≡ map (λ x. part_kinds (part_tree x)) xs
 unfolding exprs_kinds
 parts_listed [] = refl
 parts_listed (x ∷ xs) = ap (λ ys. part_kinds (part_tree x) ∷ ys) (parts_listed xs)
@@ -110,13 +110,13 @@ hole_row : (y z : holes.Hole) (zs : List holes.Hole) → holes_kinds (to_holes (
 unfolding holes_kinds
 hole_row y z zs = refl
 
-hole_behind : (y : holes.Hole) (ys : List holes.Hole) (x : holes.Hole) → holes_kinds (to_holes (map hole_tree (y ∷ (ys ++ (x ∷ []))))) ≡ middle_run y ++ holes_kinds (to_holes (map hole_tree (ys ++ (x ∷ []))))
-hole_behind y [] x = hole_row y x [] ∙ hole_first (hole_tree y) kinds.Middle (holes_kinds (to_holes (map hole_tree (x ∷ []))))
-hole_behind y (z ∷ zs) x = hole_row y z (zs ++ (x ∷ [])) ∙ hole_first (hole_tree y) kinds.Middle (holes_kinds (to_holes (map hole_tree (z ∷ (zs ++ (x ∷ []))))))
+hole_then : (y : holes.Hole) (ys : List holes.Hole) (x : holes.Hole) → holes_kinds (to_holes (map hole_tree (y ∷ (ys ++ (x ∷ []))))) ≡ middle_run y ++ holes_kinds (to_holes (map hole_tree (ys ++ (x ∷ []))))
+hole_then y [] x = hole_row y x [] ∙ hole_first (hole_tree y) kinds.Middle (holes_kinds (to_holes (map hole_tree (x ∷ []))))
+hole_then y (z ∷ zs) x = hole_row y z (zs ++ (x ∷ [])) ∙ hole_first (hole_tree y) kinds.Middle (holes_kinds (to_holes (map hole_tree (z ∷ (zs ++ (x ∷ []))))))
 
 holes_listed : (xs : List holes.Hole) (x : holes.Hole) → holes_kinds (to_holes (map hole_tree (xs ++ (x ∷ [])))) ≡ joined (map middle_run xs) ++ tail_run x
 holes_listed [] x = hole_alone x
-holes_listed (y ∷ ys) x = hole_behind y ys x ∙ ap (λ zs. middle_run y ++ zs) (holes_listed ys x) ∙ sym (append_assoc (middle_run y) (joined (map middle_run ys)) (tail_run x))
+holes_listed (y ∷ ys) x = hole_then y ys x ∙ ap (λ zs. middle_run y ++ zs) (holes_listed ys x) ∙ sym (append_assoc (middle_run y) (joined (map middle_run ys)) (tail_run x))
 
 some_holes : (xs : List holes.Hole) (x : holes.Hole) (text : List ℕ) → first_text (to_holes (map hole_tree (xs ++ (x ∷ [])))) text ≡ kinds.Head text
 some_holes [] x text = refl
@@ -142,15 +142,15 @@ template_run xs all x text i o s n m whole l p q r =
     p (q ∙ ap (λ ys. s ++ joined (map middle_run ys)) (take_whole xs i l)) r
 
 -- a tree is put together of equal parts
-pub chain_from : (t : ExprTree) (loose : ℕ) (f d : Expr) (v l : List operands.Operand) → t ≡ Chain loose (expr_tree f) (to_operands (map operand_tree v)) → d ≡ f → l ≡ v → t ≡ Chain loose (expr_tree d) (to_operands (map operand_tree l))
-chain_from t loose f d v l e p q =
-    e ∙ ap (λ y. Chain loose (expr_tree y) (to_operands (map operand_tree v))) (sym p) ∙ ap (λ y. Chain loose (expr_tree d) (to_operands (map operand_tree y))) (sym q)
+pub chain_from : (t : ExprTree) (level : ℕ) (f d : Expr) (v l : List operands.Operand) → t ≡ Chain level (expr_tree f) (to_operands (map operand_tree v)) → d ≡ f → l ≡ v → t ≡ Chain level (expr_tree d) (to_operands (map operand_tree l))
+chain_from t level f d v l e p q =
+    e ∙ ap (λ y. Chain level (expr_tree y) (to_operands (map operand_tree v))) (sym p) ∙ ap (λ y. Chain level (expr_tree d) (to_operands (map operand_tree y))) (sym q)
 
-pub signed_from : (t : ExprTree) (v l : List Sign) (f d : Expr) → t ≡ Signed v (expr_tree f) → l ≡ v → d ≡ f → t ≡ Signed l (expr_tree d)
-signed_from t v l f d e p q = e ∙ ap (λ y. Signed y (expr_tree f)) (sym p) ∙ ap (λ y. Signed l (expr_tree y)) (sym q)
+pub signed_from : (t : ExprTree) (v l : List UnaryOp) (f d : Expr) → t ≡ Unary v (expr_tree f) → l ≡ v → d ≡ f → t ≡ Unary l (expr_tree d)
+signed_from t v l f d e p q = e ∙ ap (λ y. Unary y (expr_tree f)) (sym p) ∙ ap (λ y. Unary l (expr_tree y)) (sym q)
 
-pub post_from : (t : ExprTree) (f d : Expr) (v l : List PostPart) → t ≡ Post (expr_tree f) (to_parts (map part_tree v)) → d ≡ f → l ≡ v → t ≡ Post (expr_tree d) (to_parts (map part_tree l))
-post_from t f d v l e p q = e ∙ ap (λ y. Post (expr_tree y) (to_parts (map part_tree v))) (sym p) ∙ ap (λ y. Post (expr_tree d) (to_parts (map part_tree y))) (sym q)
+pub post_from : (t : ExprTree) (f d : Expr) (v l : List PostfixPart) → t ≡ Postfix (expr_tree f) (to_parts (map part_tree v)) → d ≡ f → l ≡ v → t ≡ Postfix (expr_tree d) (to_parts (map part_tree l))
+post_from t f d v l e p q = e ∙ ap (λ y. Postfix (expr_tree y) (to_parts (map part_tree v))) (sym p) ∙ ap (λ y. Postfix (expr_tree d) (to_parts (map part_tree y))) (sym q)
 
 pub path_from : (t : ExprTree) (k : PathKind) (text : List ℕ) (v l : List holes.Hole) → t ≡ Path k text (to_holes (map hole_tree v)) → l ≡ v → t ≡ Path k text (to_holes (map hole_tree l))
 path_from t k text v l e q = e ∙ ap (λ y. Path k text (to_holes (map hole_tree y))) (sym q)

@@ -1,16 +1,16 @@
--- What is written of declarations, as lists of parts lie in memory.
+-- The tokens of declarations, from lists of parts as they are in memory.
 use Rattle.std.proofs.Common.{◌≡◌, ◌<◌, List, [], ◌∷◌, ◌++◌, map, length, refl, ap, sym, ◌∙◌, arith}
 use Rattle.dscript_lex.specs.declared.token.TokenKind.{TokenKind}
-use Rattle.dscript_tree.specs.TypeTree.{to_types}
-use Rattle.dscript_tree.specs.ExprTree.{to_stmts}
-use Rattle.dscript_tree.specs.FileTree.{to_marked}
-use Rattle.dscript_tree.specs.Views.{type_tree, stmt_tree, marked_tree}
-use Rattle.dscript_tree.specs.declared.type_node.TypeNode.{TypeNode}
-use Rattle.dscript_tree.specs.declared.expr.Stmt.{Stmt}
-use Rattle.dscript_tree.specs.declared.file.Marked as marked
+use Rattle.dscript_ast.specs.TypeTree.{to_types}
+use Rattle.dscript_ast.specs.ExprTree.{to_stmts}
+use Rattle.dscript_ast.specs.FileTree.{to_marked}
+use Rattle.dscript_ast.specs.Views.{type_tree, stmt_tree, marked_tree}
+use Rattle.dscript_ast.specs.declared.type_node.TypeNode.{TypeNode}
+use Rattle.dscript_ast.specs.declared.expr.Stmt.{Stmt}
+use Rattle.dscript_ast.specs.declared.file.Marked as marked
 use Rattle.dscript_print.specs.Runs.{punct, keyword, joined, separate}
 use Rattle.dscript_print.specs.TypeKinds.{types_kinds, type_kinds}
-use Rattle.dscript_tree.specs.TypeGrammar.{any_type}
+use Rattle.dscript_grammar.specs.TypeGrammar.{any_type}
 use Rattle.dscript_print.specs.ExprKinds.{stmt_kinds, stmts_kinds}
 use Rattle.dscript_print.specs.FileKinds.{extends_kinds, block_kinds, marked_kinds, all_marked_kinds}
 use Rattle.dscript_print.proofs.Steps.{types_listed, maps_listed}

@@ -1,8 +1,8 @@
 pub mod Spelled
-pub mod Shown
-pub mod TypesShown
-pub mod ExprsShown
-pub mod FilesShown
+pub mod Reprint
+pub mod TypeReprint
+pub mod ExprReprint
+pub mod FileReprint
 pub mod Sources
 pub mod Steps
 pub mod Arms

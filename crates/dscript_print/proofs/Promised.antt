@@ -1,8 +1,8 @@
 -- A text that has a file's tokens reads as the file.
 use Rattle.std.proofs.Common.{◌≡◌, ℕ, List, sym, subst, ◌∙◌}
 use Rattle.dscript_lex.specs.declared.token.TokenKind.{TokenKind}
-use Rattle.dscript_tree.specs.Derives.{Derives}
-use Rattle.dscript_tree.specs.FileTree.{FileTree}
+use Rattle.dscript_grammar.specs.Derives.{Derives}
+use Rattle.dscript_ast.specs.FileTree.{FileTree}
 use Rattle.dscript_spell.specs.Spellable.{AreSpellable, HasKinds}
 use Rattle.dscript_print.specs.FileKinds.{file_kinds}
 use Rattle.dscript_print.specs.Printing.{Prints}

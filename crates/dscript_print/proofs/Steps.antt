@@ -1,26 +1,26 @@
--- What is written part by part.
+-- Loops that write parts, step by step.
 use Rattle.std.proofs.Common.{◌≡◌, ℕ, zero, suc, ◌+◌, ◌<◌, ◌≤◌, List, [], ◌∷◌, ◌++◌, map, length, take, get_or, Result, Ok, Err, IfOk, refl, ap, sym, ◌∙◌, subst, append_assoc, add-one, arith}
 use Rattle.std.proofs.lemmas.List.{take_more, map-append}
 use Rattle.dscript_print.proofs.Spelled.{append_nil}
 use Rattle.dscript_lex.specs.declared.token.TokenKind.{TokenKind}
 use Prim.Native.String.{String}
-use Rattle.dscript_tree.specs.TypeTree.{to_types, to_fields, to_members}
-use Rattle.dscript_tree.specs.Views.{type_tree, field_tree, member_tree}
-use Rattle.dscript_tree.specs.TypeGrammar.{earlier_type, last_type}
-use Rattle.dscript_tree.specs.declared.type_node.TypeNode.{TypeNode}
-use Rattle.dscript_tree.specs.declared.type_node.Field as fields
-use Rattle.dscript_tree.specs.declared.type_node.Member as members
-use Rattle.dscript_print.specs.Runs.{punct, joined, led, repeated}
+use Rattle.dscript_ast.specs.TypeTree.{to_types, to_fields, to_members}
+use Rattle.dscript_ast.specs.Views.{type_tree, field_tree, member_tree}
+use Rattle.dscript_grammar.specs.TypeGrammar.{earlier_type, last_type}
+use Rattle.dscript_ast.specs.declared.type_node.TypeNode.{TypeNode}
+use Rattle.dscript_ast.specs.declared.type_node.Field as fields
+use Rattle.dscript_ast.specs.declared.type_node.Member as members
+use Rattle.dscript_print.specs.Runs.{punct, joined, preceded, repeated}
 use Rattle.dscript_print.specs.TypeKinds.{argument_run, type_kinds, types_kinds, fields_kinds, members_kinds, union_kinds}
-use Rattle.dscript_print.specs.Printed.{type_run, earlier_run, field_run, member_run}
+use Rattle.dscript_print.specs.Written.{type_run, earlier_run, field_run, member_run}
 
 pub joined_snoc : (xs : List (List TokenKind)) (x : List TokenKind) → joined (xs ++ (x ∷ [])) ≡ joined xs ++ x
 joined_snoc [] x = append_nil x
 joined_snoc (y ∷ ys) x = ap (λ zs. y ++ zs) (joined_snoc ys x) ∙ sym (append_assoc y (joined ys) x)
 
-pub led_snoc : (s : String) (xs : List (List TokenKind)) (x : List TokenKind) → led s (xs ++ (x ∷ [])) ≡ led s xs ++ (punct s ∷ x)
+pub led_snoc : (s : String) (xs : List (List TokenKind)) (x : List TokenKind) → preceded s (xs ++ (x ∷ [])) ≡ preceded s xs ++ (punct s ∷ x)
 led_snoc s [] x = ap (λ ys. punct s ∷ ys) (append_nil x)
-led_snoc s (y ∷ ys) x = ap (λ zs. punct s ∷ (y ++ zs)) (led_snoc s ys x) ∙ ap (λ zs. punct s ∷ zs) (sym (append_assoc y (led s ys) (punct s ∷ x)))
+led_snoc s (y ∷ ys) x = ap (λ zs. punct s ∷ (y ++ zs)) (led_snoc s ys x) ∙ ap (λ zs. punct s ∷ zs) (sym (append_assoc y (preceded s ys) (punct s ∷ x)))
 
 -- one part more
 pub joined_more : {X : Type 0} (k : X → List TokenKind) (xs : List X) (i : ℕ) (x : X) → i < length xs → x ≡ get_or xs i x → joined (map k (take (i + 1) xs)) ≡ joined (map k (take i xs)) ++ k x
@@ -28,17 +28,17 @@ joined_more k xs i x l e =
     ap (λ ys. joined (map k ys)) (take_more xs i x l) ∙ ap joined (map-append k (take i xs) (get_or xs i x ∷ []))
     ∙ joined_snoc (map k (take i xs)) (k (get_or xs i x)) ∙ ap (λ y. joined (map k (take i xs)) ++ k y) (sym e)
 
-pub led_more : {X : Type 0} (s : String) (k : X → List TokenKind) (xs : List X) (i : ℕ) (x : X) → i < length xs → x ≡ get_or xs i x → led s (map k (take (i + 1) xs)) ≡ led s (map k (take i xs)) ++ (punct s ∷ k x)
+pub led_more : {X : Type 0} (s : String) (k : X → List TokenKind) (xs : List X) (i : ℕ) (x : X) → i < length xs → x ≡ get_or xs i x → preceded s (map k (take (i + 1) xs)) ≡ preceded s (map k (take i xs)) ++ (punct s ∷ k x)
 led_more s k xs i x l e =
-    ap (λ ys. led s (map k ys)) (take_more xs i x l) ∙ ap (led s) (map-append k (take i xs) (get_or xs i x ∷ []))
-    ∙ led_snoc s (map k (take i xs)) (k (get_or xs i x)) ∙ ap (λ y. led s (map k (take i xs)) ++ (punct s ∷ k y)) (sym e)
+    ap (λ ys. preceded s (map k ys)) (take_more xs i x l) ∙ ap (preceded s) (map-append k (take i xs) (get_or xs i x ∷ []))
+    ∙ led_snoc s (map k (take i xs)) (k (get_or xs i x)) ∙ ap (λ y. preceded s (map k (take i xs)) ++ (punct s ∷ k y)) (sym e)
 
 pub repeated_more : (n : ℕ) (xs : List TokenKind) → repeated (n + 1) xs ≡ repeated n xs ++ xs
-repeated_more n xs = subst (λ m. repeated m xs ≡ repeated n xs ++ xs) (sym (add-one n)) (behind n xs)
+repeated_more n xs = subst (λ m. repeated m xs ≡ repeated n xs ++ xs) (sym (add-one n)) (brackets_after n xs)
   where
-    behind : (n : ℕ) (xs : List TokenKind) → repeated (suc n) xs ≡ repeated n xs ++ xs
-    behind zero xs = append_nil xs
-    behind (suc n) xs = ap (λ ys. xs ++ ys) (behind n xs) ∙ sym (append_assoc xs (repeated n xs) xs)
+    brackets_after : (n : ℕ) (xs : List TokenKind) → repeated (suc n) xs ≡ repeated n xs ++ xs
+    brackets_after zero xs = append_nil xs
+    brackets_after (suc n) xs = ap (λ ys. xs ++ ys) (brackets_after n xs) ∙ sym (append_assoc xs (repeated n xs) xs)
 
 pub types_listed : (xs : List TypeNode) → types_kinds (to_types (map type_tree xs)) ≡ map type_run xs
 unfolding types_kinds
@@ -73,17 +73,17 @@ union_listed (y ∷ ys) x = before y ys x (union_listed ys x)
         ap (λ ws. type_kinds earlier_type (type_tree y) ++ (punct "|" ∷ ws)) e
         ∙ first y (joined (map (λ t. type_kinds earlier_type (type_tree t) ++ (punct "|" ∷ [])) (z ∷ zs))) (type_kinds last_type (type_tree x))
 
--- a turn of a loop that writes parts, and one that writes each with a sign in front
+-- one step of a loop that writes parts, and of one that writes a punctuator before each
 pub joined_step : {X : Type 0} (k : X → List TokenKind) (xs : List X) (i : ℕ) (x : X) (before now after : List TokenKind)
     → now ≡ before ++ joined (map k (take i xs)) → after ≡ now ++ k x → i < length xs → x ≡ get_or xs i x → after ≡ before ++ joined (map k (take (i + 1) xs))
 joined_step k xs i x before now after p q l e =
     q ∙ ap (λ ys. ys ++ k x) p ∙ append_assoc before (joined (map k (take i xs))) (k x) ∙ ap (λ ys. before ++ ys) (sym (joined_more k xs i x l e))
 
 pub led_step : {X : Type 0} (s : String) (k : X → List TokenKind) (xs : List X) (i : ℕ) (x : X) (before now mid after : List TokenKind)
-    → now ≡ before ++ led s (map k (take i xs)) → mid ≡ now ++ (punct s ∷ []) → after ≡ mid ++ k x → i < length xs → x ≡ get_or xs i x → after ≡ before ++ led s (map k (take (i + 1) xs))
+    → now ≡ before ++ preceded s (map k (take i xs)) → mid ≡ now ++ (punct s ∷ []) → after ≡ mid ++ k x → i < length xs → x ≡ get_or xs i x → after ≡ before ++ preceded s (map k (take (i + 1) xs))
 led_step s k xs i x before now mid after p m q l e =
-    q ∙ ap (λ ys. ys ++ k x) (m ∙ ap (λ ys. ys ++ (punct s ∷ [])) p) ∙ append_assoc (before ++ led s (map k (take i xs))) (punct s ∷ []) (k x)
-    ∙ append_assoc before (led s (map k (take i xs))) (punct s ∷ k x) ∙ ap (λ ys. before ++ ys) (sym (led_more s k xs i x l e))
+    q ∙ ap (λ ys. ys ++ k x) (m ∙ ap (λ ys. ys ++ (punct s ∷ [])) p) ∙ append_assoc (before ++ preceded s (map k (take i xs))) (punct s ∷ []) (k x)
+    ∙ append_assoc before (preceded s (map k (take i xs))) (punct s ∷ k x) ∙ ap (λ ys. before ++ ys) (sym (led_more s k xs i x l e))
 
 pub repeated_step : (n : ℕ) (a b : TokenKind) (before now mid after : List TokenKind)
     → now ≡ before ++ repeated n (a ∷ b ∷ []) → mid ≡ now ++ (a ∷ []) → after ≡ mid ++ (b ∷ []) → after ≡ before ++ repeated (n + 1) (a ∷ b ∷ [])
@@ -99,7 +99,7 @@ pub some_arguments : (xs : List TypeNode) (run : List TokenKind) → 0 < length 
 some_arguments [] run e = absurd (omega (arith, e))
 some_arguments (x ∷ xs) run e = refl
 
--- the same turns, where K gives the runs of a list of parts
+-- one step of such a loop, where K gives the tokens of each part of a list
 module _ {X : Type 0} (K : List X → List (List TokenKind)) (k : X → List TokenKind) (listed : (xs : List X) → K xs ≡ map k xs) where
   pub joined_turn : (xs : List X) (i : ℕ) (x : X) (before now after : List TokenKind)
       → now ≡ before ++ joined (K (take i xs)) → after ≡ now ++ k x → i < length xs → x ≡ get_or xs i x → after ≡ before ++ joined (K (take (i + 1) xs))
@@ -107,9 +107,9 @@ module _ {X : Type 0} (K : List X → List (List TokenKind)) (k : X → List Tok
       joined_step k xs i x before now after (p ∙ ap (λ r. before ++ joined r) (listed (take i xs))) q l e ∙ ap (λ r. before ++ joined r) (sym (listed (take (i + 1) xs)))
 
   pub led_turn : (s : String) (xs : List X) (i : ℕ) (x : X) (before now mid after : List TokenKind)
-      → now ≡ before ++ led s (K (take i xs)) → mid ≡ now ++ (punct s ∷ []) → after ≡ mid ++ k x → i < length xs → x ≡ get_or xs i x → after ≡ before ++ led s (K (take (i + 1) xs))
+      → now ≡ before ++ preceded s (K (take i xs)) → mid ≡ now ++ (punct s ∷ []) → after ≡ mid ++ k x → i < length xs → x ≡ get_or xs i x → after ≡ before ++ preceded s (K (take (i + 1) xs))
   led_turn s xs i x before now mid after p m q l e =
-      led_step s k xs i x before now mid after (p ∙ ap (λ r. before ++ led s r) (listed (take i xs))) m q l e ∙ ap (λ r. before ++ led s r) (sym (listed (take (i + 1) xs)))
+      led_step s k xs i x before now mid after (p ∙ ap (λ r. before ++ preceded s r) (listed (take i xs))) m q l e ∙ ap (λ r. before ++ preceded s r) (sym (listed (take (i + 1) xs)))
 
 -- what a call adds, where it went well
 pub if_ok : {R E : Type 0} {P Q : R → Type 0} (r : Result R E) → ((x : R) → P x → Q x) → IfOk r P → IfOk r Q

@@ -2,16 +2,15 @@
 use Rattle.std.specs.Prelude.{ℕ, zero, suc, nat_lt, Bool, true, false, ◌&&◌, ◌||◌, List, [], ◌∷◌, ◌++◌, map}
 use Rattle.dscript_lex.specs.declared.token.TokenKind.{TokenKind}
 use Rattle.dscript_lex.specs.declared.token.TokenKind.TheVariants as kinds
-use Rattle.dscript_tree.specs.ExprTree.{ParamTree, HeadTree, Single, Params, ExprTree, Arrow, BlockArrow, Cond, Chain, Signed, Post, Number, Str, True, False, Undefined, Template, Path, Name, Elements, Object, OperandTree, Operand, PartTree, Member, Index, Call, ElementTree, Element, PropTree, Named, Quoted, Short, Spread, HoleTree, Hole, StmtTree, Const, Let, Assign, If, For, Return, Value, Block, Empty, MaybeExpr, no_expr, an_expr, MaybeStmt, no_stmt, a_stmt, ExprTrees, no_exprs, more_exprs, OperandTrees, no_operands, more_operands, PartTrees, no_parts, more_parts, ElementTrees, no_elements, more_elements, PropTrees, no_props, more_props, HoleTrees, no_holes, more_holes, StmtTrees, no_stmts, more_stmts}
-use Rattle.dscript_tree.specs.ExprGrammar.{looseness, any_expr, or_expr, post_expr, prim_expr}
-use Rattle.dscript_tree.specs.declared.expr.LoopKind.{LoopKind}
-use Rattle.dscript_tree.specs.declared.expr.LoopKind.TheVariants as loops
-use Rattle.dscript_tree.specs.declared.expr.Operator.{Operator}
-use Rattle.dscript_tree.specs.declared.expr.Operator.TheVariants as operators
-use Rattle.dscript_tree.specs.declared.expr.PathKind.{PathKind}
-use Rattle.dscript_tree.specs.declared.expr.PathKind.TheVariants as letters
-use Rattle.dscript_tree.specs.declared.expr.Sign.{Sign}
-use Rattle.dscript_tree.specs.declared.expr.Sign.TheVariants as signs
+use Rattle.dscript_ast.specs.ExprTree.{ParamTree, HeadTree, Single, Params, ExprTree, Arrow, BlockArrow, Cond, Chain, Unary, Postfix, Number, Str, True, False, Undefined, Template, Path, Name, Elements, Object, OperandTree, Operand, PartTree, Member, Index, Call, ElementTree, Element, PropTree, Named, Quoted, Short, Spread, HoleTree, Hole, StmtTree, Const, Let, Assign, If, For, Return, Value, Block, Empty, MaybeExpr, no_expr, an_expr, MaybeStmt, no_stmt, a_stmt, ExprTrees, no_exprs, more_exprs, OperandTrees, no_operands, more_operands, PartTrees, no_parts, more_parts, ElementTrees, no_elements, more_elements, PropTrees, no_props, more_props, HoleTrees, no_holes, more_holes, StmtTrees, no_stmts, more_stmts}
+use Rattle.dscript_grammar.specs.ExprGrammar.{expr_precedence, any_expr, or_expr, postfix_expr, primary_expr}
+use Rattle.dscript_ast.specs.declared.expr.LoopKind.{LoopKind}
+use Rattle.dscript_ast.specs.declared.expr.LoopKind.TheVariants as loops
+use Rattle.dscript_ast.specs.declared.operator.BinaryOp.{BinaryOp}
+use Rattle.dscript_ast.specs.declared.expr.PathKind.{PathKind}
+use Rattle.dscript_ast.specs.declared.expr.PathKind.TheVariants as letters
+use Rattle.dscript_ast.specs.declared.operator.UnaryOp.{UnaryOp}
+use Rattle.dscript_ast.specs.Operators.{spelling, unary_spelling}
 use Rattle.dscript_print.specs.Runs.{punct, keyword, enclosed_if, run_if, joined, separate}
 use Rattle.dscript_print.specs.TypeKinds.{optional_name, note_kinds}
 
@@ -20,40 +19,29 @@ abbrev pub is_object : ExprTree → Bool
 is_object (Object _) = true
 is_object _ = false
 
--- whether parentheses are needed where an expression may be no looser than this, and, where it stands in
--- front, may not begin with `{`
+-- whether an expression needs parentheses where at most this level is allowed and, if the flag is set, no `{`
+-- at the start
 abbrev pub is_enclosed : Bool → ℕ → ExprTree → Bool
-is_enclosed front loose e = nat_lt loose (looseness e) || (front && is_object e)
+is_enclosed unbraced level e = nat_lt level (expr_precedence e) || (unbraced && is_object e)
 
--- The tokens of a node there. Only what stands in parentheses may begin as it likes.
+-- The tokens of a node, with or without parentheses. Inside parentheses it may begin with any token.
 abbrev pub placed : Bool → Bool → (Bool → List TokenKind) → List TokenKind
-placed true front node = enclosed_if true (node false)
-placed false front node = node front
+placed true unbraced node = enclosed_if true (node false)
+placed false unbraced node = node unbraced
 
 abbrev pub fit : Bool → ℕ → ExprTree → (Bool → List TokenKind) → List TokenKind
-fit front loose e node = placed (is_enclosed front loose e) front node
+fit unbraced level e node = placed (is_enclosed unbraced level e) unbraced node
 
 -- the next tighter level
 abbrev pub tighter : ℕ → ℕ
 tighter zero = zero
 tighter (suc n) = n
 
-abbrev pub prefix_kind : Sign → TokenKind
-prefix_kind signs.Not = punct "!"
-prefix_kind signs.Negative = punct "-"
+abbrev pub prefix_kind : UnaryOp → TokenKind
+prefix_kind op = punct (unary_spelling op)
 
-abbrev pub operator_kind : Operator → TokenKind
-operator_kind operators.Or = punct "||"
-operator_kind operators.And = punct "&&"
-operator_kind operators.Same = punct "==="
-operator_kind operators.Differs = punct "!=="
-operator_kind operators.Less = punct "<"
-operator_kind operators.AtMost = punct "<="
-operator_kind operators.Greater = punct ">"
-operator_kind operators.AtLeast = punct ">="
-operator_kind operators.Plus = punct "+"
-operator_kind operators.Minus = punct "-"
-operator_kind operators.Times = punct "*"
+abbrev pub operator_kind : BinaryOp → TokenKind
+operator_kind op = punct (spelling op)
 
 abbrev pub letter_kind : PathKind → TokenKind
 letter_kind letters.Path = keyword "p"
@@ -76,7 +64,7 @@ abbrev pub head_kinds : HeadTree → List TokenKind
 head_kinds (Single x) = kinds.Word x ∷ []
 head_kinds (Params ps) = params_kinds ps
 
--- the text behind a hole, by the holes behind it
+-- the text after a hole, by the holes after it
 abbrev pub text_before : HoleTrees → List ℕ → TokenKind
 text_before no_holes text = kinds.Tail text
 text_before (more_holes _ _) text = kinds.Middle text
@@ -86,27 +74,31 @@ abbrev pub first_text : HoleTrees → List ℕ → TokenKind
 first_text no_holes text = kinds.Whole text
 first_text (more_holes _ _) text = kinds.Head text
 
--- nodes without parentheses around them, and the runs of their parts; the flag says that the node stands
--- in front, where it may not begin with `{`
+-- nodes without parentheses around them, and the tokens of their parts; the flag says that the node may not
+-- begin with `{`
 unfoldable mutual
   pub node_kinds : ExprTree → Bool → List TokenKind
-  node_kinds (Arrow x e) front = head_kinds x ++ (punct "=>" ∷ fit true any_expr e (node_kinds e))
-  node_kinds (BlockArrow x ss) front = head_kinds x ++ (punct "=>" ∷ punct "{" ∷ (joined (stmts_kinds ss) ++ (punct "}" ∷ [])))
-  node_kinds (Cond c a b) front =
-      fit front or_expr c (node_kinds c) ++ (punct "?" ∷ (fit false any_expr a (node_kinds a) ++ (punct ":" ∷ fit false any_expr b (node_kinds b))))
-  node_kinds (Chain loose e more) front = fit front (tighter loose) e (node_kinds e) ++ joined (operands_kinds (tighter loose) more)
-  node_kinds (Signed ops e) front = map prefix_kind ops ++ fit false post_expr e (node_kinds e)
-  node_kinds (Post e parts) front = fit front prim_expr e (node_kinds e) ++ joined (parts_kinds parts)
-  node_kinds (Number n) front = kinds.Number n ∷ []
-  node_kinds (Str s) front = kinds.Str s ∷ []
-  node_kinds True front = keyword "true" ∷ []
-  node_kinds False front = keyword "false" ∷ []
-  node_kinds Undefined front = keyword "undefined" ∷ []
-  node_kinds (Template text hs) front = first_text hs text ∷ holes_kinds hs
-  node_kinds (Path kind text hs) front = letter_kind kind ∷ first_text hs text ∷ holes_kinds hs
-  node_kinds (Name x) front = kinds.Word x ∷ []
-  node_kinds (Elements es) front = punct "[" ∷ (separate "," (elements_kinds es) ++ (punct "]" ∷ []))
-  node_kinds (Object ps) front = punct "{" ∷ (separate "," (props_kinds ps) ++ (punct "}" ∷ []))
+  node_kinds (Arrow x e) unbraced = head_kinds x ++ (punct "=>" ∷ fit true any_expr e (node_kinds e))
+  node_kinds (BlockArrow x ss) unbraced =
+      head_kinds x ++ (punct "=>" ∷ punct "{" ∷ (joined (stmts_kinds ss) ++ (punct "}" ∷ [])))
+  node_kinds (Cond c a b) unbraced =
+      fit unbraced or_expr c (node_kinds c) ++ (punct "?" ∷ (fit false any_expr a (node_kinds a) ++ (punct ":"
+      ∷ fit false any_expr b (node_kinds b))))
+  node_kinds (Chain level e more) unbraced =
+      fit unbraced (tighter level) e (node_kinds e) ++ joined (operands_kinds (tighter level) more)
+  node_kinds (Unary ops e) unbraced = map prefix_kind ops ++ fit false postfix_expr e (node_kinds e)
+  node_kinds (Postfix e parts) unbraced =
+      fit unbraced primary_expr e (node_kinds e) ++ joined (parts_kinds parts)
+  node_kinds (Number n) unbraced = kinds.Number n ∷ []
+  node_kinds (Str s) unbraced = kinds.Str s ∷ []
+  node_kinds True unbraced = keyword "true" ∷ []
+  node_kinds False unbraced = keyword "false" ∷ []
+  node_kinds Undefined unbraced = keyword "undefined" ∷ []
+  node_kinds (Template text hs) unbraced = first_text hs text ∷ holes_kinds hs
+  node_kinds (Path kind text hs) unbraced = letter_kind kind ∷ first_text hs text ∷ holes_kinds hs
+  node_kinds (Name x) unbraced = kinds.Word x ∷ []
+  node_kinds (Elements es) unbraced = punct "[" ∷ (separate "," (elements_kinds es) ++ (punct "]" ∷ []))
+  node_kinds (Object ps) unbraced = punct "{" ∷ (separate "," (props_kinds ps) ++ (punct "}" ∷ []))
 
   pub exprs_kinds : ExprTrees → List (List TokenKind)
   exprs_kinds no_exprs = []
@@ -149,18 +141,24 @@ unfoldable mutual
   holes_kinds no_holes = []
   holes_kinds (more_holes x xs) = hole_kinds x (text_before xs) (holes_kinds xs)
 
-  -- a hole, the text behind it as a token, and then the others
+  -- a hole, the text after it as a token, and the other holes
   pub hole_kinds : HoleTree → (List ℕ → TokenKind) → List TokenKind → List TokenKind
   hole_kinds (Hole e text) kind_of others = fit false any_expr e (node_kinds e) ++ (kind_of text ∷ others)
 
   pub stmt_kinds : StmtTree → List TokenKind
-  stmt_kinds (Const x t e) = keyword "const" ∷ kinds.Word x ∷ (note_kinds t ++ (punct "=" ∷ (fit false any_expr e (node_kinds e) ++ (punct ";" ∷ []))))
-  stmt_kinds (Let x t e) = keyword "let" ∷ kinds.Word x ∷ (note_kinds t ++ (value_kinds e ++ (punct ";" ∷ [])))
-  stmt_kinds (Assign x e) = kinds.Word x ∷ punct "=" ∷ (fit false any_expr e (node_kinds e) ++ (punct ";" ∷ []))
+  stmt_kinds (Const x t e) =
+      keyword "const" ∷ kinds.Word x ∷ (note_kinds t ++ (punct "=" ∷ (fit false any_expr e (node_kinds e)
+      ++ (punct ";" ∷ []))))
+  stmt_kinds (Let x t e) =
+      keyword "let" ∷ kinds.Word x ∷ (note_kinds t ++ (value_kinds e ++ (punct ";" ∷ [])))
+  stmt_kinds (Assign x e) =
+      kinds.Word x ∷ punct "=" ∷ (fit false any_expr e (node_kinds e) ++ (punct ";" ∷ []))
   stmt_kinds (If c s other) =
-      keyword "if" ∷ punct "(" ∷ (fit false any_expr c (node_kinds c) ++ (punct ")" ∷ (stmt_kinds s ++ else_kinds other)))
+      keyword "if" ∷ punct "(" ∷ (fit false any_expr c (node_kinds c) ++ (punct ")" ∷ (stmt_kinds s
+      ++ else_kinds other)))
   stmt_kinds (For kind x list s) =
-      keyword "for" ∷ punct "(" ∷ loop_kind kind ∷ kinds.Word x ∷ keyword "of" ∷ (fit false any_expr list (node_kinds list) ++ (punct ")" ∷ stmt_kinds s))
+      keyword "for" ∷ punct "(" ∷ loop_kind kind ∷ kinds.Word x ∷ keyword "of"
+      ∷ (fit false any_expr list (node_kinds list) ++ (punct ")" ∷ stmt_kinds s))
   stmt_kinds (Return e) = keyword "return" ∷ (maybe_kinds e ++ (punct ";" ∷ []))
   stmt_kinds (Value e) = fit true any_expr e (node_kinds e) ++ (punct ";" ∷ [])
   stmt_kinds (Block ss) = punct "{" ∷ (joined (stmts_kinds ss) ++ (punct "}" ∷ []))
@@ -182,6 +180,6 @@ unfoldable mutual
   stmts_kinds no_stmts = []
   stmts_kinds (more_stmts x xs) = stmt_kinds x ∷ stmts_kinds xs
 
--- an expression that may be no looser than this; the flag says that it may not begin with `{`
+-- an expression where at most this level is allowed; the flag says that it may not begin with `{`
 abbrev pub expr_kinds : Bool → ℕ → ExprTree → List TokenKind
-expr_kinds front loose e = fit front loose e (node_kinds e)
+expr_kinds unbraced level e = fit unbraced level e (node_kinds e)

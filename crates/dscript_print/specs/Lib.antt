@@ -2,5 +2,5 @@ pub mod Runs
 pub mod TypeKinds
 pub mod ExprKinds
 pub mod FileKinds
-pub mod Printed
+pub mod Written
 pub mod Printing

@@ -1,14 +1,14 @@
--- Runs of tokens, of which the tokens of a tree are made.
+-- Lists of tokens, of which the tokens of a tree are made.
 use Prim.Native.String.{String}
 use Rattle.std.specs.Prelude.{ℕ, zero, suc, Bool, true, false, List, [], ◌∷◌, ◌++◌, codes}
 use Rattle.dscript_lex.specs.declared.token.TokenKind.{TokenKind}
 use Rattle.dscript_lex.specs.declared.token.TokenKind.TheVariants as kinds
 
--- the sign so spelled
+-- the punctuator with this spelling
 abbrev pub punct : String → TokenKind
 punct s = kinds.Punct (codes s)
 
--- the word so spelled
+-- the word with this spelling
 abbrev pub keyword : String → TokenKind
 keyword w = kinds.Word (codes w)
 
@@ -26,26 +26,26 @@ abbrev pub run_if : Bool → List TokenKind → List TokenKind
 run_if true xs = xs
 run_if false xs = []
 
--- the runs, one behind another
+-- the lists, one after another
 abbrev pub joined : List (List TokenKind) → List TokenKind
 joined [] = []
 joined (x ∷ xs) = x ++ joined xs
 
--- the runs, each with the sign in front of it
-abbrev pub led : String → List (List TokenKind) → List TokenKind
-led s [] = []
-led s (x ∷ xs) = punct s ∷ (x ++ led s xs)
+-- the lists, with the punctuator before each
+abbrev pub preceded : String → List (List TokenKind) → List TokenKind
+preceded s [] = []
+preceded s (x ∷ xs) = punct s ∷ (x ++ preceded s xs)
 
--- the runs, with the sign between any two
+-- the lists, with the punctuator between any two
 abbrev pub separate : String → List (List TokenKind) → List TokenKind
 separate s [] = []
-separate s (x ∷ xs) = x ++ led s xs
+separate s (x ∷ xs) = x ++ preceded s xs
 
--- a word as a run
+-- a word as a list
 abbrev pub word_run : List ℕ → List TokenKind
 word_run w = kinds.Word w ∷ []
 
--- the tokens, so many times
+-- the tokens, n times
 abbrev pub repeated : ℕ → List TokenKind → List TokenKind
 repeated zero xs = []
 repeated (suc n) xs = xs ++ repeated n xs

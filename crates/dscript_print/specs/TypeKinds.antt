@@ -2,20 +2,20 @@
 use Rattle.std.specs.Prelude.{ℕ, nat_lt, Bool, Option, Some, None, List, [], ◌∷◌, ◌++◌, map}
 use Rattle.dscript_lex.specs.declared.token.TokenKind.{TokenKind}
 use Rattle.dscript_lex.specs.declared.token.TokenKind.TheVariants as kinds
-use Rattle.dscript_tree.specs.TypeTree.{TypeTree, Union, Array, Named, Str, Number, Undefined, True, False, Body, Function, FieldTree, Field, MemberTree, Property, Method, TypeTrees, no_types, more_types, FieldTrees, no_fields, more_fields, MemberTrees, no_members, more_members}
-use Rattle.dscript_tree.specs.TypeGrammar.{looseness, any_type, last_type, earlier_type, base_type}
+use Rattle.dscript_ast.specs.TypeTree.{TypeTree, Union, Array, Named, Str, Number, Undefined, True, False, Body, Function, FieldTree, Field, MemberTree, Property, Method, TypeTrees, no_types, more_types, FieldTrees, no_fields, more_fields, MemberTrees, no_members, more_members}
+use Rattle.dscript_grammar.specs.TypeGrammar.{type_precedence, any_type, last_type, earlier_type, base_type}
 use Rattle.dscript_print.specs.Runs.{punct, keyword, enclosed_if, run_if, joined, separate, word_run, repeated}
 
--- the tokens of a node where a type may be no looser than this: in parentheses where the node is looser
+-- the tokens of a type where at most this level is allowed: in parentheses if its own level is looser
 abbrev pub fit : ℕ → TypeTree → List TokenKind → List TokenKind
-fit loose t xs = enclosed_if (nat_lt loose (looseness t)) xs
+fit level t xs = enclosed_if (nat_lt level (type_precedence t)) xs
 
--- how loose a type of a union may be, by what stands behind it
+-- the level that is allowed for a type of a union, by the types after it
 abbrev pub place_before : TypeTrees → ℕ
 place_before no_types = last_type
 place_before (more_types _ _) = earlier_type
 
--- the tokens of the types of a union, with `|` in front of each but the first
+-- the tokens of the other types of a union, after a `|`
 abbrev pub before_bar : TypeTrees → List TokenKind → List TokenKind
 before_bar no_types xs = xs
 before_bar (more_types _ _) xs = punct "|" ∷ xs
@@ -34,7 +34,8 @@ unfoldable mutual
   pub type_node_kinds : TypeTree → List TokenKind
   type_node_kinds (Union ts) = union_kinds ts
   type_node_kinds (Array t n) = fit base_type t (type_node_kinds t) ++ repeated n (punct "[" ∷ punct "]" ∷ [])
-  type_node_kinds (Named names args) = separate "." (map word_run names) ++ argument_run args (separate "," (types_kinds args))
+  type_node_kinds (Named names args) =
+      separate "." (map word_run names) ++ argument_run args (separate "," (types_kinds args))
   type_node_kinds (Str s) = kinds.Str s ∷ []
   type_node_kinds (Number n) = kinds.Number n ∷ []
   type_node_kinds Undefined = keyword "undefined" ∷ []
@@ -42,37 +43,41 @@ unfoldable mutual
   type_node_kinds False = keyword "false" ∷ []
   type_node_kinds (Body members) = punct "{" ∷ (joined (members_kinds members) ++ (punct "}" ∷ []))
   type_node_kinds (Function fields t) =
-      punct "(" ∷ (separate "," (fields_kinds fields) ++ (punct ")" ∷ punct "=>" ∷ fit any_type t (type_node_kinds t)))
+      punct "(" ∷ (separate "," (fields_kinds fields) ++ (punct ")" ∷ punct "=>"
+      ∷ fit any_type t (type_node_kinds t)))
 
   pub union_kinds : TypeTrees → List TokenKind
   union_kinds no_types = []
-  union_kinds (more_types t ts) = fit (place_before ts) t (type_node_kinds t) ++ before_bar ts (union_kinds ts)
+  union_kinds (more_types t ts) =
+      fit (place_before ts) t (type_node_kinds t) ++ before_bar ts (union_kinds ts)
 
   pub types_kinds : TypeTrees → List (List TokenKind)
   types_kinds no_types = []
   types_kinds (more_types t ts) = fit any_type t (type_node_kinds t) ∷ types_kinds ts
 
   pub field_kinds : FieldTree → List TokenKind
-  field_kinds (Field x optional t) = optional_name x optional ++ (punct ":" ∷ fit any_type t (type_node_kinds t))
+  field_kinds (Field x optional t) =
+      optional_name x optional ++ (punct ":" ∷ fit any_type t (type_node_kinds t))
 
   pub fields_kinds : FieldTrees → List (List TokenKind)
   fields_kinds no_fields = []
   fields_kinds (more_fields x xs) = field_kinds x ∷ fields_kinds xs
 
-  -- a member, and `;` behind it
+  -- a member, and `;` after it
   pub member_kinds : MemberTree → List TokenKind
   member_kinds (Property x optional t) =
       (optional_name x optional ++ (punct ":" ∷ fit any_type t (type_node_kinds t))) ++ (punct ";" ∷ [])
   member_kinds (Method x optional fields t) =
-      (optional_name x optional ++ (punct "(" ∷ (separate "," (fields_kinds fields) ++ (punct ")" ∷ punct ":" ∷ fit any_type t (type_node_kinds t))))) ++ (punct ";" ∷ [])
+      (optional_name x optional ++ (punct "(" ∷ (separate "," (fields_kinds fields) ++ (punct ")" ∷ punct ":"
+      ∷ fit any_type t (type_node_kinds t))))) ++ (punct ";" ∷ [])
 
   pub members_kinds : MemberTrees → List (List TokenKind)
   members_kinds no_members = []
   members_kinds (more_members x xs) = member_kinds x ∷ members_kinds xs
 
--- a type that may be no looser than this
+-- a type where at most this level is allowed
 abbrev pub type_kinds : ℕ → TypeTree → List TokenKind
-type_kinds loose t = fit loose t (type_node_kinds t)
+type_kinds level t = fit level t (type_node_kinds t)
 
 -- `:` and a type, where one is given
 abbrev pub note_kinds : Option TypeTree → List TokenKind

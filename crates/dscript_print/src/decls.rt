@@ -1,25 +1,26 @@
 ghost use Rattle.std.specs.Prelude.{◌≡◌, IfOk, ◌++◌, ◌∷◌, [], map};
 ghost use Rattle.dscript_lex.specs.declared.token.TokenKind.TheVariants as kinds;
-ghost use Rattle.dscript_tree.specs.FileTree.{to_marked};
-ghost use Rattle.dscript_tree.specs.TypeTree.{to_types};
-ghost use Rattle.dscript_tree.specs.Views.{type_tree, member_tree, stmt_tree, marked_tree, decl_tree};
-ghost use Rattle.dscript_print.specs.FileKinds.{type_params_kinds, extends_kinds, block_kinds, body_kinds, marked_kinds, decl_kinds, all_marked_kinds};
-ghost use Rattle.dscript_print.specs.TypeKinds.{types_kinds, member_kinds};
-ghost use Rattle.dscript_print.specs.Printed.{seen};
-ghost use Rattle.dscript_print.specs.Runs.{punct, keyword, joined, separate};
+ghost use Rattle.dscript_ast.specs.FileTree.{to_marked};
+ghost use Rattle.dscript_ast.specs.TypeTree.{to_types};
+ghost use Rattle.dscript_ast.specs.Views.{note_tree, param_tree, type_tree, member_tree, stmt_tree, marked_tree, decl_tree};
+ghost use Rattle.dscript_print.specs.ExprKinds.{params_kinds};
+ghost use Rattle.dscript_print.specs.FileKinds.{interface_kinds, alias_type_kinds, type_params_kinds, extends_kinds, block_kinds, body_kinds, marked_kinds, decl_kinds, all_marked_kinds};
+ghost use Rattle.dscript_print.specs.TypeKinds.{note_kinds, types_kinds, member_kinds};
+ghost use Rattle.dscript_print.specs.Written.{Writes};
+ghost use Rattle.dscript_print.specs.Runs.{punct, keyword, joined, separate, word_run};
 
 use crate::exprs::ANY_EXPR;
 use crate::types::ANY_TYPE;
 use crate::writer::Writer;
 use bx_tree::{Memory, Text};
-use dscript_tree::{Decl, Marked, Member, Stmt, TypeNode};
+use dscript_ast::{Decl, Marked, Member, Param, Stmt, TypeNode};
 
 impl Writer {
     /// Writes a declaration with its mark.
     #[tactic(auto, unfolding(crate::specs::FileKinds::marked_kinds))]
     #[cycle(decls)]
     pub(crate) fn marked(&mut self, marked: &Marked) -> Result<(), Memory>
-        ensures { IfOk result (λ _. seen self.new ≡ seen self.old ++ marked_kinds (marked_tree marked.now)) }
+        ensures { Writes self.old self.new result (marked_kinds (marked_tree marked.now)) }
     {
         self.mark(marked.mark)?;
         self.decl(&marked.decl)
@@ -29,40 +30,27 @@ impl Writer {
     #[tactic(auto, unfolding(crate::specs::FileKinds::marked_kinds))]
     #[cycle(decls)]
     fn decl(&mut self, decl: &Decl) -> Result<(), Memory>
-        ensures { IfOk result (λ _. seen self.new ≡ seen self.old ++ decl_kinds (decl_tree decl.now)) }
+        ensures { Writes self.old self.new result (decl_kinds (decl_tree decl.now)) }
     {
         match decl {
-            Decl::Const(name, node, value) => {
-                self.keyword(b"const")?;
-                self.space();
-                self.name(name)?;
-                self.note(node)?;
-                self.spaced(b"=")?;
-                self.expr(value, false, ANY_EXPR)?;
-                self.sign(b";")
-            }
+            Decl::Const(name, node, value) => self.constant(name, node, value),
             Decl::Function(name, type_params, params, node, body) => {
                 self.declared(b"function", name, type_params.as_slice())?;
-                self.params(params.as_slice())?;
-                self.note(node)?;
+                self.signature(params.as_slice(), node)?;
                 self.body(body.as_slice())
             }
             Decl::Namespace(names, marked) => {
-                self.keyword(b"namespace")?;
-                self.space();
-                self.dotted(names.as_slice())?;
+                self.namespace_head(names.as_slice())?;
                 self.namespace(marked.as_slice())
             }
-            Decl::Interface(name, type_params, extended, members) => {
-                self.declared(b"interface", name, type_params.as_slice())?;
-                self.extends(extended.as_slice())?;
-                self.lined_body(members.as_slice())
-            }
+            Decl::Interface(name, type_params, extended, members) => self.interface(
+                name,
+                type_params.as_slice(),
+                extended.as_slice(),
+                members.as_slice(),
+            ),
             Decl::TypeAlias(name, type_params, node) => {
-                self.declared(b"type", name, type_params.as_slice())?;
-                self.spaced(b"=")?;
-                self.type_node(node, ANY_TYPE)?;
-                self.sign(b";")
+                self.type_alias(name, type_params.as_slice(), node)
             }
         }
     }
@@ -70,21 +58,24 @@ impl Writer {
     /// Writes declarations in braces, each on a line of its own.
     #[cycle(decls)]
     fn namespace(&mut self, marked: &[Marked]) -> Result<(), Memory>
-        ensures { IfOk result (λ _. seen self.new ≡ seen self.old ++ (punct "{" ∷ (joined (all_marked_kinds (to_marked (map marked_tree marked.now))) ++ (punct "}" ∷ [])))) }
+        ensures { Writes self.old self.new result
+            (punct "{" ∷ (joined (all_marked_kinds (to_marked (map marked_tree marked.now))) ++ (punct "}"
+            ∷ []))) }
     {
         self.space();
-        self.sign(b"{")?;
-        self.deeper();
+        self.punctuator(b"{")?;
+        self.indent();
         self.all_marked(marked)?;
-        self.shallower(marked.is_empty());
-        self.sign(b"}")
+        self.outdent(marked.is_empty());
+        self.punctuator(b"}")
     }
 
     /// Writes declarations, each on a line of its own.
     #[tactic(auto, unfolding(crate::specs::FileKinds::marked_kinds))]
     #[cycle(decls)]
     fn all_marked(&mut self, marked: &[Marked]) -> Result<(), Memory>
-        ensures { IfOk result (λ _. seen self.new ≡ seen self.old ++ joined (all_marked_kinds (to_marked (map marked_tree marked.now)))) }
+        ensures { Writes self.old self.new result
+            (joined (all_marked_kinds (to_marked (map marked_tree marked.now)))) }
     {
         for one in marked {
             self.line();
@@ -95,7 +86,8 @@ impl Writer {
 
     /// Writes the word of a declaration, the name that is declared, and its type parameters.
     fn declared(&mut self, word: &[u8], name: &Text, type_params: &[Text]) -> Result<(), Memory>
-        ensures { IfOk result (λ _. seen self.new ≡ seen self.old ++ (kinds.Word word.now ∷ kinds.Word name.now ∷ type_params_kinds type_params.now)) }
+        ensures { Writes self.old self.new result
+            (kinds.Word word.now ∷ kinds.Word name.now ∷ type_params_kinds type_params.now) }
     {
         self.keyword(word)?;
         self.space();
@@ -103,9 +95,61 @@ impl Writer {
         self.type_params(type_params)
     }
 
+    /// Writes the parameters of a function, and its result type where one is written.
+    fn signature(&mut self, params: &[Param], node: &Option<Box<TypeNode>>) -> Result<(), Memory>
+        ensures { Writes self.old self.new result
+            (params_kinds (map param_tree params.now) ++ note_kinds (note_tree node.now)) }
+    {
+        self.params(params)?;
+        self.note(node)
+    }
+
+    /// Writes `namespace` and a dotted name.
+    fn namespace_head(&mut self, names: &[Text]) -> Result<(), Memory>
+        ensures { Writes self.old self.new result
+            (keyword "namespace" ∷ separate "." (map word_run names.now)) }
+    {
+        self.keyword(b"namespace")?;
+        self.space();
+        self.dotted(names)
+    }
+
+    /// Writes an interface.
+    fn interface(
+        &mut self,
+        name: &Text,
+        type_params: &[Text],
+        extended: &[TypeNode],
+        members: &[Member],
+    ) -> Result<(), Memory>
+        ensures { Writes self.old self.new result
+            (interface_kinds name.now type_params.now (map type_tree extended.now)
+            (map member_tree members.now)) }
+    {
+        self.declared(b"interface", name, type_params)?;
+        self.extends(extended)?;
+        self.lined_body(members)
+    }
+
+    /// Writes a name for a type.
+    fn type_alias(
+        &mut self,
+        name: &Text,
+        type_params: &[Text],
+        node: &TypeNode,
+    ) -> Result<(), Memory>
+        ensures { Writes self.old self.new result
+            (alias_type_kinds name.now type_params.now (type_tree node.now)) }
+    {
+        self.declared(b"type", name, type_params)?;
+        self.spaced(b"=")?;
+        self.type_node(node, ANY_TYPE)?;
+        self.punctuator(b";")
+    }
+
     /// Writes the body of a function.
     fn body(&mut self, body: &[Stmt]) -> Result<(), Memory>
-        ensures { IfOk result (λ _. seen self.new ≡ seen self.old ++ block_kinds (map stmt_tree body.now)) }
+        ensures { Writes self.old self.new result (block_kinds (map stmt_tree body.now)) }
     {
         self.space();
         self.block(body)
@@ -114,7 +158,7 @@ impl Writer {
     /// Writes the types that an interface extends, where there are any.
     #[tactic(auto, using(crate::proofs::Declarations::none_extended, crate::proofs::Declarations::some_extended))]
     fn extends(&mut self, types: &[TypeNode]) -> Result<(), Memory>
-        ensures { IfOk result (λ _. seen self.new ≡ seen self.old ++ extends_kinds (map type_tree types.now)) }
+        ensures { Writes self.old self.new result (extends_kinds (map type_tree types.now)) }
     {
         match types.first() {
             None => Ok(()),
@@ -124,7 +168,8 @@ impl Writer {
 
     /// Writes `extends` and types.
     fn extended(&mut self, types: &[TypeNode]) -> Result<(), Memory>
-        ensures { IfOk result (λ _. seen self.new ≡ seen self.old ++ (keyword "extends" ∷ separate "," (types_kinds (to_types (map type_tree types.now))))) }
+        ensures { Writes self.old self.new result
+            (keyword "extends" ∷ separate "," (types_kinds (to_types (map type_tree types.now)))) }
     {
         self.space();
         self.keyword(b"extends")?;
@@ -134,19 +179,19 @@ impl Writer {
 
     /// Writes members in braces, each on a line of its own.
     fn lined_body(&mut self, members: &[Member]) -> Result<(), Memory>
-        ensures { IfOk result (λ _. seen self.new ≡ seen self.old ++ body_kinds (map member_tree members.now)) }
+        ensures { Writes self.old self.new result (body_kinds (map member_tree members.now)) }
     {
         self.space();
-        self.sign(b"{")?;
-        self.deeper();
+        self.punctuator(b"{")?;
+        self.indent();
         self.lined_members(members)?;
-        self.shallower(members.is_empty());
-        self.sign(b"}")
+        self.outdent(members.is_empty());
+        self.punctuator(b"}")
     }
 
     /// Writes members, each on a line of its own.
     fn lined_members(&mut self, members: &[Member]) -> Result<(), Memory>
-        ensures { IfOk result (λ _. seen self.new ≡ seen self.old ++ joined (map member_kinds (map member_tree members.now))) }
+        ensures { Writes self.old self.new result (joined (map member_kinds (map member_tree members.now))) }
     {
         for member in members {
             self.line();

@@ -1,36 +1,39 @@
 ghost use Rattle.std.specs.Prelude.{◌≡◌, IfOk, ◌++◌, ◌∷◌, [], map, option_map};
 ghost use Rattle.dscript_lex.specs.declared.token.TokenKind.TheVariants as kinds;
-ghost use Rattle.dscript_tree.specs.ExprGrammar.{looseness};
-ghost use Rattle.dscript_tree.specs.ExprTree.{to_exprs, to_operands, to_parts, to_elements, to_props, to_holes, to_stmts};
-ghost use Rattle.dscript_tree.specs.Views.{expr_tree, operand_tree, part_tree, element_tree, prop_tree, hole_tree, stmt_tree};
+ghost use Rattle.dscript_grammar.specs.ExprGrammar.{expr_precedence};
+ghost use Rattle.dscript_ast.specs.ExprTree.{to_exprs, to_operands, to_parts, to_elements, to_props, to_holes, to_stmts};
+ghost use Rattle.dscript_ast.specs.Views.{expr_tree, operand_tree, part_tree, element_tree, prop_tree, hole_tree, stmt_tree};
 ghost use Rattle.dscript_print.specs.ExprKinds.{is_object, is_enclosed, prefix_kind, operator_kind, letter_kind, expr_kinds, node_kinds, exprs_kinds, operand_kinds, operands_kinds, part_kinds, parts_kinds, element_kinds, elements_kinds, prop_kinds, props_kinds, holes_kinds, first_text};
-ghost use Rattle.dscript_print.specs.Printed.{seen, middle_run, tail_run};
+ghost use Rattle.dscript_print.specs.Written.{arrow_kinds, block_arrow_kinds, branch_kinds, unary_kinds, template_kinds, Writes, middle_run, tail_run};
 ghost use Rattle.dscript_print.specs.Runs.{punct, run_if, joined, separate};
 
 use crate::writer::Writer;
 use bx_tree::{Memory, Text};
+use dscript_ast::{
+    ArrowHead, BinaryOp, Element, Expr, Hole, Operand, PathKind, PostfixPart, Prop, Stmt, UnaryOp,
+    precedence,
+};
 use dscript_lex::TokenKind;
-use dscript_tree::{Element, Expr, Hole, Operand, Operator, PathKind, PostPart, Prop, Sign};
 
-/// Any expression may stand there.
-pub(crate) const ANY_EXPR: u32 = 10;
+/// The level of any expression.
+pub(crate) const ANY_EXPR: u32 = precedence::ARROW;
 
-/// How loosely an expression holds together: more where less may stand around it.
-fn looseness(expr: &Expr) -> u32
-    ensures { result ≡ looseness (expr_tree expr.now) }
+/// The precedence level of an expression.
+fn expr_precedence(expr: &Expr) -> u32
+    ensures { result ≡ expr_precedence (expr_tree expr.now) }
 {
     match expr {
-        Expr::Arrow(_, _) | Expr::BlockArrow(_, _) => 10,
-        Expr::Cond(_, _, _) => 9,
-        Expr::Or(_, _) => 8,
-        Expr::And(_, _) => 7,
-        Expr::Equality(_, _) => 6,
-        Expr::Relation(_, _) => 5,
-        Expr::Sum(_, _) => 4,
-        Expr::Product(_, _) => 3,
-        Expr::Signed(_, _) => 2,
-        Expr::Post(_, _) => 1,
-        _ => 0,
+        Expr::Arrow(_, _) | Expr::BlockArrow(_, _) => precedence::ARROW,
+        Expr::Cond(_, _, _) => precedence::CONDITIONAL,
+        Expr::Or(_, _) => precedence::OR,
+        Expr::And(_, _) => precedence::AND,
+        Expr::Equality(_, _) => precedence::EQUALITY,
+        Expr::Relation(_, _) => precedence::RELATION,
+        Expr::Sum(_, _) => precedence::SUM,
+        Expr::Product(_, _) => precedence::PRODUCT,
+        Expr::Unary(_, _) => precedence::UNARY,
+        Expr::Postfix(_, _) => precedence::POSTFIX,
+        _ => precedence::PRIMARY,
     }
 }
 
@@ -41,82 +44,69 @@ fn is_object(expr: &Expr) -> bool
     matches!(expr, Expr::Object(_))
 }
 
-/// Whether parentheses are needed where an expression may be no looser than this, and, in front, may
-/// not begin with `{`.
-fn is_enclosed(expr: &Expr, front: bool, loose: u32) -> bool
-    ensures { result ≡ is_enclosed front loose (expr_tree expr.now) }
+/// Whether an expression needs parentheses where at most this level is allowed and, if the flag is set, no
+/// `{` at the start.
+fn is_enclosed(expr: &Expr, unbraced: bool, level: u32) -> bool
+    ensures { result ≡ is_enclosed unbraced level (expr_tree expr.now) }
 {
-    loose < looseness(expr) || (front && is_object(expr))
+    level < expr_precedence(expr) || (unbraced && is_object(expr))
 }
 
 impl Writer {
-    /// Writes an expression that may be no looser than this and, in front, may not begin with `{`.
+    /// Writes an expression where at most this level is allowed and, if the flag is set, no `{` at the start.
     #[cycle(exprs)]
-    pub(crate) fn expr(&mut self, expr: &Expr, front: bool, loose: u32) -> Result<(), Memory>
-        ensures { IfOk result (λ _. seen self.new ≡ seen self.old ++ expr_kinds front loose (expr_tree expr.now)) }
+    pub(crate) fn expr(&mut self, expr: &Expr, unbraced: bool, level: u32) -> Result<(), Memory>
+        ensures { Writes self.old self.new result (expr_kinds unbraced level (expr_tree expr.now)) }
     {
-        if !is_enclosed(expr, front, loose) {
-            return self.node(expr, front);
+        if !is_enclosed(expr, unbraced, level) {
+            return self.node(expr, unbraced);
         }
-        self.sign(b"(")?;
+        self.punctuator(b"(")?;
         self.node(expr, false)?;
-        self.sign(b")")
+        self.punctuator(b")")
     }
 
     /// Writes an expression without parentheses around it.
     #[tactic(auto, unfolding(crate::specs::ExprKinds::node_kinds))]
     #[cycle(exprs)]
-    fn node(&mut self, expr: &Expr, front: bool) -> Result<(), Memory>
-        ensures { IfOk result (λ _. seen self.new ≡ seen self.old ++ node_kinds (expr_tree expr.now) front) }
+    fn node(&mut self, expr: &Expr, unbraced: bool) -> Result<(), Memory>
+        ensures { Writes self.old self.new result (node_kinds (expr_tree expr.now) unbraced) }
     {
         match expr {
-            Expr::Arrow(head, body) => {
-                self.head(head)?;
-                self.fat_arrow()?;
-                self.expr(body, true, ANY_EXPR)
-            }
-            Expr::BlockArrow(head, body) => {
-                self.head(head)?;
-                self.fat_arrow()?;
-                self.block(body.as_slice())
-            }
+            Expr::Arrow(head, body) => self.arrow(head, body),
+            Expr::BlockArrow(head, body) => self.block_arrow(head, body.as_slice()),
             Expr::Cond(test, one, other) => {
-                self.expr(test, front, 8)?;
-                self.spaced(b"?")?;
-                self.expr(one, false, ANY_EXPR)?;
-                self.spaced(b":")?;
-                self.expr(other, false, ANY_EXPR)
+                self.expr(test, unbraced, precedence::OR)?;
+                self.cond_branch(b"?", one)?;
+                self.cond_branch(b":", other)
             }
             Expr::Or(first, others) => {
-                self.expr(first, front, 7)?;
-                self.operands(others.as_slice(), 7)
+                self.expr(first, unbraced, precedence::AND)?;
+                self.operands(others.as_slice(), precedence::AND)
             }
             Expr::And(first, others) => {
-                self.expr(first, front, 6)?;
-                self.operands(others.as_slice(), 6)
+                self.expr(first, unbraced, precedence::EQUALITY)?;
+                self.operands(others.as_slice(), precedence::EQUALITY)
             }
             Expr::Equality(first, others) => {
-                self.expr(first, front, 5)?;
-                self.operands(others.as_slice(), 5)
+                self.expr(first, unbraced, precedence::RELATION)?;
+                self.operands(others.as_slice(), precedence::RELATION)
             }
             Expr::Relation(first, others) => {
-                self.expr(first, front, 4)?;
-                self.operands(others.as_slice(), 4)
+                self.expr(first, unbraced, precedence::SUM)?;
+                self.operands(others.as_slice(), precedence::SUM)
             }
             Expr::Sum(first, others) => {
-                self.expr(first, front, 3)?;
-                self.operands(others.as_slice(), 3)
+                self.expr(first, unbraced, precedence::PRODUCT)?;
+                self.operands(others.as_slice(), precedence::PRODUCT)
             }
             Expr::Product(first, others) => {
-                self.expr(first, front, 2)?;
-                self.operands(others.as_slice(), 2)
+                self.expr(first, unbraced, precedence::UNARY)?;
+                self.operands(others.as_slice(), precedence::UNARY)
             }
-            Expr::Signed(signs, value) => {
-                self.prefixes(signs.as_slice())?;
-                self.expr(value, false, 1)
-            }
-            Expr::Post(value, parts) => {
-                self.expr(value, front, 0)?;
+            Expr::Unary(operators, value) => self.unary(operators.as_slice(), value),
+            Expr::Postfix(value, parts) => {
+                self.expr(value, unbraced, precedence::PRIMARY)?;
                 self.parts(parts.as_slice())
             }
             Expr::Number(number) => self.number(*number),
@@ -125,21 +115,57 @@ impl Writer {
             Expr::False => self.keyword(b"false"),
             Expr::Undefined => self.keyword(b"undefined"),
             Expr::Template(text, holes) => self.template(text, holes.as_slice()),
-            Expr::Path(kind, text, holes) => {
-                self.letter(*kind)?;
-                self.template(text, holes.as_slice())
-            }
+            Expr::Path(kind, text, holes) => self.path(*kind, text, holes.as_slice()),
             Expr::Name(name) => self.name(name),
             Expr::List(elements) => self.list(elements.as_slice()),
             Expr::Object(props) => self.object(props.as_slice()),
         }
     }
 
-    /// Writes operands, each behind its operator.
+    /// Writes an arrow function whose body is an expression.
+    #[cycle(exprs)]
+    fn arrow(&mut self, head: &ArrowHead, body: &Expr) -> Result<(), Memory>
+        ensures { Writes self.old self.new result (arrow_kinds head.now body.now) }
+    {
+        self.head(head)?;
+        self.fat_arrow()?;
+        self.expr(body, true, ANY_EXPR)
+    }
+
+    /// Writes an arrow function whose body is a block.
+    #[cycle(exprs)]
+    fn block_arrow(&mut self, head: &ArrowHead, body: &[Stmt]) -> Result<(), Memory>
+        ensures { Writes self.old self.new result (block_arrow_kinds head.now body.now) }
+    {
+        self.head(head)?;
+        self.fat_arrow()?;
+        self.block(body)
+    }
+
+    /// Writes a branch of a condition, after `?` or `:`.
+    #[cycle(exprs)]
+    fn cond_branch(&mut self, punctuator: &[u8], value: &Expr) -> Result<(), Memory>
+        ensures { Writes self.old self.new result (branch_kinds punctuator.now value.now) }
+    {
+        self.spaced(punctuator)?;
+        self.expr(value, false, ANY_EXPR)
+    }
+
+    /// Writes prefix operators and their operand.
+    #[cycle(exprs)]
+    fn unary(&mut self, operators: &[UnaryOp], value: &Expr) -> Result<(), Memory>
+        ensures { Writes self.old self.new result (unary_kinds operators.now value.now) }
+    {
+        self.prefixes(operators)?;
+        self.expr(value, false, precedence::POSTFIX)
+    }
+
+    /// Writes operands, each after its operator.
     #[tactic(auto, unfolding(crate::specs::ExprKinds::node_kinds))]
     #[cycle(exprs)]
     fn operands(&mut self, operands: &[Operand], tight: u32) -> Result<(), Memory>
-        ensures { IfOk result (λ _. seen self.new ≡ seen self.old ++ joined (operands_kinds tight (to_operands (map operand_tree operands.now)))) }
+        ensures { Writes self.old self.new result
+            (joined (operands_kinds tight (to_operands (map operand_tree operands.now)))) }
     {
         for operand in operands {
             self.operand(operand, tight)?;
@@ -147,60 +173,46 @@ impl Writer {
         Ok(())
     }
 
-    /// Writes an operand behind its operator.
+    /// Writes an operand after its operator.
     #[tactic(auto, unfolding(crate::specs::ExprKinds::node_kinds))]
     #[cycle(exprs)]
     fn operand(&mut self, operand: &Operand, tight: u32) -> Result<(), Memory>
-        ensures { IfOk result (λ _. seen self.new ≡ seen self.old ++ operand_kinds tight (operand_tree operand.now)) }
+        ensures { Writes self.old self.new result (operand_kinds tight (operand_tree operand.now)) }
     {
         self.operator(operand.operator)?;
         self.expr(&operand.value, false, tight)
     }
 
     /// Writes an operator, with spaces around it.
-    fn operator(&mut self, operator: Operator) -> Result<(), Memory>
-        ensures { IfOk result (λ _. seen self.new ≡ seen self.old ++ (operator_kind operator ∷ [])) }
+    fn operator(&mut self, operator: BinaryOp) -> Result<(), Memory>
+        ensures { Writes self.old self.new result (operator_kind operator ∷ []) }
     {
-        match operator {
-            Operator::Or => self.spaced(b"||"),
-            Operator::And => self.spaced(b"&&"),
-            Operator::Same => self.spaced(b"==="),
-            Operator::Differs => self.spaced(b"!=="),
-            Operator::Less => self.spaced(b"<"),
-            Operator::AtMost => self.spaced(b"<="),
-            Operator::Greater => self.spaced(b">"),
-            Operator::AtLeast => self.spaced(b">="),
-            Operator::Plus => self.spaced(b"+"),
-            Operator::Minus => self.spaced(b"-"),
-            Operator::Times => self.spaced(b"*"),
-        }
+        self.spaced(operator.spelling())
     }
 
-    /// Writes operators that stand in front of their operand.
-    fn prefixes(&mut self, signs: &[Sign]) -> Result<(), Memory>
-        ensures { IfOk result (λ _. seen self.new ≡ seen self.old ++ map prefix_kind signs.now) }
+    /// Writes prefix operators.
+    fn prefixes(&mut self, operators: &[UnaryOp]) -> Result<(), Memory>
+        ensures { Writes self.old self.new result (map prefix_kind operators.now) }
     {
-        for sign in signs {
-            self.prefix(*sign)?;
+        for operator in operators {
+            self.prefix(*operator)?;
         }
         Ok(())
     }
 
-    /// Writes an operator that stands in front of its operand.
-    fn prefix(&mut self, sign: Sign) -> Result<(), Memory>
-        ensures { IfOk result (λ _. seen self.new ≡ seen self.old ++ (prefix_kind sign ∷ [])) }
+    /// Writes a prefix operator.
+    fn prefix(&mut self, operator: UnaryOp) -> Result<(), Memory>
+        ensures { Writes self.old self.new result (prefix_kind operator ∷ []) }
     {
-        match sign {
-            Sign::Not => self.sign(b"!"),
-            Sign::Negative => self.sign(b"-"),
-        }
+        self.punctuator(operator.spelling())
     }
 
-    /// Writes what is applied to a value.
+    /// Writes members, indices and calls.
     #[tactic(auto, unfolding(crate::specs::ExprKinds::node_kinds))]
     #[cycle(exprs)]
-    fn parts(&mut self, parts: &[PostPart]) -> Result<(), Memory>
-        ensures { IfOk result (λ _. seen self.new ≡ seen self.old ++ joined (parts_kinds (to_parts (map part_tree parts.now)))) }
+    fn parts(&mut self, parts: &[PostfixPart]) -> Result<(), Memory>
+        ensures { Writes self.old self.new result
+            (joined (parts_kinds (to_parts (map part_tree parts.now)))) }
     {
         for part in parts {
             self.part(part)?;
@@ -208,26 +220,26 @@ impl Writer {
         Ok(())
     }
 
-    /// Writes a member, an index or arguments.
+    /// Writes a member, an index or a call.
     #[tactic(auto, unfolding(crate::specs::ExprKinds::node_kinds))]
     #[cycle(exprs)]
-    fn part(&mut self, part: &PostPart) -> Result<(), Memory>
-        ensures { IfOk result (λ _. seen self.new ≡ seen self.old ++ part_kinds (part_tree part.now)) }
+    fn part(&mut self, part: &PostfixPart) -> Result<(), Memory>
+        ensures { Writes self.old self.new result (part_kinds (part_tree part.now)) }
     {
         match part {
-            PostPart::Member(name) => {
-                self.sign(b".")?;
+            PostfixPart::Member(name) => {
+                self.punctuator(b".")?;
                 self.name(name)
             }
-            PostPart::Index(index) => {
-                self.sign(b"[")?;
+            PostfixPart::Index(index) => {
+                self.punctuator(b"[")?;
                 self.expr(index, false, ANY_EXPR)?;
-                self.sign(b"]")
+                self.punctuator(b"]")
             }
-            PostPart::Call(arguments) => {
-                self.sign(b"(")?;
+            PostfixPart::Call(arguments) => {
+                self.punctuator(b"(")?;
                 self.exprs(arguments.as_slice())?;
-                self.sign(b")")
+                self.punctuator(b")")
             }
         }
     }
@@ -236,7 +248,8 @@ impl Writer {
     #[tactic(auto, unfolding(crate::specs::ExprKinds::node_kinds))]
     #[cycle(exprs)]
     fn exprs(&mut self, exprs: &[Expr]) -> Result<(), Memory>
-        ensures { IfOk result (λ _. seen self.new ≡ seen self.old ++ separate "," (exprs_kinds (to_exprs (map expr_tree exprs.now)))) }
+        ensures { Writes self.old self.new result
+            (separate "," (exprs_kinds (to_exprs (map expr_tree exprs.now)))) }
     {
         let Some((first, others)) = exprs.split_first() else {
             return Ok(());
@@ -252,18 +265,21 @@ impl Writer {
     /// Writes a list.
     #[cycle(exprs)]
     fn list(&mut self, elements: &[Element]) -> Result<(), Memory>
-        ensures { IfOk result (λ _. seen self.new ≡ seen self.old ++ (punct "[" ∷ (separate "," (elements_kinds (to_elements (map element_tree elements.now))) ++ (punct "]" ∷ [])))) }
+        ensures { Writes self.old self.new result
+            (punct "[" ∷ (separate "," (elements_kinds (to_elements (map element_tree elements.now)))
+            ++ (punct "]" ∷ []))) }
     {
-        self.sign(b"[")?;
+        self.punctuator(b"[")?;
         self.elements(elements)?;
-        self.sign(b"]")
+        self.punctuator(b"]")
     }
 
     /// Writes elements with commas between them.
     #[tactic(auto, unfolding(crate::specs::ExprKinds::node_kinds))]
     #[cycle(exprs)]
     fn elements(&mut self, elements: &[Element]) -> Result<(), Memory>
-        ensures { IfOk result (λ _. seen self.new ≡ seen self.old ++ separate "," (elements_kinds (to_elements (map element_tree elements.now)))) }
+        ensures { Writes self.old self.new result
+            (separate "," (elements_kinds (to_elements (map element_tree elements.now)))) }
     {
         let Some((first, others)) = elements.split_first() else {
             return Ok(());
@@ -280,7 +296,7 @@ impl Writer {
     #[tactic(auto, unfolding(crate::specs::ExprKinds::node_kinds))]
     #[cycle(exprs)]
     fn element(&mut self, element: &Element) -> Result<(), Memory>
-        ensures { IfOk result (λ _. seen self.new ≡ seen self.old ++ element_kinds (element_tree element.now)) }
+        ensures { Writes self.old self.new result (element_kinds (element_tree element.now)) }
     {
         self.dots_if(element.spread)?;
         self.expr(&element.value, false, ANY_EXPR)
@@ -288,10 +304,10 @@ impl Writer {
 
     /// Writes `...` if the flag is set.
     fn dots_if(&mut self, spread: bool) -> Result<(), Memory>
-        ensures { IfOk result (λ _. seen self.new ≡ seen self.old ++ run_if spread (punct "..." ∷ [])) }
+        ensures { Writes self.old self.new result (run_if spread (punct "..." ∷ [])) }
     {
         if spread {
-            return self.sign(b"...");
+            return self.punctuator(b"...");
         }
         Ok(())
     }
@@ -299,18 +315,21 @@ impl Writer {
     /// Writes an object.
     #[cycle(exprs)]
     fn object(&mut self, props: &[Prop]) -> Result<(), Memory>
-        ensures { IfOk result (λ _. seen self.new ≡ seen self.old ++ (punct "{" ∷ (separate "," (props_kinds (to_props (map prop_tree props.now))) ++ (punct "}" ∷ [])))) }
+        ensures { Writes self.old self.new result
+            (punct "{" ∷ (separate "," (props_kinds (to_props (map prop_tree props.now))) ++ (punct "}"
+            ∷ []))) }
     {
-        self.sign(b"{")?;
+        self.punctuator(b"{")?;
         self.props(props)?;
-        self.sign(b"}")
+        self.punctuator(b"}")
     }
 
     /// Writes properties with commas between them.
     #[tactic(auto, unfolding(crate::specs::ExprKinds::node_kinds))]
     #[cycle(exprs)]
     fn props(&mut self, props: &[Prop]) -> Result<(), Memory>
-        ensures { IfOk result (λ _. seen self.new ≡ seen self.old ++ separate "," (props_kinds (to_props (map prop_tree props.now)))) }
+        ensures { Writes self.old self.new result
+            (separate "," (props_kinds (to_props (map prop_tree props.now)))) }
     {
         let Some((first, others)) = props.split_first() else {
             return Ok(());
@@ -327,7 +346,7 @@ impl Writer {
     #[tactic(auto, unfolding(crate::specs::ExprKinds::node_kinds))]
     #[cycle(exprs)]
     fn prop(&mut self, prop: &Prop) -> Result<(), Memory>
-        ensures { IfOk result (λ _. seen self.new ≡ seen self.old ++ prop_kinds (prop_tree prop.now)) }
+        ensures { Writes self.old self.new result (prop_kinds (prop_tree prop.now)) }
     {
         match prop {
             Prop::Named(name, value) => {
@@ -342,7 +361,7 @@ impl Writer {
             }
             Prop::Short(name) => self.name(name),
             Prop::Spread(value) => {
-                self.sign(b"...")?;
+                self.punctuator(b"...")?;
                 self.expr(value, false, ANY_EXPR)
             }
         }
@@ -350,7 +369,7 @@ impl Writer {
 
     /// Writes the letter of a literal of paths and names.
     fn letter(&mut self, kind: PathKind) -> Result<(), Memory>
-        ensures { IfOk result (λ _. seen self.new ≡ seen self.old ++ (letter_kind kind ∷ [])) }
+        ensures { Writes self.old self.new result (letter_kind kind ∷ []) }
     {
         match kind {
             PathKind::Path => self.keyword(b"p"),
@@ -361,10 +380,19 @@ impl Writer {
         }
     }
 
+    /// Writes a literal of a path or a name.
+    #[cycle(exprs)]
+    fn path(&mut self, kind: PathKind, text: &Text, holes: &[Hole]) -> Result<(), Memory>
+        ensures { Writes self.old self.new result (letter_kind kind ∷ template_kinds text.now holes.now) }
+    {
+        self.letter(kind)?;
+        self.template(text, holes)
+    }
+
     /// Writes a template.
     #[cycle(exprs)]
     fn template(&mut self, text: &Text, holes: &[Hole]) -> Result<(), Memory>
-        ensures { IfOk result (λ _. seen self.new ≡ seen self.old ++ (first_text (to_holes (map hole_tree holes.now)) text.now ∷ holes_kinds (to_holes (map hole_tree holes.now)))) }
+        ensures { Writes self.old self.new result (template_kinds text.now holes.now) }
     {
         match holes.split_last() {
             None => self.whole(text),
@@ -380,14 +408,14 @@ impl Writer {
 
     /// Writes a template without holes.
     fn whole(&mut self, text: &Text) -> Result<(), Memory>
-        ensures { IfOk result (λ _. seen self.new ≡ seen self.old ++ (kinds.Whole text.now ∷ [])) }
+        ensures { Writes self.old self.new result (kinds.Whole text.now ∷ []) }
     {
         self.token(TokenKind::Whole(text.share()?))
     }
 
-    /// Writes what stands in a template before its first hole.
+    /// Writes the text of a template before its first hole.
     fn first_part(&mut self, text: &Text) -> Result<(), Memory>
-        ensures { IfOk result (λ _. seen self.new ≡ seen self.old ++ (kinds.Head text.now ∷ [])) }
+        ensures { Writes self.old self.new result (kinds.Head text.now ∷ []) }
     {
         self.token(TokenKind::Head(text.share()?))
     }
@@ -396,17 +424,17 @@ impl Writer {
     #[tactic(auto, unfolding(crate::specs::ExprKinds::node_kinds))]
     #[cycle(exprs)]
     fn middle_hole(&mut self, hole: &Hole) -> Result<(), Memory>
-        ensures { IfOk result (λ _. seen self.new ≡ seen self.old ++ middle_run hole.now) }
+        ensures { Writes self.old self.new result (middle_run hole.now) }
     {
         self.expr(&hole.value, false, ANY_EXPR)?;
         self.token(TokenKind::Middle(hole.text.share()?))
     }
 
-    /// Writes the last hole and the text behind it.
+    /// Writes the last hole and the text after it.
     #[tactic(auto, unfolding(crate::specs::ExprKinds::node_kinds))]
     #[cycle(exprs)]
     fn last_hole(&mut self, hole: &Hole) -> Result<(), Memory>
-        ensures { IfOk result (λ _. seen self.new ≡ seen self.old ++ tail_run hole.now) }
+        ensures { Writes self.old self.new result (tail_run hole.now) }
     {
         self.expr(&hole.value, false, ANY_EXPR)?;
         self.token(TokenKind::Tail(hole.text.share()?))

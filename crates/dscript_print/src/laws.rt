@@ -1,15 +1,15 @@
 ghost use Rattle.std.specs.Prelude.{◌≡◌, ℕ, List, map};
 ghost use Rattle.dscript_lex.specs.declared.token.Token.{Token};
 ghost use Rattle.dscript_lex.specs.Tokens.{AreTokens};
-ghost use Rattle.dscript_tree.specs.declared.file.Form.{Form};
-ghost use Rattle.dscript_tree.specs.Derives.{Derives};
-ghost use Rattle.dscript_tree.specs.FileTree.{FileTree};
+ghost use Rattle.dscript_ast.specs.declared.file.Form.{Form};
+ghost use Rattle.dscript_grammar.specs.Derives.{Derives};
+ghost use Rattle.dscript_ast.specs.FileTree.{FileTree};
 ghost use Rattle.dscript_spell.specs.Spellable.{AreSpellable};
 ghost use Rattle.dscript_print.specs.FileKinds.{file_kinds};
 ghost use Rattle.dscript_print.specs.Printing.{Prints, Reads};
 
-/// The tokens that a file is laid out as derive it, within the same height as tokens of some text
-/// that derive it, and they can be written one after another.
+/// The tokens that are printed of a file derive it, within the height within which tokens of some text derive
+/// it, and they can be written one after another.
 pub fn printed_tokens_derive()
     ensures derive { (form : Form) (source : List ℕ) (tokens : List Token) (file : FileTree) (height : ℕ)
         → AreTokens source tokens → Derives form (map (λ t. t.kind) tokens) file height
@@ -19,9 +19,12 @@ pub fn printed_tokens_derive()
         → AreSpellable (file_kinds file) }
 {}
 
-/// What the grammar derives from the tokens of a printed text is the file, wherever some text reads as it.
+/// The file that the grammar derives from the tokens of a printed text is the file that was printed, if some
+/// text is parsed to it.
 pub fn printed_text_reads_back()
-    ensures { (form : Form) (file other : FileTree) (source printed : List ℕ) (height other_height : ℕ) (tokens : List Token)
+    ensures { (form : Form) (file other : FileTree) (source printed : List ℕ) (height other_height : ℕ)
+        (tokens : List Token)
         → Prints printed file → Reads form source file height
-        → AreTokens printed tokens → Derives form (map (λ t. t.kind) tokens) other other_height → other ≡ file }
+        → AreTokens printed tokens → Derives form (map (λ t. t.kind) tokens) other other_height
+        → other ≡ file }
 {}

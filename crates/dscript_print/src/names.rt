@@ -1,18 +1,18 @@
 ghost use Rattle.std.specs.Prelude.{◌≡◌, IfOk, ◌++◌, ◌∷◌, [], map};
 ghost use Rattle.dscript_lex.specs.declared.token.TokenKind.TheVariants as kinds;
-ghost use Rattle.dscript_tree.specs.Views.{import_tree};
+ghost use Rattle.dscript_ast.specs.Views.{import_tree};
 ghost use Rattle.dscript_print.specs.FileKinds.{alias_kinds, import_kinds, mark_kinds};
-ghost use Rattle.dscript_print.specs.Printed.{seen};
+ghost use Rattle.dscript_print.specs.Written.{Writes};
 ghost use Rattle.dscript_print.specs.Runs.{punct, keyword, separate};
 
 use crate::writer::Writer;
 use bx_tree::{Memory, Text};
-use dscript_tree::{ImportName, Mark};
+use dscript_ast::{ImportName, Mark};
 
 impl Writer {
     /// Writes who may see a declaration.
     pub(crate) fn mark(&mut self, mark: Mark) -> Result<(), Memory>
-        ensures { IfOk result (λ _. seen self.new ≡ seen self.old ++ mark_kinds mark) }
+        ensures { Writes self.old self.new result (mark_kinds mark) }
     {
         match mark {
             Mark::Plain => Ok(()),
@@ -22,7 +22,7 @@ impl Writer {
                 Ok(())
             }
             Mark::Public => {
-                self.sign(b"@@")?;
+                self.punctuator(b"@@")?;
                 self.keyword(b"public")?;
                 self.space();
                 self.keyword(b"export")?;
@@ -34,7 +34,9 @@ impl Writer {
 
     /// Writes an import of a whole module.
     pub(crate) fn import_all(&mut self, name: &Text, from: &Text) -> Result<(), Memory>
-        ensures { IfOk result (λ _. seen self.new ≡ seen self.old ++ (keyword "import" ∷ punct "*" ∷ keyword "as" ∷ kinds.Word name.now ∷ keyword "from" ∷ kinds.Str from.now ∷ punct ";" ∷ [])) }
+        ensures { Writes self.old self.new result
+            (keyword "import" ∷ punct "*" ∷ keyword "as" ∷ kinds.Word name.now ∷ keyword "from"
+            ∷ kinds.Str from.now ∷ punct ";" ∷ []) }
     {
         self.keyword(b"import")?;
         self.spaced(b"*")?;
@@ -46,30 +48,33 @@ impl Writer {
 
     /// Writes an import of names.
     pub(crate) fn import_names(&mut self, names: &[ImportName], from: &Text) -> Result<(), Memory>
-        ensures { IfOk result (λ _. seen self.new ≡ seen self.old ++ (keyword "import" ∷ punct "{" ∷ (separate "," (map import_kinds (map import_tree names.now)) ++ (punct "}" ∷ keyword "from" ∷ kinds.Str from.now ∷ punct ";" ∷ [])))) }
+        ensures { Writes self.old self.new result
+            (keyword "import" ∷ punct "{" ∷ (separate "," (map import_kinds (map import_tree names.now))
+            ++ (punct "}" ∷ keyword "from" ∷ kinds.Str from.now ∷ punct ";" ∷ []))) }
     {
         self.keyword(b"import")?;
         self.space();
-        self.sign(b"{")?;
+        self.punctuator(b"{")?;
         self.imported(names)?;
-        self.sign(b"}")?;
+        self.punctuator(b"}")?;
         self.import_from(from)
     }
 
     /// Writes the name of the module that an import is from, and a semicolon.
     fn import_from(&mut self, from: &Text) -> Result<(), Memory>
-        ensures { IfOk result (λ _. seen self.new ≡ seen self.old ++ (keyword "from" ∷ kinds.Str from.now ∷ punct ";" ∷ [])) }
+        ensures { Writes self.old self.new result (keyword "from" ∷ kinds.Str from.now ∷ punct ";" ∷ []) }
     {
         self.space();
         self.keyword(b"from")?;
         self.space();
         self.string(from)?;
-        self.sign(b";")
+        self.punctuator(b";")
     }
 
     /// Writes names that are imported, with commas between them.
     fn imported(&mut self, names: &[ImportName]) -> Result<(), Memory>
-        ensures { IfOk result (λ _. seen self.new ≡ seen self.old ++ separate "," (map import_kinds (map import_tree names.now))) }
+        ensures { Writes self.old self.new result
+            (separate "," (map import_kinds (map import_tree names.now))) }
     {
         let Some((first, others)) = names.split_first() else {
             return Ok(());
@@ -82,9 +87,9 @@ impl Writer {
         Ok(())
     }
 
-    /// Writes a name that is imported, and the name behind `as` where there is one.
+    /// Writes a name that is imported, and the name after `as` where there is one.
     fn import_name(&mut self, import: &ImportName) -> Result<(), Memory>
-        ensures { IfOk result (λ _. seen self.new ≡ seen self.old ++ import_kinds (import_tree import.now)) }
+        ensures { Writes self.old self.new result (import_kinds (import_tree import.now)) }
     {
         self.name(&import.name)?;
         self.alias(&import.alias)
@@ -92,7 +97,7 @@ impl Writer {
 
     /// Writes `as` and a name, where there is one.
     fn alias(&mut self, alias: &Option<Text>) -> Result<(), Memory>
-        ensures { IfOk result (λ _. seen self.new ≡ seen self.old ++ alias_kinds alias.now) }
+        ensures { Writes self.old self.new result (alias_kinds alias.now) }
     {
         match alias {
             Some(alias) => {

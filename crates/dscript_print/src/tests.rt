@@ -1,12 +1,6 @@
-mod printing;
-mod reading_back;
-
 use super::*;
 use bx_tree::Text;
-use dscript_tree::{
-    ArrowHead, Decl, Element, Expr, Field, File, Hole, ImportName, Item, LoopKind, Mark, Marked,
-    Member, Operand, Operator, Param, PathKind, PostPart, Prop, Sign, Stmt, TypeNode,
-};
+use dscript_ast::{BinaryOp, Decl, Expr, File, Item, Mark, Marked, Operand, Stmt};
 use std::alloc::Global;
 use std::test::Fail;
 
@@ -14,28 +8,24 @@ fn text(alloc: Global, value: &str) -> Result<Text, Fail> {
     Ok(Text::new(alloc, value.as_bytes().to_vec(alloc)?)?)
 }
 
-fn name(alloc: Global, value: &str) -> Result<Expr, Fail> {
-    Ok(Expr::Name(text(alloc, value)?))
+/// A sum or a difference of a name and a value.
+fn sum(alloc: Global, first: &str, operator: BinaryOp, value: Expr) -> Result<Expr, Fail> {
+    let first = Expr::Name(text(alloc, first)?);
+    let others = vec![in alloc; Operand { operator, value }]?;
+    Ok(Expr::Sum(Box::new(alloc, first)?, others))
 }
 
-fn boxed(alloc: Global, value: Expr) -> Result<Box<Expr>, Fail> {
-    Ok(Box::new(alloc, value)?)
-}
-
-fn named(alloc: Global, value: &str) -> Result<TypeNode, Fail> {
-    Ok(TypeNode::Named(vec![in alloc; text(alloc, value)?]?, Vec::new(alloc)))
-}
-
-fn operands(alloc: Global, operator: Operator, value: Expr) -> Result<Vec<Operand>, Fail> {
-    Ok(vec![in alloc; Operand { operator, value }]?)
-}
-
-/// A hole, and the text between it and what follows.
-fn hole(alloc: Global, value: Expr, behind: &str) -> Result<Hole, Fail> {
-    Ok(Hole {
-        value,
-        text: text(alloc, behind)?,
-    })
+/// An exported function without parameters.
+fn function(alloc: Global, name: &str, body: Vec<Stmt>) -> Result<Item, Fail> {
+    let decl = Decl::Function(
+        text(alloc, name)?,
+        Vec::new(alloc),
+        Vec::new(alloc),
+        None,
+        body,
+    );
+    let mark = Mark::Export;
+    Ok(Item::Declared(Box::new(alloc, Marked { mark, decl })?))
 }
 
 /// The text of the file.
@@ -44,13 +34,27 @@ fn printed(alloc: Global, file: &File) -> Result<String, Fail> {
     Ok(String::from_utf8(text).ok().ok_or("no text")?)
 }
 
-/// The text of a configuration of this value.
-fn configured(alloc: Global, value: Expr) -> Result<String, Fail> {
-    printed(alloc, &File::Config(value))
+#[test]
+fn parentheses_are_written_where_they_are_needed(rt: HostRuntime) -> Result<(), Fail> {
+    let alloc = rt.alloc();
+    let inner = sum(alloc, "b", BinaryOp::Add, Expr::Number(1))?;
+    let file = File::Config(sum(alloc, "a", BinaryOp::Subtract, inner)?);
+    assert_eq!(rt; printed(alloc, &file)?.as_str(), "config(a - (b + 1));\n");
+    Ok(())
 }
 
-/// The text of a project of this declaration.
-fn declared(alloc: Global, mark: Mark, decl: Decl) -> Result<String, Fail> {
-    let item = Item::Declared(Marked { mark, decl });
-    printed(alloc, &File::Project(vec![in alloc; item]?))
+#[test]
+fn statements_are_on_lines_of_their_own(rt: HostRuntime) -> Result<(), Fail> {
+    let alloc = rt.alloc();
+    let body = vec![in alloc; Stmt::Return(None), Stmt::Block(Vec::new(alloc))]?;
+    let file = File::Project(vec![in alloc; function(alloc, "f", body)?, Item::Empty]?);
+    let text = "export function f() {\n    return;\n    {}\n}\n;\n";
+    assert_eq!(rt; printed(alloc, &file)?.as_str(), text);
+    Ok(())
+}
+
+#[test]
+fn laws_are_called(_rt: HostRuntime) {
+    printed_tokens_derive();
+    printed_text_reads_back();
 }

@@ -1,7 +1,7 @@
 use Rattle.std.proofs.Common.{map, subst}
 use Rattle.dscript_lex.proofs.OneReading.{one_reading}
-use Rattle.dscript_tree.proofs.Whole.{one_file}
-use Rattle.dscript_tree.specs.Derives.{Derives}
+use Rattle.dscript_grammar.proofs.FileLaws.{one_file}
+use Rattle.dscript_grammar.specs.Derives.{Derives}
 use Rattle.dscript_print.proofs.laws.printed_text_reads_back.Goals as goal
 
 pub returns : goal.returns

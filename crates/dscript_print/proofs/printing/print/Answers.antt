@@ -1,5 +1,5 @@
 use Rattle.std.proofs.Common.{rules}
-use Rattle.dscript_tree.specs.Views.{file_tree}
+use Rattle.dscript_ast.specs.Views.{file_tree}
 use Rattle.dscript_print.proofs.Steps.{if_ok}
 use Rattle.dscript_print.proofs.Promised.{prints}
 use Rattle.dscript_print.proofs.printing.print.Goals as goal

@@ -1,6 +1,6 @@
 use Rattle.std.proofs.Common.{rules, map}
-use Rattle.dscript_tree.specs.FileTree.{to_marked}
-use Rattle.dscript_tree.specs.Views.{marked_tree}
+use Rattle.dscript_ast.specs.FileTree.{to_marked}
+use Rattle.dscript_ast.specs.Views.{marked_tree}
 use Rattle.dscript_print.specs.FileKinds.{marked_kinds, all_marked_kinds}
 use Rattle.dscript_print.proofs.Steps.{joined_turn}
 use Rattle.dscript_print.proofs.Declarations.{marked_listed}

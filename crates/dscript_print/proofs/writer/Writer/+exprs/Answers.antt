@@ -1,9 +1,9 @@
 use Rattle.std.proofs.Common.{rules, ◌∙◌, ◌++◌, map, false, ap, sym}
-use Rattle.dscript_tree.specs.ExprTree.{to_exprs, to_operands, to_parts, to_elements, to_props, to_stmts}
-use Rattle.dscript_tree.specs.Views.{expr_tree, operand_tree, part_tree, element_tree, prop_tree, stmt_tree}
+use Rattle.dscript_ast.specs.ExprTree.{to_exprs, to_operands, to_parts, to_elements, to_props, to_stmts}
+use Rattle.dscript_ast.specs.Views.{expr_tree, operand_tree, part_tree, element_tree, prop_tree, stmt_tree}
 use Rattle.dscript_print.specs.ExprKinds.{expr_kinds, exprs_kinds, operand_kinds, operands_kinds, part_kinds, parts_kinds, element_kinds, elements_kinds, prop_kinds, props_kinds, stmt_kinds, stmts_kinds}
-use Rattle.dscript_print.specs.Printed.{seen, middle_run}
-use Rattle.dscript_tree.proofs.Made.{expr_tree-Or, expr_tree-And, expr_tree-Equality, expr_tree-Relation, expr_tree-Sum, expr_tree-Product, expr_tree-Signed, expr_tree-Post, expr_tree-Path, expr_tree-Cond, stmt_tree-Return, stmt_tree-Value}
+use Rattle.dscript_print.specs.Written.{written, middle_run}
+use Rattle.dscript_ast.proofs.NodeViews.{expr_tree-Or, expr_tree-And, expr_tree-Equality, expr_tree-Relation, expr_tree-Sum, expr_tree-Product, expr_tree-Unary, expr_tree-Postfix, expr_tree-Path, expr_tree-Cond, stmt_tree-Return, stmt_tree-Value}
 use Rattle.dscript_print.proofs.Steps.{led_turn, joined_turn, joined_step, if_ok}
 use Rattle.dscript_print.proofs.Arms.{two_steps, three_steps, five_steps, chain_from, signed_from, post_from, path_from, cond_from, chain_run, cond_run, signed_run, post_run, path_run, return_run, value_run, exprs_listed, operands_listed, parts_listed, elements_listed, props_listed, stmts_listed, no_holes_run, template_run}
 use Rattle.dscript_print.proofs.writer.Writer.+exprs.Goals as goal
@@ -42,88 +42,6 @@ pub template-loop-hole-preserved : goal.template-loop-hole-preserved
 template-loop-hole-preserved t c =
     joined_step middle_run c.in-Some.earlier.now c.loop-hole.hole-index _ _ _ _ c.loop-hole.invariant c.in_ok-middle_hole-in-Some.ensures (search rules) c.hole-item.is
 
-pub node-returns-in_ok-expr-in-Or : goal.node-returns-in_ok-expr-in-Or
-node-returns-in_ok-expr-in-Or t c =
-    if_ok c.operands.result (λ x e. two_steps _ _ _ _ _ _
-    (chain_run c.args.front (expr_tree c.args.expr.now) 8 c.deref-in-Or.result.now c.as_slice-in-Or.result.now
-    (chain_from _ 8 c.in-Or.first.value _ c.in-Or.others.items _ (ap expr_tree c.in-Or.is ∙ expr_tree-Or c.in-Or.first c.in-Or.others) (search rules) (search rules)))
-    c.in_ok-expr-in-Or.ensures e) c.operands.ensures
-
-pub node-returns-in_ok-expr-in-And : goal.node-returns-in_ok-expr-in-And
-node-returns-in_ok-expr-in-And t c =
-    if_ok c.operands-in-And.result (λ x e. two_steps _ _ _ _ _ _
-    (chain_run c.args.front (expr_tree c.args.expr.now) 7 c.deref-in-And.result.now c.as_slice-in-And.result.now
-    (chain_from _ 7 c.in-And.first.value _ c.in-And.others.items _ (ap expr_tree c.in-And.is ∙ expr_tree-And c.in-And.first c.in-And.others) (search rules) (search rules)))
-    c.in_ok-expr-in-And.ensures e) c.operands-in-And.ensures
-
-pub node-returns-in_ok-expr-in-Equality : goal.node-returns-in_ok-expr-in-Equality
-node-returns-in_ok-expr-in-Equality t c =
-    if_ok c.operands-in-Equality.result (λ x e. two_steps _ _ _ _ _ _
-    (chain_run c.args.front (expr_tree c.args.expr.now) 6 c.deref-in-Equality.result.now c.as_slice-in-Equality.result.now
-    (chain_from _ 6 c.in-Equality.first.value _ c.in-Equality.others.items _ (ap expr_tree c.in-Equality.is ∙ expr_tree-Equality c.in-Equality.first c.in-Equality.others) (search rules) (search rules)))
-    c.in_ok-expr-in-Equality.ensures e) c.operands-in-Equality.ensures
-
-pub node-returns-in_ok-expr-in-Relation : goal.node-returns-in_ok-expr-in-Relation
-node-returns-in_ok-expr-in-Relation t c =
-    if_ok c.operands-in-Relation.result (λ x e. two_steps _ _ _ _ _ _
-    (chain_run c.args.front (expr_tree c.args.expr.now) 5 c.deref-in-Relation.result.now c.as_slice-in-Relation.result.now
-    (chain_from _ 5 c.in-Relation.first.value _ c.in-Relation.others.items _ (ap expr_tree c.in-Relation.is ∙ expr_tree-Relation c.in-Relation.first c.in-Relation.others) (search rules) (search rules)))
-    c.in_ok-expr-in-Relation.ensures e) c.operands-in-Relation.ensures
-
-pub node-returns-in_ok-expr-in-Sum : goal.node-returns-in_ok-expr-in-Sum
-node-returns-in_ok-expr-in-Sum t c =
-    if_ok c.operands-in-Sum.result (λ x e. two_steps _ _ _ _ _ _
-    (chain_run c.args.front (expr_tree c.args.expr.now) 4 c.deref-in-Sum.result.now c.as_slice-in-Sum.result.now
-    (chain_from _ 4 c.in-Sum.first.value _ c.in-Sum.others.items _ (ap expr_tree c.in-Sum.is ∙ expr_tree-Sum c.in-Sum.first c.in-Sum.others) (search rules) (search rules)))
-    c.in_ok-expr-in-Sum.ensures e) c.operands-in-Sum.ensures
-
-pub node-returns-in_ok-expr-in-Product : goal.node-returns-in_ok-expr-in-Product
-node-returns-in_ok-expr-in-Product t c =
-    if_ok c.operands-in-Product.result (λ x e. two_steps _ _ _ _ _ _
-    (chain_run c.args.front (expr_tree c.args.expr.now) 3 c.deref-in-Product.result.now c.as_slice-in-Product.result.now
-    (chain_from _ 3 c.in-Product.first.value _ c.in-Product.others.items _ (ap expr_tree c.in-Product.is ∙ expr_tree-Product c.in-Product.first c.in-Product.others) (search rules) (search rules)))
-    c.in_ok-expr-in-Product.ensures e) c.operands-in-Product.ensures
-
-pub node-returns-in_ok-prefixes-in-Signed : goal.node-returns-in_ok-prefixes-in-Signed
-node-returns-in_ok-prefixes-in-Signed t c =
-    if_ok c.expr-in-Signed.result (λ x e. two_steps _ _ _ _ _ _
-    (signed_run c.args.front (expr_tree c.args.expr.now) c.as_slice-in-Signed.result.now c.deref-in-Signed.result.now
-    (signed_from _ c.in-Signed.signs.items _ c.in-Signed.value.value _ (ap expr_tree c.in-Signed.is ∙ expr_tree-Signed c.in-Signed.signs c.in-Signed.value) (search rules) (search rules)))
-    c.in_ok-prefixes-in-Signed.ensures e) c.expr-in-Signed.ensures
-
-pub node-returns-in_ok-expr-in-Post : goal.node-returns-in_ok-expr-in-Post
-node-returns-in_ok-expr-in-Post t c =
-    if_ok c.parts.result (λ x e. two_steps _ _ _ _ _ _
-    (post_run c.args.front (expr_tree c.args.expr.now) c.deref-in-Post.result.now c.as_slice-in-Post.result.now
-    (post_from _ c.in-Post.value.value _ c.in-Post.parts.items _ (ap expr_tree c.in-Post.is ∙ expr_tree-Post c.in-Post.value c.in-Post.parts) (search rules) (search rules)))
-    c.in_ok-expr-in-Post.ensures e) c.parts.ensures
-
-pub node-returns-in_ok-letter-in-Path : goal.node-returns-in_ok-letter-in-Path
-node-returns-in_ok-letter-in-Path t c =
-    if_ok c.template-in-Path.result (λ x e. two_steps _ _ _ _ _ _
-    (path_run c.args.front (expr_tree c.args.expr.now) c.in-Path.kind c.in-Path.text c.as_slice-in-Path.result.now
-    (path_from _ c.in-Path.kind c.in-Path.text c.in-Path.holes.items _ (ap expr_tree c.in-Path.is ∙ expr_tree-Path c.in-Path.kind c.in-Path.text c.in-Path.holes) (search rules)))
-    c.in_ok-letter-in-Path.ensures e) c.template-in-Path.ensures
-
-pub node-returns-in_ok-spaced-in-Cond-2 : goal.node-returns-in_ok-spaced-in-Cond-2
-node-returns-in_ok-spaced-in-Cond-2 t c =
-    if_ok c.expr-in-Cond-3.result (λ x e. five_steps _ _ _ _ _ _ _ _ _ _ _ _
-    (cond_run c.args.front (expr_tree c.args.expr.now) c.deref-in-Cond.result.now c.deref-in-Cond-2.result.now c.deref-in-Cond-3.result.now
-    (cond_from _ c.in-Cond.test.value c.in-Cond.one.value c.in-Cond.other.value _ _ _ (ap expr_tree c.in-Cond.is ∙ expr_tree-Cond c.in-Cond.test c.in-Cond.one c.in-Cond.other) (search rules) (search rules) (search rules)))
-    c.in_ok-expr-in-Cond.ensures c.in_ok-spaced-in-Cond.ensures c.in_ok-expr-in-Cond-2.ensures c.in_ok-spaced-in-Cond-2.ensures e) c.expr-in-Cond-3.ensures
-
-pub stmt-returns-in_ok-given_value-in-Return : goal.stmt-returns-in_ok-given_value-in-Return
-stmt-returns-in_ok-given_value-in-Return t c =
-    if_ok c.sign-in-Return.result (λ x e. three_steps _ _ _ _ _ _ _ _
-    (return_run (stmt_tree c.args.stmt.now) _ (ap stmt_tree c.in-Return.is ∙ stmt_tree-Return c.in-Return.value))
-    c.in_ok-keyword-in-Return.ensures c.in_ok-given_value-in-Return.ensures e) c.sign-in-Return.ensures
-
-pub stmt-returns-in_ok-expr-in-Value : goal.stmt-returns-in_ok-expr-in-Value
-stmt-returns-in_ok-expr-in-Value t c =
-    if_ok c.sign-in-Value.result (λ x e. two_steps _ _ _ _ _ _
-    (value_run (stmt_tree c.args.stmt.now) c.in-Value.value (ap stmt_tree c.in-Value.is ∙ stmt_tree-Value c.in-Value.value))
-    c.in_ok-expr-in-Value.ensures e) c.sign-in-Value.ensures
-
 pub template-returns-after-loop-hole : goal.template-returns-after-loop-hole
 template-returns-after-loop-hole t c =
     if_ok c.last_hole.result (λ x e. template_run c.in-Some.earlier.now c.args.holes.now c.in-Some.last.now c.args.text.now c.loop-hole.hole-index _ _ _ _
@@ -131,4 +49,60 @@ template-returns-after-loop-hole t c =
 
 pub template-returns-in-None : goal.template-returns-in-None
 template-returns-in-None t c =
-    if_ok c.whole.result (λ x e. e ∙ ap (λ z. seen c.args.self.now ++ z) (sym (no_holes_run c.args.holes.now c.args.text.now c.in-None.ensures.cases))) c.whole.ensures
+    if_ok c.whole.result (λ x e. e ∙ ap (λ z. written c.args.self.now ++ z) (sym (no_holes_run c.args.holes.now c.args.text.now c.in-None.ensures.cases))) c.whole.ensures
+
+pub node-returns-in_ok-expr-in-Or : goal.node-returns-in_ok-expr-in-Or
+node-returns-in_ok-expr-in-Or t c =
+    if_ok c.operands.result (λ x e. two_steps _ _ _ _ _ _
+    (chain_run c.args.unbraced (expr_tree c.args.expr.now) 8 c.deref-in-Or.result.now c.as_slice-in-Or.result.now
+    (chain_from _ 8 c.in-Or.first.value _ c.in-Or.others.items _ (ap expr_tree c.in-Or.is ∙ expr_tree-Or c.in-Or.first c.in-Or.others) (search rules) (search rules)))
+    c.in_ok-expr-in-Or.ensures e) c.operands.ensures
+
+pub node-returns-in_ok-expr-in-And : goal.node-returns-in_ok-expr-in-And
+node-returns-in_ok-expr-in-And t c =
+    if_ok c.operands-in-And.result (λ x e. two_steps _ _ _ _ _ _
+    (chain_run c.args.unbraced (expr_tree c.args.expr.now) 7 c.deref-in-And.result.now c.as_slice-in-And.result.now
+    (chain_from _ 7 c.in-And.first.value _ c.in-And.others.items _ (ap expr_tree c.in-And.is ∙ expr_tree-And c.in-And.first c.in-And.others) (search rules) (search rules)))
+    c.in_ok-expr-in-And.ensures e) c.operands-in-And.ensures
+
+pub node-returns-in_ok-expr-in-Equality : goal.node-returns-in_ok-expr-in-Equality
+node-returns-in_ok-expr-in-Equality t c =
+    if_ok c.operands-in-Equality.result (λ x e. two_steps _ _ _ _ _ _
+    (chain_run c.args.unbraced (expr_tree c.args.expr.now) 6 c.deref-in-Equality.result.now c.as_slice-in-Equality.result.now
+    (chain_from _ 6 c.in-Equality.first.value _ c.in-Equality.others.items _ (ap expr_tree c.in-Equality.is ∙ expr_tree-Equality c.in-Equality.first c.in-Equality.others) (search rules) (search rules)))
+    c.in_ok-expr-in-Equality.ensures e) c.operands-in-Equality.ensures
+
+pub node-returns-in_ok-expr-in-Relation : goal.node-returns-in_ok-expr-in-Relation
+node-returns-in_ok-expr-in-Relation t c =
+    if_ok c.operands-in-Relation.result (λ x e. two_steps _ _ _ _ _ _
+    (chain_run c.args.unbraced (expr_tree c.args.expr.now) 5 c.deref-in-Relation.result.now c.as_slice-in-Relation.result.now
+    (chain_from _ 5 c.in-Relation.first.value _ c.in-Relation.others.items _ (ap expr_tree c.in-Relation.is ∙ expr_tree-Relation c.in-Relation.first c.in-Relation.others) (search rules) (search rules)))
+    c.in_ok-expr-in-Relation.ensures e) c.operands-in-Relation.ensures
+
+pub node-returns-in_ok-expr-in-Sum : goal.node-returns-in_ok-expr-in-Sum
+node-returns-in_ok-expr-in-Sum t c =
+    if_ok c.operands-in-Sum.result (λ x e. two_steps _ _ _ _ _ _
+    (chain_run c.args.unbraced (expr_tree c.args.expr.now) 4 c.deref-in-Sum.result.now c.as_slice-in-Sum.result.now
+    (chain_from _ 4 c.in-Sum.first.value _ c.in-Sum.others.items _ (ap expr_tree c.in-Sum.is ∙ expr_tree-Sum c.in-Sum.first c.in-Sum.others) (search rules) (search rules)))
+    c.in_ok-expr-in-Sum.ensures e) c.operands-in-Sum.ensures
+
+pub node-returns-in_ok-expr-in-Product : goal.node-returns-in_ok-expr-in-Product
+node-returns-in_ok-expr-in-Product t c =
+    if_ok c.operands-in-Product.result (λ x e. two_steps _ _ _ _ _ _
+    (chain_run c.args.unbraced (expr_tree c.args.expr.now) 3 c.deref-in-Product.result.now c.as_slice-in-Product.result.now
+    (chain_from _ 3 c.in-Product.first.value _ c.in-Product.others.items _ (ap expr_tree c.in-Product.is ∙ expr_tree-Product c.in-Product.first c.in-Product.others) (search rules) (search rules)))
+    c.in_ok-expr-in-Product.ensures e) c.operands-in-Product.ensures
+
+pub node-returns-in_ok-expr-in-Postfix : goal.node-returns-in_ok-expr-in-Postfix
+node-returns-in_ok-expr-in-Postfix t c =
+    if_ok c.parts.result (λ x e. two_steps _ _ _ _ _ _
+    (post_run c.args.unbraced (expr_tree c.args.expr.now) c.deref-in-Postfix.result.now c.as_slice-in-Postfix.result.now
+    (post_from _ c.in-Postfix.value.value _ c.in-Postfix.parts.items _ (ap expr_tree c.in-Postfix.is ∙ expr_tree-Postfix c.in-Postfix.value c.in-Postfix.parts) (search rules) (search rules)))
+    c.in_ok-expr-in-Postfix.ensures e) c.parts.ensures
+
+pub node-returns-in_ok-cond_branch-in-Cond : goal.node-returns-in_ok-cond_branch-in-Cond
+node-returns-in_ok-cond_branch-in-Cond t c =
+    if_ok c.cond_branch-in-Cond.result (λ x e. three_steps _ _ _ _ _ _ _ _
+    (cond_run c.args.unbraced (expr_tree c.args.expr.now) c.deref-in-Cond.result.now c.deref-in-Cond-2.result.now c.deref-in-Cond-3.result.now
+    (cond_from _ c.in-Cond.test.value c.in-Cond.one.value c.in-Cond.other.value _ _ _ (ap expr_tree c.in-Cond.is ∙ expr_tree-Cond c.in-Cond.test c.in-Cond.one c.in-Cond.other) (search rules) (search rules) (search rules)))
+    c.in_ok-expr-in-Cond.ensures c.in_ok-cond_branch-in-Cond.ensures e) c.cond_branch-in-Cond.ensures

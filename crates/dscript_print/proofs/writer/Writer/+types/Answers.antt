@@ -1,8 +1,8 @@
 use Rattle.std.proofs.Common.{rules, ◌∙◌, map}
-use Rattle.dscript_tree.specs.TypeTree.{to_types, to_fields, to_members}
-use Rattle.dscript_tree.specs.Views.{type_tree, field_tree, member_tree}
+use Rattle.dscript_ast.specs.TypeTree.{to_types, to_fields, to_members}
+use Rattle.dscript_ast.specs.Views.{type_tree, field_tree, member_tree}
 use Rattle.dscript_print.specs.TypeKinds.{types_kinds, fields_kinds, members_kinds}
-use Rattle.dscript_print.specs.Printed.{type_run, earlier_run, field_run, member_run}
+use Rattle.dscript_print.specs.Written.{type_run, earlier_run, field_run, member_run}
 use Rattle.dscript_print.proofs.Steps.{led_turn, joined_turn, joined_step, types_listed, fields_listed, members_listed, if_ok, union_written, union_none}
 use Rattle.dscript_print.proofs.writer.Writer.+types.Goals as goal
 

@@ -1,5 +1,5 @@
 use Rattle.std.proofs.Common.{rules, map}
-use Rattle.dscript_tree.specs.Views.{import_tree}
+use Rattle.dscript_ast.specs.Views.{import_tree}
 use Rattle.dscript_print.specs.FileKinds.{import_kinds}
 use Rattle.dscript_print.proofs.Steps.{led_turn, maps_listed}
 use Rattle.dscript_print.proofs.writer.Writer.imported.Goals as goal

@@ -1,5 +1,5 @@
 use Rattle.std.proofs.Common.{rules, map}
-use Rattle.dscript_tree.specs.Views.{member_tree}
+use Rattle.dscript_ast.specs.Views.{member_tree}
 use Rattle.dscript_print.specs.TypeKinds.{member_kinds}
 use Rattle.dscript_print.proofs.Steps.{joined_turn, maps_listed}
 use Rattle.dscript_print.proofs.writer.Writer.lined_members.Goals as goal

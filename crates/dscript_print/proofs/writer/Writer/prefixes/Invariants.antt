@@ -1,7 +1,7 @@
 use Rattle.std.proofs.Common.{◌≡◌, ◌++◌, map, take}
 use Rattle.dscript_print.specs.ExprKinds.{prefix_kind}
-use Rattle.dscript_print.specs.Printed.{seen}
+use Rattle.dscript_print.specs.Written.{written}
 use Rattle.dscript_print.proofs.writer.Writer.prefixes.Given as goal
 
-abbrev pub invariant-loop-sign : goal.invariant-loop-sign
-invariant-loop-sign l = seen l.self ≡ seen l.initial.self ++ map prefix_kind (take l.sign-index l.signs)
+abbrev pub invariant-loop-operator : goal.invariant-loop-operator
+invariant-loop-operator l = written l.self ≡ written l.initial.self ++ map prefix_kind (take l.operator-index l.operators)

@@ -1,7 +1,7 @@
 use Rattle.std.proofs.Common.{rules}
 use Rattle.dscript_print.specs.Runs.{word_run}
 use Rattle.dscript_print.proofs.Steps.{led_step}
-use Rattle.dscript_print.proofs.writer.Writer.names_behind.Goals as goal
+use Rattle.dscript_print.proofs.writer.Writer.more_names.Goals as goal
 
 pub loop-name-preserved : goal.loop-name-preserved
 loop-name-preserved c =

@@ -1,9 +1,9 @@
 use Rattle.std.proofs.Common.{rules}
 use Rattle.dscript_print.specs.Runs.{word_run}
 use Rattle.dscript_print.proofs.Steps.{led_step}
-use Rattle.dscript_print.proofs.writer.Writer.dotted_behind.Goals as goal
+use Rattle.dscript_print.proofs.writer.Writer.more_dotted.Goals as goal
 
 pub loop-name-preserved : goal.loop-name-preserved
 loop-name-preserved c =
     led_step "." word_run c.args.names.now c.loop-name.name-index c.name-item.result _ _ _ _
-    c.loop-name.invariant c.in_ok-sign.ensures c.in_ok-name.ensures (search rules) c.name-item.is
+    c.loop-name.invariant c.in_ok-punctuator.ensures c.in_ok-name.ensures (search rules) c.name-item.is
