@@ -2,7 +2,7 @@
 use Rattle.std.specs.Prelude.{◌≡◌, ℕ, List, [], ◌∷◌, map, Any, ◌⊎◌}
 use Rattle.dscript_lex.specs.declared.token.Token.{Token}
 use Rattle.dscript_lex.specs.declared.token.TokenKind.{TokenKind}
-use Rattle.dscript_lex.specs.Tokens.{AreTokens}
+use Rattle.dscript_lex.specs.Tokens.{AreTokens, FailsAt}
 use Rattle.bx_tree.specs.Trees.{Files, IsReserved}
 use Rattle.bx_tree.specs.Bundle.{IsBundle, Faults}
 use Rattle.bx_tree.specs.declared.bundle.BundleFault.TheVariants as bundle_faults
@@ -10,17 +10,20 @@ use Rattle.bx_engine.specs.declared.fault.InputFault.{InputFault}
 use Rattle.bx_engine.specs.declared.fault.InputFault.TheVariants as input_faults
 use Rattle.bx_engine.specs.declared.fault.SpecificationFault.{SpecificationFault}
 use Rattle.bx_engine.specs.declared.fault.SpecificationFault.TheVariants as specification_faults
-use Rattle.dscript_tree.specs.Derives.{Derives}
-use Rattle.dscript_tree.specs.FileTree.{FileTree}
-use Rattle.dscript_tree.specs.declared.file.Form.TheVariants as forms
-use Rattle.bx_engine.specs.Form.{HasForm}
-use Rattle.bx_engine.specs.Verdict.{Verdict, InputRefused, SpecificationRefused, Succeeded, specification_path}
+use Rattle.dscript_grammar.specs.Derives.{Derives}
+use Rattle.dscript_grammar.specs.Place.{IsRefusedAt}
+use Rattle.dscript_ast.specs.FileTree.{FileTree}
+use Rattle.dscript_ast.specs.declared.file.Form.TheVariants as forms
+use Rattle.bx_engine.specs.declared.place.Place.{Place}
+use Rattle.bx_engine.specs.Places.{place_of, start_of}
+use Rattle.bx_engine.specs.Supported.{IsSupported}
+use Rattle.bx_engine.specs.Ending.{Ending, InputRefused, SpecificationRefused, Succeeded, specification_path}
 
--- some file stands where outputs go
+-- some source file has a path that belongs to the output
 abbrev pub HasReserved : Files → Type 0
 HasReserved sources = Any (λ file. IsReserved file.0) sources
 
--- the input is the bundle of these source files, none of which stands where outputs go
+-- the input is the bundle of these source files, none of which has a path that belongs to the output
 pub record AreSources (input : List ℕ) (sources : Files) : Type 0 where
   pub bundle : IsBundle input sources
   pub free : HasReserved sources → ⊥
@@ -29,7 +32,7 @@ pub record AreSources (input : List ℕ) (sources : Files) : Type 0 where
 abbrev pub IsSpecification : Files → List ℕ → Type 0
 IsSpecification sources text = sources ≡ (specification_path ∷ [], text) ∷ []
 
--- the input is refused with this fault: it is no bundle, and its first fault is this; or a file of it is reserved
+-- The input is refused with this fault: it is no bundle, and this is its first fault, or a path is reserved.
 abbrev pub RefusesInput : List ℕ → InputFault → Type 0
 RefusesInput input input_faults.BadBundle = Faults input bundle_faults.BadBundle
 RefusesInput input input_faults.BadPath = Faults input bundle_faults.BadPath
@@ -44,39 +47,50 @@ kinds_of tokens = map (λ t. t.kind) tokens
 
 -- the text is this project file
 abbrev pub IsFile : List ℕ → FileTree → Type 0
-IsFile text file = (tokens : List Token) × AreTokens text tokens × (height : ℕ) × Derives forms.Project (kinds_of tokens) file height
+IsFile text file =
+    (tokens : List Token) × AreTokens text tokens
+    × (height : ℕ) × Derives forms.Project (kinds_of tokens) file height
 
--- the text is a list of tokens, and the grammar derives no project file from them
-abbrev pub IsNoFile : List ℕ → Type 0
-IsNoFile text =
-    (tokens : List Token) × AreTokens text tokens × ((file : FileTree) (height : ℕ) → Derives forms.Project (kinds_of tokens) file height → ⊥)
+-- the text has no tokens, and fails at this place
+abbrev pub HasNoTokens : List ℕ → Place → Type 0
+HasNoTokens text place = (at : ℕ) × FailsAt text at × (place ≡ place_of text at)
 
--- the text is a file, and not of the form
-abbrev pub LacksForm : List ℕ → Type 0
-LacksForm text = (file : FileTree) × IsFile text file × ((files : Files) → HasForm file files → ⊥)
+-- the text is a list of tokens that are no project file, and they are refused at the token at this place
+abbrev pub IsNoFile : List ℕ → Place → Type 0
+IsNoFile text place =
+    (tokens : List Token) × AreTokens text tokens
+    × (at : ℕ) × IsRefusedAt forms.Project (kinds_of tokens) at
+    × (place ≡ place_of text (start_of text tokens at))
+
+-- the text is a file that is not supported
+abbrev pub IsUnsupported : List ℕ → Type 0
+IsUnsupported text = (file : FileTree) × IsFile text file × ((files : Files) → IsSupported file files → ⊥)
 
 -- the specification is refused with this fault
 abbrev pub RefusesSpecification : Files → SpecificationFault → Type 0
-RefusesSpecification sources specification_faults.Lex =
-    (text : List ℕ) × IsSpecification sources text × ((tokens : List Token) → AreTokens text tokens → ⊥)
-RefusesSpecification sources specification_faults.Syntax =
-    (text : List ℕ) × IsSpecification sources text × IsNoFile text
+RefusesSpecification sources (specification_faults.Lex place) =
+    (text : List ℕ) × IsSpecification sources text × HasNoTokens text place
+RefusesSpecification sources (specification_faults.Syntax place) =
+    (text : List ℕ) × IsSpecification sources text × IsNoFile text place
 RefusesSpecification sources specification_faults.Unsupported =
-    ((text : List ℕ) → IsSpecification sources text → ⊥) ⊎ ((text : List ℕ) × IsSpecification sources text × LacksForm text)
+    ((text : List ℕ) → IsSpecification sources text → ⊥)
+    ⊎ ((text : List ℕ) × IsSpecification sources text × IsUnsupported text)
 
--- the specification has the form, and asks for these files
+-- the specification is supported, and asks for these files
 abbrev pub Makes : Files → Files → Type 0
 Makes sources files =
-    (text : List ℕ) × IsSpecification sources text × (file : FileTree) × IsFile text file × HasForm file files
+    (text : List ℕ) × IsSpecification sources text
+    × (file : FileTree) × IsFile text file × IsSupported file files
 
--- how the build of source files ends, which are not refused as an input
-abbrev pub EndsFrom : Files → Verdict → Type 0
+-- how the build of source files ends that are no refused input
+abbrev pub EndsFrom : Files → Ending → Type 0
 EndsFrom sources (InputRefused fault) = ⊥
 EndsFrom sources (SpecificationRefused fault) = RefusesSpecification sources fault
 EndsFrom sources (Succeeded files) = Makes sources files
 
 -- how an input ends
-abbrev pub Ends : List ℕ → Verdict → Type 0
+abbrev pub Ends : List ℕ → Ending → Type 0
 Ends input (InputRefused fault) = RefusesInput input fault
-Ends input (SpecificationRefused fault) = (sources : Files) × AreSources input sources × RefusesSpecification sources fault
+Ends input (SpecificationRefused fault) =
+    (sources : Files) × AreSources input sources × RefusesSpecification sources fault
 Ends input (Succeeded files) = (sources : Files) × AreSources input sources × Makes sources files

@@ -1,9 +1,11 @@
+pub mod Ending
 pub mod Ends
 pub mod Expected
-pub mod Form
 pub mod Known
 pub mod Output
-pub mod Verdict
+pub mod Places
+pub mod Statuses
+pub mod Supported
 pub mod Views
 pub mod Words
 pub mod Writes

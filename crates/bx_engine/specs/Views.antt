@@ -1,9 +1,9 @@
--- A verdict without where its files lie in memory.
-use Rattle.bx_engine.specs.Verdict.{Verdict, InputRefused, SpecificationRefused, Succeeded}
-use Rattle.bx_engine.specs.declared.verdict.Verdict as stored
-use Rattle.bx_engine.specs.declared.verdict.Verdict.TheVariants as verdicts
+-- The ending that a stored ending is, without where its files lie in memory.
+use Rattle.bx_engine.specs.Ending.{Ending, InputRefused, SpecificationRefused, Succeeded}
+use Rattle.bx_engine.specs.declared.ending.Ending as stored
+use Rattle.bx_engine.specs.declared.ending.Ending.TheVariants as endings
 
-abbrev pub seen : stored.Verdict → Verdict
-seen (verdicts.InputRefused fault) = InputRefused fault
-seen (verdicts.SpecificationRefused fault) = SpecificationRefused fault
-seen (verdicts.Succeeded files) = Succeeded files
+abbrev pub ending_view : stored.Ending → Ending
+ending_view (endings.InputRefused fault) = InputRefused fault
+ending_view (endings.SpecificationRefused fault) = SpecificationRefused fault
+ending_view (endings.Succeeded files) = Succeeded files

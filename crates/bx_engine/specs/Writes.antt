@@ -3,9 +3,9 @@ use Rattle.std.specs.Prelude.{◌≡◌, ℕ, List, None, map}
 use Rattle.std.specs.List.{AllByRecursion}
 use Rattle.bx_tree.specs.Paths.{Atoms}
 use Rattle.bx_tree.specs.Trees.{Files}
-use Rattle.dscript_tree.specs.FileTree.{ItemTree, MarkedTree, Declared, Marked, Const}
-use Rattle.dscript_tree.specs.declared.file.Mark.TheVariants as marks
-use Rattle.bx_engine.specs.Form.{Write, IsAllowed, call_tree, made, write_item}
+use Rattle.dscript_ast.specs.FileTree.{ItemTree, MarkedTree, Declared, Marked, Const}
+use Rattle.dscript_ast.specs.declared.file.Mark.TheVariants as marks
+use Rattle.bx_engine.specs.Supported.{Write, IsAllowed, call_tree, made, write_item}
 
 -- the constant without a mark that says this, and the item that declares it
 abbrev pub marked_of : List ℕ → List ℕ → List ℕ → MarkedTree
@@ -14,7 +14,7 @@ marked_of name path text = Marked marks.Plain (Const name None (call_tree path t
 abbrev pub item_of : List ℕ → List ℕ → List ℕ → ItemTree
 item_of name path text = Declared (marked_of name path text)
 
--- the item is this write, which may stand in a specification
+-- the item is this write, which is allowed in a specification
 pub record IsWrite (item : ItemTree) (write : Write) : Type 0 where
   pub item_is : item ≡ write_item write
   pub allowed : IsAllowed write
@@ -26,7 +26,7 @@ pub record Writes (item : ItemTree) (name : List ℕ) (file : Atoms × List ℕ)
   pub name_is : name ≡ write.name
   pub file_is : file ≡ (write.path, write.text)
 
--- the items are these writes, each of which may stand in a specification
+-- the items are these writes, each of which is allowed in a specification
 pub record AreWrites (items : List ItemTree) (writes : List Write) : Type 0 where
   pub items_are : items ≡ map write_item writes
   pub allowed : AllByRecursion IsAllowed writes

@@ -1,16 +1,17 @@
-//! Reads one item of the form that is built so far: a constant that is the call of a writer.
+//! Reads one write item: a constant that is a call of `Transformer.writeAllText`.
 
 ghost use Rattle.std.specs.Prelude.{◌≡◌, ◌∷◌, ◌↔◌, [], ℕ, List, IsTrue, MatchOption, None};
-ghost use Rattle.bx_engine.specs.Form.{arguments_tree, call_tree};
+ghost use Rattle.bx_engine.specs.Supported.{arguments_tree, call_tree};
 ghost use Rattle.bx_engine.specs.Writes.{item_of, marked_of};
-ghost use Rattle.dscript_tree.specs.ExprTree as trees;
-ghost use Rattle.dscript_tree.specs.ExprTree.{ExprTree, to_exprs, to_holes};
-ghost use Rattle.dscript_tree.specs.FileTree as files;
-ghost use Rattle.dscript_tree.specs.Views.{decl_tree, expr_tree, item_tree, marked_tree, part_tree, prop_tree};
-ghost use Rattle.dscript_tree.specs.declared.expr.PathKind.TheVariants as letters;
+ghost use Rattle.dscript_ast.specs.ExprTree as trees;
+ghost use Rattle.dscript_ast.specs.ExprTree.{ExprTree, to_exprs, to_holes};
+ghost use Rattle.dscript_ast.specs.FileTree as files;
+ghost use Rattle.dscript_ast.specs.Views.{decl_tree, expr_tree, item_tree, marked_tree};
+ghost use Rattle.dscript_ast.specs.Views.{part_tree, prop_tree};
+ghost use Rattle.dscript_ast.specs.declared.expr.PathKind.TheVariants as letters;
 
 use bx_tree::Text;
-use dscript_tree::{Decl, Expr, Item, Mark, Marked, PathKind, PostPart, Prop};
+use dscript_ast::{Decl, Expr, Item, Mark, Marked, PathKind, PostfixPart, Prop};
 
 /// The bytes of a string.
 fn read_string(value: &Expr) -> Option<&[u8]>
@@ -49,22 +50,22 @@ fn is_name(value: &Expr, name: &[u8]) -> bool
     }
 }
 
-fn is_member(part: &PostPart, name: &[u8]) -> bool
+fn is_member(part: &PostfixPart, name: &[u8]) -> bool
     ensures { IsTrue result ↔ (part_tree part.now ≡ trees.Member name.now) }
 {
     match part {
-        PostPart::Member(text) => text.bytes() == name,
+        PostfixPart::Member(text) => text.bytes() == name,
         _ => false,
     }
 }
 
 /// The argument of a call that has one.
-fn read_argument(part: &PostPart) -> Option<&Expr>
+fn read_argument(part: &PostfixPart) -> Option<&Expr>
     ensures { MatchOption result
         ((value : ExprTree) → part_tree part.entry.now ≡ trees.Call (to_exprs (value ∷ [])) → ⊥)
         (λ value. part_tree part.entry.now ≡ trees.Call (to_exprs (expr_tree value.now ∷ []))) }
 {
-    let PostPart::Call(values) = part else {
+    let PostfixPart::Call(values) = part else {
         return None;
     };
     if values.len() == 1 {
@@ -109,7 +110,7 @@ fn read_call(value: &Expr) -> Option<(&[u8], &[u8])>
         ((path text : List ℕ) → expr_tree value.entry.now ≡ call_tree path text → ⊥)
         (λ x. expr_tree value.entry.now ≡ call_tree x.0.now x.1.now) }
 {
-    let Expr::Post(callee, parts) = value else {
+    let Expr::Postfix(callee, parts) = value else {
         return None;
     };
     if parts.len() != 2 {
@@ -124,7 +125,7 @@ fn read_call(value: &Expr) -> Option<(&[u8], &[u8])>
     read_arguments(read_argument(&parts[1])?)
 }
 
-/// What an item says: its name, and the path and the text of the file.
+/// What a write item says: its name, and the path and the text of the file.
 #[derive(Drop)]
 pub(crate) struct WriteItem<'a> {
     pub name: &'a Text,
@@ -132,10 +133,11 @@ pub(crate) struct WriteItem<'a> {
     pub text: &'a [u8],
 }
 
-/// What a constant without a type says.
+/// What a write item says, if the declaration is a constant without a type.
 fn read_constant(decl: &Decl) -> Option<WriteItem<'_>>
     ensures { MatchOption result
-        ((name path text : List ℕ) → decl_tree decl.entry.now ≡ files.Const name None (call_tree path text) → ⊥)
+        ((name path text : List ℕ)
+        → decl_tree decl.entry.now ≡ files.Const name None (call_tree path text) → ⊥)
         (λ x. decl_tree decl.entry.now ≡ files.Const x.name.now None (call_tree x.path.now x.text.now)) }
 {
     match decl {
@@ -147,7 +149,7 @@ fn read_constant(decl: &Decl) -> Option<WriteItem<'_>>
     }
 }
 
-/// What a constant without a mark says.
+/// What a write item says, if its declaration has no mark.
 fn read_marked(marked: &Marked) -> Option<WriteItem<'_>>
     ensures { MatchOption result
         ((name path text : List ℕ) → marked_tree marked.entry.now ≡ marked_of name path text → ⊥)
@@ -159,7 +161,7 @@ fn read_marked(marked: &Marked) -> Option<WriteItem<'_>>
     }
 }
 
-/// What a declaration of such a constant says.
+/// What an item says, if it is a write item.
 pub(crate) fn read_item(item: &Item) -> Option<WriteItem<'_>>
     ensures { MatchOption result
         ((name path text : List ℕ) → item_tree item.entry.now ≡ item_of name path text → ⊥)

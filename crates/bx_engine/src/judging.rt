@@ -5,40 +5,48 @@ ghost use Rattle.bx_tree.specs.Trees.{Files};
 ghost use Rattle.bx_tree.specs.Views.{files_of};
 ghost use Rattle.bx_tree.specs.Bundle.{IsBundle, IsInSize};
 ghost use Rattle.bx_engine.specs.Ends.{Ends, EndsFrom, IsSpecification};
-ghost use Rattle.bx_engine.specs.Views.{seen};
+ghost use Rattle.bx_engine.specs.Views.{ending_view};
 
+use crate::ending::Ending;
 use crate::fault::{InputFault, SpecificationFault};
-use crate::form::files_asked;
-use crate::verdict::Verdict;
-use bx_tree::{BundleFault, Tree, TreeFile, read_bundle, reserved};
+use crate::place::{place_at, start_of};
+use crate::supported::files_asked;
+use bx_tree::{BundleFault, MAX_FILE_BYTES, Tree, TreeFile, read_bundle, reserved};
+use dscript_ast::Form;
 use dscript_lex::{LexFault, lex};
 use dscript_parse::{SyntaxFault, parse};
-use dscript_tree::Form;
 use std::alloc::{AllocError, Global};
 
 /// The one file that is read as a specification.
 const SPECIFICATION: &str = "build.dsc";
 
 /// How the build of a specification with this text ends.
-fn judge_text(alloc: Global, text: &[u8]) -> Result<Verdict, AllocError>
-    requires { length text.now ≤ 16777216 }
-    ensures { IfOk result (λ verdict. (sources : Files) → IsSpecification sources text.now → EndsFrom sources (seen verdict)) }
+#[tactic(auto, using(dscript_parse::proofs::TokenCount::at_most_bytes))]
+fn judge_text(alloc: Global, text: &[u8]) -> Result<Ending, AllocError>
+    requires { length text.now ≤ MAX_FILE_BYTES }
+    ensures { IfOk result (λ ending.
+        (sources : Files) → IsSpecification sources text.now → EndsFrom sources (ending_view ending)) }
 {
     let tokens = match lex(alloc, text) {
         Ok(tokens) => tokens,
-        Err(LexFault::Lex) => return Ok(Verdict::SpecificationRefused(SpecificationFault::Lex)),
+        Err(LexFault::Lex { at }) => {
+            let fault = SpecificationFault::Lex(place_at(text, at as usize));
+            return Ok(Ending::SpecificationRefused(fault));
+        }
         Err(LexFault::Memory) => return Err(AllocError),
     };
     let file = match parse(alloc, &tokens, Form::Project) {
         Ok(file) => file,
-        Err(SyntaxFault::Syntax) => {
-            return Ok(Verdict::SpecificationRefused(SpecificationFault::Syntax));
+        Err(SyntaxFault::Syntax { at }) => {
+            let start = start_of(text, &tokens, at as usize);
+            let fault = SpecificationFault::Syntax(place_at(text, start));
+            return Ok(Ending::SpecificationRefused(fault));
         }
         Err(SyntaxFault::Memory) => return Err(AllocError),
     };
     match files_asked(alloc, &file)? {
-        Some(files) => Ok(Verdict::Succeeded(files)),
-        None => Ok(Verdict::SpecificationRefused(SpecificationFault::Unsupported)),
+        Some(files) => Ok(Ending::Succeeded(files)),
+        None => Ok(Ending::SpecificationRefused(SpecificationFault::Unsupported)),
     }
 }
 
@@ -57,31 +65,32 @@ fn specification_of(files: &[TreeFile]) -> Option<&[u8]>
 }
 
 /// How the build of a source tree ends.
-fn judge_tree(alloc: Global, tree: &Tree) -> Result<Verdict, AllocError>
+fn judge_tree(alloc: Global, tree: &Tree) -> Result<Ending, AllocError>
     requires { IsInSize tree.now }
-    ensures { IfOk result (λ verdict. (input : List ℕ) → IsBundle input tree.now → Ends input (seen verdict)) }
+    ensures { IfOk result (λ ending.
+        (input : List ℕ) → IsBundle input tree.now → Ends input (ending_view ending)) }
 {
     if reserved(tree) {
-        return Ok(Verdict::InputRefused(InputFault::Reserved));
+        return Ok(Ending::InputRefused(InputFault::Reserved));
     }
     match specification_of(tree.files()) {
         Some(text) => judge_text(alloc, text),
-        None => Ok(Verdict::SpecificationRefused(SpecificationFault::Unsupported)),
+        None => Ok(Ending::SpecificationRefused(SpecificationFault::Unsupported)),
     }
 }
 
 /// How a build of this input ends.
-pub(crate) fn verdict_of(alloc: Global, input: &[u8]) -> Result<Verdict, AllocError>
-    ensures { IfOk result (λ verdict. Ends input.now (seen verdict)) }
+pub(crate) fn ending_of(alloc: Global, input: &[u8]) -> Result<Ending, AllocError>
+    ensures { IfOk result (λ ending. Ends input.now (ending_view ending)) }
 {
     match read_bundle(alloc, input) {
         Ok(tree) => judge_tree(alloc, &tree),
-        Err(BundleFault::BadBundle) => Ok(Verdict::InputRefused(InputFault::BadBundle)),
-        Err(BundleFault::BadPath) => Ok(Verdict::InputRefused(InputFault::BadPath)),
-        Err(BundleFault::Unordered) => Ok(Verdict::InputRefused(InputFault::Unordered)),
-        Err(BundleFault::Nested) => Ok(Verdict::InputRefused(InputFault::Nested)),
-        Err(BundleFault::TooManyFiles) => Ok(Verdict::InputRefused(InputFault::TooManyFiles)),
-        Err(BundleFault::TooLarge) => Ok(Verdict::InputRefused(InputFault::TooLarge)),
+        Err(BundleFault::BadBundle) => Ok(Ending::InputRefused(InputFault::BadBundle)),
+        Err(BundleFault::BadPath) => Ok(Ending::InputRefused(InputFault::BadPath)),
+        Err(BundleFault::Unordered) => Ok(Ending::InputRefused(InputFault::Unordered)),
+        Err(BundleFault::Nested) => Ok(Ending::InputRefused(InputFault::Nested)),
+        Err(BundleFault::TooManyFiles) => Ok(Ending::InputRefused(InputFault::TooManyFiles)),
+        Err(BundleFault::TooLarge) => Ok(Ending::InputRefused(InputFault::TooLarge)),
         Err(BundleFault::Memory) => Err(AllocError),
     }
 }

@@ -1,30 +1,34 @@
-//! The whole engine as one call: from the words of the command line and the bytes of an input to a status, the
-//! bytes of the output and what is told.
+//! The whole engine as one call: from the words of the command line and the bytes of an input to a status,
+//! the bytes of the output, and the notes.
 //!
-//! This crate stands on `bx_io` for the outside, on `bx_tree` for bundles, and on `dscript_lex`, `dscript_parse` and
-//! `dscript_tree` for specifications. It carries the promise that all others are for: the call writes the bytes and
-//! gives the status that the definition of a build gives for the input, on both sides of every refusal.
+//! This crate depends on `bx_io` for the outside, on `bx_tree` for bundles, and on `dscript_lex`,
+//! `dscript_parse` and `dscript_ast` for specifications. It carries the promise that all others are for: the
+//! call writes the bytes and gives the status that the definition of a build gives for the input, on both
+//! sides of every refusal.
 #![tactic(auto)]
 
 mod build;
+mod ending;
 mod fault;
-mod form;
 mod item;
 mod judging;
 mod laws;
+mod limits;
 mod order;
 mod paths;
+mod place;
 mod reading;
 mod report;
 mod response;
 mod status;
+mod supported;
 mod top;
-mod verdict;
 mod writing;
 
 pub use fault::{InputFault, SpecificationFault};
-pub use laws::one_end;
+pub use laws::{one_end, some_end};
 pub use order::{Order, WordFault, read_words};
+pub use place::Place;
 pub use status::Status;
 pub use top::command;
 

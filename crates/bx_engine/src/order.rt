@@ -4,6 +4,15 @@ ghost use Rattle.std.specs.Prelude.{◌≡◌, MatchResult, map, string_bytes};
 ghost use Rattle.bx_engine.specs.Words.{Orders};
 ghost use Rattle.bx_engine.specs.declared.order.Order.{Order as TheOrder};
 
+/// How many workers take part in a build where no option says otherwise.
+pub const DEFAULT_WORKERS: u32 = 4;
+
+/// How many steps the evaluation of a specification may take where no option says otherwise.
+pub const DEFAULT_EVAL_BUDGET: u64 = 10_000_000;
+
+/// How many steps one run of a tool may take where no option says otherwise.
+pub const DEFAULT_TOOL_BUDGET: u64 = 100_000;
+
 /// What a call is to do.
 #[derive(Clone, Copy, Debug, PartialEq, Eq)]
 pub enum Order {
@@ -27,8 +36,8 @@ pub enum WordFault {
     NoCommand,
 }
 
-/// The order that the words behind the program's name stand for. The one order is the word `build`, with
-/// what it does where no option says otherwise.
+/// The order that the words after the program's name are. The one order is the word `build`, with the default
+/// of each option.
 pub fn read_words(words: &[String]) -> Result<Order, WordFault>
     ensures { MatchResult result
         (λ order. Orders (map string_bytes words.now) order)
@@ -41,9 +50,9 @@ pub fn read_words(words: &[String]) -> Result<Order, WordFault>
         return Err(WordFault::NoCommand);
     }
     Ok(Order::Build {
-        workers: 4,
+        workers: DEFAULT_WORKERS,
         cached: true,
-        eval_budget: 10_000_000,
-        tool_budget: 100_000,
+        eval_budget: DEFAULT_EVAL_BUDGET,
+        tool_budget: DEFAULT_TOOL_BUDGET,
     })
 }

@@ -2,7 +2,7 @@
 
 ghost use Rattle.std.specs.Prelude.{IfOk, MatchOption};
 ghost use Rattle.bx_tree.specs.Paths.{Atoms, IsPathText, Names};
-ghost use Rattle.bx_engine.specs.Form.{IsBelowOut};
+ghost use Rattle.bx_engine.specs.Supported.{IsBelowOut};
 
 use bx_tree::{Path, PathFault};
 use std::alloc::{AllocError, Global};

@@ -1,14 +1,15 @@
-ghost use Rattle.std.specs.Prelude.{◌≡◌, ◌≤◌, ◌<◌, ◌+◌, ◌^◌, ◌++◌, IfOk, IsErrOf, IsSome, List, ℕ, length, vec_len};
+//! Reads the source to its end, or to one byte past the limit on an input.
+
+ghost use Rattle.std.specs.Prelude.{◌≡◌, ◌≢◌, ◌≤◌, ◌<◌, IfOk, IsErrOf, IsSome, length, vec_len};
 ghost use Rattle.std.specs.Io.KnownBytes.{Consumes, IsAtEnd};
 ghost use Rattle.bx_io.specs.Causes.{HasCause};
-ghost use Rattle.bx_engine.specs.Known.{GivesPiece};
+ghost use Rattle.bx_engine.specs.Known.{MovesPiece};
 ghost use Rattle.bx_engine.specs.declared.reading.ReadFault.TheVariants as read_faults;
 
+use crate::limits::{READ_LIMIT, READ_PIECE};
 use bx_io::{Failed, Source};
+use bx_tree::MAX_BUNDLE_BYTES;
 use std::alloc::{AllocError, AllocFailed, Global};
-
-/// How many bytes are asked for at once.
-const PIECE: usize = 65_536;
 
 /// Why an input was not read.
 #[derive(Drop)]
@@ -41,46 +42,46 @@ impl<T: Drop> From<AllocFailed<T>> for ReadFault {
     }
 }
 
-/// So many zeroes.
+/// A vector of this many zeroes.
 fn zeroes(alloc: Global, count: usize) -> Result<Vec<u8>, AllocError>
     ensures { IfOk result (λ bytes. vec_len bytes ≡ count) }
 {
     vec![in alloc; 0u8; count]
 }
 
-/// Reads one piece into the buffer, and puts what came behind what is held. Answers how much came.
+/// Reads one piece into the buffer, and appends it to `held`. Gives the number of bytes that were read.
 fn read_piece<S: Source>(
     source: &mut S,
     buffer: &mut [u8],
     held: &mut Vec<u8>,
 ) -> Result<usize, ReadFault>
-    ensures given { IfOk result (λ count. GivesPiece (S.left source.old) (S.left source.new) held.old.items held.new.items count) }
+    ensures moved { IfOk result (λ count.
+        MovesPiece (S.left source.old) (S.left source.new) held.old.items held.new.items count) }
     ensures count { IfOk result (λ count. count ≤ length buffer.old) }
-    ensures end { result ≡ Ok 0 → 0 < length buffer.old → IsSome (S.left source.old) → IsAtEnd (S.left source.new) }
+    ensures end { result ≡ Ok 0 → 0 < length buffer.old
+        → IsSome (S.left source.old) → IsAtEnd (S.left source.new) }
     ensures cause { HasCause (S.faults source.old) (S.faults source.new) (IsErrOf result ReadFault.Failed) }
+    ensures no_fault { result ≢ Err ReadFault.Failed → S.faults source.new ≡ S.faults source.old }
 {
     let count = source.read(buffer)?;
     held.extend_from_slice(&buffer[..count])?;
     Ok(count)
 }
 
-/// Reads up to the source's end, or until one byte more than the limit is held.
-pub(crate) fn read_all<S: Source>(
-    alloc: Global,
-    source: &mut S,
-    limit: usize,
-) -> Result<Vec<u8>, ReadFault>
-    requires { limit < 2 ^ 60 }
+/// Reads up to the source's end, or until one byte more is held than a bundle may have.
+pub(crate) fn read_all<S: Source>(alloc: Global, source: &mut S) -> Result<Vec<u8>, ReadFault>
     ensures consumed { IfOk result (λ bytes. Consumes (S.left source.old) (S.left source.new) bytes.items) }
-    ensures bound { IfOk result (λ bytes. vec_len bytes ≤ limit + 1) }
-    ensures end { IfOk result (λ bytes. vec_len bytes ≤ limit → IsSome (S.left source.old) → IsAtEnd (S.left source.new)) }
+    ensures bound { IfOk result (λ bytes. vec_len bytes ≤ READ_LIMIT) }
+    ensures end { IfOk result (λ bytes.
+        vec_len bytes ≤ MAX_BUNDLE_BYTES → IsSome (S.left source.old) → IsAtEnd (S.left source.new)) }
     ensures cause { HasCause (S.faults source.old) (S.faults source.new) (IsErrOf result ReadFault.Failed) }
+    ensures no_fault { result ≢ Err ReadFault.Failed → S.faults source.new ≡ S.faults source.old }
 {
     let mut held = Vec::new(alloc);
-    let mut buffer = zeroes(alloc, PIECE)?;
-    'pieces: while held.len() <= limit {
-        let room = PIECE.min(limit + 1 - held.len());
-        let count = read_piece(source, &mut buffer[..room], &mut held)?;
+    let mut buffer = zeroes(alloc, READ_PIECE)?;
+    'pieces: while held.len() < READ_LIMIT {
+        let wanted = READ_PIECE.min(READ_LIMIT - held.len());
+        let count = read_piece(source, &mut buffer[..wanted], &mut held)?;
         if count == 0 {
             return Ok(held);
         }

@@ -1,16 +1,19 @@
 //! The report of a build. docs/FORMATS.md has its form.
 
 ghost use Rattle.std.specs.Prelude.{◌≡◌, IfOk};
-ghost use Rattle.bx_engine.specs.Verdict.{InputRefused, SpecificationRefused, Succeeded, input_fault_name, notes_of, report_of, specification_fault_name};
-ghost use Rattle.bx_engine.specs.Views.{seen};
+ghost use Rattle.bx_engine.specs.Ending.{InputRefused, SpecificationRefused, Succeeded};
+ghost use Rattle.bx_engine.specs.Ending.{input_fault_name, specification_fault_name};
+ghost use Rattle.bx_engine.specs.Ending.{notes_of, place_text, report_of};
+ghost use Rattle.bx_engine.specs.Views.{ending_view};
 ghost use Rattle.bx_tree.specs.Views.{files_of};
 
+use crate::ending::Ending;
 use crate::fault::{InputFault, SpecificationFault};
-use crate::verdict::Verdict;
+use crate::place::Place;
 use bx_tree::TreeFile;
 use std::alloc::{AllocError, Global};
 
-/// What is told of a build that succeeded. No process and no cache is there yet to be counted.
+/// The notes of a build that succeeded. There is no process and no cache yet to be counted.
 const COUNTS: &str = "hits 0\nran 0\nlate 0\nstore-faults 0\nstarved 0\n";
 
 fn input_name(fault: InputFault) -> &'static str
@@ -31,8 +34,8 @@ fn specification_name(fault: SpecificationFault) -> &'static str
     ensures { result.now ≡ specification_fault_name fault }
 {
     match fault {
-        SpecificationFault::Lex => "Lex",
-        SpecificationFault::Syntax => "Syntax",
+        SpecificationFault::Lex(_) => "Lex",
+        SpecificationFault::Syntax(_) => "Syntax",
         SpecificationFault::Unsupported => "Unsupported",
     }
 }
@@ -45,6 +48,15 @@ fn input_report(alloc: Global, fault: InputFault) -> Result<Vec<u8>, AllocError>
     text.as_bytes().to_vec(alloc)
 }
 
+/// The line of a report that says a place.
+fn place_line(alloc: Global, place: Place) -> Result<Vec<u8>, AllocError>
+    ensures { IfOk result (λ text. text.items ≡ place_text place) }
+{
+    let Place { line, column } = place;
+    let text = format!(in alloc; "at {line} {column}\n")?;
+    text.as_bytes().to_vec(alloc)
+}
+
 fn specification_report(alloc: Global, fault: SpecificationFault) -> Result<Vec<u8>, AllocError>
     ensures { IfOk result (λ text. text.items ≡ report_of (SpecificationRefused fault)) }
 {
@@ -52,7 +64,12 @@ fn specification_report(alloc: Global, fault: SpecificationFault) -> Result<Vec<
     let text = format!(in alloc;
         "report 1\nverdict specification-refused\nfault {name} build.dsc\n"
     )?;
-    text.as_bytes().to_vec(alloc)
+    let mut report = text.as_bytes().to_vec(alloc)?;
+    let Some(place) = fault.place() else {
+        return Ok(report);
+    };
+    report.extend_from_slice(&place_line(alloc, place)?)?;
+    Ok(report)
 }
 
 fn success_report(alloc: Global, files: &[TreeFile]) -> Result<Vec<u8>, AllocError>
@@ -66,23 +83,23 @@ fn success_report(alloc: Global, files: &[TreeFile]) -> Result<Vec<u8>, AllocErr
     Ok(text)
 }
 
-/// The report of a build that ended so.
-pub(crate) fn report(alloc: Global, verdict: &Verdict) -> Result<Vec<u8>, AllocError>
-    ensures { IfOk result (λ text. text.items ≡ report_of (seen verdict.now)) }
+/// The report of a build with this ending.
+pub(crate) fn report(alloc: Global, ending: &Ending) -> Result<Vec<u8>, AllocError>
+    ensures { IfOk result (λ text. text.items ≡ report_of (ending_view ending.now)) }
 {
-    match verdict {
-        Verdict::InputRefused(fault) => input_report(alloc, *fault),
-        Verdict::SpecificationRefused(fault) => specification_report(alloc, *fault),
-        Verdict::Succeeded(files) => success_report(alloc, files.files()),
+    match ending {
+        Ending::InputRefused(fault) => input_report(alloc, *fault),
+        Ending::SpecificationRefused(fault) => specification_report(alloc, *fault),
+        Ending::Succeeded(files) => success_report(alloc, files.files()),
     }
 }
 
-/// What is told of a build that ended so.
-pub(crate) fn notes(verdict: &Verdict) -> &'static str
-    ensures { result.now ≡ notes_of (seen verdict.now) }
+/// The notes of a build with this ending.
+pub(crate) fn notes(ending: &Ending) -> &'static str
+    ensures { result.now ≡ notes_of (ending_view ending.now) }
 {
-    match verdict {
-        Verdict::Succeeded(_) => COUNTS,
+    match ending {
+        Ending::Succeeded(_) => COUNTS,
         _ => "",
     }
 }

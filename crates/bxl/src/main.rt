@@ -1,9 +1,8 @@
 //! The program `bxl`: the engine over standard input, output and error.
 //!
-//! This crate makes the real outside and hands it to the engine. It stands on `bx_io`, whose traits its
-//! adapters meet, and on `bx_engine`. The adapters are the trusted edge: what a stream gives or takes
-//! cannot be proved, so they tell nothing of content, and carry only that they count a fault where they
-//! tell one.
+//! This crate makes the real outside and gives it to the engine. It depends on `bx_io`, whose traits its
+//! adapters implement, and on `bx_engine`. The adapters are the trusted edge: the bytes that a stream gives
+//! or takes are not known to a proof, so it is proved only that an adapter counts each fault that it reports.
 #![tactic(auto)]
 
 mod std_sink;
@@ -13,7 +12,7 @@ mod tests;
 
 use crate::std_sink::StdSink;
 use crate::std_source::StdSource;
-use bx_engine::command;
+use bx_engine::{Status, command};
 use bx_io::{NoFaultKeeper, OpenGate};
 use std::alloc::AllocError;
 use std::env;
@@ -21,10 +20,7 @@ use std::io::ErrorKind;
 use std::process::ExitCode;
 use std::rt::Env;
 
-/// The status where main itself finds no memory.
-const NO_MEMORY: u8 = 7;
-
-/// The words behind the program's name. Words that are no text are no command, as no words are none.
+/// The words after the program's name. Where they are not all text, there are none, which is no command.
 fn words<R: Env + AllocGlobal>(rt: &R) -> Result<Vec<String>, AllocError> {
     match env::args(rt) {
         Ok(args) => args.skip(1).collect(rt.alloc()),
@@ -36,7 +32,7 @@ fn words<R: Env + AllocGlobal>(rt: &R) -> Result<Vec<String>, AllocError> {
 fn main(rt: HostRuntime) -> ExitCode {
     let alloc = rt.alloc();
     let Ok(words) = words(&rt) else {
-        return ExitCode::from(NO_MEMORY);
+        return ExitCode::from(Status::OutOfMemory.code());
     };
     let status = command(
         &rt,

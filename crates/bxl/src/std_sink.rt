@@ -1,11 +1,13 @@
+//! The sink of the program: any writer.
+
 ghost use Rattle.std.specs.Prelude.{◌≡◌, None};
 
 use bx_io::{Failed, Sink};
 use std::io::Write;
 
-/// Any writer as a sink. It tells nothing of what was taken. Each error of the writer is a fault, as is a
-/// write that takes none of the bytes that are there, and raises the count until that stands at its last
-/// value.
+/// Any writer as a sink. The bytes that it has taken are not known. Each error of the writer is a fault, as
+/// is a write of at least one byte that takes none. Each fault raises the count by one, up to the greatest
+/// `u64`.
 #[derive(Drop)]
 pub struct StdSink<W> {
     writer: W,

@@ -1,10 +1,12 @@
+//! The source of the program: any reader.
+
 ghost use Rattle.std.specs.Prelude.{◌≡◌, None};
 
 use bx_io::{Failed, Source};
 use std::io::Read;
 
-/// Any reader as a source. It tells nothing of what is left. Each error of the reader is a fault, and
-/// raises the count until that stands at its last value.
+/// Any reader as a source. The bytes that it has left are not known. Each error of the reader is a fault, and
+/// raises the count by one, up to the greatest `u64`.
 #[derive(Drop)]
 pub struct StdSource<R> {
     reader: R,

@@ -4,9 +4,10 @@ use bx_io::{Failed, Sink, Source};
 use std::io::{self, ErrorKind, Read, Write};
 use std::test::Fail;
 
-/// A stream whose second call fails, and whose calls after that move one byte and then none.
+/// A stream whose second call fails in this way, and whose calls after that move one byte and then none.
 #[derive(Drop)]
 struct Broken {
+    fault: ErrorKind,
     calls: u8,
 }
 
@@ -15,7 +16,7 @@ impl Broken {
         self.calls = self.calls.saturating_add(1);
         match self.calls {
             1 | 3 => Ok(1),
-            2 => Err(io::Error::from(ErrorKind::Other)),
+            2 => Err(io::Error::from(self.fault)),
             _ => Ok(0),
         }
     }
@@ -39,9 +40,11 @@ impl Write for Broken {
 
 #[test]
 fn a_reader_that_fails_is_a_source_that_fails_and_goes_on(rt: HostRuntime) {
-    let mut source = StdSource::new(Broken { calls: 0 });
-    for wanted in [Ok(1), Err(Failed), Ok(1), Ok(0)] {
-        assert_eq!(rt; source.read(&mut [0; 4]), wanted);
+    for fault in [ErrorKind::Other, ErrorKind::Interrupted] {
+        let mut source = StdSource::new(Broken { fault, calls: 0 });
+        for wanted in [Ok(1), Err(Failed), Ok(1), Ok(0)] {
+            assert_eq!(rt; source.read(&mut [0; 4]), wanted);
+        }
     }
 }
 
@@ -57,17 +60,19 @@ fn a_reader_over_memory_is_read_to_its_end(rt: HostRuntime) {
 
 #[test]
 fn a_writer_that_fails_or_takes_nothing_is_a_sink_that_fails(rt: HostRuntime) {
-    let mut sink = StdSink::new(Broken { calls: 0 });
-    for wanted in [Ok(1), Err(Failed), Ok(1), Err(Failed)] {
-        assert_eq!(rt; sink.write(b"abc"), wanted);
+    for fault in [ErrorKind::Other, ErrorKind::Interrupted] {
+        let mut sink = StdSink::new(Broken { fault, calls: 0 });
+        for wanted in [Ok(1), Err(Failed), Ok(1), Err(Failed)] {
+            assert_eq!(rt; sink.write(b"abc"), wanted);
+        }
+        assert_eq!(rt; sink.write(b""), Ok(0));
     }
-    assert_eq!(rt; sink.write(b""), Ok(0));
 }
 
 #[test]
-fn a_writer_over_memory_takes_all_its_room(rt: HostRuntime) -> Result<(), Fail> {
-    let mut room = *b"_____";
-    let mut sink = StdSink::new(room.as_mut_slice());
+fn a_writer_over_memory_takes_as_many_bytes_as_it_holds(rt: HostRuntime) -> Result<(), Fail> {
+    let mut memory = *b"_____";
+    let mut sink = StdSink::new(memory.as_mut_slice());
     assert_eq!(rt; sink.write(b"abc"), Ok(3));
     assert_eq!(rt; sink.write(b"def"), Ok(2));
     assert_eq!(rt; sink.write(b"f"), Err(Failed));

@@ -1,7 +1,7 @@
 use super::*;
 
-/// The front of a bundle of several files.
-const FRONT: &[u8] =
+/// The start of a bundle of several files.
+const START: &[u8] =
     b"bundle 1\nfile 79 config.dsc\nconfig({resolvers: [{kind: \"DScript\", modules: [f`src/module.config.dsc`]}]});\n\nfile 18 src/a.c\ninclude h.h\nint a\n\nfile 6 src/b.c\nint b\n\nfile 769 src/build.dsc\nimport {Artif";
 
 // Inputs, with `#` between them.
@@ -21,15 +21,16 @@ const TOO_LARGE: &[u8] =
 
 const RESERVED: &[u8] = b"bundle 1\nfile 0 out/x\n\nend\n#bundle 1\nfile 0 report.txt\n\nend\n";
 
-/// Checks that each of the inputs is refused so.
+/// Checks that each of the inputs is refused with this fault.
 fn check_inputs<H: Threads + Wait + Sync + Abort>(
     rt: &H,
     alloc: Global,
     inputs: &[u8],
     kind: &str,
 ) -> Result<(), Fail> {
+    let lines = format!(in alloc; "input-refused\nfault {kind}")?;
     for input in inputs.split(|byte| *byte == b'#') {
-        check_input(rt, alloc, input, kind)?;
+        check_refused(rt, alloc, input, 3, lines.as_str())?;
     }
     Ok(())
 }
@@ -46,16 +47,16 @@ fn refuses_each_broken_input_by_its_first_fault(rt: HostRuntime) -> Result<(), F
 }
 
 #[test]
-fn refuses_each_front_of_a_bundle_and_one_byte_more(rt: HostRuntime) -> Result<(), Fail> {
-    for count in 0..FRONT.len() {
-        check_input(&rt, rt.alloc(), &FRONT[..count], "BadBundle")?;
+fn refuses_each_prefix_of_a_bundle_and_one_byte_more(rt: HostRuntime) -> Result<(), Fail> {
+    for count in 0..START.len() {
+        check_inputs(&rt, rt.alloc(), &START[..count], "BadBundle")?;
     }
     let mut more = ITEM.to_vec(rt.alloc())?;
     more.push(b'\n')?;
-    check_input(&rt, rt.alloc(), &more, "BadBundle")
+    check_inputs(&rt, rt.alloc(), &more, "BadBundle")
 }
 
-/// The bundle of so many empty files.
+/// The bundle of this many empty files.
 fn many_files(alloc: Global, count: u32) -> Result<Vec<u8>, AllocError> {
     let mut text = b"bundle 1\n".to_vec(alloc)?;
     for number in 0..count {
@@ -69,7 +70,13 @@ fn many_files(alloc: Global, count: u32) -> Result<Vec<u8>, AllocError> {
 #[test]
 fn bounds_the_number_of_files(rt: HostRuntime) -> Result<(), Fail> {
     let most = many_files(rt.alloc(), 16_384)?;
-    check_tree(&rt, rt.alloc(), &most, "Unsupported")?;
+    check_refused(
+        &rt,
+        rt.alloc(),
+        &most,
+        4,
+        "specification-refused\nfault Unsupported build.dsc",
+    )?;
     let more = many_files(rt.alloc(), 16_385)?;
-    check_input(&rt, rt.alloc(), &more, "TooManyFiles")
+    check_inputs(&rt, rt.alloc(), &more, "TooManyFiles")
 }

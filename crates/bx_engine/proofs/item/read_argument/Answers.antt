@@ -1,5 +1,5 @@
 use Rattle.std.proofs.Common.{arith}
-use Rattle.bx_engine.proofs.Items.{other_arguments}
+use Rattle.bx_engine.proofs.ItemTrees.{other_arguments}
 use Rattle.bx_engine.proofs.item.read_argument.Goals as goal
 
 pub returns-else-len-eq1 : goal.returns-else-len-eq1

@@ -1,9 +1,9 @@
 use Rattle.std.proofs.Common.{arith, ◌≡◌, [], length}
-use Rattle.dscript_tree.specs.ExprTree as tree
-use Rattle.dscript_tree.specs.ExprTree.{to_holes, to_props}
-use Rattle.dscript_tree.specs.Views.{expr_tree, prop_tree}
-use Rattle.dscript_tree.specs.declared.expr.PathKind.TheVariants as letters
-use Rattle.bx_engine.proofs.Items.{pair, with_first, two_props, other_props, first_prop, second_prop, one_value, arguments_from}
+use Rattle.dscript_ast.specs.ExprTree as tree
+use Rattle.dscript_ast.specs.ExprTree.{to_holes, to_props}
+use Rattle.dscript_ast.specs.Views.{expr_tree, prop_tree}
+use Rattle.dscript_ast.specs.declared.expr.PathKind.TheVariants as letters
+use Rattle.bx_engine.proofs.ItemTrees.{pair, with_first, two_props, other_props, first_prop, second_prop, one_value, arguments_from}
 use Rattle.bx_engine.proofs.item.read_arguments.Goals as goal
 
 pub returns-then-len-ne2 : goal.returns-then-len-ne2

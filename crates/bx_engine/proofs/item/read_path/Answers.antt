@@ -1,5 +1,5 @@
 use Rattle.std.proofs.Common.{arith, sym, ◌∙◌}
-use Rattle.bx_engine.proofs.Items.{is_full, other_holes}
+use Rattle.bx_engine.proofs.ItemTrees.{is_full, other_holes}
 use Rattle.bx_engine.proofs.item.read_path.Goals as goal
 
 pub returns-else-is_empty : goal.returns-else-is_empty

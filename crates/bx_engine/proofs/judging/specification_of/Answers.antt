@@ -1,6 +1,6 @@
 use Rattle.std.proofs.Common.{sym, ◌∙◌}
 use Rattle.std.proofs.lemmas.Slice.Eq.{bytes_eq-Decides}
-use Rattle.bx_engine.proofs.KnownPaths.{is_specification}
+use Rattle.bx_engine.proofs.FixedPaths.{is_specification}
 use Rattle.bx_engine.proofs.judging.specification_of.Goals as goal
 
 pub returns-then-eq : goal.returns-then-eq

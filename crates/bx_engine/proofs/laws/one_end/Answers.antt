@@ -1,16 +1,19 @@
 use Rattle.std.proofs.Common.{ap, sym, ◌∙◌}
-use Rattle.bx_engine.specs.Verdict.{status_of, output_of, notes_of}
-use Rattle.bx_engine.proofs.OneVerdict.{one_verdict}
+use Rattle.bx_engine.specs.Ending.{status_of, output_of, notes_of}
+use Rattle.bx_engine.proofs.OneEnding.{one_ending}
 use Rattle.bx_engine.proofs.laws.one_end.Goals as goal
 
-pub returns-clause-verdict : goal.returns-clause-verdict
-returns-clause-verdict c = one_verdict
+pub returns-clause-ending : goal.returns-clause-ending
+returns-clause-ending c = one_ending
 
-pub returns-clause-code : goal.returns-clause-code
-returns-clause-code c input m n a b s t h k = h.code_is ∙ ap status_of (one_verdict input h.verdict k.verdict h.ends k.ends) ∙ sym k.code_is
+pub returns-clause-status : goal.returns-clause-status
+returns-clause-status c input r s a b m n h k =
+    h.status_is ∙ ap status_of (one_ending input h.ending k.ending h.ends k.ends) ∙ sym k.status_is
 
 pub returns-clause-bytes : goal.returns-clause-bytes
-returns-clause-bytes c input m n a b s t h k = h.bytes_are ∙ ap output_of (one_verdict input h.verdict k.verdict h.ends k.ends) ∙ sym k.bytes_are
+returns-clause-bytes c input r s a b m n h k =
+    h.bytes_are ∙ ap output_of (one_ending input h.ending k.ending h.ends k.ends) ∙ sym k.bytes_are
 
-pub returns-clause-told : goal.returns-clause-told
-returns-clause-told c input m n a b s t h k = h.told_is ∙ ap notes_of (one_verdict input h.verdict k.verdict h.ends k.ends) ∙ sym k.told_is
+pub returns-clause-notes : goal.returns-clause-notes
+returns-clause-notes c input r s a b m n h k =
+    h.notes_are ∙ ap notes_of (one_ending input h.ending k.ending h.ends k.ends) ∙ sym k.notes_are

@@ -1,6 +1,6 @@
 use Rattle.std.proofs.Common.{◌∙◌, sym, refl}
 use Rattle.std.specs.Prelude.{string_bytes}
-use Rattle.bx_engine.proofs.Tails.{one_word}
+use Rattle.bx_engine.proofs.OneWord.{one_word}
 use Rattle.bx_engine.proofs.order.read_words.Goals as goal
 
 pub returns : goal.returns

@@ -1,5 +1,5 @@
 use Rattle.std.proofs.lemmas.Bool.{false≢true}
-use Rattle.bx_engine.proofs.KnownPaths.{named_out, not_below_out}
+use Rattle.bx_engine.proofs.FixedPaths.{named_out, not_below_out}
 use Rattle.bx_engine.proofs.paths.read_output_path.Goals as goal
 
 pub known_path-requires : goal.known_path-requires

@@ -1,15 +1,16 @@
-use Rattle.std.proofs.Common.{◌≡◌, ◌≤◌, ◌+◌, ◌-◌, length}
+use Rattle.std.proofs.Common.{◌≡◌, ◌≤◌, ◌-◌, length}
 use Rattle.std.specs.Prelude.{vec_len}
 use Rattle.std.specs.Io.KnownBytes.{Consumes}
+use Rattle.bx_engine.specs.declared.limits.TheConstants.{READ_LIMIT, READ_PIECE}
 use Rattle.bx_engine.proofs.reading.read_all.Given as goal
 
 abbrev pub invariant-pieces : goal.invariant-pieces
 invariant-pieces g l = record {
   consumed : Consumes (g.S.Source.left l.fn.source) (g.S.Source.left l.source) l.held.items;
-  bound : vec_len l.held ≤ l.limit + 1;
-  room : length l.buffer.items ≡ 65536;
-  later : g.S.Source.faults l.fn.source ≤ g.S.Source.faults l.source;
+  bound : vec_len l.held ≤ READ_LIMIT;
+  buffer : length l.buffer.items ≡ READ_PIECE;
+  same : g.S.Source.faults l.source ≡ g.S.Source.faults l.fn.source;
 }
 
 abbrev pub decreases-pieces : goal.decreases-pieces
-decreases-pieces g l = l.limit + 1 - vec_len l.held
+decreases-pieces g l = READ_LIMIT - vec_len l.held

@@ -1,7 +1,7 @@
 use Rattle.std.proofs.Common.{◌∙◌, sym, subst, ◌<◌}
 use Rattle.std.proofs.lemmas.List.{length-map}
 use Rattle.bx_tree.specs.Views.{file_of, files_of}
-use Rattle.bx_engine.proofs.Outputs.{one_more_line}
+use Rattle.bx_engine.proofs.OutputsAreTree.{one_more_line}
 use Rattle.bx_engine.proofs.report.success_report.Goals as goal
 
 pub pips-preserved : goal.pips-preserved

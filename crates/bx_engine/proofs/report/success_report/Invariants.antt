@@ -1,6 +1,6 @@
 use Rattle.std.proofs.Common.{◌≡◌, ◌++◌, drop, codes}
 use Rattle.bx_tree.specs.Views.{files_of}
-use Rattle.bx_engine.specs.Verdict.{pip_lines}
+use Rattle.bx_engine.specs.Ending.{pip_lines}
 use Rattle.bx_engine.proofs.report.success_report.Given as goal
 
 abbrev pub invariant-pips : goal.invariant-pips

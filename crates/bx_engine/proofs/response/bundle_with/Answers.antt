@@ -2,9 +2,9 @@ use Rattle.std.proofs.Common.{sym, ap, ◌∙◌}
 use Rattle.std.proofs.lemmas.Result.{IfOk-weaker}
 use Rattle.bx_tree.specs.Bundle.{bundle}
 use Rattle.bx_tree.specs.Views.{files_of}
-use Rattle.bx_engine.proofs.KnownPaths.{named_report}
-use Rattle.bx_tree.proofs.Checked.{distinct_paths}
-use Rattle.bx_engine.proofs.Outputs.{report_pushed, pushed_tree, no_roots, one_tree}
+use Rattle.bx_engine.proofs.FixedPaths.{named_report}
+use Rattle.bx_tree.proofs.TreeCheck.{distinct_paths}
+use Rattle.bx_engine.proofs.OutputsAreTree.{report_pushed, pushed_tree, no_roots, one_tree}
 use Rattle.bx_engine.proofs.response.bundle_with.Goals as goal
 
 pub known_path-requires : goal.known_path-requires
