@@ -1,0 +1,18 @@
+//! SHA-256 digests, and bytes that are shared with their digest.
+//!
+//! Whatever the engine stores or compares by name is named by its digest, and whatever it hands from step
+//! to step is a blob, which is hashed once. This crate stands on `sha2` and `hex`. It carries the promise
+//! that a blob's digest is SHA-256 of its bytes, and that a digest is written and read back exactly.
+#![tactic(auto)]
+
+mod blob;
+mod digest;
+
+pub use blob::Blob;
+pub use digest::{Digest, NotHex, digest_of};
+
+/// Out of memory, the one refusal that no contract ties to a cause.
+pub type Memory = std::alloc::AllocError;
+
+#[cfg(test)]
+mod tests;
