@@ -1,4 +1,4 @@
--- Digests, and the texts that stand for them.
+-- Digests, and the texts that name them.
 use Rattle.std.specs.Prelude.{◌≡◌, ℕ, List, length, Contains}
 use Rattle.std.specs.List.{All}
 use Rattle.hex.specs.Hex.{IsBytes, lower_digits}

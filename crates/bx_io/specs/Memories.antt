@@ -33,7 +33,7 @@ pub record Failing : Type 0 where
   pub inner : Scripted
   pub failing : List ℕ
 
--- a keeper with so many calls left before it stops, and the number of those that it refused since
+-- a keeper with the number of calls left before it stops, and the number of those that it has refused since
 pub record Stopping : Type 0 where
   pub inner : Scripted
   pub left : ℕ

@@ -32,8 +32,8 @@ impl Model for MemSink {
 
 impl MemSink {
     /// Takes `capacity` bytes in all, at most `chunk` a call. The calls whose numbers, from 1, are in
-    /// `failing` fail, and so does one that brings bytes where all room is taken. All memory is taken
-    /// here, and only want of it is an error.
+    /// `failing` fail, and so does one that brings bytes once the capacity is reached. All memory is taken
+    /// here, and only the lack of it is an error.
     pub fn new(
         alloc: Global,
         capacity: usize,
@@ -91,12 +91,12 @@ impl Sink for MemSink {
         ensures cause { HasCause self.old.script.faults self.new.script.faults (IsErr result) }
         ensures no_fault { OnOk result (self.new.script.faults ≡ self.old.script.faults) }
     {
-        let room = self.capacity - self.bytes.len();
-        if self.script.is_fault_due() || (room == 0 && !piece.is_empty()) {
+        let free = self.capacity - self.bytes.len();
+        if self.script.is_fault_due() || (free == 0 && !piece.is_empty()) {
             self.script.count_fault();
             return Err(Failed);
         }
-        let count = self.chunk.min(piece.len()).min(room);
+        let count = self.chunk.min(piece.len()).min(free);
         match self.bytes.extend_from_slice(&piece[..count]) {
             Ok(()) => {
                 self.script.count_work();

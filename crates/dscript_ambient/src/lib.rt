@@ -1,7 +1,7 @@
 //! The ambient calls of DScript, by name.
 //!
 //! These are the calls that each specification may make without declaring or importing them. Names,
-//! values and the calls themselves stand on this one enum. This crate stands on nothing but std, and
+//! values and the calls themselves use this one enum. This crate depends on nothing but std, and
 //! keeps that each call has one written name, by which it is found.
 #![tactic(auto)]
 

@@ -12,7 +12,7 @@ pub record ParamTree : Type 0 where
   pub optional : Bool
   pub type_node : Option TypeTree
 
--- what stands before `=>`
+-- the parameters of a function, before `=>`
 pub data HeadTree : Type 0 where
   Single : List ℕ → HeadTree
   Params : List ParamTree → HeadTree
@@ -38,7 +38,7 @@ mutual
     Elements : ElementTrees → ExprTree
     Object : PropTrees → ExprTree
 
-  -- an operand and the operator in front of it
+  -- an operand and the operator before it
   pub data OperandTree : Type 0 where
     Operand : BinaryOp → ExprTree → OperandTree
 
@@ -47,7 +47,7 @@ mutual
     Index : ExprTree → PartTree
     Call : ExprTrees → PartTree
 
-  -- an element, and whether `...` stands in front of it
+  -- an element, and whether `...` precedes it
   pub data ElementTree : Type 0 where
     Element : Bool → ExprTree → ElementTree
 
@@ -57,7 +57,7 @@ mutual
     Short : List ℕ → PropTree
     Spread : ExprTree → PropTree
 
-  -- a hole, and the text behind it
+  -- a hole, and the text after it
   pub data HoleTree : Type 0 where
     Hole : ExprTree → List ℕ → HoleTree
 

@@ -2,7 +2,7 @@
 //!
 //! A type of the trees is a rule of the grammar, and a variant is one of its alternatives, with its parts in
 //! order. `specs/` has the trees as contracts see them, which are plain data without pointers. The grammar
-//! itself is in `dscript_grammar`. This crate stands on `bx_tree` for texts.
+//! itself is in `dscript_grammar`. This crate depends on `bx_tree` for texts.
 #![tactic(auto)]
 
 mod expr;

@@ -1,6 +1,6 @@
 //! The precedence levels of expressions, from the level that binds tightest to the level that binds loosest.
 //!
-//! An expression of a level stands without parentheses wherever this level or a looser one is allowed.
+//! An expression of a level needs no parentheses wherever this level or a looser one is allowed.
 
 /// Literals, names, lists, objects, and whatever is in parentheses.
 pub const PRIMARY: u32 = 0;

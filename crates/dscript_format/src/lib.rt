@@ -1,6 +1,6 @@
 //! DScript texts laid out anew.
 //!
-//! A text is lexed, parsed and printed: here the two ways between texts and trees meet. This crate stands on
+//! A text is lexed, parsed and printed: here the two ways between texts and trees meet. This crate depends on
 //! `dscript_lex`, `dscript_parse` and `dscript_print`. It carries the promise of the round trip: what is laid
 //! out is parsed to the file that the text was parsed to, and a text is refused exactly where it is no file.
 #![tactic(auto)]

@@ -352,15 +352,15 @@ no_arrow h l e ts rest le p none = by (leftmost h l e ts rest p)
     other (kinds.Middle x) r o = choose_false at_params (not_taken "(" refl refl)
     other (kinds.Tail x) r o = choose_false at_params (not_taken "(" refl refl)
 
-    behind : (mid : List TokenKind) → Follows mid rest → at_punctuator "=>" mid ≡ false
-    behind mid f = follows_no_punctuator "=>" mid rest (no_operator_is "=>" refl refl refl refl refl refl refl refl refl refl refl) refl refl refl refl none f
+    following : (mid : List TokenKind) → Follows mid rest → at_punctuator "=>" mid ≡ false
+    following mid f = follows_no_punctuator "=>" mid rest (no_operator_is "=>" refl refl refl refl refl refl refl refl refl refl refl) refl refl refl refl none f
 
     by_atom : (mid : List TokenKind) → Follows mid rest → Atom l ts mid → at_arrow ts ≡ false
-    by_atom mid f (a_word w is) = ap at_arrow is ∙ behind mid f
+    by_atom mid f (a_word w is) = ap at_arrow is ∙ following mid f
     by_atom mid f (a_letter w us is t) = ap at_arrow is ∙ template_no_punctuator "=>" us t
     by_atom mid f (an_arrow w us r k is q) = absurd (omega arith)
     by_atom mid f (an_enclosed j x m1 m2 q r s) =
-        ap at_arrow q ∙ choose_is at_params (punctuator_taken "(" refl) ∙ no_params j any_expr x m1 m2 mid r s (behind mid f)
+        ap at_arrow q ∙ choose_is at_params (punctuator_taken "(" refl) ∙ no_params j any_expr x m1 m2 mid r s (following mid f)
     by_atom mid f (some_params r k q) = absurd (omega arith)
     by_atom mid f (another t r is o) = ap at_arrow is ∙ other t r o
 

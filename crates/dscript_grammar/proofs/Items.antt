@@ -32,8 +32,8 @@ none_read : (depth : ℕ) (ts : List TokenKind) → read_item depth ts ≡ None 
 none_read depth ts e i rest p =
     let r = item_complete depth depth (omega arith) i ts rest p in none-some _ (sym e ∙ r.is)
 
-too_high : (depth : ℕ) (ts : List TokenKind) (i : Read ItemTree) → read_item depth ts ≡ Some i → nat_le i.height depth ≡ false → NoItem depth ts
-too_high depth ts i e high j rest p =
+beyond_height : (depth : ℕ) (ts : List TokenKind) (i : Read ItemTree) → read_item depth ts ≡ Some i → nat_le i.height depth ≡ false → NoItem depth ts
+beyond_height depth ts i e high j rest p =
     let r = item_complete depth depth (omega arith) j ts rest p in
     let low : i.height ≤ depth = subst (λ (x : Read ItemTree). x.height ≤ depth) (same_Some _ i (sym r.is ∙ e)) r.within in
     false≢true (sym high ∙ grind (arith, nat_tests, low))
@@ -43,10 +43,10 @@ unfolding read_items choose
 stops_at_none depth ts e zero = refl
 stops_at_none depth ts e (suc n) = ap (after_first depth n ts) e
 
-stops_too_high : (depth : ℕ) (ts : List TokenKind) (i : Read ItemTree) → read_item depth ts ≡ Some i → nat_le i.height depth ≡ false → (n : ℕ) → read_items depth n ts ≡ no_items ts
+stops_beyond_height : (depth : ℕ) (ts : List TokenKind) (i : Read ItemTree) → read_item depth ts ≡ Some i → nat_le i.height depth ≡ false → (n : ℕ) → read_items depth n ts ≡ no_items ts
 unfolding read_items choose pick
-stops_too_high depth ts i e high zero = refl
-stops_too_high depth ts i e high (suc n) =
+stops_beyond_height depth ts i e high zero = refl
+stops_beyond_height depth ts i e high (suc n) =
     ap (after_first depth n ts) e ∙ ap (λ b. pick b (item_before i (read_items depth n i.rest)) (no_items ts)) high
 
 turn : (depth : ℕ) (ts : List TokenKind) → Turn depth ts
@@ -54,7 +54,7 @@ turn depth ts = by (read_item depth ts) refl
   where
     by_height : (i : Read ItemTree) → read_item depth ts ≡ Some i → (b : Bool) → nat_le i.height depth ≡ b → Turn depth ts
     by_height i e true low = next i e (grind (arith, nat_tests, low))
-    by_height i e false high = stop (too_high depth ts i e high) (stops_too_high depth ts i e high)
+    by_height i e false high = stop (beyond_height depth ts i e high) (stops_beyond_height depth ts i e high)
 
     by : (o : Option (Read ItemTree)) → read_item depth ts ≡ o → Turn depth ts
     by None e = stop (none_read depth ts e) (stops_at_none depth ts e)

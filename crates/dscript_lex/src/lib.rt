@@ -1,6 +1,6 @@
 //! The tokens of DScript texts.
 //!
-//! A text is cut into lexemes: blanks, comments and the spellings of tokens. This crate stands on
+//! A text is cut into lexemes: blanks, comments and the spellings of tokens. This crate depends on
 //! `bx_tree` for its shared texts. It carries the promise that `lex` finds exactly the tokens that the
 //! lexical grammar gives a text, and refuses exactly a text that has none, at the first byte at which
 //! no lexeme begins.

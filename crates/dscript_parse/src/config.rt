@@ -33,7 +33,8 @@ fn called<'a>(alloc: Global, depth: Depth, tokens: &'a [Token]) -> Parse<'a, Exp
 /// The configuration of a workspace.
 #[tactic(auto, unfolding(dscript_grammar::specs::FileReading::read_file, dscript_grammar::specs::Reading::and_then))]
 pub(crate) fn config<'a>(alloc: Global, depth: Depth, tokens: &'a [Token]) -> Parse<'a, File>
-    ensures { Reads file_tree (read_file (suc depth.levels) forms.Config) (suc depth.levels) tokens.now result }
+    ensures { Reads file_tree (read_file (suc depth.levels) forms.Config) (suc depth.levels)
+        tokens.now result }
 {
     let rest = keyword(tokens, b"config")?;
     let value = called(alloc, depth, rest)?;
@@ -47,7 +48,8 @@ pub(crate) fn config<'a>(alloc: Global, depth: Depth, tokens: &'a [Token]) -> Pa
 /// The configuration of a module.
 #[tactic(auto, unfolding(dscript_grammar::specs::FileReading::read_file, dscript_grammar::specs::Reading::and_then))]
 pub(crate) fn module<'a>(alloc: Global, depth: Depth, tokens: &'a [Token]) -> Parse<'a, File>
-    ensures { Reads file_tree (read_file (suc depth.levels) forms.Module) (suc depth.levels) tokens.now result }
+    ensures { Reads file_tree (read_file (suc depth.levels) forms.Module) (suc depth.levels)
+        tokens.now result }
 {
     let rest = keyword(tokens, b"module")?;
     let value = called(alloc, depth, rest)?;

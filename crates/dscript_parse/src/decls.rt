@@ -79,7 +79,8 @@ pub(crate) fn extends<'a>(
     depth: Depth,
     tokens: &'a [Token],
 ) -> Parse<'a, Vec<TypeNode>>
-    ensures { MayRead (λ v. map type_tree v.items) (read_extends depth.levels) depth.levels tokens.now result }
+    ensures { MayRead (λ v. map type_tree v.items) (read_extends depth.levels) depth.levels
+        tokens.now result }
 {
     match take_keyword(tokens, b"extends") {
         Some(rest) => type_list(alloc, depth, rest),

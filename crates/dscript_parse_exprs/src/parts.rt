@@ -189,8 +189,8 @@ pub(crate) fn as_unary<'a>(
 /// A chain of the operators of a level.
 #[tactic(auto, using(dscript_ast::proofs::NodeViews::tree_views))]
 fn chain_node(level: u32, first: Box<Expr>, operands: Vec<Operand>) -> Expr
-    requires low { PRODUCT ≤ level }
-    requires high { level ≤ OR }
+    requires at_least { PRODUCT ≤ level }
+    requires at_most { level ≤ OR }
     ensures { expr_tree result ≡ tree.Chain level (expr_tree first.value)
         (to_operands (map operand_tree operands.items)) }
 {
@@ -214,8 +214,8 @@ pub(crate) fn as_chain<'a>(
     operands: Parsed<'a, Vec<Operand>>,
 ) -> Parse<'a, Expr>
     requires first { first.height ≤ suc depth.levels }
-    requires low { PRODUCT ≤ level }
-    requires high { level ≤ OR }
+    requires at_least { PRODUCT ≤ level }
+    requires at_most { level ≤ OR }
     ensures { Gives expr_tree
         (at_depth as_chain depth.levels level (expr_tree first.entry.value) first.entry.height
         (map operand_tree operands.entry.value.items) operands.entry.height (kinds operands.entry.rest.now))

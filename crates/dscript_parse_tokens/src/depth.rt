@@ -7,7 +7,7 @@ ghost use Rattle.dscript_grammar.specs.declared.height.TheConstants.{MAX_HEIGHT}
 use crate::parsed::Refusal;
 use dscript_grammar::MAX_HEIGHT;
 
-/// The levels of nesting that are left: a tree read with them is at most this high.
+/// The levels of nesting that are left: they bound the height of the tree that is read.
 #[derive(Clone, Copy)]
 pub struct Depth {
     pub levels: u32,

@@ -9,13 +9,13 @@ use Rattle.dscript_ast.specs.Views.{type_tree}
 use Rattle.dscript_ast.specs.declared.type_node.TypeNode.{TypeNode}
 use Rattle.dscript_parse_tokens.specs.LoopInvariants.{with_items}
 use Rattle.dscript_parse_types.specs.UnionInvariants.{UnionInvariant, BracketsInvariant}
-use Rattle.dscript_parse_tokens.proofs.Loops.{map_push, length_push, front_none, front_one, front_fails, front_moves, pick_true, pick_false, then_some, then_none, choose_some, choose_none}
+use Rattle.dscript_parse_tokens.proofs.Loops.{map_push, length_push, items_none, items_one, items_fails, items_moves, pick_true, pick_false, then_some, then_none, choose_some, choose_none}
 
 module _ (type : Reader TypeTree) (depth : ℕ) where
   pub union_init : {items : List TypeNode} {start : List TokenKind} → items ≡ [] → UnionInvariant type depth items 0 start start
   union_init {start = start} e =
       subst (λ (xs : List TypeNode). UnionInvariant type depth xs 0 start start) (sym e)
-      (record { resumes = λ n. front_none _ ∙ ap (λ k. read_union type depth k start) (omega arith); count = omega arith })
+      (record { resumes = λ n. items_none _ ∙ ap (λ k. read_union type depth k start) (omega arith); count = omega arith })
 
   union_step : (n : ℕ) (x : Read TypeTree) (rest after : List TokenKind) → at_function rest ≡ false → read_array type depth rest ≡ Some x → take_punctuator "|" x.rest ≡ Some after
       → read_union type depth (suc n) rest ≡ and_then (read_union type depth n after) (λ ys. got (x.value ∷ ys.value) (max x.height ys.height) ys.rest)
@@ -31,7 +31,7 @@ module _ (type : Reader TypeTree) (depth : ℕ) where
       let long : length pushed ≡ suc (length items) = ap length e ∙ length_push items x in
       record {
         resumes = λ n. ap (λ xs. with_items xs (max height k) (read_union type depth n after)) pushes
-            ∙ front_moves (map type_tree items) (type_tree x) height k (read_union type depth n after)
+            ∙ items_moves (map type_tree items) (type_tree x) height k (read_union type depth n after)
             ∙ ap (with_items (map type_tree items) height) (sym (union_step n _ rest after o is t))
             ∙ f.resumes (suc n)
             ∙ ap (λ j. read_union type depth j start) (omega arith);
@@ -55,7 +55,7 @@ module _ (type : Reader TypeTree) (depth : ℕ) where
   ending : (x : TypeNode) (items pushed : List TypeNode) (height k : ℕ) (behind : List TokenKind) → pushed ≡ items ++ x ∷ []
       → with_items (map type_tree items) height (got (type_tree x ∷ []) k behind) ≡ got (map type_tree pushed) (max height k) behind
   ending x items pushed height k behind e =
-      front_one (map type_tree items) (type_tree x) height k behind ∙ ap (λ xs. got xs (max height k) behind) (sym (ap (map type_tree) e ∙ map_push type_tree items x))
+      items_one (map type_tree items) (type_tree x) height k behind ∙ ap (λ xs. got xs (max height k) behind) (sym (ap (map type_tree) e ∙ map_push type_tree items x))
 
   pub union_done : (x : TypeNode) {items pushed : List TypeNode} {height k : ℕ} {rest start behind : List TokenKind} → pushed ≡ items ++ x ∷ []
       → UnionInvariant type depth items height rest start → at_function rest ≡ false → read_array type depth rest ≡ Some (record { value = type_tree x; height = k; rest = behind }) → take_punctuator "|" behind ≡ None
@@ -80,12 +80,12 @@ module _ (type : Reader TypeTree) (depth : ℕ) where
   pub union_none : {items : List TypeNode} {height : ℕ} {rest start : List TokenKind} → UnionInvariant type depth items height rest start → at_function rest ≡ false → read_array type depth rest ≡ None
       → read_union type depth (suc (length start)) start ≡ None
   union_none {items = items} {height = height} {rest = rest} {start = start} f o none =
-      union_at items height rest start None f (λ n. array_stuck n rest o none) ∙ front_fails (map type_tree items) height
+      union_at items height rest start None f (λ n. array_stuck n rest o none) ∙ items_fails (map type_tree items) height
 
   pub union_no_function : {items : List TypeNode} {height : ℕ} {rest start : List TokenKind} → UnionInvariant type depth items height rest start → at_function rest ≡ true → read_function type rest ≡ None
       → read_union type depth (suc (length start)) start ≡ None
   union_no_function {items = items} {height = height} {rest = rest} {start = start} f o none =
-      union_at items height rest start None f (λ n. function_stuck n rest o none) ∙ front_fails (map type_tree items) height
+      union_at items height rest start None f (λ n. function_stuck n rest o none) ∙ items_fails (map type_tree items) height
 
 -- `[]`
 brackets_more : (k : ℕ) (m : Option (Read ℕ)) → and_then m (λ r. got (suc k + r.value) 0 r.rest) ≡ and_then (and_then m (λ r. got (suc r.value) 0 r.rest)) (λ r. got (k + r.value) 0 r.rest)

@@ -413,7 +413,7 @@ pub(crate) fn as_union<'a>(
     }
 }
 
-/// A type, as high as one more than the levels that are left below it.
+/// A type whose height is at most one more than the levels that are left below it.
 #[cycle(types)]
 #[tactic(auto, unfolding(dscript_grammar::specs::TypeReading::read_any, dscript_grammar::specs::Reading::and_then))]
 fn any_type<'a>(alloc: Global, depth: Depth, tokens: &'a [Token]) -> Parse<'a, TypeNode>

@@ -1,7 +1,7 @@
 //! Texts that have exactly given tokens.
 //!
 //! Each token gets a spelling of its own, with the blanks between them that are asked for, and one where
-//! two would run together. This crate stands on `dscript_lex`, whose tokens these are, and on
+//! two would run together. This crate depends on `dscript_lex`, whose tokens these are, and on
 //! `bx_tree` for shared texts. It carries the promise that a text that is written has the tokens that
 //! were given, no others, and in their order.
 #![tactic(auto)]
