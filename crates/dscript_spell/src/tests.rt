@@ -8,7 +8,7 @@ use std::test::Fail;
 
 // Tokens, with a blank between two, and their text. Each token is a letter for its kind, then `n`, `s` or a
 // digit for nothing, a space or a line with so many levels before it, and then its spelling or value.
-const LAYOUTS: [(&str, &str); 3] = [
+const LAYOUTS: &[(&str, &str)] = &[
     (
         "Wnconst Wsx Ps= Ns2147483647 Pn;",
         "const x = 2147483647;\n",
@@ -23,7 +23,7 @@ const LAYOUTS: [(&str, &str); 3] = [
     ),
 ];
 
-const NEIGHBOURS: [(&str, &str); 21] = [
+const NEIGHBOURS: &[(&str, &str)] = &[
     ("Wna Wnb", "a b\n"),
     ("Wna Nn1", "a 1\n"),
     ("Nn1 Wna", "1 a\n"),
@@ -47,7 +47,7 @@ const NEIGHBOURS: [(&str, &str); 21] = [
     ("Wnd En.", "d`.`\n"),
 ];
 
-const ESCAPES: [(&str, &str); 6] = [
+const ESCAPES: &[(&str, &str)] = &[
     ("Sn", "\"\"\n"),
     ("Sna\"b\\c\nd", "\"a\\\"b\\\\c\\nd\"\n"),
     ("Sn\u{0}\t\r'`${é", "\"\u{0}\t\r'`${é\"\n"),
