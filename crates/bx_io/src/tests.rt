@@ -1,3 +1,5 @@
+//! The objects in memory, each through its bound. What their calls answer is said by a text, a word for each.
+
 use crate::{
     FailKeeper, Failed, Gate, Got, KeepReader, Keeper, Listed, MemKeeper, MemSink, MemSource,
     NoFaultKeeper, NoFaultSource, OpenGate, PutFault, Sink, Source, StopKeeper, is_name,
@@ -11,182 +13,226 @@ const LIST: &str = "w/abcdef0123456789abcdef0123456789abcdef0123456789abcdef0123
 
 const ENTRY: &str = "e/ffffffffffffffffffffffffffffffffffffffffffffffffffffffffffffffff";
 
+// Texts that are no names, a line each. The first is empty.
+const NO_NAMES: &str = "
+b/
+c/0000000000000000000000000000000000000000000000000000000000000000
+b-0000000000000000000000000000000000000000000000000000000000000000
+b/000000000000000000000000000000000000000000000000000000000000000
+b/00000000000000000000000000000000000000000000000000000000000000000
+b/000000000000000000000000000000000000000000000000000000000000000F
+b/000000000000000000000000000000000000000000000000000000000000000g
+b/000000000000000000000000000000000000000000000000000000000000000/
+b/000000000000000000000000000000000000000000000000000000000000000:
+";
+
 #[test]
 fn names_are_a_kind_and_a_digest(rt: HostRuntime) {
-    let cases = [
-        (BLOB, true),
-        (LIST, true),
-        (ENTRY, true),
-        ("", false),
-        ("b/", false),
-        (
-            "c/0000000000000000000000000000000000000000000000000000000000000000",
-            false,
-        ),
-        (
-            "b-0000000000000000000000000000000000000000000000000000000000000000",
-            false,
-        ),
-        (
-            "b/000000000000000000000000000000000000000000000000000000000000000",
-            false,
-        ),
-        (
-            "b/00000000000000000000000000000000000000000000000000000000000000000",
-            false,
-        ),
-        (
-            "b/000000000000000000000000000000000000000000000000000000000000000F",
-            false,
-        ),
-        (
-            "b/000000000000000000000000000000000000000000000000000000000000000g",
-            false,
-        ),
-        (
-            "b/000000000000000000000000000000000000000000000000000000000000000/",
-            false,
-        ),
-        (
-            "b/000000000000000000000000000000000000000000000000000000000000000:",
-            false,
-        ),
-    ];
-    for (text, wanted) in cases {
-        assert_eq!(rt; is_name(text.as_bytes()), wanted, "{text}");
+    for text in [BLOB, LIST, ENTRY] {
+        assert!(rt; is_name(text.as_bytes()), "{text}");
     }
+    for text in NO_NAMES.lines() {
+        assert!(rt; !is_name(text.as_bytes()), "{text}");
+    }
+}
+
+/// The word for how many bytes a call moved.
+fn word_of(moved: Result<usize, Failed>) -> &'static str {
+    match moved {
+        Ok(0) => "0",
+        Ok(1) => "1",
+        Ok(2) => "2",
+        Ok(3) => "3",
+        Ok(4) => "4",
+        Ok(_) => "many",
+        Err(_) => "failed",
+    }
+}
+
+/// What this many reads into four bytes answer, and the bytes after each.
+fn reads<S: Source>(alloc: Global, source: &mut S, calls: u32) -> Result<Vec<u8>, Fail> {
+    let mut said = Vec::new(alloc);
+    for _ in 0..calls {
+        let mut into = *b"____";
+        let word = word_of(source.read(&mut into));
+        said.extend_from_slice(word.as_bytes())?;
+        said.extend_from_slice(&into)?;
+        said.push(b' ')?;
+    }
+    Ok(said)
+}
+
+/// What the writes of these pieces answer.
+fn writes<S: Sink>(alloc: Global, sink: &mut S, pieces: &str) -> Result<Vec<u8>, Fail> {
+    let mut said = Vec::new(alloc);
+    for piece in pieces.split(' ') {
+        let word = word_of(sink.write(piece.as_bytes()));
+        said.extend_from_slice(word.as_bytes())?;
+        said.push(b' ')?;
+    }
+    Ok(said)
 }
 
 #[test]
 fn a_source_gives_each_byte_once_and_fails_where_asked(rt: HostRuntime) -> Result<(), Fail> {
     let failing = vec![in rt.alloc(); 2, 6]?;
     let mut source = MemSource::new(b"abcde".to_vec(rt.alloc())?, 2, failing);
-    let wanted = [
-        (Ok(2), "ab__"),
-        (Err(Failed), "____"),
-        (Ok(2), "cd__"),
-        (Ok(1), "e___"),
-        (Ok(0), "____"),
-        (Err(Failed), "____"),
-        (Ok(0), "____"),
-    ];
-    for (count, bytes) in wanted {
-        let mut into = *b"____";
-        assert_eq!(rt; source.read(&mut into), count);
-        assert_eq!(rt; into.as_slice(), bytes.as_bytes());
-    }
+    let said = reads(rt.alloc(), &mut source, 7)?;
+    let wanted = "2ab__ failed____ 2cd__ 1e___ 0____ failed____ 0____ ";
+    assert_eq!(rt; said.as_slice(), wanted.as_bytes());
     Ok(())
 }
 
 #[test]
 fn a_source_without_faults_gives_all_that_fits(rt: HostRuntime) -> Result<(), Fail> {
-    let mut source = NoFaultSource::new(b"abcde".to_vec(rt.alloc())?);
-    for (count, bytes) in [(3, "abc"), (2, "de_"), (0, "___")] {
-        let mut into = *b"___";
-        assert_eq!(rt; source.read(&mut into), Ok(count));
-        assert_eq!(rt; into.as_slice(), bytes.as_bytes());
-    }
+    let mut source = NoFaultSource::new(b"abcdef".to_vec(rt.alloc())?);
+    let said = reads(rt.alloc(), &mut source, 3)?;
+    assert_eq!(rt; said.as_slice(), b"4abcd 2ef__ 0____ ".as_slice());
     Ok(())
 }
 
 #[test]
 fn a_sink_takes_each_byte_once_and_fails_where_asked_or_full(rt: HostRuntime) -> Result<(), Fail> {
-    let failing = vec![in rt.alloc(); 2]?;
-    let mut sink = MemSink::new(rt.alloc(), 5, 2, failing)?;
-    let calls = [
-        ("abc", Ok(2)),
-        ("cde", Err(Failed)),
-        ("c", Ok(1)),
-        ("def", Ok(2)),
-        ("f", Err(Failed)),
-        ("", Ok(0)),
-    ];
-    for (piece, count) in calls {
-        assert_eq!(rt; sink.write(piece.as_bytes()), count);
-    }
+    let mut sink = MemSink::new(rt.alloc(), 5, 2, vec![in rt.alloc(); 2]?)?;
+    let said = writes(rt.alloc(), &mut sink, "abc cde c def f ")?;
+    assert_eq!(rt; said.as_slice(), b"2 failed 1 2 failed 0 ".as_slice());
     assert_eq!(rt; sink.taken(), b"abcde".as_slice());
     Ok(())
 }
 
-fn say_made(text: &mut Vec<u8>, made: Result<(), PutFault>) -> Result<(), AllocError> {
+fn say_made(said: &mut Vec<u8>, made: Result<(), PutFault>) -> Result<(), AllocError> {
     let word = match made {
-        Ok(()) => "made ",
-        Err(PutFault::Failed) => "failed ",
-        Err(PutFault::Memory) => "memory ",
+        Ok(()) => "made",
+        Err(PutFault::Failed) => "failed",
+        Err(PutFault::Memory) => "memory",
     };
-    text.extend_from_slice(word.as_bytes())?;
-    Ok(())
+    said.extend_from_slice(word.as_bytes())
 }
 
-fn say_got(text: &mut Vec<u8>, got: Got) -> Result<(), AllocError> {
+fn say_got(said: &mut Vec<u8>, got: Got) -> Result<(), AllocError> {
     match got {
-        Got::Found(bytes) => text.extend_from_slice(&bytes)?,
-        Got::None => text.extend_from_slice(b"none")?,
-        Got::Failed => text.extend_from_slice(b"failed")?,
-        Got::Memory => text.extend_from_slice(b"memory")?,
+        Got::Found(bytes) => said.extend_from_slice(&bytes),
+        Got::None => said.extend_from_slice(b"none"),
+        Got::Failed => said.extend_from_slice(b"failed"),
+        Got::Memory => said.extend_from_slice(b"memory"),
     }
-    text.extend_from_slice(b" ")?;
+}
+
+/// The kinds of the names.
+fn say_names(said: &mut Vec<u8>, names: &[String]) -> Result<(), AllocError> {
+    for name in names {
+        said.extend_from_slice(name.as_bytes().get(..1).unwrap_or(b"?"))?;
+    }
     Ok(())
 }
 
-fn say_listed(text: &mut Vec<u8>, listed: Listed) -> Result<(), AllocError> {
+fn say_listed(said: &mut Vec<u8>, listed: Listed) -> Result<(), AllocError> {
     match listed {
-        Listed::Names(names) => {
-            for name in &names {
-                if let Some(kind) = name.as_bytes().first() {
-                    text.push(*kind)?;
-                }
-            }
-        }
-        Listed::Failed => text.extend_from_slice(b"failed")?,
-        Listed::Memory => text.extend_from_slice(b"memory")?,
+        Listed::Names(names) => say_names(said, &names),
+        Listed::Failed => said.extend_from_slice(b"failed"),
+        Listed::Memory => said.extend_from_slice(b"memory"),
     }
-    text.extend_from_slice(b" ")?;
+}
+
+/// A call of a keeper.
+#[derive(Clone, Copy)]
+enum Call {
+    Put,
+    Get,
+    Drop,
+    Names,
+}
+
+/// Says what a call of a keeper answers.
+fn say_call<K: Keeper>(
+    alloc: Global,
+    said: &mut Vec<u8>,
+    keeper: &mut K,
+    call: Call,
+    name: &str,
+    bytes: &str,
+) -> Result<(), Fail> {
+    if !is_name(name.as_bytes()) {
+        return Err(Fail::new("no name"));
+    }
+    match call {
+        Call::Put => say_made(said, keeper.put(alloc, name, bytes.as_bytes()))?,
+        Call::Get => say_got(said, keeper.get(alloc, name))?,
+        Call::Drop => say_made(said, keeper.drop_name(alloc, name))?,
+        Call::Names => say_listed(said, keeper.names(alloc))?,
+    }
+    said.push(b' ')?;
     Ok(())
 }
 
-/// What six calls of a keeper answer.
-fn six_calls<K: Keeper>(alloc: Global, keeper: &mut K) -> Result<Vec<u8>, Fail> {
-    if !is_name(BLOB.as_bytes()) || !is_name(ENTRY.as_bytes()) {
-        return Err("no name")?;
+/// Says what six calls of a keeper answer.
+fn six_calls<K: Keeper>(alloc: Global, said: &mut Vec<u8>, keeper: &mut K) -> Result<(), Fail> {
+    for (call, name, bytes) in [
+        (Call::Put, BLOB, "one"),
+        (Call::Get, BLOB, ""),
+        (Call::Put, ENTRY, "two"),
+        (Call::Drop, BLOB, ""),
+        (Call::Names, BLOB, ""),
+        (Call::Get, BLOB, ""),
+    ] {
+        say_call(alloc, said, keeper, call, name, bytes)?;
     }
-    let mut text = Vec::new(alloc);
-    say_made(&mut text, keeper.put(alloc, BLOB, b"one"))?;
-    say_got(&mut text, keeper.get(alloc, BLOB))?;
-    say_made(&mut text, keeper.put(alloc, ENTRY, b"two"))?;
-    say_made(&mut text, keeper.drop_name(alloc, BLOB))?;
-    say_listed(&mut text, keeper.names(alloc))?;
-    say_got(&mut text, keeper.get(alloc, BLOB))?;
-    Ok(text)
+    Ok(())
 }
 
-/// What three looks of a reader answer.
-fn three_looks<R: KeepReader>(alloc: Global, reader: &mut R) -> Result<Vec<u8>, Fail> {
-    let mut text = Vec::new(alloc);
+/// Says what three looks of a reader answer.
+fn three_looks<R: KeepReader>(
+    alloc: Global,
+    said: &mut Vec<u8>,
+    reader: &mut R,
+) -> Result<(), Fail> {
     for name in [BLOB, LIST, ENTRY] {
         if !is_name(name.as_bytes()) {
-            return Err("no name")?;
+            return Err(Fail::new("no name"));
         }
-        say_got(&mut text, reader.get(alloc, name))?;
+        say_got(said, reader.get(alloc, name))?;
+        said.push(b' ')?;
     }
-    Ok(text)
+    Ok(())
 }
 
 fn send<T: Send + Drop>(_sent: T) {}
 
-#[test]
-fn a_keeper_holds_what_was_put_and_never_fails(rt: HostRuntime) -> Result<(), Fail> {
-    let mut keeper = NoFaultKeeper::new(rt.alloc());
-    let said = six_calls(rt.alloc(), &mut keeper)?;
-    assert_eq!(rt; said.as_slice(), b"made one made made e none ".as_slice());
-    let read = three_looks(rt.alloc(), &mut keeper.reader(rt.alloc())?)?;
-    assert_eq!(rt; read.as_slice(), b"none none two ".as_slice());
+/// Says what a reader answers that was made before another name was put.
+fn looks_before_a_put<K: Keeper>(
+    alloc: Global,
+    said: &mut Vec<u8>,
+    keeper: &mut K,
+) -> Result<(), Fail> {
+    let mut reader = keeper.reader(alloc)?;
+    say_call(alloc, said, keeper, Call::Put, LIST, "two")?;
+    three_looks(alloc, said, &mut reader)?;
+    three_looks(alloc, said, &mut reader)?;
+    send(reader);
     Ok(())
 }
 
 #[test]
+fn a_keeper_holds_what_was_put_and_never_fails(rt: HostRuntime) -> Result<(), Fail> {
+    let mut said = Vec::new(rt.alloc());
+    let mut keeper = NoFaultKeeper::new(rt.alloc());
+    six_calls(rt.alloc(), &mut said, &mut keeper)?;
+    looks_before_a_put(rt.alloc(), &mut said, &mut keeper)?;
+    let wanted = "made one made made e none made none none two none none two ";
+    assert_eq!(rt; said.as_slice(), wanted.as_bytes());
+    Ok(())
+}
+
+/// What six calls answer where the one with this number fails, and how many failed.
+fn with_a_fault(alloc: Global, failing: u64) -> Result<(Vec<u8>, u64), Fail> {
+    let mut keeper = MemKeeper::new(alloc, vec![in alloc; failing]?);
+    let mut said = Vec::new(alloc);
+    six_calls(alloc, &mut said, &mut keeper)?;
+    Ok((said, keeper.faults()))
+}
+
+#[test]
 fn a_keeper_in_memory_fails_at_each_call_that_it_is_asked_to(rt: HostRuntime) -> Result<(), Fail> {
-    let alloc = rt.alloc();
     let cases = [
         (0, "made one made made e none "),
         (1, "failed none made made e none "),
@@ -197,57 +243,57 @@ fn a_keeper_in_memory_fails_at_each_call_that_it_is_asked_to(rt: HostRuntime) ->
         (6, "made one made made e failed "),
     ];
     for (failing, wanted) in cases {
-        let mut keeper = MemKeeper::new(alloc, vec![in alloc; failing]?);
-        let said = six_calls(alloc, &mut keeper)?;
+        let (said, faults) = with_a_fault(rt.alloc(), failing)?;
         assert_eq!(rt; said.as_slice(), wanted.as_bytes());
-        assert_eq!(rt; keeper.faults(), u64::from(failing > 0));
+        assert_eq!(rt; faults, u64::from(failing > 0));
     }
     Ok(())
+}
+
+/// What six calls answer where the first ones go through, and what the inner keeper then holds of the first
+/// name.
+fn stopped_after(alloc: Global, calls: u64) -> Result<Vec<u8>, Fail> {
+    let mut keeper = StopKeeper::new(MemKeeper::new(alloc, Vec::new(alloc)), calls);
+    let mut said = Vec::new(alloc);
+    six_calls(alloc, &mut said, &mut keeper)?;
+    said.extend_from_slice(keeper.into_inner().held(BLOB).unwrap_or(b"none"))?;
+    Ok(said)
 }
 
 #[test]
 fn a_keeper_that_stops_lets_so_many_calls_through(rt: HostRuntime) -> Result<(), Fail> {
-    let alloc = rt.alloc();
     let cases = [
-        (0, "failed failed failed failed failed failed ", "none "),
-        (1, "made failed failed failed failed failed ", "one "),
-        (3, "made one made failed failed failed ", "one "),
-        (4, "made one made made failed failed ", "none "),
-        (6, "made one made made e none ", "none "),
+        (0, "failed failed failed failed failed failed none"),
+        (1, "made failed failed failed failed failed one"),
+        (3, "made one made failed failed failed one"),
+        (4, "made one made made failed failed none"),
+        (6, "made one made made e none none"),
     ];
-    for (calls, wanted, left) in cases {
-        let mut keeper = StopKeeper::new(MemKeeper::new(alloc, Vec::new(alloc)), calls);
-        let said = six_calls(alloc, &mut keeper)?;
+    for (calls, wanted) in cases {
+        let said = stopped_after(rt.alloc(), calls)?;
         assert_eq!(rt; said.as_slice(), wanted.as_bytes());
-        let inner = keeper.into_inner();
-        let held = inner.held(BLOB).unwrap_or(b"none");
-        assert_eq!(rt; [held, b" "].concat(alloc)?.as_slice(), left.as_bytes());
     }
     Ok(())
 }
 
+/// A keeper that holds a blob, and whose readers fail at the second call.
+fn failing_keeper(alloc: Global) -> Result<FailKeeper, Fail> {
+    let mut inner = MemKeeper::new(alloc, Vec::new(alloc));
+    if !is_name(BLOB.as_bytes()) {
+        return Err(Fail::new("no name"));
+    }
+    inner.set_raw(alloc, BLOB, b"one".to_vec(alloc)?)?;
+    Ok(FailKeeper::new(inner, vec![in alloc; 2]?))
+}
+
 #[test]
 fn readers_read_what_was_held_and_fail_where_asked(rt: HostRuntime) -> Result<(), Fail> {
-    let alloc = rt.alloc();
-    assert!(rt; is_name(BLOB.as_bytes()));
-    assert!(rt; is_name(LIST.as_bytes()));
-    let mut inner = MemKeeper::new(alloc, Vec::new(alloc));
-    inner.set_raw(alloc, BLOB, b"one".to_vec(alloc)?)?;
-    let mut keeper = FailKeeper::new(inner, vec![in alloc; 2]?);
-    let mut reader = keeper.reader(alloc)?;
-    let put = keeper.put(alloc, LIST, b"two");
-    assert!(rt; put.is_ok());
-    assert_eq!(rt;
-        three_looks(alloc, &mut reader)?.as_slice(),
-        b"one failed none ".as_slice()
-    );
-    assert_eq!(rt;
-        three_looks(alloc, &mut reader)?.as_slice(),
-        b"one none none ".as_slice()
-    );
-    send(reader);
-    let said = six_calls(alloc, &mut keeper)?;
-    assert_eq!(rt; said.as_slice(), b"made one made made ew none ".as_slice());
+    let mut said = Vec::new(rt.alloc());
+    let mut keeper = failing_keeper(rt.alloc())?;
+    looks_before_a_put(rt.alloc(), &mut said, &mut keeper)?;
+    six_calls(rt.alloc(), &mut said, &mut keeper)?;
+    let wanted = "made one failed none one none none made one made made ew none ";
+    assert_eq!(rt; said.as_slice(), wanted.as_bytes());
     Ok(())
 }
 

@@ -60,7 +60,9 @@ pub(crate) fn write(alloc: Global, laid: &[Laid]) -> Result<Vec<u8>, AllocError>
 /// Strings are in `"`, numbers are decimal, and a byte is escaped only where it has to be.
 /// docs/FORMATS.md says how tokens are spelled.
 pub fn spell(alloc: Global, laid: &[Laid]) -> Result<Vec<u8>, Memory>
-    ensures { IfOk result (λ text. AreSpellable (kinds laid.now) → HasKinds text.items (kinds laid.now)) }
+    ensures tokens { IfOk result
+        (λ text. AreSpellable (kinds laid.now) → HasKinds text.items (kinds laid.now)) }
+    ensures nothing { laid.now ≡ [] → IfOk result (λ text. text.items ≡ []) }
 {
     if laid.is_empty() {
         return Ok(Vec::new(alloc));

@@ -6,8 +6,8 @@ use Rattle.dscript_spell.specs.Layout.{written}
 use Rattle.dscript_spell.proofs.Whole.{written_has_kinds}
 use Rattle.dscript_spell.proofs.writing.spell.Goals as goal
 
-pub returns : goal.returns
-returns c =
+pub returns-clause-tokens : goal.returns-clause-tokens
+returns-clause-tokens c =
     let all = kinds c.args.laid.now in
     IfOk-weaker c.write.result (λ text. text.items ≡ written Other c.args.laid.now) (λ text. AreSpellable all → HasKinds text.items all)
     (λ text is spellable. subst (λ t. HasKinds t all) (sym is) (written_has_kinds c.args.laid.now spellable))
