@@ -1,9 +1,9 @@
 //! A keeper in memory whose readers fail as its maker asked.
 
-ghost use Rattle.std.specs.Prelude.{◌≡◌, ◌<◌, Some, Err, length};
+ghost use Rattle.std.specs.Prelude.{◌≡◌, ◌<◌, Some, Err, IfOk, length};
 ghost use Rattle.bx_io.specs.Calls.{ListsAll, Looks, Tries};
 ghost use Rattle.bx_io.specs.Causes.{HasCause, last_count};
-ghost use Rattle.bx_io.specs.Holdings.{Put, Drop};
+ghost use Rattle.bx_io.specs.Holdings.{AreNames, Put, Drop};
 ghost use Rattle.bx_io.specs.Names.{IsName};
 
 use crate::fault::Memory;
@@ -54,7 +54,13 @@ impl Keeper for FailKeeper {
 
     ghost bound = { λ k. Some (length k.failing) };
 
-    fn reader(&self, alloc: Global) -> Result<FailReader, Memory> {
+    fn reader(&self, alloc: Global) -> Result<FailReader, Memory>
+        ensures whole { IfOk result (λ reader. reader ≡ record {
+          held = self.now.inner.kept.held;
+          script = record { failing = self.now.failing; calls = 0; faults = 0 };
+        }) }
+        ensures names { AreNames self.now.inner.kept.held }
+    {
         Ok(FailReader::new(self.inner.reader(alloc)?, self.failing.clone()?))
     }
 
