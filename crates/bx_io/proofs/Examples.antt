@@ -1,10 +1,9 @@
 -- Worked examples of changes, of their prefixes and of counts.
-use Rattle.std.proofs.Common.{◌≡◌, ℕ, ◌+◌, ◌-◌, ◌^◌, ◌≤◌, List, [], ◌∷◌, ◌++◌, Option, Some, None, codes, refl, ap, arith, rules}
+use Rattle.std.proofs.Common.{◌≡◌, ℕ, List, [], ◌∷◌, Some, None, codes, refl, ap, arith, rules}
 use Rattle.std.specs.FinMap.{empty, get, gets, same_map, slice_cmp-IsAntisymmetric, nat_cmp-IsAntisymmetric}
-use Rattle.std.specs.Ordering.{nat_cmp}
 use Rattle.std.specs.Cmp.Lexicographic.{nat_list_cmp_total}
-use Rattle.bx_io.specs.Causes.{Rose, last_count, IsWithin, CanRise}
-use Rattle.bx_io.specs.Holdings.{Holdings, Change, Put, Drop, after, Kept, known_after, IsPrefix, MakesPrefix}
+use Rattle.bx_io.specs.Causes.{Rose, last_count}
+use Rattle.bx_io.specs.Holdings.{Holdings, Put, Drop, after, known_after, IsPrefix}
 
 abbrev a : List ℕ
 a = codes "b/0a"

@@ -1,5 +1,5 @@
 -- When an answer may say that the outside failed.
-use Rattle.std.specs.Prelude.{◌≡◌, ℕ, ◌+◌, ◌-◌, ◌^◌, ◌<◌, ◌≤◌, min, Option, IsSome}
+use Rattle.std.specs.Prelude.{ℕ, ◌+◌, ◌-◌, ◌^◌, ◌<◌, ◌≤◌, min, Option, IsSome}
 use Rattle.std.specs.Option.{ForSome}
 
 -- the last value of a counter of 64 bits, at which it stays

@@ -1,5 +1,5 @@
-use Rattle.std.proofs.Common.{◌≡◌, arith, rules, subst, sym}
-use Rattle.bx_io.specs.Numbered.{IsPlanned, after_fault, after_work}
+use Rattle.std.proofs.Common.{arith, rules, subst, sym}
+use Rattle.bx_io.specs.Numbered.{IsPlanned}
 use Rattle.bx_io.proofs.Planned.{planned_work, planned_fault, planned_within}
 use Rattle.bx_io.proofs.fault_plan.FaultPlan.next_fails.Goals as goal
 
