@@ -6,4 +6,4 @@ use Rattle.dscript_print.proofs.printing.print.Goals as goal
 
 pub returns : goal.returns
 returns c =
-    if_ok c.spell.result (λ text has. prints text.items (file_tree c.args.file.now) _ has (search rules)) c.spell.ensures
+    if_ok c.spell.result (λ text has. prints text.items (file_tree c.args.file.now) _ has (search rules)) c.spell.ensures.tokens
