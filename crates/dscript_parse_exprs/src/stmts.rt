@@ -9,12 +9,12 @@ ghost use Rattle.dscript_parse_tokens.specs.Gives.{kinds, Reads};
 
 use crate::exprs::expr;
 use crate::lookahead::{at_assign, loop_kind};
-use crate::parts::note;
+use crate::parts::{as_for, as_if, as_if_else, note};
 use dscript_ast::{Expr, Stmt};
 use dscript_lex::Token;
 use dscript_parse_tokens::{
-    Depth, Parse, Parsed, at_punctuator, higher, identifier, keyword, punctuator, take_keyword,
-    take_punctuator, until,
+    Depth, Parse, Parsed, at_punctuator, closed, higher, identifier, keyword, punctuator,
+    take_keyword, take_punctuator, until,
 };
 use std::alloc::Global;
 
@@ -85,13 +85,7 @@ pub fn value<'a>(alloc: Global, depth: Depth, tokens: &'a [Token]) -> Parse<'a, 
     ensures { Reads expr_tree (at_depth read_value depth.levels) depth.levels tokens.now result }
 {
     let rest = punctuator(tokens, b"=")?;
-    let value = expr(alloc, depth, rest)?;
-    let rest = punctuator(value.rest, b";")?;
-    Ok(Parsed {
-        value: value.value,
-        height: value.height,
-        rest: rest,
-    })
+    closed(expr(alloc, depth, rest)?, b";")
 }
 
 /// A constant, after its keyword.
@@ -126,45 +120,33 @@ fn let_stmt<'a>(alloc: Global, depth: Depth, tokens: &'a [Token]) -> Parse<'a, S
             rest: rest,
         });
     };
-    let start = expr(alloc, depth, rest)?;
-    let rest = punctuator(start.rest, b";")?;
+    let start = closed(expr(alloc, depth, rest)?, b";")?;
     Ok(Parsed {
         value: Stmt::Let(name.value, note.value, Some(start.value)),
         height: higher(note.height, start.height) + 1,
-        rest: rest,
+        rest: start.rest,
     })
 }
 
 /// A condition and what depends on it, after its keyword.
 #[cycle(trees)]
-#[tactic(auto, using(crate::proofs::OptionalParts::optional_views), unfolding(dscript_grammar::specs::ExprReading::read_if, dscript_grammar::specs::ExprReading::read_else, dscript_grammar::specs::Reading::and_then, dscript_grammar::specs::Reading::choose))]
+#[tactic(auto, unfolding(dscript_grammar::specs::ExprReading::read_if, dscript_grammar::specs::ExprReading::read_else, dscript_grammar::specs::Reading::and_then, dscript_grammar::specs::Reading::choose))]
 fn if_stmt<'a>(alloc: Global, depth: Depth, tokens: &'a [Token]) -> Parse<'a, Stmt>
     ensures { Reads stmt_tree (at_depth read_if depth.levels) (suc depth.levels) tokens.now result }
 {
     let rest = punctuator(tokens, b"(")?;
-    let condition = expr(alloc, depth, rest)?;
-    let rest = punctuator(condition.rest, b")")?;
-    let first = stmt(alloc, depth, rest)?;
-    let body = Box::new(alloc, first.value)?;
+    let condition = closed(expr(alloc, depth, rest)?, b")")?;
+    let first = stmt(alloc, depth, condition.rest)?;
     let Some(rest) = take_keyword(first.rest, b"else") else {
-        return Ok(Parsed {
-            value: Stmt::If(condition.value, body, None),
-            height: higher(condition.height, first.height) + 1,
-            rest: first.rest,
-        });
+        return as_if(alloc, depth, condition, first);
     };
     let second = stmt(alloc, depth, rest)?;
-    let other = Box::new(alloc, second.value)?;
-    Ok(Parsed {
-        value: Stmt::If(condition.value, body, Some(other)),
-        height: higher(condition.height, higher(first.height, second.height)) + 1,
-        rest: second.rest,
-    })
+    as_if_else(alloc, depth, condition, first, second)
 }
 
 /// A loop, after its keyword.
 #[cycle(trees)]
-#[tactic(auto, using(dscript_ast::proofs::NodeViews::tree_views), unfolding(dscript_grammar::specs::ExprReading::read_for, dscript_grammar::specs::Reading::and_then))]
+#[tactic(auto, unfolding(dscript_grammar::specs::ExprReading::read_for, dscript_grammar::specs::Reading::and_then))]
 fn for_stmt<'a>(alloc: Global, depth: Depth, tokens: &'a [Token]) -> Parse<'a, Stmt>
     ensures { Reads stmt_tree (at_depth read_for depth.levels) (suc depth.levels) tokens.now result }
 {
@@ -172,20 +154,9 @@ fn for_stmt<'a>(alloc: Global, depth: Depth, tokens: &'a [Token]) -> Parse<'a, S
     let kind = loop_kind(rest)?;
     let name = identifier(kind.rest)?;
     let rest = keyword(name.rest, b"of")?;
-    let items = expr(alloc, depth, rest)?;
-    let rest = punctuator(items.rest, b")")?;
-    let body = stmt(alloc, depth, rest)?;
-    let stmt = Stmt::For(
-        kind.value,
-        name.value,
-        items.value,
-        Box::new(alloc, body.value)?,
-    );
-    Ok(Parsed {
-        value: stmt,
-        height: higher(items.height, body.height) + 1,
-        rest: body.rest,
-    })
+    let items = closed(expr(alloc, depth, rest)?, b")")?;
+    let body = stmt(alloc, depth, items.rest)?;
+    as_for(alloc, depth, kind.value, name.value, items, body)
 }
 
 /// A return, after its keyword.
@@ -201,12 +172,11 @@ fn return_stmt<'a>(alloc: Global, depth: Depth, tokens: &'a [Token]) -> Parse<'a
             rest: rest,
         });
     }
-    let value = expr(alloc, depth, tokens)?;
-    let rest = punctuator(value.rest, b";")?;
+    let value = closed(expr(alloc, depth, tokens)?, b";")?;
     Ok(Parsed {
         value: Stmt::Return(Some(value.value)),
         height: value.height + 1,
-        rest: rest,
+        rest: value.rest,
     })
 }
 
@@ -225,11 +195,10 @@ fn simple<'a>(alloc: Global, depth: Depth, tokens: &'a [Token]) -> Parse<'a, Stm
             rest: value.rest,
         });
     }
-    let value = expr(alloc, depth, tokens)?;
-    let rest = punctuator(value.rest, b";")?;
+    let value = closed(expr(alloc, depth, tokens)?, b";")?;
     Ok(Parsed {
         value: Stmt::Value(value.value),
         height: value.height + 1,
-        rest: rest,
+        rest: value.rest,
     })
 }

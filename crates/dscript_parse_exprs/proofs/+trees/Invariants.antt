@@ -16,6 +16,9 @@ decreases-stmts::stmt l = 64 * l.depth.levels + 0
 abbrev pub decreases-exprs::cond : goal.decreases-exprs::cond
 decreases-exprs::cond l = 64 * l.depth.levels + 60
 
+abbrev pub decreases-exprs::branches : goal.decreases-exprs::branches
+decreases-exprs::branches l = 64 * l.depth.levels + 59
+
 abbrev pub decreases-exprs::unary : goal.decreases-exprs::unary
 decreases-exprs::unary l = 64 * l.depth.levels + 29
 
