@@ -1,11 +1,11 @@
 //! Statements.
 
-ghost use Rattle.std.specs.Prelude.{◌≡◌, suc, length, map};
+ghost use Rattle.std.specs.Prelude.{◌≡◌, ◌≤◌, suc, length, map};
 ghost use Rattle.dscript_ast.specs.Views.{expr_tree, stmt_tree};
-ghost use Rattle.dscript_grammar.specs.ExprReading.{read_assign, read_block, read_by_keyword, read_const, read_for};
-ghost use Rattle.dscript_grammar.specs.ExprReading.{read_if, read_let, read_return, read_simple, read_stmt, read_value};
+ghost use Rattle.dscript_grammar.specs.ExprReading.{read_assign, read_block, read_by_keyword, read_const, read_else};
+ghost use Rattle.dscript_grammar.specs.ExprReading.{read_for, read_if, read_let, read_return, read_simple, read_stmt, read_value};
 ghost use Rattle.dscript_parse_exprs.specs.Levels.{at_depth};
-ghost use Rattle.dscript_parse_tokens.specs.Gives.{kinds, Reads};
+ghost use Rattle.dscript_parse_tokens.specs.Gives.{kinds, MayRead, Reads};
 
 use crate::exprs::expr;
 use crate::lookahead::{at_assign, loop_kind};
@@ -130,18 +130,39 @@ fn let_stmt<'a>(alloc: Global, depth: Depth, tokens: &'a [Token]) -> Parse<'a, S
 
 /// A condition and what depends on it, after its keyword.
 #[cycle(trees)]
-#[tactic(auto, unfolding(dscript_grammar::specs::ExprReading::read_if, dscript_grammar::specs::ExprReading::read_else, dscript_grammar::specs::Reading::and_then, dscript_grammar::specs::Reading::choose))]
+#[tactic(auto, unfolding(dscript_grammar::specs::ExprReading::read_if, dscript_grammar::specs::Reading::and_then))]
 fn if_stmt<'a>(alloc: Global, depth: Depth, tokens: &'a [Token]) -> Parse<'a, Stmt>
     ensures { Reads stmt_tree (at_depth read_if depth.levels) (suc depth.levels) tokens.now result }
 {
     let rest = punctuator(tokens, b"(")?;
     let condition = closed(expr(alloc, depth, rest)?, b")")?;
-    let first = stmt(alloc, depth, condition.rest)?;
-    let Some(rest) = take_keyword(first.rest, b"else") else {
-        return as_if(alloc, depth, condition, first);
-    };
-    let second = stmt(alloc, depth, rest)?;
-    as_if_else(alloc, depth, condition, first, second)
+    let body = stmt(alloc, depth, condition.rest)?;
+    otherwise(alloc, depth, condition, body)
+}
+
+/// What depends on the contrary of a condition, if there is such, after the condition and what depends on it.
+#[cycle(trees)]
+#[tactic(auto, unfolding(dscript_grammar::specs::ExprReading::read_else, dscript_grammar::specs::Reading::and_then, dscript_grammar::specs::Reading::choose))]
+fn otherwise<'a>(
+    alloc: Global,
+    depth: Depth,
+    condition: Parsed<'a, Expr>,
+    body: Parsed<'a, Stmt>,
+) -> Parse<'a, Stmt>
+    requires condition { condition.height ≤ depth.levels }
+    requires body { body.height ≤ depth.levels }
+    ensures { MayRead stmt_tree
+        (at_depth read_else depth.levels (expr_tree condition.entry.value) condition.entry.height
+        (stmt_tree body.entry.value) body.entry.height)
+        (suc depth.levels) body.entry.rest.now result }
+{
+    match take_keyword(body.rest, b"else") {
+        Some(rest) => {
+            let other = stmt(alloc, depth, rest)?;
+            as_if_else(alloc, depth, condition, body, other)
+        }
+        None => as_if(alloc, depth, condition, body),
+    }
 }
 
 /// A loop, after its keyword.

@@ -85,6 +85,9 @@ decreases-stmts::let_stmt l = 64 * l.depth.levels + 30
 abbrev pub decreases-stmts::if_stmt : goal.decreases-stmts::if_stmt
 decreases-stmts::if_stmt l = 64 * l.depth.levels + 30
 
+abbrev pub decreases-stmts::otherwise : goal.decreases-stmts::otherwise
+decreases-stmts::otherwise l = 64 * l.depth.levels + 29
+
 abbrev pub decreases-stmts::for_stmt : goal.decreases-stmts::for_stmt
 decreases-stmts::for_stmt l = 64 * l.depth.levels + 30
 
