@@ -11,7 +11,7 @@ use crate::fault::SyntaxFault;
 use dscript_ast::{Expr, File};
 use dscript_lex::Token;
 use dscript_parse_exprs::expr;
-use dscript_parse_tokens::{Depth, Parse, Parsed, Refusal, keyword, punctuator};
+use dscript_parse_tokens::{Depth, Parse, Parsed, Refusal, closed, keyword, punctuator};
 use std::alloc::Global;
 
 /// What a configuration is called with, after its keyword.
@@ -20,14 +20,8 @@ fn called<'a>(alloc: Global, depth: Depth, tokens: &'a [Token]) -> Parse<'a, Exp
     ensures { Reads expr_tree (read_called depth.levels) depth.levels tokens.now result }
 {
     let rest = punctuator(tokens, b"(")?;
-    let value = expr(alloc, depth, rest)?;
-    let rest = punctuator(value.rest, b")")?;
-    let rest = punctuator(rest, b";")?;
-    Ok(Parsed {
-        value: value.value,
-        height: value.height,
-        rest: rest,
-    })
+    let value = closed(expr(alloc, depth, rest)?, b")")?;
+    closed(value, b";")
 }
 
 /// The configuration of a workspace.

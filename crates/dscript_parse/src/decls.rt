@@ -13,8 +13,8 @@ use dscript_ast::{Decl, Mark, Marked, TypeNode};
 use dscript_lex::Token;
 use dscript_parse_exprs::{block, note, params, value};
 use dscript_parse_tokens::{
-    Depth, Parse, Parsed, dotted, higher, identifier, keyword, names, punctuator, take_keyword,
-    take_punctuator, until,
+    Depth, Parse, Parsed, closed, dotted, higher, identifier, keyword, names, punctuator,
+    take_keyword, take_punctuator, until,
 };
 use dscript_parse_types::{body, type_list, type_node};
 use std::alloc::Global;
@@ -161,12 +161,11 @@ pub(crate) fn type_alias<'a>(alloc: Global, depth: Depth, tokens: &'a [Token]) -
     let name = identifier(tokens)?;
     let types = type_params(alloc, depth, name.rest)?;
     let rest = punctuator(types.rest, b"=")?;
-    let named = type_node(alloc, depth, rest)?;
-    let rest = punctuator(named.rest, b";")?;
+    let named = closed(type_node(alloc, depth, rest)?, b";")?;
     Ok(Parsed {
         value: Decl::TypeAlias(name.value, types.value, named.value),
         height: named.height,
-        rest: rest,
+        rest: named.rest,
     })
 }
 

@@ -1,3 +1,4 @@
 pub mod Levels
 pub mod TemplateView
 pub mod HolesInvariant
+pub mod Endings

@@ -2,7 +2,7 @@
 
 ghost use Rattle.std.specs.Prelude.{◌≡◌, ◌<◌, ◌≤◌, suc, nat_eq, length, map};
 ghost use Rattle.dscript_ast.specs.Views.{element_tree, expr_tree, hole_tree, operand_tree, part_tree, prop_tree};
-ghost use Rattle.dscript_grammar.specs.ExprReading.{at_part, read_call, read_chain, read_cond, read_element, read_expr};
+ghost use Rattle.dscript_grammar.specs.ExprReading.{at_part, read_branches, read_call, read_chain, read_cond, read_element, read_expr};
 ghost use Rattle.dscript_grammar.specs.ExprReading.{read_holes, read_named, read_part, read_plain, read_postfix, read_primary};
 ghost use Rattle.dscript_grammar.specs.ExprReading.{read_enclosed, read_prop, read_template, read_unary, chain_level};
 ghost use Rattle.dscript_grammar.specs.ExprReading.{operator_precedence, read_operand};
@@ -16,14 +16,17 @@ use crate::lookahead::{
     at_arrow, at_part, at_template, letter, next_precedence, operator, template_head,
     template_middle, template_tail, template_whole,
 };
-use crate::parts::{arrow_head, as_chain, as_postfix, as_unary, literal, prefixes};
+use crate::parts::{
+    arrow_head, as_arrow, as_block_arrow, as_chain, as_cond, as_postfix, as_unary, literal,
+    prefixes,
+};
 use crate::stmts::block;
 use bx_tree::Text;
 use dscript_ast::{Element, Expr, Hole, Operand, PostfixPart, Prop, precedence};
 use dscript_lex::Token;
 use dscript_parse_tokens::{
-    Depth, Parse, Parsed, Refusal, at_identifier, at_punctuator, flag, higher, identifier, list,
-    many, name, node, punctuator, string_at, take_punctuator,
+    Depth, Parse, Parsed, Refusal, at_identifier, at_punctuator, closed, flag, higher, identifier,
+    list, many, name, punctuator, string_at, take_punctuator,
 };
 use std::alloc::Global;
 
@@ -47,49 +50,45 @@ pub fn expr<'a>(alloc: Global, depth: Depth, tokens: &'a [Token]) -> Parse<'a, E
     if !at_arrow(tokens) {
         return cond(alloc, inner, tokens);
     }
-    let head = arrow_head(alloc, inner, tokens)?;
-    let rest = punctuator(head.rest, b"=>")?;
-    if at_punctuator(rest, b"{") {
-        let body = block(alloc, inner, rest)?;
-        let arrow = Expr::BlockArrow(Box::new(alloc, head.value)?, body.value);
-        return Ok(Parsed {
-            value: arrow,
-            height: higher(head.height, body.height) + 1,
-            rest: body.rest,
-        });
+    let head = closed(arrow_head(alloc, inner, tokens)?, b"=>")?;
+    if at_punctuator(head.rest, b"{") {
+        let body = block(alloc, inner, head.rest)?;
+        return as_block_arrow(alloc, inner, head, body);
     }
-    let body = expr(alloc, inner, rest)?;
-    let arrow = Expr::Arrow(Box::new(alloc, head.value)?, Box::new(alloc, body.value)?);
-    Ok(Parsed {
-        value: arrow,
-        height: higher(head.height, body.height) + 1,
-        rest: body.rest,
-    })
+    let body = expr(alloc, inner, head.rest)?;
+    as_arrow(alloc, inner, head, body)
 }
 
 /// A condition with its branches, or a chain of operators.
 #[cycle(trees)]
-#[tactic(auto, using(dscript_ast::proofs::NodeViews::tree_views), unfolding(dscript_grammar::specs::ExprReading::read_cond, dscript_grammar::specs::ExprReading::read_branches, dscript_grammar::specs::Reading::and_then, dscript_grammar::specs::Reading::choose))]
+#[tactic(auto, unfolding(dscript_grammar::specs::ExprReading::read_cond, dscript_grammar::specs::Reading::and_then, dscript_grammar::specs::Reading::choose))]
 fn cond<'a>(alloc: Global, depth: Depth, tokens: &'a [Token]) -> Parse<'a, Expr>
     ensures { Reads expr_tree (at_depth read_cond depth.levels) (suc depth.levels) tokens.now result }
 {
     let condition = chain(alloc, depth, CHAIN_LEVELS, tokens)?;
-    let Some(rest) = take_punctuator(condition.rest, b"?") else {
-        return Ok(condition);
-    };
-    let first = expr(alloc, depth, rest)?;
-    let rest = punctuator(first.rest, b":")?;
-    let second = expr(alloc, depth, rest)?;
-    let height = higher(condition.height, higher(first.height, second.height));
-    let condition = Box::new(alloc, condition.value)?;
-    let first = Box::new(alloc, first.value)?;
-    let second_value = Box::new(alloc, second.value)?;
-    node(
-        depth,
-        Expr::Cond(condition, first, second_value),
-        height,
-        second.rest,
-    )
+    match take_punctuator(condition.rest, b"?") {
+        Some(rest) => branches(alloc, depth, condition, rest),
+        None => Ok(condition),
+    }
+}
+
+/// The branches of a condition, after its `?`.
+#[cycle(trees)]
+#[tactic(auto, unfolding(dscript_grammar::specs::ExprReading::read_branches, dscript_grammar::specs::Reading::and_then))]
+fn branches<'a>(
+    alloc: Global,
+    depth: Depth,
+    condition: Parsed<'a, Expr>,
+    tokens: &'a [Token],
+) -> Parse<'a, Expr>
+    requires { condition.height ≤ suc depth.levels }
+    ensures { Reads expr_tree
+        (at_depth read_branches depth.levels (expr_tree condition.entry.value) condition.entry.height)
+        (suc depth.levels) tokens.now result }
+{
+    let first = closed(expr(alloc, depth, tokens)?, b":")?;
+    let second = expr(alloc, depth, first.rest)?;
+    as_cond(alloc, depth, condition, first, second)
 }
 
 /// An operand, and the operators of the levels up to this one and the operands after it.
@@ -232,12 +231,11 @@ fn part<'a>(alloc: Global, depth: Depth, tokens: &'a [Token]) -> Parse<'a, Postf
         });
     }
     if let Some(rest) = take_punctuator(tokens, b"[") {
-        let index = expr(alloc, depth, rest)?;
-        let rest = punctuator(index.rest, b"]")?;
+        let index = closed(expr(alloc, depth, rest)?, b"]")?;
         return Ok(Parsed {
             value: PostfixPart::Index(Box::new(alloc, index.value)?),
             height: index.height,
-            rest: rest,
+            rest: index.rest,
         });
     }
     call(alloc, depth, tokens)
@@ -301,12 +299,11 @@ fn primary<'a>(alloc: Global, depth: Depth, tokens: &'a [Token]) -> Parse<'a, Ex
 fn enclosed<'a>(alloc: Global, depth: Depth, tokens: &'a [Token]) -> Parse<'a, Expr>
     ensures { Reads expr_tree (at_depth read_enclosed depth.levels) (suc depth.levels) tokens.now result }
 {
-    let inner = expr(alloc, depth, tokens)?;
-    let rest = punctuator(inner.rest, b")")?;
+    let inner = closed(expr(alloc, depth, tokens)?, b")")?;
     Ok(Parsed {
         value: inner.value,
         height: inner.height + 1,
-        rest: rest,
+        rest: inner.rest,
     })
 }
 

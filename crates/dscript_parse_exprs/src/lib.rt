@@ -5,10 +5,15 @@
 #![tactic(auto)]
 
 mod exprs;
+mod laws;
 mod lookahead;
 mod parts;
 mod stmts;
 
 pub use exprs::expr;
+pub use laws::{
+    blocks_are_derived, expressions_are_derived, notes_are_derived, params_are_derived,
+    values_are_derived,
+};
 pub use parts::{note, params};
 pub use stmts::{block, value};

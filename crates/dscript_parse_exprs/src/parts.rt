@@ -1,18 +1,23 @@
 //! Parts of expressions and statements that hold none, and nodes over parts that were read.
 
-ghost use Rattle.std.specs.Prelude.{◌≡◌, ◌≤◌, suc, length, map};
+ghost use Rattle.std.specs.Prelude.{◌≡◌, ◌≤◌, suc, length, map, max};
 ghost use Rattle.dscript_ast.specs.ExprTree as tree;
-ghost use Rattle.dscript_ast.specs.ExprTree.{to_operands};
+ghost use Rattle.dscript_ast.specs.ExprTree.{to_operands, to_stmts};
 ghost use Rattle.dscript_ast.specs.Views.{expr_tree, head_tree, note_tree, operand_tree, param_tree, part_tree};
+ghost use Rattle.dscript_ast.specs.Views.{stmt_tree};
 ghost use Rattle.dscript_ast.specs.declared.precedence.TheConstants.{PRODUCT, OR};
 ghost use Rattle.dscript_grammar.specs.ExprReading.{as_chain, as_postfix, as_unary, at_prefix, read_arrow_head, read_expr};
 ghost use Rattle.dscript_grammar.specs.ExprReading.{read_literal, read_note, read_param, read_params, read_prefix, read_stmt};
-ghost use Rattle.dscript_grammar.specs.Reading.{read_many};
+ghost use Rattle.dscript_grammar.specs.Reading.{got, read_many};
+ghost use Rattle.dscript_grammar.specs.TypeReading.{above};
 ghost use Rattle.dscript_parse_exprs.specs.Levels.{at_depth};
 ghost use Rattle.dscript_parse_tokens.specs.Gives.{kinds, Gives, MayRead, Reads};
 
 use crate::lookahead::{at_prefix, prefix};
-use dscript_ast::{ArrowHead, Expr, Operand, Param, PostfixPart, TypeNode, UnaryOp, precedence};
+use bx_tree::Text;
+use dscript_ast::{
+    ArrowHead, Expr, LoopKind, Operand, Param, PostfixPart, Stmt, TypeNode, UnaryOp, precedence,
+};
 use dscript_lex::{Token, TokenKind};
 use dscript_parse_tokens::{
     Depth, Parse, Parsed, Refusal, at_punctuator, flag, higher, identifier, is_text, list, many,
@@ -235,4 +240,149 @@ pub(crate) fn as_chain<'a>(
         higher(first.height, operands.height),
         operands.rest,
     )
+}
+
+/// An arrow function whose body is an expression.
+#[tactic(auto, using(dscript_ast::proofs::NodeViews::tree_views))]
+pub(crate) fn as_arrow<'a>(
+    alloc: Global,
+    depth: Depth,
+    head: Parsed<'a, ArrowHead>,
+    body: Parsed<'a, Expr>,
+) -> Parse<'a, Expr>
+    requires head { head.height ≤ depth.levels }
+    requires body { body.height ≤ depth.levels }
+    ensures { Gives expr_tree
+        (got (tree.Arrow (head_tree head.entry.value) (expr_tree body.entry.value))
+        (suc (max head.entry.height body.entry.height)) (kinds body.entry.rest.now))
+        (suc depth.levels) (suc (length (kinds body.entry.rest.now))) result }
+{
+    let arrow = Expr::Arrow(Box::new(alloc, head.value)?, Box::new(alloc, body.value)?);
+    Ok(Parsed {
+        value: arrow,
+        height: higher(head.height, body.height) + 1,
+        rest: body.rest,
+    })
+}
+
+/// An arrow function whose body is a block.
+#[tactic(auto, using(dscript_ast::proofs::NodeViews::tree_views))]
+pub(crate) fn as_block_arrow<'a>(
+    alloc: Global,
+    depth: Depth,
+    head: Parsed<'a, ArrowHead>,
+    body: Parsed<'a, Vec<Stmt>>,
+) -> Parse<'a, Expr>
+    requires head { head.height ≤ depth.levels }
+    requires body { body.height ≤ depth.levels }
+    ensures { Gives expr_tree
+        (got (tree.BlockArrow (head_tree head.entry.value) (to_stmts (map stmt_tree body.entry.value.items)))
+        (suc (max head.entry.height body.entry.height)) (kinds body.entry.rest.now))
+        (suc depth.levels) (suc (length (kinds body.entry.rest.now))) result }
+{
+    let arrow = Expr::BlockArrow(Box::new(alloc, head.value)?, body.value);
+    Ok(Parsed {
+        value: arrow,
+        height: higher(head.height, body.height) + 1,
+        rest: body.rest,
+    })
+}
+
+/// A condition with its branches.
+#[tactic(auto, using(dscript_ast::proofs::NodeViews::tree_views))]
+pub(crate) fn as_cond<'a>(
+    alloc: Global,
+    depth: Depth,
+    condition: Parsed<'a, Expr>,
+    first: Parsed<'a, Expr>,
+    second: Parsed<'a, Expr>,
+) -> Parse<'a, Expr>
+    ensures { Gives expr_tree
+        (above depth.levels (max condition.entry.height (max first.entry.height second.entry.height))
+        (tree.Cond (expr_tree condition.entry.value) (expr_tree first.entry.value) (expr_tree second.entry.value))
+        (kinds second.entry.rest.now))
+        (suc depth.levels) (suc (length (kinds second.entry.rest.now))) result }
+{
+    let height = higher(condition.height, higher(first.height, second.height));
+    let condition = Box::new(alloc, condition.value)?;
+    let first = Box::new(alloc, first.value)?;
+    let cond = Expr::Cond(condition, first, Box::new(alloc, second.value)?);
+    node(depth, cond, height, second.rest)
+}
+
+/// A condition and what depends on it, without an `else`.
+#[tactic(auto, using(crate::proofs::OptionalParts::optional_views))]
+pub(crate) fn as_if<'a>(
+    alloc: Global,
+    depth: Depth,
+    condition: Parsed<'a, Expr>,
+    body: Parsed<'a, Stmt>,
+) -> Parse<'a, Stmt>
+    requires condition { condition.height ≤ depth.levels }
+    requires body { body.height ≤ depth.levels }
+    ensures { Gives stmt_tree
+        (got (tree.If (expr_tree condition.entry.value) (stmt_tree body.entry.value) tree.no_stmt)
+        (suc (max condition.entry.height body.entry.height)) (kinds body.entry.rest.now))
+        (suc depth.levels) (suc (length (kinds body.entry.rest.now))) result }
+{
+    let stmt = Stmt::If(condition.value, Box::new(alloc, body.value)?, None);
+    Ok(Parsed {
+        value: stmt,
+        height: higher(condition.height, body.height) + 1,
+        rest: body.rest,
+    })
+}
+
+/// A condition, what depends on it, and what depends on its contrary.
+#[tactic(auto, using(crate::proofs::OptionalParts::optional_views))]
+pub(crate) fn as_if_else<'a>(
+    alloc: Global,
+    depth: Depth,
+    condition: Parsed<'a, Expr>,
+    body: Parsed<'a, Stmt>,
+    other: Parsed<'a, Stmt>,
+) -> Parse<'a, Stmt>
+    requires condition { condition.height ≤ depth.levels }
+    requires body { body.height ≤ depth.levels }
+    requires other { other.height ≤ depth.levels }
+    ensures { Gives stmt_tree
+        (got (tree.If (expr_tree condition.entry.value) (stmt_tree body.entry.value)
+        (tree.a_stmt (stmt_tree other.entry.value)))
+        (suc (max condition.entry.height (max body.entry.height other.entry.height)))
+        (kinds other.entry.rest.now))
+        (suc depth.levels) (suc (length (kinds other.entry.rest.now))) result }
+{
+    let height = higher(condition.height, higher(body.height, other.height));
+    let body = Box::new(alloc, body.value)?;
+    let stmt = Stmt::If(condition.value, body, Some(Box::new(alloc, other.value)?));
+    Ok(Parsed {
+        value: stmt,
+        height: height + 1,
+        rest: other.rest,
+    })
+}
+
+/// A loop over items.
+#[tactic(auto, using(dscript_ast::proofs::NodeViews::tree_views))]
+pub(crate) fn as_for<'a>(
+    alloc: Global,
+    depth: Depth,
+    kind: LoopKind,
+    name: Text,
+    items: Parsed<'a, Expr>,
+    body: Parsed<'a, Stmt>,
+) -> Parse<'a, Stmt>
+    requires items { items.height ≤ depth.levels }
+    requires body { body.height ≤ depth.levels }
+    ensures { Gives stmt_tree
+        (got (tree.For kind name (expr_tree items.entry.value) (stmt_tree body.entry.value))
+        (suc (max items.entry.height body.entry.height)) (kinds body.entry.rest.now))
+        (suc depth.levels) (suc (length (kinds body.entry.rest.now))) result }
+{
+    let stmt = Stmt::For(kind, name, items.value, Box::new(alloc, body.value)?);
+    Ok(Parsed {
+        value: stmt,
+        height: higher(items.height, body.height) + 1,
+        rest: body.rest,
+    })
 }

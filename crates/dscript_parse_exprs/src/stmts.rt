@@ -1,20 +1,20 @@
 //! Statements.
 
-ghost use Rattle.std.specs.Prelude.{◌≡◌, suc, length, map};
+ghost use Rattle.std.specs.Prelude.{◌≡◌, ◌≤◌, suc, length, map};
 ghost use Rattle.dscript_ast.specs.Views.{expr_tree, stmt_tree};
-ghost use Rattle.dscript_grammar.specs.ExprReading.{read_assign, read_block, read_by_keyword, read_const, read_for};
-ghost use Rattle.dscript_grammar.specs.ExprReading.{read_if, read_let, read_return, read_simple, read_stmt, read_value};
+ghost use Rattle.dscript_grammar.specs.ExprReading.{read_assign, read_block, read_by_keyword, read_const, read_else};
+ghost use Rattle.dscript_grammar.specs.ExprReading.{read_for, read_if, read_let, read_return, read_simple, read_stmt, read_value};
 ghost use Rattle.dscript_parse_exprs.specs.Levels.{at_depth};
-ghost use Rattle.dscript_parse_tokens.specs.Gives.{kinds, Reads};
+ghost use Rattle.dscript_parse_tokens.specs.Gives.{kinds, MayRead, Reads};
 
 use crate::exprs::expr;
 use crate::lookahead::{at_assign, loop_kind};
-use crate::parts::note;
+use crate::parts::{as_for, as_if, as_if_else, note};
 use dscript_ast::{Expr, Stmt};
 use dscript_lex::Token;
 use dscript_parse_tokens::{
-    Depth, Parse, Parsed, at_punctuator, higher, identifier, keyword, punctuator, take_keyword,
-    take_punctuator, until,
+    Depth, Parse, Parsed, at_punctuator, closed, higher, identifier, keyword, punctuator,
+    take_keyword, take_punctuator, until,
 };
 use std::alloc::Global;
 
@@ -85,13 +85,7 @@ pub fn value<'a>(alloc: Global, depth: Depth, tokens: &'a [Token]) -> Parse<'a, 
     ensures { Reads expr_tree (at_depth read_value depth.levels) depth.levels tokens.now result }
 {
     let rest = punctuator(tokens, b"=")?;
-    let value = expr(alloc, depth, rest)?;
-    let rest = punctuator(value.rest, b";")?;
-    Ok(Parsed {
-        value: value.value,
-        height: value.height,
-        rest: rest,
-    })
+    closed(expr(alloc, depth, rest)?, b";")
 }
 
 /// A constant, after its keyword.
@@ -126,45 +120,54 @@ fn let_stmt<'a>(alloc: Global, depth: Depth, tokens: &'a [Token]) -> Parse<'a, S
             rest: rest,
         });
     };
-    let start = expr(alloc, depth, rest)?;
-    let rest = punctuator(start.rest, b";")?;
+    let start = closed(expr(alloc, depth, rest)?, b";")?;
     Ok(Parsed {
         value: Stmt::Let(name.value, note.value, Some(start.value)),
         height: higher(note.height, start.height) + 1,
-        rest: rest,
+        rest: start.rest,
     })
 }
 
 /// A condition and what depends on it, after its keyword.
 #[cycle(trees)]
-#[tactic(auto, using(crate::proofs::OptionalParts::optional_views), unfolding(dscript_grammar::specs::ExprReading::read_if, dscript_grammar::specs::ExprReading::read_else, dscript_grammar::specs::Reading::and_then, dscript_grammar::specs::Reading::choose))]
+#[tactic(auto, unfolding(dscript_grammar::specs::ExprReading::read_if, dscript_grammar::specs::Reading::and_then))]
 fn if_stmt<'a>(alloc: Global, depth: Depth, tokens: &'a [Token]) -> Parse<'a, Stmt>
     ensures { Reads stmt_tree (at_depth read_if depth.levels) (suc depth.levels) tokens.now result }
 {
     let rest = punctuator(tokens, b"(")?;
-    let condition = expr(alloc, depth, rest)?;
-    let rest = punctuator(condition.rest, b")")?;
-    let first = stmt(alloc, depth, rest)?;
-    let body = Box::new(alloc, first.value)?;
-    let Some(rest) = take_keyword(first.rest, b"else") else {
-        return Ok(Parsed {
-            value: Stmt::If(condition.value, body, None),
-            height: higher(condition.height, first.height) + 1,
-            rest: first.rest,
-        });
-    };
-    let second = stmt(alloc, depth, rest)?;
-    let other = Box::new(alloc, second.value)?;
-    Ok(Parsed {
-        value: Stmt::If(condition.value, body, Some(other)),
-        height: higher(condition.height, higher(first.height, second.height)) + 1,
-        rest: second.rest,
-    })
+    let condition = closed(expr(alloc, depth, rest)?, b")")?;
+    let body = stmt(alloc, depth, condition.rest)?;
+    otherwise(alloc, depth, condition, body)
+}
+
+/// What depends on the contrary of a condition, if there is such, after the condition and what depends on it.
+#[cycle(trees)]
+#[tactic(auto, unfolding(dscript_grammar::specs::ExprReading::read_else, dscript_grammar::specs::Reading::and_then, dscript_grammar::specs::Reading::choose))]
+fn otherwise<'a>(
+    alloc: Global,
+    depth: Depth,
+    condition: Parsed<'a, Expr>,
+    body: Parsed<'a, Stmt>,
+) -> Parse<'a, Stmt>
+    requires condition { condition.height ≤ depth.levels }
+    requires body { body.height ≤ depth.levels }
+    ensures { MayRead stmt_tree
+        (at_depth read_else depth.levels (expr_tree condition.entry.value) condition.entry.height
+        (stmt_tree body.entry.value) body.entry.height)
+        (suc depth.levels) body.entry.rest.now result }
+{
+    match take_keyword(body.rest, b"else") {
+        Some(rest) => {
+            let other = stmt(alloc, depth, rest)?;
+            as_if_else(alloc, depth, condition, body, other)
+        }
+        None => as_if(alloc, depth, condition, body),
+    }
 }
 
 /// A loop, after its keyword.
 #[cycle(trees)]
-#[tactic(auto, using(dscript_ast::proofs::NodeViews::tree_views), unfolding(dscript_grammar::specs::ExprReading::read_for, dscript_grammar::specs::Reading::and_then))]
+#[tactic(auto, unfolding(dscript_grammar::specs::ExprReading::read_for, dscript_grammar::specs::Reading::and_then))]
 fn for_stmt<'a>(alloc: Global, depth: Depth, tokens: &'a [Token]) -> Parse<'a, Stmt>
     ensures { Reads stmt_tree (at_depth read_for depth.levels) (suc depth.levels) tokens.now result }
 {
@@ -172,20 +175,9 @@ fn for_stmt<'a>(alloc: Global, depth: Depth, tokens: &'a [Token]) -> Parse<'a, S
     let kind = loop_kind(rest)?;
     let name = identifier(kind.rest)?;
     let rest = keyword(name.rest, b"of")?;
-    let items = expr(alloc, depth, rest)?;
-    let rest = punctuator(items.rest, b")")?;
-    let body = stmt(alloc, depth, rest)?;
-    let stmt = Stmt::For(
-        kind.value,
-        name.value,
-        items.value,
-        Box::new(alloc, body.value)?,
-    );
-    Ok(Parsed {
-        value: stmt,
-        height: higher(items.height, body.height) + 1,
-        rest: body.rest,
-    })
+    let items = closed(expr(alloc, depth, rest)?, b")")?;
+    let body = stmt(alloc, depth, items.rest)?;
+    as_for(alloc, depth, kind.value, name.value, items, body)
 }
 
 /// A return, after its keyword.
@@ -201,12 +193,11 @@ fn return_stmt<'a>(alloc: Global, depth: Depth, tokens: &'a [Token]) -> Parse<'a
             rest: rest,
         });
     }
-    let value = expr(alloc, depth, tokens)?;
-    let rest = punctuator(value.rest, b";")?;
+    let value = closed(expr(alloc, depth, tokens)?, b";")?;
     Ok(Parsed {
         value: Stmt::Return(Some(value.value)),
         height: value.height + 1,
-        rest: rest,
+        rest: value.rest,
     })
 }
 
@@ -225,11 +216,10 @@ fn simple<'a>(alloc: Global, depth: Depth, tokens: &'a [Token]) -> Parse<'a, Stm
             rest: value.rest,
         });
     }
-    let value = expr(alloc, depth, tokens)?;
-    let rest = punctuator(value.rest, b";")?;
+    let value = closed(expr(alloc, depth, tokens)?, b";")?;
     Ok(Parsed {
         value: Stmt::Value(value.value),
         height: value.height + 1,
-        rest: rest,
+        rest: value.rest,
     })
 }

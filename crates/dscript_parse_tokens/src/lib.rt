@@ -12,7 +12,7 @@ mod syntax;
 mod tokens;
 
 pub use depth::Depth;
-pub use lists::{dotted, list, many, names, separated, until};
+pub use lists::{closed, dotted, list, many, names, separated, until};
 pub use parsed::{Parse, Parsed, Refusal, higher, node};
 pub use syntax::Syntax;
 pub use tokens::{

@@ -15,23 +15,19 @@ use bx_tree::Text;
 use dscript_lex::Token;
 use std::alloc::Global;
 
-/// The values, once their closing punctuator is taken.
-fn closed<'a, T: Drop>(
-    values: Vec<T>,
-    height: u32,
-    tokens: &'a [Token],
-    close: &[u8],
-) -> Parse<'a, Vec<T>>
+/// What was read, once the punctuator after it is taken.
+pub fn closed<'a, T: Drop>(read: Parsed<'a, T>, close: &[u8]) -> Parse<'a, T>
     ensures { MatchResult result
-        (λ p. (p.value ≡ values) × (p.height ≡ height)
-        × (take_punctuator_bytes close.now (kinds tokens.now) ≡ Some (kinds p.rest.now))
-        × (length (kinds p.rest.now) < length (kinds tokens.now)))
-        (λ fault. (fault ≡ refusals.Syntax) × (take_punctuator_bytes close.now (kinds tokens.now) ≡ None)) }
+        (λ p. (p.value ≡ read.entry.value) × (p.height ≡ read.entry.height)
+        × (take_punctuator_bytes close.now (kinds read.entry.rest.now) ≡ Some (kinds p.rest.now))
+        × (length (kinds p.rest.now) < length (kinds read.entry.rest.now)))
+        (λ fault. (fault ≡ refusals.Syntax)
+        × (take_punctuator_bytes close.now (kinds read.entry.rest.now) ≡ None)) }
 {
-    let rest = punctuator(tokens, close)?;
+    let rest = punctuator(read.rest, close)?;
     Ok(Parsed {
-        value: values,
-        height,
+        value: read.value,
+        height: read.height,
         rest,
     })
 }
@@ -61,10 +57,22 @@ pub fn list<'a, T: Syntax, F: Fn(Global, Depth, &'a [Token]) -> Parse<'a, T>>(
         values.push(item.value)?;
         match take_punctuator(after, b",") {
             Some(next) => rest = next,
-            None => return closed(values, height, after, close),
+            None => {
+                let read = Parsed {
+                    value: values,
+                    height,
+                    rest: after,
+                };
+                return closed(read, close);
+            }
         }
     }
-    closed(values, height, rest, close)
+    let read = Parsed {
+        value: values,
+        height,
+        rest,
+    };
+    closed(read, close)
 }
 
 /// Values one after the other, up to a closing punctuator, which is taken.
@@ -90,7 +98,12 @@ pub fn until<'a, T: Syntax, F: Fn(Global, Depth, &'a [Token]) -> Parse<'a, T>>(
         height = higher(height, item.height);
         values.push(item.value)?;
     }
-    closed(values, height, rest, close)
+    let read = Parsed {
+        value: values,
+        height,
+        rest,
+    };
+    closed(read, close)
 }
 
 /// Values one after the other, as long as the tokens begin with one.

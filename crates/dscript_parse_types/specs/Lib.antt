@@ -1,1 +1,2 @@
 pub mod UnionInvariants
+pub mod Deriving

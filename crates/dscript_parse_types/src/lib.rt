@@ -1,6 +1,8 @@
 //! The layer of the parser of DScript that reads types.
 #![tactic(auto)]
 
+mod laws;
 mod types;
 
+pub use laws::{bodies_are_derived, types_are_derived};
 pub use types::{body, type_list, type_node};

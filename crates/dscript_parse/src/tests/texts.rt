@@ -625,75 +625,74 @@ config({});
 const a = 1;
 "#;
 
-// A text a line, after the number of its tokens before the place where it is refused.
-const PLACES: &str = r#"0 a
-0 const
-0 const a = 1
-1 ; a
-5 const a = 1; const b
-5 const a = 1; }
-5 const a = 1; 1; const b = 2;
-6 ; const a = 1; import {,} from "m"; ;
-7 import * as a from "m"; import * as b from "n"
-9 function f() { return a; } }
-7 interface A { a: B } extends C
-0 namespace a { const b = 1; a; }
-11 namespace a { const b = 1; } ;; namespace c { d }
-0 config({});
-"#;
-
 #[test]
 fn texts_are_files_or_refused_at_a_place(rt: HostRuntime) -> Result<(), Fail> {
     let tables = [
-        (ITEMS, 11, Form::Project, "", "", None),
-        (NO_ITEMS, 43, Form::Project, "", "", Some(0)),
-        (DECLARATIONS, 37, Form::Project, "", "", None),
-        (NO_DECLARATIONS, 73, Form::Project, "", "", Some(0)),
-        (TYPES, 36, Form::Project, "type A = ", ";", None),
-        (NO_TYPES, 38, Form::Project, ";; type A = ", ";", Some(2)),
-        (EXPRESSIONS, 99, Form::Project, "const a = ", ";", None),
+        (ITEMS, Form::Project, "", "", None),
+        (NO_ITEMS, Form::Project, "", "", Some(0)),
+        (DECLARATIONS, Form::Project, "", "", None),
+        (NO_DECLARATIONS, Form::Project, "", "", Some(0)),
+        (TYPES, Form::Project, "type A = ", ";", None),
+        (NO_TYPES, Form::Project, ";; type A = ", ";", Some(2)),
+        (EXPRESSIONS, Form::Project, "const a = ", ";", None),
         (
             NO_EXPRESSIONS,
-            127,
             Form::Project,
             "const b = 1; const a = ",
             ";",
             Some(5),
         ),
-        (STATEMENTS, 32, Form::Project, "function f() { ", " }", None),
+        (STATEMENTS, Form::Project, "function f() { ", " }", None),
         (
             NO_STATEMENTS,
-            57,
             Form::Project,
             "; function f() { ",
             " }",
             Some(1),
         ),
-        (CONFIGURATIONS, 5, Form::Config, "", "", None),
-        (NO_CONFIGURATIONS, 19, Form::Config, "", "", Some(0)),
-        (MODULES, 4, Form::Module, "", "", None),
-        (NO_MODULES, 11, Form::Module, "", "", Some(0)),
+        (CONFIGURATIONS, Form::Config, "", "", None),
+        (NO_CONFIGURATIONS, Form::Config, "", "", Some(0)),
+        (MODULES, Form::Module, "", "", None),
+        (NO_MODULES, Form::Module, "", "", Some(0)),
     ];
-    for (lines, count, form, before, after, wanted) in tables {
-        let wrong = wrong_lines(rt.alloc(), lines, form, before, after, wanted)?;
-        assert_eq!(rt; wrong.as_str(), "", "wanted: {wanted:?}");
-        assert_eq!(rt; lines.lines().count(), count);
+    for (lines, form, before, after, wanted) in tables {
+        for line in lines.lines() {
+            let text = format!(in rt.alloc(); "{before}{line}{after}")?;
+            assert_eq!(rt; place_of(rt.alloc(), &text, form)?, wanted, "of {text}");
+        }
     }
     Ok(())
 }
 
 #[test]
 fn a_project_is_refused_at_its_first_wrong_item(rt: HostRuntime) -> Result<(), Fail> {
-    let mut found = String::new(rt.alloc());
-    for line in PLACES.lines() {
-        let Some((_, text)) = line.split_once(' ') else {
-            continue;
-        };
-        if let Some(place) = place_of(rt.alloc(), text, Form::Project)? {
-            let line = format!(in rt.alloc(); "{place} {text}\n")?;
-            found.push_str(&line)?;
-        }
+    let places = [
+        ("a", 0),
+        ("const", 0),
+        ("const a = 1", 0),
+        ("; a", 1),
+        ("const a = 1; const b", 5),
+        ("const a = 1; }", 5),
+        ("const a = 1; 1; const b = 2;", 5),
+        ("; const a = 1; import {,} from \"m\"; ;", 6),
+        ("import * as a from \"m\"; import * as b from \"n\"", 7),
+        ("function f() { return a; } }", 9),
+        ("interface A { a: B } extends C", 7),
+        ("namespace a { const b = 1; a; }", 0),
+        ("namespace a { const b = 1; } ;; namespace c { d }", 11),
+        ("config({});", 0),
+    ];
+    for (text, place) in places {
+        let found = place_of(rt.alloc(), text, Form::Project)?;
+        assert_eq!(rt; found, Some(place), "of {text}");
     }
-    assert_eq!(rt; found.as_str(), PLACES);
+    Ok(())
+}
+
+#[test]
+fn no_tokens_are_a_project_alone(rt: HostRuntime) -> Result<(), Fail> {
+    assert_eq!(rt; place_of(rt.alloc(), "", Form::Project)?, None);
+    assert_eq!(rt; place_of(rt.alloc(), "", Form::Config)?, Some(0));
+    assert_eq!(rt; place_of(rt.alloc(), "", Form::Module)?, Some(0));
     Ok(())
 }

@@ -16,6 +16,9 @@ decreases-stmts::stmt l = 64 * l.depth.levels + 0
 abbrev pub decreases-exprs::cond : goal.decreases-exprs::cond
 decreases-exprs::cond l = 64 * l.depth.levels + 60
 
+abbrev pub decreases-exprs::branches : goal.decreases-exprs::branches
+decreases-exprs::branches l = 64 * l.depth.levels + 59
+
 abbrev pub decreases-exprs::unary : goal.decreases-exprs::unary
 decreases-exprs::unary l = 64 * l.depth.levels + 29
 
@@ -81,6 +84,9 @@ decreases-stmts::let_stmt l = 64 * l.depth.levels + 30
 
 abbrev pub decreases-stmts::if_stmt : goal.decreases-stmts::if_stmt
 decreases-stmts::if_stmt l = 64 * l.depth.levels + 30
+
+abbrev pub decreases-stmts::otherwise : goal.decreases-stmts::otherwise
+decreases-stmts::otherwise l = 64 * l.depth.levels + 29
 
 abbrev pub decreases-stmts::for_stmt : goal.decreases-stmts::for_stmt
 decreases-stmts::for_stmt l = 64 * l.depth.levels + 30
