@@ -5,7 +5,7 @@ use dscript_ast::Form;
 use std::alloc::Global;
 use std::test::Fail;
 
-const PROJECTS: [(&str, &str); 48] = [
+const PROJECTS: &[(&str, &str)] = &[
     ("", ""),
     (";", ";\n"),
     ("import * as a from \"m\";", "import * as a from \"m\";\n"),
@@ -129,9 +129,67 @@ const PROJECTS: [(&str, &str); 48] = [
         "function f() {\n    return;\n    return a;\n    return {};\n    ;\n    {}\n    {\n        ;\n    }\n    ({});\n    ({}).a;\n}\n",
     ),
     (
+        "export function f() { return; {} } ;",
+        "export function f() {\n    return;\n    {}\n}\n;\n",
+    ),
+    (
         "const a = 1; ; const b = 2;",
         "const a = 1;\n;\nconst b = 2;\n",
     ),
+];
+
+/// Values, each with a text in which its operands are in parentheses. Both texts are laid out as the first.
+const READINGS: &[(&str, &str)] = &[
+    ("a || b || c", "(a) || (b) || (c)"),
+    ("(a || b) || c", "((a) || (b)) || (c)"),
+    ("a && b && c", "(a) && (b) && (c)"),
+    ("a && (b && c)", "(a) && ((b) && (c))"),
+    ("a === b !== c", "(a) === (b) !== (c)"),
+    ("(a === b) !== c", "((a) === (b)) !== (c)"),
+    ("a < b <= c > d >= e", "(a) < (b) <= (c) > (d) >= (e)"),
+    ("a <= (b > c)", "(a) <= ((b) > (c))"),
+    ("a - b + c", "(a) - (b) + (c)"),
+    ("(a - b) + c", "((a) - (b)) + (c)"),
+    ("a - (b + c)", "(a) - ((b) + (c))"),
+    ("a * b * c", "(a) * (b) * (c)"),
+    ("(a * b) * c", "((a) * (b)) * (c)"),
+    ("a || b ? c : d || e", "((a) || (b)) ? (c) : ((d) || (e))"),
+    ("(a ? b : c) || d", "((a) ? (b) : (c)) || (d)"),
+    ("a && b || c && d", "((a) && (b)) || ((c) && (d))"),
+    ("a && (b || c) && d", "(a) && ((b) || (c)) && (d)"),
+    ("a === b && c !== d", "((a) === (b)) && ((c) !== (d))"),
+    ("a === (b && c) !== d", "(a) === ((b) && (c)) !== (d)"),
+    ("a < b === c >= d", "((a) < (b)) === ((c) >= (d))"),
+    ("a < (b === c) >= d", "(a) < ((b) === (c)) >= (d)"),
+    ("a + b < c - d", "((a) + (b)) < ((c) - (d))"),
+    ("a + (b < c) - d", "(a) + ((b) < (c)) - (d)"),
+    ("a * b + c * d", "((a) * (b)) + ((c) * (d))"),
+    ("a * (b + c) * d", "(a) * ((b) + (c)) * (d)"),
+    ("-a * !b", "(-(a)) * (!(b))"),
+    ("-(a * b)", "-((a) * (b))"),
+    ("!-a", "!-(a)"),
+    ("!(-a)", "!(-(a))"),
+    ("-a.b", "-((a).b)"),
+    ("(-a).b", "(-(a)).b"),
+    ("a.b[c](d, e).f", "(a).b[(c)]((d), (e)).f"),
+    ("(a.b)(c)", "((a).b)((c))"),
+    ("a ? b : c ? d : e", "(a) ? (b) : ((c) ? (d) : (e))"),
+    ("a ? b ? c : d : e", "(a) ? ((b) ? (c) : (d)) : (e)"),
+    ("(a ? b : c) ? d : e", "((a) ? (b) : (c)) ? (d) : (e)"),
+    ("a => b => c", "a => (b => (c))"),
+    ("a => b ? c : d", "a => ((b) ? (c) : (d))"),
+    ("a ? b => c : d => e", "(a) ? (b => (c)) : (d => (e))"),
+    ("(a => b) ? c : d", "((a => (b))) ? (c) : (d)"),
+    ("(a => b)(c)", "((a => (b)))((c))"),
+    ("a => ({})", "a => (({}))"),
+    ("a => ({}).b + c", "a => (((({})).b) + (c))"),
+    ("a => -{}", "a => (-({}))"),
+    ("{a: b => c, ...d + e}", "({a: (b => (c)), ...((d) + (e))})"),
+    (
+        "[...a + b, c ? d : e]",
+        "([...((a) + (b)), ((c) ? (d) : (e))])",
+    ),
+    ("`${a + b}`", "(`${((a) + (b))}`)"),
 ];
 
 /// The layout of a text.
@@ -157,10 +215,31 @@ fn refusal(alloc: Global, text: &str) -> Result<LayoutFault, Fail> {
 #[test]
 fn projects_are_laid_out_once(rt: HostRuntime) -> Result<(), Fail> {
     for (text, expected) in PROJECTS {
-        assert_eq!(rt; laid(rt.alloc(), text, Form::Project)?.as_str(), expected);
+        assert_eq!(rt; laid(rt.alloc(), text, Form::Project)?.as_str(), *expected);
         assert_eq!(rt;
             laid(rt.alloc(), expected, Form::Project)?.as_str(),
-            expected
+            *expected
+        );
+    }
+    Ok(())
+}
+
+#[test]
+fn operands_in_parentheses_are_read_alike(rt: HostRuntime) -> Result<(), Fail> {
+    let alloc = rt.alloc();
+    for (value, enclosed) in READINGS {
+        if value.len() > 100 || enclosed.len() > 100 {
+            return Err(Fail::new("a value too long for this test"));
+        }
+        let text = format!(in alloc; "config({enclosed});\n")?;
+        let expected = format!(in alloc; "config({value});\n")?;
+        assert_eq!(rt;
+            laid(alloc, text.as_str(), Form::Config)?.as_str(),
+            expected.as_str()
+        );
+        assert_eq!(rt;
+            laid(alloc, expected.as_str(), Form::Config)?.as_str(),
+            expected.as_str()
         );
     }
     Ok(())

@@ -1,24 +1,35 @@
+mod needed;
 mod texts;
 mod turns;
 
 use super::*;
 use dscript_ast::Form;
-use dscript_lex::{MAX_TEXT_BYTES, lex};
+use dscript_lex::{MAX_TEXT_BYTES, Token, lex};
 use std::alloc::Global;
 use std::test::Fail;
 
-/// The place where the text is refused, if it is no file of this form.
-fn place_of(alloc: Global, text: &str, form: Form) -> Result<Option<u32>, Fail> {
+/// The tokens of a text.
+fn tokens_of(alloc: Global, text: &str) -> Result<Vec<Token>, Fail> {
     if text.len() > MAX_TEXT_BYTES {
         return Err(Fail::new("a text too long for a file"));
     }
-    let tokens = lex(alloc, text.as_bytes())?;
+    Ok(lex(alloc, text.as_bytes())?)
+}
+
+/// The place where the tokens are refused, if they are no file of this form.
+fn place_in(alloc: Global, tokens: &[Token], form: Form) -> Result<Option<u32>, Fail> {
     if tokens.len() > MAX_TEXT_BYTES {
         return Err(Fail::new("too many tokens for a file"));
     }
-    match parse(alloc, &tokens, form) {
+    match parse(alloc, tokens, form) {
         Ok(_) => Ok(None),
         Err(SyntaxFault::Syntax { at }) => Ok(Some(at)),
         Err(SyntaxFault::Memory) => Err(Fail::from(SyntaxFault::Memory)),
     }
+}
+
+/// The place where the text is refused, if it is no file of this form.
+fn place_of(alloc: Global, text: &str, form: Form) -> Result<Option<u32>, Fail> {
+    let tokens = tokens_of(alloc, text)?;
+    place_in(alloc, &tokens, form)
 }
