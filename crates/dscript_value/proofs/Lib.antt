@@ -1,0 +1,4 @@
+pub mod PlainOf
+pub mod Deeper
+pub mod Putting
+pub mod AtomByAtom

@@ -1,0 +1,4 @@
+pub mod Plain
+pub mod Depths
+pub mod Equality
+pub mod Places

@@ -1,0 +1,138 @@
+use super::*;
+use bx_tree::{FileInput, Path, Text};
+use dscript_ambient::Ambient;
+use std::alloc::Global;
+use std::test::Fail;
+
+fn path(alloc: Global, text: &[u8]) -> Result<Path, Fail> {
+    Ok(Path::read(alloc, text)?)
+}
+
+fn text(alloc: Global, bytes: &[u8]) -> Result<Text, Fail> {
+    Ok(Text::new(alloc, bytes.to_vec(alloc)?)?)
+}
+
+fn field(alloc: Global, name: &[u8], number: i32) -> Result<Field, Fail> {
+    Ok(Field {
+        name: text(alloc, name)?,
+        value: Value::Number(number),
+    })
+}
+
+fn object(alloc: Global) -> Result<Value, Fail> {
+    let mut fields = Vec::new(alloc);
+    fields.push(field(alloc, b"a", 1)?)?;
+    fields.push(field(alloc, b"b", 2)?)?;
+    fields.push(field(alloc, b"a", 3)?)?;
+    Ok(object_of(alloc, fields)?)
+}
+
+fn relative(alloc: Global) -> Result<RelativePath, Fail> {
+    let mut atoms = Vec::new(alloc);
+    atoms.push(text(alloc, b"a")?)?;
+    Ok(RelativePath::of(alloc, atoms)?)
+}
+
+fn argument(alloc: Global) -> Result<Argument, Fail> {
+    let dir = StaticDir::Seal(1, path(alloc, b"a")?);
+    Ok(Argument {
+        text: Some(text(alloc, b"a")?),
+        artifact: Some(Artifact::InputDir(dir)),
+    })
+}
+
+fn sample(alloc: Global, number: u8) -> Result<Value, Fail> {
+    Ok(match number {
+        0 => Value::Undefined,
+        1 => Value::Number(7),
+        2 => Value::Text(text(alloc, b"a")?),
+        3 => Value::Path(path(alloc, b"a")?),
+        4 => Value::File(FileInput::Source(path(alloc, b"a")?)),
+        5 => Value::File(FileInput::Made(path(alloc, b"a")?, 3)),
+        6 => Value::Static(StaticDir::Seal(1, path(alloc, b"a")?)),
+        7 => Value::Static(StaticDir::Opaque(1, path(alloc, b"a")?)),
+        8 => list_of(alloc, Vec::new(alloc))?,
+        9 => ambient_function(alloc, Ambient::Glob)?,
+        12 => Value::Relative(relative(alloc)?),
+        13 => Value::Argument(argument(alloc)?),
+        14 => place_function(alloc, 3, Vec::new(alloc))?,
+        15 => member_of(alloc, Value::Undefined, text(alloc, b"a")?)?,
+        16 => object(alloc)?,
+        _ => Value::Flag(number == 10),
+    })
+}
+
+#[test]
+fn values_are_equal_by_what_they_are(rt: HostRuntime) -> Result<(), Fail> {
+    let alloc = rt.alloc();
+    let cases: [(u8, u8, Result<bool, NoOrder>); 17] = [
+        (0, 0, Ok(true)),
+        (0, 10, Ok(false)),
+        (1, 1, Ok(true)),
+        (2, 3, Ok(false)),
+        (2, 2, Ok(true)),
+        (4, 5, Ok(true)),
+        (6, 6, Ok(true)),
+        (6, 7, Ok(false)),
+        (8, 8, Err(NoOrder)),
+        (9, 9, Err(NoOrder)),
+        (8, 9, Ok(false)),
+        (10, 11, Ok(false)),
+        (12, 12, Ok(true)),
+        (13, 13, Ok(true)),
+        (14, 15, Err(NoOrder)),
+        (16, 16, Err(NoOrder)),
+        (16, 8, Ok(false)),
+    ];
+    for (a, b, same) in cases {
+        let shared = sample(alloc, b)?.share()?;
+        assert_eq!(rt; equal(&sample(alloc, a)?, &shared), same);
+    }
+    Ok(())
+}
+
+fn number_at(value: &Value, name: &[u8]) -> Option<i32> {
+    let Value::Object(fields) = value else {
+        return None;
+    };
+    match fields.find(name) {
+        Some(Value::Number(number)) => Some(*number),
+        _ => None,
+    }
+}
+
+fn names(alloc: Global, value: &Value) -> Result<Vec<u8>, Fail> {
+    let mut names = Vec::new(alloc);
+    if let Value::Object(fields) = value {
+        for field in fields.fields() {
+            names.extend_from_slice(field.name.bytes())?;
+        }
+    }
+    Ok(names)
+}
+
+#[test]
+fn a_later_field_takes_the_place_of_the_earlier(rt: HostRuntime) -> Result<(), Fail> {
+    let value = object(rt.alloc())?;
+    assert_eq!(rt; names(rt.alloc(), &value)?.as_slice(), b"ab".as_slice());
+    assert_eq!(rt; number_at(&value, b"a"), Some(3));
+    assert_eq!(rt; number_at(&value, b"b"), Some(2));
+    assert_eq!(rt; number_at(&value, b"c"), None);
+    Ok(())
+}
+
+#[test]
+fn a_list_is_at_most_as_deep_as_the_limit(rt: HostRuntime) -> Result<(), Fail> {
+    let alloc = rt.alloc();
+    let mut value = Value::Undefined;
+    for _ in 0..MAX_DEPTH {
+        let mut items = Vec::new(alloc);
+        items.push(value)?;
+        value = list_of(alloc, items)?;
+    }
+    assert_eq!(rt; value.depth(), MAX_DEPTH);
+    let mut items = Vec::new(alloc);
+    items.push(value)?;
+    assert!(rt; matches!(list_of(alloc, items), Err(DepthFault::TooDeep)));
+    Ok(())
+}

@@ -1,0 +1,9 @@
+pub mod Args
+pub mod Inputs
+pub mod Dirs
+pub mod Sets
+pub mod Outputs
+pub mod Orders
+pub mod Makers
+pub mod Made
+pub mod SourceFiles

@@ -1,0 +1,60 @@
+//! Pips: the steps of a build.
+use crate::args::{Arguments, Variables};
+use crate::dir_inputs::{DirInputs, SealForm};
+use crate::file_inputs::FileInputs;
+use crate::outputs::{OutDirs, Outputs};
+use bx_tree::{FileInput, Path, Text};
+
+/// A process: a tool that is run over its files, with the executable, the arguments and environment, the
+/// working directory, the declared files and directories, what it declares to make, and the file of its
+/// console.
+#[derive(Drop)]
+pub struct ProcessDesc {
+    pub exe: Path,
+    pub args: Arguments,
+    pub env: Variables,
+    pub dir: Path,
+    pub files: FileInputs,
+    pub dirs: DirInputs,
+    pub outs: Outputs,
+    pub outdirs: OutDirs,
+    pub console: Option<Path>,
+}
+
+/// A file with the bytes of another.
+#[derive(Drop)]
+pub struct CopyDesc {
+    pub from: FileInput,
+    pub to: Path,
+}
+
+/// A file with a given text.
+#[derive(Drop)]
+pub struct WriteDesc {
+    pub to: Path,
+    pub text: Text,
+}
+
+/// A sealed directory: its form, its root and the files that it lists. A source seal lists none.
+#[derive(Drop)]
+pub struct SealDesc {
+    pub form: SealForm,
+    pub root: Path,
+    pub files: FileInputs,
+}
+
+/// What a pip does.
+#[derive(Drop)]
+pub enum PipKind {
+    Process(ProcessDesc),
+    Copy(CopyDesc),
+    Write(WriteDesc),
+    Seal(SealDesc),
+}
+
+/// A step of a build, with the specification file that asked for it.
+#[derive(Drop)]
+pub struct Pip {
+    pub spec: Path,
+    pub kind: PipKind,
+}
