@@ -31,6 +31,3 @@ pub use order::{Order, WordFault, read_words};
 pub use place::Place;
 pub use status::Status;
 pub use top::command;
-
-#[cfg(test)]
-mod tests;

@@ -2,6 +2,7 @@
 
 use crate::{LayoutFault, lay_out};
 use dscript_ast::Form;
+use dscript_print::{printed_text_reads_back, printed_tokens_derive};
 use std::alloc::Global;
 use std::test::Fail;
 
@@ -258,4 +259,10 @@ fn configurations_are_laid_out_and_others_refused(rt: HostRuntime) -> Result<(),
         LayoutFault::Syntax { at: 2 }
     );
     Ok(())
+}
+
+#[test]
+fn laws_of_printing_are_called(_rt: HostRuntime) {
+    printed_tokens_derive();
+    printed_text_reads_back();
 }

@@ -20,6 +20,3 @@ mod writer;
 
 pub use laws::{printed_text_reads_back, printed_tokens_derive};
 pub use printing::print;
-
-#[cfg(test)]
-mod tests;

@@ -1,5 +1,5 @@
 use super::*;
-use crate::{Order, WordFault, read_words};
+use bx_engine::{Order, WordFault, read_words};
 
 #[test]
 fn reads_the_one_word_as_the_build_with_its_defaults(rt: HostRuntime) -> Result<(), Fail> {
