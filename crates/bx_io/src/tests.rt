@@ -165,17 +165,20 @@ fn say_call<K: Keeper>(
     Ok(())
 }
 
+/// Six calls, with their names and bytes.
+const CALLS: &[(Call, &str, &str)] = &[
+    (Call::Put, BLOB, "one"),
+    (Call::Get, BLOB, ""),
+    (Call::Put, ENTRY, "two"),
+    (Call::Drop, BLOB, ""),
+    (Call::Names, BLOB, ""),
+    (Call::Get, BLOB, ""),
+];
+
 /// Says what six calls of a keeper answer.
 fn six_calls<K: Keeper>(alloc: Global, said: &mut Vec<u8>, keeper: &mut K) -> Result<(), Fail> {
-    for (call, name, bytes) in [
-        (Call::Put, BLOB, "one"),
-        (Call::Get, BLOB, ""),
-        (Call::Put, ENTRY, "two"),
-        (Call::Drop, BLOB, ""),
-        (Call::Names, BLOB, ""),
-        (Call::Get, BLOB, ""),
-    ] {
-        say_call(alloc, said, keeper, call, name, bytes)?;
+    for (call, name, bytes) in CALLS {
+        say_call(alloc, said, keeper, *call, name, bytes)?;
     }
     Ok(())
 }
@@ -231,21 +234,22 @@ fn with_a_fault(alloc: Global, failing: u64) -> Result<(Vec<u8>, u64), Fail> {
     Ok((said, keeper.faults()))
 }
 
+const FAILING: &[(u64, &str)] = &[
+    (0, "made one made made e none "),
+    (1, "failed none made made e none "),
+    (2, "made failed made made e none "),
+    (3, "made one failed made  none "),
+    (4, "made one made failed be one "),
+    (5, "made one made made failed none "),
+    (6, "made one made made e failed "),
+];
+
 #[test]
 fn a_keeper_in_memory_fails_at_each_call_that_it_is_asked_to(rt: HostRuntime) -> Result<(), Fail> {
-    let cases = [
-        (0, "made one made made e none "),
-        (1, "failed none made made e none "),
-        (2, "made failed made made e none "),
-        (3, "made one failed made  none "),
-        (4, "made one made failed be one "),
-        (5, "made one made made failed none "),
-        (6, "made one made made e failed "),
-    ];
-    for (failing, wanted) in cases {
-        let (said, faults) = with_a_fault(rt.alloc(), failing)?;
+    for (failing, wanted) in FAILING {
+        let (said, faults) = with_a_fault(rt.alloc(), *failing)?;
         assert_eq!(rt; said.as_slice(), wanted.as_bytes());
-        assert_eq!(rt; faults, u64::from(failing > 0));
+        assert_eq!(rt; faults, u64::from(*failing > 0));
     }
     Ok(())
 }
@@ -260,17 +264,18 @@ fn stopped_after(alloc: Global, calls: u64) -> Result<Vec<u8>, Fail> {
     Ok(said)
 }
 
+const STOPPING: &[(u64, &str)] = &[
+    (0, "failed failed failed failed failed failed none"),
+    (1, "made failed failed failed failed failed one"),
+    (3, "made one made failed failed failed one"),
+    (4, "made one made made failed failed none"),
+    (6, "made one made made e none none"),
+];
+
 #[test]
-fn a_keeper_that_stops_lets_so_many_calls_through(rt: HostRuntime) -> Result<(), Fail> {
-    let cases = [
-        (0, "failed failed failed failed failed failed none"),
-        (1, "made failed failed failed failed failed one"),
-        (3, "made one made failed failed failed one"),
-        (4, "made one made made failed failed none"),
-        (6, "made one made made e none none"),
-    ];
-    for (calls, wanted) in cases {
-        let said = stopped_after(rt.alloc(), calls)?;
+fn a_keeper_that_stops_lets_its_first_calls_through(rt: HostRuntime) -> Result<(), Fail> {
+    for (calls, wanted) in STOPPING {
+        let said = stopped_after(rt.alloc(), *calls)?;
         assert_eq!(rt; said.as_slice(), wanted.as_bytes());
     }
     Ok(())

@@ -14,6 +14,3 @@ mod project;
 
 pub use fault::SyntaxFault;
 pub use parsing::parse;
-
-#[cfg(test)]
-mod tests;

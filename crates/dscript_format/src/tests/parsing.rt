@@ -1,10 +1,12 @@
+//! Texts that are files, and the places where others are refused.
+
 mod needed;
 mod texts;
 mod turns;
 
-use super::*;
 use dscript_ast::Form;
 use dscript_lex::{MAX_TEXT_BYTES, Token, lex};
+use dscript_parse::{SyntaxFault, parse};
 use std::alloc::Global;
 use std::test::Fail;
 
