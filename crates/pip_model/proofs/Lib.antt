@@ -1,0 +1,5 @@
+pub mod BitSets
+pub mod WalksBack
+pub mod Found
+pub mod EdgesBack
+pub mod Planning

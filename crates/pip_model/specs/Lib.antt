@@ -1,0 +1,6 @@
+pub mod Walks
+pub mod Edges
+pub mod Bits
+pub mod Plans
+pub mod Inputs
+pub mod Rows

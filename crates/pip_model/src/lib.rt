@@ -1,0 +1,21 @@
+//! The plan of a build: its pips, which of them each one waits for, and what each can produce.
+//!
+//! This crate stands on `pip_types`, which it hands on, `bx_tree` and `bx_digest`. Its invariant: the
+//! inputs and the reachability that a `Plan` keeps are those that its definitions read off the list of pips.
+#![tactic(auto)]
+
+mod bits;
+mod edges;
+mod plan;
+mod producing;
+mod reach;
+
+pub use pip_types::{
+    Arguments, CopyDesc, Desc, DirInput, DirInputs, EnvPair, FileInputs, Made, MadeFile, Memory,
+    OutDir, OutDirs, Outputs, Pip, PipKind, PipList, ProcessDesc, SealDesc, SealForm, Slot,
+    Sources, Variables, WriteDesc,
+};
+pub use plan::{MAX_PIPS, Plan};
+
+#[cfg(test)]
+mod tests;
