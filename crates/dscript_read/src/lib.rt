@@ -1,0 +1,19 @@
+//! Texts read as files, with the place of a fault.
+//!
+//! A text is lexed and parsed in one call, and a fault names a line and a column. This crate depends on
+//! `dscript_lex` and `dscript_parse`. It carries the promise that each text, read as a file of a form,
+//! is exactly one file or has exactly one place at which it is refused.
+#![tactic(auto)]
+
+mod fault;
+mod laws;
+mod place;
+mod reading;
+
+pub use fault::ReadFault;
+pub use laws::{one_reading, some_reading};
+pub use place::{Place, place_at, start_of};
+pub use reading::read_file;
+
+#[cfg(test)]
+mod tests;
