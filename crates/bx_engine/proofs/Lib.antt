@@ -13,4 +13,3 @@ mod OneEnding
 mod ItemsAsk
 mod DistinctNames
 mod SomeEnding
-mod PlaceExamples

@@ -1,7 +1,5 @@
 -- An input ends in one way.
 use Rattle.std.proofs.Common.{◌≡◌, ℕ, ◌⊎◌, inl, inr, List, [], ◌∷◌, refl, ap, sym, subst, ◌∙◌}
-use Rattle.dscript_lex.specs.declared.token.Token.{Token}
-use Rattle.dscript_lex.proofs.OneReading.{no_tokens, one_reading as one_list, one_place as one_byte}
 use Rattle.bx_tree.specs.Trees.{Files}
 use Rattle.bx_tree.specs.Bundle.{Faults, IsBundle}
 use Rattle.bx_tree.specs.declared.bundle.BundleFault.{BundleFault}
@@ -11,17 +9,15 @@ use Rattle.bx_engine.specs.declared.fault.InputFault.{InputFault}
 use Rattle.bx_engine.specs.declared.fault.InputFault.TheVariants as input_faults
 use Rattle.bx_engine.specs.declared.fault.SpecificationFault.{SpecificationFault}
 use Rattle.bx_engine.specs.declared.fault.SpecificationFault.TheVariants as specification_faults
-use Rattle.dscript_grammar.specs.Derives.{Derives}
-use Rattle.dscript_grammar.specs.Place.{IsRefusedAt}
 use Rattle.dscript_ast.specs.FileTree.{FileTree}
 use Rattle.dscript_ast.specs.declared.file.Form.TheVariants as forms
-use Rattle.dscript_grammar.proofs.FileLaws.{one_file as one_file_of}
-use Rattle.dscript_grammar.proofs.Places.{one_place as one_place_of}
 use Rattle.bx_engine.specs.Supported.{IsSupported}
-use Rattle.bx_engine.specs.declared.place.Place.{Place}
-use Rattle.bx_engine.specs.Places.{place_of, start_of}
-use Rattle.bx_engine.specs.Ends.{AreSources, Ends, HasReserved, RefusesInput, kinds_of}
-use Rattle.bx_engine.specs.Ends.{HasNoTokens, IsFile, IsNoFile, IsSpecification, Makes, RefusesSpecification}
+use Rattle.dscript_read.specs.declared.place.Place.{Place}
+use Rattle.dscript_read.specs.Reading.{HasNoTokens, IsFile, IsNoFile}
+use Rattle.dscript_read.proofs.OneReading.{file_or_none, no_tokens_or_file, no_tokens_or_no_file}
+use Rattle.dscript_read.proofs.OneReading.{one_failure, one_file, one_refusal}
+use Rattle.bx_engine.specs.Ends.{AreSources, Ends, HasReserved, IsSpecification, Makes}
+use Rattle.bx_engine.specs.Ends.{RefusesInput, RefusesSpecification}
 use Rattle.bx_engine.proofs.OneSupported.{one_supported}
 use Rattle.bx_engine.specs.Ending.{Ending, InputRefused, SpecificationRefused, Succeeded}
 
@@ -98,47 +94,17 @@ at_text : (P : List ℕ → Type 0) (sources : Files) (s t : List ℕ) → IsSpe
     → IsSpecification sources t → P s → P t
 at_text P sources s t h k p = subst P (one_text sources s t h k) p
 
--- a text is one file
-one_file : (text : List ℕ) (f g : FileTree) → IsFile text f → IsFile text g → f ≡ g
-one_file text f g h k =
-    one_file_of forms.Project (kinds_of k.0) f g h.2 k.2
-    (subst (λ (ts : List Token). Derives forms.Project (kinds_of ts) f h.2) (one_list text h.0 k.0 h.1 k.1) h.3) k.3
-
-file_or_none : (text : List ℕ) (f : FileTree) (place : Place) → IsFile text f → IsNoFile text place → ⊥
-file_or_none text f place h k =
-    k.3.no_file f h.2
-    (subst (λ (ts : List Token). Derives forms.Project (kinds_of ts) f h.2) (one_list text h.0 k.0 h.1 k.1) h.3)
-
-no_tokens_or_file : (text : List ℕ) (f : FileTree) (place : Place) → HasNoTokens text place → IsFile text f → ⊥
-no_tokens_or_file text f place none h = no_tokens text none.0 h.0 none.1 h.1
-
-no_tokens_or_no_file : (text : List ℕ) (p q : Place) → HasNoTokens text p → IsNoFile text q → ⊥
-no_tokens_or_no_file text p q none h = no_tokens text none.0 h.0 none.1 h.1
-
--- a text without tokens fails at one place
-one_failure : (text : List ℕ) (p q : Place) → HasNoTokens text p → HasNoTokens text q → p ≡ q
-one_failure text p q h k = h.2 ∙ ap (place_of text) (one_byte text h.0 k.0 h.1 k.1) ∙ sym k.2
-
--- tokens are refused at one place
-one_refusal : (text : List ℕ) (p q : Place) → IsNoFile text p → IsNoFile text q → p ≡ q
-one_refusal text p q h k =
-    let is = one_list text h.0 k.0 h.1 k.1 in
-    let at : h.2 ≡ k.2 = one_place_of forms.Project (kinds_of k.0) h.2 k.2
-    (subst (λ (ts : List Token). IsRefusedAt forms.Project (kinds_of ts) h.2) is h.3).place k.3.place in
-    h.4 ∙ ap (λ (ts : List Token). place_of text (start_of text ts h.2)) is
-    ∙ ap (λ n. place_of text (start_of text k.0 n)) at ∙ sym k.4
-
 made_or_refused : (sources : Files) (fault : SpecificationFault) (files : Files)
     → RefusesSpecification sources fault → Makes sources files → ⊥
 made_or_refused sources (specification_faults.Lex place) files h k =
-    no_tokens_or_file k.0 k.2 place (at_text (λ t. HasNoTokens t place) sources h.0 k.0 h.1 k.1 h.2) k.3
+    no_tokens_or_file forms.Project k.0 k.2 place (at_text (λ t. HasNoTokens t place) sources h.0 k.0 h.1 k.1 h.2) k.3
 made_or_refused sources (specification_faults.Syntax place) files h k =
-    file_or_none k.0 k.2 place k.3 (at_text (λ t. IsNoFile t place) sources h.0 k.0 h.1 k.1 h.2)
+    file_or_none forms.Project k.0 k.2 place k.3 (at_text (λ t. IsNoFile forms.Project t place) sources h.0 k.0 h.1 k.1 h.2)
 made_or_refused sources specification_faults.Unsupported files h k = elim h [
   | inl none ↦ none k.0 k.1
   | inr lacks ↦
-      let is = at_text (λ t. IsFile t k.2) sources k.0 lacks.0 k.1 lacks.1 k.3 in
-      lacks.2.2 files (subst (λ (f : FileTree). IsSupported f files) (one_file lacks.0 k.2 lacks.2.0 is lacks.2.1) k.4)
+      let is = at_text (λ t. IsFile forms.Project t k.2) sources k.0 lacks.0 k.1 lacks.1 k.3 in
+      lacks.2.2 files (subst (λ (f : FileTree). IsSupported f files) (one_file forms.Project lacks.0 k.2 lacks.2.0 is lacks.2.1) k.4)
 ]
 
 tokens_or_none : (sources : Files) (place : Place)
@@ -147,22 +113,22 @@ tokens_or_none : (sources : Files) (place : Place)
 tokens_or_none sources place h k = elim k [
   | inl none ↦ none h.0 h.1
   | inr lacks ↦
-      no_tokens_or_file lacks.0 lacks.2.0 place
+      no_tokens_or_file forms.Project lacks.0 lacks.2.0 place
       (at_text (λ t. HasNoTokens t place) sources h.0 lacks.0 h.1 lacks.1 h.2) lacks.2.1
 ]
 
 tokens_or_not : (sources : Files) (p q : Place) → RefusesSpecification sources (specification_faults.Lex p)
     → RefusesSpecification sources (specification_faults.Syntax q) → ⊥
 tokens_or_not sources p q h k =
-    no_tokens_or_no_file k.0 p q (at_text (λ t. HasNoTokens t p) sources h.0 k.0 h.1 k.1 h.2) k.2
+    no_tokens_or_no_file forms.Project k.0 p q (at_text (λ t. HasNoTokens t p) sources h.0 k.0 h.1 k.1 h.2) k.2
 
 file_or_not : (sources : Files) (place : Place) → RefusesSpecification sources (specification_faults.Syntax place)
     → RefusesSpecification sources specification_faults.Unsupported → ⊥
 file_or_not sources place h k = elim k [
   | inl none ↦ none h.0 h.1
   | inr lacks ↦
-      file_or_none lacks.0 lacks.2.0 place lacks.2.1
-      (at_text (λ t. IsNoFile t place) sources h.0 lacks.0 h.1 lacks.1 h.2)
+      file_or_none forms.Project lacks.0 lacks.2.0 place lacks.2.1
+      (at_text (λ t. IsNoFile forms.Project t place) sources h.0 lacks.0 h.1 lacks.1 h.2)
 ]
 
 one_specification_fault : (sources : Files) (f g : SpecificationFault) → RefusesSpecification sources f
@@ -178,7 +144,7 @@ one_specification_fault sources (specification_faults.Syntax p) (specification_f
     absurd (tokens_or_not sources q p k h)
 one_specification_fault sources (specification_faults.Syntax p) (specification_faults.Syntax q) h k =
     ap (λ (r : Place). specification_faults.Syntax r)
-    (one_refusal k.0 p q (at_text (λ t. IsNoFile t p) sources h.0 k.0 h.1 k.1 h.2) k.2)
+    (one_refusal forms.Project k.0 p q (at_text (λ t. IsNoFile forms.Project t p) sources h.0 k.0 h.1 k.1 h.2) k.2)
 one_specification_fault sources (specification_faults.Syntax p) specification_faults.Unsupported h k =
     absurd (file_or_not sources p h k)
 one_specification_fault sources specification_faults.Unsupported (specification_faults.Lex q) h k =
@@ -189,8 +155,8 @@ one_specification_fault sources specification_faults.Unsupported specification_f
 
 one_making : (sources : Files) (fs gs : Files) → Makes sources fs → Makes sources gs → fs ≡ gs
 one_making sources fs gs h k =
-    let is = subst (λ (t : List ℕ). IsFile t h.2) (one_text sources h.0 k.0 h.1 k.1) h.3 in
-    one_supported k.2 fs gs (subst (λ (f : FileTree). IsSupported f fs) (one_file k.0 h.2 k.2 is k.3) h.4) k.4
+    let is = subst (λ (t : List ℕ). IsFile forms.Project t h.2) (one_text sources h.0 k.0 h.1 k.1) h.3 in
+    one_supported k.2 fs gs (subst (λ (f : FileTree). IsSupported f fs) (one_file forms.Project k.0 h.2 k.2 is k.3) h.4) k.4
 
 one_source : (input : List ℕ) (s t : Files) → AreSources input s → AreSources input t → s ≡ t
 one_source input s t h k = one_tree input s t h.bundle k.bundle

@@ -5,17 +5,14 @@ use Rattle.bx_tree.specs.Bundle.{Faults, IsBundle}
 use Rattle.bx_tree.specs.declared.bundle.BundleFault.{BundleFault}
 use Rattle.bx_tree.specs.declared.bundle.BundleFault.TheVariants as bundle_faults
 use Rattle.bx_tree.proofs.SomeReading.{some_reading}
-use Rattle.dscript_lex.proofs.Cutting.{ends as tokens_or_failure}
 use Rattle.dscript_ast.specs.declared.file.Form.TheVariants as forms
-use Rattle.dscript_grammar.specs.declared.height.TheConstants.{MAX_HEIGHT}
-use Rattle.dscript_grammar.proofs.Places.{file_or_place}
+use Rattle.dscript_read.specs.Reading.{Reading, Read, NoTokens, NoFile, ReadsAs}
+use Rattle.dscript_read.proofs.SomeReading.{some_reading as some_reading_of_text}
 use Rattle.bx_engine.specs.declared.fault.InputFault.TheVariants as input_faults
 use Rattle.bx_engine.specs.declared.fault.SpecificationFault.{SpecificationFault}
 use Rattle.bx_engine.specs.declared.fault.SpecificationFault.TheVariants as specification_faults
 use Rattle.bx_engine.specs.Ending.{Ending, InputRefused, SpecificationRefused, Succeeded}
-use Rattle.bx_engine.specs.Ends.{AreSources, Ends, IsFile, IsSpecification, Makes}
-use Rattle.bx_engine.specs.Ends.{RefusesSpecification, kinds_of}
-use Rattle.bx_engine.specs.Places.{place_of, start_of}
+use Rattle.bx_engine.specs.Ends.{AreSources, Ends, IsSpecification, Makes, RefusesSpecification}
 
 abbrev HasNoEnding : List ℕ → Type 0
 HasNoEnding input = (ending : Ending) → Ends input ending → ⊥
@@ -31,22 +28,25 @@ of_fault input bundle_faults.TooManyFiles n h none = none (InputRefused input_fa
 of_fault input bundle_faults.TooLarge n h none = none (InputRefused input_faults.TooLarge) h
 of_fault input bundle_faults.Memory n h none = n refl
 
--- a specification is refused or makes files
+-- a specification whose text was read is refused or makes files
+of_reading : (sources : Files) (text : List ℕ) → IsSpecification sources text
+    → (reading : Reading) → ReadsAs forms.Project text reading
+    → ((fault : SpecificationFault) → RefusesSpecification sources fault → ⊥)
+    → ((files : Files) → Makes sources files → ⊥) → ⊥
+of_reading sources text is (NoTokens place) reads refused made =
+    refused (specification_faults.Lex place) (text, is, reads)
+of_reading sources text is (NoFile place) reads refused made =
+    refused (specification_faults.Syntax place) (text, is, reads)
+of_reading sources text is (Read file) reads refused made =
+    refused specification_faults.Unsupported
+    (inr (text, is, (file, reads, λ files supported. made files (text, is, file, reads, supported))))
+
 of_text : (sources : Files) (text : List ℕ) → IsSpecification sources text
     → ((fault : SpecificationFault) → RefusesSpecification sources fault → ⊥)
     → ((files : Files) → Makes sources files → ⊥) → ⊥
-of_text sources text is refused made = elim (tokens_or_failure text) [
-  | inr fails ↦ refused (specification_faults.Lex (place_of text fails.0)) (text, is, (fails.0, fails.1, refl))
-  | inl tokens ↦ elim (file_or_place forms.Project (kinds_of tokens.0)) [
-    | inr place ↦
-        refused (specification_faults.Syntax (place_of text (start_of text tokens.0 place.0)))
-        (text, is, (tokens.0, tokens.1, place.0, place.1, refl))
-    | inl file ↦
-        let is_file : IsFile text file.0 = (tokens.0, tokens.1, MAX_HEIGHT, file.1) in
-        refused specification_faults.Unsupported
-        (inr (text, is, (file.0, is_file, λ files supported. made files (text, is, file.0, is_file, supported))))
-  ]
-]
+of_text sources text is refused made =
+    let reads = some_reading_of_text forms.Project text in
+    of_reading sources text is reads.0 reads.1 refused made
 
 -- source files end in some way
 of_tree : (input : List ℕ) (sources : Files) → IsBundle input sources → HasNoEnding input → ⊥

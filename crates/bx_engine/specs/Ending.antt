@@ -5,7 +5,7 @@ use Rattle.std.specs.Option.{option_map_or}
 use Rattle.bx_tree.specs.Paths.{Atoms}
 use Rattle.bx_tree.specs.Trees.{Files}
 use Rattle.bx_tree.specs.Bundle.{bundle}
-use Rattle.bx_engine.specs.declared.place.Place.{Place}
+use Rattle.dscript_read.specs.declared.place.Place.{Place}
 use Rattle.bx_engine.specs.declared.status.Status.{Status}
 use Rattle.bx_engine.specs.declared.status.Status.TheVariants as statuses
 use Rattle.bx_engine.specs.declared.fault.InputFault.{InputFault}

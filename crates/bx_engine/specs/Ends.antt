@@ -1,8 +1,5 @@
 -- What a build comes to: how each input ends.
 use Rattle.std.specs.Prelude.{◌≡◌, ℕ, List, [], ◌∷◌, map, Any, ◌⊎◌}
-use Rattle.dscript_lex.specs.declared.token.Token.{Token}
-use Rattle.dscript_lex.specs.declared.token.TokenKind.{TokenKind}
-use Rattle.dscript_lex.specs.Tokens.{AreTokens, FailsAt}
 use Rattle.bx_tree.specs.Trees.{Files, IsReserved}
 use Rattle.bx_tree.specs.Bundle.{IsBundle, Faults}
 use Rattle.bx_tree.specs.declared.bundle.BundleFault.TheVariants as bundle_faults
@@ -10,12 +7,9 @@ use Rattle.bx_engine.specs.declared.fault.InputFault.{InputFault}
 use Rattle.bx_engine.specs.declared.fault.InputFault.TheVariants as input_faults
 use Rattle.bx_engine.specs.declared.fault.SpecificationFault.{SpecificationFault}
 use Rattle.bx_engine.specs.declared.fault.SpecificationFault.TheVariants as specification_faults
-use Rattle.dscript_grammar.specs.Derives.{Derives}
-use Rattle.dscript_grammar.specs.Place.{IsRefusedAt}
 use Rattle.dscript_ast.specs.FileTree.{FileTree}
 use Rattle.dscript_ast.specs.declared.file.Form.TheVariants as forms
-use Rattle.bx_engine.specs.declared.place.Place.{Place}
-use Rattle.bx_engine.specs.Places.{place_of, start_of}
+use Rattle.dscript_read.specs.Reading.{HasNoTokens, IsFile, IsNoFile}
 use Rattle.bx_engine.specs.Supported.{IsSupported}
 use Rattle.bx_engine.specs.Ending.{Ending, InputRefused, SpecificationRefused, Succeeded, specification_path}
 
@@ -42,36 +36,17 @@ RefusesInput input input_faults.TooManyFiles = Faults input bundle_faults.TooMan
 RefusesInput input input_faults.TooLarge = Faults input bundle_faults.TooLarge
 RefusesInput input input_faults.Reserved = (sources : Files) × IsBundle input sources × HasReserved sources
 
-abbrev pub kinds_of : List Token → List TokenKind
-kinds_of tokens = map (λ t. t.kind) tokens
-
--- the text is this project file
-abbrev pub IsFile : List ℕ → FileTree → Type 0
-IsFile text file =
-    (tokens : List Token) × AreTokens text tokens
-    × (height : ℕ) × Derives forms.Project (kinds_of tokens) file height
-
--- the text has no tokens, and fails at this place
-abbrev pub HasNoTokens : List ℕ → Place → Type 0
-HasNoTokens text place = (at : ℕ) × FailsAt text at × (place ≡ place_of text at)
-
--- the text is a list of tokens that are no project file, and they are refused at the token at this place
-abbrev pub IsNoFile : List ℕ → Place → Type 0
-IsNoFile text place =
-    (tokens : List Token) × AreTokens text tokens
-    × (at : ℕ) × IsRefusedAt forms.Project (kinds_of tokens) at
-    × (place ≡ place_of text (start_of text tokens at))
-
 -- the text is a file that is not supported
 abbrev pub IsUnsupported : List ℕ → Type 0
-IsUnsupported text = (file : FileTree) × IsFile text file × ((files : Files) → IsSupported file files → ⊥)
+IsUnsupported text =
+    (file : FileTree) × IsFile forms.Project text file × ((files : Files) → IsSupported file files → ⊥)
 
 -- the specification is refused with this fault
 abbrev pub RefusesSpecification : Files → SpecificationFault → Type 0
 RefusesSpecification sources (specification_faults.Lex place) =
     (text : List ℕ) × IsSpecification sources text × HasNoTokens text place
 RefusesSpecification sources (specification_faults.Syntax place) =
-    (text : List ℕ) × IsSpecification sources text × IsNoFile text place
+    (text : List ℕ) × IsSpecification sources text × IsNoFile forms.Project text place
 RefusesSpecification sources specification_faults.Unsupported =
     ((text : List ℕ) → IsSpecification sources text → ⊥)
     ⊎ ((text : List ℕ) × IsSpecification sources text × IsUnsupported text)
@@ -80,7 +55,7 @@ RefusesSpecification sources specification_faults.Unsupported =
 abbrev pub Makes : Files → Files → Type 0
 Makes sources files =
     (text : List ℕ) × IsSpecification sources text
-    × (file : FileTree) × IsFile text file × IsSupported file files
+    × (file : FileTree) × IsFile forms.Project text file × IsSupported file files
 
 -- how the build of source files ends that are no refused input
 abbrev pub EndsFrom : Files → Ending → Type 0

@@ -3,7 +3,6 @@ pub mod Ends
 pub mod Expected
 pub mod Known
 pub mod Output
-pub mod Places
 pub mod Statuses
 pub mod Supported
 pub mod Views

@@ -3,7 +3,7 @@
 ghost use Rattle.std.specs.Prelude.{◌≡◌};
 ghost use Rattle.bx_engine.specs.Ending.{place_in};
 
-use crate::place::Place;
+use dscript_read::Place;
 
 /// Why an input is refused. docs/FORMATS.md says when each comes.
 #[derive(Clone, Copy, Debug, PartialEq, Eq)]

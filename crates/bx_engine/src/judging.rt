@@ -9,40 +9,30 @@ ghost use Rattle.bx_engine.specs.Views.{ending_view};
 
 use crate::ending::Ending;
 use crate::fault::{InputFault, SpecificationFault};
-use crate::place::{place_at, start_of};
 use crate::supported::files_asked;
 use bx_tree::{BundleFault, MAX_FILE_BYTES, Tree, TreeFile, read_bundle, reserved};
 use dscript_ast::Form;
-use dscript_lex::{LexFault, lex};
-use dscript_parse::{SyntaxFault, parse};
+use dscript_read::{ReadFault, read_file};
 use std::alloc::{AllocError, Global};
 
 /// The one file that is read as a specification.
 const SPECIFICATION: &str = "build.dsc";
 
 /// How the build of a specification with this text ends.
-#[tactic(auto, using(dscript_parse::proofs::TokenCount::at_most_bytes))]
 fn judge_text(alloc: Global, text: &[u8]) -> Result<Ending, AllocError>
     requires { length text.now ≤ MAX_FILE_BYTES }
     ensures { IfOk result (λ ending.
         (sources : Files) → IsSpecification sources text.now → EndsFrom sources (ending_view ending)) }
 {
-    let tokens = match lex(alloc, text) {
-        Ok(tokens) => tokens,
-        Err(LexFault::Lex { at }) => {
-            let fault = SpecificationFault::Lex(place_at(text, at as usize));
-            return Ok(Ending::SpecificationRefused(fault));
-        }
-        Err(LexFault::Memory) => return Err(AllocError),
-    };
-    let file = match parse(alloc, &tokens, Form::Project) {
+    let file = match read_file(alloc, text, Form::Project) {
         Ok(file) => file,
-        Err(SyntaxFault::Syntax { at }) => {
-            let start = start_of(text, &tokens, at as usize);
-            let fault = SpecificationFault::Syntax(place_at(text, start));
-            return Ok(Ending::SpecificationRefused(fault));
+        Err(ReadFault::Lex(place)) => {
+            return Ok(Ending::SpecificationRefused(SpecificationFault::Lex(place)));
         }
-        Err(SyntaxFault::Memory) => return Err(AllocError),
+        Err(ReadFault::Syntax(place)) => {
+            return Ok(Ending::SpecificationRefused(SpecificationFault::Syntax(place)));
+        }
+        Err(ReadFault::Memory) => return Err(AllocError),
     };
     match files_asked(alloc, &file)? {
         Some(files) => Ok(Ending::Succeeded(files)),

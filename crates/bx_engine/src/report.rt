@@ -9,8 +9,8 @@ ghost use Rattle.bx_tree.specs.Views.{files_of};
 
 use crate::ending::Ending;
 use crate::fault::{InputFault, SpecificationFault};
-use crate::place::Place;
 use bx_tree::TreeFile;
+use dscript_read::Place;
 use std::alloc::{AllocError, Global};
 
 /// The notes of a build that succeeded. There is no process and no cache yet to be counted.
