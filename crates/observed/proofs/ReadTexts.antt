@@ -1,0 +1,428 @@
+-- The text of a path set is read as the path set.
+use Rattle.std.proofs.Common.{Vec, Global, IfOk, OnOk, ◌≡◌, ◌≢◌, ◌↔◌, ℕ, ◌+◌, ◌<◌, ◌≤◌, zero, suc, true, false, Bool, not, ◌&&◌, ◌==◌, cond, List, [], ◌∷◌, ◌++◌, length, codes, drop, get_or, add-one, Option, Some, None, Result, Ok, Err, inl, inr, refl, ap, sym, ◌∙◌, subst, arith, append_assoc, IsTrue}
+use Rattle.std.specs.declared.alloc.AllocError.{AllocError}
+use Rattle.std.specs.Bool.{nat_le, nat_eq}
+use Rattle.std.specs.Borrow.{Bor}
+use Rattle.std.specs.Cmp.Lexicographic.{pointwise}
+use Rattle.std.specs.List.{All, AllByRecursion, flat_map, list_all, slice_split, join_with_byte}
+use Rattle.std.specs.List.Sorted.{IsStrictlySortedBy}
+use Rattle.std.specs.Option.{MatchOption, option_and_then, option_copied}
+use Rattle.std.specs.Ordering.{is_lt}
+use Rattle.std.specs.Str.{bytes_eq}
+use Rattle.std.specs.declared.cmp.Ordering.{Ordering}
+use Rattle.std.specs.declared.cmp.Ordering.TheVariants.{Less, Equal, Greater}
+use Rattle.std.proofs.lemmas.Bool.{and_from, and_parts, cases_Bool, le-leb, leb-true}
+use Rattle.std.proofs.lemmas.Bool.Decides.{Decides-eqb}
+use Rattle.std.proofs.lemmas.List.{append-nil}
+use Rattle.std.proofs.lemmas.List.Elements.{All-from_recursion}
+use Rattle.std.proofs.lemmas.List.Splits.{join_with_byte-slice_split, slice_split_at}
+use Rattle.std.proofs.lemmas.Slice.Eq.{bytes_eq-Decides}
+use Rattle.bx_tree.specs.Paths.{Atoms, IsAtom, IsPath, IsPathText, Names, is_atom_byte, path_of, path_text}
+use Rattle.bx_tree.specs.declared.limits.TheConstants.{MAX_ATOM_BYTES, MAX_PATH_BYTES}
+use Rattle.bx_tree.proofs.PathTexts.{named_by_parts, path_of-named}
+use Rattle.bx_path.specs.Joining.{is_atom}
+use Rattle.bx_path.proofs.StepsOfTexts.{is_atom_true}
+use Rattle.observed.specs.declared.ask.AskKind.{AskKind}
+use Rattle.observed.specs.declared.ask.AskKind.TheVariants as kinds
+use Rattle.observed.specs.declared.ask.Ask.{Ask}
+use Rattle.observed.specs.declared.path_set.SetFault.{SetFault}
+use Rattle.observed.specs.declared.path_set.SetFault.TheVariants.{BadSet, Memory}
+use Rattle.observed.specs.Asks.{ask_cmp}
+use Rattle.observed.specs.Orders.{ask_cmp_total}
+use Rattle.observed.specs.PathSets.{IsPathSet}
+use Rattle.observed.specs.Texts.{Reads, ReadsAsks, texts_now, all_asks, after_asks, after_prefix, ask_after, ask_at, ask_line, first_line, if_rising, is_rising, kind_text, named_ask, named_asks, named_path, paths_text, read_lines, read_paths_text, with_ask}
+
+-- ## Options
+
+some_same : {X : Type 0} (a b : X) → Some a ≡ Some b → a ≡ b
+some_same a b e = cc
+
+if_some : {X : Type 0} (b : Bool) (o : Option X) (x : X) → cond b o None ≡ Some x → (b ≡ true) × (o ≡ Some x)
+if_some true o x e = (refl, e)
+if_some false o x e = cc
+
+-- ## Paths
+
+bytes_all : (bs : List ℕ) → list_all is_atom_byte bs ≡ true → AllByRecursion (λ b. IsTrue (is_atom_byte b)) bs
+bytes_all [] h = tt
+bytes_all (b ∷ bs) h = let parts = and_parts (is_atom_byte b) (list_all is_atom_byte bs) h in (parts.0, bytes_all bs parts.1)
+
+other_text : (a b : List ℕ) → not (bytes_eq a b) ≡ true → a ≢ b
+other_text a b h e = not_both (bytes_eq a b) h ((bytes_eq-Decides a b).1 e)
+  where
+    not_both : (t : Bool) → not t ≡ true → t ≡ true → ⊥
+    not_both true h e = cc
+    not_both false h e = cc
+
+atom_sound : (text : List ℕ) → is_atom text ≡ true → IsAtom text
+atom_sound text e =
+    let some = nat_le 1 (length text) in
+    let short = nat_le (length text) MAX_ATOM_BYTES in
+    let bytes = list_all is_atom_byte text in
+    let a = and_parts (some && short && bytes && not (bytes_eq text (codes "."))) (not (bytes_eq text (codes ".."))) e in
+    let b = and_parts (some && short && bytes) (not (bytes_eq text (codes "."))) a.0 in
+    let d = and_parts (some && short) bytes b.0 in
+    let f = and_parts some short d.0 in
+    record {
+      some = leb-true 1 (length text) f.0;
+      short = leb-true (length text) MAX_ATOM_BYTES f.1;
+      bytes = bytes_all text d.1;
+      not_dot = other_text text (codes ".") b.1;
+      not_dots = other_text text (codes "..") a.1;
+    }
+
+atoms_sound : (path : Atoms) → list_all is_atom path ≡ true → AllByRecursion IsAtom path
+atoms_sound [] e = tt
+atoms_sound (atom ∷ rest) e = let parts = and_parts (is_atom atom) (list_all is_atom rest) e in (atom_sound atom parts.0, atoms_sound rest parts.1)
+
+atoms_complete : (path : Atoms) → AllByRecursion IsAtom path → list_all is_atom path ≡ true
+atoms_complete [] h = refl
+atoms_complete (atom ∷ rest) h = and_from (is_atom atom) (list_all is_atom rest) (is_atom_true atom h.0) (atoms_complete rest h.1)
+
+-- the text is that of the path
+pub record IsTextOf (text : List ℕ) (path : Atoms) : Type 0 where
+  pub is_path : IsPath path
+  pub text_is : text ≡ path_text path
+
+pub path_sound : (text : List ℕ) (path : Atoms) → named_path text ≡ Some path → IsTextOf text path
+path_sound text path e =
+    let named = if_some (list_all is_atom (path_of text) && nat_le (length text) MAX_PATH_BYTES) (Some (path_of text)) path e in
+    let tests = and_parts (list_all is_atom (path_of text)) (nat_le (length text) MAX_PATH_BYTES) named.0 in
+    subst (IsTextOf text) (some_same (path_of text) path named.1)
+    (by_dot (pointwise nat_eq text (codes ".")) refl tests.0 (leb-true (length text) MAX_PATH_BYTES tests.1))
+  where
+    by_dot : (t : Bool) → pointwise nat_eq text (codes ".") ≡ t → list_all is_atom (cond t [] (slice_split (λ b. b == 47) text)) ≡ true → length text ≤ MAX_PATH_BYTES
+        → IsTextOf text (cond t [] (slice_split (λ b. b == 47) text))
+    by_dot true dot atoms short = record { is_path = record { atoms = tt; short = omega arith }; text_is = (bytes_eq-Decides text (codes ".")).0 dot }
+    by_dot false dot atoms short =
+        let names = named_by_parts text (atoms_sound (slice_split (λ b. b == 47) text) atoms) short in
+        record { is_path = names.is_path; text_is = names.text_is }
+
+pub path_complete : (path : Atoms) → IsPath path → named_path (path_text path) ≡ Some path
+path_complete [] h = refl
+path_complete (atom ∷ rest) h =
+    let path = atom ∷ rest in
+    let text = path_text path in
+    let again : path_of text ≡ path = path_of-named text path (record { is_path = h; not_root = λ (e : atom ∷ rest ≡ []). cc; text_is = refl }) in
+    ap (λ p. cond (list_all is_atom p && nat_le (length text) MAX_PATH_BYTES) (Some p) None) again
+    ∙ ap (λ t. cond t (Some path) None)
+    (and_from (list_all is_atom path) (nat_le (length text) MAX_PATH_BYTES) (atoms_complete path h.atoms) (le-leb (length text) MAX_PATH_BYTES h.short))
+
+pub path_named : (text : List ℕ) (path : Atoms) → Names text path → named_path text ≡ Some path
+path_named text path h = ap named_path h.text_is ∙ path_complete path h.is_path
+
+pub no_path : (text : List ℕ) → text ≢ codes "." → (IsPathText text → ⊥) → named_path text ≡ None
+no_path text other none = by_option (named_path text) refl
+  where
+    names : (path : Atoms) → IsTextOf text path → IsPathText text
+    names [] h = absurd (other h.text_is)
+    names (atom ∷ rest) h = (atom ∷ rest, record { is_path = h.is_path; not_root = λ (e : atom ∷ rest ≡ []). cc; text_is = h.text_is })
+
+    by_option : (o : Option Atoms) → named_path text ≡ o → o ≡ None
+    by_option None e = refl
+    by_option (Some path) e = absurd (none (names path (path_sound text path e)))
+
+-- ## Lines
+
+prefix_sound : (prefix text rest : List ℕ) → after_prefix prefix text ≡ Some rest → text ≡ prefix ++ rest
+prefix_sound [] text rest e = some_same text rest e
+prefix_sound (p ∷ ps) [] rest e = cc
+prefix_sound (p ∷ ps) (b ∷ bs) rest e =
+    let parts = if_some (p == b) (after_prefix ps bs) rest e in
+    ap (λ x. x ∷ bs) (sym ((Decides-eqb p b).0 parts.0)) ∙ ap (λ t. p ∷ t) (prefix_sound ps bs rest parts.1)
+
+-- a line without its newline
+abbrev pub ask_body : Ask → List ℕ
+ask_body ask = kind_text ask.kind ++ codes " " ++ path_text ask.path
+
+pub record IsLineOf (line : List ℕ) (ask : Ask) : Type 0 where
+  pub is_path : IsPath ask.path
+  pub line_is : line ≡ ask_body ask
+
+at_sound : (kind : AskKind) (line text : List ℕ) (ask : Ask) → line ≡ kind_text kind ++ codes " " ++ text → ask_at kind (named_path text) ≡ Some ask → IsLineOf line ask
+at_sound kind line text ask is e = by_path (named_path text) refl e
+  where
+    by_path : (o : Option Atoms) → named_path text ≡ o → ask_at kind o ≡ Some ask → IsLineOf line ask
+    by_path None named e = cc
+    by_path (Some path) named e =
+        let h = path_sound text path named in
+        let same : record { kind = kind; path = path } ≡ ask = some_same (record { kind = kind; path = path }) ask e in
+        subst (IsLineOf line) same (record { is_path = h.is_path; line_is = is ∙ ap (λ t. kind_text kind ++ codes " " ++ t) h.text_is })
+
+pub ask_sound : (line : List ℕ) (ask : Ask) → named_ask line ≡ Some ask → IsLineOf line ask
+ask_sound line ask e = by_word (after_prefix (codes "read ") line) (after_prefix (codes "probe ") line) (after_prefix (codes "list ") line) refl refl refl e
+  where
+    by_word : (r p l : Option (List ℕ)) → after_prefix (codes "read ") line ≡ r → after_prefix (codes "probe ") line ≡ p → after_prefix (codes "list ") line ≡ l
+        → ask_after r p l ≡ Some ask → IsLineOf line ask
+    by_word (Some text) p l is-r is-p is-l e = at_sound kinds.Read line text ask (prefix_sound (codes "read ") line text is-r) e
+    by_word None (Some text) l is-r is-p is-l e = at_sound kinds.Probe line text ask (prefix_sound (codes "probe ") line text is-p) e
+    by_word None None (Some text) is-r is-p is-l e = at_sound kinds.List line text ask (prefix_sound (codes "list ") line text is-l) e
+    by_word None None None is-r is-p is-l e = cc
+
+body_read : (kind : AskKind) (path : Atoms) → IsPath path → named_ask (kind_text kind ++ codes " " ++ path_text path) ≡ Some (record { kind = kind; path = path })
+body_read kinds.Read path h = ap (ask_at kinds.Read) (path_complete path h)
+body_read kinds.Probe path h = ap (ask_at kinds.Probe) (path_complete path h)
+body_read kinds.List path h = ap (ask_at kinds.List) (path_complete path h)
+
+-- no byte of a line but its last is a newline
+abbrev pub Lacks : List ℕ → Type 0
+Lacks text = AllByRecursion (λ b. (b == 10) ≡ false) text
+
+lacks_append : (xs ys : List ℕ) → Lacks xs → Lacks ys → Lacks (xs ++ ys)
+lacks_append [] ys h k = k
+lacks_append (x ∷ xs) ys h k = (h.0, lacks_append xs ys h.1 k)
+
+atom_byte_lacks : (b : ℕ) → is_atom_byte b ≡ true → (b == 10) ≡ false
+atom_byte_lacks b e = elim (cases_Bool (b == 10)) [
+  | inl same ↦ let clash : false ≡ true = ap is_atom_byte (sym ((Decides-eqb b 10).0 same)) ∙ e in cc
+  | inr other ↦ other
+]
+
+bytes_lack : (bs : List ℕ) → AllByRecursion (λ b. IsTrue (is_atom_byte b)) bs → Lacks bs
+bytes_lack [] h = tt
+bytes_lack (b ∷ bs) h = (atom_byte_lacks b h.0, bytes_lack bs h.1)
+
+path_lacks : (path : Atoms) → AllByRecursion IsAtom path → Lacks (path_text path)
+path_lacks [] h = (refl, tt)
+path_lacks (atom ∷ rest) h = joined atom rest h
+  where
+    joined : (atom : List ℕ) (rest : Atoms) → AllByRecursion IsAtom (atom ∷ rest) → Lacks (join_with_byte 47 (atom ∷ rest))
+    joined atom [] h = bytes_lack atom h.0.bytes
+    joined atom (more ∷ rest) h = lacks_append atom (47 ∷ join_with_byte 47 (more ∷ rest)) (bytes_lack atom h.0.bytes) (refl, joined more rest h.1)
+
+kind_lacks : (kind : AskKind) → Lacks (kind_text kind ++ codes " ")
+kind_lacks kinds.Read = (refl, (refl, (refl, (refl, (refl, tt)))))
+kind_lacks kinds.Probe = (refl, (refl, (refl, (refl, (refl, (refl, tt))))))
+kind_lacks kinds.List = (refl, (refl, (refl, (refl, (refl, tt)))))
+
+body_lacks : (ask : Ask) → IsPath ask.path → All (λ b. (b == 10) ≡ false) (ask_body ask)
+body_lacks ask h =
+    All-from_recursion (λ b. (b == 10) ≡ false) (ask_body ask)
+    (lacks_append (kind_text ask.kind ++ codes " ") (path_text ask.path) (kind_lacks ask.kind) (path_lacks ask.path h.atoms))
+
+-- ## All lines
+
+abbrev pub ArePaths : List Ask → Type 0
+ArePaths asks = AllByRecursion (λ (a : Ask). IsPath a.path) asks
+
+pub record AreLinesOf (lines : List (List ℕ)) (asks : List Ask) : Type 0 where
+  pub paths : ArePaths asks
+  pub joined : join_with_byte 10 lines ≡ flat_map ask_line asks
+
+with_sound : (o : Option Ask) (rest : Option (List Ask)) (asks : List Ask) → with_ask o rest ≡ Some asks
+    → (a : Ask) × (more : List Ask) × (o ≡ Some a) × (rest ≡ Some more) × (a ∷ more ≡ asks)
+with_sound None rest asks e = cc
+with_sound (Some a) None asks e = cc
+with_sound (Some a) (Some more) asks e = (a, more, refl, refl, some_same (a ∷ more) asks e)
+
+pub lines_sound : (lines : List (List ℕ)) (asks : List Ask) → named_asks lines ≡ Some asks → AreLinesOf lines asks
+lines_sound [] asks e = cc
+lines_sound ([] ∷ []) asks e = subst (AreLinesOf ([] ∷ [])) (some_same [] asks e) (record { paths = tt; joined = refl })
+lines_sound ((b ∷ bs) ∷ []) asks e = cc
+lines_sound (line ∷ more ∷ lines) asks e =
+    let parts = with_sound (named_ask line) (named_asks (more ∷ lines)) asks e in
+    let h = ask_sound line parts.0 parts.2 in
+    let rest = lines_sound (more ∷ lines) parts.1 parts.3 in
+    subst (AreLinesOf (line ∷ more ∷ lines)) parts.4 (record {
+      paths = (h.is_path, rest.paths);
+      joined = ap (λ t. t ++ 10 ∷ join_with_byte 10 (more ∷ lines)) h.line_is
+          ∙ sym (append_assoc (ask_body parts.0) (10 ∷ []) (join_with_byte 10 (more ∷ lines)))
+          ∙ ap (λ t. ask_line parts.0 ++ t) rest.joined;
+    })
+
+one_more : (line : List ℕ) (lines : List (List ℕ)) (a : Ask) (asks : List Ask) → named_ask line ≡ Some a → named_asks lines ≡ Some asks
+    → named_asks (line ∷ lines) ≡ Some (a ∷ asks)
+one_more line [] a asks e f = cc
+one_more line (more ∷ lines) a asks e f = ap (λ o. with_ask o (named_asks (more ∷ lines))) e ∙ ap (with_ask (Some a)) f
+
+pub lines_complete : (asks : List Ask) → ArePaths asks → named_asks (slice_split (λ b. b == 10) (flat_map ask_line asks)) ≡ Some asks
+lines_complete [] h = refl
+lines_complete (a ∷ as') h =
+    let rest = flat_map ask_line as' in
+    ap (λ t. named_asks (slice_split (λ b. b == 10) t)) (append_assoc (ask_body a) (10 ∷ []) rest)
+    ∙ ap named_asks (slice_split_at (λ b. b == 10) (ask_body a) 10 rest (body_lacks a h.0) refl)
+    ∙ one_more (ask_body a) (slice_split (λ b. b == 10) rest) a as' (body_read a.kind a.path h.0) (lines_complete as' h.1)
+
+-- ## Order
+
+is_less : (o : Ordering) → is_lt o ≡ true → o ≡ Less
+is_less Less e = refl
+is_less Equal e = cc
+is_less Greater e = cc
+
+all_above : (a b : Ask) (rest : List Ask) → ask_cmp a b ≡ Less → AllByRecursion (λ q. ask_cmp b q ≡ Less) rest → AllByRecursion (λ q. ask_cmp a q ≡ Less) rest
+all_above a b [] e h = tt
+all_above a b (c ∷ rest) e h = (ask_cmp_total.trans a b c e h.0, all_above a b rest e h.1)
+
+pub rising_sound : (asks : List Ask) → is_rising asks ≡ true → IsStrictlySortedBy ask_cmp asks
+unfolding IsStrictlySortedBy
+rising_sound [] e = tt
+rising_sound (a ∷ []) e = (tt, tt)
+rising_sound (a ∷ b ∷ rest) e =
+    let parts = and_parts (is_lt (ask_cmp a b)) (is_rising (b ∷ rest)) e in
+    let less = is_less (ask_cmp a b) parts.0 in
+    let more = rising_sound (b ∷ rest) parts.1 in
+    ((less, all_above a b rest less more.0), more)
+
+pub rising_complete : (asks : List Ask) → IsStrictlySortedBy ask_cmp asks → is_rising asks ≡ true
+unfolding IsStrictlySortedBy
+rising_complete [] h = refl
+rising_complete (a ∷ []) h = refl
+rising_complete (a ∷ b ∷ rest) h = and_from (is_lt (ask_cmp a b)) (is_rising (b ∷ rest)) (ap is_lt h.0.0) (rising_complete (b ∷ rest) h.1)
+
+-- ## Whole texts
+
+pub text_sound : (text : List ℕ) (set : List Ask) → read_paths_text text ≡ Some set → IsPathSet set × (text ≡ paths_text set)
+text_sound text set e = by_lines (slice_split (λ b. b == 10) text) refl e
+  where
+    then_some : (o : Option (List Ask)) → option_and_then if_rising o ≡ Some set → (asks : List Ask) × (o ≡ Some asks) × (if_rising asks ≡ Some set)
+    then_some None e = cc
+    then_some (Some asks) e = (asks, refl, e)
+
+    whole : (lines : List (List ℕ)) → named_asks lines ≡ Some set → join_with_byte 10 (first_line ∷ lines) ≡ first_line ++ 10 ∷ join_with_byte 10 lines
+    whole [] e = cc
+    whole (line ∷ lines) e = refl
+
+    by_lines : (lines : List (List ℕ)) → slice_split (λ b. b == 10) text ≡ lines → read_lines lines ≡ Some set → IsPathSet set × (text ≡ paths_text set)
+    by_lines [] is e = cc
+    by_lines (first ∷ lines) is e =
+        let named = if_some (bytes_eq first first_line) (option_and_then if_rising (named_asks lines)) set e in
+        let parts = then_some (named_asks lines) named.1 in
+        let rising = if_some (is_rising parts.0) (Some parts.0) set parts.2 in
+        let same : parts.0 ≡ set = some_same parts.0 set rising.1 in
+        let read : named_asks lines ≡ Some set = parts.1 ∙ ap Some same in
+        let h = lines_sound lines set read in (
+          record { order = rising_sound set (ap is_rising (sym same) ∙ rising.0); paths = h.paths },
+          sym (join_with_byte-slice_split 10 text) ∙ ap (join_with_byte 10) (is ∙ ap (λ l. l ∷ lines) ((bytes_eq-Decides first first_line).0 named.0))
+              ∙ whole lines read ∙ ap (λ t. first_line ++ 10 ∷ t) h.joined,
+        )
+
+pub text_complete : (set : List Ask) → IsPathSet set → read_paths_text (paths_text set) ≡ Some set
+text_complete set h =
+    ap (option_and_then if_rising) (lines_complete set h.paths) ∙ ap (λ t. cond t (Some set) None) (rising_complete set h.order)
+
+pub text_law : (text : List ℕ) (set : List Ask) → (read_paths_text text ≡ Some set) ↔ (IsPathSet set × (text ≡ paths_text set))
+text_law text set = (text_sound text set, λ h. ap read_paths_text h.1 ∙ text_complete set h.0)
+
+-- ## Loops
+
+pub named_front : (lines : List (List ℕ)) → named_asks (lines ++ [] ∷ []) ≡ all_asks lines
+named_front [] = refl
+named_front (line ∷ []) = refl
+named_front (line ∷ more ∷ lines) = ap (with_ask (named_ask line)) (named_front (more ∷ lines))
+
+no_asks : (o : Option Ask) → with_ask o None ≡ None
+no_asks None = refl
+no_asks (Some ask) = refl
+
+pub named_open : (lines : List (List ℕ)) (b : ℕ) (bs : List ℕ) → named_asks (lines ++ (b ∷ bs) ∷ []) ≡ None
+named_open [] b bs = refl
+named_open (line ∷ []) b bs = no_asks (named_ask line)
+named_open (line ∷ more ∷ lines) b bs = ap (with_ask (named_ask line)) (named_open (more ∷ lines) b bs) ∙ no_asks (named_ask line)
+
+after_more : (front : List Ask) (ask : Ask) (read : Option (List Ask)) → after_asks (front ++ ask ∷ []) read ≡ after_asks front (with_ask (Some ask) read)
+after_more front ask None = refl
+after_more front ask (Some asks) = ap Some (append_assoc front (ask ∷ []) asks)
+
+texts_at : (lines : List (Bor (List ℕ))) (i : ℕ) (d : Bor (List ℕ)) → i < length lines → texts_now (drop i lines) ≡ (get_or lines i d).now ∷ texts_now (drop (i + 1) lines)
+texts_at lines i d l = at lines i l ∙ ap (λ n. (get_or lines i d).now ∷ texts_now (drop n lines)) (sym (add-one i))
+  where
+    at : (xs : List (Bor (List ℕ))) (k : ℕ) → k < length xs → texts_now (drop k xs) ≡ (get_or xs k d).now ∷ texts_now (drop (suc k) xs)
+    at [] k m = absurd (omega (arith, m))
+    at (x ∷ xs) zero m = refl
+    at (x ∷ xs) (suc k) m = at xs k (omega (arith, m))
+
+pub one_ask : (lines : List (Bor (List ℕ))) (i : ℕ) (d : Bor (List ℕ)) (front new : List Ask) (ask : Ask) (all : Option (List Ask)) → i < length lines
+    → named_ask (get_or lines i d).now ≡ Some ask → new ≡ front ++ ask ∷ [] → after_asks front (all_asks (texts_now (drop i lines))) ≡ all
+    → after_asks new (all_asks (texts_now (drop (i + 1) lines))) ≡ all
+one_ask lines i d front new ask all l is more so_far =
+    ap (λ xs. after_asks xs (all_asks (texts_now (drop (i + 1) lines)))) more
+    ∙ after_more front ask (all_asks (texts_now (drop (i + 1) lines)))
+    ∙ ap (λ o. after_asks front (with_ask o (all_asks (texts_now (drop (i + 1) lines))))) (sym is)
+    ∙ ap (λ ts. after_asks front (all_asks ts)) (sym (texts_at lines i d l)) ∙ so_far
+
+pub bad_ask : (lines : List (Bor (List ℕ))) (i : ℕ) (d : Bor (List ℕ)) (front : List Ask) (all : Option (List Ask)) → i < length lines
+    → named_ask (get_or lines i d).now ≡ None → after_asks front (all_asks (texts_now (drop i lines))) ≡ all → all ≡ None
+bad_ask lines i d front all l is so_far =
+    sym so_far ∙ ap (λ ts. after_asks front (all_asks ts)) (texts_at lines i d l)
+    ∙ ap (λ o. after_asks front (with_ask o (all_asks (texts_now (drop (i + 1) lines))))) is
+
+drop_whole : (lines : List (Bor (List ℕ))) (i : ℕ) → length lines ≡ i → drop i lines ≡ []
+drop_whole [] zero e = refl
+drop_whole [] (suc i) e = absurd (omega (arith, e))
+drop_whole (x ∷ xs) zero e = absurd (omega (arith, e))
+drop_whole (x ∷ xs) (suc i) e = drop_whole xs i (omega (arith, e))
+
+pub all_read : (lines : List (Bor (List ℕ))) (i : ℕ) (front : List Ask) (all : Option (List Ask)) → length lines ≡ i
+    → after_asks front (all_asks (texts_now (drop i lines))) ≡ all → all ≡ Some front
+all_read lines i front all l so_far =
+    sym so_far ∙ ap (λ ls. after_asks front (all_asks (texts_now ls))) (drop_whole lines i l) ∙ ap Some (append-nil front)
+
+-- what a fault of a part says of the whole
+pub err_again : {X : Type 0} (e : SetFault) (part : Option X) (all : Option (List Ask)) → Reads (Err e) part → (part ≡ None → all ≡ None) → ReadsAsks (Err e) all
+err_again BadSet part all h f = f h
+err_again Memory part all h f = tt
+
+pub err_asks : (e : SetFault) (part all : Option (List Ask)) → ReadsAsks (Err e) part → (part ≡ None → all ≡ None) → ReadsAsks (Err e) all
+err_asks BadSet part all h f = f h
+err_asks Memory part all h f = tt
+
+prefix_complete : (prefix rest : List ℕ) → after_prefix prefix (prefix ++ rest) ≡ Some rest
+prefix_complete [] rest = refl
+prefix_complete (p ∷ ps) rest = ap (λ t. cond t (after_prefix ps (ps ++ rest)) None) ((Decides-eqb p p).1 refl) ∙ prefix_complete ps rest
+
+pub prefix_is : (prefix text : List ℕ) (r : Option (Bor (List ℕ))) → MatchOption r ((rest : List ℕ) → text ≢ prefix ++ rest) (λ x. text ≡ prefix ++ x.now)
+    → option_copied r ≡ after_prefix prefix text
+prefix_is prefix text (Some x) h = sym (ap (after_prefix prefix) h ∙ prefix_complete prefix x.now)
+prefix_is prefix text None h = sym (by_option (after_prefix prefix text) refl)
+  where
+    by_option : (o : Option (List ℕ)) → after_prefix prefix text ≡ o → o ≡ None
+    by_option None e = refl
+    by_option (Some rest) e = absurd (h rest (prefix_sound prefix text rest e))
+
+texts_push : (rest : List (Bor (List ℕ))) (last : Bor (List ℕ)) → texts_now (rest ++ last ∷ []) ≡ texts_now rest ++ last.now ∷ []
+texts_push [] last = refl
+texts_push (x ∷ xs) last = ap (λ ts. x.now ∷ ts) (texts_push xs last)
+
+no_bytes : (xs : List ℕ) → length xs ≡ 0 → xs ≡ []
+no_bytes [] e = refl
+no_bytes (x ∷ xs) e = absurd (omega (arith, e))
+
+pub asks_closed : (lines rest : List (Bor (List ℕ))) (last : Bor (List ℕ)) → lines ≡ rest ++ last ∷ [] → length last.now ≡ 0
+    → all_asks (texts_now rest) ≡ named_asks (texts_now lines)
+asks_closed lines rest last is none =
+    sym (ap (λ ls. named_asks (texts_now ls)) is ∙ ap named_asks (texts_push rest last) ∙ ap (λ t. named_asks (texts_now rest ++ t ∷ [])) (no_bytes last.now none)
+    ∙ named_front (texts_now rest))
+
+pub asks_open : (lines rest : List (Bor (List ℕ))) (last : Bor (List ℕ)) → lines ≡ rest ++ last ∷ [] → length last.now ≢ 0 → named_asks (texts_now lines) ≡ None
+asks_open lines rest last is some =
+    ap (λ ls. named_asks (texts_now ls)) is ∙ ap named_asks (texts_push rest last) ∙ by_text last.now some
+  where
+    by_text : (t : List ℕ) → length t ≢ 0 → named_asks (texts_now rest ++ t ∷ []) ≡ None
+    by_text [] some = absurd (some refl)
+    by_text (b ∷ bs) some = named_open (texts_now rest) b bs
+
+pub rising_more : (rest more after : List Ask) (a b : Ask) → rest ≡ a ∷ more → more ≡ b ∷ after → is_lt (ask_cmp a b) ≡ true → is_rising more ≡ is_rising rest
+rising_more rest more after a b is next' less =
+    ap is_rising next' ∙ sym (ap is_rising (is ∙ ap (λ t. a ∷ t) next') ∙ ap (λ t. t && is_rising (b ∷ after)) less)
+
+pub falls : (rest more after : List Ask) (a b : Ask) → rest ≡ a ∷ more → more ≡ b ∷ after → is_lt (ask_cmp a b) ≡ false → is_rising rest ≡ false
+falls rest more after a b is next' less = ap is_rising (is ∙ ap (λ t. a ∷ t) next') ∙ ap (λ t. t && is_rising (b ∷ after)) less
+
+-- ## Calls
+
+pub text_reads : (r : Result (Vec ℕ Global) AllocError) (xs asks : List Ask) → xs ≡ asks → IfOk r (λ text. text.items ≡ paths_text xs) → OnOk r (ArePaths xs)
+    → IsStrictlySortedBy ask_cmp asks → IfOk r (λ text. read_paths_text text.items ≡ Some asks)
+text_reads (Ok text) xs asks same is paths order =
+    ap read_paths_text (is ∙ ap paths_text same) ∙ text_complete asks (record { order = order; paths = subst ArePaths same paths })
+text_reads (Err e) xs asks same is paths order = tt
+
+pub err_same : {X : Type 0} (a b : SetFault) (r : Result X SetFault) → r ≡ Err a → r ≡ Err b → a ≡ b
+err_same a b r e f = cc
+
+pub no_set : (e : SetFault) (text : List ℕ) → ReadsAsks (Err e) (read_paths_text text) → e ≡ BadSet → (set : List Ask) → IsPathSet set → text ≡ paths_text set → ⊥
+no_set BadSet text read bad set h is = none (sym (ap read_paths_text is ∙ text_complete set h) ∙ read)
+  where
+    none : Some set ≡ None → ⊥
+    none e = cc
+no_set Memory text read bad set h is = cc

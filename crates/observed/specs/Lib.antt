@@ -1,0 +1,5 @@
+pub mod Asks
+pub mod Members
+pub mod Orders
+pub mod PathSets
+pub mod Texts

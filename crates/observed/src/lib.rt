@@ -1,0 +1,26 @@
+//! What a run asks of the files around it, and what it is answered.
+//!
+//! A run of a tool reads, probes and lists paths. This crate has those asks, their answers, the trait
+//! of a view that answers them, and path sets: the asks that the outcome of a run depends on, in order
+//! and each once, with their text. It stands on `bx_tree` for paths and on `bx_digest` for contents.
+//! It carries the promise that a path set and its text are read and written both ways.
+#![tactic(auto)]
+
+mod access;
+mod ask;
+mod laws;
+mod path_set;
+mod texts;
+mod view;
+
+pub use access::{Access, Answer, End};
+pub use ask::{Ask, AskKind};
+pub use laws::{one_path_set, path_set_text};
+pub use path_set::{PathSet, SetFault};
+pub use view::View;
+
+/// Out of memory, the one refusal that no contract ties to a cause.
+pub type Memory = std::alloc::AllocError;
+
+#[cfg(test)]
+mod tests;

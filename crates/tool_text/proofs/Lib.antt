@@ -1,0 +1,12 @@
+pub mod DigitValues
+pub mod Strings
+pub mod Parts
+pub mod Cuts
+pub mod Counts
+pub mod Labelled
+pub mod ToolLines
+pub mod Values
+pub mod Commas
+pub mod Places
+pub mod Wording
+pub mod OneTool

@@ -1,0 +1,30 @@
+//! The text of a tool.
+//!
+//! A tool is a small program that stands in a file. This crate reads its text, after a grammar, into
+//! a list of instructions whose jumps are places in that list. It stands on `bx_tree` for shared
+//! bytes. It carries the promise that a text is read exactly where the grammar gives it a tool, as
+//! the one tool that has that text.
+#![tactic(auto)]
+
+mod bytes;
+mod fault;
+mod instr;
+mod labels;
+mod laws;
+mod limits;
+mod lines;
+mod op;
+mod operands;
+mod reading;
+mod separating;
+mod tool;
+
+pub use bytes::{is_number, value_below};
+pub use fault::ToolFault;
+pub use laws::one_tool;
+pub use limits::{MAX_EXIT, REGISTERS};
+pub use reading::read_tool;
+pub use tool::{Instr, Operand, Register, Tool};
+
+#[cfg(test)]
+mod tests;
