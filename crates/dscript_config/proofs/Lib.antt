@@ -6,3 +6,4 @@ pub mod FilePaths
 pub mod JoinedLists
 pub mod Positions
 pub mod Members
+mod Examples

@@ -16,3 +16,4 @@ mod paths;
 
 pub use config::configured;
 pub use module::{Description, described};
+pub use paths::{is_below, is_module_file, is_specification, path_at};

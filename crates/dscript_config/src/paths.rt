@@ -12,7 +12,7 @@ use bx_tree::{Path, Tree};
 use std::cmp::Ordering;
 
 /// Whether a file is named `module.config.dsc`.
-pub(crate) fn is_module_file(path: &Path) -> bool
+pub fn is_module_file(path: &Path) -> bool
     ensures { result ≡ names_module path.now }
 {
     let text = path.text().as_bytes();
@@ -20,21 +20,21 @@ pub(crate) fn is_module_file(path: &Path) -> bool
 }
 
 /// Whether a path ends in `.dsc`.
-pub(crate) fn is_specification(path: &Path) -> bool
+pub fn is_specification(path: &Path) -> bool
     ensures { result ≡ names_dsc path.now }
 {
     path.text().as_bytes().ends_with(b".dsc".as_slice())
 }
 
 /// Whether a path lies strictly below a directory.
-pub(crate) fn is_below(dir: &Path, path: &Path) -> bool
+pub fn is_below(dir: &Path, path: &Path) -> bool
     ensures { result ≡ lies_below dir.now path.now }
 {
     path.is_below(dir)
 }
 
 /// The path of the file at this position.
-pub(crate) fn path_at(tree: &Tree, position: usize) -> &Path
+pub fn path_at(tree: &Tree, position: usize) -> &Path
     requires { position < length tree.now }
     ensures { result.now ≡ slice_index_or (paths_of tree.entry.now) position [] }
 {

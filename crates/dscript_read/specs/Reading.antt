@@ -13,7 +13,7 @@ use Rattle.dscript_read.specs.Places.{place_of, start_of}
 abbrev pub kinds_of : List Token → List TokenKind
 kinds_of tokens = map (λ t. t.kind) tokens
 
--- the tokens of the text are this file, whatever its height
+-- the tokens of the text are this file, of a height that counts
 abbrev pub IsFile : Form → List ℕ → FileTree → Type 0
 IsFile form text file =
     (tokens : List Token) × AreTokens text tokens × (height : ℕ) × Derives form (kinds_of tokens) file height
