@@ -1,7 +1,7 @@
 //! The text of a tool.
 //!
-//! A tool is a small program that stands in a file. This crate reads its text, after a grammar, into
-//! a list of instructions whose jumps are places in that list. It stands on `bx_tree` for shared
+//! A tool is a small program in a file. This crate reads its text, after a grammar, into
+//! a list of instructions whose jumps are places in that list. It depends on `bx_tree` for shared
 //! bytes. It carries the promise that a text is read exactly where the grammar gives it a tool, as
 //! the one tool that has that text.
 #![tactic(auto)]
