@@ -16,21 +16,23 @@ fn answer(alloc: Global, text: &[u8], form: Form) -> Result<String, Fail> {
     })
 }
 
+/// Texts with their forms, and what each comes to.
+const TEXTS: &[(&str, Form, &str)] = &[
+    ("", Form::Project, "read"),
+    ("const x = 1;\nconst y", Form::Project, "Syntax 2 1"),
+    (";;\n  const x = ;\n", Form::Project, "Syntax 2 3"),
+    ("const x = \"a", Form::Project, "Lex 1 11"),
+    ("\n", Form::Config, "Syntax 2 1"),
+    (" config({});", Form::Config, "read"),
+    ("\n  config({);", Form::Config, "Syntax 2 3"),
+    ("config({});", Form::Module, "Syntax 1 1"),
+    ("module({});\n\\", Form::Module, "Lex 2 1"),
+];
+
 #[test]
 fn a_text_is_a_file_or_is_refused_at_a_place(rt: HostRuntime) -> Result<(), Fail> {
-    let cases: [(&[u8], Form, &str); 9] = [
-        (b"", Form::Project, "read"),
-        (b"const x = 1;\nconst y", Form::Project, "Syntax 2 1"),
-        (b";;\n  const x = ;\n", Form::Project, "Syntax 2 3"),
-        (b"const x = \"a", Form::Project, "Lex 1 11"),
-        (b"\n", Form::Config, "Syntax 2 1"),
-        (b" config({});", Form::Config, "read"),
-        (b"\n  config({);", Form::Config, "Syntax 2 3"),
-        (b"config({});", Form::Module, "Syntax 1 1"),
-        (b"module({});\n\\", Form::Module, "Lex 2 1"),
-    ];
-    for (text, form, want) in cases {
-        assert_eq!(rt; answer(rt.alloc(), text, form)?.as_str(), want);
+    for (text, form, want) in TEXTS {
+        assert_eq!(rt; answer(rt.alloc(), text.as_bytes(), *form)?.as_str(), *want);
     }
     Ok(())
 }

@@ -214,12 +214,6 @@ fn refusal(alloc: Global, text: &str) -> Result<LayoutFault, Fail> {
 }
 
 #[test]
-fn laws_of_printing_are_called(_rt: HostRuntime) {
-    printed_tokens_derive();
-    printed_text_reads_back();
-}
-
-#[test]
 fn projects_are_laid_out_once(rt: HostRuntime) -> Result<(), Fail> {
     for (text, expected) in PROJECTS {
         assert_eq!(rt; laid(rt.alloc(), text, Form::Project)?.as_str(), *expected);
@@ -265,4 +259,10 @@ fn configurations_are_laid_out_and_others_refused(rt: HostRuntime) -> Result<(),
         LayoutFault::Syntax { at: 2 }
     );
     Ok(())
+}
+
+#[test]
+fn laws_of_printing_are_called(_rt: HostRuntime) {
+    printed_tokens_derive();
+    printed_text_reads_back();
 }
