@@ -171,3 +171,32 @@ fn a_pip_can_produce_its_files_and_what_is_below_its_directories(
     }
     Ok(())
 }
+
+// The pip with this number of a chain: it writes a file, or copies the file of the pip before it.
+fn add_link(alloc: Global, pips: &mut PipList, number: u32) -> Result<(), Fail> {
+    let to = format!(in alloc; "out/{number}")?;
+    let Some(last) = number.checked_sub(1) else {
+        return add(alloc, pips, write(alloc, to.as_bytes())?);
+    };
+    let from = format!(in alloc; "out/{last}")?;
+    let file = FileInput::Made(path(alloc, from.as_bytes())?, last);
+    add(alloc, pips, copy(alloc, file, to.as_bytes())?)
+}
+
+#[test]
+fn as_many_pips_as_there_may_be_are_planned(rt: HostRuntime) -> Result<(), Fail> {
+    let alloc = rt.alloc();
+    let mut pips = PipList::new(alloc);
+    for number in 0..16_384 {
+        add_link(alloc, &mut pips, number)?;
+    }
+    if pips.pips().len() > MAX_PIPS {
+        return Err(Fail::from("too many pips"));
+    }
+    let plan = Plan::build(alloc, pips, 0)?;
+    assert!(rt; plan.pips().len() == 16_384);
+    assert!(rt; plan.reaches(16_383, 0));
+    assert!(rt; !plan.reaches(0, 16_383));
+    assert_eq!(rt; plan.inputs(16_383), [16_382].as_slice());
+    Ok(())
+}
