@@ -53,8 +53,8 @@ pub fn command<H: Threads + Wait + Sync, S: Source, O: Sink, N: Sink, K: Keeper,
         → Begins order input (O.taken out.old) (O.taken out.new) }
     ensures silent { IsSilent result → out.new ≡ out.old }
 
-    // The status says that the source or `out` failed only where its count of faults rose in this call, and with
-    // any other status the count is as it was.
+    // The status says that the source or `out` failed only where its count of faults rose in this call, and
+    // with any other status the count is as it was.
     ensures source_cause { HasCause (S.faults source.old) (S.faults source.new)
         (result ≡ Status.SourceFailed) }
     ensures out_cause { HasCause (O.faults out.old) (O.faults out.new) (result ≡ Status.OutFailed) }

@@ -155,8 +155,8 @@ no_items ts = record { value = []; height = 0; rest = ts }
 abbrev pub item_before : Read ItemTree → Read (List ItemTree) → Read (List ItemTree)
 item_before i xs = record { value = i.value ∷ xs.value; height = max i.height xs.height; rest = xs.rest }
 
--- The items at the start of the tokens, at most n, up to the end or to the first that is malformed or exceeds the height limit,
--- and the tokens after them.
+-- The items at the start of the tokens, at most n, up to the end or to the first that is malformed or exceeds
+-- the height limit, and the tokens after them.
 unfoldable pub read_items : ℕ → ℕ → List TokenKind → Read (List ItemTree)
 read_items depth zero ts = no_items ts
 read_items depth (suc n) ts =

@@ -82,7 +82,8 @@ abbrev pub mark_len : List ℕ → ℕ
 mark_len bytes = if starts_with nat_eq bytes (0xef ∷ 0xbb ∷ 0xbf ∷ []) then 3 else 0
 
 -- the text is cut into these lexemes up to a rest, and these brackets are open after them
-pub record IsCut (bytes : List ℕ) (lexemes : List Lexeme) (rest : List ℕ) (after : List Bracket) : Type 0 where
+pub record IsCut (bytes : List ℕ) (lexemes : List Lexeme) (rest : List ℕ)
+    (after : List Bracket) : Type 0 where
   pub whole : texts lexemes ++ rest ≡ drop (mark_len bytes) bytes
   pub longest : CutTo [] lexemes rest after
 

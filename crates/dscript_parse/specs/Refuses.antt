@@ -18,8 +18,8 @@ abbrev pub Refuses : SyntaxFault → Form → List TokenKind → Type 0
 Refuses (faults.Syntax at) form tokens = IsRefusedAt form tokens at
 Refuses faults.Memory form tokens = Unit {0}
 
--- What is left of a file that was read at the start of the tokens: the file where no token is left, and else a
--- refusal at the first token.
+-- What is left of a file that was read at the start of the tokens: the file where no token is left, and else
+-- a refusal at the first token.
 abbrev pub Finishes : Result (Parsed File) Refusal → Result File SyntaxFault → Type 0
 Finishes (Ok p) (Ok file) = (p.value ≡ file) × (at_end (kinds p.rest.now) ≡ true)
 Finishes (Ok p) (Err (faults.Syntax at)) = (at ≡ 0) × (at_end (kinds p.rest.now) ≡ false)

@@ -22,10 +22,10 @@ use std::alloc::Global;
 /// has at most as many tokens as bytes.
 ///
 /// Only trees of a height up to `MAX_HEIGHT` count. The height of a file is one more than the greatest height
-/// of its parts, and so is that of a declaration, an import, a statement, an expression and a type; the height
-/// of an item is that of its declaration. Each pair of parentheses around an expression or a type counts one, and
-/// all else, such as parameters, properties, members and marks, counts nothing. So a file whose one
-/// item is `const x = 1;` has the height 3, and `const x = (1);` has 4.
+/// of its parts, and so is that of a declaration, an import, a statement, an expression and a type; the
+/// height of an item is that of its declaration. Each pair of parentheses around an expression or a type
+/// counts one, and all else, such as parameters, properties, members and marks, counts nothing. So a file
+/// whose one item is `const x = 1;` has the height 3, and `const x = (1);` has 4.
 pub fn parse(alloc: Global, tokens: &[Token], form: Form) -> Result<File, SyntaxFault>
     requires { length tokens.now ≤ MAX_TEXT_BYTES }
     ensures exact { MatchResult result

@@ -1,7 +1,7 @@
 //! The layer of the parser of DScript that reads expressions and statements.
 //!
-//! Expressions and statements contain each other, and so one cycle of functions reads them; the levels of nesting that
-//! are left bound its depth.
+//! Expressions and statements contain each other, and so one cycle of functions reads them; the levels of nesting
+//! that are left bound its depth.
 #![tactic(auto)]
 
 mod exprs;

@@ -299,7 +299,8 @@ pub(crate) fn as_cond<'a>(
 ) -> Parse<'a, Expr>
     ensures { Gives expr_tree
         (above depth.levels (max condition.entry.height (max first.entry.height second.entry.height))
-        (tree.Cond (expr_tree condition.entry.value) (expr_tree first.entry.value) (expr_tree second.entry.value))
+        (tree.Cond (expr_tree condition.entry.value) (expr_tree first.entry.value)
+            (expr_tree second.entry.value))
         (kinds second.entry.rest.now))
         (suc depth.levels) (suc (length (kinds second.entry.rest.now))) result }
 {

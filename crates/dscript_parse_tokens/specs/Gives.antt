@@ -17,8 +17,8 @@ abbrev pub Fails : {A : Type 0} → Refusal → Option A → Type 0
 Fails refusals.Syntax read = read ≡ None
 Fails refusals.Memory read = Unit {0}
 
--- The reader reads this value, with this height and these tokens after it; the height is at most the limit, and
--- fewer tokens are left than the bound.
+-- The reader reads this value, with this height and these tokens after it; the height is at most the limit,
+-- and fewer tokens are left than the bound.
 pub record IsRead {X T : Type 0}
     (view : X → T) (read : Option (Read T)) (limit bound : ℕ) (p : Parsed X) : Type 0 where
   pub is : read ≡ Some (record { value = view p.value; height = p.height; rest = kinds p.rest.now })
