@@ -1,0 +1,15 @@
+//! What evaluation of a workspace begins from, as data: its modules with their files, and the first fault of a
+//! specification with its file and place.
+//!
+//! Types alone, on which reading, workspaces, names and evaluation depend. It depends on `bx_tree` for paths and
+//! texts. Which tree has which workspace is defined in `dscript_workspace`, and which names are faults in
+//! `dscript_names`.
+#![tactic(auto)]
+
+mod fault;
+mod place;
+mod workspace;
+
+pub use fault::{Fault, SpecFault, SpecKind};
+pub use place::Place;
+pub use workspace::{ModuleText, Workspace};
