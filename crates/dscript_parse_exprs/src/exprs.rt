@@ -123,7 +123,7 @@ fn level_chain<'a>(
     requires first { first.height ≤ suc depth.levels }
     ensures { Gives expr_tree
         (read_level depth.levels tighter (expr_tree first.entry.value) first.entry.height
-            (kinds first.entry.rest.now))
+        (kinds first.entry.rest.now))
         (suc depth.levels) (suc (length (kinds first.entry.rest.now))) result }
 {
     let operands = operands(alloc, depth, tighter, first.rest)?;

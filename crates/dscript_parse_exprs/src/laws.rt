@@ -7,7 +7,7 @@ ghost use Rattle.dscript_grammar.specs.ExprReading.{read_block, read_expr, read_
 ghost use Rattle.dscript_grammar.specs.Language.{◌⋅◌, optional, punctuator};
 ghost use Rattle.dscript_parse_exprs.specs.Endings.{EndsExpr, EndsNote};
 ghost use Rattle.dscript_parse_exprs.specs.Levels.{at_depth};
-ghost use Rattle.dscript_parse_types.specs.Deriving.{EndsAnywhere, IsComplete, IsSound};
+ghost use Rattle.dscript_parse_tokens.specs.Deriving.{EndsAnywhere, IsComplete, IsSound};
 
 /// What `expr` reads is an expression that the grammar derives, and it reads each such expression of at most
 /// its height that is as long as it can be.

@@ -300,7 +300,7 @@ pub(crate) fn as_cond<'a>(
     ensures { Gives expr_tree
         (above depth.levels (max condition.entry.height (max first.entry.height second.entry.height))
         (tree.Cond (expr_tree condition.entry.value) (expr_tree first.entry.value)
-            (expr_tree second.entry.value))
+        (expr_tree second.entry.value))
         (kinds second.entry.rest.now))
         (suc depth.levels) (suc (length (kinds second.entry.rest.now))) result }
 {

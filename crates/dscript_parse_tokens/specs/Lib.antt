@@ -1,3 +1,4 @@
 pub mod Gives
 pub mod Enclosed
+pub mod Deriving
 pub mod LoopInvariants

@@ -6,12 +6,14 @@
 #![tactic(auto)]
 
 mod depth;
+mod laws;
 mod lists;
 mod parsed;
 mod syntax;
 mod tokens;
 
 pub use depth::Depth;
+pub use laws::names_are_derived;
 pub use lists::{closed, dotted, list, many, names, separated, until};
 pub use parsed::{Parse, Parsed, Refusal, higher, node};
 pub use syntax::Syntax;

@@ -1,2 +1,2 @@
 pub mod UnionInvariants
-pub mod Deriving
+pub mod Endings

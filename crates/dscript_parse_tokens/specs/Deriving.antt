@@ -1,4 +1,5 @@
 -- What it means that a reader reads what the grammar derives.
+use Prim.Native.String.{String}
 use Rattle.std.specs.Prelude.{◌≡◌, ℕ, ◌≤◌, List, None}
 use Rattle.dscript_lex.specs.declared.token.TokenKind.{TokenKind}
 use Rattle.dscript_grammar.specs.Language.{Language}
@@ -22,9 +23,6 @@ module _ {X : Type 0} (derives : ℕ → X → Language) where
 abbrev pub EndsAnywhere : {X : Type 0} → X → List TokenKind → Type 0
 EndsAnywhere x rest = Unit {0}
 
--- no type goes on with the first of these tokens
-pub record EndsType (rest : List TokenKind) : Type 0 where
-  pub no_dot : take_punctuator "." rest ≡ None
-  pub no_angle : take_punctuator "<" rest ≡ None
-  pub no_bracket : take_punctuator "[" rest ≡ None
-  pub no_bar : take_punctuator "|" rest ≡ None
+-- neither the last of the separated values nor their row goes on with the first of these tokens
+abbrev pub EndsRow : String → (List TokenKind → Type 0) → List TokenKind → Type 0
+EndsRow s ends rest = (take_punctuator s rest ≡ None) × ends rest
