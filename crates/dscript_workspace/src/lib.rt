@@ -15,3 +15,6 @@ mod path_set;
 
 pub use finding::find_workspace;
 pub use laws::{one_answer, some_answer};
+
+#[cfg(test)]
+mod tests;

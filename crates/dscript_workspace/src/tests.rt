@@ -1,0 +1,384 @@
+use crate::find_workspace;
+use bx_tree::{Path, read_bundle};
+use dscript_modules::{Place, SpecFault, SpecKind, Workspace};
+use std::alloc::{AllocError, Global};
+use std::test::Fail;
+
+/// Files by path, with their texts.
+type Files<'a> = &'a [(&'a str, &'a str)];
+
+/// The bundle of these files.
+fn bundle(alloc: Global, files: Files<'_>) -> Result<String, AllocError> {
+    let mut text = String::from_str(alloc, "bundle 1\n")?;
+    for (path, bytes) in files {
+        let length = bytes.len();
+        text.push_str(format!(in alloc; "file {length} {path}\n{bytes}\n")?.as_str())?;
+    }
+    text.push_str("end\n")?;
+    Ok(text)
+}
+
+/// The modules, each with its name, the file that describes it, and its files.
+fn shown(alloc: Global, workspace: &Workspace) -> Result<String, AllocError> {
+    let mut text = String::new(alloc);
+    for module in &workspace.modules {
+        let name = String::from_utf8_lossy(alloc, module.name.bytes())?;
+        text.push_str(name.as_str())?;
+        text.push_str(" = ")?;
+        text.push_str(module.config.text())?;
+        for file in &module.files {
+            text.push_str(" ")?;
+            text.push_str(file.text())?;
+        }
+        text.push_str(";")?;
+    }
+    Ok(text)
+}
+
+fn kind_name(kind: SpecKind) -> &'static str {
+    match kind {
+        SpecKind::Lex => "Lex",
+        SpecKind::Syntax => "Syntax",
+        SpecKind::ModuleConfig => "ModuleConfig",
+        SpecKind::DuplicateModule => "DuplicateModule",
+        _ => "another kind",
+    }
+}
+
+fn fault(
+    alloc: Global,
+    kind: SpecKind,
+    file: &Path,
+    place: Option<Place>,
+) -> Result<String, AllocError> {
+    let name = kind_name(kind);
+    let path = file.text();
+    match place {
+        Some(at) => format!(in alloc; "{name} {path} {} {}", at.line, at.column),
+        None => format!(in alloc; "{name} {path}"),
+    }
+}
+
+/// What a tree of these files comes to, in words.
+fn answer(alloc: Global, files: Files<'_>) -> Result<String, Fail> {
+    let text = bundle(alloc, files)?;
+    let Ok(tree) = read_bundle(alloc, text.as_bytes()) else {
+        return Err(Fail::new("no bundle"));
+    };
+    match find_workspace(alloc, &tree) {
+        Ok(workspace) => Ok(shown(alloc, &workspace)?),
+        Err(SpecFault::Fault { kind, file, place }) => Ok(fault(alloc, kind, &file, place)?),
+        Err(SpecFault::Memory) => Err(Fail::new("no memory")),
+    }
+}
+
+const M: &str = "module({name: \"M\"});";
+
+const ALL: &str =
+    "config({resolvers: [{kind: \"DScript\", modules: globR(d`.`, \"module.config.dsc\")}]});";
+
+/// Texts of `config.dsc` above two module files, and what the tree comes to.
+const CONFIGS: &[(&str, &str)] = &[
+    ("config({resolvers: []});", ""),
+    ("config({\"resolvers\": [...[]]});", ""),
+    ("config({resolvers: glob(d`.`, \"zzz\")});", ""),
+    (
+        "config({resolvers: glob(d`.`, \"x.txt\")});",
+        "ModuleConfig config.dsc",
+    ),
+    (
+        "config({resolvers: [{kind: \"DScript\", modules: []}]});",
+        "",
+    ),
+    (
+        "config({resolvers: [{kind: \"DScript\", modules: [f`m/module.config.dsc`]}]});",
+        "M = m/module.config.dsc m/a.dsc;",
+    ),
+    (
+        ALL,
+        "M = m/module.config.dsc m/a.dsc;R = module.config.dsc;",
+    ),
+    (
+        "config({resolvers: [{kind: \"DScript\", modules: glob(d`.`, \"mod*\")}]});",
+        "R = module.config.dsc m/a.dsc;",
+    ),
+    (
+        "config({resolvers: [{modules: [f`m/module.config.dsc`, ...globR(d`m`, \"mod*\")], kind: \"DScript\"}]});",
+        "M = m/module.config.dsc m/a.dsc;",
+    ),
+    (
+        "config({resolvers: [{kind: \"Script\", modules: []}]});",
+        "ModuleConfig config.dsc",
+    ),
+    (
+        "config({resolvers: [{kind: `DScript`, modules: []}]});",
+        "ModuleConfig config.dsc",
+    ),
+    (
+        "config({resolvers: [{kind: \"DScript\"}]});",
+        "ModuleConfig config.dsc",
+    ),
+    (
+        "config({resolvers: [], more: 1});",
+        "ModuleConfig config.dsc",
+    ),
+    (
+        "config({resolvers: [], \"resolvers\": []});",
+        "ModuleConfig config.dsc",
+    ),
+    ("config({...{resolvers: []}});", "ModuleConfig config.dsc"),
+    ("config({resolvers});", "ModuleConfig config.dsc"),
+    ("config({});", "ModuleConfig config.dsc"),
+    (
+        "config({resolvers: [{kind: \"DScript\", modules: [f`z/module.config.dsc`]}]});",
+        "ModuleConfig config.dsc",
+    ),
+    (
+        "config({resolvers: [{kind: \"DScript\", modules: [f`m/a.dsc`]}]});",
+        "ModuleConfig config.dsc",
+    ),
+    (
+        "config({resolvers: [{kind: \"DScript\", modules: [p`m/module.config.dsc`]}]});",
+        "ModuleConfig config.dsc",
+    ),
+    (
+        "config({resolvers: [{kind: \"DScript\", modules: [f`${\"m\"}/module.config.dsc`]}]});",
+        "ModuleConfig config.dsc",
+    ),
+    (
+        "config({resolvers: [{kind: \"DScript\", modules: [glob(d`m`, \"mod*\")]}]});",
+        "ModuleConfig config.dsc",
+    ),
+    (
+        "config({resolvers: [{kind: \"DScript\", modules: glob(d`m`, \"m/a\")}]});",
+        "ModuleConfig config.dsc",
+    ),
+    (" module({});", "Syntax config.dsc 1 2"),
+    ("\n", "Syntax config.dsc 2 1"),
+    ("config({\n  resolvers: #", "Lex config.dsc 2 14"),
+];
+
+#[test]
+fn a_configuration_lists_module_files_or_is_refused(rt: HostRuntime) -> Result<(), Fail> {
+    for (text, want) in CONFIGS {
+        let files = [
+            ("config.dsc", *text),
+            ("m/a.dsc", "#"),
+            ("m/module.config.dsc", M),
+            ("module.config.dsc", "module({name: \"R\"});"),
+            ("x.txt", ""),
+        ];
+        assert_eq!(rt; answer(rt.alloc(), &files)?.as_str(), *want, "{text}");
+    }
+    Ok(())
+}
+
+/// Texts of a module file beside one of a module `N`, and what the tree comes to.
+const MODULES: &[(&str, &str)] = &[
+    (
+        M,
+        "M = m/module.config.dsc m/a.dsc m/b.dsc;N = n/module.config.dsc n/c.dsc;",
+    ),
+    (
+        "module({name: \"M\", projects: [f`b.dsc`, ...[f`a.dsc`], f`b.dsc`]});",
+        "M = m/module.config.dsc m/a.dsc m/b.dsc;N = n/module.config.dsc n/c.dsc;",
+    ),
+    (
+        "module({name: \"main\", projects: globR(d`../m`, \"*.dsc\")});",
+        "main = m/module.config.dsc m/a.dsc m/b.dsc m/module.config.dsc;N = n/module.config.dsc n/c.dsc;",
+    ),
+    (
+        "module({name: \"M\", projects: []});",
+        "M = m/module.config.dsc;N = n/module.config.dsc n/c.dsc;",
+    ),
+    (
+        "module({projects: [], name: \"M\", nameResolutionSemantics: NameResolutionSemantics.implicitProjectReferences});",
+        "M = m/module.config.dsc;N = n/module.config.dsc n/c.dsc;",
+    ),
+    (
+        "module({name: \"M\", nameResolutionSemantics: NameResolutionSemantics.explicit});",
+        "ModuleConfig m/module.config.dsc",
+    ),
+    ("module({name: \"\"});", "ModuleConfig m/module.config.dsc"),
+    ("module({name: M});", "ModuleConfig m/module.config.dsc"),
+    (
+        "module({projects: []});",
+        "ModuleConfig m/module.config.dsc",
+    ),
+    (
+        "module({name: \"M\", projects: [f`../n/c.dsc`]});",
+        "ModuleConfig m/module.config.dsc",
+    ),
+    (
+        "module({name: \"M\", projects: [f`t.txt`]});",
+        "ModuleConfig m/module.config.dsc",
+    ),
+    (
+        "module({name: \"M\", projects: [f`z.dsc`]});",
+        "ModuleConfig m/module.config.dsc",
+    ),
+    (
+        "module({name: \"M\", projects: f`a.dsc`});",
+        "ModuleConfig m/module.config.dsc",
+    ),
+    (
+        "module({name: \"N\"});",
+        "DuplicateModule n/module.config.dsc",
+    ),
+    (
+        "module({name: \"Sdk.Transformers\"});",
+        "DuplicateModule m/module.config.dsc",
+    ),
+    ("config({});", "Syntax m/module.config.dsc 1 1"),
+    ("\n  module({);", "Syntax m/module.config.dsc 2 3"),
+    ("module(\n#", "Lex m/module.config.dsc 2 1"),
+];
+
+#[test]
+fn a_module_file_describes_a_module_or_is_refused(rt: HostRuntime) -> Result<(), Fail> {
+    for (text, want) in MODULES {
+        let files = [
+            ("config.dsc", ALL),
+            ("m/a.dsc", "#"),
+            ("m/b.dsc", ""),
+            ("m/module.config.dsc", *text),
+            ("m/t.txt", ""),
+            ("n/c.dsc", ""),
+            (
+                "n/module.config.dsc",
+                "module({name: \"N\", projects: [f`c.dsc`]});",
+            ),
+        ];
+        assert_eq!(rt; answer(rt.alloc(), &files)?.as_str(), *want, "{text}");
+    }
+    Ok(())
+}
+
+const FAULTY: &str = "module({});";
+
+const LISTS_DEEPER: &str = "module({name: \"R\", projects: [f`z/z/x.dsc`]});";
+
+/// Trees, and the first fault of each.
+const TREES: &[(Files<'static>, &str)] = &[
+    (&[("build.dsc", "#")], "main = build.dsc build.dsc;"),
+    (&[("module.config.dsc", M)], "ModuleConfig config.dsc"),
+    (
+        &[("a/config.dsc", ALL), ("build.dsc/x", "")],
+        "ModuleConfig config.dsc",
+    ),
+    // The earlier of two module files is told, whatever their kinds.
+    (
+        &[
+            ("a/module.config.dsc", FAULTY),
+            ("b/module.config.dsc", "#"),
+            ("config.dsc", ALL),
+        ],
+        "ModuleConfig a/module.config.dsc",
+    ),
+    (
+        &[
+            ("a/module.config.dsc", "#"),
+            ("b/module.config.dsc", FAULTY),
+            ("config.dsc", ALL),
+        ],
+        "Lex a/module.config.dsc 1 1",
+    ),
+    // Names come after all module files, and at the later of two.
+    (
+        &[
+            ("a/module.config.dsc", M),
+            ("b/module.config.dsc", M),
+            ("c/module.config.dsc", FAULTY),
+            ("config.dsc", ALL),
+        ],
+        "ModuleConfig c/module.config.dsc",
+    ),
+    (
+        &[
+            ("a/module.config.dsc", M),
+            ("b/module.config.dsc", M),
+            ("c/module.config.dsc", M),
+            ("config.dsc", ALL),
+        ],
+        "DuplicateModule b/module.config.dsc",
+    ),
+    // A file of two modules is told at the one that lists it, and at its place among module files.
+    (
+        &[
+            ("config.dsc", ALL),
+            ("module.config.dsc", LISTS_DEEPER),
+            ("z/module.config.dsc", M),
+            ("z/z/x.dsc", ""),
+        ],
+        "ModuleConfig module.config.dsc",
+    ),
+    (
+        &[
+            ("a/module.config.dsc", "#"),
+            ("config.dsc", ALL),
+            ("module.config.dsc", LISTS_DEEPER),
+            ("z/module.config.dsc", M),
+            ("z/z/x.dsc", ""),
+        ],
+        "Lex a/module.config.dsc 1 1",
+    ),
+    // If both list it, it is told at the later.
+    (
+        &[
+            ("config.dsc", ALL),
+            ("module.config.dsc", LISTS_DEEPER),
+            (
+                "z/module.config.dsc",
+                "module({name: \"Z\", projects: [f`z/x.dsc`]});",
+            ),
+            ("z/z/x.dsc", ""),
+        ],
+        "ModuleConfig z/module.config.dsc",
+    ),
+    // A faulty module has no files, and still keeps those below it from others.
+    (
+        &[
+            ("config.dsc", ALL),
+            ("module.config.dsc", LISTS_DEEPER),
+            ("z/module.config.dsc", M),
+            ("z/z/module.config.dsc", FAULTY),
+            ("z/z/x.dsc", ""),
+        ],
+        "ModuleConfig z/z/module.config.dsc",
+    ),
+    // A module file that is not listed is not read, and keeps no files from others.
+    (
+        &[
+            (
+                "config.dsc",
+                "config({resolvers: [{kind: \"DScript\", modules: [f`module.config.dsc`]}]});",
+            ),
+            ("module.config.dsc", M),
+            ("z/module.config.dsc", "#"),
+            ("z/x.dsc", ""),
+        ],
+        "M = module.config.dsc z/x.dsc;",
+    ),
+    // A deeper module with an empty list keeps its files from others.
+    (
+        &[
+            ("config.dsc", ALL),
+            ("module.config.dsc", M),
+            ("z.dsc", ""),
+            (
+                "z/module.config.dsc",
+                "module({name: \"Z\", projects: []});",
+            ),
+            ("z/x.dsc", ""),
+        ],
+        "M = module.config.dsc z.dsc;Z = z/module.config.dsc;",
+    ),
+];
+
+#[test]
+fn the_first_fault_of_a_tree_is_told(rt: HostRuntime) -> Result<(), Fail> {
+    for (files, want) in TREES {
+        assert_eq!(rt; answer(rt.alloc(), files)?.as_str(), *want);
+    }
+    Ok(())
+}
