@@ -8,7 +8,7 @@ use Rattle.dscript_grammar.specs.Derives.{Derives}
 use Rattle.dscript_grammar.specs.Place.{IsRefusedAt}
 use Rattle.dscript_grammar.proofs.FileLaws.{one_file as one_file_of}
 use Rattle.dscript_grammar.proofs.Places.{one_place as one_place_of}
-use Rattle.dscript_read.specs.declared.place.Place.{Place}
+use Rattle.dscript_modules.specs.declared.place.Place.{Place}
 use Rattle.dscript_read.specs.Places.{place_of, start_of}
 use Rattle.dscript_read.specs.Reading.{Reading, Read, NoTokens, NoFile, ReadsAs, kinds_of}
 use Rattle.dscript_read.specs.Reading.{HasNoTokens, IsFile, IsNoFile}

@@ -2,7 +2,7 @@
 use Rattle.std.specs.Prelude.{ℕ, ◌+◌, ◌==◌, Bool, not, List, length, map, get_or, take}
 use Rattle.std.specs.List.{count_by, suffix_len}
 use Rattle.dscript_lex.specs.declared.token.Token.{Token}
-use Rattle.dscript_read.specs.declared.place.Place.{Place}
+use Rattle.dscript_modules.specs.declared.place.Place.{Place}
 
 abbrev pub is_newline : ℕ → Bool
 is_newline byte = byte == 10

@@ -7,7 +7,7 @@ use Rattle.dscript_ast.specs.FileTree.{FileTree}
 use Rattle.dscript_ast.specs.declared.file.Form.{Form}
 use Rattle.dscript_grammar.specs.Derives.{Derives}
 use Rattle.dscript_grammar.specs.Place.{IsRefusedAt}
-use Rattle.dscript_read.specs.declared.place.Place.{Place}
+use Rattle.dscript_modules.specs.declared.place.Place.{Place}
 use Rattle.dscript_read.specs.Places.{place_of, start_of}
 
 abbrev pub kinds_of : List Token → List TokenKind

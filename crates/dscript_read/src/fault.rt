@@ -1,6 +1,6 @@
 //! Why a text is no file.
 
-use crate::place::Place;
+use dscript_modules::Place;
 
 /// Why a text is no file of a form.
 #[derive(Clone, Copy, Debug, PartialEq, Eq)]

@@ -5,13 +5,7 @@ ghost use Rattle.dscript_read.specs.Places.{place_of, start_of as byte_of_token}
 
 use bx_tree::MAX_FILE_BYTES;
 use dscript_lex::Token;
-
-/// Where in a text something is. Lines and columns are counted from 1, and columns in bytes.
-#[derive(Clone, Copy, Debug, PartialEq, Eq)]
-pub struct Place {
-    pub line: u32,
-    pub column: u32,
-}
+use dscript_modules::Place;
 
 /// The place of the byte with this number, counted from 0, or of the text's end where there is no such byte.
 pub fn place_at(text: &[u8], at: usize) -> Place

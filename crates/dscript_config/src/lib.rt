@@ -1,0 +1,19 @@
+//! What the configuration of a workspace and the file of a module say, from their expressions.
+//!
+//! Both are objects whose fields are strings and lists of files, and a file is known by its position in the
+//! tree. This crate depends on `bx_tree` and `bx_path` for files, and on `dscript_ast` for expressions. It
+//! carries the promise that both calls answer exactly as they are defined, also where nothing allowed is said.
+#![tactic(auto)]
+
+mod config;
+mod files;
+mod glob_call;
+mod list;
+mod literal;
+mod module;
+mod object;
+mod paths;
+
+pub use config::configured;
+pub use module::{Description, described};
+pub use paths::{is_below, is_module_file, is_specification, path_at};
