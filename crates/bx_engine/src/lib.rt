@@ -16,6 +16,7 @@ mod laws;
 mod limits;
 mod order;
 mod paths;
+mod projects;
 mod reading;
 mod report;
 mod response;
