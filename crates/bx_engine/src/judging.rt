@@ -107,6 +107,7 @@ fn judge_tree(alloc: Global, tree: &Tree) -> Result<Ending, AllocError>
     let files = project_files(alloc, tree, &workspace)?;
     judge_projects(alloc, files.as_slice())
 }
+
 /// How a build of this input ends.
 pub(crate) fn ending_of(alloc: Global, input: &[u8]) -> Result<Ending, AllocError>
     ensures { IfOk result (λ ending. Ends input.now (ending_view ending)) }
