@@ -21,7 +21,8 @@ IsPlace forms.Project tokens n = IsProjectUpTo tokens n × ((m : ℕ) → IsProj
 IsPlace forms.Config tokens n = n ≡ 0
 IsPlace forms.Module tokens n = n ≡ 0
 
--- No file of this form is derived from the tokens, whatever its height, and they are refused at this place.
+-- No file of this form, of a height that counts, is derived from the tokens, and they are refused at this
+-- place.
 pub record IsRefusedAt (form : Form) (tokens : List TokenKind) (at : ℕ) : Type 0 where
   pub no_file : (file : FileTree) (height : ℕ) → Derives form tokens file height → ⊥
   pub place : IsPlace form tokens at

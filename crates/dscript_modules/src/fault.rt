@@ -14,7 +14,8 @@ pub enum SpecKind {
     Lex,
     /// The grammar derives no file from the tokens of a file.
     Syntax,
-    /// The configuration of the workspace or of a module says something that is not allowed.
+    /// The configuration of the workspace or of a module says something that is not allowed; neither `config.dsc`
+    /// nor `build.dsc` is there; or two modules list one file.
     ModuleConfig,
     /// Two modules have one name.
     DuplicateModule,

@@ -62,31 +62,37 @@ fn sample(alloc: Global, number: u8) -> Result<Value, Fail> {
     })
 }
 
+/// The numbers of two samples, and whether they are equal.
+const CASES: &[(u8, u8, Result<bool, NoOrder>)] = &[
+    (0, 0, Ok(true)),
+    (0, 10, Ok(false)),
+    (1, 1, Ok(true)),
+    (2, 3, Ok(false)),
+    (2, 2, Ok(true)),
+    (4, 5, Ok(true)),
+    (6, 6, Ok(true)),
+    (6, 7, Ok(false)),
+    (8, 8, Err(NoOrder)),
+    (9, 9, Err(NoOrder)),
+    (8, 9, Ok(false)),
+    (10, 11, Ok(false)),
+    (12, 12, Ok(true)),
+    (13, 13, Ok(true)),
+    (14, 15, Err(NoOrder)),
+    (16, 16, Err(NoOrder)),
+    (16, 8, Ok(false)),
+];
+
+/// Whether a sample and a shared one are equal.
+fn compared(alloc: Global, a: u8, b: u8) -> Result<Result<bool, NoOrder>, Fail> {
+    let shared = sample(alloc, b)?.share()?;
+    Ok(equal(&sample(alloc, a)?, &shared))
+}
+
 #[test]
 fn values_are_equal_by_what_they_are(rt: HostRuntime) -> Result<(), Fail> {
-    let alloc = rt.alloc();
-    let cases: [(u8, u8, Result<bool, NoOrder>); 17] = [
-        (0, 0, Ok(true)),
-        (0, 10, Ok(false)),
-        (1, 1, Ok(true)),
-        (2, 3, Ok(false)),
-        (2, 2, Ok(true)),
-        (4, 5, Ok(true)),
-        (6, 6, Ok(true)),
-        (6, 7, Ok(false)),
-        (8, 8, Err(NoOrder)),
-        (9, 9, Err(NoOrder)),
-        (8, 9, Ok(false)),
-        (10, 11, Ok(false)),
-        (12, 12, Ok(true)),
-        (13, 13, Ok(true)),
-        (14, 15, Err(NoOrder)),
-        (16, 16, Err(NoOrder)),
-        (16, 8, Ok(false)),
-    ];
-    for (a, b, same) in cases {
-        let shared = sample(alloc, b)?.share()?;
-        assert_eq!(rt; equal(&sample(alloc, a)?, &shared), same);
+    for (a, b, same) in CASES {
+        assert_eq!(rt; compared(rt.alloc(), *a, *b)?, *same);
     }
     Ok(())
 }
@@ -121,18 +127,20 @@ fn a_later_field_takes_the_place_of_the_earlier(rt: HostRuntime) -> Result<(), F
     Ok(())
 }
 
-#[test]
-fn a_list_is_at_most_as_deep_as_the_limit(rt: HostRuntime) -> Result<(), Fail> {
-    let alloc = rt.alloc();
-    let mut value = Value::Undefined;
-    for _ in 0..MAX_DEPTH {
-        let mut items = Vec::new(alloc);
-        items.push(value)?;
-        value = list_of(alloc, items)?;
-    }
-    assert_eq!(rt; value.depth(), MAX_DEPTH);
+/// The list of this value alone.
+fn listed(alloc: Global, value: Value) -> Result<Result<Value, DepthFault>, Fail> {
     let mut items = Vec::new(alloc);
     items.push(value)?;
-    assert!(rt; matches!(list_of(alloc, items), Err(DepthFault::TooDeep)));
+    Ok(list_of(alloc, items))
+}
+
+#[test]
+fn a_list_is_at_most_as_deep_as_the_limit(rt: HostRuntime) -> Result<(), Fail> {
+    let mut value = Value::Undefined;
+    for _ in 0..MAX_DEPTH {
+        value = listed(rt.alloc(), value)??;
+    }
+    assert_eq!(rt; value.depth(), MAX_DEPTH);
+    assert!(rt; matches!(listed(rt.alloc(), value)?, Err(DepthFault::TooDeep)));
     Ok(())
 }

@@ -1,0 +1,12 @@
+pub mod OneAnswer
+pub mod SomeAnswer
+pub mod Directories
+pub mod Deepest
+pub mod PathSets
+pub mod Owners
+pub mod ModulesKept
+pub mod FirstFaults
+pub mod FirstNames
+pub mod ListedFiles
+pub mod ReadTexts
+pub mod Answering

@@ -1,0 +1,6 @@
+pub mod Membership
+pub mod PathSets
+pub mod Workspaces
+pub mod ModuleFiles
+pub mod Finding
+pub mod Views

@@ -1,0 +1,14 @@
+-- Module files as contracts see them.
+use Rattle.std.specs.Prelude.{List, map}
+use Rattle.dscript_modules.specs.Faults.{fault_data}
+use Rattle.dscript_modules.specs.Workspaces.{module_data}
+use Rattle.dscript_workspace.specs.declared.module_file.ModuleFile as memory
+use Rattle.dscript_workspace.specs.declared.module_file.ModuleFile.TheVariants as variants
+use Rattle.dscript_workspace.specs.Workspaces.{ModuleFile, Described, Faulty}
+
+abbrev pub file_data : memory.ModuleFile → ModuleFile
+file_data (variants.Described m lists) = Described (module_data m) lists
+file_data (variants.Faulty fault) = Faulty (fault_data fault)
+
+abbrev pub files_data : List memory.ModuleFile → List ModuleFile
+files_data = map file_data

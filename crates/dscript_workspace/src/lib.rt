@@ -1,0 +1,17 @@
+//! The workspace of a tree: its modules with their files, or the first fault of its configurations.
+//!
+//! `config.dsc` lists module files, and a module file names its module and perhaps lists its files. This
+//! crate depends on `dscript_read` and `dscript_config` for texts and what they say. It carries the promise
+//! that each tree has exactly one workspace or exactly one first fault.
+#![tactic(auto)]
+
+mod finding;
+mod laws;
+mod listing;
+mod membership;
+mod module_file;
+mod module_reading;
+mod path_set;
+
+pub use finding::find_workspace;
+pub use laws::{one_answer, some_answer};
