@@ -40,7 +40,7 @@ RefusesInput input input_faults.Reserved = (sources : Files) × IsBundle input s
 -- ## Specifications
 
 -- The project files ask for these files. Where there is no project file, none is asked for. A single one at
--- the path `build.dsc` asks for what it says, if it is supported. Of others it is not known yet.
+-- the path `build.dsc` asks for what it says, if it is supported. Others are not built yet.
 abbrev pub AskFor : Files → Files → Type 0
 AskFor [] made = made ≡ []
 AskFor (file ∷ []) made =
@@ -61,7 +61,7 @@ RefusesFound sources (Refused found) (specification_faults.Fault fault) = found 
 RefusesFound sources (Refused found) (specification_faults.Unsupported path) = ⊥
 RefusesFound sources (Found modules) fault = RefusesProjects (project_files sources modules) fault
 
--- and these ask for these files
+-- source files for which this is the answer of looking for a workspace ask for these files
 abbrev pub AsksFound : Files → Answer → Files → Type 0
 AsksFound sources (Refused found) made = ⊥
 AsksFound sources (Found modules) made = AskFor (project_files sources modules) made
@@ -82,12 +82,6 @@ abbrev pub EndsWith : Files → Ending → Type 0
 EndsWith projects (InputRefused fault) = ⊥
 EndsWith projects (SpecificationRefused fault) = RefusesProjects projects fault
 EndsWith projects (Succeeded made) = AskFor projects made
-
--- how the build of source files ends that are no refused input
-abbrev pub EndsFrom : Files → Ending → Type 0
-EndsFrom sources (InputRefused fault) = ⊥
-EndsFrom sources (SpecificationRefused fault) = RefusesSpecification sources fault
-EndsFrom sources (Succeeded made) = Makes sources made
 
 -- how an input ends
 abbrev pub Ends : List ℕ → Ending → Type 0

@@ -24,7 +24,7 @@ pub enum InputFault {
 pub enum SpecificationFault {
     /// The first fault of its files.
     Fault(Fault),
-    /// Its files have no fault, and what they ask for is not supported yet. This is the first project file.
+    /// Its files can be read, and what they ask for is not supported yet. This is the first project file.
     Unsupported(Path),
 }
 
