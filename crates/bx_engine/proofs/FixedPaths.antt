@@ -1,13 +1,11 @@
 -- The paths that the engine knows by name.
-use Rattle.std.proofs.Common.{◌≡◌, ℕ, true, List, [], ◌∷◌, ◌++◌, length, codes, refl, ap, sym, ◌∙◌, lit<, lit≤, rules}
-use Rattle.std.specs.Prelude.{◌==◌}
+use Rattle.std.proofs.Common.{◌≡◌, ℕ, List, [], ◌∷◌, ◌++◌, codes, refl, ap, sym, ◌∙◌, lit<, lit≤, rules}
 use Rattle.bx_tree.specs.Paths.{Atoms, IsAtom, IsPath, IsBelow, Names, path_text}
-use Rattle.bx_tree.specs.Views.{files_of}
-use Rattle.bx_tree.specs.declared.tree_file.TreeFile.{TreeFile}
 use Rattle.bx_tree.proofs.PathTexts.{one_path, same_from_text}
 use Rattle.bx_engine.specs.Supported.{IsBelowOut}
-use Rattle.bx_engine.specs.Ends.{IsSpecification}
-use Rattle.bx_engine.proofs.OneWord.{no_more}
+use Rattle.std.specs.Prelude.{◌↔◌, Bool, IsTrue, bytes_eq}
+use Rattle.std.proofs.lemmas.Slice.Eq.{bytes_eq-Decides}
+use Rattle.dscript_workspace.specs.Finding.{build_path}
 
 atom_out : IsAtom (codes "out")
 atom_out = record { some = lit< tt; short = lit≤ tt; bytes = search rules; not_dot = λ e. cc; not_dots = λ e. cc }
@@ -36,11 +34,11 @@ pub not_below_out : (text : List ℕ) (out p q : Atoms) → Names (codes "out") 
 not_below_out text out p q n m far k h =
     far (h.0, h.1, one_path text p q m k ∙ h.2 ∙ ap (λ d. d ++ h.0) (sym (one_path (codes "out") out (codes "out" ∷ []) n named_out)))
 
--- one file with the path of the specification
-pub is_specification : (files : List TreeFile) (f : TreeFile) (rest : List TreeFile) (text spelled : List ℕ)
-    → files ≡ f ∷ rest → (length rest == 0) ≡ true → spelled ≡ path_text f.path → IsPath f.path → spelled ≡ codes "build.dsc" → text ≡ f.bytes.items
-    → IsSpecification (files_of files) text
-is_specification files f rest text spelled e none is path same bytes =
-    ap files_of (e ∙ ap (λ more. f ∷ more) (no_more rest none))
-    ∙ ap (λ p. (p, f.bytes.items) ∷ []) (same_from_text f.path (codes "build.dsc" ∷ []) path named_specification.is_path (sym is ∙ same))
-    ∙ ap (λ b. (codes "build.dsc" ∷ [], b) ∷ []) (sym bytes)
+-- a path is that of the specification exactly where its text is
+pub is_build_path : (spelled : List ℕ) (path : Atoms) (r : Bool) → r ≡ bytes_eq spelled (codes "build.dsc")
+    → spelled ≡ path_text path → IsPath path → IsTrue r ↔ (path ≡ build_path)
+is_build_path spelled path r is text h = (
+  λ e. same_from_text path build_path h named_specification.is_path
+      (sym text ∙ (bytes_eq-Decides spelled (codes "build.dsc")).0 (sym is ∙ e)),
+  λ e. is ∙ (bytes_eq-Decides spelled (codes "build.dsc")).1 (text ∙ ap path_text e),
+)

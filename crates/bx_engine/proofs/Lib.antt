@@ -9,6 +9,10 @@ mod ReadingKeepsEnding
 mod StatusesDiffer
 mod ItemTrees
 mod OneSupported
+mod ProjectFaults
+mod ProjectFiles
+mod Judgements
+mod ReportTexts
 mod OneEnding
 mod ItemsAsk
 mod DistinctNames

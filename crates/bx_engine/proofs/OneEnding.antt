@@ -1,5 +1,7 @@
 -- An input ends in one way.
-use Rattle.std.proofs.Common.{◌≡◌, ℕ, ◌⊎◌, inl, inr, List, [], ◌∷◌, refl, ap, sym, subst, ◌∙◌}
+use Rattle.std.proofs.Common.{◌≡◌, ℕ, ◌⊎◌, inl, inr, List, [], ◌∷◌, Some, refl, ap, sym, subst, ◌∙◌}
+use Rattle.std.specs.List.{AllByRecursion}
+use Rattle.bx_tree.specs.Paths.{Atoms}
 use Rattle.bx_tree.specs.Trees.{Files}
 use Rattle.bx_tree.specs.Bundle.{Faults, IsBundle}
 use Rattle.bx_tree.specs.declared.bundle.BundleFault.{BundleFault}
@@ -11,14 +13,17 @@ use Rattle.bx_engine.specs.declared.fault.SpecificationFault.{SpecificationFault
 use Rattle.bx_engine.specs.declared.fault.SpecificationFault.TheVariants as specification_faults
 use Rattle.dscript_ast.specs.FileTree.{FileTree}
 use Rattle.dscript_ast.specs.declared.file.Form.TheVariants as forms
+use Rattle.dscript_modules.specs.declared.fault.Fault.{Fault}
+use Rattle.dscript_modules.specs.Faults.{fault_data}
+use Rattle.dscript_read.proofs.OneReading.{one_file}
+use Rattle.dscript_workspace.proofs.OneAnswer.{one_answer}
+use Rattle.dscript_workspace.specs.Workspaces.{Answer, Found, Refused}
 use Rattle.bx_engine.specs.Supported.{IsSupported}
-use Rattle.dscript_read.specs.declared.place.Place.{Place}
-use Rattle.dscript_read.specs.Reading.{HasNoTokens, IsFile, IsNoFile}
-use Rattle.dscript_read.proofs.OneReading.{file_or_none, no_tokens_or_file, no_tokens_or_no_file}
-use Rattle.dscript_read.proofs.OneReading.{one_failure, one_file, one_refusal}
-use Rattle.bx_engine.specs.Ends.{AreSources, Ends, HasReserved, IsSpecification, Makes}
-use Rattle.bx_engine.specs.Ends.{RefusesInput, RefusesSpecification}
+use Rattle.bx_engine.specs.Projects.{IsWellFormed, project_files}
+use Rattle.bx_engine.specs.Ends.{AreSources, AskFor, AsksFound, Ends, HasReserved, Makes}
+use Rattle.bx_engine.specs.Ends.{RefusesFound, RefusesInput, RefusesProjects, RefusesSpecification}
 use Rattle.bx_engine.proofs.OneSupported.{one_supported}
+use Rattle.bx_engine.proofs.ProjectFaults.{fault_or_none, one_first_fault, same_fault}
 use Rattle.bx_engine.specs.Ending.{Ending, InputRefused, SpecificationRefused, Succeeded}
 
 -- ## Inputs
@@ -80,83 +85,78 @@ refused_or_not input f sources h k = elim (kinds_of_refusal input f h) [
   | inr a ↦ k.free (subst HasReserved (one_tree input a.1 sources a.2 k.bundle) a.3)
 ]
 
+-- ## Project files
+
+-- what files ask for that are asked
+asked_well : (projects made : Files) → AskFor projects made → AllByRecursion IsWellFormed projects
+asked_well [] made h = tt
+asked_well (file ∷ []) made h = ((h.1, h.2), tt)
+asked_well (file ∷ next ∷ files) made h = absurd h
+
+one_asking : (projects fs gs : Files) → AskFor projects fs → AskFor projects gs → fs ≡ gs
+one_asking [] fs gs h k = h ∙ sym k
+one_asking (file ∷ []) fs gs h k =
+    one_supported k.1 fs gs
+    (subst (λ (tree : FileTree). IsSupported tree fs) (one_file forms.Project file.1 h.1 k.1 h.2 k.2) h.3) k.3
+one_asking (file ∷ next ∷ files) fs gs h k = absurd h
+
+asked_or_refused : (projects made : Files) (fault : SpecificationFault) → RefusesProjects projects fault
+    → AskFor projects made → ⊥
+asked_or_refused projects made (specification_faults.Fault fault) h k =
+    fault_or_none projects (fault_data fault) h (asked_well projects made k)
+asked_or_refused projects made (specification_faults.Unsupported path) h k = h.1 made k
+
+same_some : {X : Type 0} (x y : X) → Some x ≡ Some y → x ≡ y
+same_some x y e = cc
+
+one_refusal : (projects : Files) (f g : SpecificationFault) → RefusesProjects projects f
+    → RefusesProjects projects g → f ≡ g
+one_refusal projects (specification_faults.Fault f) (specification_faults.Fault g) h k =
+    ap (λ (x : Fault). specification_faults.Fault x)
+    (same_fault f g (one_first_fault projects (fault_data f) (fault_data g) h k))
+one_refusal projects (specification_faults.Fault f) (specification_faults.Unsupported q) h k =
+    absurd (fault_or_none projects (fault_data f) h k.0)
+one_refusal projects (specification_faults.Unsupported p) (specification_faults.Fault g) h k =
+    absurd (fault_or_none projects (fault_data g) k h.0)
+one_refusal projects (specification_faults.Unsupported p) (specification_faults.Unsupported q) h k =
+    ap (λ (x : Atoms). specification_faults.Unsupported x) (same_some p q (sym h.2 ∙ k.2))
+
 -- ## Specifications
 
-abbrev first_bytes : Files → List ℕ
-first_bytes [] = []
-first_bytes (f ∷ fs) = f.1
+one_found : (sources : Files) (answer : Answer) (f g : SpecificationFault) → RefusesFound sources answer f
+    → RefusesFound sources answer g → f ≡ g
+one_found sources (Refused found) (specification_faults.Fault f) (specification_faults.Fault g) h k =
+    ap (λ (x : Fault). specification_faults.Fault x) (same_fault f g (sym h ∙ k))
+one_found sources (Refused found) (specification_faults.Fault f) (specification_faults.Unsupported q) h k = absurd k
+one_found sources (Refused found) (specification_faults.Unsupported p) g h k = absurd h
+one_found sources (Found modules) f g h k = one_refusal (project_files sources modules) f g h k
 
-one_text : (sources : Files) (s t : List ℕ) → IsSpecification sources s → IsSpecification sources t → s ≡ t
-one_text sources s t h k = ap first_bytes (sym h ∙ k)
+found_or_refused : (sources : Files) (answer : Answer) (fault : SpecificationFault) (made : Files)
+    → RefusesFound sources answer fault → AsksFound sources answer made → ⊥
+found_or_refused sources (Refused found) fault made h k = k
+found_or_refused sources (Found modules) fault made h k = asked_or_refused (project_files sources modules) made fault h k
 
--- what holds of the text of the specification holds of each text of it
-at_text : (P : List ℕ → Type 0) (sources : Files) (s t : List ℕ) → IsSpecification sources s
-    → IsSpecification sources t → P s → P t
-at_text P sources s t h k p = subst P (one_text sources s t h k) p
-
-made_or_refused : (sources : Files) (fault : SpecificationFault) (files : Files)
-    → RefusesSpecification sources fault → Makes sources files → ⊥
-made_or_refused sources (specification_faults.Lex place) files h k =
-    no_tokens_or_file forms.Project k.0 k.2 place (at_text (λ t. HasNoTokens t place) sources h.0 k.0 h.1 k.1 h.2) k.3
-made_or_refused sources (specification_faults.Syntax place) files h k =
-    file_or_none forms.Project k.0 k.2 place k.3 (at_text (λ t. IsNoFile forms.Project t place) sources h.0 k.0 h.1 k.1 h.2)
-made_or_refused sources specification_faults.Unsupported files h k = elim h [
-  | inl none ↦ none k.0 k.1
-  | inr lacks ↦
-      let is = at_text (λ t. IsFile forms.Project t k.2) sources k.0 lacks.0 k.1 lacks.1 k.3 in
-      lacks.2.2 files (subst (λ (f : FileTree). IsSupported f files) (one_file forms.Project lacks.0 k.2 lacks.2.0 is lacks.2.1) k.4)
-]
-
-tokens_or_none : (sources : Files) (place : Place)
-    → RefusesSpecification sources (specification_faults.Lex place)
-    → RefusesSpecification sources specification_faults.Unsupported → ⊥
-tokens_or_none sources place h k = elim k [
-  | inl none ↦ none h.0 h.1
-  | inr lacks ↦
-      no_tokens_or_file forms.Project lacks.0 lacks.2.0 place
-      (at_text (λ t. HasNoTokens t place) sources h.0 lacks.0 h.1 lacks.1 h.2) lacks.2.1
-]
-
-tokens_or_not : (sources : Files) (p q : Place) → RefusesSpecification sources (specification_faults.Lex p)
-    → RefusesSpecification sources (specification_faults.Syntax q) → ⊥
-tokens_or_not sources p q h k =
-    no_tokens_or_no_file forms.Project k.0 p q (at_text (λ t. HasNoTokens t p) sources h.0 k.0 h.1 k.1 h.2) k.2
-
-file_or_not : (sources : Files) (place : Place) → RefusesSpecification sources (specification_faults.Syntax place)
-    → RefusesSpecification sources specification_faults.Unsupported → ⊥
-file_or_not sources place h k = elim k [
-  | inl none ↦ none h.0 h.1
-  | inr lacks ↦
-      file_or_none forms.Project lacks.0 lacks.2.0 place lacks.2.1
-      (at_text (λ t. IsNoFile forms.Project t place) sources h.0 lacks.0 h.1 lacks.1 h.2)
-]
+one_found_making : (sources : Files) (answer : Answer) (fs gs : Files) → AsksFound sources answer fs
+    → AsksFound sources answer gs → fs ≡ gs
+one_found_making sources (Refused found) fs gs h k = absurd h
+one_found_making sources (Found modules) fs gs h k = one_asking (project_files sources modules) fs gs h k
 
 one_specification_fault : (sources : Files) (f g : SpecificationFault) → RefusesSpecification sources f
     → RefusesSpecification sources g → f ≡ g
-one_specification_fault sources (specification_faults.Lex p) (specification_faults.Lex q) h k =
-    ap (λ (r : Place). specification_faults.Lex r)
-    (one_failure k.0 p q (at_text (λ t. HasNoTokens t p) sources h.0 k.0 h.1 k.1 h.2) k.2)
-one_specification_fault sources (specification_faults.Lex p) (specification_faults.Syntax q) h k =
-    absurd (tokens_or_not sources p q h k)
-one_specification_fault sources (specification_faults.Lex p) specification_faults.Unsupported h k =
-    absurd (tokens_or_none sources p h k)
-one_specification_fault sources (specification_faults.Syntax p) (specification_faults.Lex q) h k =
-    absurd (tokens_or_not sources q p k h)
-one_specification_fault sources (specification_faults.Syntax p) (specification_faults.Syntax q) h k =
-    ap (λ (r : Place). specification_faults.Syntax r)
-    (one_refusal forms.Project k.0 p q (at_text (λ t. IsNoFile forms.Project t p) sources h.0 k.0 h.1 k.1 h.2) k.2)
-one_specification_fault sources (specification_faults.Syntax p) specification_faults.Unsupported h k =
-    absurd (file_or_not sources p h k)
-one_specification_fault sources specification_faults.Unsupported (specification_faults.Lex q) h k =
-    absurd (tokens_or_none sources q k h)
-one_specification_fault sources specification_faults.Unsupported (specification_faults.Syntax q) h k =
-    absurd (file_or_not sources q k h)
-one_specification_fault sources specification_faults.Unsupported specification_faults.Unsupported h k = refl
+one_specification_fault sources f g h k =
+    one_found sources k.0 f g
+    (subst (λ (answer : Answer). RefusesFound sources answer f) (one_answer sources h.0 k.0 h.1 k.1) h.2) k.2
+
+made_or_refused : (sources : Files) (fault : SpecificationFault) (made : Files)
+    → RefusesSpecification sources fault → Makes sources made → ⊥
+made_or_refused sources fault made h k =
+    found_or_refused sources k.0 fault made
+    (subst (λ (answer : Answer). RefusesFound sources answer fault) (one_answer sources h.0 k.0 h.1 k.1) h.2) k.2
 
 one_making : (sources : Files) (fs gs : Files) → Makes sources fs → Makes sources gs → fs ≡ gs
 one_making sources fs gs h k =
-    let is = subst (λ (t : List ℕ). IsFile forms.Project t h.2) (one_text sources h.0 k.0 h.1 k.1) h.3 in
-    one_supported k.2 fs gs (subst (λ (f : FileTree). IsSupported f fs) (one_file forms.Project k.0 h.2 k.2 is k.3) h.4) k.4
+    one_found_making sources k.0 fs gs
+    (subst (λ (answer : Answer). AsksFound sources answer fs) (one_answer sources h.0 k.0 h.1 k.1) h.2) k.2
 
 one_source : (input : List ℕ) (s t : Files) → AreSources input s → AreSources input t → s ≡ t
 one_source input s t h k = one_tree input s t h.bundle k.bundle

@@ -17,7 +17,9 @@ use Rattle.bx_tree.specs.Orders.{path_cmp_total}
 use Rattle.bx_tree.specs.declared.tree_file.TreeFile.{TreeFile}
 use Rattle.bx_engine.specs.Supported.{IsSupported, IsAllowed, IsBelowOut, Write, made}
 use Rattle.bx_engine.specs.Ending.{Ending, InputRefused, SpecificationRefused, Succeeded, made_of, pip_lines, report_path}
-use Rattle.bx_engine.specs.Ends.{Ends}
+use Rattle.bx_engine.specs.Ends.{AskFor, AsksFound, Ends}
+use Rattle.bx_engine.specs.Projects.{project_files}
+use Rattle.dscript_workspace.specs.Workspaces.{Answer, Found, Refused}
 use Rattle.bx_tree.proofs.PathTexts.{one_path}
 use Rattle.std.specs.Prelude.{Vec}
 use Rattle.std.specs.declared.alloc.Global.{Global}
@@ -170,11 +172,21 @@ report_pushed items new f p report e at holds named =
     ∙ ap (λ q. files_of items ++ (q, f.bytes.items) ∷ []) (at ∙ one_path (codes "report.txt") p report_path named named_report)
     ∙ ap (λ (b : Vec ℕ Global). files_of items ++ (report_path, b.items) ∷ []) holds
 
+-- the files that project files ask for may be made
+projects_are_outputs : (projects made : Files) → AskFor projects made → AreOutputs made
+projects_are_outputs [] made h = subst AreOutputs (sym h) no_outputs
+projects_are_outputs (file ∷ []) made h = asked_are_outputs h.1 made h.3
+projects_are_outputs (file ∷ next ∷ files) made h = absurd h
+
+found_are_outputs : (sources : Files) (answer : Answer) (made : Files) → AsksFound sources answer made → AreOutputs made
+found_are_outputs sources (Refused found) made h = absurd h
+found_are_outputs sources (Found modules) made h = projects_are_outputs (project_files sources modules) made h
+
 -- the files that an input comes to may be made
 pub ends_with_outputs : (input : List ℕ) (ending : Ending) → Ends input ending → AreOutputs (made_of ending)
 ends_with_outputs input (InputRefused fault) h = no_outputs
 ends_with_outputs input (SpecificationRefused fault) h = no_outputs
-ends_with_outputs input (Succeeded files) h = asked_are_outputs h.2.2 files h.2.4
+ends_with_outputs input (Succeeded files) h = found_are_outputs h.0 h.2.0 files h.2.2
 
 -- which are a tree
 pub pushed_tree : (items new : List TreeFile) (f : TreeFile) (p : Atoms) (report : Vec ℕ Global) → AreOutputs (files_of items) → new ≡ items ++ f ∷ [] → f.path ≡ p

@@ -1,18 +1,19 @@
 -- No input is without an ending.
-use Rattle.std.proofs.Common.{◌≢◌, ℕ, List, inl, inr, refl}
+use Rattle.std.proofs.Common.{◌≢◌, ℕ, List, [], ◌∷◌, inl, inr, refl}
 use Rattle.bx_tree.specs.Trees.{Files}
 use Rattle.bx_tree.specs.Bundle.{Faults, IsBundle}
 use Rattle.bx_tree.specs.declared.bundle.BundleFault.{BundleFault}
 use Rattle.bx_tree.specs.declared.bundle.BundleFault.TheVariants as bundle_faults
 use Rattle.bx_tree.proofs.SomeReading.{some_reading}
-use Rattle.dscript_ast.specs.declared.file.Form.TheVariants as forms
-use Rattle.dscript_read.specs.Reading.{Reading, Read, NoTokens, NoFile, ReadsAs}
-use Rattle.dscript_read.proofs.SomeReading.{some_reading as some_reading_of_text}
+use Rattle.dscript_workspace.proofs.SomeAnswer.{some_answer}
+use Rattle.dscript_workspace.specs.Workspaces.{Answer, Found, Refused}
 use Rattle.bx_engine.specs.declared.fault.InputFault.TheVariants as input_faults
 use Rattle.bx_engine.specs.declared.fault.SpecificationFault.{SpecificationFault}
 use Rattle.bx_engine.specs.declared.fault.SpecificationFault.TheVariants as specification_faults
 use Rattle.bx_engine.specs.Ending.{Ending, InputRefused, SpecificationRefused, Succeeded}
-use Rattle.bx_engine.specs.Ends.{AreSources, Ends, IsSpecification, Makes, RefusesSpecification}
+use Rattle.bx_engine.specs.Ends.{AreSources, AskFor, AsksFound, Ends, RefusesFound, RefusesProjects}
+use Rattle.bx_engine.specs.Projects.{project_files}
+use Rattle.bx_engine.proofs.ProjectFaults.{fault_of, some_first_fault}
 
 abbrev HasNoEnding : List ℕ → Type 0
 HasNoEnding input = (ending : Ending) → Ends input ending → ⊥
@@ -28,25 +29,19 @@ of_fault input bundle_faults.TooManyFiles n h none = none (InputRefused input_fa
 of_fault input bundle_faults.TooLarge n h none = none (InputRefused input_faults.TooLarge) h
 of_fault input bundle_faults.Memory n h none = n refl
 
--- a specification whose text was read is refused or makes files
-of_reading : (sources : Files) (text : List ℕ) → IsSpecification sources text
-    → (reading : Reading) → ReadsAs forms.Project text reading
-    → ((fault : SpecificationFault) → RefusesSpecification sources fault → ⊥)
-    → ((files : Files) → Makes sources files → ⊥) → ⊥
-of_reading sources text is (NoTokens place) reads refused made =
-    refused (specification_faults.Lex place) (text, is, reads)
-of_reading sources text is (NoFile place) reads refused made =
-    refused (specification_faults.Syntax place) (text, is, reads)
-of_reading sources text is (Read file) reads refused made =
-    refused specification_faults.Unsupported
-    (inr (text, is, (file, reads, λ files supported. made files (text, is, file, reads, supported))))
+-- project files are refused, or ask for files
+of_projects : (projects : Files) → ((fault : SpecificationFault) → RefusesProjects projects fault → ⊥)
+    → ((made : Files) → AskFor projects made → ⊥) → ⊥
+of_projects [] refused made = made [] refl
+of_projects (file ∷ files) refused made = elim (some_first_fault (file ∷ files)) [
+  | inl all ↦ refused (specification_faults.Unsupported file.0) (all, made, refl)
+  | inr fault ↦ refused (specification_faults.Fault (fault_of fault.0)) fault.1
+]
 
-of_text : (sources : Files) (text : List ℕ) → IsSpecification sources text
-    → ((fault : SpecificationFault) → RefusesSpecification sources fault → ⊥)
-    → ((files : Files) → Makes sources files → ⊥) → ⊥
-of_text sources text is refused made =
-    let reads = some_reading_of_text forms.Project text in
-    of_reading sources text is reads.0 reads.1 refused made
+of_answer : (sources : Files) (answer : Answer) → ((fault : SpecificationFault) → RefusesFound sources answer fault → ⊥)
+    → ((made : Files) → AsksFound sources answer made → ⊥) → ⊥
+of_answer sources (Refused found) refused made = refused (specification_faults.Fault (fault_of found)) refl
+of_answer sources (Found modules) refused made = of_projects (project_files sources modules) refused made
 
 -- source files end in some way
 of_tree : (input : List ℕ) (sources : Files) → IsBundle input sources → HasNoEnding input → ⊥
@@ -55,10 +50,10 @@ of_tree input sources bundle none =
       bundle = bundle;
       free = λ r. none (InputRefused input_faults.Reserved) (sources, bundle, r);
     } in
-    let refused : (fault : SpecificationFault) → RefusesSpecification sources fault → ⊥ =
-    λ fault h. none (SpecificationRefused fault) (sources, are, h) in
-    let made : (files : Files) → Makes sources files → ⊥ = λ files h. none (Succeeded files) (sources, are, h) in
-    refused specification_faults.Unsupported (inl (λ text is. of_text sources text is refused made))
+    let found = some_answer sources in
+    of_answer sources found.0
+    (λ fault h. none (SpecificationRefused fault) (sources, are, (found.0, found.1, h)))
+    (λ made h. none (Succeeded made) (sources, are, (found.0, found.1, h)))
 
 pub some_ending : (input : List ℕ) → HasNoEnding input → ⊥
 some_ending input none = elim (some_reading input) [

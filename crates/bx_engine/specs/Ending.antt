@@ -1,11 +1,13 @@
 -- How a build may end, and what is written of it.
-use Rattle.std.specs.Prelude.{ℕ, ◌+◌, List, [], ◌∷◌, ◌++◌, Option, Some, None, codes}
+use Rattle.std.specs.Prelude.{ℕ, ◌+◌, List, [], ◌∷◌, ◌++◌, Option, None, codes}
 use Rattle.std.specs.Fmt.{decimal}
 use Rattle.std.specs.Option.{option_map_or}
-use Rattle.bx_tree.specs.Paths.{Atoms}
+use Rattle.bx_tree.specs.Paths.{Atoms, path_text}
 use Rattle.bx_tree.specs.Trees.{Files}
 use Rattle.bx_tree.specs.Bundle.{bundle}
-use Rattle.dscript_read.specs.declared.place.Place.{Place}
+use Rattle.dscript_modules.specs.declared.place.Place.{Place}
+use Rattle.dscript_modules.specs.declared.fault.SpecKind.{SpecKind}
+use Rattle.dscript_modules.specs.declared.fault.SpecKind.TheVariants as kinds
 use Rattle.bx_engine.specs.declared.status.Status.{Status}
 use Rattle.bx_engine.specs.declared.status.Status.TheVariants as statuses
 use Rattle.bx_engine.specs.declared.fault.InputFault.{InputFault}
@@ -33,14 +35,20 @@ input_fault_name input_faults.TooManyFiles = codes "TooManyFiles"
 input_fault_name input_faults.TooLarge = codes "TooLarge"
 input_fault_name input_faults.Reserved = codes "Reserved"
 
-abbrev pub specification_fault_name : SpecificationFault → List ℕ
-specification_fault_name (specification_faults.Lex place) = codes "Lex"
-specification_fault_name (specification_faults.Syntax place) = codes "Syntax"
-specification_fault_name specification_faults.Unsupported = codes "Unsupported"
+abbrev pub kind_name : SpecKind → List ℕ
+kind_name kinds.Lex = codes "Lex"
+kind_name kinds.Syntax = codes "Syntax"
+kind_name kinds.ModuleConfig = codes "ModuleConfig"
+kind_name kinds.DuplicateModule = codes "DuplicateModule"
+kind_name kinds.DuplicateName = codes "DuplicateName"
+kind_name kinds.UnknownName = codes "UnknownName"
+kind_name kinds.UnknownModule = codes "UnknownModule"
+kind_name kinds.NotPublic = codes "NotPublic"
+kind_name kinds.AssignCaptured = codes "AssignCaptured"
 
--- the path of the one specification file
-abbrev pub specification_path : List ℕ
-specification_path = codes "build.dsc"
+abbrev pub specification_fault_name : SpecificationFault → List ℕ
+specification_fault_name (specification_faults.Fault fault) = kind_name fault.kind
+specification_fault_name (specification_faults.Unsupported path) = codes "Unsupported"
 
 -- ## The status
 
@@ -57,22 +65,30 @@ pip_lines number [] = []
 pip_lines number (file ∷ files) =
     codes "pip " ++ decimal number ++ codes " write succeeded\n" ++ pip_lines (number + 1) files
 
--- the place of a fault, if it has one
+-- the file of a fault
+abbrev pub file_in : SpecificationFault → Atoms
+file_in (specification_faults.Fault fault) = fault.file
+file_in (specification_faults.Unsupported path) = path
+
+-- the place of a fault in its file, if it has one
 abbrev pub place_in : SpecificationFault → Option Place
-place_in (specification_faults.Lex place) = Some place
-place_in (specification_faults.Syntax place) = Some place
-place_in specification_faults.Unsupported = None
+place_in (specification_faults.Fault fault) = fault.place
+place_in (specification_faults.Unsupported path) = None
 
 -- the line that says a place
 abbrev pub place_text : Place → List ℕ
 place_text place = codes "at " ++ decimal place.line ++ (codes " " ++ decimal place.column ++ codes "\n")
 
+-- the lines up to the one that names a fault with its file
+abbrev pub fault_text : SpecificationFault → List ℕ
+fault_text fault =
+    codes "report 1\nverdict specification-refused\nfault " ++ specification_fault_name fault
+    ++ codes " " ++ path_text (file_in fault) ++ codes "\n"
+
 abbrev pub report_of : Ending → List ℕ
 report_of (InputRefused fault) =
     codes "report 1\nverdict input-refused\nfault " ++ input_fault_name fault ++ codes "\n"
-report_of (SpecificationRefused fault) =
-    codes "report 1\nverdict specification-refused\nfault " ++ specification_fault_name fault
-    ++ codes " " ++ specification_path ++ codes "\n" ++ option_map_or place_text (place_in fault) []
+report_of (SpecificationRefused fault) = fault_text fault ++ option_map_or place_text (place_in fault) []
 report_of (Succeeded files) = codes "report 1\nverdict succeeded\n" ++ pip_lines 0 files
 
 -- ## The output

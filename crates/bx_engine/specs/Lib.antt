@@ -1,8 +1,10 @@
 pub mod Ending
 pub mod Ends
 pub mod Expected
+pub mod Faults
 pub mod Known
 pub mod Output
+pub mod Projects
 pub mod Statuses
 pub mod Supported
 pub mod Views

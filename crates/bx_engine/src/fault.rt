@@ -1,9 +1,10 @@
 //! Why a build is refused before it begins.
 
 ghost use Rattle.std.specs.Prelude.{◌≡◌};
-ghost use Rattle.bx_engine.specs.Ending.{place_in};
+ghost use Rattle.bx_engine.specs.Ending.{file_in, place_in};
 
-use dscript_read::Place;
+use bx_tree::Path;
+use dscript_modules::{Fault, Place};
 
 /// Why an input is refused. docs/FORMATS.md says when each comes.
 #[derive(Clone, Copy, Debug, PartialEq, Eq)]
@@ -19,24 +20,32 @@ pub enum InputFault {
 }
 
 /// Why a specification is refused.
-#[derive(Clone, Copy, Debug, PartialEq, Eq)]
+#[derive(Drop)]
 pub enum SpecificationFault {
-    /// It is no list of tokens: at this place no token begins, nor a blank or a comment.
-    Lex(Place),
-    /// The grammar derives no file from its tokens: the item at this place is the first that is wrong.
-    Syntax(Place),
-    /// It is a file of a form that is not supported yet.
-    Unsupported,
+    /// The first fault of its files.
+    Fault(Fault),
+    /// Its files can be read, and what they ask for is not supported yet. This is the first project file.
+    Unsupported(Path),
 }
 
 impl SpecificationFault {
-    /// The place of the fault, if it has one.
+    /// The file that is named.
+    pub fn file(&self) -> &Path
+        ensures { result.now ≡ file_in self.now }
+    {
+        match self {
+            SpecificationFault::Fault(fault) => &fault.file,
+            SpecificationFault::Unsupported(path) => path,
+        }
+    }
+
+    /// The place of the fault in its file, if it has one.
     pub fn place(&self) -> Option<Place>
         ensures { result ≡ place_in self.now }
     {
         match self {
-            SpecificationFault::Lex(place) | SpecificationFault::Syntax(place) => Some(*place),
-            SpecificationFault::Unsupported => None,
+            SpecificationFault::Fault(fault) => fault.place,
+            SpecificationFault::Unsupported(_) => None,
         }
     }
 }

@@ -1,10 +1,10 @@
 //! The whole engine as one call: from the words of the command line and the bytes of an input to a status,
 //! the bytes of the output, and the notes.
 //!
-//! This crate depends on `bx_io` for the outside, on `bx_tree` for bundles, and on `dscript_lex`,
-//! `dscript_parse` and `dscript_ast` for specifications. It carries the promise that all others are for: the
-//! call writes the bytes and gives the status that the definition of a build gives for the input, on both
-//! sides of every refusal.
+//! This crate depends on `bx_io` for the outside, on `bx_tree` for bundles, on `dscript_workspace` for the
+//! modules of a tree, which `dscript_modules` has as data, and on `dscript_read` and `dscript_ast` for their files. It carries the promise that all
+//! others are for: the call writes the bytes and gives the status that the definition of a build gives for the
+//! input, on both sides of every refusal.
 #![tactic(auto)]
 
 mod build;
@@ -16,6 +16,7 @@ mod laws;
 mod limits;
 mod order;
 mod paths;
+mod projects;
 mod reading;
 mod report;
 mod response;

@@ -2,15 +2,16 @@
 
 ghost use Rattle.std.specs.Prelude.{◌≡◌, IfOk};
 ghost use Rattle.bx_engine.specs.Ending.{InputRefused, SpecificationRefused, Succeeded};
-ghost use Rattle.bx_engine.specs.Ending.{input_fault_name, specification_fault_name};
-ghost use Rattle.bx_engine.specs.Ending.{notes_of, place_text, report_of};
+ghost use Rattle.bx_engine.specs.Ending.{input_fault_name, kind_name as name_of_kind};
+ghost use Rattle.bx_engine.specs.Ending.{specification_fault_name};
+ghost use Rattle.bx_engine.specs.Ending.{fault_text, notes_of, place_text, report_of};
 ghost use Rattle.bx_engine.specs.Views.{ending_view};
 ghost use Rattle.bx_tree.specs.Views.{files_of};
 
 use crate::ending::Ending;
 use crate::fault::{InputFault, SpecificationFault};
 use bx_tree::TreeFile;
-use dscript_read::Place;
+use dscript_modules::{Place, SpecKind};
 use std::alloc::{AllocError, Global};
 
 /// The notes of a build that succeeded. There is no process and no cache yet to be counted.
@@ -30,13 +31,28 @@ fn input_name(fault: InputFault) -> &'static str
     }
 }
 
-fn specification_name(fault: SpecificationFault) -> &'static str
-    ensures { result.now ≡ specification_fault_name fault }
+fn kind_name(kind: SpecKind) -> &'static str
+    ensures { result.now ≡ name_of_kind kind }
+{
+    match kind {
+        SpecKind::Lex => "Lex",
+        SpecKind::Syntax => "Syntax",
+        SpecKind::ModuleConfig => "ModuleConfig",
+        SpecKind::DuplicateModule => "DuplicateModule",
+        SpecKind::DuplicateName => "DuplicateName",
+        SpecKind::UnknownName => "UnknownName",
+        SpecKind::UnknownModule => "UnknownModule",
+        SpecKind::NotPublic => "NotPublic",
+        SpecKind::AssignCaptured => "AssignCaptured",
+    }
+}
+
+fn specification_name(fault: &SpecificationFault) -> &'static str
+    ensures { result.now ≡ specification_fault_name fault.now }
 {
     match fault {
-        SpecificationFault::Lex(_) => "Lex",
-        SpecificationFault::Syntax(_) => "Syntax",
-        SpecificationFault::Unsupported => "Unsupported",
+        SpecificationFault::Fault(fault) => kind_name(fault.kind),
+        SpecificationFault::Unsupported(_) => "Unsupported",
     }
 }
 
@@ -57,14 +73,20 @@ fn place_line(alloc: Global, place: Place) -> Result<Vec<u8>, AllocError>
     text.as_bytes().to_vec(alloc)
 }
 
-fn specification_report(alloc: Global, fault: SpecificationFault) -> Result<Vec<u8>, AllocError>
-    ensures { IfOk result (λ text. text.items ≡ report_of (SpecificationRefused fault)) }
+/// The lines of a report up to the one that names a fault with its file.
+fn fault_lines(alloc: Global, fault: &SpecificationFault) -> Result<Vec<u8>, AllocError>
+    ensures { IfOk result (λ text. text.items ≡ fault_text fault.now) }
 {
     let name = specification_name(fault);
-    let text = format!(in alloc;
-        "report 1\nverdict specification-refused\nfault {name} build.dsc\n"
-    )?;
-    let mut report = text.as_bytes().to_vec(alloc)?;
+    let file = fault.file().text();
+    let text = format!(in alloc; "report 1\nverdict specification-refused\nfault {name} {file}\n")?;
+    text.as_bytes().to_vec(alloc)
+}
+
+fn specification_report(alloc: Global, fault: &SpecificationFault) -> Result<Vec<u8>, AllocError>
+    ensures { IfOk result (λ text. text.items ≡ report_of (SpecificationRefused fault.now)) }
+{
+    let mut report = fault_lines(alloc, fault)?;
     let Some(place) = fault.place() else {
         return Ok(report);
     };
@@ -89,7 +111,7 @@ pub(crate) fn report(alloc: Global, ending: &Ending) -> Result<Vec<u8>, AllocErr
 {
     match ending {
         Ending::InputRefused(fault) => input_report(alloc, *fault),
-        Ending::SpecificationRefused(fault) => specification_report(alloc, *fault),
+        Ending::SpecificationRefused(fault) => specification_report(alloc, fault),
         Ending::Succeeded(files) => success_report(alloc, files.files()),
     }
 }

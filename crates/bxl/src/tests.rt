@@ -7,6 +7,7 @@ mod shut;
 mod streams;
 mod supported;
 mod words;
+mod workspaces;
 
 use crate::tests::shut::{ShutGate, ShutKeeper};
 use bx_engine::command;

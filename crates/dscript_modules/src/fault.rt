@@ -15,9 +15,9 @@ pub enum SpecKind {
     /// The grammar derives no file from the tokens of a file.
     Syntax,
     /// The configuration of the workspace or of a module says something that is not allowed; neither `config.dsc`
-    /// nor `build.dsc` is there; or two modules list one file.
+    /// nor `build.dsc` is there; or a module lists a file that belongs to another module too.
     ModuleConfig,
-    /// Two modules have one name.
+    /// Two modules have one name, or one has the name of the module that is always there.
     DuplicateModule,
     /// Two declarations, two locals or two imports have one name.
     DuplicateName,

@@ -2,8 +2,7 @@
 //! specification with its file and place.
 //!
 //! Types alone, on which reading, workspaces, names and evaluation depend. It depends on `bx_tree` for paths and
-//! texts. Which tree has which workspace is defined in `dscript_workspace`, and which names are faults in
-//! `dscript_names`.
+//! texts. Which tree has which workspace is defined in `dscript_workspace`.
 #![tactic(auto)]
 
 mod fault;

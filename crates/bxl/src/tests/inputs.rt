@@ -75,7 +75,7 @@ fn bounds_the_number_of_files(rt: HostRuntime) -> Result<(), Fail> {
         rt.alloc(),
         &most,
         4,
-        "specification-refused\nfault Unsupported build.dsc",
+        "specification-refused\nfault ModuleConfig config.dsc",
     )?;
     let more = many_files(rt.alloc(), 16_385)?;
     check_inputs(&rt, rt.alloc(), &more, "TooManyFiles")

@@ -68,19 +68,6 @@ fn refuses_a_file_that_is_not_supported(rt: HostRuntime) -> Result<(), Fail> {
     Ok(())
 }
 
-// Source trees that are not the one file, with `#` between them.
-const OTHER_TREES: &[u8] =
-    b"bundle 1\nend\n#bundle 1\nfile 0 a\n\nfile 0 build.dsc\n\nend\n#bundle 1\nfile 0 src/build.dsc\n\nend\n";
-
-#[test]
-fn refuses_other_trees(rt: HostRuntime) -> Result<(), Fail> {
-    let lines = "specification-refused\nfault Unsupported build.dsc";
-    for tree in OTHER_TREES.split(|byte| *byte == b'#') {
-        check_refused(&rt, rt.alloc(), tree, 4, lines)?;
-    }
-    Ok(())
-}
-
 /// An item without its last punctuator.
 const CUT_ITEM: &[u8] =
     b"const x = Transformer.writeAllText({outputPath: p`out/a.txt`, text: \"hi\"})";

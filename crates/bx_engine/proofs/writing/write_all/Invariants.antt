@@ -1,4 +1,4 @@
-use Rattle.std.proofs.Common.{◌≡◌, ◌≤◌, ◌++◌, ℕ, List, [], length}
+use Rattle.std.proofs.Common.{◌≡◌, ◌++◌, ℕ, List, [], length}
 use Rattle.std.specs.Io.KnownBytes.{Appends}
 use Rattle.bx_engine.proofs.writing.write_all.Given as goal
 

@@ -1,0 +1,35 @@
+-- What the faults that functions answer with say.
+use Rattle.std.specs.Prelude.{◌≡◌, ℕ, List, ⊤}
+use Rattle.bx_tree.specs.Paths.{Atoms}
+use Rattle.bx_tree.specs.Trees.{Files}
+use Rattle.dscript_modules.specs.Faults.{FaultData}
+use Rattle.dscript_modules.specs.declared.fault.SpecFault.{SpecFault}
+use Rattle.dscript_modules.specs.declared.fault.SpecFault.TheVariants as spec_faults
+use Rattle.bx_engine.specs.declared.fault.SpecificationFault.TheVariants as specification_faults
+use Rattle.bx_engine.specs.Ending.{Ending, SpecificationRefused}
+use Rattle.bx_engine.specs.Projects.{IsFirstFault, IsIllFormed}
+
+-- the fault is this one; running out of memory has no cause that is stated
+abbrev pub IsSameFault : FaultData → SpecFault → Type 0
+IsSameFault found (spec_faults.Fault kind path place) =
+    found ≡ record { kind = kind; file = path; place = place }
+IsSameFault found spec_faults.Memory = ⊤
+
+-- the file is ill-formed with this fault; running out of memory has no cause that is stated
+abbrev pub RefusesFile : Atoms × List ℕ → SpecFault → Type 0
+RefusesFile file (spec_faults.Fault kind path place) =
+    IsIllFormed file (record { kind = kind; file = path; place = place })
+RefusesFile file spec_faults.Memory = ⊤
+
+-- this is the fault of the first file that is ill-formed
+abbrev pub RefusesFiles : Files → SpecFault → Type 0
+RefusesFiles files (spec_faults.Fault kind path place) =
+    IsFirstFault files (record { kind = kind; file = path; place = place })
+RefusesFiles files spec_faults.Memory = ⊤
+
+-- the build ends with this fault
+abbrev pub EndsBy : SpecFault → Ending → Type 0
+EndsBy (spec_faults.Fault kind path place) ending =
+    ending
+    ≡ SpecificationRefused (specification_faults.Fault (record { kind = kind; file = path; place = place }))
+EndsBy spec_faults.Memory ending = ⊥

@@ -1,0 +1,5 @@
+pub mod Joining
+pub mod AmbientCalls
+pub mod Outwards
+pub mod Numbering
+pub mod OneString

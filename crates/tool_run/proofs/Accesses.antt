@@ -1,0 +1,334 @@
+-- A run's asks are answered, a denied access is its last and only one, and what it writes is permitted.
+use Rattle.std.proofs.Common.{◌≡◌, ◌≢◌, ℕ, ◌+◌, ◌≤◌, zero, suc, true, false, Bool, ◌||◌, cond, List, [], ◌∷◌, ◌++◌, length, codes, take, drop, Option, Some, None, refl, ap, sym, ◌∙◌, subst, arith, append_assoc, IsTrue}
+use Rattle.std.specs.Prelude.{slice_get, nat_lt}
+use Rattle.std.specs.Str.{bytes_eq}
+use Rattle.std.specs.Fmt.{decimal}
+use Rattle.std.specs.List.{AllByRecursion}
+use Rattle.std.specs.BTreeMap.{insert_entry}
+use Rattle.std.specs.Ordering.{match_ordering}
+use Rattle.std.specs.declared.cmp.Ordering.{Ordering}
+use Rattle.std.specs.declared.cmp.Ordering.TheVariants.{Less, Equal, Greater}
+use Rattle.bx_tree.specs.Paths.{Atoms, path_cmp}
+use Rattle.bx_tree.specs.Trees.{Files, file_at}
+use Rattle.observed.specs.declared.ask.AskKind.{AskKind}
+use Rattle.observed.specs.declared.ask.AskKind.TheVariants as kinds
+use Rattle.observed.specs.declared.ask.Ask.{Ask}
+use Rattle.observed.specs.declared.access.Access.{Access}
+use Rattle.observed.specs.declared.access.Access.TheVariants.{Asked, WriteDenied}
+use Rattle.observed.specs.declared.access.Answer.{Answer}
+use Rattle.observed.specs.declared.access.Answer.TheVariants as answers
+use Rattle.observed.specs.declared.access.End.{End}
+use Rattle.observed.specs.declared.access.End.TheVariants as ends
+use Rattle.tool_text.specs.declared.tool.Operand.{Operand}
+use Rattle.tool_text.specs.declared.tool.Instr.{Instr}
+use Rattle.tool_text.specs.declared.tool.Instr.TheVariants as instrs
+use Rattle.tool_run.specs.declared.deed.Deed.{Deed}
+use Rattle.tool_run.specs.declared.deed.Deed.TheVariants as deeds
+use Rattle.tool_run.specs.declared.limits.TheConstants.{MAX_REGISTER, MAX_OUTPUT}
+use Rattle.tool_run.specs.Description.{Description, answer_of, permits, resolved}
+use Rattle.tool_run.specs.Machine.{Machine, at_place, deed_of, fitting, fitting_two, next, start, written}
+use Rattle.tool_run.specs.Values.{number_of, split_parts, variable}
+use Rattle.tool_run.specs.Writes.{clashes, own_answer, own_file, has_below}
+use Rattle.tool_run.specs.Instructions.{act, list_with, look_up, looks, or_jump, probe_with, read_with, value, with_answer, with_number, writes_at}
+use Rattle.tool_run.specs.Laws.{EndsDenied, Holds, IsAnswered, IsDenied}
+use Rattle.tool_run.specs.Run.{Run, Turn, at_end_or, ended, onward, run_from, run_of, run_tool, turn, turned}
+
+-- ## One instruction
+
+abbrev pub ArePermitted : Description → Files → Type 0
+ArePermitted d writes = AllByRecursion (λ f. IsTrue (permits d f.0)) writes
+
+-- an end is no denial
+abbrev pub IsOther : Option End → Type 0
+IsOther None = Unit {0}
+IsOther (Some end) = end ≢ ends.Denied
+
+-- an end is a denial exactly where the access is denied
+abbrev pub TellsDenied : Access → Option End → Type 0
+TellsDenied access None = ¬ IsDenied access
+TellsDenied access (Some end) = (end ≡ ends.Denied → IsDenied access) × (end ≢ ends.Denied → ¬ IsDenied access)
+
+-- the writes are as before, and the end is no denial
+pub record Plain (m : Machine) (t : Machine × Option End) : Type 0 where
+  pub writes : t.0.writes ≡ m.writes
+  pub end : IsOther t.1
+
+-- an ask that was answered leaves the writes as they were, and ends as a denial exactly where it is one
+pub record Tells (m : Machine) (ask : Ask) (answer : Answer) (t : Machine × Option End) : Type 0 where
+  pub writes : t.0.writes ≡ m.writes
+  pub end : TellsDenied (Asked ask answer) t.1
+
+abbrev pub DeedFair : Instr → Machine → Deed → Type 0
+DeedFair i m deeds.Goes = Unit {0}
+DeedFair i m (deeds.Asks ask) = (answer : Answer) → Tells m ask answer (with_answer m i ask answer)
+DeedFair i m (deeds.Wrote path) = Unit {0}
+DeedFair i m (deeds.Refused path) = Unit {0}
+DeedFair i m (deeds.Stops end) = end ≢ ends.Denied
+
+pub record Fair (d : Description) (i : Instr) (t : Machine × Deed) : Type 0 where
+  pub writes : ArePermitted d t.0.writes
+  pub deed : DeedFair i t.0 t.1
+
+plain_if : (m m' : Machine) (t : Bool) → m'.writes ≡ m.writes → Plain m (cond t (m, Some ends.TooLong) (m', None))
+plain_if m m' true same = record { writes = refl; end = λ (e : ends.TooLong ≡ ends.Denied). cc }
+plain_if m m' false same = record { writes = same; end = tt }
+
+fitting_plain : (m : Machine) (r : ℕ) (bytes : List ℕ) → Plain m (fitting m r bytes)
+fitting_plain m r bytes = plain_if m _ (nat_lt MAX_REGISTER (length bytes)) refl
+
+two_plain : (m : Machine) (r s : ℕ) (xs ys : List ℕ) → Plain m (fitting_two m r s xs ys)
+two_plain m r s xs ys = plain_if m _ (nat_lt MAX_REGISTER (length xs) || nat_lt MAX_REGISTER (length ys)) refl
+
+deed_plain : (d : Description) (i : Instr) (m : Machine) (t : Machine × Option End) → ArePermitted d m.writes → Plain m t → Fair d i (deed_of t)
+deed_plain d i m (m', None) h p = record { writes = subst (ArePermitted d) (sym p.writes) h; deed = tt }
+deed_plain d i m (m', Some end) h p = record { writes = subst (ArePermitted d) (sym p.writes) h; deed = p.end }
+
+stops_fair : (d : Description) (i : Instr) (m : Machine) (end : End) → ArePermitted d m.writes → end ≢ ends.Denied → Fair d i (m, deeds.Stops end)
+stops_fair d i m end h other = record { writes = h; deed = other }
+
+number_fair : (d : Description) (i : Instr) (m : Machine) (n : Option ℕ) (f : ℕ → Machine × Deed) → ArePermitted d m.writes → ((k : ℕ) → Fair d i (f k))
+    → Fair d i (with_number m n f)
+number_fair d i m None f h all = stops_fair d i m ends.BadProgram h (λ e. cc)
+number_fair d i m (Some k) f h all = all k
+
+jump_fair : (d : Description) (i : Instr) (m : Machine) (r label : ℕ) (o : Option (List ℕ)) → ArePermitted d m.writes → Fair d i (or_jump m r label o)
+jump_fair d i m r label None h = record { writes = h; deed = tt }
+jump_fair d i m r label (Some bytes) h = deed_plain d i m (fitting m r bytes) h (fitting_plain m r bytes)
+
+said_fair : (d : Description) (i : Instr) (m m' : Machine) (t : Bool) → ArePermitted d m.writes → m'.writes ≡ m.writes
+    → Fair d i (cond t (m, deeds.Stops ends.TooLong) (m', deeds.Goes))
+said_fair d i m m' true h same = record { writes = h; deed = λ (e : ends.TooLong ≡ ends.Denied). cc }
+said_fair d i m m' false h same = record { writes = subst (ArePermitted d) (sym same) h; deed = tt }
+
+eq_fair : (d : Description) (i : Instr) (m a b : Machine) (t : Bool) → ArePermitted d m.writes → a.writes ≡ m.writes → b.writes ≡ m.writes
+    → Fair d i (cond t a b, deeds.Goes)
+eq_fair d i m a b true h same other = record { writes = subst (ArePermitted d) (sym same) h; deed = tt }
+eq_fair d i m a b false h same other = record { writes = subst (ArePermitted d) (sym other) h; deed = tt }
+
+-- ## Looks
+
+plain_tells : (m : Machine) (ask : Ask) (answer : Answer) (t : Machine × Option End) → Plain m t → (IsDenied (Asked ask answer) → ⊥) → Tells m ask answer t
+plain_tells m ask answer (m', None) p none = record { writes = p.writes; end = none }
+plain_tells m ask answer (m', Some end) p none = record { writes = p.writes; end = (λ e. absurd (p.end e), λ e. none) }
+
+goes_plain : (m m' : Machine) → m'.writes ≡ m.writes → Plain m (m', None)
+goes_plain m m' same = record { writes = same; end = tt }
+
+denies : (m : Machine) (kind : AskKind) (path : Atoms) → kind ≢ kinds.List → Tells m (record { kind = kind; path = path }) answers.Denied (m, Some ends.Denied)
+denies m kind path other = record { writes = refl; end = (λ e. (other, refl), λ e. absurd (e refl)) }
+
+read_tells : (m : Machine) (r label : ℕ) (path : Atoms) (answer : Answer) → Tells m (record { kind = kinds.Read; path = path }) answer (read_with m r label answer)
+read_tells m r label path (answers.Content bytes) = plain_tells m _ (answers.Content bytes) _ (fitting_plain m r bytes) (λ h. let e = h.1 in cc)
+read_tells m r label path answers.Denied = denies m kinds.Read path (λ e. cc)
+read_tells m r label path answers.Absent = plain_tells m _ answers.Absent _ (goes_plain m _ refl) (λ h. let e = h.1 in cc)
+read_tells m r label path answers.File = plain_tells m _ answers.File _ (goes_plain m _ refl) (λ h. let e = h.1 in cc)
+read_tells m r label path answers.Directory = plain_tells m _ answers.Directory _ (goes_plain m _ refl) (λ h. let e = h.1 in cc)
+read_tells m r label path (answers.Names names) = plain_tells m _ (answers.Names names) _ (goes_plain m _ refl) (λ h. let e = h.1 in cc)
+
+probe_tells : (m : Machine) (r : ℕ) (path : Atoms) (answer : Answer) → Tells m (record { kind = kinds.Probe; path = path }) answer (probe_with m r answer)
+probe_tells m r path (answers.Content bytes) = plain_tells m _ (answers.Content bytes) _ (fitting_plain m r (codes "file")) (λ h. let e = h.1 in cc)
+probe_tells m r path answers.Denied = denies m kinds.Probe path (λ e. cc)
+probe_tells m r path answers.Absent = plain_tells m _ answers.Absent _ (fitting_plain m r (codes "absent")) (λ h. let e = h.1 in cc)
+probe_tells m r path answers.File = plain_tells m _ answers.File _ (fitting_plain m r (codes "file")) (λ h. let e = h.1 in cc)
+probe_tells m r path answers.Directory = plain_tells m _ answers.Directory _ (fitting_plain m r (codes "directory")) (λ h. let e = h.1 in cc)
+probe_tells m r path (answers.Names names) = plain_tells m _ (answers.Names names) _ (fitting_plain m r (codes "absent")) (λ h. let e = h.1 in cc)
+
+list_tells : (m : Machine) (r : ℕ) (path : Atoms) (answer : Answer) → Tells m (record { kind = kinds.List; path = path }) answer (list_with m r path answer)
+list_tells m r path answer = plain_tells m _ answer _ (fitting_plain m r _) (λ h. h.0 refl)
+
+-- what the run's own writes answer denies nothing
+read_fair : (d : Description) (m : Machine) (r label : ℕ) (x : Operand) (path : Atoms) (file : Option (List ℕ)) (below : Bool) → ArePermitted d m.writes
+    → Fair d (instrs.Read r x label) (look_up m (instrs.Read r x label) (record { kind = kinds.Read; path = path }) (own_file kinds.Read file below))
+read_fair d m r label x path (Some bytes) below h = deed_plain d _ m _ h (fitting_plain m r bytes)
+read_fair d m r label x path None true h = deed_plain d _ m _ h (goes_plain m _ refl)
+read_fair d m r label x path None false h = record { writes = h; deed = read_tells m r label path }
+
+probe_fair : (d : Description) (m : Machine) (r : ℕ) (x : Operand) (path : Atoms) (file : Option (List ℕ)) (below : Bool) → ArePermitted d m.writes
+    → Fair d (instrs.Probe r x) (look_up m (instrs.Probe r x) (record { kind = kinds.Probe; path = path }) (own_file kinds.Probe file below))
+probe_fair d m r x path (Some bytes) below h = deed_plain d _ m _ h (fitting_plain m r (codes "file"))
+probe_fair d m r x path None true h = deed_plain d _ m _ h (fitting_plain m r (codes "directory"))
+probe_fair d m r x path None false h = record { writes = h; deed = probe_tells m r path }
+
+list_fair : (d : Description) (m : Machine) (r : ℕ) (x : Operand) (path : Atoms) (file : Option (List ℕ)) (below : Bool) → ArePermitted d m.writes
+    → Fair d (instrs.List r x) (look_up m (instrs.List r x) (record { kind = kinds.List; path = path }) (own_file kinds.List file below))
+list_fair d m r x path (Some bytes) below h = deed_plain d _ m _ h (fitting_plain m r _)
+list_fair d m r x path None below h = record { writes = h; deed = list_tells m r path }
+
+looks_fair : (d : Description) (m : Machine) (i : Instr) (kind : AskKind) (o : Option Atoms) → ArePermitted d m.writes
+    → ((path : Atoms) → Fair d i (look_up m i (record { kind = kind; path = path }) (own_answer m.writes (record { kind = kind; path = path }))))
+    → Fair d i (looks m i kind o)
+looks_fair d m i kind None h all = stops_fair d i m ends.BadPath h (λ e. cc)
+looks_fair d m i kind (Some path) h all = all path
+
+-- ## Writes
+
+inserted : (d : Description) (writes : Files) (path : Atoms) (bytes : List ℕ) → ArePermitted d writes → permits d path ≡ true
+    → ArePermitted d (insert_entry path_cmp writes path bytes)
+inserted d [] path bytes h may = (may, tt)
+inserted d (f ∷ fs) path bytes h may = by_order (path_cmp path f.0) (insert_entry path_cmp fs path bytes) (inserted d fs path bytes h.1 may)
+  where
+    by_order : (o : Ordering) (rest : Files) → ArePermitted d rest
+        → ArePermitted d (match_ordering o ((path, bytes) ∷ f ∷ fs) ((f.0, bytes) ∷ fs) (f ∷ rest))
+    by_order Less rest more = (may, h)
+    by_order Equal rest more = (h.0, h.1)
+    by_order Greater rest more = (h.0, more)
+
+write_fair : (d : Description) (i : Instr) (m : Machine) (bytes : List ℕ) (o : Option Atoms) → ArePermitted d m.writes → Fair d i (writes_at d m bytes o)
+write_fair d i m bytes None h = stops_fair d i m ends.BadPath h (λ e. cc)
+write_fair d i m bytes (Some path) h = by_permit (permits d path) refl
+  where
+    by_size : (t : Bool) (m' : Machine) → ArePermitted d m'.writes → Fair d i (cond t (m, deeds.Stops ends.TooLong) (m', deeds.Wrote path))
+    by_size true m' more = stops_fair d i m ends.TooLong h (λ e. cc)
+    by_size false m' more = record { writes = more; deed = tt }
+
+    by_clash : (t : Bool) → permits d path ≡ true → Fair d i (cond t (m, deeds.Stops ends.NotADirectory) (written m path bytes))
+    by_clash true may = stops_fair d i m ends.NotADirectory h (λ e. cc)
+    by_clash false may = by_size (nat_lt MAX_OUTPUT (m.spent + length bytes)) _ (inserted d m.writes path bytes h may)
+
+    by_permit : (t : Bool) → permits d path ≡ t
+        → Fair d i (cond t (cond (clashes m.writes path) (m, deeds.Stops ends.NotADirectory) (written m path bytes)) (m, deeds.Refused path))
+    by_permit true may = by_clash (clashes m.writes path) may
+    by_permit false may = record { writes = h; deed = tt }
+
+pub act_fair : (d : Description) (m : Machine) (i : Instr) → ArePermitted d m.writes → Fair d i (act d m i)
+act_fair d m (instrs.Set r x) h = deed_plain d _ m _ h (fitting_plain m r (value m x))
+act_fair d m (instrs.Cat r x y) h = deed_plain d _ m _ h (fitting_plain m r (value m x ++ value m y))
+act_fair d m (instrs.Len r x) h = deed_plain d _ m _ h (fitting_plain m r (decimal (length (value m x))))
+act_fair d m (instrs.Head r x n) h =
+    number_fair d _ m (number_of (value m n)) (λ k. deed_of (fitting m r (take k (value m x)))) h
+    (λ k. deed_plain d _ m _ h (fitting_plain m r (take k (value m x))))
+act_fair d m (instrs.Tail r x n) h =
+    number_fair d _ m (number_of (value m n)) (λ k. deed_of (fitting m r (drop k (value m x)))) h
+    (λ k. deed_plain d _ m _ h (fitting_plain m r (drop k (value m x))))
+act_fair d m (instrs.Split r s x y) h =
+    let parts = split_parts (value m y) (value m x) in
+    deed_plain d _ m _ h (two_plain m r s parts.0 parts.1)
+act_fair d m (instrs.Arg r n label) h = number_fair d _ m (number_of (value m n)) _ h (λ k. jump_fair d _ m r label (slice_get d.args k) h)
+act_fair d m (instrs.Args r) h = deed_plain d _ m _ h (fitting_plain m r (decimal (length d.args)))
+act_fair d m (instrs.Env r x label) h = jump_fair d _ m r label (variable d.env (value m x)) h
+act_fair d m (instrs.Eq x y label) h = eq_fair d _ m (at_place m label) (next m) (bytes_eq (value m x) (value m y)) h refl refl
+act_fair d m (instrs.Jump label) h = record { writes = h; deed = tt }
+act_fair d m (instrs.Exit n) h = stops_fair d _ m (ends.Exit n) h (λ e. cc)
+act_fair d m (instrs.Say x) h =
+    said_fair d _ m
+    (record m { place = m.place + 1; console = m.console ++ value m x ++ codes "\n"; spent = m.spent + length (value m x) + 1 })
+    (nat_lt MAX_OUTPUT (m.spent + length (value m x) + 1)) h refl
+act_fair d m (instrs.Read r x label) h =
+    looks_fair d m _ kinds.Read (resolved d.dir (value m x)) h (λ path. read_fair d m r label x path (file_at m.writes path) (has_below m.writes path) h)
+act_fair d m (instrs.Probe r x) h =
+    looks_fair d m _ kinds.Probe (resolved d.dir (value m x)) h (λ path. probe_fair d m r x path (file_at m.writes path) (has_below m.writes path) h)
+act_fair d m (instrs.List r x) h =
+    looks_fair d m _ kinds.List (resolved d.dir (value m x)) h (λ path. list_fair d m r x path (file_at m.writes path) (has_below m.writes path) h)
+act_fair d m (instrs.Write x y) h = write_fair d _ m (value m y) (resolved d.dir (value m x)) h
+
+-- ## One turn
+
+abbrev pub NoneDenied : List Access → Type 0
+NoneDenied accesses = AllByRecursion (λ x. ¬ IsDenied x) accesses
+
+-- the accesses tell of a denial exactly where the end is one
+abbrev pub AreFair : List Access → Option End → Type 0
+AreFair accesses None = NoneDenied accesses
+AreFair accesses (Some end) = (end ≡ ends.Denied → EndsDenied accesses) × (end ≢ ends.Denied → NoneDenied accesses)
+
+pub record FairTurn (d : Description) (a : Ask → Answer) (t : Turn) : Type 0 where
+  pub answered : AllByRecursion (IsAnswered d a) t.accesses
+  pub accesses : AreFair t.accesses t.end
+  pub writes : ArePermitted d t.machine.writes
+
+one_denied : (x : Access) → IsDenied x → EndsDenied (x ∷ [])
+one_denied x h = record { before = []; last = x; accesses_are = refl; denied = h; others = tt }
+
+one_fair : (x : Access) (end : Option End) → TellsDenied x end → AreFair (x ∷ []) end
+one_fair x None h = (h, tt)
+one_fair x (Some end) h = (λ e. one_denied x (h.0 e), λ e. (h.1 e, tt))
+
+turned_fair : (d : Description) (a : Ask → Answer) (i : Instr) (m : Machine) (deed : Deed) → Fair d i (m, deed) → FairTurn d a (turned (answer_of d a) i (m, deed))
+turned_fair d a i m deeds.Goes h = record { answered = tt; accesses = tt; writes = h.writes }
+turned_fair d a i m (deeds.Asks ask) h =
+    let answer = answer_of d a ask in
+    let tells = h.deed answer in
+    record {
+      answered = (refl, tt);
+      accesses = one_fair (Asked ask answer) (with_answer m i ask answer).1 tells.end;
+      writes = subst (ArePermitted d) (sym tells.writes) h.writes;
+    }
+turned_fair d a i m (deeds.Wrote path) h = record { answered = (tt, tt); accesses = (λ (k : ⊥). k, tt); writes = h.writes }
+turned_fair d a i m (deeds.Refused path) h =
+    record { answered = (tt, tt); accesses = (λ e. one_denied (WriteDenied path) tt, λ e. absurd (e refl)); writes = h.writes }
+turned_fair d a i m (deeds.Stops end) h = record { answered = tt; accesses = (λ e. absurd (h.deed e), λ e. tt); writes = h.writes }
+
+turn_fair : (d : Description) (a : Ask → Answer) (m : Machine) (i : Instr) → ArePermitted d m.writes → FairTurn d a (turn d a m i)
+turn_fair d a m i h = turned_fair d a i (act d m i).0 (act d m i).1 (act_fair d m i h)
+
+-- ## All turns
+
+-- what holds of a run from a machine on, with a number of steps left
+pub record HoldsFrom (d : Description) (a : Ask → Answer) (left : ℕ) (r : Run) : Type 0 where
+  pub answered : AllByRecursion (IsAnswered d a) r.accesses
+  pub denied : r.end ≡ ends.Denied → EndsDenied r.accesses
+  pub not_denied : r.end ≢ ends.Denied → NoneDenied r.accesses
+  pub steps : r.steps ≤ left
+  pub permitted : ArePermitted d r.writes
+
+all_append : {X : Type 0} (P : X → Type 0) (xs ys : List X) → AllByRecursion P xs → AllByRecursion P ys → AllByRecursion P (xs ++ ys)
+all_append P [] ys h k = k
+all_append P (x ∷ xs) ys h k = (h.0, all_append P xs ys h.1 k)
+
+denied_later : (xs ys : List Access) → NoneDenied xs → EndsDenied ys → EndsDenied (xs ++ ys)
+denied_later xs ys none h = record {
+  before = xs ++ h.before;
+  last = h.last;
+  accesses_are = ap (λ t. xs ++ t) h.accesses_are ∙ sym (append_assoc xs h.before (h.last ∷ []));
+  denied = h.denied;
+  others = all_append (λ x. ¬ IsDenied x) xs h.before none h.others;
+}
+
+no_more : (xs : List Access) → xs ++ [] ≡ xs
+no_more [] = refl
+no_more (x ∷ xs) = ap (λ t. x ∷ t) (no_more xs)
+
+ended_holds : (d : Description) (a : Ask → Answer) (left : ℕ) (m : Machine) (end : End) → ArePermitted d m.writes → end ≢ ends.Denied → HoldsFrom d a left (ended m end)
+ended_holds d a left m end h other = record { answered = tt; denied = λ e. absurd (other e); not_denied = λ e. tt; steps = omega arith; permitted = h }
+
+onward_holds : (d : Description) (a : Ask → Answer) (left : ℕ) (rest : Machine → Run) (t : Turn) (end : Option End)
+    → AllByRecursion (IsAnswered d a) t.accesses → AreFair t.accesses end → ArePermitted d t.machine.writes
+    → ((m : Machine) → ArePermitted d m.writes → HoldsFrom d a left (rest m)) → HoldsFrom d a (suc left) (onward rest t end)
+onward_holds d a left rest t None answered fair writes all =
+    let more = all t.machine writes in
+    let steps = more.steps in
+    record {
+      answered = all_append (IsAnswered d a) t.accesses (rest t.machine).accesses answered more.answered;
+      denied = λ e. denied_later t.accesses (rest t.machine).accesses fair (more.denied e);
+      not_denied = λ e. all_append (λ x. ¬ IsDenied x) t.accesses (rest t.machine).accesses fair (more.not_denied e);
+      steps = omega (arith, steps);
+      permitted = more.permitted;
+    }
+onward_holds d a left rest t (Some end) answered fair writes all = record {
+  answered = subst (AllByRecursion (IsAnswered d a)) (sym (no_more t.accesses)) answered;
+  denied = λ e. subst EndsDenied (sym (no_more t.accesses)) (fair.0 e);
+  not_denied = λ e. subst NoneDenied (sym (no_more t.accesses)) (fair.1 e);
+  steps = omega arith;
+  permitted = writes;
+}
+
+step_holds : (d : Description) (a : Ask → Answer) (left : ℕ) (m : Machine) (o : Option Instr) (rest : Instr → Run) → ArePermitted d m.writes
+    → ((i : Instr) → HoldsFrom d a left (rest i)) → HoldsFrom d a left (at_end_or m o rest)
+step_holds d a left m None rest h all = ended_holds d a left m (ends.Exit 0) h (λ e. cc)
+step_holds d a left m (Some i) rest h all = all i
+
+from_holds : (d : Description) (a : Ask → Answer) (tool : List Instr) (left : ℕ) (m : Machine) → ArePermitted d m.writes → HoldsFrom d a left (run_from d a tool left m)
+from_holds d a tool zero m h = step_holds d a zero m (slice_get tool m.place) _ h (λ i. ended_holds d a zero m ends.Budget h (λ e. cc))
+from_holds d a tool (suc left) m h =
+    step_holds d a (suc left) m (slice_get tool m.place) _ h (λ i.
+    let t = turn_fair d a m i h in
+    onward_holds d a left (run_from d a tool left) (turn d a m i) (turn d a m i).end t.answered t.accesses t.writes (λ m' h'. from_holds d a tool left m' h'))
+
+tool_holds : (d : Description) (a : Ask → Answer) (tool : Option (List Instr)) → HoldsFrom d a d.budget (run_tool d a tool)
+tool_holds d a None = ended_holds d a d.budget start ends.BadProgram tt (λ e. cc)
+tool_holds d a (Some tool) = from_holds d a tool d.budget start tt
+
+pub holds : (d : Description) (a : Ask → Answer) → Holds d a (run_of d a)
+holds d a =
+    let h = tool_holds d a d.tool in
+    record { answered = h.answered; denied = h.denied; not_denied = h.not_denied; steps = h.steps; permitted = h.permitted }

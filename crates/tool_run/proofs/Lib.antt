@@ -1,0 +1,13 @@
+pub mod Depends
+pub mod Found
+pub mod Numbers
+pub mod Accesses
+pub mod Splitting
+pub mod Below
+pub mod AskPlaces
+pub mod Turns
+pub mod Appended
+pub mod NextAtoms
+pub mod SameFiles
+pub mod NamesAdded
+pub mod PutInOrder

@@ -1,0 +1,9 @@
+-- The content of a register.
+use Rattle.std.specs.Prelude.{ℕ, List}
+use Rattle.tool_run.specs.declared.content.Kept.{Kept}
+use Rattle.tool_run.specs.declared.content.Kept.TheVariants.{Owned, Shared}
+
+-- its bytes, whoever owns them
+abbrev pub kept_bytes : Kept → List ℕ
+kept_bytes (Owned bytes) = bytes.items
+kept_bytes (Shared blob) = blob

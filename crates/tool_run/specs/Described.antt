@@ -1,0 +1,31 @@
+-- What a run uses of a process that stands before it with its contents.
+use Rattle.std.specs.Prelude.{ℕ, List, map}
+use Rattle.bx_tree.specs.Paths.{Atoms}
+use Rattle.pip_types.specs.declared.args.EnvPair.{EnvPair}
+use Rattle.pip_types.specs.declared.outputs.OutDir.{OutDir}
+use Rattle.pip_types.specs.declared.desc.Desc.{Desc}
+use Rattle.tool_text.specs.Reading.{tool_of}
+use Rattle.tool_run.specs.Description.{Description}
+
+-- each variable's name and value
+abbrev pub variables : List EnvPair → List (List ℕ × List ℕ)
+variables = map (λ (v : EnvPair). (v.name, v.value))
+
+-- the paths of output directories
+abbrev pub dir_paths : List OutDir → List Atoms
+dir_paths = map (λ (d : OutDir). d.path)
+
+-- The description of a process; its tool is the one whose text the executable has, if there is one.
+abbrev pub described : Desc → Description
+described d = record {
+  tool = tool_of d.exe;
+  exe = (d.process.exe, d.exe);
+  files = d.files;
+  dir = d.process.dir;
+  args = d.process.args;
+  env = variables d.process.env;
+  outs = d.process.outs;
+  outdirs = dir_paths d.process.outdirs;
+  console = d.process.console;
+  budget = d.budget;
+}

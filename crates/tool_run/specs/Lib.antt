@@ -1,0 +1,14 @@
+pub mod Description
+pub mod Values
+pub mod Writes
+pub mod Listings
+pub mod Machine
+pub mod Instructions
+pub mod Run
+pub mod Laws
+pub mod Described
+pub mod Contents
+pub mod States
+pub mod Deeds
+pub mod NameSets
+pub mod Seen

@@ -1,0 +1,51 @@
+//! What each instruction does, up to an ask.
+ghost use Rattle.std.specs.Prelude.{◌≡◌, ◌<◌, ◌^◌, IfOk};
+ghost use Rattle.tool_run.specs.Described.{described};
+ghost use Rattle.tool_run.specs.States.{machine_of};
+
+use crate::deed::Deed;
+use crate::state::State;
+use observed::{AskKind, End};
+use pip_types::Desc;
+use std::alloc::{AllocError, Global};
+use tool_text::Instr;
+
+impl State {
+    ghost use Rattle.tool_run.specs.Instructions.{act as act_of};
+
+    // Takes an instruction, up to an ask.
+    pub(crate) fn act(
+        &mut self,
+        alloc: Global,
+        desc: &Desc,
+        instr: &Instr,
+    ) -> Result<Deed, AllocError>
+        requires { self.old.place < 2 ^ 63 }
+        ensures { IfOk result (λ deed.
+            (machine_of self.new, deed) ≡ act_of (described desc.now) (machine_of self.old) instr.now) }
+    {
+        match instr {
+            Instr::Set(r, x) => self.set(alloc, *r, x),
+            Instr::Cat(r, x, y) => self.join(alloc, *r, x, y),
+            Instr::Len(r, x) => self.set_length(alloc, *r, x),
+            Instr::Head(r, x, n) => self.head(alloc, *r, x, n),
+            Instr::Tail(r, x, n) => self.tail(alloc, *r, x, n),
+            Instr::Split(r, s, x, y) => self.cut(alloc, (*r, *s), x, y),
+            Instr::Arg(r, n, label) => {
+                self.set_argument(alloc, desc.process.args.texts(), *r, n, *label)
+            }
+            Instr::Args(r) => self.set_number(alloc, *r, desc.process.args.texts().len()),
+            Instr::Env(r, x, label) => {
+                self.set_variable(alloc, desc.process.env.pairs(), *r, x, *label)
+            }
+            Instr::Eq(x, y, label) => Ok(self.jump_if_equal(x, y, *label)),
+            Instr::Jump(label) => Ok(self.jump(*label)),
+            Instr::Exit(code) => Ok(Deed::Stops(End::Exit(*code))),
+            Instr::Say(x) => self.say_value(alloc, x),
+            Instr::Read(_, x, _) => self.look(alloc, desc, instr, AskKind::Read, x),
+            Instr::Probe(_, x) => self.look(alloc, desc, instr, AskKind::Probe, x),
+            Instr::List(_, x) => self.look(alloc, desc, instr, AskKind::List, x),
+            Instr::Write(x, y) => self.write_value(alloc, desc, x, y),
+        }
+    }
+}

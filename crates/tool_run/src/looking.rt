@@ -1,0 +1,202 @@
+//! What the run's own writes answer, and what an answer does to the machine.
+ghost use Rattle.std.specs.Prelude.{◌≡◌, ◌<◌, ◌^◌, [], IfOk};
+ghost use Rattle.tool_run.specs.Described.{described};
+ghost use Rattle.tool_run.specs.Description.{resolved as resolved_path};
+ghost use Rattle.tool_run.specs.Writes.{own_answer};
+ghost use Rattle.tool_run.specs.States.{machine_of};
+
+use crate::content::Content;
+use crate::deed::Deed;
+use crate::paths::{permits, resolved};
+use crate::state::{State, deed_of_end};
+use crate::writes::Writes;
+use bx_digest::Blob;
+use bx_tree::Path;
+use observed::{Answer, Ask, AskKind, End};
+use pip_types::Desc;
+use std::alloc::{AllocError, Global};
+use tool_text::{Instr, Operand, Register};
+
+// A listing without names.
+fn no_names(alloc: Global) -> Result<Blob, AllocError>
+    ensures { IfOk result (λ names. names ≡ []) }
+{
+    Blob::new(alloc, Vec::new(alloc))
+}
+
+impl Writes {
+    // What the run's own writes answer to an ask, if anything.
+    pub(crate) fn answer(&self, alloc: Global, ask: &Ask) -> Result<Option<Answer>, AllocError>
+        ensures { IfOk result (λ answer. answer ≡ own_answer self.now ask.now) }
+    {
+        if let Some(blob) = self.find(&ask.path) {
+            return match ask.kind {
+                AskKind::Read => Ok(Some(Answer::Content(blob.share()?))),
+                AskKind::Probe => Ok(Some(Answer::File)),
+                AskKind::List => Ok(Some(Answer::Names(no_names(alloc)?))),
+            };
+        }
+        match ask.kind {
+            AskKind::Read | AskKind::Probe if self.has_below(&ask.path) => {
+                Ok(Some(Answer::Directory))
+            }
+            _ => Ok(None),
+        }
+    }
+}
+
+impl State {
+    ghost use Rattle.tool_run.specs.Instructions.{list_with, looks, probe_with, read_with, value as value_in};
+    ghost use Rattle.tool_run.specs.Instructions.{with_answer, writes_at};
+
+    // A read is answered.
+    pub(crate) fn take_read(
+        &mut self,
+        register: Register,
+        label: usize,
+        answer: &Answer,
+    ) -> Result<Option<End>, AllocError>
+        requires { self.old.place < 2 ^ 63 }
+        ensures { IfOk result (λ end.
+            (machine_of self.new, end) ≡ read_with (machine_of self.old) register label answer.now) }
+    {
+        match answer {
+            Answer::Content(blob) => Ok(self.fit(register, Content::shared(blob.share()?))),
+            Answer::Denied => Ok(Some(End::Denied)),
+            Answer::Absent | Answer::File | Answer::Directory | Answer::Names(_) => {
+                self.place = label;
+                Ok(None)
+            }
+        }
+    }
+
+    // A probe is answered.
+    fn take_probe(
+        &mut self,
+        alloc: Global,
+        register: Register,
+        answer: &Answer,
+    ) -> Result<Option<End>, AllocError>
+        requires { self.old.place < 2 ^ 63 }
+        ensures { IfOk result (λ end.
+            (machine_of self.new, end) ≡ probe_with (machine_of self.old) register answer.now) }
+    {
+        let word = match answer {
+            Answer::Content(_) | Answer::File => "file",
+            Answer::Directory => "directory",
+            Answer::Absent | Answer::Names(_) => "absent",
+            Answer::Denied => return Ok(Some(End::Denied)),
+        };
+        let content = Content::of(Vec::from_slice(alloc, word.as_bytes())?);
+        Ok(self.fit(register, content))
+    }
+
+    // A listing is answered.
+    fn take_list(
+        &mut self,
+        alloc: Global,
+        register: Register,
+        dir: &Path,
+        answer: &Answer,
+    ) -> Result<Option<End>, AllocError>
+        requires { self.old.place < 2 ^ 63 }
+        ensures { IfOk result (λ end.
+            (machine_of self.new, end) ≡ list_with (machine_of self.old) register dir.now answer.now) }
+    {
+        let content = match answer {
+            Answer::Names(names) => self.writes.list(alloc, dir, names)?,
+            Answer::Content(_)
+            | Answer::Denied
+            | Answer::Absent
+            | Answer::File
+            | Answer::Directory => self.writes.list(alloc, dir, &no_names(alloc)?)?,
+        };
+        Ok(self.fit(register, content))
+    }
+
+    // An instruction that looked at a path gets its answer.
+    pub(crate) fn take_answer(
+        &mut self,
+        alloc: Global,
+        instr: &Instr,
+        ask: &Ask,
+        answer: &Answer,
+    ) -> Result<Option<End>, AllocError>
+        requires { self.old.place < 2 ^ 63 }
+        ensures { IfOk result (λ end.
+            (machine_of self.new, end) ≡ with_answer (machine_of self.old) instr.now ask.now answer.now) }
+    {
+        match instr {
+            Instr::Read(register, _, label) => self.take_read(*register, *label, answer),
+            Instr::Probe(register, _) => self.take_probe(alloc, *register, answer),
+            Instr::List(register, _) => self.take_list(alloc, *register, &ask.path, answer),
+            Instr::Set(_, _)
+            | Instr::Cat(_, _, _)
+            | Instr::Len(_, _)
+            | Instr::Head(_, _, _)
+            | Instr::Tail(_, _, _)
+            | Instr::Split(_, _, _, _)
+            | Instr::Arg(_, _, _)
+            | Instr::Args(_)
+            | Instr::Env(_, _, _)
+            | Instr::Eq(_, _, _)
+            | Instr::Jump(_)
+            | Instr::Exit(_)
+            | Instr::Say(_)
+            | Instr::Write(_, _) => Ok(None),
+        }
+    }
+
+    // An instruction looks at a path: own writes answer, or the ask is put.
+    pub(crate) fn look(
+        &mut self,
+        alloc: Global,
+        desc: &Desc,
+        instr: &Instr,
+        kind: AskKind,
+        x: &Operand,
+    ) -> Result<Deed, AllocError>
+        requires { self.old.place < 2 ^ 63 }
+        ensures { IfOk result (λ deed.
+            (machine_of self.new, deed)
+            ≡ looks (machine_of self.old) instr.now kind
+            (resolved_path (described desc.now).dir (value_in (machine_of self.old) x.now))) }
+    {
+        let Some(path) = resolved(alloc, &desc.process.dir, self.value(x))? else {
+            return Ok(Deed::Stops(End::BadPath));
+        };
+        let ask = Ask { kind, path };
+        let Some(answer) = self.writes.answer(alloc, &ask)? else {
+            return Ok(Deed::Asks(ask));
+        };
+        let end = self.take_answer(alloc, instr, &ask, &answer)?;
+        Ok(deed_of_end(end))
+    }
+
+    // A file is written, where its path and its size may be.
+    pub(crate) fn write_value(
+        &mut self,
+        alloc: Global,
+        desc: &Desc,
+        x: &Operand,
+        y: &Operand,
+    ) -> Result<Deed, AllocError>
+        requires { self.old.place < 2 ^ 63 }
+        ensures { IfOk result (λ deed.
+            (machine_of self.new, deed)
+            ≡ writes_at (described desc.now) (machine_of self.old) (value_in (machine_of self.old) y.now)
+            (resolved_path (described desc.now).dir (value_in (machine_of self.old) x.now))) }
+    {
+        let Some(path) = resolved(alloc, &desc.process.dir, self.value(x))? else {
+            return Ok(Deed::Stops(End::BadPath));
+        };
+        if !permits(desc, &path) {
+            return Ok(Deed::Refused(path));
+        }
+        if self.writes.clashes(&path) {
+            return Ok(Deed::Stops(End::NotADirectory));
+        }
+        let blob = self.blob(alloc, y)?;
+        self.write(path, blob)
+    }
+}

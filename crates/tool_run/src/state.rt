@@ -1,0 +1,178 @@
+//! The machine that runs a tool.
+ghost use Rattle.std.specs.Prelude.{◌≡◌, ◌≢◌, ◌<◌, ◌≤◌, ◌++◌, ◌^◌, IfOk, length, vec_len, replicate, []};
+ghost use Rattle.tool_run.specs.Deeds.{deed_for};
+ghost use Rattle.tool_text.specs.declared.limits.TheConstants.{REGISTERS};
+ghost use Rattle.tool_run.specs.declared.limits.TheConstants.{MAX_OUTPUT};
+
+use crate::content::Content;
+use crate::deed::Deed;
+use crate::limits::{MAX_OUTPUT, MAX_REGISTER};
+use crate::writes::Writes;
+use bx_digest::Blob;
+use bx_tree::Path;
+use observed::End;
+use std::alloc::{AllocError, Global};
+use tool_text::{Operand, REGISTERS, Register};
+
+// Where a run is: the place of its next instruction, its registers, what it wrote, what it said, and how many
+// bytes these are in all.
+#[derive(Drop)]
+pub struct State {
+    pub place: usize,
+    pub registers: Vec<Content>,
+    pub writes: Writes,
+    pub console: Vec<u8>,
+    pub spent: usize,
+    ghost sized: { vec_len registers ≡ REGISTERS },
+    ghost bounded: { spent ≤ MAX_OUTPUT },
+}
+
+// What an instruction comes to that ends the run or goes on.
+pub(crate) fn deed_of_end(end: Option<End>) -> Deed
+    ensures { (result ≡ deed_for end) }
+{
+    match end {
+        Some(end) => Deed::Stops(end),
+        None => Deed::Goes,
+    }
+}
+
+// As many registers as a tool has, all of them empty.
+fn empty_registers(alloc: Global) -> Result<Vec<Content>, AllocError>
+    ensures { IfOk result (λ registers. registers.items ≡ replicate REGISTERS []) }
+{
+    let mut registers = Vec::with_capacity(alloc, REGISTERS)?;
+    'registers: while registers.len() < REGISTERS {
+        registers.push(Content::empty(alloc))?;
+    }
+    Ok(registers)
+}
+
+impl State {
+    ghost use Rattle.tool_run.specs.Machine.{deed_of, fitting, fitting_two, said, start, written};
+    ghost use Rattle.tool_run.specs.States.{machine_of};
+    ghost use Rattle.tool_run.specs.Instructions.{value as value_in};
+
+    pub(crate) fn start(alloc: Global) -> Result<State, AllocError>
+        ensures { IfOk result (λ state. machine_of state ≡ start) }
+    {
+        Ok(State {
+            place: 0,
+            registers: empty_registers(alloc)?,
+            writes: Writes::new(alloc),
+            console: Vec::new(alloc),
+            spent: 0,
+        })
+    }
+
+    // The bytes that an operand stands for.
+    pub(crate) fn value<'a>(&'a self, operand: &'a Operand) -> &'a [u8]
+        ensures { result.now ≡ value_in (machine_of self.entry.now) operand.entry.now }
+    {
+        match operand {
+            Operand::Register(register) => self.registers[register.number()].bytes(),
+            Operand::Constant(text) => text.bytes(),
+        }
+    }
+
+    // What an operand stands for, as the content of a register.
+    pub(crate) fn content(&self, alloc: Global, operand: &Operand) -> Result<Content, AllocError>
+        ensures { IfOk result (λ content. content ≡ value_in (machine_of self.now) operand.now) }
+    {
+        match operand {
+            Operand::Register(register) => self.registers[register.number()].duplicate(alloc),
+            Operand::Constant(text) => Ok(Content::of(Vec::from_slice(alloc, text.bytes())?)),
+        }
+    }
+
+    // What an operand stands for, as the bytes of a file.
+    pub(crate) fn blob(&self, alloc: Global, operand: &Operand) -> Result<Blob, AllocError>
+        ensures { IfOk result (λ blob. blob ≡ value_in (machine_of self.now) operand.now) }
+    {
+        match operand {
+            Operand::Register(register) => self.registers[register.number()].blob(alloc),
+            Operand::Constant(text) => Blob::new(alloc, Vec::from_slice(alloc, text.bytes())?),
+        }
+    }
+
+    // A register becomes these bytes, if they fit.
+    pub(crate) fn fit(&mut self, register: Register, content: Content) -> Option<End>
+        requires { self.old.place < 2 ^ 63 }
+        ensures { (machine_of self.new, result) ≡ fitting (machine_of self.old) register content }
+    {
+        if content.bytes().len() > MAX_REGISTER {
+            return Some(End::TooLong);
+        }
+        self.registers[register.number()] = content;
+        self.place += 1;
+        None
+    }
+
+    // Two registers become these bytes, the second after the first, if both fit.
+    pub(crate) fn fit_two(
+        &mut self,
+        first: Register,
+        second: Register,
+        before: Content,
+        after: Content,
+    ) -> Option<End>
+        requires { self.old.place < 2 ^ 63 }
+        ensures { (machine_of self.new, result)
+            ≡ fitting_two (machine_of self.old) first second before after }
+    {
+        if before.bytes().len() > MAX_REGISTER || after.bytes().len() > MAX_REGISTER {
+            return Some(End::TooLong);
+        }
+        self.registers[first.number()] = before;
+        self.registers[second.number()] = after;
+        self.place += 1;
+        None
+    }
+
+    // A copy of these bytes becomes a register, if they fit.
+    pub(crate) fn copy(
+        &mut self,
+        alloc: Global,
+        register: Register,
+        bytes: &[u8],
+    ) -> Result<Deed, AllocError>
+        requires { self.old.place < 2 ^ 63 }
+        ensures { IfOk result (λ deed.
+            (machine_of self.new, deed) ≡ deed_of (fitting (machine_of self.old) register bytes.now)) }
+    {
+        let content = Content::of(Vec::from_slice(alloc, bytes)?);
+        Ok(deed_of_end(self.fit(register, content)))
+    }
+
+    // Bytes and a newline are said, if they fit.
+    pub(crate) fn say(&mut self, bytes: &[u8]) -> Result<Deed, AllocError>
+        requires { self.old.place < 2 ^ 63 }
+        ensures { IfOk result (λ deed.
+            (machine_of self.new, deed) ≡ said (machine_of self.old) bytes.now) }
+    {
+        if bytes.len() >= MAX_OUTPUT - self.spent {
+            return Ok(Deed::Stops(End::TooLong));
+        }
+        self.console.extend_from_slice(bytes)?;
+        self.console.push(b'\n')?;
+        self.spent += bytes.len() + 1;
+        self.place += 1;
+        Ok(Deed::Goes)
+    }
+
+    // A file is written, if it fits.
+    pub(crate) fn write(&mut self, path: Path, blob: Blob) -> Result<Deed, AllocError>
+        requires { self.old.place < 2 ^ 63 }
+        ensures { IfOk result (λ deed.
+            (machine_of self.new, deed) ≡ written (machine_of self.old) path blob) }
+    {
+        let length = blob.bytes().len();
+        if length > MAX_OUTPUT - self.spent {
+            return Ok(Deed::Stops(End::TooLong));
+        }
+        self.writes.put(path.share()?, blob)?;
+        self.spent += length;
+        self.place += 1;
+        Ok(Deed::Wrote(path))
+    }
+}
