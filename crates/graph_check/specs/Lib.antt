@@ -5,4 +5,5 @@ pub mod NoSuchSource
 pub mod OutsideOut
 pub mod Twin
 pub mod Limit
+pub mod Firsts
 pub mod Rules

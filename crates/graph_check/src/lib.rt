@@ -6,8 +6,11 @@
 #![tactic(auto)]
 
 mod checking;
+mod declared;
 mod fault;
 mod laws;
+mod no_such_source;
+mod outside_out;
 
 pub use checking::check;
 pub use fault::{GraphFault, GraphKind};
