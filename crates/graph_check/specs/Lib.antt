@@ -4,6 +4,7 @@ pub mod Overlap
 pub mod NoSuchSource
 pub mod OutsideOut
 pub mod Twin
+pub mod TwinOrder
 pub mod Limit
 pub mod Firsts
 pub mod Rules

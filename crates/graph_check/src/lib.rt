@@ -12,6 +12,8 @@ mod laws;
 mod no_such_source;
 mod outside_out;
 
+mod twin_order;
+
 pub use checking::check;
 pub use fault::{GraphFault, GraphKind};
 pub use laws::one_answer;
