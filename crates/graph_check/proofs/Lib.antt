@@ -1,3 +1,5 @@
 pub mod Has
 pub mod Firsts
 pub mod Lists
+pub mod Adding
+pub mod Repeats

@@ -55,6 +55,15 @@ pub(crate) fn add_files(paths: &mut Vec<Path>, kind: &PipKind) -> Result<(), All
     }
 }
 
+// The files that a pip declares.
+pub(crate) fn files_of(alloc: Global, kind: &PipKind) -> Result<Vec<Path>, AllocError>
+    ensures { IfOk result (λ files. files.items ≡ declared_files kind.now) }
+{
+    let mut files = Vec::new(alloc);
+    add_files(&mut files, kind)?;
+    Ok(files)
+}
+
 // Adds the files and directories that a pip declares.
 pub(crate) fn add_outputs(paths: &mut Vec<Path>, kind: &PipKind) -> Result<(), AllocError>
     ensures { OnOk result (paths.new.items ≡ paths.old.items ++ outputs kind.now) }

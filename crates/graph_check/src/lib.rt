@@ -7,11 +7,13 @@
 
 mod checking;
 mod declared;
+mod double_producer;
 mod fault;
 mod laws;
 mod no_such_source;
 mod outside_out;
 
+mod seen;
 mod twin_order;
 
 pub use checking::check;
