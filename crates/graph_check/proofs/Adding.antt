@@ -13,12 +13,12 @@ use Rattle.std.proofs.lemmas.List.Elements.{Contains-append_left, Contains-push,
 use Rattle.std.proofs.lemmas.Map.Lookups.{CmpEqualImpliesEq}
 use Rattle.std.proofs.lemmas.Map.Views.{btree_set_contains_iff}
 
-tied_or_old : (o : Ordering) (b : Bool) → cond (is_eq o) true b ≡ true → (o ≡ Equal) ⊎ (b ≡ true)
+pub tied_or_old : (o : Ordering) (b : Bool) → cond (is_eq o) true b ≡ true → (o ≡ Equal) ⊎ (b ≡ true)
 tied_or_old Less b e = inr e
 tied_or_old Equal b e = inl refl
 tied_or_old Greater b e = inr e
 
-old_stays : (o : Ordering) (b : Bool) → b ≡ true → cond (is_eq o) true b ≡ true
+pub old_stays : (o : Ordering) (b : Bool) → b ≡ true → cond (is_eq o) true b ≡ true
 old_stays Less b e = e
 old_stays Equal b e = refl
 old_stays Greater b e = e

@@ -3,3 +3,4 @@ pub mod Firsts
 pub mod Lists
 pub mod Adding
 pub mod Repeats
+pub mod Twins

@@ -5,6 +5,8 @@ pub mod NoSuchSource
 pub mod OutsideOut
 pub mod Twin
 pub mod TwinOrder
+pub mod Orders
+pub mod Described
 pub mod Limit
 pub mod Firsts
 pub mod Rules

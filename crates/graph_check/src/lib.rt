@@ -14,6 +14,7 @@ mod no_such_source;
 mod outside_out;
 
 mod seen;
+mod twin;
 mod twin_order;
 
 pub use checking::check;
