@@ -4,3 +4,4 @@ pub mod Lists
 pub mod Adding
 pub mod Repeats
 pub mod Twins
+pub mod TreeOrders

@@ -14,6 +14,7 @@ mod no_such_source;
 mod outside_out;
 
 mod seen;
+mod tree_order;
 mod twin;
 mod twin_order;
 
