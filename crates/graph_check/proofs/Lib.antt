@@ -5,3 +5,4 @@ pub mod Adding
 pub mod Repeats
 pub mod Twins
 pub mod TreeOrders
+pub mod InTree

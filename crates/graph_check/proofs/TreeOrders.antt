@@ -13,7 +13,7 @@ use Rattle.graph_check.specs.Outputs.{IsWithin}
 use Rattle.graph_check.specs.TreeOrder.{IsInTreeOrder, tree_cmp}
 use Rattle.std.specs.List.Sorted.{IsPartitionedBy}
 
-true≢false : true ≡ false → ⊥
+pub true≢false : true ≡ false → ⊥
 true≢false e = cc
 
 abbrev atom_cmp : List ℕ → List ℕ → Ordering

@@ -10,6 +10,7 @@ mod declared;
 mod double_producer;
 mod fault;
 mod laws;
+mod nesting;
 mod no_such_source;
 mod outside_out;
 
