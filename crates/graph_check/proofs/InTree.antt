@@ -1,16 +1,19 @@
 -- What lists in tree order have within and below directories.
-use Rattle.std.proofs.Common.{inl, inr, ◌⊎◌, ◌≡◌, ◌≢◌, ◌∙◌, ◌-◌, ℕ, zero, suc, ◌+◌, ◌<◌, ◌≤◌, Bool, true, false, List, [], ◌∷◌, ◌++◌, length, get_or, arith, refl, ap, sym, subst}
+use Rattle.std.proofs.Common.{inl, inr, ◌⊎◌, ◌≡◌, ◌≢◌, ◌∙◌, ◌-◌, ℕ, zero, suc, ◌+◌, ◌<◌, ◌≤◌, Bool, true, false, List, [], ◌∷◌, ◌++◌, length, length-drop, drop, map, get_or, arith, refl, ap, sym, subst}
 use Rattle.std.specs.Prelude.{◌↔◌}
-use Rattle.std.specs.List.{Any}
+use Rattle.std.specs.List.{All, Any, Contains}
 use Rattle.std.specs.List.Sorted.{IsPartitionPoint}
 use Rattle.std.specs.Ordering.{is_lt, ordering_then}
 use Rattle.std.specs.declared.cmp.Ordering.{Ordering}
 use Rattle.std.proofs.lemmas.Bool.{cases_lt}
 use Rattle.std.proofs.lemmas.Cmp.{nat_list_cmp_total, tied_itself}
-use Rattle.std.proofs.lemmas.List.{get_or_default}
+use Rattle.std.proofs.lemmas.List.{get_or_default, get_or-drop}
 use Rattle.std.proofs.lemmas.List.Sorted.{ranks_by, sorted_far}
 use Rattle.bx_tree.specs.Paths.{Atoms, IsBelow}
+use Rattle.pip_types.specs.Inputs.{input_path}
+use Rattle.pip_types.specs.declared.pip.SealDesc.{SealDesc}
 use Rattle.graph_check.specs.Outputs.{IsWithin}
+use Rattle.graph_check.specs.Overlap.{IsUnlisted}
 use Rattle.graph_check.specs.TreeOrder.{IsInTreeOrder, tree_cmp}
 use Rattle.graph_check.proofs.TreeOrders.{tree_cmp_total, true≢false, within_between, within_not_before}
 
@@ -72,3 +75,46 @@ some_neighbours xs d up (i, dir, li, is_dir, (j, path, lj, is_path, h)) =
       | inl before ↦ let gap : j ≡ i + 1 + (j - (i + 1)) = omega arith in neighbours (j - (i + 1)) xs i j d up gap lj below
       | inr after ↦ absurd (true≢false (sym (dir_first (get_or xs j d) (get_or xs i d) below) ∙ far xs j i d up after li))
     ]
+
+-- where the first files are members and the next one lies elsewhere, or there is none, no file is unlisted
+pub none_unlisted : (xs : List Atoms) (seal : SealDesc) (i : ℕ) → IsInTreeOrder xs → All (λ p. is_lt (tree_cmp p seal.root) ≡ false) xs
+    → ((k : ℕ) (d : Atoms) → k < i → Contains (map input_path seal.files) (get_or xs k d))
+    → ((d : Atoms) → i < length xs → IsWithin (get_or xs i d) seal.root → ⊥) → Any (IsUnlisted seal) xs → ⊥
+none_unlisted xs seal i up after listed next (k, x, l, is, (within, out)) = elim (cases_lt k i) [
+  | inl early ↦ out (subst (Contains (map input_path seal.files)) is (listed k x early))
+  | inr late ↦
+      let there : i < length xs = omega arith in
+      next x there
+      (within_between seal.root (get_or xs i x) x (after i x there)
+      (subst (λ p. is_lt (tree_cmp p (get_or xs i x)) ≡ false) is (far xs i k x up late l)) within)
+]
+
+-- what is in the part of a list that does not come before a path
+pub rest_sorted : (xs : List Atoms) (n : ℕ) → IsInTreeOrder xs → IsInTreeOrder (drop n xs)
+rest_sorted xs n up k d low l =
+    let long = length-drop n xs in
+    let one = get_or-drop n xs k d in
+    let two = get_or-drop n xs (k + 1) d in
+    rw (one, two) (far xs (n + k) (n + (k + 1)) d up (omega arith) (omega (arith, l, long)))
+
+pub rest_after : (xs : List Atoms) (n : ℕ) (path : Atoms) → IsPartitionPoint (λ p. is_lt (tree_cmp p path) ≡ true) (λ p. is_lt (tree_cmp p path) ≡ false) xs n
+    → All (λ p. is_lt (tree_cmp p path) ≡ false) (drop n xs)
+rest_after xs n path point k d l =
+    let long = length-drop n xs in
+    rw (get_or-drop n xs k d) (point.1 (n + k) d (omega arith) (omega (arith, l, long)))
+
+pub from_rest : (P : Atoms → Type 0) (xs : List Atoms) (n : ℕ) → Any P (drop n xs) → Any P xs
+from_rest P xs n (k, x, l, is, p) =
+    let long = length-drop n xs in
+    (n + k, x, omega (arith, l, long), sym (get_or-drop n xs k x) ∙ is, p)
+
+-- what lies within the directory is in the part that does not come before it
+pub in_rest : (P : Atoms → Type 0) (xs : List Atoms) (n : ℕ) (dir : Atoms) → ((p : Atoms) → P p → IsWithin p dir)
+    → IsPartitionPoint (λ p. is_lt (tree_cmp p dir) ≡ true) (λ p. is_lt (tree_cmp p dir) ≡ false) xs n → Any P xs → Any P (drop n xs)
+in_rest P xs n dir within point (k, x, l, is, p) = elim (cases_lt k n) [
+  | inl early ↦ absurd (true≢false (sym (subst (λ q. is_lt (tree_cmp q dir) ≡ true) is (point.0 k x (omega arith) early)) ∙ within_not_before x dir (within x p)))
+  | inr late ↦
+      let long = length-drop n xs in
+      let back : n + (k - n) ≡ k = omega arith in
+      (k - n, x, omega (arith, l, long, late), get_or-drop n xs (k - n) x ∙ ap (λ m. get_or xs m x) back ∙ is, p)
+]

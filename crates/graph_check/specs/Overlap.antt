@@ -42,11 +42,15 @@ UnsharedDir pips i j =
     (i ≢ j) × ((dir other : OutDir) × Has declared_dirs pips i dir × Has declared_dirs pips j other
     × (dir.path ≡ other.path) × (IsTrue dir.shared → IsTrue other.shared → ⊥))
 
+-- the file lies at or below the root of the seal and is no member of it
+abbrev pub IsUnlisted : SealDesc → Atoms → Type 0
+IsUnlisted seal file = IsWithin file seal.root × (Contains (map input_path seal.files) file → ⊥)
+
 -- an output file of pip i lies at or below the root of the full seal j and is no member of it
 abbrev pub UnlistedFile : List Pip → ℕ → ℕ → Type 0
 UnlistedFile pips i j =
     (file : Atoms) × (seal : SealDesc) × Has declared_files pips i file × Has full_seals pips j seal
-    × IsWithin file seal.root × (Contains (map input_path seal.files) file → ⊥)
+    × IsUnlisted seal file
 
 -- the root of the full seal i equals, contains or lies in an output directory of pip j
 abbrev pub SealMeetsDir : List Pip → ℕ → ℕ → Type 0

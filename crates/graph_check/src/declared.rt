@@ -1,5 +1,6 @@
 //! What pips declare and name, as vectors of paths.
 ghost use Rattle.std.specs.Prelude.{◌≡◌, ◌++◌, ◌∷◌, [], map, IfOk, OnOk};
+ghost use Rattle.pip_types.specs.Inputs.{input_path};
 ghost use Rattle.pip_types.specs.declared.outputs.OutDir.{OutDir as AnyOutDir};
 ghost use Rattle.graph_check.specs.NoSuchSource.{if_source, listed_sources, named_sources, sources_among};
 ghost use Rattle.graph_check.specs.Outputs.{declared_dirs, declared_files, outputs};
@@ -7,6 +8,15 @@ ghost use Rattle.graph_check.specs.Outputs.{declared_dirs, declared_files, outpu
 use bx_tree::{FileInput, Path};
 use pip_model::{OutDir, PipKind, SealDesc, SealForm};
 use std::alloc::{AllocError, Global};
+
+// The path of a file.
+pub(crate) fn file_path(file: &FileInput) -> &Path
+    ensures { result.now ≡ input_path file.now }
+{
+    match file {
+        FileInput::Source(path) | FileInput::Made(path, _) => path,
+    }
+}
 
 // Adds a path.
 fn add(paths: &mut Vec<Path>, path: &Path) -> Result<(), AllocError>

@@ -18,6 +18,7 @@ mod seen;
 mod tree_order;
 mod twin;
 mod twin_order;
+mod unlisted;
 
 pub use checking::check;
 pub use fault::{GraphFault, GraphKind};

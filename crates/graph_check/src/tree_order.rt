@@ -1,5 +1,5 @@
 //! Paths in the order in which what lies below a directory comes directly after it.
-ghost use Rattle.std.specs.Prelude.{◌≡◌, ◌==◌, ◌↔◌, [], IsTrue, false, true};
+ghost use Rattle.std.specs.Prelude.{◌≡◌, ◌==◌, ◌↔◌, ◌≤◌, [], IsTrue, false, length, true};
 ghost use Rattle.std.specs.Cmp.Lexicographic.{slice_cmp};
 ghost use Rattle.std.specs.List.{slice_split};
 ghost use Rattle.std.specs.List.Sorted.{IsPartitionPoint, IsPermutation};
@@ -63,7 +63,8 @@ pub(crate) fn is_within(path: &Path, dir: &Path) -> bool
 // How many of these paths come before a path.
 pub(crate) fn count_before(paths: &[Path], path: &Path) -> usize
     requires { IsInTreeOrder paths.now }
-    ensures { IsPartitionPoint (λ p. is_lt (tree_cmp p path.now) ≡ true)
+    ensures count { result ≤ length paths.now }
+    ensures point { IsPartitionPoint (λ p. is_lt (tree_cmp p path.now) ≡ true)
         (λ p. is_lt (tree_cmp p path.now) ≡ false) paths.now result }
 {
     paths.partition_point(|p| tree_order(p, path).is_lt())

@@ -4,10 +4,10 @@ ghost use Rattle.std.specs.Cmp.Lexicographic.{slice_cmp};
 ghost use Rattle.std.specs.Option.{option_to_list};
 ghost use Rattle.bx_tree.specs.Paths.{path_cmp};
 ghost use Rattle.pip_types.specs.Dirs.{dir_path, form_rank};
-ghost use Rattle.pip_types.specs.Inputs.{input_path};
 ghost use Rattle.graph_check.specs.TwinOrder.{call_cmp, env_cmp, file_cmp, form_cmp, inputs_cmp};
 ghost use Rattle.graph_check.specs.TwinOrder.{maker_rank, outputs_cmp, process_cmp, text_cmp};
 
+use crate::declared::file_path;
 use bx_tree::{FileInput, Path, Text};
 use pip_model::{DirInput, EnvPair, ProcessDesc, SealForm};
 use std::cmp::Ordering;
@@ -26,15 +26,6 @@ fn env_order(a: &[EnvPair], b: &[EnvPair]) -> Ordering
     a.iter()
         .map(|v| (v.name.bytes(), v.value.bytes()))
         .cmp(b.iter().map(|v| (v.name.bytes(), v.value.bytes())))
-}
-
-// The path of a file.
-fn file_path(file: &FileInput) -> &Path
-    ensures { result.now ≡ input_path file.now }
-{
-    match file {
-        FileInput::Source(path) | FileInput::Made(path, _) => path,
-    }
 }
 
 // Where a file comes from, as a number: 0 for a source file.

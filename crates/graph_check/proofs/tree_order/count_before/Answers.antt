@@ -6,7 +6,7 @@ use Rattle.graph_check.specs.TreeOrder.{tree_cmp}
 use Rattle.graph_check.proofs.TreeOrders.{partitioned}
 use Rattle.graph_check.proofs.tree_order.count_before.Goals as goal
 
-pub returns : goal.returns
-returns c =
+pub returns-clause-point : goal.returns-clause-point
+returns-clause-point c =
     IsPartitionPoint-from_clause (λ (p : Atoms). is_lt (tree_cmp p c.args.path.now)) c.args.paths.now c.partition_point.result
     c.partition_point.ensures.partitioned (partitioned c.args.paths.now c.args.path.now c.requires) (λ a r f h. search rules)
