@@ -6,3 +6,4 @@ pub mod Repeats
 pub mod Twins
 pub mod TreeOrders
 pub mod InTree
+pub mod Among

@@ -7,6 +7,7 @@ pub mod Twin
 pub mod TwinOrder
 pub mod Orders
 pub mod Described
+pub mod Sharing
 pub mod TreeOrder
 pub mod Limit
 pub mod Firsts

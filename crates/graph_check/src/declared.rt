@@ -3,7 +3,8 @@ ghost use Rattle.std.specs.Prelude.{◌≡◌, ◌++◌, ◌∷◌, [], map, IfO
 ghost use Rattle.pip_types.specs.Inputs.{input_path};
 ghost use Rattle.pip_types.specs.declared.outputs.OutDir.{OutDir as AnyOutDir};
 ghost use Rattle.graph_check.specs.NoSuchSource.{if_source, listed_sources, named_sources, sources_among};
-ghost use Rattle.graph_check.specs.Outputs.{declared_dirs, declared_files, outputs};
+ghost use Rattle.graph_check.specs.Outputs.{declared_files, outputs};
+ghost use Rattle.graph_check.specs.Sharing.{dir_paths, full_roots, lone_among, lone_paths, unless_shared};
 
 use bx_tree::{FileInput, Path};
 use pip_model::{OutDir, PipKind, SealDesc, SealForm};
@@ -47,6 +48,28 @@ fn add_dirs(paths: &mut Vec<Path>, dirs: &[OutDir]) -> Result<(), AllocError>
     Ok(())
 }
 
+// Adds the path of a directory that is not shared.
+fn add_unshared(paths: &mut Vec<Path>, dir: &OutDir) -> Result<(), AllocError>
+    ensures { OnOk result
+        (paths.new.items ≡ paths.old.items ++ unless_shared dir.now.shared dir.now.path) }
+{
+    if dir.shared {
+        Ok(())
+    } else {
+        add(paths, &dir.path)
+    }
+}
+
+// Adds the paths of those of some directories that are not shared.
+fn add_lone(paths: &mut Vec<Path>, dirs: &[OutDir]) -> Result<(), AllocError>
+    ensures { OnOk result (paths.new.items ≡ paths.old.items ++ lone_among dirs.now) }
+{
+    'dirs: for dir in dirs {
+        add_unshared(paths, dir)?;
+    }
+    Ok(())
+}
+
 // Adds the files that a pip declares.
 pub(crate) fn add_files(paths: &mut Vec<Path>, kind: &PipKind) -> Result<(), AllocError>
     ensures { OnOk result (paths.new.items ≡ paths.old.items ++ declared_files kind.now) }
@@ -79,8 +102,48 @@ pub(crate) fn add_outputs(paths: &mut Vec<Path>, kind: &PipKind) -> Result<(), A
     ensures { OnOk result (paths.new.items ≡ paths.old.items ++ outputs kind.now) }
 {
     add_files(paths, kind)?;
+    add_dir_paths(paths, kind)
+}
+
+// Adds the output directories of a pip.
+pub(crate) fn add_dir_paths(paths: &mut Vec<Path>, kind: &PipKind) -> Result<(), AllocError>
+    ensures { OnOk result (paths.new.items ≡ paths.old.items ++ dir_paths kind.now) }
+{
     match kind {
         PipKind::Process(process) => add_dirs(paths, process.outdirs.dirs()),
+        _ => Ok(()),
+    }
+}
+
+// The output directories of a pip.
+pub(crate) fn dirs_of(alloc: Global, kind: &PipKind) -> Result<Vec<Path>, AllocError>
+    ensures { IfOk result (λ dirs. dirs.items ≡ dir_paths kind.now) }
+{
+    let mut dirs = Vec::new(alloc);
+    add_dir_paths(&mut dirs, kind)?;
+    Ok(dirs)
+}
+
+// The output directories of a pip that are not shared.
+pub(crate) fn lone_dirs_of(alloc: Global, kind: &PipKind) -> Result<Vec<Path>, AllocError>
+    ensures { IfOk result (λ dirs. dirs.items ≡ lone_paths kind.now) }
+{
+    let mut dirs = Vec::new(alloc);
+    if let PipKind::Process(process) = kind {
+        add_lone(&mut dirs, process.outdirs.dirs())?;
+    }
+    Ok(dirs)
+}
+
+// Adds the root of a pip that is a full seal.
+pub(crate) fn add_full_root(paths: &mut Vec<Path>, kind: &PipKind) -> Result<(), AllocError>
+    ensures { OnOk result (paths.new.items ≡ paths.old.items ++ full_roots kind.now) }
+{
+    match kind {
+        PipKind::Seal(seal) => match seal.form {
+            SealForm::Full => add(paths, &seal.root),
+            _ => Ok(()),
+        },
         _ => Ok(()),
     }
 }
