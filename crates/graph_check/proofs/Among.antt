@@ -2,11 +2,16 @@
 use Rattle.std.proofs.Common.{inl, inr, ◌⊎◌, ◌≡◌, ℕ, zero, suc, ◌<◌, List, [], ◌∷◌, ◌++◌, length, map, get_or, Some, None, arith, refl, subst, sym}
 use Rattle.std.specs.Prelude.{◌↔◌, Option, IsSomeAnd, slice_get}
 use Rattle.std.specs.List.{Any, Contains, flat_map}
+use Rattle.std.specs.List.Sorted.{IsPermutation}
+use Rattle.std.proofs.lemmas.List.Sorted.{Contains-permutation, IsPermutation-sym}
+use Rattle.bx_tree.specs.Paths.{Atoms}
 use Rattle.std.proofs.lemmas.List.Elements.{Contains-append_cases, Contains-append_left, Contains-append_right}
 use Rattle.std.proofs.lemmas.Option.{slice_get_read, slice_get_within, get_or_from_slice_get}
 use Rattle.pip_types.specs.declared.pip.Pip.{Pip}
 use Rattle.pip_types.specs.declared.pip.PipKind.{PipKind}
 use Rattle.graph_check.specs.Outputs.{Has}
+use Rattle.graph_check.specs.Gathered.{IsAmong, IsListOf}
+use Rattle.graph_check.specs.TreeOrder.{IsInTreeOrder}
 use Rattle.graph_check.proofs.Has.{has_there}
 
 pub from_flat : {X Y : Type 0} (f : X → List Y) (xs : List X) (y : Y) → Contains (flat_map f xs) y → (x : X) × Contains xs x × Contains (f x) y
@@ -32,10 +37,6 @@ to_map f [] x (k, l, e) = absurd (omega (arith, l))
 to_map f (a ∷ as') x (zero, l, e) = (0, omega arith, subst (λ b. f a ≡ f b) e refl)
 to_map f (a ∷ as') x (suc k, l, e) = let z = to_map f as' x (k, omega (arith, l), e) in (suc z.0, omega (arith, z.1), z.2)
 
--- some pip has x among its items
-abbrev pub IsAmong : {X : Type 0} → (PipKind → List X) → List Pip → X → Type 0
-IsAmong items pips x = (i : ℕ) × Has items pips i x
-
 pub among_from : {X : Type 0} (items : PipKind → List X) (pips : List Pip) (x : X)
     → Contains (flat_map (λ (pip : Pip). items pip.kind) pips) x → IsAmong items pips x
 among_from items pips x c =
@@ -56,3 +57,14 @@ among_to items pips x (i, has) = at (slice_get pips i) refl has
 -- some element has the property, said by what is in the list
 pub any_in : {X : Type 0} (P : X → Type 0) (xs : List X) → Any P xs ↔ ((x : X) × Contains xs x × P x)
 any_in P xs = (λ (k, x, l, is, p). (x, (k, l, is), p), λ (x, c, p). (c.0, x, c.1, c.2, p))
+
+-- what is gathered from all pips and sorted
+pub list_of : (items : PipKind → List Atoms) (pips : List Pip) (xs ys : List Atoms) → xs ≡ flat_map (λ (pip : Pip). items pip.kind) pips
+    → IsPermutation xs ys → IsInTreeOrder ys → IsListOf items pips ys
+list_of items pips xs ys e moved up = record {
+  sorted = up;
+  members = λ p. (
+    λ c. among_from items pips p (subst (λ zs. Contains zs p) e (Contains-permutation ys xs p (IsPermutation-sym xs ys moved) c)),
+    λ h. Contains-permutation xs ys p moved (subst (λ zs. Contains zs p) (sym e) (among_to items pips p h)),
+  );
+}

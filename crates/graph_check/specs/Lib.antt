@@ -8,6 +8,7 @@ pub mod TwinOrder
 pub mod Orders
 pub mod Described
 pub mod Sharing
+pub mod Gathered
 pub mod TreeOrder
 pub mod Limit
 pub mod Firsts

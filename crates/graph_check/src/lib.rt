@@ -9,6 +9,7 @@ mod checking;
 mod declared;
 mod double_producer;
 mod fault;
+mod gathered;
 mod laws;
 mod nesting;
 mod no_such_source;
