@@ -7,3 +7,4 @@ pub mod Twins
 pub mod TreeOrders
 pub mod InTree
 pub mod Among
+pub mod Unsharing

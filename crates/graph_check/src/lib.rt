@@ -20,6 +20,7 @@ mod tree_order;
 mod twin;
 mod twin_order;
 mod unlisted;
+mod unshared;
 
 pub use checking::check;
 pub use fault::{GraphFault, GraphKind};
