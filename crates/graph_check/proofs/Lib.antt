@@ -8,3 +8,5 @@ pub mod TreeOrders
 pub mod InTree
 pub mod Among
 pub mod Unsharing
+pub mod Overlapping
+pub mod Prefixes

@@ -7,7 +7,7 @@ use Rattle.pip_types.specs.declared.pip.Pip.{Pip}
 use Rattle.pip_types.specs.declared.pip.PipKind.{PipKind}
 use Rattle.pip_types.specs.declared.pip.SealDesc.{SealDesc}
 use Rattle.graph_check.specs.Outputs.{declared_dirs}
-use Rattle.graph_check.specs.Overlap.{Overlaps, UnsharedDir, full_seals}
+use Rattle.graph_check.specs.Overlap.{FileIsDir, NestedOutputs, Overlaps, SealMeetsDir, UnlistedFile, UnsharedDir, full_seals}
 
 abbrev pub unless_shared : Bool → Atoms → List Atoms
 unless_shared true path = []
@@ -30,6 +30,19 @@ full_roots kind = map (λ (seal : SealDesc). seal.root) (full_seals kind)
 -- two of these pips have one output directory, and not both call it shared
 abbrev pub HasUnshared : List Pip → Type 0
 HasUnshared pips = (i j : ℕ) × UnsharedDir pips i j
+
+-- the same for the other ways in which pips overlap
+abbrev pub HasNested : List Pip → Type 0
+HasNested pips = (i j : ℕ) × NestedOutputs pips i j
+
+abbrev pub HasFileDir : List Pip → Type 0
+HasFileDir pips = (i j : ℕ) × FileIsDir pips i j
+
+abbrev pub HasUnlisted : List Pip → Type 0
+HasUnlisted pips = (i j : ℕ) × UnlistedFile pips i j
+
+abbrev pub HasSealedDir : List Pip → Type 0
+HasSealedDir pips = (i j : ℕ) × SealMeetsDir pips i j
 
 -- two of these pips overlap, or one of them alone does
 abbrev pub HasOverlap : List Pip → Type 0

@@ -14,6 +14,7 @@ mod laws;
 mod nesting;
 mod no_such_source;
 mod outside_out;
+mod overlap;
 
 mod seen;
 mod tree_order;
