@@ -44,7 +44,7 @@ first_tells xs dir n d up point (k, x, l, is, h) =
     let below : n < length xs = omega arith in (
       below,
       within_between dir (get_or xs n d) x (point.1 n d (omega arith) below)
-      (subst (λ p. is_lt (tree_cmp p (get_or xs n d)) ≡ false) (at_default xs k d x l is) (far xs n k d up place l)) h,
+          (subst (λ p. is_lt (tree_cmp p (get_or xs n d)) ≡ false) (at_default xs k d x l is) (far xs n k d up place l)) h,
     )
   where
     at : (k < n) ⊎ (n ≤ k) → n ≤ k
@@ -58,7 +58,7 @@ neighbours zero xs i j d up e l h =
     let next : j ≡ i + 1 = omega arith in (i, omega arith, subst (λ n. IsBelow (get_or xs n d) (get_or xs i d)) next h)
 neighbours (suc gap) xs i j d up e l h =
     let within = within_between (get_or xs i d) (get_or xs (i + 1) d) (get_or xs j d) (far xs i (i + 1) d up (omega arith) (omega arith))
-        (far xs (i + 1) j d up (omega arith) l) (inr h) in
+    (far xs (i + 1) j d up (omega arith) l) (inr h) in
     elim within [
       | inl same ↦ neighbours gap xs (i + 1) j d up (omega arith) l (subst (IsBelow (get_or xs j d)) (sym same) h)
       | inr below ↦ (i, omega arith, below)

@@ -10,3 +10,4 @@ pub mod Among
 pub mod Unsharing
 pub mod Overlapping
 pub mod Prefixes
+pub mod Answering

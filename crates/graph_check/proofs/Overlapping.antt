@@ -32,13 +32,13 @@ pair_to R paths dirs path dir c d r = (d.0, dir, d.1, d.2, (c.0, path, c.1, c.2,
 file_output : (pips : List Pip) (i : ℕ) (p : Atoms) → Has declared_files pips i p → Has outputs pips i p
 file_output pips i p h =
     let y = has_along declared_files outputs p (λ q. q ≡ p)
-        (λ kind c. (p, Contains-append_left (declared_files kind) (dir_paths kind) p c, refl)) pips i h in
+    (λ kind c. (p, Contains-append_left (declared_files kind) (dir_paths kind) p c, refl)) pips i h in
     subst (Has outputs pips i) y.2 y.1
 
 dir_output : (pips : List Pip) (i : ℕ) (p : Atoms) → Has dir_paths pips i p → Has outputs pips i p
 dir_output pips i p h =
     let y = has_along dir_paths outputs p (λ q. q ≡ p)
-        (λ kind c. (p, Contains-append_right (declared_files kind) (dir_paths kind) p c, refl)) pips i h in
+    (λ kind c. (p, Contains-append_right (declared_files kind) (dir_paths kind) p c, refl)) pips i h in
     subst (Has outputs pips i) y.2 y.1
 
 pub root_seal : (pips : List Pip) (i : ℕ) (p : Atoms) → Has full_roots pips i p → (seal : SealDesc) × Has full_seals pips i seal × (seal.root ≡ p)
@@ -49,7 +49,7 @@ root_seal pips i p h =
 root_of : (pips : List Pip) (i : ℕ) (seal : SealDesc) → Has full_seals pips i seal → Has full_roots pips i seal.root
 root_of pips i seal h =
     let y = has_along full_seals full_roots seal (λ p. p ≡ seal.root)
-        (λ kind c. (seal.root, to_map (λ (s : SealDesc). s.root) (full_seals kind) seal c, refl)) pips i h in
+    (λ kind c. (seal.root, to_map (λ (s : SealDesc). s.root) (full_seals kind) seal c, refl)) pips i h in
     subst (Has full_roots pips i) y.2 y.1
 
 -- ## Outputs
@@ -91,11 +91,20 @@ sealed_from_below pips dirs roots ds rs some =
     let path = (ds.members pair.0).0 pair.2 in
     let root = (rs.members pair.1).0 pair.3 in
     let dir = path_dir pips path.0 pair.0 path.1 in
-    let seal = root_seal pips root.0 pair.1 root.1 in
-    (root.0, path.0, (seal.0, dir.0, seal.1, dir.1, elim pair.4 [
-      | inl same ↦ inl (inl (seal.2 ∙ sym same ∙ sym dir.2))
-      | inr below ↦ inr (subst (IsBelow dir.0.path) (sym seal.2) (subst (λ p. IsBelow p pair.1) (sym dir.2) below))
-    ]))
+    let seal = root_seal pips root.0 pair.1 root.1 in (
+      root.0,
+      path.0,
+      (
+        seal.0,
+        dir.0,
+        seal.1,
+        dir.1,
+        elim pair.4 [
+          | inl same ↦ inl (inl (seal.2 ∙ sym same ∙ sym dir.2))
+          | inr below ↦ inr (subst (IsBelow dir.0.path) (sym seal.2) (subst (λ p. IsBelow p pair.1) (sym dir.2) below))
+        ],
+      ),
+    )
 
 pub sealed_from_above : (pips : List Pip) (dirs roots : List Atoms) → IsListOf dir_paths pips dirs → IsListOf full_roots pips roots
     → SomePair IsWithin roots dirs → HasSealedDir pips
@@ -104,9 +113,17 @@ sealed_from_above pips dirs roots ds rs some =
     let root = (rs.members pair.0).0 pair.2 in
     let path = (ds.members pair.1).0 pair.3 in
     let dir = path_dir pips path.0 pair.1 path.1 in
-    let seal = root_seal pips root.0 pair.0 root.1 in
-    (root.0, path.0, (seal.0, dir.0, seal.1, dir.1,
-    inl (subst (IsWithin seal.0.root) (sym dir.2) (subst (λ p. IsWithin p pair.1) (sym seal.2) pair.4))))
+    let seal = root_seal pips root.0 pair.0 root.1 in (
+      root.0,
+      path.0,
+      (
+        seal.0,
+        dir.0,
+        seal.1,
+        dir.1,
+        inl (subst (IsWithin seal.0.root) (sym dir.2) (subst (λ p. IsWithin p pair.1) (sym seal.2) pair.4)),
+      ),
+    )
 
 pub sealed_to : (pips : List Pip) (dirs roots : List Atoms) → IsListOf dir_paths pips dirs → IsListOf full_roots pips roots
     → HasSealedDir pips → SomePair IsWithin dirs roots ⊎ SomePair IsWithin roots dirs

@@ -50,7 +50,7 @@ by_head a b d p rest Equal e low high more =
     let same = exact_bytes b a e in
     let back : atom_cmp a b ≡ Equal = nat_list_cmp_total.antisymm a b ∙ ap ordering_reverse e in
     let tail = more (sym (ap (λ x. is_lt (ordering_then x (tree_cmp p d))) e) ∙ low)
-        (sym (ap (λ x. is_lt (ordering_then x (tree_cmp (d ++ rest) p))) back) ∙ high) in
+    (sym (ap (λ x. is_lt (ordering_then x (tree_cmp (d ++ rest) p))) back) ∙ high) in
     (tail.0, let rest_is = tail.1 in cc)
 by_head a b d p rest Greater e low high more =
     let back : atom_cmp a b ≡ Less = nat_list_cmp_total.antisymm a b ∙ ap ordering_reverse e in

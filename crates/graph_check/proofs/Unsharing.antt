@@ -41,9 +41,9 @@ pub lone_dir : (pips : List Pip) (i : ℕ) (p : Atoms) → Has lone_paths pips i
 lone_dir pips i p h =
     has_along lone_paths declared_dirs p (λ (dir : OutDir). (dir.path ≡ p) × (dir.shared ≡ false))
     (λ kind c.
-        let found = from_flat (λ (dir : OutDir). unless_shared dir.shared dir.path) (declared_dirs kind) p c in
-        let parts = from_unless found.0.shared found.0.path p found.2 in
-        (found.0, found.1, (parts.1, parts.0))) pips i h
+    let found = from_flat (λ (dir : OutDir). unless_shared dir.shared dir.path) (declared_dirs kind) p c in
+    let parts = from_unless found.0.shared found.0.path p found.2 in
+    (found.0, found.1, (parts.1, parts.0))) pips i h
 
 pub path_dir : (pips : List Pip) (i : ℕ) (p : Atoms) → Has dir_paths pips i p → (dir : OutDir) × Has declared_dirs pips i dir × (dir.path ≡ p)
 path_dir pips i p h =
@@ -53,17 +53,17 @@ path_dir pips i p h =
 pub dir_path_of : (pips : List Pip) (i : ℕ) (dir : OutDir) → Has declared_dirs pips i dir → Has dir_paths pips i dir.path
 dir_path_of pips i dir h =
     let y = has_along declared_dirs dir_paths dir (λ p. p ≡ dir.path)
-        (λ kind c. (dir.path, to_map (λ (d : OutDir). d.path) (declared_dirs kind) dir c, refl)) pips i h in
+    (λ kind c. (dir.path, to_map (λ (d : OutDir). d.path) (declared_dirs kind) dir c, refl)) pips i h in
     subst (Has dir_paths pips i) y.2 y.1
 
 pub lone_path_of : (pips : List Pip) (i : ℕ) (dir : OutDir) → dir.shared ≡ false → Has declared_dirs pips i dir → Has lone_paths pips i dir.path
 lone_path_of pips i dir alone h =
     let y = has_along declared_dirs lone_paths dir (λ p. p ≡ dir.path)
-        (λ kind c. (
-          dir.path,
-          to_flat (λ (d : OutDir). unless_shared d.shared d.path) (declared_dirs kind) dir dir.path c (to_unless dir.shared dir.path alone),
-          refl,
-        )) pips i h in
+    (λ kind c. (
+      dir.path,
+      to_flat (λ (d : OutDir). unless_shared d.shared d.path) (declared_dirs kind) dir dir.path c (to_unless dir.shared dir.path alone),
+      refl,
+    )) pips i h in
     subst (Has lone_paths pips i) y.2 y.1
 
 -- pip i has a directory of an earlier pip, and not both share it

@@ -142,18 +142,18 @@ tied_processes d e tie =
     let one = both_equal (outputs_cmp d e) (ordering_then (call_cmp d e) (inputs_cmp d e)) tie in
     let two = both_equal (call_cmp d e) (inputs_cmp d e) one.1 in
     let by_outs = both_equal (slice_cmp path_cmp d.outs e.outs)
-        (ordering_then (slice_cmp outdir_cmp d.outdirs e.outdirs) (slice_cmp path_cmp (option_to_list d.console) (option_to_list e.console))) one.0 in
+    (ordering_then (slice_cmp outdir_cmp d.outdirs e.outdirs) (slice_cmp path_cmp (option_to_list d.console) (option_to_list e.console))) one.0 in
     let by_dirs = both_equal (slice_cmp outdir_cmp d.outdirs e.outdirs)
-        (slice_cmp path_cmp (option_to_list d.console) (option_to_list e.console)) by_outs.1 in
+    (slice_cmp path_cmp (option_to_list d.console) (option_to_list e.console)) by_outs.1 in
     let by_exe = both_equal (path_cmp d.exe e.exe)
-        (ordering_then (slice_cmp text_cmp d.args e.args) (ordering_then (slice_cmp env_cmp d.env e.env) (path_cmp d.dir e.dir))) two.0 in
+    (ordering_then (slice_cmp text_cmp d.args e.args) (ordering_then (slice_cmp env_cmp d.env e.env) (path_cmp d.dir e.dir))) two.0 in
     let by_args = both_equal (slice_cmp text_cmp d.args e.args) (ordering_then (slice_cmp env_cmp d.env e.env) (path_cmp d.dir e.dir)) by_exe.1 in
     let by_env = both_equal (slice_cmp env_cmp d.env e.env) (path_cmp d.dir e.dir) by_args.1 in
     let by_files = both_equal (slice_cmp file_cmp d.files e.files) (slice_cmp form_cmp d.dirs e.dirs) two.1 in
     let outs = exact_lists path_cmp equal_paths d.outs e.outs by_outs.0 in
     let outdirs = exact_lists outdir_cmp exact_outdir d.outdirs e.outdirs by_dirs.0 in
     let console = same_console d.console e.console
-        (exact_lists path_cmp equal_paths (option_to_list d.console) (option_to_list e.console) by_dirs.1) in
+    (exact_lists path_cmp equal_paths (option_to_list d.console) (option_to_list e.console) by_dirs.1) in
     let exe = equal_paths d.exe e.exe by_exe.0 in
     let args = exact_lists text_cmp exact_bytes d.args e.args by_args.0 in
     let env = exact_lists env_cmp exact_env d.env e.env by_env.0 in

@@ -4,14 +4,13 @@ ghost use Rattle.graph_check.specs.Firsts.{IsFirst};
 ghost use Rattle.std.specs.Prelude.{IfOk};
 
 use crate::declared::files_of;
-use crate::fault::GraphFault;
 use crate::seen::{is_any_seen, see_all};
-use pip_model::Pip;
+use pip_model::{Memory, Pip};
 use std::alloc::Global;
 use std::collections::BTreeSet;
 
 // The first pip that declares a file that an earlier pip declares.
-pub(crate) fn double_producer(alloc: Global, pips: &[Pip]) -> Result<Option<usize>, GraphFault>
+pub(crate) fn double_producer(alloc: Global, pips: &[Pip]) -> Result<Option<usize>, Memory>
     ensures { IfOk result (IsFirst (DoubleProducerAt pips.now)) }
 {
     let mut seen = BTreeSet::new(alloc);

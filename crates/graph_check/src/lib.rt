@@ -11,11 +11,11 @@ mod double_producer;
 mod fault;
 mod gathered;
 mod laws;
+mod limit;
 mod nesting;
 mod no_such_source;
 mod outside_out;
 mod overlap;
-
 mod seen;
 mod tree_order;
 mod twin;

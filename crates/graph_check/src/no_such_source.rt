@@ -5,9 +5,8 @@ ghost use Rattle.graph_check.specs.Firsts.{IsFirst};
 ghost use Rattle.graph_check.specs.NoSuchSource.{NoSuchSourceAt, named_sources};
 
 use crate::declared::add_named_sources;
-use crate::fault::GraphFault;
 use bx_tree::Path;
-use pip_model::{Pip, PipKind, Sources};
+use pip_model::{Memory, Pip, PipKind, Sources};
 use std::alloc::Global;
 
 // Whether some path is not that of a source file.
@@ -19,7 +18,7 @@ fn is_any_missing(paths: &[Path], sources: &Sources) -> bool
 }
 
 // Whether a pip names a source file that is not there.
-fn has_missing(alloc: Global, kind: &PipKind, sources: &Sources) -> Result<bool, GraphFault>
+fn has_missing(alloc: Global, kind: &PipKind, sources: &Sources) -> Result<bool, Memory>
     ensures { IfOk result (λ has. IsTrue has
         ↔ Any (λ path. Contains (paths_of sources.now) path → ⊥) (named_sources kind.now)) }
 {
@@ -33,7 +32,7 @@ pub(crate) fn no_such_source(
     alloc: Global,
     pips: &[Pip],
     sources: &Sources,
-) -> Result<Option<usize>, GraphFault>
+) -> Result<Option<usize>, Memory>
     ensures { IfOk result (IsFirst (NoSuchSourceAt pips.now sources.now)) }
 {
     'pips: for (number, pip) in pips.iter().enumerate() {

@@ -6,19 +6,18 @@ ghost use Rattle.graph_check.specs.Outputs.{outputs};
 ghost use Rattle.graph_check.specs.OutsideOut.{OutsideOutAt, out_dir};
 
 use crate::declared::add_outputs;
-use crate::fault::GraphFault;
 use bx_tree::{Path, PathFault};
-use pip_model::{Pip, PipKind};
-use std::alloc::Global;
+use pip_model::{Memory, Pip, PipKind};
+use std::alloc::{AllocError, Global};
 
 // The directory that outputs lie strictly below.
-fn out(alloc: Global) -> Result<Path, GraphFault>
+fn out(alloc: Global) -> Result<Path, Memory>
     ensures { IfOk result (λ path. path ≡ out_dir) }
 {
     match Path::read(alloc, b"out") {
         Ok(path) => Ok(path),
         Err(PathFault::BadPath) => unreachable!(),
-        Err(PathFault::Memory) => Err(GraphFault::Memory),
+        Err(PathFault::Memory) => Err(AllocError),
     }
 }
 
@@ -30,7 +29,7 @@ fn is_any_outside(paths: &[Path], dir: &Path) -> bool
 }
 
 // Whether some output of a pip does not lie strictly below a directory.
-fn has_outside(alloc: Global, kind: &PipKind, dir: &Path) -> Result<bool, GraphFault>
+fn has_outside(alloc: Global, kind: &PipKind, dir: &Path) -> Result<bool, Memory>
     ensures { IfOk result
         (λ has. IsTrue has ↔ Any (λ path. IsBelow path dir.now → ⊥) (outputs kind.now)) }
 {
@@ -40,7 +39,7 @@ fn has_outside(alloc: Global, kind: &PipKind, dir: &Path) -> Result<bool, GraphF
 }
 
 // The first pip with an output that does not lie strictly below `out`.
-pub(crate) fn outside_out(alloc: Global, pips: &[Pip]) -> Result<Option<usize>, GraphFault>
+pub(crate) fn outside_out(alloc: Global, pips: &[Pip]) -> Result<Option<usize>, Memory>
     ensures { IfOk result (IsFirst (OutsideOutAt pips.now)) }
 {
     let out = out(alloc)?;

@@ -6,17 +6,16 @@ ghost use Rattle.graph_check.specs.Overlap.{IsUnlisted, OverlapAt, full_seals};
 ghost use Rattle.graph_check.specs.Sharing.{HasFileDir, HasNested, HasOverlap, HasSealedDir, HasUnlisted};
 ghost use Rattle.graph_check.specs.TreeOrder.{IsInTreeOrder};
 
-use crate::fault::GraphFault;
 use crate::gathered::{all_dirs, all_files, all_outputs, all_roots};
 use crate::nesting::{any_nested, any_within};
 use crate::unlisted::has_unlisted;
 use crate::unshared::has_unshared;
 use bx_tree::Path;
-use pip_model::{Pip, PipKind, SealForm};
+use pip_model::{Memory, Pip, PipKind, SealForm};
 use std::alloc::Global;
 
 // Whether outputs of these pips lie below each other, or a file is a directory.
-fn outputs_overlap(alloc: Global, pips: &[Pip]) -> Result<bool, GraphFault>
+fn outputs_overlap(alloc: Global, pips: &[Pip]) -> Result<bool, Memory>
     ensures { IfOk result (λ has. IsTrue has ↔ (HasNested pips.now ⊎ HasFileDir pips.now)) }
 {
     let outputs = all_outputs(alloc, pips)?;
@@ -29,7 +28,7 @@ fn outputs_overlap(alloc: Global, pips: &[Pip]) -> Result<bool, GraphFault>
 }
 
 // Whether a full seal of these pips meets an output directory.
-fn seals_meet_dirs(alloc: Global, pips: &[Pip]) -> Result<bool, GraphFault>
+fn seals_meet_dirs(alloc: Global, pips: &[Pip]) -> Result<bool, Memory>
     ensures { IfOk result (λ has. IsTrue has ↔ HasSealedDir pips.now) }
 {
     let dirs = all_dirs(alloc, pips)?;
@@ -64,7 +63,7 @@ fn any_leaves_out(files: &[Path], pips: &[Pip]) -> bool
 }
 
 // Whether a file of these pips lies in a full seal of them without being a member.
-fn seals_leave_out(alloc: Global, pips: &[Pip]) -> Result<bool, GraphFault>
+fn seals_leave_out(alloc: Global, pips: &[Pip]) -> Result<bool, Memory>
     ensures { IfOk result (λ has. IsTrue has ↔ HasUnlisted pips.now) }
 {
     let files = all_files(alloc, pips)?;
@@ -72,7 +71,7 @@ fn seals_leave_out(alloc: Global, pips: &[Pip]) -> Result<bool, GraphFault>
 }
 
 // Whether two of these pips overlap, or one of them alone does.
-fn has_overlap(alloc: Global, pips: &[Pip]) -> Result<bool, GraphFault>
+fn has_overlap(alloc: Global, pips: &[Pip]) -> Result<bool, Memory>
     ensures { IfOk result (λ has. IsTrue has ↔ HasOverlap pips.now) }
 {
     if outputs_overlap(alloc, pips)? {
@@ -89,7 +88,7 @@ fn has_overlap(alloc: Global, pips: &[Pip]) -> Result<bool, GraphFault>
 
 // The first pip of these that overlaps with itself or an earlier pip. Some first pips overlap if fewer of them
 // do, so it is found by halving.
-fn first_overlap(alloc: Global, pips: &[Pip]) -> Result<usize, GraphFault>
+fn first_overlap(alloc: Global, pips: &[Pip]) -> Result<usize, Memory>
     requires { HasOverlap pips.now }
     ensures { IfOk result (λ number. IsFirst (OverlapAt pips.now) (Some number)) }
 {
@@ -107,7 +106,7 @@ fn first_overlap(alloc: Global, pips: &[Pip]) -> Result<usize, GraphFault>
 }
 
 // The first pip that overlaps with itself or an earlier pip.
-pub(crate) fn overlap(alloc: Global, pips: &[Pip]) -> Result<Option<usize>, GraphFault>
+pub(crate) fn overlap(alloc: Global, pips: &[Pip]) -> Result<Option<usize>, Memory>
     ensures { IfOk result (IsFirst (OverlapAt pips.now)) }
 {
     if has_overlap(alloc, pips)? {

@@ -9,9 +9,8 @@ ghost use Rattle.std.proofs.Common.{rules};
 ghost use Rattle.graph_check.specs.Described.{described_cmp, described_total, described_matches};
 ghost use Rattle.graph_check.specs.Described.{described_equiv, described_partial_eq, described_partial};
 
-use crate::fault::GraphFault;
 use crate::twin_order::process_order;
-use pip_model::{Pip, PipKind, ProcessDesc};
+use pip_model::{Memory, Pip, PipKind, ProcessDesc};
 use std::alloc::{AllocError, Global};
 use std::cmp::Ordering;
 use std::collections::BTreeSet;
@@ -61,10 +60,7 @@ impl<'a> PartialOrd for Described<'a> {
 }
 
 // Adds a process. Whether one of its description was there.
-fn had<'a>(
-    seen: &mut BTreeSet<Described<'a>>,
-    process: &'a ProcessDesc,
-) -> Result<bool, AllocError>
+fn had<'a>(seen: &mut BTreeSet<Described<'a>>, process: &'a ProcessDesc) -> Result<bool, AllocError>
     ensures had { IfOk result
         (λ had. IsTrue had ↔ HasDescribed seen.old (description process.now)) }
     ensures added { OnOk result ((d : AnyProcess) → HasDescribed seen.new d
@@ -74,10 +70,7 @@ fn had<'a>(
 }
 
 // Adds a pip, if it is a process. Whether a process of its description was there.
-fn is_twin<'a>(
-    seen: &mut BTreeSet<Described<'a>>,
-    kind: &'a PipKind,
-) -> Result<bool, AllocError>
+fn is_twin<'a>(seen: &mut BTreeSet<Described<'a>>, kind: &'a PipKind) -> Result<bool, AllocError>
     ensures twin { IfOk result
         (λ twin. IsTrue twin ↔ Any (HasDescribed seen.old) (descriptions kind.now)) }
     ensures added { OnOk result ((d : AnyProcess) → HasDescribed seen.new d
@@ -90,7 +83,7 @@ fn is_twin<'a>(
 }
 
 // The first process with the description of an earlier process.
-pub(crate) fn twin(alloc: Global, pips: &[Pip]) -> Result<Option<usize>, GraphFault>
+pub(crate) fn twin(alloc: Global, pips: &[Pip]) -> Result<Option<usize>, Memory>
     ensures { IfOk result (IsFirst (TwinAt pips.now)) }
 {
     let mut seen = BTreeSet::new(alloc);

@@ -3,10 +3,9 @@ ghost use Rattle.std.specs.Prelude.{◌↔◌, ◌⊎◌, Any, Contains, IsTrue,
 ghost use Rattle.graph_check.specs.Sharing.{HasUnshared};
 
 use crate::declared::{dirs_of, lone_dirs_of};
-use crate::fault::GraphFault;
 use crate::seen::{is_any_seen, see_all};
 use bx_tree::Path;
-use pip_model::Pip;
+use pip_model::{Memory, Pip};
 use std::alloc::Global;
 use std::collections::BTreeSet;
 
@@ -26,7 +25,7 @@ fn is_clash(seen: &SeenDirs, dirs: &[Path], lone: &[Path]) -> bool
 }
 
 // Whether two of these pips have one output directory, and not both share it.
-pub(crate) fn has_unshared(alloc: Global, pips: &[Pip]) -> Result<bool, GraphFault>
+pub(crate) fn has_unshared(alloc: Global, pips: &[Pip]) -> Result<bool, Memory>
     ensures { IfOk result (λ has. IsTrue has ↔ HasUnshared pips.now) }
 {
     let mut seen = SeenDirs {

@@ -23,7 +23,7 @@ returns-then-branch c =
     let pip = c.index-pips-number.result in
     let there = slice_get_read c.args.pips.now (length c.args.pips.now) c.pips.number pip refl c.pips-test.true c.index-pips-number.is in (
       so_far_repeats descriptions c.args.pips.now c.pips.number pip (HasDescribed c.pips.seen) there c.pips.invariant.seen
-      (c.in_ok-is_twin.ensures.twin.0 c.if-branch.true),
+          (c.in_ok-is_twin.ensures.twin.0 c.if-branch.true),
       c.pips.invariant.none,
     )
 

@@ -12,8 +12,8 @@ returns-then-not-is_within c = (
   λ t. cc,
   λ any. absurd (none_unlisted c.args.files.now c.args.seal.now c.files.file-index c.requires.sorted c.requires.after c.files.invariant
       (λ d l within. let t = c.is_within.ensures.1
-          (subst (λ p. IsWithin p c.args.seal.now.root) (at_default c.args.files.now c.files.file-index d c.file-item.result l (sym c.file-item.is)) within) in
-          let f = c.if-not-is_within.true in cc) any),
+      (subst (λ p. IsWithin p c.args.seal.now.root) (at_default c.args.files.now c.files.file-index d c.file-item.result l (sym c.file-item.is)) within) in
+      let f = c.if-not-is_within.true in cc) any),
 )
 
 pub files-preserved : goal.files-preserved

@@ -28,7 +28,7 @@ among files p (Err i) h = (
 pub returns : goal.returns
 returns c =
     let found = among c.args.files.now c.args.path.now c.binary_search_by.result
-        (place_from_search input_path c.args.files.now c.args.path.now c.binary_search_by.result c.requires c.binary_search_by.ensures.bound
-        (c.binary_search_by.ensures.position (λ (f : FileInput). path_cmp (input_path f) c.args.path.now)
-        (always_returns_same _ _ _ (λ a r g h. search rules)))) in
+    (place_from_search input_path c.args.files.now c.args.path.now c.binary_search_by.result c.requires c.binary_search_by.ensures.bound
+    (c.binary_search_by.ensures.position (λ (f : FileInput). path_cmp (input_path f) c.args.path.now)
+    (always_returns_same _ _ _ (λ a r g h. search rules)))) in
     (λ t. found.0 (sym c.is_ok.ensures.value ∙ t), λ h. c.is_ok.ensures.value ∙ found.1 h)

@@ -27,8 +27,8 @@ returns-then-is_clash c =
     let dirs = c.as_slice.ensures.value ∙ c.in_ok-dirs.ensures in
     let lone = c.as_slice-in-pips.ensures.value ∙ c.in_ok-lone.ensures in
     let found = subst (λ (ds : List Atoms). Any (Contains c.pips.seen.all.keys) (lone_paths pip.kind) ⊎ Any (Contains c.pips.seen.lone.keys) ds) dirs
-        (subst (λ (ls : List Atoms). Any (Contains c.pips.seen.all.keys) ls ⊎ Any (Contains c.pips.seen.lone.keys) c.as_slice.result.now) lone
-        (c.is_clash.ensures.0 c.if-is_clash.true)) in (
+    (subst (λ (ls : List Atoms). Any (Contains c.pips.seen.all.keys) ls ⊎ Any (Contains c.pips.seen.lone.keys) c.as_slice.result.now) lone
+    (c.is_clash.ensures.0 c.if-is_clash.true)) in (
       λ t. unshared_from_clash pips c.pips.pip-index
           (clash_here pips c.pips.pip-index pip (Contains c.pips.seen.all.keys) (Contains c.pips.seen.lone.keys) there c.pips.invariant.all c.pips.invariant.lone found),
       λ h. refl,
@@ -48,8 +48,8 @@ pips-preserved c =
       none = none_more (ClashAt pips) c.pips.pip-index c.pips.invariant.none
           (no_clash_here pips c.pips.pip-index pip all lone_seen there c.pips.invariant.all c.pips.invariant.lone
           (λ found. let t = c.is_clash.ensures.1
-              (subst (λ (ds : List Atoms). Any all c.as_slice-in-pips.result.now ⊎ Any lone_seen ds) (sym dirs)
-              (subst (λ (ls : List Atoms). Any all ls ⊎ Any lone_seen (dir_paths pip.kind)) (sym lone) found)) in cc));
+          (subst (λ (ds : List Atoms). Any all c.as_slice-in-pips.result.now ⊎ Any lone_seen ds) (sym dirs)
+          (subst (λ (ls : List Atoms). Any all ls ⊎ Any lone_seen (dir_paths pip.kind)) (sym lone) found)) in cc));
       all = so_far_more dir_paths pips c.pips.pip-index pip all (Contains c.see_all.new.seen.keys) there c.pips.invariant.all
           (subst (λ (ds : List Atoms). (p : Atoms) → Contains c.see_all.new.seen.keys p ↔ (all p ⊎ Contains ds p)) dirs_again c.in_ok-see_all.ensures);
       lone = so_far_more lone_paths pips c.pips.pip-index pip lone_seen (Contains c.see_all-in-pips.new.seen.keys) there c.pips.invariant.lone
