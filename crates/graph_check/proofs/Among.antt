@@ -1,5 +1,5 @@
 -- What lists that functions make of lists have, and what all pips have together.
-use Rattle.std.proofs.Common.{inl, inr, ◌⊎◌, ◌≡◌, ℕ, zero, suc, ◌<◌, List, [], ◌∷◌, ◌++◌, length, map, get_or, Some, None, arith, refl, subst, sym}
+use Rattle.std.proofs.Common.{inl, inr, ◌≡◌, zero, suc, List, [], ◌∷◌, length, map, Some, None, arith, refl, subst, sym}
 use Rattle.std.specs.Prelude.{◌↔◌, Option, IsSomeAnd, slice_get}
 use Rattle.std.specs.List.{Any, Contains, flat_map}
 use Rattle.std.specs.List.Sorted.{IsPermutation}
@@ -9,7 +9,6 @@ use Rattle.std.proofs.lemmas.List.Elements.{Contains-append_cases, Contains-appe
 use Rattle.std.proofs.lemmas.Option.{slice_get_read, slice_get_within, get_or_from_slice_get}
 use Rattle.pip_types.specs.declared.pip.Pip.{Pip}
 use Rattle.pip_types.specs.declared.pip.PipKind.{PipKind}
-use Rattle.graph_check.specs.Outputs.{Has}
 use Rattle.graph_check.specs.Gathered.{IsAmong, IsListOf}
 use Rattle.graph_check.specs.TreeOrder.{IsInTreeOrder}
 use Rattle.graph_check.proofs.Has.{has_there}

@@ -1,19 +1,18 @@
 -- Overlaps of pips, by what is in the lists of all that they declare.
-use Rattle.std.proofs.Common.{inl, inr, ◌⊎◌, ◌≡◌, ◌∙◌, ℕ, ◌<◌, List, [], ◌∷◌, ◌++◌, length, map, refl, ap, subst, sym}
+use Rattle.std.proofs.Common.{inl, inr, ◌⊎◌, ◌≡◌, ◌∙◌, ℕ, List, length, refl, subst, sym}
 use Rattle.std.specs.Prelude.{Option, Some, None, IsSomeAnd, slice_get}
 use Rattle.std.specs.List.{Any, Contains}
 use Rattle.std.proofs.lemmas.List.Elements.{Contains-append_left, Contains-append_right}
 use Rattle.std.proofs.lemmas.Option.{get_or_from_slice_get, slice_get_read, slice_get_within}
 use Rattle.bx_tree.specs.Paths.{Atoms, IsBelow}
-use Rattle.pip_types.specs.declared.outputs.OutDir.{OutDir}
 use Rattle.pip_types.specs.declared.pip.Pip.{Pip}
 use Rattle.pip_types.specs.declared.pip.SealDesc.{SealDesc}
-use Rattle.graph_check.specs.Gathered.{IsAmong, IsListOf}
-use Rattle.graph_check.specs.Outputs.{Has, IsWithin, declared_dirs, declared_files, outputs}
+use Rattle.graph_check.specs.Gathered.{IsListOf}
+use Rattle.graph_check.specs.Outputs.{Has, IsWithin, declared_files, outputs}
 use Rattle.graph_check.specs.Overlap.{IsUnlisted, full_seals}
 use Rattle.graph_check.specs.Overlap.Overlaps.{Nested, OnePath, Unshared, Unlisted, Meets}
 use Rattle.graph_check.specs.Sharing.{HasFileDir, HasNested, HasOverlap, HasSealedDir, HasUnlisted, HasUnshared, dir_paths, full_roots}
-use Rattle.graph_check.proofs.Among.{among_from, among_to, from_map, to_map}
+use Rattle.graph_check.proofs.Among.{from_map, to_map}
 use Rattle.graph_check.proofs.Has.{has_there}
 use Rattle.graph_check.proofs.Unsharing.{dir_path_of, has_along, path_dir}
 

@@ -1,5 +1,5 @@
 -- Overlaps among the first pips of a list.
-use Rattle.std.proofs.Common.{inl, inr, ◌⊎◌, ◌≡◌, ℕ, zero, suc, ◌+◌, ◌<◌, ◌≤◌, List, [], ◌∷◌, length, length-take, take, Some, arith, refl, subst, sym}
+use Rattle.std.proofs.Common.{inl, inr, ◌≡◌, ℕ, zero, suc, ◌+◌, ◌<◌, List, [], ◌∷◌, length, length-take, take, Some, arith, refl, subst, sym}
 use Rattle.std.specs.Prelude.{IsSomeAnd, slice_get}
 use Rattle.std.specs.List.{Contains}
 use Rattle.std.proofs.lemmas.Bool.{cases_lt}

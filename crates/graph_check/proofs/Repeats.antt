@@ -1,5 +1,5 @@
 -- The first pip with an item that an earlier pip has.
-use Rattle.std.proofs.Common.{inl, inr, ◌⊎◌, ◌≡◌, ℕ, ◌+◌, ◌<◌, List, length, Some, refl, subst, sym, arith}
+use Rattle.std.proofs.Common.{inl, inr, ◌⊎◌, ◌≡◌, ℕ, ◌+◌, ◌<◌, List, length, Some, subst, arith}
 use Rattle.std.specs.Prelude.{◌↔◌, slice_get}
 use Rattle.std.specs.List.{Any, Contains}
 use Rattle.std.proofs.lemmas.Bool.{cases_lt}

@@ -1,5 +1,5 @@
 -- In tree order, what lies within a directory is one run, which begins where the directory would stand.
-use Rattle.std.proofs.Common.{inl, inr, ◌⊎◌, ◌≡◌, ◌≢◌, ◌∙◌, ℕ, ◌≤◌, arith, Bool, true, false, List, [], ◌∷◌, ◌++◌, append-nil, get_or, refl, ap, sym, subst}
+use Rattle.std.proofs.Common.{inl, inr, ◌≡◌, ◌∙◌, ℕ, ◌≤◌, arith, true, false, List, [], ◌∷◌, ◌++◌, append-nil, get_or, refl, ap, sym}
 use Rattle.std.specs.Cmp.Lexicographic.{slice_cmp}
 use Rattle.std.specs.Ordering.{is_lt, nat_cmp, ordering_index, ordering_reverse, ordering_then}
 use Rattle.std.specs.declared.cmp.Ordering.{Ordering}
@@ -8,7 +8,7 @@ use Rattle.std.specs.Cmp.{IsTotalOrder}
 use Rattle.std.proofs.lemmas.Cmp.{lists_total, nat_list_cmp_total, tied_itself}
 use Rattle.std.proofs.lemmas.List.Sorted.{searchable_from_sorted}
 use Rattle.std.proofs.lemmas.Map.Lookups.{exact_bytes}
-use Rattle.bx_tree.specs.Paths.{Atoms, IsBelow}
+use Rattle.bx_tree.specs.Paths.{Atoms}
 use Rattle.graph_check.specs.Outputs.{IsWithin}
 use Rattle.graph_check.specs.TreeOrder.{IsInTreeOrder, tree_cmp}
 use Rattle.std.specs.List.Sorted.{IsPartitionedBy}

@@ -1,11 +1,9 @@
 -- Sets of processes by description, and what adding to them does.
-use Rattle.std.proofs.Common.{inl, inr, ◌⊎◌, ◌≡◌, ◌∙◌, Bool, true, false, cond, List, [], ◌∷◌, ℕ, ◌<◌, arith, get_or, lit<, refl, ap, subst, sym}
+use Rattle.std.proofs.Common.{inl, inr, ◌⊎◌, ◌≡◌, ◌∙◌, Bool, true, false, cond, [], ◌∷◌, ℕ, ◌<◌, arith, get_or, lit<, refl, ap, subst, sym}
 use Rattle.std.specs.Prelude.{◌↔◌, not}
 use Rattle.std.specs.List.{Any, Contains}
 use Rattle.std.specs.Cmp.{Equal-is}
 use Rattle.std.specs.Ordering.{is_eq}
-use Rattle.std.specs.declared.cmp.Ordering.{Ordering}
-use Rattle.std.specs.declared.cmp.Ordering.TheVariants.{Less, Equal, Greater}
 use Rattle.std.specs.BTreeSet.{BTreeSet, Updates, contains}
 use Rattle.std.proofs.lemmas.Cmp.{tied_itself}
 use Rattle.std.proofs.lemmas.List.Folds.{Any-from_list_any, list_any-from_Any}

@@ -1,15 +1,14 @@
 -- Pips of one output directory that not both share, found by the directories of the pips before.
-use Rattle.std.proofs.Common.{inl, inr, ◌⊎◌, ◌≡◌, ◌≢◌, ◌∙◌, ℕ, ◌+◌, ◌<◌, ◌≤◌, Bool, true, false, IsTrue, List, [], ◌∷◌, length, map, get_or, arith, refl, ap, subst, sym}
+use Rattle.std.proofs.Common.{inl, inr, ◌⊎◌, ◌≡◌, ◌≢◌, ◌∙◌, ℕ, ◌<◌, ◌≤◌, Bool, true, false, List, [], ◌∷◌, length, get_or, arith, refl, subst, sym}
 use Rattle.std.specs.Prelude.{Option, Some, None, slice_get, IsSomeAnd}
-use Rattle.std.specs.List.{Any, Contains, flat_map}
+use Rattle.std.specs.List.{Any, Contains}
 use Rattle.std.proofs.lemmas.Bool.{cases_lt, false≢true}
 use Rattle.bx_tree.specs.Paths.{Atoms}
 use Rattle.pip_types.specs.declared.outputs.OutDir.{OutDir}
 use Rattle.pip_types.specs.declared.pip.Pip.{Pip}
 use Rattle.pip_types.specs.declared.pip.PipKind.{PipKind}
 use Rattle.graph_check.specs.Outputs.{Has, declared_dirs}
-use Rattle.graph_check.specs.Overlap.{UnsharedDir}
-use Rattle.graph_check.specs.Sharing.{HasUnshared, dir_paths, lone_among, lone_paths, unless_shared}
+use Rattle.graph_check.specs.Sharing.{HasUnshared, dir_paths, lone_paths, unless_shared}
 use Rattle.graph_check.proofs.Among.{from_flat, from_map, to_flat, to_map}
 use Rattle.graph_check.proofs.Firsts.{none_at_all}
 use Rattle.graph_check.proofs.Has.{has_there, has_within, there_has}

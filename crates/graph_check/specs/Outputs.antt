@@ -1,5 +1,5 @@
 -- What pips declare to make, and that the pip with a number has something among what it declares.
-use Rattle.std.specs.Prelude.{◌≡◌, ℕ, List, [], ◌∷◌, ◌++◌, map, Option, Contains, IsSomeAnd, slice_get, ◌⊎◌}
+use Rattle.std.specs.Prelude.{◌≡◌, ℕ, List, [], ◌∷◌, ◌++◌, map, Contains, IsSomeAnd, slice_get, ◌⊎◌}
 use Rattle.std.specs.Option.{option_to_list}
 use Rattle.bx_tree.specs.Paths.{Atoms, IsBelow}
 use Rattle.pip_types.specs.declared.outputs.OutDir.{OutDir}

@@ -1,5 +1,5 @@
 -- The paths of output directories, and of those that are not shared.
-use Rattle.std.specs.Prelude.{ℕ, Bool, true, false, List, [], ◌∷◌, map, ◌⊎◌}
+use Rattle.std.specs.Prelude.{ℕ, Bool, true, false, List, [], ◌∷◌, map}
 use Rattle.std.specs.List.{flat_map}
 use Rattle.bx_tree.specs.Paths.{Atoms}
 use Rattle.pip_types.specs.declared.outputs.OutDir.{OutDir}

@@ -1,10 +1,10 @@
 -- An order of the descriptions of processes in which just equal descriptions tie.
-use Rattle.std.specs.Prelude.{ℕ, suc, Option, List}
+use Rattle.std.specs.Prelude.{ℕ, suc, List}
 use Rattle.std.specs.Option.{option_to_list}
 use Rattle.std.specs.Cmp.Lexicographic.{slice_cmp}
 use Rattle.std.specs.Ordering.{nat_cmp, on, then_cmp}
 use Rattle.std.specs.declared.cmp.Ordering.{Ordering}
-use Rattle.bx_tree.specs.Paths.{Atoms, path_cmp}
+use Rattle.bx_tree.specs.Paths.{path_cmp}
 use Rattle.bx_tree.specs.declared.file_input.FileInput.{FileInput}
 use Rattle.bx_tree.specs.declared.file_input.FileInput.TheVariants.{Source, Made}
 use Rattle.pip_types.specs.Dirs.{dir_path, form_rank}
@@ -12,7 +12,6 @@ use Rattle.pip_types.specs.Inputs.{input_path}
 use Rattle.pip_types.specs.Outputs.{outdir_cmp}
 use Rattle.pip_types.specs.declared.args.EnvPair.{EnvPair}
 use Rattle.pip_types.specs.declared.dir_inputs.DirInput.{DirInput}
-use Rattle.pip_types.specs.declared.outputs.OutDir.{OutDir}
 use Rattle.pip_types.specs.declared.pip.ProcessDesc.{ProcessDesc}
 
 -- texts, by their bytes

@@ -26,3 +26,6 @@ mod unshared;
 pub use checking::check;
 pub use fault::{GraphFault, GraphKind};
 pub use laws::one_answer;
+
+#[cfg(test)]
+mod tests;

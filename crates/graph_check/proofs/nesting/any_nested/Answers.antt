@@ -1,7 +1,6 @@
-use Rattle.std.proofs.Common.{inl, inr, ◌⊎◌, ◌≡◌, ◌∙◌, ◌+◌, ◌-◌, ◌<◌, ◌≤◌, ℕ, List, [], get_or, length, arith, refl, sym, subst}
-use Rattle.std.specs.List.{Any}
+use Rattle.std.proofs.Common.{inl, inr, ◌≡◌, ◌∙◌, ◌+◌, ◌-◌, ◌<◌, [], get_or, length, arith, sym, subst}
 use Rattle.std.proofs.lemmas.Bool.{cases_lt}
-use Rattle.bx_tree.specs.Paths.{Atoms, IsBelow}
+use Rattle.bx_tree.specs.Paths.{IsBelow}
 use Rattle.graph_check.proofs.TreeOrders.{true≢false}
 use Rattle.graph_check.proofs.InTree.{at_default, some_neighbours}
 use Rattle.graph_check.proofs.nesting.any_nested.Goals as goal

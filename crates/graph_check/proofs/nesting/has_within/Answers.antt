@@ -1,6 +1,4 @@
-use Rattle.std.proofs.Common.{◌≡◌, ◌<◌, ℕ, List, [], get_or, length, arith, refl, sym, subst}
-use Rattle.std.specs.List.{Any}
-use Rattle.bx_tree.specs.Paths.{Atoms}
+use Rattle.std.proofs.Common.{[], arith, sym, subst}
 use Rattle.graph_check.specs.Outputs.{IsWithin}
 use Rattle.graph_check.proofs.InTree.{first_tells}
 use Rattle.graph_check.proofs.nesting.has_within.Goals as goal

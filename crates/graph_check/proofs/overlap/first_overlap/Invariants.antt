@@ -1,4 +1,4 @@
-use Rattle.std.proofs.Common.{ℕ, ◌-◌, ◌<◌, ◌≤◌, length, take}
+use Rattle.std.proofs.Common.{◌-◌, ◌<◌, ◌≤◌, length, take}
 use Rattle.graph_check.specs.Sharing.{HasOverlap}
 use Rattle.graph_check.proofs.overlap.first_overlap.Given as goal
 

@@ -1,6 +1,5 @@
-use Rattle.std.proofs.Common.{inl, inr, ◌≡◌, ◌∙◌, List, refl, subst, sym}
-use Rattle.bx_tree.specs.Paths.{Atoms, IsBelow}
-use Rattle.graph_check.specs.Outputs.{IsWithin, declared_files, outputs}
+use Rattle.std.proofs.Common.{inl, inr, refl, subst, sym}
+use Rattle.graph_check.specs.Outputs.{declared_files, outputs}
 use Rattle.graph_check.specs.Gathered.{IsListOf}
 use Rattle.graph_check.specs.Sharing.{dir_paths}
 use Rattle.graph_check.proofs.Overlapping.{file_dir_from, file_dir_to, nested_from, nested_to}

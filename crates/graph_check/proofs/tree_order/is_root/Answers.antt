@@ -1,4 +1,4 @@
-use Rattle.std.proofs.Common.{◌≡◌, ◌∙◌, [], lit≤, refl, sym, ap}
+use Rattle.std.proofs.Common.{◌∙◌, [], lit≤, refl, sym, ap}
 use Rattle.std.proofs.lemmas.Slice.Eq.{bytes_eq-Decides}
 use Rattle.bx_tree.specs.Paths.{IsPath, path_text}
 use Rattle.bx_tree.proofs.PathTexts.{same_from_text}

@@ -1,4 +1,4 @@
-use Rattle.std.proofs.Common.{◌≡◌, ℕ, ◌<◌, List, length, ap, refl, arith}
+use Rattle.std.proofs.Common.{◌≡◌, List, length, ap, refl, arith}
 use Rattle.std.specs.List.{Any}
 use Rattle.std.proofs.lemmas.Option.{slice_get_read}
 use Rattle.graph_check.specs.Described.{HasDescribed}

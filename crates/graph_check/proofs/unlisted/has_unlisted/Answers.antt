@@ -1,11 +1,8 @@
-use Rattle.std.proofs.Common.{◌≡◌, ◌-◌, List, arith, drop, length, length-drop, subst, sym, take}
-use Rattle.std.specs.List.{All, Any}
-use Rattle.std.specs.Ordering.{is_lt}
+use Rattle.std.proofs.Common.{◌-◌, arith, drop, length, length-drop, subst, sym}
+use Rattle.std.specs.List.{Any}
 use Rattle.std.proofs.lemmas.List.{take_all}
-use Rattle.bx_tree.specs.Paths.{Atoms}
 use Rattle.graph_check.specs.Overlap.{IsUnlisted}
-use Rattle.graph_check.specs.TreeOrder.{IsInTreeOrder, tree_cmp}
-use Rattle.graph_check.proofs.InTree.{from_rest, in_rest, rest_after, rest_sorted}
+use Rattle.graph_check.proofs.InTree.{from_rest, in_rest}
 use Rattle.graph_check.proofs.unlisted.has_unlisted.Goals as goal
 
 pub returns : goal.returns

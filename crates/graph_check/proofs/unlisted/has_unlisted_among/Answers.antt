@@ -1,7 +1,6 @@
-use Rattle.std.proofs.Common.{inl, inr, ◌≡◌, ◌<◌, ◌≤◌, ℕ, get_or, length, map, arith, sym, subst}
+use Rattle.std.proofs.Common.{inl, inr, ◌≡◌, get_or, map, arith, sym, subst}
 use Rattle.std.specs.List.{Contains}
 use Rattle.std.proofs.lemmas.Bool.{cases_lt}
-use Rattle.bx_tree.specs.Paths.{Atoms}
 use Rattle.pip_types.specs.Inputs.{input_path}
 use Rattle.graph_check.specs.Outputs.{IsWithin}
 use Rattle.graph_check.proofs.InTree.{at_default, none_unlisted}

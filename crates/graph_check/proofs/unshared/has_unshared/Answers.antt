@@ -1,4 +1,4 @@
-use Rattle.std.proofs.Common.{inl, inr, ◌⊎◌, ◌≡◌, ◌∙◌, ℕ, ◌<◌, List, length, ap, refl, subst, sym, arith}
+use Rattle.std.proofs.Common.{◌⊎◌, ◌≡◌, ◌∙◌, List, length, ap, refl, subst, sym, arith}
 use Rattle.std.specs.Prelude.{◌↔◌}
 use Rattle.std.specs.List.{Any, Contains}
 use Rattle.std.proofs.lemmas.Option.{slice_get_read}
