@@ -1,4 +1,0 @@
-pub mod BoundTree
-pub mod ProgramData
-pub mod Numbering
-pub mod Views

@@ -1,5 +1,0 @@
-pub mod Joining
-pub mod AmbientCalls
-pub mod Outwards
-pub mod Numbering
-pub mod OneString
