@@ -2,9 +2,9 @@
 //! the bytes of the output, and the notes.
 //!
 //! This crate depends on `bx_io` for the outside, on `bx_tree` for bundles, on `dscript_workspace` for the
-//! modules of a tree, which `dscript_modules` has as data, and on `dscript_read` and `dscript_ast` for their files. It carries the promise that all
-//! others are for: the call writes the bytes and gives the status that the definition of a build gives for the
-//! input, on both sides of every refusal.
+//! modules of a tree, which `dscript_modules` has as data, and on `dscript_read` and `dscript_ast` for their
+//! files. It carries the promise that all others are for: the call writes the bytes and gives the status that
+//! the definition of a build gives for the input, on both sides of every refusal.
 #![tactic(auto)]
 
 mod build;
