@@ -18,7 +18,8 @@ is_kind e = option_map_or (λ text. bytes_eq text (codes "DScript")) (string_of 
 -- the module files of a list, if all of its files are module files
 abbrev pub module_files : Files → ExprTree → Option (List Atoms)
 module_files files e =
-    option_and_then (λ paths. if list_all is_module_file paths then Some paths else None) (files_listed files [] e)
+    option_and_then (λ paths. if list_all is_module_file paths then Some paths else None)
+    (files_listed files [] e)
 
 -- the list of modules of a resolver: `{kind: "DScript", modules: [files]}`
 abbrev pub modules_list : ExprTree → Option ExprTree

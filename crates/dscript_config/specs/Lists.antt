@@ -55,9 +55,11 @@ directory_text _ = None
 
 -- whether a text is a pattern of a glob
 abbrev pub is_pattern : List ℕ → Bool
-is_pattern text = nat_le 1 (length text) && nat_le (length text) MAX_PATTERN_BYTES && list_all is_pattern_byte text
+is_pattern text =
+    nat_le 1 (length text) && nat_le (length text) MAX_PATTERN_BYTES && list_all is_pattern_byte text
 
--- whether a callee is `glob`, which lists the files directly in a directory, or `globR`, which lists all below it
+-- whether a callee is `glob`, which lists the files directly in a directory, or `globR`, which lists all below
+-- it; none for another callee
 abbrev pub depth_of : ExprTree → Option Bool
 depth_of (tree.Name name) =
     if bytes_eq name (codes "glob") then Some false else
@@ -88,7 +90,8 @@ pub record GlobData : Type 0 where
 abbrev pub glob_with : Bool → ExprTree × ExprTree → Option GlobData
 glob_with deep both =
     option_and_then (λ directory. option_map (λ pattern.
-    record { deep = deep; directory = directory; pattern = pattern }) (string_of both.1)) (directory_text both.0)
+    record { deep = deep; directory = directory; pattern = pattern }) (string_of both.1))
+    (directory_text both.0)
 
 -- a call of `glob` or `globR`, with a directory and a pattern
 abbrev pub glob_call : ExprTree → Option GlobData

@@ -36,5 +36,6 @@ are_fields names props = are_known names props && are_once names props
 
 -- the fields of an object that has no other fields than these
 abbrev pub object_with : List (List ℕ) → ExprTree → Option (List PropTree)
-object_with names (tree.Object props) = if are_fields names (props_of props) then Some (props_of props) else None
+object_with names (tree.Object props) =
+    if are_fields names (props_of props) then Some (props_of props) else None
 object_with names _ = None

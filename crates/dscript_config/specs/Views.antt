@@ -28,7 +28,8 @@ glob_data call = record { deep = call.deep; directory = call.directory.now; patt
 
 -- the files that are meant are those at these positions, or none are meant
 abbrev pub ArePositions : Files → Option (List Atoms) → Vec ℕ Global → Type 0
-ArePositions files meant positions = (meant ≡ Some (paths_at files positions.items)) × AreWithin files positions.items
+ArePositions files meant positions =
+    (meant ≡ Some (paths_at files positions.items)) × AreWithin files positions.items
 
 abbrev pub FindsPositions : Files → Option (List Atoms) → Option (Vec ℕ Global) → Type 0
 FindsPositions files meant found = MatchOption found (meant ≡ None) (ArePositions files meant)
@@ -42,7 +43,8 @@ AreProjectsWithin files projects = IfSome projects (λ positions. AreWithin file
 
 -- the files that are meant are those at these positions
 abbrev pub IsProjects : Files → Option (Option (List Atoms)) → Option (Vec ℕ Global) → Type 0
-IsProjects files meant projects = (meant ≡ Some (project_paths files projects)) × AreProjectsWithin files projects
+IsProjects files meant projects =
+    (meant ≡ Some (project_paths files projects)) × AreProjectsWithin files projects
 
 -- a module as it is described, with paths in place of positions
 abbrev pub description_data : Files → Description → DescriptionData

@@ -38,8 +38,10 @@ fn depth_of(callee: &Expr) -> Option<bool>
 /// The two arguments of a call that is the only part after a callee.
 fn arguments(parts: &[PostfixPart]) -> Option<(&Expr, &Expr)>
     ensures { MatchOption result
-        (option_and_then pair_of (option_and_then arguments_of (only_of (map part_tree parts.entry.now))) ≡ None)
-        (λ both. option_and_then pair_of (option_and_then arguments_of (only_of (map part_tree parts.entry.now)))
+        (option_and_then pair_of (option_and_then arguments_of (only_of (map part_tree parts.entry.now)))
+        ≡ None)
+        (λ both. option_and_then pair_of
+        (option_and_then arguments_of (only_of (map part_tree parts.entry.now)))
         ≡ Some (expr_tree both.0.now, expr_tree both.1.now)) }
 {
     match only_part(parts)? {

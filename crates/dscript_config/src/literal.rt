@@ -69,7 +69,8 @@ pub(crate) fn only_part(parts: &[PostfixPart]) -> Option<&PostfixPart>
 pub(crate) fn pair(values: &[Expr]) -> Option<(&Expr, &Expr)>
     ensures { MatchOption result
         (pair_of (map expr_tree values.entry.now) ≡ None)
-        (λ both. pair_of (map expr_tree values.entry.now) ≡ Some (expr_tree both.0.now, expr_tree both.1.now)) }
+        (λ both. pair_of (map expr_tree values.entry.now)
+        ≡ Some (expr_tree both.0.now, expr_tree both.1.now)) }
 {
     if values.len() == 2 {
         Some((&values[0], &values[1]))

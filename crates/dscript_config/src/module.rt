@@ -84,7 +84,8 @@ fn projects_of(
 ) -> Result<Option<Option<Vec<usize>>>, AllocError>
     ensures { IfOk result (λ found. MatchOption found
         (projects_meant tree.now dir.now (map prop_tree props.now) ≡ None)
-        (λ projects. IsProjects tree.now (projects_meant tree.now dir.now (map prop_tree props.now)) projects)) }
+        (λ projects. IsProjects tree.now (projects_meant tree.now dir.now (map prop_tree props.now))
+        projects)) }
 {
     let Some(list) = field_named(props, b"projects") else {
         return Ok(Some(None));

@@ -96,7 +96,8 @@ fn are_fields(props: &[Prop], names: &[&[u8]]) -> bool
 pub(crate) fn object_with<'a>(value: &'a Expr, names: &[&[u8]]) -> Option<&'a [Prop]>
     ensures { MatchOption result
         (object_of (parts_now names.now) (expr_tree value.entry.now) ≡ None)
-        (λ props. object_of (parts_now names.now) (expr_tree value.entry.now) ≡ Some (map prop_tree props.now)) }
+        (λ props. object_of (parts_now names.now) (expr_tree value.entry.now)
+        ≡ Some (map prop_tree props.now)) }
 {
     let Expr::Object(props) = value else {
         return None;
