@@ -21,7 +21,7 @@ use Rattle.dscript_modules.specs.declared.fault.SpecFault.TheVariants as spec_fa
 use Rattle.dscript_modules.specs.Faults.{FaultData}
 use Rattle.dscript_modules.specs.Workspaces.{ModuleData}
 use Rattle.bx_engine.specs.Faults.{RefusesFile, RefusesFiles}
-use Rattle.dscript_workspace.specs.Membership.{is_one_of}
+use Rattle.dscript_config.specs.Paths.{is_one_of}
 use Rattle.bx_engine.specs.Projects.{IsFirstFault, IsShort, IsWellFormed, files_among, is_among, lent_files}
 use Rattle.bx_engine.specs.Projects.{paths_of_modules, project_files}
 

@@ -16,7 +16,7 @@ use Rattle.dscript_modules.specs.Faults.{FaultData}
 use Rattle.dscript_modules.specs.Workspaces.{ModuleData}
 use Rattle.dscript_read.specs.Reading.{HasNoTokens, IsFile, IsNoFile}
 use Rattle.dscript_workspace.specs.Finding.{fault_at}
-use Rattle.dscript_workspace.specs.Membership.{is_one_of}
+use Rattle.dscript_config.specs.Paths.{is_one_of}
 
 -- ## Which they are
 

@@ -9,7 +9,7 @@ ghost use Rattle.dscript_ast.specs.Views.{file_tree};
 ghost use Rattle.dscript_ast.specs.declared.file.Form.{Form as AnyForm};
 ghost use Rattle.dscript_modules.specs.Workspaces.{modules_data, modules_of};
 ghost use Rattle.dscript_read.specs.Reading.{IsFile};
-ghost use Rattle.dscript_workspace.specs.Membership.{is_one_of};
+ghost use Rattle.dscript_config.specs.Paths.{is_one_of};
 ghost use Rattle.dscript_workspace.specs.Finding.{fault_at as fault_with};
 ghost use Rattle.bx_engine.specs.Faults.{IsSameFault, RefusesFile, RefusesFiles};
 ghost use Rattle.bx_engine.specs.Projects.{IsShort, IsWellFormed, files_among, lent_files};

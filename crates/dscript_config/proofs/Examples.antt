@@ -1,5 +1,5 @@
 -- What some configurations say, worked out.
-use Rattle.std.proofs.Common.{◌≡◌, ℕ, true, false, List, [], ◌∷◌, Some, None, codes, refl}
+use Rattle.std.proofs.Common.{◌≡◌, ℕ, true, false, List, [], ◌∷◌, Some, None, codes, map, refl}
 use Rattle.bx_tree.specs.Paths.{Atoms}
 use Rattle.bx_tree.specs.Trees.{Files}
 use Rattle.dscript_ast.specs.ExprTree as tree
@@ -25,8 +25,7 @@ abbrev file : List ℕ → ExprTree
 file text = tree.Path letters.File text tree.no_holes
 
 abbrev list : List ExprTree → ExprTree
-list [] = tree.Elements tree.no_elements
-list (x ∷ xs) = tree.Elements (to_elements (tree.Element false x ∷ []))
+list xs = tree.Elements (to_elements (map (tree.Element false) xs))
 
 -- a glob of the directory of the file
 abbrev glob_call : List ℕ → List ℕ → ExprTree

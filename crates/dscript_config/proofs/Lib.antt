@@ -5,5 +5,7 @@ pub mod Patterns
 pub mod FilePaths
 pub mod JoinedLists
 pub mod Positions
+pub mod ListedFiles
+pub mod GatheredFiles
 pub mod Members
 mod Examples

@@ -1,17 +1,18 @@
 -- What `config.dsc` says: the module files that it lists.
 use Rattle.std.specs.Prelude.{Bool, false, if◌then◌else◌, List, [], ◌∷◌, codes}
-use Rattle.std.specs.Prelude.{Option, Some, None, option_and_then}
+use Rattle.std.specs.Prelude.{Option, Some, None, option_map, option_and_then}
 use Rattle.std.specs.List.{list_all}
 use Rattle.std.specs.Option.{option_map_or}
 use Rattle.std.specs.Str.{bytes_eq}
 use Rattle.bx_tree.specs.Paths.{Atoms}
 use Rattle.bx_tree.specs.Trees.{Files}
 use Rattle.dscript_ast.specs.ExprTree.{ExprTree}
-use Rattle.dscript_config.specs.Paths.{is_empty, is_module_file}
-use Rattle.dscript_config.specs.Lists.{ItemTree, One, Many, joined, string_of, items_of, listed_by, files_listed}
+use Rattle.dscript_config.specs.Paths.{in_tree, is_empty, is_module_file}
+use Rattle.dscript_config.specs.Lists.{ItemTree, One, Many, joined, string_of, items_of}
+use Rattle.dscript_config.specs.Lists.{listed_by, files_listed}
 use Rattle.dscript_config.specs.Objects.{object_with, field_named}
 
--- the kind of resolvers that there is
+-- `"DScript"`, the one kind of resolvers
 abbrev pub is_kind : ExprTree → Bool
 is_kind e = option_map_or (λ text. bytes_eq text (codes "DScript")) (string_of e) false
 
@@ -33,7 +34,8 @@ modules_list e =
 abbrev pub resolver : Files → ExprTree → Option (List Atoms)
 resolver files e = option_and_then (module_files files) (modules_list e)
 
--- the module files of an item of the resolvers; files that a glob lists are no resolvers
+-- the module files of an item of the resolvers; a glob that lists nothing is an empty list, and otherwise its
+-- files are no resolvers
 abbrev pub resolver_at : Files → ItemTree → Option (List Atoms)
 resolver_at files (One e) = resolver files e
 resolver_at files (Many e) =
@@ -44,6 +46,10 @@ abbrev pub resolvers_list : ExprTree → Option ExprTree
 resolvers_list e =
     option_and_then (field_named (codes "resolvers")) (object_with (codes "resolvers" ∷ []) e)
 
--- the module files that a configuration lists, in the order of the text and with repetitions, if it is one
+-- the module files of resolvers, in the order of the text and with repetitions
+abbrev pub resolvers : Files → ExprTree → Option (List Atoms)
+resolvers files list = joined (resolver_at files) (items_of list)
+
+-- the module files that a configuration lists, in the order of the tree and each once, if it is one
 abbrev pub configured : Files → ExprTree → Option (List Atoms)
-configured files e = option_and_then (λ list. joined (resolver_at files) (items_of list)) (resolvers_list e)
+configured files e = option_map (in_tree files) (option_and_then (resolvers files) (resolvers_list e))

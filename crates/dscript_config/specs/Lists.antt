@@ -1,6 +1,7 @@
 -- What lists in configurations have: expressions, and the files that globs list.
 use Rattle.std.specs.Prelude.{ℕ, Bool, true, false, ◌&&◌, nat_le, if◌then◌else◌}
-use Rattle.std.specs.Prelude.{List, [], ◌∷◌, ◌++◌, length, codes, Option, Some, None, option_map, option_and_then}
+use Rattle.std.specs.Prelude.{List, [], ◌∷◌, ◌++◌, length, codes}
+use Rattle.std.specs.Prelude.{Option, Some, None, option_map, option_and_then}
 use Rattle.std.specs.List.{list_all}
 use Rattle.std.specs.Str.{bytes_eq}
 use Rattle.bx_tree.specs.Paths.{Atoms}
@@ -15,7 +16,8 @@ use Rattle.dscript_config.specs.Paths.{is_source}
 
 -- ## Items
 
--- an item of a list as it is written: an element, or an expression all of whose elements are in the list
+-- an item of a list as it is written: an element, or an expression that is spread in the list or stands in
+-- its place, all of whose elements are in the list
 pub data ItemTree : Type 0 where
   One : ExprTree → ItemTree
   Many : ExprTree → ItemTree
@@ -58,8 +60,8 @@ abbrev pub is_pattern : List ℕ → Bool
 is_pattern text =
     nat_le 1 (length text) && nat_le (length text) MAX_PATTERN_BYTES && list_all is_pattern_byte text
 
--- whether a callee is `glob`, which lists the files directly in a directory, or `globR`, which lists all below
--- it; none for another callee
+-- whether a callee is `globR`, which lists all files below a directory, or `glob`, which lists those directly
+-- in it; none for another callee
 abbrev pub depth_of : ExprTree → Option Bool
 depth_of (tree.Name name) =
     if bytes_eq name (codes "glob") then Some false else
@@ -80,6 +82,10 @@ abbrev pub arguments_of : PartTree → Option (List ExprTree)
 arguments_of (tree.Call values) = Some (exprs_of values)
 arguments_of _ = None
 
+-- the two arguments of a call that is the only one of these parts
+abbrev pub arguments_in : List PartTree → Option (ExprTree × ExprTree)
+arguments_in parts = option_and_then pair_of (option_and_then arguments_of (only_of parts))
+
 -- what a glob says: whether it lists all below the directory, the directory's text, and the pattern
 pub record GlobData : Type 0 where
   pub deep : Bool
@@ -90,17 +96,16 @@ pub record GlobData : Type 0 where
 abbrev pub glob_with : Bool → ExprTree × ExprTree → Option GlobData
 glob_with deep both =
     option_and_then (λ directory. option_map (λ pattern.
-    record { deep = deep; directory = directory; pattern = pattern }) (string_of both.1))
-    (directory_text both.0)
+    record { deep = deep; directory = directory; pattern = pattern })
+    (string_of both.1)) (directory_text both.0)
 
 -- a call of `glob` or `globR`, with a directory and a pattern
 abbrev pub glob_call : ExprTree → Option GlobData
 glob_call (tree.Postfix callee parts) =
-    option_and_then (λ deep. option_and_then (glob_with deep)
-    (option_and_then pair_of (option_and_then arguments_of (only_of (parts_of parts))))) (depth_of callee)
+    option_and_then (λ deep. option_and_then (glob_with deep) (arguments_in (parts_of parts))) (depth_of callee)
 glob_call _ = None
 
--- the files that a glob lists
+-- the files that a glob lists; none where its directory is no path, or its pattern no pattern
 abbrev pub glob_in : Files → Atoms → GlobData → Option (List Atoms)
 glob_in files dir call =
     option_and_then (λ path.
@@ -113,11 +118,11 @@ listed_by files dir e = option_and_then (glob_in files dir) (glob_call e)
 
 -- ## Files
 
--- the file of a literal
+-- the path of a literal of a file
 abbrev pub literal_at : Atoms → ExprTree → Option Atoms
 literal_at dir e = option_and_then (join_of dir) (file_text e)
 
--- the files that an item stands for: that of a literal, or those of a glob
+-- the paths that an item stands for: that of a literal, or those that a glob lists
 abbrev pub files_at : Files → Atoms → ItemTree → Option (List Atoms)
 files_at files dir (One e) = option_map (λ path. path ∷ []) (literal_at dir e)
 files_at files dir (Many e) = listed_by files dir e

@@ -8,11 +8,11 @@ use Rattle.bx_tree.specs.Paths.{Atoms}
 use Rattle.bx_tree.specs.Trees.{Files}
 use Rattle.dscript_ast.specs.ExprTree as tree
 use Rattle.dscript_ast.specs.ExprTree.{ExprTree, PartTree, PropTree, parts_of}
-use Rattle.dscript_config.specs.Paths.{is_below, is_empty, is_specification}
+use Rattle.dscript_config.specs.Paths.{in_tree, is_below, is_empty, is_specification}
 use Rattle.dscript_config.specs.Lists.{string_of, files_listed, only_of}
 use Rattle.dscript_config.specs.Objects.{object_with, field_named}
 
--- a module: its name, and the files that it lists, in the order of the text and with repetitions
+-- a module: its name, and the files that it lists, in the order of the tree and each once
 pub record DescriptionData : Type 0 where
   pub name : List ℕ
   pub projects : Option (List Atoms)
@@ -25,11 +25,13 @@ name_in e = option_and_then (λ text. if is_empty text then None else Some text)
 abbrev pub are_projects : Atoms → List Atoms → Bool
 are_projects dir paths = list_all (λ path. is_below dir path && is_specification path) paths
 
--- the files of a list, if all of them are allowed
+-- the files of a list, in the order of the tree and each once, if all of them are allowed
 abbrev pub projects_in : Files → Atoms → ExprTree → Option (List Atoms)
 projects_in files dir e =
-    option_and_then (λ paths. if are_projects dir paths then Some paths else None) (files_listed files dir e)
+    option_and_then (λ paths. if are_projects dir paths then Some (in_tree files paths) else None)
+    (files_listed files dir e)
 
+-- the files that the field says, or none where there is no field
 abbrev pub optional_projects : Files → Atoms → Option ExprTree → Option (Option (List Atoms))
 optional_projects files dir None = Some None
 optional_projects files dir (Some e) = option_map Some (projects_in files dir e)
@@ -43,6 +45,7 @@ abbrev pub member_of : PartTree → Option (List ℕ)
 member_of (tree.Member name) = Some name
 member_of _ = None
 
+-- the word of a name
 abbrev pub name_of : ExprTree → Option (List ℕ)
 name_of (tree.Name name) = Some name
 name_of _ = None
@@ -58,8 +61,7 @@ is_semantics (tree.Postfix callee parts) =
     && is_text (codes "implicitProjectReferences") (option_and_then member_of (only_of (parts_of parts)))
 is_semantics _ = false
 
--- The module that a module file in this directory describes, if it describes one:
--- `{name: "NAME", projects: [files], nameResolutionSemantics: ..}`, where the last two may be left out.
+-- the module that these fields describe, in a module file in this directory
 abbrev pub described_by : Files → Atoms → List PropTree → Option DescriptionData
 described_by files dir fields =
     if option_map_or is_semantics (field_named (codes "nameResolutionSemantics") fields) true
@@ -67,6 +69,8 @@ described_by files dir fields =
     (projects_of files dir fields))
     (option_and_then name_in (field_named (codes "name") fields)) else None
 
+-- The module that a module file in this directory describes, if it describes one:
+-- `{name: "NAME", projects: [files], nameResolutionSemantics: ..}`, where the last two may be left out.
 abbrev pub described : Files → Atoms → ExprTree → Option DescriptionData
 described files dir e =
     option_and_then (described_by files dir)

@@ -14,6 +14,7 @@ value_named name (tree.Quoted own value) = if bytes_eq own name then Some value 
 value_named name (tree.Short own) = None
 value_named name (tree.Spread value) = None
 
+-- the property is written with this name and a value
 abbrev pub has_name : List ℕ → PropTree → Bool
 has_name name prop = is_some (value_named name prop)
 
@@ -31,6 +32,7 @@ are_known names props = list_all (λ prop. list_any (λ name. has_name name prop
 abbrev pub are_once : List (List ℕ) → List PropTree → Bool
 are_once names props = list_all (λ name. nat_le (count_by (has_name name) props) 1) names
 
+-- the properties are fields with these names
 abbrev pub are_fields : List (List ℕ) → List PropTree → Bool
 are_fields names props = are_known names props && are_once names props
 

@@ -9,7 +9,7 @@ use Rattle.dscript_ast.specs.Views.{expr_tree}
 use Rattle.dscript_config.specs.Lists.{ItemTree, One, Many, GlobData}
 use Rattle.dscript_config.specs.declared.glob_call.GlobCall.{GlobCall}
 use Rattle.dscript_config.specs.Modules.{DescriptionData}
-use Rattle.dscript_config.specs.Paths.{AreWithin, paths_at}
+use Rattle.dscript_config.specs.Paths.{AreWithin, is_one_of, paths_at}
 use Rattle.dscript_config.specs.declared.module.Description.{Description}
 use Rattle.dscript_config.specs.declared.list.ListItem.{ListItem}
 use Rattle.dscript_config.specs.declared.list.ListItem.TheVariants as items
@@ -19,6 +19,7 @@ abbrev pub item_tree : ListItem → ItemTree
 item_tree (items.One e) = One (expr_tree e.now)
 item_tree (items.Many e) = Many (expr_tree e.now)
 
+-- items, without addresses
 abbrev pub item_trees : List ListItem → List ItemTree
 item_trees = map item_tree
 
@@ -31,13 +32,28 @@ abbrev pub ArePositions : Files → Option (List Atoms) → Vec ℕ Global → T
 ArePositions files meant positions =
     (meant ≡ Some (paths_at files positions.items)) × AreWithin files positions.items
 
+-- positions are found where files are meant, and none otherwise
 abbrev pub FindsPositions : Files → Option (List Atoms) → Option (Vec ℕ Global) → Type 0
 FindsPositions files meant found = MatchOption found (meant ≡ None) (ArePositions files meant)
+
+-- the positions are those of these files, in any order and with any repetitions
+pub record ArePlaces (files : Files) (paths : List Atoms) (positions : List ℕ) : Type 0 where
+  pub within : AreWithin files positions
+  pub same : (path : Atoms) → is_one_of (paths_at files positions) path ≡ is_one_of paths path
+
+-- the files that are meant are those at these positions, in any order and with any repetitions
+abbrev pub HasPlaces : Files → Option (List Atoms) → Vec ℕ Global → Type 0
+HasPlaces files meant positions =
+    (paths : List Atoms) × (meant ≡ Some paths) × ArePlaces files paths positions.items
+
+abbrev pub FindsPlaces : Files → Option (List Atoms) → Option (Vec ℕ Global) → Type 0
+FindsPlaces files meant found = MatchOption found (meant ≡ None) (HasPlaces files meant)
 
 -- the paths at positions, where there are any
 abbrev pub project_paths : Files → Option (Vec ℕ Global) → Option (List Atoms)
 project_paths files projects = option_map (λ positions. paths_at files positions.items) projects
 
+-- the positions, where there are any, are those of files
 abbrev pub AreProjectsWithin : Files → Option (Vec ℕ Global) → Type 0
 AreProjectsWithin files projects = IfSome projects (λ positions. AreWithin files positions.items)
 

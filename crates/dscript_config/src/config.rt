@@ -1,17 +1,18 @@
 //! What `config.dsc` says.
 
-ghost use Rattle.std.specs.Prelude.{◌≡◌, ◌<◌, [], None, Some, IfOk, MatchOption, length};
+ghost use Rattle.std.specs.Prelude.{◌≡◌, None, Some, IfOk, MatchOption};
 ghost use Rattle.std.specs.List.{list_all};
 ghost use Rattle.dscript_ast.specs.Views.{expr_tree};
 ghost use Rattle.dscript_config.specs.Configs.{configured as modules_configured, is_kind as kind_is};
 ghost use Rattle.dscript_config.specs.Configs.{module_files as files_of_modules};
 ghost use Rattle.dscript_config.specs.Configs.{resolver as files_of_resolver, resolver_at as files_of_item};
-ghost use Rattle.dscript_config.specs.Configs.{modules_list, resolvers_list};
+ghost use Rattle.dscript_config.specs.Configs.{modules_list, resolvers as files_of_resolvers, resolvers_list};
 ghost use Rattle.dscript_config.specs.Lists.{joined};
 ghost use Rattle.dscript_config.specs.Paths.{AreWithin, is_module_file as names_module, paths_at};
-ghost use Rattle.dscript_config.specs.Views.{FindsPositions, item_tree, item_trees};
+ghost use Rattle.dscript_config.specs.Views.{FindsPlaces, FindsPositions, item_tree, item_trees};
 
 use crate::files::files_listed;
+use crate::gathering::{gathered, in_order};
 use crate::glob_call::listed_by;
 use crate::list::{ListItem, push_items};
 use crate::literal::string;
@@ -47,7 +48,7 @@ fn are_module_files(tree: &Tree, positions: &[usize]) -> bool
 /// The positions of the module files of a list, if all of its files are module files.
 fn module_files(alloc: Global, tree: &Tree, list: &Expr) -> Result<Option<Vec<usize>>, AllocError>
     ensures { IfOk result (λ found.
-        FindsPositions tree.now (files_of_modules tree.now (expr_tree list.now)) found) }
+        FindsPlaces tree.now (files_of_modules tree.now (expr_tree list.now)) found) }
 {
     let root = Path::root(alloc)?;
     let Some(positions) = files_listed(alloc, tree, &root, list)? else {
@@ -75,7 +76,7 @@ fn modules_of(value: &Expr) -> Option<&Expr>
 /// The positions of the module files of a resolver.
 fn resolver(alloc: Global, tree: &Tree, value: &Expr) -> Result<Option<Vec<usize>>, AllocError>
     ensures { IfOk result (λ found.
-        FindsPositions tree.now (files_of_resolver tree.now (expr_tree value.now)) found) }
+        FindsPlaces tree.now (files_of_resolver tree.now (expr_tree value.now)) found) }
 {
     match modules_of(value) {
         Some(modules) => module_files(alloc, tree, modules),
@@ -90,7 +91,7 @@ fn resolver_at(
     item: &ListItem<'_>,
 ) -> Result<Option<Vec<usize>>, AllocError>
     ensures { IfOk result (λ found.
-        FindsPositions tree.now (files_of_item tree.now (item_tree item.now)) found) }
+        FindsPlaces tree.now (files_of_item tree.now (item_tree item.now)) found) }
 {
     match item {
         ListItem::One(value) => resolver(alloc, tree, value),
@@ -104,21 +105,21 @@ fn resolver_at(
     }
 }
 
-/// The positions of the module files of resolvers, one after the other.
+/// The positions of the module files of resolvers, in some order and perhaps with repetitions.
 fn resolvers_in(
     alloc: Global,
     tree: &Tree,
     items: &[ListItem<'_>],
 ) -> Result<Option<Vec<usize>>, AllocError>
     ensures { IfOk result (λ found.
-        FindsPositions tree.now (joined (files_of_item tree.now) (item_trees items.now)) found) }
+        FindsPlaces tree.now (joined (files_of_item tree.now) (item_trees items.now)) found) }
 {
     let mut positions = Vec::new(alloc);
     'items: for item in items {
         let Some(more) = resolver_at(alloc, tree, item)? else {
             return Ok(None);
         };
-        positions.extend_from_slice(more.as_slice())?;
+        positions = gathered(tree, positions, more.as_slice())?;
     }
     Ok(Some(positions))
 }
@@ -132,8 +133,18 @@ fn resolvers_of(value: &Expr) -> Option<&Expr>
     field_named(object_with(value, &[b"resolvers"])?, b"resolvers")
 }
 
-/// The positions in the tree of the module files that a configuration lists, in the order of its text and with
-/// repetitions; none where it says something that is not allowed.
+/// The positions of the module files of a list of resolvers.
+fn resolvers(alloc: Global, tree: &Tree, list: &Expr) -> Result<Option<Vec<usize>>, AllocError>
+    ensures { IfOk result (λ found.
+        FindsPlaces tree.now (files_of_resolvers tree.now (expr_tree list.now)) found) }
+{
+    let mut items = Vec::new(alloc);
+    push_items(list, &mut items)?;
+    resolvers_in(alloc, tree, items.as_slice())
+}
+
+/// The positions in the tree of the module files that a configuration lists, in the order of the tree and
+/// each once; none where it says something that is not allowed.
 pub fn configured(
     alloc: Global,
     tree: &Tree,
@@ -142,10 +153,11 @@ pub fn configured(
     ensures { IfOk result (λ found.
         FindsPositions tree.now (modules_configured tree.now (expr_tree value.now)) found) }
 {
-    let Some(resolvers) = resolvers_of(value) else {
+    let Some(list) = resolvers_of(value) else {
         return Ok(None);
     };
-    let mut items = Vec::new(alloc);
-    push_items(resolvers, &mut items)?;
-    resolvers_in(alloc, tree, items.as_slice())
+    let Some(positions) = resolvers(alloc, tree, list)? else {
+        return Ok(None);
+    };
+    Ok(Some(in_order(tree, positions)))
 }

@@ -1,12 +1,12 @@
 //! The files of lists.
 
-ghost use Rattle.std.specs.Prelude.{◌≡◌, ◌<◌, None, Some, IfOk, MatchOption, length};
+ghost use Rattle.std.specs.Prelude.{◌≡◌, None, Some, IfOk, MatchOption};
 ghost use Rattle.dscript_ast.specs.Views.{expr_tree};
-ghost use Rattle.dscript_config.specs.Paths.{AreWithin, paths_at};
 ghost use Rattle.dscript_config.specs.Lists.{files_at as files_meant, files_listed as files_of_list};
 ghost use Rattle.dscript_config.specs.Lists.{joined, literal_at, sources, sources_at as sources_meant};
-ghost use Rattle.dscript_config.specs.Views.{FindsPositions, item_tree, item_trees};
+ghost use Rattle.dscript_config.specs.Views.{FindsPlaces, FindsPositions, item_tree, item_trees};
 
+use crate::gathering::gathered;
 use crate::glob_call::listed_by;
 use crate::list::{ListItem, push_items};
 use crate::literal::file_text;
@@ -91,7 +91,7 @@ fn sources_at(
     }
 }
 
-/// The positions of the source files that items stand for, one after the other.
+/// The positions of the source files that items stand for, in some order and perhaps with repetitions.
 fn sources_in(
     alloc: Global,
     tree: &Tree,
@@ -99,19 +99,19 @@ fn sources_in(
     items: &[ListItem<'_>],
 ) -> Result<Option<Vec<usize>>, AllocError>
     ensures { IfOk result (λ found.
-        FindsPositions tree.now (joined (sources_meant tree.now dir.now) (item_trees items.now)) found) }
+        FindsPlaces tree.now (joined (sources_meant tree.now dir.now) (item_trees items.now)) found) }
 {
     let mut positions = Vec::new(alloc);
     'items: for item in items {
         let Some(more) = sources_at(alloc, tree, dir, item)? else {
             return Ok(None);
         };
-        positions.extend_from_slice(more.as_slice())?;
+        positions = gathered(tree, positions, more.as_slice())?;
     }
     Ok(Some(positions))
 }
 
-/// The positions of the source files of a list, in the order of the text and with repetitions.
+/// The positions of the source files of a list, in some order and perhaps with repetitions.
 pub(crate) fn files_listed(
     alloc: Global,
     tree: &Tree,
@@ -119,7 +119,7 @@ pub(crate) fn files_listed(
     list: &Expr,
 ) -> Result<Option<Vec<usize>>, AllocError>
     ensures { IfOk result (λ found.
-        FindsPositions tree.now (files_of_list tree.now dir.now (expr_tree list.now)) found) }
+        FindsPlaces tree.now (files_of_list tree.now dir.now (expr_tree list.now)) found) }
 {
     let mut items = Vec::new(alloc);
     push_items(list, &mut items)?;

@@ -2,11 +2,10 @@
 
 ghost use Rattle.std.specs.Prelude.{◌≡◌, None, Some, IfOk, MatchOption, map};
 ghost use Rattle.dscript_ast.specs.Views.{expr_tree, part_tree};
-ghost use Rattle.dscript_ast.specs.ExprTree.{to_parts};
 ghost use Rattle.dscript_config.specs.Lists.{depth_of as depth_called, glob_call as call_of};
-ghost use Rattle.dscript_config.specs.Lists.{arguments_of, glob_in as files_globbed, glob_with as glob_of_both};
-ghost use Rattle.dscript_config.specs.Lists.{listed_by as files_listed_by, only_of, pair_of};
-ghost use Rattle.std.specs.Prelude.{option_and_then};
+ghost use Rattle.dscript_config.specs.Lists.{arguments_in as arguments_among, glob_in as files_globbed};
+ghost use Rattle.dscript_config.specs.Lists.{glob_with as glob_of_both};
+ghost use Rattle.dscript_config.specs.Lists.{listed_by as files_listed_by};
 ghost use Rattle.dscript_config.specs.Views.{glob_data};
 
 use crate::literal::{directory_text, only_part, pair, string};
@@ -38,10 +37,8 @@ fn depth_of(callee: &Expr) -> Option<bool>
 /// The two arguments of a call that is the only part after a callee.
 fn arguments(parts: &[PostfixPart]) -> Option<(&Expr, &Expr)>
     ensures { MatchOption result
-        (option_and_then pair_of (option_and_then arguments_of (only_of (map part_tree parts.entry.now)))
-        ≡ None)
-        (λ both. option_and_then pair_of
-        (option_and_then arguments_of (only_of (map part_tree parts.entry.now)))
+        (arguments_among (map part_tree parts.entry.now) ≡ None)
+        (λ both. arguments_among (map part_tree parts.entry.now)
         ≡ Some (expr_tree both.0.now, expr_tree both.1.now)) }
 {
     match only_part(parts)? {

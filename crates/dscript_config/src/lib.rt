@@ -1,12 +1,14 @@
 //! What the configuration of a workspace and the file of a module say, from their expressions.
 //!
-//! Both are objects whose fields are strings and lists of files, and a file is known by its position in the
-//! tree. This crate depends on `bx_tree` and `bx_path` for files, and on `dscript_ast` for expressions. It
-//! carries the promise that both calls answer exactly as they are defined, also where nothing allowed is said.
+//! Both are objects whose fields are strings, lists and one fixed name, and a listed file is known by its
+//! position in the tree. This crate depends on `bx_tree` and `bx_path` for files, and on `dscript_ast` for
+//! expressions. It carries the promise that both calls answer exactly as they are defined, also where nothing
+//! allowed is said.
 #![tactic(auto)]
 
 mod config;
 mod files;
+mod gathering;
 mod glob_call;
 mod list;
 mod literal;

@@ -1,17 +1,18 @@
 //! What a module file says.
 
-ghost use Rattle.std.specs.Prelude.{◌≡◌, ◌<◌, [], None, Some, IfOk, MatchOption, length, map, option_and_then};
-ghost use Rattle.std.specs.List.{list_all};
+ghost use Rattle.std.specs.Prelude.{◌≡◌, None, Some, IfOk, MatchOption, map, option_and_then};
 ghost use Rattle.dscript_ast.specs.Views.{expr_tree, part_tree, prop_tree};
 ghost use Rattle.dscript_config.specs.Lists.{only_of};
 ghost use Rattle.dscript_config.specs.Modules.{are_projects as projects_are, described as module_described};
-ghost use Rattle.dscript_config.specs.Modules.{described_by as module_of, is_semantics as semantics_are, is_text};
+ghost use Rattle.dscript_config.specs.Modules.{described_by as module_of, is_semantics as semantics_are};
+ghost use Rattle.dscript_config.specs.Modules.{is_text};
 ghost use Rattle.dscript_config.specs.Modules.{member_of, name_in as name_of_module, name_of};
 ghost use Rattle.dscript_config.specs.Modules.{projects_in as projects_listed, projects_of as projects_meant};
 ghost use Rattle.dscript_config.specs.Paths.{AreWithin, paths_at};
 ghost use Rattle.dscript_config.specs.Views.{FindsPositions, Describes, IsProjects};
 
 use crate::files::files_listed;
+use crate::gathering::in_order;
 use crate::literal::{only_part, string};
 use crate::object::{field_named, object_with};
 use crate::paths::{is_below, is_specification, path_at};
@@ -23,7 +24,7 @@ use std::alloc::{AllocError, Global};
 #[derive(Drop)]
 pub struct Description {
     pub name: Text,
-    /// The positions in the tree of the files that it lists, in the order of the text and with repetitions.
+    /// The positions in the tree of the files that it lists, in the order of the tree and each once.
     pub projects: Option<Vec<usize>>,
 }
 
@@ -55,7 +56,8 @@ fn are_projects(tree: &Tree, dir: &Path, positions: &[usize]) -> bool
     true
 }
 
-/// The positions of the files of a list, if each is a specification below the directory.
+/// The positions of the files of a list, in the order of the tree and each once, if each is a specification
+/// below the directory.
 fn projects_in(
     alloc: Global,
     tree: &Tree,
@@ -69,7 +71,7 @@ fn projects_in(
         return Ok(None);
     };
     if are_projects(tree, dir, positions.as_slice()) {
-        Ok(Some(positions))
+        Ok(Some(in_order(tree, positions)))
     } else {
         Ok(None)
     }
@@ -84,8 +86,8 @@ fn projects_of(
 ) -> Result<Option<Option<Vec<usize>>>, AllocError>
     ensures { IfOk result (λ found. MatchOption found
         (projects_meant tree.now dir.now (map prop_tree props.now) ≡ None)
-        (λ projects. IsProjects tree.now (projects_meant tree.now dir.now (map prop_tree props.now))
-        projects)) }
+        (λ projects.
+        IsProjects tree.now (projects_meant tree.now dir.now (map prop_tree props.now)) projects)) }
 {
     let Some(list) = field_named(props, b"projects") else {
         return Ok(Some(None));
@@ -160,7 +162,8 @@ fn described_by(
     }))
 }
 
-/// The module that a module file in this directory describes; none where it says something that is not allowed.
+/// The module that a module file in this directory describes; none where it says something that is not
+/// allowed.
 pub fn described(
     alloc: Global,
     tree: &Tree,

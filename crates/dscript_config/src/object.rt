@@ -1,7 +1,7 @@
 //! Objects of which all fields are known.
 
-ghost use Rattle.std.specs.Prelude.{◌≡◌, ℕ, None, Some, MatchOption, map, nat_le, count_by};
-ghost use Rattle.std.specs.List.{list_any, list_all};
+ghost use Rattle.std.specs.Prelude.{◌≡◌, None, Some, MatchOption, map, nat_le, count_by};
+ghost use Rattle.std.specs.List.{list_any};
 ghost use Rattle.bx_path.specs.Parts.{parts_now};
 ghost use Rattle.dscript_ast.specs.Views.{expr_tree, prop_tree};
 ghost use Rattle.dscript_config.specs.Objects.{are_fields as fields_are, are_known as known_fields};

@@ -7,6 +7,10 @@ pub mod Owners
 pub mod ModulesKept
 pub mod FirstFaults
 pub mod FirstNames
-pub mod ListedFiles
 pub mod ReadTexts
 pub mod Answering
+pub mod FoundModules
+pub mod ModuleNames
+pub mod ModuleSources
+pub mod ModuleDirs
+pub mod ModuleSharing

@@ -8,7 +8,7 @@ use Rattle.dscript_ast.specs.declared.file.Form.TheVariants as forms
 use Rattle.dscript_config.specs.Configs.{configured}
 use Rattle.dscript_read.specs.Reading.{Reading, Read, NoTokens, NoFile, ReadsAs}
 use Rattle.dscript_read.proofs.OneReading.{one_reading}
-use Rattle.dscript_workspace.specs.Membership.{config_path, dir_of, implied_files, in_tree}
+use Rattle.dscript_workspace.specs.Membership.{config_path, dir_of, implied_files}
 use Rattle.dscript_workspace.specs.Workspaces.{Answer, ModuleFile, answer_of}
 use Rattle.dscript_workspace.specs.Finding.{ComesTo, Finds, IsModuleFile, LeadsTo, Lists, Starts, module_file}
 
@@ -40,7 +40,7 @@ comes_to_one files listed a b h k =
 
 lists_one : (files : Files) (said : Option (List Atoms)) (a b : Answer) → Lists files said a → Lists files said b → a ≡ b
 lists_one files None a b h k = h ∙ sym k
-lists_one files (Some listed) a b h k = comes_to_one files (in_tree files listed) a b h k
+lists_one files (Some listed) a b h k = comes_to_one files listed a b h k
 
 leads_to_one : (files : Files) (reading : Reading) (a b : Answer) → LeadsTo files reading a → LeadsTo files reading b → a ≡ b
 leads_to_one files (NoTokens place) a b h k = h ∙ sym k

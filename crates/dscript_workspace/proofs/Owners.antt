@@ -15,7 +15,8 @@ use Rattle.bx_tree.specs.Views.{files_of}
 use Rattle.bx_tree.specs.declared.tree_file.TreeFile.{TreeFile}
 use Rattle.dscript_config.specs.Paths.{is_below, is_module_file, is_specification}
 use Rattle.dscript_config.proofs.FilePaths.{below_decides}
-use Rattle.dscript_workspace.specs.Membership.{is_between, is_config, is_deeper, is_implied, is_one_of}
+use Rattle.dscript_config.specs.Paths.{is_one_of}
+use Rattle.dscript_workspace.specs.Membership.{is_between, is_config, is_deeper, is_implied}
 use Rattle.dscript_workspace.specs.PathSets.{IsDeepest, IsOwner, is_owner, may_belong}
 use Rattle.dscript_workspace.proofs.Deepest.{comparable}
 

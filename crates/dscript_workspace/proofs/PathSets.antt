@@ -8,7 +8,7 @@ use Rattle.std.specs.Option.{option_map_or}
 use Rattle.std.proofs.lemmas.List.Folds.{list_any_more}
 use Rattle.bx_tree.specs.Paths.{Atoms, path_cmp, same_path}
 use Rattle.bx_tree.specs.Orders.{path_cmp_matches, same_path_decides}
-use Rattle.dscript_workspace.specs.Membership.{is_one_of}
+use Rattle.dscript_config.specs.Paths.{is_one_of}
 use Rattle.dscript_workspace.specs.PathSets.{files_in}
 
 either : (b s t : Bool) → cond b true (s || t) ≡ (s || (t || b))

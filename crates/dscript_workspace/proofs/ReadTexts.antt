@@ -4,14 +4,16 @@ use Rattle.std.specs.Prelude.{Contains, All, ◌||◌}
 use Rattle.std.specs.List.{AllByRecursion, AllZip}
 use Rattle.std.proofs.Math.Seq.{take-suc}
 use Rattle.std.proofs.lemmas.Bool.{cases_Bool}
-use Rattle.std.proofs.lemmas.List.Elements.{All-contains_itself, All-filter}
+use Rattle.std.proofs.lemmas.List.{length-map}
+use Rattle.std.proofs.lemmas.List.Elements.{All-from_recursion, Contains-get_or}
 use Rattle.bx_tree.specs.Bundle.{IsInSize}
 use Rattle.bx_tree.specs.Paths.{Atoms, same_path}
 use Rattle.bx_tree.specs.Orders.{same_path_decides}
 use Rattle.bx_tree.specs.Trees.{Files, file_at, paths_of}
 use Rattle.bx_tree.specs.declared.limits.TheConstants.{MAX_FILE_BYTES}
 use Rattle.dscript_workspace.specs.Finding.{IsModuleFile, IsReadAt}
-use Rattle.dscript_workspace.specs.Membership.{dir_of, implied_files, in_tree, is_one_of}
+use Rattle.dscript_config.specs.Paths.{AreWithin, is_one_of, paths_at}
+use Rattle.dscript_workspace.specs.Membership.{dir_of, implied_files}
 use Rattle.dscript_workspace.specs.Workspaces.{ModuleFile}
 
 short : (files : Files) (path : Atoms) (text : List ℕ) → AllByRecursion (λ f. length f.1 ≤ MAX_FILE_BYTES) files
@@ -32,10 +34,18 @@ pub text_fits : (files : Files) (path : Atoms) (text : List ℕ) → IsInSize fi
     → length text ≤ MAX_FILE_BYTES
 text_fits files path text h e = short files path text h.sizes e
 
--- what is listed in the order of the tree is there
-pub listed_are_there : (files : Files) (paths : List Atoms) → All (Contains (paths_of files)) (in_tree files paths)
-listed_are_there files paths =
-    All-filter (is_one_of paths) (Contains (paths_of files)) (paths_of files) (All-contains_itself (paths_of files))
+-- files at positions are there
+pub paths_are_there : (files : Files) (positions : List ℕ) → AreWithin files positions
+    → All (Contains (paths_of files)) (paths_at files positions)
+paths_are_there files positions h = All-from_recursion (Contains (paths_of files)) (paths_at files positions) (each files positions h)
+  where
+    each : (files : Files) (positions : List ℕ) → AreWithin files positions
+        → AllByRecursion (Contains (paths_of files)) (paths_at files positions)
+    each files [] h = tt
+    each files (q ∷ qs) h = (
+      Contains-get_or (paths_of files) q [] (subst (λ n. q < n) (sym (length-map files (λ f. f.0))) h.0),
+      each files qs h.1,
+    )
 
 zip_push : {X Y : Type 0} (R : X → Y → Type 0) (xs : List X) (ys : List Y) (x : X) (y : Y) → AllZip R xs ys → R x y
     → AllZip R (xs ++ x ∷ []) (ys ++ y ∷ [])

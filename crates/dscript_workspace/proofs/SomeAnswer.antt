@@ -7,11 +7,13 @@ use Rattle.bx_tree.specs.Paths.{Atoms, same_path}
 use Rattle.bx_tree.specs.Trees.{Files, file_at, paths_of}
 use Rattle.dscript_ast.specs.FileTree as trees
 use Rattle.dscript_ast.specs.declared.file.Form.TheVariants as forms
-use Rattle.dscript_config.specs.Configs.{configured}
+use Rattle.std.specs.Prelude.{option_and_then, option_map}
+use Rattle.dscript_config.specs.Configs.{resolvers, resolvers_list}
 use Rattle.dscript_read.specs.Reading.{Reading, Read, NoTokens, NoFile}
 use Rattle.dscript_read.proofs.SomeReading.{some_reading}
 use Rattle.dscript_modules.specs.declared.fault.SpecKind.TheVariants as kinds
-use Rattle.dscript_workspace.specs.Membership.{config_path, dir_of, implied_files, in_tree, is_one_of}
+use Rattle.dscript_config.specs.Paths.{in_tree, is_one_of}
+use Rattle.dscript_workspace.specs.Membership.{config_path, dir_of, implied_files}
 use Rattle.dscript_workspace.specs.Workspaces.{Answer, ModuleFile, Refused, answer_of, module_fault}
 use Rattle.dscript_workspace.specs.Finding.{ComesTo, Finds, IsModuleFile, LeadsTo, Lists, Starts, build_path, fault_at}
 use Rattle.dscript_workspace.specs.Finding.{module_file, without_config}
@@ -63,21 +65,23 @@ some_list files dirs (path ∷ paths) h =
     let rest = some_list files dirs paths h.1 in
     (first.0 ∷ rest.0, (first.1, rest.1))
 
-comes_to_some : (files : Files) (listed : List Atoms) → (answer : Answer) × ComesTo files (in_tree files listed) answer
-comes_to_some files listed =
-    let found = some_list files (map dir_of (in_tree files listed)) (in_tree files listed)
-    (kept (HasText files) (is_one_of listed) (paths_of files) (all_have files)) in
+comes_to_some : (files : Files) (listed : List Atoms) → AllByRecursion (HasText files) listed
+    → (answer : Answer) × ComesTo files listed answer
+comes_to_some files listed h =
+    let found = some_list files (map dir_of listed) listed h in
     (answer_of found.0, (found.0, found.1, refl))
 
-lists_some : (files : Files) (said : Option (List Atoms)) → (answer : Answer) × Lists files said answer
+lists_some : (files : Files) (said : Option (List Atoms))
+    → (answer : Answer) × Lists files (option_map (in_tree files) said) answer
 lists_some files None = (Refused (module_fault config_path), refl)
-lists_some files (Some listed) = comes_to_some files listed
+lists_some files (Some paths) =
+    comes_to_some files (in_tree files paths) (kept (HasText files) (is_one_of paths) (paths_of files) (all_have files))
 
 leads_to_some : (files : Files) (reading : Reading) → (answer : Answer) × LeadsTo files reading answer
 leads_to_some files (NoTokens place) = (Refused (fault_at kinds.Lex config_path place), refl)
 leads_to_some files (NoFile place) = (Refused (fault_at kinds.Syntax config_path place), refl)
 leads_to_some files (Read (trees.Project items)) = (Refused (module_fault config_path), refl)
-leads_to_some files (Read (trees.Config e)) = lists_some files (configured files e)
+leads_to_some files (Read (trees.Config e)) = lists_some files (option_and_then (resolvers files) (resolvers_list e))
 leads_to_some files (Read (trees.Module e)) = (Refused (module_fault config_path), refl)
 
 starts_some : (files : Files) (text : Option (List ℕ)) → (answer : Answer) × Starts files text answer

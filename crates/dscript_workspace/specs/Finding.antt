@@ -14,7 +14,7 @@ use Rattle.dscript_modules.specs.Workspaces.{ModuleData}
 use Rattle.dscript_read.specs.Reading.{Reading, Read, NoTokens, NoFile, ReadsAs}
 use Rattle.dscript_config.specs.Configs.{configured}
 use Rattle.dscript_config.specs.Modules.{DescriptionData, described}
-use Rattle.dscript_workspace.specs.Membership.{config_path, dir_of, files_of_module, implied_files, in_tree}
+use Rattle.dscript_workspace.specs.Membership.{config_path, dir_of, files_of_module, implied_files}
 use Rattle.dscript_workspace.specs.Workspaces.{Answer, Found, Refused, ModuleFile}
 use Rattle.dscript_workspace.specs.Workspaces.{Described, Faulty, module_fault, answer_of}
 
@@ -35,7 +35,7 @@ fault_at kind file place = record { kind = kind; file = file; place = Some place
 -- the module of a description, where these are the files that belong to it if it lists none
 abbrev pub module_described : Files → List Atoms → Atoms → DescriptionData → ModuleFile
 module_described files implied path d =
-    Described (record { name = d.name; config = path; files = files_of_module files implied d.projects })
+    Described (record { name = d.name; config = path; files = files_of_module implied d.projects })
     (is_some d.projects)
 
 -- what a module file comes to, once it was read
@@ -69,10 +69,10 @@ ComesTo files listed answer =
 
 -- ## The configuration
 
--- the configuration lists these module files, or is none that is allowed
+-- the configuration lists these module files, or says something that is not allowed
 abbrev pub Lists : Files → Option (List Atoms) → Answer → Type 0
 Lists files None answer = answer ≡ Refused (module_fault config_path)
-Lists files (Some listed) answer = ComesTo files (in_tree files listed) answer
+Lists files (Some listed) answer = ComesTo files listed answer
 
 -- what the configuration leads to, once it was read
 abbrev pub LeadsTo : Files → Reading → Answer → Type 0

@@ -3,4 +3,5 @@ pub mod PathSets
 pub mod Workspaces
 pub mod ModuleFiles
 pub mod Finding
+pub mod ModuleLaws
 pub mod Views

@@ -2,7 +2,7 @@
 use Rattle.std.specs.Prelude.{Bool, not, ◌&&◌, List, [], ◌∷◌, filter, codes, Option, Some, None, unwrap_or}
 use Rattle.std.specs.List.{list_any}
 use Rattle.std.specs.Str.{bytes_eq}
-use Rattle.bx_tree.specs.Paths.{Atoms, path_text, same_path}
+use Rattle.bx_tree.specs.Paths.{Atoms, path_text}
 use Rattle.bx_tree.specs.Trees.{Files, paths_of}
 use Rattle.bx_path.specs.Joining.{parent}
 use Rattle.dscript_config.specs.Paths.{is_below, is_module_file, is_specification}
@@ -18,14 +18,6 @@ is_config path = bytes_eq (path_text path) (codes "config.dsc")
 -- the directory of a file
 abbrev pub dir_of : Atoms → Atoms
 dir_of path = unwrap_or (parent path) []
-
--- the path is one of these
-abbrev pub is_one_of : List Atoms → Atoms → Bool
-is_one_of paths path = list_any (λ other. same_path other path) paths
-
--- these paths, so far as files are there, in the order of the tree and each once
-abbrev pub in_tree : Files → List Atoms → List Atoms
-in_tree files paths = filter (is_one_of paths) (paths_of files)
 
 -- the directory of another listed module file is below this one and above the path
 abbrev pub is_between : Atoms → Atoms → Atoms → Bool
@@ -46,7 +38,7 @@ is_implied dirs dir path =
 abbrev pub implied_files : Files → List Atoms → Atoms → List Atoms
 implied_files files dirs dir = filter (is_implied dirs dir) (paths_of files)
 
--- The files of a module, in the order of the tree: those that it lists, or else the implied ones.
-abbrev pub files_of_module : Files → List Atoms → Option (List Atoms) → List Atoms
-files_of_module files implied (Some projects) = in_tree files projects
-files_of_module files implied None = implied
+-- the files of a module: those that it lists, or else the implied ones
+abbrev pub files_of_module : List Atoms → Option (List Atoms) → List Atoms
+files_of_module implied (Some projects) = projects
+files_of_module implied None = implied

@@ -8,14 +8,15 @@ use Rattle.dscript_modules.specs.declared.fault.SpecKind.{SpecKind}
 use Rattle.dscript_modules.specs.declared.fault.SpecKind.TheVariants as kinds
 use Rattle.dscript_modules.specs.Faults.{FaultData}
 use Rattle.dscript_modules.specs.Workspaces.{ModuleData, sdk_name}
-use Rattle.dscript_workspace.specs.Membership.{is_one_of}
+use Rattle.dscript_config.specs.Paths.{is_one_of}
 
 -- what looking for a workspace comes to
 pub data Answer : Type 0 where
   Found : List ModuleData → Answer
   Refused : FaultData → Answer
 
--- what a module file comes to: a module and whether it lists its files itself, or a fault of its own
+-- What a module file comes to: a module and whether it lists its files itself, or a fault of its own. A
+-- module that lists its files implies none.
 pub data ModuleFile : Type 0 where
   Described : ModuleData → Bool → ModuleFile
   Faulty : FaultData → ModuleFile
@@ -53,6 +54,7 @@ fault_of taken (Faulty fault) = Some fault
 fault_of taken (Described m lists) =
     if lists && list_any taken m.files then Some (module_fault m.config) else None
 
+-- the first of two options that is there
 abbrev pub option_or : {X : Type 0} → Option X → Option X → Option X
 option_or (Some x) other = Some x
 option_or None other = other
@@ -63,11 +65,12 @@ file_fault all before [] = None
 file_fault all before (m ∷ rest) =
     option_or (fault_of (is_taken all before) m) (file_fault all (before ++ m ∷ []) rest)
 
--- the modules that have no fault of their own, in the order of their files
+-- the module of a file that has no fault of its own
 abbrev pub module_in : ModuleFile → Option ModuleData
 module_in (Described m lists) = Some m
 module_in (Faulty fault) = None
 
+-- the modules of these module files
 abbrev pub modules : List ModuleFile → List ModuleData
 modules module_files = filter_map module_in module_files
 

@@ -5,19 +5,18 @@ ghost use Rattle.bx_path.specs.Joining.{join_of};
 ghost use Rattle.bx_tree.specs.Bundle.{IsInSize};
 ghost use Rattle.dscript_ast.specs.Views.{expr_tree, file_tree};
 ghost use Rattle.dscript_config.specs.Configs.{configured as modules_configured};
-ghost use Rattle.dscript_config.specs.Paths.{AreWithin, paths_at};
+ghost use Rattle.dscript_config.specs.Paths.{AreWithin, paths_at as paths_of_positions};
 ghost use Rattle.dscript_modules.specs.Workspaces.{module_data, modules_of};
 ghost use Rattle.dscript_read.specs.Reading.{Read};
 ghost use Rattle.dscript_workspace.specs.Finding.{ComesTo, Finds, LeadsTo, Lists, Starts};
 ghost use Rattle.dscript_workspace.specs.Finding.{main_module as only_module};
-ghost use Rattle.dscript_workspace.specs.Membership.{config_path, in_tree};
+ghost use Rattle.dscript_workspace.specs.Membership.{config_path};
 ghost use Rattle.dscript_workspace.specs.ModuleFiles.{files_data};
 ghost use Rattle.dscript_workspace.specs.Views.{Answers, IsRefused};
 ghost use Rattle.dscript_workspace.specs.Workspaces.{Found, Refused, answer_of as answer_among};
 
-use crate::listing::files_at;
 use crate::module_file::{ModuleFile, file_fault, modules_in, name_fault};
-use crate::module_reading::read_modules;
+use crate::module_reading::{paths_at, read_modules};
 use bx_path::join;
 use bx_tree::{MAX_FILE_BYTES, Path, PathFault, Text, Tree};
 use dscript_ast::{Expr, File, Form};
@@ -57,9 +56,9 @@ fn answer_of(alloc: Global, module_files: Vec<ModuleFile>) -> Result<Workspace, 
 fn workspace_of(alloc: Global, tree: &Tree, positions: Vec<usize>) -> Result<Workspace, SpecFault>
     requires in_size { IsInSize tree.now }
     requires within { AreWithin tree.now positions.items }
-    ensures { Answers (ComesTo tree.now (in_tree tree.now (paths_at tree.now positions.items))) result }
+    ensures { Answers (ComesTo tree.now (paths_of_positions tree.now positions.items)) result }
 {
-    let listed = files_at(alloc, tree, positions)?;
+    let listed = paths_at(alloc, tree, positions.as_slice())?;
     let module_files = read_modules(alloc, tree, listed.as_slice())?;
     answer_of(alloc, module_files)
 }

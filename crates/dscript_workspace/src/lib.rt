@@ -7,14 +7,15 @@
 
 mod finding;
 mod laws;
-mod listing;
 mod membership;
 mod module_file;
 mod module_reading;
 mod path_set;
 
 pub use finding::find_workspace;
-pub use laws::{one_answer, some_answer};
+pub use laws::{
+    files_are_own, modules_within_files, names_differ, no_file_is_shared, one_answer, some_answer,
+};
 
 #[cfg(test)]
 mod tests;

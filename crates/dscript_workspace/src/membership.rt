@@ -4,7 +4,8 @@ ghost use Rattle.std.specs.Prelude.{◌≡◌, ◌++◌, ◌∷◌, [], true, If
 ghost use Rattle.bx_path.specs.Joining.{parent as parent_of};
 ghost use Rattle.bx_tree.specs.Paths.{Atoms, same_path};
 ghost use Rattle.dscript_workspace.specs.Membership.{dir_of as directory_of, implied_files as files_implied};
-ghost use Rattle.dscript_workspace.specs.Membership.{is_config as names_config, is_one_of};
+ghost use Rattle.dscript_config.specs.Paths.{is_one_of};
+ghost use Rattle.dscript_workspace.specs.Membership.{is_config as names_config};
 ghost use Rattle.dscript_workspace.specs.PathSets.{AddsToOwner, IsDeepest, files_in, has};
 ghost use Rattle.dscript_workspace.specs.PathSets.{may_belong as is_open};
 

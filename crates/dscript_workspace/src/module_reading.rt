@@ -7,6 +7,7 @@ ghost use Rattle.bx_tree.specs.Bundle.{IsInSize};
 ghost use Rattle.bx_tree.specs.Trees.{paths_of};
 ghost use Rattle.dscript_ast.specs.Views.{expr_tree, file_tree};
 ghost use Rattle.dscript_config.specs.Modules.{described as description_of};
+ghost use Rattle.dscript_config.specs.Paths.{AreWithin, paths_at as paths_of_positions};
 ghost use Rattle.dscript_config.specs.Views.{AreProjectsWithin, description_data, project_paths};
 ghost use Rattle.dscript_read.specs.Reading.{Read};
 ghost use Rattle.dscript_workspace.specs.Finding.{IsModuleFile, IsRead, IsReadAt, fault_at as fault_at_place};
@@ -16,16 +17,32 @@ ghost use Rattle.dscript_workspace.specs.ModuleFiles.{file_data, files_data};
 ghost use Rattle.dscript_workspace.specs.PathSets.{files_in};
 ghost use Rattle.dscript_workspace.specs.Workspaces.{Faulty, module_fault as fault_of_module};
 
-use crate::listing::files_at;
 use crate::membership::{dir_of, implied_files};
 use crate::module_file::{ModuleFile, fault_in};
 use bx_tree::{MAX_FILE_BYTES, Path, Tree};
 use dscript_ast::{Expr, File, Form};
-use dscript_config::{Description, described};
+use dscript_config::{Description, described, path_at};
 use dscript_modules::{Fault, ModuleText, Place, SpecKind};
 use dscript_read::{ReadFault, read_file};
 use std::alloc::{AllocError, Global};
 use std::collections::BTreeMap;
+
+/// The paths of the files at these positions.
+pub(crate) fn paths_at(
+    alloc: Global,
+    tree: &Tree,
+    positions: &[usize],
+) -> Result<Vec<Path>, AllocError>
+    requires { AreWithin tree.now positions.now }
+    ensures { IfOk result (λ paths. paths.items ≡ paths_of_positions tree.now positions.now) }
+{
+    let mut paths = Vec::new(alloc);
+    'positions: for position in positions {
+        let path = path_at(tree, *position).share()?;
+        paths.push(path)?;
+    }
+    Ok(paths)
+}
 
 /// Other owners of these paths.
 fn shared(alloc: Global, paths: &[Path]) -> Result<Vec<Path>, AllocError>
@@ -47,10 +64,10 @@ fn files_of_module(
 ) -> Result<Vec<Path>, AllocError>
     requires { AreProjectsWithin tree.now projects }
     ensures { IfOk result (λ files.
-        files.items ≡ module_has tree.now implied.now (project_paths tree.now projects)) }
+        files.items ≡ module_has implied.now (project_paths tree.now projects)) }
 {
     match projects {
-        Some(positions) => files_at(alloc, tree, positions),
+        Some(positions) => paths_at(alloc, tree, positions.as_slice()),
         None => shared(alloc, implied),
     }
 }

@@ -2,7 +2,7 @@
 
 ghost use Rattle.std.specs.Prelude.{◌≡◌, ◌||◌, IfOk, OnOk};
 ghost use Rattle.bx_tree.specs.Paths.{Atoms};
-ghost use Rattle.dscript_workspace.specs.Membership.{is_one_of};
+ghost use Rattle.dscript_config.specs.Paths.{is_one_of};
 ghost use Rattle.dscript_workspace.specs.PathSets.{has};
 
 use bx_tree::Path;

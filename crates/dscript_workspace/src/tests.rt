@@ -1,38 +1,44 @@
 use crate::find_workspace;
 use bx_tree::{Path, read_bundle};
-use dscript_modules::{Place, SpecFault, SpecKind, Workspace};
+use dscript_modules::{ModuleText, Place, SpecFault, SpecKind};
 use std::alloc::{AllocError, Global};
 use std::test::Fail;
 
 /// Files by path, with their texts.
 type Files<'a> = &'a [(&'a str, &'a str)];
 
-/// The bundle of these files.
-fn bundle(alloc: Global, files: Files<'_>) -> Result<String, AllocError> {
-    let mut text = String::from_str(alloc, "bundle 1\n")?;
-    for (path, bytes) in files {
-        let length = bytes.len();
-        text.push_str(format!(in alloc; "file {length} {path}\n{bytes}\n")?.as_str())?;
-    }
-    text.push_str("end\n")?;
-    Ok(text)
+/// Adds a file to the text of a bundle.
+fn add_file(alloc: Global, bundle: &mut Vec<u8>, path: &str, text: &str) -> Result<(), AllocError> {
+    let length = text.len();
+    let file = format!(in alloc; "file {length} {path}\n{text}\n")?;
+    bundle.extend_from_slice(file.as_bytes())
 }
 
-/// The modules, each with its name, the file that describes it, and its files.
-fn shown(alloc: Global, workspace: &Workspace) -> Result<String, AllocError> {
-    let mut text = String::new(alloc);
-    for module in &workspace.modules {
-        let name = String::from_utf8_lossy(alloc, module.name.bytes())?;
-        text.push_str(name.as_str())?;
-        text.push_str(" = ")?;
-        text.push_str(module.config.text())?;
-        for file in &module.files {
-            text.push_str(" ")?;
-            text.push_str(file.text())?;
-        }
-        text.push_str(";")?;
+/// Adds files to the text of a bundle.
+fn add_files(alloc: Global, bundle: &mut Vec<u8>, files: Files<'_>) -> Result<(), AllocError> {
+    for (path, text) in files {
+        add_file(alloc, bundle, path, text)?;
     }
-    Ok(text)
+    Ok(())
+}
+
+/// Says the name of a module, the file that describes it, and its files.
+fn say_module(said: &mut Vec<u8>, module: &ModuleText) -> Result<(), AllocError> {
+    said.extend_from_slice(module.name.bytes())?;
+    said.extend_from_slice(b" = ")?;
+    said.extend_from_slice(module.config.text().as_bytes())?;
+    for file in &module.files {
+        said.extend_from_slice(b" ")?;
+        said.extend_from_slice(file.text().as_bytes())?;
+    }
+    said.extend_from_slice(b";")
+}
+
+fn say_modules(said: &mut Vec<u8>, modules: &[ModuleText]) -> Result<(), AllocError> {
+    for module in modules {
+        say_module(said, module)?;
+    }
+    Ok(())
 }
 
 fn kind_name(kind: SpecKind) -> &'static str {
@@ -45,31 +51,67 @@ fn kind_name(kind: SpecKind) -> &'static str {
     }
 }
 
-fn fault(
+fn say_place(alloc: Global, said: &mut Vec<u8>, place: Place) -> Result<(), AllocError> {
+    let text = format!(in alloc; " {} {}", place.line, place.column)?;
+    said.extend_from_slice(text.as_bytes())
+}
+
+fn say_fault(
     alloc: Global,
+    said: &mut Vec<u8>,
     kind: SpecKind,
     file: &Path,
     place: Option<Place>,
-) -> Result<String, AllocError> {
-    let name = kind_name(kind);
-    let path = file.text();
+) -> Result<(), AllocError> {
+    said.extend_from_slice(kind_name(kind).as_bytes())?;
+    said.extend_from_slice(b" ")?;
+    said.extend_from_slice(file.text().as_bytes())?;
     match place {
-        Some(at) => format!(in alloc; "{name} {path} {} {}", at.line, at.column),
-        None => format!(in alloc; "{name} {path}"),
+        Some(at) => say_place(alloc, said, at),
+        None => Ok(()),
     }
 }
 
-/// What a tree of these files comes to, in words.
-fn answer(alloc: Global, files: Files<'_>) -> Result<String, Fail> {
-    let text = bundle(alloc, files)?;
-    let Ok(tree) = read_bundle(alloc, text.as_bytes()) else {
+/// Says what a bundle comes to.
+fn say_answer(alloc: Global, said: &mut Vec<u8>, bundle: &[u8]) -> Result<(), Fail> {
+    let Ok(tree) = read_bundle(alloc, bundle) else {
         return Err(Fail::new("no bundle"));
     };
     match find_workspace(alloc, &tree) {
-        Ok(workspace) => Ok(shown(alloc, &workspace)?),
-        Err(SpecFault::Fault { kind, file, place }) => Ok(fault(alloc, kind, &file, place)?),
+        Ok(workspace) => Ok(say_modules(said, workspace.modules.as_slice())?),
+        Err(SpecFault::Fault { kind, file, place }) => {
+            Ok(say_fault(alloc, said, kind, &file, place)?)
+        }
         Err(SpecFault::Memory) => Err(Fail::new("no memory")),
     }
+}
+
+/// The bundle of these files.
+fn bundle_of(
+    alloc: Global,
+    before: Files<'_>,
+    own: Files<'_>,
+    after: Files<'_>,
+) -> Result<Vec<u8>, AllocError> {
+    let mut bundle = b"bundle 1\n".to_vec(alloc)?;
+    add_files(alloc, &mut bundle, before)?;
+    add_files(alloc, &mut bundle, own)?;
+    add_files(alloc, &mut bundle, after)?;
+    bundle.extend_from_slice(b"end\n")?;
+    Ok(bundle)
+}
+
+/// What a tree of these files comes to, in words.
+fn answer(
+    alloc: Global,
+    before: Files<'_>,
+    own: Files<'_>,
+    after: Files<'_>,
+) -> Result<Vec<u8>, Fail> {
+    let bundle = bundle_of(alloc, before, own, after)?;
+    let mut said = Vec::new(alloc);
+    say_answer(alloc, &mut said, &bundle)?;
+    Ok(said)
 }
 
 const M: &str = "module({name: \"M\"});";
@@ -158,17 +200,19 @@ const CONFIGS: &[(&str, &str)] = &[
     ("config({\n  resolvers: #", "Lex config.dsc 2 14"),
 ];
 
+/// The files after the configuration.
+const AFTER_CONFIG: Files<'static> = &[
+    ("m/a.dsc", "#"),
+    ("m/module.config.dsc", M),
+    ("module.config.dsc", "module({name: \"R\"});"),
+    ("x.txt", ""),
+];
+
 #[test]
 fn a_configuration_lists_module_files_or_is_refused(rt: HostRuntime) -> Result<(), Fail> {
     for (text, want) in CONFIGS {
-        let files = [
-            ("config.dsc", *text),
-            ("m/a.dsc", "#"),
-            ("m/module.config.dsc", M),
-            ("module.config.dsc", "module({name: \"R\"});"),
-            ("x.txt", ""),
-        ];
-        assert_eq!(rt; answer(rt.alloc(), &files)?.as_str(), *want, "{text}");
+        let found = answer(rt.alloc(), &[], &[("config.dsc", *text)], AFTER_CONFIG)?;
+        assert_eq!(rt; found.as_slice(), want.as_bytes(), "{text}");
     }
     Ok(())
 }
@@ -234,22 +278,25 @@ const MODULES: &[(&str, &str)] = &[
     ("module(\n#", "Lex m/module.config.dsc 2 1"),
 ];
 
+/// The files before the module file.
+const BEFORE_MODULE: Files<'static> = &[("config.dsc", ALL), ("m/a.dsc", "#"), ("m/b.dsc", "")];
+
+/// The files after the module file.
+const AFTER_MODULE: Files<'static> = &[
+    ("m/t.txt", ""),
+    ("n/c.dsc", ""),
+    (
+        "n/module.config.dsc",
+        "module({name: \"N\", projects: [f`c.dsc`]});",
+    ),
+];
+
 #[test]
 fn a_module_file_describes_a_module_or_is_refused(rt: HostRuntime) -> Result<(), Fail> {
     for (text, want) in MODULES {
-        let files = [
-            ("config.dsc", ALL),
-            ("m/a.dsc", "#"),
-            ("m/b.dsc", ""),
-            ("m/module.config.dsc", *text),
-            ("m/t.txt", ""),
-            ("n/c.dsc", ""),
-            (
-                "n/module.config.dsc",
-                "module({name: \"N\", projects: [f`c.dsc`]});",
-            ),
-        ];
-        assert_eq!(rt; answer(rt.alloc(), &files)?.as_str(), *want, "{text}");
+        let own = [("m/module.config.dsc", *text)];
+        let found = answer(rt.alloc(), BEFORE_MODULE, &own, AFTER_MODULE)?;
+        assert_eq!(rt; found.as_slice(), want.as_bytes(), "{text}");
     }
     Ok(())
 }
@@ -378,7 +425,8 @@ const TREES: &[(Files<'static>, &str)] = &[
 #[test]
 fn the_first_fault_of_a_tree_is_told(rt: HostRuntime) -> Result<(), Fail> {
     for (files, want) in TREES {
-        assert_eq!(rt; answer(rt.alloc(), files)?.as_str(), *want);
+        let found = answer(rt.alloc(), files, &[], &[])?;
+        assert_eq!(rt; found.as_slice(), want.as_bytes());
     }
     Ok(())
 }

@@ -2,7 +2,8 @@ use Rattle.std.proofs.Common.{◌≡◌, true, filter, take}
 use Rattle.bx_tree.specs.Paths.{Atoms}
 use Rattle.bx_tree.specs.Trees.{paths_of}
 use Rattle.bx_tree.specs.Views.{files_of}
-use Rattle.dscript_workspace.specs.Membership.{is_implied, is_one_of}
+use Rattle.dscript_config.specs.Paths.{is_one_of}
+use Rattle.dscript_workspace.specs.Membership.{is_implied}
 use Rattle.dscript_workspace.specs.PathSets.{files_in}
 use Rattle.dscript_workspace.proofs.membership.implied_files.Given as goal
 

@@ -6,7 +6,8 @@ use Rattle.std.proofs.lemmas.List.Elements.{All-get_or}
 use Rattle.bx_tree.specs.Paths.{Atoms}
 use Rattle.bx_tree.specs.Trees.{paths_of}
 use Rattle.dscript_workspace.specs.Finding.{IsModuleFile}
-use Rattle.dscript_workspace.specs.Membership.{dir_of, implied_files, is_one_of}
+use Rattle.dscript_config.specs.Paths.{is_one_of}
+use Rattle.dscript_workspace.specs.Membership.{dir_of, implied_files}
 use Rattle.dscript_workspace.specs.ModuleFiles.{file_data, files_data}
 use Rattle.dscript_workspace.specs.PathSets.{files_in}
 use Rattle.dscript_workspace.proofs.ReadTexts.{read_more}

@@ -1,6 +1,6 @@
 use Rattle.std.proofs.Common.{◌≡◌, drop, take}
 use Rattle.dscript_config.specs.Paths.{AreWithin, paths_at}
-use Rattle.dscript_workspace.proofs.listing.paths_at.Given as goal
+use Rattle.dscript_workspace.proofs.module_reading.paths_at.Given as goal
 
 abbrev pub invariant-positions : goal.invariant-positions
 invariant-positions l = record {

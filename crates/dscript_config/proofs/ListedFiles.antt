@@ -1,22 +1,24 @@
 -- Files at positions that rise are files in the order of the tree.
-use Rattle.std.proofs.Common.{◌≡◌, ◌⊎◌, ◌<◌, ℕ, zero, suc, Bool, true, false, List, [], ◌∷◌, length, get_or, map, filter, cond, refl, ap, sym, subst, ◌∙◌, inl, inr, arith}
-use Rattle.std.specs.Prelude.{◌||◌, ◌↔◌, Contains}
-use Rattle.std.specs.List.{AllByRecursion}
+use Rattle.std.proofs.Common.{◌≡◌, ◌⊎◌, ◌<◌, ℕ, zero, suc, Bool, true, false, List, [], ◌∷◌, ◌++◌, length, get_or, map, filter, cond, refl, ap, sym, subst, ◌∙◌, inl, inr, arith}
+use Rattle.std.specs.Prelude.{◌&&◌, ◌||◌, ◌↔◌, Contains}
+use Rattle.std.specs.List.{AllByRecursion, list_all}
 use Rattle.std.specs.List.Sorted.{IsStrictlyIncreasing, IsStrictlySortedBy}
 use Rattle.std.specs.Ordering.{MatchOrdering, nat_cmp, ordering_reverse}
-use Rattle.std.specs.Cmp.{IsTotalOrder}
+use Rattle.std.specs.Cmp.{IsTotalOrder, both_ways}
 use Rattle.std.specs.declared.cmp.Ordering.{Ordering}
 use Rattle.std.specs.declared.cmp.Ordering.TheVariants.{Less, Greater}
 use Rattle.std.proofs.lemmas.Bool.{cases_Bool, false≢true}
 use Rattle.std.proofs.lemmas.Cmp.{ranked}
 use Rattle.std.proofs.lemmas.List.{length-map}
+use Rattle.std.proofs.lemmas.List.Elements.{filter_agree}
+use Rattle.std.proofs.lemmas.List.Folds.{list_any-append}
 use Rattle.std.proofs.lemmas.List.Kept.{IsStrictlySortedBy-filter}
 use Rattle.std.proofs.lemmas.Map.Keys.{Less-from_sorted, sorted_from_strictly_increasing}
 use Rattle.bx_tree.specs.Paths.{Atoms, path_cmp, same_path}
 use Rattle.bx_tree.specs.Orders.{path_cmp_total, same_path_decides}
 use Rattle.bx_tree.specs.Trees.{Files, IsTree, paths_of}
-use Rattle.dscript_config.specs.Paths.{AreWithin, paths_at}
-use Rattle.dscript_workspace.specs.Membership.{in_tree, is_one_of}
+use Rattle.dscript_config.specs.Paths.{AreWithin, in_tree, is_one_of, paths_at}
+use Rattle.dscript_config.specs.Views.{ArePlaces}
 
 -- ## Members
 
@@ -199,3 +201,74 @@ in_tree_rising files ps qs tree w rises same =
     in_tree_at files ps qs tree (within_same files ps qs w same) (sorted_from_strictly_increasing qs rises)
     (λ q h. in_contains qs q ((same q).0 (contains_in ps q h)))
     (λ q h. in_contains ps q ((same q).1 (contains_in qs q h)))
+
+-- ## Places of files
+
+members : (files : Files) (ps qs : List ℕ) → ((q : ℕ) → Contains ps q → Contains qs q) → (path : Atoms)
+    → is_one_of (paths_at files ps) path ≡ true → is_one_of (paths_at files qs) path ≡ true
+members files ps qs into path h =
+    let at = λ (q : ℕ). get_or (paths_of files) q [] in
+    let found = from_map at ps path (one_of_in (paths_at files ps) path h) in
+    in_one_of (paths_at files qs) path
+    (subst (In (paths_at files qs)) found.2 (in_map at qs found.0
+    (in_contains qs found.0 (into found.0 (contains_in ps found.0 found.1)))))
+
+-- the same positions are the places of the same files
+pub places_same : (files : Files) (ps qs : List ℕ) → AreWithin files ps → ((q : ℕ) → Contains ps q ↔ Contains qs q)
+    → ArePlaces files (paths_at files ps) qs
+places_same files ps qs w same = record {
+  within = within_same files ps qs w same;
+  same = λ path. both_ways (is_one_of (paths_at files qs) path) (is_one_of (paths_at files ps) path)
+      (members files qs ps (λ q. (same q).1) path) (members files ps qs (λ q. (same q).0) path);
+}
+
+-- positions are the places of the files at them
+pub places_at : (files : Files) (ps : List ℕ) → AreWithin files ps → ArePlaces files (paths_at files ps) ps
+places_at files ps w = record { within = w; same = λ path. refl }
+
+pub places_along : (files : Files) (paths : List Atoms) (ps qs : List ℕ) → ArePlaces files paths ps
+    → ArePlaces files (paths_at files ps) qs → ArePlaces files paths qs
+places_along files paths ps qs h k = record { within = k.within; same = λ path. k.same path ∙ h.same path }
+
+pub places_joined : (files : Files) (xs ys : List Atoms) (ps qs rs : List ℕ) → ArePlaces files xs ps → ArePlaces files ys qs
+    → ArePlaces files (paths_at files ps ++ paths_at files qs) rs → ArePlaces files (xs ++ ys) rs
+places_joined files xs ys ps qs rs h k l = record {
+  within = l.within;
+  same = λ path.
+      l.same path ∙ list_any-append (λ other. same_path other path) (paths_at files ps) (paths_at files qs)
+      ∙ ap (λ b. b || is_one_of (paths_at files qs) path) (h.same path)
+      ∙ ap (λ b. is_one_of xs path || b) (k.same path)
+      ∙ sym (list_any-append (λ other. same_path other path) xs ys);
+}
+
+-- the files in the order of the tree are those at the places in order
+pub in_tree_of : (files : Files) (paths : List Atoms) (ps qs : List ℕ) → ArePlaces files paths ps
+    → paths_at files qs ≡ in_tree files (paths_at files ps) → in_tree files paths ≡ paths_at files qs
+in_tree_of files paths ps qs h e =
+    filter_agree (is_one_of paths) (is_one_of (paths_at files ps)) (λ path. sym (h.same path)) (paths_of files) ∙ sym e
+
+all_at : (test : Atoms → Bool) (xs ys : List Atoms) → ((path : Atoms) → In ys path → In xs path) → list_all test xs ≡ true
+    → list_all test ys ≡ true
+all_at test xs [] into h = refl
+all_at test xs (y ∷ ys) into h =
+    ap (λ b. b && list_all test ys) (one_at test xs y (into y (inl refl)) h)
+    ∙ all_at test xs ys (λ path k. into path (inr k)) h
+  where
+    one_at : (test : Atoms → Bool) (xs : List Atoms) (path : Atoms) → In xs path → list_all test xs ≡ true → test path ≡ true
+    one_at test [] path h e = absurd h
+    one_at test (x ∷ xs) path h e = elim (cases_Bool (test x)) [
+      | inl passes ↦ elim h [
+        | inl is ↦ ap test (sym is) ∙ passes
+        | inr k ↦ one_at test xs path k (sym (ap (λ b. b && list_all test xs) passes) ∙ e)
+      ]
+      | inr fails ↦ absurd (false≢true (sym (ap (λ b. b && list_all test xs) fails) ∙ e))
+    ]
+
+-- a test of each file is a test of each file at the places
+pub all_places : (test : Atoms → Bool) (files : Files) (paths : List Atoms) (ps : List ℕ) → ArePlaces files paths ps
+    → list_all test (paths_at files ps) ≡ list_all test paths
+all_places test files paths ps h = both_ways (list_all test (paths_at files ps)) (list_all test paths)
+    (all_at test (paths_at files ps) paths
+    (λ path k. one_of_in (paths_at files ps) path (h.same path ∙ in_one_of paths path k)))
+    (all_at test paths (paths_at files ps)
+    (λ path k. one_of_in paths path (sym (h.same path) ∙ in_one_of (paths_at files ps) path k)))
