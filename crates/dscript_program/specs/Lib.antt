@@ -1,0 +1,4 @@
+pub mod BoundTree
+pub mod ProgramData
+pub mod Numbering
+pub mod Views

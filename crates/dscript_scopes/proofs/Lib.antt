@@ -1,0 +1,7 @@
+pub mod Joining
+pub mod AmbientCalls
+pub mod Outwards
+pub mod Numbering
+pub mod OneString
+pub mod FirstValues
+pub mod Examples

@@ -1,0 +1,9 @@
+pub mod Names
+pub mod Blocks
+pub mod Declarations
+pub mod Duplicates
+pub mod Lookup
+pub mod Orders
+pub mod Tables
+pub mod Answers
+pub mod Spaces
