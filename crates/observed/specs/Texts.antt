@@ -42,7 +42,7 @@ Reads (Ok x) read = read ≡ Some x
 Reads (Err set_faults.BadSet) read = read ≡ None
 Reads (Err set_faults.Memory) read = Unit {0}
 
--- the same of asks in a vector
+-- whether asks in a vector are what a text reads as, or the text is refused where it reads as nothing
 abbrev pub ReadsAsks : Result (Vec Ask Global) SetFault → Option (List Ask) → Type 0
 ReadsAsks (Ok asks) read = read ≡ Some asks.items
 ReadsAsks (Err set_faults.BadSet) read = read ≡ None

@@ -2,7 +2,8 @@
 //!
 //! A run of a tool reads, probes and lists paths. This crate has those asks, their answers, the trait
 //! of a view that answers them, and path sets: the asks that the outcome of a run depends on, in order
-//! and each once, with their text. It depends on `bx_tree` for paths and on `bx_digest` for contents.
+//! and each once, with their text. It depends on `bx_tree` and `bx_path` for paths and on `bx_digest` for
+//! contents.
 //! It carries the promise that a path set and its text are read and written both ways.
 #![tactic(auto)]
 

@@ -28,7 +28,7 @@ use Rattle.tool_run.specs.declared.limits.TheConstants.{MAX_REGISTER, MAX_OUTPUT
 use Rattle.tool_run.specs.Description.{Description, answer_of, permits, resolved}
 use Rattle.tool_run.specs.Machine.{Machine, at_place, deed_of, fitting, fitting_two, next, start, written}
 use Rattle.tool_run.specs.Values.{number_of, split_parts, variable}
-use Rattle.tool_run.specs.Writes.{clashes, own_answer, own_file, has_below}
+use Rattle.own_writes.specs.Writes.{clashes, own_answer, own_file, has_below}
 use Rattle.tool_run.specs.Instructions.{act, list_with, look_up, looks, or_jump, probe_with, read_with, value, with_answer, with_number, writes_at}
 use Rattle.tool_run.specs.Laws.{EndsDenied, Holds, IsAnswered, IsDenied}
 use Rattle.tool_run.specs.Run.{Run, Turn, at_end_or, ended, onward, run_from, run_of, run_tool, turn, turned}

@@ -1,13 +1,9 @@
 pub mod Depends
-pub mod Found
 pub mod Numbers
 pub mod Accesses
 pub mod Splitting
-pub mod Below
+pub mod Permitted
 pub mod AskPlaces
 pub mod Turns
 pub mod Appended
-pub mod NextAtoms
-pub mod SameFiles
 pub mod NamesAdded
-pub mod PutInOrder

@@ -62,7 +62,7 @@ goes_on d a a' tool left m m' i before now steps steps' meant same is some turns
     ∙ ap (λ (e : Option End). after before steps (onward rest (turn d a m i) e)) mine.end_is
     ∙ at_turn d a tool left m i before steps meant is some comes
 
--- the same, and the run ends there
+-- what a turn comes to where the run ends with it
 pub ends_there : (d : Description) (a a' : Ask → Answer) (tool : List Instr) (left : ℕ) (m m' : Machine) (i : Instr)
     (before now : List Access) (steps steps' : ℕ) (meant : Run) (end : End)
     → a' ≡ a → slice_get tool m.place ≡ Some i → 0 < left → Turns (turn d a' m i) m' before now (Some end) → steps' ≡ steps + 1

@@ -1,11 +1,10 @@
 -- What a run uses of a process.
-use Rattle.std.specs.Prelude.{ℕ, Bool, true, false, ◌&&◌, ◌||◌, not, List, [], ◌∷◌, Option, Some, None}
-use Rattle.std.specs.Prelude.{option_and_then, if◌then◌else◌, ◌==◌}
+use Rattle.std.specs.Prelude.{ℕ, Bool, false, ◌&&◌, ◌||◌, not, List, [], ◌∷◌, Option, Some, None}
+use Rattle.std.specs.Prelude.{if◌then◌else◌, ◌==◌}
 use Rattle.std.specs.List.{list_any}
 use Rattle.std.specs.Option.{option_map_or}
 use Rattle.bx_tree.specs.Paths.{Atoms, same_path}
 use Rattle.bx_tree.specs.Trees.{Files, file_at}
-use Rattle.bx_path.specs.Globbing.{strip_dir}
 use Rattle.bx_path.specs.Joining.{join_of}
 use Rattle.observed.specs.declared.ask.AskKind.{AskKind}
 use Rattle.observed.specs.declared.ask.AskKind.TheVariants as kinds
@@ -13,6 +12,7 @@ use Rattle.observed.specs.declared.ask.Ask.{Ask}
 use Rattle.observed.specs.declared.access.Answer.{Answer}
 use Rattle.observed.specs.declared.access.Answer.TheVariants as answers
 use Rattle.tool_text.specs.declared.tool.Instr.{Instr}
+use Rattle.own_writes.specs.Below.{is_below}
 
 -- What a run uses of a process: its tool, if the executable is one; the executable and the declared
 -- files, each as its path and its bytes; the working directory, arguments and variables; the output
@@ -51,19 +51,6 @@ or_else (Some answer) other = answer
 -- what an ask is answered: by the declared files first, and else by the view
 abbrev pub answer_of : Description → (Ask → Answer) → Ask → Answer
 answer_of d a ask = or_else (given d ask) (a ask)
-
--- the first of the atoms
-abbrev pub first_atom : Atoms → Option (List ℕ)
-first_atom [] = None
-first_atom (a ∷ as') = Some a
-
--- the atom of the path that comes next after the directory, if the path lies strictly below it
-abbrev pub next_atom : Atoms → Atoms → Option (List ℕ)
-next_atom dir path = option_and_then first_atom (strip_dir dir path)
-
--- whether the path lies strictly below the directory
-abbrev pub is_below : Atoms → Atoms → Bool
-is_below path dir = option_map_or (λ atom. true) (next_atom dir path) false
 
 -- whether the path is that of the console file
 abbrev pub is_console : Option Atoms → Atoms → Bool

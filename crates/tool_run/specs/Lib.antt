@@ -1,6 +1,5 @@
 pub mod Description
 pub mod Values
-pub mod Writes
 pub mod Listings
 pub mod Machine
 pub mod Instructions

@@ -9,7 +9,7 @@ use Rattle.tool_text.specs.declared.limits.TheConstants.{REGISTERS}
 use Rattle.tool_run.specs.declared.limits.TheConstants.{MAX_REGISTER, MAX_OUTPUT}
 use Rattle.tool_run.specs.declared.deed.Deed.{Deed}
 use Rattle.tool_run.specs.declared.deed.Deed.TheVariants as deeds
-use Rattle.tool_run.specs.Writes.{with_file}
+use Rattle.own_writes.specs.Writes.{with_file}
 
 -- A machine: the place of its next instruction, its registers, the files that it wrote, in the order of
 -- paths, what it said, and how many bytes it wrote and said in all.
@@ -34,7 +34,7 @@ next m = at_place m (m.place + 1)
 abbrev pub with_register : Machine → ℕ → List ℕ → Machine
 with_register m r bytes = record m { place = m.place + 1; registers = slice_set m.registers r bytes }
 
--- the same, where the bytes fit a register; else the run ends
+-- a register becomes these bytes where they fit it, and the machine goes on; else the run ends
 abbrev pub fitting : Machine → ℕ → List ℕ → Machine × Option End
 fitting m r bytes =
     if nat_lt MAX_REGISTER (length bytes) then (m, Some ends.TooLong) else (with_register m r bytes, None)

@@ -69,6 +69,24 @@ impl State {
         Ok(deed_of_end(self.fit(register, content)))
     }
 
+    // A register becomes its bytes with these after them, in place.
+    fn add(&mut self, alloc: Global, register: Register, more: &[u8]) -> Result<Deed, AllocError>
+        requires { self.old.place < 2 ^ 63 }
+        ensures { IfOk result (λ deed.
+            (machine_of self.new, deed)
+            ≡ deed_of (fitting (machine_of self.old) register
+            (slice_index_or self.old.registers.items register [] ++ more.now))) }
+    {
+        let number = register.number();
+        let length = self.registers[number].bytes().len() + more.len();
+        if length > MAX_REGISTER {
+            return Ok(Deed::Stops(End::TooLong));
+        }
+        self.registers[number].add(alloc, more)?;
+        self.place += 1;
+        Ok(Deed::Goes)
+    }
+
     // A register becomes its bytes with those of another operand after them, in place.
     fn append(&mut self, alloc: Global, register: Register, y: &Operand) -> Result<Deed, AllocError>
         requires place { self.old.place < 2 ^ 63 }
@@ -78,6 +96,9 @@ impl State {
             ≡ deed_of (fitting (machine_of self.old) register
             (slice_index_or self.old.registers.items register [] ++ value_in (machine_of self.old) y.now))) }
     {
+        if let Operand::Constant(text) = y {
+            return self.add(alloc, register, text.bytes());
+        }
         let number = register.number();
         let length = self.registers[number].bytes().len() + self.value(y).len();
         if length > MAX_REGISTER {

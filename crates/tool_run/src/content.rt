@@ -60,7 +60,7 @@ impl Content {
         }
     }
 
-    // The same bytes, shared if they are those of a file and else copied.
+    // Its bytes once more, shared if they are those of a file and else copied.
     pub(crate) fn duplicate(&self, alloc: Global) -> Result<Content, AllocError>
         ensures { IfOk result (λ content. content ≡ self.now) }
     {
@@ -81,6 +81,21 @@ impl Content {
     }
 
     // Adds bytes at the end, in place where the bytes are owned.
+    pub(crate) fn add(&mut self, alloc: Global, more: &[u8]) -> Result<(), AllocError>
+        ensures { OnOk result (self.new ≡ self.old ++ more.now) }
+    {
+        match &mut self.kept {
+            Kept::Owned(bytes) => bytes.extend_from_slice(more)?,
+            Kept::Shared(blob) => {
+                let mut bytes = Vec::from_slice(alloc, blob.bytes())?;
+                bytes.extend_from_slice(more)?;
+                self.kept = Kept::Owned(bytes);
+            }
+        }
+        Ok(())
+    }
+
+    // The bytes with more of them at the end.
     pub(crate) fn append(self, alloc: Global, more: &[u8]) -> Result<Content, AllocError>
         ensures { IfOk result (λ content. content ≡ self ++ more.now) }
     {

@@ -1,8 +1,8 @@
 //! Runs of tools.
 //!
-//! A run goes through the instructions of a tool. It sees the files around it through a view alone,
-//! and what it did is a list of accesses, the files that it wrote, what it said, how it ended and how
-//! many steps it took. The crate stands on `tool_text`, `observed` and `bx_path`. It carries the
+//! A run goes through the instructions of a tool. It sees its executable, the files that it declares
+//! and its own writes, and all others through a view; what it did is a list of accesses, the files that it wrote, what it said, how it ended and how
+//! many steps it took. The crate stands on `tool_text`, `observed` and `own_writes`. It carries the
 //! promises that a run is as it is defined, and that it depends on nothing but its description and
 //! the answers in its path set.
 #![tactic(auto)]
@@ -21,13 +21,8 @@ mod paths;
 mod running;
 mod state;
 mod values;
-mod writes;
 
 pub use laws::{accesses_hold, noninterference};
 pub use limits::{MAX_DIGITS, MAX_OUTPUT, MAX_REGISTER};
 pub use path_sets::path_set_of;
 pub use running::{Ran, run, run_no_tool};
-pub use writes::with_file;
-
-#[cfg(test)]
-mod tests;

@@ -3,12 +3,12 @@ ghost use Rattle.std.specs.Prelude.{◌≡◌, IfOk, OnOk};
 ghost use Rattle.observed.specs.Texts.{texts_now};
 ghost use Rattle.tool_run.specs.Listings.{add_names as with_names, listed, names_in, names_text};
 ghost use Rattle.tool_run.specs.NameSets.{names_now};
-ghost use Rattle.tool_run.specs.Writes.{own_names as names_below};
+ghost use Rattle.own_writes.specs.Writes.{own_names as names_below};
 
 use crate::content::Content;
-use crate::writes::Writes;
 use bx_digest::Blob;
 use bx_tree::Path;
+use own_writes::Writes;
 use std::alloc::{AllocError, Global};
 use std::collections::BTreeSet;
 
@@ -44,19 +44,22 @@ fn lines(alloc: Global, names: &BTreeSet<Vec<u8>>) -> Result<Vec<u8>, AllocError
     Ok(text)
 }
 
-impl Writes {
-    // The listing of a directory with what own writes add to it.
-    pub(crate) fn list(&self, alloc: Global, dir: &Path, seen: &Blob) -> Result<Content, AllocError>
-        ensures { IfOk result (λ content. content ≡ listed seen.now (names_below self.now dir.now)) }
-    {
-        let own = self.own_names(alloc, dir)?;
-        if own.is_empty() {
-            return Ok(Content::shared(seen.share()?));
-        }
-        let seen = names_of_lines(alloc, seen.bytes())?;
-        let mut names = BTreeSet::new(alloc);
-        add_names(alloc, &mut names, seen.as_slice())?;
-        add_names(alloc, &mut names, own.as_slice())?;
-        Ok(Content::of(lines(alloc, &names)?))
+// The listing of a directory with what own writes add to it.
+pub(crate) fn with_own_names(
+    alloc: Global,
+    writes: &Writes,
+    dir: &Path,
+    seen: &Blob,
+) -> Result<Content, AllocError>
+    ensures { IfOk result (λ content. content ≡ listed seen.now (names_below writes.now dir.now)) }
+{
+    let own = writes.own_names(alloc, dir)?;
+    if own.is_empty() {
+        return Ok(Content::shared(seen.share()?));
     }
+    let seen = names_of_lines(alloc, seen.bytes())?;
+    let mut names = BTreeSet::new(alloc);
+    add_names(alloc, &mut names, seen.as_slice())?;
+    add_names(alloc, &mut names, own.as_slice())?;
+    Ok(Content::of(lines(alloc, &names)?))
 }

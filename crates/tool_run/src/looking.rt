@@ -1,15 +1,14 @@
-//! What the run's own writes answer, and what an answer does to the machine.
+//! The instructions that look at paths or write, and what an answer does to the machine.
 ghost use Rattle.std.specs.Prelude.{◌≡◌, ◌<◌, ◌^◌, [], IfOk};
 ghost use Rattle.tool_run.specs.Described.{described};
 ghost use Rattle.tool_run.specs.Description.{resolved as resolved_path};
-ghost use Rattle.tool_run.specs.Writes.{own_answer};
 ghost use Rattle.tool_run.specs.States.{machine_of};
 
 use crate::content::Content;
 use crate::deed::Deed;
+use crate::listing::with_own_names;
 use crate::paths::{permits, resolved};
 use crate::state::{State, deed_of_end};
-use crate::writes::Writes;
 use bx_digest::Blob;
 use bx_tree::Path;
 use observed::{Answer, Ask, AskKind, End};
@@ -22,27 +21,6 @@ fn no_names(alloc: Global) -> Result<Blob, AllocError>
     ensures { IfOk result (λ names. names ≡ []) }
 {
     Blob::new(alloc, Vec::new(alloc))
-}
-
-impl Writes {
-    // What the run's own writes answer to an ask, if anything.
-    pub(crate) fn answer(&self, alloc: Global, ask: &Ask) -> Result<Option<Answer>, AllocError>
-        ensures { IfOk result (λ answer. answer ≡ own_answer self.now ask.now) }
-    {
-        if let Some(blob) = self.find(&ask.path) {
-            return match ask.kind {
-                AskKind::Read => Ok(Some(Answer::Content(blob.share()?))),
-                AskKind::Probe => Ok(Some(Answer::File)),
-                AskKind::List => Ok(Some(Answer::Names(no_names(alloc)?))),
-            };
-        }
-        match ask.kind {
-            AskKind::Read | AskKind::Probe if self.has_below(&ask.path) => {
-                Ok(Some(Answer::Directory))
-            }
-            _ => Ok(None),
-        }
-    }
 }
 
 impl State {
@@ -104,12 +82,12 @@ impl State {
             (machine_of self.new, end) ≡ list_with (machine_of self.old) register dir.now answer.now) }
     {
         let content = match answer {
-            Answer::Names(names) => self.writes.list(alloc, dir, names)?,
+            Answer::Names(names) => with_own_names(alloc, &self.writes, dir, names)?,
             Answer::Content(_)
             | Answer::Denied
             | Answer::Absent
             | Answer::File
-            | Answer::Directory => self.writes.list(alloc, dir, &no_names(alloc)?)?,
+            | Answer::Directory => with_own_names(alloc, &self.writes, dir, &no_names(alloc)?)?,
         };
         Ok(self.fit(register, content))
     }
@@ -193,10 +171,10 @@ impl State {
         if !permits(desc, &path) {
             return Ok(Deed::Refused(path));
         }
-        if self.writes.clashes(&path) {
+        if self.writes.clashes(alloc, &path)? {
             return Ok(Deed::Stops(End::NotADirectory));
         }
         let blob = self.blob(alloc, y)?;
-        self.write(path, blob)
+        self.write(alloc, path, blob)
     }
 }

@@ -7,11 +7,12 @@ ghost use Rattle.tool_run.specs.declared.limits.TheConstants.{MAX_OUTPUT};
 use crate::content::Content;
 use crate::deed::Deed;
 use crate::limits::{MAX_OUTPUT, MAX_REGISTER};
-use crate::writes::Writes;
 use bx_digest::Blob;
 use bx_tree::Path;
 use observed::End;
+use own_writes::Writes;
 use std::alloc::{AllocError, Global};
+use std::mem;
 use tool_text::{Operand, REGISTERS, Register};
 
 // Where a run is: the place of its next instruction, its registers, what it wrote, what it said, and how many
@@ -161,7 +162,12 @@ impl State {
     }
 
     // A file is written, if it fits.
-    pub(crate) fn write(&mut self, path: Path, blob: Blob) -> Result<Deed, AllocError>
+    pub(crate) fn write(
+        &mut self,
+        alloc: Global,
+        path: Path,
+        blob: Blob,
+    ) -> Result<Deed, AllocError>
         requires { self.old.place < 2 ^ 63 }
         ensures { IfOk result (λ deed.
             (machine_of self.new, deed) ≡ written (machine_of self.old) path blob) }
@@ -170,7 +176,8 @@ impl State {
         if length > MAX_OUTPUT - self.spent {
             return Ok(Deed::Stops(End::TooLong));
         }
-        self.writes.put(path.share()?, blob)?;
+        let writes = mem::replace(&mut self.writes, Writes::new(alloc));
+        self.writes = writes.put(alloc, path.share()?, blob)?;
         self.spent += length;
         self.place += 1;
         Ok(Deed::Wrote(path))

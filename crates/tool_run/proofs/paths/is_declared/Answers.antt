@@ -1,9 +1,9 @@
 use Rattle.std.proofs.Common.{◌∙◌}
 use Rattle.std.specs.List.{list_any}
 use Rattle.bx_tree.specs.Paths.{same_path}
-use Rattle.tool_run.specs.Description.{is_below}
+use Rattle.own_writes.specs.Below.{is_below}
 use Rattle.tool_run.specs.Described.{dir_paths}
-use Rattle.tool_run.proofs.Below.{any_dirs, not_outside, outside}
+use Rattle.tool_run.proofs.Permitted.{any_dirs, not_outside, outside}
 use Rattle.tool_run.proofs.paths.is_declared.Goals as goal
 
 pub returns-then-inside : goal.returns-then-inside

@@ -1,0 +1,17 @@
+use Rattle.std.proofs.Common.{◌≡◌, ◌∙◌, ◌||◌, IfOk, Bool, ap, sym, subst}
+use Rattle.std.specs.List.{list_any}
+use Rattle.own_writes.specs.Below.{is_below}
+use Rattle.own_writes.proofs.DirectorySets.{clash_is}
+use Rattle.own_writes.proofs.writes.Writes.clashes.Goals as goal
+
+pub returns-then-has_below : goal.returns-then-has_below
+returns-then-has_below c =
+    sym (ap (λ t. t || list_any (λ f. is_below c.args.path.now f.0) c.args.self.now) (sym c.has_below.ensures ∙ c.if-has_below.true))
+    ∙ clash_is c.args.self.now c.args.path.now
+
+pub returns : goal.returns
+returns c =
+    subst (λ (t : Bool). IfOk c.has_file_above.result (λ yes. yes ≡ t))
+    (sym (ap (λ t. t || list_any (λ f. is_below c.args.path.now f.0) c.args.self.now) (sym c.has_below.ensures ∙ c.if-has_below.false))
+    ∙ clash_is c.args.self.now c.args.path.now)
+    c.has_file_above.ensures

@@ -1,0 +1,4 @@
+pub mod Told
+pub mod Stored
+pub mod Found
+pub mod LastAccess

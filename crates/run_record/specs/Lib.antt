@@ -1,0 +1,3 @@
+pub mod Outcomes
+pub mod Answered
+pub mod Facts

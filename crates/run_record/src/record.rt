@@ -1,0 +1,165 @@
+//! Records of runs, each with the answers that it depends on.
+ghost use Rattle.std.specs.Prelude.{◌≡◌, ◌≢◌, ◌↔◌, IsTrue, IfOk, IfSome, IfNone, length};
+ghost use Rattle.tool_run.specs.Seen.{seen};
+ghost use Rattle.tool_run.specs.Described.{described};
+ghost use Rattle.tool_run.specs.Run.{path_set};
+ghost use Rattle.run_record.specs.Answered.{answered};
+ghost use Rattle.run_record.specs.Facts.{IsRun, Replays, Sound, run_for};
+
+use crate::answered::Stored;
+use crate::answers::given_to;
+use crate::outcome::{Outcome, judge};
+use bx_io::Gate;
+use observed::{Access, Answer, PathSet, View};
+use pip_types::Desc;
+use std::alloc::{AllocError, Global};
+use std::marker::Model;
+use tool_run::{Ran, accesses_hold, noninterference, path_set_of, run, run_no_tool};
+use tool_text::{ToolFault, read_tool};
+
+/// A run of a process, with an answer to each ask of its path set: the run on these answers alone has
+/// this path set, these accesses and this outcome.
+#[derive(Drop)]
+pub struct Record {
+    desc: Desc,
+    paths: PathSet,
+    answers: Vec<Answer>,
+    accesses: Vec<Access>,
+    outcome: Outcome,
+}
+
+impl Model for Record {
+    ghost use Rattle.run_record.specs.Facts.{Facts, Sound};
+
+    ghost Value = { Facts };
+
+    ghost view = { λ r. record {
+      desc = r.desc;
+      paths = r.paths;
+      answers = r.answers.items;
+      accesses = r.accesses.items;
+      outcome = r.outcome;
+    } };
+
+    ghost invariant = { λ r. Sound (record {
+      desc = r.desc;
+      paths = r.paths;
+      answers = r.answers.items;
+      accesses = r.accesses.items;
+      outcome = r.outcome;
+    }) };
+}
+
+impl Record {
+    /// The process. A record is the run on its own answers.
+    pub fn desc(&self) -> &Desc
+        ensures value { result.now ≡ self.now.desc }
+        ensures sound { Sound self.now }
+    {
+        &self.desc
+    }
+
+    /// The path set.
+    pub fn paths(&self) -> &PathSet
+        ensures { result.now ≡ self.now.paths }
+    {
+        &self.paths
+    }
+
+    /// The answers, one to each ask of the path set, in its order.
+    pub fn answers(&self) -> &[Answer]
+        ensures value { result.now ≡ self.now.answers }
+        ensures number { length result.now ≡ length self.now.paths }
+    {
+        self.answers.as_slice()
+    }
+
+    /// The accesses, in order.
+    pub fn accesses(&self) -> &[Access]
+        ensures { result.now ≡ self.now.accesses }
+    {
+        self.accesses.as_slice()
+    }
+
+    /// What the run came to.
+    pub fn outcome(&self) -> &Outcome
+        ensures { result.now ≡ self.now.outcome }
+    {
+        &self.outcome
+    }
+}
+
+fn are_same(paths: &PathSet, other: &PathSet) -> bool
+    ensures { IsTrue result ↔ paths.now ≡ other.now }
+{
+    paths.asks() == other.asks()
+}
+
+// Runs the tool of a process, if its executable is one.
+fn run_process<V: View>(alloc: Global, desc: &Desc, view: &mut V) -> Result<Ran, AllocError>
+    ensures ran { IfOk result (λ ran. seen ran ≡ run_for desc.now (V.answers view.old)) }
+    ensures same { V.answers view.new ≡ V.answers view.old }
+{
+    match read_tool(alloc, desc.exe.bytes()) {
+        Ok(tool) => run(alloc, &tool, desc, view),
+        Err(ToolFault::BadTool) => run_no_tool(alloc),
+        Err(ToolFault::Memory) => Err(AllocError),
+    }
+}
+
+/// Passes the gate once, and runs the tool of a process on a view.
+pub fn execute<V: View, G: Gate>(
+    alloc: Global,
+    desc: Desc,
+    pip: u32,
+    view: &mut V,
+    gate: &G,
+) -> Result<Record, AllocError>
+    ensures ran { IfOk result (λ made. IsRun made desc (V.answers view.old)) }
+    ensures meaning { V.answers view.new ≡ V.answers view.old }
+{
+    gate.pass(pip);
+    noninterference();
+    accesses_hold();
+    let ran = run_process(alloc, &desc, view)?;
+    let paths = path_set_of(alloc, &desc, &ran.accesses)?;
+    let answers = given_to(alloc, &ran.accesses, paths.asks())?;
+    let outcome = judge(alloc, &desc, &ran)?;
+    Ok(Record {
+        desc,
+        paths,
+        answers,
+        accesses: ran.accesses,
+        outcome,
+    })
+}
+
+/// Runs the tool of a process on stored answers: none where the run asks for something else or has another
+/// path set. There are as many answers as asks.
+pub fn replay(
+    alloc: Global,
+    desc: Desc,
+    paths: &PathSet,
+    answers: Vec<Answer>,
+) -> Result<Option<Record>, AllocError>
+    requires { length answers.items ≡ length paths.now }
+    ensures found { IfOk result (λ found. IfSome found (λ made.
+        Replays made desc paths.now answers.items)) }
+    ensures none { IfOk result (λ found. IfNone found
+        (path_set (described desc) (run_for desc (answered paths.now answers.items)).accesses ≢ paths.now)) }
+{
+    let mut view = Stored::new(paths, &answers);
+    let ran = run_process(alloc, &desc, &mut view)?;
+    let asked = path_set_of(alloc, &desc, &ran.accesses)?;
+    if !are_same(&asked, paths) {
+        return Ok(None);
+    }
+    let outcome = judge(alloc, &desc, &ran)?;
+    Ok(Some(Record {
+        desc,
+        paths: asked,
+        answers,
+        accesses: ran.accesses,
+        outcome,
+    }))
+}

@@ -1,0 +1,157 @@
+//! What runs come to, their path sets, and runs that are made again.
+ghost use Rattle.std.specs.Prelude.{◌≡◌, IfOk, length};
+
+use super::fixture::{Always, desc};
+use super::told::record_told;
+use crate::record::{Record, execute, replay};
+use bx_io::OpenGate;
+use observed::Answer;
+use std::alloc::Global;
+use std::test::Fail;
+
+// The record of a run of these lines, where the view has one answer for all asks.
+fn record_of(alloc: Global, lines: &str, answer: Answer) -> Result<Record, Fail> {
+    let desc = desc(alloc, lines, "out/b out/a", 60)?;
+    let mut view = Always { answer };
+    Ok(execute(alloc, desc, 0, &mut view, &OpenGate)?)
+}
+
+// Whether the lines before `=> ` have a record that is told as what comes after it.
+fn is_told(alloc: Global, case: &str, answer: Answer) -> Result<bool, Fail> {
+    let Some((lines, want)) = case.split_once("=> ") else {
+        return Ok(false);
+    };
+    let record = record_of(alloc, lines, answer)?;
+    let got = record_told(alloc, &record)?;
+    Ok(got.as_slice() == want.as_bytes())
+}
+
+// The first of cases that is told otherwise, where the view answers that nothing is there.
+fn wrong<'a>(alloc: Global, cases: &'a str) -> Result<Option<&'a str>, Fail> {
+    for case in cases.split("----\n") {
+        if !is_told(alloc, case, Answer::Absent)? {
+            return Ok(Some(case));
+        }
+    }
+    Ok(None)
+}
+
+const OUTCOMES: &str = r#"probe r0, "/s"
+write "/out/a", r0
+write "/out/b", 1
+say 2
+=> paths 1
+probe s
+file out/a
+absent
+file out/b
+1
+file w/log
+2
+
+----
+write "/out/b", 1
+=> paths 1
+missing out/a
+----
+write "/out/b", 1
+exit 3
+=> paths 1
+exit 3
+----
+write "/out/c", 1
+=> paths 1
+denied out/c
+----
+read r0, "../..", x
+x: exit 0
+=> paths 1
+BadPath
+----
+nothing
+=> paths 1
+BadProgram
+"#;
+
+#[test]
+fn what_a_run_comes_to(rt: HostRuntime) -> Result<(), Fail> {
+    assert_eq!(rt; wrong(rt.alloc(), OUTCOMES)?, None);
+    let denied = "read r0, \"/s\", x\nx: exit 0\n=> paths 1\nread s\nread s\n";
+    assert!(rt; is_told(rt.alloc(), denied, Answer::Denied)?);
+    Ok(())
+}
+
+const PATH_SETS: &str = r#"probe r1, "/out/a"
+write "/out/a", r1
+read r2, "/out/a", end
+cat r2, r2, "!"
+write "/out/a", r2
+end: exit 1
+=> paths 1
+probe out/a
+exit 1
+----
+probe r0, "/out/o"
+read r0, "/in/a", x
+x: list r0, "/in/a"
+probe r0, "/t.tool"
+read r0, "/", y
+y: probe r0, "/out/o"
+exit 1
+=> paths 1
+read .
+list in/a
+probe out/o
+exit 1
+"#;
+
+#[test]
+fn path_sets_lack_what_own_writes_and_declared_files_answer(rt: HostRuntime) -> Result<(), Fail> {
+    assert_eq!(rt; wrong(rt.alloc(), PATH_SETS)?, None);
+    Ok(())
+}
+
+fn copies(alloc: Global, answers: &[Answer]) -> Result<Vec<Answer>, Fail>
+    ensures { IfOk result (λ copies. length copies.items ≡ length answers.now) }
+{
+    let mut copies = Vec::new(alloc);
+    'answers: for answer in answers {
+        copies.push(answer.share()?)?;
+    }
+    Ok(copies)
+}
+
+// The record of a tool that is run on the path set and the answers of another record.
+fn again(alloc: Global, record: &Record, lines: &str) -> Result<Option<Record>, Fail> {
+    let answers = copies(alloc, record.answers())?;
+    let desc = desc(alloc, lines, "out/a", 20)?;
+    Ok(replay(alloc, desc, record.paths(), answers)?)
+}
+
+// What the record of lines is told as that are run on what another record was told, or nothing where they ask
+// for something else.
+fn told_again(alloc: Global, record: &Record, lines: &str) -> Result<Vec<u8>, Fail> {
+    match again(alloc, record, lines)? {
+        Some(second) => record_told(alloc, &second),
+        None => Ok(Vec::new(alloc)),
+    }
+}
+
+// Whether lines that are run on what others were told are told so.
+fn is_told_again(alloc: Global, first: &str, lines: &str, want: &str) -> Result<bool, Fail> {
+    let record = record_of(alloc, first, Answer::Absent)?;
+    let got = told_again(alloc, &record, lines)?;
+    Ok(got.as_slice() == want.as_bytes())
+}
+
+#[test]
+fn a_run_is_made_again_on_its_answers_alone(rt: HostRuntime) -> Result<(), Fail> {
+    let first = "probe r0, \"/s\"\nlist r1, \"/d\"\nexit 4";
+    let other = "probe r0, \"/t\"\nlist r1, \"/d\"\nexit 4";
+    let fewer = "probe r0, \"/s\"\nexit 4";
+    let want = "paths 1\nlist d\nprobe s\nexit 4\n";
+    assert!(rt; is_told_again(rt.alloc(), first, first, want)?);
+    assert!(rt; is_told_again(rt.alloc(), first, other, "")?);
+    assert!(rt; is_told_again(rt.alloc(), first, fewer, "")?);
+    Ok(())
+}

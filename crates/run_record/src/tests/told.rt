@@ -1,0 +1,84 @@
+//! What runs and records are told as.
+use crate::outcome::{Cause, Outcome};
+use crate::record::Record;
+use bx_tree::Path;
+use observed::{Access, AskKind};
+use pip_types::Made;
+use std::alloc::Global;
+use std::test::Fail;
+use tool_run::Ran;
+
+fn word_of(kind: AskKind) -> &'static str {
+    match kind {
+        AskKind::Read => "read",
+        AskKind::Probe => "probe",
+        AskKind::List => "list",
+    }
+}
+
+fn add_line(text: &mut Vec<u8>, word: &str, path: &Path) -> Result<(), Fail> {
+    text.extend_from_slice(word.as_bytes())?;
+    text.push(b' ')?;
+    text.extend_from_slice(path.text().as_bytes())?;
+    text.push(b'\n')?;
+    Ok(())
+}
+
+fn add_access(text: &mut Vec<u8>, access: &Access) -> Result<(), Fail> {
+    match access {
+        Access::Asked(ask, _) => add_line(text, word_of(ask.kind), &ask.path),
+        Access::Wrote(path) => add_line(text, "wrote", path),
+        Access::WriteDenied(path) => add_line(text, "denied", path),
+    }
+}
+
+fn add_accesses(text: &mut Vec<u8>, accesses: &[Access]) -> Result<(), Fail> {
+    for access in accesses {
+        add_access(text, access)?;
+    }
+    Ok(())
+}
+
+fn add_made(text: &mut Vec<u8>, made: &Made) -> Result<(), Fail> {
+    for file in made.files() {
+        add_line(text, "file", &file.path)?;
+        text.extend_from_slice(file.blob.bytes())?;
+        text.push(b'\n')?;
+    }
+    Ok(())
+}
+
+// How a run ended and after how many steps, what it said, its accesses, and the files that it wrote.
+pub fn told(alloc: Global, ran: &Ran) -> Result<Vec<u8>, Fail> {
+    let first = format!(in alloc; "{:?} {}\n", ran.end, ran.steps)?;
+    let mut text = Vec::from_slice(alloc, first.as_bytes())?;
+    text.extend_from_slice(ran.console.as_slice())?;
+    add_accesses(&mut text, ran.accesses.as_slice())?;
+    add_made(&mut text, &ran.writes)?;
+    Ok(text)
+}
+
+fn add_cause(alloc: Global, text: &mut Vec<u8>, cause: &Cause) -> Result<(), Fail> {
+    match cause {
+        Cause::Exit(code) => {
+            let line = format!(in alloc; "exit {code}\n")?;
+            Ok(text.extend_from_slice(line.as_bytes())?)
+        }
+        Cause::Tool(end) => {
+            let line = format!(in alloc; "{end:?}\n")?;
+            Ok(text.extend_from_slice(line.as_bytes())?)
+        }
+        Cause::MissingOutput(path) => add_line(text, "missing", path),
+        Cause::Denied(access) => add_access(text, access),
+    }
+}
+
+// A record's path set, and what its run came to.
+pub fn record_told(alloc: Global, record: &Record) -> Result<Vec<u8>, Fail> {
+    let mut text = record.paths().text(alloc)?;
+    match record.outcome() {
+        Outcome::Good(made) => add_made(&mut text, made)?,
+        Outcome::Failed(cause) => add_cause(alloc, &mut text, cause)?,
+    }
+    Ok(text)
+}
