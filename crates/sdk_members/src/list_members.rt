@@ -1,0 +1,124 @@
+//! The members of lists, without those that call functions.
+ghost use Rattle.std.specs.Prelude.{◌≡◌, ◌++◌, IfOk, Ok, Err, map, MatchResult};
+ghost use Rattle.dscript_value.specs.Plain.{plain_of};
+ghost use Rattle.sdk_values.specs.Answers.{text_answer};
+ghost use Rattle.sdk_values.specs.Outcomes.{Refuses};
+ghost use Rattle.sdk_members.specs.Gives.{Gives, applied};
+ghost use Rattle.sdk_members.specs.ListMembers.{concat_lists, contains_item, has_equal as has_equal_item};
+ghost use Rattle.sdk_members.specs.ListMembers.{join_items, joined, list_function, list_property};
+
+use crate::member::Member;
+use bx_tree::Text;
+use dscript_value::{NoOrder, Value, equal};
+use sdk_values::{
+    MAX_TEXT_BYTES, Memory, SdkFault, first_argument, list_value, number_value, read_each,
+    read_items, read_text, text_value,
+};
+use std::alloc::Global;
+
+// Adds values like these to some values.
+fn add_all(values: &mut Vec<Value>, more: &[Value]) -> Result<(), Memory>
+    ensures { IfOk result (λ _. map plain_of values.new.items
+        ≡ map plain_of values.old.items ++ map plain_of more.now) }
+{
+    'values: for value in more {
+        values.push(value.share()?)?;
+    }
+    Ok(())
+}
+
+fn concat(alloc: Global, items: &[Value], args: &[Value]) -> Result<Value, SdkFault>
+    ensures { MatchResult result
+        (λ value. concat_lists (map plain_of items.now) (map plain_of args.now) ≡ Ok (plain_of value))
+        (λ fault. Refuses fault (concat_lists (map plain_of items.now) (map plain_of args.now))) }
+{
+    let more = read_items(first_argument(args)?)?;
+    let mut all = Vec::new(alloc);
+    add_all(&mut all, items)?;
+    add_all(&mut all, more)?;
+    list_value(alloc, all)
+}
+
+// Whether an item equals a value; no item after the first equal one is looked at.
+fn has_equal(items: &[Value], value: &Value) -> Result<bool, SdkFault>
+    ensures { MatchResult result
+        (λ found. has_equal_item (map plain_of items.now) (plain_of value.now) ≡ Ok found)
+        (λ fault. has_equal_item (map plain_of items.now) (plain_of value.now) ≡ Err fault) }
+{
+    'items: for item in items {
+        match equal(item, value) {
+            Ok(true) => return Ok(true),
+            Ok(false) => {}
+            Err(NoOrder) => return Err(SdkFault::Kind),
+        }
+    }
+    Ok(false)
+}
+
+fn contains(items: &[Value], args: &[Value]) -> Result<Value, SdkFault>
+    ensures { MatchResult result
+        (λ value. contains_item (map plain_of items.now) (map plain_of args.now) ≡ Ok (plain_of value))
+        (λ fault. contains_item (map plain_of items.now) (map plain_of args.now) ≡ Err fault) }
+{
+    let found = has_equal(items, first_argument(args)?)?;
+    Ok(Value::Flag(found))
+}
+
+// Texts with a separator between them, unless they are too long together.
+fn join_texts(alloc: Global, separator: &Text, texts: &[Text]) -> Result<Value, SdkFault>
+    ensures { MatchResult result
+        (λ value. text_answer (joined separator.now texts.now) ≡ Ok (plain_of value))
+        (λ fault. Refuses fault (text_answer (joined separator.now texts.now))) }
+{
+    let Some((first, more)) = texts.split_first() else {
+        return text_value(alloc, Vec::new(alloc));
+    };
+    let mut bytes = first.bytes().to_vec(alloc)?;
+    'texts: for text in more {
+        if bytes.len() > MAX_TEXT_BYTES {
+            return Err(SdkFault::Range);
+        }
+        bytes.extend_from_slice(separator.bytes())?;
+        bytes.extend_from_slice(text.bytes())?;
+    }
+    text_value(alloc, bytes)
+}
+
+fn join(alloc: Global, items: &[Value], args: &[Value]) -> Result<Value, SdkFault>
+    ensures { MatchResult result
+        (λ value. join_items (map plain_of items.now) (map plain_of args.now) ≡ Ok (plain_of value))
+        (λ fault. Refuses fault (join_items (map plain_of items.now) (map plain_of args.now))) }
+{
+    let separator = read_text(first_argument(args)?)?;
+    let texts = read_each::<Text>(alloc, items)?;
+    join_texts(alloc, separator, texts.as_slice())
+}
+
+/// The call of a member function of a list that calls no functions.
+#[tactic(auto, unfolding(crate::specs::ListMembers::list_function))]
+pub fn call_list(
+    alloc: Global,
+    items: &[Value],
+    member: Member,
+    args: &[Value],
+) -> Result<Option<Value>, SdkFault>
+    ensures { Gives (applied (list_function member (map plain_of items.now)) (map plain_of args.now)) result }
+{
+    match member {
+        Member::Concat => Ok(Some(concat(alloc, items, args)?)),
+        Member::Contains => Ok(Some(contains(items, args)?)),
+        Member::Join => Ok(Some(join(alloc, items, args)?)),
+        _ => Ok(None),
+    }
+}
+
+/// A member of a list that is no function.
+#[tactic(auto, unfolding(crate::specs::ListMembers::list_property))]
+pub fn member_of_list(items: &[Value], member: Member) -> Result<Option<Value>, SdkFault>
+    ensures { Gives (list_property member (map plain_of items.now)) result }
+{
+    match member {
+        Member::Length => Ok(Some(number_value(items.len())?)),
+        _ => Ok(None),
+    }
+}

@@ -1,0 +1,33 @@
+//! What ambient calls and members take from values, and the values that they answer.
+//!
+//! The faults of a call, the kinds that its arguments must have, objects with known fields, and texts,
+//! numbers and lists within the limits. This crate depends on `dscript_value`. It carries the promise that a
+//! value is read as what it is, or refused with the first fault that it has.
+#![tactic(auto)]
+
+mod answers;
+mod arguments;
+mod fault;
+mod kinds;
+mod limits;
+mod objects;
+mod reading;
+
+pub use answers::{list_value, number_value, text_value};
+pub use arguments::{first_argument, two_arguments};
+pub use fault::SdkFault;
+pub use kinds::{
+    read_argument, read_directory, read_file, read_flag, read_items, read_path, read_text,
+};
+pub use limits::{MAX_LIST_ITEMS, MAX_TEXT_BYTES};
+pub use objects::read_object;
+pub use reading::{
+    FromValue, read_each, read_field, read_list, read_list_field, read_optional,
+    read_optional_list, share_file,
+};
+
+/// Out of memory, the one refusal that no contract ties to a cause.
+pub type Memory = std::alloc::AllocError;
+
+#[cfg(test)]
+mod tests;

@@ -1,0 +1,102 @@
+//! Objects whose fields are known.
+ghost use Rattle.std.specs.Prelude.{◌≡◌, Ok, Err, Some, None, is_some, map, ◌||◌, MatchResult};
+ghost use Rattle.std.specs.Str.{bytes_eq};
+ghost use Rattle.dscript_value.specs.Depths.{field_at};
+ghost use Rattle.dscript_value.specs.Plain.{member_list, plain_field, plain_fields, plain_of};
+ghost use Rattle.sdk_values.specs.FieldNames.{names_now};
+ghost use Rattle.sdk_values.specs.Kinds.{object_in};
+ghost use Rattle.sdk_values.specs.Objects.{fields_in, has_all as has_names, has_only as has_known, is_among};
+
+use crate::fault::SdkFault;
+use dscript_value::{Field, Fields, Value};
+
+// The name of a field.
+fn name_of(field: &Field) -> &[u8]
+    ensures { result.now ≡ (plain_field field.now).0 }
+{
+    field.name.bytes()
+}
+
+fn is_name(names: &[&[u8]], name: &[u8]) -> bool
+    ensures { result ≡ is_among (names_now names.now) name.now }
+{
+    'names: for other in names {
+        if name == *other {
+            return true;
+        }
+    }
+    false
+}
+
+fn is_known(field: &Field, required: &[&[u8]], optional: &[&[u8]]) -> bool
+    ensures { result ≡ (is_among (names_now required.now) (plain_field field.now).0
+        || is_among (names_now optional.now) (plain_field field.now).0) }
+{
+    let name = name_of(field);
+    is_name(required, name) || is_name(optional, name)
+}
+
+// Whether each field is known.
+fn has_only(fields: &[Field], required: &[&[u8]], optional: &[&[u8]]) -> bool
+    ensures { result
+        ≡ has_known (names_now required.now) (names_now optional.now) (map plain_field fields.now) }
+{
+    'fields: for field in fields {
+        if !is_known(field, required, optional) {
+            return false;
+        }
+    }
+    true
+}
+
+// Whether there is a field with this name.
+fn has_field(fields: &Fields, name: &[u8]) -> bool
+    ensures { result ≡ is_some (field_at (member_list (plain_fields fields.now).members) name.now) }
+{
+    fields.find(name).is_some()
+}
+
+// Whether there is a field with each of these names.
+fn has_all(fields: &Fields, required: &[&[u8]]) -> bool
+    ensures { result ≡ has_names (names_now required.now) (member_list (plain_fields fields.now).members) }
+{
+    'names: for name in required {
+        if !has_field(fields, name) {
+            return false;
+        }
+    }
+    true
+}
+
+// The fields of the object that a value is.
+fn as_object(value: &Value) -> Result<&Fields, SdkFault>
+    ensures { MatchResult result
+        (λ fields. object_in (plain_of value.now) ≡ Ok (member_list (plain_fields fields.now).members))
+        (λ fault. object_in (plain_of value.now) ≡ Err fault) }
+{
+    match value {
+        Value::Object(fields) => Ok(fields),
+        _ => Err(SdkFault::Kind),
+    }
+}
+
+/// The fields of the object that a value is, which must have all required fields, and besides these only
+/// optional ones.
+pub fn read_object<'a>(
+    value: &'a Value,
+    required: &[&[u8]],
+    optional: &[&[u8]],
+) -> Result<&'a Fields, SdkFault>
+    ensures { MatchResult result
+        (λ fields. fields_in (names_now required.now) (names_now optional.now) (plain_of value.now)
+        ≡ Ok (member_list (plain_fields fields.now).members))
+        (λ fault. fields_in (names_now required.now) (names_now optional.now) (plain_of value.now)
+        ≡ Err fault) }
+{
+    let fields = as_object(value)?;
+    if has_only(fields.fields(), required, optional) && has_all(fields, required) {
+        Ok(fields)
+    } else {
+        Err(SdkFault::BadArgument)
+    }
+}
