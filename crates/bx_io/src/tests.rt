@@ -13,6 +13,8 @@ const LIST: &str = "w/abcdef0123456789abcdef0123456789abcdef0123456789abcdef0123
 
 const ENTRY: &str = "e/ffffffffffffffffffffffffffffffffffffffffffffffffffffffffffffffff";
 
+const NAMES: &[&str] = &[BLOB, LIST, ENTRY];
+
 // Texts that are no names, a line each. The first is empty.
 const NO_NAMES: &str = "
 b/
@@ -28,7 +30,7 @@ b/000000000000000000000000000000000000000000000000000000000000000:
 
 #[test]
 fn names_are_a_kind_and_a_digest(rt: HostRuntime) {
-    for text in [BLOB, LIST, ENTRY] {
+    for text in NAMES {
         assert!(rt; is_name(text.as_bytes()), "{text}");
     }
     for text in NO_NAMES.lines() {
@@ -36,49 +38,45 @@ fn names_are_a_kind_and_a_digest(rt: HostRuntime) {
     }
 }
 
-/// The word for how many bytes a call moved.
-fn word_of(moved: Result<usize, Failed>) -> &'static str {
+/// Says which of these bytes a call moved.
+fn say_moved(
+    said: &mut Vec<u8>,
+    bytes: &[u8],
+    moved: Result<usize, Failed>,
+) -> Result<(), AllocError> {
     match moved {
-        Ok(0) => "0",
-        Ok(1) => "1",
-        Ok(2) => "2",
-        Ok(3) => "3",
-        Ok(4) => "4",
-        Ok(_) => "many",
-        Err(_) => "failed",
+        Ok(count) => said.extend_from_slice(bytes.get(..count).unwrap_or(b"?"))?,
+        Err(_) => said.extend_from_slice(b"failed")?,
     }
+    said.extend_from_slice(b" ")
 }
 
-/// What this many reads into four bytes answer, and the bytes after each.
-fn reads<S: Source>(alloc: Global, source: &mut S, calls: u32) -> Result<Vec<u8>, Fail> {
-    let mut said = Vec::new(alloc);
+/// Says what reads into four bytes answer.
+fn say_reads<S: Source>(said: &mut Vec<u8>, source: &mut S, calls: u32) -> Result<(), AllocError> {
     for _ in 0..calls {
         let mut into = *b"____";
-        let word = word_of(source.read(&mut into));
-        said.extend_from_slice(word.as_bytes())?;
-        said.extend_from_slice(&into)?;
-        said.push(b' ')?;
+        let moved = source.read(&mut into);
+        say_moved(said, &into, moved)?;
     }
-    Ok(said)
+    Ok(())
 }
 
-/// What the writes of these pieces answer.
-fn writes<S: Sink>(alloc: Global, sink: &mut S, pieces: &str) -> Result<Vec<u8>, Fail> {
-    let mut said = Vec::new(alloc);
+/// Says what the writes of pieces answer.
+fn say_writes<S: Sink>(said: &mut Vec<u8>, sink: &mut S, pieces: &str) -> Result<(), AllocError> {
     for piece in pieces.split(' ') {
-        let word = word_of(sink.write(piece.as_bytes()));
-        said.extend_from_slice(word.as_bytes())?;
-        said.push(b' ')?;
+        let moved = sink.write(piece.as_bytes());
+        say_moved(said, piece.as_bytes(), moved)?;
     }
-    Ok(said)
+    Ok(())
 }
 
 #[test]
 fn a_source_gives_each_byte_once_and_fails_where_asked(rt: HostRuntime) -> Result<(), Fail> {
     let failing = vec![in rt.alloc(); 2, 6]?;
     let mut source = MemSource::new(b"abcde".to_vec(rt.alloc())?, 2, failing);
-    let said = reads(rt.alloc(), &mut source, 7)?;
-    let wanted = "2ab__ failed____ 2cd__ 1e___ 0____ failed____ 0____ ";
+    let mut said = Vec::new(rt.alloc());
+    say_reads(&mut said, &mut source, 7)?;
+    let wanted = "ab failed cd e  failed  ";
     assert_eq!(rt; said.as_slice(), wanted.as_bytes());
     Ok(())
 }
@@ -86,16 +84,18 @@ fn a_source_gives_each_byte_once_and_fails_where_asked(rt: HostRuntime) -> Resul
 #[test]
 fn a_source_without_faults_gives_all_that_fits(rt: HostRuntime) -> Result<(), Fail> {
     let mut source = NoFaultSource::new(b"abcdef".to_vec(rt.alloc())?);
-    let said = reads(rt.alloc(), &mut source, 3)?;
-    assert_eq!(rt; said.as_slice(), b"4abcd 2ef__ 0____ ".as_slice());
+    let mut said = Vec::new(rt.alloc());
+    say_reads(&mut said, &mut source, 3)?;
+    assert_eq!(rt; said.as_slice(), b"abcd ef  ".as_slice());
     Ok(())
 }
 
 #[test]
 fn a_sink_takes_each_byte_once_and_fails_where_asked_or_full(rt: HostRuntime) -> Result<(), Fail> {
     let mut sink = MemSink::new(rt.alloc(), 5, 2, vec![in rt.alloc(); 2]?)?;
-    let said = writes(rt.alloc(), &mut sink, "abc cde c def f ")?;
-    assert_eq!(rt; said.as_slice(), b"2 failed 1 2 failed 0 ".as_slice());
+    let mut said = Vec::new(rt.alloc());
+    say_writes(&mut said, &mut sink, "abc cde c def f ")?;
+    assert_eq!(rt; said.as_slice(), b"ab failed c de failed  ".as_slice());
     assert_eq!(rt; sink.taken(), b"abcde".as_slice());
     Ok(())
 }
@@ -183,18 +183,29 @@ fn six_calls<K: Keeper>(alloc: Global, said: &mut Vec<u8>, keeper: &mut K) -> Re
     Ok(())
 }
 
+/// Says what a look of a reader answers.
+fn say_look<R: KeepReader>(
+    alloc: Global,
+    said: &mut Vec<u8>,
+    reader: &mut R,
+    name: &str,
+) -> Result<(), Fail> {
+    if !is_name(name.as_bytes()) {
+        return Err(Fail::new("no name"));
+    }
+    say_got(said, reader.get(alloc, name))?;
+    said.push(b' ')?;
+    Ok(())
+}
+
 /// Says what three looks of a reader answer.
 fn three_looks<R: KeepReader>(
     alloc: Global,
     said: &mut Vec<u8>,
     reader: &mut R,
 ) -> Result<(), Fail> {
-    for name in [BLOB, LIST, ENTRY] {
-        if !is_name(name.as_bytes()) {
-            return Err(Fail::new("no name"));
-        }
-        say_got(said, reader.get(alloc, name))?;
-        said.push(b' ')?;
+    for name in NAMES {
+        say_look(alloc, said, reader, name)?;
     }
     Ok(())
 }
@@ -226,42 +237,51 @@ fn a_keeper_holds_what_was_put_and_never_fails(rt: HostRuntime) -> Result<(), Fa
     Ok(())
 }
 
-/// What six calls answer where the one with this number fails, and how many failed.
-fn with_a_fault(alloc: Global, failing: u64) -> Result<(Vec<u8>, u64), Fail> {
+/// The digit for a count of faults.
+fn digit_of(faults: u64) -> u8 {
+    match faults {
+        0 => b'0',
+        1 => b'1',
+        _ => b'?',
+    }
+}
+
+/// Says what six calls answer where the one with this number fails, and how many failed.
+fn say_with_a_fault(alloc: Global, said: &mut Vec<u8>, failing: u64) -> Result<(), Fail> {
     let mut keeper = MemKeeper::new(alloc, vec![in alloc; failing]?);
-    let mut said = Vec::new(alloc);
-    six_calls(alloc, &mut said, &mut keeper)?;
-    Ok((said, keeper.faults()))
+    six_calls(alloc, said, &mut keeper)?;
+    said.push(digit_of(keeper.faults()))?;
+    Ok(())
 }
 
 const FAILING: &[(u64, &str)] = &[
-    (0, "made one made made e none "),
-    (1, "failed none made made e none "),
-    (2, "made failed made made e none "),
-    (3, "made one failed made  none "),
-    (4, "made one made failed be one "),
-    (5, "made one made made failed none "),
-    (6, "made one made made e failed "),
+    (0, "made one made made e none 0"),
+    (1, "failed none made made e none 1"),
+    (2, "made failed made made e none 1"),
+    (3, "made one failed made  none 1"),
+    (4, "made one made failed be one 1"),
+    (5, "made one made made failed none 1"),
+    (6, "made one made made e failed 1"),
 ];
 
 #[test]
 fn a_keeper_in_memory_fails_at_each_call_that_it_is_asked_to(rt: HostRuntime) -> Result<(), Fail> {
     for (failing, wanted) in FAILING {
-        let (said, faults) = with_a_fault(rt.alloc(), *failing)?;
+        let mut said = Vec::new(rt.alloc());
+        say_with_a_fault(rt.alloc(), &mut said, *failing)?;
         assert_eq!(rt; said.as_slice(), wanted.as_bytes());
-        assert_eq!(rt; faults, u64::from(*failing > 0));
     }
     Ok(())
 }
 
-/// What six calls answer where the first ones go through, and what the inner keeper then holds of the first
-/// name.
-fn stopped_after(alloc: Global, calls: u64) -> Result<Vec<u8>, Fail> {
+/// Says what six calls answer where the first ones go through, and what the inner keeper then holds of the
+/// first name.
+fn say_stopped(alloc: Global, said: &mut Vec<u8>, calls: u64) -> Result<(), Fail> {
     let mut keeper = StopKeeper::new(MemKeeper::new(alloc, Vec::new(alloc)), calls);
-    let mut said = Vec::new(alloc);
-    six_calls(alloc, &mut said, &mut keeper)?;
-    said.extend_from_slice(keeper.into_inner().held(BLOB).unwrap_or(b"none"))?;
-    Ok(said)
+    six_calls(alloc, said, &mut keeper)?;
+    let inner = keeper.into_inner();
+    said.extend_from_slice(inner.held(BLOB).unwrap_or(b"none"))?;
+    Ok(())
 }
 
 const STOPPING: &[(u64, &str)] = &[
@@ -275,28 +295,35 @@ const STOPPING: &[(u64, &str)] = &[
 #[test]
 fn a_keeper_that_stops_lets_its_first_calls_through(rt: HostRuntime) -> Result<(), Fail> {
     for (calls, wanted) in STOPPING {
-        let said = stopped_after(rt.alloc(), *calls)?;
+        let mut said = Vec::new(rt.alloc());
+        say_stopped(rt.alloc(), &mut said, *calls)?;
         assert_eq!(rt; said.as_slice(), wanted.as_bytes());
     }
     Ok(())
 }
 
-/// A keeper that holds a blob, and whose readers fail at the second call.
-fn failing_keeper(alloc: Global) -> Result<FailKeeper, Fail> {
-    let mut inner = MemKeeper::new(alloc, Vec::new(alloc));
+/// A keeper that holds a blob.
+fn holding_keeper(alloc: Global) -> Result<MemKeeper, Fail> {
     if !is_name(BLOB.as_bytes()) {
         return Err(Fail::new("no name"));
     }
-    inner.set_raw(alloc, BLOB, b"one".to_vec(alloc)?)?;
-    Ok(FailKeeper::new(inner, vec![in alloc; 2]?))
+    let mut keeper = MemKeeper::new(alloc, Vec::new(alloc));
+    keeper.set_raw(alloc, BLOB, b"one".to_vec(alloc)?)?;
+    Ok(keeper)
+}
+
+/// Says what a keeper answers that holds a blob, and whose readers fail at the second call.
+fn say_failing(alloc: Global, said: &mut Vec<u8>) -> Result<(), Fail> {
+    let failing = vec![in alloc; 2]?;
+    let mut keeper = FailKeeper::new(holding_keeper(alloc)?, failing);
+    looks_before_a_put(alloc, said, &mut keeper)?;
+    six_calls(alloc, said, &mut keeper)
 }
 
 #[test]
 fn readers_read_what_was_held_and_fail_where_asked(rt: HostRuntime) -> Result<(), Fail> {
     let mut said = Vec::new(rt.alloc());
-    let mut keeper = failing_keeper(rt.alloc())?;
-    looks_before_a_put(rt.alloc(), &mut said, &mut keeper)?;
-    six_calls(rt.alloc(), &mut said, &mut keeper)?;
+    say_failing(rt.alloc(), &mut said)?;
     let wanted = "made one failed none one none none made one made made ew none ";
     assert_eq!(rt; said.as_slice(), wanted.as_bytes());
     Ok(())

@@ -19,11 +19,14 @@ fn field(alloc: Global, name: &[u8], number: i32) -> Result<Field, Fail> {
     })
 }
 
+/// Fields, of which two have one name.
+const FIELDS: &[(&[u8], i32)] = &[(b"a", 1), (b"b", 2), (b"a", 3)];
+
 fn object(alloc: Global) -> Result<Value, Fail> {
     let mut fields = Vec::new(alloc);
-    fields.push(field(alloc, b"a", 1)?)?;
-    fields.push(field(alloc, b"b", 2)?)?;
-    fields.push(field(alloc, b"a", 3)?)?;
+    for (name, number) in FIELDS {
+        fields.push(field(alloc, name, *number)?)?;
+    }
     Ok(object_of(alloc, fields)?)
 }
 
@@ -41,25 +44,39 @@ fn argument(alloc: Global) -> Result<Argument, Fail> {
     })
 }
 
+/// The sample with this number, which holds this path.
+fn sample_at(number: u8, path: Path) -> Value {
+    match number {
+        3 => Value::Path(path),
+        4 => Value::File(FileInput::Source(path)),
+        5 => Value::File(FileInput::Made(path, 3)),
+        6 => Value::Static(StaticDir::Seal(1, path)),
+        _ => Value::Static(StaticDir::Opaque(1, path)),
+    }
+}
+
+/// The sample with this number, which is a list or a function.
+fn made_sample(alloc: Global, number: u8) -> Result<Value, Fail> {
+    match number {
+        8 => Ok(list_of(alloc, Vec::new(alloc))?),
+        9 => Ok(ambient_function(alloc, Ambient::Glob)?),
+        14 => Ok(place_function(alloc, 3, Vec::new(alloc))?),
+        _ => Ok(member_of(alloc, Value::Undefined, text(alloc, b"a")?)?),
+    }
+}
+
 fn sample(alloc: Global, number: u8) -> Result<Value, Fail> {
-    Ok(match number {
-        0 => Value::Undefined,
-        1 => Value::Number(7),
-        2 => Value::Text(text(alloc, b"a")?),
-        3 => Value::Path(path(alloc, b"a")?),
-        4 => Value::File(FileInput::Source(path(alloc, b"a")?)),
-        5 => Value::File(FileInput::Made(path(alloc, b"a")?, 3)),
-        6 => Value::Static(StaticDir::Seal(1, path(alloc, b"a")?)),
-        7 => Value::Static(StaticDir::Opaque(1, path(alloc, b"a")?)),
-        8 => list_of(alloc, Vec::new(alloc))?,
-        9 => ambient_function(alloc, Ambient::Glob)?,
-        12 => Value::Relative(relative(alloc)?),
-        13 => Value::Argument(argument(alloc)?),
-        14 => place_function(alloc, 3, Vec::new(alloc))?,
-        15 => member_of(alloc, Value::Undefined, text(alloc, b"a")?)?,
-        16 => object(alloc)?,
-        _ => Value::Flag(number == 10),
-    })
+    match number {
+        0 => Ok(Value::Undefined),
+        1 => Ok(Value::Number(7)),
+        2 => Ok(Value::Text(text(alloc, b"a")?)),
+        3..=7 => Ok(sample_at(number, path(alloc, b"a")?)),
+        10 | 11 => Ok(Value::Flag(number == 10)),
+        12 => Ok(Value::Relative(relative(alloc)?)),
+        13 => Ok(Value::Argument(argument(alloc)?)),
+        16 => object(alloc),
+        _ => made_sample(alloc, number),
+    }
 }
 
 /// The numbers of two samples, and whether they are equal.
@@ -128,19 +145,32 @@ fn a_later_field_takes_the_place_of_the_earlier(rt: HostRuntime) -> Result<(), F
 }
 
 /// The list of this value alone.
-fn listed(alloc: Global, value: Value) -> Result<Result<Value, DepthFault>, Fail> {
+fn listed(alloc: Global, value: Value) -> Result<Value, Fail> {
     let mut items = Vec::new(alloc);
     items.push(value)?;
-    Ok(list_of(alloc, items))
+    Ok(list_of(alloc, items)?)
+}
+
+/// A list of this depth.
+fn nested(alloc: Global, depth: u32) -> Result<Value, Fail> {
+    let mut value = Value::Undefined;
+    for _ in 0..depth {
+        value = listed(alloc, value)?;
+    }
+    Ok(value)
+}
+
+/// Whether the list of this value alone is too deep.
+fn is_too_deep(alloc: Global, value: Value) -> Result<bool, Fail> {
+    let mut items = Vec::new(alloc);
+    items.push(value)?;
+    Ok(matches!(list_of(alloc, items), Err(DepthFault::TooDeep)))
 }
 
 #[test]
 fn a_list_is_at_most_as_deep_as_the_limit(rt: HostRuntime) -> Result<(), Fail> {
-    let mut value = Value::Undefined;
-    for _ in 0..MAX_DEPTH {
-        value = listed(rt.alloc(), value)??;
-    }
+    let value = nested(rt.alloc(), MAX_DEPTH)?;
     assert_eq!(rt; value.depth(), MAX_DEPTH);
-    assert!(rt; matches!(listed(rt.alloc(), value)?, Err(DepthFault::TooDeep)));
+    assert!(rt; is_too_deep(rt.alloc(), value)?);
     Ok(())
 }
