@@ -27,8 +27,6 @@ mod script;
 mod sink;
 mod source;
 mod stop_keeper;
-#[cfg(test)]
-mod tests;
 
 pub use fail_keeper::FailKeeper;
 pub use fault::{Failed, Memory};

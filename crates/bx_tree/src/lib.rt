@@ -27,6 +27,3 @@ pub use tree_file::TreeFile;
 
 /// Out of memory: the one error whose cause no contract states.
 pub type Memory = std::alloc::AllocError;
-
-#[cfg(test)]
-mod tests;

@@ -10,6 +10,3 @@ mod layout;
 
 pub use fault::LayoutFault;
 pub use layout::lay_out;
-
-#[cfg(test)]
-mod tests;

@@ -28,6 +28,3 @@ pub use names::{Declared, FileNames, Imported, Viewer, World};
 pub use scopes::Scopes;
 pub use site::Site;
 pub use stop::Stop;
-
-#[cfg(test)]
-mod tests;

@@ -16,6 +16,3 @@ pub use finding::find_workspace;
 pub use laws::{
     files_are_own, modules_within_files, names_differ, no_file_is_shared, one_answer, some_answer,
 };
-
-#[cfg(test)]
-mod tests;
