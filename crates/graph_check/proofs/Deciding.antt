@@ -26,17 +26,18 @@ use Rattle.pip_types.specs.declared.pip.SealDesc.{SealDesc}
 use Rattle.pip_model.specs.declared.plan.TheConstants.{MAX_PIPS}
 use Rattle.graph_check.specs.declared.fault.GraphKind.{GraphKind}
 use Rattle.graph_check.specs.declared.fault.GraphKind.TheVariants as rules
-use Rattle.graph_check.specs.DoubleProducer.{DoubleProducerAt}
+use Rattle.graph_outputs.specs.DoubleProducer.{DoubleProducerAt}
 use Rattle.graph_check.specs.NoSuchSource.{NoSuchSourceAt, named_sources}
-use Rattle.graph_check.specs.Orders.{described_alike, tied_processes}
-use Rattle.graph_check.specs.Outputs.{Has, IsWithin, declared_dirs, declared_files, outputs}
-use Rattle.graph_check.specs.OutsideOut.{OutsideOutAt, out_dir}
-use Rattle.graph_check.specs.Overlap.{FileIsDir, IsUnlisted, NestedOutputs, OverlapAt, Overlaps, SealMeetsDir, UnlistedFile, UnsharedDir, full_seals}
-use Rattle.graph_check.specs.Overlap.Overlaps.{Nested, OnePath, Unshared, Unlisted, Meets}
+use Rattle.pip_order.specs.Orders.{described_alike, tied_processes}
+use Rattle.graph_outputs.specs.Outputs.{Has, IsWithin, declared_dirs, declared_files, outputs}
+use Rattle.graph_outputs.specs.OutsideOut.{OutsideOutAt, out_dir}
+use Rattle.graph_outputs.specs.Overlap.{FileIsDir, IsUnlisted, NestedOutputs, OverlapAt, Overlaps, SealMeetsDir, UnlistedFile, UnsharedDir, full_seals}
+use Rattle.graph_outputs.specs.Overlap.Overlaps.{Nested, OnePath, Unshared, Unlisted, Meets}
 use Rattle.graph_check.specs.Rules.{FailsAt}
-use Rattle.graph_check.specs.Twin.{TwinAt, description, descriptions, without_pip}
-use Rattle.graph_check.specs.TwinOrder.{process_cmp}
-use Rattle.graph_check.proofs.Unsharing.{has_along}
+use Rattle.graph_check.specs.Twin.{TwinAt, descriptions}
+use Rattle.pip_order.specs.Descriptions.{description, without_pip}
+use Rattle.pip_order.specs.ProcessOrder.{process_cmp}
+use Rattle.graph_outputs.proofs.Unsharing.{has_along}
 
 -- ## Tests of what pips have
 

@@ -1,17 +1,4 @@
-pub mod Has
-pub mod Firsts
-pub mod Lists
-pub mod Adding
-pub mod Repeats
 pub mod Twins
-pub mod TreeOrders
-pub mod InTree
-pub mod Among
-pub mod Unsharing
-pub mod Overlapping
-pub mod Prefixes
-pub mod Claiming
-pub mod Telling
 pub mod Answering
 pub mod Deciding
 pub mod Verdicts

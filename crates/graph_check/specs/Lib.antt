@@ -1,16 +1,5 @@
-pub mod Outputs
-pub mod DoubleProducer
-pub mod Overlap
 pub mod NoSuchSource
-pub mod OutsideOut
 pub mod Twin
-pub mod TwinOrder
-pub mod Orders
 pub mod Described
-pub mod Sharing
-pub mod Gathered
-pub mod Claims
-pub mod TreeOrder
 pub mod Limit
-pub mod Firsts
 pub mod Rules

@@ -10,7 +10,7 @@ use Rattle.pip_types.specs.declared.dir_inputs.SealForm.TheVariants.{Full, Parti
 use Rattle.pip_types.specs.declared.pip.Pip.{Pip}
 use Rattle.pip_types.specs.declared.pip.PipKind.{PipKind}
 use Rattle.pip_types.specs.declared.pip.PipKind.TheVariants.{Process, Copy, Write, Seal}
-use Rattle.graph_check.specs.Outputs.{Has}
+use Rattle.graph_outputs.specs.Outputs.{Has}
 
 -- the file, if it is a source file
 abbrev pub if_source : FileInput → List Atoms

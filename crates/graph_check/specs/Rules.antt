@@ -8,10 +8,10 @@ use Rattle.graph_check.specs.declared.fault.GraphKind.TheVariants.{DoubleProduce
 use Rattle.graph_check.specs.declared.fault.GraphKind.TheVariants.{OutsideOut, Twin, Limit}
 use Rattle.graph_check.specs.declared.fault.GraphFault.{GraphFault}
 use Rattle.graph_check.specs.declared.fault.GraphFault.TheVariants.{Fault, Memory}
-use Rattle.graph_check.specs.DoubleProducer.{DoubleProducerAt}
-use Rattle.graph_check.specs.Overlap.{OverlapAt}
+use Rattle.graph_outputs.specs.DoubleProducer.{DoubleProducerAt}
+use Rattle.graph_outputs.specs.Overlap.{OverlapAt}
 use Rattle.graph_check.specs.NoSuchSource.{NoSuchSourceAt}
-use Rattle.graph_check.specs.OutsideOut.{OutsideOutAt}
+use Rattle.graph_outputs.specs.OutsideOut.{OutsideOutAt}
 use Rattle.graph_check.specs.Twin.{TwinAt}
 use Rattle.graph_check.specs.Limit.{LimitAt}
 

@@ -1,16 +1,14 @@
 //! All rules, one after the other.
 ghost use Rattle.std.specs.Prelude.{◌≡◌, ◌<◌, ◌≤◌, IfOk, MatchResult, length};
-ghost use Rattle.graph_check.specs.Firsts.{IsFirst};
+ghost use Rattle.graph_outputs.specs.Firsts.{IsFirst};
 ghost use Rattle.graph_check.specs.Rules.{FailsAt, Holds, IsRefusal, KeepsRules, rank};
 ghost use Rattle.graph_check.specs.declared.fault.GraphKind.{GraphKind as AnyRule};
 
-use crate::double_producer::double_producer;
 use crate::fault::{GraphFault, GraphKind};
 use crate::limit::limit;
 use crate::no_such_source::no_such_source;
-use crate::outside_out::outside_out;
-use crate::overlap::overlap;
 use crate::twin::twin;
+use graph_outputs::{first_double_producer, first_outside, first_overlap};
 use pip_model::{Memory, Pip, PipList, Plan, Sources};
 use std::alloc::Global;
 
@@ -24,10 +22,10 @@ fn first_failure(
     ensures { IfOk result (IsFirst (FailsAt rule pips.now sources.now)) }
 {
     match rule {
-        GraphKind::DoubleProducer => double_producer(alloc, pips),
-        GraphKind::Overlap => overlap(alloc, pips),
+        GraphKind::DoubleProducer => first_double_producer(alloc, pips),
+        GraphKind::Overlap => first_overlap(alloc, pips),
         GraphKind::NoSuchSource => no_such_source(alloc, pips, sources),
-        GraphKind::OutsideOut => outside_out(alloc, pips),
+        GraphKind::OutsideOut => first_outside(alloc, pips),
         GraphKind::Twin => twin(alloc, pips),
         GraphKind::Limit => Ok(limit(pips)),
     }

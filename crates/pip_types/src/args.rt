@@ -90,6 +90,14 @@ impl Variables {
         }
     }
 
+    /// The environment of these variables, which are in the order of their names already.
+    pub fn in_order(pairs: Vec<EnvPair>) -> Variables
+        requires { IsSortedByName pairs.items }
+        ensures { result ≡ pairs.items }
+    {
+        Variables { pairs }
+    }
+
     /// The variables, in order.
     pub fn pairs(&self) -> &[EnvPair]
         ensures pairs { result.now ≡ self.now }

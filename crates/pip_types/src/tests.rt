@@ -1,78 +1,100 @@
 use super::*;
-use bx_digest::{Blob, digest_of};
+use bx_digest::{Blob, Digest, digest_of};
 use bx_tree::{FileInput, Path, Text, Tree, TreeFile};
 use std::alloc::Global;
 use std::test::Fail;
 
-fn path(alloc: Global, text: &[u8]) -> Result<Path, Fail> {
-    Ok(Path::read(alloc, text)?)
+fn path(alloc: Global, text: &str) -> Result<Path, Fail> {
+    Ok(Path::read(alloc, text.as_bytes())?)
 }
 
-fn write_pip(alloc: Global, to: &[u8]) -> Result<Pip, Fail> {
+fn write(alloc: Global, to: &str) -> Result<PipKind, Fail> {
+    let to = path(alloc, to)?;
     let text = Text::new(alloc, b"hi".to_vec(alloc)?)?;
-    Ok(Pip {
-        spec: path(alloc, b"build.dsc")?,
-        kind: PipKind::Write(WriteDesc {
-            to: path(alloc, to)?,
-            text,
-        }),
-    })
+    Ok(PipKind::Write(WriteDesc { to, text }))
 }
 
-fn copy_pip(alloc: Global, from: FileInput) -> Result<Pip, Fail> {
-    Ok(Pip {
-        spec: path(alloc, b"build.dsc")?,
-        kind: PipKind::Copy(CopyDesc {
-            from,
-            to: path(alloc, b"out/copy")?,
-        }),
-    })
+fn copy(alloc: Global, from: &str, maker: u32) -> Result<PipKind, Fail> {
+    let to = path(alloc, "out/copy")?;
+    let from = FileInput::Made(path(alloc, from)?, maker);
+    Ok(PipKind::Copy(CopyDesc { from, to }))
+}
+
+fn pip(alloc: Global, kind: PipKind) -> Result<Pip, Fail> {
+    let spec = path(alloc, "build.dsc")?;
+    Ok(Pip { spec, kind })
+}
+
+// The pip 0 alone, which writes `out/a`.
+fn one_pip(alloc: Global) -> Result<PipList, Fail> {
+    let first = pip(alloc, write(alloc, "out/a")?)?;
+    let mut pips = PipList::new(alloc);
+    if !pips.fits(&first) || pips.push(first)? != 0 {
+        return Err(Fail::from("the first pip does not fit"));
+    }
+    Ok(pips)
+}
+
+// Whether a copy of a file that a pip made fits.
+fn copy_fits(alloc: Global, pips: &PipList, from: &str, maker: u32) -> Result<bool, Fail> {
+    let next = pip(alloc, copy(alloc, from, maker)?)?;
+    Ok(pips.fits(&next))
 }
 
 #[test]
 fn a_pip_fits_where_earlier_pips_make_what_it_names(rt: HostRuntime) -> Result<(), Fail> {
     let alloc = rt.alloc();
-    let mut pips = PipList::new(alloc);
-    let first = write_pip(alloc, b"out/a")?;
-    assert!(rt; pips.fits(&first));
-    assert_eq!(rt; pips.push(first)?, 0);
-    let cases: [(&[u8], u32, bool); 3] = [
-        (b"out/a", 0, true),
-        (b"out/b", 0, false),
-        (b"out/a", 1, false),
-    ];
-    for (name, maker, fits) in cases {
-        let pip = copy_pip(alloc, FileInput::Made(path(alloc, name)?, maker))?;
-        assert_eq!(rt; pips.fits(&pip), fits);
-    }
+    let pips = one_pip(alloc)?;
+    assert!(rt; copy_fits(alloc, &pips, "out/a", 0)?);
+    assert!(rt; !copy_fits(alloc, &pips, "out/b", 0)?);
+    assert!(rt; !copy_fits(alloc, &pips, "out/a", 1)?);
     Ok(())
+}
+
+fn sources(alloc: Global) -> Result<Sources, Fail> {
+    let path = path(alloc, "src/a")?;
+    let bytes = b"abc".to_vec(alloc)?;
+    let mut files = Vec::new(alloc);
+    files.push(TreeFile::new(path, bytes))?;
+    let tree = Tree::checked(files).ok_or("tree")?;
+    Ok(Sources::new(alloc, tree)?)
+}
+
+fn source_digest(alloc: Global, sources: &Sources, text: &str) -> Result<Option<Digest>, Fail> {
+    let path = path(alloc, text)?;
+    Ok(sources.find(&path).map(|blob| blob.digest()))
 }
 
 #[test]
 fn files_are_found_by_path(rt: HostRuntime) -> Result<(), Fail> {
     let alloc = rt.alloc();
-    let mut files = Vec::new(alloc);
-    files.push(TreeFile::new(path(alloc, b"src/a")?, b"abc".to_vec(alloc)?))?;
-    let tree = Tree::checked(files).ok_or("tree")?;
-    let sources = Sources::new(alloc, tree)?;
-    let found = sources.find(&path(alloc, b"src/a")?).ok_or("file")?;
-    assert_eq!(rt; found.digest(), digest_of(b"abc"));
-    assert!(rt; sources.find(&path(alloc, b"src")?).is_none());
-    assert_eq!(rt; sources.paths().len(), 1);
+    let sources = sources(alloc)?;
+    assert!(rt; source_digest(alloc, &sources, "src/a")? == Some(digest_of(b"abc")));
+    assert!(rt; source_digest(alloc, &sources, "src")?.is_none());
+    assert!(rt; sources.paths().len() == 1);
     Ok(())
+}
+
+fn made(alloc: Global) -> Result<Made, Fail> {
+    let mut files = Vec::new(alloc);
+    files.push(MadeFile {
+        path: path(alloc, "out/b")?,
+        blob: Blob::new(alloc, b"b".to_vec(alloc)?)?,
+    })?;
+    Ok(Made::of(alloc, files)?)
+}
+
+// Whether a file with these bytes is at a path.
+fn is_found(alloc: Global, made: &Made, text: &str, bytes: &[u8]) -> Result<bool, Fail> {
+    let path = path(alloc, text)?;
+    Ok(made.find(&path).is_some_and(|blob| blob.bytes() == bytes))
 }
 
 #[test]
 fn made_files_are_found_by_path(rt: HostRuntime) -> Result<(), Fail> {
     let alloc = rt.alloc();
-    let mut files = Vec::new(alloc);
-    files.push(MadeFile {
-        path: path(alloc, b"out/b")?,
-        blob: Blob::new(alloc, b"b".to_vec(alloc)?)?,
-    })?;
-    let made = Made::of(alloc, files)?.share()?;
-    let found = made.find(&path(alloc, b"out/b")?).ok_or("file")?;
-    assert_eq!(rt; found.bytes(), b"b".as_slice());
-    assert!(rt; made.find(&path(alloc, b"out")?).is_none());
+    let made = made(alloc)?.share()?;
+    assert!(rt; is_found(alloc, &made, "out/b", b"b")?);
+    assert!(rt; !is_found(alloc, &made, "out", b"b")?);
     Ok(())
 }

@@ -1,16 +1,16 @@
 use Rattle.std.proofs.Common.{IfOk, sym, subst}
-use Rattle.graph_check.specs.Firsts.{IsFirst}
+use Rattle.graph_outputs.specs.Firsts.{IsFirst}
 use Rattle.graph_check.specs.Rules.{FailsAt}
 use Rattle.graph_check.specs.declared.fault.GraphKind.{GraphKind}
 use Rattle.graph_check.proofs.checking.first_failure.Goals as goal
 
 pub returns-in-DoubleProducer : goal.returns-in-DoubleProducer
 returns-in-DoubleProducer c =
-    subst (λ (rule : GraphKind). IfOk c.double_producer.result (IsFirst (FailsAt rule c.args.pips.now c.args.sources.now))) (sym c.in-DoubleProducer.is) c.double_producer.ensures
+    subst (λ (rule : GraphKind). IfOk c.first_double_producer.result (IsFirst (FailsAt rule c.args.pips.now c.args.sources.now))) (sym c.in-DoubleProducer.is) c.first_double_producer.ensures
 
 pub returns-in-Overlap : goal.returns-in-Overlap
 returns-in-Overlap c =
-    subst (λ (rule : GraphKind). IfOk c.overlap.result (IsFirst (FailsAt rule c.args.pips.now c.args.sources.now))) (sym c.in-Overlap.is) c.overlap.ensures
+    subst (λ (rule : GraphKind). IfOk c.first_overlap.result (IsFirst (FailsAt rule c.args.pips.now c.args.sources.now))) (sym c.in-Overlap.is) c.first_overlap.ensures
 
 pub returns-in-NoSuchSource : goal.returns-in-NoSuchSource
 returns-in-NoSuchSource c =
@@ -18,7 +18,7 @@ returns-in-NoSuchSource c =
 
 pub returns-in-OutsideOut : goal.returns-in-OutsideOut
 returns-in-OutsideOut c =
-    subst (λ (rule : GraphKind). IfOk c.outside_out.result (IsFirst (FailsAt rule c.args.pips.now c.args.sources.now))) (sym c.in-OutsideOut.is) c.outside_out.ensures
+    subst (λ (rule : GraphKind). IfOk c.first_outside.result (IsFirst (FailsAt rule c.args.pips.now c.args.sources.now))) (sym c.in-OutsideOut.is) c.first_outside.ensures
 
 pub returns-in-Twin : goal.returns-in-Twin
 returns-in-Twin c =

@@ -1,0 +1,14 @@
+pub mod Has
+pub mod Firsts
+pub mod Lists
+pub mod Adding
+pub mod Repeats
+pub mod ByText
+pub mod TreeOrders
+pub mod InTree
+pub mod Among
+pub mod Unsharing
+pub mod Overlapping
+pub mod Prefixes
+pub mod Claiming
+pub mod Telling

@@ -1,0 +1,9 @@
+pub mod Outputs
+pub mod DoubleProducer
+pub mod Overlap
+pub mod OutsideOut
+pub mod Sharing
+pub mod Gathered
+pub mod Claims
+pub mod TreeOrder
+pub mod Firsts

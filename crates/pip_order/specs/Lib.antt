@@ -1,0 +1,3 @@
+pub mod Descriptions
+pub mod ProcessOrder
+pub mod Orders
