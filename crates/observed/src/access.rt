@@ -17,7 +17,7 @@ pub enum Answer {
     File,
     /// There is a directory.
     Directory,
-    /// The names in a directory, each with a newline after it.
+    /// The names in a directory: a view puts a newline after each, and a run takes any bytes.
     Names(Blob),
     /// The ask is not allowed.
     Denied,

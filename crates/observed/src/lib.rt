@@ -22,6 +22,3 @@ pub use view::View;
 
 /// Out of memory, the one refusal that no contract ties to a cause.
 pub type Memory = std::alloc::AllocError;
-
-#[cfg(test)]
-mod tests;

@@ -5,3 +5,4 @@ pub mod SameFiles
 pub mod PutInOrder
 pub mod DirectorySets
 pub mod Ancestors
+pub mod Bounds

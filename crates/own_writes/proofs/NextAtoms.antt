@@ -45,33 +45,31 @@ none_next dir path e = by_cases (next_atom dir path) e
 
 -- ## Names of files
 
-pub names_of_paths : (dir : Atoms) (files : Files) → filter_map (next_atom dir) (map (λ f. f.0) files) ≡ own_names files dir
-names_of_paths dir [] = refl
-names_of_paths dir (f ∷ fs) = ap (cons_option (next_atom dir f.0)) (names_of_paths dir fs)
+-- the path of a file that is borrowed with its bytes
+abbrev pub path_seen : Bor Atoms × Bor (List ℕ) → Atoms
+path_seen file = file.0.now
 
 -- one file more, which adds a name
-pub name_added : (dir : Atoms) (names : List (Bor (List ℕ))) (files : List (Bor Atoms)) (name : Bor (List ℕ)) (file : Bor Atoms)
-    → next_atom dir file.now ≡ Some name.now
-    → texts_now names ≡ filter_map (next_atom dir) (map (λ (file : Bor Atoms). file.now) files)
-    → texts_now (names ++ name ∷ []) ≡ filter_map (next_atom dir) (map (λ (file : Bor Atoms). file.now) (files ++ file ∷ []))
-name_added dir names files name file is so_far =
+pub name_added : {X : Type 0} (path : X → Atoms) (dir : Atoms) (names : List (Bor (List ℕ))) (files : List X) (name : Bor (List ℕ)) (file : X)
+    → next_atom dir (path file) ≡ Some name.now → texts_now names ≡ filter_map (next_atom dir) (map path files)
+    → texts_now (names ++ name ∷ []) ≡ filter_map (next_atom dir) (map path (files ++ file ∷ []))
+name_added path dir names files name file is so_far =
     map_push (λ (text : Bor (List ℕ)). text.now) names name
     ∙ ap (λ ns. ns ++ name.now ∷ []) so_far
-    ∙ ap (λ o. filter_map (next_atom dir) (map (λ (f : Bor Atoms). f.now) files) ++ cons_option o []) (sym is)
-    ∙ sym (filter_map-append (next_atom dir) (map (λ (f : Bor Atoms). f.now) files) (file.now ∷ []))
-    ∙ ap (filter_map (next_atom dir)) (sym (map_push (λ (f : Bor Atoms). f.now) files file))
+    ∙ ap (λ o. filter_map (next_atom dir) (map path files) ++ cons_option o []) (sym is)
+    ∙ sym (filter_map-append (next_atom dir) (map path files) (path file ∷ []))
+    ∙ ap (filter_map (next_atom dir)) (sym (map_push path files file))
 
 -- one file more, which adds none
-pub name_skipped : (dir : Atoms) (names : List (Bor (List ℕ))) (files : List (Bor Atoms)) (file : Bor Atoms)
-    → next_atom dir file.now ≡ None
-    → texts_now names ≡ filter_map (next_atom dir) (map (λ (file : Bor Atoms). file.now) files)
-    → texts_now names ≡ filter_map (next_atom dir) (map (λ (file : Bor Atoms). file.now) (files ++ file ∷ []))
-name_skipped dir names files file is so_far =
+pub name_skipped : {X : Type 0} (path : X → Atoms) (dir : Atoms) (names : List (Bor (List ℕ))) (files : List X) (file : X)
+    → next_atom dir (path file) ≡ None → texts_now names ≡ filter_map (next_atom dir) (map path files)
+    → texts_now names ≡ filter_map (next_atom dir) (map path (files ++ file ∷ []))
+name_skipped path dir names files file is so_far =
     so_far
-    ∙ sym (append-nil (filter_map (next_atom dir) (map (λ (f : Bor Atoms). f.now) files)))
-    ∙ ap (λ o. filter_map (next_atom dir) (map (λ (f : Bor Atoms). f.now) files) ++ cons_option o []) (sym is)
-    ∙ sym (filter_map-append (next_atom dir) (map (λ (f : Bor Atoms). f.now) files) (file.now ∷ []))
-    ∙ ap (filter_map (next_atom dir)) (sym (map_push (λ (f : Bor Atoms). f.now) files file))
+    ∙ sym (append-nil (filter_map (next_atom dir) (map path files)))
+    ∙ ap (λ o. filter_map (next_atom dir) (map path files) ++ cons_option o []) (sym is)
+    ∙ sym (filter_map-append (next_atom dir) (map path files) (path file ∷ []))
+    ∙ ap (filter_map (next_atom dir)) (sym (map_push path files file))
 
 -- where nothing was written below a directory, nothing is added to its listing
 pub no_names : (files : Files) (dir : Atoms) → has_below files dir ≡ false → own_names files dir ≡ []

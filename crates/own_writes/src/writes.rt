@@ -11,7 +11,7 @@ ghost use Rattle.own_writes.specs.Below.{is_below as lies_below};
 ghost use Rattle.own_writes.specs.Writes.{clashes as some_clash, has_below as some_below, own_names};
 ghost use Rattle.own_writes.specs.Writes.{own_answer, with_file as and_file};
 
-use crate::below::next_atom;
+use crate::below::{bounds_below, next_atom};
 use crate::directories::{add_directories, directories};
 use bx_digest::Blob;
 use bx_tree::Path;
@@ -97,7 +97,7 @@ fn names_below<'a>(
     ensures { IfOk result (λ names. texts_now names.items ≡ own_names files.entry.now.entries dir.now) }
 {
     let mut names = Vec::new(alloc);
-    'files: for file in files.keys() {
+    'files: for (file, _) in files.range(bounds_below(alloc, dir)?) {
         if let Some(name) = next_atom(dir, file) {
             names.push(name)?;
         }

@@ -12,6 +12,3 @@ mod record;
 
 pub use outcome::{Cause, Outcome};
 pub use record::{Record, execute, replay};
-
-#[cfg(test)]
-mod tests;

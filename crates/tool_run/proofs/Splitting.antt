@@ -1,6 +1,6 @@
 -- Looking for bytes in a text, one place after the other.
-use Rattle.std.proofs.Common.{◌≡◌, ℕ, ◌+◌, ◌-◌, length-drop, ◌<◌, zero, suc, List, [], ◌∷◌, ◌++◌, length, take, drop, get_or, None, refl, ap, sym, ◌∙◌, arith, add-one, append_assoc}
-use Rattle.std.proofs.lemmas.List.{take_all, take_more}
+use Rattle.std.proofs.Common.{◌≡◌, ℕ, ◌+◌, ◌-◌, length-drop, ◌<◌, ◌≤◌, ◌==◌, zero, suc, Bool, true, false, cond, List, [], ◌∷◌, ◌++◌, length, take, drop, get_or, Option, Some, None, refl, ap, sym, ◌∙◌, arith, add-one, append_assoc, length-append}
+use Rattle.std.proofs.lemmas.List.{drop_at, take_all, take_more}
 use Rattle.observed.specs.Texts.{after_prefix}
 use Rattle.tool_run.specs.Values.{cut_here, split_parts}
 
@@ -38,3 +38,60 @@ onward y xs i first second l none before after =
 
 pub take_rest : (xs : List ℕ) (i : ℕ) → take (length xs - i) (drop i xs) ≡ drop i xs
 take_rest xs i = take_all (length xs - i) (drop i xs) (omega (arith, length-drop i xs))
+
+-- ## What follows the first place
+
+-- the one list ends with the other
+pub record EndsWith (xs rest : List ℕ) : Type 0 where
+  pub before : List ℕ
+  pub whole : xs ≡ before ++ rest
+
+one_before : (xs rest : List ℕ) (b : ℕ) → EndsWith xs rest → EndsWith (b ∷ xs) rest
+one_before xs rest b h = record { before = b ∷ h.before; whole = ap (λ t. b ∷ t) h.whole }
+
+prefix_ends : (y xs after : List ℕ) → after_prefix y xs ≡ Some after → EndsWith xs after
+prefix_ends [] xs after e = record { before = []; whole = cc }
+prefix_ends (p ∷ ps) [] after e = cc
+prefix_ends (p ∷ ps) (b ∷ bs) after e = by_test (p == b) e (prefix_ends ps bs after)
+  where
+    by_test : (t : Bool) → cond t (after_prefix ps bs) None ≡ Some after → (after_prefix ps bs ≡ Some after → EndsWith bs after)
+        → EndsWith (b ∷ bs) after
+    by_test true h more = one_before bs after b (more h)
+    by_test false h more = cc
+
+pub ends_with : (y xs : List ℕ) → EndsWith xs (split_parts y xs).1
+ends_with y [] = record { before = []; whole = refl }
+ends_with y (b ∷ bs) = by_place (after_prefix y (b ∷ bs)) refl (ends_with y bs)
+  where
+    by_place : (o : Option (List ℕ)) → after_prefix y (b ∷ bs) ≡ o → EndsWith bs (split_parts y bs).1
+        → EndsWith (b ∷ bs) (cut_here b o (split_parts y bs)).1
+    by_place (Some after) e later = prefix_ends y (b ∷ bs) after e
+    by_place None e later = one_before bs (split_parts y bs).1 b later
+
+pub record Rest (xs rest : List ℕ) : Type 0 where
+  pub short : length rest ≤ length xs
+  pub dropped : drop (length xs - length rest) xs ≡ rest
+
+rest_of : (xs rest : List ℕ) → EndsWith xs rest → Rest xs rest
+rest_of xs rest h =
+    let sizes : length xs ≡ length h.before + length rest = ap length h.whole ∙ length-append h.before rest in
+    record {
+      short = omega (arith, sizes);
+      dropped = ap (drop (length xs - length rest)) h.whole ∙ drop_at h.before rest (length xs - length rest) (omega (arith, sizes));
+    }
+
+pub rest_is : (y xs : List ℕ) → Rest xs (split_parts y xs).1
+rest_is y xs = rest_of xs (split_parts y xs).1 (ends_with y xs)
+
+pub after_short : (y xs after : List ℕ) → after ≡ (split_parts y xs).1 → length after ≤ length xs
+after_short y xs after is = omega (arith, ap length is, (rest_is y xs).short)
+
+pub both_parts : (y xs bytes before after first second : List ℕ) → bytes ≡ xs → before ≡ (split_parts y bytes).0
+    → after ≡ (split_parts y bytes).1 → first ≡ before → second ≡ drop (length bytes - length after) xs → (first, second) ≡ split_parts y xs
+both_parts y xs bytes before after first second same is-before is-after is-first is-second =
+    ap (λ (t : List ℕ). (t, second)) (is-first ∙ is-before ∙ ap (λ (t : List ℕ). (split_parts y t).0) same)
+    ∙ ap (λ (t : List ℕ). ((split_parts y xs).0, t))
+    (is-second
+    ∙ ap (λ (t : List ℕ). drop (length t - length after) xs) same
+    ∙ ap (λ (t : List ℕ). drop (length xs - length t) xs) (is-after ∙ ap (λ (t : List ℕ). (split_parts y t).1) same)
+    ∙ (rest_is y xs).dropped)

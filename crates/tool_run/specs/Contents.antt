@@ -1,9 +1,10 @@
 -- The content of a register.
-use Rattle.std.specs.Prelude.{ℕ, List}
+use Rattle.std.specs.Prelude.{ℕ, List, drop}
 use Rattle.tool_run.specs.declared.content.Kept.{Kept}
-use Rattle.tool_run.specs.declared.content.Kept.TheVariants.{Owned, Shared}
+use Rattle.tool_run.specs.declared.content.Kept.TheVariants.{Owned, Shared, File}
 
 -- its bytes, whoever owns them
 abbrev pub kept_bytes : Kept → List ℕ
 kept_bytes (Owned bytes) = bytes.items
-kept_bytes (Shared blob) = blob
+kept_bytes (Shared text start) = drop start text
+kept_bytes (File blob start) = drop start blob

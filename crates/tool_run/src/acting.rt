@@ -7,8 +7,8 @@ ghost use Rattle.tool_run.specs.States.{machine_of};
 use crate::content::Content;
 use crate::deed::Deed;
 use crate::limits::MAX_REGISTER;
-use crate::state::{State, deed_of_end};
-use crate::values::{head, split, tail};
+use crate::state::{State, content_of, deed_of_end};
+use crate::values::head;
 use observed::End;
 use std::alloc::{AllocError, Global};
 use std::mem;
@@ -65,7 +65,7 @@ impl State {
             (machine_of self.new, deed)
             ≡ deed_of (fitting (machine_of self.old) register (value_in (machine_of self.old) x.now))) }
     {
-        let content = self.content(alloc, x)?;
+        let content = content_of(alloc, &mut self.registers, x)?;
         Ok(deed_of_end(self.fit(register, content)))
     }
 
@@ -104,8 +104,8 @@ impl State {
         if length > MAX_REGISTER {
             return Ok(Deed::Stops(End::TooLong));
         }
-        let content = mem::replace(&mut self.registers[number], Content::empty(alloc));
-        let content = content.append(alloc, self.value(y))?;
+        let mut content = mem::replace(&mut self.registers[number], Content::empty(alloc));
+        content.add(alloc, self.value(y))?;
         self.registers[number] = content;
         self.place += 1;
         Ok(Deed::Goes)
@@ -128,9 +128,8 @@ impl State {
         if is_register(x, register) && !is_register(y, register) {
             return self.append(alloc, register, y);
         }
-        let mut bytes = Vec::from_slice(alloc, self.value(x))?;
-        bytes.extend_from_slice(self.value(y))?;
-        Ok(deed_of_end(self.fit(register, Content::of(bytes))))
+        let content = Content::of_both(alloc, self.value(x), self.value(y))?;
+        Ok(deed_of_end(self.fit(register, content)))
     }
 
     // A register becomes the first bytes of a value, or all.
@@ -165,8 +164,9 @@ impl State {
             ≡ deed_of (fitting (machine_of self.old) register
             (drop count (value_in (machine_of self.old) x.now)))) }
     {
-        let content = Content::of(Vec::from_slice(alloc, tail(self.value(x), count))?);
-        Ok(deed_of_end(self.fit(register, content)))
+        let content = content_of(alloc, &mut self.registers, x)?;
+        let rest = content.without(alloc, count)?;
+        Ok(deed_of_end(self.fit(register, rest)))
     }
 
     // Two registers become what precedes a value in another, and what follows it there.
@@ -184,9 +184,8 @@ impl State {
             (split_parts (value_in (machine_of self.old) y.now) (value_in (machine_of self.old) x.now)).0
             (split_parts (value_in (machine_of self.old) y.now) (value_in (machine_of self.old) x.now)).1)) }
     {
-        let (before, after) = split(self.value(x), self.value(y));
-        let before = Content::of(Vec::from_slice(alloc, before)?);
-        let after = Content::of(Vec::from_slice(alloc, after)?);
+        let whole = content_of(alloc, &mut self.registers, x)?;
+        let (before, after) = whole.cut(alloc, self.value(y))?;
         Ok(deed_of_end(self.fit_two(registers.0, registers.1, before, after)))
     }
 }

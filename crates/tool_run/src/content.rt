@@ -1,15 +1,20 @@
 //! The content of a register.
-ghost use Rattle.std.specs.Prelude.{◌≡◌, ◌++◌, [], IfOk, OnOk, length};
+ghost use Rattle.std.specs.Prelude.{◌≡◌, ◌++◌, [], IfOk, OnOk, drop};
+ghost use Rattle.tool_run.specs.Values.{split_parts};
 
+use crate::values::{split, tail};
 use bx_digest::Blob;
+use bx_tree::Text;
 use std::alloc::{AllocError, Global};
 use std::marker::Model;
+use std::mem;
 
-// Bytes that a register owns, or those of a file, which it shares.
+// Bytes that a register owns, or those of a text or of a file, from a place on, which it shares.
 #[derive(Drop)]
 enum Kept {
     Owned(Vec<u8>),
-    Shared(Blob),
+    Shared(Text, usize),
+    File(Blob, usize),
 }
 
 /// The bytes in a register. Contracts see them as their list.
@@ -28,6 +33,26 @@ impl Model for Content {
     ghost view = { λ c. kept_bytes c.kept };
 }
 
+// One text after another.
+fn both(alloc: Global, first: &[u8], second: &[u8]) -> Result<Vec<u8>, AllocError>
+    ensures { IfOk result (λ bytes. bytes.items ≡ first.now ++ second.now) }
+{
+    let mut bytes = Vec::from_slice(alloc, first)?;
+    bytes.extend_from_slice(second)?;
+    Ok(bytes)
+}
+
+// The place a number of bytes after another, or the end.
+fn later(bytes: &[u8], start: usize, count: usize) -> usize
+    ensures { drop result bytes.now ≡ drop count (drop start bytes.now) }
+{
+    if count < tail(bytes, start).len() {
+        start + count
+    } else {
+        bytes.len()
+    }
+}
+
 impl Content {
     pub(crate) fn empty(alloc: Global) -> Content
         ensures { result ≡ [] }
@@ -43,12 +68,27 @@ impl Content {
         }
     }
 
-    pub(crate) fn shared(blob: Blob) -> Content
+    pub(crate) fn of_text(text: Text) -> Content
+        ensures { result ≡ text }
+    {
+        Content {
+            kept: Kept::Shared(text, 0),
+        }
+    }
+
+    pub(crate) fn of_file(blob: Blob) -> Content
         ensures { result ≡ blob }
     {
         Content {
-            kept: Kept::Shared(blob),
+            kept: Kept::File(blob, 0),
         }
+    }
+
+    // One text after another.
+    pub(crate) fn of_both(alloc: Global, first: &[u8], second: &[u8]) -> Result<Content, AllocError>
+        ensures { IfOk result (λ content. content ≡ first.now ++ second.now) }
+    {
+        Ok(Content::of(both(alloc, first, second)?))
     }
 
     pub(crate) fn bytes(&self) -> &[u8]
@@ -56,55 +96,91 @@ impl Content {
     {
         match &self.kept {
             Kept::Owned(bytes) => bytes.as_slice(),
-            Kept::Shared(blob) => blob.bytes(),
+            Kept::Shared(text, start) => tail(text.bytes(), *start),
+            Kept::File(blob, start) => tail(blob.bytes(), *start),
         }
     }
 
-    // Its bytes once more, shared if they are those of a file and else copied.
-    pub(crate) fn duplicate(&self, alloc: Global) -> Result<Content, AllocError>
+    // Lets others share the bytes.
+    fn settle(&mut self, alloc: Global) -> Result<(), AllocError>
+        ensures { OnOk result (self.new ≡ self.old) }
+    {
+        if let Kept::Owned(bytes) = &mut self.kept {
+            let bytes = mem::replace(bytes, Vec::new(alloc));
+            self.kept = Kept::Shared(Text::new(alloc, bytes)?, 0);
+        }
+        Ok(())
+    }
+
+    // The bytes once more, copied where they are owned.
+    fn duplicate(&self, alloc: Global) -> Result<Content, AllocError>
         ensures { IfOk result (λ content. content ≡ self.now) }
     {
-        match &self.kept {
-            Kept::Owned(bytes) => Ok(Content::of(Vec::from_slice(alloc, bytes.as_slice())?)),
-            Kept::Shared(blob) => Ok(Content::shared(blob.share()?)),
-        }
+        let kept = match &self.kept {
+            Kept::Owned(bytes) => Kept::Owned(Vec::from_slice(alloc, bytes.as_slice())?),
+            Kept::Shared(text, start) => Kept::Shared(text.share()?, *start),
+            Kept::File(blob, start) => Kept::File(blob.share()?, *start),
+        };
+        Ok(Content { kept })
     }
 
-    // The bytes as those of a file, hashed only if they are not shared with one.
+    // The bytes once more, shared.
+    pub(crate) fn share(&mut self, alloc: Global) -> Result<Content, AllocError>
+        ensures content { IfOk result (λ content. content ≡ self.old) }
+        ensures same { OnOk result (self.new ≡ self.old) }
+    {
+        self.settle(alloc)?;
+        self.duplicate(alloc)
+    }
+
+    // The bytes without their first ones, shared.
+    pub(crate) fn without(self, alloc: Global, count: usize) -> Result<Content, AllocError>
+        ensures { IfOk result (λ content. content ≡ drop count self) }
+    {
+        let kept = match self.kept {
+            Kept::Owned(bytes) => Kept::Shared(Text::new(alloc, bytes)?, count),
+            Kept::Shared(text, start) => {
+                let start = later(text.bytes(), start, count);
+                Kept::Shared(text, start)
+            }
+            Kept::File(blob, start) => {
+                let start = later(blob.bytes(), start, count);
+                Kept::File(blob, start)
+            }
+        };
+        Ok(Content { kept })
+    }
+
+    // What precedes the first place of some bytes, copied, and what follows them there, shared.
+    pub(crate) fn cut(self, alloc: Global, by: &[u8]) -> Result<(Content, Content), AllocError>
+        ensures { IfOk result (λ parts. parts ≡ split_parts by.now self) }
+    {
+        let bytes = self.bytes();
+        let (before, after) = split(bytes, by);
+        let start = bytes.len() - after.len();
+        let before = Content::of(Vec::from_slice(alloc, before)?);
+        Ok((before, self.without(alloc, start)?))
+    }
+
+    // The bytes as those of a file, hashed only if they are not all those of one.
     pub(crate) fn blob(&self, alloc: Global) -> Result<Blob, AllocError>
         ensures { IfOk result (λ blob. blob ≡ self.now) }
     {
-        match &self.kept {
-            Kept::Owned(bytes) => Blob::new(alloc, Vec::from_slice(alloc, bytes.as_slice())?),
-            Kept::Shared(blob) => blob.share(),
+        if let Kept::File(blob, 0) = &self.kept {
+            return blob.share();
         }
+        Blob::new(alloc, Vec::from_slice(alloc, self.bytes())?)
     }
 
     // Adds bytes at the end, in place where the bytes are owned.
     pub(crate) fn add(&mut self, alloc: Global, more: &[u8]) -> Result<(), AllocError>
         ensures { OnOk result (self.new ≡ self.old ++ more.now) }
     {
-        match &mut self.kept {
-            Kept::Owned(bytes) => bytes.extend_from_slice(more)?,
-            Kept::Shared(blob) => {
-                let mut bytes = Vec::from_slice(alloc, blob.bytes())?;
-                bytes.extend_from_slice(more)?;
-                self.kept = Kept::Owned(bytes);
-            }
+        if let Kept::Owned(bytes) = &mut self.kept {
+            bytes.extend_from_slice(more)?;
+            return Ok(());
         }
+        self.kept = Kept::Owned(both(alloc, self.bytes(), more)?);
         Ok(())
-    }
-
-    // The bytes with more of them at the end.
-    pub(crate) fn append(self, alloc: Global, more: &[u8]) -> Result<Content, AllocError>
-        ensures { IfOk result (λ content. content ≡ self ++ more.now) }
-    {
-        let Content { kept } = self;
-        let mut bytes = match kept {
-            Kept::Owned(bytes) => bytes,
-            Kept::Shared(blob) => Vec::from_slice(alloc, blob.bytes())?,
-        };
-        bytes.extend_from_slice(more)?;
-        Ok(Content::of(bytes))
     }
 }

@@ -27,7 +27,7 @@ fn argument(arguments: &[Text], number: usize) -> Option<&[u8]>
 }
 
 impl State {
-    ghost use Rattle.tool_run.specs.Machine.{at_place, deed_of, fitting, next, said};
+    ghost use Rattle.tool_run.specs.Machine.{at_place, deed_of, fitting, next};
     ghost use Rattle.tool_run.specs.Instructions.{or_jump as jumps_or_sets, value as value_in, with_number};
     ghost use Rattle.tool_run.specs.Values.{number_of as number_in, variable as variable_in};
 
@@ -175,14 +175,5 @@ impl State {
     {
         let length = self.value(x).len();
         self.set_number(alloc, register, length)
-    }
-
-    pub(crate) fn say_value(&mut self, alloc: Global, x: &Operand) -> Result<Deed, AllocError>
-        requires { self.old.place < 2 ^ 63 }
-        ensures { IfOk result (λ deed.
-            (machine_of self.new, deed) ≡ said (machine_of self.old) (value_in (machine_of self.old) x.now)) }
-    {
-        let bytes = Vec::from_slice(alloc, self.value(x))?;
-        self.say(bytes.as_slice())
     }
 }

@@ -1,6 +1,8 @@
 //! What each instruction does, up to an ask.
-ghost use Rattle.std.specs.Prelude.{◌≡◌, ◌<◌, ◌^◌, IfOk};
+ghost use Rattle.std.specs.Prelude.{◌≡◌, ◌<◌, ◌^◌, IfOk, IsTrue, false};
+ghost use Rattle.tool_run.specs.declared.deed.Deed.TheVariants as deeds;
 ghost use Rattle.tool_run.specs.Described.{described};
+ghost use Rattle.tool_run.specs.Description.{Description};
 ghost use Rattle.tool_run.specs.States.{machine_of};
 
 use crate::deed::Deed;
@@ -12,6 +14,26 @@ use tool_text::Instr;
 
 impl State {
     ghost use Rattle.tool_run.specs.Instructions.{act as act_of};
+
+    // Takes an instruction if it does nothing but lead to a place.
+    pub(crate) fn go(&mut self, instr: &Instr) -> bool
+        requires { self.old.place < 2 ^ 63 }
+        ensures goes { IsTrue result → (d : Description)
+            → (machine_of self.new, deeds.Goes) ≡ act_of d (machine_of self.old) instr.now }
+        ensures stays { result ≡ false → machine_of self.new ≡ machine_of self.old }
+    {
+        match instr {
+            Instr::Eq(x, y, label) => {
+                self.jump_if_equal(x, y, *label);
+                true
+            }
+            Instr::Jump(label) => {
+                self.jump(*label);
+                true
+            }
+            _ => false,
+        }
+    }
 
     // Takes an instruction, up to an ask.
     pub(crate) fn act(
@@ -41,7 +63,7 @@ impl State {
             Instr::Eq(x, y, label) => Ok(self.jump_if_equal(x, y, *label)),
             Instr::Jump(label) => Ok(self.jump(*label)),
             Instr::Exit(code) => Ok(Deed::Stops(End::Exit(*code))),
-            Instr::Say(x) => self.say_value(alloc, x),
+            Instr::Say(x) => self.say(x),
             Instr::Read(_, x, _) => self.look(alloc, desc, instr, AskKind::Read, x),
             Instr::Probe(_, x) => self.look(alloc, desc, instr, AskKind::Probe, x),
             Instr::List(_, x) => self.look(alloc, desc, instr, AskKind::List, x),

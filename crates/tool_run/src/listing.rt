@@ -55,7 +55,7 @@ pub(crate) fn with_own_names(
 {
     let own = writes.own_names(alloc, dir)?;
     if own.is_empty() {
-        return Ok(Content::shared(seen.share()?));
+        return Ok(Content::of_file(seen.share()?));
     }
     let seen = names_of_lines(alloc, seen.bytes())?;
     let mut names = BTreeSet::new(alloc);

@@ -39,7 +39,7 @@ impl State {
             (machine_of self.new, end) ≡ read_with (machine_of self.old) register label answer.now) }
     {
         match answer {
-            Answer::Content(blob) => Ok(self.fit(register, Content::shared(blob.share()?))),
+            Answer::Content(blob) => Ok(self.fit(register, Content::of_file(blob.share()?))),
             Answer::Denied => Ok(Some(End::Denied)),
             Answer::Absent | Answer::File | Answer::Directory | Answer::Names(_) => {
                 self.place = label;

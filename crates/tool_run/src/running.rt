@@ -86,6 +86,9 @@ fn take_turn<V: View>(
         (machine_of state.new) accesses.old.items accesses.new.items end) }
     ensures same { V.answers view.new ≡ V.answers view.old }
 {
+    if state.go(instr) {
+        return Ok(None);
+    }
     match state.act(alloc, desc, instr)? {
         Deed::Goes => Ok(None),
         Deed::Asks(ask) => {

@@ -1,6 +1,7 @@
 //! The machine that runs a tool.
-ghost use Rattle.std.specs.Prelude.{◌≡◌, ◌≢◌, ◌<◌, ◌≤◌, ◌++◌, ◌^◌, IfOk, length, vec_len, replicate, []};
+ghost use Rattle.std.specs.Prelude.{◌≡◌, ◌<◌, ◌≤◌, ◌++◌, ◌^◌, IfOk, OnOk, codes, length, vec_len, replicate, []};
 ghost use Rattle.tool_run.specs.Deeds.{deed_for};
+ghost use Rattle.tool_run.specs.Values.{value_of};
 ghost use Rattle.tool_text.specs.declared.limits.TheConstants.{REGISTERS};
 ghost use Rattle.tool_run.specs.declared.limits.TheConstants.{MAX_OUTPUT};
 
@@ -49,6 +50,42 @@ fn empty_registers(alloc: Global) -> Result<Vec<Content>, AllocError>
     Ok(registers)
 }
 
+// The bytes that an operand stands for.
+fn value_of_operand<'a>(registers: &'a [Content], operand: &'a Operand) -> &'a [u8]
+    requires { REGISTERS ≤ length registers.now }
+    ensures { result.now ≡ value_of registers.entry.now operand.entry.now }
+{
+    match operand {
+        Operand::Register(register) => registers[register.number()].bytes(),
+        Operand::Constant(text) => text.bytes(),
+    }
+}
+
+// Adds a line to a text.
+fn add_line(text: &mut Vec<u8>, line: &[u8]) -> Result<(), AllocError>
+    ensures { OnOk result (text.new.items ≡ text.old.items ++ line.now ++ codes "\n") }
+{
+    text.extend_from_slice(line)?;
+    text.push(b'\n')?;
+    Ok(())
+}
+
+// The bytes that an operand stands for, as the content of a register, which shares them.
+pub(crate) fn content_of(
+    alloc: Global,
+    registers: &mut [Content],
+    operand: &Operand,
+) -> Result<Content, AllocError>
+    requires { REGISTERS ≤ length registers.old }
+    ensures content { IfOk result (λ content. content ≡ value_of registers.old operand.now) }
+    ensures same { OnOk result (registers.new ≡ registers.old) }
+{
+    match operand {
+        Operand::Register(register) => registers[register.number()].share(alloc),
+        Operand::Constant(text) => Ok(Content::of_text(text.share()?)),
+    }
+}
+
 impl State {
     ghost use Rattle.tool_run.specs.Machine.{deed_of, fitting, fitting_two, said, start, written};
     ghost use Rattle.tool_run.specs.States.{machine_of};
@@ -70,20 +107,7 @@ impl State {
     pub(crate) fn value<'a>(&'a self, operand: &'a Operand) -> &'a [u8]
         ensures { result.now ≡ value_in (machine_of self.entry.now) operand.entry.now }
     {
-        match operand {
-            Operand::Register(register) => self.registers[register.number()].bytes(),
-            Operand::Constant(text) => text.bytes(),
-        }
-    }
-
-    // What an operand stands for, as the content of a register.
-    pub(crate) fn content(&self, alloc: Global, operand: &Operand) -> Result<Content, AllocError>
-        ensures { IfOk result (λ content. content ≡ value_in (machine_of self.now) operand.now) }
-    {
-        match operand {
-            Operand::Register(register) => self.registers[register.number()].duplicate(alloc),
-            Operand::Constant(text) => Ok(Content::of(Vec::from_slice(alloc, text.bytes())?)),
-        }
+        value_of_operand(&self.registers, operand)
     }
 
     // What an operand stands for, as the bytes of a file.
@@ -145,18 +169,20 @@ impl State {
         Ok(deed_of_end(self.fit(register, content)))
     }
 
-    // Bytes and a newline are said, if they fit.
-    pub(crate) fn say(&mut self, bytes: &[u8]) -> Result<Deed, AllocError>
+    // A value and a newline are said, if they fit.
+    pub(crate) fn say(&mut self, x: &Operand) -> Result<Deed, AllocError>
         requires { self.old.place < 2 ^ 63 }
         ensures { IfOk result (λ deed.
-            (machine_of self.new, deed) ≡ said (machine_of self.old) bytes.now) }
+            (machine_of self.new, deed)
+            ≡ said (machine_of self.old) (value_in (machine_of self.old) x.now)) }
     {
-        if bytes.len() >= MAX_OUTPUT - self.spent {
+        let bytes = value_of_operand(&self.registers, x);
+        let length = bytes.len();
+        if length >= MAX_OUTPUT - self.spent {
             return Ok(Deed::Stops(End::TooLong));
         }
-        self.console.extend_from_slice(bytes)?;
-        self.console.push(b'\n')?;
-        self.spent += bytes.len() + 1;
+        add_line(&mut self.console, bytes)?;
+        self.spent += length + 1;
         self.place += 1;
         Ok(Deed::Goes)
     }

@@ -25,6 +25,3 @@ pub use laws::one_tool;
 pub use limits::{MAX_EXIT, REGISTERS};
 pub use reading::read_tool;
 pub use tool::{Instr, Operand, Register, Tool};
-
-#[cfg(test)]
-mod tests;

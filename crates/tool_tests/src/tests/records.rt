@@ -3,10 +3,12 @@ ghost use Rattle.std.specs.Prelude.{◌≡◌, IfOk, length};
 
 use super::fixture::{Always, desc};
 use super::told::record_told;
-use crate::record::{Record, execute, replay};
-use bx_io::OpenGate;
+use bx_io::{Gate, OpenGate};
 use observed::Answer;
+use run_record::{Record, execute, replay};
 use std::alloc::Global;
+use std::sync::atomic::AtomicU32;
+use std::sync::atomic::Ordering::Relaxed;
 use std::test::Fail;
 
 // The record of a run of these lines, where the view has one answer for all asks.
@@ -14,6 +16,32 @@ fn record_of(alloc: Global, lines: &str, answer: Answer) -> Result<Record, Fail>
     let desc = desc(alloc, lines, "out/b out/a", 60)?;
     let mut view = Always { answer };
     Ok(execute(alloc, desc, 0, &mut view, &OpenGate)?)
+}
+
+// A gate that adds up the numbers of the pips for which it is passed.
+#[derive(Drop)]
+struct SumGate {
+    sum: AtomicU32,
+}
+
+impl Gate for SumGate {
+    fn pass(&self, pip: u32) {
+        self.sum.fetch_add(pip, Relaxed);
+    }
+}
+
+#[test]
+fn the_gate_is_passed_once_for_the_pip(rt: HostRuntime) -> Result<(), Fail> {
+    let gate = SumGate {
+        sum: AtomicU32::new(0),
+    };
+    let desc = desc(rt.alloc(), "exit 1", "out/a", 9)?;
+    let mut view = Always {
+        answer: Answer::Absent,
+    };
+    execute(rt.alloc(), desc, 7, &mut view, &gate)?;
+    assert_eq!(rt; gate.sum.load(Relaxed), 7);
+    Ok(())
 }
 
 // Whether the lines before `=> ` have a record that is told as what comes after it.
@@ -51,6 +79,10 @@ file w/log
 
 ----
 write "/out/b", 1
+=> paths 1
+missing out/a
+----
+say 1
 => paths 1
 missing out/a
 ----
@@ -137,21 +169,29 @@ fn told_again(alloc: Global, record: &Record, lines: &str) -> Result<Vec<u8>, Fa
     }
 }
 
-// Whether lines that are run on what others were told are told so.
-fn is_told_again(alloc: Global, first: &str, lines: &str, want: &str) -> Result<bool, Fail> {
-    let record = record_of(alloc, first, Answer::Absent)?;
+// Whether lines that are run on what others were told, by a view that has one answer, are told so.
+fn is_told_again(
+    alloc: Global,
+    answer: Answer,
+    first: &str,
+    lines: &str,
+    want: &str,
+) -> Result<bool, Fail> {
+    let record = record_of(alloc, first, answer)?;
     let got = told_again(alloc, &record, lines)?;
     Ok(got.as_slice() == want.as_bytes())
 }
 
 #[test]
 fn a_run_is_made_again_on_its_answers_alone(rt: HostRuntime) -> Result<(), Fail> {
-    let first = "probe r0, \"/s\"\nlist r1, \"/d\"\nexit 4";
+    let first = "probe r0, \"/s\"\nlist r1, \"/d\"\neq r0, \"file\", yes\nexit 4\nyes: exit 5";
     let other = "probe r0, \"/t\"\nlist r1, \"/d\"\nexit 4";
     let fewer = "probe r0, \"/s\"\nexit 4";
-    let want = "paths 1\nlist d\nprobe s\nexit 4\n";
-    assert!(rt; is_told_again(rt.alloc(), first, first, want)?);
-    assert!(rt; is_told_again(rt.alloc(), first, other, "")?);
-    assert!(rt; is_told_again(rt.alloc(), first, fewer, "")?);
+    let absent = "paths 1\nlist d\nprobe s\nexit 4\n";
+    let file = "paths 1\nlist d\nprobe s\nexit 5\n";
+    assert!(rt; is_told_again(rt.alloc(), Answer::Absent, first, first, absent)?);
+    assert!(rt; is_told_again(rt.alloc(), Answer::File, first, first, file)?);
+    assert!(rt; is_told_again(rt.alloc(), Answer::Absent, first, other, "")?);
+    assert!(rt; is_told_again(rt.alloc(), Answer::Absent, first, fewer, "")?);
     Ok(())
 }

@@ -116,6 +116,24 @@ say r1
 => Exit(0) 2
 b
 ----
+set r1, "a,b,c"
+set r3, r1
+split r2, r1, r1, ","
+tail r1, r1, 1
+cat r1, r1, r2
+cat r3, r3, "d"
+set r4, r1
+cat r1, r1, r3
+say r1
+say r2
+say r3
+say r4
+=> Exit(0) 12
+,caa,b,cd
+a
+a,b,cd
+,ca
+----
 arg r1, 1, none
 say r1
 arg r1, 2, none
@@ -244,6 +262,22 @@ file out/d/x/y
 file out/d/x/z
 2
 ----
+write "/out/a", 7
+read r1, "/out/a/x", none
+none: probe r1, "/out/a/x"
+say r1
+list r1, "/out/a/x"
+say r1
+=> Exit(0) 6
+absent
+
+wrote out/a
+read out/a/x
+probe out/a/x
+list out/a/x
+file out/a
+7
+----
 probe r1, "../x"
 probe r2, "x"
 say r2
@@ -297,6 +331,14 @@ write "/out/a", 2
 => NotADirectory 2
 wrote out/a/b
 file out/a/b
+1
+----
+write "/out/a", 1
+write "/out/a/x", 2
+=> Denied 2
+wrote out/a
+denied out/a/x
+file out/a
 1
 ----
 write "/out/a/b", 1
@@ -399,25 +441,29 @@ write "c", r0
 say r0
 "#;
 
-// Whether a run of `MOST` and these lines ends in this way.
-fn ends_with(alloc: Global, lines: &str, end: End) -> Result<bool, Fail> {
+// Whether a run of `MOST` and these lines ends in this way, after this number of steps.
+fn ends_with(alloc: Global, lines: &str, end: End, steps: u64) -> Result<bool, Fail> {
     let text = format!(in alloc; "{MOST}{lines}\nexit 1")?;
-    ends(
-        alloc,
-        &text,
-        100,
-        end,
-        if end == End::TooLong { 85 } else { 87 },
-    )
+    ends(alloc, &text, 100, end, steps)
 }
 
 #[test]
 fn limits_of_all_output(rt: HostRuntime) -> Result<(), Fail> {
-    let alloc = rt.alloc();
-    assert!(rt; ends_with(alloc, "write \"c\", r0", End::TooLong)?);
-    assert!(rt; ends_with(alloc, "say r0", End::TooLong)?);
-    assert!(rt; ends_with(alloc, "head r1, r0, 1048575\nwrite \"c\", r1", End::Exit(1))?);
-    assert!(rt; ends_with(alloc, "head r1, r0, 1048574\nsay r1", End::Exit(1))?);
+    let rows: &[(&str, End, u64)] = &[
+        ("write \"c\", r0", End::TooLong, 85),
+        ("say r0", End::TooLong, 85),
+        ("head r1, r0, 1048575\nwrite \"c\", r1", End::Exit(1), 87),
+        ("head r1, r0, 1048574\nsay r1", End::Exit(1), 87),
+        ("head r1, r0, 1048575\nsay r1", End::TooLong, 86),
+        (
+            "write \"/out/a\", 1\nwrite \"/out/a/b\", r0",
+            End::NotADirectory,
+            86,
+        ),
+    ];
+    for (lines, end, steps) in rows {
+        assert!(rt; ends_with(rt.alloc(), lines, *end, *steps)?);
+    }
     Ok(())
 }
 

@@ -1,6 +1,7 @@
-use super::*;
+//! Texts of tools, with each rule broken in turn.
 use std::alloc::Global;
 use std::test::Fail;
+use tool_text::{ToolFault, read_tool};
 
 // The number of instructions of a text's tool, if it has one.
 fn size_of(alloc: Global, text: &[u8]) -> Result<Option<usize>, Fail> {
@@ -13,7 +14,7 @@ fn size_of(alloc: Global, text: &[u8]) -> Result<Option<usize>, Fail> {
 
 #[test]
 fn texts_of_tools_are_read(rt: HostRuntime) -> Result<(), Fail> {
-    let texts: [(&[u8], usize); 12] = [
+    let texts: &[(&[u8], usize)] = &[
         (b"tool 1", 0),
         (b"tool 1\n", 0),
         (b"tool 1\n\n# note\n\nargs r0", 1),
@@ -37,14 +38,14 @@ fn texts_of_tools_are_read(rt: HostRuntime) -> Result<(), Fail> {
         (b"tool 1\na: jump b\nb: jump a", 2),
     ];
     for (text, want) in texts {
-        assert_eq!(rt; size_of(rt.alloc(), text)?, Some(want));
+        assert_eq!(rt; size_of(rt.alloc(), text)?, Some(*want));
     }
     Ok(())
 }
 
 #[test]
 fn a_text_that_breaks_a_rule_is_no_tool(rt: HostRuntime) -> Result<(), Fail> {
-    let texts: [&[u8]; 26] = [
+    let texts: &[&[u8]] = &[
         b"",
         b"\ntool 1\n",
         b"tool 3\n",
@@ -71,6 +72,11 @@ fn a_text_that_breaks_a_rule_is_no_tool(rt: HostRuntime) -> Result<(), Fail> {
         b"tool 1\nend: exit 0\nend: exit 1\n",
         b"tool 1\n end: exit 0\n",
         b"tool 1\nEnd: exit 0\n",
+        b"tool 1\n1a: exit 0\n",
+        b"tool 1\n: exit 0\n",
+        b"tool 1\nargs r0, r1\n",
+        b"tool 1\ncat r0,,r1\n",
+        b"tool 1\nexit +1\n",
     ];
     for text in texts {
         assert_eq!(rt; size_of(rt.alloc(), text)?, None);

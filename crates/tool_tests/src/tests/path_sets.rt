@@ -1,5 +1,6 @@
-use super::*;
+//! Path sets and their texts, with each rule broken in turn.
 use bx_tree::Path;
+use observed::{Ask, AskKind, PathSet, SetFault};
 use std::alloc::Global;
 use std::test::Fail;
 
@@ -36,7 +37,7 @@ fn a_path_set_is_in_order_and_has_each_ask_once(rt: HostRuntime) -> Result<(), F
 
 #[test]
 fn a_text_that_breaks_a_rule_is_no_path_set(rt: HostRuntime) -> Result<(), Fail> {
-    let texts: [&[u8]; 13] = [
+    let texts: &[&[u8]] = &[
         b"",
         b"paths 1",
         b"paths 2\n",

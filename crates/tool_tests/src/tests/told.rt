@@ -1,9 +1,8 @@
 //! What runs and records are told as.
-use crate::outcome::{Cause, Outcome};
-use crate::record::Record;
 use bx_tree::Path;
 use observed::{Access, AskKind};
 use pip_types::Made;
+use run_record::{Cause, Outcome, Record};
 use std::alloc::Global;
 use std::test::Fail;
 use tool_run::Ran;

@@ -89,18 +89,30 @@ fn no_inputs(alloc: Global) -> FileInputs {
     FileInputs::of(Vec::new(alloc))
 }
 
-fn process(alloc: Global, outs: &str) -> Result<ProcessDesc, Fail> {
-    Ok(ProcessDesc {
-        exe: path(alloc, "t.tool")?,
-        args: arguments(alloc)?,
-        env: environment(alloc)?,
-        dir: path(alloc, "w")?,
+// A process that is given nothing and makes nothing.
+fn bare(alloc: Global, exe: Path, dir: Path) -> ProcessDesc {
+    ProcessDesc {
+        exe,
+        args: Arguments::of(Vec::new(alloc)),
+        env: Variables::of(Vec::new(alloc)),
+        dir,
         files: no_inputs(alloc),
         dirs: DirInputs::of(Vec::new(alloc)),
-        outs: outputs(alloc, outs)?,
-        outdirs: output_dirs(alloc)?,
-        console: Some(path(alloc, "w/log")?),
-    })
+        outs: Outputs::of(Vec::new(alloc)),
+        outdirs: OutDirs::of(Vec::new(alloc)),
+        console: None,
+    }
+}
+
+fn process(alloc: Global, outs: &str) -> Result<ProcessDesc, Fail> {
+    let exe = path(alloc, "t.tool")?;
+    let mut process = bare(alloc, exe, path(alloc, "w")?);
+    process.args = arguments(alloc)?;
+    process.env = environment(alloc)?;
+    process.outs = outputs(alloc, outs)?;
+    process.outdirs = output_dirs(alloc)?;
+    process.console = Some(path(alloc, "w/log")?);
+    Ok(process)
 }
 
 // A process in `w` with a declared file `in/a` and what it says in `w/log`, whose tool has these lines. It
