@@ -1,0 +1,5 @@
+pub mod Steps
+pub mod Moves
+pub mod Closing
+pub mod Listed
+pub mod Declaring

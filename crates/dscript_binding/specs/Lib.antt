@@ -1,0 +1,7 @@
+pub mod Walk
+pub mod Binding
+pub mod Walked
+pub mod Turned
+pub mod Opened
+pub mod Scenes
+pub mod Declares
