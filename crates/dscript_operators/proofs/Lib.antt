@@ -1,0 +1,4 @@
+pub mod Widths
+pub mod PrefixSteps
+pub mod AtomSteps
+mod Examples

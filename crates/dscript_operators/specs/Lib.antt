@@ -1,0 +1,12 @@
+pub mod Truth
+pub mod Numbers
+pub mod Sums
+pub mod Comparisons
+pub mod Equalities
+pub mod Operators
+pub mod Indexing
+pub mod Spreads
+pub mod CallbackArguments
+pub mod Texts
+pub mod PathLiterals
+pub mod RelativeLiterals

@@ -1,0 +1,53 @@
+//! A value and an index in brackets.
+ghost use Rattle.std.specs.Prelude.{◌≡◌, Ok, map, unwrap_or, IfOk, MatchResult};
+ghost use Rattle.dscript_value.specs.Depths.{field_at};
+ghost use Rattle.dscript_value.specs.Plain as plain;
+ghost use Rattle.dscript_value.specs.Plain.{member_list, plain_fields, plain_of};
+ghost use Rattle.sdk_values.specs.Outcomes.{Refuses};
+ghost use Rattle.dscript_operators.specs.Indexing.{indexed, item_at};
+
+use crate::Memory;
+use bx_tree::Text;
+use dscript_value::{Fields, Value};
+use sdk_values::SdkFault;
+
+// The item with this number.
+fn item(items: &[Value], number: i32) -> Result<Value, SdkFault>
+    ensures { MatchResult result
+        (λ value. item_at (map plain_of items.now) number ≡ Ok (plain_of value))
+        (λ fault. Refuses fault (item_at (map plain_of items.now) number)) }
+{
+    if number < 0 {
+        return Err(SdkFault::Range);
+    }
+    match items.get(number as usize) {
+        Some(item) => Ok(item.share()?),
+        None => Err(SdkFault::Range),
+    }
+}
+
+// The field with this name, or else `undefined`.
+fn field(fields: &Fields, name: &Text) -> Result<Value, Memory>
+    ensures { IfOk result (λ value. plain_of value
+        ≡ unwrap_or (field_at (member_list (plain_fields fields.now).members) name.now) plain.Undefined) }
+{
+    match fields.find(name.bytes()) {
+        Some(value) => value.share(),
+        None => Ok(Value::Undefined),
+    }
+}
+
+/// What a value gives at an index: the item of a list at a number, or the field of an object with a name,
+/// `undefined` where it has none.
+#[tactic(auto, unfolding(crate::specs::Indexing::indexed))]
+pub fn index(value: &Value, at: &Value) -> Result<Value, SdkFault>
+    ensures { MatchResult result
+        (λ answer. indexed (plain_of value.now) (plain_of at.now) ≡ Ok (plain_of answer))
+        (λ fault. Refuses fault (indexed (plain_of value.now) (plain_of at.now))) }
+{
+    match (value, at) {
+        (Value::List(items), Value::Number(number)) => item(items.items(), *number),
+        (Value::Object(fields), Value::Text(name)) => Ok(field(fields, name)?),
+        _ => Err(SdkFault::Kind),
+    }
+}

@@ -1,0 +1,74 @@
+//! What `...` adds to a list or an object.
+ghost use Rattle.std.specs.Prelude.{◌≡◌, ◌++◌, Ok, map, IfOk, MatchResult};
+ghost use Rattle.dscript_value.specs.Plain.{plain_field, plain_of};
+ghost use Rattle.sdk_values.specs.Outcomes.{Refuses};
+ghost use Rattle.dscript_operators.specs.Spreads.{with_fields_of, with_items_of};
+
+use crate::Memory;
+use dscript_value::{Field, Value};
+use sdk_values::{MAX_LIST_ITEMS, SdkFault, read_items};
+
+// Adds values like these.
+fn add_values(values: &mut Vec<Value>, more: &[Value]) -> Result<(), Memory>
+    ensures { IfOk result (λ _. map plain_of values.new.items
+        ≡ map plain_of values.old.items ++ map plain_of more.now) }
+{
+    'values: for value in more {
+        values.push(value.share()?)?;
+    }
+    Ok(())
+}
+
+/// Adds the items of a list to some items, which together must be few enough.
+#[tactic(auto, unfolding(crate::specs::Spreads::with_items_of))]
+pub fn add_items(items: &mut Vec<Value>, list: &Value) -> Result<(), SdkFault>
+    ensures { MatchResult result
+        (λ _. with_items_of (map plain_of items.old.items) (plain_of list.now)
+        ≡ Ok (map plain_of items.new.items))
+        (λ fault. Refuses fault (with_items_of (map plain_of items.old.items) (plain_of list.now))) }
+{
+    let more = read_items(list)?;
+    if items.len() > MAX_LIST_ITEMS || more.len() > MAX_LIST_ITEMS - items.len() {
+        return Err(SdkFault::Range);
+    }
+    add_values(items, more)?;
+    Ok(())
+}
+
+// A field like this one.
+fn share_field(field: &Field) -> Result<Field, Memory>
+    ensures { IfOk result (λ copy. plain_field copy ≡ plain_field field.now) }
+{
+    let name = field.name.share()?;
+    let value = field.value.share()?;
+    Ok(Field { name, value })
+}
+
+// Adds fields like these.
+fn add_shared(fields: &mut Vec<Field>, more: &[Field]) -> Result<(), Memory>
+    ensures { IfOk result (λ _. map plain_field fields.new.items
+        ≡ map plain_field fields.old.items ++ map plain_field more.now) }
+{
+    'fields: for field in more {
+        fields.push(share_field(field)?)?;
+    }
+    Ok(())
+}
+
+/// Adds the fields of an object to some fields. `undefined` has none.
+#[tactic(auto, unfolding(crate::specs::Spreads::with_fields_of, crate::specs::Spreads::spread_fields))]
+pub fn add_fields(fields: &mut Vec<Field>, value: &Value) -> Result<(), SdkFault>
+    ensures { MatchResult result
+        (λ _. with_fields_of (map plain_field fields.old.items) (plain_of value.now)
+        ≡ Ok (map plain_field fields.new.items))
+        (λ fault. Refuses fault (with_fields_of (map plain_field fields.old.items) (plain_of value.now))) }
+{
+    match value {
+        Value::Undefined => Ok(()),
+        Value::Object(object) => {
+            add_shared(fields, object.fields())?;
+            Ok(())
+        }
+        _ => Err(SdkFault::Kind),
+    }
+}
