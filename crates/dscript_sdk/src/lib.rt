@@ -1,0 +1,19 @@
+//! The ambient calls of DScript and the members of its values.
+//!
+//! Evaluation calls them in order, and they leave the list of pips behind. This crate joins `sdk_calls`,
+//! `sdk_pips` and `sdk_execute`, which have the calls, and `sdk_members`, which has the members of texts,
+//! lists and paths; those of processes and static directories are here. It carries the promise that each
+//! call and each member answers what its definition says, or its first fault, and that a fault changes
+//! nothing.
+#![tactic(auto)]
+
+mod calling;
+mod membership;
+mod process_members;
+mod static_members;
+
+pub use calling::call;
+pub use dscript_ambient::Ambient;
+pub use membership::{has_function, is_callback, member, method};
+pub use sdk_pips::{MAX_NUMBERED_PIPS, SdkState, Site};
+pub use sdk_values::SdkFault;

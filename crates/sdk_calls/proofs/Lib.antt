@@ -1,0 +1,5 @@
+pub mod Patterns
+pub mod Below
+pub mod Together
+pub mod DirectlyIn
+pub mod Examples

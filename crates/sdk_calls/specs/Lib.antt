@@ -1,0 +1,12 @@
+pub mod Sources
+pub mod Ranges
+pub mod ArgumentTexts
+pub mod CmdArgument
+pub mod CmdOption
+pub mod CmdFlag
+pub mod ArtifactInput
+pub mod ArtifactOutput
+pub mod ArtifactNone
+pub mod ContractFail
+pub mod ContractAssert
+pub mod Globs

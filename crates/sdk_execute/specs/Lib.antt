@@ -1,0 +1,4 @@
+pub mod Sets
+pub mod ExecuteObject
+pub mod Views
+pub mod Execute

@@ -1,0 +1,11 @@
+pub mod States
+pub mod Kept
+pub mod FileSets
+pub mod Seals
+pub mod WriteAllText
+pub mod WriteAllLines
+pub mod CopyFile
+pub mod SealDirectory
+pub mod SealPartialDirectory
+pub mod SealSourceDirectory
+pub mod NewOutputDirectory
