@@ -5,6 +5,9 @@
 //! or takes are not known to a proof, so it is proved only that an adapter counts each fault that it reports.
 #![tactic(auto)]
 
+mod folder_keeper;
+#[cfg(test)]
+mod folder_tests;
 mod std_sink;
 mod std_source;
 #[cfg(test)]

@@ -1,0 +1,149 @@
+use crate::folder_keeper::FolderKeeper;
+use bx_io::{Got, KeepReader, Keeper, Listed, PutFault, is_name};
+use std::alloc::Global;
+use std::fs;
+use std::rt::Files;
+use std::test::Fail;
+
+const BLOB: &str = "b/ba7816bf8f01cfea414140de5dae2223b00361a396177a9cb410ff61f20015ad";
+
+const LIST: &str = "w/ba7816bf8f01cfea414140de5dae2223b00361a396177a9cb410ff61f20015ad";
+
+const ENTRY: &str = "e/ba7816bf8f01cfea414140de5dae2223b00361a396177a9cb410ff61f20015ad";
+
+// What is held under a text; for one that is no name, which no test gives, it answers as no test expects.
+fn got<K: Keeper>(alloc: Global, keeper: &mut K, name: &str) -> Got {
+    if is_name(name.as_bytes()) {
+        keeper.get(alloc, name)
+    } else {
+        Got::Memory
+    }
+}
+
+fn read<R: KeepReader>(alloc: Global, reader: &mut R, name: &str) -> Got {
+    if is_name(name.as_bytes()) {
+        reader.get(alloc, name)
+    } else {
+        Got::Memory
+    }
+}
+
+fn put<K: Keeper>(alloc: Global, keeper: &mut K, name: &str, bytes: &[u8]) -> Result<(), PutFault> {
+    if is_name(name.as_bytes()) {
+        keeper.put(alloc, name, bytes)
+    } else {
+        Err(PutFault::Memory)
+    }
+}
+
+fn drop_name<K: Keeper>(alloc: Global, keeper: &mut K, name: &str) -> Result<(), PutFault> {
+    if is_name(name.as_bytes()) {
+        keeper.drop_name(alloc, name)
+    } else {
+        Err(PutFault::Memory)
+    }
+}
+
+fn holds<K: Keeper>(alloc: Global, keeper: &mut K, name: &str, bytes: &[u8]) -> bool {
+    match got(alloc, keeper, name) {
+        Got::Found(found) => found.as_slice() == bytes,
+        _ => false,
+    }
+}
+
+// How many names there are, and the first.
+fn listed<K: Keeper>(alloc: Global, keeper: &mut K) -> Result<(usize, String), Fail> {
+    match keeper.names(alloc) {
+        Listed::Names(names) => match names.first() {
+            Some(first) => Ok((names.len(), String::from_str(alloc, first.as_str())?)),
+            None => Ok((0, String::new(alloc))),
+        },
+        _ => Err("no names".into()),
+    }
+}
+
+fn at(alloc: Global, folder: &str, name: &str) -> Result<String, Fail> {
+    Ok(format!(in alloc; "{folder}/{name}")?)
+}
+
+#[test]
+fn a_folder_keeps_what_was_put(rt: HostRuntime) -> Result<(), Fail> {
+    let alloc = rt.alloc();
+    let folder = "keeps-what-was-put";
+    let mut keeper = FolderKeeper::new(rt.clone()?, String::from_str(alloc, folder)?);
+    assert!(rt; matches!(got(alloc, &mut keeper, BLOB), Got::None));
+    assert_eq!(rt; listed(alloc, &mut keeper)?.0, 0);
+    assert!(rt; drop_name(alloc, &mut keeper, BLOB).is_ok());
+    for name in [LIST, BLOB, ENTRY] {
+        assert!(rt; put(alloc, &mut keeper, name, b"old").is_ok());
+    }
+    assert!(rt; put(alloc, &mut keeper, BLOB, b"abc").is_ok());
+    assert!(rt; holds(alloc, &mut keeper, BLOB, b"abc"));
+    let mut reader = keeper.reader(alloc)?;
+    assert!(rt; matches!(read(alloc, &mut reader, LIST), Got::Found(_)));
+    let (count, first) = listed(alloc, &mut keeper)?;
+    assert_eq!(rt; count, 3);
+    assert_eq!(rt; first.as_str(), BLOB);
+    assert!(rt; drop_name(alloc, &mut keeper, BLOB).is_ok());
+    assert!(rt; matches!(got(alloc, &mut keeper, BLOB), Got::None));
+    fs::remove_dir_all(&rt, folder)?;
+    Ok(())
+}
+
+#[test]
+fn what_is_no_file_of_a_name_is_ignored(rt: HostRuntime) -> Result<(), Fail> {
+    let alloc = rt.alloc();
+    let folder = "ignores-other-files";
+    let mut keeper = FolderKeeper::new(rt.clone()?, String::from_str(alloc, folder)?);
+    assert!(rt; put(alloc, &mut keeper, BLOB, b"abc").is_ok());
+    // A stop between the writing and the renaming leaves such a file.
+    let begun = format!(in alloc; "{folder}/{BLOB}.new")?;
+    fs::write(&rt, begun.as_str(), "half")?;
+    fs::write(&rt, at(alloc, folder, "b/notes")?.as_str(), "x")?;
+    fs::create_dir(&rt, at(alloc, folder, "e")?.as_str())?;
+    fs::create_dir(&rt, at(alloc, folder, ENTRY)?.as_str())?;
+    assert_eq!(rt; listed(alloc, &mut keeper)?.0, 1);
+    assert!(rt; holds(alloc, &mut keeper, BLOB, b"abc"));
+    assert!(rt; put(alloc, &mut keeper, BLOB, b"new").is_ok());
+    assert!(rt; holds(alloc, &mut keeper, BLOB, b"new"));
+    fs::remove_dir_all(&rt, folder)?;
+    Ok(())
+}
+
+#[test]
+fn faults_of_the_folder_lose_nothing(rt: HostRuntime) -> Result<(), Fail> {
+    let alloc = rt.alloc();
+    let folder = "loses-nothing";
+    let mut keeper = FolderKeeper::new(rt.clone()?, String::from_str(alloc, folder)?);
+    assert!(rt; put(alloc, &mut keeper, BLOB, b"abc").is_ok());
+    fs::create_dir(&rt, at(alloc, folder, "e")?.as_str())?;
+    fs::create_dir(&rt, at(alloc, folder, ENTRY)?.as_str())?;
+    assert!(rt; matches!(got(alloc, &mut keeper, ENTRY), Got::Failed));
+    assert!(rt; matches!(put(alloc, &mut keeper, ENTRY, b"x"), Err(PutFault::Failed)));
+    assert!(rt; matches!(drop_name(alloc, &mut keeper, ENTRY), Err(PutFault::Failed)));
+    fs::write(&rt, at(alloc, folder, "w")?.as_str(), "a file")?;
+    assert!(rt; matches!(got(alloc, &mut keeper, LIST), Got::Failed));
+    assert!(rt; matches!(put(alloc, &mut keeper, LIST, b"x"), Err(PutFault::Failed)));
+    assert!(rt; matches!(keeper.names(alloc), Listed::Failed));
+    assert!(rt; holds(alloc, &mut keeper, BLOB, b"abc"));
+    fs::remove_dir_all(&rt, folder)?;
+    Ok(())
+}
+
+#[test]
+fn a_full_disk_is_a_fault(rt: HostRuntime) -> Result<(), Fail> {
+    let alloc = rt.alloc();
+    let folder = "full-disk";
+    let mut keeper = FolderKeeper::new(rt.clone()?, String::from_str(alloc, folder)?);
+    assert!(rt; put(alloc, &mut keeper, BLOB, b"abc").is_ok());
+    // What is written to this device meets a full disk.
+    rt.symlink(
+        "/dev/full",
+        format!(in alloc; "{folder}/{BLOB}.new")?.as_str(),
+    )?;
+    assert!(rt; matches!(put(alloc, &mut keeper, BLOB, b"new"), Err(PutFault::Failed)));
+    assert!(rt; holds(alloc, &mut keeper, BLOB, b"abc"));
+    assert_eq!(rt; listed(alloc, &mut keeper)?.0, 1);
+    fs::remove_dir_all(&rt, folder)?;
+    Ok(())
+}

@@ -1,0 +1,9 @@
+use Rattle.std.proofs.Common.{◌∷◌, ◌∙◌, List, ℕ, inl, inr, refl, ap, sym, subst}
+use Rattle.bx_io.specs.Names.{IsName}
+use Rattle.content_store.proofs.NameTexts.{name_is}
+use Rattle.content_store.proofs.names.list_name.Goals as goal
+
+pub returns-clause-is_name : goal.returns-clause-is_name
+returns-clause-is_name c =
+    subst IsName (sym (c.in_ok-name.ensures.ok ∙ ap (λ (hex : List ℕ). 119 ∷ 47 ∷ hex) c.in_ok-hex.ensures))
+    (name_is 119 c.args.weak.now (inr (inl refl)) c.bytes-bytes.ensures.is_digest)

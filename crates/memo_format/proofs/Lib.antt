@@ -1,0 +1,2 @@
+pub mod SealTexts
+pub mod FormTexts

@@ -1,0 +1,7 @@
+pub mod Answers
+pub mod Seals
+pub mod Selectors
+pub mod Entries
+pub mod Found
+pub mod Well
+pub mod StoredForms

@@ -1,0 +1,41 @@
+//! Seals: the last line of a stored form, which names the digest of all bytes before it.
+ghost use Rattle.std.specs.Prelude.{◌≡◌, ◌++◌, IfOk, OnOk};
+ghost use Rattle.memo_format.specs.Seals.{Unseals, seal_line as line_of, sealed};
+
+use bx_digest::digest_of;
+use std::alloc::{AllocError, Global};
+use stored_lines::{TextFault, append_digest};
+
+/// The bytes of the line of a seal: its word, a space, 64 digits and a newline.
+pub const SEAL_BYTES: usize = 70;
+
+// The line of the seal of a body.
+fn seal_line(alloc: Global, body: &[u8]) -> Result<Vec<u8>, AllocError>
+    ensures { IfOk result (λ line. line.items ≡ line_of body.now) }
+{
+    let mut line = Vec::from_slice(alloc, b"seal ")?;
+    append_digest(alloc, &mut line, &digest_of(body), b'\n')?;
+    Ok(line)
+}
+
+// Adds the seal of a body to it.
+pub(crate) fn seal(alloc: Global, text: &mut Vec<u8>) -> Result<(), AllocError>
+    ensures { OnOk result (text.new.items ≡ sealed text.old.items) }
+{
+    let line = seal_line(alloc, text.as_slice())?;
+    text.extend_from_slice(line.as_slice())
+}
+
+// The body of a text whose seal fits.
+pub(crate) fn unseal(alloc: Global, text: &[u8]) -> Result<&[u8], TextFault>
+    ensures { Unseals result text.entry.now }
+{
+    if text.len() < SEAL_BYTES {
+        return Err(TextFault::Bad);
+    }
+    let (body, line) = text.split_at(text.len() - SEAL_BYTES);
+    if line != seal_line(alloc, body)?.as_slice() {
+        return Err(TextFault::Bad);
+    }
+    Ok(body)
+}

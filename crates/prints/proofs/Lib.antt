@@ -1,0 +1,4 @@
+pub mod StrongTexts
+pub mod InOrder
+pub mod WeakTexts
+pub mod DescTexts

@@ -1,0 +1,8 @@
+use Rattle.std.proofs.Common.{rules}
+use Rattle.std.proofs.lemmas.Fn.{always_returns_same}
+use Rattle.stored_lines.proofs.Rising.{neighbours_rise}
+use Rattle.prints.specs.ReadWeak.{outdir_before}
+use Rattle.prints.proofs.order.are_outdirs_rising.Goals as goal
+
+pub returns : goal.returns
+returns c = neighbours_rise outdir_before c.args.dirs.now c.is_sorted_by.result (c.is_sorted_by.ensures.cases outdir_before (always_returns_same _ _ _ (λ a r f k. (search rules, search rules))))

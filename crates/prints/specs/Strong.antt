@@ -1,0 +1,105 @@
+-- The strong text: what the asks of a path set are answered, contents named by digest.
+use Rattle.std.specs.Prelude.{ℕ, Bool, not, List, [], ◌∷◌, ◌++◌, map, codes, is_some, Option, Some, None, if◌then◌else◌}
+use Rattle.std.specs.List.{AllByRecursion, flat_map}
+use Rattle.std.specs.Str.{bytes_eq}
+use Rattle.hex.specs.Hex.{encode_lower}
+use Rattle.sha2.specs.Sha256.{sha256}
+use Rattle.bx_digest.specs.Digests.{IsDigest}
+use Rattle.observed.specs.declared.access.Answer.{Answer}
+use Rattle.observed.specs.declared.access.Answer.TheVariants as answers
+use Rattle.observed.specs.declared.ask.Ask.{Ask}
+use Rattle.observed.specs.Texts.{after_prefix, paths_text}
+use Rattle.stored_lines.specs.Lines.{lines_at}
+use Rattle.stored_lines.specs.Parts.{digest_at, digest_part, named_digest, part_at}
+use Rattle.stored_lines.specs.Reading.{Taken, ◌>>=◌, after_word, as_at, both_at, whole_of}
+use Rattle.prints.specs.declared.strong_parts.AnswerLine.{AnswerLine}
+use Rattle.prints.specs.declared.strong_parts.AnswerLine.TheVariants as lines
+use Rattle.prints.specs.declared.strong_parts.StrongParts.{StrongParts}
+
+-- ## What it says
+
+-- an answer, with its content named by digest
+abbrev pub line_of : Answer → AnswerLine
+line_of answers.Absent = lines.Absent
+line_of (answers.Content bytes) = lines.Content (sha256 bytes)
+line_of answers.File = lines.File
+line_of answers.Directory = lines.Directory
+line_of (answers.Names names) = lines.Names (sha256 names)
+line_of answers.Denied = lines.Denied
+
+-- answers to the asks of a path set with this digest, under a weak text with that digest
+abbrev pub strong_parts : List ℕ → List ℕ → List Answer → StrongParts
+strong_parts weak paths given = record { weak = weak; paths = paths; lines = map line_of given }
+
+-- what the asks of a path set are answered, under a weak text with this digest
+abbrev pub asked_parts : List ℕ → List Ask → (Ask → Answer) → StrongParts
+asked_parts weak paths see = strong_parts weak (sha256 (paths_text paths)) (map see paths)
+
+-- the digests in a line are digests
+abbrev pub IsAnswerLine : AnswerLine → Type 0
+IsAnswerLine lines.Absent = Unit {0}
+IsAnswerLine (lines.Content digest) = IsDigest digest
+IsAnswerLine lines.File = Unit {0}
+IsAnswerLine lines.Directory = Unit {0}
+IsAnswerLine (lines.Names digest) = IsDigest digest
+IsAnswerLine lines.Denied = Unit {0}
+
+-- What has a strong text.
+pub record IsStrong (s : StrongParts) : Type 0 where
+  pub weak : IsDigest s.weak
+  pub paths : IsDigest s.paths
+  pub lines : AllByRecursion IsAnswerLine s.lines
+
+-- ## The text
+
+abbrev pub answer_words : AnswerLine → List ℕ
+answer_words lines.Absent = codes "absent"
+answer_words (lines.Content digest) = codes "content " ++ encode_lower digest
+answer_words lines.File = codes "file"
+answer_words lines.Directory = codes "directory"
+answer_words (lines.Names digest) = codes "names " ++ encode_lower digest
+answer_words lines.Denied = codes "denied"
+
+abbrev pub answer_line : AnswerLine → List ℕ
+answer_line line = answer_words line ++ codes "\n"
+
+abbrev pub strong_text : StrongParts → List ℕ
+strong_text s =
+    codes "strong 1\n" ++ ((codes "weak " ++ digest_part 10 s.weak)
+    ++ ((codes "paths " ++ digest_part 10 s.paths) ++ flat_map answer_line s.lines))
+
+-- ## What a text is read as
+
+abbrev pub with_digest : Option (List ℕ) → Option (List ℕ) → Option AnswerLine
+with_digest (Some content) names = named_digest content >>= λ digest. Some (lines.Content digest)
+with_digest None (Some names) = named_digest names >>= λ digest. Some (lines.Names digest)
+with_digest None None = None
+
+-- the answer that is written so
+abbrev pub named_answer : List ℕ → Option AnswerLine
+named_answer text =
+    if bytes_eq text (codes "absent") then Some lines.Absent
+    else if bytes_eq text (codes "file") then Some lines.File
+    else if bytes_eq text (codes "directory") then Some lines.Directory
+    else if bytes_eq text (codes "denied") then Some lines.Denied
+    else with_digest (after_prefix (codes "content ") text) (after_prefix (codes "names ") text)
+
+abbrev pub answer_at : List ℕ → Taken AnswerLine
+answer_at text = part_at 10 text >>= λ part. named_answer part.0 >>= λ line. Some (line, part.1)
+
+-- whether something is left
+abbrev pub has_more : List ℕ → Bool
+has_more [] = Rattle.std.specs.Prelude.false
+has_more (b ∷ bs) = Rattle.std.specs.Prelude.true
+
+abbrev pub parts_of : List ℕ × (List ℕ × List AnswerLine) → StrongParts
+parts_of p = record { weak = p.0; paths = p.1.0; lines = p.1.1 }
+
+abbrev pub strong_at : List ℕ → Taken StrongParts
+strong_at =
+    as_at parts_of (after_word (codes "strong 1\n") (both_at (after_word (codes "weak ") (digest_at 10))
+    (both_at (after_word (codes "paths ") (digest_at 10)) (lines_at has_more answer_at))))
+
+-- what has this strong text, if anything has
+unfoldable pub read_strong_text : List ℕ → Option StrongParts
+read_strong_text = whole_of strong_at

@@ -1,0 +1,110 @@
+//! The strong text of what asks are answered.
+ghost use Rattle.std.specs.Prelude.{◌≡◌, ◌++◌, Err, IfOk, OnOk, Some, map};
+ghost use Rattle.sha2.specs.Sha256.{sha256};
+ghost use Rattle.stored_lines.specs.Reading.{Gives};
+ghost use Rattle.prints.specs.Answers.{Reads};
+ghost use Rattle.prints.specs.Strong.{IsStrong, asked_parts, read_strong_text, strong_parts, strong_text};
+ghost use Rattle.prints.specs.declared.strong_parts.StrongParts.{StrongParts as AnyParts};
+
+use crate::answer_lines::AnswerKind;
+use crate::fault::PrintFault;
+use crate::printed::Printed;
+use crate::strong_parts::{AnswerLine, AnswerLines, StrongParts};
+use bx_digest::{Digest, digest_of};
+use observed::{Answer, PathSet, View};
+use std::alloc::{AllocError, Global};
+use stored_lines::{Rest, TextFault, append_digest, append_lines, read_lines};
+
+/// The strong text of the answers to the asks of a path set, by the digests of the weak text and of the path
+/// set's text, with its digest.
+pub fn strong_of(
+    alloc: Global,
+    weak: &Digest,
+    paths: &Digest,
+    answers: &[Answer],
+) -> Result<Printed, AllocError>
+    ensures text { IfOk result (λ printed.
+        printed.text.items ≡ strong_text (strong_parts weak.now paths.now answers.now)) }
+    ensures digest { IfOk result (λ printed. printed.digest ≡ sha256 printed.text.items) }
+    ensures read { IfOk result (λ printed.
+        read_strong_text printed.text.items ≡ Some (strong_parts weak.now paths.now answers.now)) }
+{
+    let mut text = Vec::from_slice(alloc, b"strong 1\nweak ")?;
+    append_digest(alloc, &mut text, weak, b'\n')?;
+    text.extend_from_slice(b"paths ")?;
+    append_digest(alloc, &mut text, paths, b'\n')?;
+    append_lines::<Answer, AnswerLine, AnswerKind>(alloc, &mut text, answers)?;
+    Ok(Printed::of(text))
+}
+
+// What a view answers to the asks of a path set, in their order.
+fn answers_to<V: View>(
+    alloc: Global,
+    paths: &PathSet,
+    view: &mut V,
+) -> Result<Vec<Answer>, AllocError>
+    ensures answers { IfOk result (λ answers. answers.items ≡ map (V.answers view.old) paths.now) }
+    ensures same { V.answers view.new ≡ V.answers view.old }
+{
+    let mut answers = Vec::new(alloc);
+    let asks = paths.asks();
+    'asks: for ask in asks {
+        answers.push(view.ask(alloc, ask)?)?;
+    }
+    Ok(answers)
+}
+
+/// The strong text of what a view answers now to the asks of a path set, with its digest. The path set's text
+/// is written and hashed for its digest.
+pub fn strong<V: View>(
+    alloc: Global,
+    weak: &Digest,
+    paths: &PathSet,
+    view: &mut V,
+) -> Result<Printed, AllocError>
+    ensures text { IfOk result (λ printed. printed.text.items
+        ≡ strong_text (asked_parts weak.now paths.now (V.answers view.old))) }
+    ensures digest { IfOk result (λ printed. printed.digest ≡ sha256 printed.text.items) }
+    ensures read { IfOk result (λ printed.
+        read_strong_text printed.text.items ≡ Some (asked_parts weak.now paths.now (V.answers view.old))) }
+    ensures same { V.answers view.new ≡ V.answers view.old }
+{
+    let text = paths.text(alloc)?;
+    let digest = digest_of(text.as_slice());
+    let answers = answers_to(alloc, paths, view)?;
+    strong_of(alloc, weak, &digest, answers.as_slice())
+}
+
+// The digests and answers of a text.
+#[tactic(auto, unfolding(crate::specs::Strong::read_strong_text))]
+fn parts_in(alloc: Global, bytes: &[u8]) -> Result<StrongParts, TextFault>
+    ensures { Gives result (read_strong_text bytes.now) }
+{
+    let mut rest = Rest::of(bytes);
+    rest.word(b"strong 1\n")?;
+    rest.word(b"weak ")?;
+    let weak = rest.digest(b'\n')?;
+    rest.word(b"paths ")?;
+    let paths = rest.digest(b'\n')?;
+    let lines = read_lines::<Answer, AnswerLine, AnswerKind>(alloc, &mut rest)?;
+    rest.end()?;
+    Ok(StrongParts {
+        weak,
+        paths,
+        lines: AnswerLines::of(lines),
+    })
+}
+
+/// What has a strong text: two digests and a list of answers.
+pub fn read_strong(alloc: Global, bytes: &[u8]) -> Result<StrongParts, PrintFault>
+    ensures found { IfOk result (λ parts. IsStrong parts × (bytes.now ≡ strong_text parts)) }
+    ensures none { result ≡ Err PrintFault.BadPrint → (parts : AnyParts) →
+        IsStrong parts → bytes.now ≡ strong_text parts → ⊥ }
+    ensures read { Reads result (read_strong_text bytes.now) }
+{
+    match parts_in(alloc, bytes) {
+        Ok(parts) => Ok(parts),
+        Err(TextFault::Bad) => Err(PrintFault::BadPrint),
+        Err(TextFault::Memory) => Err(PrintFault::Memory),
+    }
+}

@@ -1,0 +1,335 @@
+//! The lines of a weak text that are there for each item of a list.
+ghost use Rattle.std.specs.Prelude.{◌≡◌, ◌++◌, codes, OnOk};
+ghost use Rattle.std.proofs.Common.{refl};
+ghost use Rattle.bx_tree.specs.Paths.{IsPath};
+ghost use Rattle.stored_lines.specs.Lines.{begins};
+ghost use Rattle.stored_lines.specs.Reading.{Gives, Takes};
+ghost use Rattle.prints.specs.Processes.{IsCountable, IsDirLine, IsFileLine, IsOutDir, IsVariable};
+ghost use Rattle.prints.specs.ReadWeak.{arg_at, env_at, form_at, in_at, indir_at, named_form, named_sharing};
+ghost use Rattle.prints.specs.ReadWeak.{out_at, outdir_at, sharing_at};
+ghost use Rattle.prints.specs.Weak.{arg_line, dir_line, dir_with, env_line, form_word, in_line, indir_line};
+ghost use Rattle.prints.specs.Weak.{line_of_file, out_line, outdir_line, sharing_word};
+ghost use Rattle.prints.specs.LineForms.{arg_form, env_form, in_form, indir_form, out_form, outdir_form};
+
+use bx_digest::Digest;
+use bx_tree::{Path, Text};
+use pip_types::{DirInput, EnvPair, MadeFile, OutDir, SealForm};
+use std::alloc::{AllocError, Global};
+use stored_lines::{Line, Rest, TextFault, append_counted, append_digest, append_path};
+
+/// A declared file, with its digest.
+#[derive(Drop)]
+pub(crate) struct FileLine {
+    pub(crate) path: Path,
+    pub(crate) digest: Digest,
+}
+
+/// An input directory: the form of its seal, or none for another process's output directory, and its path.
+#[derive(Drop)]
+pub(crate) struct DirLine {
+    pub(crate) form: Option<SealForm>,
+    pub(crate) path: Path,
+}
+
+// The kind of line that says an argument.
+pub(crate) struct ArgKind;
+
+impl Line<Text, Text> for ArgKind {
+    ghost says = { λ t. t };
+
+    ghost line = { arg_line };
+
+    ghost line_at = { arg_at };
+
+    ghost starts = { begins (codes "arg ") };
+
+    ghost Fits = { IsCountable };
+
+    ghost form = { arg_form };
+
+    ghost seen = { λ _ _. refl };
+
+    ghost none = { refl };
+
+    fn append(alloc: Global, text: &mut Vec<u8>, value: &Text) -> Result<(), AllocError> {
+        text.extend_from_slice(b"arg ")?;
+        append_counted(alloc, text, value.bytes(), b'\n')
+    }
+
+    fn is_next(rest: &Rest) -> bool {
+        rest.begins(b"arg ")
+    }
+
+    fn read(alloc: Global, rest: &mut Rest) -> Result<Text, TextFault> {
+        rest.word(b"arg ")?;
+        rest.counted(alloc, b'\n')
+    }
+}
+
+// The kind of line that says a variable.
+pub(crate) struct EnvKind;
+
+impl Line<EnvPair, EnvPair> for EnvKind {
+    ghost says = { λ v. v };
+
+    ghost line = { env_line };
+
+    ghost line_at = { env_at };
+
+    ghost starts = { begins (codes "env ") };
+
+    ghost Fits = { IsVariable };
+
+    ghost form = { env_form };
+
+    ghost seen = { λ _ _. refl };
+
+    ghost none = { refl };
+
+    fn append(alloc: Global, text: &mut Vec<u8>, value: &EnvPair) -> Result<(), AllocError> {
+        text.extend_from_slice(b"env ")?;
+        append_counted(alloc, text, value.name.bytes(), b' ')?;
+        append_counted(alloc, text, value.value.bytes(), b'\n')
+    }
+
+    fn is_next(rest: &Rest) -> bool {
+        rest.begins(b"env ")
+    }
+
+    fn read(alloc: Global, rest: &mut Rest) -> Result<EnvPair, TextFault> {
+        rest.word(b"env ")?;
+        let name = rest.counted(alloc, b' ')?;
+        let value = rest.counted(alloc, b'\n')?;
+        Ok(EnvPair { name, value })
+    }
+}
+
+// The kind of line that says a declared file.
+pub(crate) struct InKind;
+
+impl Line<MadeFile, FileLine> for InKind {
+    ghost says = { line_of_file };
+
+    ghost line = { in_line };
+
+    ghost line_at = { in_at };
+
+    ghost starts = { begins (codes "in ") };
+
+    ghost Fits = { IsFileLine };
+
+    ghost form = { in_form };
+
+    ghost seen = { λ _ _. refl };
+
+    ghost none = { refl };
+
+    fn append(alloc: Global, text: &mut Vec<u8>, value: &MadeFile) -> Result<(), AllocError> {
+        text.extend_from_slice(b"in ")?;
+        append_path(text, &value.path, b' ')?;
+        append_digest(alloc, text, &value.blob.digest(), b'\n')
+    }
+
+    fn is_next(rest: &Rest) -> bool {
+        rest.begins(b"in ")
+    }
+
+    fn read(alloc: Global, rest: &mut Rest) -> Result<FileLine, TextFault> {
+        rest.word(b"in ")?;
+        let path = rest.path(alloc, b' ')?;
+        let digest = rest.digest(b'\n')?;
+        Ok(FileLine { path, digest })
+    }
+}
+
+// The word of the form of an input directory.
+fn word_of(form: Option<SealForm>) -> &'static str
+    ensures { result.now ≡ form_word form }
+{
+    match form {
+        Some(SealForm::Full) => "full",
+        Some(SealForm::Partial) => "partial",
+        Some(SealForm::SourceTop) => "source-top",
+        Some(SealForm::SourceAll) => "source-all",
+        None => "opaque",
+    }
+}
+
+// The form that a word stands for.
+fn form_of(word: &[u8]) -> Result<Option<SealForm>, TextFault>
+    ensures { Gives result (named_form word.now) }
+{
+    if word == b"full".as_slice() {
+        return Ok(Some(SealForm::Full));
+    }
+    if word == b"partial".as_slice() {
+        return Ok(Some(SealForm::Partial));
+    }
+    if word == b"source-top".as_slice() {
+        return Ok(Some(SealForm::SourceTop));
+    }
+    if word == b"source-all".as_slice() {
+        return Ok(Some(SealForm::SourceAll));
+    }
+    if word == b"opaque".as_slice() {
+        return Ok(None);
+    }
+    Err(TextFault::Bad)
+}
+
+fn read_form(rest: &mut Rest) -> Result<Option<SealForm>, TextFault>
+    ensures { Takes result rest.new (form_at rest.old) }
+{
+    let word = rest.part(b' ')?;
+    form_of(word)
+}
+
+// Adds the line of an input directory.
+fn append_dir(text: &mut Vec<u8>, form: Option<SealForm>, path: &Path) -> Result<(), AllocError>
+    ensures text { OnOk result (text.new.items ≡ text.old.items ++ indir_line (dir_with form path.now)) }
+    ensures path { OnOk result (IsPath path.now) }
+{
+    text.extend_from_slice(b"indir ")?;
+    text.extend_from_slice(word_of(form).as_bytes())?;
+    text.push(b' ')?;
+    append_path(text, path, b'\n')
+}
+
+// The kind of line that says an input directory.
+pub(crate) struct IndirKind;
+
+impl Line<DirInput, DirLine> for IndirKind {
+    ghost says = { dir_line };
+
+    ghost line = { indir_line };
+
+    ghost line_at = { indir_at };
+
+    ghost starts = { begins (codes "indir ") };
+
+    ghost Fits = { IsDirLine };
+
+    ghost form = { indir_form };
+
+    ghost seen = { λ _ _. refl };
+
+    ghost none = { refl };
+
+    fn append(_alloc: Global, text: &mut Vec<u8>, value: &DirInput) -> Result<(), AllocError> {
+        match value {
+            DirInput::Sealed(_, form, root) => append_dir(text, Some(*form), root),
+            DirInput::Opaque(_, path) => append_dir(text, None, path),
+        }
+    }
+
+    fn is_next(rest: &Rest) -> bool {
+        rest.begins(b"indir ")
+    }
+
+    fn read(alloc: Global, rest: &mut Rest) -> Result<DirLine, TextFault> {
+        rest.word(b"indir ")?;
+        let form = read_form(rest)?;
+        let path = rest.path(alloc, b'\n')?;
+        Ok(DirLine { form, path })
+    }
+}
+
+// The kind of line that says an output file.
+pub(crate) struct OutKind;
+
+impl Line<Path, Path> for OutKind {
+    ghost says = { λ p. p };
+
+    ghost line = { out_line };
+
+    ghost line_at = { out_at };
+
+    ghost starts = { begins (codes "out ") };
+
+    ghost Fits = { IsPath };
+
+    ghost form = { out_form };
+
+    ghost seen = { λ _ _. refl };
+
+    ghost none = { refl };
+
+    fn append(_alloc: Global, text: &mut Vec<u8>, value: &Path) -> Result<(), AllocError> {
+        text.extend_from_slice(b"out ")?;
+        append_path(text, value, b'\n')
+    }
+
+    fn is_next(rest: &Rest) -> bool {
+        rest.begins(b"out ")
+    }
+
+    fn read(alloc: Global, rest: &mut Rest) -> Result<Path, TextFault> {
+        rest.word(b"out ")?;
+        rest.path(alloc, b'\n')
+    }
+}
+
+fn sharing(shared: bool) -> &'static str
+    ensures { result.now ≡ sharing_word shared }
+{
+    if shared { "shared" } else { "exclusive" }
+}
+
+// Whether a word says that a directory is shared.
+fn is_shared(word: &[u8]) -> Result<bool, TextFault>
+    ensures { Gives result (named_sharing word.now) }
+{
+    if word == b"exclusive".as_slice() {
+        return Ok(false);
+    }
+    if word == b"shared".as_slice() {
+        return Ok(true);
+    }
+    Err(TextFault::Bad)
+}
+
+fn read_sharing(rest: &mut Rest) -> Result<bool, TextFault>
+    ensures { Takes result rest.new (sharing_at rest.old) }
+{
+    let word = rest.part(b' ')?;
+    is_shared(word)
+}
+
+// The kind of line that says an output directory.
+pub(crate) struct OutdirKind;
+
+impl Line<OutDir, OutDir> for OutdirKind {
+    ghost says = { λ d. d };
+
+    ghost line = { outdir_line };
+
+    ghost line_at = { outdir_at };
+
+    ghost starts = { begins (codes "outdir ") };
+
+    ghost Fits = { IsOutDir };
+
+    ghost form = { outdir_form };
+
+    ghost seen = { λ _ _. refl };
+
+    ghost none = { refl };
+
+    fn append(_alloc: Global, text: &mut Vec<u8>, value: &OutDir) -> Result<(), AllocError> {
+        text.extend_from_slice(b"outdir ")?;
+        text.extend_from_slice(sharing(value.shared).as_bytes())?;
+        text.push(b' ')?;
+        append_path(text, &value.path, b'\n')
+    }
+
+    fn is_next(rest: &Rest) -> bool {
+        rest.begins(b"outdir ")
+    }
+
+    fn read(alloc: Global, rest: &mut Rest) -> Result<OutDir, TextFault> {
+        rest.word(b"outdir ")?;
+        let shared = read_sharing(rest)?;
+        let path = rest.path(alloc, b'\n')?;
+        Ok(OutDir { path, shared })
+    }
+}

@@ -1,0 +1,6 @@
+pub mod Combining
+pub mod Joining
+pub mod LineLists
+pub mod PartForms
+pub mod PartReading
+pub mod Rising

@@ -1,0 +1,11 @@
+use Rattle.std.proofs.Common.{length}
+use Rattle.stored_lines.specs.Lines.{lines_at}
+use Rattle.stored_lines.proofs.LineLists.{IsUnderWay}
+use Rattle.stored_lines.proofs.line.read_lines.Given as goal
+
+abbrev pub invariant-lines : goal.invariant-lines
+invariant-lines g l =
+    IsUnderWay g.L.Line.starts g.L.Line.line_at l.lines.items l.rest (lines_at g.L.Line.starts g.L.Line.line_at l.fn.rest)
+
+abbrev pub decreases-lines : goal.decreases-lines
+decreases-lines g l = length l.rest
