@@ -136,15 +136,20 @@ pub fn read_bundle(alloc: Global, bytes: &[u8]) -> Result<Tree, BundleFault>
     read_files(alloc, rest)
 }
 
-// Appends the text of one file: its header, its bytes and a newline.
-fn append_file(alloc: Global, text: &mut Vec<u8>, file: &TreeFile) -> Result<(), Memory>
-    ensures { OnOk result (text.new.items ≡ text.old.items ++ file_text (file_of file.now)) }
+/// Appends the text of one file of a bundle: its header, its bytes and a newline.
+pub fn append_file(
+    alloc: Global,
+    text: &mut Vec<u8>,
+    path: &Path,
+    bytes: &[u8],
+) -> Result<(), Memory>
+    ensures { OnOk result (text.new.items ≡ text.old.items ++ file_text (path.now, bytes.now)) }
 {
-    let length = file.bytes.len();
-    let path = file.path.text();
+    let length = bytes.len();
+    let path = path.text();
     let header = format!(in alloc; "file {length} {path}\n")?;
     text.extend_from_slice(header.as_bytes())?;
-    text.extend_from_slice(file.bytes.as_slice())?;
+    text.extend_from_slice(bytes)?;
     text.push(b'\n')?;
     Ok(())
 }
@@ -155,7 +160,7 @@ pub fn write_bundle(alloc: Global, tree: &Tree) -> Result<Vec<u8>, Memory>
 {
     let mut text = Vec::from_slice(alloc, b"bundle 1\n")?;
     for file in tree.files() {
-        append_file(alloc, &mut text, file)?;
+        append_file(alloc, &mut text, &file.path, file.bytes.as_slice())?;
     }
     text.extend_from_slice(b"end\n")?;
     Ok(text)
