@@ -1,16 +1,15 @@
 -- The directories of a path, from the one that it lies in up to the root.
-use Rattle.std.proofs.Common.{◌≡◌, ◌≢◌, ℕ, ◌+◌, ◌<◌, ◌≤◌, zero, suc, Bool, true, false, ◌||◌, ◌&&◌, cond, nat_le, List, [], ◌∷◌, ◌++◌, length, take, codes, Option, Some, None, refl, ap, sym, ◌∙◌, arith, subst, length-append}
-use Rattle.std.specs.List.{AllByRecursion, join_with_byte, list_any}
+use Rattle.std.proofs.Common.{◌≡◌, ℕ, ◌+◌, ◌<◌, ◌≤◌, zero, suc, Bool, true, false, ◌||◌, ◌&&◌, cond, List, [], ◌∷◌, ◌++◌, length, take, codes, Option, Some, None, refl, ap, sym, ◌∙◌, arith, length-append}
+use Rattle.std.specs.List.{join_with_byte, list_any}
 use Rattle.std.specs.Option.{option_and_then, option_map_or}
 use Rattle.std.specs.Str.{bytes_eq}
 use Rattle.std.proofs.lemmas.Bool.{le-leb}
 use Rattle.std.proofs.lemmas.List.{length-take}
-use Rattle.std.proofs.lemmas.Slice.Eq.{bytes_eq-Decides}
 use Rattle.bx_tree.specs.declared.limits.TheConstants.{MAX_PATH_BYTES}
-use Rattle.bx_tree.specs.Paths.{Atoms, IsAtom, IsPath, path_text, same_path}
+use Rattle.bx_tree.specs.Paths.{Atoms, IsPath, path_text, same_path}
 use Rattle.std.proofs.lemmas.Cmp.{nat_list_eq_equiv}
 use Rattle.bx_path.specs.Globbing.{strip_dir}
-use Rattle.bx_path.specs.Joining.{if_short, join_of, parent}
+use Rattle.bx_path.specs.Joining.{join_of, parent}
 use Rattle.own_writes.specs.Below.{first_atom, is_below}
 use Rattle.own_writes.proofs.DirectorySets.{any_append}
 

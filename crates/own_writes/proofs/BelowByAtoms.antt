@@ -1,16 +1,11 @@
 -- What lies strictly below a directory, tested by atoms.
-use Rattle.std.proofs.Common.{◌≡◌, ◌≢◌, true, false, Bool, ◌||◌, cond, List, [], ◌∷◌, ◌++◌, Option, Some, None, refl, ap, sym, ◌∙◌, ℕ, inl, inr}
+use Rattle.std.proofs.Common.{◌≡◌, ◌≢◌, true, false, Bool, cond, List, [], ◌∷◌, ◌++◌, Option, Some, None, refl, ap, sym, ◌∙◌, ℕ}
 use Rattle.std.specs.Bool.{Decides}
-use Rattle.std.specs.List.{list_any}
 use Rattle.std.specs.Option.{option_and_then, option_map_or}
 use Rattle.std.specs.Str.{bytes_eq}
 use Rattle.std.proofs.lemmas.Bool.Decides.{same_from_decides}
 use Rattle.std.proofs.lemmas.Slice.Eq.{bytes_eq-Decides}
-use Rattle.std.specs.Prelude.{◌↔◌, IsTrue, Contains}
-use Rattle.bx_tree.specs.Paths.{Atoms, IsBelow, same_path}
-use Rattle.bx_tree.specs.Orders.{same_path_decides}
-use Rattle.observed.specs.Members.{Has}
-use Rattle.observed.proofs.OneSet.{contains_has, has_contained}
+use Rattle.bx_tree.specs.Paths.{Atoms, IsBelow}
 use Rattle.bx_path.specs.Globbing.{strip_dir}
 use Rattle.own_writes.specs.Below.{first_atom, is_below}
 

@@ -1,5 +1,5 @@
 -- Sets of directories, and what was written below them or above them.
-use Rattle.std.proofs.Common.{◌≡◌, ℕ, ◌+◌, ◌<◌, Bool, true, false, ◌||◌, cond, List, [], ◌∷◌, ◌++◌, length, take, get_or, Option, Some, None, refl, ap, sym, ◌∙◌}
+use Rattle.std.proofs.Common.{◌≡◌, ℕ, ◌+◌, ◌<◌, Bool, true, false, ◌||◌, cond, List, [], ◌∷◌, ◌++◌, length, take, get_or, Option, Some, refl, ap, sym, ◌∙◌}
 use Rattle.std.specs.Prelude.{is_some}
 use Rattle.std.specs.BTreeMap.{insert_entry, is_at}
 use Rattle.std.specs.List.{list_any}
@@ -70,11 +70,11 @@ one_more above i dir k q old before now l is key put so_far =
 
 -- ## A file more
 
-either_twice : (a r : Bool) → (a || r) ≡ (a || (a || r))
+pub either_twice : (a r : Bool) → (a || r) ≡ (a || (a || r))
 either_twice true r = refl
 either_twice false r = refl
 
-either_swapped : (a b r : Bool) → (a || (b || r)) ≡ (b || (a || r))
+pub either_swapped : (a b r : Bool) → (a || (b || r)) ≡ (b || (a || r))
 either_swapped true true r = refl
 either_swapped true false r = refl
 either_swapped false b r = refl
@@ -99,7 +99,7 @@ found_some : {X : Type 0} (t : Bool) (x : X) (o : Option X) → is_some (cond t 
 found_some true x o = refl
 found_some false x o = refl
 
-found_any : (files : Files) (dir : Atoms) → is_some (lookup (is_at (path_cmp dir)) files) ≡ list_any (λ f. same_path dir f.0) files
+pub found_any : (files : Files) (dir : Atoms) → is_some (lookup (is_at (path_cmp dir)) files) ≡ list_any (λ f. same_path dir f.0) files
 found_any [] dir = refl
 found_any (f ∷ fs) dir =
     found_some (is_at (path_cmp dir) f.0) f.1 (lookup (is_at (path_cmp dir)) fs)

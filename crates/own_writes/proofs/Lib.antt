@@ -6,3 +6,4 @@ pub mod PutInOrder
 pub mod DirectorySets
 pub mod Ancestors
 pub mod Bounds
+pub mod Unnested

@@ -37,7 +37,7 @@ put_at (f ∷ fs) (suc i) d l h =
     (greater f.path next.path (below f.path fs i d (omega (arith, l)) h.0))
     ∙ ap (λ gs. here ∷ gs) (put_at fs i d (omega (arith, l)) h.1)
 
--- the next of files that rise is put behind those before it
+-- the next of files that rise is put after those before it
 put_next : (fs : List MadeFile) (i : ℕ) (d : MadeFile) → i < length fs → RisingFiles (made_files fs)
     → insert_entry path_cmp (made_files (take i fs)) (get_or fs i d).path (get_or fs i d).blob ≡ made_files (take (i + 1) fs)
 put_next fs i d l h = put_at fs i d l h ∙ ap (λ n. made_files (take n fs)) (sym (add-one i))

@@ -1,7 +1,8 @@
 -- The files that a run has written, and what they answer.
-use Rattle.std.specs.Prelude.{ℕ, Bool, ◌||◌, List, [], Option, Some, None, if◌then◌else◌}
+use Rattle.std.specs.Prelude.{◌≡◌, ℕ, Bool, ◌||◌, List, [], Option, Some, None, if◌then◌else◌}
 use Rattle.std.specs.List.{list_any, filter_map}
 use Rattle.std.specs.BTreeMap.{insert_entry}
+use Rattle.std.specs.BTreeSet.{BTreeSet, contains}
 use Rattle.bx_tree.specs.Paths.{Atoms, path_cmp}
 use Rattle.bx_tree.specs.Trees.{Files, file_at}
 use Rattle.observed.specs.declared.ask.AskKind.{AskKind}
@@ -18,6 +19,10 @@ with_file writes path bytes = insert_entry path_cmp writes path bytes
 -- whether a file was written strictly below the path
 abbrev pub has_below : Files → Atoms → Bool
 has_below writes path = list_any (λ f. is_below f.0 path) writes
+
+-- the set has exactly the directories in which the files lie
+abbrev pub AreDirectories : BTreeSet Atoms → Files → Type 0
+AreDirectories dirs writes = (q : Atoms) → contains path_cmp dirs q ≡ has_below writes q
 
 -- whether a file was written strictly below the path, or the path lies strictly below one
 abbrev pub clashes : Files → Atoms → Bool

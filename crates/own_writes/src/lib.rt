@@ -2,7 +2,7 @@
 //!
 //! A run sees its own writes before all else: they answer reads and probes, add names to listings, and
 //! forbid a write below a file or above one. All of these are found by search, in the files and in the
-//! directories that these lie in. The crate stands on `observed` and `pip_types`. It carries the promise
+//! directories that these lie in. The crate depends on `observed` and `pip_types`. It carries the promise
 //! that a run's own writes are a list of files by path, as the definition of a run has them.
 #![tactic(auto)]
 

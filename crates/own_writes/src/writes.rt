@@ -1,15 +1,16 @@
 //! The files that a run has written.
-ghost use Rattle.std.specs.Prelude.{◌≡◌, [], IfOk, is_some};
+ghost use Rattle.std.specs.Prelude.{◌≡◌, ◌||◌, [], false, IfOk, OnOk, is_some};
 ghost use Rattle.std.specs.BTreeMap.{get};
+ghost use Rattle.std.specs.BTreeSet.{contains};
 ghost use Rattle.std.specs.List.{list_any};
 ghost use Rattle.std.specs.Option.{option_copied};
-ghost use Rattle.bx_tree.specs.Paths.{path_cmp};
-ghost use Rattle.bx_tree.specs.Trees.{file_at};
+ghost use Rattle.bx_tree.specs.Paths.{Atoms, path_cmp};
+ghost use Rattle.bx_tree.specs.Trees.{NoneNested, file_at, paths_of};
 ghost use Rattle.observed.specs.Texts.{texts_now};
 ghost use Rattle.pip_types.specs.Made.{RisingFiles, made_files};
 ghost use Rattle.own_writes.specs.Below.{is_below as lies_below};
 ghost use Rattle.own_writes.specs.Writes.{clashes as some_clash, has_below as some_below, own_names};
-ghost use Rattle.own_writes.specs.Writes.{own_answer, with_file as and_file};
+ghost use Rattle.own_writes.specs.Writes.{AreDirectories, own_answer, with_file as and_file};
 
 use crate::below::{bounds_below, next_atom};
 use crate::directories::{add_directories, directories};
@@ -21,8 +22,8 @@ use std::alloc::{AllocError, Global};
 use std::collections::{BTreeMap, BTreeSet};
 use std::marker::Model;
 
-/// Files by path, and the directories in which they lie. Contracts see the files as a list of (path, bytes)
-/// in the order of paths.
+/// Files by path, none below another, and the directories in which they lie. Contracts see the files as a
+/// list of (path, bytes) in the order of paths.
 #[derive(Drop)]
 pub struct Writes {
     files: BTreeMap<Path, Blob>,
@@ -30,16 +31,15 @@ pub struct Writes {
 }
 
 impl Model for Writes {
-    ghost use Rattle.std.specs.Prelude.{◌≡◌, List, ℕ};
-    ghost use Rattle.std.specs.BTreeSet.{contains};
-    ghost use Rattle.bx_tree.specs.Paths.{Atoms, path_cmp};
-    ghost use Rattle.own_writes.specs.Writes.{has_below};
+    ghost use Rattle.std.specs.Prelude.{List, ℕ};
+    ghost use Rattle.bx_tree.specs.Trees.{NoneNested, paths_of};
+    ghost use Rattle.own_writes.specs.Writes.{AreDirectories};
 
     ghost Value = { List (List (List ℕ) × List ℕ) };
 
     ghost view = { λ w. w.files.entries };
 
-    ghost invariant = { λ w. (q : Atoms) → contains path_cmp w.dirs q ≡ has_below w.files.entries q };
+    ghost invariant = { λ w. AreDirectories w.dirs w.files.entries × NoneNested (paths_of w.files.entries) };
 }
 
 // The files of a map by path, in order.
@@ -88,6 +88,23 @@ fn is_any_file(files: &BTreeMap<Path, Blob>, paths: &[Path]) -> bool
     paths.iter().any(|path| files.contains_key(path))
 }
 
+// Adds the directories that a path lies in, which are there already if a file is at the path.
+fn add_new_directories(
+    alloc: Global,
+    dirs: &mut BTreeSet<Path>,
+    files: &BTreeMap<Path, Blob>,
+    path: &Path,
+) -> Result<(), AllocError>
+    requires { AreDirectories dirs.old files.now.entries }
+    ensures { OnOk result ((q : Atoms) →
+        contains path_cmp dirs.new q ≡ (lies_below path.now q || some_below files.now.entries q)) }
+{
+    if files.contains_key(path) {
+        return Ok(());
+    }
+    add_directories(alloc, dirs, path)
+}
+
 // The names that files below a directory add to its listing.
 fn names_below<'a>(
     alloc: Global,
@@ -123,15 +140,17 @@ impl Writes {
         self.files.get(path)
     }
 
-    /// The files with one more, which takes the place of one at its path.
+    /// The files with one more, which takes the place of one at its path. It lies neither below a file nor
+    /// above one, which `clashes` tests.
     pub fn put(self, alloc: Global, path: Path, blob: Blob) -> Result<Writes, AllocError>
+        requires { some_clash self path ≡ false }
         ensures { IfOk result (λ writes. writes ≡ and_file self path blob) }
     {
         let Writes {
             mut files,
             mut dirs,
         } = self;
-        add_directories(alloc, &mut dirs, &path)?;
+        add_new_directories(alloc, &mut dirs, &files, &path)?;
         files.insert(path, blob)?;
         Ok(Writes { files, dirs })
     }
@@ -155,6 +174,9 @@ impl Writes {
     pub fn clashes(&self, alloc: Global, path: &Path) -> Result<bool, AllocError>
         ensures { IfOk result (λ yes. yes ≡ some_clash self.now path.now) }
     {
+        if self.files.contains_key(path) {
+            return Ok(false);
+        }
         if self.has_below(path) {
             return Ok(true);
         }

@@ -1,4 +1,4 @@
-pub mod Told
+pub mod Recorded
 pub mod Stored
 pub mod Found
 pub mod LastAccess

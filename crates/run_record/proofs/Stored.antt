@@ -15,7 +15,7 @@ use Rattle.tool_run.specs.Run.{Run, path_set, run_of}
 use Rattle.run_record.specs.declared.outcome.Outcome.{Outcome}
 use Rattle.run_record.specs.Outcomes.{outcome_of}
 use Rattle.run_record.specs.Answered.{answered, given_in}
-use Rattle.run_record.proofs.Told.{all_given}
+use Rattle.run_record.proofs.Recorded.{all_given}
 use Rattle.run_record.specs.Facts.{AreOf, Facts, IsRun, Sound, run_for}
 
 chosen : (t : Bool) (a : Ask → Answer) (x q : Ask) (other : Answer) → same_ask x q ≡ t → (same_ask x q ≡ false → other ≡ a q) → cond t (a x) other ≡ a q

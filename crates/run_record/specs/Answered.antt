@@ -22,13 +22,14 @@ or_before None before = before
 or_before (Some answer) before = Some answer
 
 -- the answer that an ask was given, if it was asked: the last one
-abbrev pub told : List Access → Ask → Option Answer
-told [] q = None
-told (Asked ask answer ∷ rest) q = or_before (told rest q) (if same_ask ask q then Some answer else None)
-told (Wrote path ∷ rest) q = told rest q
-told (WriteDenied path ∷ rest) q = told rest q
+abbrev pub recorded : List Access → Ask → Option Answer
+recorded [] q = None
+recorded (Asked ask answer ∷ rest) q =
+    or_before (recorded rest q) (if same_ask ask q then Some answer else None)
+recorded (Wrote path ∷ rest) q = recorded rest q
+recorded (WriteDenied path ∷ rest) q = recorded rest q
 
--- what an access tells of an ask of which this was told before
+-- the recorded answer of an ask after one access more
 abbrev pub with_access : Access → Ask → Option Answer → Option Answer
 with_access (Asked ask answer) q before = if same_ask ask q then Some answer else before
 with_access (Wrote path) q before = before
@@ -36,4 +37,4 @@ with_access (WriteDenied path) q before = before
 
 -- the answer that an ask was given, absent where it was not asked
 abbrev pub given_in : List Access → Ask → Answer
-given_in accesses q = or_absent (told accesses q)
+given_in accesses q = or_absent (recorded accesses q)

@@ -3,7 +3,7 @@ ghost use Rattle.std.specs.Prelude.{◌≡◌, IfOk, OnOk, map};
 ghost use Rattle.std.specs.BTreeMap.{get};
 ghost use Rattle.observed.specs.Asks.{ask_cmp};
 ghost use Rattle.observed.specs.declared.ask.Ask.{Ask as AnyAsk};
-ghost use Rattle.run_record.specs.Answered.{given_in, or_absent, told, with_access};
+ghost use Rattle.run_record.specs.Answered.{given_in, or_absent, recorded, with_access};
 
 use observed::{Access, Answer, Ask};
 use std::alloc::{AllocError, Global};
@@ -25,7 +25,7 @@ fn put(answers: &mut BTreeMap<Ask, Answer>, access: &Access) -> Result<(), Alloc
 
 // The answers of accesses by their asks.
 fn by_ask(alloc: Global, accesses: &[Access]) -> Result<BTreeMap<Ask, Answer>, AllocError>
-    ensures { IfOk result (λ answers. (q : AnyAsk) → get ask_cmp answers q ≡ told accesses.now q) }
+    ensures { IfOk result (λ answers. (q : AnyAsk) → get ask_cmp answers q ≡ recorded accesses.now q) }
 {
     let mut answers = BTreeMap::new(alloc);
     'accesses: for access in accesses {

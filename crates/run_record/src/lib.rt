@@ -1,7 +1,7 @@
 //! Records: runs with the answers that they depend on.
 //!
-//! A record is made by running a tool on a view, or by running it again on stored answers. It stands on
-//! `tool_run`. Its type keeps that the run on its own answers is the run that it holds, so that nobody
+//! A record is made by running a tool on a view, or by running it again on stored answers. It depends
+//! on `tool_run`. Its type keeps that the run on its own answers is the run that it holds, so that nobody
 //! who takes a record must trust who made it.
 #![tactic(auto)]
 

@@ -1,15 +1,17 @@
--- A run's asks are answered, a denied access is its last and only one, and what it writes is permitted.
+-- A run's asks are answered, a denied access is its last and only one, and what it writes is permitted,
+-- in the order of paths, and none of it below another.
 use Rattle.std.proofs.Common.{◌≡◌, ◌≢◌, ℕ, ◌+◌, ◌≤◌, zero, suc, true, false, Bool, ◌||◌, cond, List, [], ◌∷◌, ◌++◌, length, codes, take, drop, Option, Some, None, refl, ap, sym, ◌∙◌, subst, arith, append_assoc, IsTrue}
 use Rattle.std.specs.Prelude.{slice_get, nat_lt}
 use Rattle.std.specs.Str.{bytes_eq}
 use Rattle.std.specs.Fmt.{decimal}
 use Rattle.std.specs.List.{AllByRecursion}
+use Rattle.std.specs.List.Sorted.{IsStrictlySortedBy}
 use Rattle.std.specs.BTreeMap.{insert_entry}
 use Rattle.std.specs.Ordering.{match_ordering}
 use Rattle.std.specs.declared.cmp.Ordering.{Ordering}
 use Rattle.std.specs.declared.cmp.Ordering.TheVariants.{Less, Equal, Greater}
 use Rattle.bx_tree.specs.Paths.{Atoms, path_cmp}
-use Rattle.bx_tree.specs.Trees.{Files, file_at}
+use Rattle.bx_tree.specs.Trees.{Files, NoneNested, file_at, paths_of}
 use Rattle.observed.specs.declared.ask.AskKind.{AskKind}
 use Rattle.observed.specs.declared.ask.AskKind.TheVariants as kinds
 use Rattle.observed.specs.declared.ask.Ask.{Ask}
@@ -19,6 +21,7 @@ use Rattle.observed.specs.declared.access.Answer.{Answer}
 use Rattle.observed.specs.declared.access.Answer.TheVariants as answers
 use Rattle.observed.specs.declared.access.End.{End}
 use Rattle.observed.specs.declared.access.End.TheVariants as ends
+use Rattle.pip_types.specs.Made.{RisingFiles}
 use Rattle.tool_text.specs.declared.tool.Operand.{Operand}
 use Rattle.tool_text.specs.declared.tool.Instr.{Instr}
 use Rattle.tool_text.specs.declared.tool.Instr.TheVariants as instrs
@@ -27,8 +30,9 @@ use Rattle.tool_run.specs.declared.deed.Deed.TheVariants as deeds
 use Rattle.tool_run.specs.declared.limits.TheConstants.{MAX_REGISTER, MAX_OUTPUT}
 use Rattle.tool_run.specs.Description.{Description, answer_of, permits, resolved}
 use Rattle.tool_run.specs.Machine.{Machine, at_place, deed_of, fitting, fitting_two, next, start, written}
-use Rattle.tool_run.specs.Values.{number_of, split_parts, variable}
+use Rattle.tool_values.specs.Values.{number_of, split_parts, variable}
 use Rattle.own_writes.specs.Writes.{clashes, own_answer, own_file, has_below}
+use Rattle.own_writes.proofs.Unnested.{none_unnested, put_rising, put_unnested}
 use Rattle.tool_run.specs.Instructions.{act, list_with, look_up, looks, or_jump, probe_with, read_with, value, with_answer, with_number, writes_at}
 use Rattle.tool_run.specs.Laws.{EndsDenied, Holds, IsAnswered, IsDenied}
 use Rattle.tool_run.specs.Run.{Run, Turn, at_end_or, ended, onward, run_from, run_of, run_tool, turn, turned}
@@ -37,6 +41,12 @@ use Rattle.tool_run.specs.Run.{Run, Turn, at_end_or, ended, onward, run_from, ru
 
 abbrev pub ArePermitted : Description → Files → Type 0
 ArePermitted d writes = AllByRecursion (λ f. IsTrue (permits d f.0)) writes
+
+-- the written files have permitted paths, which rise, and none lies below another
+pub record Lawful (d : Description) (writes : Files) : Type 0 where
+  pub permitted : ArePermitted d writes
+  pub rising : RisingFiles writes
+  pub unnested : NoneNested (paths_of writes)
 
 -- an end is no denial
 abbrev pub IsOther : Option End → Type 0
@@ -66,7 +76,7 @@ DeedFair i m (deeds.Refused path) = Unit {0}
 DeedFair i m (deeds.Stops end) = end ≢ ends.Denied
 
 pub record Fair (d : Description) (i : Instr) (t : Machine × Deed) : Type 0 where
-  pub writes : ArePermitted d t.0.writes
+  pub writes : Lawful d t.0.writes
   pub deed : DeedFair i t.0 t.1
 
 plain_if : (m m' : Machine) (t : Bool) → m'.writes ≡ m.writes → Plain m (cond t (m, Some ends.TooLong) (m', None))
@@ -79,31 +89,31 @@ fitting_plain m r bytes = plain_if m _ (nat_lt MAX_REGISTER (length bytes)) refl
 two_plain : (m : Machine) (r s : ℕ) (xs ys : List ℕ) → Plain m (fitting_two m r s xs ys)
 two_plain m r s xs ys = plain_if m _ (nat_lt MAX_REGISTER (length xs) || nat_lt MAX_REGISTER (length ys)) refl
 
-deed_plain : (d : Description) (i : Instr) (m : Machine) (t : Machine × Option End) → ArePermitted d m.writes → Plain m t → Fair d i (deed_of t)
-deed_plain d i m (m', None) h p = record { writes = subst (ArePermitted d) (sym p.writes) h; deed = tt }
-deed_plain d i m (m', Some end) h p = record { writes = subst (ArePermitted d) (sym p.writes) h; deed = p.end }
+deed_plain : (d : Description) (i : Instr) (m : Machine) (t : Machine × Option End) → Lawful d m.writes → Plain m t → Fair d i (deed_of t)
+deed_plain d i m (m', None) h p = record { writes = subst (Lawful d) (sym p.writes) h; deed = tt }
+deed_plain d i m (m', Some end) h p = record { writes = subst (Lawful d) (sym p.writes) h; deed = p.end }
 
-stops_fair : (d : Description) (i : Instr) (m : Machine) (end : End) → ArePermitted d m.writes → end ≢ ends.Denied → Fair d i (m, deeds.Stops end)
+stops_fair : (d : Description) (i : Instr) (m : Machine) (end : End) → Lawful d m.writes → end ≢ ends.Denied → Fair d i (m, deeds.Stops end)
 stops_fair d i m end h other = record { writes = h; deed = other }
 
-number_fair : (d : Description) (i : Instr) (m : Machine) (n : Option ℕ) (f : ℕ → Machine × Deed) → ArePermitted d m.writes → ((k : ℕ) → Fair d i (f k))
+number_fair : (d : Description) (i : Instr) (m : Machine) (n : Option ℕ) (f : ℕ → Machine × Deed) → Lawful d m.writes → ((k : ℕ) → Fair d i (f k))
     → Fair d i (with_number m n f)
 number_fair d i m None f h all = stops_fair d i m ends.BadProgram h (λ e. cc)
 number_fair d i m (Some k) f h all = all k
 
-jump_fair : (d : Description) (i : Instr) (m : Machine) (r label : ℕ) (o : Option (List ℕ)) → ArePermitted d m.writes → Fair d i (or_jump m r label o)
+jump_fair : (d : Description) (i : Instr) (m : Machine) (r label : ℕ) (o : Option (List ℕ)) → Lawful d m.writes → Fair d i (or_jump m r label o)
 jump_fair d i m r label None h = record { writes = h; deed = tt }
 jump_fair d i m r label (Some bytes) h = deed_plain d i m (fitting m r bytes) h (fitting_plain m r bytes)
 
-said_fair : (d : Description) (i : Instr) (m m' : Machine) (t : Bool) → ArePermitted d m.writes → m'.writes ≡ m.writes
+said_fair : (d : Description) (i : Instr) (m m' : Machine) (t : Bool) → Lawful d m.writes → m'.writes ≡ m.writes
     → Fair d i (cond t (m, deeds.Stops ends.TooLong) (m', deeds.Goes))
 said_fair d i m m' true h same = record { writes = h; deed = λ (e : ends.TooLong ≡ ends.Denied). cc }
-said_fair d i m m' false h same = record { writes = subst (ArePermitted d) (sym same) h; deed = tt }
+said_fair d i m m' false h same = record { writes = subst (Lawful d) (sym same) h; deed = tt }
 
-eq_fair : (d : Description) (i : Instr) (m a b : Machine) (t : Bool) → ArePermitted d m.writes → a.writes ≡ m.writes → b.writes ≡ m.writes
+eq_fair : (d : Description) (i : Instr) (m a b : Machine) (t : Bool) → Lawful d m.writes → a.writes ≡ m.writes → b.writes ≡ m.writes
     → Fair d i (cond t a b, deeds.Goes)
-eq_fair d i m a b true h same other = record { writes = subst (ArePermitted d) (sym same) h; deed = tt }
-eq_fair d i m a b false h same other = record { writes = subst (ArePermitted d) (sym other) h; deed = tt }
+eq_fair d i m a b true h same other = record { writes = subst (Lawful d) (sym same) h; deed = tt }
+eq_fair d i m a b false h same other = record { writes = subst (Lawful d) (sym other) h; deed = tt }
 
 -- ## Looks
 
@@ -137,24 +147,24 @@ list_tells : (m : Machine) (r : ℕ) (path : Atoms) (answer : Answer) → Tells 
 list_tells m r path answer = plain_tells m _ answer _ (fitting_plain m r _) (λ h. h.0 refl)
 
 -- what the run's own writes answer denies nothing
-read_fair : (d : Description) (m : Machine) (r label : ℕ) (x : Operand) (path : Atoms) (file : Option (List ℕ)) (below : Bool) → ArePermitted d m.writes
+read_fair : (d : Description) (m : Machine) (r label : ℕ) (x : Operand) (path : Atoms) (file : Option (List ℕ)) (below : Bool) → Lawful d m.writes
     → Fair d (instrs.Read r x label) (look_up m (instrs.Read r x label) (record { kind = kinds.Read; path = path }) (own_file kinds.Read file below))
 read_fair d m r label x path (Some bytes) below h = deed_plain d _ m _ h (fitting_plain m r bytes)
 read_fair d m r label x path None true h = deed_plain d _ m _ h (goes_plain m _ refl)
 read_fair d m r label x path None false h = record { writes = h; deed = read_tells m r label path }
 
-probe_fair : (d : Description) (m : Machine) (r : ℕ) (x : Operand) (path : Atoms) (file : Option (List ℕ)) (below : Bool) → ArePermitted d m.writes
+probe_fair : (d : Description) (m : Machine) (r : ℕ) (x : Operand) (path : Atoms) (file : Option (List ℕ)) (below : Bool) → Lawful d m.writes
     → Fair d (instrs.Probe r x) (look_up m (instrs.Probe r x) (record { kind = kinds.Probe; path = path }) (own_file kinds.Probe file below))
 probe_fair d m r x path (Some bytes) below h = deed_plain d _ m _ h (fitting_plain m r (codes "file"))
 probe_fair d m r x path None true h = deed_plain d _ m _ h (fitting_plain m r (codes "directory"))
 probe_fair d m r x path None false h = record { writes = h; deed = probe_tells m r path }
 
-list_fair : (d : Description) (m : Machine) (r : ℕ) (x : Operand) (path : Atoms) (file : Option (List ℕ)) (below : Bool) → ArePermitted d m.writes
+list_fair : (d : Description) (m : Machine) (r : ℕ) (x : Operand) (path : Atoms) (file : Option (List ℕ)) (below : Bool) → Lawful d m.writes
     → Fair d (instrs.List r x) (look_up m (instrs.List r x) (record { kind = kinds.List; path = path }) (own_file kinds.List file below))
 list_fair d m r x path (Some bytes) below h = deed_plain d _ m _ h (fitting_plain m r _)
 list_fair d m r x path None below h = record { writes = h; deed = list_tells m r path }
 
-looks_fair : (d : Description) (m : Machine) (i : Instr) (kind : AskKind) (o : Option Atoms) → ArePermitted d m.writes
+looks_fair : (d : Description) (m : Machine) (i : Instr) (kind : AskKind) (o : Option Atoms) → Lawful d m.writes
     → ((path : Atoms) → Fair d i (look_up m i (record { kind = kind; path = path }) (own_answer m.writes (record { kind = kind; path = path }))))
     → Fair d i (looks m i kind o)
 looks_fair d m i kind None h all = stops_fair d i m ends.BadPath h (λ e. cc)
@@ -173,24 +183,32 @@ inserted d (f ∷ fs) path bytes h may = by_order (path_cmp path f.0) (insert_en
     by_order Equal rest more = (h.0, h.1)
     by_order Greater rest more = (h.0, more)
 
-write_fair : (d : Description) (i : Instr) (m : Machine) (bytes : List ℕ) (o : Option Atoms) → ArePermitted d m.writes → Fair d i (writes_at d m bytes o)
+put_lawful : (d : Description) (writes : Files) (path : Atoms) (bytes : List ℕ) → Lawful d writes → permits d path ≡ true → clashes writes path ≡ false
+    → Lawful d (insert_entry path_cmp writes path bytes)
+put_lawful d writes path bytes h may apart = record {
+  permitted = inserted d writes path bytes h.permitted may;
+  rising = put_rising writes path bytes h.rising;
+  unnested = put_unnested writes path bytes h.unnested apart;
+}
+
+write_fair : (d : Description) (i : Instr) (m : Machine) (bytes : List ℕ) (o : Option Atoms) → Lawful d m.writes → Fair d i (writes_at d m bytes o)
 write_fair d i m bytes None h = stops_fair d i m ends.BadPath h (λ e. cc)
 write_fair d i m bytes (Some path) h = by_permit (permits d path) refl
   where
-    by_size : (t : Bool) (m' : Machine) → ArePermitted d m'.writes → Fair d i (cond t (m, deeds.Stops ends.TooLong) (m', deeds.Wrote path))
+    by_size : (t : Bool) (m' : Machine) → Lawful d m'.writes → Fair d i (cond t (m, deeds.Stops ends.TooLong) (m', deeds.Wrote path))
     by_size true m' more = stops_fair d i m ends.TooLong h (λ e. cc)
     by_size false m' more = record { writes = more; deed = tt }
 
-    by_clash : (t : Bool) → permits d path ≡ true → Fair d i (cond t (m, deeds.Stops ends.NotADirectory) (written m path bytes))
-    by_clash true may = stops_fair d i m ends.NotADirectory h (λ e. cc)
-    by_clash false may = by_size (nat_lt MAX_OUTPUT (m.spent + length bytes)) _ (inserted d m.writes path bytes h may)
+    by_clash : (t : Bool) → permits d path ≡ true → clashes m.writes path ≡ t → Fair d i (cond t (m, deeds.Stops ends.NotADirectory) (written m path bytes))
+    by_clash true may clash = stops_fair d i m ends.NotADirectory h (λ e. cc)
+    by_clash false may apart = by_size (nat_lt MAX_OUTPUT (m.spent + length bytes)) _ (put_lawful d m.writes path bytes h may apart)
 
     by_permit : (t : Bool) → permits d path ≡ t
         → Fair d i (cond t (cond (clashes m.writes path) (m, deeds.Stops ends.NotADirectory) (written m path bytes)) (m, deeds.Refused path))
-    by_permit true may = by_clash (clashes m.writes path) may
+    by_permit true may = by_clash (clashes m.writes path) may refl
     by_permit false may = record { writes = h; deed = tt }
 
-pub act_fair : (d : Description) (m : Machine) (i : Instr) → ArePermitted d m.writes → Fair d i (act d m i)
+pub act_fair : (d : Description) (m : Machine) (i : Instr) → Lawful d m.writes → Fair d i (act d m i)
 act_fair d m (instrs.Set r x) h = deed_plain d _ m _ h (fitting_plain m r (value m x))
 act_fair d m (instrs.Cat r x y) h = deed_plain d _ m _ h (fitting_plain m r (value m x ++ value m y))
 act_fair d m (instrs.Len r x) h = deed_plain d _ m _ h (fitting_plain m r (decimal (length (value m x))))
@@ -226,7 +244,7 @@ act_fair d m (instrs.Write x y) h = write_fair d _ m (value m y) (resolved d.dir
 abbrev pub NoneDenied : List Access → Type 0
 NoneDenied accesses = AllByRecursion (λ x. ¬ IsDenied x) accesses
 
--- the accesses tell of a denial exactly where the end is one
+-- the accesses have a denial exactly where the end is one
 abbrev pub AreFair : List Access → Option End → Type 0
 AreFair accesses None = NoneDenied accesses
 AreFair accesses (Some end) = (end ≡ ends.Denied → EndsDenied accesses) × (end ≢ ends.Denied → NoneDenied accesses)
@@ -234,7 +252,7 @@ AreFair accesses (Some end) = (end ≡ ends.Denied → EndsDenied accesses) × (
 pub record FairTurn (d : Description) (a : Ask → Answer) (t : Turn) : Type 0 where
   pub answered : AllByRecursion (IsAnswered d a) t.accesses
   pub accesses : AreFair t.accesses t.end
-  pub writes : ArePermitted d t.machine.writes
+  pub writes : Lawful d t.machine.writes
 
 one_denied : (x : Access) → IsDenied x → EndsDenied (x ∷ [])
 one_denied x h = record { before = []; last = x; accesses_are = refl; denied = h; others = tt }
@@ -251,14 +269,14 @@ turned_fair d a i m (deeds.Asks ask) h =
     record {
       answered = (refl, tt);
       accesses = one_fair (Asked ask answer) (with_answer m i ask answer).1 tells.end;
-      writes = subst (ArePermitted d) (sym tells.writes) h.writes;
+      writes = subst (Lawful d) (sym tells.writes) h.writes;
     }
 turned_fair d a i m (deeds.Wrote path) h = record { answered = (tt, tt); accesses = (λ (k : ⊥). k, tt); writes = h.writes }
 turned_fair d a i m (deeds.Refused path) h =
     record { answered = (tt, tt); accesses = (λ e. one_denied (WriteDenied path) tt, λ e. absurd (e refl)); writes = h.writes }
 turned_fair d a i m (deeds.Stops end) h = record { answered = tt; accesses = (λ e. absurd (h.deed e), λ e. tt); writes = h.writes }
 
-turn_fair : (d : Description) (a : Ask → Answer) (m : Machine) (i : Instr) → ArePermitted d m.writes → FairTurn d a (turn d a m i)
+turn_fair : (d : Description) (a : Ask → Answer) (m : Machine) (i : Instr) → Lawful d m.writes → FairTurn d a (turn d a m i)
 turn_fair d a m i h = turned_fair d a i (act d m i).0 (act d m i).1 (act_fair d m i h)
 
 -- ## All turns
@@ -269,7 +287,7 @@ pub record HoldsFrom (d : Description) (a : Ask → Answer) (left : ℕ) (r : Ru
   pub denied : r.end ≡ ends.Denied → EndsDenied r.accesses
   pub not_denied : r.end ≢ ends.Denied → NoneDenied r.accesses
   pub steps : r.steps ≤ left
-  pub permitted : ArePermitted d r.writes
+  pub lawful : Lawful d r.writes
 
 all_append : {X : Type 0} (P : X → Type 0) (xs ys : List X) → AllByRecursion P xs → AllByRecursion P ys → AllByRecursion P (xs ++ ys)
 all_append P [] ys h k = k
@@ -288,12 +306,12 @@ no_more : (xs : List Access) → xs ++ [] ≡ xs
 no_more [] = refl
 no_more (x ∷ xs) = ap (λ t. x ∷ t) (no_more xs)
 
-ended_holds : (d : Description) (a : Ask → Answer) (left : ℕ) (m : Machine) (end : End) → ArePermitted d m.writes → end ≢ ends.Denied → HoldsFrom d a left (ended m end)
-ended_holds d a left m end h other = record { answered = tt; denied = λ e. absurd (other e); not_denied = λ e. tt; steps = omega arith; permitted = h }
+ended_holds : (d : Description) (a : Ask → Answer) (left : ℕ) (m : Machine) (end : End) → Lawful d m.writes → end ≢ ends.Denied → HoldsFrom d a left (ended m end)
+ended_holds d a left m end h other = record { answered = tt; denied = λ e. absurd (other e); not_denied = λ e. tt; steps = omega arith; lawful = h }
 
 onward_holds : (d : Description) (a : Ask → Answer) (left : ℕ) (rest : Machine → Run) (t : Turn) (end : Option End)
-    → AllByRecursion (IsAnswered d a) t.accesses → AreFair t.accesses end → ArePermitted d t.machine.writes
-    → ((m : Machine) → ArePermitted d m.writes → HoldsFrom d a left (rest m)) → HoldsFrom d a (suc left) (onward rest t end)
+    → AllByRecursion (IsAnswered d a) t.accesses → AreFair t.accesses end → Lawful d t.machine.writes
+    → ((m : Machine) → Lawful d m.writes → HoldsFrom d a left (rest m)) → HoldsFrom d a (suc left) (onward rest t end)
 onward_holds d a left rest t None answered fair writes all =
     let more = all t.machine writes in
     let steps = more.steps in
@@ -302,33 +320,45 @@ onward_holds d a left rest t None answered fair writes all =
       denied = λ e. denied_later t.accesses (rest t.machine).accesses fair (more.denied e);
       not_denied = λ e. all_append (λ x. ¬ IsDenied x) t.accesses (rest t.machine).accesses fair (more.not_denied e);
       steps = omega (arith, steps);
-      permitted = more.permitted;
+      lawful = more.lawful;
     }
 onward_holds d a left rest t (Some end) answered fair writes all = record {
   answered = subst (AllByRecursion (IsAnswered d a)) (sym (no_more t.accesses)) answered;
   denied = λ e. subst EndsDenied (sym (no_more t.accesses)) (fair.0 e);
   not_denied = λ e. subst NoneDenied (sym (no_more t.accesses)) (fair.1 e);
   steps = omega arith;
-  permitted = writes;
+  lawful = writes;
 }
 
-step_holds : (d : Description) (a : Ask → Answer) (left : ℕ) (m : Machine) (o : Option Instr) (rest : Instr → Run) → ArePermitted d m.writes
+step_holds : (d : Description) (a : Ask → Answer) (left : ℕ) (m : Machine) (o : Option Instr) (rest : Instr → Run) → Lawful d m.writes
     → ((i : Instr) → HoldsFrom d a left (rest i)) → HoldsFrom d a left (at_end_or m o rest)
 step_holds d a left m None rest h all = ended_holds d a left m (ends.Exit 0) h (λ e. cc)
 step_holds d a left m (Some i) rest h all = all i
 
-from_holds : (d : Description) (a : Ask → Answer) (tool : List Instr) (left : ℕ) (m : Machine) → ArePermitted d m.writes → HoldsFrom d a left (run_from d a tool left m)
+from_holds : (d : Description) (a : Ask → Answer) (tool : List Instr) (left : ℕ) (m : Machine) → Lawful d m.writes → HoldsFrom d a left (run_from d a tool left m)
 from_holds d a tool zero m h = step_holds d a zero m (slice_get tool m.place) _ h (λ i. ended_holds d a zero m ends.Budget h (λ e. cc))
 from_holds d a tool (suc left) m h =
     step_holds d a (suc left) m (slice_get tool m.place) _ h (λ i.
     let t = turn_fair d a m i h in
     onward_holds d a left (run_from d a tool left) (turn d a m i) (turn d a m i).end t.answered t.accesses t.writes (λ m' h'. from_holds d a tool left m' h'))
 
+start_lawful : (d : Description) → Lawful d []
+unfolding IsStrictlySortedBy
+start_lawful d = record { permitted = tt; rising = tt; unnested = none_unnested }
+
 tool_holds : (d : Description) (a : Ask → Answer) (tool : Option (List Instr)) → HoldsFrom d a d.budget (run_tool d a tool)
-tool_holds d a None = ended_holds d a d.budget start ends.BadProgram tt (λ e. cc)
-tool_holds d a (Some tool) = from_holds d a tool d.budget start tt
+tool_holds d a None = ended_holds d a d.budget start ends.BadProgram (start_lawful d) (λ e. cc)
+tool_holds d a (Some tool) = from_holds d a tool d.budget start (start_lawful d)
 
 pub holds : (d : Description) (a : Ask → Answer) → Holds d a (run_of d a)
 holds d a =
     let h = tool_holds d a d.tool in
-    record { answered = h.answered; denied = h.denied; not_denied = h.not_denied; steps = h.steps; permitted = h.permitted }
+    record {
+      answered = h.answered;
+      denied = h.denied;
+      not_denied = h.not_denied;
+      steps = h.steps;
+      permitted = h.lawful.permitted;
+      rising = h.lawful.rising;
+      unnested = h.lawful.unnested;
+    }

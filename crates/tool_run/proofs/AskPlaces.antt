@@ -14,7 +14,7 @@ use Rattle.tool_run.specs.declared.deed.Deed.{Deed}
 use Rattle.tool_run.specs.declared.deed.Deed.TheVariants as deeds
 use Rattle.tool_run.specs.declared.limits.TheConstants.{MAX_OUTPUT}
 use Rattle.tool_run.specs.Description.{Description, permits, resolved}
-use Rattle.tool_run.specs.Values.{number_of, split_parts, variable}
+use Rattle.tool_values.specs.Values.{number_of, split_parts, variable}
 use Rattle.own_writes.specs.Writes.{clashes, own_answer}
 use Rattle.tool_run.specs.Machine.{Machine, deed_of, fitting, fitting_two, written}
 use Rattle.tool_run.specs.Instructions.{act, look_up, looks, or_jump, value, with_answer, with_number, writes_at}

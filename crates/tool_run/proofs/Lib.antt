@@ -1,9 +1,6 @@
 pub mod Depends
-pub mod Numbers
 pub mod Accesses
-pub mod Splitting
 pub mod Permitted
 pub mod AskPlaces
 pub mod Turns
 pub mod Appended
-pub mod NamesAdded

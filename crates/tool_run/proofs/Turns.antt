@@ -90,8 +90,8 @@ pub asked_turn : (d : Description) (a : Ask → Answer) (m : Machine) (i : Instr
     → (m', deed) ≡ act d m i → deed ≡ deeds.Asks ask → answer ≡ answer_of d a ask → (now', end) ≡ with_answer m' i ask answer → now ≡ before ++ Asked ask answer ∷ []
     → Turns (turn d a m i) now' before now end
 asked_turn d a m i ask answer deed m' now' end before now did asks is next recorded =
-    let told : Machine × Option End = with_answer m' i ask answer in
-    let meant : turn d a m i ≡ asked told ask answer =
+    let answered : Machine × Option End = with_answer m' i ask answer in
+    let meant : turn d a m i ≡ asked answered ask answer =
     sym (ap (turned (answer_of d a) i) (ap (λ (x : Deed). (m', x)) (sym asks) ∙ did)) ∙ ap (λ x. asked (with_answer m' i ask x) ask x) (sym is) in
     record {
       machine_is = ap (λ (t : Machine × Option End). t.0) next ∙ ap (λ (t : Turn). t.machine) (sym meant);

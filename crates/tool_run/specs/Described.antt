@@ -1,15 +1,11 @@
--- What a run uses of a process that stands before it with its contents.
-use Rattle.std.specs.Prelude.{ℕ, List, map}
+-- What a run uses of a process that is given with its contents.
+use Rattle.std.specs.Prelude.{List, map}
 use Rattle.bx_tree.specs.Paths.{Atoms}
-use Rattle.pip_types.specs.declared.args.EnvPair.{EnvPair}
 use Rattle.pip_types.specs.declared.outputs.OutDir.{OutDir}
 use Rattle.pip_types.specs.declared.desc.Desc.{Desc}
 use Rattle.tool_text.specs.Reading.{tool_of}
+use Rattle.tool_values.specs.Values.{variables}
 use Rattle.tool_run.specs.Description.{Description}
-
--- each variable's name and value
-abbrev pub variables : List EnvPair → List (List ℕ × List ℕ)
-variables = map (λ (v : EnvPair). (v.name, v.value))
 
 -- the paths of output directories
 abbrev pub dir_paths : List OutDir → List Atoms

@@ -1,6 +1,7 @@
 -- What holds of every run.
 use Rattle.std.specs.Prelude.{◌≡◌, ◌≢◌, ◌≤◌, IsTrue, List, [], ◌∷◌, ◌++◌}
 use Rattle.std.specs.List.{AllByRecursion}
+use Rattle.bx_tree.specs.Trees.{NoneNested, paths_of}
 use Rattle.observed.specs.Members.{Has}
 use Rattle.observed.specs.declared.ask.AskKind.TheVariants as kinds
 use Rattle.observed.specs.declared.ask.Ask.{Ask}
@@ -9,6 +10,7 @@ use Rattle.observed.specs.declared.access.Access.TheVariants.{Asked, Wrote, Writ
 use Rattle.observed.specs.declared.access.Answer.{Answer}
 use Rattle.observed.specs.declared.access.Answer.TheVariants as answers
 use Rattle.observed.specs.declared.access.End.TheVariants as ends
+use Rattle.pip_types.specs.Made.{RisingFiles}
 use Rattle.tool_run.specs.Description.{Description, answer_of, permits}
 use Rattle.tool_run.specs.Run.{Run, path_set, run_of}
 
@@ -42,10 +44,13 @@ pub record EndsDenied (accesses : List Access) : Type 0 where
   pub others : AllByRecursion (λ x. ¬ IsDenied x) before
 
 -- What holds of each run: its asks are answered; a denied access is the last and the only one, and is there
--- exactly where the run ended so; it takes no more steps than it may; and what it wrote is permitted.
+-- exactly where the run ended so; it takes no more steps than it may; and the files that it wrote have
+-- permitted paths, which rise, and none lies below another.
 pub record Holds (d : Description) (a : Ask → Answer) (r : Run) : Type 0 where
   pub answered : AllByRecursion (IsAnswered d a) r.accesses
   pub denied : r.end ≡ ends.Denied → EndsDenied r.accesses
   pub not_denied : r.end ≢ ends.Denied → AllByRecursion (λ x. ¬ IsDenied x) r.accesses
   pub steps : r.steps ≤ d.budget
   pub permitted : AllByRecursion (λ f. IsTrue (permits d f.0)) r.writes
+  pub rising : RisingFiles r.writes
+  pub unnested : NoneNested (paths_of r.writes)

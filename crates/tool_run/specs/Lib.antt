@@ -1,6 +1,4 @@
 pub mod Description
-pub mod Values
-pub mod Listings
 pub mod Machine
 pub mod Instructions
 pub mod Run
@@ -9,5 +7,4 @@ pub mod Described
 pub mod Contents
 pub mod States
 pub mod Deeds
-pub mod NameSets
 pub mod Seen

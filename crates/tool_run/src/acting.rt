@@ -1,18 +1,19 @@
 //! What the instructions on values do.
-ghost use Rattle.std.specs.Prelude.{◌≡◌, ◌≢◌, ◌↔◌, ◌<◌, ◌++◌, ◌^◌, [], IfOk, IsTrue, length, take, drop};
+ghost use Rattle.std.specs.Prelude.{◌≡◌, ◌≢◌, ◌↔◌, ◌<◌, ◌++◌, ◌^◌, [], IfOk, IsTrue, false, take, drop};
 ghost use Rattle.std.specs.Prelude.{slice_index_or};
 ghost use Rattle.std.specs.Fmt.{decimal as decimal_text};
+ghost use Rattle.tool_run.specs.declared.deed.Deed.TheVariants as deeds;
 ghost use Rattle.tool_run.specs.States.{machine_of};
 
 use crate::content::Content;
 use crate::deed::Deed;
 use crate::limits::MAX_REGISTER;
 use crate::state::{State, content_of, deed_of_end};
-use crate::values::head;
 use observed::End;
 use std::alloc::{AllocError, Global};
 use std::mem;
 use tool_text::{Operand, Register};
+use tool_values::head;
 
 // The digits of a number.
 fn decimal(alloc: Global, number: usize) -> Result<Vec<u8>, AllocError>
@@ -23,6 +24,7 @@ fn decimal(alloc: Global, number: usize) -> Result<Vec<u8>, AllocError>
 }
 
 // Whether an operand is the content of a register.
+#[inline(always)]
 fn is_register(operand: &Operand, register: Register) -> bool
     ensures { IsTrue result ↔ operand.now ≡ Operand.Register register }
 {
@@ -35,7 +37,7 @@ fn is_register(operand: &Operand, register: Register) -> bool
 impl State {
     ghost use Rattle.tool_run.specs.Machine.{deed_of, fitting, fitting_two};
     ghost use Rattle.tool_run.specs.Instructions.{value as value_in};
-    ghost use Rattle.tool_run.specs.Values.{split_parts};
+    ghost use Rattle.tool_values.specs.Values.{split_parts};
 
     // A register becomes a number's digits.
     pub(crate) fn set_number(
@@ -69,22 +71,48 @@ impl State {
         Ok(deed_of_end(self.fit(register, content)))
     }
 
-    // A register becomes its bytes with these after them, in place.
-    fn add(&mut self, alloc: Global, register: Register, more: &[u8]) -> Result<Deed, AllocError>
+    // Adds bytes at a register's end, in place, if they fit.
+    #[inline(always)]
+    fn add(&mut self, alloc: Global, register: Register, more: &[u8]) -> Result<bool, AllocError>
         requires { self.old.place < 2 ^ 63 }
-        ensures { IfOk result (λ deed.
-            (machine_of self.new, deed)
+        ensures added { IfOk result (λ fits. IsTrue fits →
+            (machine_of self.new, deeds.Goes)
             ≡ deed_of (fitting (machine_of self.old) register
             (slice_index_or self.old.registers.items register [] ++ more.now))) }
+        ensures stays { IfOk result (λ fits. fits ≡ false → machine_of self.new ≡ machine_of self.old) }
     {
         let number = register.number();
         let length = self.registers[number].bytes().len() + more.len();
         if length > MAX_REGISTER {
-            return Ok(Deed::Stops(End::TooLong));
+            return Ok(false);
         }
         self.registers[number].add(alloc, more)?;
         self.place += 1;
-        Ok(Deed::Goes)
+        Ok(true)
+    }
+
+    // Adds a constant at a register's end, in place, if that is what is joined and it fits.
+    #[inline(always)]
+    pub(crate) fn add_constant(
+        &mut self,
+        alloc: Global,
+        register: Register,
+        x: &Operand,
+        y: &Operand,
+    ) -> Result<bool, AllocError>
+        requires { self.old.place < 2 ^ 63 }
+        ensures added { IfOk result (λ fits. IsTrue fits →
+            (machine_of self.new, deeds.Goes)
+            ≡ deed_of (fitting (machine_of self.old) register
+            (value_in (machine_of self.old) x.now ++ value_in (machine_of self.old) y.now))) }
+        ensures stays { IfOk result (λ fits. fits ≡ false → machine_of self.new ≡ machine_of self.old) }
+    {
+        match y {
+            Operand::Constant(text) if is_register(x, register) => {
+                self.add(alloc, register, text.bytes())
+            }
+            _ => Ok(false),
+        }
     }
 
     // A register becomes its bytes with those of another operand after them, in place.
@@ -96,9 +124,6 @@ impl State {
             ≡ deed_of (fitting (machine_of self.old) register
             (slice_index_or self.old.registers.items register [] ++ value_in (machine_of self.old) y.now))) }
     {
-        if let Operand::Constant(text) = y {
-            return self.add(alloc, register, text.bytes());
-        }
         let number = register.number();
         let length = self.registers[number].bytes().len() + self.value(y).len();
         if length > MAX_REGISTER {
@@ -170,6 +195,7 @@ impl State {
     }
 
     // Two registers become what precedes a value in another, and what follows it there.
+    #[inline(never)]
     pub(crate) fn cut(
         &mut self,
         alloc: Global,

@@ -1,13 +1,13 @@
 //! The content of a register.
 ghost use Rattle.std.specs.Prelude.{◌≡◌, ◌++◌, [], IfOk, OnOk, drop};
-ghost use Rattle.tool_run.specs.Values.{split_parts};
+ghost use Rattle.tool_values.specs.Values.{split_parts};
 
-use crate::values::{split, tail};
 use bx_digest::Blob;
 use bx_tree::Text;
 use std::alloc::{AllocError, Global};
 use std::marker::Model;
 use std::mem;
+use tool_values::{split, tail};
 
 // Bytes that a register owns, or those of a text or of a file, from a place on, which it shares.
 #[derive(Drop)]
@@ -34,6 +34,7 @@ impl Model for Content {
 }
 
 // One text after another.
+#[inline(never)]
 fn both(alloc: Global, first: &[u8], second: &[u8]) -> Result<Vec<u8>, AllocError>
     ensures { IfOk result (λ bytes. bytes.items ≡ first.now ++ second.now) }
 {
@@ -173,6 +174,7 @@ impl Content {
     }
 
     // Adds bytes at the end, in place where the bytes are owned.
+    #[inline(always)]
     pub(crate) fn add(&mut self, alloc: Global, more: &[u8]) -> Result<(), AllocError>
         ensures { OnOk result (self.new ≡ self.old ++ more.now) }
     {

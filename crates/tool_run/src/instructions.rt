@@ -15,23 +15,25 @@ use tool_text::Instr;
 impl State {
     ghost use Rattle.tool_run.specs.Instructions.{act as act_of};
 
-    // Takes an instruction if it does nothing but lead to a place.
-    pub(crate) fn go(&mut self, instr: &Instr) -> bool
+    // Takes an instruction if it leads to a place, or adds a constant at a register's end.
+    #[inline(always)]
+    pub(crate) fn go(&mut self, alloc: Global, instr: &Instr) -> Result<bool, AllocError>
         requires { self.old.place < 2 ^ 63 }
-        ensures goes { IsTrue result → (d : Description)
-            → (machine_of self.new, deeds.Goes) ≡ act_of d (machine_of self.old) instr.now }
-        ensures stays { result ≡ false → machine_of self.new ≡ machine_of self.old }
+        ensures goes { IfOk result (λ taken. IsTrue taken → (d : Description)
+            → (machine_of self.new, deeds.Goes) ≡ act_of d (machine_of self.old) instr.now) }
+        ensures stays { IfOk result (λ taken. taken ≡ false → machine_of self.new ≡ machine_of self.old) }
     {
         match instr {
             Instr::Eq(x, y, label) => {
                 self.jump_if_equal(x, y, *label);
-                true
+                Ok(true)
             }
             Instr::Jump(label) => {
                 self.jump(*label);
-                true
+                Ok(true)
             }
-            _ => false,
+            Instr::Cat(register, x, y) => self.add_constant(alloc, *register, x, y),
+            _ => Ok(false),
         }
     }
 

@@ -11,7 +11,7 @@ pub fn noninterference()
 {}
 
 /// Each recorded answer is what was asked; a denied access is the last one and the only one; the
-/// steps are within the budget; and each written path is permitted.
+/// steps are within the budget; and each written path is permitted, and lies below no other.
 pub fn accesses_hold()
     ensures { (d : Description) (a : AnyAsk → AnyAnswer) → Holds d a (run_of d a) }
 {}

@@ -1,10 +1,10 @@
 //! Runs of tools.
 //!
-//! A run goes through the instructions of a tool. It sees its executable, the files that it declares
-//! and its own writes, and all others through a view; what it did is a list of accesses, the files that it wrote, what it said, how it ended and how
-//! many steps it took. The crate stands on `tool_text`, `observed` and `own_writes`. It carries the
-//! promises that a run is as it is defined, and that it depends on nothing but its description and
-//! the answers in its path set.
+//! A run goes through the instructions of a tool. It sees its executable, the files that it declares and its
+//! own writes, and all others through a view; what it did is a list of accesses, the files that it wrote, what it
+//! said, how it ended and how many steps it took. The crate depends on `tool_text`, `tool_values`, `observed`
+//! and `own_writes`. It carries the promises that a run is as it is defined, and that it depends on nothing but
+//! its description and the answers in its path set.
 #![tactic(auto)]
 
 mod acting;
@@ -20,9 +20,8 @@ mod path_sets;
 mod paths;
 mod running;
 mod state;
-mod values;
 
 pub use laws::{accesses_hold, noninterference};
-pub use limits::{MAX_DIGITS, MAX_OUTPUT, MAX_REGISTER};
+pub use limits::{MAX_OUTPUT, MAX_REGISTER};
 pub use path_sets::path_set_of;
 pub use running::{Ran, run, run_no_tool};

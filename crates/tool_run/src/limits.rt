@@ -6,6 +6,3 @@ pub const MAX_REGISTER: usize = 1_048_576;
 /// The largest number of bytes that a run may write and say in all. What is written again counts
 /// again, and so does the newline after what is said.
 pub const MAX_OUTPUT: usize = 4_194_304;
-
-/// The largest number of digits in a number.
-pub const MAX_DIGITS: usize = 9;

@@ -126,6 +126,7 @@ impl State {
     }
 
     // An instruction looks at a path: own writes answer, or the ask is put.
+    #[inline(never)]
     pub(crate) fn look(
         &mut self,
         alloc: Global,
@@ -152,6 +153,7 @@ impl State {
     }
 
     // A file is written, where its path and its size may be.
+    #[inline(never)]
     pub(crate) fn write_value(
         &mut self,
         alloc: Global,

@@ -71,8 +71,9 @@ fn answer<V: View>(
     }
 }
 
-// Takes one instruction: what it did goes to the end of the accesses.
-fn take_turn<V: View>(
+// Takes one instruction through what it does outside the machine, which goes to the end of the accesses.
+#[inline(never)]
+fn take_deed<V: View>(
     alloc: Global,
     desc: &Desc,
     view: &mut V,
@@ -86,9 +87,6 @@ fn take_turn<V: View>(
         (machine_of state.new) accesses.old.items accesses.new.items end) }
     ensures same { V.answers view.new ≡ V.answers view.old }
 {
-    if state.go(instr) {
-        return Ok(None);
-    }
     match state.act(alloc, desc, instr)? {
         Deed::Goes => Ok(None),
         Deed::Asks(ask) => {
@@ -107,6 +105,27 @@ fn take_turn<V: View>(
         }
         Deed::Stops(end) => Ok(Some(end)),
     }
+}
+
+// Takes one instruction: what it did goes to the end of the accesses.
+fn take_turn<V: View>(
+    alloc: Global,
+    desc: &Desc,
+    view: &mut V,
+    state: &mut State,
+    instr: &Instr,
+    accesses: &mut Vec<Access>,
+) -> Result<Option<End>, AllocError>
+    requires { state.old.place < 2 ^ 63 }
+    ensures turn { IfOk result (λ end.
+        Turns (turn (described desc.now) (V.answers view.old) (machine_of state.old) instr.now)
+        (machine_of state.new) accesses.old.items accesses.new.items end) }
+    ensures same { V.answers view.new ≡ V.answers view.old }
+{
+    if state.go(alloc, instr)? {
+        return Ok(None);
+    }
+    take_deed(alloc, desc, view, state, instr, accesses)
 }
 
 // The instruction at a place.

@@ -1,7 +1,9 @@
 //! The machine that runs a tool.
-ghost use Rattle.std.specs.Prelude.{◌≡◌, ◌<◌, ◌≤◌, ◌++◌, ◌^◌, IfOk, OnOk, codes, length, vec_len, replicate, []};
+ghost use Rattle.std.specs.Prelude.{◌≡◌, ◌<◌, ◌≤◌, ◌++◌, ◌^◌, [], IfOk, OnOk, codes, false, length};
+ghost use Rattle.std.specs.Prelude.{replicate, vec_len};
+ghost use Rattle.own_writes.specs.Writes.{clashes};
 ghost use Rattle.tool_run.specs.Deeds.{deed_for};
-ghost use Rattle.tool_run.specs.Values.{value_of};
+ghost use Rattle.tool_values.specs.Values.{value_of};
 ghost use Rattle.tool_text.specs.declared.limits.TheConstants.{REGISTERS};
 ghost use Rattle.tool_run.specs.declared.limits.TheConstants.{MAX_OUTPUT};
 
@@ -194,7 +196,8 @@ impl State {
         path: Path,
         blob: Blob,
     ) -> Result<Deed, AllocError>
-        requires { self.old.place < 2 ^ 63 }
+        requires place { self.old.place < 2 ^ 63 }
+        requires unclashed { clashes self.old.writes path ≡ false }
         ensures { IfOk result (λ deed.
             (machine_of self.new, deed) ≡ written (machine_of self.old) path blob) }
     {

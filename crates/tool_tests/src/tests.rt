@@ -1,8 +1,6 @@
-//! Texts of tools and path sets, tools that are run, and what their runs and records are told as.
+//! Tools that are run, and the texts of their runs and records.
 
 mod fixture;
-mod path_sets;
 mod records;
 mod runs;
-mod told;
-mod tools;
+mod written;

@@ -2,21 +2,14 @@
 ghost use Rattle.std.specs.Prelude.{◌≡◌, IfOk, length};
 
 use super::fixture::{Always, desc};
-use super::told::record_told;
-use bx_io::{Gate, OpenGate};
+use super::written::{add_record, parts};
+use bx_io::Gate;
 use observed::Answer;
 use run_record::{Record, execute, replay};
 use std::alloc::Global;
 use std::sync::atomic::AtomicU32;
 use std::sync::atomic::Ordering::Relaxed;
 use std::test::Fail;
-
-// The record of a run of these lines, where the view has one answer for all asks.
-fn record_of(alloc: Global, lines: &str, answer: Answer) -> Result<Record, Fail> {
-    let desc = desc(alloc, lines, "out/b out/a", 60)?;
-    let mut view = Always { answer };
-    Ok(execute(alloc, desc, 0, &mut view, &OpenGate)?)
-}
 
 // A gate that adds up the numbers of the pips for which it is passed.
 #[derive(Drop)]
@@ -30,34 +23,50 @@ impl Gate for SumGate {
     }
 }
 
+fn new_gate() -> SumGate {
+    SumGate {
+        sum: AtomicU32::new(0),
+    }
+}
+
+// The record of a run of these lines as pip 7, where the view has one answer for all asks.
+fn record_of(alloc: Global, lines: &str, answer: Answer, gate: &SumGate) -> Result<Record, Fail> {
+    let desc = desc(alloc, lines, "out/b out/a", 60)?;
+    let mut view = Always { answer };
+    Ok(execute(alloc, desc, 7, &mut view, gate)?)
+}
+
 #[test]
 fn the_gate_is_passed_once_for_the_pip(rt: HostRuntime) -> Result<(), Fail> {
-    let gate = SumGate {
-        sum: AtomicU32::new(0),
-    };
-    let desc = desc(rt.alloc(), "exit 1", "out/a", 9)?;
-    let mut view = Always {
-        answer: Answer::Absent,
-    };
-    execute(rt.alloc(), desc, 7, &mut view, &gate)?;
+    let gate = new_gate();
+    record_of(rt.alloc(), "exit 1", Answer::Absent, &gate)?;
     assert_eq!(rt; gate.sum.load(Relaxed), 7);
     Ok(())
 }
 
-// Whether the lines before `=> ` have a record that is told as what comes after it.
-fn is_told(alloc: Global, case: &str, answer: Answer) -> Result<bool, Fail> {
-    let Some((lines, want)) = case.split_once("=> ") else {
-        return Ok(false);
-    };
-    let record = record_of(alloc, lines, answer)?;
-    let got = record_told(alloc, &record)?;
+// Adds the record of these lines.
+fn add_record_of(
+    alloc: Global,
+    text: &mut Vec<u8>,
+    lines: &str,
+    answer: Answer,
+) -> Result<(), Fail> {
+    let record = record_of(alloc, lines, answer, &new_gate())?;
+    add_record(alloc, text, &record)
+}
+
+// Whether the lines of a case have the record that it wants.
+fn is_wanted(alloc: Global, case: &str, answer: Answer) -> Result<bool, Fail> {
+    let (lines, want) = parts(case);
+    let mut got = Vec::new(alloc);
+    add_record_of(alloc, &mut got, lines, answer)?;
     Ok(got.as_slice() == want.as_bytes())
 }
 
-// The first of cases that is told otherwise, where the view answers that nothing is there.
+// The first of cases that has another record, where the view answers that nothing is there.
 fn wrong<'a>(alloc: Global, cases: &'a str) -> Result<Option<&'a str>, Fail> {
     for case in cases.split("----\n") {
-        if !is_told(alloc, case, Answer::Absent)? {
+        if !is_wanted(alloc, case, Answer::Absent)? {
             return Ok(Some(case));
         }
     }
@@ -109,7 +118,7 @@ BadProgram
 fn what_a_run_comes_to(rt: HostRuntime) -> Result<(), Fail> {
     assert_eq!(rt; wrong(rt.alloc(), OUTCOMES)?, None);
     let denied = "read r0, \"/s\", x\nx: exit 0\n=> paths 1\nread s\nread s\n";
-    assert!(rt; is_told(rt.alloc(), denied, Answer::Denied)?);
+    assert!(rt; is_wanted(rt.alloc(), denied, Answer::Denied)?);
     Ok(())
 }
 
@@ -160,25 +169,32 @@ fn again(alloc: Global, record: &Record, lines: &str) -> Result<Option<Record>, 
     Ok(replay(alloc, desc, record.paths(), answers)?)
 }
 
-// What the record of lines is told as that are run on what another record was told, or nothing where they ask
-// for something else.
-fn told_again(alloc: Global, record: &Record, lines: &str) -> Result<Vec<u8>, Fail> {
-    match again(alloc, record, lines)? {
-        Some(second) => record_told(alloc, &second),
-        None => Ok(Vec::new(alloc)),
+// Adds the record of lines that are run on the answers of another record, or nothing where they ask for something
+// else.
+fn add_again(
+    alloc: Global,
+    text: &mut Vec<u8>,
+    answer: Answer,
+    first: &str,
+    lines: &str,
+) -> Result<(), Fail> {
+    let record = record_of(alloc, first, answer, &new_gate())?;
+    match again(alloc, &record, lines)? {
+        Some(second) => add_record(alloc, text, &second),
+        None => Ok(()),
     }
 }
 
-// Whether lines that are run on what others were told, by a view that has one answer, are told so.
-fn is_told_again(
+// Whether lines that are run on the answers of others, which a view with one answer gave, have this record.
+fn is_run_again(
     alloc: Global,
     answer: Answer,
     first: &str,
     lines: &str,
     want: &str,
 ) -> Result<bool, Fail> {
-    let record = record_of(alloc, first, answer)?;
-    let got = told_again(alloc, &record, lines)?;
+    let mut got = Vec::new(alloc);
+    add_again(alloc, &mut got, answer, first, lines)?;
     Ok(got.as_slice() == want.as_bytes())
 }
 
@@ -189,9 +205,9 @@ fn a_run_is_made_again_on_its_answers_alone(rt: HostRuntime) -> Result<(), Fail>
     let fewer = "probe r0, \"/s\"\nexit 4";
     let absent = "paths 1\nlist d\nprobe s\nexit 4\n";
     let file = "paths 1\nlist d\nprobe s\nexit 5\n";
-    assert!(rt; is_told_again(rt.alloc(), Answer::Absent, first, first, absent)?);
-    assert!(rt; is_told_again(rt.alloc(), Answer::File, first, first, file)?);
-    assert!(rt; is_told_again(rt.alloc(), Answer::Absent, first, other, "")?);
-    assert!(rt; is_told_again(rt.alloc(), Answer::Absent, first, fewer, "")?);
+    assert!(rt; is_run_again(rt.alloc(), Answer::Absent, first, first, absent)?);
+    assert!(rt; is_run_again(rt.alloc(), Answer::File, first, first, file)?);
+    assert!(rt; is_run_again(rt.alloc(), Answer::Absent, first, other, "")?);
+    assert!(rt; is_run_again(rt.alloc(), Answer::Absent, first, fewer, "")?);
     Ok(())
 }

@@ -1,6 +1,6 @@
 //! What each instruction does, and where the limits of a run are.
 use super::fixture::{Always, blob, desc};
-use super::told::told;
+use super::written::{add_run, parts};
 use bx_digest::Blob;
 use observed::{Answer, End};
 use std::alloc::Global;
@@ -16,20 +16,24 @@ fn run_lines(alloc: Global, lines: &str, answer: Answer, budget: u64) -> Result<
     Ok(run(alloc, &tool, &desc, &mut view)?)
 }
 
-// Whether the lines before `=> ` have a run that is told as what comes after it.
-fn is_told(alloc: Global, case: &str, answer: Answer) -> Result<bool, Fail> {
-    let Some((lines, want)) = case.split_once("=> ") else {
-        return Ok(false);
-    };
+// Adds the run of these lines.
+fn add_run_of(alloc: Global, text: &mut Vec<u8>, lines: &str, answer: Answer) -> Result<(), Fail> {
     let ran = run_lines(alloc, lines, answer, 60)?;
-    let got = told(alloc, &ran)?;
+    add_run(alloc, text, &ran)
+}
+
+// Whether the lines of a case have the run that it wants.
+fn is_wanted(alloc: Global, case: &str, answer: Answer) -> Result<bool, Fail> {
+    let (lines, want) = parts(case);
+    let mut got = Vec::new(alloc);
+    add_run_of(alloc, &mut got, lines, answer)?;
     Ok(got.as_slice() == want.as_bytes())
 }
 
-// The first of cases that is told otherwise, where the view has one answer for all asks.
+// The first of cases that has another run, where the view has one answer for all asks.
 fn wrong<'a>(alloc: Global, cases: &'a str, answer: &Answer) -> Result<Option<&'a str>, Fail> {
     for case in cases.split("----\n") {
-        if !is_told(alloc, case, answer.share()?)? {
+        if !is_wanted(alloc, case, answer.share()?)? {
             return Ok(Some(case));
         }
     }
@@ -356,7 +360,7 @@ fn what_may_be_written(rt: HostRuntime) -> Result<(), Fail> {
     Ok(())
 }
 
-// Whether a tool that lists, probes and reads is told so, where the view has one answer for all asks.
+// Whether a tool that lists, probes and reads has this run, where the view has one answer for all asks.
 fn looks_as(alloc: Global, answer: Answer, want: &str) -> Result<bool, Fail> {
     let lines = r#"list r1, "l"
 say r1
@@ -366,8 +370,8 @@ read r3, "r", none
 say r3
 exit 1
 none: exit 2"#;
-    let ran = run_lines(alloc, lines, answer, 60)?;
-    let got = told(alloc, &ran)?;
+    let mut got = Vec::new(alloc);
+    add_run_of(alloc, &mut got, lines, answer)?;
     Ok(got.as_slice() == want.as_bytes())
 }
 
@@ -387,11 +391,11 @@ fn looks_at_what_the_view_answers(rt: HostRuntime) -> Result<(), Fail> {
 #[test]
 fn contents_and_names_of_the_view(rt: HostRuntime) -> Result<(), Fail> {
     let content = Answer::Content(blob(rt.alloc(), "b\na\nb\n")?);
-    let told = "Exit(1) 7\n\nfile\nb\na\nb\n\nlist w/l\nprobe w/p\nread w/r\n";
-    assert!(rt; looks_as(rt.alloc(), content, told)?);
+    let want = "Exit(1) 7\n\nfile\nb\na\nb\n\nlist w/l\nprobe w/p\nread w/r\n";
+    assert!(rt; looks_as(rt.alloc(), content, want)?);
     let names = Answer::Names(blob(rt.alloc(), "b\na\nb\n")?);
-    let told = "Exit(2) 6\nb\na\nb\n\nabsent\nlist w/l\nprobe w/p\nread w/r\n";
-    assert!(rt; looks_as(rt.alloc(), names, told)?);
+    let want = "Exit(2) 6\nb\na\nb\n\nabsent\nlist w/l\nprobe w/p\nread w/r\n";
+    assert!(rt; looks_as(rt.alloc(), names, want)?);
     Ok(())
 }
 
@@ -400,7 +404,7 @@ fn own_names_are_put_among_those_of_the_view(rt: HostRuntime) -> Result<(), Fail
     let names = Answer::Names(blob(rt.alloc(), "d\n\na\nd")?);
     let case =
         "write \"/out/d/c\", 1\nlist r1, \"/out/d\"\nsay r1\n=> Exit(0) 3\na\nc\nd\n\nwrote out/d/c\nlist out/d\nfile out/d/c\n1\n";
-    assert!(rt; is_told(rt.alloc(), case, names)?);
+    assert!(rt; is_wanted(rt.alloc(), case, names)?);
     Ok(())
 }
 

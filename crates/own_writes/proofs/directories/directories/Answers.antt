@@ -1,4 +1,4 @@
-use Rattle.std.proofs.Common.{◌≡◌, ◌∙◌, ◌||◌, ◌+◌, ◌<◌, List, length, Option, ap, sym, subst}
+use Rattle.std.proofs.Common.{◌∙◌, ◌||◌, ◌+◌, ◌<◌, List, length, Option, ap, sym, subst}
 use Rattle.std.specs.List.{list_any}
 use Rattle.bx_tree.specs.Paths.{Atoms, same_path}
 use Rattle.own_writes.specs.Below.{is_below}

@@ -1,4 +1,4 @@
-use Rattle.std.proofs.Common.{◌≡◌, IfOk, ◌∙◌, sym, subst}
+use Rattle.std.proofs.Common.{◌≡◌, IfOk, sym, subst}
 use Rattle.bx_tree.specs.Trees.{Files}
 use Rattle.pip_types.specs.Made.{RisingFiles}
 use Rattle.own_writes.proofs.SameFiles.{distinct_paths, one_made}

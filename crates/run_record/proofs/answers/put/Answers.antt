@@ -1,4 +1,4 @@
-use Rattle.run_record.proofs.Told.{put_is}
+use Rattle.run_record.proofs.Recorded.{put_is}
 use Rattle.run_record.proofs.answers.put.Goals as goal
 
 pub returns-in_ok-insert-in-Asked : goal.returns-in_ok-insert-in-Asked

@@ -1,24 +1,17 @@
-use Rattle.std.proofs.Common.{◌∙◌, ◌<◌, ◌^◌, ap, subst, sym}
+use Rattle.std.proofs.Common.{◌<◌, ◌^◌, IfOk, Option, subst, sym}
+use Rattle.observed.specs.declared.access.End.{End}
 use Rattle.tool_run.specs.Described.{described}
-use Rattle.tool_run.specs.Instructions.{act}
 use Rattle.tool_run.specs.Machine.{Machine}
+use Rattle.tool_run.specs.Run.{turn}
+use Rattle.tool_run.specs.Seen.{Turns}
 use Rattle.tool_run.specs.States.{machine_of}
-use Rattle.tool_run.proofs.AskPlaces.{asks_there}
-use Rattle.tool_run.proofs.Turns.{asked_turn}
 use Rattle.tool_run.proofs.running.take_turn.Goals as goal
 
-pub take_answer-requires : goal.take_answer-requires
-take_answer-requires g c =
-    let d = described c.args.desc.now in
-    let acts = c.in_ok-act.ensures ∙ ap (λ (m : Machine). act d m c.args.instr.now) (c.go.ensures.stays c.if-go.false) in
-    let there = asks_there d (machine_of c.args.state.now) (machine_of c.act.new.self) c.args.instr.now c.in-Asks.ask
-    c.in_ok-act.field-0 acts c.in-Asks.is in
-    subst (λ n. n < 2 ^ 63) (sym there) c.requires
+pub take_deed-requires : goal.take_deed-requires
+take_deed-requires g c = subst (λ (m : Machine). m.place < 2 ^ 63) (sym (c.in_ok-go.ensures.stays c.if-branch.false)) c.requires
 
-pub returns-in_ok-push-in-Asks-clause-turn : goal.returns-in_ok-push-in-Asks-clause-turn
-returns-in_ok-push-in-Asks-clause-turn g c =
-    let d = described c.args.desc.now in
-    let acts = c.in_ok-act.ensures ∙ ap (λ (m : Machine). act d m c.args.instr.now) (c.go.ensures.stays c.if-go.false) in
-    asked_turn d (g.V.View.answers c.args.view.now) (machine_of c.args.state.now) c.args.instr.now c.in-Asks.ask c.in_ok-answer-in-Asks.answer
-    c.in_ok-act.field-0 (machine_of c.act.new.self) (machine_of c.take_answer.new.self) c.in_ok-end-in-Asks.end c.args.accesses.now.items c.push.new.self.items
-    acts c.in-Asks.is c.in_ok-answer-in-Asks.ensures.answer c.in_ok-end-in-Asks.ensures c.in_ok-push-in-Asks.ensures.items
+pub returns-clause-turn : goal.returns-clause-turn
+returns-clause-turn g c =
+    subst (λ (m : Machine). IfOk c.take_deed.result (λ (end : Option End).
+    Turns (turn (described c.args.desc.now) (g.V.View.answers c.args.view.now) m c.args.instr.now) (machine_of c.take_deed.new.state) c.args.accesses.now.items c.take_deed.new.accesses.items end))
+    (c.in_ok-go.ensures.stays c.if-branch.false) c.take_deed.ensures.turn

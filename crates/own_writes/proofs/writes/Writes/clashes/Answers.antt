@@ -1,8 +1,17 @@
-use Rattle.std.proofs.Common.{◌≡◌, ◌∙◌, ◌||◌, IfOk, Bool, ap, sym, subst}
+use Rattle.std.proofs.Common.{◌≡◌, ◌∙◌, ◌||◌, IfOk, Bool, false, ap, sym, subst}
 use Rattle.std.specs.List.{list_any}
+use Rattle.bx_tree.specs.Trees.{Files}
 use Rattle.own_writes.specs.Below.{is_below}
+use Rattle.own_writes.specs.Writes.{clashes as some_clash}
 use Rattle.own_writes.proofs.DirectorySets.{clash_is}
+use Rattle.own_writes.proofs.Unnested.{known_unclashed}
 use Rattle.own_writes.proofs.writes.Writes.clashes.Goals as goal
+
+pub returns-then-contains_key : goal.returns-then-contains_key
+returns-then-contains_key c =
+    let files = c.self.inside.files.entries in
+    subst (λ (now : Files). false ≡ some_clash now c.args.path.now) c.self.view_is
+    (sym (known_unclashed files c.args.path.now c.self.invariant.1 (sym c.contains_key.ensures ∙ c.if-contains_key.true)))
 
 pub returns-then-has_below : goal.returns-then-has_below
 returns-then-has_below c =

@@ -1,4 +1,4 @@
-use Rattle.std.proofs.Common.{◌≡◌, ◌∙◌, ap, sym}
+use Rattle.std.proofs.Common.{◌∙◌, ap, sym}
 use Rattle.observed.specs.Texts.{texts_now}
 use Rattle.own_writes.proofs.NextAtoms.{no_names}
 use Rattle.own_writes.proofs.writes.Writes.own_names.Goals as goal

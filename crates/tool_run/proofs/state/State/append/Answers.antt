@@ -4,7 +4,7 @@ use Rattle.tool_run.specs.declared.limits.TheConstants.{MAX_REGISTER}
 use Rattle.tool_text.specs.declared.tool.Operand.TheVariants.{Register}
 use Rattle.tool_run.specs.Machine.{deed_of, fitting}
 use Rattle.tool_run.specs.States.{machine_of}
-use Rattle.tool_run.specs.Values.{value_of}
+use Rattle.tool_values.specs.Values.{value_of}
 use Rattle.tool_run.proofs.Appended.{appended, other_value}
 use Rattle.tool_run.proofs.state.State.append.Goals as goal
 
@@ -19,9 +19,9 @@ returns c =
     let kept : c.replace-content.result ≡ old = c.replace-content.ensures.value ∙ c.index_mut.ensures.value ∙ get_or_default registers r c.index_mut.result.now [] there in
     let other : c.value-2.result.now ≡ more =
     c.value-2.ensures ∙ other_value registers r c.replace-content.new.dest c.args.y.now (λ e. c.requires.other (e ∙ ap Register n)) in
-    let is : c.add-2.new.self ≡ old ++ more = c.in_ok-add.ensures ∙ ap (λ xs. xs ++ c.value-2.result.now) kept ∙ ap (λ ys. old ++ ys) other in
-    let mine : length c.bytes-2.result.now ≡ length old = ap length (c.bytes-2.ensures ∙ c.index.ensures ∙ get_or_default registers r c.index.result.now [] there) in
+    let is : c.add.new.self ≡ old ++ more = c.in_ok-add.ensures ∙ ap (λ xs. xs ++ c.value-2.result.now) kept ∙ ap (λ ys. old ++ ys) other in
+    let mine : length c.bytes.result.now ≡ length old = ap length (c.bytes.ensures ∙ c.index.ensures ∙ get_or_default registers r c.index.result.now [] there) in
     let yours : length c.value.result.now ≡ length more = ap length c.value.ensures in
     let short : length (old ++ more) ≤ MAX_REGISTER = omega (arith, length-append old more, mine, yours, c.if-length-gt-MAX_REGISTER.false) in
-    appended (machine_of c.args.self.now) r (old ++ more) c.add-2.new.self c.replace-content.new.dest is short
+    appended (machine_of c.args.self.now) r (old ++ more) c.add.new.self c.replace-content.new.dest is short
     ∙ ap (λ k. deed_of (fitting (machine_of c.args.self.now) k (get_or registers k [] ++ more))) n

@@ -1,0 +1,4 @@
+//! Texts of tools and path sets.
+
+mod path_sets;
+mod tools;
