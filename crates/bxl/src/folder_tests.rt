@@ -1,11 +1,15 @@
 use crate::folder_keeper::FolderKeeper;
 use bx_io::{Got, KeepReader, Keeper, Listed, PutFault, is_name};
 use std::alloc::Global;
-use std::fs;
+use std::fs::{self, Permissions};
+use std::os::unix::fs::PermissionsExt;
 use std::rt::Files;
 use std::test::Fail;
 
 const BLOB: &str = "b/ba7816bf8f01cfea414140de5dae2223b00361a396177a9cb410ff61f20015ad";
+
+const BEGUN: &str =
+    "ignores-other-files/b/ba7816bf8f01cfea414140de5dae2223b00361a396177a9cb410ff61f20015ad.new";
 
 const LIST: &str = "w/ba7816bf8f01cfea414140de5dae2223b00361a396177a9cb410ff61f20015ad";
 
@@ -90,15 +94,21 @@ fn a_folder_keeps_what_was_put(rt: HostRuntime) -> Result<(), Fail> {
     Ok(())
 }
 
+// Whether the file that a stop leaves between the writing and the renaming changes nothing, if these bytes of it
+// were written.
+fn is_ignored<R: Files, K: Keeper>(rt: &R, alloc: Global, keeper: &mut K, bytes: &str) -> bool {
+    fs::write(rt, BEGUN, bytes).is_ok() && holds(alloc, keeper, BLOB, b"abc")
+}
+
 #[test]
 fn what_is_no_file_of_a_name_is_ignored(rt: HostRuntime) -> Result<(), Fail> {
     let alloc = rt.alloc();
     let folder = "ignores-other-files";
     let mut keeper = FolderKeeper::new(rt.clone()?, String::from_str(alloc, folder)?);
     assert!(rt; put(alloc, &mut keeper, BLOB, b"abc").is_ok());
-    // A stop between the writing and the renaming leaves such a file.
-    let begun = format!(in alloc; "{folder}/{BLOB}.new")?;
-    fs::write(&rt, begun.as_str(), "half")?;
+    for bytes in ["", "ha", "half"] {
+        assert!(rt; is_ignored(&rt, alloc, &mut keeper, bytes));
+    }
     fs::write(&rt, at(alloc, folder, "b/notes")?.as_str(), "x")?;
     fs::create_dir(&rt, at(alloc, folder, "e")?.as_str())?;
     fs::create_dir(&rt, at(alloc, folder, ENTRY)?.as_str())?;
@@ -145,5 +155,56 @@ fn a_full_disk_is_a_fault(rt: HostRuntime) -> Result<(), Fail> {
     assert!(rt; holds(alloc, &mut keeper, BLOB, b"abc"));
     assert_eq!(rt; listed(alloc, &mut keeper)?.0, 1);
     fs::remove_dir_all(&rt, folder)?;
+    Ok(())
+}
+
+fn letter_of(done: Result<(), PutFault>) -> u8 {
+    match done {
+        Ok(()) => b'd',
+        Err(PutFault::Failed) => b'f',
+        Err(PutFault::Memory) => b'm',
+    }
+}
+
+// A letter for what is held under a name, if that is `abc`, nothing or a fault.
+fn held_letter<K: Keeper>(alloc: Global, keeper: &mut K, name: &str) -> u8 {
+    match got(alloc, keeper, name) {
+        Got::Found(bytes) if bytes.as_slice() == b"abc".as_slice() => b'a',
+        Got::None => b'-',
+        Got::Failed => b'f',
+        _ => b'?',
+    }
+}
+
+fn names_letter<K: Keeper>(alloc: Global, keeper: &mut K) -> u8 {
+    match keeper.names(alloc) {
+        Listed::Names(_) => b'n',
+        Listed::Failed => b'f',
+        Listed::Memory => b'm',
+    }
+}
+
+fn permit<R: Files>(rt: &R, mode: u32) -> bool {
+    fs::set_permissions(rt, "no-permission/b", Permissions::from_mode(mode)).is_ok()
+}
+
+// Who runs tests as root is refused nothing: then the changes are made.
+#[test]
+fn no_permission_is_a_fault(rt: HostRuntime) -> Result<(), Fail> {
+    let alloc = rt.alloc();
+    let mut keeper = FolderKeeper::new(rt.clone()?, String::from_str(alloc, "no-permission")?);
+    assert!(rt; put(alloc, &mut keeper, BLOB, b"abc").is_ok());
+    assert!(rt; permit(&rt, 0o555));
+    let is_root = fs::write(&rt, "no-permission/b/more", "x").is_ok();
+    let put_letter = letter_of(put(alloc, &mut keeper, BLOB, b"new"));
+    let drop_letter = letter_of(drop_name(alloc, &mut keeper, BLOB));
+    assert!(rt; permit(&rt, 0));
+    let hidden = held_letter(alloc, &mut keeper, BLOB);
+    let listed = names_letter(alloc, &mut keeper);
+    assert!(rt; permit(&rt, 0o755));
+    let kept = held_letter(alloc, &mut keeper, BLOB);
+    let expected = if is_root { *b"dd-n-" } else { *b"ffffa" };
+    assert!(rt; [put_letter, drop_letter, hidden, listed, kept] == expected);
+    assert!(rt; fs::remove_dir_all(&rt, "no-permission").is_ok());
     Ok(())
 }

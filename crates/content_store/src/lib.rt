@@ -1,14 +1,17 @@
-//! Contents in a keeper, under their digests.
+//! Contents and entries in a keeper, under their digests.
 //!
-//! A content is held under the name that its digest gives. This crate has those names and the calls that get
-//! a content and put one. It depends on `bx_io` for keepers, on `bx_digest` for contents and on `memo_format`
-//! for which names are well. It carries the promise that what is found has the digest that was asked for.
+//! A content is held under the name that its digest gives, and an entry under that of its strong digest. This
+//! crate has those names, the calls that get a content and put one, and the call that gets an entry. It
+//! depends on `bx_io` for keepers, on `bx_digest` for contents and on `memo_format` for entries and for which
+//! names are well. It carries the promise that what is found has the digest that was asked for.
 #![tactic(auto)]
 
 mod content;
+mod entries;
 mod names;
 
 pub use content::{Fetched, get_blob, put_blob};
+pub use entries::{FetchedEntry, get_entry};
 pub use names::{blob_name, entry_name, list_name};
 
 /// Out of memory, the one refusal that no contract ties to a cause.

@@ -1,5 +1,4 @@
-//! Tests of fingerprints, stored forms and contents in keepers: of `stored_lines`, `prints`, `memo_format` and
-//! `content_store`.
+//! Tests of stored forms and contents in keepers: of `memo_format` and `content_store`.
 //!
 //! They are a crate of their own, since a crate is proved once more for the tests in it.
 #![tactic(auto)]

@@ -1,3 +1,2 @@
 mod contents;
-mod fingerprints;
 mod forms;

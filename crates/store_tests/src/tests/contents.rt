@@ -1,7 +1,10 @@
-//! Contents in keepers.
+//! Contents and entries in keepers.
+use super::forms::ENTRY;
 use bx_digest::{Blob, digest_of};
 use bx_io::{FailKeeper, KeepReader, Keeper, MemKeeper, PutFault};
-use content_store::{Fetched, blob_name, entry_name, get_blob, list_name, put_blob};
+use content_store::{
+    Fetched, FetchedEntry, blob_name, entry_name, get_blob, get_entry, list_name, put_blob,
+};
 use std::alloc::Global;
 use std::test::Fail;
 
@@ -83,5 +86,37 @@ fn names_are_a_letter_and_the_digest(rt: HostRuntime) -> Result<(), Fail> {
         entry_name(alloc, &digest)?.as_str(),
         format!(in alloc; "e/{rest}")?.as_str()
     );
+    Ok(())
+}
+
+// Holds the entry of the digest of no bytes under the name of the digest of these.
+fn hold_entry(alloc: Global, keeper: &mut MemKeeper, bytes: &[u8]) -> Result<(), Fail> {
+    let name = entry_name(alloc, &digest_of(bytes))?;
+    keeper.set_raw(alloc, name.as_str(), ENTRY.as_bytes().to_vec(alloc)?)?;
+    Ok(())
+}
+
+// A letter for what is answered to a look for the entry of the digest of these bytes.
+fn entry_letter<R: KeepReader>(alloc: Global, reader: &mut R, bytes: &[u8]) -> u8 {
+    match get_entry(alloc, reader, &digest_of(bytes)) {
+        FetchedEntry::Found(entry) if entry.strong == digest_of(b"") => b'e',
+        FetchedEntry::NotWell => b'-',
+        FetchedEntry::Fault => b'f',
+        _ => b'?',
+    }
+}
+
+#[test]
+fn an_entry_is_found_under_its_strong_digest_alone(rt: HostRuntime) -> Result<(), Fail> {
+    let alloc = rt.alloc();
+    let mut keeper = MemKeeper::new(alloc, Vec::new(alloc));
+    hold_entry(alloc, &mut keeper, b"")?;
+    hold_entry(alloc, &mut keeper, b"abc")?;
+    let keeper = FailKeeper::new(keeper, vec![in alloc; 1]?);
+    let mut reader = keeper.reader(alloc)?;
+    assert!(rt; entry_letter(alloc, &mut reader, b"") == b'f');
+    assert!(rt; entry_letter(alloc, &mut reader, b"") == b'e');
+    assert!(rt; entry_letter(alloc, &mut reader, b"abc") == b'-');
+    assert!(rt; entry_letter(alloc, &mut reader, b"x") == b'-');
     Ok(())
 }

@@ -4,7 +4,7 @@ use Rattle.bx_tree.specs.Paths.{same_path}
 use Rattle.bx_tree.specs.Trees.{paths_of}
 use Rattle.pip_types.specs.Made.{made_files}
 use Rattle.pip_types.specs.declared.made.MadeFile.{MadeFile}
-use Rattle.store_tests.proofs.tests.fingerprints.no_files.Goals as goal
+use Rattle.prints_tests.proofs.tests.no_files.Goals as goal
 
 none : (files : List MadeFile) → files ≡ [] → IsDistinct same_path (paths_of (made_files files))
 unfolding IsDistinct

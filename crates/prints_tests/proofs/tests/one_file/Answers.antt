@@ -4,7 +4,7 @@ use Rattle.bx_tree.specs.Paths.{same_path}
 use Rattle.bx_tree.specs.Trees.{paths_of}
 use Rattle.pip_types.specs.Made.{made_files}
 use Rattle.pip_types.specs.declared.made.MadeFile.{MadeFile}
-use Rattle.store_tests.proofs.tests.fingerprints.one_file.Goals as goal
+use Rattle.prints_tests.proofs.tests.one_file.Goals as goal
 
 -- a single file has a path of its own
 one_file : (f : MadeFile) → IsDistinct same_path (paths_of (made_files (f ∷ [])))
