@@ -1,0 +1,8 @@
+pub mod Samples
+mod StepsOfLiterals
+mod StepsOfOperators
+mod StepsOfCalls
+mod StepsOfCallbacks
+mod StepsOfStatements
+mod OrderOfFaults
+mod Captures

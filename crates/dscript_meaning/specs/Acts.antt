@@ -1,0 +1,15 @@
+-- What opens a call.
+use Rattle.std.specs.Prelude.{ℕ, List}
+use Rattle.dscript_value.specs.declared.parts.Callee.{Callee}
+use Rattle.dscript_value.specs.Plain.{Plain}
+use Rattle.dscript_meaning.specs.Evaluating.{Gives}
+
+-- a function that is called, with what it holds and its arguments, or a constant that is demanded for the
+-- first time
+pub data Act : Type 0 where
+  Call : Callee → List Plain → List Plain → Act
+  Demand : ℕ → ℕ → Act
+
+-- how opened calls are evaluated
+abbrev pub Acts : Type 0
+Acts = Act → Gives Plain
