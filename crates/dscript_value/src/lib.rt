@@ -1,7 +1,7 @@
 //! The values of DScript.
 //!
 //! Evaluation takes values apart and makes new ones, and the ambient calls get and give them. This crate
-//! stands on `bx_tree` and `dscript_ambient`. Contracts see a value as plain data, without pointers. It
+//! depends on `bx_tree` and `dscript_ambient`. Contracts see a value as plain data, without pointers. It
 //! carries the promises that a shared value is equal in all that contracts see, that no value is deeper
 //! than the limit, and that `===` is decided as it is defined.
 #![tactic(auto)]
@@ -21,6 +21,3 @@ pub use value::{Field, Fields, FunctionRef, Value, Values};
 
 /// Out of memory, the one refusal that no contract ties to a cause.
 pub type Memory = std::alloc::AllocError;
-
-#[cfg(test)]
-mod tests;

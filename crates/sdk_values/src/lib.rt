@@ -31,3 +31,5 @@ pub type Memory = std::alloc::AllocError;
 
 #[cfg(test)]
 mod tests;
+#[cfg(test)]
+mod value_tests;

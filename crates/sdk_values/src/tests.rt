@@ -4,29 +4,29 @@ use dscript_value::{Argument, Field, Fields, Value, list_of, object_of};
 use std::alloc::Global;
 use std::test::Fail;
 
-fn text(alloc: Global, bytes: &[u8]) -> Result<Text, Fail> {
-    Ok(Text::new(alloc, bytes.to_vec(alloc)?)?)
+pub(crate) fn text(alloc: Global, text: &str) -> Result<Text, Fail> {
+    Ok(Text::new(alloc, text.as_bytes().to_vec(alloc)?)?)
 }
 
-fn path(alloc: Global) -> Result<Path, Fail> {
+pub(crate) fn path(alloc: Global) -> Result<Path, Fail> {
     Ok(Path::read(alloc, b"a/b")?)
 }
 
 /// A value of each kind that calls read, and `undefined`.
-fn sample(alloc: Global, number: u8) -> Result<Value, Fail> {
-    Ok(match number {
-        0 => Value::Flag(true),
-        1 => Value::Text(text(alloc, b"x")?),
-        2 => Value::Path(path(alloc)?),
-        3 => Value::File(FileInput::Made(path(alloc)?, 7)),
-        4 => Value::Directory(path(alloc)?),
-        5 => Value::Argument(Argument {
+fn sample(alloc: Global, number: usize) -> Result<Value, Fail> {
+    match number {
+        0 => Ok(Value::Flag(true)),
+        1 => Ok(Value::Text(text(alloc, "x")?)),
+        2 => Ok(Value::Path(path(alloc)?)),
+        3 => Ok(Value::File(FileInput::Made(path(alloc)?, 7))),
+        4 => Ok(Value::Directory(path(alloc)?)),
+        5 => Ok(Value::Argument(Argument {
             text: None,
             artifact: None,
-        }),
-        6 => list_of(alloc, Vec::new(alloc))?,
-        _ => Value::Undefined,
-    })
+        })),
+        6 => Ok(list_of(alloc, Vec::new(alloc))?),
+        _ => Ok(Value::Undefined),
+    }
 }
 
 /// Which of the readers take a value.
@@ -42,17 +42,22 @@ fn readers(value: &Value) -> [bool; 7] {
     ]
 }
 
+/// Whether the reader with the number of a sample alone takes it.
+fn is_taken_alone(alloc: Global, number: usize) -> Result<bool, Fail> {
+    let value = sample(alloc, number)?;
+    let takes = readers(&value);
+    Ok(
+        takes
+            .iter()
+            .enumerate()
+            .all(|(reader, takes)| *takes == (reader == number)),
+    )
+}
+
 #[test]
 fn each_reader_takes_one_kind(rt: HostRuntime) -> Result<(), Fail> {
-    for number in 0..8u8 {
-        let taken = readers(&sample(rt.alloc(), number)?);
-        for (reader, takes) in taken.iter().enumerate() {
-            assert_eq!(rt;
-                *takes,
-                reader == number as usize,
-                "value {number}, reader {reader}"
-            );
-        }
+    for number in 0..8usize {
+        assert!(rt; is_taken_alone(rt.alloc(), number)?, "value {number}");
     }
     Ok(())
 }
@@ -76,63 +81,72 @@ fn name_of<T>(outcome: &Result<T, SdkFault>) -> &'static str {
     }
 }
 
-/// An object of these fields, each a text.
-fn object(alloc: Global, names: &[&[u8]]) -> Result<Value, Fail> {
+fn add_text(alloc: Global, fields: &mut Vec<Field>, name: &str) -> Result<(), Fail> {
+    let name = text(alloc, name)?;
+    let value = Value::Text(text(alloc, "x")?);
+    Ok(fields.push(Field { name, value })?)
+}
+
+/// An object whose fields have these letters as names, each a text.
+fn object(alloc: Global, letters: &str) -> Result<Value, Fail> {
     let mut fields = Vec::new(alloc);
-    for name in names {
-        fields.push(Field {
-            name: text(alloc, name)?,
-            value: Value::Text(text(alloc, b"x")?),
-        })?;
+    for name in letters.split(',') {
+        if !name.is_empty() {
+            add_text(alloc, &mut fields, name)?;
+        }
     }
     Ok(object_of(alloc, fields)?)
 }
 
-/// The fields of an object, and whether it may have a required `a` and an optional `b`.
-const OBJECTS: &[(&[&[u8]], &str)] = &[
-    (&[b"a"], "ok"),
-    (&[b"b", b"a"], "ok"),
-    (&[b"b"], "argument"),
-    (&[b"a", b"c"], "argument"),
-    (&[], "argument"),
+/// How an object is read that may have a required `a` and an optional `b`.
+fn object_answer(alloc: Global, letters: &str) -> Result<&'static str, Fail> {
+    let value = object(alloc, letters)?;
+    Ok(name_of(&read_object(&value, &[b"a"], &[b"b"])))
+}
+
+/// The fields of an object, and how it is read.
+const OBJECTS: &[(&str, &str)] = &[
+    ("a", "ok"),
+    ("b,a", "ok"),
+    ("b", "argument"),
+    ("a,c", "argument"),
+    ("", "argument"),
 ];
 
 #[test]
 fn objects_have_the_fields_that_they_may_have(rt: HostRuntime) -> Result<(), Fail> {
-    for (names, answer) in OBJECTS {
-        let value = object(rt.alloc(), names)?;
-        assert_eq!(rt; name_of(&read_object(&value, &[b"a"], &[b"b"])), *answer);
+    for (letters, answer) in OBJECTS {
+        assert!(rt; object_answer(rt.alloc(), letters)? == *answer);
     }
-    assert_eq!(rt;
-        name_of(&read_object(&Value::Undefined, &[b"a"], &[])),
-        "kind"
-    );
+    assert!(rt; name_of(&read_object(&Value::Undefined, &[b"a"], &[])) == "kind");
     Ok(())
 }
 
 /// A list of this value alone.
-fn listed(alloc: Global, value: Value) -> Result<Value, Fail> {
+pub(crate) fn listed(alloc: Global, value: Value) -> Result<Value, Fail> {
     let mut items = Vec::new(alloc);
     items.push(value)?;
     Ok(list_of(alloc, items)?)
 }
 
+fn add_list(alloc: Global, fields: &mut Vec<Field>, name: &str) -> Result<(), Fail> {
+    let name = text(alloc, name)?;
+    let value = listed(alloc, Value::Text(text(alloc, "y")?))?;
+    Ok(fields.push(Field { name, value })?)
+}
+
+fn add_undefined(alloc: Global, fields: &mut Vec<Field>, name: &str) -> Result<(), Fail> {
+    let name = text(alloc, name)?;
+    let value = Value::Undefined;
+    Ok(fields.push(Field { name, value })?)
+}
+
 /// An object whose field `a` is a text, `b` a list of a text, and `c` undefined.
 fn fields(alloc: Global) -> Result<Value, Fail> {
     let mut fields = Vec::new(alloc);
-    fields.push(Field {
-        name: text(alloc, b"a")?,
-        value: Value::Text(text(alloc, b"x")?),
-    })?;
-    let list = listed(alloc, Value::Text(text(alloc, b"y")?))?;
-    fields.push(Field {
-        name: text(alloc, b"b")?,
-        value: list,
-    })?;
-    fields.push(Field {
-        name: text(alloc, b"c")?,
-        value: Value::Undefined,
-    })?;
+    add_text(alloc, &mut fields, "a")?;
+    add_list(alloc, &mut fields, "b")?;
+    add_undefined(alloc, &mut fields, "c")?;
     Ok(object_of(alloc, fields)?)
 }
 
@@ -153,17 +167,19 @@ const FIELDS: &[(&[u8], [&str; 4])] = &[
     (b"d", ["argument", "argument", "ok", "ok"]),
 ];
 
+/// Whether a field of an object is read so.
+fn is_read_as(alloc: Global, value: &Value, name: &[u8], answers: &[&str; 4]) -> bool {
+    match value {
+        Value::Object(fields) => field_answers(alloc, fields, name) == *answers,
+        _ => false,
+    }
+}
+
 #[test]
 fn fields_hold_what_they_must(rt: HostRuntime) -> Result<(), Fail> {
     let value = fields(rt.alloc())?;
-    let Value::Object(fields) = &value else {
-        return Err(Fail::new("no object"));
-    };
     for (name, answers) in FIELDS {
-        let found = field_answers(rt.alloc(), fields, name);
-        for (place, answer) in answers.iter().enumerate() {
-            assert_eq!(rt; found[place], *answer);
-        }
+        assert!(rt; is_read_as(rt.alloc(), &value, name, answers));
     }
     Ok(())
 }
@@ -183,16 +199,33 @@ fn list_answer(alloc: Global, length: usize) -> Result<&'static str, Fail> {
     Ok(name_of(&list_value(alloc, items)))
 }
 
+const TEXTS: &[(usize, &str)] = &[(MAX_TEXT_BYTES, "ok"), (MAX_TEXT_BYTES + 1, "range")];
+
+const LISTS: &[(usize, &str)] = &[(MAX_LIST_ITEMS, "ok"), (MAX_LIST_ITEMS + 1, "range")];
+
+const NUMBERS: &[(usize, &str)] = &[(2_147_483_647, "ok"), (2_147_483_648, "range")];
+
 #[test]
-fn values_are_within_their_limits(rt: HostRuntime) -> Result<(), Fail> {
-    let alloc = rt.alloc();
-    assert_eq!(rt; text_answer(alloc, MAX_TEXT_BYTES)?, "ok");
-    assert_eq!(rt; text_answer(alloc, MAX_TEXT_BYTES + 1)?, "range");
-    assert_eq!(rt; list_answer(alloc, MAX_LIST_ITEMS)?, "ok");
-    assert_eq!(rt; list_answer(alloc, MAX_LIST_ITEMS + 1)?, "range");
-    assert_eq!(rt; name_of(&number_value(2_147_483_647)), "ok");
-    assert_eq!(rt; name_of(&number_value(2_147_483_648)), "range");
+fn texts_are_within_their_limit(rt: HostRuntime) -> Result<(), Fail> {
+    for (length, answer) in TEXTS {
+        assert!(rt; text_answer(rt.alloc(), *length)? == *answer);
+    }
     Ok(())
+}
+
+#[test]
+fn lists_are_within_their_limit(rt: HostRuntime) -> Result<(), Fail> {
+    for (length, answer) in LISTS {
+        assert!(rt; list_answer(rt.alloc(), *length)? == *answer);
+    }
+    Ok(())
+}
+
+#[test]
+fn numbers_are_within_their_limit(rt: HostRuntime) {
+    for (number, answer) in NUMBERS {
+        assert!(rt; name_of(&number_value(*number)) == *answer);
+    }
 }
 
 /// What the first argument and the first two come to.
@@ -212,9 +245,7 @@ fn arguments_are_counted(rt: HostRuntime) -> Result<(), Fail> {
         (1, ["ok", "argument"]),
         (3, ["ok", "ok"]),
     ] {
-        let found = counted(&args[..count]);
-        assert_eq!(rt; found[0], answers[0]);
-        assert_eq!(rt; found[1], answers[1]);
+        assert!(rt; counted(&args[..count]) == answers);
     }
     Ok(())
 }
