@@ -39,7 +39,7 @@ fn a_text_leads_from_a_path_to_another_or_nowhere(rt: HostRuntime) -> Result<(),
     Ok(())
 }
 
-/// A piece so many times, and a last one.
+/// `count` copies of a piece, and a last one.
 fn repeated(alloc: Global, piece: &[u8], count: usize, last: &[u8]) -> Result<Vec<u8>, AllocError> {
     let mut text = Vec::new(alloc);
     for _ in 0..count {

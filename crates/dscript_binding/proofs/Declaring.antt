@@ -11,7 +11,7 @@ use Rattle.dscript_scopes.specs.Answers.{Checks}
 use Rattle.dscript_scopes.specs.declared.stop.Stop.{Stop}
 use Rattle.dscript_scopes.specs.declared.stop.Stop.TheVariants as stops
 use Rattle.dscript_binding.specs.Binding.{named_decl}
-use Rattle.dscript_binding.specs.Walk.{Bound, Binds, behind, continued, ◌>>=◌, gives, no_fault}
+use Rattle.dscript_binding.specs.Walk.{Bound, Binds, chained, continued, ◌>>=◌, gives, no_fault}
 use Rattle.dscript_binding.specs.Walked.{here_of, table_of}
 use Rattle.dscript_binding.specs.Turned.{after_turns}
 use Rattle.dscript_binding.specs.Declares.{gathered_in, Gathered, Gathers, Passed}
@@ -73,7 +73,7 @@ passed_init {all} {rest} {g} e = record {
 
 after_next : (xs : List DeclData) (fs : List FunctionData) (ns : List ℕ) (b : Bound (List DeclData))
     (r : Result (Bound (List DeclData)) SpecKind)
-    → after_turns xs fs ns (behind b (continued r (λ es. gives (b.value ++ es))))
+    → after_turns xs fs ns (chained b (continued r (λ es. gives (b.value ++ es))))
     ≡ after_turns (xs ++ b.value) (fs ++ b.functions) (ns ++ b.names) r
 after_next xs fs ns b (Err kind) = refl
 after_next xs fs ns b (Ok c) =

@@ -13,7 +13,7 @@ use Rattle.dscript_scopes.specs.declared.stop.Stop.TheVariants as stops
 use Rattle.std.specs.declared.vec.Vec.{Vec}
 use Rattle.std.specs.declared.alloc.Global.{Global}
 use Rattle.dscript_binding.specs.Binding.{assigns, bind_name, local_named, names_target}
-use Rattle.dscript_binding.specs.Walk.{Here, Bound, Binds, behind, continued, declare, leave, next_local, or_fault, within}
+use Rattle.dscript_binding.specs.Walk.{Here, Bound, Binds, chained, continued, declare, leave, next_local, or_fault, within}
 use Rattle.dscript_binding.specs.Walked.{here_of, table_of, Walked, Walks}
 use Rattle.dscript_binding.specs.declared.walker.Walker.{Walker}
 

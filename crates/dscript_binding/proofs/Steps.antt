@@ -6,7 +6,7 @@ use Rattle.dscript_scopes.specs.Blocks.{Block}
 use Rattle.dscript_scopes.specs.declared.local.Local.{Local}
 use Rattle.dscript_scopes.specs.declared.stop.Stop.{Stop}
 use Rattle.dscript_scopes.specs.declared.stop.Stop.TheVariants as stops
-use Rattle.dscript_binding.specs.Walk.{Here, Bound, Binds, behind, continued, ◌>>=◌, gives, in_turn, leave, within}
+use Rattle.dscript_binding.specs.Walk.{Here, Bound, Binds, chained, continued, ◌>>=◌, gives, in_turn, leave, within}
 use Rattle.dscript_binding.specs.Walked.{here_of, table_of, Walked, Walks}
 use Rattle.dscript_binding.specs.Turned.{after_turns, Turned}
 use Rattle.dscript_binding.specs.declared.walker.Walker.{Walker}
@@ -23,7 +23,7 @@ walked_then {X} {Y} {A} {B} {va} {vb} {m} {s0} {s1} {s2} {x} {y} next first seco
     record {
       functions = first.functions ++ second.functions;
       names = first.names ++ second.names;
-      is = ap (λ r. continued r next) first.is ∙ ap (behind b) second.is;
+      is = ap (λ r. continued r next) first.is ∙ ap (chained b) second.is;
       table = second.table ∙ ap (λ t. t ++ second.functions) first.table
           ∙ append_assoc (table_of s0) first.functions second.functions;
       named = second.named ∙ ap (λ t. t ++ second.names) first.named
@@ -64,7 +64,7 @@ then_walks {X} {Y} {A} {B} {va} {m} {s0} {s1} {x} next vb s2 (Err (stops.Fault k
       after = here_of s1;
       functions = w.functions;
       names = w.names;
-    } in ap (λ r. continued r next) w.is ∙ ap (behind b) h
+    } in ap (λ r. continued r next) w.is ∙ ap (chained b) h
 then_walks next vb s2 (Err stops.Memory) w h = tt
 
 pub stop_first : {X Y A B : Type 0} (m : Binds A) (s0 : Walker) (next : A → Binds B) (va : X → A) (vb : Y → B)
@@ -126,7 +126,7 @@ turned_init {X} {A} {view} {all} {rest} {s} {xs} e none = record {
 -- one more
 after_next : {A : Type 0} (xs : List A) (fs : List FunctionData) (ns : List ℕ) (b : Bound A)
     (r : Result (Bound (List A)) SpecKind)
-    → after_turns xs fs ns (behind b (continued r (λ ys. gives (b.value ∷ ys))))
+    → after_turns xs fs ns (chained b (continued r (λ ys. gives (b.value ∷ ys))))
     ≡ after_turns (xs ++ b.value ∷ []) (fs ++ b.functions) (ns ++ b.names) r
 after_next xs fs ns b (Err kind) = refl
 after_next {A} xs fs ns b (Ok c) =

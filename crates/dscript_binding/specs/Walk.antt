@@ -32,17 +32,17 @@ abbrev pub Binds : Type 0 → Type 0
 Binds A = Here → Result (Bound A) SpecKind
 
 -- one after the other
-abbrev pub behind : {A B : Type 0} → Bound A → Result (Bound B) SpecKind → Result (Bound B) SpecKind
-behind b (Ok c) = Ok (record {
+abbrev pub chained : {A B : Type 0} → Bound A → Result (Bound B) SpecKind → Result (Bound B) SpecKind
+chained b (Ok c) = Ok (record {
   value = c.value;
   after = c.after;
   functions = b.functions ++ c.functions;
   names = b.names ++ c.names;
 })
-behind b (Err kind) = Err kind
+chained b (Err kind) = Err kind
 
 abbrev pub continued : {A B : Type 0} → Result (Bound A) SpecKind → (A → Binds B) → Result (Bound B) SpecKind
-continued (Ok b) next = behind b (next b.value b.after)
+continued (Ok b) next = chained b (next b.value b.after)
 continued (Err kind) next = Err kind
 
 infixl 10 ◌>>=◌

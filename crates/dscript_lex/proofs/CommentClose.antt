@@ -46,19 +46,19 @@ next_none : (t : Bool) (o : Option ℕ) → cond t (Some 2) (option_more 1 o) �
 next_none true o e = cc
 next_none false o e = tail_none o e
 
-pub none_behind : (s : List ℕ) → close_len s ≡ None → (n : ℕ) → close_len (drop n s) ≡ None
+pub none_after : (s : List ℕ) → close_len s ≡ None → (n : ℕ) → close_len (drop n s) ≡ None
 unfolding close_len
-none_behind [] none zero = refl
-none_behind [] none (suc n) = refl
-none_behind (a ∷ s) none zero = none
-none_behind (a ∷ []) none (suc n) = none_behind [] refl n
-none_behind (a ∷ b ∷ bs) none (suc n) = none_behind (b ∷ bs) (next_none (eqb a 0x2a && eqb b 0x2f) (close_len (b ∷ bs)) none) n
+none_after [] none zero = refl
+none_after [] none (suc n) = refl
+none_after (a ∷ s) none zero = none
+none_after (a ∷ []) none (suc n) = none_after [] refl n
+none_after (a ∷ b ∷ bs) none (suc n) = none_after (b ∷ bs) (next_none (eqb a 0x2a && eqb b 0x2f) (close_len (b ∷ bs)) none) n
 
 pub never_closes : (a b : ℕ) (bs : List ℕ) → close_len bs ≡ None → NeverCloses (a ∷ b ∷ bs)
-never_closes a b bs none = λ n. let e : n + 2 ≡ suc (suc n) = omega arith in subst (λ k. close_len (drop k (a ∷ b ∷ bs)) ≡ None) (sym e) (none_behind bs none n)
+never_closes a b bs none = λ n. let e : n + 2 ≡ suc (suc n) = omega arith in subst (λ k. close_len (drop k (a ∷ b ∷ bs)) ≡ None) (sym e) (none_after bs none n)
 
-pub never_closes_behind : (s : List ℕ) (k : ℕ) → NeverCloses s → NeverCloses (drop k s)
-never_closes_behind s k never = λ n.
+pub never_closes_after : (s : List ℕ) (k : ℕ) → NeverCloses s → NeverCloses (drop k s)
+never_closes_after s k never = λ n.
     let e : k + (n + 2) ≡ (k + n) + 2 = omega arith in
     ap close_len (drop-drop (n + 2) k s ∙ ap (λ m. drop m s) e) ∙ never (k + n)
 

@@ -177,13 +177,13 @@ root_file : path_literal letters.File dir None (codes "..") ≡ Err BadPath
 unfolding path_literal
 root_file = refl
 
-text_at_front : first_hole [] (text (codes "a")) ≡ Ok (None, codes "a")
+text_at_start : first_hole [] (text (codes "a")) ≡ Ok (None, codes "a")
 unfolding first_hole literal_hole
-text_at_front = refl
+text_at_start = refl
 
-no_base_behind_text : first_hole (codes "a") (plain.Directory dir) ≡ Err Kind
+no_base_after_text : first_hole (codes "a") (plain.Directory dir) ≡ Err Kind
 unfolding first_hole literal_hole
-no_base_behind_text = refl
+no_base_after_text = refl
 
 base_at_front : first_hole [] (plain.Directory dir) ≡ Ok (Some dir, [])
 unfolding first_hole

@@ -20,14 +20,14 @@ base_of (plain.File file) = Some (file_path file)
 base_of (plain.Directory path) = Some path
 base_of _ = None
 
--- the hole at the front of a literal: the base that it gives, or else a text
-abbrev pub front_hole : Option Atoms → Plain → Outcome (Option Atoms × List ℕ)
-front_hole (Some base) v = Ok (Some base, [])
-front_hole None v = literal_hole v >>= λ text. Ok (None, text)
+-- the hole at the start of a literal: the base that it gives, or else a text
+abbrev pub leading_hole : Option Atoms → Plain → Outcome (Option Atoms × List ℕ)
+leading_hole (Some base) v = Ok (Some base, [])
+leading_hole None v = literal_hole v >>= λ text. Ok (None, text)
 
--- The text of a literal up to its first hole, and the hole. It is at the front where no text comes before it.
+-- The text of a literal up to its first hole, and the hole. It is at the start where no text comes before it.
 unfoldable pub first_hole : List ℕ → Plain → Outcome (Option Atoms × List ℕ)
-first_hole [] v = front_hole (base_of v) v
+first_hole [] v = leading_hole (base_of v) v
 first_hole (b ∷ bs) v = literal_hole v >>= λ hole. Ok (None, b ∷ bs ++ hole)
 
 -- What follows a base: nothing, which leads to the base itself, or a `/` and a text that is joined to it.
@@ -35,7 +35,7 @@ abbrev pub path_from_base : Atoms → List ℕ → Option Atoms
 path_from_base base [] = Some base
 path_from_base base (b ∷ rest) = if b == 47 then join_of base rest else None
 
--- Where a text leads: from its base, or else from the directory of the file. A text with a `/` at its front
+-- Where a text leads: from its base, or else from the directory of the file. A text with a `/` at its start
 -- has an empty first part, so without a base it leads nowhere.
 abbrev pub path_to : Atoms → Option Atoms → List ℕ → Option Atoms
 path_to dir (Some base) text = path_from_base base text

@@ -13,7 +13,7 @@ use dscript_value::Value;
 use sdk_values::SdkFault;
 use std::alloc::Global;
 
-// The base that a hole at the front of a literal gives, if it gives one.
+// The base that a hole at the start of a literal gives, if it gives one.
 fn base_of(hole: &Value) -> Option<&Path>
     ensures { MatchOption result
         (spec.base_of (plain_of hole.now) ≡ None)

@@ -22,11 +22,11 @@ module _ (type : Reader TypeTree) (depth : ℕ) where
   unfolding read_union
   union_step n x rest after o is e = pick_false _ _ o ∙ then_some _ is ∙ choose_some _ _ e
 
-  pub union_next : (x : TypeNode) {items pushed : List TypeNode} {height k : ℕ} {rest start behind after : List TokenKind} → pushed ≡ items ++ x ∷ []
-      → UnionInvariant type depth items height rest start → at_function rest ≡ false → read_array type depth rest ≡ Some (record { value = type_tree x; height = k; rest = behind }) → take_punctuator "|" behind ≡ Some after
-      → length behind < length rest → length after < length behind
+  pub union_next : (x : TypeNode) {items pushed : List TypeNode} {height k : ℕ} {rest start later after : List TokenKind} → pushed ≡ items ++ x ∷ []
+      → UnionInvariant type depth items height rest start → at_function rest ≡ false → read_array type depth rest ≡ Some (record { value = type_tree x; height = k; rest = later }) → take_punctuator "|" later ≡ Some after
+      → length later < length rest → length after < length later
       → UnionInvariant type depth pushed (max height k) after start
-  union_next x {items = items} {pushed = pushed} {height = height} {k = k} {rest = rest} {start = start} {behind = behind} {after = after} e f o is t s u =
+  union_next x {items = items} {pushed = pushed} {height = height} {k = k} {rest = rest} {start = start} {later = later} {after = after} e f o is t s u =
       let pushes : map type_tree pushed ≡ map type_tree items ++ type_tree x ∷ [] = ap (map type_tree) e ∙ map_push type_tree items x in
       let long : length pushed ≡ suc (length items) = ap length e ∙ length_push items x in
       record {
@@ -52,22 +52,22 @@ module _ (type : Reader TypeTree) (depth : ℕ) where
       let n : ℕ = length start - length items in
       ap (λ j. read_union type depth j start) (omega (arith, f.count)) ∙ sym (f.resumes (suc n)) ∙ ap (with_items (map type_tree items) height) (is n)
 
-  ending : (x : TypeNode) (items pushed : List TypeNode) (height k : ℕ) (behind : List TokenKind) → pushed ≡ items ++ x ∷ []
-      → with_items (map type_tree items) height (got (type_tree x ∷ []) k behind) ≡ got (map type_tree pushed) (max height k) behind
-  ending x items pushed height k behind e =
-      items_one (map type_tree items) (type_tree x) height k behind ∙ ap (λ xs. got xs (max height k) behind) (sym (ap (map type_tree) e ∙ map_push type_tree items x))
+  ending : (x : TypeNode) (items pushed : List TypeNode) (height k : ℕ) (later : List TokenKind) → pushed ≡ items ++ x ∷ []
+      → with_items (map type_tree items) height (got (type_tree x ∷ []) k later) ≡ got (map type_tree pushed) (max height k) later
+  ending x items pushed height k later e =
+      items_one (map type_tree items) (type_tree x) height k later ∙ ap (λ xs. got xs (max height k) later) (sym (ap (map type_tree) e ∙ map_push type_tree items x))
 
-  pub union_done : (x : TypeNode) {items pushed : List TypeNode} {height k : ℕ} {rest start behind : List TokenKind} → pushed ≡ items ++ x ∷ []
-      → UnionInvariant type depth items height rest start → at_function rest ≡ false → read_array type depth rest ≡ Some (record { value = type_tree x; height = k; rest = behind }) → take_punctuator "|" behind ≡ None
-      → read_union type depth (suc (length start)) start ≡ got (map type_tree pushed) (max height k) behind
-  union_done x {items = items} {pushed = pushed} {height = height} {k = k} {rest = rest} {start = start} {behind = behind} e f o is t =
-      union_at items height rest start _ f (λ n. union_last n _ rest o is t) ∙ ending x items pushed height k behind e
+  pub union_done : (x : TypeNode) {items pushed : List TypeNode} {height k : ℕ} {rest start later : List TokenKind} → pushed ≡ items ++ x ∷ []
+      → UnionInvariant type depth items height rest start → at_function rest ≡ false → read_array type depth rest ≡ Some (record { value = type_tree x; height = k; rest = later }) → take_punctuator "|" later ≡ None
+      → read_union type depth (suc (length start)) start ≡ got (map type_tree pushed) (max height k) later
+  union_done x {items = items} {pushed = pushed} {height = height} {k = k} {rest = rest} {start = start} {later = later} e f o is t =
+      union_at items height rest start _ f (λ n. union_last n _ rest o is t) ∙ ending x items pushed height k later e
 
-  pub union_closed : (x : TypeNode) {items pushed : List TypeNode} {height k : ℕ} {rest start behind : List TokenKind} → pushed ≡ items ++ x ∷ []
-      → UnionInvariant type depth items height rest start → at_function rest ≡ true → read_function type rest ≡ Some (record { value = type_tree x; height = k; rest = behind })
-      → read_union type depth (suc (length start)) start ≡ got (map type_tree pushed) (max height k) behind
-  union_closed x {items = items} {pushed = pushed} {height = height} {k = k} {rest = rest} {start = start} {behind = behind} e f o is =
-      union_at items height rest start _ f (λ n. union_function n _ rest o is) ∙ ending x items pushed height k behind e
+  pub union_closed : (x : TypeNode) {items pushed : List TypeNode} {height k : ℕ} {rest start later : List TokenKind} → pushed ≡ items ++ x ∷ []
+      → UnionInvariant type depth items height rest start → at_function rest ≡ true → read_function type rest ≡ Some (record { value = type_tree x; height = k; rest = later })
+      → read_union type depth (suc (length start)) start ≡ got (map type_tree pushed) (max height k) later
+  union_closed x {items = items} {pushed = pushed} {height = height} {k = k} {rest = rest} {start = start} {later = later} e f o is =
+      union_at items height rest start _ f (λ n. union_function n _ rest o is) ∙ ending x items pushed height k later e
 
   array_stuck : (n : ℕ) (rest : List TokenKind) → at_function rest ≡ false → read_array type depth rest ≡ None → read_union type depth (suc n) rest ≡ None
   unfolding read_union
@@ -93,7 +93,7 @@ unfolding and_then
 brackets_more k None = refl
 brackets_more k (Some r) = ap (λ n. got n 0 r.rest) (omega arith)
 
--- what is read with no more room is what stands there
+-- adding no height to what is read changes nothing
 flat : (m : Option (Read ℕ)) → ((r : Read ℕ) → m ≡ Some r → r.height ≡ 0) → and_then m (λ r. got (0 + r.value) 0 r.rest) ≡ m
 unfolding and_then
 flat None f = refl

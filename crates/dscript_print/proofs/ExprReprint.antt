@@ -22,7 +22,7 @@ use Rattle.dscript_print.specs.Runs.{punct, keyword, enclosed, run_if, joined, s
 use Rattle.dscript_print.specs.TypeKinds.{note_kinds, type_kinds}
 use Rattle.dscript_print.specs.ExprKinds.{is_object, is_enclosed, placed, tighter, prefix_kind, operator_kind, letter_kind, loop_kind, param_kinds, params_kinds, head_kinds, first_text, node_kinds, exprs_kinds, operand_kinds, operands_kinds, part_kinds, parts_kinds, element_kinds, elements_kinds, prop_kinds, props_kinds, holes_kinds, stmt_kinds, value_kinds, maybe_kinds, stmts_kinds, expr_kinds}
 use Rattle.dscript_print.proofs.Spelled.{is_plain, Closes, append_assoc, balanced_head, closes_tail, closes_middle, closes_after}
-use Rattle.dscript_print.proofs.Reprint.{AllSpell, token_left, stands_seq, IsReprint, Reprints, reprint_seq, reprints_seq, reprints_nothing, reprints_token, reprints_after, reprints_id, reprints_after_id, reprints_given, reprints_if, reprints_many, reprints_list, reprints_in_braces, reprints_alone, reprint_enclosed}
+use Rattle.dscript_print.proofs.Reprint.{AllSpell, token_left, seq_holds, IsReprint, Reprints, reprint_seq, reprints_seq, reprints_nothing, reprints_token, reprints_after, reprints_id, reprints_after_id, reprints_given, reprints_if, reprints_many, reprints_list, reprints_in_braces, reprints_alone, reprint_enclosed}
 use Rattle.dscript_print.proofs.TypeReprint.{type_reprint}
 
 pub exprs_runs : (xs : ExprTrees) → exprs_kinds xs ≡ map (expr_kinds false any_expr) (exprs_of xs)
@@ -232,7 +232,7 @@ module _ (h h2 : ℕ) (le : h ≤ h2) where
         let s = any_one e ts d.0 fine d.1 in
         let both = token_left (kinds.Tail text) d.0 rest s.left d.2 in
         record {
-          derived = stands_seq (expr2 any_expr e) (token (kinds.Tail text)) (expr_kinds false any_expr e) (kinds.Tail text ∷ []) s.derived (λ more. refl);
+          derived = seq_holds (expr2 any_expr e) (token (kinds.Tail text)) (expr_kinds false any_expr e) (kinds.Tail text ∷ []) s.derived (λ more. refl);
           closes = closes_after (expr_kinds false any_expr e) (kinds.Tail text ∷ []) s.fine (closes_tail text both.0);
           left = both.1;
         }
@@ -241,7 +241,7 @@ module _ (h h2 : ℕ) (le : h ≤ h2) where
         let both = token_left (kinds.Middle text) d.0 d.2.0 s.left d.2.1 in
         let o = reprints_holes (more_holes x more) d.2.0 rest both.1 d.2.2 in
         record {
-          derived = stands_seq (expr2 any_expr e) (token (kinds.Middle text) ⋅ holes h2 expr2 stmt2 (holes_of (more_holes x more))) (expr_kinds false any_expr e) (kinds.Middle text ∷ holes_kinds (more_holes x more)) s.derived (λ m. (holes_kinds (more_holes x more) ++ m, refl, o.derived m));
+          derived = seq_holds (expr2 any_expr e) (token (kinds.Middle text) ⋅ holes h2 expr2 stmt2 (holes_of (more_holes x more))) (expr_kinds false any_expr e) (kinds.Middle text ∷ holes_kinds (more_holes x more)) s.derived (λ m. (holes_kinds (more_holes x more) ++ m, refl, o.derived m));
           closes = closes_after (expr_kinds false any_expr e) (kinds.Middle text ∷ holes_kinds (more_holes x more)) s.fine (closes_middle text (holes_kinds (more_holes x more)) both.0 o.closes);
           left = o.left;
         }
@@ -520,8 +520,8 @@ object_unclear k (Name _) ts rest o d c = false≢true o
 object_unclear k (Elements _) ts rest o d c = false≢true o
 
 -- where parentheses are needed, the height allows them
-room_for_parens : (h m level : ℕ) (unbraced : Bool) (e : ExprTree) (ts rest : List TokenKind) → h ≤ m → Free h m unbraced ts → is_enclosed unbraced level e ≡ true → (i : Inner h level e ts rest) → suc (suc i.k) ≤ m
-room_for_parens h m level unbraced e ts rest le free needed i = by i.place
+depth_for_parens : (h m level : ℕ) (unbraced : Bool) (e : ExprTree) (ts rest : List TokenKind) → h ≤ m → Free h m unbraced ts → is_enclosed unbraced level e ≡ true → (i : Inner h level e ts rest) → suc (suc i.k) ≤ m
+depth_for_parens h m level unbraced e ts rest le free needed i = by i.place
   where
     by_object : (tight : expr_precedence e ≤ level) (within : suc i.k ≤ h) (same : i.unbraced ≡ ts) → nat_lt level (expr_precedence e) ≡ false → (f : Bool) → f ≡ unbraced → (f && is_object e) ≡ true → suc (suc i.k) ≤ m
     by_object tight within same t false q o = absurd (false≢true o)
@@ -562,9 +562,9 @@ expr_placed h below m le unbraced level e ts rest free fine d = by (is_enclosed 
     layer : Layer i.k
     layer = below i.k (omega (arith, within i.place))
 
-    in_front : ((expr_precedence e ≤ level) × (suc i.k ≤ h) × (i.unbraced ≡ ts)) ⊎ (suc (suc i.k) ≤ h) → unbraced ≡ true → Clear i.unbraced ⊎ (suc (suc i.k) ≤ m)
-    in_front (inr l) q = inr (omega (arith, l, le))
-    in_front (inl p) q = of (free q)
+    at_start : ((expr_precedence e ≤ level) × (suc i.k ≤ h) × (i.unbraced ≡ ts)) ⊎ (suc (suc i.k) ≤ h) → unbraced ≡ true → Clear i.unbraced ⊎ (suc (suc i.k) ≤ m)
+    at_start (inr l) q = inr (omega (arith, l, le))
+    at_start (inl p) q = of (free q)
       where
         of : Clear ts ⊎ (suc h ≤ m) → Clear i.unbraced ⊎ (suc (suc i.k) ≤ m)
         of (inl c) = inl (λ more is. c more (sym p.2 ∙ is))
@@ -573,9 +573,9 @@ expr_placed h below m le unbraced level e ts rest free fine d = by (is_enclosed 
     by : (b : Bool) → is_enclosed unbraced level e ≡ b → IsReprint (expr_at m level e) (placed b unbraced (node_kinds e)) rest
     by false q =
         let tight : expr_precedence e ≤ level = grind (arith, nat_tests, or_first (nat_lt level (expr_precedence e)) (unbraced && is_object e) q) in
-        left (node_kinds e unbraced) (node_placed m i.k level e unbraced i.unbraced i.back (omega (arith, le, within i.place)) tight layer (in_front i.place) i.fine i.node)
+        left (node_kinds e unbraced) (node_placed m i.k level e unbraced i.unbraced i.back (omega (arith, le, within i.place)) tight layer (at_start i.place) i.fine i.node)
     by true q =
-        left (enclosed (node_kinds e false)) (enclosed_placed m i.k level e i.unbraced i.back (room_for_parens h m level unbraced e ts rest le free q i) layer i.fine i.node)
+        left (enclosed (node_kinds e false)) (enclosed_placed m i.k level e i.unbraced i.back (depth_for_parens h m level unbraced e ts rest le free q i) layer i.fine i.node)
 
 stmt_placed : (h : ℕ) → ((k : ℕ) → k < h → Layer k) → (m : ℕ) → h ≤ m → (s : StmtTree) → Reprints (stmt_at h s) (stmt_at m s) (stmt_kinds s)
 unfolding expr_at

@@ -26,16 +26,16 @@ Reprints A B xs = (ts rest : List TokenKind) → AllSpell ts → A ts rest → I
 pub token_left : (t : TokenKind) (ts rest : List TokenKind) → AllSpell ts → ts ≡ t ∷ rest → Spells t × AllSpell rest
 token_left t ts rest fine e = subst AllSpell e fine
 
-pub stands_seq : (A B : Language) (xs ys : List TokenKind) → ((more : List TokenKind) → A (xs ++ more) more) → ((more : List TokenKind) → B (ys ++ more) more)
+pub seq_holds : (A B : Language) (xs ys : List TokenKind) → ((more : List TokenKind) → A (xs ++ more) more) → ((more : List TokenKind) → B (ys ++ more) more)
     → (more : List TokenKind) → (A ⋅ B) ((xs ++ ys) ++ more) more
-stands_seq A B xs ys a b more =
+seq_holds A B xs ys a b more =
     (ys ++ more, subst (λ (zs : List TokenKind). A zs (ys ++ more)) (sym (append_assoc xs ys more)) (a (ys ++ more)), b more)
 
 pub reprint_seq : (A B : Language) (xs ys mid rest : List TokenKind)
     → IsReprint A xs mid → (AllSpell mid → IsReprint B ys rest) → IsReprint (A ⋅ B) (xs ++ ys) rest
 reprint_seq A B xs ys mid rest a f =
     let b = f a.left in
-    record { derived = stands_seq A B xs ys a.derived b.derived; fine = balanced_append xs ys a.fine b.fine; left = b.left }
+    record { derived = seq_holds A B xs ys a.derived b.derived; fine = balanced_append xs ys a.fine b.fine; left = b.left }
 
 pub reprints_seq : (A A2 B B2 : Language) (xs ys : List TokenKind) → Reprints A A2 xs → Reprints B B2 ys → Reprints (A ⋅ B) (A2 ⋅ B2) (xs ++ ys)
 reprints_seq A A2 B B2 xs ys a b ts rest fine d =
@@ -68,7 +68,7 @@ reprints_braces A A2 B B2 xs ys a b ts rest fine d =
     let p = a d.0 d.2.0 (token_left (punct "{") ts d.0 fine d.1).1 d.2.1 in
     let q = b d.2.2.0 rest (token_left (punct "}") d.2.0 d.2.2.0 p.left d.2.2.1).1 d.2.2.2 in
     record {
-      derived = λ more. ((xs ++ (punct "}" ∷ ys)) ++ more, refl, stands_seq A2 (punctuator "}" ⋅ B2) xs (punct "}" ∷ ys) p.derived (λ m. (ys ++ m, refl, q.derived m)) more);
+      derived = λ more. ((xs ++ (punct "}" ∷ ys)) ++ more, refl, seq_holds A2 (punctuator "}" ⋅ B2) xs (punct "}" ∷ ys) p.derived (λ m. (ys ++ m, refl, q.derived m)) more);
       fine = balanced_braces xs ys p.fine q.fine;
       left = q.left;
     }
@@ -77,7 +77,7 @@ pub reprints_in_braces : (A A2 : Language) (xs : List TokenKind) → Reprints A 
 reprints_in_braces A A2 xs a ts rest fine d =
     let p = a d.0 d.2.0 (token_left (punct "{") ts d.0 fine d.1).1 d.2.1 in
     record {
-      derived = λ more. ((xs ++ (punct "}" ∷ [])) ++ more, refl, stands_seq A2 (punctuator "}") xs (punct "}" ∷ []) p.derived (λ m. refl) more);
+      derived = λ more. ((xs ++ (punct "}" ∷ [])) ++ more, refl, seq_holds A2 (punctuator "}") xs (punct "}" ∷ []) p.derived (λ m. refl) more);
       fine = balanced_braces xs [] p.fine (λ bs more a. a);
       left = (token_left (punct "}") d.2.0 rest p.left d.2.2).1;
     }
@@ -125,7 +125,7 @@ module _ {X : Type 0} (A B : X → Language) (k : X → List TokenKind) (one : (
 pub reprint_enclosed : (A : Language) (xs rest : List TokenKind) → IsReprint A xs rest → IsReprint (punctuator "(" ⋅ A ⋅ punctuator ")") (enclosed xs) rest
 reprint_enclosed A xs rest s =
     record {
-      derived = λ more. ((xs ++ (punct ")" ∷ [])) ++ more, refl, stands_seq A (punctuator ")") xs (punct ")" ∷ []) s.derived (λ m. refl) more);
+      derived = λ more. ((xs ++ (punct ")" ∷ [])) ++ more, refl, seq_holds A (punctuator ")") xs (punct ")" ∷ []) s.derived (λ m. refl) more);
       fine =
           balanced_append (punct "(" ∷ []) (xs ++ (punct ")" ∷ [])) (balanced_token (punct "(") refl open_paren)
           (balanced_append xs (punct ")" ∷ []) s.fine (balanced_token (punct ")") refl close_paren));

@@ -15,7 +15,7 @@ use Rattle.dscript_scopes.specs.Names.{FileNames}
 use Rattle.dscript_scopes.specs.Orders.{name_cmp, name_cmp_matches}
 use Rattle.dscript_scopes.specs.declared.names.Declared.{Declared}
 
--- ## The first that passes a test, where one more comes behind
+-- ## The first that passes a test, where one more comes last
 
 position_last : {X : Type 0} (p : X → Bool) (n : ℕ) (xs : List X) (x : X)
     → position_from p n (xs ++ x ∷ []) ≡ option_or (position_from p n xs) (cond (p x) (Some (n + length xs)) None)

@@ -2,7 +2,7 @@
 use Rattle.std.proofs.Common.{◌≡◌, ℕ, List, [], ◌∷◌, ◌++◌, refl, ap}
 use Rattle.std.specs.List.{join_with_byte}
 
--- each text, behind a dot
+-- each text, after a dot
 abbrev pub joined_rest : List (List ℕ) → List ℕ
 joined_rest [] = []
 joined_rest (x ∷ xs) = 46 ∷ (x ++ joined_rest xs)

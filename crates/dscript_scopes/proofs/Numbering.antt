@@ -63,27 +63,27 @@ not_numbered x n (l ∷ ls) e =
 
 -- ## The innermost block
 
-set_end : (front : List Block) (b v : Block) → set (front ++ b ∷ []) (length front) v ≡ front ++ v ∷ []
+set_end : (prefix : List Block) (b v : Block) → set (prefix ++ b ∷ []) (length prefix) v ≡ prefix ++ v ∷ []
 set_end [] b v = refl
-set_end (a ∷ front) b v = ap (λ bs. a ∷ bs) (set_end front b v)
+set_end (a ∷ prefix) b v = ap (λ bs. a ∷ bs) (set_end prefix b v)
 
-get_end : (front : List Block) (b d : Block) → get_or (front ++ b ∷ []) (length front) d ≡ b
+get_end : (prefix : List Block) (b d : Block) → get_or (prefix ++ b ∷ []) (length prefix) d ≡ b
 get_end [] b d = refl
-get_end (a ∷ front) b d = get_end front b d
+get_end (a ∷ prefix) b d = get_end prefix b d
 
-last_of : (b : Block) (bs : List Block) → (front : List Block) × ((l : Block) × ((b ∷ bs ≡ front ++ l ∷ [])
-    × (length bs ≡ length front)))
+last_of : (b : Block) (bs : List Block) → (prefix : List Block) × ((l : Block) × ((b ∷ bs ≡ prefix ++ l ∷ [])
+    × (length bs ≡ length prefix)))
 last_of b [] = ([], (b, (refl, refl)))
 last_of b (c ∷ bs) =
     let r = last_of c bs in
     (b ∷ r.0, (r.1.0, (ap (λ ds. b ∷ ds) r.1.1.0, ap suc r.1.1.1)))
 
-declared_end : (x : List ℕ) (n : ℕ) (front : List Block) (b : Block)
-    → reverse (front ++ record b { locals = with_number x n b.locals } ∷ [])
-    ≡ declare_in x n (reverse (front ++ b ∷ []))
-declared_end x n front b =
-    reverse_last front (record b { locals = with_number x n b.locals })
-    ∙ sym (ap (declare_in x n) (reverse_last front b))
+declared_end : (x : List ℕ) (n : ℕ) (prefix : List Block) (b : Block)
+    → reverse (prefix ++ record b { locals = with_number x n b.locals } ∷ [])
+    ≡ declare_in x n (reverse (prefix ++ b ∷ []))
+declared_end x n prefix b =
+    reverse_last prefix (record b { locals = with_number x n b.locals })
+    ∙ sym (ap (declare_in x n) (reverse_last prefix b))
 
 pub declared_last : (x : List ℕ) (n : ℕ) (bs : List Block) (i : ℕ) (d v : Block) → i + 1 ≡ length bs
     → d ≡ get_or bs i d → v ≡ record d { locals = with_number x n d.locals }
@@ -91,13 +91,13 @@ pub declared_last : (x : List ℕ) (n : ℕ) (bs : List Block) (i : ℕ) (d v : 
 declared_last x n [] i d v e is made = absurd (omega arith)
 declared_last x n (b ∷ bs) i d v e is made =
     let r = last_of b bs in
-    let front = r.0 in
+    let prefix = r.0 in
     let l = r.1.0 in
-    let at : i ≡ length front = omega (arith, e, r.1.1.1) in
+    let at : i ≡ length prefix = omega (arith, e, r.1.1.1) in
     let same : d ≡ l =
-    is ∙ ap (λ k. get_or (b ∷ bs) k d) at ∙ ap (λ cs. get_or cs (length front) d) r.1.1.0 ∙ get_end front l d in
+    is ∙ ap (λ k. get_or (b ∷ bs) k d) at ∙ ap (λ cs. get_or cs (length prefix) d) r.1.1.0 ∙ get_end prefix l d in
     let new : v ≡ record l { locals = with_number x n l.locals } =
     made ∙ ap (λ (c : Block). record c { locals = with_number x n c.locals }) same in
-    ap (λ k. reverse (set (b ∷ bs) k v)) at ∙ ap (λ cs. reverse (set cs (length front) v)) r.1.1.0
-    ∙ ap reverse (set_end front l v) ∙ ap (λ w. reverse (front ++ w ∷ [])) new
-    ∙ declared_end x n front l ∙ sym (ap (λ cs. declare_in x n (reverse cs)) r.1.1.0)
+    ap (λ k. reverse (set (b ∷ bs) k v)) at ∙ ap (λ cs. reverse (set cs (length prefix) v)) r.1.1.0
+    ∙ ap reverse (set_end prefix l v) ∙ ap (λ w. reverse (prefix ++ w ∷ [])) new
+    ∙ declared_end x n prefix l ∙ sym (ap (λ cs. declare_in x n (reverse cs)) r.1.1.0)

@@ -41,7 +41,7 @@ no_namespace world name x other none =
     ∙ ap (λ m. list_any (opens x m) world.files) none ∙ none_open x world.files
 
 -- the last of the beginnings is the whole name
-whole_last : (xs : Dotted) → (front : List Dotted) × (beginnings xs ≡ front ++ xs ∷ [])
+whole_last : (xs : Dotted) → (prefix : List Dotted) × (beginnings xs ≡ prefix ++ xs ∷ [])
 whole_last [] = ([], refl)
 whole_last (x ∷ xs) =
     let r = whole_last xs in (

@@ -28,13 +28,13 @@ abbrev pub Level : Type 0
 Level = Option (Result Found SpecKind)
 
 -- The shortest prefix of the names that stands for something, in the namespaces before them. To a prefix of
--- one name belong this many parts: none where the name itself is the first word, one where it is behind the
--- name of a whole module, two where it is behind a call of `importFrom`.
+-- one name belong this many parts: none where the name itself is the first word, one where it follows the
+-- name of a whole module, two where it follows a call of `importFrom`.
 abbrev pub shortest : (Dotted → Option Target) → ℕ → Dotted → Dotted → Option Found
-shortest stands parts before [] = None
-shortest stands parts before (x ∷ names) =
-    option_or (option_map (λ t. record { target = t; parts = parts }) (stands (before ++ x ∷ [])))
-    (shortest stands (parts + 1) (before ++ x ∷ []) names)
+shortest target_of parts before [] = None
+shortest target_of parts before (x ∷ names) =
+    option_or (option_map (λ t. record { target = t; parts = parts }) (target_of (before ++ x ∷ [])))
+    (shortest target_of (parts + 1) (before ++ x ∷ []) names)
 
 -- what a level has, or else what those outwards have
 abbrev pub result_of_level : Level → Result Found SpecKind → Result Found SpecKind
@@ -53,7 +53,7 @@ first_level (Some found ∷ levels) = found
 abbrev pub local_in : List ℕ → Block → Option Local
 local_in x block = find (λ l. bytes_eq l.name x) block.locals
 
--- a local has a number once its declaration is behind, and is unknown before
+-- a local has a number after its declaration, and is unknown before
 abbrev pub known : Option ℕ → Result Found SpecKind
 known None = Err faults.UnknownName
 known (Some n) = Ok (record { target = targets.Local n; parts = 0 })
@@ -78,7 +78,7 @@ assigned (block ∷ blocks) x =
       | None ↦ if block.is_body then Err faults.AssignCaptured else assigned blocks x
     ]
 
--- the local of this name with its number, now that its declaration is behind
+-- the locals with this number for the one of this name, after its declaration
 abbrev pub with_number : List ℕ → ℕ → List Local → List Local
 with_number x n [] = []
 with_number x n (l ∷ ls) =
@@ -154,7 +154,7 @@ sdk_call (x ∷ names) = if is_sdk_namespace x then ambient_of (x ∷ names) els
 abbrev pub module_number : World → List ℕ → Option ℕ
 module_number world name = position (bytes_eq name) world.modules
 
--- what the names stand for in the module that is always there, behind this many parts
+-- what the names stand for in the module that is always there, after this number of parts
 abbrev pub sdk_found : ℕ → Dotted → Result Found SpecKind
 sdk_found parts names = ok_or (shortest sdk_call parts [] names) faults.UnknownName
 
@@ -170,13 +170,13 @@ in_module world name parts names =
 -- ## Imports
 
 -- a whole module is followed by a dotted name; a name in braces stands for a name of the module
-abbrev pub behind_import : World → List ℕ → Option (List ℕ) → Dotted → Result Found SpecKind
-behind_import world module_name None rest = in_module world module_name 1 rest
-behind_import world module_name (Some x) rest = in_module world module_name 0 (x ∷ rest)
+abbrev pub after_import : World → List ℕ → Option (List ℕ) → Dotted → Result Found SpecKind
+after_import world module_name None rest = in_module world module_name 1 rest
+after_import world module_name (Some x) rest = in_module world module_name 0 (x ∷ rest)
 
--- what an import stands for, with the names behind it
+-- what an import stands for, with the names that follow it
 abbrev pub through_import : World → Dotted → Imported → Result Found SpecKind
-through_import world rest i = behind_import world i.module_name i.original rest
+through_import world rest i = after_import world i.module_name i.original rest
 
 -- the file's imports, by the first name
 abbrev pub in_imports : World → FileNames → Dotted → Level
@@ -242,7 +242,7 @@ in_import_call world x tree.no_parts = None
 
 -- ## All levels
 
--- where a name stands: the number and the names of its file, and the namespaces around it
+-- where a name occurs: the number and the names of its file, and the namespaces around it
 pub record Site : Type 0 where
   pub number : ℕ
   pub file : FileNames

@@ -9,7 +9,7 @@ pub struct Local {
     pub name: Text,
     /// Whether it is a variable, which may be assigned.
     pub is_let: bool,
-    /// Its number, once its declaration is behind.
+    /// Its number, from the end of its declaration on.
     pub number: Option<u32>,
 }
 

@@ -111,6 +111,13 @@ impl FileNames {
         })
     }
 
+    /// The number of the module of the file.
+    pub fn module_number(&self) -> usize
+        ensures { result ≡ self.now.module_number }
+    {
+        self.module_number
+    }
+
     /// The number of the first value with this dotted name, among all declarations of the file.
     pub(crate) fn value(&self, name: &DottedName) -> Option<usize>
         ensures { result ≡ value_in is_any self.now name.now }
@@ -161,6 +168,13 @@ impl World {
             exported,
             public,
         })
+    }
+
+    /// The names of the files, by path.
+    pub fn files(&self) -> &[FileNames]
+        ensures { result.now ≡ self.now.files }
+    {
+        self.files.as_slice()
     }
 
     /// The first value of a module with this dotted name that is seen.

@@ -61,7 +61,7 @@ impl Block {
     }
 }
 
-/// What the local is found to be, once its declaration is behind.
+/// What the local is found to be: unknown before its declaration.
 fn known(local: &Local) -> Result<Found, SpecKind>
     ensures { result ≡ known local.now.number }
 {
@@ -146,7 +146,7 @@ impl Scopes {
         Err(SpecKind::AssignCaptured)
     }
 
-    /// Gives the local of the innermost block with this name its number, now that its declaration is behind.
+    /// Gives the local of the innermost block with this name its number, after its declaration.
     pub fn declare(&mut self, name: &Text, number: u32)
         ensures { self.new ≡ declare_in name.now number self.old }
     {

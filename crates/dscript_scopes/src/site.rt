@@ -1,9 +1,9 @@
-//! Where names stand.
+//! Where names occur.
 
 use crate::names::FileNames;
 use bx_tree::Text;
 
-/// Where a name stands.
+/// Where a name occurs.
 #[derive(Drop)]
 pub struct Site<'a> {
     /// The number of its file.

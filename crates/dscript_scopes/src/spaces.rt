@@ -3,7 +3,7 @@
 ghost use Rattle.std.specs.Prelude.{◌≡◌, ◌≤◌, IfOk};
 ghost use Rattle.std.specs.List.{join_with_byte};
 ghost use Rattle.dscript_scopes.specs.Lookup.{ambient_of, is_sdk_namespace, sdk_call, shortest};
-ghost use Rattle.dscript_scopes.specs.Spaces.{stands_in};
+ghost use Rattle.dscript_scopes.specs.Spaces.{target_in};
 
 use crate::dotted::{DottedName, shared};
 use crate::found::Found;
@@ -76,8 +76,8 @@ pub(crate) enum Space<'a> {
 
 impl Space<'_> {
     /// What the whole dotted name stands for.
-    fn stands(&self, alloc: Global, name: &DottedName) -> Result<Option<Target>, Memory>
-        ensures { IfOk result (λ target. target ≡ stands_in self.now name.now) }
+    fn target(&self, alloc: Global, name: &DottedName) -> Result<Option<Target>, Memory>
+        ensures { IfOk result (λ target. target ≡ target_in self.now name.now) }
     {
         match self {
             Space::File(number, file) => match file.value(name) {
@@ -101,14 +101,14 @@ pub(crate) fn shortest(
 ) -> Result<Option<Found>, Memory>
     requires { parts ≤ 2 }
     ensures { IfOk result (λ found. found
-        ≡ shortest (stands_in space.now) parts before.now names.now) }
+        ≡ shortest (target_in space.now) parts before.now names.now) }
 {
     let mut name = DottedName::new(shared(alloc, before)?);
     let mut left = names;
     let mut parts = parts;
     'prefixes: while let Some((first, rest)) = left.split_first() {
         name.push(first.share()?)?;
-        if let Some(target) = space.stands(alloc, &name)? {
+        if let Some(target) = space.target(alloc, &name)? {
             return Ok(Some(Found { target, parts }));
         }
         parts += 1;

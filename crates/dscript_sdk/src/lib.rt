@@ -1,6 +1,6 @@
 //! The ambient calls of DScript and the members of its values.
 //!
-//! Evaluation calls them in order, and they leave the list of pips behind. This crate joins `sdk_calls`,
+//! Evaluation calls them in order, and what they make is the list of pips. This crate joins `sdk_calls`,
 //! `sdk_pips` and `sdk_execute`, which have the calls, and `sdk_members`, which has the members of texts,
 //! lists and paths; those of processes and static directories are here. It carries the promise that each
 //! call and each member answers what its definition says, or its first fault, and that a fault changes

@@ -7,7 +7,8 @@ use std::alloc::Global;
 use std::test::Fail;
 
 // Tokens, with a blank between two, and their text. Each token is a letter for its kind, then `n`, `s` or a
-// digit for nothing, a space or a line with so many levels before it, and then its spelling or value.
+// digit for nothing, a space or a line indented by that number of levels before it, and then its spelling
+// or value.
 const LAYOUTS: &[(&str, &str)] = &[
     (
         "Wnconst Wsx Ps= Ns2147483647 Pn;",

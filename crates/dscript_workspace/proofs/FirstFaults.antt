@@ -12,9 +12,9 @@ use Rattle.dscript_workspace.specs.declared.module_file.ModuleFile as memory
 use Rattle.dscript_workspace.specs.ModuleFiles.{file_data, files_data}
 use Rattle.dscript_workspace.specs.Workspaces.{ModuleFile, fault_of, file_fault, has_file, implies_file, is_taken, option_or}
 
-front-more : (all : List memory.ModuleFile) (i : ℕ) (m : memory.ModuleFile) → i < length all → m ≡ get_or all i m
+prefix-more : (all : List memory.ModuleFile) (i : ℕ) (m : memory.ModuleFile) → i < length all → m ≡ get_or all i m
     → files_data (take (i + 1) all) ≡ files_data (take i all) ++ file_data m ∷ []
-front-more all i m l is =
+prefix-more all i m l is =
     ap (λ n. files_data (take n all)) (let n : i + 1 ≡ suc i = omega arith in n)
     ∙ ap files_data (take-suc all i m l) ∙ map-append file_data (take i all) (get_or all i m ∷ [])
     ∙ ap (λ (f : memory.ModuleFile). files_data (take i all) ++ file_data f ∷ []) (sym is)
@@ -43,7 +43,7 @@ taken_more all i m path old new l is e f =
     e ∙ ap (λ b. b || has_file path (file_data m)) f
     ∙ swapped (list_any (has_file path) before) (list_any (implies_file path) (files_data all)) (has_file path (file_data m))
     ∙ ap (λ b. b || list_any (implies_file path) (files_data all)) (sym (list_any-append (has_file path) before (file_data m ∷ [])))
-    ∙ ap (λ ms. is_taken (files_data all) ms path) (sym (front-more all i m l is))
+    ∙ ap (λ ms. is_taken (files_data all) ms path) (sym (prefix-more all i m l is))
 
 same_fault : (taken other : Atoms → Bool) (m : ModuleFile) → ((path : Atoms) → taken path ≡ other path)
     → fault_of taken m ≡ fault_of other m
@@ -71,6 +71,6 @@ pub fault_later : (all : List memory.ModuleFile) (i : ℕ) (m : memory.ModuleFil
 fault_later all i m taken l is same e =
     let before = files_data (take i all) in
     let later = file_fault (files_data all) (before ++ file_data m ∷ []) (files_data (drop (i + 1) all)) in
-    ap (λ ms. file_fault (files_data all) ms (files_data (drop (i + 1) all))) (front-more all i m l is)
+    ap (λ ms. file_fault (files_data all) ms (files_data (drop (i + 1) all))) (prefix-more all i m l is)
     ∙ ap (λ o. option_or o later) (e ∙ same_fault taken (is_taken (files_data all) before) (file_data m) same)
     ∙ ap (file_fault (files_data all) before) (sym (rest-less all i m l is))

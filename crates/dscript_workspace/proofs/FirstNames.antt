@@ -24,9 +24,9 @@ same_text x y = both_ways (bytes_eq x y) (is_eq (slice_cmp nat_cmp x y))
     (ap is_eq (tied_itself nat_list_cmp_total x)))
     (λ e. (bytes_eq-Decides x y).1 (equal_texts x y ((Equal-is (slice_cmp nat_cmp x y)).0 e)))
 
-front-more : (all : List ModuleText) (i : ℕ) (m : ModuleText) → i < length all → m ≡ get_or all i m
+prefix-more : (all : List ModuleText) (i : ℕ) (m : ModuleText) → i < length all → m ≡ get_or all i m
     → modules_data (take (i + 1) all) ≡ modules_data (take i all) ++ module_data m ∷ []
-front-more all i m l is =
+prefix-more all i m l is =
     ap (λ n. modules_data (take n all)) (let n : i + 1 ≡ suc i = omega arith in n)
     ∙ ap modules_data (take-suc all i m l) ∙ map-append module_data (take i all) (get_or all i m ∷ [])
     ∙ ap (λ (f : ModuleText). modules_data (take i all) ++ module_data f ∷ []) (sym is)
@@ -62,13 +62,13 @@ pub used_more : (all : List ModuleText) (i : ℕ) (m : ModuleText) (key name : L
     → m ≡ get_or all i m → key ≡ m.name → now ≡ cond (is_eq (slice_cmp nat_cmp key name)) true before
     → before ≡ is_used (modules_data (take i all)) name → now ≡ is_used (modules_data (take (i + 1) all)) name
 used_more all i m key name now before l is k e f =
-    let front = modules_data (take i all) in
+    let prefix = modules_data (take i all) in
     let named = λ (d : ModuleData). bytes_eq d.name name in
     e ∙ ap (cond (is_eq (slice_cmp nat_cmp key name)) true) f
-    ∙ ap (λ b. cond b true (is_used front name)) (sym (same_text key name) ∙ ap (λ t. bytes_eq t name) k)
-    ∙ last_name (bytes_eq m.name name) (bytes_eq sdk_name name) (list_any named front)
-    ∙ ap (λ b. bytes_eq sdk_name name || b) (sym (list_any-append named front (module_data m ∷ [])))
-    ∙ ap (λ ms. is_used ms name) (sym (front-more all i m l is))
+    ∙ ap (λ b. cond b true (is_used prefix name)) (sym (same_text key name) ∙ ap (λ t. bytes_eq t name) k)
+    ∙ last_name (bytes_eq m.name name) (bytes_eq sdk_name name) (list_any named prefix)
+    ∙ ap (λ b. bytes_eq sdk_name name || b) (sym (list_any-append named prefix (module_data m ∷ [])))
+    ∙ ap (λ ms. is_used ms name) (sym (prefix-more all i m l is))
 
 abbrev twice : ModuleData → FaultData
 twice m = record { kind = kinds.DuplicateModule; file = m.config; place = None }
@@ -78,10 +78,10 @@ pub fault_here : (all : List ModuleText) (i : ℕ) (m : ModuleText) → i < leng
     → is_used (modules_data (take i all)) m.name ≡ true
     → Some (twice (module_data m)) ≡ name_fault (modules_data (take i all)) (modules_data (drop i all))
 fault_here all i m l is e =
-    let front = modules_data (take i all) in
-    let later = name_fault (front ++ module_data m ∷ []) (modules_data (drop (i + 1) all)) in
+    let prefix = modules_data (take i all) in
+    let later = name_fault (prefix ++ module_data m ∷ []) (modules_data (drop (i + 1) all)) in
     ap (λ b. cond b (Some (twice (module_data m))) later) (sym e)
-    ∙ ap (name_fault front) (sym (rest-less all i m l is))
+    ∙ ap (name_fault prefix) (sym (rest-less all i m l is))
 
 -- a module whose name is not used before leaves the first fault to the rest
 pub fault_later : (all : List ModuleText) (i : ℕ) (m : ModuleText) → i < length all → m ≡ get_or all i m
@@ -89,11 +89,11 @@ pub fault_later : (all : List ModuleText) (i : ℕ) (m : ModuleText) → i < len
     → name_fault (modules_data (take (i + 1) all)) (modules_data (drop (i + 1) all))
     ≡ name_fault (modules_data (take i all)) (modules_data (drop i all))
 fault_later all i m l is e =
-    let front = modules_data (take i all) in
-    let later = name_fault (front ++ module_data m ∷ []) (modules_data (drop (i + 1) all)) in
-    ap (λ ms. name_fault ms (modules_data (drop (i + 1) all))) (front-more all i m l is)
+    let prefix = modules_data (take i all) in
+    let later = name_fault (prefix ++ module_data m ∷ []) (modules_data (drop (i + 1) all)) in
+    ap (λ ms. name_fault ms (modules_data (drop (i + 1) all))) (prefix-more all i m l is)
     ∙ ap (λ b. cond b (Some (twice (module_data m))) later) (sym e)
-    ∙ ap (name_fault front) (sym (rest-less all i m l is))
+    ∙ ap (name_fault prefix) (sym (rest-less all i m l is))
 
 -- what was not added was there
 pub was_there : (b added : Bool) → added ≡ not b → added ≡ false → b ≡ true

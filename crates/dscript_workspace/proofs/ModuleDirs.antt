@@ -47,13 +47,13 @@ split-slash (b ∷ bs) cs =
 
 -- the last atom of a module file is its name
 abbrev IsLast : Atoms → Type 0
-IsLast path = (front : Atoms) × (path ≡ front ++ module_name ∷ [])
+IsLast path = (prefix : Atoms) × (path ≡ prefix ++ module_name ∷ [])
 
 name_split : slice_split is_slash module_name ≡ module_name ∷ []
 name_split = refl
 
 from_text : (path : Atoms) (text : List ℕ) → slice_split is_slash text ≡ path
-    → (bytes_eq text module_name ≡ true) ⊎ ((front : List ℕ) × (text ≡ front ++ 47 ∷ module_name)) → IsLast path
+    → (bytes_eq text module_name ≡ true) ⊎ ((prefix : List ℕ) × (text ≡ prefix ++ 47 ∷ module_name)) → IsLast path
 from_text path text e (inl whole) =
     ([], sym e ∙ ap (slice_split is_slash) ((bytes_eq-Decides text module_name).0 whole) ∙ name_split)
 from_text path text e (inr after) = (
@@ -63,7 +63,7 @@ from_text path text e (inr after) = (
 )
 
 ending : (text : List ℕ) → ends_with nat_eq text (codes "/module.config.dsc") ≡ true
-    → (front : List ℕ) × (text ≡ front ++ 47 ∷ module_name)
+    → (prefix : List ℕ) × (text ≡ prefix ++ 47 ∷ module_name)
 ending text e =
     let n = length text - length (codes "/module.config.dsc") in (
       take n text,
@@ -73,7 +73,7 @@ ending text e =
 
 either : (text : List ℕ) (a b : Bool) → bytes_eq text module_name ≡ a
     → ends_with nat_eq text (codes "/module.config.dsc") ≡ b → (a || b) ≡ true
-    → (bytes_eq text module_name ≡ true) ⊎ ((front : List ℕ) × (text ≡ front ++ 47 ∷ module_name))
+    → (bytes_eq text module_name ≡ true) ⊎ ((prefix : List ℕ) × (text ≡ prefix ++ 47 ∷ module_name))
 either text true b e f h = inl e
 either text false true e f h = inr (ending text f)
 either text false false e f h = absurd (false≢true h)
@@ -85,17 +85,17 @@ last_is (a ∷ rest) h e =
     from_text (a ∷ rest) text (split-join a rest h.atoms)
     (either text (bytes_eq text module_name) (ends_with nat_eq text (codes "/module.config.dsc")) refl refl e)
 
-parent-last : (front : Atoms) (name : List ℕ) → dir_of (front ++ name ∷ []) ≡ front
+parent-last : (prefix : Atoms) (name : List ℕ) → dir_of (prefix ++ name ∷ []) ≡ prefix
 parent-last [] name = refl
-parent-last (a ∷ front) name =
-    let n : length (front ++ name ∷ []) ≡ length (a ∷ front) = omega (arith, length-append front (name ∷ [])) in
-    ap (λ k. take k (a ∷ (front ++ name ∷ []))) n ∙ take-append_seam (a ∷ front) (name ∷ [])
+parent-last (a ∷ prefix) name =
+    let n : length (prefix ++ name ∷ []) ≡ length (a ∷ prefix) = omega (arith, length-append prefix (name ∷ [])) in
+    ap (λ k. take k (a ∷ (prefix ++ name ∷ []))) n ∙ take-append_seam (a ∷ prefix) (name ∷ [])
 
 pub same_dir : (p q : Atoms) → IsPath p → IsPath q → is_module_file p ≡ true → is_module_file q ≡ true
     → dir_of p ≡ dir_of q → p ≡ q
 same_dir p q h k m n e =
     let a = last_is p h m in
     let b = last_is q k n in
-    let fronts : a.0 ≡ b.0 =
+    let prefixes : a.0 ≡ b.0 =
     sym (parent-last a.0 module_name) ∙ ap dir_of (sym a.1) ∙ e ∙ ap dir_of b.1 ∙ parent-last b.0 module_name in
-    a.1 ∙ ap (λ f. f ++ module_name ∷ []) fronts ∙ sym b.1
+    a.1 ∙ ap (λ f. f ++ module_name ∷ []) prefixes ∙ sym b.1

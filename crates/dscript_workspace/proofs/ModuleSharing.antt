@@ -181,13 +181,13 @@ implied_at : (files : Files) (dirs : List Atoms) (path file : Atoms) (m : Module
 implied_at files dirs path file m e h =
     kept_is (is_implied dirs (dir_of path)) (paths_of files) file (ap (λ ps. is_one_of ps file) (sym e) ∙ h)
 
-two_apart : (files : Files) (dirs : List Atoms) (all front before : List ModuleFile) (p q : Atoms) (m n : ModuleFile)
-    → IsFree (is_taken all front) m → IsFree (is_taken all before) n → In before m → In all n
+two_apart : (files : Files) (dirs : List Atoms) (all prefix before : List ModuleFile) (p q : Atoms) (m n : ModuleFile)
+    → IsFree (is_taken all prefix) m → IsFree (is_taken all before) n → In before m → In all n
     → IsImplied files dirs p m → IsImplied files dirs q n → is_one_of dirs (dir_of p) ≡ true
     → is_one_of dirs (dir_of q) ≡ true → (dir_of p ≡ dir_of q → ⊥) → Apart m n
-two_apart files dirs all front before p q (Faulty fault) n f g i j a b h k d = tt
-two_apart files dirs all front before p q (Described m lists) (Faulty fault) f g i j a b h k d = tt
-two_apart files dirs all front before p q (Described m lists) (Described n true) f g i j a b h k d = λ file t.
+two_apart files dirs all prefix before p q (Faulty fault) n f g i j a b h k d = tt
+two_apart files dirs all prefix before p q (Described m lists) (Faulty fault) f g i j a b h k d = tt
+two_apart files dirs all prefix before p q (Described m lists) (Described n true) f g i j a b h k d = λ file t.
     elim (cases_Bool (is_one_of n.files file)) [
       | inl yes' ↦
           let free = none_of (is_taken all before) n.files file g yes' in
@@ -196,10 +196,10 @@ two_apart files dirs all front before p q (Described m lists) (Described n true)
           absurd (false≢true (sym own ∙ t))
       | inr none ↦ none
     ]
-two_apart files dirs all front before p q (Described m true) (Described n false) f g i j a b h k d = λ file t.
+two_apart files dirs all prefix before p q (Described m true) (Described n false) f g i j a b h k d = λ file t.
     none_here (implies_file file) all (Described n false)
-    (or_right (list_any (has_file file) front) (list_any (implies_file file) all) (none_of (is_taken all front) m.files file f t)) j
-two_apart files dirs all front before p q (Described m false) (Described n false) f g i j a b h k d = λ file t.
+    (or_right (list_any (has_file file) prefix) (list_any (implies_file file) all) (none_of (is_taken all prefix) m.files file f t)) j
+two_apart files dirs all prefix before p q (Described m false) (Described n false) f g i j a b h k d = λ file t.
     elim (cases_Bool (is_one_of n.files file)) [
       | inl yes' ↦
           absurd (not_both dirs (dir_of p) (dir_of q) file h k d (implied_at files dirs p file m a t)
@@ -218,18 +218,18 @@ abbrev AllApart : List ModuleFile → Type 0
 AllApart [] = Unit {0}
 AllApart (m ∷ ms) = AllByRecursion (Apart m) ms × AllApart ms
 
-later_apart : (files : Files) (dirs : List Atoms) (all front before : List ModuleFile) (p : Atoms) (m : ModuleFile)
-    (paths : List Atoms) (rest : List ModuleFile) → IsFree (is_taken all front) m → In before m → IsImplied files dirs p m
+later_apart : (files : Files) (dirs : List Atoms) (all prefix before : List ModuleFile) (p : Atoms) (m : ModuleFile)
+    (paths : List Atoms) (rest : List ModuleFile) → IsFree (is_taken all prefix) m → In before m → IsImplied files dirs p m
     → is_one_of dirs (dir_of p) ≡ true → AllByRecursion (λ q. dir_of p ≡ dir_of q → ⊥) paths
     → AllByRecursion (λ q. is_one_of dirs (dir_of q) ≡ true) paths → AllZip (IsImplied files dirs) paths rest
     → file_fault all before rest ≡ None → ((n : ModuleFile) → In rest n → In all n) → AllByRecursion (Apart m) rest
-later_apart files dirs all front before p m [] [] f i a h d w z e into = tt
-later_apart files dirs all front before p m [] (n ∷ ns) f i a h d w z e into = absurd z
-later_apart files dirs all front before p m (q ∷ qs) [] f i a h d w z e into = tt
-later_apart files dirs all front before p m (q ∷ qs) (n ∷ ns) f i a h d w z e into =
+later_apart files dirs all prefix before p m [] [] f i a h d w z e into = tt
+later_apart files dirs all prefix before p m [] (n ∷ ns) f i a h d w z e into = absurd z
+later_apart files dirs all prefix before p m (q ∷ qs) [] f i a h d w z e into = tt
+later_apart files dirs all prefix before p m (q ∷ qs) (n ∷ ns) f i a h d w z e into =
     let free = free_from (is_taken all before) n (file_fault all (before ++ n ∷ []) ns) e in (
-      two_apart files dirs all front before p q m n f free.0 i (into n (inl refl)) a z.0 h w.0 d.0,
-      later_apart files dirs all front (before ++ n ∷ []) p m qs ns f (in_more before (n ∷ []) m i) a h d.1 w.1 z.1 free.1
+      two_apart files dirs all prefix before p q m n f free.0 i (into n (inl refl)) a z.0 h w.0 d.0,
+      later_apart files dirs all prefix (before ++ n ∷ []) p m qs ns f (in_more before (n ∷ []) m i) a h d.1 w.1 z.1 free.1
           (λ x k. into x (inr k)),
     )
 

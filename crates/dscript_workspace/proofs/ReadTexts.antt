@@ -77,11 +77,11 @@ read_more files listed i path found m own l is same h r =
     let R = IsModuleFile files (map dir_of listed) in
     let here : R path m =
     subst (λ ps. IsReadAt files ps path m) (same (dir_of path) (member listed i path l is)) r in
-    subst (λ xs. AllZip R xs (found ++ m ∷ [])) (sym (front-more listed i path l is))
+    subst (λ xs. AllZip R xs (found ++ m ∷ [])) (sym (prefix-more listed i path l is))
     (zip_push R (take i listed) found path m h here)
   where
-    front-more : (paths : List Atoms) (i : ℕ) (path : Atoms) → i < length paths → path ≡ get_or paths i path
+    prefix-more : (paths : List Atoms) (i : ℕ) (path : Atoms) → i < length paths → path ≡ get_or paths i path
         → take (i + 1) paths ≡ take i paths ++ path ∷ []
-    front-more paths i path l is =
+    prefix-more paths i path l is =
         ap (λ n. take n paths) (let n : i + 1 ≡ suc i = omega arith in n) ∙ take-suc paths i path l
         ∙ ap (λ p. take i paths ++ p ∷ []) (sym is)

@@ -2,7 +2,7 @@
 //!
 //! Six rules are tried in an order, each over the pips by number. [`check`] gives the plan of the pips, or
 //! the first rule that fails, with its pip and that pip's specification file. The rules on what pips declare
-//! to make are those of `graph_outputs`, and processes are compared by `pip_order`. This crate also stands on
+//! to make are those of `graph_outputs`, and processes are compared by `pip_order`. This crate also depends on
 //! `pip_model`, `pip_types`, `bx_tree` and `bx_digest`, and keeps no types with an invariant of their own.
 #![tactic(auto)]
 

@@ -46,7 +46,7 @@ claims_from pip kind c h =
     let dirs = map (claim_of Dir pip) (dir_paths kind) in
     let roots = map (claim_of Root pip) (full_roots kind) in
     elim (Contains-append_cases (files ++ dirs) roots c h) [
-      | inl front ↦ elim (Contains-append_cases files dirs c front) [
+      | inl prefix ↦ elim (Contains-append_cases files dirs c prefix) [
         | inl file ↦ at File (from_claims File pip (declared_files kind) c file)
         | inr dir ↦ at Dir (from_claims Dir pip (dir_paths kind) c dir)
       ]

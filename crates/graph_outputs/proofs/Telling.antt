@@ -52,12 +52,12 @@ tells pips n none here m l = (
 
 -- so it tells it of the first of the first pips
 pub tells_first : (pips : List Pip) (m n : ℕ) → TellsUnshared pips n → TellsUnshared (take m pips) n
-tells_first pips m n told k l =
+tells_first pips m n tells_all k l =
     let long = length-take m pips in
     let less : k ≤ m = omega (arith, l, long) in
-    subst (λ (ps : List Pip). HasUnshared ps ↔ (n < k)) (sym (take-take k m pips less)) (told k (omega (arith, l, long)))
+    subst (λ (ps : List Pip). HasUnshared ps ↔ (n < k)) (sym (take-take k m pips less)) (tells_all k (omega (arith, l, long)))
 
 -- and of all of them
-pub told : (pips : List Pip) (n : ℕ) → TellsUnshared pips n → HasUnshared pips ↔ (n < length pips)
-told pips n tells =
+pub tells_all : (pips : List Pip) (n : ℕ) → TellsUnshared pips n → HasUnshared pips ↔ (n < length pips)
+tells_all pips n tells =
     subst (λ (ps : List Pip). HasUnshared ps ↔ (n < length pips)) (take_all (length pips) pips (omega arith)) (tells (length pips) (omega arith))

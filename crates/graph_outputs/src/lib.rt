@@ -1,7 +1,7 @@
 //! The rules of the graph on what pips declare to make.
 //!
 //! No two pips declare one file; files, output directories and full seals keep apart; all outputs lie below
-//! `out`. Each call gives the first pip at which its rule fails. This crate stands on `pip_types`, `bx_tree`
+//! `out`. Each call gives the first pip at which its rule fails. This crate depends on `pip_types`, `bx_tree`
 //! and `bx_digest`, and keeps no types with an invariant of their own.
 #![tactic(auto)]
 

@@ -55,6 +55,6 @@ module _ (text body line : List ℕ) (first : body ≡ take (length text - 70) t
       same : (b : List ℕ) → text ≡ sealed b → line ≡ seal_line body
       same b is =
           let size : length b ≡ length text - 70 = omega (arith, ap length is, length-append b (seal_line b), seal_bytes b) in
-          let front : take (length text - 70) text ≡ b = ap (take (length text - 70)) is ∙ take_at b (seal_line b) (length text - 70) size in
+          let prefix : take (length text - 70) text ≡ b = ap (take (length text - 70)) is ∙ take_at b (seal_line b) (length text - 70) size in
           let back : drop (length text - 70) text ≡ seal_line b = ap (drop (length text - 70)) is ∙ drop_at b (seal_line b) (length text - 70) size in
-          second ∙ back ∙ ap seal_line (sym (first ∙ front))
+          second ∙ back ∙ ap seal_line (sym (first ∙ prefix))

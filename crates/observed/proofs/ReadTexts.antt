@@ -306,10 +306,10 @@ text_law text set = (text_sound text set, λ h. ap read_paths_text h.1 ∙ text_
 
 -- ## Loops
 
-pub named_front : (lines : List (List ℕ)) → named_asks (lines ++ [] ∷ []) ≡ all_asks lines
-named_front [] = refl
-named_front (line ∷ []) = refl
-named_front (line ∷ more ∷ lines) = ap (with_ask (named_ask line)) (named_front (more ∷ lines))
+pub named_prefix : (lines : List (List ℕ)) → named_asks (lines ++ [] ∷ []) ≡ all_asks lines
+named_prefix [] = refl
+named_prefix (line ∷ []) = refl
+named_prefix (line ∷ more ∷ lines) = ap (with_ask (named_ask line)) (named_prefix (more ∷ lines))
 
 no_asks : (o : Option Ask) → with_ask o None ≡ None
 no_asks None = refl
@@ -320,9 +320,9 @@ named_open [] b bs = refl
 named_open (line ∷ []) b bs = no_asks (named_ask line)
 named_open (line ∷ more ∷ lines) b bs = ap (with_ask (named_ask line)) (named_open (more ∷ lines) b bs) ∙ no_asks (named_ask line)
 
-after_more : (front : List Ask) (ask : Ask) (read : Option (List Ask)) → after_asks (front ++ ask ∷ []) read ≡ after_asks front (with_ask (Some ask) read)
-after_more front ask None = refl
-after_more front ask (Some asks) = ap Some (append_assoc front (ask ∷ []) asks)
+after_more : (earlier : List Ask) (ask : Ask) (read : Option (List Ask)) → after_asks (earlier ++ ask ∷ []) read ≡ after_asks earlier (with_ask (Some ask) read)
+after_more earlier ask None = refl
+after_more earlier ask (Some asks) = ap Some (append_assoc earlier (ask ∷ []) asks)
 
 texts_at : (lines : List (Bor (List ℕ))) (i : ℕ) (d : Bor (List ℕ)) → i < length lines → texts_now (drop i lines) ≡ (get_or lines i d).now ∷ texts_now (drop (i + 1) lines)
 texts_at lines i d l = at lines i l ∙ ap (λ n. (get_or lines i d).now ∷ texts_now (drop n lines)) (sym (add-one i))
@@ -332,20 +332,20 @@ texts_at lines i d l = at lines i l ∙ ap (λ n. (get_or lines i d).now ∷ tex
     at (x ∷ xs) zero m = refl
     at (x ∷ xs) (suc k) m = at xs k (omega (arith, m))
 
-pub one_ask : (lines : List (Bor (List ℕ))) (i : ℕ) (d : Bor (List ℕ)) (front new : List Ask) (ask : Ask) (all : Option (List Ask)) → i < length lines
-    → named_ask (get_or lines i d).now ≡ Some ask → new ≡ front ++ ask ∷ [] → after_asks front (all_asks (texts_now (drop i lines))) ≡ all
+pub one_ask : (lines : List (Bor (List ℕ))) (i : ℕ) (d : Bor (List ℕ)) (earlier new : List Ask) (ask : Ask) (all : Option (List Ask)) → i < length lines
+    → named_ask (get_or lines i d).now ≡ Some ask → new ≡ earlier ++ ask ∷ [] → after_asks earlier (all_asks (texts_now (drop i lines))) ≡ all
     → after_asks new (all_asks (texts_now (drop (i + 1) lines))) ≡ all
-one_ask lines i d front new ask all l is more so_far =
+one_ask lines i d earlier new ask all l is more so_far =
     ap (λ xs. after_asks xs (all_asks (texts_now (drop (i + 1) lines)))) more
-    ∙ after_more front ask (all_asks (texts_now (drop (i + 1) lines)))
-    ∙ ap (λ o. after_asks front (with_ask o (all_asks (texts_now (drop (i + 1) lines))))) (sym is)
-    ∙ ap (λ ts. after_asks front (all_asks ts)) (sym (texts_at lines i d l)) ∙ so_far
+    ∙ after_more earlier ask (all_asks (texts_now (drop (i + 1) lines)))
+    ∙ ap (λ o. after_asks earlier (with_ask o (all_asks (texts_now (drop (i + 1) lines))))) (sym is)
+    ∙ ap (λ ts. after_asks earlier (all_asks ts)) (sym (texts_at lines i d l)) ∙ so_far
 
-pub bad_ask : (lines : List (Bor (List ℕ))) (i : ℕ) (d : Bor (List ℕ)) (front : List Ask) (all : Option (List Ask)) → i < length lines
-    → named_ask (get_or lines i d).now ≡ None → after_asks front (all_asks (texts_now (drop i lines))) ≡ all → all ≡ None
-bad_ask lines i d front all l is so_far =
-    sym so_far ∙ ap (λ ts. after_asks front (all_asks ts)) (texts_at lines i d l)
-    ∙ ap (λ o. after_asks front (with_ask o (all_asks (texts_now (drop (i + 1) lines))))) is
+pub bad_ask : (lines : List (Bor (List ℕ))) (i : ℕ) (d : Bor (List ℕ)) (earlier : List Ask) (all : Option (List Ask)) → i < length lines
+    → named_ask (get_or lines i d).now ≡ None → after_asks earlier (all_asks (texts_now (drop i lines))) ≡ all → all ≡ None
+bad_ask lines i d earlier all l is so_far =
+    sym so_far ∙ ap (λ ts. after_asks earlier (all_asks ts)) (texts_at lines i d l)
+    ∙ ap (λ o. after_asks earlier (with_ask o (all_asks (texts_now (drop (i + 1) lines))))) is
 
 drop_whole : (lines : List (Bor (List ℕ))) (i : ℕ) → length lines ≡ i → drop i lines ≡ []
 drop_whole [] zero e = refl
@@ -353,10 +353,10 @@ drop_whole [] (suc i) e = absurd (omega (arith, e))
 drop_whole (x ∷ xs) zero e = absurd (omega (arith, e))
 drop_whole (x ∷ xs) (suc i) e = drop_whole xs i (omega (arith, e))
 
-pub all_read : (lines : List (Bor (List ℕ))) (i : ℕ) (front : List Ask) (all : Option (List Ask)) → length lines ≡ i
-    → after_asks front (all_asks (texts_now (drop i lines))) ≡ all → all ≡ Some front
-all_read lines i front all l so_far =
-    sym so_far ∙ ap (λ ls. after_asks front (all_asks (texts_now ls))) (drop_whole lines i l) ∙ ap Some (append-nil front)
+pub all_read : (lines : List (Bor (List ℕ))) (i : ℕ) (earlier : List Ask) (all : Option (List Ask)) → length lines ≡ i
+    → after_asks earlier (all_asks (texts_now (drop i lines))) ≡ all → all ≡ Some earlier
+all_read lines i earlier all l so_far =
+    sym so_far ∙ ap (λ ls. after_asks earlier (all_asks (texts_now ls))) (drop_whole lines i l) ∙ ap Some (append-nil earlier)
 
 -- what a fault of a part says of the whole
 pub err_again : {X : Type 0} (e : SetFault) (part : Option X) (all : Option (List Ask)) → Reads (Err e) part → (part ≡ None → all ≡ None) → ReadsAsks (Err e) all
@@ -392,7 +392,7 @@ pub asks_closed : (lines rest : List (Bor (List ℕ))) (last : Bor (List ℕ)) �
     → all_asks (texts_now rest) ≡ named_asks (texts_now lines)
 asks_closed lines rest last is none =
     sym (ap (λ ls. named_asks (texts_now ls)) is ∙ ap named_asks (texts_push rest last) ∙ ap (λ t. named_asks (texts_now rest ++ t ∷ [])) (no_bytes last.now none)
-    ∙ named_front (texts_now rest))
+    ∙ named_prefix (texts_now rest))
 
 pub asks_open : (lines rest : List (Bor (List ℕ))) (last : Bor (List ℕ)) → lines ≡ rest ++ last ∷ [] → length last.now ≢ 0 → named_asks (texts_now lines) ≡ None
 asks_open lines rest last is some =

@@ -101,8 +101,8 @@ named_asks (line ∷ next ∷ lines) = with_ask (named_ask line) (named_asks (ne
 
 -- asks before those that were read
 abbrev pub after_asks : List Ask → Option (List Ask) → Option (List Ask)
-after_asks front None = None
-after_asks front (Some asks) = Some (front ++ asks)
+after_asks earlier None = None
+after_asks earlier (Some asks) = Some (earlier ++ asks)
 
 -- whether asks strictly rise
 abbrev pub is_rising : List Ask → Bool

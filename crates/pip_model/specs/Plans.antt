@@ -22,7 +22,7 @@ pub record AreAllInputs (pips : List Pip) (all : List (List ℕ)) : Type 0 where
 abbrev pub IsReachOf : (ℕ → ℕ → Type 0) → ℕ → List ℕ → Type 0
 IsReachOf E i row = (k : ℕ) → HasBit row k ↔ Walk E i k
 
--- a row for each number below some number, each of so many words
+-- a row for each number below some number, each of this number of words
 pub record AreRows (E : ℕ → ℕ → Type 0) (words : ℕ) (rows : List (List ℕ)) : Type 0 where
   pub size : All (λ row. length row ≡ words) rows
   pub each : (i : ℕ) → i < length rows → HoldsAt (IsReachOf E i) rows i

@@ -42,7 +42,7 @@ fn add_bit(row: &mut [u64], number: usize)
 }
 
 impl BitSet {
-    // The empty set, with room for the numbers below 64 times so many words.
+    // The empty set of numbers below 64 times `words`.
     pub(crate) fn empty(alloc: Global, words: usize) -> Result<BitSet, AllocError>
         ensures size { IfOk result (λ set. length set ≡ words) }
         ensures none { IfOk result (λ set. (k : ℕ) → HasBit set k → ⊥) }

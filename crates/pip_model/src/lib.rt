@@ -1,6 +1,6 @@
 //! The plan of a build: its pips, which of them each one waits for, and what each can produce.
 //!
-//! This crate stands on `pip_types`, which it hands on, `bx_tree` and `bx_digest`. Its invariant: the
+//! This crate depends on `pip_types`, which it re-exports, on `bx_tree` and on `bx_digest`. Its invariant: the
 //! inputs and the reachability that a `Plan` keeps are those that its definitions read off the list of pips.
 #![tactic(auto)]
 

@@ -1,6 +1,6 @@
 //! An order of processes in which just those of one description tie.
 //!
-//! A description is all that a process says, but for whose directories it takes. This crate stands on
+//! A description is all that a process says, but for whose directories it takes. This crate depends on
 //! `pip_types`, `bx_tree` and `bx_digest`, and keeps no types of its own.
 #![tactic(auto)]
 

@@ -2,7 +2,7 @@
 //!
 //! A pip is one step of a build: a process, a copied file, a written file or a sealed directory. This
 //! crate has the types of pips, the list of all pips in the order in which they were made, the source
-//! files by path, the files that a pip made, and a process with the contents of its files. It stands on
+//! files by path, the files that a pip made, and a process with the contents of its files. It depends on
 //! `bx_tree` and `bx_digest`. Its invariant: in a `PipList`, what a pip names as made is made by that
 //! smaller pip.
 #![tactic(auto)]

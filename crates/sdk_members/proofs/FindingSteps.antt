@@ -10,7 +10,7 @@ use Rattle.sdk_members.specs.FirstPlaces.{first_place}
 use Rattle.sdk_members.specs.Periods.{IsLeastPeriod}
 
 -- the other text stands at a place
-pub record StandsAt (text other : List ℕ) (place : ℕ) : Type 0 where
+pub record OccursAt (text other : List ℕ) (place : ℕ) : Type 0 where
   pub fits : place + length other ≤ length text
   pub same : (j : ℕ) → j < length other → get_or text (place + j) 0 ≡ get_or other j 0
 
@@ -19,7 +19,7 @@ pub record Reaches (text other : List ℕ) (place known : ℕ) : Type 0 where
   pub within : place + known ≤ length text
   pub short : known ≤ length other
   pub same : (j : ℕ) → j < known → get_or text (place + j) 0 ≡ get_or other j 0
-  pub none : (q : ℕ) → q < place → StandsAt text other q → ⊥
+  pub none : (q : ℕ) → q < place → OccursAt text other q → ⊥
 
 below_next : (P : ℕ → Type 0) (n : ℕ) → ((k : ℕ) → k < n → P k) → P n → (k : ℕ) → k < n + 1 → P k
 below_next P n below here k l = elim (cases_order k n) [
@@ -53,7 +53,7 @@ place_more text other place known h l m zero_is differs = record {
   within = omega arith;
   short = h.short;
   same = λ j k. absurd (omega arith);
-  none = below_next (λ q. StandsAt text other q → ⊥) place h.none (λ s. differs (s.same known m));
+  none = below_next (λ q. OccursAt text other q → ⊥) place h.none (λ s. differs (s.same known m));
 }
 
 -- a later byte differs
@@ -73,7 +73,7 @@ moved text other place known shift h m differs p = record {
     the_place : (j : ℕ) → place + shift + j ≡ place + (shift + j)
     the_place j = omega arith
 
-    further : (q d : ℕ) → q ≡ place + d → 0 < d → d < shift → StandsAt text other q → ⊥
+    further : (q d : ℕ) → q ≡ place + d → 0 < d → d < shift → OccursAt text other q → ⊥
     further q d is some less s =
         p.least d some less (record {
           same = λ j k.
@@ -83,7 +83,7 @@ moved text other place known shift h m differs p = record {
         the_shift : (j : ℕ) → place + (d + j) ≡ q + j
         the_shift j = omega arith
 
-    by_order : (q : ℕ) → q < place + shift → StandsAt text other q → ⊥
+    by_order : (q : ℕ) → q < place + shift → OccursAt text other q → ⊥
     by_order q less s = elim (cases_order q place) [
       | inl is ↦ differs (subst (λ i. get_or text (i + known) 0 ≡ get_or other known 0) is (s.same known m))
       | inr apart ↦ elim apart [
@@ -94,7 +94,7 @@ moved text other place known shift h m differs p = record {
 
 -- ## The first place
 
-begins : (text other : List ℕ) → StandsAt text other 0 → starts_with nat_eq text other ≡ true
+begins : (text other : List ℕ) → OccursAt text other 0 → starts_with nat_eq text other ≡ true
 begins text other h =
     (starts_is Decides-eqb text other (starts_with nat_eq text other) refl).1 (drop (length other) text)
     (front_from_reads 0 text other (let f = h.fits in omega arith) (λ i l. ap (λ j. get_or text j 0) (from_zero i) ∙ h.same i l))
@@ -102,8 +102,8 @@ begins text other h =
     from_zero : (i : ℕ) → i ≡ 0 + i
     from_zero i = omega arith
 
-stands : (text other : List ℕ) → starts_with nat_eq text other ≡ true → StandsAt text other 0
-stands text other e =
+starts_here : (text other : List ℕ) → starts_with nat_eq text other ≡ true → OccursAt text other 0
+starts_here text other e =
     let cut = (starts_is Decides-eqb text other (starts_with nat_eq text other) refl).0 e in
     let fits = front_fits text other (drop (length other) text) cut in
     record {
@@ -114,14 +114,14 @@ stands text other e =
     to_zero : (j : ℕ) → 0 + j ≡ j
     to_zero j = omega arith
 
-not_here : (text other : List ℕ) → (StandsAt text other 0 → ⊥) → starts_with nat_eq text other ≡ false
+not_here : (text other : List ℕ) → (OccursAt text other 0 → ⊥) → starts_with nat_eq text other ≡ false
 not_here text other n = elim (cases_Bool (starts_with nat_eq text other)) [
-  | inl e ↦ absurd (n (stands text other e))
+  | inl e ↦ absurd (n (starts_here text other e))
   | inr e ↦ e
 ]
 
 -- one byte further in a text that is one byte longer
-further_in : (b : ℕ) (bs other : List ℕ) (q : ℕ) → StandsAt bs other q → StandsAt (b ∷ bs) other (suc q)
+further_in : (b : ℕ) (bs other : List ℕ) (q : ℕ) → OccursAt bs other q → OccursAt (b ∷ bs) other (suc q)
 further_in b bs other q h = record {
   fits = let f = h.fits in omega arith;
   same = λ j l. ap (λ i. get_or (b ∷ bs) i 0) (shift j) ∙ h.same j l;
@@ -130,7 +130,7 @@ further_in b bs other q h = record {
     shift : (j : ℕ) → suc q + j ≡ suc (q + j)
     shift j = omega arith
 
-less_far : (b : ℕ) (bs other : List ℕ) (q : ℕ) → StandsAt (b ∷ bs) other (suc q) → StandsAt bs other q
+less_far : (b : ℕ) (bs other : List ℕ) (q : ℕ) → OccursAt (b ∷ bs) other (suc q) → OccursAt bs other q
 less_far b bs other q h = record {
   fits = let f = h.fits in omega arith;
   same = λ j l. ap (λ i. get_or (b ∷ bs) i 0) (shift j) ∙ h.same j l;
@@ -139,7 +139,7 @@ less_far b bs other q h = record {
     shift : (j : ℕ) → suc (q + j) ≡ suc q + j
     shift j = omega arith
 
-pub found : (other text : List ℕ) (q : ℕ) → StandsAt text other q → ((r : ℕ) → r < q → StandsAt text other r → ⊥)
+pub found : (other text : List ℕ) (q : ℕ) → OccursAt text other q → ((r : ℕ) → r < q → OccursAt text other r → ⊥)
     → first_place other text ≡ Some q
 found other [] zero h none = ap (λ b. cond b (Some 0) None) (begins [] other h)
 found other [] (suc q) h none = absurd (let f = h.fits in omega arith)
@@ -150,7 +150,7 @@ found other (b ∷ bs) (suc q) h none =
     ∙ ap (option_map suc) (found other bs q (less_far b bs other q h)
     (λ r l s. none (suc r) (omega arith) (further_in b bs other r s)))
 
-pub not_found : (other text : List ℕ) → ((q : ℕ) → StandsAt text other q → ⊥) → first_place other text ≡ None
+pub not_found : (other text : List ℕ) → ((q : ℕ) → OccursAt text other q → ⊥) → first_place other text ≡ None
 not_found other [] n = ap (λ b. cond b (Some 0) None) (not_here [] other (n 0))
 not_found other (b ∷ bs) n =
     ap (λ t. cond t (Some 0) (option_map suc (first_place other bs))) (not_here (b ∷ bs) other (n 0))
@@ -165,11 +165,11 @@ found_here text other place known h l =
       same = λ j k. h.same j (omega arith);
     }) h.none
 
--- no later place has room for the other text
-pub no_room
+-- the other text is too long for any later place
+pub too_long_there
     : (text other : List ℕ) (place known : ℕ) → Reaches text other place known → known < length other → length text ≤ place + known
     → first_place other text ≡ None
-no_room text other place known h m l = not_found other text (λ q s. elim (cases_order q place) [
+too_long_there text other place known h m l = not_found other text (λ q s. elim (cases_order q place) [
   | inl is ↦ absurd (let f = s.fits in omega arith)
   | inr apart ↦ elim apart [ inl before ↦ h.none q before s | inr after ↦ absurd (let f = s.fits in omega arith) ]
 ])

@@ -11,8 +11,8 @@ use Rattle.stored_lines.specs.Reading.{Taken, Takes, TakesItems, ◌>>=◌}
 use Rattle.stored_lines.proofs.Combining.{bind_some, some_same}
 
 -- the lines that were read before those that are still read
-abbrev pub with_front : {X : Type 0} → List X → Taken (List X) → Taken (List X)
-with_front front read = read >>= λ x. Some (front ++ x.0, x.1)
+abbrev pub with_prefix : {X : Type 0} → List X → Taken (List X) → Taken (List X)
+with_prefix prefix read = read >>= λ x. Some (prefix ++ x.0, x.1)
 
 module _ {X : Type 0} {G : X → Type 0} {w : X → List ℕ} {r : List ℕ → Taken X} (starts : List ℕ → Bool) (form : IsForm G Anything w r)
     (seen : (x : X) (rest : List ℕ) → starts (w x ++ rest) ≡ true) (none : starts [] ≡ false) where
@@ -87,66 +87,66 @@ module _ {X : Type 0} {G : X → Type 0} {w : X → List ℕ} {r : List ℕ → 
 
 -- ## Reading lines one by one
 
--- What is read so far is the front of what a text reads as, with lines still to be read.
-pub record IsUnderWay {X : Type 0} (starts : List ℕ → Bool) (r : List ℕ → Taken X) (front : List X) (rest : List ℕ) (all : Taken (List X)) : Type 0 where
+-- What is read so far is a prefix of what a text reads as, with lines still to be read.
+pub record IsUnderWay {X : Type 0} (starts : List ℕ → Bool) (r : List ℕ → Taken X) (prefix : List X) (rest : List ℕ) (all : Taken (List X)) : Type 0 where
   pub most : ℕ
   pub enough : length rest ≤ most
-  pub so_far : with_front front (some_lines starts r most rest) ≡ all
+  pub so_far : with_prefix prefix (some_lines starts r most rest) ≡ all
 
 pub begun : {X : Type 0} (starts : List ℕ → Bool) (r : List ℕ → Taken X) (text : List ℕ) → IsUnderWay starts r [] text (lines_at starts r text)
 begun starts r text = record { most = length text; enough = omega arith; so_far = same (some_lines starts r (length text) text) }
   where
-    same : {X : Type 0} (read : Taken (List X)) → with_front [] read ≡ read
+    same : {X : Type 0} (read : Taken (List X)) → with_prefix [] read ≡ read
     same None = refl
     same (Some x) = refl
 
-module _ {X : Type 0} (starts : List ℕ → Bool) (r : List ℕ → Taken X) (front : List X) (rest : List ℕ) (all : Taken (List X)) where
-  pub goes_on : (new : List X) (x : X) (after : List ℕ) → new ≡ front ++ x ∷ [] → starts rest ≡ true → r rest ≡ Some (x, after) → length after < length rest
-      → IsUnderWay starts r front rest all → IsUnderWay starts r new after all
+module _ {X : Type 0} (starts : List ℕ → Bool) (r : List ℕ → Taken X) (prefix : List X) (rest : List ℕ) (all : Taken (List X)) where
+  pub goes_on : (new : List X) (x : X) (after : List ℕ) → new ≡ prefix ++ x ∷ [] → starts rest ≡ true → r rest ≡ Some (x, after) → length after < length rest
+      → IsUnderWay starts r prefix rest all → IsUnderWay starts r new after all
   unfolding some_lines
   goes_on new x after more start e less way = by_most way.most way.enough way.so_far
     where
-      regroup : (read : Taken (List X)) → with_front front (read >>= λ more. Some (x ∷ more.0, more.1)) ≡ with_front (front ++ x ∷ []) read
+      regroup : (read : Taken (List X)) → with_prefix prefix (read >>= λ more. Some (x ∷ more.0, more.1)) ≡ with_prefix (prefix ++ x ∷ []) read
       regroup None = refl
-      regroup (Some t) = ap (λ xs. Some (xs, t.1)) (sym (append_assoc front (x ∷ []) t.0))
+      regroup (Some t) = ap (λ xs. Some (xs, t.1)) (sym (append_assoc prefix (x ∷ []) t.0))
 
-      by_most : (n : ℕ) → length rest ≤ n → with_front front (some_lines starts r n rest) ≡ all → IsUnderWay starts r new after all
+      by_most : (n : ℕ) → length rest ≤ n → with_prefix prefix (some_lines starts r n rest) ≡ all → IsUnderWay starts r new after all
       by_most zero le so_far = absurd (omega (arith, le, less))
       by_most (suc n) le so_far = record {
         most = n;
         enough = omega (arith, le, less);
         so_far =
-            ap (λ xs. with_front xs (some_lines starts r n after)) more
+            ap (λ xs. with_prefix xs (some_lines starts r n after)) more
             ∙ sym (regroup (some_lines starts r n after))
-            ∙ ap (λ o. with_front front (o >>= λ first. some_lines starts r n first.1 >>= λ more. Some (first.0 ∷ more.0, more.1))) (sym e)
-            ∙ ap (λ b. with_front front (cond b (r rest >>= λ first. some_lines starts r n first.1 >>= λ more. Some (first.0 ∷ more.0, more.1)) (Some ([], rest)))) (sym start)
+            ∙ ap (λ o. with_prefix prefix (o >>= λ first. some_lines starts r n first.1 >>= λ more. Some (first.0 ∷ more.0, more.1))) (sym e)
+            ∙ ap (λ b. with_prefix prefix (cond b (r rest >>= λ first. some_lines starts r n first.1 >>= λ more. Some (first.0 ∷ more.0, more.1)) (Some ([], rest)))) (sym start)
             ∙ so_far;
       }
 
-  pub no_line : starts rest ≡ true → r rest ≡ None → IsUnderWay starts r front rest all → all ≡ None
+  pub no_line : starts rest ≡ true → r rest ≡ None → IsUnderWay starts r prefix rest all → all ≡ None
   unfolding some_lines
   no_line start e way = by_most way.most way.so_far
     where
-      by_most : (n : ℕ) → with_front front (some_lines starts r n rest) ≡ all → all ≡ None
-      by_most zero so_far = sym so_far ∙ ap (λ b. with_front front (cond b None (Some ([], rest)))) start
+      by_most : (n : ℕ) → with_prefix prefix (some_lines starts r n rest) ≡ all → all ≡ None
+      by_most zero so_far = sym so_far ∙ ap (λ b. with_prefix prefix (cond b None (Some ([], rest)))) start
       by_most (suc n) so_far =
           sym so_far
-          ∙ ap (λ b. with_front front (cond b (r rest >>= λ first. some_lines starts r n first.1 >>= λ more. Some (first.0 ∷ more.0, more.1)) (Some ([], rest)))) start
-          ∙ ap (λ o. with_front front (o >>= λ first. some_lines starts r n first.1 >>= λ more. Some (first.0 ∷ more.0, more.1))) e
+          ∙ ap (λ b. with_prefix prefix (cond b (r rest >>= λ first. some_lines starts r n first.1 >>= λ more. Some (first.0 ∷ more.0, more.1)) (Some ([], rest)))) start
+          ∙ ap (λ o. with_prefix prefix (o >>= λ first. some_lines starts r n first.1 >>= λ more. Some (first.0 ∷ more.0, more.1))) e
 
-  pub all_lines : starts rest ≡ false → IsUnderWay starts r front rest all → all ≡ Some (front, rest)
+  pub all_lines : starts rest ≡ false → IsUnderWay starts r prefix rest all → all ≡ Some (prefix, rest)
   unfolding some_lines
   all_lines start way = by_most way.most way.so_far
     where
-      by_most : (n : ℕ) → with_front front (some_lines starts r n rest) ≡ all → all ≡ Some (front, rest)
+      by_most : (n : ℕ) → with_prefix prefix (some_lines starts r n rest) ≡ all → all ≡ Some (prefix, rest)
       by_most zero so_far =
-          sym so_far ∙ ap (λ b. with_front front (cond b None (Some ([], rest)))) start ∙ ap (λ xs. Some (xs, rest)) (append-nil front)
+          sym so_far ∙ ap (λ b. with_prefix prefix (cond b None (Some ([], rest)))) start ∙ ap (λ xs. Some (xs, rest)) (append-nil prefix)
       by_most (suc n) so_far =
           sym so_far
-          ∙ ap (λ b. with_front front (cond b (r rest >>= λ first. some_lines starts r n first.1 >>= λ more. Some (first.0 ∷ more.0, more.1)) (Some ([], rest)))) start
-          ∙ ap (λ xs. Some (xs, rest)) (append-nil front)
+          ∙ ap (λ b. with_prefix prefix (cond b (r rest >>= λ first. some_lines starts r n first.1 >>= λ more. Some (first.0 ∷ more.0, more.1)) (Some ([], rest)))) start
+          ∙ ap (λ xs. Some (xs, rest)) (append-nil prefix)
 
   -- what a fault in a line says of the lines
-  pub faulty : (after : List ℕ) (e : TextFault) → starts rest ≡ true → Takes (Err e) after (r rest) → IsUnderWay starts r front rest all → TakesItems {X = X} (Err e) after all
+  pub faulty : (after : List ℕ) (e : TextFault) → starts rest ≡ true → Takes (Err e) after (r rest) → IsUnderWay starts r prefix rest all → TakesItems {X = X} (Err e) after all
   faulty after faults.Bad start e way = no_line start e way
   faulty after faults.Memory start e way = tt

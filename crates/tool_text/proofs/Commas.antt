@@ -38,11 +38,11 @@ skipped (x ∷ xs) = by_space (x == 32) refl (skipped xs)
 
 pub trim_sound : (xs : List ℕ) → (left right : List ℕ) × AreSpaces left × AreSpaces right × (xs ≡ left ++ trimmed xs ++ right)
 trim_sound xs =
-    let front = skipped xs in
+    let prefix = skipped xs in
     let back = skipped (reverse (skip_spaces xs)) in
     let parts : skip_spaces xs ≡ trimmed xs ++ reverse back.0 =
     sym (reverse-reverse (skip_spaces xs)) ∙ ap reverse back.2 ∙ reverse-append back.0 (skip_spaces (reverse (skip_spaces xs))) in
-    (front.0, reverse back.0, front.1, spaces_reverse back.0 back.1, front.2 ∙ ap (λ t. front.0 ++ t) parts ∙ sym (append_assoc front.0 (trimmed xs) (reverse back.0)))
+    (prefix.0, reverse back.0, prefix.1, spaces_reverse back.0 back.1, prefix.2 ∙ ap (λ t. prefix.0 ++ t) parts ∙ sym (append_assoc prefix.0 (trimmed xs) (reverse back.0)))
 
 skip_all : (left rest : List ℕ) → AreSpaces left → skip_spaces (left ++ rest) ≡ skip_spaces rest
 skip_all [] rest h = refl
@@ -74,13 +74,13 @@ pub record IsPart (text : List ℕ) : Type 0 where
 
 trim_complete : (left part right : List ℕ) → AreSpaces left → AreSpaces right → IsPart part → trimmed (left ++ part ++ right) ≡ part
 trim_complete left part right l r p =
-    let front : skip_spaces (left ++ part ++ right) ≡ part ++ right =
+    let prefix : skip_spaces (left ++ part ++ right) ≡ part ++ right =
     ap skip_spaces (append_assoc left part right) ∙ skip_all left (part ++ right) l ∙ ap (λ t. skip_spaces (t ++ right)) p.begins ∙ skip_none p.first (p.after ++ right) p.first_is ∙ ap (λ t. t ++ right) (sym p.begins) in
     let turned : reverse part ≡ p.last ∷ reverse p.before = ap reverse p.ends ∙ reverse-append p.before (p.last ∷ []) in
     let back : skip_spaces (reverse (part ++ right)) ≡ reverse part =
     ap skip_spaces (reverse-append part right) ∙ skip_all (reverse right) (reverse part) (spaces_reverse right r)
     ∙ ap skip_spaces turned ∙ skip_none p.last (reverse p.before) p.last_is ∙ sym turned in
-    ap (λ t. reverse (skip_spaces (reverse t))) front ∙ ap reverse back ∙ reverse-reverse part
+    ap (λ t. reverse (skip_spaces (reverse t))) prefix ∙ ap reverse back ∙ reverse-reverse part
 
 -- ## Parts that pass commas
 

@@ -47,16 +47,16 @@ none_left (x ∷ xs) l = absurd (omega (arith, l))
 pub last_text : (texts now : List (Bor (List ℕ))) (text : Bor (List ℕ)) (rest part after whole : List ℕ) → now ≡ texts ++ text ∷ []
     → text.now ≡ trimmed part → part ≡ take (part_len Outside rest) rest → after ≡ drop (part_len Outside rest) rest → length after ≡ 0
     → texts_now texts ++ operand_texts rest ≡ operand_texts whole → texts_now now ≡ operand_texts whole
-last_text texts now text rest part after whole is trim front back none so_far =
-    ap texts_now is ∙ map_push (λ (t : Bor (List ℕ)). t.now) texts text ∙ ap (λ t. texts_now texts ++ t ∷ []) (trim ∙ ap trimmed front)
+last_text texts now text rest part after whole is trim prefix back none so_far =
+    ap texts_now is ∙ map_push (λ (t : Bor (List ℕ)). t.now) texts text ∙ ap (λ t. texts_now texts ++ t ∷ []) (trim ∙ ap trimmed prefix)
     ∙ ap (λ ps. texts_now texts ++ map trimmed ps) (sym (parts_end Outside rest (sym back ∙ none_left after none))) ∙ so_far
 
 pub next_text : (texts now : List (Bor (List ℕ))) (text : Bor (List ℕ)) (rest part after whole more : List ℕ) (x : ℕ) → now ≡ texts ++ text ∷ []
     → text.now ≡ trimmed part → part ≡ take (part_len Outside rest) rest → after ≡ drop (part_len Outside rest) rest → after ≡ x ∷ more
     → texts_now texts ++ operand_texts rest ≡ operand_texts whole → texts_now now ++ operand_texts more ≡ operand_texts whole
-next_text texts now text rest part after whole more x is trim front back cut so_far =
+next_text texts now text rest part after whole more x is trim prefix back cut so_far =
     ap (λ ts. texts_now ts ++ operand_texts more) is
     ∙ ap (λ ts. ts ++ operand_texts more) (map_push (λ (t : Bor (List ℕ)). t.now) texts text)
     ∙ append_assoc (texts_now texts) (text.now ∷ []) (operand_texts more)
-    ∙ ap (λ t. texts_now texts ++ t ∷ operand_texts more) (trim ∙ ap trimmed front)
+    ∙ ap (λ t. texts_now texts ++ t ∷ operand_texts more) (trim ∙ ap trimmed prefix)
     ∙ ap (λ ps. texts_now texts ++ map trimmed ps) (sym (parts_more Outside rest x more (sym back ∙ cut))) ∙ so_far

@@ -17,9 +17,9 @@ tool_read lines places read distinct known is =
 pub no_tool : (lines : List (Bor (List ℕ))) → are_distinct (labels_of lines) ≡ false → tool_in (texts_now lines) ≡ None
 no_tool lines twice = ap (λ b. cond b (lines_of (place_of (labels_of lines)) (texts_now lines)) None) twice
 
-after_more : (front : List Instr) (instr : Instr) (read : Option (List Instr)) → after_lines (front ++ instr ∷ []) read ≡ after_lines front (with_line (Some instr) read)
-after_more front instr None = refl
-after_more front instr (Some tool) = ap Some (append_assoc front (instr ∷ []) tool)
+after_more : (prefix : List Instr) (instr : Instr) (read : Option (List Instr)) → after_lines (prefix ++ instr ∷ []) read ≡ after_lines prefix (with_line (Some instr) read)
+after_more prefix instr None = refl
+after_more prefix instr (Some tool) = ap Some (append_assoc prefix (instr ∷ []) tool)
 
 texts_at : (lines : List (Bor (List ℕ))) (i : ℕ) (d : Bor (List ℕ)) → i < length lines → texts_now (drop i lines) ≡ (get_or lines i d).now ∷ texts_now (drop (i + 1) lines)
 texts_at lines i d l = at lines i l ∙ ap (λ n. (get_or lines i d).now ∷ texts_now (drop n lines)) (sym (add-one i))
@@ -29,20 +29,20 @@ texts_at lines i d l = at lines i l ∙ ap (λ n. (get_or lines i d).now ∷ tex
     at (x ∷ xs) zero m = refl
     at (x ∷ xs) (suc k) m = at xs k (omega (arith, m))
 
-pub one_instr : (lines : List (Bor (List ℕ))) (i : ℕ) (d : Bor (List ℕ)) (places : Places) (front new : List Instr) (instr : Instr) (all : Option (List Instr)) → i < length lines
-    → line_of places (get_or lines i d).now ≡ Some instr → new ≡ front ++ instr ∷ [] → after_lines front (lines_of places (texts_now (drop i lines))) ≡ all
+pub one_instr : (lines : List (Bor (List ℕ))) (i : ℕ) (d : Bor (List ℕ)) (places : Places) (prefix new : List Instr) (instr : Instr) (all : Option (List Instr)) → i < length lines
+    → line_of places (get_or lines i d).now ≡ Some instr → new ≡ prefix ++ instr ∷ [] → after_lines prefix (lines_of places (texts_now (drop i lines))) ≡ all
     → after_lines new (lines_of places (texts_now (drop (i + 1) lines))) ≡ all
-one_instr lines i d places front new instr all l is more so_far =
+one_instr lines i d places prefix new instr all l is more so_far =
     ap (λ xs. after_lines xs (lines_of places (texts_now (drop (i + 1) lines)))) more
-    ∙ after_more front instr (lines_of places (texts_now (drop (i + 1) lines)))
-    ∙ ap (λ o. after_lines front (with_line o (lines_of places (texts_now (drop (i + 1) lines))))) (sym is)
-    ∙ ap (λ ts. after_lines front (lines_of places ts)) (sym (texts_at lines i d l)) ∙ so_far
+    ∙ after_more prefix instr (lines_of places (texts_now (drop (i + 1) lines)))
+    ∙ ap (λ o. after_lines prefix (with_line o (lines_of places (texts_now (drop (i + 1) lines))))) (sym is)
+    ∙ ap (λ ts. after_lines prefix (lines_of places ts)) (sym (texts_at lines i d l)) ∙ so_far
 
-pub bad_line : (lines : List (Bor (List ℕ))) (i : ℕ) (d : Bor (List ℕ)) (places : Places) (front : List Instr) (all : Option (List Instr)) → i < length lines
-    → line_of places (get_or lines i d).now ≡ None → after_lines front (lines_of places (texts_now (drop i lines))) ≡ all → all ≡ None
-bad_line lines i d places front all l is so_far =
-    sym so_far ∙ ap (λ ts. after_lines front (lines_of places ts)) (texts_at lines i d l)
-    ∙ ap (λ o. after_lines front (with_line o (lines_of places (texts_now (drop (i + 1) lines))))) is
+pub bad_line : (lines : List (Bor (List ℕ))) (i : ℕ) (d : Bor (List ℕ)) (places : Places) (prefix : List Instr) (all : Option (List Instr)) → i < length lines
+    → line_of places (get_or lines i d).now ≡ None → after_lines prefix (lines_of places (texts_now (drop i lines))) ≡ all → all ≡ None
+bad_line lines i d places prefix all l is so_far =
+    sym so_far ∙ ap (λ ts. after_lines prefix (lines_of places ts)) (texts_at lines i d l)
+    ∙ ap (λ o. after_lines prefix (with_line o (lines_of places (texts_now (drop (i + 1) lines))))) is
 
 drop_whole : (lines : List (Bor (List ℕ))) (i : ℕ) → length lines ≡ i → drop i lines ≡ []
 drop_whole [] zero e = refl
@@ -50,10 +50,10 @@ drop_whole [] (suc i) e = absurd (omega (arith, e))
 drop_whole (x ∷ xs) zero e = absurd (omega (arith, e))
 drop_whole (x ∷ xs) (suc i) e = drop_whole xs i (omega (arith, e))
 
-pub all_instrs : (lines : List (Bor (List ℕ))) (i : ℕ) (places : Places) (front : List Instr) (all : Option (List Instr)) → length lines ≡ i
-    → after_lines front (lines_of places (texts_now (drop i lines))) ≡ all → all ≡ Some front
-all_instrs lines i places front all l so_far =
-    sym so_far ∙ ap (λ ls. after_lines front (lines_of places (texts_now ls))) (drop_whole lines i l) ∙ ap Some (no_more front)
+pub all_instrs : (lines : List (Bor (List ℕ))) (i : ℕ) (places : Places) (prefix : List Instr) (all : Option (List Instr)) → length lines ≡ i
+    → after_lines prefix (lines_of places (texts_now (drop i lines))) ≡ all → all ≡ Some prefix
+all_instrs lines i places prefix all l so_far =
+    sym so_far ∙ ap (λ ls. after_lines prefix (lines_of places (texts_now ls))) (drop_whole lines i l) ∙ ap Some (no_more prefix)
   where
     no_more : (xs : List Instr) → xs ++ [] ≡ xs
     no_more [] = refl

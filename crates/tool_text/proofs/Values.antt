@@ -188,18 +188,18 @@ string_sound (b ∷ c ∷ bs) bytes e =
         one_more (b ∷ []) (c ∷ bs) bytes parts.1 b (ap (λ x. x ∷ parts.1) same ∙ parts.4)
         (inl (refl, other_numbers b 10 is-n, other_numbers b 34 is-q, other_numbers b 92 is-s)) (next parts.1 parts.3)
 
-no_front : (o : Option (List ℕ)) → after_bytes [] o ≡ o
-no_front None = refl
-no_front (Some bytes) = refl
+no_prefix : (o : Option (List ℕ)) → after_bytes [] o ≡ o
+no_prefix None = refl
+no_prefix (Some bytes) = refl
 
 escaped : (first rest bs : List ℕ) (b c : ℕ) → first ≡ 92 ∷ c ∷ [] → Some b ≡ escape_of c → string_rest rest ≡ Some bs → string_rest (first ++ rest) ≡ Some (b ∷ bs)
-escaped first rest bs b c is stands read =
-    ap (λ t. string_rest (t ++ rest)) is ∙ sym (no_front (string_rest (92 ∷ c ∷ rest)))
-    ∙ sym (one_escape [] (92 ∷ c ∷ rest) (c ∷ rest) rest 92 c b refl refl (λ (e : 92 ≡ 34). omega arith) refl stands) ∙ ap (after_bytes (b ∷ [])) read
+escaped first rest bs b c is is_byte read =
+    ap (λ t. string_rest (t ++ rest)) is ∙ sym (no_prefix (string_rest (92 ∷ c ∷ rest)))
+    ∙ sym (one_escape [] (92 ∷ c ∷ rest) (c ∷ rest) rest 92 c b refl refl (λ (e : 92 ≡ 34). omega arith) refl is_byte) ∙ ap (after_bytes (b ∷ [])) read
 
 read_more : (first rest bs : List ℕ) (b : ℕ) → SpellsByte first b → string_rest rest ≡ Some bs → string_rest (first ++ rest) ≡ Some (b ∷ bs)
 read_more first rest bs b (inl h) read =
-    ap (λ t. string_rest (t ++ rest)) h.0 ∙ sym (no_front (string_rest (b ∷ rest))) ∙ sym (one_plain [] (b ∷ rest) rest b refl h.2 h.3 h.1) ∙ ap (after_bytes (b ∷ [])) read
+    ap (λ t. string_rest (t ++ rest)) h.0 ∙ sym (no_prefix (string_rest (b ∷ rest))) ∙ sym (one_plain [] (b ∷ rest) rest b refl h.2 h.3 h.1) ∙ ap (after_bytes (b ∷ [])) read
 read_more first rest bs b (inr (inl h)) read = escaped first rest bs b 110 h.0 (ap Some h.1) read
 read_more first rest bs b (inr (inr (inl h))) read = escaped first rest bs b 116 h.0 (ap Some h.1) read
 read_more first rest bs b (inr (inr (inr (inl h)))) read = escaped first rest bs b 34 h.0 (ap Some h.1) read

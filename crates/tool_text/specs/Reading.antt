@@ -79,8 +79,8 @@ string_rest (b ∷ c ∷ bs) =
 
 -- bytes before those that were read
 abbrev pub after_bytes : List ℕ → Option (List ℕ) → Option (List ℕ)
-after_bytes front None = None
-after_bytes front (Some bytes) = Some (front ++ bytes)
+after_bytes prefix None = None
+after_bytes prefix (Some bytes) = Some (prefix ++ bytes)
 
 abbrev pub operand_of : List ℕ → Option Operand
 operand_of [] = None
@@ -305,8 +305,8 @@ lines_of places (line ∷ lines) = with_line (line_of places line) (lines_of pla
 
 -- instructions before those that were read
 abbrev pub after_lines : List Instr → Option (List Instr) → Option (List Instr)
-after_lines front None = None
-after_lines front (Some tool) = Some (front ++ tool)
+after_lines prefix None = None
+after_lines prefix (Some tool) = Some (prefix ++ tool)
 
 abbrev pub tool_in : List (List ℕ) → Option (List Instr)
 tool_in lines =

@@ -2,7 +2,7 @@ use Rattle.std.proofs.Common.{◌≡◌, true, Some, None, drop, reverse, sym, a
 use Rattle.std.proofs.lemmas.List.{drop-drop, length-drop, take_rest}
 use Rattle.dscript_lex.specs.Scanning.{scan_of, NeverCloses}
 use Rattle.dscript_lex.specs.Tokens.{in_hole}
-use Rattle.dscript_lex.proofs.CommentClose.{never_closes_behind}
+use Rattle.dscript_lex.proofs.CommentClose.{never_closes_after}
 use Rattle.dscript_lex.proofs.Cutting.{cut_nothing, cut_more, cut_fails, cut_all, cut_open, cut_same}
 use Rattle.dscript_lex.proofs.ScanLongest.{scan_sound}
 use Rattle.dscript_lex.proofs.lexing.lex.Goals as goal
@@ -30,7 +30,7 @@ lexemes-preserved c =
     record {
       in_range = omega (arith, length-drop c.lexemes.at bytes, (scan_sound (in_hole (reverse c.lexemes.brackets.items)) rest c.in-Some.scanned scanned).in_range);
       has_cut = cut_same bytes _ _ _ _ _ _ (cut_more bytes c.lexemes.at _ _ c.in-Some.scanned c.lexemes.invariant.has_cut scanned) refl (sym c.in_ok-follow.ensures) (sym c.in_ok-push_token.ensures);
-      unclosed = λ never. subst NeverCloses (drop-drop c.in-Some.scanned.len c.lexemes.at bytes) (never_closes_behind rest c.in-Some.scanned.len (subst NeverCloses (take_rest bytes c.lexemes.at) (c.in_ok-scanned.ensures.unclosed never)));
+      unclosed = λ never. subst NeverCloses (drop-drop c.in-Some.scanned.len c.lexemes.at bytes) (never_closes_after rest c.in-Some.scanned.len (subst NeverCloses (take_rest bytes c.lexemes.at) (c.in_ok-scanned.ensures.unclosed never)));
     }
 
 pub returns-then-has_no_hole : goal.returns-then-has_no_hole

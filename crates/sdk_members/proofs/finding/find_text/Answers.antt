@@ -1,11 +1,11 @@
 use Rattle.std.proofs.Common.{sym, subst, arith, length, ◌<◌, ◌≡◌, ◌+◌, ◌-◌, get_or}
 use Rattle.sdk_members.specs.Periods.{IsLeastPeriod}
-use Rattle.sdk_members.proofs.FindingSteps.{found_here, moved, no_room, place_more}
+use Rattle.sdk_members.proofs.FindingSteps.{found_here, moved, too_long_there, place_more}
 use Rattle.sdk_members.proofs.finding.find_text.Goals as goal
 
 pub returns-then-place-known-clause-place : goal.returns-then-place-known-clause-place
 returns-then-place-known-clause-place c =
-    sym (no_room c.args.text.now c.args.other.now c.places.place c.places.known c.places.invariant c.places-test.true c.if-place-known.true)
+    sym (too_long_there c.args.text.now c.args.other.now c.places.place c.places.known c.places.invariant c.places-test.true c.if-place-known.true)
 
 pub places-preserved-then-known-eq0 : goal.places-preserved-then-known-eq0
 places-preserved-then-known-eq0 c =
