@@ -37,7 +37,7 @@ either_then None true v c = refl
 either_then None false v c = refl
 
 -- the numbers, with one more value before those in the table
-number_before : {X : Type 0} (p : X → Bool) (xs : List X) (x : X) (test : Bool) (old new whole : Option ℕ)
+pub number_before : {X : Type 0} (p : X → Bool) (xs : List X) (x : X) (test : Bool) (old new whole : Option ℕ)
     → p x ≡ test → new ≡ cond test (Some (length xs)) old
     → option_or (position_from p 0 (xs ++ x ∷ [])) old ≡ whole
     → option_or (position_from p 0 xs) new ≡ whole

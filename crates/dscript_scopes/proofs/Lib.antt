@@ -5,3 +5,4 @@ pub mod Numbering
 pub mod OneString
 pub mod FirstValues
 pub mod Examples
+pub mod Placed

@@ -11,9 +11,12 @@
 
 mod dotted;
 mod found;
+mod indexed;
 mod local;
 mod lookup;
 mod names;
+mod opened;
+mod places;
 mod scopes;
 mod site;
 mod spaces;

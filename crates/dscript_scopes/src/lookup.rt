@@ -1,16 +1,14 @@
 //! What a dotted name stands for, with the levels at which it is looked for.
 
 ghost use Rattle.std.specs.Prelude.{◌≡◌, ◌≤◌, ◌∷◌, ◌++◌, IfOk, Some, map, option_copied, reverse};
-ghost use Rattle.std.specs.List.{find, list_any};
 ghost use Rattle.std.specs.Result.{result_err};
-ghost use Rattle.std.specs.Str.{bytes_eq};
 ghost use Rattle.dscript_ast.specs.ExprTree.{to_parts};
 ghost use Rattle.dscript_ast.specs.Views.{expr_tree, part_tree};
 ghost use Rattle.dscript_scopes.specs.Answers.{Answers, AnswersLevel, Checks};
 ghost use Rattle.dscript_scopes.specs.Lookup.{beginnings, found_at, found_outside, has_namespace, import_fault};
 ghost use Rattle.dscript_scopes.specs.Lookup.{in_import_call, in_imports, in_module, in_namespaces, in_own_module};
-ghost use Rattle.dscript_scopes.specs.Lookup.{in_other_module, is_module, members_at, module_fault, module_number};
-ghost use Rattle.dscript_scopes.specs.Lookup.{one_string, opens, sdk_found, string_of, through_import};
+ghost use Rattle.dscript_scopes.specs.Lookup.{in_other_module, is_module, members_at, module_fault};
+ghost use Rattle.dscript_scopes.specs.Lookup.{one_string, sdk_found, string_of, through_import};
 ghost use Rattle.dscript_scopes.specs.Spaces.{site_data};
 
 use crate::found::Found;
@@ -42,16 +40,6 @@ fn in_namespaces(alloc: Global, site: &Site<'_>, written: &[Text]) -> Result<Opt
             None => return Ok(None),
         }
     }
-}
-
-/// The number of the module of this name.
-fn module_number(world: &World, name: &Text) -> Option<usize>
-    ensures { result ≡ module_number world.now name.now }
-{
-    world
-        .modules
-        .iter()
-        .position(|module| name.bytes() == module.bytes())
 }
 
 /// What the names stand for in a module that is not their own.
@@ -102,7 +90,7 @@ fn in_module(
     if module_name.bytes() == b"Sdk.Transformers".as_slice() {
         return in_sdk(alloc, parts, names);
     }
-    match module_number(world, module_name) {
+    match world.module_number(module_name) {
         Some(module) => in_other_module(alloc, world, module, parts, names),
         None => Err(Stop::Fault(SpecKind::UnknownModule)),
     }
@@ -138,16 +126,6 @@ fn through_import(
     }
 }
 
-/// The import that gives this name.
-fn import_of<'a>(file: &'a FileNames, name: &Text) -> Option<&'a Imported>
-    ensures { option_copied result
-        ≡ find (λ i. bytes_eq i.name name.now) file.now.imports }
-{
-    file.imports
-        .iter()
-        .find(|imported| imported.name.bytes() == name.bytes())
-}
-
 /// In the imports of a file, by the first name.
 fn in_imports(
     alloc: Global,
@@ -160,46 +138,17 @@ fn in_imports(
     let Some((first, rest)) = written.split_first() else {
         return Ok(None);
     };
-    match import_of(file, first) {
+    match file.import(first) {
         Some(imported) => Ok(Some(through_import(alloc, world, rest, imported)?)),
         None => Ok(None),
     }
-}
-
-/// Whether the workspace has a module of this name.
-fn has_module(world: &World, name: &Text) -> bool
-    ensures { result ≡ list_any (bytes_eq name.now) world.now.modules }
-{
-    world
-        .modules
-        .iter()
-        .any(|module| name.bytes() == module.bytes())
 }
 
 /// Whether there is a module of this name.
 pub(crate) fn is_module(world: &World, name: &Text) -> bool
     ensures { result ≡ is_module world.now name.now }
 {
-    name.bytes() == b"Sdk.Transformers".as_slice() || has_module(world, name)
-}
-
-/// Whether the file opens a namespace of this name.
-fn opens(file: &FileNames, name: &Text) -> bool
-    ensures { result ≡ list_any (bytes_eq name.now) file.now.opened }
-{
-    file.opened
-        .iter()
-        .any(|opened| name.bytes() == opened.bytes())
-}
-
-/// Whether a file of the module of this number opens a namespace of this name.
-fn module_opens(world: &World, number: usize, name: &Text) -> bool
-    ensures { result ≡ list_any (opens name.now (Some number)) world.now.files }
-{
-    world
-        .files
-        .iter()
-        .any(|file| file.module_number == number && opens(file, name))
+    name.bytes() == b"Sdk.Transformers".as_slice() || world.has_module(name)
 }
 
 /// Whether a module has a namespace of this name.
@@ -209,8 +158,8 @@ fn has_namespace(world: &World, module_name: &Text, name: &Text) -> bool
     if module_name.bytes() == b"Sdk.Transformers".as_slice() {
         return is_sdk_namespace(name);
     }
-    match module_number(world, module_name) {
-        Some(module) => module_opens(world, module, name),
+    match world.module_number(module_name) {
+        Some(module) => world.opens(module, name),
         None => false,
     }
 }

@@ -1,10 +1,14 @@
 //! The names of files, as lookups see them.
 
-ghost use Rattle.std.specs.Prelude.{◌≡◌, IfOk};
+ghost use Rattle.std.specs.Prelude.{◌≡◌, IfOk, Some, option_copied};
+ghost use Rattle.std.specs.List.{find, list_any, slice_get};
+ghost use Rattle.std.specs.Str.{bytes_eq};
 ghost use Rattle.dscript_scopes.specs.Declarations.{is_any, sees_of};
-ghost use Rattle.dscript_scopes.specs.Lookup.{value_in, value_of_module};
+ghost use Rattle.dscript_scopes.specs.Lookup.{module_number, opens, value_in, value_of_module};
 
 use crate::dotted::DottedName;
+use crate::opened::{Opened, opened_of_modules};
+use crate::places::{Places, places_of_imports, places_of_texts};
 use crate::tables::{ByModule, numbers_of, values_of_modules};
 use bx_tree::{Memory, Text};
 use dscript_ast::Mark;
@@ -67,11 +71,13 @@ pub struct FileNames {
     pub(crate) imports: Vec<Imported>,
     // the numbers of the values, by dotted name
     values: BTreeMap<DottedName, usize>,
+    // the place of the first import of each name
+    places: Places,
 }
 
 impl Model for FileNames {
     ghost use Rattle.dscript_scopes.specs.Names.{FileNames as Names};
-    ghost use Rattle.dscript_scopes.specs.Tables.{HasValuesOf};
+    ghost use Rattle.dscript_scopes.specs.Tables.{HasPlacesOf, HasValuesOf};
 
     ghost Value = { Names };
 
@@ -82,7 +88,17 @@ impl Model for FileNames {
       imports = f.imports.items;
     } };
 
-    ghost invariant = { λ f. HasValuesOf f.decls.items f.values };
+    ghost invariant = { λ f. record {
+      values : HasValuesOf f.decls.items f.values;
+      places : HasPlacesOf (λ i. i.name) f.imports.items f.places.table;
+    } };
+}
+
+/// The import at a place, if there is one.
+fn import_at(imports: &[Imported], place: usize) -> Option<&Imported>
+    ensures { option_copied result ≡ slice_get imports.now place }
+{
+    imports.get(place)
 }
 
 impl FileNames {
@@ -102,12 +118,14 @@ impl FileNames {
         }) }
     {
         let values = numbers_of(alloc, decls.as_slice())?;
+        let places = places_of_imports(alloc, imports.as_slice())?;
         Ok(FileNames {
             module_number,
             decls,
             opened,
             imports,
             values,
+            places,
         })
     }
 
@@ -124,6 +142,14 @@ impl FileNames {
     {
         self.values.get(name).copied()
     }
+
+    /// The import that gives this name.
+    pub(crate) fn import(&self, name: &Text) -> Option<&Imported>
+        ensures { option_copied result ≡ find (λ i. bytes_eq i.name name.now) self.now.imports }
+    {
+        let place = self.places.place(name)?;
+        import_at(self.imports.as_slice(), place)
+    }
 }
 
 /// The names of a workspace. Contracts see the names of its modules, and the names of its files by path.
@@ -135,12 +161,16 @@ pub struct World {
     any: ByModule,
     exported: ByModule,
     public: ByModule,
+    // the names of namespaces, by module
+    namespaces: Opened,
+    // the number of each module, by name
+    numbers: Places,
 }
 
 impl Model for World {
     ghost use Rattle.dscript_scopes.specs.Declarations.{is_any, is_exported, is_public};
     ghost use Rattle.dscript_scopes.specs.Names.{World as AllNames};
-    ghost use Rattle.dscript_scopes.specs.Tables.{HasModulesOf};
+    ghost use Rattle.dscript_scopes.specs.Tables.{HasModulesOf, HasOpenedOf, HasPlacesOf};
 
     ghost Value = { AllNames };
 
@@ -150,6 +180,8 @@ impl Model for World {
       any : HasModulesOf is_any w.files.items w.any.tables;
       exported : HasModulesOf is_exported w.files.items w.exported.tables;
       public : HasModulesOf is_public w.files.items w.public.tables;
+      namespaces : HasOpenedOf w.files.items w.namespaces.tables;
+      numbers : HasPlacesOf (λ x. x) w.modules.items w.numbers.table;
     } };
 }
 
@@ -161,12 +193,16 @@ impl World {
         let any = values_of_modules(alloc, files.as_slice(), Viewer::Any)?;
         let exported = values_of_modules(alloc, files.as_slice(), Viewer::Module)?;
         let public = values_of_modules(alloc, files.as_slice(), Viewer::Other)?;
+        let namespaces = opened_of_modules(alloc, files.as_slice())?;
+        let numbers = places_of_texts(alloc, modules.as_slice())?;
         Ok(World {
             modules,
             files,
             any,
             exported,
             public,
+            namespaces,
+            numbers,
         })
     }
 
@@ -187,5 +223,26 @@ impl World {
             Viewer::Other => &self.public,
         };
         tables.value(owner, name)
+    }
+
+    /// The number of the module of this name.
+    pub(crate) fn module_number(&self, name: &Text) -> Option<usize>
+        ensures { result ≡ module_number self.now name.now }
+    {
+        self.numbers.place(name)
+    }
+
+    /// Whether there is a module of this name.
+    pub(crate) fn has_module(&self, name: &Text) -> bool
+        ensures { result ≡ list_any (bytes_eq name.now) self.now.modules }
+    {
+        self.module_number(name).is_some()
+    }
+
+    /// Whether a file of the module of this number opens a namespace of this name.
+    pub(crate) fn opens(&self, number: usize, name: &Text) -> bool
+        ensures { result ≡ list_any (opens name.now (Some number)) self.now.files }
+    {
+        self.namespaces.has(number, name)
     }
 }

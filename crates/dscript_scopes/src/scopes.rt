@@ -1,12 +1,10 @@
 //! The blocks around a place in a function.
 
-ghost use Rattle.std.specs.Prelude.{◌≡◌, ◌∷◌, [], IfOk, IsErr, drop, option_copied};
-ghost use Rattle.std.specs.List.{find, position};
-ghost use Rattle.std.specs.Str.{bytes_eq};
-ghost use Rattle.dscript_scopes.specs.Lookup.{assigned, assigned_local, declare_in, in_blocks};
-ghost use Rattle.dscript_scopes.specs.Lookup.{known, local_in, with_number};
+ghost use Rattle.std.specs.Prelude.{◌≡◌, ◌∷◌, [], IfOk, IsErr, drop};
+ghost use Rattle.dscript_scopes.specs.Lookup.{assigned, assigned_local, declare_in, in_blocks, known};
 
 use crate::found::Found;
+use crate::indexed::IndexedBlock;
 use crate::local::{Block, Local};
 use bx_tree::{Memory, Text};
 use dscript_modules::SpecKind;
@@ -17,7 +15,8 @@ use std::marker::Model;
 /// The blocks around a place. Contracts see them as a list, the innermost first.
 #[derive(Drop)]
 pub struct Scopes {
-    blocks: Vec<Block>,
+    alloc: Global,
+    blocks: Vec<IndexedBlock>,
 }
 
 impl Model for Scopes {
@@ -27,38 +26,6 @@ impl Model for Scopes {
     ghost Value = { List BlockData };
 
     ghost view = { λ s. reverse s.blocks.items };
-}
-
-impl Block {
-    /// The local of this name.
-    fn local(&self, name: &Text) -> Option<&Local>
-        ensures { option_copied result ≡ local_in name.now self.now }
-    {
-        self.locals
-            .iter()
-            .find(|local| local.name.bytes() == name.bytes())
-    }
-}
-
-impl Block {
-    /// The place of the local of this name.
-    fn place(&self, name: &Text) -> Option<usize>
-        ensures { result ≡ position (λ l. bytes_eq l.name name.now) self.now.locals }
-    {
-        self.locals
-            .iter()
-            .position(|local| local.name.bytes() == name.bytes())
-    }
-
-    /// Gives the local of this name its number.
-    fn declare(&mut self, name: &Text, number: u32)
-        ensures { self.new ≡ record self.old { locals = with_number name.now number self.old.locals } }
-    {
-        if let Some(place) = self.place(name) {
-            let local = &mut self.locals[place];
-            local.number = Some(number);
-        }
-    }
 }
 
 /// What the local is found to be: unknown before its declaration.
@@ -93,6 +60,7 @@ impl Scopes {
         ensures { result ≡ [] }
     {
         Scopes {
+            alloc,
             blocks: Vec::new(alloc),
         }
     }
@@ -102,7 +70,8 @@ impl Scopes {
         ensures entered { IfOk result (λ _. self.new ≡ block ∷ self.old) }
         ensures kept { IsErr result → self.new ≡ self.old }
     {
-        self.blocks.push(block)?;
+        let indexed = IndexedBlock::new(self.alloc, block)?;
+        self.blocks.push(indexed)?;
         Ok(())
     }
 
@@ -138,7 +107,7 @@ impl Scopes {
             if let Some(local) = block.local(name) {
                 return assigned_local(local);
             }
-            if block.is_body {
+            if block.is_body() {
                 break;
             }
             left = outer;
