@@ -1,0 +1,12 @@
+use Rattle.std.proofs.Common.{◌++◌, map, ap, sym, ◌∙◌}
+use Rattle.std.proofs.lemmas.List.{map-append}
+use Rattle.dscript_ast.specs.ExprTree.{to_stmts}
+use Rattle.dscript_ast.specs.Views.{param_tree, stmt_tree}
+use Rattle.dscript_scopes.specs.Duplicates.{block_names, param_names}
+use Rattle.dscript_names.specs.Singles.{single}
+use Rattle.dscript_names.proofs.SeenNames.{looked}
+use Rattle.dscript_names.proofs.repeats.Repeats.declared.Goals as goal
+
+pub returns : goal.returns
+returns c =
+    looked c.look.result c.args.self.now c.look.new.self _ (param_names (map param_tree c.args.params.now) ++ block_names (to_stmts (map stmt_tree c.args.stmts.now))) (c.in_ok-add_block.ensures ∙ ap (λ xs. xs ++ map single (block_names (to_stmts (map stmt_tree c.args.stmts.now)))) (c.in_ok-add_params.ensures ∙ ap (λ xs. xs ++ map single (param_names (map param_tree c.args.params.now))) c.new-names.ensures.items) ∙ sym (map-append single (param_names (map param_tree c.args.params.now)) (block_names (to_stmts (map stmt_tree c.args.stmts.now))))) c.look.ensures

@@ -1,0 +1,10 @@
+pub mod Named
+pub mod Views
+pub mod Singles
+pub mod Gathered
+pub mod Owners
+pub mod Exports
+pub mod Gathering
+pub mod Resolving
+pub mod Counting
+pub mod Captures
