@@ -1,6 +1,6 @@
+mod AnyMapped
 mod WrittenPieces
 mod FaultsOverCalls
-mod OneWord
 mod FixedPaths
 mod FaultIsNotMemory
 mod OneSortedOrder

@@ -1,6 +1,6 @@
 -- An input ends in one way.
 use Rattle.std.proofs.Common.{◌≡◌, ℕ, ◌⊎◌, inl, inr, List, [], ◌∷◌, Some, refl, ap, sym, subst, ◌∙◌}
-use Rattle.std.specs.List.{AllByRecursion}
+use Rattle.std.specs.Prelude.{Bool, true, false, Result, Ok, Err}
 use Rattle.bx_tree.specs.Paths.{Atoms}
 use Rattle.bx_tree.specs.Trees.{Files}
 use Rattle.bx_tree.specs.Bundle.{Faults, IsBundle}
@@ -9,22 +9,21 @@ use Rattle.bx_tree.specs.declared.bundle.BundleFault.TheVariants as bundle_fault
 use Rattle.bx_tree.proofs.OneReading.{one_tree, one_fault, no_fault}
 use Rattle.bx_engine.specs.declared.fault.InputFault.{InputFault}
 use Rattle.bx_engine.specs.declared.fault.InputFault.TheVariants as input_faults
-use Rattle.bx_engine.specs.declared.fault.SpecificationFault.{SpecificationFault}
 use Rattle.bx_engine.specs.declared.fault.SpecificationFault.TheVariants as specification_faults
-use Rattle.dscript_ast.specs.FileTree.{FileTree}
-use Rattle.dscript_ast.specs.declared.file.Form.TheVariants as forms
-use Rattle.dscript_modules.specs.declared.fault.Fault.{Fault}
-use Rattle.dscript_modules.specs.Faults.{fault_data}
-use Rattle.dscript_read.proofs.OneReading.{one_file}
+use Rattle.dscript_modules.specs.Faults.{FaultData}
+use Rattle.dscript_modules.specs.Workspaces.{ModuleData}
+use Rattle.dscript_names.specs.Named.{named}
+use Rattle.dscript_program.specs.ProgramData.{ProgramData}
+use Rattle.dscript_scopes.specs.Declarations.{ParsedData}
 use Rattle.dscript_workspace.proofs.OneAnswer.{one_answer}
 use Rattle.dscript_workspace.specs.Workspaces.{Answer, Found, Refused}
-use Rattle.bx_engine.specs.Supported.{IsSupported}
-use Rattle.bx_engine.specs.Projects.{IsWellFormed, project_files}
-use Rattle.bx_engine.specs.Ends.{AreSources, AskFor, AsksFound, Ends, HasReserved, Makes}
-use Rattle.bx_engine.specs.Ends.{RefusesFound, RefusesInput, RefusesProjects, RefusesSpecification}
-use Rattle.bx_engine.proofs.OneSupported.{one_supported}
-use Rattle.bx_engine.proofs.ProjectFaults.{fault_or_none, one_first_fault, same_fault}
 use Rattle.bx_engine.specs.Ending.{Ending, InputRefused, SpecificationRefused, Succeeded}
+use Rattle.bx_engine.specs.Ends.{AreSources, AskFor, Ends, EndsFound, EndsNamed, EndsParsed, EndsProgram, EndsSources}
+use Rattle.bx_engine.specs.Ends.{EndsTree, EndsWith, HasReserved, RefusesInput, refused_by}
+use Rattle.bx_engine.specs.Programs.{declares_value}
+use Rattle.bx_engine.specs.Projects.{project_files}
+use Rattle.bx_engine.proofs.OneSupported.{one_supported}
+use Rattle.bx_engine.proofs.ProjectFaults.{fault_or_none, one_first_fault, one_parsing, parsed_well}
 
 -- ## Inputs
 
@@ -85,81 +84,70 @@ refused_or_not input f sources h k = elim (kinds_of_refusal input f h) [
   | inr a ↦ k.free (subst HasReserved (one_tree input a.1 sources a.2 k.bundle) a.3)
 ]
 
--- ## Project files
+-- ## Programs
 
--- what files ask for that are asked
-asked_well : (projects made : Files) → AskFor projects made → AllByRecursion IsWellFormed projects
-asked_well [] made h = tt
-asked_well (file ∷ []) made h = ((h.1, h.2), tt)
-asked_well (file ∷ next ∷ files) made h = absurd h
-
-one_asking : (projects fs gs : Files) → AskFor projects fs → AskFor projects gs → fs ≡ gs
-one_asking [] fs gs h k = h ∙ sym k
-one_asking (file ∷ []) fs gs h k =
-    one_supported k.1 fs gs
-    (subst (λ (tree : FileTree). IsSupported tree fs) (one_file forms.Project file.1 h.1 k.1 h.2 k.2) h.3) k.3
-one_asking (file ∷ next ∷ files) fs gs h k = absurd h
-
-asked_or_refused : (projects made : Files) (fault : SpecificationFault) → RefusesProjects projects fault
-    → AskFor projects made → ⊥
-asked_or_refused projects made (specification_faults.Fault fault) h k =
-    fault_or_none projects (fault_data fault) h (asked_well projects made k)
-asked_or_refused projects made (specification_faults.Unsupported path) h k = h.1 made k
+one_asking : (valued : Bool) (parsed : List ParsedData) (fs gs : Files) → AskFor valued parsed fs
+    → AskFor valued parsed gs → fs ≡ gs
+one_asking false parsed fs gs h k = h ∙ sym k
+one_asking true [] fs gs h k = h ∙ sym k
+one_asking true (p ∷ []) fs gs h k = one_supported p.file fs gs h.1 k.1
+one_asking true (p ∷ next ∷ parsed) fs gs h k = absurd h
 
 same_some : {X : Type 0} (x y : X) → Some x ≡ Some y → x ≡ y
 same_some x y e = cc
 
-one_refusal : (projects : Files) (f g : SpecificationFault) → RefusesProjects projects f
-    → RefusesProjects projects g → f ≡ g
-one_refusal projects (specification_faults.Fault f) (specification_faults.Fault g) h k =
-    ap (λ (x : Fault). specification_faults.Fault x)
-    (same_fault f g (one_first_fault projects (fault_data f) (fault_data g) h k))
-one_refusal projects (specification_faults.Fault f) (specification_faults.Unsupported q) h k =
-    absurd (fault_or_none projects (fault_data f) h k.0)
-one_refusal projects (specification_faults.Unsupported p) (specification_faults.Fault g) h k =
-    absurd (fault_or_none projects (fault_data g) k h.0)
-one_refusal projects (specification_faults.Unsupported p) (specification_faults.Unsupported q) h k =
-    ap (λ (x : Atoms). specification_faults.Unsupported x) (same_some p q (sym h.2 ∙ k.2))
+one_program : (valued : Bool) (parsed : List ParsedData) (v w : Ending) → EndsProgram valued parsed v
+    → EndsProgram valued parsed w → v ≡ w
+one_program valued parsed (InputRefused f) w h k = absurd h
+one_program valued parsed (SpecificationRefused (specification_faults.Fault f)) w h k = absurd h
+one_program valued parsed (SpecificationRefused (specification_faults.Unsupported p)) (InputRefused g) h k = absurd k
+one_program valued parsed (SpecificationRefused (specification_faults.Unsupported p)) (SpecificationRefused (specification_faults.Fault g)) h k =
+    absurd k
+one_program valued parsed (SpecificationRefused (specification_faults.Unsupported p)) (SpecificationRefused (specification_faults.Unsupported q)) h k =
+    ap (λ (x : Atoms). SpecificationRefused (specification_faults.Unsupported x)) (same_some p q (sym h.1 ∙ k.1))
+one_program valued parsed (SpecificationRefused (specification_faults.Unsupported p)) (Succeeded made) h k = absurd (h.0 made k)
+one_program valued parsed (Succeeded fs) (InputRefused g) h k = absurd k
+one_program valued parsed (Succeeded fs) (SpecificationRefused (specification_faults.Fault g)) h k = absurd k
+one_program valued parsed (Succeeded fs) (SpecificationRefused (specification_faults.Unsupported q)) h k = absurd (k.0 fs h)
+one_program valued parsed (Succeeded fs) (Succeeded gs) h k = ap Succeeded (one_asking valued parsed fs gs h k)
 
 -- ## Specifications
 
-one_found : (sources : Files) (answer : Answer) (f g : SpecificationFault) → RefusesFound sources answer f
-    → RefusesFound sources answer g → f ≡ g
-one_found sources (Refused found) (specification_faults.Fault f) (specification_faults.Fault g) h k =
-    ap (λ (x : Fault). specification_faults.Fault x) (same_fault f g (sym h ∙ k))
-one_found sources (Refused found) (specification_faults.Fault f) (specification_faults.Unsupported q) h k = absurd k
-one_found sources (Refused found) (specification_faults.Unsupported p) g h k = absurd h
-one_found sources (Found modules) f g h k = one_refusal (project_files sources modules) f g h k
+one_named : (parsed : List ParsedData) (answer : Result ProgramData FaultData) (v w : Ending)
+    → EndsNamed parsed answer v → EndsNamed parsed answer w → v ≡ w
+one_named parsed (Ok program) v w h k = one_program (declares_value program) parsed v w h k
+one_named parsed (Err found) v w h k = h ∙ sym k
 
-found_or_refused : (sources : Files) (answer : Answer) (fault : SpecificationFault) (made : Files)
-    → RefusesFound sources answer fault → AsksFound sources answer made → ⊥
-found_or_refused sources (Refused found) fault made h k = k
-found_or_refused sources (Found modules) fault made h k = asked_or_refused (project_files sources modules) made fault h k
+one_with : (modules : List ModuleData) (projects : Files) (v w : Ending) → EndsWith modules projects v
+    → EndsWith modules projects w → v ≡ w
+one_with modules projects v w h k = elim h [
+  | inl a ↦ elim k [
+    | inl b ↦ a.2 ∙ ap refused_by (one_first_fault projects a.0 b.0 a.1 b.1) ∙ sym b.2
+    | inr b ↦ absurd (fault_or_none projects a.0 a.1 (parsed_well projects b.0 b.1))
+  ]
+  | inr a ↦ elim k [
+    | inl b ↦ absurd (fault_or_none projects b.0 b.1 (parsed_well projects a.0 a.1))
+    | inr b ↦ one_named b.0 (named modules b.0) v w
+        (subst (λ (ps : List ParsedData). EndsParsed modules ps v) (one_parsing projects a.0 b.0 a.1 b.1) a.2) b.2
+  ]
+]
 
-one_found_making : (sources : Files) (answer : Answer) (fs gs : Files) → AsksFound sources answer fs
-    → AsksFound sources answer gs → fs ≡ gs
-one_found_making sources (Refused found) fs gs h k = absurd h
-one_found_making sources (Found modules) fs gs h k = one_asking (project_files sources modules) fs gs h k
+one_found : (sources : Files) (answer : Answer) (v w : Ending) → EndsFound sources answer v → EndsFound sources answer w
+    → v ≡ w
+one_found sources (Refused found) v w h k = h ∙ sym k
+one_found sources (Found modules) v w h k = one_with modules (project_files sources modules) v w h k
 
-one_specification_fault : (sources : Files) (f g : SpecificationFault) → RefusesSpecification sources f
-    → RefusesSpecification sources g → f ≡ g
-one_specification_fault sources f g h k =
-    one_found sources k.0 f g
-    (subst (λ (answer : Answer). RefusesFound sources answer f) (one_answer sources h.0 k.0 h.1 k.1) h.2) k.2
-
-made_or_refused : (sources : Files) (fault : SpecificationFault) (made : Files)
-    → RefusesSpecification sources fault → Makes sources made → ⊥
-made_or_refused sources fault made h k =
-    found_or_refused sources k.0 fault made
-    (subst (λ (answer : Answer). RefusesFound sources answer fault) (one_answer sources h.0 k.0 h.1 k.1) h.2) k.2
-
-one_making : (sources : Files) (fs gs : Files) → Makes sources fs → Makes sources gs → fs ≡ gs
-one_making sources fs gs h k =
-    one_found_making sources k.0 fs gs
-    (subst (λ (answer : Answer). AsksFound sources answer fs) (one_answer sources h.0 k.0 h.1 k.1) h.2) k.2
+one_of_tree : (sources : Files) (v w : Ending) → EndsTree sources v → EndsTree sources w → v ≡ w
+one_of_tree sources v w h k =
+    one_found sources k.0 v w
+    (subst (λ (answer : Answer). EndsFound sources answer v) (one_answer sources h.0 k.0 h.1 k.1) h.2) k.2
 
 one_source : (input : List ℕ) (s t : Files) → AreSources input s → AreSources input t → s ≡ t
 one_source input s t h k = one_tree input s t h.bundle k.bundle
+
+one_of_sources : (input : List ℕ) (v w : Ending) → EndsSources input v → EndsSources input w → v ≡ w
+one_of_sources input v w h k =
+    one_of_tree k.0 v w (subst (λ (s : Files). EndsTree s v) (one_source input h.0 k.0 h.1 k.1) h.2) k.2
 
 -- ## Whole inputs
 
@@ -169,11 +157,10 @@ one_ending input (InputRefused f) (SpecificationRefused g) h k = absurd (refused
 one_ending input (InputRefused f) (Succeeded gs) h k = absurd (refused_or_not input f k.0 h k.1)
 one_ending input (SpecificationRefused f) (InputRefused g) h k = absurd (refused_or_not input g h.0 k h.1)
 one_ending input (SpecificationRefused f) (SpecificationRefused g) h k =
-    ap SpecificationRefused (one_specification_fault k.0 f g (subst (λ (s : Files). RefusesSpecification s f) (one_source input h.0 k.0 h.1 k.1) h.2) k.2)
+    one_of_sources input (SpecificationRefused f) (SpecificationRefused g) h k
 one_ending input (SpecificationRefused f) (Succeeded gs) h k =
-    absurd (made_or_refused k.0 f gs (subst (λ (s : Files). RefusesSpecification s f) (one_source input h.0 k.0 h.1 k.1) h.2) k.2)
+    one_of_sources input (SpecificationRefused f) (Succeeded gs) h k
 one_ending input (Succeeded fs) (InputRefused g) h k = absurd (refused_or_not input g h.0 k h.1)
 one_ending input (Succeeded fs) (SpecificationRefused g) h k =
-    absurd (made_or_refused h.0 g fs (subst (λ (s : Files). RefusesSpecification s g) (one_source input k.0 h.0 k.1 h.1) k.2) h.2)
-one_ending input (Succeeded fs) (Succeeded gs) h k =
-    ap Succeeded (one_making k.0 fs gs (subst (λ (s : Files). Makes s fs) (one_source input h.0 k.0 h.1 k.1) h.2) k.2)
+    one_of_sources input (Succeeded fs) (SpecificationRefused g) h k
+one_ending input (Succeeded fs) (Succeeded gs) h k = one_of_sources input (Succeeded fs) (Succeeded gs) h k

@@ -17,8 +17,13 @@ use Rattle.bx_tree.specs.Orders.{path_cmp_total}
 use Rattle.bx_tree.specs.declared.tree_file.TreeFile.{TreeFile}
 use Rattle.bx_engine.specs.Supported.{IsSupported, IsAllowed, IsBelowOut, Write, made}
 use Rattle.bx_engine.specs.Ending.{Ending, InputRefused, SpecificationRefused, Succeeded, made_of, pip_lines, report_path}
-use Rattle.bx_engine.specs.Ends.{AskFor, AsksFound, Ends}
-use Rattle.bx_engine.specs.Projects.{project_files}
+use Rattle.std.specs.Prelude.{Bool, true, false, Result, Ok, Err}
+use Rattle.dscript_modules.specs.Faults.{FaultData}
+use Rattle.dscript_names.specs.Named.{named}
+use Rattle.dscript_program.specs.ProgramData.{ProgramData}
+use Rattle.dscript_scopes.specs.Declarations.{ParsedData}
+use Rattle.bx_engine.specs.Ends.{AskFor, Ends, EndsFound, EndsNamed, refused_by}
+use Rattle.bx_engine.specs.Programs.{declares_value}
 use Rattle.dscript_workspace.specs.Workspaces.{Answer, Found, Refused}
 use Rattle.bx_tree.proofs.PathTexts.{one_path}
 use Rattle.std.specs.Prelude.{Vec}
@@ -173,14 +178,28 @@ report_pushed items new f p report e at holds named =
     ∙ ap (λ (b : Vec ℕ Global). files_of items ++ (report_path, b.items) ∷ []) holds
 
 -- the files that project files ask for may be made
-projects_are_outputs : (projects made : Files) → AskFor projects made → AreOutputs made
-projects_are_outputs [] made h = subst AreOutputs (sym h) no_outputs
-projects_are_outputs (file ∷ []) made h = asked_are_outputs h.1 made h.3
-projects_are_outputs (file ∷ next ∷ files) made h = absurd h
+projects_are_outputs : (valued : Bool) (parsed : List ParsedData) (made : Files) → AskFor valued parsed made
+    → AreOutputs made
+projects_are_outputs false parsed made h = subst AreOutputs (sym h) no_outputs
+projects_are_outputs true [] made h = subst AreOutputs (sym h) no_outputs
+projects_are_outputs true (p ∷ []) made h = asked_are_outputs p.file made h.1
+projects_are_outputs true (p ∷ next ∷ parsed) made h = absurd h
 
-found_are_outputs : (sources : Files) (answer : Answer) (made : Files) → AsksFound sources answer made → AreOutputs made
-found_are_outputs sources (Refused found) made h = absurd h
-found_are_outputs sources (Found modules) made h = projects_are_outputs (project_files sources modules) made h
+not_refused : (made : Files) (found : FaultData) → Succeeded made ≡ refused_by found → ⊥
+not_refused made found e = cc
+
+named_are_outputs : (parsed : List ParsedData) (answer : Result ProgramData FaultData) (made : Files)
+    → EndsNamed parsed answer (Succeeded made) → AreOutputs made
+named_are_outputs parsed (Ok program) made h = projects_are_outputs (declares_value program) parsed made h
+named_are_outputs parsed (Err found) made h = absurd (not_refused made found h)
+
+found_are_outputs : (sources : Files) (answer : Answer) (made : Files) → EndsFound sources answer (Succeeded made)
+    → AreOutputs made
+found_are_outputs sources (Refused found) made h = absurd (not_refused made found h)
+found_are_outputs sources (Found modules) made h = elim h [
+  | inl a ↦ absurd (not_refused made a.0 a.2)
+  | inr b ↦ named_are_outputs b.0 (named modules b.0) made b.2
+]
 
 -- the files that an input comes to may be made
 pub ends_with_outputs : (input : List ℕ) (ending : Ending) → Ends input ending → AreOutputs (made_of ending)

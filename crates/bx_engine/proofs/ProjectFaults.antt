@@ -1,17 +1,19 @@
--- Project files are all well-formed, or have one first fault.
+-- Project files are all well-formed, with one list of syntax trees, or have one first fault.
 use Rattle.std.proofs.Common.{◌≡◌, ℕ, ◌⊎◌, inl, inr, List, [], ◌∷◌, refl, ap, sym, ◌∙◌}
 use Rattle.std.specs.List.{AllByRecursion}
 use Rattle.bx_tree.specs.Paths.{Atoms}
 use Rattle.bx_tree.specs.Trees.{Files}
+use Rattle.dscript_ast.specs.FileTree.{FileTree}
 use Rattle.dscript_ast.specs.declared.file.Form.TheVariants as forms
 use Rattle.dscript_modules.specs.declared.fault.SpecKind.TheVariants as kinds
-use Rattle.dscript_modules.specs.declared.fault.Fault.{Fault}
-use Rattle.dscript_modules.specs.Faults.{FaultData, fault_data}
+use Rattle.dscript_modules.specs.Faults.{FaultData}
 use Rattle.dscript_read.specs.Reading.{Reading, Read, NoTokens, NoFile, ReadsAs}
 use Rattle.dscript_read.proofs.OneReading.{file_or_none, no_tokens_or_file, no_tokens_or_no_file}
-use Rattle.dscript_read.proofs.OneReading.{one_failure, one_refusal}
+use Rattle.dscript_read.proofs.OneReading.{one_failure, one_file, one_refusal}
 use Rattle.dscript_read.proofs.SomeReading.{some_reading}
+use Rattle.dscript_scopes.specs.Declarations.{ParsedData}
 use Rattle.dscript_workspace.specs.Finding.{fault_at}
+use Rattle.bx_engine.specs.Names.{AreParsed, IsParsed}
 use Rattle.bx_engine.specs.Projects.{IsFirstFault, IsIllFormed, IsWellFormed}
 
 -- ## One file
@@ -77,10 +79,36 @@ some_first_fault (file ∷ files) = elim (some_form file) [
   ]
 ]
 
--- ## Faults as data
+-- ## Syntax trees
 
-abbrev pub fault_of : FaultData → Fault
-fault_of d = record { kind = d.kind; file = d.file; place = d.place }
+-- files with syntax trees are well-formed
+pub parsed_well : (files : Files) (ps : List ParsedData) → AreParsed files ps → AllByRecursion IsWellFormed files
+parsed_well [] ps h = tt
+parsed_well (file ∷ files) [] h = absurd h
+parsed_well (file ∷ files) (p ∷ ps) h = ((p.file, h.0.tree), parsed_well files ps h.1)
 
-pub same_fault : (f g : Fault) → fault_data f ≡ fault_data g → f ≡ g
-same_fault f g e = ap fault_of e
+abbrev with_tree : Atoms → FileTree → ParsedData
+with_tree path tree = record { path = path; file = tree }
+
+one_parsed : (file : Atoms × List ℕ) (p q : ParsedData) → IsParsed file p → IsParsed file q → p ≡ q
+one_parsed file p q h k =
+    ap (λ path. with_tree path p.file) (h.path ∙ sym k.path)
+    ∙ ap (λ tree. with_tree q.path tree) (one_file forms.Project file.1 p.file q.file h.tree k.tree)
+
+-- files have one list of syntax trees
+pub one_parsing : (files : Files) (ps qs : List ParsedData) → AreParsed files ps → AreParsed files qs → ps ≡ qs
+one_parsing [] [] [] h k = refl
+one_parsing [] [] (q ∷ qs) h k = absurd k
+one_parsing [] (p ∷ ps) qs h k = absurd h
+one_parsing (file ∷ files) [] qs h k = absurd h
+one_parsing (file ∷ files) (p ∷ ps) [] h k = absurd k
+one_parsing (file ∷ files) (p ∷ ps) (q ∷ qs) h k =
+    ap (λ (x : ParsedData). x ∷ ps) (one_parsed file p q h.0 k.0)
+    ∙ ap (λ (xs : List ParsedData). q ∷ xs) (one_parsing files ps qs h.1 k.1)
+
+-- files that are well-formed have syntax trees
+pub some_parsing : (files : Files) → AllByRecursion IsWellFormed files → (ps : List ParsedData) × AreParsed files ps
+some_parsing [] h = ([], tt)
+some_parsing (file ∷ files) h =
+    let rest = some_parsing files h.1 in
+    (with_tree file.0 h.0.0 ∷ rest.0, (record { path = refl; tree = h.0.1 }, rest.1))

@@ -1,5 +1,5 @@
 -- The project files of a workspace, found by a search and read one by one.
-use Rattle.std.proofs.Common.{◌≡◌, ℕ, ◌+◌, ◌<◌, zero, suc, Bool, true, false, cond, List, [], ◌∷◌, filter, length, get_or, drop, refl, ap, sym, subst, ◌∙◌, inl, inr, arith, Result, Ok, Err}
+use Rattle.std.proofs.Common.{◌≡◌, ℕ, ◌+◌, ◌<◌, ◌≤◌, ◌++◌, append_assoc, zero, suc, Bool, true, false, cond, List, [], ◌∷◌, filter, length, get_or, drop, refl, ap, sym, subst, ◌∙◌, inl, inr, arith, Result, Ok, Err}
 use Rattle.std.specs.Borrow.{Bor}
 use Rattle.std.specs.List.{AllByRecursion}
 use Rattle.std.specs.List.Sorted.{IsBinarySearchResult, IsPermutation, IsSearchInRange, IsSorted}
@@ -9,6 +9,7 @@ use Rattle.std.specs.declared.cmp.Ordering.TheVariants.{Less, Equal, Greater}
 use Rattle.std.proofs.Math.Seq.{drop-cons}
 use Rattle.std.proofs.lemmas.Bool.{cases_lt, cases_Bool}
 use Rattle.std.proofs.lemmas.Cmp.{tied_itself}
+use Rattle.std.proofs.lemmas.List.{append-nil, drop_all, map-append}
 use Rattle.std.proofs.lemmas.List.Folds.{list_any_at, list_any_none}
 use Rattle.std.proofs.lemmas.List.Sorted.{list_any-IsPermutation, searchable_from_sorted}
 use Rattle.bx_tree.specs.Orders.{equal_paths, path_cmp_total, same_path_decides}
@@ -20,26 +21,36 @@ use Rattle.dscript_modules.specs.declared.fault.SpecFault.{SpecFault}
 use Rattle.dscript_modules.specs.declared.fault.SpecFault.TheVariants as spec_faults
 use Rattle.dscript_modules.specs.Faults.{FaultData}
 use Rattle.dscript_modules.specs.Workspaces.{ModuleData}
+use Rattle.dscript_names.specs.Views.{parsed_data}
+use Rattle.dscript_names.specs.declared.parsed.Parsed.{Parsed}
+use Rattle.dscript_scopes.specs.Declarations.{ParsedData}
 use Rattle.bx_engine.specs.Faults.{RefusesFile, RefusesFiles}
+use Rattle.bx_engine.specs.Names.{AreParsed, IsParsed, all_parsed}
 use Rattle.dscript_config.specs.Paths.{is_one_of}
-use Rattle.bx_engine.specs.Projects.{IsFirstFault, IsShort, IsWellFormed, files_among, is_among, lent_files}
+use Rattle.bx_engine.specs.Projects.{IsFirstFault, IsShort, files_among, is_among, lent_files}
 use Rattle.bx_engine.specs.Projects.{paths_of_modules, project_files}
 
 -- ## Reading one by one
 
--- of these files all but the rest were read, and are well-formed
-pub record ReadSoFar (files rest : Files) : Type 0 where
+-- of these files all but the rest were read, with these syntax trees
+pub record ReadSoFar (files rest : Files) (parsed : List ParsedData) : Type 0 where
   pub first : (fault : FaultData) → IsFirstFault rest fault → IsFirstFault files fault
-  pub all : AllByRecursion IsWellFormed rest → AllByRecursion IsWellFormed files
+  pub all : (more : List ParsedData) → AreParsed rest more → AreParsed files (parsed ++ more)
 
-pub none_read : (files : Files) → ReadSoFar files files
-none_read files = record { first = λ fault h. h; all = λ h. h }
+pub none_read : (files : Files) (parsed : List ParsedData) → parsed ≡ [] → ReadSoFar files files parsed
+none_read files parsed none = record {
+  first = λ fault h. h;
+  all = λ more h. subst (AreParsed files) (ap (λ (ps : List ParsedData). ps ++ more) (sym none)) h;
+}
 
-pub one_more_read : (files rest : Files) (file : Atoms × List ℕ) → ReadSoFar files (file ∷ rest) → IsWellFormed file
-    → ReadSoFar files rest
-one_more_read files rest file h well = record {
-  first = λ fault k. h.first fault (inr (well, k));
-  all = λ k. h.all (well, k);
+one_more_read : (files rest : Files) (file : Atoms × List ℕ) (parsed next : List ParsedData) (p : ParsedData)
+    → ReadSoFar files (file ∷ rest) parsed → IsParsed file p → next ≡ parsed ++ p ∷ [] → ReadSoFar files rest next
+one_more_read files rest file parsed next p h is pushed = record {
+  first = λ fault k. h.first fault (inr ((p.file, is.tree), k));
+  all = λ more k.
+      subst (AreParsed files)
+      (sym (ap (λ (ps : List ParsedData). ps ++ more) pushed ∙ append_assoc parsed (p ∷ []) more))
+      (h.all (p ∷ more) (is, k));
 }
 
 -- ## Files in memory
@@ -52,26 +63,38 @@ rest_from files i x l is =
     ∙ ap (λ (y : Bor TreeFile). file_of y.now ∷ lent_files (drop (suc i) files)) (sym is)
     ∙ ap (λ n. file_of x.now ∷ lent_files (drop n files)) (let n : suc i ≡ i + 1 = omega arith in n)
 
-pub more_read : (files : List (Bor TreeFile)) (i : ℕ) (x : Bor TreeFile) → i < length files → x ≡ get_or files i x
-    → ReadSoFar (lent_files files) (lent_files (drop i files)) → IsWellFormed (file_of x.now)
-    → ReadSoFar (lent_files files) (lent_files (drop (i + 1) files))
-more_read files i x l is h well =
-    one_more_read (lent_files files) (lent_files (drop (i + 1) files)) (file_of x.now)
-    (subst (ReadSoFar (lent_files files)) (rest_from files i x l is) h) well
+pub more_read : (files : List (Bor TreeFile)) (i : ℕ) (x : Bor TreeFile) (old new : List Parsed) (p : Parsed)
+    → i < length files → x ≡ get_or files i x
+    → ReadSoFar (lent_files files) (lent_files (drop i files)) (all_parsed old)
+    → IsParsed (file_of x.now) (parsed_data p) → new ≡ old ++ p ∷ []
+    → ReadSoFar (lent_files files) (lent_files (drop (i + 1) files)) (all_parsed new)
+more_read files i x old new p l is h parsed pushed =
+    one_more_read (lent_files files) (lent_files (drop (i + 1) files)) (file_of x.now) (all_parsed old) (all_parsed new)
+    (parsed_data p)
+    (subst (λ (rest : Files). ReadSoFar (lent_files files) rest (all_parsed old)) (rest_from files i x l is) h) parsed
+    (ap all_parsed pushed ∙ map-append parsed_data old (p ∷ []))
+
+pub all_read : (files : List (Bor TreeFile)) (i : ℕ) (parsed : List Parsed) → length files ≤ i
+    → ReadSoFar (lent_files files) (lent_files (drop i files)) (all_parsed parsed)
+    → AreParsed (lent_files files) (all_parsed parsed)
+all_read files i parsed end h =
+    subst (AreParsed (lent_files files)) (append-nil (all_parsed parsed))
+    (h.all [] (subst (λ (rest : List (Bor TreeFile)). AreParsed (lent_files rest) []) (sym (drop_all i files end)) tt))
 
 -- a fault of the next file is the first
-refused_next : (files rest : Files) (file : Atoms × List ℕ) (fault : SpecFault) → ReadSoFar files (file ∷ rest)
-    → RefusesFile file fault → RefusesFiles files fault
-refused_next files rest file (spec_faults.Fault kind path place) h k =
+refused_next : (files rest : Files) (file : Atoms × List ℕ) (parsed : List ParsedData) (fault : SpecFault)
+    → ReadSoFar files (file ∷ rest) parsed → RefusesFile file fault → RefusesFiles files fault
+refused_next files rest file parsed (spec_faults.Fault kind path place) h k =
     h.first (record { kind = kind; file = path; place = place }) (inl k)
-refused_next files rest file spec_faults.Memory h k = k
+refused_next files rest file parsed spec_faults.Memory h k = k
 
-pub refused_here : (files : List (Bor TreeFile)) (i : ℕ) (x : Bor TreeFile) (fault : SpecFault) → i < length files
-    → x ≡ get_or files i x → ReadSoFar (lent_files files) (lent_files (drop i files)) → RefusesFile (file_of x.now) fault
+pub refused_here : (files : List (Bor TreeFile)) (i : ℕ) (x : Bor TreeFile) (parsed : List Parsed) (fault : SpecFault)
+    → i < length files → x ≡ get_or files i x
+    → ReadSoFar (lent_files files) (lent_files (drop i files)) (all_parsed parsed) → RefusesFile (file_of x.now) fault
     → RefusesFiles (lent_files files) fault
-refused_here files i x fault l is h k =
-    refused_next (lent_files files) (lent_files (drop (i + 1) files)) (file_of x.now) fault
-    (subst (ReadSoFar (lent_files files)) (rest_from files i x l is) h) k
+refused_here files i x parsed fault l is h k =
+    refused_next (lent_files files) (lent_files (drop (i + 1) files)) (file_of x.now) (all_parsed parsed) fault
+    (subst (λ (rest : Files). ReadSoFar (lent_files files) rest (all_parsed parsed)) (rest_from files i x l is) h) k
 
 -- each of short files is short
 pub each_short : (files : List (Bor TreeFile)) (i : ℕ) (x : Bor TreeFile) → AllByRecursion IsShort (lent_files files)

@@ -10,7 +10,7 @@ use Rattle.bx_tree.specs.Bundle.{Faults}
 use Rattle.bx_tree.specs.declared.bundle.BundleFault.{BundleFault}
 use Rattle.bx_tree.specs.declared.bundle.BundleFault.TheVariants as bundle_faults
 use Rattle.bx_engine.specs.declared.fault.InputFault.TheVariants as input_faults
-use Rattle.bx_engine.specs.declared.order.Order.{Order}
+use Rattle.bx_words.specs.declared.order.Order.{Order}
 use Rattle.bx_engine.specs.declared.status.Status.{Status}
 use Rattle.bx_engine.specs.declared.limits.TheConstants.{READ_LIMIT}
 use Rattle.bx_tree.specs.declared.limits.TheConstants.{MAX_BUNDLE_BYTES}

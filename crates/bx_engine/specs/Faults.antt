@@ -5,8 +5,8 @@ use Rattle.bx_tree.specs.Trees.{Files}
 use Rattle.dscript_modules.specs.Faults.{FaultData}
 use Rattle.dscript_modules.specs.declared.fault.SpecFault.{SpecFault}
 use Rattle.dscript_modules.specs.declared.fault.SpecFault.TheVariants as spec_faults
-use Rattle.bx_engine.specs.declared.fault.SpecificationFault.TheVariants as specification_faults
-use Rattle.bx_engine.specs.Ending.{Ending, SpecificationRefused}
+use Rattle.bx_engine.specs.Ending.{Ending}
+use Rattle.bx_engine.specs.Ends.{refused_by}
 use Rattle.bx_engine.specs.Projects.{IsFirstFault, IsIllFormed}
 
 -- the fault is this one; running out of memory has no cause that is stated
@@ -30,6 +30,5 @@ RefusesFiles files spec_faults.Memory = ⊤
 -- the build ends with this fault
 abbrev pub EndsBy : SpecFault → Ending → Type 0
 EndsBy (spec_faults.Fault kind path place) ending =
-    ending
-    ≡ SpecificationRefused (specification_faults.Fault (record { kind = kind; file = path; place = place }))
+    ending ≡ refused_by (record { kind = kind; file = path; place = place })
 EndsBy spec_faults.Memory ending = ⊥

@@ -3,10 +3,11 @@ pub mod Ends
 pub mod Expected
 pub mod Faults
 pub mod Known
+pub mod Names
 pub mod Output
+pub mod Programs
 pub mod Projects
 pub mod Statuses
 pub mod Supported
 pub mod Views
-pub mod Words
 pub mod Writes

@@ -1,6 +1,5 @@
 -- The project files of a workspace: which they are, what each comes to, and the first fault in them.
 use Rattle.std.specs.Prelude.{◌≡◌, ℕ, ◌≤◌, Bool, List, [], ◌∷◌, filter, map, length, ◌⊎◌}
-use Rattle.std.specs.Prelude.{Option, Some, None}
 use Rattle.std.specs.Borrow.{Bor}
 use Rattle.std.specs.List.{flat_map}
 use Rattle.bx_tree.specs.Paths.{Atoms}
@@ -56,11 +55,6 @@ IsIllFormed file fault =
 abbrev pub IsFirstFault : Files → FaultData → Type 0
 IsFirstFault [] fault = ⊥
 IsFirstFault (file ∷ files) fault = IsIllFormed file fault ⊎ (IsWellFormed file × IsFirstFault files fault)
-
--- the path of the first file
-abbrev pub first_path : Files → Option Atoms
-first_path [] = None
-first_path (file ∷ files) = Some file.0
 
 -- ## Files that are lent
 

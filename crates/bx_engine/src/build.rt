@@ -6,7 +6,7 @@ ghost use Rattle.bx_io.specs.Causes.{HasCause};
 ghost use Rattle.bx_engine.specs.Expected.{Answers, AppendsOrFails, Begins, Notes};
 ghost use Rattle.bx_engine.specs.Known.{AppendsPrefix};
 ghost use Rattle.bx_engine.specs.Statuses.{HasNoNotes, IsSilent, IsWhole};
-ghost use Rattle.bx_engine.specs.declared.order.Order.{Order as TheOrder};
+ghost use Rattle.bx_words.specs.declared.order.Order.{Order as TheOrder};
 
 use crate::limits::READ_LIMIT;
 use crate::reading::{ReadFault, read_all};

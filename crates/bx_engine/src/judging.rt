@@ -1,22 +1,29 @@
 //! Says how a build of an input ends.
 
-ghost use Rattle.std.specs.Prelude.{◌≡◌, ◌≤◌, ◌∷◌, [], IfOk, IsTrue, List, ℕ, length, ◌↔◌};
+ghost use Rattle.std.specs.Prelude.{◌≡◌, ◌∷◌, [], IfOk, IsTrue, List, ℕ, ◌↔◌, true, if◌then◌else◌};
 ghost use Rattle.std.specs.List.{AllByRecursion};
 ghost use Rattle.bx_tree.specs.Bundle.{IsBundle, IsInSize};
-ghost use Rattle.bx_tree.specs.Views.{file_of};
+ghost use Rattle.dscript_modules.specs.Workspaces.{modules_of};
+ghost use Rattle.dscript_names.specs.Views.{parsed_data};
+ghost use Rattle.dscript_program.specs.Views.{program_data};
 ghost use Rattle.dscript_workspace.specs.Finding.{build_path};
-ghost use Rattle.bx_engine.specs.Ending.{SpecificationRefused};
-ghost use Rattle.bx_engine.specs.Ends.{Ends, EndsWith};
+ghost use Rattle.bx_engine.specs.Ending.{SpecificationRefused, Succeeded};
+ghost use Rattle.bx_engine.specs.Ends.{Ends, EndsParsed, EndsProgram, EndsWith};
 ghost use Rattle.bx_engine.specs.Faults.{EndsBy};
+ghost use Rattle.bx_engine.specs.Names.{all_parsed};
+ghost use Rattle.bx_engine.specs.Programs.{declares_value};
 ghost use Rattle.bx_engine.specs.Projects.{IsShort, lent_files};
 ghost use Rattle.bx_engine.specs.Views.{ending_view};
 
 use crate::ending::Ending;
 use crate::fault::{InputFault, SpecificationFault};
-use crate::projects::{check_projects, project_files, read_project};
+use crate::programs::declares_value;
+use crate::projects::{parse_projects, project_files};
 use crate::supported::files_asked;
-use bx_tree::{BundleFault, MAX_FILE_BYTES, Path, Tree, TreeFile, read_bundle, reserved};
-use dscript_modules::{Fault, SpecFault};
+use bx_tree::{BundleFault, Path, Tree, TreeFile, read_bundle, reserved};
+use dscript_modules::{Fault, SpecFault, Workspace};
+use dscript_names::{Parsed, resolve};
+use dscript_program::Program;
 use dscript_workspace::find_workspace;
 use std::alloc::{AllocError, Global};
 
@@ -33,12 +40,12 @@ fn refused(fault: SpecFault) -> Result<Ending, AllocError>
     }
 }
 
-/// The ending of a build whose specification is not supported, with its first project file.
-fn unsupported(file: &TreeFile) -> Result<Ending, AllocError>
+/// The ending of a build that is not supported, with the path of its first project file.
+fn unsupported(path: &Path) -> Result<Ending, AllocError>
     ensures { IfOk result (λ ending.
-        ending_view ending ≡ SpecificationRefused (SpecificationFault.Unsupported file.now.path)) }
+        ending_view ending ≡ SpecificationRefused (SpecificationFault.Unsupported path.now)) }
 {
-    let path = file.path.share()?;
+    let path = path.share()?;
     Ok(Ending::SpecificationRefused(SpecificationFault::Unsupported(path)))
 }
 
@@ -49,24 +56,6 @@ fn is_specification(path: &Path) -> bool
     path.text() == "build.dsc"
 }
 
-/// How the build of a single project file ends, which is `build.dsc` at the root.
-fn judge_specification(alloc: Global, file: &TreeFile) -> Result<Ending, AllocError>
-    requires path { file.now.path ≡ build_path }
-    requires short { length file.now.bytes.items ≤ MAX_FILE_BYTES }
-    ensures { IfOk result (λ ending. EndsWith (file_of file.now ∷ []) (ending_view ending)) }
-{
-    let tree = match read_project(alloc, file) {
-        Ok(tree) => tree,
-        Err(fault) => return refused(fault),
-    };
-    let asked = files_asked(alloc, &tree);
-    drop(tree);
-    match asked? {
-        Some(files) => Ok(Ending::Succeeded(files)),
-        None => unsupported(file),
-    }
-}
-
 /// The tree without files.
 fn no_files(alloc: Global) -> Tree
     ensures { result ≡ [] }
@@ -74,19 +63,67 @@ fn no_files(alloc: Global) -> Tree
     Tree::of(Vec::new(alloc))
 }
 
-/// How the build of these project files ends.
-fn judge_projects(alloc: Global, files: &[&TreeFile]) -> Result<Ending, AllocError>
-    requires { AllByRecursion IsShort (lent_files files.now) }
-    ensures { IfOk result (λ ending. EndsWith (lent_files files.now) (ending_view ending)) }
+/// How the build of a single project file ends, which is `build.dsc` at the root and declares a value.
+fn judge_specification(alloc: Global, parsed: &Parsed) -> Result<Ending, AllocError>
+    requires { parsed.now.path ≡ build_path }
+    ensures { IfOk result (λ ending. EndsProgram true (parsed_data parsed.now ∷ []) (ending_view ending)) }
 {
-    let Some((first, rest)) = files.split_first() else {
+    let asked = files_asked(alloc, &parsed.file)?;
+    match asked {
+        Some(files) => Ok(Ending::Succeeded(files)),
+        None => unsupported(&parsed.path),
+    }
+}
+
+/// How the build of project files that declare a value ends, where all their names are resolved.
+fn judge_values(alloc: Global, parsed: &[Parsed]) -> Result<Ending, AllocError>
+    ensures { IfOk result (λ ending. EndsProgram true (all_parsed parsed.now) (ending_view ending)) }
+{
+    let Some((first, rest)) = parsed.split_first() else {
         return Ok(Ending::Succeeded(no_files(alloc)));
     };
     if rest.is_empty() && is_specification(&first.path) {
         return judge_specification(alloc, first);
     }
-    match check_projects(alloc, files) {
-        Ok(()) => unsupported(first),
+    unsupported(&first.path)
+}
+
+/// How the build of a program ends, where this is how it ends if it declares a value.
+fn judge_program(alloc: Global, program: &Program, valued: Ending) -> Ending
+    ensures { ending_view result
+        ≡ (if declares_value (program_data program.now) then ending_view valued else Succeeded []) }
+{
+    if declares_value(program) {
+        valued
+    } else {
+        Ending::Succeeded(no_files(alloc))
+    }
+}
+
+/// How the build of a workspace with these project files ends. Their program is freed before this returns.
+fn judge_parsed(alloc: Global, work: &Workspace, parsed: Vec<Parsed>) -> Result<Ending, AllocError>
+    ensures { IfOk result (λ ending.
+        EndsParsed (modules_of work.now) (all_parsed parsed.items) (ending_view ending)) }
+{
+    let valued = judge_values(alloc, parsed.as_slice())?;
+    match resolve(work, parsed) {
+        Ok(program) => Ok(judge_program(alloc, &program, valued)),
+        Err(fault) => refused(fault),
+    }
+}
+
+/// How the build of a workspace with these project files ends.
+fn judge_projects(
+    alloc: Global,
+    work: &Workspace,
+    files: &[&TreeFile],
+) -> Result<Ending, AllocError>
+    requires { AllByRecursion IsShort (lent_files files.now) }
+    ensures { IfOk result (λ ending.
+        EndsWith (modules_of work.now) (lent_files files.now) (ending_view ending)) }
+{
+    match parse_projects(alloc, files) {
+        Ok(parsed) => judge_parsed(alloc, work, parsed),
         Err(fault) => refused(fault),
     }
 }
@@ -105,7 +142,7 @@ fn judge_tree(alloc: Global, tree: &Tree) -> Result<Ending, AllocError>
         Err(fault) => return refused(fault),
     };
     let files = project_files(alloc, tree, &workspace)?;
-    judge_projects(alloc, files.as_slice())
+    judge_projects(alloc, &workspace, files.as_slice())
 }
 
 /// How a build of this input ends.

@@ -8,16 +8,19 @@ ghost use Rattle.bx_tree.specs.Views.{file_of, files_of};
 ghost use Rattle.dscript_ast.specs.Views.{file_tree};
 ghost use Rattle.dscript_ast.specs.declared.file.Form.{Form as AnyForm};
 ghost use Rattle.dscript_modules.specs.Workspaces.{modules_data, modules_of};
+ghost use Rattle.dscript_names.specs.Views.{parsed_data};
 ghost use Rattle.dscript_read.specs.Reading.{IsFile};
 ghost use Rattle.dscript_config.specs.Paths.{is_one_of};
 ghost use Rattle.dscript_workspace.specs.Finding.{fault_at as fault_with};
 ghost use Rattle.bx_engine.specs.Faults.{IsSameFault, RefusesFile, RefusesFiles};
-ghost use Rattle.bx_engine.specs.Projects.{IsShort, IsWellFormed, files_among, lent_files};
+ghost use Rattle.bx_engine.specs.Names.{AreParsed, IsParsed, all_parsed};
+ghost use Rattle.bx_engine.specs.Projects.{IsShort, files_among, lent_files};
 ghost use Rattle.bx_engine.specs.Projects.{paths_of_modules, project_files as files_of_projects};
 
 use bx_tree::{MAX_FILE_BYTES, Path, Tree, TreeFile};
 use dscript_ast::{File, Form};
 use dscript_modules::{ModuleText, Place, SpecFault, SpecKind, Workspace};
+use dscript_names::Parsed;
 use dscript_read::{ReadFault, read_file};
 use std::alloc::{AllocError, Global};
 
@@ -98,7 +101,7 @@ fn fault_at(kind: SpecKind, file: &Path, place: Place) -> SpecFault
 }
 
 /// The syntax tree of a project file.
-pub(crate) fn read_project(alloc: Global, file: &TreeFile) -> Result<File, SpecFault>
+fn read_project(alloc: Global, file: &TreeFile) -> Result<File, SpecFault>
     requires { length file.now.bytes.items ≤ MAX_FILE_BYTES }
     ensures { MatchResult result
         (λ tree. IsFile AnyForm.Project file.now.bytes.items (file_tree tree))
@@ -112,26 +115,29 @@ pub(crate) fn read_project(alloc: Global, file: &TreeFile) -> Result<File, SpecF
     }
 }
 
-/// Reads a project file to see whether it is well-formed. Its syntax tree is freed before this returns.
-fn check_project(alloc: Global, file: &TreeFile) -> Result<(), SpecFault>
+/// A project file with its syntax tree.
+fn parse_project(alloc: Global, file: &TreeFile) -> Result<Parsed, SpecFault>
     requires { length file.now.bytes.items ≤ MAX_FILE_BYTES }
     ensures { MatchResult result
-        (λ _. IsWellFormed (file_of file.now))
+        (λ parsed. IsParsed (file_of file.now) (parsed_data parsed))
         (λ fault. RefusesFile (file_of file.now) fault) }
 {
-    drop(read_project(alloc, file)?);
-    Ok(())
+    let tree = read_project(alloc, file)?;
+    let path = file.path.share()?;
+    Ok(Parsed { path, file: tree })
 }
 
-/// Reads project files one after the other, up to the first that is ill-formed.
-pub(crate) fn check_projects(alloc: Global, files: &[&TreeFile]) -> Result<(), SpecFault>
+/// Project files with their syntax trees, or the fault of the first that is ill-formed.
+pub(crate) fn parse_projects(alloc: Global, files: &[&TreeFile]) -> Result<Vec<Parsed>, SpecFault>
     requires { AllByRecursion IsShort (lent_files files.now) }
     ensures { MatchResult result
-        (λ _. AllByRecursion IsWellFormed (lent_files files.now))
+        (λ parsed. AreParsed (lent_files files.now) (all_parsed parsed.items))
         (λ fault. RefusesFiles (lent_files files.now) fault) }
 {
+    let mut parsed = Vec::new(alloc);
     'files: for file in files {
-        check_project(alloc, file)?;
+        let read = parse_project(alloc, file)?;
+        parsed.push(read)?;
     }
-    Ok(())
+    Ok(parsed)
 }

@@ -5,15 +5,15 @@ ghost use Rattle.bx_io.specs.Causes.{HasCause};
 ghost use Rattle.bx_engine.specs.Ending.{usage_text};
 ghost use Rattle.bx_engine.specs.Expected.{Answers, AppendsOrFails, Begins, Notes};
 ghost use Rattle.bx_engine.specs.Statuses.{HasNoNotes, IsSilent, IsWhole};
-ghost use Rattle.bx_engine.specs.Words.{Orders};
-ghost use Rattle.bx_engine.specs.declared.order.Order.{Order as TheOrder};
+ghost use Rattle.bx_words.specs.Words.{Orders};
+ghost use Rattle.bx_words.specs.declared.order.Order.{Order as TheOrder};
 
 use crate::build::build;
 use crate::limits::READ_LIMIT;
-use crate::order::{WordFault, read_words};
 use crate::status::Status;
 use crate::writing::write_all;
 use bx_io::{Gate, Keeper, Sink, Source};
+use bx_words::{WordFault, read_words};
 use std::alloc::Global;
 use std::sync::Wait;
 use std::thread::Threads;

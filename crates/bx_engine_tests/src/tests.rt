@@ -2,6 +2,7 @@
 
 mod faults;
 mod inputs;
+mod names;
 mod refused;
 mod shut;
 mod supported;

@@ -64,6 +64,10 @@ const TABLE: &[(usize, &[u8], &[u8])] = &[
     (0, b"// Nothing.", b""),
     (0, b"/**/", b""),
     (0, b"\xef\xbb\xbf", b""),
+    // Without a constant or a function nothing is asked for.
+    (0, b";", b""),
+    (0, b"import {Transformer} from \"Sdk.Transformers\";", b""),
+    (0, b"namespace n { interface I {} } type T = n.I;", b""),
 ];
 
 #[test]

@@ -77,13 +77,23 @@ const REFUSED: &[(Files, &str)] = &[
         ],
         "Lex a/x.dsc\nat 1 1",
     ),
-    // The first project file is named where none has a fault.
+    // The first project file is named where none has a fault and one declares a value.
     (
         &[
             ("a/module.config.dsc", A),
-            ("a/y.dsc", "export const w = 1;"),
+            ("a/y.dsc", "@@public\nexport const w = 1;"),
             ("b/module.config.dsc", B),
             ("b/x.dsc", "export const v = importFrom(\"A\").w;"),
+            ("config.dsc", ALL),
+        ],
+        "Unsupported a/y.dsc",
+    ),
+    (
+        &[
+            ("a/module.config.dsc", A),
+            ("a/y.dsc", "interface I {}"),
+            ("b/module.config.dsc", B),
+            ("b/x.dsc", "namespace n { const v = 1; }"),
             ("config.dsc", ALL),
         ],
         "Unsupported a/y.dsc",
@@ -135,6 +145,25 @@ const BUILT: &[(Files, &[u8])] = &[
         &[
             ("a/module.config.dsc", A),
             ("b.dsc", "'"),
+            ("config.dsc", ALL),
+        ],
+        NOTHING,
+    ),
+    // Files without values ask for nothing.
+    (
+        &[
+            ("a/module.config.dsc", A),
+            ("a/y.dsc", "interface I {} namespace n {}"),
+            ("b/module.config.dsc", B),
+            ("b/x.dsc", "import * as a from \"A\"; type T = number;"),
+            ("config.dsc", ALL),
+        ],
+        NOTHING,
+    ),
+    (
+        &[
+            ("a/module.config.dsc", A),
+            ("a/x.dsc", "interface I {}"),
             ("config.dsc", ALL),
         ],
         NOTHING,

@@ -30,6 +30,6 @@ returns c =
     (λ ending e input bundle.
     found_ends c.args.tree.now (modules_of c.in-Ok.workspace) (ending_view ending) input
     (λ h. false≢true (c.if-reserved.ensures.1 h)) c.in-Ok.ensures
-    (subst (λ (projects : Files). EndsWith projects (ending_view ending))
+    (subst (λ (projects : Files). EndsWith (modules_of c.in-Ok.workspace) projects (ending_view ending))
     (ap (λ (files : List (Bor TreeFile)). lent_files files) c.as_slice.ensures.value ∙ c.in_ok-files.ensures) e) bundle)
     c.judge_projects.ensures

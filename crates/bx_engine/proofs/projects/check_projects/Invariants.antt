@@ -1,7 +1,0 @@
-use Rattle.std.proofs.Common.{drop}
-use Rattle.bx_engine.specs.Projects.{lent_files}
-use Rattle.bx_engine.proofs.ProjectFiles.{ReadSoFar}
-use Rattle.bx_engine.proofs.projects.check_projects.Given as goal
-
-abbrev pub invariant-files : goal.invariant-files
-invariant-files l = ReadSoFar (lent_files l.files) (lent_files (drop l.file-index l.files))

@@ -1,0 +1,4 @@
+mod Numbers
+mod OneSetting
+mod ReadSoFar
+mod ReadWords

@@ -1,0 +1,22 @@
+//! The words of the command line: which order they are, or that they are no command.
+//!
+//! `specs/Words.antt` has the words of each command as a grammar: a build is the word `build` with settings,
+//! each of one word or two, in any order. This crate depends on `std` alone. It carries the promise that
+//! words are read as the one order that they are, and are refused exactly where they are none.
+#![tactic(auto)]
+
+mod given;
+mod laws;
+mod order;
+mod setting;
+mod words;
+
+pub use laws::one_order;
+pub use order::{
+    DEFAULT_EVAL_BUDGET, DEFAULT_TOOL_BUDGET, DEFAULT_WORKERS, MAX_EVAL_BUDGET, MAX_TOOL_BUDGET,
+    MAX_WORKERS, Order,
+};
+pub use words::{WordFault, read_words};
+
+#[cfg(test)]
+mod tests;
