@@ -30,7 +30,7 @@ impl AskKind {
     }
 }
 
-/// An ask. Asks are ordered by the text of their path, and then as the kinds stand in [`AskKind`].
+/// An ask. Asks are ordered by the text of their path, and then by kind, as [`AskKind`] lists them.
 #[derive(Drop)]
 pub struct Ask {
     pub kind: AskKind,

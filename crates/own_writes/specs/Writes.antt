@@ -1,5 +1,5 @@
 -- The files that a run has written, and what they answer.
-use Rattle.std.specs.Prelude.{◌≡◌, ℕ, Bool, ◌||◌, List, [], Option, Some, None, if◌then◌else◌}
+use Rattle.std.specs.Prelude.{◌≡◌, ℕ, Bool, true, false, ◌||◌, List, [], Option, Some, None, if◌then◌else◌}
 use Rattle.std.specs.List.{list_any, filter_map}
 use Rattle.std.specs.BTreeMap.{insert_entry}
 use Rattle.std.specs.BTreeSet.{BTreeSet, contains}
@@ -27,6 +27,10 @@ AreDirectories dirs writes = (q : Atoms) → contains path_cmp dirs q ≡ has_be
 -- whether a file was written strictly below the path, or the path lies strictly below one
 abbrev pub clashes : Files → Atoms → Bool
 clashes writes path = list_any (λ f. is_below f.0 path || is_below path f.0) writes
+
+-- the files with this one written, and whether it was: where its path clashes with a file they stay as they are
+abbrev pub put_file : Files → Atoms → List ℕ → Files × Bool
+put_file writes path bytes = if clashes writes path then (writes, false) else (with_file writes path bytes, true)
 
 -- the names that files written below a directory add to its listing
 abbrev pub own_names : Files → Atoms → List (List ℕ)

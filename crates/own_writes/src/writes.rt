@@ -1,5 +1,5 @@
 //! The files that a run has written.
-ghost use Rattle.std.specs.Prelude.{◌≡◌, ◌||◌, [], false, IfOk, OnOk, is_some};
+ghost use Rattle.std.specs.Prelude.{◌≡◌, ◌||◌, [], IfOk, OnOk, is_some};
 ghost use Rattle.std.specs.BTreeMap.{get};
 ghost use Rattle.std.specs.BTreeSet.{contains};
 ghost use Rattle.std.specs.List.{list_any};
@@ -10,7 +10,7 @@ ghost use Rattle.observed.specs.Texts.{texts_now};
 ghost use Rattle.pip_types.specs.Made.{RisingFiles, made_files};
 ghost use Rattle.own_writes.specs.Below.{is_below as lies_below};
 ghost use Rattle.own_writes.specs.Writes.{clashes as some_clash, has_below as some_below, own_names};
-ghost use Rattle.own_writes.specs.Writes.{AreDirectories, own_answer, with_file as and_file};
+ghost use Rattle.own_writes.specs.Writes.{AreDirectories, own_answer, put_file, with_file as and_file};
 
 use crate::below::{bounds_below, next_atom};
 use crate::directories::{add_directories, directories};
@@ -140,19 +140,21 @@ impl Writes {
         self.files.get(path)
     }
 
-    /// The files with one more, which takes the place of one at its path. It lies neither below a file nor
-    /// above one, which `clashes` tests.
-    pub fn put(self, alloc: Global, path: Path, blob: Blob) -> Result<Writes, AllocError>
-        requires { some_clash self path ≡ false }
-        ensures { IfOk result (λ writes. writes ≡ and_file self path blob) }
+    /// The files with one more, which takes the place of one at its path, and whether it was written: where its
+    /// path clashes with a file, nothing changes.
+    pub fn put(self, alloc: Global, path: Path, blob: Blob) -> Result<(Writes, bool), AllocError>
+        ensures { IfOk result (λ put. put ≡ put_file self path blob) }
     {
+        if self.clashes(alloc, &path)? {
+            return Ok((self, false));
+        }
         let Writes {
             mut files,
             mut dirs,
         } = self;
         add_new_directories(alloc, &mut dirs, &files, &path)?;
         files.insert(path, blob)?;
-        Ok(Writes { files, dirs })
+        Ok((Writes { files, dirs }, true))
     }
 
     // Whether a file was written strictly below a path.

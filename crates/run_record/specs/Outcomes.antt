@@ -10,7 +10,6 @@ use Rattle.tool_run.specs.Run.{Run}
 use Rattle.own_writes.specs.Writes.{with_file}
 use Rattle.run_record.specs.declared.outcome.Outcome.{Outcome}
 use Rattle.run_record.specs.declared.outcome.Outcome.TheVariants.{Good, Failed}
-use Rattle.run_record.specs.declared.outcome.Cause.{Cause}
 use Rattle.run_record.specs.declared.outcome.Cause.TheVariants as causes
 
 -- the last of the accesses

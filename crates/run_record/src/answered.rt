@@ -1,9 +1,5 @@
 //! A view of stored answers.
 ghost use Rattle.std.specs.Prelude.{◌≡◌, IfOk, length};
-ghost use Rattle.observed.specs.declared.ask.Ask.{Ask as AnyAsk};
-ghost use Rattle.observed.specs.declared.access.Answer.{Answer as AnyAnswer};
-ghost use Rattle.std.specs.List.Sorted.{IsStrictlySortedBy};
-ghost use Rattle.observed.specs.Asks.{ask_cmp};
 ghost use Rattle.run_record.specs.Answered.{answered};
 
 use observed::{Answer, Ask, PathSet, View};

@@ -173,9 +173,6 @@ impl State {
         if !permits(desc, &path) {
             return Ok(Deed::Refused(path));
         }
-        if self.writes.clashes(alloc, &path)? {
-            return Ok(Deed::Stops(End::NotADirectory));
-        }
         let blob = self.blob(alloc, y)?;
         self.write(alloc, path, blob)
     }

@@ -1,5 +1,5 @@
 //! Path sets of runs.
-ghost use Rattle.std.specs.Prelude.{◌≡◌, IfOk, OnOk, is_some};
+ghost use Rattle.std.specs.Prelude.{◌≡◌, IfOk, is_some};
 ghost use Rattle.tool_run.specs.Described.{described};
 ghost use Rattle.tool_run.specs.Description.{given};
 ghost use Rattle.tool_run.specs.Run.{asks_of as asks_among, path_set};

@@ -1,5 +1,5 @@
 //! Runs of tools.
-ghost use Rattle.std.specs.Prelude.{◌≡◌, ◌≢◌, ◌<◌, ◌^◌, Some, IfOk, OnSome, slice_get};
+ghost use Rattle.std.specs.Prelude.{◌≡◌, ◌<◌, ◌^◌, Some, IfOk, OnSome, slice_get};
 ghost use Rattle.std.specs.Option.{option_copied};
 ghost use Rattle.observed.specs.declared.access.End.TheVariants as ends;
 ghost use Rattle.tool_text.specs.Reading.{tool_of};

@@ -1,7 +1,9 @@
 //! The machine that runs a tool.
-ghost use Rattle.std.specs.Prelude.{◌≡◌, ◌<◌, ◌≤◌, ◌++◌, ◌^◌, [], IfOk, OnOk, codes, false, length};
-ghost use Rattle.std.specs.Prelude.{replicate, vec_len};
+ghost use Rattle.std.specs.Prelude.{◌≡◌, ◌<◌, ◌≤◌, ◌++◌, ◌^◌, [], IfOk, OnOk, codes, length};
+ghost use Rattle.std.specs.Prelude.{if◌then◌else◌, replicate, vec_len};
+ghost use Rattle.observed.specs.declared.access.End.TheVariants as ends;
 ghost use Rattle.own_writes.specs.Writes.{clashes};
+ghost use Rattle.tool_run.specs.declared.deed.Deed.TheVariants as deeds;
 ghost use Rattle.tool_run.specs.Deeds.{deed_for};
 ghost use Rattle.tool_values.specs.Values.{value_of};
 ghost use Rattle.tool_text.specs.declared.limits.TheConstants.{REGISTERS};
@@ -189,24 +191,40 @@ impl State {
         Ok(Deed::Goes)
     }
 
-    // A file is written, if it fits.
+    // How a write ends that does not fit: a path that clashes with a file counts first.
+    fn end_of_excess(&self, alloc: Global, path: &Path) -> Result<End, AllocError>
+        ensures { IfOk result (λ end.
+            end ≡ (if clashes self.now.writes path.now then ends.NotADirectory else ends.TooLong)) }
+    {
+        if self.writes.clashes(alloc, path)? {
+            return Ok(End::NotADirectory);
+        }
+        Ok(End::TooLong)
+    }
+
+    // A file is written, if its path clashes with no file and it fits.
     pub(crate) fn write(
         &mut self,
         alloc: Global,
         path: Path,
         blob: Blob,
     ) -> Result<Deed, AllocError>
-        requires place { self.old.place < 2 ^ 63 }
-        requires unclashed { clashes self.old.writes path ≡ false }
+        requires { self.old.place < 2 ^ 63 }
         ensures { IfOk result (λ deed.
-            (machine_of self.new, deed) ≡ written (machine_of self.old) path blob) }
+            (machine_of self.new, deed)
+            ≡ (if clashes self.old.writes path then (machine_of self.old, deeds.Stops ends.NotADirectory)
+            else written (machine_of self.old) path blob)) }
     {
         let length = blob.bytes().len();
         if length > MAX_OUTPUT - self.spent {
-            return Ok(Deed::Stops(End::TooLong));
+            return Ok(Deed::Stops(self.end_of_excess(alloc, &path)?));
         }
         let writes = mem::replace(&mut self.writes, Writes::new(alloc));
-        self.writes = writes.put(alloc, path.share()?, blob)?;
+        let (writes, is_written) = writes.put(alloc, path.share()?, blob)?;
+        self.writes = writes;
+        if !is_written {
+            return Ok(Deed::Stops(End::NotADirectory));
+        }
         self.spent += length;
         self.place += 1;
         Ok(Deed::Wrote(path))

@@ -263,7 +263,7 @@ begins line start rest after (Some label) instr is word h =
     let blanks = h.1.0 in
     let whole : line ≡ label ++ 58 ∷ (blanks ++ rest) = is ∙ ap (λ t. t ++ rest) h.1.2 ∙ append_assoc label (58 ∷ blanks) rest in
     let before : before_byte 58 line ≡ label = ap (before_byte 58) whole ∙ before_at 58 label (blanks ++ rest) refl (label_lacks label h.0) in
-    let behind : after_byte 58 line ≡ blanks ++ rest = ap (after_byte 58) whole ∙ after_at 58 label (blanks ++ rest) refl (label_lacks label h.0) in
+    let later : after_byte 58 line ≡ blanks ++ rest = ap (after_byte 58) whole ∙ after_at 58 label (blanks ++ rest) refl (label_lacks label h.0) in
     let size : length line ≡ length label + suc (length (blanks ++ rest)) = ap length whole ∙ length-append label (58 ∷ (blanks ++ rest)) in
     let shorter : length label < length line = omega (arith, size) in
     let labelled : is_labelled line ≡ true =
@@ -272,7 +272,7 @@ begins line start rest after (Some label) instr is word h =
     (ap is_label before ∙ label_complete label h.0) in
     record {
       label_is = ap (λ t. cond t (Some (before_byte 58 line)) None) labelled ∙ ap Some before;
-      rest_is = ap (λ t. skip_blanks (cond t (after_byte 58 line) line)) labelled ∙ ap skip_blanks behind ∙ skip_start blanks rest h.1.1
+      rest_is = ap (λ t. skip_blanks (cond t (after_byte 58 line) line)) labelled ∙ ap skip_blanks later ∙ skip_start blanks rest h.1.1
           ∙ ap skip_blanks word ∙ word_no_blank instr (32 ∷ after) ∙ sym word;
     }
 

@@ -1,4 +1,4 @@
-use Rattle.std.proofs.Common.{◌≡◌, ◌∙◌, sym}
+use Rattle.std.proofs.Common.{◌∙◌, sym}
 use Rattle.run_record.proofs.Found.{sets_decide}
 use Rattle.run_record.proofs.record.are_same.Goals as goal
 

@@ -1,4 +1,4 @@
-use Rattle.std.proofs.Common.{◌≡◌, ◌∙◌, List, map, ap}
+use Rattle.std.proofs.Common.{◌∙◌, List, map, ap}
 use Rattle.observed.specs.declared.access.Access.{Access}
 use Rattle.tool_run.specs.Described.{described}
 use Rattle.tool_run.specs.Run.{path_set}

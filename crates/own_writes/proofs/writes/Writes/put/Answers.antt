@@ -14,5 +14,5 @@ invariant_of-result c =
           ∙ ap (λ (now : Files). has_below now q) (sym c.in_ok-insert.ensures.entries),
       subst (λ (now : Files). NoneNested (paths_of now)) (sym c.in_ok-insert.ensures.entries)
           (put_unnested files c.args.path c.args.blob c.self.invariant.1
-          (subst (λ (now : Files). clashes now c.args.path ≡ false) (sym c.self.view_is) c.requires)),
+          (subst (λ (now : Files). clashes now c.args.path ≡ false) (sym c.self.view_is) (sym c.in_ok-clashes.ensures ∙ c.if-branch.false))),
     )
