@@ -1,0 +1,4 @@
+pub mod Names
+pub mod Reports
+pub mod Refusals
+pub mod Notes

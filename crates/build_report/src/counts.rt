@@ -1,0 +1,42 @@
+//! The notes: what the cache and the workers did.
+ghost use Rattle.std.specs.Prelude.{◌≡◌, ◌++◌, IfOk, OnOk};
+ghost use Rattle.build_report.specs.Notes.{count_line, notes_text};
+
+use crate::Memory;
+use std::alloc::Global;
+
+/// What is counted of a build.
+#[derive(Clone, Copy, Debug, PartialEq, Eq)]
+pub struct Counts {
+    /// The processes whose result was taken from the store.
+    pub hits: u64,
+    /// The other processes that were not skipped.
+    pub ran: u64,
+    /// The processes for which retirement ran the tool.
+    pub late: u64,
+    /// The lookups and keeps that the store failed.
+    pub faults: u64,
+    /// The workers that left for want of memory or after a refusal.
+    pub starved: u64,
+}
+
+// Adds the line of a count.
+fn add_count(alloc: Global, text: &mut Vec<u8>, name: &str, count: u64) -> Result<(), Memory>
+    ensures { OnOk result (text.new.items ≡ text.old.items ++ count_line name.now count) }
+{
+    let line = format!(in alloc; "{name} {count}\n")?;
+    text.extend_from_slice(line.as_bytes())
+}
+
+/// The notes with these counts, a line each. docs/FORMATS.md has their form.
+pub fn notes(alloc: Global, counts: &Counts) -> Result<Vec<u8>, Memory>
+    ensures { IfOk result (λ text. text.items ≡ notes_text counts.now) }
+{
+    let mut text = Vec::new(alloc);
+    add_count(alloc, &mut text, "hits", counts.hits)?;
+    add_count(alloc, &mut text, "ran", counts.ran)?;
+    add_count(alloc, &mut text, "late", counts.late)?;
+    add_count(alloc, &mut text, "store-faults", counts.faults)?;
+    add_count(alloc, &mut text, "starved", counts.starved)?;
+    Ok(text)
+}

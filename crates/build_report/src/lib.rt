@@ -1,0 +1,20 @@
+//! The texts that a build is reported by: the report of all pips, the report of a refusal, and the notes.
+//!
+//! This crate depends on `verdicts` for how pips ended, on `pip_model` for the plan, and on
+//! `dscript_modules` for places. It carries the promise that a report is the one text of what it says.
+#![tactic(auto)]
+
+mod built;
+mod counts;
+mod names;
+mod refusal;
+
+pub use built::report;
+pub use counts::{Counts, notes};
+pub use refusal::{MAX_SHOWN_BYTES, Refusal, refused_report};
+
+/// Out of memory, the one refusal that no contract ties to a cause.
+pub type Memory = std::alloc::AllocError;
+
+#[cfg(test)]
+mod tests;

@@ -1,0 +1,2 @@
+pub mod LeastUnseen
+pub mod Produced

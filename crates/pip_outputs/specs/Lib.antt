@@ -1,0 +1,2 @@
+pub mod Producing
+pub mod Slots
