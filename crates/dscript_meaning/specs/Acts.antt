@@ -4,8 +4,9 @@ use Rattle.dscript_value.specs.declared.parts.Callee.{Callee}
 use Rattle.dscript_value.specs.Plain.{Plain}
 use Rattle.dscript_meaning.specs.Evaluating.{Gives}
 
--- a function that is called, with what it holds and its arguments, or a constant that is demanded for the
--- first time
+-- A call of a declared function or of a callback of any kind, with the values that it holds and its
+-- arguments; or a constant that is demanded for the first time. Other calls of ambient functions and
+-- members open nothing.
 pub data Act : Type 0 where
   Call : Callee → List Plain → List Plain → Act
   Demand : ℕ → ℕ → Act

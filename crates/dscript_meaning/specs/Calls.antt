@@ -1,4 +1,8 @@
 -- Ambient calls, members and calls of values.
+--
+-- A call pays one step before its arguments. It is in the file of the body that calls, also through a
+-- value or as a callback. Calls of declared functions open a call (`Acts`), those of ambient functions and
+-- members do not.
 use Rattle.std.specs.Prelude.{ℕ, if◌then◌else◌, List, [], ◌∷◌, Result, Ok, Err}
 use Rattle.sdk_values.specs.declared.fault.SdkFault.{SdkFault}
 use Rattle.sdk_members.specs.Names.{member_named}

@@ -40,6 +40,8 @@ m >> more = λ s. followed (m s) (λ x. more)
 abbrev pub fails : {A : Type 0} → EvalKind → Gives A
 fails kind s = Err (Fault kind s.frame.file None)
 
+-- A fault of an operator, a call or a member, in this file. A definition needs no memory: what is answered
+-- as a lack of it is one pip more than can be numbered.
 abbrev pub stop_of : SdkFault → ℕ → Stop
 stop_of sdk_faults.Kind file = Fault kinds.Kind file None
 stop_of sdk_faults.Missing file = Fault kinds.Missing file None

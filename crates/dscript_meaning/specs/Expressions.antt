@@ -74,6 +74,7 @@ abbrev pub operator_count : OperandRow → ℕ
 operator_count no_operands = 0
 operator_count (more_operands x more) = operator_count more + 1
 
+-- From other modules these functions take the program and the open calls first: `value p act e`.
 module _ (p : ProgramData) (act : Acts) where
   unfoldable mutual
     pub value : ExprData → Gives Plain

@@ -40,7 +40,8 @@ opened p act (Call (callees.Ambient name) held args) = ambient p name args
 opened p act (Call (callees.Member name) held args) = held_method act held name args
 opened p act (Demand file decl) = demanded p act file decl (declared_at p file decl)
 
--- calls, where this number of further calls may be open
+-- Calls, where this number of further calls may be open. Where none may, the fault is in the file of the
+-- body that calls; the step of a call and its arguments come before.
 unfoldable pub acts : ProgramData → ℕ → Acts
 acts p zero a = fails kinds.Depth
 acts p (suc more) a = opened p (acts p more) a
@@ -68,7 +69,8 @@ start p sources budget = record {
   calls = no_calls sources;
 }
 
--- All constants are demanded by file and then in the order of the text.
+-- All constants are demanded, by the path of their file, which is the order of the files of a program, and
+-- in a file in the order of the text.
 unfoldable pub evaluated : ProgramData → Files → ℕ → Result (Unit {0} × State) Stop
 evaluated p sources budget = demand_files (acts p MAX_OPEN_CALLS) 0 p.files (start p sources budget)
 
