@@ -16,8 +16,8 @@ use Rattle.dscript_config.specs.Paths.{is_source}
 
 -- ## Items
 
--- an item of a list as it is written: an element, or an expression that is spread in the list or stands in
--- its place, all of whose elements are in the list
+-- an item of a list as it is written: an element, or an expression that is spread in the list or written in
+-- place of it, all of whose elements are in the list
 pub data ItemTree : Type 0 where
   One : ExprTree → ItemTree
   Many : ExprTree → ItemTree

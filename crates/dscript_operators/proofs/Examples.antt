@@ -112,9 +112,9 @@ last_item : indexed one_item (plain.Number (pos 0)) ≡ Ok (plain.Number (pos 7)
 unfolding indexed
 last_item = refl
 
-behind_last_item : indexed one_item (plain.Number (pos 1)) ≡ Err Range
+after_last_item : indexed one_item (plain.Number (pos 1)) ≡ Err Range
 unfolding indexed
-behind_last_item = refl
+after_last_item = refl
 
 negative_index : indexed one_item (plain.Number (negsuc 0)) ≡ Err Range
 unfolding indexed
@@ -185,9 +185,9 @@ no_base_after_text : first_hole (codes "a") (plain.Directory dir) ≡ Err Kind
 unfolding first_hole literal_hole
 no_base_after_text = refl
 
-base_at_front : first_hole [] (plain.Directory dir) ≡ Ok (Some dir, [])
+base_first : first_hole [] (plain.Directory dir) ≡ Ok (Some dir, [])
 unfolding first_hole
-base_at_front = refl
+base_first = refl
 
 dots_in_relative : relative_literal (codes "./a/.") ≡ Ok (plain.Relative (codes "a" ∷ []))
 unfolding relative_literal

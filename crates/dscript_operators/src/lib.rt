@@ -1,6 +1,6 @@
 //! What operators, indices, spreads, texts and path literals of DScript answer at values.
 //!
-//! Evaluation takes an expression apart and comes to values, and here stands what is made of these. This
+//! Evaluation takes an expression apart, and these functions make its value of those of its parts. This
 //! crate depends on `dscript_value` and `dscript_ast`, on `sdk_values` for faults and limits, and on
 //! `bx_path`. It carries the promise that each function answers what its definition says, or its first
 //! fault.

@@ -61,7 +61,7 @@ impl Writer {
     }
 
     /// Indents the lines that follow by one level less, and puts the next token on one of them unless
-    /// nothing stood in between.
+    /// nothing was written in between.
     pub(crate) fn outdent(&mut self, is_empty: bool)
         ensures { written self.new ≡ written self.old }
     {

@@ -391,7 +391,7 @@ fn no_two_processes_have_one_description(rt: HostRuntime) -> Result<(), Fail> {
 }
 
 #[test]
-fn an_earlier_rule_and_then_an_earlier_pip_is_told(rt: HostRuntime) -> Result<(), Fail> {
+fn an_earlier_rule_and_then_an_earlier_pip_is_reported(rt: HostRuntime) -> Result<(), Fail> {
     let cases: &[(&str, &str)] = &[
         ("w=out/z;p=out/z,out/z/y", "DoubleProducer 1"),
         ("w=out/z;w=out/z/y;w=out/z", "DoubleProducer 2"),

@@ -1,4 +1,5 @@
--- In tree order, what lies within a directory is one run, which begins where the directory would stand.
+-- In tree order, the paths within a directory are one run of a list, which begins where the directory itself
+-- would be inserted.
 use Rattle.std.proofs.Common.{inl, inr, ◌≡◌, ◌∙◌, ℕ, ◌≤◌, arith, true, false, List, [], ◌∷◌, ◌++◌, append-nil, get_or, refl, ap, sym}
 use Rattle.std.specs.Cmp.Lexicographic.{slice_cmp}
 use Rattle.std.specs.Ordering.{is_lt, nat_cmp, ordering_index, ordering_reverse, ordering_then}
@@ -56,13 +57,13 @@ by_head a b d p rest Greater e low high more =
     let back : atom_cmp a b ≡ Less = nat_list_cmp_total.antisymm a b ∙ ap ordering_reverse e in
     let f : true ≡ false = sym (ap (λ x. is_lt (ordering_then x (tree_cmp (d ++ rest) p))) back) ∙ high in absurd (true≢false f)
 
--- what stands between a directory and a path of it begins as the directory does
+-- in the order, a path between a directory and an extension of it begins with the directory
 between : (d p rest : Atoms) → is_lt (tree_cmp p d) ≡ false → is_lt (tree_cmp (d ++ rest) p) ≡ false → (s : Atoms) × (p ≡ d ++ s)
 between [] p rest low high = (p, refl)
 between (a ∷ d) [] rest low high = absurd (true≢false low)
 between (a ∷ d) (b ∷ p) rest low high = by_head a b d p rest (atom_cmp b a) refl low high (between d p rest)
 
--- what stands between a directory and a path within it lies within it
+-- in the order, a path between a directory and a path within it lies within it
 pub within_between : (dir p path : Atoms) → is_lt (tree_cmp p dir) ≡ false → is_lt (tree_cmp path p) ≡ false → IsWithin path dir → IsWithin p dir
 within_between dir p path low high h =
     let r = rest_of path dir h in

@@ -9,7 +9,7 @@ use Rattle.std.proofs.lemmas.Slice.Eq.{starts_is}
 use Rattle.sdk_members.specs.FirstPlaces.{first_place}
 use Rattle.sdk_members.specs.Periods.{IsLeastPeriod}
 
--- the other text stands at a place
+-- the other text occurs at a place
 pub record OccursAt (text other : List ℕ) (place : ℕ) : Type 0 where
   pub fits : place + length other ≤ length text
   pub same : (j : ℕ) → j < length other → get_or text (place + j) 0 ≡ get_or other j 0
@@ -156,7 +156,7 @@ not_found other (b ∷ bs) n =
     ap (λ t. cond t (Some 0) (option_map suc (first_place other bs))) (not_here (b ∷ bs) other (n 0))
     ∙ ap (option_map suc) (not_found other bs (λ q s. n (suc q) (further_in b bs other q s)))
 
--- the whole of the other text stands there
+-- the whole of the other text occurs there
 pub found_here : (text other : List ℕ) (place known : ℕ) → Reaches text other place known → length other ≤ known
     → first_place other text ≡ Some place
 found_here text other place known h l =

@@ -1,4 +1,4 @@
--- Where a text first stands in another, and the pieces around it.
+-- Where a text first occurs in another, and the pieces around it.
 use Rattle.std.proofs.Common.{append_assoc, append-nil, ◌≢◌, ◌≡◌, ℕ, zero, suc, ◌+◌, ◌-◌, Bool, true, false, ◌||◌, cond, nat_eq, List, [], ◌∷◌, ◌++◌, map, length, take, drop, refl, ap, sym, ◌∙◌, arith, Option, Some, None, is_some}
 use Rattle.std.specs.Prelude.{option_map}
 use Rattle.std.specs.List.{onto_first, starts_with}
@@ -10,7 +10,7 @@ use Rattle.sdk_members.specs.TextMembers.{has_text, pieces_after}
 
 -- ## Places
 
--- a text that stands somewhere has a first place
+-- a text that occurs in another has a first place there
 is_some-end : (b : Bool) → is_some {T = ℕ} (cond b (Some 0) None) ≡ b
 is_some-end true = refl
 is_some-end false = refl

@@ -18,7 +18,7 @@ use Rattle.sdk_members.specs.Functions.{MemberFunction}
 abbrev pub text_test : (List ℕ → List ℕ → Bool) → List ℕ → MemberFunction
 text_test test text args = one_of args >>= text_in >>= λ other. Ok (plain.Flag (test text other))
 
--- whether a text stands somewhere in the text
+-- whether another text occurs in the text
 abbrev pub has_text : List ℕ → List ℕ → Bool
 has_text text other = some_suffix (λ rest. starts_with nat_eq rest other) text
 

@@ -16,7 +16,7 @@ use dscript_value::Value;
 use sdk_values::{Memory, SdkFault, first_argument, list_value, number_value, read_text};
 use std::alloc::Global;
 
-// Whether a text stands somewhere in the text.
+// Whether another text occurs in the text.
 fn has_text(alloc: Global, text: &[u8], other: &[u8]) -> Result<bool, Memory>
     ensures { IfOk result (λ found. found ≡ has_part text.now other.now) }
 {

@@ -50,7 +50,7 @@ fn a_damaged_content_is_not_well(rt: HostRuntime) -> Result<(), Fail> {
 }
 
 #[test]
-fn faults_are_told(rt: HostRuntime) -> Result<(), Fail> {
+fn faults_are_reported(rt: HostRuntime) -> Result<(), Fail> {
     let alloc = rt.alloc();
     let mut keeper = MemKeeper::new(alloc, vec![in alloc; 1]?);
     let content = blob(alloc, b"abc")?;

@@ -625,7 +625,7 @@ config({});
 const a = 1;
 "#;
 
-/// Lines of a form, what stands before and after each, and the place where each text is refused.
+/// Lines of a form, the texts before and after each, and the place where each text is refused.
 const TABLES: &[(&str, Form, &str, &str, Option<u32>)] = &[
     (ITEMS, Form::Project, "", "", None),
     (NO_ITEMS, Form::Project, "", "", Some(0)),
