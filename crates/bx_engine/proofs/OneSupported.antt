@@ -47,7 +47,7 @@ other_items a b as' bs e = cc
 pub no_item : (a : ItemTree) (as' : List ItemTree) → [] ≡ a ∷ as' → ⊥
 no_item a as' e = cc
 
--- lists of writes that are one list of items ask for the same files
+-- lists of writes with equal items ask for equal files
 pub one_making : (vs ws : List Write) → AllByRecursion IsAllowed vs → AllByRecursion IsAllowed ws → map write_item vs ≡ map write_item ws → made vs ≡ made ws
 one_making [] [] h k e = refl
 one_making [] (w ∷ ws) h k e = absurd (no_item (write_item w) (map write_item ws) e)
@@ -56,7 +56,7 @@ one_making (v ∷ vs) (w ∷ ws) h k e =
     ap (λ (f : Atoms × List ℕ). f ∷ made vs) (one_file v w h.0 k.0 (first_item (write_item v) (write_item w) (map write_item vs) (map write_item ws) e))
     ∙ ap (λ (fs : Files). (w.path, w.text) ∷ fs) (one_making vs ws h.1 k.1 (other_items (write_item v) (write_item w) (map write_item vs) (map write_item ws) e))
 
--- and have the same names
+-- lists of writes with equal items declare equal names
 pub one_name : (vs ws : List Write) → map write_item vs ≡ map write_item ws → map (λ w. w.name) vs ≡ map (λ w. w.name) ws
 one_name [] [] e = refl
 one_name [] (w ∷ ws) e = absurd (no_item (write_item w) (map write_item ws) e)

@@ -42,9 +42,9 @@ RefusesInput input input_faults.Reserved = (sources : Files) × IsBundle input s
 
 -- ## Programs
 
--- Project files ask for these files, where the test says whether a value is declared in them. Where none is,
--- as where there is no project file, none is asked for. A single file at the path `build.dsc` asks for what it
--- says, if it is supported. Others are not built yet.
+-- Project files ask for these files, where the test says whether a value is declared in them. Where none is, as
+-- where there is no project file, none is asked for. A single file at the path `build.dsc` asks for what it says,
+-- if it is supported. Others are not built yet.
 abbrev pub AskFor : Bool → List ParsedData → Files → Type 0
 AskFor false parsed made = made ≡ []
 AskFor true [] made = made ≡ []

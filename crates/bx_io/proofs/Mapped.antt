@@ -39,7 +39,7 @@ pub items_lent : (lent : Option (Bor (Vec ℕ Global))) → option_map (λ b. b.
 items_lent None = refl
 items_lent (Some b) = refl
 
--- holdings that answer alike are the same
+-- two holdings that answer each path alike are equal
 same_holdings : (m n : Holdings) → ((q : List ℕ) → get m q ≡ get n q) → m ≡ n
 same_holdings = same_map nat_list_cmp_total (slice_cmp-IsAntisymmetric nat_cmp-IsAntisymmetric)
 

@@ -31,7 +31,8 @@ HasStrong strong fetched.Memory = ⊤
 
 -- a text that was held under a digest is found just where it is that of an entry of this digest
 abbrev pub ChecksEntry : List ℕ → List ℕ → FetchedEntry → Type 0
-ChecksEntry text strong (fetched.Found e) = IsEntry e × ((read_entry_text text ≡ Some e) × (e.strong ≡ strong))
+ChecksEntry text strong (fetched.Found e) =
+    IsEntry e × ((read_entry_text text ≡ Some e) × (e.strong ≡ strong))
 ChecksEntry text strong fetched.NotWell =
     (e : Entry) → read_entry_text text ≡ Some e → e.strong ≡ strong → ⊥
 ChecksEntry text strong fetched.Fault = ⊥

@@ -12,8 +12,8 @@ use Rattle.dscript_binding.specs.Walked.{table_of}
 use Rattle.dscript_binding.specs.declared.walker.Walker.{Walker}
 use Rattle.dscript_binding.specs.declared.functions.OpenFunction.{OpenFunction}
 
--- The walker went from outside of a function with these parameters, whose body declares these locals, into its
--- body. Another function is at its place in the table until then.
+-- The walker went from outside of a function with these parameters, whose body declares these locals, into
+-- its body. Another function is at its place in the table until then.
 pub record Opened (params : List ParamTree) (locals : List Local) (old new : Walker) (f : OpenFunction)
     : Type 0 where
   pub number : f.number ≡ length old.functions.items

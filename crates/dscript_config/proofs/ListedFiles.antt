@@ -110,7 +110,7 @@ tails R total x y xs ys same below into q h = elim (into q (inr h)) [
   | inr k ↦ k
 ]
 
--- two lists that rise and have the same members are equal
+-- two strictly rising lists with equal members are equal
 one_rising : {K : Type 0} (R : K → K → Ordering) → IsTotalOrder R → (xs ys : List K)
     → IsStrictlySortedBy R xs → IsStrictlySortedBy R ys → ((q : K) → In xs q → In ys q) → ((q : K) → In ys q → In xs q) → xs ≡ ys
 unfolding IsStrictlySortedBy
@@ -149,7 +149,7 @@ in_within : (files : Files) (qs : List ℕ) (q : ℕ) → AreWithin files qs →
 in_within files [] q w h = absurd h
 in_within files (x ∷ xs) q w h = elim h [ inl e ↦ subst (λ z. z < length files) e w.0 | inr k ↦ in_within files xs q w.1 k ]
 
--- files at positions are those files in the order of the tree, if the positions rise and are the same ones
+-- the files at rising positions are, in the order of the tree, the files at any list with these positions as members
 in_tree_at : (files : Files) (ps qs : List ℕ) → IsTree files → AreWithin files qs → IsStrictlySortedBy nat_cmp qs
     → ((q : ℕ) → In ps q → In qs q) → ((q : ℕ) → In qs q → In ps q)
     → paths_at files qs ≡ in_tree files (paths_at files ps)
@@ -189,7 +189,7 @@ all_within : (files : Files) (qs : List ℕ) → ((q : ℕ) → In qs q → q < 
 all_within files [] h = tt
 all_within files (q ∷ qs) h = (h q (inl refl), all_within files qs (λ x k. h x (inr k)))
 
--- the same positions are within a tree
+-- positions are within a tree if a list with equal members is within it
 pub within_same : (files : Files) (ps qs : List ℕ) → AreWithin files ps
     → ((q : ℕ) → Contains ps q ↔ Contains qs q) → AreWithin files qs
 within_same files ps qs w same =
@@ -213,7 +213,7 @@ members files ps qs into path h =
     (subst (In (paths_at files qs)) found.2 (in_map at qs found.0
     (in_contains qs found.0 (into found.0 (contains_in ps found.0 found.1)))))
 
--- the same positions are the places of the same files
+-- two lists of positions with equal members are the places of equal sets of files
 pub places_same : (files : Files) (ps qs : List ℕ) → AreWithin files ps → ((q : ℕ) → Contains ps q ↔ Contains qs q)
     → ArePlaces files (paths_at files ps) qs
 places_same files ps qs w same = record {

@@ -102,7 +102,9 @@ glob_with deep both =
 -- a call of `glob` or `globR`, with a directory and a pattern
 abbrev pub glob_call : ExprTree → Option GlobData
 glob_call (tree.Postfix callee parts) =
-    option_and_then (λ deep. option_and_then (glob_with deep) (arguments_in (parts_of parts))) (depth_of callee)
+    option_and_then
+    (λ deep. option_and_then (glob_with deep) (arguments_in (parts_of parts)))
+    (depth_of callee)
 glob_call _ = None
 
 -- the files that a glob lists; none where its directory is no path, or its pattern no pattern

@@ -244,7 +244,7 @@ first_stmt (suc h) (Value e) ts rest p = let f = expr_first h any_expr e ts p.0 
 first_stmt (suc h) (Block row) ts rest p = (ap not (at_first "}" p.1), keyword_not_taken "else" p.1 refl)
 first_stmt (suc h) Empty ts rest p = (ap not (at_first "}" p), keyword_not_taken "else" p refl)
 
--- the tokens after the first are the same
+-- two ways to split one list of tokens after its first token have equal rests
 same_after : {t : TokenKind} {ts m n : List TokenKind} → ts ≡ t ∷ m → ts ≡ t ∷ n → m ≡ n
 same_after {t = t} {ts = ts} {m = m} {n = n} e f = cc
 

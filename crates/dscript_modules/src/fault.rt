@@ -27,7 +27,7 @@ pub enum SpecKind {
     UnknownModule,
     /// A value is not public, and another module names it.
     NotPublic,
-    /// An assignment is to something else than a variable of the same function.
+    /// An assignment is to something else than a variable of the function that it is in.
     AssignCaptured,
 }
 

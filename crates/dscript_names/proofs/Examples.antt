@@ -338,7 +338,7 @@ loop_variables :
 unfolding named found_at found_outside bind_expr bind_marked declared_by expr_repeats marked_repeats written_name
 loop_variables = (refl, refl)
 
--- an assignment is to a variable of the same function body, and after its declaration
+-- an assignment is to a variable of the function body that it is in, and after its declaration
 assignments :
     (is_ok (alone (function_of (let_stmt "a" one ∷ block (assign "a" one ∷ []) ∷ []) ∷ [])) ≡ true)
     × (is_ok (alone (function_of (tree.For loops.Let (codes "a") one (assign "a" one) ∷ []) ∷ [])) ≡ true)

@@ -227,7 +227,8 @@ module _ {S X : Type 0} (view : S → X) (one : Reader X) where
         ap (λ j. read_list close one j start) (omega (arith, f.count))
         ∙ sym (f.resumes (suc n)) ∙ ap (with_items (map view items) height) (list_stuck n rest o none) ∙ items_fails (map view items) height
 
--- The same as the loops of the code have them: what a vector holds after a push is given by an equation.
+-- The invariants of the loops with a push as a vector has it: what the vector holds after the push is given by an
+-- equation.
 module _ {S X : Type 0} (view : S → X) (one : Reader X) where
   module _ (go : List TokenKind → Bool) where
     pub many_init : {items : List S} {start : List TokenKind} → items ≡ [] → ManyInvariant view one go items 0 start start

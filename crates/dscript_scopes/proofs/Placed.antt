@@ -111,7 +111,7 @@ place_put name_of left before y x n old new whole split is put kept =
 
 -- ## Texts
 
--- two tests that agree find the same place
+-- two tests that agree on each item find one place
 pub same_tests : {X : Type 0} (p q : X → Bool) → ((x : X) → p x ≡ q x) → (i : ℕ) (xs : List X)
     → position_from p i xs ≡ position_from q i xs
 same_tests p q same i [] = refl

@@ -147,7 +147,7 @@ item_repeats _ = false
 abbrev pub exported_names : FileNames → List Dotted
 exported_names f = map (λ d. d.name) (filter (λ d. is_exported d.mark) f.decls)
 
--- a file of the same module exports one of these names
+-- a file of this module exports one of these names
 abbrev pub exports_one_of : List Dotted → ℕ → FileNames → Bool
 exports_one_of names m f =
     f.module_number == m && list_any (λ x. list_any (same_path x) names) (exported_names f)

@@ -64,8 +64,8 @@ in_blocks [] x = None
 in_blocks (block ∷ blocks) x =
     option_or (option_map (λ l. known l.number) (local_in x block)) (in_blocks blocks x)
 
--- An assignment is to a variable of the same function: to the local that the innermost block declares, up to
--- the block that is the function's body. Another local is not assigned, and a variable not before its
+-- An assignment is to a variable of the function that it is in: to the local that the innermost block declares,
+-- up to the block that is the function's body. Another local is not assigned, and a variable not before its
 -- declaration.
 abbrev pub assigned_local : Local → Result ℕ SpecKind
 assigned_local l = if l.is_let then ok_or l.number faults.UnknownName else Err faults.AssignCaptured

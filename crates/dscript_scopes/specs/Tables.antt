@@ -63,4 +63,5 @@ HasOpenedOf files tables =
 
 -- the table has the place of the first of these elements that has a name, for each name
 abbrev pub HasPlacesOf : {X : Type 0} → (X → List ℕ) → List X → BTreeMap (Vec ℕ Global) ℕ → Type 0
-HasPlacesOf name_of xs table = (x : List ℕ) → at_text table x ≡ position_from (λ y. bytes_eq (name_of y) x) 0 xs
+HasPlacesOf name_of xs table =
+    (x : List ℕ) → at_text table x ≡ position_from (λ y. bytes_eq (name_of y) x) 0 xs

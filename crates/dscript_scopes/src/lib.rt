@@ -3,10 +3,10 @@
 //! `specs/Lookup.antt` says what a dotted name stands for, level by level, and which fault it has, by lists that
 //! it scans; `specs/Tables.antt` has the tables that the code searches in their place. Which names a tree
 //! declares and imports (`specs/Declarations.antt`) and which are declared twice (`specs/Duplicates.antt`) are
-//! definitions that no call keeps yet. docs/FORMATS.md has the rules in prose. This crate depends on `bx_tree`
-//! for texts, on `dscript_ast` for trees, on `dscript_ambient` for calls, on `dscript_modules` for faults and on
-//! `dscript_program` for targets. It carries the promise that a name stands for what the definition says, or is
-//! refused with its fault.
+//! definitions for `dscript_names`, whose calls keep them. docs/FORMATS.md has the rules in prose. This crate
+//! depends on `bx_tree` for texts, on `dscript_ast` for trees, on `dscript_ambient` for calls, on
+//! `dscript_modules` for faults and on `dscript_program` for targets. It carries the promise that a name stands
+//! for what the definition says, or is refused with its fault.
 #![tactic(auto)]
 
 mod dotted;

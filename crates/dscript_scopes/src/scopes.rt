@@ -97,7 +97,8 @@ impl Scopes {
         None
     }
 
-    /// The number of the variable of the same function to which an assignment to this name is.
+    /// The number of the variable that an assignment to this name is to, among those of the function that the
+    /// assignment is in.
     #[tactic(auto, using(crate::proofs::Outwards::reverse_last))]
     pub fn assigned(&self, name: &Text) -> Result<u32, SpecKind>
         ensures { result ≡ assigned self.now name.now }

@@ -2,7 +2,9 @@
 ghost use Rattle.std.specs.Prelude.{◌≡◌, ◌↔◌, Ok, Some, None, IsTrue, Contains, map, slice_get, MatchOption};
 ghost use Rattle.std.specs.Prelude.{MatchResult};
 ghost use Rattle.std.specs.List.{list_any};
+ghost use Rattle.std.specs.List.Sorted.{IsStrictlySortedBy};
 ghost use Rattle.bx_tree.specs.Paths.{same_path};
+ghost use Rattle.pip_types.specs.Outputs.{outdir_cmp};
 ghost use Rattle.pip_types.specs.declared.outputs.OutDir.{OutDir as AnyDir};
 ghost use Rattle.sdk_members.specs.Gives.{Gives, applied};
 ghost use Rattle.sdk_values.specs.Outcomes.{Refuses};
@@ -25,15 +27,12 @@ fn has_output(outs: &Outputs, path: &Path) -> bool
     outs.has(path)
 }
 
+// Whether a path is that of one of some directories, which rise.
 fn has_directory(dirs: &[OutDir], path: &Path) -> bool
+    requires { IsStrictlySortedBy outdir_cmp dirs.now }
     ensures { result ≡ list_any (same_path path.now) (map (λ (dir : AnyDir). dir.path) dirs.now) }
 {
-    'dirs: for dir in dirs {
-        if *path == dir.path {
-            return true;
-        }
-    }
-    false
+    dirs.binary_search_by(|dir| dir.path.cmp(path)).is_ok()
 }
 
 fn makes_file(kind: &PipKind, path: &Path) -> bool

@@ -21,7 +21,7 @@ heads a b i d e l m =
     ap (λ xs. same_path xs (drop i b)) (drop_more a i d l)
     ∙ ap (λ ys. same_path (get_or a i d ∷ drop (i + 1) a) ys) (drop_more b i e m)
 
--- one atom more that is the same in both
+-- equal atoms at a position leave the comparison to the atoms after it
 pub alike : (a b : Atoms) (i : ℕ) (d e : List ℕ) (r whole : Bool) → i < length a → length a ≡ length b → d ≡ get_or a i d → e ≡ get_or b i e
     → r ≡ bytes_eq d e → r ≡ true → same_path (drop i a) (drop i b) ≡ whole → same_path (drop (i + 1) a) (drop (i + 1) b) ≡ whole
 alike a b i d e r whole l n x y is equal h =

@@ -41,7 +41,7 @@ use Rattle.graph_outputs.proofs.Unsharing.{has_along}
 
 -- ## Tests of what pips have
 
--- a test of a fact tests each fact that holds in the same cases
+-- a test of a fact is a test of each fact that is equivalent to it
 along : {P Q : Type 0} (b : Bool) → Decides b P → (P → Q) → (Q → P) → Decides b Q
 along b d to from = (λ t. to (d.0 t), λ q. d.1 (from q))
 

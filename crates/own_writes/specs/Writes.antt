@@ -28,9 +28,10 @@ AreDirectories dirs writes = (q : Atoms) → contains path_cmp dirs q ≡ has_be
 abbrev pub clashes : Files → Atoms → Bool
 clashes writes path = list_any (λ f. is_below f.0 path || is_below path f.0) writes
 
--- the files with this one written, and whether it was: where its path clashes with a file they stay as they are
+-- the files with this one written, and whether it was: they stay as they are where its path clashes with one
 abbrev pub put_file : Files → Atoms → List ℕ → Files × Bool
-put_file writes path bytes = if clashes writes path then (writes, false) else (with_file writes path bytes, true)
+put_file writes path bytes =
+    if clashes writes path then (writes, false) else (with_file writes path bytes, true)
 
 -- the names that files written below a directory add to its listing
 abbrev pub own_names : Files → Atoms → List (List ℕ)

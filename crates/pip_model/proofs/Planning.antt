@@ -36,7 +36,7 @@ edges_of_lists pips all h i j =
           subst (λ o. IsSomeAnd o (λ (ts : List ℕ). Contains ts j)) (sym (slice_get-get_or all i [] (omega (arith, l, h.size)))) c,
     )
 
--- a row for some edges is a row for the same edges, said in another way
+-- a row that is reached along edges is reached along any relation that holds for exactly those edges
 reach_along : (E F : ℕ → ℕ → Type 0) → ((i j : ℕ) → E i j ↔ F i j) → (i : ℕ) (row : List ℕ) → IsReachOf E i row → IsReachOf F i row
 reach_along E F both i row h k = (
   λ b. walk_along E F (λ i j. (both i j).0) i k ((h k).0 b),

@@ -37,7 +37,7 @@ not_opaque Partial e = cc
 not_opaque SourceTop e = cc
 not_opaque SourceAll e = cc
 
--- directories with the same path, form and pip are the same
+-- directories with equal path, form and pip are equal
 dir_parts : (x y : DirInput) → dir_path x ≡ dir_path y → form_rank x ≡ form_rank y → dir_pip x ≡ dir_pip y → x ≡ y
 dir_parts (Sealed i f p) (Sealed j g q) a b c = let h = seal_rank-injective f g b in cc
 dir_parts (Sealed i f p) (Opaque j q) a b c = absurd (not_opaque f b)

@@ -31,7 +31,7 @@ stored_all a (x ∷ xs) q h =
       | inr r ↦ stored_all a xs q r
     ])
 
--- on the path set's answers the run is the same
+-- a run that the answers to the path set's asks decide is not changed when it is given those answers alone
 pub same_run : (d : Description) (a : Ask → Answer) → DependsOnPathSet d → (paths : List Ask) → path_set d (run_of d a).accesses ≡ paths
     → run_of d (answered paths (map a paths)) ≡ run_of d a
 same_run d a depends paths is =

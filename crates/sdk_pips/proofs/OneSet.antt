@@ -1,4 +1,4 @@
--- Two lists that strictly rise and have the same members are equal, and insertion keeps a list rising.
+-- Two lists that strictly rise and have equal members are equal, and insertion keeps a list rising.
 use Rattle.std.proofs.Common.{◌≡◌, ◌⊎◌, ℕ, ◌<◌, zero, suc, List, [], ◌∷◌, length, get_or, refl, ap, sym, ◌∙◌, subst, inl, inr, arith}
 use Rattle.std.specs.Prelude.{Contains}
 use Rattle.std.specs.List.{AllByRecursion}
@@ -31,7 +31,7 @@ has_at (y ∷ ys) x (suc k) l e = inr (has_at ys x k (omega (arith, l)) e)
 pub has_contained : {X : Type 0} (xs : List X) (x : X) → Contains xs x → Has xs x
 has_contained xs x h = has_at xs x h.0 h.1 h.2
 
--- ## Two rising lists with the same members
+-- ## Two rising lists with equal members
 
 above : {K : Type 0} (R : K → K → Ordering) (x q : K) (xs : List K) → AllByRecursion (λ y. R x y ≡ Less) xs → Has xs q → R x q ≡ Less
 above R x q [] all h = absurd h

@@ -2,9 +2,8 @@
 //!
 //! A run goes through the instructions of a tool. It sees its executable, the files that it declares and its
 //! own writes, and all others through a view; what it did is a list of accesses, the files that it wrote, what it
-//! said, how it ended and how many steps it took. The crate depends on `tool_text`, `tool_values`, `observed`
-//! and `own_writes`. It carries the promises that a run is as it is defined, and that it depends on nothing but
-//! its description and the answers in its path set.
+//! said, how it ended and how many steps it took. The crate depends on `tool_text`, `tool_values`, `observed` and
+//! `own_writes`. It carries the promises that a run is as defined, and depends on nothing but its path set.
 #![tactic(auto)]
 
 mod acting;
