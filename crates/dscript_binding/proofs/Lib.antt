@@ -3,3 +3,4 @@ pub mod Moves
 pub mod Closing
 pub mod Listed
 pub mod Declaring
+pub mod Seen

@@ -5,3 +5,4 @@ pub mod Turned
 pub mod Opened
 pub mod Scenes
 pub mod Declares
+pub mod Seen

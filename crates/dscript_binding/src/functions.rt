@@ -4,6 +4,7 @@ ghost use Rattle.std.specs.Prelude.{◌≡◌, ◌+◌, ◌++◌, ◌<◌, ◌�
 ghost use Rattle.std.specs.List.{filter};
 ghost use Rattle.dscript_ast.specs.Views.{param_tree};
 ghost use Rattle.dscript_binding.specs.Opened.{Closed, Opened};
+ghost use Rattle.dscript_binding.specs.Seen.{HasNumbers};
 ghost use Rattle.dscript_binding.specs.Walk.{each_once, params_from, with_once};
 
 use crate::locals::param_locals;
@@ -14,6 +15,7 @@ use dscript_ast::Param;
 use dscript_program::{Body, Function};
 use dscript_scopes::Local;
 use std::alloc::{AllocError, Global};
+use std::collections::BTreeSet;
 
 /// A function whose body is walked through.
 #[derive(Drop)]
@@ -26,11 +28,13 @@ pub(crate) struct OpenFunction {
     pub params: Vec<Param>,
 }
 
-/// Adds a number, unless it is there already.
-fn add_once(numbers: &mut Vec<u32>, number: u32) -> Result<(), Memory>
-    ensures { IfOk result (λ _. numbers.new.items ≡ with_once numbers.old.items number) }
+/// Adds a number, unless it is there already. The set has the numbers of the list.
+fn add_once(numbers: &mut Vec<u32>, seen: &mut BTreeSet<u32>, number: u32) -> Result<(), Memory>
+    requires { HasNumbers numbers.old.items seen.old }
+    ensures numbers { IfOk result (λ _. numbers.new.items ≡ with_once numbers.old.items number) }
+    ensures seen { IfOk result (λ _. HasNumbers numbers.new.items seen.new) }
 {
-    if !numbers.contains(&number) {
+    if seen.insert(number)? {
         numbers.push(number)?;
     }
     Ok(())
@@ -41,9 +45,10 @@ fn captured(alloc: Global, names: &[u32], first: u32) -> Result<Vec<u32>, Memory
     ensures { IfOk result (λ v. v.items ≡ each_once (filter (λ n. nat_lt n first) names.now)) }
 {
     let mut captured = Vec::new(alloc);
+    let mut seen = BTreeSet::new(alloc);
     'names: for name in names {
         if *name < first {
-            add_once(&mut captured, *name)?;
+            add_once(&mut captured, &mut seen, *name)?;
         }
     }
     Ok(captured)
