@@ -1,22 +1,12 @@
 //! The program `bxl`: the engine over standard input, output and error.
 //!
-//! This crate makes the real outside and gives it to the engine. It depends on `bx_io`, whose traits its
-//! adapters implement, and on `bx_engine`. The adapters are the trusted edge: the bytes that a stream gives
-//! or takes are not known to a proof, so it is proved only that an adapter counts each fault that it reports.
+//! This crate makes the real outside and gives it to the engine. It depends on `bx_system` for the streams, on
+//! `bx_io`, whose traits they implement, and on `bx_engine`.
 #![tactic(auto)]
 
-mod folder_keeper;
-#[cfg(test)]
-mod folder_tests;
-mod std_sink;
-mod std_source;
-#[cfg(test)]
-mod tests;
-
-use crate::std_sink::StdSink;
-use crate::std_source::StdSource;
 use bx_engine::{Status, command};
 use bx_io::{NoFaultKeeper, OpenGate};
+use bx_system::{StdSink, StdSource};
 use std::alloc::AllocError;
 use std::env;
 use std::io::ErrorKind;

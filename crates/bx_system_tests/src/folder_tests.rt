@@ -1,5 +1,7 @@
-use crate::folder_keeper::FolderKeeper;
+//! The keeper over a folder: what it keeps, what it leaves out, and what its faults lose.
+
 use bx_io::{Got, KeepReader, Keeper, Listed, PutFault, is_name};
+use bx_system::FolderKeeper;
 use std::alloc::Global;
 use std::fs::{self, Permissions};
 use std::os::unix::fs::PermissionsExt;

@@ -11,7 +11,7 @@ use Rattle.std.proofs.lemmas.List.Filters.{All-dedup, dedup_is}
 use Rattle.std.proofs.lemmas.List.Kept.{IsStrictlySortedBy-dedup}
 use Rattle.std.proofs.lemmas.List.Sorted.{All-permutation}
 use Rattle.bx_io.specs.Names.{IsName}
-use Rattle.bxl.proofs.folder_keeper.in_order.Goals as goal
+use Rattle.bx_system.proofs.folder_keeper.in_order.Goals as goal
 
 -- texts in order have their bytes in order
 above : (x : String Global) (xs : List (String Global)) → AllByRecursion (λ y. string_cmp x y ≡ Less) xs

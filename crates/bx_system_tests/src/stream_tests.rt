@@ -1,8 +1,7 @@
-//! The adapters over streams in memory.
+//! The adapters of streams, over streams in memory.
 
-use crate::std_sink::StdSink;
-use crate::std_source::StdSource;
 use bx_io::{Failed, Sink, Source};
+use bx_system::{StdSink, StdSource};
 use std::io::{self, ErrorKind, Read, Write};
 use std::test::Fail;
 

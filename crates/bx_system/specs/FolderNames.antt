@@ -2,8 +2,8 @@
 use Rattle.std.specs.Prelude.{◌≡◌, List, All, String, string_bytes, Result, Ok, Err}
 use Rattle.std.specs.declared.alloc.Global.{Global}
 use Rattle.bx_io.specs.Names.{IsName}
-use Rattle.bxl.specs.declared.folder_keeper.Outcome.{Outcome}
-use Rattle.bxl.specs.declared.folder_keeper.Outcome.TheVariants as outcomes
+use Rattle.bx_system.specs.declared.folder_keeper.Outcome.{Outcome}
+use Rattle.bx_system.specs.declared.folder_keeper.Outcome.TheVariants as outcomes
 
 -- each text is a name
 abbrev pub AreAllNames : List (String Global) → Type 0

@@ -3,7 +3,7 @@
 ghost use Rattle.std.specs.Prelude.{◌≡◌, IfOk};
 ghost use Rattle.bx_io.specs.Answers.{ListsNames};
 ghost use Rattle.bx_io.specs.Causes.{counted};
-ghost use Rattle.bxl.specs.FolderNames.{AreAllNames, IsOutcome};
+ghost use Rattle.bx_system.specs.FolderNames.{AreAllNames, IsOutcome};
 ghost use Rattle.bx_io.specs.declared.keeper.Listed.TheVariants as listed;
 
 use bx_io::{Got, KeepReader, Keeper, Listed, PutFault, is_name};

@@ -1,0 +1,14 @@
+//! The system's streams and folders, as sources, sinks and a keeper.
+//!
+//! The adapters are the trusted edge: the bytes that a stream or a folder gives or takes are not known to a
+//! proof, so it is proved only that an adapter counts each fault that it reports. This crate depends on `bx_io`,
+//! whose traits it implements.
+#![tactic(auto)]
+
+mod folder_keeper;
+mod std_sink;
+mod std_source;
+
+pub use folder_keeper::{FolderKeeper, FolderReader};
+pub use std_sink::StdSink;
+pub use std_source::StdSource;

@@ -1,5 +1,0 @@
-use Rattle.bxl.specs.FolderNames.{AreAllNames}
-use Rattle.bxl.proofs.folder_keeper.add_names.Given as goal
-
-abbrev pub invariant-entries : goal.invariant-entries
-invariant-entries g l = AreAllNames l.names.items
