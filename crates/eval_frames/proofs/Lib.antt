@@ -1,0 +1,4 @@
+pub mod Rows
+pub mod Locals
+pub mod Places
+pub mod Waiting

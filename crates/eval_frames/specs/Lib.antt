@@ -1,0 +1,5 @@
+pub mod Frames
+pub mod Statuses
+pub mod Consts
+pub mod Costs
+pub mod Made
