@@ -1,0 +1,10 @@
+mod Steps
+mod Walks
+mod Takes
+mod TakesTrees
+mod TakesFiles
+mod WalksFiles
+mod Declared
+mod Bounded
+mod Programs
+mod Bundled
