@@ -4,7 +4,7 @@ use Rattle.std.specs.Bool.{⊤}
 use Rattle.std.specs.List.{AllByRecursion}
 use Rattle.dscript_ast.specs.ExprTree.{ParamTree, PartTrees}
 use Rattle.dscript_binding.specs.Binding.{assigns, bind_name, names_target}
-use Rattle.dscript_binding.specs.Walk.{Here, Bound, Binds, chained, continued, ◌>>=◌, gives, next_local, declare, leave, within, closed, function_in, function_of, params_from, or_fault}
+use Rattle.dscript_binding.specs.Walk.{Here, Bound, Binds, chained, continued, ◌>>=◌, gives, next_local, declare, leave, within, closed, function_in, params_from, or_fault}
 use Rattle.dscript_modules.specs.declared.fault.SpecKind.{SpecKind}
 use Rattle.dscript_program.specs.BoundTree.{BodyData}
 use Rattle.dscript_program.specs.ProgramData.{FunctionData}

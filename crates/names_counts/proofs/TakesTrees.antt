@@ -1,17 +1,16 @@
 -- An expression or a statement has at least as many tokens as its size.
-use Rattle.std.proofs.Common.{◌≡◌, ℕ, zero, suc, ◌+◌, ◌≤◌, List, [], ◌∷◌, length, Option, Some, None, refl, ap, sym, ◌∙◌, subst, inl, inr, arith}
-use Rattle.dscript_lex.specs.declared.token.TokenKind.{TokenKind}
+use Rattle.std.proofs.Common.{◌≡◌, ℕ, zero, suc, ◌+◌, List, [], ◌∷◌, refl, ap, arith}
 use Rattle.dscript_ast.specs.ExprTree as tree
 use Rattle.dscript_ast.specs.ExprTree.{ExprTree, OperandTree, PartTree, ElementTree, PropTree, HoleTree, StmtTree, MaybeExpr, MaybeStmt, ExprTrees, OperandTrees, PartTrees, ElementTrees, PropTrees, HoleTrees, StmtTrees, expr_of, exprs_of, operands_of, parts_of, elements_of, props_of, holes_of, stmts_of}
 use Rattle.dscript_ast.specs.declared.expr.LoopKind.{LoopKind}
 use Rattle.dscript_ast.specs.declared.expr.LoopKind.TheVariants as loops
 use Rattle.dscript_ast.specs.declared.expr.PathKind.{PathKind}
 use Rattle.dscript_ast.specs.declared.expr.PathKind.TheVariants as letters
-use Rattle.dscript_grammar.specs.ExprGrammar.{any_expr, or_expr, postfix_expr, primary_expr, prefix, letter, loop_keyword, type_note, operand, chain, part, holes, template, element, prop, block, expr_node, value, stmt_node, expr_at, stmt_at}
-use Rattle.dscript_grammar.specs.Language.{Language, optional, many, list}
+use Rattle.dscript_grammar.specs.ExprGrammar.{any_expr, or_expr, postfix_expr, primary_expr, prefix, letter, loop_keyword, operand, chain, part, holes, template, element, prop, block, expr_node, value, stmt_node, expr_at, stmt_at}
+use Rattle.dscript_grammar.specs.Language.{Language, optional}
 use Rattle.dscript_grammar.proofs.Combinators.{many_not_longer}
 use Rattle.dscript_grammar.proofs.ExprLengths.{prefix_consumes}
-use Rattle.names_counts.specs.Sizes.{expr_size, operand_size, operands_size, part_size, parts_size, exprs_size, element_size, elements_size, prop_size, props_size, hole_size, holes_size, stmt_size, maybe_size, else_size, stmts_size, head_size}
+use Rattle.names_counts.specs.Sizes.{expr_size, operand_size, operands_size, part_size, parts_size, exprs_size, element_size, elements_size, prop_size, props_size, hole_size, holes_size, stmt_size, maybe_size, stmts_size, head_size}
 use Rattle.names_counts.proofs.Takes.{Takes, takes_either, takes_given, takes_never, takes_not_before, takes_nothing, takes_token, takes_identifier, takes_none, takes_then, takes_less, takes_after, takes_before, takes_flag, takes_note, total, takes_many, takes_list, takes_head}
 
 -- ## Rows as lists

@@ -7,7 +7,6 @@ use Rattle.dscript_ast.specs.FileTree.{MarkedTree, DeclTree, MarkedTrees, ItemTr
 use Rattle.dscript_ast.specs.declared.file.Mark.{Mark}
 use Rattle.dscript_binding.specs.Binding.{bind_marked, bind_decl, bind_all_marked, bind_item, bind_items, block_locals, declared_function, imports_fault, site_in}
 use Rattle.dscript_binding.specs.Walk.{Here, Bound, Binds, chained, continued, ◌>>=◌, gives, no_fault, declaration}
-use Rattle.dscript_grammar.specs.FileGrammar.{mark}
 use Rattle.dscript_modules.specs.declared.fault.SpecKind.{SpecKind}
 use Rattle.dscript_program.specs.BoundTree as bound
 use Rattle.dscript_program.specs.ProgramData as declares

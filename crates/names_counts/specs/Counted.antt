@@ -15,13 +15,15 @@ pub record CountedWithin (n : ℕ) (b : Bound (List DeclData)) : Type 0 where
   pub functions : length b.functions ≤ n
   pub locals : AllByRecursion (IsNumberedBelow n) b.functions
 
--- at most this many declarations in each file and functions in all files, with locals that are numbered below it
+-- at most this many declarations in each file, and functions in all files, with locals that are numbered
+-- below it
 pub record ProgramWithin (n : ℕ) (p : ProgramData) : Type 0 where
   pub decls : AllByRecursion (λ f. length f.decls ≤ n) p.files
   pub functions : length p.functions ≤ n
   pub locals : AllByRecursion (IsNumberedBelow n) p.functions
 
--- at most this many files, each of which declares at most so many names and is of one of the modules or after them
+-- at most this many files, and names that each declares; each file is of one of the modules, or counts as one
+-- of a module after the last
 pub record WorldWithin (files decls : ℕ) (w : World) : Type 0 where
   pub few_files : length w.files ≤ files
   pub few_decls : AllByRecursion (λ f. length f.decls ≤ decls) w.files

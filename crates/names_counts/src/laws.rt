@@ -21,8 +21,8 @@ ghost use Rattle.dscript_scopes.specs.Names.{FileNames, World};
 ghost use Rattle.names_counts.specs.Counted.{CountedWithin, ProgramWithin, WorldWithin};
 ghost use Rattle.names_counts.specs.Texts.{AreProjectsAmong};
 
-/// A file has at most as many declarations and functions as it has tokens, and numbers its locals below that.
-/// So it has at most as many as its text has bytes.
+/// A file has at most as many declarations and functions as it has tokens, and its parameters and locals have
+/// numbers below that. So each of these is at most the number of its bytes.
 pub fn counts_are_bounded()
     ensures by_tokens { (tokens : List TokenKind) (items : List ItemTree) (height : ℕ)
         → Derives forms.Project tokens (Project items) height
@@ -34,8 +34,9 @@ pub fn counts_are_bounded()
         → bind_items world number names items here ≡ Ok b → CountedWithin (length text) b }
 {}
 
-/// The program of project files of a bundle has fewer declarations, functions and locals than the largest
-/// bundle has bytes, and so less than 2^32. So have the names of these files, also where they are no program.
+/// In the program of project files of one bundle, the declarations of a file, all functions, and the numbers
+/// of parameters and locals are at most the bytes of the largest bundle. So are the names that a file
+/// declares, also where there is no program, and there are at most as many files as a bundle may have.
 pub fn program_counts_are_bounded()
     ensures program { (text : List ℕ) (files : Files) → IsBundle text files
         → (chosen : Atoms × List ℕ → Bool) (parsed : List ParsedData) → AreProjectsAmong chosen files parsed

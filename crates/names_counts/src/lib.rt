@@ -2,8 +2,8 @@
 //!
 //! `specs/Sizes.antt` gives each tree a size, which is at least what a walk through it counts and at most the
 //! number of its tokens. This crate depends on `dscript_grammar` for what tokens derive, on `dscript_binding`
-//! for walks and on `dscript_names` for programs. It carries the promise that no number of 32 bits is wanting in
-//! a program whose files come from one bundle.
+//! for walks and on `dscript_names` for programs. It carries the promise that no number of 32 bits is wanting
+//! in a program whose files are of one bundle.
 #![tactic(auto)]
 
 mod laws;
