@@ -1,0 +1,35 @@
+-- What a move of the machine keeps.
+use Rattle.std.specs.Prelude.{◌≡◌, Result, Ok, Err}
+use Rattle.dscript_value.specs.Plain.{Plain}
+use Rattle.dscript_meaning.specs.Evaluating.{Fault, Gives}
+use Rattle.dscript_meaning.specs.Statements.{Way}
+use Rattle.eval_machine.specs.Views.{View, seen}
+use Rattle.eval_machine.specs.Works.{Answer, comes, comes_by, comes_with, goes_by}
+use Rattle.eval_machine.specs.declared.machine.Machine.{Machine}
+use Rattle.eval_machine.specs.declared.stop.Stop.{Stop}
+use Rattle.eval_machine.specs.declared.stop.Stop.TheVariants as stops
+use Rattle.eval_machine.specs.declared.work.Work.{Work}
+
+-- the answer is this stop; want of memory says nothing
+abbrev pub StopsWith : Stop → Answer → Type 0
+StopsWith (stops.Fault kind file message) answer = answer ≡ Err (Fault kind file message)
+StopsWith stops.Memory answer = Unit {0}
+
+-- what was to come still comes
+abbrev pub Keeps : Result (Unit {0}) Stop → Answer → View → Type 0
+Keeps (Ok done) before v = before ≡ comes v
+Keeps (Err stop) before v = StopsWith stop before
+
+-- ## What the calls of the machine ensure, by the machine before and after
+
+-- the value of this comes
+abbrev pub Comes : Result (Unit {0}) Stop → Machine → Machine → (View → Gives Plain) → Type 0
+Comes result before now m = Keeps result (comes_by (m (seen before)) (seen before)) (seen now)
+
+-- this goes on, or returns
+abbrev pub Goes : Result (Unit {0}) Stop → Machine → Machine → (View → Gives Way) → Type 0
+Goes result before now m = Keeps result (goes_by (m (seen before)) (seen before)) (seen now)
+
+-- this work is done
+abbrev pub IsDone : Result (Unit {0}) Stop → Machine → Machine → Work → Type 0
+IsDone result before now w = Keeps result (comes_with w (seen before)) (seen now)
