@@ -1,0 +1,12 @@
+use Rattle.eval_machine.specs.Views.{seen}
+use Rattle.eval_exprs.proofs.CollectionMoves.{item_move}
+use Rattle.eval_machine.proofs.ItemLists.{ends_in}
+use Rattle.eval_machine.proofs.Kept.{keeps_at}
+use Rattle.eval_exprs.proofs.collections.item.Goals as goal
+
+pub returns : goal.returns
+returns c =
+    keeps_at _ _ _ _
+    (item_move (seen c.args.machine.now) _ c.args.others c.args.done c.add_value.new.values
+    (ends_in _ _ _ _ c.in_ok-add_value.ensures c.take-item.ensures.value) c.take-item.ensures.taken)
+    c.items.ensures

@@ -1,0 +1,22 @@
+use Rattle.eval_machine.specs.Views.{seen}
+use Rattle.eval_exprs.proofs.ExprMoves.{operands_end, operands_move, operands_settled}
+use Rattle.eval_machine.proofs.Kept.{kept}
+use Rattle.std.proofs.Common.{sym, ◌∙◌}
+use Rattle.eval_exprs.proofs.exprs.operands.Goals as goal
+
+pub returns-in_default : goal.returns-in_default
+returns-in_default c = operands_end (seen c.args.machine.now) c.args.more c.in_default.ensures.cases
+
+pub returns-then-is_settled : goal.returns-then-is_settled
+returns-then-is_settled c =
+    kept _ _ _ _ c.push.ensures
+    (operands_settled (seen c.args.machine.now) c.args.more c.in-Some.others c.in-Some.operand.now _ _ c.in-Some.ensures.cases.0
+    c.operand_parts-operator.ensures (sym c.is_settled.ensures ∙ c.if-is_settled.true))
+
+pub returns : goal.returns
+returns c =
+    kept _ _ _ _ c.push_two.ensures
+    (operands_move (seen c.args.machine.now) _ c.args.more c.in-Some.others c.in-Some.operand.now _
+    c.operand_parts-operator.result.1 c.take-left.result
+    c.in-Some.ensures.cases.0 c.operand_parts-operator.ensures (sym c.is_settled.ensures ∙ c.if-is_settled.false)
+    c.take-left.ensures.value c.take-left.ensures.taken)
