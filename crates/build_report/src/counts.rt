@@ -12,9 +12,9 @@ pub struct Counts {
     pub hits: u64,
     /// The other processes that were not skipped.
     pub ran: u64,
-    /// The processes for which retirement ran the tool.
+    /// The processes whose tool was run only when their results were collected.
     pub late: u64,
-    /// The lookups and keeps that the store failed.
+    /// The calls of the store, to look up or to keep, that failed.
     pub faults: u64,
     /// The workers that left for want of memory or after a refusal.
     pub starved: u64,

@@ -29,7 +29,7 @@ named_report = record { is_path = record { atoms = (atom_report, tt); short = li
 pub below_out : (out p : Atoms) → Names (codes "out") out → IsBelow p out → IsBelowOut p
 below_out out p n h = (h.0, h.1, h.2 ∙ ap (λ d. d ++ h.0) (one_path (codes "out") out (codes "out" ∷ []) n named_out))
 
--- and what does not
+-- what does not lie below the named directory does not lie below `out`
 pub not_below_out : (text : List ℕ) (out p q : Atoms) → Names (codes "out") out → Names text p → (IsBelow p out → ⊥) → Names text q → IsBelowOut q → ⊥
 not_below_out text out p q n m far k h =
     far (h.0, h.1, one_path text p q m k ∙ h.2 ∙ ap (λ d. d ++ h.0) (sym (one_path (codes "out") out (codes "out" ∷ []) n named_out)))

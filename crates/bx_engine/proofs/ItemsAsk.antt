@@ -20,7 +20,7 @@ use Rattle.bx_engine.proofs.OutputsAreTree.{all_pushed}
 
 -- ## One item more
 
--- a file is ending_view as its path and its bytes
+-- contracts see a file as its path and its bytes
 pub file_is : (f : TreeFile) (path : Atoms) (bytes : Vec ℕ Global) (text : List ℕ) → f.path ≡ path → f.bytes ≡ bytes → bytes.items ≡ text → file_of f ≡ (path, text)
 file_is f path bytes text at holds is =
     ap (λ (p : Atoms). (p, f.bytes.items)) at ∙ ap (λ (b : Vec ℕ Global). (path, b.items)) holds ∙ ap (λ (t : List ℕ). (path, t)) is

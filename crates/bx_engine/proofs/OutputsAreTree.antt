@@ -207,7 +207,7 @@ ends_with_outputs input (InputRefused fault) h = no_outputs
 ends_with_outputs input (SpecificationRefused fault) h = no_outputs
 ends_with_outputs input (Succeeded files) h = found_are_outputs h.0 h.2.0 files h.2.2
 
--- which are a tree
+-- the files that were made, with the report after them, are a tree
 pub pushed_tree : (items new : List TreeFile) (f : TreeFile) (p : Atoms) (report : Vec ℕ Global) → AreOutputs (files_of items) → new ≡ items ++ f ∷ [] → f.path ≡ p
     → f.bytes ≡ report → Names (codes "report.txt") p → IsTree (files_of new)
 pushed_tree items new f p report outputs e at holds named =

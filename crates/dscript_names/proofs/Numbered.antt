@@ -70,7 +70,7 @@ pub record Numbered {A : Type 0} (table : List FunctionData) (R : A → List Tak
   pub count : b.after.functions ≡ here.functions + length b.functions
   pub inner : AllByRecursion (IsSound table) b.functions
 
--- this for a result, in each table that has its functions at their numbers
+-- a result is a fault, or is numbered in each table that has its functions at their numbers
 abbrev pub Good : {A : Type 0} → List FunctionData → (A → List Taker → Type 0) → Here → Result
     (Bound A) SpecKind → Type 0
 Good table R here (Ok b) = At table here.functions b.functions → Numbered table R here b

@@ -36,7 +36,7 @@ pub record Kept {A : Type 0} (table : List FunctionData) (Q : A → Type 0) (fun
   pub count : b.after.functions ≡ functions + length b.functions
   pub inner : AllByRecursion (IsSound table) b.functions
 
--- this for a result, in a table that has its functions at their numbers
+-- a result is a fault, or is kept in a table that has its functions at their numbers
 abbrev GoodCount : {A : Type 0} → List FunctionData → (A → Type 0) → ℕ → Result (Bound A) SpecKind → Type 0
 GoodCount table Q functions (Ok b) = At table functions b.functions → Kept table Q functions b
 GoodCount table Q functions (Err kind) = ⊤

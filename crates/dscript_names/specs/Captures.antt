@@ -8,6 +8,6 @@ abbrev pub HasOuterCaptures : FunctionData → Type 0
 HasOuterCaptures f =
     AllByRecursion (λ n. n < f.first_local) f.captured × IsDistinct (λ n m. m == n) f.captured
 
--- this for each function of the program
+-- each function of the program captures only outer locals, each once
 abbrev pub AllCaptureOuter : ProgramData → Type 0
 AllCaptureOuter p = AllByRecursion HasOuterCaptures p.functions

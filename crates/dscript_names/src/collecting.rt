@@ -22,7 +22,7 @@ pub(crate) struct Names {
     pub(crate) imports: Vec<Imported>,
 }
 
-/// Other owners of these names, and then of these.
+/// The names of both lists, one list after the other, as shared texts.
 pub(crate) fn joined(alloc: Global, before: &[Text], names: &[Text]) -> Result<Vec<Text>, Memory>
     ensures { IfOk result (λ all. all.items ≡ before.now ++ names.now) }
 {

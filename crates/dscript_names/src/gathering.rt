@@ -58,8 +58,8 @@ fn repeats_itself(alloc: Global, names: &Names, items: &[Item]) -> Result<bool, 
 }
 
 impl Gathering {
-    /// Adds a file of the module of this number. Whether it has a name twice, or exports one that an earlier
-    /// file of its module exports.
+    /// Adds a file of the module of this number, and answers whether it has a name twice, or exports one that an
+    /// earlier file of its module exports.
     fn add(&mut self, alloc: Global, owner: usize, items: &[Item]) -> Result<bool, Memory>
         ensures { Adds self.old self.new owner (map item_tree items.now) result }
     {
@@ -79,7 +79,7 @@ impl Gathering {
     }
 }
 
-/// That this file has a name twice.
+/// The fault that this file has a name twice.
 fn duplicate_in(file: &Path) -> SpecFault
     ensures { IsDuplicateIn file.now result }
 {

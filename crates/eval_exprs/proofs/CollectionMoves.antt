@@ -85,7 +85,7 @@ spread_move v es others element e done is parts =
     (λ x s. ap (λ r. followed r (λ y later. run v.program v.work On v.openable y later))
     (followed-followed (answered (with_items_of (map plain_of done.items) x) s) _ _))
 
--- the item that is given goes following those that are done
+-- the item that is given is added after those that are done
 pub item_move
     : (v w : View) (others : Bor (List BoundElement)) (done more : Vec Value Global)
     → map plain_of more.items ≡ map plain_of done.items ++ v.given ∷ []
@@ -95,7 +95,7 @@ item_move v w others done more is taken =
     ap (λ xs. comes_by (then_list v (elements v.program (acts_at v) (to_elements (map element_data others.now)) xs)) v) (sym is)
     ∙ ap (λ (u : View). comes_with (works.Expr (expr.Items others more)) u) (sym taken)
 
--- the list that is given is spread following the items that are done
+-- the list that is given is spread after the items that are done
 pub spread_item_move
     : (v : View) (others : Bor (List BoundElement)) (done more : Vec Value Global)
     → with_items_of (map plain_of done.items) v.given ≡ Ok (map plain_of more.items)
@@ -231,7 +231,7 @@ spread_fields_move v ps others p e done is shape =
     ∙ followed-same (value_at v (expr_data e.now) v.state) _ _
     (λ x s. ap (λ r. followed r K) (spread_rest v.program (acts_at v) (map plain_field done.items) more x s))
 
--- the field whose value is given goes following those that are done
+-- the field whose value is given is added after those that are done
 pub named_field_move
     : (v w : View) (name : Bor (List ℕ)) (others : Bor (List BoundProp)) (done more : Vec Field Global)
     → map plain_field more.items ≡ map plain_field done.items ++ (name.now, v.given) ∷ [] → w ≡ record v { given = plain.Undefined }

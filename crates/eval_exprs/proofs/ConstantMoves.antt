@@ -88,7 +88,7 @@ demanded-other p act file decl (Some (declared.Function ts t n)) is = refl
 demanded-other p act file decl (Some (declared.Interface ts es ms)) is = refl
 demanded-other p act file decl (Some (declared.TypeAlias ts t)) is = refl
 
--- a constant is demanded: its expression is next, in its own frame, with openable for one call less
+-- a constant is demanded: its expression is next, in its own frame, and one call fewer may be opened
 demand_move
     : (v : View) (file decl : ℕ) (e : Bor BoundExpr) (frame : Frame) → 0 < v.openable
     → const_of (declared_at v.program file decl) ≡ Some (expr_data e.now) → frame_of frame ≡ v.state.frame

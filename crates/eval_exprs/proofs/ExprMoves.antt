@@ -113,7 +113,7 @@ pub operated_move
     ≡ comes_by (answered (operated op (plain_of x) v.given)) (record v { work = works.Expr (expr.Operands others) ∷ v.work })
 operated_move v op x others = followed-followed (answered (operated op (plain_of x) v.given) v.state) _ _
 
--- and then at the machine that goes on with the other operands
+-- an operator at its operands comes to what the machine comes to that goes on with the other operands
 pub operated_then
     : (v u : View) (op : BinaryOp) (x : Value) (others : Bor (List BoundOperand))
     → u ≡ record v { work = works.Expr (expr.Operands others) ∷ v.work }

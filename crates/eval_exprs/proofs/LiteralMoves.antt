@@ -96,7 +96,7 @@ hole_at p act literal text following longer with_hole more (Ok hole) s is long =
     λ rest. ap (λ t. t ++ rest) (ap (λ t. t ++ following) here ∙ sym long) in
     followed-same (hole_texts p act (reader literal) more s) _ _ (λ rest s1. ap (λ t. ended p literal t s1) (whole rest))
 
--- the hole that is given, with the text after it, goes following the text before
+-- the hole that is given, with the text after it, is added after the text before it
 pub hole_move
     : (v : View) (following : Bor (List ℕ)) (others : Bor (List BoundHole)) (text with_hole longer : Vec ℕ Global) (literal : Literal)
     → after text.items (reader literal v.given) ≡ Ok with_hole.items → longer.items ≡ with_hole.items ++ following.now

@@ -32,7 +32,7 @@ pub value_as
     → Keeps result (comes_by (gives x) v) w → Keeps result (comes_by (gives y) v) w
 value_as result v w x y is kept = keeps_at result _ _ w (ap (λ z. comes_by (gives z) v) is) kept
 
--- and so may the letter of a path
+-- the letter of a path may be written in another way
 pub path_as
     : (result : Result (Unit {0}) Stop) (v w : View) (k letter : PathKind) (text : List ℕ) (holes : HoleRow) → k ≡ letter
     → Keeps result (comes_by (path_form v.program (acts_at v) letter text holes) v) w

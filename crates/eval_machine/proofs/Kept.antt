@@ -133,7 +133,7 @@ unspent_goes n m v stop unspent =
 pub memory_stops : (stop : Stop) (before : Answer) → stop ≡ stops.Memory → StopsWith stop before
 memory_stops stop before is = let P : Stop → Type 0 = λ e. StopsWith e before in subst P (sym is) tt
 
--- a call that always tells its fault
+-- a call each of whose faults is the one that is defined
 pub exact
     : (r : Result Value SdkFault) (o : Outcome Plain) → MatchResult r (λ x. o ≡ Ok (plain_of x)) (λ f. o ≡ Err f)
     → Answers r o

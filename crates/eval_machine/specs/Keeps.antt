@@ -22,14 +22,14 @@ Keeps (Err stop) before v = StopsWith stop before
 
 -- ## What the calls of the machine ensure, by the machine before and after
 
--- the value of this comes
+-- after the call there comes what came, before it, of the value that this meaning gives
 abbrev pub Comes : Result (Unit {0}) Stop → Machine → Machine → (View → Gives Plain) → Type 0
 Comes result before now m = Keeps result (comes_by (m (seen before)) (seen before)) (seen now)
 
--- this goes on, or returns
+-- after the call there comes what came, before it, of this meaning of a statement, which goes on or returns
 abbrev pub Goes : Result (Unit {0}) Stop → Machine → Machine → (View → Gives Way) → Type 0
 Goes result before now m = Keeps result (goes_by (m (seen before)) (seen before)) (seen now)
 
--- this work is done
+-- after the call there comes what came, before it, of this work
 abbrev pub IsDone : Result (Unit {0}) Stop → Machine → Machine → Work → Type 0
 IsDone result before now w = Keeps result (comes_with w (seen before)) (seen now)

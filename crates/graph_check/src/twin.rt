@@ -60,7 +60,7 @@ impl<'a> PartialOrd for Described<'a> {
     }
 }
 
-// Adds a process. Whether one of its description was there.
+// Adds a process, and answers whether one of its description was there.
 fn had<'a>(seen: &mut BTreeSet<Described<'a>>, process: &'a ProcessDesc) -> Result<bool, AllocError>
     ensures had { IfOk result
         (λ had. IsTrue had ↔ HasDescribed seen.old (description process.now)) }

@@ -36,7 +36,8 @@ clash_out pips m i l (j, below, (p, h)) =
       ),
     )
 
--- the first pip that clashes with an earlier one tells it, or the number of pips where none does
+-- whether pips clash is decided by the number of the first that clashes with an earlier one, or by their count
+-- where none does
 pub tells : (pips : List Pip) (n : ℕ) → ((j : ℕ) → j < n → ClashAt pips j → ⊥) → (n < length pips → ClashAt pips n) → TellsUnshared pips n
 tells pips n none here m l = (
   λ h.
@@ -50,14 +51,14 @@ tells pips n none here m l = (
   λ less. unshared_from_clash (take m pips) n (clash_into pips m n less (here (omega (arith, less, l)))),
 )
 
--- so it tells it of the first of the first pips
+-- a number that decides it for each beginning of a list decides it for each beginning of a beginning
 pub tells_first : (pips : List Pip) (m n : ℕ) → TellsUnshared pips n → TellsUnshared (take m pips) n
 tells_first pips m n tells_all k l =
     let long = length-take m pips in
     let less : k ≤ m = omega (arith, l, long) in
     subst (λ (ps : List Pip). HasUnshared ps ↔ (n < k)) (sym (take-take k m pips less)) (tells_all k (omega (arith, l, long)))
 
--- and of all of them
+-- a number that decides it for each beginning of a list decides it for the whole list
 pub tells_all : (pips : List Pip) (n : ℕ) → TellsUnshared pips n → HasUnshared pips ↔ (n < length pips)
 tells_all pips n tells =
     subst (λ (ps : List Pip). HasUnshared ps ↔ (n < length pips)) (take_all (length pips) pips (omega arith)) (tells (length pips) (omega arith))

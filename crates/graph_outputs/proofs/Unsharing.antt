@@ -90,7 +90,7 @@ unshared_from_clash pips i (j, l, (p, h)) = elim h [
   | inr x ↦ lone_clash pips j i p (λ e. omega (arith, l, e)) x.1 x.0
 ]
 
--- and conversely
+-- where two pips have an output directory that is not shared, some pip clashes with an earlier one
 pub clash_from_unshared : (pips : List Pip) → HasUnshared pips → (i : ℕ) × ClashAt pips i
 clash_from_unshared pips (i, j, (apart, (dir, other, h, k, same, not_both))) = by_sharing dir.shared other.shared refl refl
   where
