@@ -1,0 +1,4 @@
+pub mod InOrder
+pub mod TakenFiles
+pub mod KeptInputs
+pub mod PlacedNumbers

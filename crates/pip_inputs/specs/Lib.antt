@@ -1,0 +1,4 @@
+pub mod Results
+pub mod Contents
+pub mod Plain
+pub mod Views

@@ -1,0 +1,16 @@
+//! What the pips made for which a pip waits, and what pips come to by these files alone.
+//!
+//! A pip that is no process makes a copy, a text or nothing, and a process is described by its declarations
+//! and the contents of its files. This crate depends on `pip_model` for pips and plans and on `pip_outputs`
+//! for what slots hold. Its invariant: only the results of a pip's inputs are looked at.
+#![tactic(auto)]
+
+mod inputs;
+mod making;
+mod sharing;
+
+pub use inputs::Inputs;
+pub use making::{desc, input_file, no_files, plain, process_at, source_blob};
+
+/// Out of memory, the one refusal that no contract ties to a cause.
+pub type Memory = std::alloc::AllocError;
