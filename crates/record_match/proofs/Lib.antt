@@ -1,0 +1,4 @@
+pub mod Digest
+pub mod AnswerLines
+pub mod Same
+pub mod Differ
