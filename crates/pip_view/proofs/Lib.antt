@@ -1,0 +1,10 @@
+pub mod Answered
+pub mod Together
+pub mod FirstNames
+pub mod SourceMembers
+pub mod NameSets
+pub mod Seeing
+pub mod ByPip
+pub mod Agreeing
+pub mod OneAtom
+pub mod FilePaths

@@ -1,0 +1,6 @@
+pub mod InputFiles
+pub mod Sees
+pub mod Ranges
+pub mod Seen
+pub mod Gathered
+pub mod Agreement

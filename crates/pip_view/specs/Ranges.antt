@@ -1,0 +1,32 @@
+-- Where the paths below a directory are in a list that rises by path.
+use Rattle.std.specs.Prelude.{◌≢◌, ℕ, Bool, not, if◌then◌else◌, List, [], ◌∷◌, ◌++◌, codes}
+use Rattle.std.specs.Cmp.Lexicographic.{slice_cmp}
+use Rattle.std.specs.List.{AllByRecursion}
+use Rattle.std.specs.List.Sorted.{IsStrictlySortedBy}
+use Rattle.std.specs.Ordering.{is_lt, nat_cmp}
+use Rattle.bx_tree.specs.Paths.{Atoms, IsPath, path_cmp, path_text}
+use Rattle.own_writes.specs.Below.{is_below}
+use Rattle.pip_view.specs.Sees.{is_root}
+
+-- paths of files, in order
+pub record AreFilePaths (paths : List Atoms) : Type 0 where
+  pub are_paths : AllByRecursion IsPath paths
+  pub no_root : AllByRecursion (λ path. path ≢ []) paths
+  pub rising : IsStrictlySortedBy path_cmp paths
+
+abbrev pub not_root : Atoms → Bool
+not_root path = not (is_root path)
+
+-- the bytes with which the text of each path below a directory begins
+abbrev pub prefix_below : Atoms → List ℕ
+prefix_below [] = []
+prefix_below (atom ∷ rest) = path_text (atom ∷ rest) ++ codes "/"
+
+-- whether a path comes before all paths whose texts begin with these bytes
+abbrev pub comes_before : List ℕ → Atoms → Bool
+comes_before prefix path = is_lt (slice_cmp nat_cmp (path_text path) prefix)
+
+-- the first paths of a list, up to one that does not lie below the directory
+abbrev pub first_below : Atoms → List Atoms → List Atoms
+first_below dir [] = []
+first_below dir (path ∷ paths) = if is_below path dir then path ∷ first_below dir paths else []

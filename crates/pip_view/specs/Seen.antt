@@ -1,0 +1,76 @@
+-- What a view keeps.
+use Rattle.std.specs.Prelude.{◌≡◌, ◌↔◌, ℕ, Bool, ◌||◌, if◌then◌else◌, List, [], Contains}
+use Rattle.std.specs.Prelude.{Option, Some, None, is_some}
+use Rattle.std.specs.Prelude.{◌<◌, filter, length, slice_get}
+use Rattle.std.specs.List.{list_any}
+use Rattle.bx_tree.specs.Paths.{Atoms}
+use Rattle.bx_tree.specs.Trees.{Files, file_at, paths_of}
+use Rattle.observed.specs.declared.access.Answer.{Answer}
+use Rattle.observed.specs.declared.access.Answer.TheVariants as answers
+use Rattle.observed.specs.declared.ask.Ask.{Ask}
+use Rattle.observed.specs.declared.ask.AskKind.{AskKind}
+use Rattle.own_writes.specs.Writes.{has_below, own_names}
+use Rattle.pip_types.specs.declared.pip.Pip.{Pip}
+use Rattle.pip_types.specs.declared.pip.ProcessDesc.{ProcessDesc}
+use Rattle.pip_outputs.specs.Producing.{dirs_at, least_unseen}
+use Rattle.pip_view.specs.InputFiles.{is_source_of, named_files}
+use Rattle.pip_inputs.specs.Plain.{process_in}
+use Rattle.pip_view.specs.Ranges.{AreFilePaths, not_root}
+use Rattle.pip_inputs.specs.Results.{ByPip}
+use Rattle.pip_view.specs.Sees.{as_input, as_source, is_root, sees}
+
+-- a view: the pips, the source files, what the inputs made, and the pip that sees
+pub record ViewData : Type 0 where
+  pub pips : List Pip
+  pub tree : Files
+  pub inputs : ByPip
+  pub pip : ℕ
+
+abbrev pub view_answers : ViewData → Ask → Answer
+view_answers v ask = sees v.pips v.tree v.inputs v.pip ask
+
+abbrev pub named_by : ViewData → Option ProcessDesc → Files
+named_by v None = []
+named_by v (Some d) = named_files v.pips v.tree v.inputs d
+
+-- the input files of the pip, but for source files that are members of seals
+abbrev pub named_in : ViewData → Files
+named_in v = named_by v (process_in (slice_get v.pips v.pip))
+
+-- ## Steps of an answer
+
+-- whether the path is that of a source file which is a member of one of the directories that the pip takes
+abbrev pub is_sealed_at : ViewData → Atoms → Bool
+is_sealed_at v path = list_any (is_source_of path) (dirs_at (slice_get v.pips v.pip))
+
+abbrev pub is_unseen_at : ViewData → Atoms → Bool
+is_unseen_at v path = is_some (least_unseen (dirs_at (slice_get v.pips v.pip)) v.pip path 0 v.pips)
+
+-- what is answered of a path at which neither an input file nor a source file is, where `below` says whether
+-- a named input file lies below it
+abbrev pub answer_elsewhere : ViewData → Atoms → Bool → Answer
+answer_elsewhere v path below =
+    if is_unseen_at v path then answers.Denied
+    else (if below || is_root path || has_below v.tree path then answers.Directory else answers.Absent)
+
+abbrev pub answer_by_source : ViewData → AskKind → Atoms → Bool → Option (List ℕ) → Answer
+answer_by_source v kind path below (Some bytes) =
+    if is_sealed_at v path then as_input kind bytes else as_source kind
+answer_by_source v kind path below None = answer_elsewhere v path below
+
+-- what is answered of a path at which no named input file is
+abbrev pub answer_unnamed : ViewData → AskKind → Atoms → Bool → Answer
+answer_unnamed v kind path below = answer_by_source v kind path below (file_at v.tree path)
+
+-- The files answer all that is asked of files as these others do, of which the first at a path counts.
+pub record AnswerAs (files others : Files) : Type 0 where
+  pub contents : (p : Atoms) → file_at files p ≡ file_at others p
+  pub directories : (p : Atoms) → has_below files p ≡ has_below others p
+  pub names : (p : Atoms) (n : List ℕ) → Contains (own_names files p) n ↔ Contains (own_names others p) n
+
+-- what a view keeps: the named input files by path, and their paths but for the root
+pub record KeepsView (v : ViewData) (kept : Files) (paths : List Atoms) : Type 0 where
+  pub there : v.pip < length v.pips
+  pub answer : AnswerAs kept (named_in v)
+  pub paths_are : paths ≡ filter not_root (paths_of kept)
+  pub order : AreFilePaths paths

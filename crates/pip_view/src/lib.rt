@@ -1,0 +1,22 @@
+//! What a pip sees of the files around it.
+//!
+//! The view of a process is the rule of its input files, of other source files, and of what other pips can
+//! produce. This crate depends on `pip_inputs` for the results of its inputs, on `pip_outputs` for what pips
+//! can produce, and on `observed` and `own_writes` for what runs ask and are answered. It carries the promise
+//! that a view answers as the rules of a build say.
+#![tactic(auto)]
+
+mod below;
+mod by_path;
+mod laws;
+mod listing;
+mod members;
+mod view;
+
+pub use by_path::made_of;
+pub use laws::view_agrees;
+pub use pip_inputs::{Inputs, desc, plain};
+pub use view::PipView;
+
+/// Out of memory, the one refusal that no contract ties to a cause.
+pub type Memory = std::alloc::AllocError;

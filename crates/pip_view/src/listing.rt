@@ -1,0 +1,40 @@
+//! Names of what lies below a directory.
+ghost use Rattle.std.specs.Prelude.{◌≡◌, IfOk};
+ghost use Rattle.std.specs.List.{filter_map};
+ghost use Rattle.observed.specs.Texts.{texts_now};
+ghost use Rattle.own_writes.specs.Below.{next_atom as next_atom_of};
+ghost use Rattle.pip_view.specs.Ranges.{AreFilePaths, first_below};
+
+use crate::Memory;
+use crate::below::{from_below, next_atom};
+use bx_tree::Path;
+use std::alloc::Global;
+
+// The next atoms of the first paths, up to one that does not lie below a directory.
+fn first_names<'a>(alloc: Global, paths: &'a [Path], dir: &Path) -> Result<Vec<&'a [u8]>, Memory>
+    ensures { IfOk result (λ names.
+        texts_now names.items ≡ filter_map (next_atom_of dir.now) (first_below dir.now paths.entry.now)) }
+{
+    let mut names = Vec::new(alloc);
+    'paths: for path in paths {
+        let Some(name) = next_atom(dir, path) else {
+            return Ok(names);
+        };
+        names.push(name)?;
+    }
+    Ok(names)
+}
+
+// The names of those of the paths that lie below a directory.
+pub(crate) fn names_below<'a>(
+    alloc: Global,
+    paths: &'a [Path],
+    dir: &Path,
+) -> Result<Vec<&'a [u8]>, Memory>
+    requires { AreFilePaths paths.now }
+    ensures { IfOk result (λ names.
+        texts_now names.items ≡ filter_map (next_atom_of dir.now) paths.entry.now) }
+{
+    let rest = from_below(alloc, paths, dir)?;
+    first_names(alloc, rest, dir)
+}

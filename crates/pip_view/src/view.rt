@@ -1,0 +1,314 @@
+//! What a pip sees.
+ghost use Rattle.std.specs.Prelude.{◌≡◌, ◌≢◌, ◌<◌, ◌||◌, ◌∷◌, ◌++◌, [], IfOk, OnOk, filter, if◌then◌else◌};
+ghost use Rattle.std.specs.Prelude.{length, slice_get};
+ghost use Rattle.std.specs.List.{filter_map, list_any};
+ghost use Rattle.bx_tree.specs.Paths.{IsPath};
+ghost use Rattle.bx_tree.specs.Trees.{paths_of as paths_of_files};
+ghost use Rattle.own_writes.specs.Below.{next_atom};
+ghost use Rattle.own_writes.specs.Writes.{has_below as file_below};
+ghost use Rattle.tool_values.specs.Listings.{add_names as with_names};
+ghost use Rattle.tool_values.specs.NameSets.{names_now};
+ghost use Rattle.pip_types.specs.Made.{RisingFiles, made_files};
+ghost use Rattle.pip_outputs.specs.Producing.{dirs_at as dirs_of_pip};
+ghost use Rattle.pip_view.specs.InputFiles as files;
+ghost use Rattle.pip_view.specs.Ranges.{AreFilePaths, not_root};
+ghost use Rattle.pip_view.specs.Sees as seen;
+ghost use Rattle.pip_view.specs.Seen.{answer_elsewhere, answer_unnamed, is_sealed_at};
+ghost use Rattle.pip_view.specs.Seen.{is_unseen_at, view_answers};
+ghost use Rattle.pip_view.specs.Sees.{sees};
+
+use crate::Memory;
+use crate::below::{has_below, is_below, text_below};
+use crate::listing::names_below;
+use crate::members::named_members;
+use bx_digest::Blob;
+use bx_tree::Path;
+use observed::{Answer, Ask, AskKind, View};
+use pip_inputs::Inputs;
+use pip_model::{DirInput, Made, MadeFile, Plan, SealForm, Sources};
+use pip_outputs::{dirs_at, least_unseen};
+use std::alloc::Global;
+use std::collections::BTreeSet;
+use std::marker::Model;
+use tool_values::{add_names, lines};
+
+/// What a pip sees of the source files and of what its inputs made, without what its own run writes.
+#[derive(Drop)]
+pub struct PipView<'a> {
+    plan: &'a Plan,
+    sources: &'a Sources,
+    inputs: &'a Inputs,
+    pip: u32,
+    files: Made,
+    paths: Vec<Path>,
+}
+
+impl<'a> Model for PipView<'a> {
+    ghost use Rattle.std.specs.Prelude.{length};
+    ghost use Rattle.pip_view.specs.Seen.{KeepsView, ViewData};
+
+    ghost Value = { ViewData };
+
+    ghost view = { λ v. record {
+      pips = v.plan.now.pips;
+      tree = v.sources.now;
+      inputs = v.inputs.now;
+      pip = v.pip;
+    } };
+
+    ghost invariant = { λ v. KeepsView (record {
+      pips = v.plan.now.pips;
+      tree = v.sources.now;
+      inputs = v.inputs.now;
+      pip = v.pip;
+    }) v.files v.paths.items };
+}
+
+// Whether a source file is a member of a seal of this form and root.
+fn is_member(path: &Path, form: SealForm, root: &Path) -> bool
+    ensures { result ≡ files.is_source_member path.now form root.now }
+{
+    match form {
+        SealForm::Full | SealForm::Partial => false,
+        SealForm::SourceAll => is_below(path, root),
+        SealForm::SourceTop => is_directly_in(path, root),
+    }
+}
+
+// Whether a path lies in a directory itself, and not in one below it.
+fn is_directly_in(path: &Path, dir: &Path) -> bool
+    ensures { result ≡ files.is_directly_in path.now dir.now }
+{
+    if !is_below(path, dir) {
+        return false;
+    }
+    !text_below(dir, path).contains(&b'/')
+}
+
+// Whether a path is the root.
+fn is_root(path: &Path) -> bool
+    ensures root { result ≡ seen.is_root path.now }
+    ensures is_path { IsPath path.now }
+{
+    path.text() == "."
+}
+
+// Whether a source file is a member of a directory, which is a seal of source files.
+fn is_source_of(path: &Path, dir: &DirInput) -> bool
+    ensures { result ≡ files.is_source_of path.now dir.now }
+{
+    match dir {
+        DirInput::Sealed(_, form, root) => is_member(path, *form, root),
+        DirInput::Opaque(_, _) => false,
+    }
+}
+
+// Whether a source file is a member of one of the directories.
+fn is_sealed(path: &Path, dirs: &[DirInput]) -> bool
+    ensures { result ≡ list_any (files.is_source_of path.now) dirs.now }
+{
+    dirs.iter().any(|dir| is_source_of(path, dir))
+}
+
+// A file that may be read and is there.
+fn as_input(kind: AskKind, blob: &Blob) -> Result<Answer, Memory>
+    ensures { IfOk result (λ answer. answer ≡ seen.as_input kind blob.now) }
+{
+    match kind {
+        AskKind::Read => Ok(Answer::Content(blob.share()?)),
+        AskKind::Probe => Ok(Answer::File),
+        AskKind::List => Ok(Answer::Absent),
+    }
+}
+
+// Another source file, which may be probed and not read.
+fn as_source(kind: AskKind) -> Answer
+    ensures { result ≡ seen.as_source kind }
+{
+    match kind {
+        AskKind::Read => Answer::Denied,
+        AskKind::Probe => Answer::File,
+        AskKind::List => Answer::Absent,
+    }
+}
+
+// A directory, or nothing.
+fn directory_if(there: bool) -> Answer
+    ensures { result ≡ (if there then Answer.Directory else Answer.Absent) }
+{
+    if there {
+        Answer::Directory
+    } else {
+        Answer::Absent
+    }
+}
+
+// Adds a path, unless it is the root.
+fn add_path(paths: &mut Vec<Path>, path: &Path) -> Result<(), Memory>
+    ensures paths { OnOk result (paths.new.items ≡ paths.old.items ++ filter not_root (path.now ∷ [])) }
+    ensures is_path { IsPath path.now }
+{
+    if is_root(path) {
+        return Ok(());
+    }
+    paths.push(path.share()?)?;
+    Ok(())
+}
+
+// The paths of files, but for the root, below which all others lie.
+fn paths_of(alloc: Global, files: &[MadeFile]) -> Result<Vec<Path>, Memory>
+    requires { RisingFiles (made_files files.now) }
+    ensures paths { IfOk result (λ paths.
+        paths.items ≡ filter not_root (paths_of_files (made_files files.now))) }
+    ensures order { IfOk result (λ paths. AreFilePaths paths.items) }
+{
+    let mut paths = Vec::new(alloc);
+    'files: for file in files {
+        add_path(&mut paths, &file.path)?;
+    }
+    Ok(paths)
+}
+
+// Adds the names of those of the paths that lie below a directory.
+fn add_below(
+    alloc: Global,
+    names: &mut BTreeSet<Vec<u8>>,
+    paths: &[Path],
+    dir: &Path,
+) -> Result<(), Memory>
+    requires { AreFilePaths paths.now }
+    ensures { OnOk result (names_now names.new.keys
+        ≡ with_names (names_now names.old.keys) (filter_map (next_atom dir.now) paths.now)) }
+{
+    let below = names_below(alloc, paths, dir)?;
+    add_names(alloc, names, below.as_slice())
+}
+
+impl<'a> PipView<'a> {
+    /// What a pip sees, where these are the files that its inputs made.
+    pub fn new(
+        alloc: Global,
+        plan: &'a Plan,
+        sources: &'a Sources,
+        pip: u32,
+        inputs: &'a Inputs,
+    ) -> Result<PipView<'a>, Memory>
+        requires { pip < length plan.now.pips }
+        ensures { IfOk result (λ view. ⟦<PipView<'a> as View>⟧.answers view
+            ≡ sees plan.now.pips sources.now inputs.now pip) }
+    {
+        let made = named_members(alloc, plan.pips(), sources, inputs, pip)?;
+        let list = made.files();
+        let paths = paths_of(alloc, list)?;
+        Ok(PipView {
+            plan,
+            sources,
+            inputs,
+            pip,
+            files: made,
+            paths,
+        })
+    }
+
+    // The directories that the pip takes.
+    fn dirs(&self) -> &[DirInput]
+        ensures { result.now ≡ dirs_of_pip (slice_get self.entry.now.pips self.entry.now.pip) }
+    {
+        dirs_at(self.plan.pips(), self.pip)
+    }
+
+    // Whether another pip can produce a path by an output that is no input of the pip.
+    fn is_unseen(&self, path: &Path) -> bool
+        ensures { result ≡ is_unseen_at self.now path.now }
+    {
+        least_unseen(self.dirs(), self.pip, path, self.plan.pips()).is_some()
+    }
+
+    // Whether a source file is a member of a directory that the pip takes.
+    fn is_sealed(&self, path: &Path) -> bool
+        ensures { result ≡ is_sealed_at self.now path.now }
+    {
+        is_sealed(path, self.dirs())
+    }
+
+    // The names of a listing.
+    fn names(&self, alloc: Global, dir: &Path) -> Result<Answer, Memory>
+        ensures { IfOk result (λ answer. answer
+            ≡ view_answers self.now (record { kind = AskKind.List; path = dir.now })) }
+    {
+        let mut names = BTreeSet::new(alloc);
+        add_below(alloc, &mut names, self.sources.paths(), dir)?;
+        add_below(alloc, &mut names, self.paths.as_slice(), dir)?;
+        Ok(Answer::Names(Blob::new(alloc, lines(alloc, &names)?)?))
+    }
+
+    // Whether a path is the root, or a file lies below it, where `below` says whether an input file does.
+    fn is_directory(&self, alloc: Global, path: &Path, below: bool) -> Result<bool, Memory>
+        ensures { IfOk result (λ yes. yes
+            ≡ (below || seen.is_root path.now || file_below self.now.tree path.now)) }
+    {
+        if below || is_root(path) {
+            return Ok(true);
+        }
+        has_below(alloc, self.sources.paths(), path)
+    }
+
+    // What is answered of a path at which neither an input file nor a source file is.
+    fn elsewhere(&self, alloc: Global, path: &Path, below: bool) -> Result<Answer, Memory>
+        ensures { IfOk result (λ answer. answer ≡ answer_elsewhere self.now path.now below) }
+    {
+        if self.is_unseen(path) {
+            return Ok(Answer::Denied);
+        }
+        Ok(directory_if(self.is_directory(alloc, path, below)?))
+    }
+
+    // What is answered of a source file at which no named input file is.
+    fn source(&self, ask: &Ask, blob: &Blob) -> Result<Answer, Memory>
+        ensures { IfOk result (λ answer. answer
+            ≡ (if is_sealed_at self.now ask.now.path then seen.as_input ask.now.kind blob.now
+            else seen.as_source ask.now.kind)) }
+    {
+        if self.is_sealed(&ask.path) {
+            return as_input(ask.kind, blob);
+        }
+        Ok(as_source(ask.kind))
+    }
+
+    // What is answered of a path at which no named input file is.
+    fn unnamed(&self, alloc: Global, ask: &Ask, below: bool) -> Result<Answer, Memory>
+        ensures { IfOk result (λ answer. answer ≡ answer_unnamed self.now ask.now.kind ask.now.path below) }
+    {
+        match self.sources.find(&ask.path) {
+            Some(blob) => self.source(ask, blob),
+            None => self.elsewhere(alloc, &ask.path, below),
+        }
+    }
+
+    // What a read or a probe is answered.
+    fn looked(&self, alloc: Global, ask: &Ask) -> Result<Answer, Memory>
+        requires { ask.now.kind ≢ AskKind.List }
+        ensures { IfOk result (λ answer. answer ≡ view_answers self.now ask.now) }
+    {
+        match self.files.find(&ask.path) {
+            Some(blob) => as_input(ask.kind, blob),
+            None => {
+                let below = has_below(alloc, self.paths.as_slice(), &ask.path)?;
+                self.unnamed(alloc, ask, below)
+            }
+        }
+    }
+}
+
+impl<'a> View for PipView<'a> {
+    ghost use Rattle.pip_view.specs.Seen.{view_answers};
+
+    ghost answers = { view_answers };
+
+    fn ask(&mut self, alloc: Global, ask: &Ask) -> Result<Answer, Memory> {
+        match ask.kind {
+            AskKind::List => self.names(alloc, &ask.path),
+            AskKind::Read | AskKind::Probe => self.looked(alloc, ask),
+        }
+    }
+}
