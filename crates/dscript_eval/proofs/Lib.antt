@@ -1,0 +1,10 @@
+pub mod PartMoves
+pub mod CallMoves
+pub mod StmtMoves
+pub mod StmtKept
+pub mod CallbackMoves
+pub mod CallbackReads
+pub mod Tops
+pub mod StmtRests
+pub mod Turns
+pub mod PartRests

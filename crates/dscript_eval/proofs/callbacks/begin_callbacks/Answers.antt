@@ -1,0 +1,15 @@
+use Rattle.std.proofs.Common.{ap, ◌∙◌}
+use Rattle.dscript_value.specs.Plain.{PlainFunction, item_list, plain_function, plain_values}
+use Rattle.dscript_value.specs.declared.value.Values.{Values}
+use Rattle.eval_machine.specs.Views.{seen}
+use Rattle.dscript_eval.proofs.CallbackMoves.{loop_begins}
+use Rattle.eval_machine.proofs.Kept.{kept}
+use Rattle.dscript_eval.proofs.callbacks.begin_callbacks.Goals as goal
+
+pub returns : goal.returns
+returns c =
+    kept _ _ _ _ c.push.ensures
+    (loop_begins (seen c.args.machine.now) c.args.kind c.new-callbacks.result _ _ c.new-callbacks.ensures.kind
+    (ap (λ (f : PlainFunction). (f.callee, item_list f.held.items)) (ap plain_function c.new-callbacks.ensures.function ∙ c.in_ok-function.ensures))
+    (ap (λ (vs : Values). item_list (plain_values vs).items) c.new-callbacks.ensures.items)
+    c.new-callbacks.ensures.next c.new-callbacks.ensures.done)

@@ -1,0 +1,19 @@
+use Rattle.std.proofs.Common.{arith, map}
+use Rattle.dscript_value.specs.Plain.{item_list, plain_function, plain_of}
+use Rattle.eval_machine.specs.Views.{seen}
+use Rattle.dscript_eval.proofs.CallbackMoves.{called_ambient}
+use Rattle.eval_machine.proofs.Opening.{none_openable}
+use Rattle.eval_machine.proofs.Kept.{keeps_at}
+use Rattle.eval_machine.proofs.Refused.{faulted}
+use Rattle.dscript_eval.proofs.callbacks.call_ambient_back.Goals as goal
+
+pub returns : goal.returns
+returns c =
+    keeps_at _ _ _ _
+    (called_ambient (seen c.args.machine.now) c.args.name (item_list (plain_function c.args.function.now).held.items)
+    (map plain_of c.args.args.now) (omega arith))
+    c.ambient.ensures
+
+pub returns-then-machine-eq0 : goal.returns-then-machine-eq0
+returns-then-machine-eq0 c =
+    faulted _ _ _ _ c.fault.ensures (none_openable (seen c.args.machine.now) _ c.if-machine-eq0.true)

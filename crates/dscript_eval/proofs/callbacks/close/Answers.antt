@@ -1,0 +1,6 @@
+use Rattle.std.proofs.Common.{refl}
+use Rattle.eval_machine.proofs.Kept.{kept}
+use Rattle.dscript_eval.proofs.callbacks.close.Goals as goal
+
+pub returns : goal.returns
+returns c = kept _ _ _ _ c.end_call.ensures refl

@@ -1,0 +1,26 @@
+use Rattle.std.proofs.Common.{Ok, Err, ap, subst, sym, ◌∙◌}
+use Rattle.dscript_program.specs.Views.{program_data}
+use Rattle.eval_machine.specs.Keeps.{StopsWith}
+use Rattle.eval_machine.specs.Views.{seen}
+use Rattle.eval_machine.specs.Works.{Answer, comes}
+use Rattle.dscript_eval.proofs.Tops.{answered_as, built, ended, unnumbered_is}
+use Rattle.dscript_eval.proofs.evaluation.evaluate.Goals as goal
+
+pub returns-in-Ok-clause-pips : goal.returns-in-Ok-clause-pips
+returns-in-Ok-clause-pips c =
+    built (program_data c.args.program.now) c.args.tree.now c.args.budget (seen c.run.new.machine).state
+    (ap comes (sym c.in_ok-machine.ensures) ∙ c.in-Ok.ensures.kept ∙ ended (seen c.run.new.machine) c.in-Ok.ensures.done)
+    ∙ ap Ok (sym c.into_pips.ensures)
+
+pub returns-in-Err-clause-fault : goal.returns-in-Err-clause-fault
+returns-in-Err-clause-fault c =
+    let P : Answer → Type 0 = λ a. StopsWith c.in-Err.stop a in
+    answered_as (program_data c.args.program.now) c.args.tree.now c.args.budget c.in-Err.stop _
+    (subst P (ap comes c.in_ok-machine.ensures) c.in-Err.ensures.kept) c.fault_of.ensures
+
+pub returns-in-Ok-clause-unnumbered : goal.returns-in-Ok-clause-unnumbered
+returns-in-Ok-clause-unnumbered c none = let pips = returns-in-Ok-clause-pips c in cc
+
+pub returns-in-Err-clause-unnumbered : goal.returns-in-Err-clause-unnumbered
+returns-in-Err-clause-unnumbered c none =
+    ap Err (unnumbered_is (program_data c.args.program.now) c.args.tree.now c.args.budget _ (returns-in-Err-clause-fault c) none)

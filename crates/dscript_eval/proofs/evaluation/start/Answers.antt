@@ -1,0 +1,15 @@
+use Rattle.std.proofs.Common.{◌++◌, ◌∷◌, List, [], ap, reverse, ◌∙◌}
+use Rattle.dscript_program.specs.Views.{program_data}
+use Rattle.sdk_values.proofs.Views.{plain-Undefined}
+use Rattle.eval_machine.specs.declared.work.StmtWork.TheVariants as stmt
+use Rattle.eval_machine.specs.declared.work.Work.{Work}
+use Rattle.eval_machine.specs.declared.work.Work.TheVariants as works
+use Rattle.dscript_eval.proofs.Tops.{first_is}
+use Rattle.dscript_eval.proofs.evaluation.start.Goals as goal
+
+pub returns : goal.returns
+returns c =
+    first_is (program_data c.args.program.now) c.args.tree.now c.args.budget _ _ _ _ _
+    (ap reverse (c.in_ok-push.ensures.items
+    ∙ ap (λ (ws : List Work). ws ++ works.Stmt (stmt.Demands 0 0) ∷ []) c.new-work.ensures.items))
+    plain-Undefined c.of_constant.ensures c.in_ok-constants.ensures c.in_ok-calls.ensures

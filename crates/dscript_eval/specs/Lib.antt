@@ -1,0 +1,4 @@
+pub mod CallbackArgs
+pub mod Bodies
+pub mod Tops
+pub mod TurnSteps

@@ -1,0 +1,32 @@
+-- Where the machine begins, and how it tells why it stopped.
+use Rattle.std.specs.Prelude.{◌≡◌, ℕ, [], ◌∷◌}
+use Rattle.bx_tree.specs.Trees.{Files}
+use Rattle.dscript_program.specs.ProgramData.{ProgramData}
+use Rattle.dscript_value.specs.Plain as plain
+use Rattle.dscript_meaning.specs.Lookups.{path_at}
+use Rattle.dscript_meaning.specs.Meaning.{start}
+use Rattle.dscript_meaning.specs.declared.fault.EvalFault.{EvalFault}
+use Rattle.dscript_meaning.specs.declared.fault.EvalFault.TheVariants as eval_faults
+use Rattle.dscript_meaning.specs.declared.limits.TheConstants.{MAX_OPEN_CALLS}
+use Rattle.eval_machine.specs.Views.{View}
+use Rattle.eval_machine.specs.declared.stop.Stop.{Stop}
+use Rattle.eval_machine.specs.declared.stop.Stop.TheVariants as stops
+use Rattle.eval_machine.specs.declared.work.StmtWork.TheVariants as stmt
+use Rattle.eval_machine.specs.declared.work.Work.TheVariants as works
+
+-- the machine before the first step
+abbrev pub first_view : ProgramData → Files → ℕ → View
+first_view p sources budget = record {
+  program = p;
+  work = works.Stmt (stmt.Demands 0 0) ∷ [];
+  given = plain.Undefined;
+  openable = MAX_OPEN_CALLS;
+  state = start p sources budget;
+}
+
+-- a fault is answered with the path of its file; of want of memory nothing is said
+abbrev pub IsAnsweredAs : ProgramData → Stop → EvalFault → Type 0
+IsAnsweredAs p stop eval_faults.Memory = Unit {0}
+IsAnsweredAs p (stops.Fault kind file message) (eval_faults.Fault k path m) =
+    (k ≡ kind) × (path ≡ path_at p file) × (m ≡ message)
+IsAnsweredAs p stops.Memory (eval_faults.Fault k path m) = ⊥

@@ -1,0 +1,106 @@
+//! The evaluation of a program.
+ghost use Rattle.std.specs.Prelude.{◌≡◌, Err, IfErr, IfOk};
+ghost use Rattle.dscript_program.specs.Views.{program_data};
+ghost use Rattle.dscript_meaning.specs.Answers.{Builds, Stops};
+ghost use Rattle.dscript_meaning.specs.Meaning.{Unnumbered, meaning};
+ghost use Rattle.dscript_meaning.specs.declared.fault.EvalFault.TheVariants as eval_faults;
+ghost use Rattle.dscript_eval.specs.Tops.{IsAnsweredAs, first_view};
+ghost use Rattle.eval_machine.specs.Views.{seen};
+
+use crate::Memory;
+use crate::running::run;
+use bx_tree::Tree;
+use dscript_meaning::{EvalFault, MAX_OPEN_CALLS};
+use dscript_program::Program;
+use dscript_sdk::SdkState;
+use dscript_value::Value;
+use eval_frames::{Frame, all_waiting, path_of};
+use eval_machine::{Machine, StmtWork, Stop, Work};
+use pip_types::PipList;
+use std::alloc::Global;
+
+// The machine before the first step.
+fn start<'a>(
+    alloc: Global,
+    program: &'a Program,
+    tree: &'a Tree,
+    budget: u64,
+) -> Result<Machine<'a>, Memory>
+    ensures { IfOk result (λ machine. seen machine
+        ≡ first_view (program_data program.entry.now) tree.entry.now budget) }
+{
+    let constants = all_waiting(alloc, program)?;
+    let calls = SdkState::new(alloc, tree)?;
+    let mut work = Vec::new(alloc);
+    work.push(Work::Stmt(StmtWork::Demands(0, 0)))?;
+    Ok(Machine {
+        alloc,
+        program,
+        work,
+        given: Value::Undefined,
+        openable: MAX_OPEN_CALLS,
+        frame: Frame::of_constant(alloc, 0),
+        constants,
+        calls,
+        left: budget,
+    })
+}
+
+// The pips that calls left.
+fn into_pips(machine: Machine<'_>) -> PipList
+    ensures { result ≡ (seen machine.entry).state.calls.pips }
+{
+    let Machine {
+        work,
+        given,
+        frame,
+        constants,
+        calls,
+        ..
+    } = machine;
+    drop(work);
+    drop(given);
+    drop(frame);
+    drop(constants);
+    calls.into_pips()
+}
+
+// A fault with the path of its file.
+fn fault_of(alloc: Global, program: &Program, stop: Stop) -> EvalFault
+    ensures { IsAnsweredAs (program_data program.now) stop result }
+{
+    match stop {
+        Stop::Memory => EvalFault::Memory,
+        Stop::Fault(kind, file, message) => match path_of(alloc, program, file) {
+            Ok(file) => EvalFault::Fault {
+                kind,
+                file,
+                message,
+            },
+            Err(_) => EvalFault::Memory,
+        },
+    }
+}
+
+/// The pips of a program over source files within a budget of steps, or its first fault. A program that would
+/// leave more pips than can be numbered is out of memory.
+pub fn evaluate(
+    alloc: Global,
+    program: &Program,
+    tree: &Tree,
+    budget: u64,
+) -> Result<PipList, EvalFault>
+    ensures pips { IfOk result (λ pips. Builds (program_data program.now) tree.now budget pips) }
+    ensures fault { IfErr result (λ fault. Stops (program_data program.now) tree.now budget fault) }
+    ensures unnumbered { meaning (program_data program.now) tree.now budget ≡ Err Unnumbered
+        → result ≡ Err eval_faults.Memory }
+{
+    let mut machine = start(alloc, program, tree, budget)?;
+    match run(&mut machine) {
+        Ok(()) => Ok(into_pips(machine)),
+        Err(stop) => {
+            drop(machine);
+            Err(fault_of(alloc, program, stop))
+        }
+    }
+}

@@ -1,0 +1,20 @@
+//! Evaluation of programs.
+//!
+//! A program is evaluated to its list of pips, or refused with its first fault. Here are the moves of calls,
+//! members, callbacks and statements, and the loop over all works; those of expressions are in `eval_exprs`.
+//! This crate depends on `dscript_meaning`, which says what evaluation means, and carries the promise that
+//! the answer is that of the meaning, with its exact steps.
+#![tactic(auto)]
+
+mod callbacks;
+mod calls;
+mod evaluation;
+mod parts;
+mod running;
+mod statements;
+
+pub use dscript_meaning::{EvalFault, EvalKind, MAX_OPEN_CALLS};
+pub use evaluation::evaluate;
+
+/// Out of memory, the one refusal that no contract ties to a cause.
+pub type Memory = std::alloc::AllocError;
