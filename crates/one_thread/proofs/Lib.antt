@@ -1,0 +1,5 @@
+pub mod EachResult
+pub mod GoingThrough
+pub mod OnePip
+pub mod PutFiles
+pub mod Waiting

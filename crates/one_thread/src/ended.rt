@@ -1,0 +1,238 @@
+//! What one pip comes to.
+ghost use Rattle.std.specs.Prelude.{◌≡◌, ◌<◌, ◌≤◌, false, All, IfOk, IsSome, length, map, slice_get};
+ghost use Rattle.std.specs.List.{list_all};
+ghost use Rattle.pip_outputs.specs.Slots.{slot_files};
+ghost use Rattle.pip_inputs.specs.Plain.{plain_at, process_in};
+ghost use Rattle.pip_inputs.specs.Results.{inputs_at};
+ghost use Rattle.verdicts.specs.Verdicts as ends;
+ghost use Rattle.violations.specs.Classes.{class_of};
+ghost use Rattle.violations.specs.DoubleWrites.{clash_at};
+ghost use Rattle.one_thread.specs.OneThread as builds;
+ghost use Rattle.one_thread.specs.Views.{Agrees, ended_in, ended_result, good_at, good_in, is_good_slot};
+ghost use Rattle.one_thread.specs.Views.{worked_in};
+
+use crate::Memory;
+use bx_io::Gate;
+use observed::{Access, End};
+use pip_inputs::process_at;
+use pip_model::{Made, Plan, Slot, Sources};
+use pip_view::{Inputs, PipView, desc, plain};
+use run_record::{Cause, Outcome, execute};
+use std::alloc::Global;
+use violations::{Verdict, classify, double_write};
+
+// What a pip came to: its verdict, and its files if it succeeded.
+#[derive(Drop)]
+pub(crate) struct PipResult {
+    pub(crate) verdict: Verdict,
+    pub(crate) slot: Slot,
+}
+
+// What all pips are built with.
+#[derive(Clone, Copy)]
+pub(crate) struct Frame<'a, G: Gate> {
+    pub(crate) alloc: Global,
+    pub(crate) plan: &'a Plan,
+    pub(crate) sources: &'a Sources,
+    pub(crate) gate: &'a G,
+}
+
+fn succeeded(made: Made) -> PipResult
+    ensures result { ended_result result ≡ builds.succeeded made }
+    ensures agrees { Agrees result }
+{
+    PipResult {
+        verdict: Verdict::Succeeded,
+        slot: Slot::Good(made),
+    }
+}
+
+fn failed(verdict: Verdict) -> PipResult
+    requires { ends.is_success verdict ≡ false }
+    ensures result { ended_result result ≡ builds.failed verdict }
+    ensures agrees { Agrees result }
+{
+    PipResult {
+        verdict,
+        slot: Slot::Bad,
+    }
+}
+
+fn is_good(slot: &Slot) -> bool
+    ensures { result ≡ is_good_slot slot.now }
+{
+    match slot {
+        Slot::Good(_) => true,
+        Slot::Empty | Slot::Bad => false,
+    }
+}
+
+// Whether each of these pips succeeded.
+fn all_good(inputs: &[u32], slots: &[Slot]) -> bool
+    requires { All (λ input. input < length slots.now) inputs.now }
+    ensures { result ≡ list_all (λ j. good_in (slice_get slots.now j)) inputs.now }
+{
+    'inputs: for input in inputs {
+        if !is_good(&slots[*input as usize]) {
+            return false;
+        }
+    }
+    true
+}
+
+// Whether each pip for which a pip waits succeeded.
+fn inputs_are_good(plan: &Plan, pip: u32, slots: &[Slot]) -> bool
+    requires pip { pip < length plan.now.pips }
+    requires slots { pip ≤ length slots.now }
+    ensures { result ≡ good_at plan.now.pips (slice_get plan.now.pips pip) slots.now }
+{
+    let inputs = plan.inputs(pip);
+    all_good(inputs, slots)
+}
+
+// What a process comes to that is otherwise successful.
+fn after_success(plan: &Plan, pip: u32, made: &Made, slots: &[Slot]) -> Result<PipResult, Memory>
+    requires pip { pip < length plan.now.pips }
+    requires slots { pip ≤ length slots.now }
+    ensures result { IfOk result (λ ended. ended_result ended ≡ builds.unless_clash made.now
+        (clash_at plan.now.pips (map slot_files slots.now) pip made.now)) }
+    ensures agrees { IfOk result Agrees }
+{
+    let clash = double_write(plan, pip, made, slots)?;
+    match clash {
+        Some(double_write) => Ok(failed(Verdict::Violated(double_write))),
+        None => Ok(succeeded(made.share()?)),
+    }
+}
+
+// What a process comes to one of whose accesses was denied.
+fn after_denial(
+    plan: &Plan,
+    sources: &Sources,
+    pip: u32,
+    access: &Access,
+) -> Result<PipResult, Memory>
+    requires { pip < length plan.now.pips }
+    ensures result { IfOk result (λ ended. ended_result ended
+        ≡ builds.violated (class_of plan.now.pips sources.now pip access.now)) }
+    ensures agrees { IfOk result Agrees }
+{
+    let violation = classify(plan, sources, pip, access)?;
+    match violation {
+        Some(violation) => Ok(failed(Verdict::Violated(violation))),
+        None => Ok(failed(Verdict::Tool(End::Denied))),
+    }
+}
+
+// What a process comes to that failed.
+fn after_failure(
+    plan: &Plan,
+    sources: &Sources,
+    pip: u32,
+    cause: &Cause,
+) -> Result<PipResult, Memory>
+    requires { pip < length plan.now.pips }
+    ensures result { IfOk result (λ ended. ended_result ended
+        ≡ builds.by_cause plan.now.pips sources.now pip cause.now) }
+    ensures agrees { IfOk result Agrees }
+{
+    match cause {
+        Cause::Exit(code) => Ok(failed(Verdict::Exit(*code))),
+        Cause::Tool(end) => Ok(failed(Verdict::Tool(*end))),
+        Cause::MissingOutput(path) => Ok(failed(Verdict::MissingOutput(path.share()?))),
+        Cause::Denied(access) => after_denial(plan, sources, pip, access),
+    }
+}
+
+// What a process comes to by the outcome of its run.
+fn after_run(
+    plan: &Plan,
+    sources: &Sources,
+    pip: u32,
+    slots: &[Slot],
+    outcome: &Outcome,
+) -> Result<PipResult, Memory>
+    requires pip { pip < length plan.now.pips }
+    requires slots { pip ≤ length slots.now }
+    ensures result { IfOk result (λ ended. ended_result ended
+        ≡ builds.by_outcome plan.now.pips sources.now (map slot_files slots.now) pip outcome.now) }
+    ensures agrees { IfOk result Agrees }
+{
+    match outcome {
+        Outcome::Good(made) => after_success(plan, pip, made, slots),
+        Outcome::Failed(cause) => after_failure(plan, sources, pip, cause),
+    }
+}
+
+// Runs a process.
+fn run<G: Gate>(
+    frame: &Frame<'_, G>,
+    pip: u32,
+    inputs: &Inputs,
+    slots: &[Slot],
+) -> Result<PipResult, Memory>
+    requires process { IsSome (process_in (slice_get frame.now.plan.now.pips pip)) }
+    requires pip { pip < length frame.now.plan.now.pips }
+    requires slots { pip ≤ length slots.now }
+    ensures result { IfOk result (λ ended. ended_result ended
+        ≡ worked_in frame.now.plan.now.pips frame.now.sources.now frame.now.plan.now.tool_budget
+        (map slot_files slots.now) inputs.now pip (slice_get frame.now.plan.now.pips pip)) }
+    ensures agrees { IfOk result Agrees }
+{
+    let described = desc(frame.alloc, frame.plan, frame.sources, pip, inputs)?;
+    let mut view = PipView::new(frame.alloc, frame.plan, frame.sources, pip, inputs)?;
+    let record = execute(frame.alloc, described, pip, &mut view, frame.gate)?;
+    after_run(frame.plan, frame.sources, pip, slots, record.outcome())
+}
+
+// What a pip comes to that is no process.
+fn made_plainly<G: Gate>(
+    frame: &Frame<'_, G>,
+    pip: u32,
+    inputs: &Inputs,
+) -> Result<PipResult, Memory>
+    ensures result { IfOk result (λ ended. ended_result ended
+        ≡ builds.succeeded (plain_at frame.now.plan.now.pips frame.now.sources.now inputs.now pip)) }
+    ensures agrees { IfOk result Agrees }
+{
+    let made = plain(frame.alloc, frame.plan, frame.sources, pip, inputs)?;
+    Ok(succeeded(made))
+}
+
+// What a pip comes to whose inputs succeeded.
+fn worked<G: Gate>(frame: &Frame<'_, G>, pip: u32, slots: &[Slot]) -> Result<PipResult, Memory>
+    requires pip { pip < length frame.now.plan.now.pips }
+    requires slots { pip ≤ length slots.now }
+    ensures result { IfOk result (λ ended. ended_result ended
+        ≡ worked_in frame.now.plan.now.pips frame.now.sources.now frame.now.plan.now.tool_budget
+        (map slot_files slots.now) (inputs_at frame.now.plan.now.pips pip (map slot_files slots.now)) pip
+        (slice_get frame.now.plan.now.pips pip)) }
+    ensures agrees { IfOk result Agrees }
+{
+    let inputs = Inputs::of(frame.alloc, frame.plan, pip, slots)?;
+    match process_at(frame.plan.pips(), pip) {
+        Some(_) => run(frame, pip, &inputs, slots),
+        None => made_plainly(frame, pip, &inputs),
+    }
+}
+
+// What a pip comes to.
+pub(crate) fn ended<G: Gate>(
+    frame: &Frame<'_, G>,
+    pip: u32,
+    slots: &[Slot],
+) -> Result<PipResult, Memory>
+    requires pip { pip < length frame.now.plan.now.pips }
+    requires slots { pip ≤ length slots.now }
+    ensures result { IfOk result (λ ended. ended_result ended
+        ≡ ended_in frame.now.plan.now.pips frame.now.sources.now frame.now.plan.now.tool_budget slots.now pip
+        (slice_get frame.now.plan.now.pips pip)) }
+    ensures agrees { IfOk result Agrees }
+{
+    let good = inputs_are_good(frame.plan, pip, slots);
+    if good {
+        worked(frame, pip, slots)
+    } else {
+        Ok(failed(Verdict::Skipped))
+    }
+}

@@ -1,0 +1,18 @@
+//! The build of all pips on one thread, without a cache: what every other build is compared with.
+//!
+//! Pip by pip, what each comes to is read off its inputs, what it sees, and the run of its tool. This crate
+//! depends on `pip_view`, `run_record` and `violations`. It carries the promise that the build is the
+//! definition of it.
+#![tactic(auto)]
+
+mod build;
+mod ended;
+mod gathering;
+mod laws;
+
+pub use build::{Built, build_all};
+pub use gathering::outputs;
+pub use laws::each_result;
+
+/// Out of memory, the one refusal that no contract ties to a cause.
+pub type Memory = std::alloc::AllocError;
