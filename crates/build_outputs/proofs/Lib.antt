@@ -1,0 +1,7 @@
+pub mod PutAll
+pub mod Prefixes
+pub mod Making
+pub mod Clashing
+pub mod Meeting
+pub mod OneResult
+pub mod KeptApart

@@ -1,0 +1,9 @@
+//! What holds of the files that a whole build gives.
+//!
+//! This crate depends on `one_thread` for the build, on `graph_check` for the rules that its pips keep, and
+//! on `tool_run` for what holds of runs. It carries the promise that the files of a build keep apart.
+#![tactic(auto)]
+
+mod laws;
+
+pub use laws::outputs_keep_apart;
