@@ -19,16 +19,24 @@ fn add_file(alloc: Global, bundle: &mut Vec<u8>, path: &str, text: &str) -> Resu
     bundle.extend_from_slice(file.as_bytes())
 }
 
-/// The tree of these files.
-fn tree_of(alloc: Global, files: Files<'_>) -> Result<Tree, Fail> {
+/// The bundle of these files.
+fn bundle_of(alloc: Global, files: Files<'_>) -> Result<Vec<u8>, AllocError> {
     let mut bundle = b"bundle 1\n".to_vec(alloc)?;
     for (path, text) in files {
         add_file(alloc, &mut bundle, path, text)?;
     }
     bundle.extend_from_slice(b"end\n")?;
-    match read_bundle(alloc, &bundle) {
-        Ok(tree) => Ok(tree),
-        Err(_) => Err(Fail::new("no bundle")),
+    Ok(bundle)
+}
+
+/// The tree of a bundle, with its workspace.
+fn read_tree(alloc: Global, bundle: &[u8]) -> Result<(Tree, Workspace), Fail> {
+    let Ok(tree) = read_bundle(alloc, bundle) else {
+        return Err(Fail::new("no bundle"));
+    };
+    match find_workspace(alloc, &tree) {
+        Ok(workspace) => Ok((tree, workspace)),
+        Err(_) => Err(Fail::new("no workspace")),
     }
 }
 
@@ -66,18 +74,15 @@ fn parsed(alloc: Global, path: &Path, text: &[u8]) -> Result<Parsed, Fail> {
     }
 }
 
-/// The program of a tree.
-fn program_of(alloc: Global, tree: &Tree) -> Result<Program, Fail> {
-    let Ok(workspace) = find_workspace(alloc, tree) else {
-        return Err(Fail::new("no workspace"));
-    };
+/// The program of the project files of a workspace.
+fn program_of(alloc: Global, tree: &Tree, workspace: &Workspace) -> Result<Program, Fail> {
     let mut files = Vec::new(alloc);
     for file in tree.files() {
-        if is_project(&workspace, &file.path) {
+        if is_project(workspace, &file.path) {
             files.push(parsed(alloc, &file.path, file.bytes.as_slice())?)?;
         }
     }
-    match resolve(&workspace, files) {
+    match resolve(workspace, files) {
         Ok(program) => Ok(program),
         Err(_) => Err(Fail::new("a name stands for nothing")),
     }
@@ -156,8 +161,9 @@ fn say_last(
 
 /// What these files come to with the last of these steps and without it.
 fn answers(alloc: Global, files: Files<'_>, steps: u64) -> Result<Vec<u8>, Fail> {
-    let tree = tree_of(alloc, files)?;
-    let program = program_of(alloc, &tree)?;
+    let bundle = bundle_of(alloc, files)?;
+    let (tree, workspace) = read_tree(alloc, bundle.as_slice())?;
+    let program = program_of(alloc, &tree, &workspace)?;
     let mut said = Vec::new(alloc);
     say_last(alloc, &mut said, &program, &tree, steps)?;
     Ok(said)
@@ -189,7 +195,7 @@ const CONFIG: &str =
     "config({resolvers: [{kind: \"DScript\", modules: globR(d`.`, \"module.config.dsc\")}]});";
 
 #[test]
-fn a_fault_names_the_file_in_which_the_expression_stands(rt: HostRuntime) -> Result<(), Fail> {
+fn a_fault_names_the_file_that_the_expression_is_in(rt: HostRuntime) -> Result<(), Fail> {
     for line in MODULES.lines() {
         if let Some((steps, wanted, texts)) = row(line) {
             let (first, second) = texts.split_once(" ~ ").unwrap_or((texts, ""));
