@@ -1,0 +1,7 @@
+pub mod Digests
+pub mod Same
+pub mod Found
+pub mod Puts
+pub mod Again
+pub mod Stays
+pub mod FilesFit

@@ -1,0 +1,127 @@
+-- What is usable stays so while records of other processes are put.
+use Rattle.std.proofs.Common.{◌≡◌, ℕ, List, [], ◌∷◌, map, Some, refl, sym, ap, ◌∙◌, subst, inl, inr}
+use Rattle.std.specs.FinMap.{get, insert}
+use Rattle.std.specs.List.{AllByRecursion}
+use Rattle.sha2.specs.Sha256.{sha256}
+use Rattle.bx_digest.specs.Digests.{IsDigest}
+use Rattle.pip_types.specs.declared.desc.Desc.{Desc}
+use Rattle.observed.specs.Texts.{paths_text}
+use Rattle.observed.specs.declared.ask.Ask.{Ask}
+use Rattle.observed.specs.declared.access.Answer.{Answer}
+use Rattle.bx_io.specs.Holdings.{Holdings, after}
+use Rattle.bx_io.proofs.Changes.{after-append}
+use Rattle.run_record.specs.Facts.{Facts}
+use Rattle.prints.specs.Processes.{weak_parts}
+use Rattle.prints.specs.Strong.{IsStrong, read_strong_text, strong_parts, strong_text}
+use Rattle.prints.specs.Weak.{weak_text}
+use Rattle.prints.specs.declared.strong_parts.StrongParts.{StrongParts}
+use Rattle.prints.proofs.StrongTexts.{strong_again}
+use Rattle.memo_format.specs.Entries.{entry_text}
+use Rattle.memo_format.specs.Selectors.{selectors_text}
+use Rattle.memo_format.specs.Well.{HoldsBlob, at_blob, at_entry, at_list}
+use Rattle.memo_format.specs.declared.selector.Selector.{Selector}
+use Rattle.content_store.specs.Contents.{blob_put}
+use Rattle.store_meaning.specs.Contents.{HoldsPaths, contents_of}
+use Rattle.store_meaning.specs.Keeping as keeping
+use Rattle.store_meaning.specs.Keeping.{StayMet, answers_text, blobs_of, entry_of, entry_put, list_put, paths_digest, puts_of}
+use Rattle.store_meaning.specs.Met.{Apart}
+use Rattle.store_meaning.specs.Usable.{AnyUsable, Usable, UsableBy, asked_text, weak_of}
+use Rattle.store_meaning.proofs.Digests.{digest_is, entry_no_blob, entry_no_list, list_no_blob, list_no_entry, same_entry_name, same_list_name}
+use Rattle.store_meaning.proofs.Puts.{Grows, blobs_grow, entry_grows, list_grows, still_there}
+use Rattle.store_meaning.proofs.Same.{all_has, all_map, lines_are}
+
+same_some : {X : Type 0} (x y : X) → Some x ≡ Some y → x ≡ y
+same_some x y e = cc
+
+-- puts of contents leave the lists and entries
+blobs_leave : (xs : List (List ℕ)) (S : Holdings) (q bytes : List ℕ) → ((digest : List ℕ) → q ≡ at_blob digest → ⊥) → get S q ≡ Some bytes
+    → get (after S (map blob_put xs)) q ≡ Some bytes
+blobs_leave [] S q bytes none h = h
+blobs_leave (x ∷ xs) S q bytes none h =
+    blobs_leave xs (insert S (at_blob (sha256 x)) x) q bytes none (still_there S (at_blob (sha256 x)) x q bytes (λ e. absurd (none (sha256 x) e)) h)
+
+-- strong texts that are one are under one weak digest
+one_weak : (d e : Desc) (p q : List ℕ) (as' bs : List Answer) → IsDigest p → IsDigest q
+    → strong_text (strong_parts (weak_of d) p as') ≡ strong_text (strong_parts (weak_of e) q bs) → weak_of d ≡ weak_of e
+one_weak d e p q as' bs hp hq same =
+    let left : StrongParts = strong_parts (weak_of d) p as' in
+    let right : StrongParts = strong_parts (weak_of e) q bs in
+    let is_left : IsStrong left = record { weak = digest_is (weak_text (weak_parts d)); paths = hp; lines = lines_are as' } in
+    let is_right : IsStrong right = record { weak = digest_is (weak_text (weak_parts e)); paths = hq; lines = lines_are bs } in
+    ap (λ (x : StrongParts). x.weak) (same_some left right (sym (strong_again left is_left) ∙ ap read_strong_text same ∙ strong_again right is_right))
+
+module _ (M : List ℕ → Type 0) (apart : Apart M) (S : Holdings) (within : (x : List ℕ) → HoldsBlob S x → M x)
+    (f : Facts) (met : AllByRecursion M (blobs_of f)) (list : List Selector)
+    (d : Desc) (see : Ask → Answer) (asked : (digest : List ℕ) (asks : List Ask) → HoldsPaths S digest asks → M (asked_text d see digest asks))
+    (others : weak_of f.desc ≡ weak_of d → ⊥) where
+  abbrev with_blobs : Holdings
+  with_blobs = after S (map blob_put (blobs_of f))
+
+  abbrev with_entry : Holdings
+  with_entry = insert with_blobs (at_entry (sha256 (answers_text f))) (entry_text (entry_of f))
+
+  abbrev whole : Holdings
+  whole = insert with_entry (at_list (weak_of f.desc)) (selectors_text list)
+
+  grows : Grows S whole
+  grows x h =
+      list_grows with_entry (weak_of f.desc) (selectors_text list) x
+      (entry_grows with_blobs (sha256 (answers_text f)) (entry_text (entry_of f)) x (blobs_grow M apart (blobs_of f) met S within x h))
+
+  -- the list of another process
+  list_stays : (bytes : List ℕ) → get S (at_list (weak_of d)) ≡ Some bytes → get whole (at_list (weak_of d)) ≡ Some bytes
+  list_stays bytes h =
+      still_there with_entry (at_list (weak_of f.desc)) (selectors_text list) (at_list (weak_of d)) bytes
+      (λ e. absurd (others (sym (same_list_name (weak_of d) (weak_of f.desc) (digest_is (weak_text (weak_parts d))) (digest_is (weak_text (weak_parts f.desc))) e))))
+      (still_there with_blobs (at_entry (sha256 (answers_text f))) (entry_text (entry_of f)) (at_list (weak_of d)) bytes
+      (λ e. absurd (list_no_entry (weak_of d) (sha256 (answers_text f)) e))
+      (blobs_leave (blobs_of f) S (at_list (weak_of d)) bytes (λ digest e. list_no_blob (weak_of d) digest e) h))
+
+  -- an entry that another strong text names
+  entry_stays : (strong bytes : List ℕ) → (strong ≡ sha256 (answers_text f) → ⊥) → IsDigest strong → get S (at_entry strong) ≡ Some bytes
+      → get whole (at_entry strong) ≡ Some bytes
+  entry_stays strong bytes other is h =
+      still_there with_entry (at_list (weak_of f.desc)) (selectors_text list) (at_entry strong) bytes (λ e. absurd (entry_no_list strong (weak_of f.desc) e))
+      (still_there with_blobs (at_entry (sha256 (answers_text f))) (entry_text (entry_of f)) (at_entry strong) bytes
+      (λ e. absurd (other (same_entry_name strong (sha256 (answers_text f)) is (digest_is (answers_text f)) e)))
+      (blobs_leave (blobs_of f) S (at_entry strong) bytes (λ digest e. entry_no_blob strong digest e) h))
+
+  selector_stays : (s : Selector) → UsableBy S d see s → UsableBy whole d see s
+  selector_stays s u =
+      let now : List ℕ = asked_text d see s.paths u.asks in
+      let strong : sha256 now ≡ u.entry.strong = u.asked ∙ sym u.held.strong_is in
+      let apart_from : u.entry.strong ≡ sha256 (answers_text f) → ⊥ = λ e.
+      let text : answers_text f ≡ now = apart (answers_text f) now met.1.1.0 (asked s.paths u.asks u.paths) (sym e ∙ sym strong) in
+      others (one_weak f.desc d (paths_digest f) s.paths f.answers (map see u.asks) (digest_is (paths_text f.paths)) (subst IsDigest u.paths.1.digest_is (digest_is u.paths.0)) text) in
+      record {
+        asks = u.asks;
+        paths = (u.paths.0, record { held = grows u.paths.0 u.paths.1.held; digest_is = u.paths.1.digest_is }, u.paths.2);
+        asked = u.asked;
+        entry = u.entry;
+        held = record {
+          held = (u.held.held.0, entry_stays u.entry.strong u.held.held.0 apart_from (subst IsDigest strong (digest_is now)) u.held.held.1, u.held.held.2);
+          strong_is = u.held.strong_is;
+        };
+        weak_is = u.weak_is;
+        paths_are = u.paths_are;
+        fit = u.fit;
+        unnested = u.unnested;
+        files = u.files;
+        outputs = u.outputs;
+        made = all_map (HoldsBlob S) (HoldsBlob whole) (contents_of u.files) grows u.made;
+      }
+
+  any_stays : (selectors : List Selector) → AnyUsable S d see selectors → AnyUsable whole d see selectors
+  any_stays [] h = h
+  any_stays (s ∷ rest) h = elim h [ inl u ↦ inl (selector_stays s u) | inr r ↦ inr (any_stays rest r) ]
+
+  pub stays : Usable S d see → Usable (after S (puts_of f list)) d see
+  stays u =
+      subst (λ (T : Holdings). Usable T d see) (sym (after-append S (map blob_put (blobs_of f)) (entry_put f ∷ list_put f list ∷ [])))
+      (record { list = u.list; held = (u.held.0, list_stays u.held.0 u.held.1, u.held.2); any = any_stays u.list u.any })
+
+pub stays_met : (S : Holdings) (f : Facts) (d : Desc) (see : Ask → Answer) → Apart (StayMet S f d see) → (weak_of f.desc ≡ weak_of d → ⊥) → (list : List Selector)
+    → Usable S d see → Usable (after S (puts_of f list)) d see
+stays_met S f d see apart others list u =
+    let M : List ℕ → Type 0 = StayMet S f d see in
+    stays M apart S (λ x h. keeping.kept (inl h)) f (all_has M (blobs_of f) (λ x h. keeping.kept (inr h))) list d see (λ digest asks h. keeping.asked digest asks h refl) others u

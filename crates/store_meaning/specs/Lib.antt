@@ -1,0 +1,5 @@
+pub mod Contents
+pub mod Honest
+pub mod Usable
+pub mod Met
+pub mod Keeping
