@@ -1,0 +1,6 @@
+pub mod Counted
+pub mod CountedForms
+pub mod CountedPrograms
+pub mod Alike
+pub mod AlikeForms
+pub mod AlikePrograms
