@@ -98,7 +98,7 @@ pub names_distinct : (file : FileTree) (items : List ItemTree) (names : List (Li
 names_distinct file items names files fs is h k =
     subst (IsDistinct bytes_eq) (sym (h.names_are ∙ one_name h.writes k.writes (items_of file items names files fs is h k))) k.distinct
 
--- and what it asks for is a tree in some order
+-- what a file of the form asks for is a tree in some order
 pub asked_is_tree : (file : FileTree) (items : List ItemTree) (names : List (List ℕ)) (files fs : Files) → file ≡ Project items → Asks items names files
     → IsSupported file fs → IsPermutation files fs
 asked_is_tree file items names files fs is h k =

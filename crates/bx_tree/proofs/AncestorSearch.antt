@@ -81,7 +81,7 @@ after_all fs last text t e less =
           (less_texts (get_or fs k d).path last.path (get_or fs k d).is_path last.is_path low) less
     ]))
 
--- and conversely
+-- a text that comes after all files comes after the last
 pub after_last : (fs : List TreeFile) (last : TreeFile) (text : List ℕ) → 0 < length fs → last ≡ get_or fs (length fs - 1) last
     → ComesAfterAll (files_of fs) text → slice_cmp nat_cmp (path_text last.path) text ≡ Less
 after_last fs last text some e above =
@@ -155,7 +155,7 @@ last_begins fs last text k d rest t e less l is = elim (below_last fs last k d t
       )
 ]
 
--- so the text of such a directory is the longest common prefix of the last file and the path
+-- where a path would lie below a file, the file's text is the longest common prefix of the last file's text and the path's
 pub directory_is_shared : (fs : List TreeFile) (last : TreeFile) (text : List ℕ) (shared k : ℕ) (d : TreeFile) (rest : List ℕ) → IsTree (files_of fs)
     → last ≡ get_or fs (length fs - 1) last → slice_cmp nat_cmp (path_text last.path) text ≡ Less → k < length fs
     → Shares (path_text last.path) text shared

@@ -127,7 +127,7 @@ path_cmp-is p q h k =
     ordered_by_text p q (slice_cmp nat_cmp (path_text p) (path_text q)) refl
     (λ e. same_from_text p q h k (equal_texts (path_text p) (path_text q) e))
 
--- and are equal if their texts are
+-- paths are equal exactly if their texts are
 pub same_path-is : (p q : Atoms) → IsPath p → IsPath q → same_path p q ≡ pointwise eqb (path_text p) (path_text q)
 same_path-is p q h k = elim (cases_Bool (pointwise eqb (path_text p) (path_text q))) [
   | inl e ↦ (same_path_decides p q).1 (same_from_text p q h k ((bytes_eq-Decides (path_text p) (path_text q)).0 e)) ∙ sym e
@@ -166,7 +166,7 @@ prefix_from_below path (a ∷ as') h ([], n, e) = absurd (n refl)
 prefix_from_below path (a ∷ as') h (b ∷ bs, n, e) =
     (join_with_byte 47 (b ∷ bs), ap path_text e ∙ join-append a as' b bs)
 
--- and conversely
+-- a path whose text starts with a directory's text and a `/` lies below the directory
 pub below_from_prefix : (path dir : Atoms) → IsPath path → IsPath dir → dir ≢ [] → (rest : List ℕ) → path_text path ≡ path_text dir ++ 47 ∷ rest → IsBelow path dir
 below_from_prefix path [] h k n rest e = absurd (n refl)
 below_from_prefix [] (a ∷ as') h k n rest e =

@@ -37,7 +37,7 @@ cut_items h xs ts rest p =
     ap (λ n. take n ts) count ∙ ap (take (length x.tokens)) x.split ∙ take-append_seam x.tokens rest ∙ sym (append-nil x.tokens) in
     subst (λ (us : List TokenKind). many (item_at h) xs us []) (sym same) (x.derived [])
 
--- and when others are put after them
+-- the tokens that some items are derived from, when others are put after them
 followed_items : (h : ℕ) (xs : List ItemTree) (ts more : List TokenKind) → many (item_at h) xs ts [] → many (item_at h) xs (ts ++ more) more
 followed_items h xs ts more p =
     let x = items_free h xs ts [] p in

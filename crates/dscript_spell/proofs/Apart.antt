@@ -141,7 +141,7 @@ pub no_comment : (a : ℕ) (t rest : List ℕ) → is_punctuator (a ∷ t) ≡ t
 no_comment a [] rest punctuator apart = one_no_comment a rest apart
 no_comment a (b ∷ t) rest punctuator apart = longer_no_comment a b t rest punctuator (comment_len (a ∷ b ∷ (t ++ rest))) refl
 
--- and no longer punctuator
+-- no longer punctuator begins where one does that the next byte does not go on with
 pub same_len : (a : ℕ) (t rest : List ℕ) → is_punctuator (a ∷ t) ≡ true → begins_with (goes_on a) rest ≡ false → punctuator_len (a ∷ (t ++ rest)) ≡ suc (length t)
 unfolding punctuator_len
 same_len a [] [] punctuator apart = cond-true (is_punctuator (a ∷ [])) 1 0 punctuator

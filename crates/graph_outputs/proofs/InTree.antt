@@ -62,7 +62,7 @@ neighbours (suc gap) xs i j d up e l h =
       | inr below ↦ (i, omega arith, below)
     ]
 
--- so do any two paths of the list
+-- where any path of the list lies below another of it, some path of the list lies below the one before it
 pub some_neighbours : (xs : List Atoms) (d : Atoms) → IsInTreeOrder xs → Any (λ dir. Any (λ path. IsBelow path dir) xs) xs
     → (k : ℕ) × (k + 1 < length xs) × IsBelow (get_or xs (k + 1) d) (get_or xs k d)
 some_neighbours xs d up (i, dir, li, is_dir, (j, path, lj, is_path, h)) =

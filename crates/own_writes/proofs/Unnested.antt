@@ -123,7 +123,7 @@ unclashed (f ∷ fs) path h =
     (both_false (is_below f.0 path) (is_below path f.0) (is_not_below f.0 path here.0) (is_not_below path f.0 here.1))
     (unclashed fs path (λ q k. h q (inr k)))
 
--- it clashes with none
+-- the path of a file clashes with none
 pub known_unclashed : (files : Files) (path : Atoms) → NoneNested (paths_of files) → is_some (lookup (is_at (path_cmp path)) files) ≡ true
     → clashes files path ≡ false
 known_unclashed files path none e =
@@ -137,7 +137,7 @@ member_below (f ∷ fs) path q h = elim h [
   | inr k ↦ ap (λ t. is_below f.0 q || t) (member_below fs path q k) ∙ either_swapped (is_below f.0 q) (is_below path q) (has_below fs q)
 ]
 
--- and its directories are among those of the files
+-- the directories above a file's path are among those of the files
 pub known_below : (files : Files) (path q : Atoms) → is_some (lookup (is_at (path_cmp path)) files) ≡ true
     → has_below files q ≡ (is_below path q || has_below files q)
 known_below files path q e = member_below files path q (is_known files path e)

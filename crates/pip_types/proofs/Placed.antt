@@ -78,7 +78,7 @@ pub place_if_found : {X : Type 0} (key : X → Atoms) (xs : List X) (p : Atoms) 
 place_if_found key xs p (Ok i) h = h
 place_if_found key xs p (Err i) h = h
 
--- and as a test
+-- what a search answers as a test
 pub contains_if_found : (xs : List Atoms) (p : Atoms) (r : Result ℕ ℕ)
     → MatchResult r (λ i. (i < length xs) × HoldsAt (λ (x : Atoms). x ≡ p) xs i) (λ i. All (λ (x : Atoms). x ≢ p) xs)
     → IsTrue (is_ok r) ↔ Contains xs p

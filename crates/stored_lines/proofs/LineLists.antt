@@ -24,7 +24,7 @@ module _ {X : Type 0} {G : X → Type 0} {w : X → List ℕ} {r : List ℕ → 
       by_bytes [] e = let clash : true ≡ false = sym e ∙ none in absurd cc
       by_bytes (b ∷ bs) e = omega arith
 
-  -- and so each line shortens a text
+  -- what is left of a text once a line is read is shorter
   pub shorter : (text : List ℕ) (taken : X × List ℕ) → r text ≡ Some taken → length taken.1 < length text
   shorter text taken e =
       omega (arith, ap length (form.written text taken e), length-append (w taken.0) taken.1, some_bytes taken.0)

@@ -55,7 +55,7 @@ turn_same : (d : Description) (a b : Ask → Answer) (m : Machine) (i : Instr)
     → Agree a b (asks_of d (turn d a m i).accesses) → turn d b m i ≡ turn d a m i
 turn_same d a b m i agree = turned_same d a b i (act d m i).0 (act d m i).1 agree
 
--- and what comes after it
+-- answers that agree on the asks of a turn and of what comes after it agree on those of the turn
 onward_agree : (d : Description) (a b : Ask → Answer) (rest : Machine → Run) (t : Turn) (end : Option End)
     → Agree a b (asks_of d (onward rest t end).accesses) → Agree a b (asks_of d t.accesses)
 onward_agree d a b rest t None agree = λ q h. agree q (grows_left d t.accesses (rest t.machine).accesses q h)
