@@ -15,7 +15,6 @@ use Rattle.bx_front.proofs.OneProgram.{malformed_or_program, one_malformed, one_
 
 -- ## Answers of evaluation
 
-
 two_pips : (p q : List Pip) (r : Result (List Pip) Refusal) → r ≡ Ok p → r ≡ Ok q → p ≡ q
 two_pips p q r h k = cc
 

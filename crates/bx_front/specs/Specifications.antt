@@ -56,7 +56,8 @@ pub record Plans (limits : Limits) (tree : Files) (pips : List Pip) : Type 0 whe
   pub makes : MakesPips limits tree pips
   pub rules : KeepsRules pips tree
 
--- The tree is a program that makes more pips than can be numbered, for which no memory is enough.
+-- The tree is a program that makes more pips than can be numbered. They cannot be numbered, which is answered
+-- as want of memory.
 pub record AsksForTooMany (limits : Limits) (tree : Files) : Type 0 where
   pub program : ProgramData
   pub is_program : IsProgram tree program

@@ -3,7 +3,8 @@
 ghost use Rattle.std.specs.Prelude.{◌≡◌, List};
 ghost use Rattle.bx_tree.specs.Trees.{Files};
 ghost use Rattle.pip_types.specs.declared.pip.Pip.{Pip as AnyPip};
-ghost use Rattle.bx_front.specs.Specifications.{AsksForTooMany, HasAnswer, HasFault, Plans, SpecificationFault};
+ghost use Rattle.bx_front.specs.Specifications.{AsksForTooMany, HasAnswer, HasFault, Plans};
+ghost use Rattle.bx_front.specs.Specifications.{SpecificationFault};
 ghost use Rattle.bx_front.specs.declared.limits.Limits.{Limits as AnyLimits};
 
 use graph_check::one_answer;
