@@ -1,7 +1,5 @@
 -- No fault of a bundle is out of memory.
-use Rattle.std.proofs.Common.{◌≡◌, ◌≢◌, ℕ, List, subst}
-use Rattle.bx_tree.specs.Bundle.{Faults}
-use Rattle.bx_tree.specs.declared.bundle.BundleFault.{BundleFault}
+use Rattle.std.proofs.Common.{◌≢◌}
 use Rattle.bx_tree.specs.declared.bundle.BundleFault.TheVariants as faults
 
 pub bad_bundle : faults.BadBundle ≢ faults.Memory
@@ -16,6 +14,8 @@ unordered e = cc
 pub nested : faults.Nested ≢ faults.Memory
 nested e = cc
 
--- a fault that is known is the fault of the input
-pub fault_is : (input : List ℕ) (f g : BundleFault) → f ≡ g → g ≢ faults.Memory → (f ≢ faults.Memory → Faults input f) → Faults input g
-fault_is input f g e n h = subst (λ k. k ≢ faults.Memory → Faults input k) e h n
+pub too_many_files : faults.TooManyFiles ≢ faults.Memory
+too_many_files e = cc
+
+pub too_large : faults.TooLarge ≢ faults.Memory
+too_large e = cc

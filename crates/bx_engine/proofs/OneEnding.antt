@@ -1,29 +1,20 @@
 -- An input ends in one way.
-use Rattle.std.proofs.Common.{◌≡◌, ℕ, ◌⊎◌, inl, inr, List, [], ◌∷◌, Some, refl, ap, sym, subst, ◌∙◌}
-use Rattle.std.specs.Prelude.{Bool, true, false, Result, Ok, Err}
-use Rattle.bx_tree.specs.Paths.{Atoms}
+use Rattle.std.proofs.Common.{◌≡◌, ℕ, ◌⊎◌, inl, inr, List, refl, ap, sym, subst, ◌∙◌}
 use Rattle.bx_tree.specs.Trees.{Files}
 use Rattle.bx_tree.specs.Bundle.{Faults, IsBundle}
 use Rattle.bx_tree.specs.declared.bundle.BundleFault.{BundleFault}
 use Rattle.bx_tree.specs.declared.bundle.BundleFault.TheVariants as bundle_faults
 use Rattle.bx_tree.proofs.OneReading.{one_tree, one_fault, no_fault}
+use Rattle.bx_front.proofs.OnePlan.{OneFailure, many_or_fault, many_or_plan, one_fault as one_specification_fault, one_plan_lem, plan_or_fault}
+use Rattle.bx_front.specs.Refusals.{Refuses, refusal_of}
+use Rattle.bx_front.specs.declared.limits.Limits.{Limits}
+use Rattle.build_report.specs.declared.refusal.Refusal.{Refusal}
+use Rattle.one_thread.specs.OneThread.{Result, one_thread}
+use Rattle.pip_types.specs.declared.pip.Pip.{Pip}
 use Rattle.bx_engine.specs.declared.fault.InputFault.{InputFault}
 use Rattle.bx_engine.specs.declared.fault.InputFault.TheVariants as input_faults
-use Rattle.bx_engine.specs.declared.fault.SpecificationFault.TheVariants as specification_faults
-use Rattle.dscript_modules.specs.Faults.{FaultData}
-use Rattle.dscript_modules.specs.Workspaces.{ModuleData}
-use Rattle.dscript_names.specs.Named.{named}
-use Rattle.dscript_program.specs.ProgramData.{ProgramData}
-use Rattle.dscript_scopes.specs.Declarations.{ParsedData}
-use Rattle.dscript_workspace.proofs.OneAnswer.{one_answer}
-use Rattle.dscript_workspace.specs.Workspaces.{Answer, Found, Refused}
-use Rattle.bx_engine.specs.Ending.{Ending, InputRefused, SpecificationRefused, Succeeded}
-use Rattle.bx_engine.specs.Ends.{AreSources, AskFor, Ends, EndsFound, EndsNamed, EndsParsed, EndsProgram, EndsSources}
-use Rattle.bx_engine.specs.Ends.{EndsTree, EndsWith, HasReserved, RefusesInput, refused_by}
-use Rattle.bx_engine.specs.Programs.{declares_value}
-use Rattle.bx_engine.specs.Projects.{project_files}
-use Rattle.bx_engine.proofs.OneSupported.{one_supported}
-use Rattle.bx_engine.proofs.ProjectFaults.{fault_or_none, one_first_fault, one_parsing, parsed_well}
+use Rattle.bx_engine.specs.Ending.{Ending, InputRefused, SpecificationRefused, Built}
+use Rattle.bx_engine.specs.Ends.{AreSources, Builds, Ends, HasReserved, IsEndless, RefusesInput}
 
 -- ## Inputs
 
@@ -84,83 +75,52 @@ refused_or_not input f sources h k = elim (kinds_of_refusal input f h) [
   | inr a ↦ k.free (subst HasReserved (one_tree input a.1 sources a.2 k.bundle) a.3)
 ]
 
--- ## Programs
-
-one_asking : (valued : Bool) (parsed : List ParsedData) (fs gs : Files) → AskFor valued parsed fs
-    → AskFor valued parsed gs → fs ≡ gs
-one_asking false parsed fs gs h k = h ∙ sym k
-one_asking true [] fs gs h k = h ∙ sym k
-one_asking true (p ∷ []) fs gs h k = one_supported p.file fs gs h.1 k.1
-one_asking true (p ∷ next ∷ parsed) fs gs h k = absurd h
-
-same_some : {X : Type 0} (x y : X) → Some x ≡ Some y → x ≡ y
-same_some x y e = cc
-
-one_program : (valued : Bool) (parsed : List ParsedData) (v w : Ending) → EndsProgram valued parsed v
-    → EndsProgram valued parsed w → v ≡ w
-one_program valued parsed (InputRefused f) w h k = absurd h
-one_program valued parsed (SpecificationRefused (specification_faults.Fault f)) w h k = absurd h
-one_program valued parsed (SpecificationRefused (specification_faults.Unsupported p)) (InputRefused g) h k = absurd k
-one_program valued parsed (SpecificationRefused (specification_faults.Unsupported p)) (SpecificationRefused (specification_faults.Fault g)) h k =
-    absurd k
-one_program valued parsed (SpecificationRefused (specification_faults.Unsupported p)) (SpecificationRefused (specification_faults.Unsupported q)) h k =
-    ap (λ (x : Atoms). SpecificationRefused (specification_faults.Unsupported x)) (same_some p q (sym h.1 ∙ k.1))
-one_program valued parsed (SpecificationRefused (specification_faults.Unsupported p)) (Succeeded made) h k = absurd (h.0 made k)
-one_program valued parsed (Succeeded fs) (InputRefused g) h k = absurd k
-one_program valued parsed (Succeeded fs) (SpecificationRefused (specification_faults.Fault g)) h k = absurd k
-one_program valued parsed (Succeeded fs) (SpecificationRefused (specification_faults.Unsupported q)) h k = absurd (k.0 fs h)
-one_program valued parsed (Succeeded fs) (Succeeded gs) h k = ap Succeeded (one_asking valued parsed fs gs h k)
-
 -- ## Specifications
-
-one_named : (parsed : List ParsedData) (answer : Result ProgramData FaultData) (v w : Ending)
-    → EndsNamed parsed answer v → EndsNamed parsed answer w → v ≡ w
-one_named parsed (Ok program) v w h k = one_program (declares_value program) parsed v w h k
-one_named parsed (Err found) v w h k = h ∙ sym k
-
-one_with : (modules : List ModuleData) (projects : Files) (v w : Ending) → EndsWith modules projects v
-    → EndsWith modules projects w → v ≡ w
-one_with modules projects v w h k = elim h [
-  | inl a ↦ elim k [
-    | inl b ↦ a.2 ∙ ap refused_by (one_first_fault projects a.0 b.0 a.1 b.1) ∙ sym b.2
-    | inr b ↦ absurd (fault_or_none projects a.0 a.1 (parsed_well projects b.0 b.1))
-  ]
-  | inr a ↦ elim k [
-    | inl b ↦ absurd (fault_or_none projects b.0 b.1 (parsed_well projects a.0 a.1))
-    | inr b ↦ one_named b.0 (named modules b.0) v w
-        (subst (λ (ps : List ParsedData). EndsParsed modules ps v) (one_parsing projects a.0 b.0 a.1 b.1) a.2) b.2
-  ]
-]
-
-one_found : (sources : Files) (answer : Answer) (v w : Ending) → EndsFound sources answer v → EndsFound sources answer w
-    → v ≡ w
-one_found sources (Refused found) v w h k = h ∙ sym k
-one_found sources (Found modules) v w h k = one_with modules (project_files sources modules) v w h k
-
-one_of_tree : (sources : Files) (v w : Ending) → EndsTree sources v → EndsTree sources w → v ≡ w
-one_of_tree sources v w h k =
-    one_found sources k.0 v w
-    (subst (λ (answer : Answer). EndsFound sources answer v) (one_answer sources h.0 k.0 h.1 k.1) h.2) k.2
 
 one_source : (input : List ℕ) (s t : Files) → AreSources input s → AreSources input t → s ≡ t
 one_source input s t h k = one_tree input s t h.bundle k.bundle
 
-one_of_sources : (input : List ℕ) (v w : Ending) → EndsSources input v → EndsSources input w → v ≡ w
-one_of_sources input v w h k =
-    one_of_tree k.0 v w (subst (λ (s : Files). EndsTree s v) (one_source input h.0 k.0 h.1 k.1) h.2) k.2
+one_refusal : (one : OneFailure) (limits : Limits) (sources : Files) (r s : Refusal) → Refuses limits sources r → Refuses limits sources s → r ≡ s
+one_refusal one limits sources r s h k =
+    h.shown ∙ ap refusal_of (one_specification_fault one limits sources h.fault k.fault h.has k.has) ∙ sym k.shown
 
--- ## Whole inputs
+one_build : (limits : Limits) (sources : Files) (p q : List Pip) (r s : List Result) → Builds limits sources p r → Builds limits sources q s
+    → Built p r ≡ Built q s
+one_build limits sources p q r s h k =
+    let pips = one_plan_lem limits sources p q h.plans k.plans in
+    ap (λ (x : List Pip). Built x r) pips
+    ∙ ap (λ (x : List Result). Built q x) (h.built ∙ ap (λ (x : List Pip). one_thread x sources limits.tool_budget) pips ∙ sym k.built)
 
-pub one_ending : (input : List ℕ) (v w : Ending) → Ends input v → Ends input w → v ≡ w
-one_ending input (InputRefused f) (InputRefused g) h k = ap InputRefused (one_input_fault input f g h k)
-one_ending input (InputRefused f) (SpecificationRefused g) h k = absurd (refused_or_not input f k.0 h k.1)
-one_ending input (InputRefused f) (Succeeded gs) h k = absurd (refused_or_not input f k.0 h k.1)
-one_ending input (SpecificationRefused f) (InputRefused g) h k = absurd (refused_or_not input g h.0 k h.1)
-one_ending input (SpecificationRefused f) (SpecificationRefused g) h k =
-    one_of_sources input (SpecificationRefused f) (SpecificationRefused g) h k
-one_ending input (SpecificationRefused f) (Succeeded gs) h k =
-    one_of_sources input (SpecificationRefused f) (Succeeded gs) h k
-one_ending input (Succeeded fs) (InputRefused g) h k = absurd (refused_or_not input g h.0 k h.1)
-one_ending input (Succeeded fs) (SpecificationRefused g) h k =
-    one_of_sources input (Succeeded fs) (SpecificationRefused g) h k
-one_ending input (Succeeded fs) (Succeeded gs) h k = one_of_sources input (Succeeded fs) (Succeeded gs) h k
+built_or_refused : (one : OneFailure) (limits : Limits) (sources : Files) (pips : List Pip) (results : List Result) (r : Refusal)
+    → Builds limits sources pips results → Refuses limits sources r → ⊥
+built_or_refused one limits sources pips results r h k = plan_or_fault one limits sources pips k.fault h.plans k.has
+
+-- ## Endings
+
+-- what holds of source files of an input holds of all
+same_sources : (P : Files → Type 0) (input : List ℕ) (s t : Files) → AreSources input s → AreSources input t → P s → P t
+same_sources P input s t h k p = subst P (one_source input s t h k) p
+
+pub one_ending : (one : OneFailure) (limits : Limits) (input : List ℕ) (d e : Ending) → Ends limits input d → Ends limits input e → d ≡ e
+one_ending one limits input (InputRefused f) (InputRefused g) h k = ap InputRefused (one_input_fault input f g h k)
+one_ending one limits input (InputRefused f) (SpecificationRefused r) h k = absurd (refused_or_not input f k.0 h k.1)
+one_ending one limits input (InputRefused f) (Built pips results) h k = absurd (refused_or_not input f k.0 h k.1)
+one_ending one limits input (SpecificationRefused r) (InputRefused g) h k = absurd (refused_or_not input g h.0 k h.1)
+one_ending one limits input (SpecificationRefused r) (SpecificationRefused s) h k =
+    ap SpecificationRefused
+    (one_refusal one limits k.0 r s (same_sources (λ (t : Files). Refuses limits t r) input h.0 k.0 h.1 k.1 h.2) k.2)
+one_ending one limits input (SpecificationRefused r) (Built pips results) h k =
+    absurd (built_or_refused one limits k.0 pips results r k.2 (same_sources (λ (t : Files). Refuses limits t r) input h.0 k.0 h.1 k.1 h.2))
+one_ending one limits input (Built pips results) (InputRefused g) h k = absurd (refused_or_not input g h.0 k h.1)
+one_ending one limits input (Built pips results) (SpecificationRefused s) h k =
+    absurd (built_or_refused one limits h.0 pips results s h.2 (same_sources (λ (t : Files). Refuses limits t s) input k.0 h.0 k.1 h.1 k.2))
+one_ending one limits input (Built p r) (Built q s) h k =
+    one_build limits k.0 p q r s (same_sources (λ (t : Files). Builds limits t p r) input h.0 k.0 h.1 k.1 h.2) k.2
+
+pub endless_or_ending : (limits : Limits) (input : List ℕ) (e : Ending) → IsEndless limits input → Ends limits input e → ⊥
+unfolding same_sources
+endless_or_ending limits input (InputRefused f) h k = refused_or_not input f h.0 k h.1
+endless_or_ending limits input (SpecificationRefused r) h k =
+    many_or_fault limits h.0 k.2.fault h.2 (same_sources (λ (t : Files). Refuses limits t r) input k.0 h.0 k.1 h.1 k.2).has
+endless_or_ending limits input (Built pips results) h k =
+    many_or_plan limits h.0 pips h.2 (same_sources (λ (t : Files). Builds limits t pips results) input k.0 h.0 k.1 h.1 k.2).plans

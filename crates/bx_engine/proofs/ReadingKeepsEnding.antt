@@ -15,8 +15,9 @@ use Rattle.bx_engine.specs.declared.status.Status.{Status}
 use Rattle.bx_engine.specs.declared.limits.TheConstants.{READ_LIMIT}
 use Rattle.bx_tree.specs.declared.limits.TheConstants.{MAX_BUNDLE_BYTES}
 use Rattle.bx_engine.specs.Ends.{Ends}
-use Rattle.bx_engine.specs.Expected.{IsExpected, Answers, Begins, Notes}
-use Rattle.bx_engine.specs.Ending.{Ending, InputRefused, SpecificationRefused, Succeeded}
+use Rattle.bx_engine.specs.Expected.{IsExpected, Answers, Begins, Notes, limits_of}
+use Rattle.bx_engine.specs.Ending.{Ending, InputRefused, SpecificationRefused, Built}
+use Rattle.bx_front.specs.declared.limits.Limits.{Limits}
 
 -- the input is longer than an input may be
 abbrev pub IsLong : List ℕ → Type 0
@@ -33,16 +34,16 @@ long_fault a b fault h k f = elim f [
 ]
 
 -- two inputs over the limit end alike
-long_ends : (a b : List ℕ) (ending : Ending) → IsLong a → IsLong b → Ends a ending → Ends b ending
-long_ends a b (InputRefused input_faults.BadBundle) h k e = long_fault a b bundle_faults.BadBundle h k e
-long_ends a b (InputRefused input_faults.BadPath) h k e = long_fault a b bundle_faults.BadPath h k e
-long_ends a b (InputRefused input_faults.Unordered) h k e = long_fault a b bundle_faults.Unordered h k e
-long_ends a b (InputRefused input_faults.Nested) h k e = long_fault a b bundle_faults.Nested h k e
-long_ends a b (InputRefused input_faults.TooManyFiles) h k e = long_fault a b bundle_faults.TooManyFiles h k e
-long_ends a b (InputRefused input_faults.TooLarge) h k e = long_fault a b bundle_faults.TooLarge h k e
-long_ends a b (InputRefused input_faults.Reserved) h k e = absurd (not_long a h e.1.whole)
-long_ends a b (SpecificationRefused fault) h k e = absurd (not_long a h e.1.bundle.whole)
-long_ends a b (Succeeded files) h k e = absurd (not_long a h e.1.bundle.whole)
+long_ends : (limits : Limits) (a b : List ℕ) (ending : Ending) → IsLong a → IsLong b → Ends limits a ending → Ends limits b ending
+long_ends limits a b (InputRefused input_faults.BadBundle) h k e = long_fault a b bundle_faults.BadBundle h k e
+long_ends limits a b (InputRefused input_faults.BadPath) h k e = long_fault a b bundle_faults.BadPath h k e
+long_ends limits a b (InputRefused input_faults.Unordered) h k e = long_fault a b bundle_faults.Unordered h k e
+long_ends limits a b (InputRefused input_faults.Nested) h k e = long_fault a b bundle_faults.Nested h k e
+long_ends limits a b (InputRefused input_faults.TooManyFiles) h k e = long_fault a b bundle_faults.TooManyFiles h k e
+long_ends limits a b (InputRefused input_faults.TooLarge) h k e = long_fault a b bundle_faults.TooLarge h k e
+long_ends limits a b (InputRefused input_faults.Reserved) h k e = absurd (not_long a h e.1.whole)
+long_ends limits a b (SpecificationRefused fault) h k e = absurd (not_long a h e.1.bundle.whole)
+long_ends limits a b (Built pips results) h k e = absurd (not_long a h e.1.bundle.whole)
 
 nothing_left : (rest : List ℕ) → IsAtEnd (Some rest) → rest ≡ []
 nothing_left rest e = e
@@ -102,18 +103,18 @@ read_slice before left input items slice count is long known consumed bound end 
     (subst (λ n. n ≤ READ_LIMIT) (sym long) bound) (λ short. end (subst (λ n. n ≤ MAX_BUNDLE_BYTES) long short))
 
 -- how the input ends
-ends_whole : (input bytes : List ℕ) (left : Option (List ℕ)) (ending : Ending) → ReadOf input bytes left
-    → Ends bytes ending → Ends input ending
-ends_whole input bytes left ending r e = elim r.whole [
-  | inl is ↦ subst (λ i. Ends i ending) is e
-  | inr long ↦ long_ends bytes input ending long.0 long.1 e
+ends_whole : (limits : Limits) (input bytes : List ℕ) (left : Option (List ℕ)) (ending : Ending) → ReadOf input bytes left
+    → Ends limits bytes ending → Ends limits input ending
+ends_whole limits input bytes left ending r e = elim r.whole [
+  | inl is ↦ subst (λ i. Ends limits i ending) is e
+  | inr long ↦ long_ends limits bytes input ending long.0 long.1 e
 ]
 
-expected_whole : (input bytes : List ℕ) (left : Option (List ℕ)) (status : Status) (written notes : List ℕ)
-    → ReadOf input bytes left → IsExpected bytes status written notes → IsExpected input status written notes
-expected_whole input bytes left status written notes r e = record {
+expected_whole : (limits : Limits) (input bytes : List ℕ) (left : Option (List ℕ)) (status : Status) (written notes : List ℕ)
+    → ReadOf input bytes left → IsExpected limits bytes status written notes → IsExpected limits input status written notes
+expected_whole limits input bytes left status written notes r e = record {
   ending = e.ending;
-  ends = ends_whole input bytes left e.ending r e.ends;
+  ends = ends_whole limits input bytes left e.ending r e.ends;
   status_is = e.status_is;
   bytes_are = e.bytes_are;
   notes_are = e.notes_are;
@@ -125,7 +126,7 @@ pub answers_whole : (order : Order) (input bytes : List ℕ) (left : Option (Lis
 answers_whole order input bytes left status before now r a = record {
   bytes = a.bytes;
   notes = a.notes;
-  expected = expected_whole input bytes left status a.bytes a.notes r a.expected;
+  expected = expected_whole (limits_of order) input bytes left status a.bytes a.notes r a.expected;
   appended = a.appended;
 }
 
@@ -135,7 +136,7 @@ begins_whole order input bytes left before now r b = record {
   status = b.status;
   bytes = b.bytes;
   notes = b.notes;
-  expected = expected_whole input bytes left b.status b.bytes b.notes r b.expected;
+  expected = expected_whole (limits_of order) input bytes left b.status b.bytes b.notes r b.expected;
   appended = b.appended;
 }
 
@@ -145,6 +146,6 @@ pub notes_whole : (order : Order) (input bytes : List ℕ) (left : Option (List 
 notes_whole order input bytes left status before now m n r t = record {
   bytes = t.bytes;
   notes = t.notes;
-  expected = expected_whole input bytes left status t.bytes t.notes r t.expected;
+  expected = expected_whole (limits_of order) input bytes left status t.bytes t.notes r t.expected;
   appended = t.appended;
 }

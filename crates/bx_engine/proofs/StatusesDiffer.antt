@@ -5,6 +5,6 @@ use Rattle.bx_engine.specs.Statuses.{IsWhole}
 
 pub no_command_writes_nothing : (IsWhole statuses.NoCommand ⊎ (statuses.NoCommand ≡ statuses.OutFailed)) → ⊥
 no_command_writes_nothing h = elim h [
-  | inl whole ↦ elim whole [ inl a ↦ cc | inr b ↦ elim b [ inl c ↦ cc | inr d ↦ cc ] ]
+  | inl whole ↦ elim whole [ inl a ↦ cc | inr b ↦ elim b [ inl c ↦ cc | inr d ↦ elim d [ inl e ↦ cc | inr f ↦ cc ] ] ]
   | inr failed ↦ cc
 ]

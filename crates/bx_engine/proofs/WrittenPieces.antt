@@ -40,7 +40,7 @@ still_known None b bs h t = cc
 still_known (Some xs) None bs h t = absurd h
 still_known (Some xs) (Some ys) bs h t = t
 
--- of no bytes, no rest is left
+-- something is left of no bytes nowhere
 pub none_of_none : (bytes prefix rest : List ℕ) (b : Bool) → bytes ≡ prefix ++ rest → bytes ≡ [] → b ≡ (length rest == 0) → b ≡ false → ⊥
 none_of_none bytes [] [] b e n is not = absurd (false≢true (sym not ∙ is))
 none_of_none bytes [] (x ∷ xs) b e n is not = let k : x ∷ xs ≡ [] = sym e ∙ n in cc

@@ -2,8 +2,10 @@
 use Rattle.std.specs.Prelude.{◌≡◌, ℕ, List, ◌⊎◌}
 use Rattle.std.specs.declared.option.Option.{Option}
 use Rattle.std.specs.Io.KnownBytes.{Appends}
+use Rattle.bx_front.specs.declared.limits.Limits.{Limits}
 use Rattle.bx_io.specs.Causes.{Rose}
 use Rattle.bx_words.specs.declared.order.Order.{Order}
+use Rattle.bx_words.specs.declared.order.Order.TheVariants.{Build}
 use Rattle.bx_engine.specs.declared.status.Status.{Status}
 use Rattle.bx_engine.specs.Ending.{Ending, status_of, output_of, notes_of}
 use Rattle.bx_engine.specs.Ends.{Ends}
@@ -11,16 +13,24 @@ use Rattle.bx_engine.specs.Known.{AppendsPrefix}
 
 -- A build of this input has this status, writes these bytes to `out`, and writes this text to the notes. That
 -- is what the build on one thread without a cache does.
-pub record IsExpected (input : List ℕ) (status : Status) (bytes notes : List ℕ) : Type 0 where
+pub record IsExpected (limits : Limits) (input : List ℕ) (status : Status) (bytes notes : List ℕ)
+    : Type 0 where
   pub ending : Ending
-  pub ends : Ends input ending
+  pub ends : Ends limits input ending
   pub status_is : status ≡ status_of ending
   pub bytes_are : bytes ≡ output_of ending
   pub notes_are : notes ≡ notes_of ending
 
+-- the steps that an order allows; nothing else of it changes what is built
+abbrev pub limits_of : Order → Limits
+limits_of (Build workers cached eval_budget tool_budget) = record {
+  eval_budget = eval_budget;
+  tool_budget = tool_budget;
+}
+
 -- What an order comes to on this input. Each order is a build.
 abbrev pub Expected : Order → List ℕ → Status → List ℕ → List ℕ → Type 0
-Expected order input status bytes notes = IsExpected input status bytes notes
+Expected order input status bytes notes = IsExpected (limits_of order) input status bytes notes
 
 -- ## What was written
 

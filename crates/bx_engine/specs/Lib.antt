@@ -1,13 +1,7 @@
 pub mod Ending
 pub mod Ends
 pub mod Expected
-pub mod Faults
 pub mod Known
-pub mod Names
-pub mod Output
-pub mod Programs
-pub mod Projects
+pub mod OutputTrees
+pub mod Responses
 pub mod Statuses
-pub mod Supported
-pub mod Views
-pub mod Writes

@@ -18,7 +18,8 @@ code_of statuses.KeeperFailed = 8
 -- the whole result was written to `out`
 abbrev pub IsWhole : Status → Type 0
 IsWhole status =
-    (status ≡ statuses.Done) ⊎ (status ≡ statuses.InputRefused) ⊎ (status ≡ statuses.SpecificationRefused)
+    (status ≡ statuses.Done) ⊎ (status ≡ statuses.FailuresFound) ⊎ (status ≡ statuses.InputRefused)
+    ⊎ (status ≡ statuses.SpecificationRefused)
 
 -- nothing was written to `out`
 abbrev pub IsSilent : Status → Type 0

@@ -5,15 +5,16 @@ ghost use Rattle.std.specs.Io.KnownBytes.{Appends};
 ghost use Rattle.bx_io.specs.Causes.{HasCause};
 ghost use Rattle.bx_engine.specs.Expected.{Answers, AppendsOrFails, Begins, Notes};
 ghost use Rattle.bx_engine.specs.Known.{AppendsPrefix};
+ghost use Rattle.bx_engine.specs.OutputTrees.{IsTreeWritten};
 ghost use Rattle.bx_engine.specs.Statuses.{HasNoNotes, IsSilent, IsWhole};
-ghost use Rattle.bx_words.specs.declared.order.Order.{Order as TheOrder};
 
 use crate::limits::READ_LIMIT;
 use crate::reading::{ReadFault, read_all};
 use crate::response::{Response, respond};
 use crate::status::Status;
 use crate::writing::write_all;
-use bx_io::{Sink, Source};
+use bx_io::{Gate, Sink, Source};
+use bx_words::Order;
 use std::alloc::Global;
 
 /// Writes the output, and then the notes.
@@ -24,56 +25,67 @@ fn deliver<O: Sink, N: Sink>(out: &mut O, notes: &mut N, response: &Response) ->
     ensures begun { result ≡ Status.OutFailed
         → AppendsPrefix (O.taken out.old) (O.taken out.new) response.now.bytes.items }
     ensures noted { IsWhole result
-        → AppendsOrFails response.now.notes.now (N.taken notes.old) (N.taken notes.new)
+        → AppendsOrFails response.now.notes.items (N.taken notes.old) (N.taken notes.new)
         (N.faults notes.old) (N.faults notes.new) }
     ensures cut { result ≡ Status.OutFailed → notes.new ≡ notes.old }
-    ensures no_notes { response.now.notes.now ≡ [] → notes.new ≡ notes.old }
+    ensures no_notes { response.now.notes.items ≡ [] → notes.new ≡ notes.old }
     ensures cause { HasCause (O.faults out.old) (O.faults out.new) (result ≡ Status.OutFailed) }
     ensures no_fault { result ≢ Status.OutFailed → O.faults out.new ≡ O.faults out.old }
 {
     match write_all(out, &response.bytes) {
         Err(_) => Status::OutFailed,
         Ok(()) => {
-            let _ = write_all(notes, response.notes.as_bytes());
+            let _ = write_all(notes, &response.notes);
             response.status
         }
     }
 }
 
 /// Answers an input that was read.
-fn answer<O: Sink, N: Sink>(alloc: Global, input: &[u8], out: &mut O, notes: &mut N) -> Status
+fn answer<O: Sink, N: Sink, G: Gate>(
+    alloc: Global,
+    input: &[u8],
+    order: &Order,
+    out: &mut O,
+    notes: &mut N,
+    gate: &G,
+) -> Status
     ensures status { IsWhole result ⊎ (result ≡ Status.OutFailed) ⊎ (result ≡ Status.OutOfMemory) }
-    ensures answers { (order : TheOrder) → IsWhole result
-        → Answers order input.now result (O.taken out.old) (O.taken out.new) }
-    ensures begins { (order : TheOrder) → result ≡ Status.OutFailed
-        → Begins order input.now (O.taken out.old) (O.taken out.new) }
+    ensures answers { IsWhole result
+        → Answers order.now input.now result (O.taken out.old) (O.taken out.new) }
+    ensures tree { IsWhole result → IsTreeWritten (O.taken out.old) (O.taken out.new) }
+    ensures begins { result ≡ Status.OutFailed
+        → Begins order.now input.now (O.taken out.old) (O.taken out.new) }
     ensures silent { result ≡ Status.OutOfMemory → out.new ≡ out.old }
     ensures cause { HasCause (O.faults out.old) (O.faults out.new) (result ≡ Status.OutFailed) }
     ensures no_fault { result ≢ Status.OutFailed → O.faults out.new ≡ O.faults out.old }
-    ensures notes { (order : TheOrder) → IsWhole result
-        → Notes order input.now result (N.taken notes.old) (N.taken notes.new)
+    ensures notes { IsWhole result
+        → Notes order.now input.now result (N.taken notes.old) (N.taken notes.new)
         (N.faults notes.old) (N.faults notes.new) }
     ensures no_notes { HasNoNotes result → notes.new ≡ notes.old }
 {
-    match respond(alloc, input) {
+    match respond(alloc, input, order, gate) {
         Err(_) => Status::OutOfMemory,
         Ok(response) => deliver(out, notes, &response),
     }
 }
 
 /// Builds what the source has left.
-pub(crate) fn build<S: Source, O: Sink, N: Sink>(
+pub(crate) fn build<S: Source, O: Sink, N: Sink, G: Gate>(
     alloc: Global,
+    order: &Order,
     source: &mut S,
     out: &mut O,
     notes: &mut N,
+    gate: &G,
 ) -> Status
     ensures status { IsWhole result
         ⊎ (result ≡ Status.SourceFailed) ⊎ (result ≡ Status.OutFailed) ⊎ (result ≡ Status.OutOfMemory) }
-    ensures answers { (order : TheOrder) (input : List ℕ) → S.left source.old ≡ Some input → IsWhole result
-        → Answers order input result (O.taken out.old) (O.taken out.new) }
-    ensures begins { (order : TheOrder) (input : List ℕ) → S.left source.old ≡ Some input
-        → result ≡ Status.OutFailed → Begins order input (O.taken out.old) (O.taken out.new) }
+    ensures answers { (input : List ℕ) → S.left source.old ≡ Some input → IsWhole result
+        → Answers order.now input result (O.taken out.old) (O.taken out.new) }
+    ensures tree { IsWhole result → IsTreeWritten (O.taken out.old) (O.taken out.new) }
+    ensures begins { (input : List ℕ) → S.left source.old ≡ Some input
+        → result ≡ Status.OutFailed → Begins order.now input (O.taken out.old) (O.taken out.new) }
     ensures silent { IsSilent result → out.new ≡ out.old }
     ensures source_cause { HasCause (S.faults source.old) (S.faults source.new)
         (result ≡ Status.SourceFailed) }
@@ -82,14 +94,14 @@ pub(crate) fn build<S: Source, O: Sink, N: Sink>(
     ensures out_no_fault { result ≢ Status.OutFailed → O.faults out.new ≡ O.faults out.old }
     ensures read { (input : List ℕ) → S.left source.old ≡ Some input
         → (IsWhole result ⊎ (result ≡ Status.OutFailed)) → S.left source.new ≡ Some (drop READ_LIMIT input) }
-    ensures notes { (order : TheOrder) (input : List ℕ) → S.left source.old ≡ Some input → IsWhole result
-        → Notes order input result (N.taken notes.old) (N.taken notes.new)
+    ensures notes { (input : List ℕ) → S.left source.old ≡ Some input → IsWhole result
+        → Notes order.now input result (N.taken notes.old) (N.taken notes.new)
         (N.faults notes.old) (N.faults notes.new) }
     ensures no_notes { HasNoNotes result → notes.new ≡ notes.old }
 {
     match read_all(alloc, source) {
         Err(ReadFault::Failed) => Status::SourceFailed,
         Err(ReadFault::Memory) => Status::OutOfMemory,
-        Ok(input) => answer(alloc, &input, out, notes),
+        Ok(input) => answer(alloc, &input, order, out, notes, gate),
     }
 }

@@ -1,10 +1,7 @@
-//! Why a build is refused before it begins.
+//! Why an input is refused.
 
 ghost use Rattle.std.specs.Prelude.{◌≡◌};
-ghost use Rattle.bx_engine.specs.Ending.{file_in, place_in};
-
-use bx_tree::Path;
-use dscript_modules::{Fault, Place};
+ghost use Rattle.bx_engine.specs.Ending.{input_fault_name};
 
 /// Why an input is refused. docs/FORMATS.md says when each comes.
 #[derive(Clone, Copy, Debug, PartialEq, Eq)]
@@ -19,33 +16,17 @@ pub enum InputFault {
     Reserved,
 }
 
-/// Why a specification is refused.
-#[derive(Drop)]
-pub enum SpecificationFault {
-    /// The first fault of its files.
-    Fault(Fault),
-    /// Its files can be read, and what they ask for is not supported yet. This is the first project file.
-    Unsupported(Path),
-}
-
-impl SpecificationFault {
-    /// The file that is named.
-    pub fn file(&self) -> &Path
-        ensures { result.now ≡ file_in self.now }
-    {
-        match self {
-            SpecificationFault::Fault(fault) => &fault.file,
-            SpecificationFault::Unsupported(path) => path,
-        }
-    }
-
-    /// The place of the fault in its file, if it has one.
-    pub fn place(&self) -> Option<Place>
-        ensures { result ≡ place_in self.now }
-    {
-        match self {
-            SpecificationFault::Fault(fault) => fault.place,
-            SpecificationFault::Unsupported(_) => None,
-        }
+/// The word that a report has for a fault.
+pub(crate) fn input_name(fault: InputFault) -> &'static str
+    ensures { result.now ≡ input_fault_name fault }
+{
+    match fault {
+        InputFault::BadBundle => "BadBundle",
+        InputFault::BadPath => "BadPath",
+        InputFault::Unordered => "Unordered",
+        InputFault::Nested => "Nested",
+        InputFault::TooManyFiles => "TooManyFiles",
+        InputFault::TooLarge => "TooLarge",
+        InputFault::Reserved => "Reserved",
     }
 }

@@ -8,7 +8,7 @@ ghost use Rattle.bx_engine.specs.Statuses.{code_of};
 pub enum Status {
     /// 0: the command did its work; in a build, every pip succeeded.
     Done = 0,
-    /// 1: a pip of a build did not succeed, or a check of the cache found a bad entry. No call gives it yet.
+    /// 1: a pip of a build did not succeed, or a check of the cache found a bad entry.
     FailuresFound = 1,
     /// 2: the words are no command.
     NoCommand = 2,

@@ -2,10 +2,11 @@
 
 mod faults;
 mod inputs;
+mod limits;
 mod names;
-mod refused;
 mod shut;
-mod supported;
+mod specifications;
+mod texts;
 mod words;
 mod workspaces;
 
@@ -13,10 +14,14 @@ use crate::tests::shut::{ShutGate, ShutKeeper};
 use bx_engine::command;
 use bx_io::{MemSink, MemSource};
 use std::alloc::{AllocError, Global};
+use std::io::Write;
 use std::process::Abort;
 use std::sync::Wait;
 use std::test::Fail;
 use std::thread::Threads;
+
+/// Files: each a path with its text.
+type Files<'a> = &'a [(&'a str, &'a str)];
 
 /// The outside of a call: the most bytes that one read or write moves, and the number of the call that fails,
 /// or 0.
@@ -45,11 +50,32 @@ struct Want<'a> {
 
 const COUNTS: &str = "hits 0\nran 0\nlate 0\nstore-faults 0\nstarved 0\n";
 
-const ITEM: &[u8] =
-    b"bundle 1\nfile 76 build.dsc\nconst x = Transformer.writeAllText({outputPath: p`out/a.txt`, text: \"hi\"});\n\nend\n";
+const ITEM: &str = r#"bundle 1
+file 76 build.dsc
+const x = Transformer.writeAllText({outputPath: p`out/a.txt`, text: "hi"});
 
-const ITEM_OUTPUT: &[u8] =
-    b"bundle 1\nfile 2 out/a.txt\nhi\nfile 49 report.txt\nreport 1\nverdict succeeded\npip 0 write succeeded\n\nend\n";
+end
+"#;
+
+const ITEM_OUTPUT: &str = "bundle 1
+file 2 out/a.txt
+hi
+file 49 report.txt
+report 1
+verdict succeeded
+pip 0 write succeeded
+
+end
+";
+
+/// The output of a build without pips.
+const NOTHING: &str = "bundle 1
+file 27 report.txt
+report 1
+verdict succeeded
+
+end
+";
 
 fn numbers(alloc: Global, number: u64) -> Result<Vec<u64>, AllocError> {
     [number].to_vec(alloc)
@@ -85,6 +111,15 @@ fn code_of<H: Threads + Wait + Sync + Abort>(
     command(rt, alloc, words, source, out, notes, &mut keeper, &gate).code()
 }
 
+/// The words, each between two blanks.
+fn words_of(alloc: Global, line: &str) -> Result<Vec<String>, AllocError> {
+    let mut words = Vec::new(alloc);
+    for word in line.split(' ') {
+        words.push(String::from_str(alloc, word)?)?;
+    }
+    Ok(words)
+}
+
 fn check<H: Threads + Wait + Sync + Abort>(
     rt: &H,
     alloc: Global,
@@ -98,19 +133,10 @@ fn check<H: Threads + Wait + Sync + Abort>(
     let mut out = sink_of(alloc, 2_000_000, chunk, outside.out_fails)?;
     let mut notes = sink_of(alloc, 1_000, chunk, outside.notes_fail)?;
     let code = code_of(rt, alloc, words, &mut source, &mut out, &mut notes);
-    assert_eq!(rt; code, want.code);
     assert_eq!(rt; out.taken(), want.written);
     assert_eq!(rt; notes.taken(), want.notes.as_bytes());
+    assert_eq!(rt; code, want.code);
     Ok(())
-}
-
-/// The words, each between two blanks.
-fn words_of(alloc: Global, line: &str) -> Result<Vec<String>, AllocError> {
-    let mut words = Vec::new(alloc);
-    for word in line.split(' ') {
-        words.push(String::from_str(alloc, word)?)?;
-    }
-    Ok(words)
 }
 
 fn check_build<H: Threads + Wait + Sync + Abort>(
@@ -120,50 +146,42 @@ fn check_build<H: Threads + Wait + Sync + Abort>(
     outside: Outside,
     want: Want<'_>,
 ) -> Result<(), Fail> {
-    check(rt, alloc, &words_of(alloc, "build")?, input, outside, want)
+    let words = words_of(alloc, "build")?;
+    check(rt, alloc, &words, input, outside, want)
 }
 
 /// Adds a file to the text of a bundle.
-fn add_file(alloc: Global, text: &mut Vec<u8>, path: &str, bytes: &[u8]) -> Result<(), AllocError> {
-    let length = bytes.len();
-    let header = format!(in alloc; "file {length} {path}\n")?;
-    text.extend_from_slice(header.as_bytes())?;
+fn add_file(text: &mut Vec<u8>, path: &str, bytes: &[u8]) -> Result<(), Fail> {
+    writeln!(text, "file {} {path}", bytes.len())?;
     text.extend_from_slice(bytes)?;
     text.push(b'\n')?;
     Ok(())
 }
 
-/// The bundle of files with these texts in it, and of one more.
-fn bundle_after(
-    alloc: Global,
-    files: &[u8],
-    path: &str,
-    bytes: &[u8],
-) -> Result<Vec<u8>, AllocError> {
-    let mut text = b"bundle 1\n".to_vec(alloc)?;
-    text.extend_from_slice(files)?;
-    add_file(alloc, &mut text, path, bytes)?;
-    text.extend_from_slice(b"end\n")?;
-    Ok(text)
-}
-
-/// The bundle of one file.
-fn bundle(alloc: Global, path: &str, bytes: &[u8]) -> Result<Vec<u8>, AllocError> {
-    bundle_after(alloc, b"", path, bytes)
-}
-
-/// Adds a byte this many times.
-fn add_times(text: &mut Vec<u8>, byte: u8, times: usize) -> Result<(), AllocError> {
-    for _ in 0..times {
-        text.push(byte)?;
+fn add_files(text: &mut Vec<u8>, files: Files<'_>) -> Result<(), Fail> {
+    for (path, bytes) in files {
+        add_file(text, path, bytes.as_bytes())?;
     }
     Ok(())
 }
 
-/// The output of a build whose report has these lines after the first.
-fn refusal_of(alloc: Global, lines: &str) -> Result<Vec<u8>, AllocError> {
-    let report = format!(in alloc; "report 1\nverdict {lines}\n")?;
-    bundle(alloc, "report.txt", report.as_bytes())
+/// The bundle of these files.
+fn bundle_of(alloc: Global, files: Files<'_>) -> Result<Vec<u8>, Fail> {
+    let mut text = b"bundle 1\n".to_vec(alloc)?;
+    add_files(&mut text, files)?;
+    text.extend_from_slice(b"end\n")?;
+    Ok(text)
+}
+
+/// The bundle of these files and of a report that has these lines after the first.
+fn output_of(alloc: Global, files: Files<'_>, lines: &str) -> Result<Vec<u8>, Fail> {
+    let mut report = b"report 1\nverdict ".to_vec(alloc)?;
+    report.extend_from_slice(lines.as_bytes())?;
+    let mut text = b"bundle 1\n".to_vec(alloc)?;
+    add_files(&mut text, files)?;
+    add_file(&mut text, "report.txt", &report)?;
+    text.extend_from_slice(b"end\n")?;
+    Ok(text)
 }
 
 /// Checks that the build of an input is refused with this status and these lines of the report after the
@@ -175,7 +193,7 @@ fn check_refused<H: Threads + Wait + Sync + Abort>(
     code: u8,
     lines: &str,
 ) -> Result<(), Fail> {
-    let written = refusal_of(alloc, lines)?;
+    let written = output_of(alloc, &[], lines)?;
     let want = Want {
         code,
         written: &written,
@@ -184,15 +202,33 @@ fn check_refused<H: Threads + Wait + Sync + Abort>(
     check_build(rt, alloc, input, NO_FAULTS, want)
 }
 
-/// Checks that a specification with this text is refused with this fault, and at this place if it has one.
+/// Checks that the build of an input gives these files, with a report that has these lines on its pips.
+fn check_made<H: Threads + Wait + Sync + Abort>(
+    rt: &H,
+    alloc: Global,
+    input: &[u8],
+    files: Files<'_>,
+    pips: &str,
+) -> Result<(), Fail> {
+    let lines = format!(in alloc; "succeeded\n{pips}")?;
+    let written = output_of(alloc, files, lines.as_str())?;
+    let want = Want {
+        code: 0,
+        written: &written,
+        notes: COUNTS,
+    };
+    check_build(rt, alloc, input, NO_FAULTS, want)
+}
+
+/// Checks that a specification with this text is refused with this fault, and with more lines if it has any.
 fn check_text<H: Threads + Wait + Sync + Abort>(
     rt: &H,
     alloc: Global,
-    text: &[u8],
+    text: &str,
     kind: &str,
-    place: &str,
+    more: &str,
 ) -> Result<(), Fail> {
-    let input = bundle(alloc, "build.dsc", text)?;
-    let lines = format!(in alloc; "specification-refused\nfault {kind} build.dsc{place}")?;
+    let input = bundle_of(alloc, &[("build.dsc", text)])?;
+    let lines = format!(in alloc; "specification-refused\nfault {kind} build.dsc{more}\n")?;
     check_refused(rt, alloc, &input, 4, lines.as_str())
 }

@@ -28,7 +28,7 @@ fn check_inputs<H: Threads + Wait + Sync + Abort>(
     inputs: &[u8],
     kind: &str,
 ) -> Result<(), Fail> {
-    let lines = format!(in alloc; "input-refused\nfault {kind}")?;
+    let lines = format!(in alloc; "input-refused\nfault {kind}\n")?;
     for input in inputs.split(|byte| *byte == b'#') {
         check_refused(rt, alloc, input, 3, lines.as_str())?;
     }
@@ -51,21 +51,16 @@ fn refuses_each_prefix_of_a_bundle_and_one_byte_more(rt: HostRuntime) -> Result<
     for count in 0..START.len() {
         check_inputs(&rt, rt.alloc(), &START[..count], "BadBundle")?;
     }
-    let mut more = ITEM.to_vec(rt.alloc())?;
+    let mut more = ITEM.as_bytes().to_vec(rt.alloc())?;
     more.push(b'\n')?;
     check_inputs(&rt, rt.alloc(), &more, "BadBundle")
 }
 
-fn add_empty(alloc: Global, text: &mut Vec<u8>, number: u32) -> Result<(), AllocError> {
-    let file = format!(in alloc; "file 0 f{number:05}\n\n")?;
-    text.extend_from_slice(file.as_bytes())
-}
-
 /// The bundle of this many empty files.
-fn many_files(alloc: Global, count: u32) -> Result<Vec<u8>, AllocError> {
+fn many_files(alloc: Global, count: u32) -> Result<Vec<u8>, Fail> {
     let mut text = b"bundle 1\n".to_vec(alloc)?;
     for number in 0..count {
-        add_empty(alloc, &mut text, number)?;
+        write!(text, "file 0 f{number:05}\n\n")?;
     }
     text.extend_from_slice(b"end\n")?;
     Ok(text)
@@ -79,7 +74,7 @@ fn bounds_the_number_of_files(rt: HostRuntime) -> Result<(), Fail> {
         rt.alloc(),
         &most,
         4,
-        "specification-refused\nfault ModuleConfig config.dsc",
+        "specification-refused\nfault ModuleConfig config.dsc\n",
     )?;
     let more = many_files(rt.alloc(), 16_385)?;
     check_inputs(&rt, rt.alloc(), &more, "TooManyFiles")

@@ -1,26 +1,27 @@
+use super::workspaces::{A, ALL, B};
 use super::*;
 
 /// Texts of a specification with a fault of names, each with the kind of the fault.
-const SPECIFICATIONS: &[(&str, &[u8])] = &[
-    ("DuplicateName", b"const x = 1; const x = 2;"),
-    ("DuplicateName", b"const x = y; function f(a, a) {}"),
-    ("UnknownName", b"const x = y;"),
+const SPECIFICATIONS: &[(&str, &str)] = &[
+    ("DuplicateName", "const x = 1; const x = 2;"),
+    ("DuplicateName", "const x = y; function f(a, a) {}"),
+    ("UnknownName", "const x = y;"),
     (
         "UnknownName",
-        b"const x = transformer.writeAllText({outputPath: p`out/a`, text: \"\"});",
+        "const x = transformer.writeAllText({outputPath: p`out/a`, text: \"\"});",
     ),
     (
         "UnknownName",
-        b"const x = Transformer.writeAllText({outputPath: p`out/${a}`, text: \"\"});",
+        "const x = Transformer.writeAllText({outputPath: p`out/${a}`, text: \"\"});",
     ),
     (
         "UnknownName",
-        b"const x = Transformer[\"writeAllText\"]({outputPath: p`out/a`, text: \"\"});",
+        "const x = Transformer[\"writeAllText\"]({outputPath: p`out/a`, text: \"\"});",
     ),
-    ("UnknownName", b"const x = importFrom(\"main\").y;"),
-    ("UnknownModule", b"import * as m from \"A\";"),
-    ("UnknownModule", b"const x = importFrom(\"A\").y;"),
-    ("AssignCaptured", b"function f() { const x = 1; x = 2; }"),
+    ("UnknownName", "const x = importFrom(\"main\").y;"),
+    ("UnknownModule", "import * as m from \"A\";"),
+    ("UnknownModule", "const x = importFrom(\"A\").y;"),
+    ("AssignCaptured", "function f() { const x = 1; x = 2; }"),
 ];
 
 #[test]
@@ -31,16 +32,6 @@ fn refuses_a_name_in_a_specification(rt: HostRuntime) -> Result<(), Fail> {
     Ok(())
 }
 
-/// The files of two modules that have one file each, up to its text.
-const MODULES: &[(&str, &str)] = &[
-    ("a/module.config.dsc", "module({name: \"A\"});"),
-    ("b/module.config.dsc", "module({name: \"B\"});"),
-    (
-        "config.dsc",
-        "config({resolvers: [{kind: \"DScript\", modules: globR(d`.`, \"module.config.dsc\")}]});",
-    ),
-];
-
 /// The texts of `a/y.dsc` in a module `A` and of `b/x.dsc` in a module `B`, and the fault of their workspace.
 const WORKSPACES: &[(&str, &str, &str)] = &[
     // A value without a mark for others is not seen from another module.
@@ -48,11 +39,6 @@ const WORKSPACES: &[(&str, &str, &str)] = &[
         "export const w = 1;",
         "export const v = importFrom(\"A\").w;",
         "NotPublic b/x.dsc",
-    ),
-    (
-        "@@public\nexport const w = 1;",
-        "export const v = importFrom(\"A\").w;",
-        "Unsupported a/y.dsc",
     ),
     // The first file is reported, and in it the first place.
     (
@@ -79,21 +65,54 @@ const WORKSPACES: &[(&str, &str, &str)] = &[
         "Syntax b/x.dsc\nat 1 1",
     ),
     ("const w = v;", "const u = \"a", "Lex b/x.dsc\nat 1 11"),
+    // All names come before what is evaluated, and that before all rules of the graph.
+    (
+        "const w = 1 - \"a\";",
+        "const v = u;",
+        "UnknownName b/x.dsc",
+    ),
+    (
+        "const w = Transformer.writeAllText({outputPath: p`z`, text: \"\"});",
+        "const v = 1 - \"a\";",
+        "Kind b/x.dsc",
+    ),
+    // Of what is evaluated the first file by path comes first, but a value that it asks for before it.
+    (
+        "const w = \"a\".b;",
+        "const v = 1 - \"a\";",
+        "Missing a/y.dsc",
+    ),
+    (
+        "const w = importFrom(\"B\").v;",
+        "@@public export const v = 1 - \"a\";",
+        "Kind b/x.dsc",
+    ),
+    // A rule of the graph names the file that asks for the pip.
+    (
+        "const w = Transformer.writeAllText({outputPath: p`../out/a`, text: \"\"});",
+        "const v = Transformer.writeAllText({outputPath: p`../out/a`, text: \"\"});",
+        "DoubleProducer b/x.dsc",
+    ),
+    (
+        "@@public export function w(n) { return Transformer.writeAllText({outputPath: p`../z`, text: n}); }",
+        "const v = importFrom(\"A\").w(\"\");",
+        "OutsideOut a/y.dsc",
+    ),
 ];
 
 #[test]
-fn refuses_a_workspace_at_its_first_name(rt: HostRuntime) -> Result<(), Fail> {
-    let alloc = rt.alloc();
+fn refuses_a_workspace_at_its_first_fault(rt: HostRuntime) -> Result<(), Fail> {
     for (first, second, fault) in WORKSPACES {
-        let mut text = b"bundle 1\n".to_vec(alloc)?;
-        add_file(alloc, &mut text, MODULES[0].0, MODULES[0].1.as_bytes())?;
-        add_file(alloc, &mut text, "a/y.dsc", first.as_bytes())?;
-        add_file(alloc, &mut text, MODULES[1].0, MODULES[1].1.as_bytes())?;
-        add_file(alloc, &mut text, "b/x.dsc", second.as_bytes())?;
-        add_file(alloc, &mut text, MODULES[2].0, MODULES[2].1.as_bytes())?;
-        text.extend_from_slice(b"end\n")?;
-        let lines = format!(in alloc; "specification-refused\nfault {fault}")?;
-        check_refused(&rt, alloc, &text, 4, lines.as_str())?;
+        let files: Files<'_> = &[
+            ("a/module.config.dsc", A),
+            ("a/y.dsc", first),
+            ("b/module.config.dsc", B),
+            ("b/x.dsc", second),
+            ("config.dsc", ALL),
+        ];
+        let input = bundle_of(rt.alloc(), files)?;
+        let lines = format!(in rt.alloc(); "specification-refused\nfault {fault}\n")?;
+        check_refused(&rt, rt.alloc(), &input, 4, lines.as_str())?;
     }
     Ok(())
 }

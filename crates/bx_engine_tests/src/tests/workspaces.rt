@@ -1,30 +1,17 @@
 use super::*;
 
-/// The files of a tree: each a path with its text.
-type Files = &'static [(&'static str, &'static str)];
-
-/// The bundle of these files.
-fn bundle_of(alloc: Global, files: Files) -> Result<Vec<u8>, AllocError> {
-    let mut text = b"bundle 1\n".to_vec(alloc)?;
-    for (path, bytes) in files {
-        add_file(alloc, &mut text, path, bytes.as_bytes())?;
-    }
-    text.extend_from_slice(b"end\n")?;
-    Ok(text)
-}
-
-const ALL: &str =
+pub(crate) const ALL: &str =
     "config({resolvers: [{kind: \"DScript\", modules: globR(d`.`, \"module.config.dsc\")}]});";
 
-const A: &str = "module({name: \"A\"});";
+pub(crate) const A: &str = "module({name: \"A\"});";
 
-const B: &str = "module({name: \"B\"});";
+pub(crate) const B: &str = "module({name: \"B\"});";
 
 const WRITES: &str =
     "const x = Transformer.writeAllText({outputPath: p`out/a.txt`, text: \"hi\"});\n";
 
 /// Trees whose specification is refused, each with the fault, its file and its place.
-const REFUSED: &[(Files, &str)] = &[
+const REFUSED: &[(Files<'static>, &str)] = &[
     (&[], "ModuleConfig config.dsc"),
     (&[("src/build.dsc", "")], "ModuleConfig config.dsc"),
     (&[("config.dsc", "\"a")], "Lex config.dsc\nat 1 1"),
@@ -77,49 +64,65 @@ const REFUSED: &[(Files, &str)] = &[
         ],
         "Lex a/x.dsc\nat 1 1",
     ),
-    // The first project file is named where none has a fault and one declares a value.
-    (
-        &[
-            ("a/module.config.dsc", A),
-            ("a/y.dsc", "@@public\nexport const w = 1;"),
-            ("b/module.config.dsc", B),
-            ("b/x.dsc", "export const v = importFrom(\"A\").w;"),
-            ("config.dsc", ALL),
-        ],
-        "Unsupported a/y.dsc",
-    ),
-    (
-        &[
-            ("a/module.config.dsc", A),
-            ("a/y.dsc", "interface I {}"),
-            ("b/module.config.dsc", B),
-            ("b/x.dsc", "namespace n { const v = 1; }"),
-            ("config.dsc", ALL),
-        ],
-        "Unsupported a/y.dsc",
-    ),
+    // What a path says is joined to the directory of its file.
     (
         &[
             ("a/build.dsc", WRITES),
             ("a/module.config.dsc", A),
             ("config.dsc", ALL),
         ],
-        "Unsupported a/build.dsc",
+        "OutsideOut a/build.dsc",
+    ),
+    (
+        &[
+            (
+                "build.dsc",
+                "const s = Transformer.sealDirectory(d`s`, [f`s/x`]);",
+            ),
+            ("s/x", ""),
+            ("s/y", ""),
+        ],
+        "BadArgument build.dsc",
+    ),
+    // Two processes that differ in nothing.
+    (
+        &[("build.dsc", TWINS), ("sh.tool", "tool 1\n")],
+        "Twin build.dsc",
+    ),
+    // A copy of a file that no source file is.
+    (
+        &[(
+            "build.dsc",
+            "const z = Transformer.copyFile(f`out/z`, p`out/y`);",
+        )],
+        "NoSuchSource build.dsc",
     ),
 ];
 
+/// Two processes with one argument each.
+const TWINS: &str = r#"function put(name: string) {
+    return Transformer.execute({
+        tool: {exe: f`sh.tool`},
+        arguments: [Cmd.argument(name)],
+        outputs: [{kind: "shared", directory: d`out/s`}],
+    }).getOutputDirectory(d`out/s`);
+}
+const x = put("a");
+const y = put("a");
+"#;
+
 #[test]
-fn refuses_a_workspace_at_its_first_fault(rt: HostRuntime) -> Result<(), Fail> {
+fn refuses_a_workspace(rt: HostRuntime) -> Result<(), Fail> {
     for (files, fault) in REFUSED {
-        let lines = format!(in rt.alloc(); "specification-refused\nfault {fault}")?;
         let input = bundle_of(rt.alloc(), files)?;
+        let lines = format!(in rt.alloc(); "specification-refused\nfault {fault}\n")?;
         check_refused(&rt, rt.alloc(), &input, 4, lines.as_str())?;
     }
     Ok(())
 }
 
-/// Trees that are built, each with its output.
-const BUILT: &[(Files, &[u8])] = &[
+/// Trees that are built, each with the files that are made and the lines of the report on its pips.
+const BUILT: &[(Files<'static>, Files<'static>, &str)] = &[
     // Without a configuration no other file is read.
     (
         &[
@@ -127,7 +130,8 @@ const BUILT: &[(Files, &[u8])] = &[
             ("build.dsc", WRITES),
             ("module.config.dsc", "'"),
         ],
-        ITEM_OUTPUT,
+        HI,
+        WRITTEN,
     ),
     (
         &[
@@ -135,11 +139,13 @@ const BUILT: &[(Files, &[u8])] = &[
             ("config.dsc", ALL),
             ("module.config.dsc", A),
         ],
-        ITEM_OUTPUT,
+        HI,
+        WRITTEN,
     ),
     (
         &[("a.dsc", "'"), ("config.dsc", "config({resolvers: []});")],
-        NOTHING,
+        &[],
+        "",
     ),
     (
         &[
@@ -147,9 +153,9 @@ const BUILT: &[(Files, &[u8])] = &[
             ("b.dsc", "'"),
             ("config.dsc", ALL),
         ],
-        NOTHING,
+        &[],
+        "",
     ),
-    // Files without values ask for nothing.
     (
         &[
             ("a/module.config.dsc", A),
@@ -158,31 +164,73 @@ const BUILT: &[(Files, &[u8])] = &[
             ("b/x.dsc", "import * as a from \"A\"; type T = number;"),
             ("config.dsc", ALL),
         ],
-        NOTHING,
+        &[],
+        "",
     ),
     (
         &[
             ("a/module.config.dsc", A),
-            ("a/x.dsc", "interface I {}"),
+            ("a/y.dsc", "@@public export const w = 1;"),
+            ("b/module.config.dsc", B),
+            ("b/x.dsc", "export const v = importFrom(\"A\").w;"),
             ("config.dsc", ALL),
         ],
-        NOTHING,
+        &[],
+        "",
+    ),
+    // Paths are those of the file that has them, and pips come by the paths of the files that ask for them.
+    (
+        &[
+            ("a/module.config.dsc", A),
+            ("a/s", "s"),
+            (
+                "a/y.dsc",
+                "const v = Transformer.copyFile(f`s`, p`../out/z`);",
+            ),
+            ("b/module.config.dsc", B),
+            (
+                "b/x.dsc",
+                "const v = Transformer.writeAllText({outputPath: p`../out/a`, text: \"a\"});",
+            ),
+            ("config.dsc", ALL),
+        ],
+        &[("out/a", "a"), ("out/z", "s")],
+        "pip 0 copy succeeded\npip 1 write succeeded\n",
+    ),
+    // A file of another pip is copied.
+    (
+        &[(
+            "build.dsc",
+            "const a = Transformer.writeAllText({outputPath: p`out/a`, text: \"A\"});
+            const b = Transformer.copyFile(a, p`out/b`);",
+        )],
+        &[("out/a", "A"), ("out/b", "A")],
+        "pip 0 write succeeded\npip 1 copy succeeded\n",
+    ),
+    // A seal makes no file, and lists all source files below its directory.
+    (
+        &[
+            (
+                "build.dsc",
+                "const s = Transformer.sealDirectory(d`s`, [f`s/x`, f`s/y`]);",
+            ),
+            ("s/x", ""),
+            ("s/y", ""),
+        ],
+        &[],
+        "pip 0 seal succeeded\n",
     ),
 ];
 
-/// The output of a build without pips.
-const NOTHING: &[u8] = b"bundle 1\nfile 27 report.txt\nreport 1\nverdict succeeded\n\nend\n";
+const HI: Files<'static> = &[("out/a.txt", "hi")];
+
+const WRITTEN: &str = "pip 0 write succeeded\n";
 
 #[test]
 fn builds_a_workspace(rt: HostRuntime) -> Result<(), Fail> {
-    for (files, written) in BUILT {
-        let want = Want {
-            code: 0,
-            written,
-            notes: COUNTS,
-        };
+    for (files, made, pips) in BUILT {
         let input = bundle_of(rt.alloc(), files)?;
-        check_build(&rt, rt.alloc(), &input, NO_FAULTS, want)?;
+        check_made(&rt, rt.alloc(), &input, made, pips)?;
     }
     Ok(())
 }

@@ -1,3 +1,4 @@
+use Rattle.bx_engine.proofs.Delivering.{same_answers, same_begins, same_notes}
 use Rattle.bx_engine.proofs.WrittenPieces.{appends_slice_or_fails}
 use Rattle.bx_engine.proofs.StatusesDiffer.{no_command_writes_nothing}
 use Rattle.bx_engine.proofs.top.command.Goals as goal
@@ -9,8 +10,15 @@ pub returns-in-Err-NoCommand-clause-usage : goal.returns-in-Err-NoCommand-clause
 returns-in-Err-NoCommand-clause-usage g c none =
     appends_slice_or_fails c.write_all.result _ _ _ _ _ _ c.as_bytes.ensures.value c.write_all.ensures.whole c.write_all.ensures.prefix c.write_all.ensures.cause
 
+-- the words are one order, which is the one that was built
 pub returns-in-Ok-clause-answers : goal.returns-in-Ok-clause-answers
-returns-in-Ok-clause-answers g c order input is known whole = c.build.ensures.answers order input known whole
+returns-in-Ok-clause-answers g c order input is known whole =
+    same_answers _ _ input _ _ _ (c.one_order.ensures _ c.in-Ok.order order c.in-Ok.ensures is) (c.build.ensures.answers input known whole)
+
+pub returns-in-Ok-clause-begins : goal.returns-in-Ok-clause-begins
+returns-in-Ok-clause-begins g c order input is known cut =
+    same_begins _ _ input _ _ (c.one_order.ensures _ c.in-Ok.order order c.in-Ok.ensures is) (c.build.ensures.begins input known cut)
 
 pub returns-in-Ok-clause-notes : goal.returns-in-Ok-clause-notes
-returns-in-Ok-clause-notes g c order input is known whole = c.build.ensures.notes order input known whole
+returns-in-Ok-clause-notes g c order input is known whole =
+    same_notes _ _ input _ _ _ _ _ (c.one_order.ensures _ c.in-Ok.order order c.in-Ok.ensures is) (c.build.ensures.notes input known whole)

@@ -1,0 +1,155 @@
+//! Whole builds that run tools, each compared with its whole answer.
+
+mod builds;
+mod causes;
+mod trees;
+mod violations;
+
+use bx_engine::command;
+use bx_io::{Gate, MemSink, MemSource, NoFaultKeeper};
+use std::alloc::{AllocError, Global};
+use std::io::Write;
+use std::sync::Wait;
+use std::sync::atomic::AtomicU32;
+use std::sync::atomic::Ordering::Relaxed;
+use std::test::Fail;
+use std::thread::Threads;
+
+/// Files: each a path with its text.
+type Files = &'static [(&'static str, &'static str)];
+
+/// A build and what it comes to.
+struct Build {
+    words: &'static str,
+    /// The parts of `build.dsc`; a tree without this file has none.
+    specification: &'static [&'static str],
+    /// The source files after `build.dsc`.
+    others: Files,
+    code: u8,
+    made: Files,
+    /// The lines of the report after the first.
+    report: &'static str,
+    ran: u32,
+}
+
+/// A gate that adds up the numbers of the pips for which it is passed.
+#[derive(Drop)]
+struct SumGate {
+    sum: AtomicU32,
+}
+
+impl Gate for SumGate {
+    fn pass(&self, pip: u32) {
+        self.sum.fetch_add(pip, Relaxed);
+    }
+}
+
+fn new_gate() -> SumGate {
+    SumGate {
+        sum: AtomicU32::new(0),
+    }
+}
+
+/// The words, each between two blanks.
+fn words_of(alloc: Global, line: &str) -> Result<Vec<String>, AllocError> {
+    let mut words = Vec::new(alloc);
+    for word in line.split(' ') {
+        words.push(String::from_str(alloc, word)?)?;
+    }
+    Ok(words)
+}
+
+fn sink_of(alloc: Global, bytes: usize) -> Result<MemSink, AllocError> {
+    MemSink::new(alloc, bytes, 4096, Vec::new(alloc))
+}
+
+/// The code of a call. What it writes is added to a text, and after a `#` its notes.
+fn call<H: Threads + Wait + Sync>(
+    rt: &H,
+    alloc: Global,
+    line: &str,
+    input: &[u8],
+    gate: &SumGate,
+    seen: &mut Vec<u8>,
+) -> Result<u8, Fail> {
+    let words = words_of(alloc, line)?;
+    let mut source = MemSource::new(input.to_vec(alloc)?, 4096, Vec::new(alloc));
+    let mut out = sink_of(alloc, 2_000_000)?;
+    let mut notes = sink_of(alloc, 1_000)?;
+    let mut keeper = NoFaultKeeper::new(alloc);
+    let status = command(
+        rt,
+        alloc,
+        &words,
+        &mut source,
+        &mut out,
+        &mut notes,
+        &mut keeper,
+        gate,
+    );
+    seen.extend_from_slice(out.taken())?;
+    seen.push(b'#')?;
+    seen.extend_from_slice(notes.taken())?;
+    Ok(status.code())
+}
+
+/// Adds a file to the text of a bundle.
+fn add_file(text: &mut Vec<u8>, path: &str, bytes: &[u8]) -> Result<(), Fail> {
+    writeln!(text, "file {} {path}", bytes.len())?;
+    text.extend_from_slice(bytes)?;
+    text.push(b'\n')?;
+    Ok(())
+}
+
+fn add_files(text: &mut Vec<u8>, files: Files) -> Result<(), Fail> {
+    for (path, bytes) in files {
+        add_file(text, path, bytes.as_bytes())?;
+    }
+    Ok(())
+}
+
+/// Adds the input of a build.
+fn add_input(alloc: Global, text: &mut Vec<u8>, build: &Build) -> Result<(), Fail> {
+    text.extend_from_slice(b"bundle 1\n")?;
+    if !build.specification.is_empty() {
+        let joined = joined(alloc, build.specification)?;
+        add_file(text, "build.dsc", &joined)?;
+    }
+    add_files(text, build.others)?;
+    text.extend_from_slice(b"end\n")?;
+    Ok(())
+}
+
+/// These texts, one after the other.
+fn joined(alloc: Global, parts: &[&str]) -> Result<Vec<u8>, AllocError> {
+    let mut text = Vec::new(alloc);
+    for part in parts {
+        text.extend_from_slice(part.as_bytes())?;
+    }
+    Ok(text)
+}
+
+/// Adds what a build is to write, and after a `#` its notes.
+fn add_want(alloc: Global, text: &mut Vec<u8>, build: &Build) -> Result<(), Fail> {
+    let report = joined(alloc, &["report 1\n", build.report])?;
+    text.extend_from_slice(b"bundle 1\n")?;
+    add_files(text, build.made)?;
+    add_file(text, "report.txt", &report)?;
+    let ran = build.ran;
+    write!(
+        text,
+        "end\n#hits 0\nran {ran}\nlate {ran}\nstore-faults 0\nstarved 0\n"
+    )?;
+    Ok(())
+}
+
+/// Whether a build comes to what it is to come to.
+fn is_so<H: Threads + Wait + Sync>(rt: &H, alloc: Global, build: &Build) -> Result<bool, Fail> {
+    let mut input = Vec::new(alloc);
+    add_input(alloc, &mut input, build)?;
+    let mut want = Vec::new(alloc);
+    add_want(alloc, &mut want, build)?;
+    let mut seen = Vec::new(alloc);
+    let code = call(rt, alloc, build.words, &input, &new_gate(), &mut seen)?;
+    Ok(code == build.code && seen == want)
+}

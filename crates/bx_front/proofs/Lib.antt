@@ -1,0 +1,6 @@
+pub mod ProjectFaults
+pub mod ProjectFiles
+pub mod OneProgram
+pub mod OnePlan
+pub mod SomePlan
+pub mod Passes
