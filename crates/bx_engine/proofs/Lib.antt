@@ -3,6 +3,11 @@ mod FaultsOverCalls
 mod FaultIsNotMemory
 mod ReadingKeepsEnding
 mod StatusesDiffer
+mod FixedPaths
+mod OutputTrees
+mod Bundling
+mod Planning
+mod Delivering
 mod Responding
 mod OneEnding
 mod SomeEnding

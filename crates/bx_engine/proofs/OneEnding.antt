@@ -118,6 +118,7 @@ one_ending one limits input (Built p r) (Built q s) h k =
     one_build limits k.0 p q r s (same_sources (λ (t : Files). Builds limits t p r) input h.0 k.0 h.1 k.1 h.2) k.2
 
 pub endless_or_ending : (limits : Limits) (input : List ℕ) (e : Ending) → IsEndless limits input → Ends limits input e → ⊥
+unfolding same_sources
 endless_or_ending limits input (InputRefused f) h k = refused_or_not input f h.0 k h.1
 endless_or_ending limits input (SpecificationRefused r) h k =
     many_or_fault limits h.0 k.2.fault h.2 (same_sources (λ (t : Files). Refuses limits t r) input k.0 h.0 k.1 h.1 k.2).has

@@ -1,6 +1,6 @@
 -- Responses to inputs.
 use Rattle.std.proofs.Common.{◌≡◌, ◌≢◌, ℕ, ◌+◌, ◌<◌, ◌≤◌, suc, Bool, true, false, cond, List, [], ◌∷◌, ◌++◌, length, map, drop, get_or, refl, ap, sym, subst, ◌∙◌, add-one, arith}
-use Rattle.std.specs.List.{list_all}
+use Rattle.std.specs.List.{AllByRecursion, list_all}
 use Rattle.std.proofs.lemmas.List.{drop_all}
 use Rattle.std.proofs.Math.Seq.{drop-cons}
 use Rattle.bx_tree.specs.Bundle.{Faults, IsBundle, bundle}
@@ -9,7 +9,8 @@ use Rattle.bx_tree.specs.declared.bundle.BundleFault.TheVariants as bundle_fault
 use Rattle.bx_front.specs.Faults.{IsRefused}
 use Rattle.bx_front.specs.declared.fault.FrontFault.{FrontFault}
 use Rattle.bx_front.specs.declared.fault.FrontFault.TheVariants as front_faults
-use Rattle.bx_tree.specs.Trees.{Files}
+use Rattle.bx_tree.specs.Paths.{IsPath}
+use Rattle.bx_tree.specs.Trees.{Files, paths_of}
 use Rattle.build_report.specs.Notes.{notes_text}
 use Rattle.build_report.specs.Reports.{report_text}
 use Rattle.build_report.specs.declared.counts.Counts.{Counts}
@@ -27,8 +28,8 @@ use Rattle.verdicts.specs.declared.verdict.Verdict.{Verdict}
 use Rattle.bx_engine.specs.Ending as endings
 use Rattle.bx_engine.specs.Ending.{Ending, input_fault_name, report_path}
 use Rattle.bx_engine.specs.Ends.{Ends, HasReserved}
-use Rattle.bx_engine.specs.Expected.{IsExpected}
-use Rattle.bx_engine.specs.Responses.{AreResults, Refuses, Shows, ShowsBundle, ShowsFault}
+use Rattle.bx_engine.specs.Expected.{Expected, IsExpected, limits_of}
+use Rattle.bx_engine.specs.Responses.{AreResults, IsReportOf, IsResponseTo, IsResponseToBundle, IsResponseToFault}
 use Rattle.bx_engine.proofs.FaultIsNotMemory.{bad_bundle, bad_path, nested, too_large, too_many_files, unordered}
 use Rattle.bx_engine.specs.declared.fault.InputFault.{InputFault}
 use Rattle.bx_engine.specs.declared.fault.InputFault.TheVariants as input_faults
@@ -38,21 +39,21 @@ use Rattle.bx_engine.specs.declared.status.Status.TheVariants as statuses
 -- ## Refusals
 
 pub input_shown : (fault : InputFault) (name : List ℕ) (response : Response) → name ≡ input_fault_name fault
-    → Refuses statuses.InputRefused (Input name) response → Shows (endings.InputRefused fault) response
+    → IsReportOf statuses.InputRefused (Input name) response → IsResponseTo (endings.InputRefused fault) response
 input_shown fault name response is h = record {
   status_is = h.status_is;
   bytes_are = subst (λ (n : List ℕ). response.bytes.items ≡ endings.refusal_output (Input n)) is h.bytes_are;
   notes_are = h.notes_are;
 }
 
-pub specification_shown : (refusal : Refusal) (response : Response) → Refuses statuses.SpecificationRefused refusal response
-    → Shows (endings.SpecificationRefused refusal) response
+pub specification_shown : (refusal : Refusal) (response : Response) → IsReportOf statuses.SpecificationRefused refusal response
+    → IsResponseTo (endings.SpecificationRefused refusal) response
 specification_shown refusal response h = record { status_is = h.status_is; bytes_are = h.bytes_are; notes_are = h.notes_are }
 
 -- ## Expected answers
 
 -- a response to an input that ends so is expected
-pub expected_of : (limits : Limits) (input : List ℕ) (ending : Ending) (response : Response) → Ends limits input ending → Shows ending response
+pub expected_of : (limits : Limits) (input : List ℕ) (ending : Ending) (response : Response) → Ends limits input ending → IsResponseTo ending response
     → IsExpected limits input response.status response.bytes.items response.notes.items
 expected_of limits input ending response ends h = record {
   ending = ending;
@@ -63,14 +64,14 @@ expected_of limits input ending response ends h = record {
 }
 
 pub refused_expected : (limits : Limits) (input : List ℕ) (tree : Files) (refusal : Refusal) (response : Response) → IsBundle input tree
-    → (HasReserved tree → ⊥) → front.Refuses limits tree refusal → Shows (endings.SpecificationRefused refusal) response
+    → (HasReserved tree → ⊥) → front.Refuses limits tree refusal → IsResponseTo (endings.SpecificationRefused refusal) response
     → IsExpected limits input response.status response.bytes.items response.notes.items
 refused_expected limits input tree refusal response bundle free h shows =
     expected_of limits input (endings.SpecificationRefused refusal) response (tree, record { bundle = bundle; free = free }, h) shows
 
 pub built_expected : (limits : Limits) (input : List ℕ) (tree sources : Files) (pips : List Pip) (budget : ℕ) (response : Response) → IsBundle input tree
     → (HasReserved tree → ⊥) → Plans limits tree pips → sources ≡ tree → budget ≡ limits.tool_budget
-    → Shows (endings.Built pips (one_thread pips sources budget)) response
+    → IsResponseTo (endings.Built pips (one_thread pips sources budget)) response
     → IsExpected limits input response.status response.bytes.items response.notes.items
 built_expected limits input tree sources pips budget response bundle free plans same steps shows =
     let results = one_thread pips sources budget in
@@ -80,13 +81,13 @@ built_expected limits input tree sources pips budget response bundle free plans 
     (tree, record { bundle = bundle; free = free }, record { plans = plans; built = is }) shows
 
 pub fault_expected : (limits : Limits) (input : List ℕ) (tree : Files) (fault : FrontFault) (response : Response) → IsBundle input tree
-    → (HasReserved tree → ⊥) → IsRefused limits tree fault → ShowsFault fault response
+    → (HasReserved tree → ⊥) → IsRefused limits tree fault → IsResponseToFault fault response
     → IsExpected limits input response.status response.bytes.items response.notes.items
 fault_expected limits input tree (front_faults.Refused refusal) response bundle free h shows = refused_expected limits input tree refusal response bundle free h shows
 fault_expected limits input tree front_faults.Memory response bundle free h shows = absurd shows
 
 pub bundle_expected : (limits : Limits) (input : List ℕ) (fault : BundleFault) (response : Response) → (fault ≢ bundle_faults.Memory → Faults input fault)
-    → ShowsBundle fault response → IsExpected limits input response.status response.bytes.items response.notes.items
+    → IsResponseToBundle fault response → IsExpected limits input response.status response.bytes.items response.notes.items
 bundle_expected limits input bundle_faults.BadBundle response h shows = expected_of limits input (endings.InputRefused input_faults.BadBundle) response (h bad_bundle) shows
 bundle_expected limits input bundle_faults.BadPath response h shows = expected_of limits input (endings.InputRefused input_faults.BadPath) response (h bad_path) shows
 bundle_expected limits input bundle_faults.Unordered response h shows = expected_of limits input (endings.InputRefused input_faults.Unordered) response (h unordered) shows
@@ -98,25 +99,38 @@ bundle_expected limits input bundle_faults.Memory response h shows = absurd show
 
 -- ## Builds
 
--- all pips succeeded or not, and the files of a build go into its output just where they did
-made_if : (good all : Bool) (files made : Files) → good ≡ all → files ≡ cond good made [] → files ≡ cond all made []
-made_if good all files made is h = h ∙ ap (λ b. cond b made []) is
+-- all pips succeeded, as far as the verdicts of what was built say
+good_shown : (built : Built) (results : List Result) (good : Bool) → AreResults built results → good ≡ list_all is_success built.verdicts.items
+    → good ≡ endings.all_succeeded results
+good_shown built results good h is = is ∙ ap (list_all is_success) h.verdicts
+
+-- the files of a build go into its output just where all pips succeeded
+made_shown : (pips : List Pip) (built : Built) (results : List Result) (good : Bool) (files : Files) → AreResults built results
+    → good ≡ list_all is_success built.verdicts.items → files ≡ cond good (put_all [] (all_made (map slot_files built.slots.items))) []
+    → files ≡ endings.made_of (endings.Built pips results)
+made_shown pips built results good files h good_is files_are =
+    files_are
+    ∙ ap (λ b. cond b (put_all [] (all_made (map slot_files built.slots.items))) []) (good_shown built results good h good_is)
+    ∙ ap (λ (made : List Files). cond (endings.all_succeeded results) (put_all [] (all_made made)) []) h.files
+
+pub paths_shown : (pips : List Pip) (built : Built) (results : List Result) (good : Bool) (files : Files) → AreResults built results
+    → good ≡ list_all is_success built.verdicts.items → files ≡ cond good (put_all [] (all_made (map slot_files built.slots.items))) []
+    → AllByRecursion IsPath (paths_of files) → AllByRecursion IsPath (paths_of (endings.made_of (endings.Built pips results)))
+paths_shown pips built results good files h good_is files_are paths =
+    subst (λ (fs : Files). AllByRecursion IsPath (paths_of fs)) (made_shown pips built results good files h good_is files_are) paths
 
 pub built_shown : (pips : List Pip) (built : Built) (results : List Result) (response : Response) (good : Bool) (files : Files) (report : List ℕ)
     (counts : Counts) → AreResults built results → good ≡ list_all is_success built.verdicts.items
     → response.status ≡ cond good statuses.Done statuses.FailuresFound
     → report ≡ report_text pips built.verdicts.items → files ≡ cond good (put_all [] (all_made (map slot_files built.slots.items))) []
     → response.bytes.items ≡ bundle (files ++ (report_path, report) ∷ []) → counts ≡ endings.counts_for (run_count pips built.verdicts.items)
-    → response.notes.items ≡ notes_text counts → Shows (endings.Built pips results) response
+    → response.notes.items ≡ notes_text counts → IsResponseTo (endings.Built pips results) response
 built_shown pips built results response good files report counts h good_is status report_is files_are bytes counts_are notes =
-    let all : good ≡ endings.all_succeeded results = good_is ∙ ap (list_all is_success) h.verdicts in
     record {
-      status_is = status ∙ ap (λ b. cond b statuses.Done statuses.FailuresFound) all;
+      status_is = status ∙ ap (λ b. cond b statuses.Done statuses.FailuresFound) (good_shown built results good h good_is);
       bytes_are =
           bytes
-          ∙ ap (λ (fs : Files). bundle (fs ++ (report_path, report) ∷ []))
-          (files_are ∙ ap (λ b. cond b (put_all [] (all_made (map slot_files built.slots.items))) []) all
-          ∙ ap (λ (made : List Files). cond (endings.all_succeeded results) (put_all [] (all_made made)) []) h.files)
+          ∙ ap (λ (fs : Files). bundle (fs ++ (report_path, report) ∷ [])) (made_shown pips built results good files h good_is files_are)
           ∙ ap (λ r. bundle (endings.made_of (endings.Built pips results) ++ (report_path, r) ∷ []))
           (report_is ∙ ap (report_text pips) h.verdicts);
       notes_are =

@@ -51,7 +51,7 @@ Ends limits input (SpecificationRefused refusal) =
 Ends limits input (Built pips results) =
     (sources : Files) × AreSources input sources × Builds limits sources pips results
 
--- The input has no ending, as its specification makes more pips than can be numbered. No memory is enough for
--- them.
+-- The input has no ending, as its specification makes too many pips. They cannot be numbered, which is
+-- answered as want of memory.
 abbrev pub IsEndless : Limits → List ℕ → Type 0
 IsEndless limits input = (sources : Files) × AreSources input sources × AsksForTooMany limits sources

@@ -13,7 +13,8 @@ use Rattle.bx_engine.specs.Known.{AppendsPrefix}
 
 -- A build of this input has this status, writes these bytes to `out`, and writes this text to the notes. That
 -- is what the build on one thread without a cache does.
-pub record IsExpected (limits : Limits) (input : List ℕ) (status : Status) (bytes notes : List ℕ) : Type 0 where
+pub record IsExpected (limits : Limits) (input : List ℕ) (status : Status) (bytes notes : List ℕ)
+    : Type 0 where
   pub ending : Ending
   pub ends : Ends limits input ending
   pub status_is : status ≡ status_of ending

@@ -5,9 +5,10 @@ ghost use Rattle.std.specs.Io.KnownBytes.{Appends};
 ghost use Rattle.bx_io.specs.Causes.{HasCause};
 ghost use Rattle.bx_engine.specs.Expected.{Answers, AppendsOrFails, Begins, Notes};
 ghost use Rattle.bx_engine.specs.Known.{AppendsPrefix};
+ghost use Rattle.bx_engine.specs.OutputTrees.{IsTreeWritten};
 ghost use Rattle.bx_engine.specs.Statuses.{HasNoNotes, IsSilent, IsWhole};
 
-use crate::limits::{READ_LIMIT, limits_of};
+use crate::limits::READ_LIMIT;
 use crate::reading::{ReadFault, read_all};
 use crate::response::{Response, respond};
 use crate::status::Status;
@@ -52,6 +53,7 @@ fn answer<O: Sink, N: Sink, G: Gate>(
     ensures status { IsWhole result ⊎ (result ≡ Status.OutFailed) ⊎ (result ≡ Status.OutOfMemory) }
     ensures answers { IsWhole result
         → Answers order.now input.now result (O.taken out.old) (O.taken out.new) }
+    ensures tree { IsWhole result → IsTreeWritten (O.taken out.old) (O.taken out.new) }
     ensures begins { result ≡ Status.OutFailed
         → Begins order.now input.now (O.taken out.old) (O.taken out.new) }
     ensures silent { result ≡ Status.OutOfMemory → out.new ≡ out.old }
@@ -62,7 +64,7 @@ fn answer<O: Sink, N: Sink, G: Gate>(
         (N.faults notes.old) (N.faults notes.new) }
     ensures no_notes { HasNoNotes result → notes.new ≡ notes.old }
 {
-    match respond(alloc, input, &limits_of(order), gate) {
+    match respond(alloc, input, order, gate) {
         Err(_) => Status::OutOfMemory,
         Ok(response) => deliver(out, notes, &response),
     }
@@ -81,6 +83,7 @@ pub(crate) fn build<S: Source, O: Sink, N: Sink, G: Gate>(
         ⊎ (result ≡ Status.SourceFailed) ⊎ (result ≡ Status.OutFailed) ⊎ (result ≡ Status.OutOfMemory) }
     ensures answers { (input : List ℕ) → S.left source.old ≡ Some input → IsWhole result
         → Answers order.now input result (O.taken out.old) (O.taken out.new) }
+    ensures tree { IsWhole result → IsTreeWritten (O.taken out.old) (O.taken out.new) }
     ensures begins { (input : List ℕ) → S.left source.old ≡ Some input
         → result ≡ Status.OutFailed → Begins order.now input (O.taken out.old) (O.taken out.new) }
     ensures silent { IsSilent result → out.new ≡ out.old }

@@ -1,8 +1,10 @@
 //! The bundle that a build writes.
 
-ghost use Rattle.std.specs.Prelude.{◌≡◌, ◌∷◌, ◌++◌, IfOk};
-ghost use Rattle.bx_tree.specs.Bundle.{bundle};
-ghost use Rattle.bx_tree.specs.Paths.{IsPathText, Names};
+ghost use Rattle.std.specs.Prelude.{◌≡◌, [], ◌∷◌, ◌++◌, IfOk, OnOk};
+ghost use Rattle.std.specs.List.{AllByRecursion};
+ghost use Rattle.bx_tree.specs.Bundle.{bundle, file_text};
+ghost use Rattle.bx_tree.specs.Paths.{IsPath};
+ghost use Rattle.bx_tree.specs.Trees.{paths_of};
 ghost use Rattle.pip_types.specs.Made.{made_files};
 ghost use Rattle.bx_engine.specs.Ending.{report_path as path_of_report};
 
@@ -22,15 +24,27 @@ fn report_path(alloc: Global) -> Result<Path, Memory>
     }
 }
 
+// Appends the text of a file that was made.
+fn append_made(alloc: Global, text: &mut Vec<u8>, file: &MadeFile) -> Result<(), Memory>
+    ensures text { OnOk result (text.new.items
+        ≡ text.old.items ++ file_text (file.now.path, file.now.blob)) }
+    ensures path { IsPath file.now.path }
+{
+    // Contracts learn from the text of a path that it is one.
+    let _ = file.path.text();
+    append_file(alloc, text, &file.path, file.blob.bytes())
+}
+
 /// The bundle of these files and of a report. The bytes of each file are copied into it once.
 pub(crate) fn output(alloc: Global, made: &[MadeFile], report: &[u8]) -> Result<Vec<u8>, Memory>
-    ensures { IfOk result (λ text.
+    ensures text { IfOk result (λ text.
         text.items ≡ bundle (made_files made.now ++ (path_of_report, report.now) ∷ [])) }
+    ensures paths { OnOk result (AllByRecursion IsPath (paths_of (made_files made.now))) }
 {
     let path = report_path(alloc)?;
     let mut text = Vec::from_slice(alloc, b"bundle 1\n")?;
     'files: for file in made {
-        append_file(alloc, &mut text, &file.path, file.blob.bytes())?;
+        append_made(alloc, &mut text, file)?;
     }
     append_file(alloc, &mut text, &path, report)?;
     text.extend_from_slice(b"end\n")?;

@@ -1,26 +1,32 @@
 //! What a build of an input comes to: its status, its output and its notes.
 
-ghost use Rattle.std.specs.Prelude.{◌≡◌, ℕ, List, IfOk, if◌then◌else◌, length, map};
-ghost use Rattle.std.specs.List.{list_all};
+ghost use Rattle.std.specs.Prelude.{◌≡◌, [], ℕ, List, IfOk, OnOk, if◌then◌else◌, length, map};
+ghost use Rattle.std.specs.List.{AllByRecursion, list_all};
 ghost use Rattle.bx_tree.specs.Bundle.{IsBundle, IsInSize};
+ghost use Rattle.bx_tree.specs.Paths.{IsPath};
+ghost use Rattle.bx_tree.specs.Trees.{paths_of};
+ghost use Rattle.graph_check.specs.Rules.{KeepsRules};
 ghost use Rattle.one_thread.specs.OneThread.{Result as AnyResult, all_made, one_thread, put_all};
-ghost use Rattle.one_thread.specs.OneThread as builds;
 ghost use Rattle.pip_outputs.specs.Slots.{slot_files};
 ghost use Rattle.verdicts.specs.Verdicts as ends;
 ghost use Rattle.bx_engine.specs.Ending as endings;
-ghost use Rattle.bx_engine.specs.Expected.{IsExpected};
-ghost use Rattle.bx_engine.specs.Responses.{AreResults, Refuses, Shows, ShowsBundle};
-ghost use Rattle.bx_engine.specs.Responses.{ShowsFault};
+ghost use Rattle.bx_engine.specs.Expected.{Expected};
+ghost use Rattle.bx_engine.specs.OutputTrees.{IsOutputText};
+ghost use Rattle.bx_engine.specs.Responses.{AreResults, IsReportOf, IsResponseTo, IsResponseToBundle};
+ghost use Rattle.bx_engine.specs.Responses.{IsResponseToFault};
 
 use crate::Memory;
 use crate::counting::run_count;
 use crate::fault::{InputFault, input_name};
 use crate::output::output;
+use crate::planning::front;
 use crate::status::Status;
+use build_outputs::outputs_keep_apart;
 use build_report::{Counts, notes, refused_report, report};
-use bx_front::{FrontFault, Limits, Refusal, plan_of};
+use bx_front::{FrontFault, Refusal};
 use bx_io::Gate;
 use bx_tree::{BundleFault, Text, Tree, read_bundle, reserved};
+use bx_words::Order;
 use one_thread::{Built, build_all, each_result, outputs};
 use pip_inputs::no_files;
 use pip_model::{Made, Plan, Slot, Sources};
@@ -37,7 +43,7 @@ pub(crate) struct Response {
 
 // The response with a status and the report of a refusal.
 fn refused(alloc: Global, status: Status, refusal: &Refusal) -> Result<Response, Memory>
-    ensures { IfOk result (Refuses status refusal.now) }
+    ensures { IfOk result (IsReportOf status refusal.now) }
 {
     let report = refused_report(alloc, refusal)?;
     let bytes = output(alloc, &[], report.as_slice())?;
@@ -50,7 +56,7 @@ fn refused(alloc: Global, status: Status, refusal: &Refusal) -> Result<Response,
 
 // The response to an input that is refused.
 fn refuse_input(alloc: Global, fault: InputFault) -> Result<Response, Memory>
-    ensures { IfOk result (Shows (endings.InputRefused fault)) }
+    ensures { IfOk result (IsResponseTo (endings.InputRefused fault)) }
 {
     let name = Vec::from_slice(alloc, input_name(fault).as_bytes())?;
     let kind = Text::new(alloc, name)?;
@@ -60,14 +66,14 @@ fn refuse_input(alloc: Global, fault: InputFault) -> Result<Response, Memory>
 
 // The response to a specification that is refused.
 fn refuse_specification(alloc: Global, refusal: &Refusal) -> Result<Response, Memory>
-    ensures { IfOk result (Shows (endings.SpecificationRefused refusal.now)) }
+    ensures { IfOk result (IsResponseTo (endings.SpecificationRefused refusal.now)) }
 {
     refused(alloc, Status::SpecificationRefused, refusal)
 }
 
 // The response to a source tree that comes to no plan.
 fn refuse_fault(alloc: Global, fault: FrontFault) -> Result<Response, Memory>
-    ensures { IfOk result (ShowsFault fault) }
+    ensures { IfOk result (IsResponseToFault fault) }
 {
     match fault {
         FrontFault::Refused(refusal) => refuse_specification(alloc, &refusal),
@@ -120,8 +126,10 @@ fn counts(ran: u64) -> Counts
 // The response of a build whose pips were gone through.
 fn show(alloc: Global, plan: &Plan, built: &Built) -> Result<Response, Memory>
     requires { length built.now.verdicts.items ≡ length plan.now.pips }
-    ensures { IfOk result (λ response. (results : List AnyResult) → AreResults built.now results
-        → Shows (endings.Built plan.now.pips results) response) }
+    ensures shown { IfOk result (λ response. (results : List AnyResult) → AreResults built.now results
+        → IsResponseTo (endings.Built plan.now.pips results) response) }
+    ensures paths { OnOk result ((results : List AnyResult) → AreResults built.now results
+        → AllByRecursion IsPath (paths_of (endings.made_of (endings.Built plan.now.pips results)))) }
 {
     let verdicts = built.verdicts.as_slice();
     let good = all_succeeded(verdicts);
@@ -144,10 +152,14 @@ fn build_plan<G: Gate>(
     sources: &Sources,
     gate: &G,
 ) -> Result<Response, Memory>
-    ensures { IfOk result (Shows (endings.Built plan.now.pips
+    requires { KeepsRules plan.now.pips sources.now }
+    ensures shown { IfOk result (IsResponseTo (endings.Built plan.now.pips
         (one_thread plan.now.pips sources.now plan.now.tool_budget))) }
+    ensures tree { IfOk result (λ response. IsOutputText response.bytes.items) }
 {
+    let _pips = plan.pips();
     each_result();
+    outputs_keep_apart();
     let built = build_all(alloc, plan, sources, gate)?;
     show(alloc, plan, &built)
 }
@@ -156,17 +168,18 @@ fn build_plan<G: Gate>(
 fn respond_tree<G: Gate>(
     alloc: Global,
     tree: Tree,
-    limits: &Limits,
+    order: &Order,
     gate: &G,
 ) -> Result<Response, Memory>
     requires { IsInSize tree }
-    ensures { IfOk result (λ response. (input : List ℕ) → IsBundle input tree
-        → IsExpected limits.now input response.status response.bytes.items response.notes.items) }
+    ensures expected { IfOk result (λ response. (input : List ℕ) → IsBundle input tree
+        → Expected order.now input response.status response.bytes.items response.notes.items) }
+    ensures tree { IfOk result (λ response. IsOutputText response.bytes.items) }
 {
     if reserved(&tree) {
         return refuse_input(alloc, InputFault::Reserved);
     }
-    match plan_of(alloc, tree, limits) {
+    match front(alloc, tree, order) {
         Ok(end) => build_plan(alloc, &end.plan, &end.sources, gate),
         Err(fault) => refuse_fault(alloc, fault),
     }
@@ -174,7 +187,7 @@ fn respond_tree<G: Gate>(
 
 // The response to an input that is no bundle.
 fn refuse_bundle(alloc: Global, fault: BundleFault) -> Result<Response, Memory>
-    ensures { IfOk result (ShowsBundle fault) }
+    ensures { IfOk result (IsResponseToBundle fault) }
 {
     match fault {
         BundleFault::BadBundle => refuse_input(alloc, InputFault::BadBundle),
@@ -191,14 +204,15 @@ fn refuse_bundle(alloc: Global, fault: BundleFault) -> Result<Response, Memory>
 pub(crate) fn respond<G: Gate>(
     alloc: Global,
     input: &[u8],
-    limits: &Limits,
+    order: &Order,
     gate: &G,
 ) -> Result<Response, Memory>
-    ensures { IfOk result (λ response.
-        IsExpected limits.now input.now response.status response.bytes.items response.notes.items) }
+    ensures expected { IfOk result (λ response.
+        Expected order.now input.now response.status response.bytes.items response.notes.items) }
+    ensures tree { IfOk result (λ response. IsOutputText response.bytes.items) }
 {
     match read_bundle(alloc, input) {
-        Ok(tree) => respond_tree(alloc, tree, limits, gate),
+        Ok(tree) => respond_tree(alloc, tree, order, gate),
         Err(fault) => refuse_bundle(alloc, fault),
     }
 }

@@ -4,6 +4,7 @@ ghost use Rattle.std.specs.Prelude.{◌≡◌, ◌≢◌, ◌⊎◌, ℕ, List, 
 ghost use Rattle.bx_io.specs.Causes.{HasCause};
 ghost use Rattle.bx_engine.specs.Ending.{usage_text};
 ghost use Rattle.bx_engine.specs.Expected.{Answers, AppendsOrFails, Begins, Notes};
+ghost use Rattle.bx_engine.specs.OutputTrees.{IsTreeWritten};
 ghost use Rattle.bx_engine.specs.Statuses.{HasNoNotes, IsSilent, IsWhole};
 ghost use Rattle.bx_words.specs.Words.{Orders};
 ghost use Rattle.bx_words.specs.declared.order.Order.{Order as TheOrder};
@@ -25,8 +26,8 @@ const USAGE: &str = "usage: bxl build|check|repair|trim|gen\n";
 /// commands, the statuses, the bundles that are read and written, and the notes.
 ///
 /// A build first reads `source` to its end, or to one byte past the limit on an input. It writes to `out`
-/// once all of its output is composed, and to `notes` last. A fault of `notes` changes nothing else. Each process
-/// passes `gate` once. No call needs `rt` and `keeper` yet.
+/// once all of its output is composed, and to `notes` last. A fault of `notes` changes nothing else. Each
+/// process that is not skipped passes `gate` once. No call needs `rt` and `keeper` yet.
 pub fn command<H: Threads + Wait + Sync, S: Source, O: Sink, N: Sink, K: Keeper, G: Gate>(
     rt: &H,
     alloc: Global,
@@ -48,6 +49,8 @@ pub fn command<H: Threads + Wait + Sync, S: Source, O: Sink, N: Sink, K: Keeper,
     ensures answers { (order : TheOrder) (input : List ℕ) → Orders (map string_bytes words.now) order
         → S.left source.old ≡ Some input → IsWhole result
         → Answers order input result (O.taken out.old) (O.taken out.new) }
+    // All that is written is one tree, of the report and of files below `out`.
+    ensures tree { IsWhole result → IsTreeWritten (O.taken out.old) (O.taken out.new) }
     ensures begins { (order : TheOrder) (input : List ℕ) → Orders (map string_bytes words.now) order
         → S.left source.old ≡ Some input → result ≡ Status.OutFailed
         → Begins order input (O.taken out.old) (O.taken out.new) }

@@ -1,6 +1,4 @@
-use Rattle.std.proofs.Common.{subst, sym}
-use Rattle.bx_words.specs.declared.order.Order.{Order}
-use Rattle.bx_engine.specs.Expected.{Answers, Begins, Notes}
+use Rattle.bx_engine.proofs.Delivering.{same_answers, same_begins, same_notes}
 use Rattle.bx_engine.proofs.WrittenPieces.{appends_slice_or_fails}
 use Rattle.bx_engine.proofs.StatusesDiffer.{no_command_writes_nothing}
 use Rattle.bx_engine.proofs.top.command.Goals as goal
@@ -15,14 +13,12 @@ returns-in-Err-NoCommand-clause-usage g c none =
 -- the words are one order, which is the one that was built
 pub returns-in-Ok-clause-answers : goal.returns-in-Ok-clause-answers
 returns-in-Ok-clause-answers g c order input is known whole =
-    subst (λ (o : Order). Answers o input c.build.result _ _) (c.one_order.ensures _ c.in-Ok.order order c.in-Ok.ensures is)
-    (c.build.ensures.answers input known whole)
+    same_answers _ _ input _ _ _ (c.one_order.ensures _ c.in-Ok.order order c.in-Ok.ensures is) (c.build.ensures.answers input known whole)
 
 pub returns-in-Ok-clause-begins : goal.returns-in-Ok-clause-begins
 returns-in-Ok-clause-begins g c order input is known cut =
-    subst (λ (o : Order). Begins o input _ _) (c.one_order.ensures _ c.in-Ok.order order c.in-Ok.ensures is) (c.build.ensures.begins input known cut)
+    same_begins _ _ input _ _ (c.one_order.ensures _ c.in-Ok.order order c.in-Ok.ensures is) (c.build.ensures.begins input known cut)
 
 pub returns-in-Ok-clause-notes : goal.returns-in-Ok-clause-notes
 returns-in-Ok-clause-notes g c order input is known whole =
-    subst (λ (o : Order). Notes o input c.build.result _ _ _ _) (c.one_order.ensures _ c.in-Ok.order order c.in-Ok.ensures is)
-    (c.build.ensures.notes input known whole)
+    same_notes _ _ input _ _ _ _ _ (c.one_order.ensures _ c.in-Ok.order order c.in-Ok.ensures is) (c.build.ensures.notes input known whole)
