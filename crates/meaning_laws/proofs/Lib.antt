@@ -4,3 +4,5 @@ pub mod CountedPrograms
 pub mod Alike
 pub mod AlikeForms
 pub mod AlikePrograms
+mod FilesOfFaults
+mod OpenCalls
