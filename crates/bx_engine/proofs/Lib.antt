@@ -5,7 +5,6 @@ mod ReadingKeepsEnding
 mod StatusesDiffer
 mod FixedPaths
 mod OutputTrees
-mod Bundling
 mod RulesKept
 mod Delivering
 mod Responding
