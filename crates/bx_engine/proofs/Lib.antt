@@ -6,7 +6,7 @@ mod StatusesDiffer
 mod FixedPaths
 mod OutputTrees
 mod Bundling
-mod Planning
+mod RulesKept
 mod Delivering
 mod Responding
 mod OneEnding

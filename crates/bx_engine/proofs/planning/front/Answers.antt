@@ -1,4 +1,4 @@
-use Rattle.bx_engine.proofs.Planning.{rules_kept}
+use Rattle.bx_engine.proofs.RulesKept.{rules_kept}
 use Rattle.bx_engine.proofs.planning.front.Goals as goal
 
 pub returns-clause-rules : goal.returns-clause-rules
