@@ -63,7 +63,40 @@ fn sink_of(alloc: Global, bytes: usize) -> Result<MemSink, AllocError> {
     MemSink::new(alloc, bytes, 4096, Vec::new(alloc))
 }
 
-/// The code of a call. What it writes is added to a text, and after a `#` its notes.
+/// Adds what was written, and after a `#` the notes.
+fn add_written(seen: &mut Vec<u8>, out: &MemSink, notes: &MemSink) -> Result<(), AllocError> {
+    seen.extend_from_slice(out.taken())?;
+    seen.push(b'#')?;
+    seen.extend_from_slice(notes.taken())
+}
+
+/// The code of a call with these words and this source. What it writes is added to a text.
+fn code_of<H: Threads + Wait + Sync>(
+    rt: &H,
+    alloc: Global,
+    words: &[String],
+    source: &mut MemSource,
+    gate: &SumGate,
+    seen: &mut Vec<u8>,
+) -> Result<u8, Fail> {
+    let mut out = sink_of(alloc, 2_000_000)?;
+    let mut notes = sink_of(alloc, 1_000)?;
+    let mut keeper = NoFaultKeeper::new(alloc);
+    let status = command(
+        rt,
+        alloc,
+        words,
+        source,
+        &mut out,
+        &mut notes,
+        &mut keeper,
+        gate,
+    );
+    add_written(seen, &out, &notes)?;
+    Ok(status.code())
+}
+
+/// The code of a call. What it writes is added to a text.
 fn call<H: Threads + Wait + Sync>(
     rt: &H,
     alloc: Global,
@@ -74,23 +107,7 @@ fn call<H: Threads + Wait + Sync>(
 ) -> Result<u8, Fail> {
     let words = words_of(alloc, line)?;
     let mut source = MemSource::new(input.to_vec(alloc)?, 4096, Vec::new(alloc));
-    let mut out = sink_of(alloc, 2_000_000)?;
-    let mut notes = sink_of(alloc, 1_000)?;
-    let mut keeper = NoFaultKeeper::new(alloc);
-    let status = command(
-        rt,
-        alloc,
-        &words,
-        &mut source,
-        &mut out,
-        &mut notes,
-        &mut keeper,
-        gate,
-    );
-    seen.extend_from_slice(out.taken())?;
-    seen.push(b'#')?;
-    seen.extend_from_slice(notes.taken())?;
-    Ok(status.code())
+    code_of(rt, alloc, &words, &mut source, gate, seen)
 }
 
 /// Adds a file to the text of a bundle.
@@ -108,16 +125,10 @@ fn add_files(text: &mut Vec<u8>, files: Files) -> Result<(), Fail> {
     Ok(())
 }
 
-/// Adds the input of a build.
-fn add_input(alloc: Global, text: &mut Vec<u8>, build: &Build) -> Result<(), Fail> {
-    text.extend_from_slice(b"bundle 1\n")?;
-    if !build.specification.is_empty() {
-        let joined = joined(alloc, build.specification)?;
-        add_file(text, "build.dsc", &joined)?;
-    }
-    add_files(text, build.others)?;
-    text.extend_from_slice(b"end\n")?;
-    Ok(())
+/// Adds a file whose text has these parts.
+fn add_joined(alloc: Global, text: &mut Vec<u8>, path: &str, parts: &[&str]) -> Result<(), Fail> {
+    let joined = joined(alloc, parts)?;
+    add_file(text, path, &joined)
 }
 
 /// These texts, one after the other.
@@ -129,12 +140,22 @@ fn joined(alloc: Global, parts: &[&str]) -> Result<Vec<u8>, AllocError> {
     Ok(text)
 }
 
+/// Adds the input of a build.
+fn add_input(alloc: Global, text: &mut Vec<u8>, build: &Build) -> Result<(), Fail> {
+    text.extend_from_slice(b"bundle 1\n")?;
+    if !build.specification.is_empty() {
+        add_joined(alloc, text, "build.dsc", build.specification)?;
+    }
+    add_files(text, build.others)?;
+    text.extend_from_slice(b"end\n")?;
+    Ok(())
+}
+
 /// Adds what a build is to write, and after a `#` its notes.
 fn add_want(alloc: Global, text: &mut Vec<u8>, build: &Build) -> Result<(), Fail> {
-    let report = joined(alloc, &["report 1\n", build.report])?;
     text.extend_from_slice(b"bundle 1\n")?;
     add_files(text, build.made)?;
-    add_file(text, "report.txt", &report)?;
+    add_joined(alloc, text, "report.txt", &["report 1\n", build.report])?;
     let ran = build.ran;
     write!(
         text,

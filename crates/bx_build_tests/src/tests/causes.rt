@@ -90,7 +90,7 @@ pip 1 process failed DoubleWrite write out/s/a/b pip 0
         report: "verdict succeeded\npip 0 process succeeded\npip 1 process succeeded\n",
         ran: 2,
     },
-    // The least path that clashes is told, with the least pip that wrote it and succeeded.
+    // The least path that clashes is reported, with the least pip that wrote it and succeeded.
     Build {
         words: "build",
         specification: &[
@@ -116,7 +116,7 @@ pip 5 process succeeded
 ",
         ran: 6,
     },
-    // An exit comes before a missing output, that before a clash, and of missing outputs the least is told.
+    // An exit comes before a missing output, that before a clash, and of missing outputs the least counts.
     Build {
         words: "build",
         specification: &[

@@ -110,7 +110,7 @@ pub(crate) const SHARE_FUNCTION: &str = r#"function put(name: string) {
 }
 "#;
 
-/// A process with one output file that a tool is told of.
+/// A process with one output, which is its argument.
 pub(crate) const RUN_FUNCTION: &str = r#"function run(tool: File, out: Path, deps) {
     return Transformer.execute({
         tool: {exe: tool},
