@@ -21,7 +21,7 @@ use Rattle.bx_engine.specs.OutputTrees.{IsOutputPath, IsOutputText, IsOutputTree
 use Rattle.bx_engine.specs.Responses.{IsResponseTo, IsResponseToBundle, IsResponseToFault}
 use Rattle.bx_engine.specs.declared.fault.InputFault.{InputFault}
 use Rattle.bx_engine.specs.declared.response.Response.{Response}
-use Rattle.bx_engine.proofs.FixedPaths.{named_report}
+use Rattle.bx_engine.proofs.ReportPath.{named_report}
 
 -- ## Lists
 

@@ -53,7 +53,7 @@ expected_of limits input ending response ends h = record {
   notes_are = h.notes_are;
 }
 
-pub refused_expected : (limits : Limits) (input : List ℕ) (tree : Files) (refusal : Refusal) (response : Response) → IsBundle input tree
+refused_expected : (limits : Limits) (input : List ℕ) (tree : Files) (refusal : Refusal) (response : Response) → IsBundle input tree
     → (HasReserved tree → ⊥) → front.Refuses limits tree refusal → IsResponseTo (endings.SpecificationRefused refusal) response
     → IsExpected limits input response.status response.bytes.items response.notes.items
 refused_expected limits input tree refusal response bundle free h shows =
