@@ -50,114 +50,19 @@ fn drop_name<K: Keeper>(alloc: Global, keeper: &mut K, name: &str) -> Result<(),
     }
 }
 
-fn holds<K: Keeper>(alloc: Global, keeper: &mut K, name: &str, bytes: &[u8]) -> bool {
-    match got(alloc, keeper, name) {
+fn is_found(got: Got, bytes: &[u8]) -> bool {
+    match got {
         Got::Found(found) => found.as_slice() == bytes,
         _ => false,
     }
 }
 
-// How many names there are, and the first.
-fn listed<K: Keeper>(alloc: Global, keeper: &mut K) -> Result<(usize, String), Fail> {
-    match keeper.names(alloc) {
-        Listed::Names(names) => match names.first() {
-            Some(first) => Ok((names.len(), String::from_str(alloc, first.as_str())?)),
-            None => Ok((0, String::new(alloc))),
-        },
-        _ => Err("no names".into()),
-    }
+fn holds<K: Keeper>(alloc: Global, keeper: &mut K, name: &str, bytes: &[u8]) -> bool {
+    is_found(got(alloc, keeper, name), bytes)
 }
 
-fn at(alloc: Global, folder: &str, name: &str) -> Result<String, Fail> {
-    Ok(format!(in alloc; "{folder}/{name}")?)
-}
-
-#[test]
-fn a_folder_keeps_what_was_put(rt: HostRuntime) -> Result<(), Fail> {
-    let alloc = rt.alloc();
-    let folder = "keeps-what-was-put";
-    let mut keeper = FolderKeeper::new(rt.clone()?, String::from_str(alloc, folder)?);
-    assert!(rt; matches!(got(alloc, &mut keeper, BLOB), Got::None));
-    assert_eq!(rt; listed(alloc, &mut keeper)?.0, 0);
-    assert!(rt; drop_name(alloc, &mut keeper, BLOB).is_ok());
-    for name in [LIST, BLOB, ENTRY] {
-        assert!(rt; put(alloc, &mut keeper, name, b"old").is_ok());
-    }
-    assert!(rt; put(alloc, &mut keeper, BLOB, b"abc").is_ok());
-    assert!(rt; holds(alloc, &mut keeper, BLOB, b"abc"));
-    let mut reader = keeper.reader(alloc)?;
-    assert!(rt; matches!(read(alloc, &mut reader, LIST), Got::Found(_)));
-    let (count, first) = listed(alloc, &mut keeper)?;
-    assert_eq!(rt; count, 3);
-    assert_eq!(rt; first.as_str(), BLOB);
-    assert!(rt; drop_name(alloc, &mut keeper, BLOB).is_ok());
-    assert!(rt; matches!(got(alloc, &mut keeper, BLOB), Got::None));
-    fs::remove_dir_all(&rt, folder)?;
-    Ok(())
-}
-
-// Whether the file that a stop leaves between the writing and the renaming changes nothing, if these bytes of it
-// were written.
-fn is_ignored<R: Files, K: Keeper>(rt: &R, alloc: Global, keeper: &mut K, bytes: &str) -> bool {
-    fs::write(rt, BEGUN, bytes).is_ok() && holds(alloc, keeper, BLOB, b"abc")
-}
-
-#[test]
-fn what_is_no_file_of_a_name_is_ignored(rt: HostRuntime) -> Result<(), Fail> {
-    let alloc = rt.alloc();
-    let folder = "ignores-other-files";
-    let mut keeper = FolderKeeper::new(rt.clone()?, String::from_str(alloc, folder)?);
-    assert!(rt; put(alloc, &mut keeper, BLOB, b"abc").is_ok());
-    for bytes in ["", "ha", "half"] {
-        assert!(rt; is_ignored(&rt, alloc, &mut keeper, bytes));
-    }
-    fs::write(&rt, at(alloc, folder, "b/notes")?.as_str(), "x")?;
-    fs::create_dir(&rt, at(alloc, folder, "e")?.as_str())?;
-    fs::create_dir(&rt, at(alloc, folder, ENTRY)?.as_str())?;
-    assert_eq!(rt; listed(alloc, &mut keeper)?.0, 1);
-    assert!(rt; holds(alloc, &mut keeper, BLOB, b"abc"));
-    assert!(rt; put(alloc, &mut keeper, BLOB, b"new").is_ok());
-    assert!(rt; holds(alloc, &mut keeper, BLOB, b"new"));
-    fs::remove_dir_all(&rt, folder)?;
-    Ok(())
-}
-
-#[test]
-fn faults_of_the_folder_lose_nothing(rt: HostRuntime) -> Result<(), Fail> {
-    let alloc = rt.alloc();
-    let folder = "loses-nothing";
-    let mut keeper = FolderKeeper::new(rt.clone()?, String::from_str(alloc, folder)?);
-    assert!(rt; put(alloc, &mut keeper, BLOB, b"abc").is_ok());
-    fs::create_dir(&rt, at(alloc, folder, "e")?.as_str())?;
-    fs::create_dir(&rt, at(alloc, folder, ENTRY)?.as_str())?;
-    assert!(rt; matches!(got(alloc, &mut keeper, ENTRY), Got::Failed));
-    assert!(rt; matches!(put(alloc, &mut keeper, ENTRY, b"x"), Err(PutFault::Failed)));
-    assert!(rt; matches!(drop_name(alloc, &mut keeper, ENTRY), Err(PutFault::Failed)));
-    fs::write(&rt, at(alloc, folder, "w")?.as_str(), "a file")?;
-    assert!(rt; matches!(got(alloc, &mut keeper, LIST), Got::Failed));
-    assert!(rt; matches!(put(alloc, &mut keeper, LIST, b"x"), Err(PutFault::Failed)));
-    assert!(rt; matches!(keeper.names(alloc), Listed::Failed));
-    assert!(rt; holds(alloc, &mut keeper, BLOB, b"abc"));
-    fs::remove_dir_all(&rt, folder)?;
-    Ok(())
-}
-
-#[test]
-fn a_full_disk_is_a_fault(rt: HostRuntime) -> Result<(), Fail> {
-    let alloc = rt.alloc();
-    let folder = "full-disk";
-    let mut keeper = FolderKeeper::new(rt.clone()?, String::from_str(alloc, folder)?);
-    assert!(rt; put(alloc, &mut keeper, BLOB, b"abc").is_ok());
-    // What is written to this device meets a full disk.
-    rt.symlink(
-        "/dev/full",
-        format!(in alloc; "{folder}/{BLOB}.new")?.as_str(),
-    )?;
-    assert!(rt; matches!(put(alloc, &mut keeper, BLOB, b"new"), Err(PutFault::Failed)));
-    assert!(rt; holds(alloc, &mut keeper, BLOB, b"abc"));
-    assert_eq!(rt; listed(alloc, &mut keeper)?.0, 1);
-    fs::remove_dir_all(&rt, folder)?;
-    Ok(())
+fn reader_holds<R: KeepReader>(alloc: Global, reader: &mut R, name: &str, bytes: &[u8]) -> bool {
+    is_found(read(alloc, reader, name), bytes)
 }
 
 fn letter_of(done: Result<(), PutFault>) -> u8 {
@@ -166,6 +71,14 @@ fn letter_of(done: Result<(), PutFault>) -> u8 {
         Err(PutFault::Failed) => b'f',
         Err(PutFault::Memory) => b'm',
     }
+}
+
+fn puts<K: Keeper>(alloc: Global, keeper: &mut K, name: &str, bytes: &[u8]) -> bool {
+    letter_of(put(alloc, keeper, name, bytes)) == b'd'
+}
+
+fn drops<K: Keeper>(alloc: Global, keeper: &mut K, name: &str) -> bool {
+    letter_of(drop_name(alloc, keeper, name)) == b'd'
 }
 
 // A letter for what is held under a name, if that is `abc`, nothing or a fault.
@@ -186,6 +99,162 @@ fn names_letter<K: Keeper>(alloc: Global, keeper: &mut K) -> u8 {
     }
 }
 
+fn are(held: &[String], names: &[&str]) -> bool {
+    for (one, name) in held.iter().zip(names) {
+        if one.as_str() != *name {
+            return false;
+        }
+    }
+    held.len() == names.len()
+}
+
+// Whether these are the names.
+fn lists<K: Keeper>(alloc: Global, keeper: &mut K, names: &[&str]) -> bool {
+    match keeper.names(alloc) {
+        Listed::Names(held) => are(held.as_slice(), names),
+        _ => false,
+    }
+}
+
+fn writes<R: Files>(rt: &R, alloc: Global, folder: &str, name: &str) -> bool {
+    match format!(in alloc; "{folder}/{name}") {
+        Ok(path) => fs::write(rt, path.as_str(), "a file").is_ok(),
+        Err(_) => false,
+    }
+}
+
+fn makes<R: Files>(rt: &R, alloc: Global, folder: &str, name: &str) -> bool {
+    match format!(in alloc; "{folder}/{name}") {
+        Ok(path) => fs::create_dir(rt, path.as_str()).is_ok(),
+        Err(_) => false,
+    }
+}
+
+fn begins_empty<K: Keeper>(alloc: Global, keeper: &mut K) -> bool {
+    held_letter(alloc, keeper, BLOB) == b'-'
+        && lists(alloc, keeper, &[])
+        && drops(alloc, keeper, BLOB)
+}
+
+fn keeps<K: Keeper>(alloc: Global, keeper: &mut K) -> bool {
+    puts(alloc, keeper, LIST, b"old")
+        && puts(alloc, keeper, BLOB, b"old")
+        && puts(alloc, keeper, ENTRY, b"old")
+        && puts(alloc, keeper, BLOB, b"abc")
+        && holds(alloc, keeper, BLOB, b"abc")
+        && lists(alloc, keeper, &[BLOB, ENTRY, LIST])
+}
+
+fn forgets<K: Keeper>(alloc: Global, keeper: &mut K) -> bool {
+    drops(alloc, keeper, BLOB) && held_letter(alloc, keeper, BLOB) == b'-'
+}
+
+#[test]
+fn a_folder_keeps_what_was_put(rt: HostRuntime) -> Result<(), Fail> {
+    let alloc = rt.alloc();
+    let folder = "keeps-what-was-put";
+    let mut keeper = FolderKeeper::new(rt.clone()?, String::from_str(alloc, folder)?);
+    assert!(rt; begins_empty(alloc, &mut keeper));
+    assert!(rt; keeps(alloc, &mut keeper));
+    let mut reader = keeper.reader(alloc)?;
+    assert!(rt; reader_holds(alloc, &mut reader, LIST, b"old"));
+    assert!(rt; forgets(alloc, &mut keeper));
+    assert!(rt; fs::remove_dir_all(&rt, folder).is_ok());
+    Ok(())
+}
+
+// Whether the file that a stop leaves between the writing and the renaming changes nothing, if these bytes of it
+// were written.
+fn is_ignored<R: Files, K: Keeper>(rt: &R, alloc: Global, keeper: &mut K, bytes: &str) -> bool {
+    fs::write(rt, BEGUN, bytes).is_ok() && holds(alloc, keeper, BLOB, b"abc")
+}
+
+fn begun_is_ignored<R: Files, K: Keeper>(rt: &R, alloc: Global, keeper: &mut K) -> bool {
+    is_ignored(rt, alloc, keeper, "")
+        && is_ignored(rt, alloc, keeper, "ha")
+        && is_ignored(rt, alloc, keeper, "half")
+}
+
+// Puts a file beside the names, and a folder at the place of one.
+fn adds_others<R: Files>(rt: &R, alloc: Global, folder: &str) -> bool {
+    writes(rt, alloc, folder, "b/notes")
+        && makes(rt, alloc, folder, "e")
+        && makes(rt, alloc, folder, ENTRY)
+}
+
+fn holds_one<K: Keeper>(alloc: Global, keeper: &mut K) -> bool {
+    lists(alloc, keeper, &[BLOB])
+        && holds(alloc, keeper, BLOB, b"abc")
+        && puts(alloc, keeper, BLOB, b"new")
+        && holds(alloc, keeper, BLOB, b"new")
+}
+
+#[test]
+fn what_is_no_file_of_a_name_is_ignored(rt: HostRuntime) -> Result<(), Fail> {
+    let alloc = rt.alloc();
+    let folder = "ignores-other-files";
+    let mut keeper = FolderKeeper::new(rt.clone()?, String::from_str(alloc, folder)?);
+    assert!(rt; puts(alloc, &mut keeper, BLOB, b"abc"));
+    assert!(rt; begun_is_ignored(&rt, alloc, &mut keeper));
+    assert!(rt; adds_others(&rt, alloc, folder));
+    assert!(rt; holds_one(alloc, &mut keeper));
+    assert!(rt; fs::remove_dir_all(&rt, folder).is_ok());
+    Ok(())
+}
+
+// Letters for what becomes of a name, where a folder is at its place.
+fn at_a_folder<K: Keeper>(alloc: Global, keeper: &mut K) -> [u8; 3] {
+    let held = held_letter(alloc, keeper, ENTRY);
+    let put = letter_of(put(alloc, keeper, ENTRY, b"x"));
+    let dropped = letter_of(drop_name(alloc, keeper, ENTRY));
+    [held, put, dropped]
+}
+
+// Letters for what becomes of a name, where a file is at the place of its folder.
+fn below_a_file<K: Keeper>(alloc: Global, keeper: &mut K) -> [u8; 4] {
+    let held = held_letter(alloc, keeper, LIST);
+    let put = letter_of(put(alloc, keeper, LIST, b"x"));
+    let listed = names_letter(alloc, keeper);
+    let kept = held_letter(alloc, keeper, BLOB);
+    [held, put, listed, kept]
+}
+
+#[test]
+fn faults_of_the_folder_lose_nothing(rt: HostRuntime) -> Result<(), Fail> {
+    let alloc = rt.alloc();
+    let folder = "loses-nothing";
+    let mut keeper = FolderKeeper::new(rt.clone()?, String::from_str(alloc, folder)?);
+    assert!(rt; puts(alloc, &mut keeper, BLOB, b"abc"));
+    assert!(rt; makes(&rt, alloc, folder, "e") && makes(&rt, alloc, folder, ENTRY));
+    assert!(rt; at_a_folder(alloc, &mut keeper) == *b"fff");
+    assert!(rt; writes(&rt, alloc, folder, "w"));
+    assert!(rt; below_a_file(alloc, &mut keeper) == *b"fffa");
+    assert!(rt; fs::remove_dir_all(&rt, folder).is_ok());
+    Ok(())
+}
+
+// Puts at the place of the file that is written first a link to a device on which each write meets a full disk.
+fn links_to_full<R: Files>(rt: &R, alloc: Global) -> bool {
+    match format!(in alloc; "full-disk/{BLOB}.new") {
+        Ok(path) => rt.symlink("/dev/full", path.as_str()).is_ok(),
+        Err(_) => false,
+    }
+}
+
+#[test]
+fn a_full_disk_is_a_fault(rt: HostRuntime) -> Result<(), Fail> {
+    let alloc = rt.alloc();
+    let folder = "full-disk";
+    let mut keeper = FolderKeeper::new(rt.clone()?, String::from_str(alloc, folder)?);
+    assert!(rt; puts(alloc, &mut keeper, BLOB, b"abc"));
+    assert!(rt; links_to_full(&rt, alloc));
+    assert!(rt; letter_of(put(alloc, &mut keeper, BLOB, b"new")) == b'f');
+    assert!(rt; holds(alloc, &mut keeper, BLOB, b"abc"));
+    assert!(rt; lists(alloc, &mut keeper, &[BLOB]));
+    assert!(rt; fs::remove_dir_all(&rt, folder).is_ok());
+    Ok(())
+}
+
 fn permit<R: Files>(rt: &R, mode: u32) -> bool {
     fs::set_permissions(rt, "no-permission/b", Permissions::from_mode(mode)).is_ok()
 }
@@ -195,9 +264,9 @@ fn permit<R: Files>(rt: &R, mode: u32) -> bool {
 fn no_permission_is_a_fault(rt: HostRuntime) -> Result<(), Fail> {
     let alloc = rt.alloc();
     let mut keeper = FolderKeeper::new(rt.clone()?, String::from_str(alloc, "no-permission")?);
-    assert!(rt; put(alloc, &mut keeper, BLOB, b"abc").is_ok());
+    assert!(rt; puts(alloc, &mut keeper, BLOB, b"abc"));
     assert!(rt; permit(&rt, 0o555));
-    let is_root = fs::write(&rt, "no-permission/b/more", "x").is_ok();
+    let is_root = writes(&rt, alloc, "no-permission", "b/more");
     let put_letter = letter_of(put(alloc, &mut keeper, BLOB, b"new"));
     let drop_letter = letter_of(drop_name(alloc, &mut keeper, BLOB));
     assert!(rt; permit(&rt, 0));

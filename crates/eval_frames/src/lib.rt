@@ -19,6 +19,3 @@ pub use status::{Status, all_waiting, set_status, status_at};
 
 /// Out of memory, the one refusal that no contract ties to a cause.
 pub type Memory = std::alloc::AllocError;
-
-#[cfg(test)]
-mod tests;

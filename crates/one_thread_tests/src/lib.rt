@@ -4,4 +4,8 @@
 #![tactic(auto)]
 
 #[cfg(test)]
+mod pips;
+#[cfg(test)]
 mod tests;
+#[cfg(test)]
+mod trees;

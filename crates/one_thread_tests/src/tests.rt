@@ -1,250 +1,81 @@
+//! Builds, with their reports and files worked out by hand.
+use crate::pips::plan;
+use crate::trees::{big_sources, sources};
 use build_report::report;
 use bx_io::OpenGate;
-use bx_tree::{FileInput, Path, Text, Tree, TreeFile};
 use one_thread::{Built, build_all, outputs};
-use pip_model::{
-    Arguments, CopyDesc, DirInput, DirInputs, FileInputs, MAX_PIPS, OutDir, OutDirs, Outputs, Pip,
-    PipKind, PipList, Plan, ProcessDesc, SealDesc, SealForm, Sources, Variables, WriteDesc,
-};
+use pip_model::{MadeFile, Plan, Sources};
 use std::alloc::Global;
 use std::test::Fail;
 
-fn path(alloc: Global, text: &str) -> Result<Path, Fail> {
-    if text == "." {
-        return Ok(Path::root(alloc)?);
-    }
-    Ok(Path::read(alloc, text.as_bytes())?)
-}
-
-fn text(alloc: Global, bytes: &str) -> Result<Text, Fail> {
-    Ok(Text::new(alloc, bytes.as_bytes().to_vec(alloc)?)?)
-}
-
-fn number(word: &str) -> Result<u32, Fail> {
-    Ok(word.parse::<u32>()?)
-}
-
-// A file: `path`, or `path@pip`.
-fn file(alloc: Global, word: &str) -> Result<FileInput, Fail> {
-    match word.split_once('@') {
-        Some((name, pip)) => Ok(FileInput::Made(path(alloc, name)?, number(pip)?)),
-        None => Ok(FileInput::Source(path(alloc, word)?)),
-    }
-}
-
-// What a pip says, gathered word by word.
-#[derive(Drop)]
-struct Said {
-    args: Vec<Text>,
-    file: Option<FileInput>,
-    dirs: Vec<DirInput>,
-    outs: Vec<Path>,
-    outdirs: Vec<OutDir>,
-    console: Option<Path>,
-}
-
-fn nothing(alloc: Global) -> Said {
-    Said {
-        args: Vec::new(alloc),
-        file: None,
-        dirs: Vec::new(alloc),
-        outs: Vec::new(alloc),
-        outdirs: Vec::new(alloc),
-        console: None,
-    }
-}
-
-fn form(word: &str) -> SealForm {
-    match word {
-        "full" => SealForm::Full,
-        "partial" => SealForm::Partial,
-        "top" => SealForm::SourceTop,
-        _ => SealForm::SourceAll,
-    }
-}
-
-// A directory: `form:path@pip`, where the form of an opaque one is `opaque`.
-fn dir(alloc: Global, word: &str) -> Result<DirInput, Fail> {
-    let (name, rest) = word.split_once(':').ok_or("a form")?;
-    let (root, pip) = rest.split_once('@').ok_or("a pip")?;
-    match name {
-        "opaque" => Ok(DirInput::Opaque(number(pip)?, path(alloc, root)?)),
-        _ => Ok(DirInput::Sealed(number(pip)?, form(name), path(alloc, root)?)),
-    }
-}
-
-fn outdir(alloc: Global, word: &str, shared: bool) -> Result<OutDir, Fail> {
-    Ok(OutDir {
-        path: path(alloc, word)?,
-        shared,
-    })
-}
-
-// One word of a pip.
-fn hear(alloc: Global, said: &mut Said, word: &str) -> Result<(), Fail> {
-    let (name, value) = word.split_once('=').ok_or("a name and a value")?;
-    match name {
-        "arg" => said.args.push(text(alloc, value)?)?,
-        "file" => said.file = Some(file(alloc, value)?),
-        "dir" => said.dirs.push(dir(alloc, value)?)?,
-        "out" => said.outs.push(path(alloc, value)?)?,
-        "own" => said.outdirs.push(outdir(alloc, value, false)?)?,
-        "shared" => said.outdirs.push(outdir(alloc, value, true)?)?,
-        _ => said.console = Some(path(alloc, value)?),
+fn add_all(seen: &mut Vec<u8>, pieces: &[&[u8]]) -> Result<(), Fail> {
+    for piece in pieces {
+        seen.extend_from_slice(piece)?;
     }
     Ok(())
 }
 
-// The files of a pip that names one at most.
-fn files(alloc: Global, file: Option<FileInput>) -> Result<FileInputs, Fail> {
-    let mut files = Vec::new(alloc);
-    if let Some(file) = file {
-        files.push(file)?;
-        return Ok(FileInputs::of(files));
-    }
-    Ok(FileInputs::of(files))
-}
-
-fn process(alloc: Global, exe: &str, said: Said) -> Result<PipKind, Fail> {
-    Ok(PipKind::Process(ProcessDesc {
-        exe: path(alloc, exe)?,
-        args: Arguments::of(said.args),
-        env: Variables::of(Vec::new(alloc)),
-        dir: Path::root(alloc)?,
-        files: files(alloc, said.file)?,
-        dirs: DirInputs::of(said.dirs),
-        outs: Outputs::of(said.outs),
-        outdirs: OutDirs::of(said.outdirs),
-        console: said.console,
-    }))
-}
-
-// A pip by its first two words, and what the others say.
-fn kind(alloc: Global, name: &str, at: &str, said: Said) -> Result<PipKind, Fail> {
-    let Said { mut args, file, .. } = said;
-    match name {
-        "write" => Ok(PipKind::Write(WriteDesc {
-            to: path(alloc, at)?,
-            text: args.pop().ok_or("a text")?,
-        })),
-        "copy" => Ok(PipKind::Copy(CopyDesc {
-            from: file.ok_or("a file")?,
-            to: path(alloc, at)?,
-        })),
-        _ => Ok(PipKind::Seal(SealDesc {
-            form: form(name),
-            root: path(alloc, at)?,
-            files: files(alloc, file)?,
-        })),
-    }
-}
-
-fn pip(alloc: Global, line: &str) -> Result<Pip, Fail> {
-    let mut said = nothing(alloc);
-    let (name, rest) = line.split_once(' ').ok_or("a kind")?;
-    let mut words = rest.split(' ');
-    let at = words.next().ok_or("a path")?;
-    for word in words {
-        hear(alloc, &mut said, word)?;
-    }
-    let kind = match name {
-        "run" => process(alloc, at, said)?,
-        _ => kind(alloc, name, at, said)?,
-    };
-    let spec = path(alloc, "build.dsc")?;
-    Ok(Pip { spec, kind })
-}
-
-// The lines of the tools that the builds use, between the first line and the last.
-const TOOLS: &[(&str, &str)] = &[
-    ("ls.tool", "list r1, \"/s\"\nwrite r0, r1\n"),
-    ("rd.tool", "read r1, \"/s/x\", end\nwrite r0, r1\n"),
-    ("pr.tool", "probe r1, \"/opt\"\nwrite r0, r1\n"),
-    (
-        "own.tool",
-        "probe r1, r0\nwrite r0, r1\nread r2, r0, end\ncat r2, r2, \"!\"\nwrite r0, r2\n",
-    ),
-    (
-        "peek.tool",
-        "arg r1, 1, end\nread r2, r1, next\nnext: write r0, r1\n",
-    ),
-    ("sh.tool", "cat r0, \"/out/s/\", r0\nwrite r0, \"1\"\n"),
-    ("all.tool", "list r1, \"/out/s\"\nwrite r0, r1\n"),
-    ("say.tool", "say r0\n"),
-    ("bad.tool", "exit 3\n"),
-    ("deep.tool", "probe r1, \"/out/s/d\"\nwrite r0, r1\n"),
-];
-
-fn tree_file(alloc: Global, name: &str, bytes: Vec<u8>) -> Result<TreeFile, Fail> {
-    Ok(TreeFile::new(path(alloc, name)?, bytes))
-}
-
-fn tool(alloc: Global, lines: &str) -> Result<Vec<u8>, Fail> {
-    let mut text = b"tool 1\narg r0, 0, end\n".to_vec(alloc)?;
-    text.extend_from_slice(lines.as_bytes())?;
-    text.extend_from_slice(b"end: exit 0\n")?;
-    Ok(text)
-}
-
-// The tools, and the sources that a text names: `path=bytes`, with `,` between them.
-fn sources(alloc: Global, named: &str) -> Result<Sources, Fail> {
-    let mut files = Vec::new(alloc);
-    for (name, lines) in TOOLS {
-        files.push(tree_file(alloc, name, tool(alloc, lines)?)?)?;
-    }
-    for word in named.split(',') {
-        if let Some((name, bytes)) = word.split_once('=') {
-            files.push(tree_file(alloc, name, bytes.as_bytes().to_vec(alloc)?)?)?;
-        }
-    }
-    let tree = Tree::checked(files).ok_or("no tree")?;
-    Ok(Sources::new(alloc, tree)?)
-}
-
-fn add(pips: &mut PipList, pip: Pip) -> Result<(), Fail> {
-    if pips.pips().len() >= MAX_PIPS || !pips.fits(&pip) {
-        return Err(Fail::from("the pip does not fit"));
-    }
-    pips.push(pip)?;
-    Ok(())
-}
-
-fn plan(alloc: Global, pips: &str, budget: u64) -> Result<Plan, Fail> {
-    let mut list = PipList::new(alloc);
-    for line in pips.split('\n') {
-        if !line.is_empty() {
-            add(&mut list, pip(alloc, line)?)?;
-        }
-    }
-    if list.pips().len() > MAX_PIPS {
-        return Err(Fail::from("too many pips"));
-    }
-    Ok(Plan::build(alloc, list, budget)?)
-}
-
-// Adds the files that were made: `path=bytes`, one a line.
-fn add_outputs(alloc: Global, seen: &mut Vec<u8>, built: &Built) -> Result<(), Fail> {
-    let made = outputs(alloc, &built.slots)?;
-    for file in made.files() {
-        seen.extend_from_slice(file.path.text().as_bytes())?;
-        seen.push(b'=')?;
-        seen.extend_from_slice(file.blob.bytes())?;
-        seen.push(b'\n')?;
+fn add_files(seen: &mut Vec<u8>, files: &[MadeFile]) -> Result<(), Fail> {
+    for file in files {
+        let path = file.path.text().as_bytes();
+        add_all(seen, &[path, b"=", file.blob.bytes(), b"\n"])?;
     }
     Ok(())
 }
 
-// The report of a build, and the files that it made.
-fn built(alloc: Global, named: &str, pips: &str, budget: u64) -> Result<Vec<u8>, Fail> {
-    let sources = sources(alloc, named)?;
-    let plan = plan(alloc, pips, budget)?;
-    let built = build_all(alloc, &plan, &sources, &OpenGate)?;
+fn add_report(alloc: Global, seen: &mut Vec<u8>, plan: &Plan, built: &Built) -> Result<(), Fail> {
     if built.verdicts.len() != plan.pips().len() {
-        return Err(Fail::from("a verdict for each pip"));
+        return Err("a verdict for each pip".into());
     }
-    let mut seen = report(alloc, &plan, &built.verdicts)?;
-    add_outputs(alloc, &mut seen, &built)?;
+    let text = report(alloc, plan, built.verdicts.as_slice())?;
+    seen.extend_from_slice(text.as_slice())?;
+    Ok(())
+}
+
+// Adds the report of a build, and the files that it made: `path=bytes`, one a line.
+fn add_built(alloc: Global, seen: &mut Vec<u8>, plan: &Plan, built: &Built) -> Result<(), Fail> {
+    add_report(alloc, seen, plan, built)?;
+    let made = outputs(alloc, built.slots.as_slice())?;
+    add_files(seen, made.files())
+}
+
+fn add_build(
+    alloc: Global,
+    seen: &mut Vec<u8>,
+    plan: &Plan,
+    sources: &Sources,
+) -> Result<(), Fail> {
+    let built = build_all(alloc, plan, sources, &OpenGate)?;
+    add_built(alloc, seen, plan, &built)
+}
+
+// The report of a build, and its files.
+fn shown(alloc: Global, plan: &Plan, sources: &Sources) -> Result<Vec<u8>, Fail> {
+    let mut seen = Vec::new(alloc);
+    add_build(alloc, &mut seen, plan, sources)?;
     Ok(seen)
+}
+
+fn shown_by(alloc: Global, sources: &Sources, pips: &str, budget: u64) -> Result<Vec<u8>, Fail> {
+    let plan = plan(alloc, pips, budget)?;
+    shown(alloc, &plan, sources)
+}
+
+// Whether a build of these pips over these sources gives this after the first line of its report.
+fn is_built(alloc: Global, named: &str, pips: &str, budget: u64, rest: &str) -> Result<bool, Fail> {
+    let sources = sources(alloc, named)?;
+    let seen = shown_by(alloc, &sources, pips, budget)?;
+    Ok(seen.as_slice().strip_prefix(b"report 1\n") == Some(rest.as_bytes()))
+}
+
+// The pips of the first of these builds that gives something else.
+fn wrong<'a>(alloc: Global, builds: &'a [(&'a str, &'a str, &'a str)]) -> Result<&'a str, Fail> {
+    for (named, pips, rest) in builds {
+        if !is_built(alloc, named, pips, 100, rest)? {
+            return Ok(pips);
+        }
+    }
+    Ok("none")
 }
 
 // Sources, pips, and what the build of them gives after its first line.
@@ -257,59 +88,170 @@ const BUILDS: &[(&str, &str, &str)] = &[
         pip 3 seal succeeded\nout/a=hi\nout/b=hi\nout/c=A\n",
     ),
     (
-        "s/x=X,s/y/z=Z",
-        "all s\nrun ls.tool arg=out/l out=out/l dir=all:s@0\nrun rd.tool arg=out/r out=out/r dir=all:s@0",
+        "",
+        "run quit.tool shared=out/s out=out/n\ncopy out/c file=out/n@0\npartial out file=out/c@1\nwrite out/w arg=w",
+        "verdict failed\npip 0 process failed exit 3\npip 1 copy skipped\npip 2 seal skipped\n\
+        pip 3 write succeeded\nout/w=w\n",
+    ),
+    (
+        "",
+        "run say.tool arg=hi console=out/c\nrun say.tool arg=hi out=out/n",
+        "verdict failed\npip 0 process succeeded\npip 1 process failed missing-output out/n\nout/c=hi\n\n",
+    ),
+    (
+        "",
+        "run own.tool arg=/out/o out=out/o",
+        "verdict succeeded\npip 0 process succeeded\nout/o=absent!\n",
+    ),
+];
+
+#[test]
+fn each_kind_of_pip_makes_its_files(rt: HostRuntime) -> Result<(), Fail> {
+    assert_eq!(rt; wrong(rt.alloc(), BUILDS)?, "none");
+    Ok(())
+}
+
+const DIRECTORIES: &[(&str, &str, &str)] = &[
+    (
+        "s/x=X",
+        "top s\nrun ls.tool arg=/out/l out=out/l dir=top:s@0\nrun rd.tool arg=/out/r out=out/r dir=top:s@0",
+        "verdict succeeded\npip 0 seal succeeded\npip 1 process succeeded\npip 2 process succeeded\n\
+        out/l=x\n\nout/r=X\n",
+    ),
+    (
+        "s/x=X,s/y=Y",
+        "top s\nrun ls.tool arg=/out/l out=out/l dir=top:s@0\nrun rd.tool arg=/out/r out=out/r dir=top:s@0",
         "verdict succeeded\npip 0 seal succeeded\npip 1 process succeeded\npip 2 process succeeded\n\
         out/l=x\ny\n\nout/r=X\n",
     ),
     (
-        "s/x=X",
-        "run rd.tool arg=out/r out=out/r\nrun ls.tool arg=out/l out=out/l",
-        "verdict failed\npip 0 process failed MissingSourceDependency read s/x\npip 1 process succeeded\n\
-        out/l=x\n\n",
-    ),
-    (
         "s/t/x=X",
-        "top s\nrun peek.tool arg=out/r arg=s/t/x out=out/r dir=top:s@0",
-        "verdict failed\npip 0 seal succeeded\n\
-        pip 1 process failed MissingSourceDependency read s/t/x\n",
+        "top s\nrun get.tool arg=/out/r arg=/s/t/x out=out/r dir=top:s@0\n\
+        all s\nrun get.tool arg=/out/q arg=/s/t/x out=out/q dir=all:s@2",
+        "verdict failed\npip 0 seal succeeded\npip 1 process failed MissingSourceDependency read s/t/x\n\
+        pip 2 seal succeeded\npip 3 process succeeded\nout/q=X\n",
     ),
     (
         "",
-        "run pr.tool arg=out/p out=out/p",
+        "run pr.tool arg=/out/p out=out/p",
         "verdict succeeded\npip 0 process succeeded\nout/p=absent\n",
     ),
     (
         "opt=o",
-        "run pr.tool arg=out/p out=out/p",
+        "run pr.tool arg=/out/p out=out/p",
         "verdict succeeded\npip 0 process succeeded\nout/p=file\n",
     ),
     (
         "opt/o=o",
-        "run pr.tool arg=out/p out=out/p",
+        "run pr.tool arg=/out/p out=out/p",
         "verdict succeeded\npip 0 process succeeded\nout/p=directory\n",
     ),
     (
         "",
-        "run own.tool arg=out/o out=out/o",
-        "verdict succeeded\npip 0 process succeeded\nout/o=absent!\n",
+        "run mk.tool arg=/out/d own=out/d\nrun lo.tool arg=/out/l out=out/l dir=opaque:out/d@0",
+        "verdict succeeded\npip 0 process succeeded\npip 1 process succeeded\nout/d/f=1\nout/l=f\n\n",
     ),
     (
+        "",
+        "run mk.tool arg=/out/d own=out/d\nrun lo.tool arg=/out/l out=out/l",
+        "verdict succeeded\npip 0 process succeeded\npip 1 process succeeded\nout/d/f=1\nout/l=\n",
+    ),
+];
+
+#[test]
+fn processes_see_what_they_take(rt: HostRuntime) -> Result<(), Fail> {
+    assert_eq!(rt; wrong(rt.alloc(), DIRECTORIES)?, "none");
+    Ok(())
+}
+
+const READS: &[(&str, &str, &str)] = &[
+    (
         "h.h=h",
-        "run peek.tool arg=out/u arg=h.h out=out/u\nrun peek.tool arg=out/v arg=none out=out/v file=out/u@0\n\
+        "run peek.tool arg=/out/u arg=/h.h out=out/u\nrun peek.tool arg=/out/v arg=/none out=out/v file=out/u@0\n\
         write out/w arg=w",
         "verdict failed\npip 0 process failed MissingSourceDependency read h.h\npip 1 process skipped\n\
         pip 2 write succeeded\nout/w=w\n",
     ),
     (
+        "h.h=h",
+        "run look.tool arg=/out/p arg=/h.h out=out/p\nrun get.tool arg=/out/q arg=/h.h out=out/q file=h.h",
+        "verdict succeeded\npip 0 process succeeded\npip 1 process succeeded\nout/p=file\nout/q=h\n",
+    ),
+    (
         "",
-        "write out/a arg=A\nrun peek.tool arg=out/b arg=none out=out/b file=out/a@0\n\
-        run peek.tool arg=out/c arg=out/a out=out/c file=out/b@1\nrun peek.tool arg=out/d arg=out/a out=out/d\n\
-        run peek.tool arg=out/e arg=out/f out=out/e\nrun peek.tool arg=out/f arg=none out=out/f file=out/e@4",
+        "write out/a arg=A\nrun peek.tool arg=/out/b arg=/none out=out/b file=out/a@0\n\
+        run peek.tool arg=/out/c arg=/out/a out=out/c file=out/b@1\nrun peek.tool arg=/out/d arg=/out/a out=out/d\n\
+        run peek.tool arg=/out/e arg=/out/f out=out/e\nrun peek.tool arg=/out/f arg=/none out=out/f file=out/e@4",
         "verdict failed\npip 0 write succeeded\npip 1 process succeeded\n\
         pip 2 process failed UndeclaredOrderedRead read out/a pip 0\n\
         pip 3 process failed ReadRace read out/a pip 0\n\
-        pip 4 process failed UndeclaredReadCycle read out/f pip 5\npip 5 process skipped\nout/a=A\nout/b=none\n",
+        pip 4 process failed UndeclaredReadCycle read out/f pip 5\npip 5 process skipped\nout/a=A\nout/b=/none\n",
+    ),
+    (
+        "",
+        "write out/a arg=A\nrun get.tool arg=/out/b arg=/out/a out=out/b file=out/a@0\n\
+        run look.tool arg=/out/c arg=/out/a out=out/c file=out/b@1",
+        "verdict failed\npip 0 write succeeded\npip 1 process succeeded\n\
+        pip 2 process failed UndeclaredOrderedRead probe out/a pip 0\nout/a=A\nout/b=A\n",
+    ),
+    (
+        "",
+        "run look.tool arg=/out/a arg=/out/b out=out/a\nwrite out/b arg=B",
+        "verdict failed\npip 0 process failed ReadRace probe out/b pip 1\npip 1 write succeeded\nout/b=B\n",
+    ),
+    (
+        "",
+        "run sh.tool arg=a own=out/s\nrun look.tool arg=/out/p arg=/out/s/b out=out/p dir=opaque:out/s@0\n\
+        run look.tool arg=/out/q arg=/out/s/b out=out/q\nrun look.tool arg=/out/r arg=/out/s out=out/r\n\
+        run look.tool arg=/out/t arg=/out/s out=out/t dir=opaque:out/s@0",
+        "verdict failed\npip 0 process succeeded\npip 1 process succeeded\n\
+        pip 2 process failed ReadRace probe out/s/b pip 0\npip 3 process succeeded\npip 4 process succeeded\n\
+        out/p=absent\nout/r=absent\nout/s/a=1\nout/t=directory\n",
+    ),
+    (
+        "",
+        "run sh.tool arg=d/e shared=out/s\nrun sh.tool arg=f shared=out/s\n\
+        run look.tool arg=/out/p arg=/out/s/d out=out/p\n\
+        run look.tool arg=/out/q arg=/out/s/d out=out/q dir=opaque:out/s@0\n\
+        run look.tool arg=/out/r arg=/out/s/d out=out/r dir=opaque:out/s@0 dir=opaque:out/s@1",
+        "verdict failed\npip 0 process succeeded\npip 1 process succeeded\n\
+        pip 2 process failed ReadRace probe out/s/d pip 0\npip 3 process failed ReadRace probe out/s/d pip 1\n\
+        pip 4 process succeeded\nout/r=directory\nout/s/d/e=1\nout/s/f=1\n",
+    ),
+    (
+        "",
+        "run look.tool arg=/out/s/p arg=/out/s/x shared=out/s",
+        "verdict succeeded\npip 0 process succeeded\nout/s/p=absent\n",
+    ),
+    (
+        "",
+        "run look.tool arg=/out/s/p arg=/out/s/x shared=out/s\nrun sh.tool arg=a shared=out/s",
+        "verdict failed\npip 0 process failed ReadRace probe out/s/x pip 1\npip 1 process succeeded\nout/s/a=1\n",
+    ),
+];
+
+#[test]
+fn undeclared_reads_and_probes_fail_by_their_edges(rt: HostRuntime) -> Result<(), Fail> {
+    assert_eq!(rt; wrong(rt.alloc(), READS)?, "none");
+    Ok(())
+}
+
+const WRITES: &[(&str, &str, &str)] = &[
+    (
+        "",
+        "run sh.tool arg=b/c own=out/s\nrun sh.tool arg=../t own=out/u\nrun sh.tool arg=../v out=out/v",
+        "verdict failed\npip 0 process succeeded\npip 1 process failed UndeclaredOutput write out/t\n\
+        pip 2 process succeeded\nout/s/b/c=1\nout/v=1\n",
+    ),
+    (
+        "",
+        "run sh.tool arg=. own=out/s",
+        "verdict failed\npip 0 process failed UndeclaredOutput write out/s\n",
+    ),
+    (
+        "",
+        "run sh.tool arg=c console=out/s/c",
+        "verdict failed\npip 0 process failed UndeclaredOutput write out/s/c\n",
     ),
     (
         "",
@@ -328,35 +270,57 @@ const BUILDS: &[(&str, &str, &str)] = &[
     ),
     (
         "",
+        "run sh.tool arg=a shared=out/s\nrun sh.tool arg=ab shared=out/s",
+        "verdict succeeded\npip 0 process succeeded\npip 1 process succeeded\nout/s/a=1\nout/s/ab=1\n",
+    ),
+    (
+        "",
+        "run sh.tool arg=a/x shared=out/s\nrun sh.tool arg=a/y shared=out/s\nrun sh.tool arg=a shared=out/s\n\
+        run look.tool arg=/out/p arg=/none out=out/p dir=opaque:out/s@2",
+        "verdict failed\npip 0 process succeeded\npip 1 process succeeded\n\
+        pip 2 process failed DoubleWrite write out/s/a pip 0\npip 3 process skipped\nout/s/a/x=1\nout/s/a/y=1\n",
+    ),
+    (
+        "",
+        "run sh.tool arg=c shared=out/s\nrun sh.tool arg=b shared=out/s\nrun two.tool shared=out/s",
+        "verdict failed\npip 0 process succeeded\npip 1 process succeeded\n\
+        pip 2 process failed DoubleWrite write out/s/b pip 1\nout/s/b=1\nout/s/c=1\n",
+    ),
+    (
+        "",
         "run sh.tool arg=a shared=out/s out=out/n\nrun sh.tool arg=a shared=out/s",
         "verdict failed\npip 0 process failed missing-output out/n\npip 1 process succeeded\nout/s/a=1\n",
     ),
+];
+
+#[test]
+fn writes_fail_where_they_may_not_be_or_clash(rt: HostRuntime) -> Result<(), Fail> {
+    assert_eq!(rt; wrong(rt.alloc(), WRITES)?, "none");
+    Ok(())
+}
+
+const CAUSES: &[(&str, &str, &str)] = &[
     (
         "",
-        "run sh.tool arg=a own=out/s\nrun all.tool arg=out/l out=out/l dir=opaque:out/s@0\nrun all.tool arg=out/m out=out/m",
-        "verdict succeeded\npip 0 process succeeded\npip 1 process succeeded\npip 2 process succeeded\n\
-        out/l=a\n\nout/m=\nout/s/a=1\n",
+        "run sh.tool arg=a out=out/b",
+        "verdict failed\npip 0 process failed UndeclaredOutput write out/s/a\n",
     ),
     (
         "",
-        "run sh.tool arg=d/e shared=out/s\nrun sh.tool arg=f shared=out/s\n\
-        run deep.tool arg=out/p out=out/p dir=opaque:out/s@0",
-        "verdict failed\npip 0 process succeeded\npip 1 process succeeded\n\
-        pip 2 process failed ReadRace probe out/s/d pip 1\nout/s/d/e=1\nout/s/f=1\n",
+        "run sh.tool arg=a shared=out/s\nrun lost.tool shared=out/s out=out/l\nrun quit.tool shared=out/s out=out/m\n\
+        run sh.tool arg=a shared=out/s out=out/n\nrun sh.tool arg=a shared=out/s",
+        "verdict failed\npip 0 process succeeded\npip 1 process failed tool BadPath\npip 2 process failed exit 3\n\
+        pip 3 process failed missing-output out/n\npip 4 process failed DoubleWrite write out/s/a pip 0\nout/s/a=1\n",
     ),
     (
         "",
-        "run sh.tool arg=d/e shared=out/s\nrun sh.tool arg=f shared=out/s\n\
-        run deep.tool arg=out/p out=out/p dir=opaque:out/s@0 dir=opaque:out/s@1",
-        "verdict succeeded\npip 0 process succeeded\npip 1 process succeeded\npip 2 process succeeded\n\
-        out/p=directory\nout/s/d/e=1\nout/s/f=1\n",
+        "run bare.tool out=out/n out=out/m\nrun bare.tool",
+        "verdict failed\npip 0 process failed missing-output out/m\npip 1 process succeeded\n",
     ),
     (
         "",
-        "run say.tool arg=hi console=out/c\nrun bad.tool arg=x\nrun say.tool arg=hi out=out/n\n\
-        run sh.tool arg=a out=out/b",
-        "verdict failed\npip 0 process succeeded\npip 1 process failed exit 3\n\
-        pip 2 process failed missing-output out/n\npip 3 process failed UndeclaredOutput write out/s/a\nout/c=hi\n\n",
+        "run nest.tool own=out/s",
+        "verdict failed\npip 0 process failed tool NotADirectory\n",
     ),
     (
         "no.tool=tool 3",
@@ -365,29 +329,48 @@ const BUILDS: &[(&str, &str, &str)] = &[
     ),
 ];
 
-// Whether the report and the files of a build are these, after the first line of the report.
-fn is_built(alloc: Global, named: &str, pips: &str, rest: &str) -> Result<bool, Fail> {
-    let mut expected = b"report 1\n".to_vec(alloc)?;
-    expected.extend_from_slice(rest.as_bytes())?;
-    Ok(built(alloc, named, pips, 100)? == expected)
+#[test]
+fn the_first_cause_in_order_is_reported(rt: HostRuntime) -> Result<(), Fail> {
+    assert_eq!(rt; wrong(rt.alloc(), CAUSES)?, "none");
+    Ok(())
 }
 
+// Two files that are compiled with a header, and linked.
+const LINKED: &str =
+    "top src\nrun src/cc.tool in=src arg=/src/a.c arg=/out/a.o file=src/a.c out=out/a.o dir=top:src@0\n\
+run src/cc.tool in=src arg=/src/b.c arg=/out/b.o file=src/b.c out=out/b.o dir=top:src@0\n\
+run src/link.tool in=src arg=/out/app arg=/out/a.o arg=/out/b.o file=out/a.o@1 file=out/b.o@2 out=out/app\n\
+partial out file=out/app@3";
+
+const HEADED: &str = "src/a.c=include h.h\nint a\n,src/b.c=int b\n,src/h.h=int h\n";
+
 #[test]
-fn builds_give_what_is_worked_out_by_hand(rt: HostRuntime) -> Result<(), Fail> {
-    let alloc = rt.alloc();
-    for (named, pips, rest) in BUILDS {
-        assert!(rt; is_built(alloc, named, pips, rest)?);
+fn two_files_are_linked_where_the_budget_allows(rt: HostRuntime) -> Result<(), Fail> {
+    let linked =
+        "verdict succeeded\npip 0 seal succeeded\npip 1 process succeeded\npip 2 process succeeded\n\
+        pip 3 process succeeded\npip 4 seal succeeded\nout/a.o=int h\nint a\n\nout/app=int h\nint a\nint b\n\n\
+        out/b.o=int b\n\n";
+    let short =
+        "verdict failed\npip 0 seal succeeded\npip 1 process failed tool Budget\npip 2 process succeeded\n\
+        pip 3 process skipped\npip 4 seal skipped\nout/b.o=int b\n\n";
+    for (budget, rest) in [(100, linked), (21, linked), (20, short)] {
+        assert!(rt; is_built(rt.alloc(), HEADED, LINKED, budget, rest)?);
     }
     Ok(())
 }
 
+fn big_begins(alloc: Global, count: usize, text: &str) -> Result<bool, Fail> {
+    let sources = big_sources(alloc, count)?;
+    let pips = "run rb.tool arg=/out/o file=big out=out/o";
+    let seen = shown_by(alloc, &sources, pips, 100)?;
+    Ok(seen.starts_with(text.as_bytes()))
+}
+
 #[test]
-fn a_tool_that_takes_more_steps_than_it_may_fails(rt: HostRuntime) -> Result<(), Fail> {
-    let alloc = rt.alloc();
-    let pips = "run pr.tool arg=out/p out=out/p";
-    let short = b"report 1\nverdict failed\npip 0 process failed tool Budget\n".as_slice();
-    let enough = b"report 1\nverdict succeeded\npip 0 process succeeded\nout/p=absent\n".as_slice();
-    assert!(rt; built(alloc, "", pips, 3)?.as_slice() == short);
-    assert!(rt; built(alloc, "", pips, 4)?.as_slice() == enough);
+fn a_file_that_fits_no_register_is_too_long(rt: HostRuntime) -> Result<(), Fail> {
+    let long = "report 1\nverdict failed\npip 0 process failed tool TooLong\n";
+    let fits = "report 1\nverdict succeeded\npip 0 process succeeded\n";
+    assert!(rt; big_begins(rt.alloc(), 1_048_577, long)?);
+    assert!(rt; big_begins(rt.alloc(), 1_048_576, fits)?);
     Ok(())
 }

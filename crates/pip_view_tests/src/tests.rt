@@ -91,17 +91,18 @@ fn taken(alloc: Global) -> Result<DirInputs, Fail> {
 }
 
 fn copy(alloc: Global) -> Result<PipKind, Fail> {
+    let to = path(alloc, "out/c")?;
+    let from = path(alloc, "out/x")?;
     Ok(PipKind::Copy(CopyDesc {
-        from: FileInput::Made(path(alloc, "out/x")?, 0),
-        to: path(alloc, "out/c")?,
+        from: FileInput::Made(from, 0),
+        to,
     }))
 }
 
 fn write(alloc: Global) -> Result<PipKind, Fail> {
-    Ok(PipKind::Write(WriteDesc {
-        to: path(alloc, "out/w")?,
-        text: Text::new(alloc, b"hi".to_vec(alloc)?)?,
-    }))
+    let to = path(alloc, "out/w")?;
+    let text = Text::new(alloc, b"hi".to_vec(alloc)?)?;
+    Ok(PipKind::Write(WriteDesc { to, text }))
 }
 
 fn kind(alloc: Global, number: usize) -> Result<PipKind, Fail> {
@@ -114,28 +115,40 @@ fn kind(alloc: Global, number: usize) -> Result<PipKind, Fail> {
     }
 }
 
-fn add(alloc: Global, pips: &mut PipList, kind: PipKind) -> Result<(), Fail> {
-    let pip = Pip {
-        spec: path(alloc, "build.dsc")?,
-        kind,
-    };
+fn add(pips: &mut PipList, pip: Pip) -> Result<(), Fail> {
     if pips.pips().len() >= MAX_PIPS || !pips.fits(&pip) {
-        return Err(Fail::from("the pip does not fit"));
+        drop(pip);
+        return Err("the pip does not fit".into());
     }
     pips.push(pip)?;
     Ok(())
 }
 
+fn add_pip(alloc: Global, pips: &mut PipList, number: usize) -> Result<(), Fail> {
+    let spec = path(alloc, "build.dsc")?;
+    let kind = kind(alloc, number)?;
+    add(pips, Pip { spec, kind })
+}
+
+fn add_pips(alloc: Global, pips: &mut PipList) -> Result<(), Fail> {
+    for number in 0..5 {
+        add_pip(alloc, pips, number)?;
+    }
+    Ok(())
+}
+
+fn plan_of(alloc: Global, pips: PipList) -> Result<Plan, Fail> {
+    if pips.pips().len() > MAX_PIPS {
+        return Err("too many pips".into());
+    }
+    Ok(Plan::build(alloc, pips, 100)?)
+}
+
 // Pip 2 takes a directory of pip 0 and the seal that pip 1 is, pip 3 copies a file, and pip 4 writes one.
 fn plan(alloc: Global) -> Result<Plan, Fail> {
     let mut pips = PipList::new(alloc);
-    for number in 0..5 {
-        add(alloc, &mut pips, kind(alloc, number)?)?;
-    }
-    if pips.pips().len() > MAX_PIPS {
-        return Err(Fail::from("too many pips"));
-    }
-    Ok(Plan::build(alloc, pips, 100)?)
+    add_pips(alloc, &mut pips)?;
+    plan_of(alloc, pips)
 }
 
 const SOURCES: &[(&str, &str)] = &[
@@ -145,24 +158,45 @@ const SOURCES: &[(&str, &str)] = &[
     ("readme", "r"),
 ];
 
+fn add_source(
+    alloc: Global,
+    files: &mut Vec<TreeFile>,
+    name: &str,
+    text: &str,
+) -> Result<(), Fail> {
+    let path = path(alloc, name)?;
+    let bytes = text.as_bytes().to_vec(alloc)?;
+    files.push(TreeFile::new(path, bytes))?;
+    Ok(())
+}
+
+fn add_sources(alloc: Global, files: &mut Vec<TreeFile>) -> Result<(), Fail> {
+    for (name, text) in SOURCES {
+        add_source(alloc, files, name, text)?;
+    }
+    Ok(())
+}
+
 fn sources(alloc: Global) -> Result<Sources, Fail> {
     let mut files = Vec::new(alloc);
-    for (file, text) in SOURCES {
-        files.push(TreeFile::new(path(alloc, file)?, text.as_bytes().to_vec(alloc)?))?;
+    add_sources(alloc, &mut files)?;
+    match Tree::checked(files) {
+        Some(tree) => Ok(Sources::new(alloc, tree)?),
+        None => Err("no tree".into()),
     }
-    let tree = Tree::checked(files).ok_or("no tree")?;
-    Ok(Sources::new(alloc, tree)?)
+}
+
+fn with(alloc: Global, made: &Made, file: &str, text: &str) -> Result<Made, Fail> {
+    let path = path(alloc, file)?;
+    let blob = bytes(alloc, text)?;
+    Ok(with_file(alloc, made, path, blob)?)
 }
 
 // What pip 0 made: its file, and one in its directory.
 fn made(alloc: Global) -> Result<Made, Fail> {
-    let made = with_file(
-        alloc,
-        &no_files(alloc)?,
-        path(alloc, "out/x")?,
-        bytes(alloc, "x")?,
-    )?;
-    Ok(with_file(alloc, &made, path(alloc, "out/d/f")?, bytes(alloc, "in")?)?)
+    let none = no_files(alloc)?;
+    let one = with(alloc, &none, "out/x", "x")?;
+    with(alloc, &one, "out/d/f", "in")
 }
 
 fn slots(alloc: Global) -> Result<Vec<Slot>, Fail> {
@@ -182,22 +216,34 @@ fn inputs(alloc: Global, plan: &Plan, pip: u32) -> Result<Inputs, Fail> {
     Ok(Inputs::of(alloc, plan, pip, &slots)?)
 }
 
-// Files as a text of path and bytes.
-fn shown(alloc: Global, made: &Made) -> Result<Vec<u8>, Fail> {
-    let mut text = Vec::new(alloc);
-    for file in made.files() {
-        text.extend_from_slice(file.path.text().as_bytes())?;
-        text.push(b'=')?;
-        text.extend_from_slice(file.blob.bytes())?;
+fn add_all(text: &mut Vec<u8>, pieces: &[&[u8]]) -> Result<(), Fail> {
+    for piece in pieces {
+        text.extend_from_slice(piece)?;
     }
-    Ok(text)
+    Ok(())
 }
 
-fn made_by(alloc: Global, pip: u32) -> Result<Vec<u8>, Fail> {
+fn add_made(text: &mut Vec<u8>, made: &Made) -> Result<(), Fail> {
+    for file in made.files() {
+        let path = file.path.text().as_bytes();
+        add_all(text, &[path, b"=", file.blob.bytes()])?;
+    }
+    Ok(())
+}
+
+fn add_plain(alloc: Global, text: &mut Vec<u8>, plan: &Plan, pip: u32) -> Result<(), Fail> {
+    let sources = sources(alloc)?;
+    let inputs = inputs(alloc, plan, pip)?;
+    let made = plain(alloc, plan, &sources, pip, &inputs)?;
+    add_made(text, &made)
+}
+
+// Whether these are the files that a pip makes: path and bytes of each.
+fn makes(alloc: Global, pip: u32, files: &str) -> Result<bool, Fail> {
     let plan = plan(alloc)?;
-    let inputs = inputs(alloc, &plan, pip)?;
-    let made = plain(alloc, &plan, &sources(alloc)?, pip, &inputs)?;
-    shown(alloc, &made)
+    let mut text = Vec::new(alloc);
+    add_plain(alloc, &mut text, &plan, pip)?;
+    Ok(text.as_slice() == files.as_bytes())
 }
 
 const MADE: &[(u32, &str)] = &[(1, ""), (3, "out/c=x"), (4, "out/w=hi")];
@@ -206,26 +252,30 @@ const MADE: &[(u32, &str)] = &[(1, ""), (3, "out/c=x"), (4, "out/w=hi")];
 fn a_seal_makes_nothing_a_copy_its_file_and_a_write_its_text(rt: HostRuntime) -> Result<(), Fail> {
     let alloc = rt.alloc();
     for (pip, files) in MADE {
-        assert!(rt; made_by(alloc, *pip)?.as_slice() == files.as_bytes());
+        assert!(rt; makes(alloc, *pip, files)?);
     }
     Ok(())
 }
 
-// The bytes of the tool of pip 2, as it is described.
-fn described(alloc: Global) -> Result<Vec<u8>, Fail> {
+// Whether these are the bytes of the tool of pip 2, as it is described.
+fn is_tool(alloc: Global, plan: &Plan, inputs: &Inputs, bytes: &str) -> Result<bool, Fail> {
+    if pip_inputs::process_at(plan.pips(), 2).is_none() {
+        return Err("no process".into());
+    }
+    let sources = sources(alloc)?;
+    let desc = desc(alloc, plan, &sources, 2, inputs)?;
+    Ok(desc.exe.bytes() == bytes.as_bytes())
+}
+
+fn has_tool(alloc: Global, bytes: &str) -> Result<bool, Fail> {
     let plan = plan(alloc)?;
     let inputs = inputs(alloc, &plan, 2)?;
-    if pip_inputs::process_at(plan.pips(), 2).is_none() {
-        return Err(Fail::from("no process"));
-    }
-    let desc = desc(alloc, &plan, &sources(alloc)?, 2, &inputs)?;
-    Ok(desc.exe.bytes().to_vec(alloc)?)
+    is_tool(alloc, &plan, &inputs, bytes)
 }
 
 #[test]
 fn a_process_is_described_with_its_tool(rt: HostRuntime) -> Result<(), Fail> {
-    let alloc = rt.alloc();
-    assert!(rt; described(alloc)?.as_slice() == b"tool 1\n".as_slice());
+    assert!(rt; has_tool(rt.alloc(), "tool 1\n")?);
     Ok(())
 }
 
@@ -244,19 +294,26 @@ fn shown_as(answer: &Answer) -> &[u8] {
 // Whether this is what a view answers.
 fn is_answer(alloc: Global, view: &mut PipView<'_>, ask: &Ask, answer: &str) -> Result<bool, Fail> {
     let given = view.ask(alloc, ask)?;
-    Ok(shown_as(&given) == answer.as_bytes())
+    let same = shown_as(&given) == answer.as_bytes();
+    drop(given);
+    Ok(same)
 }
 
 // Whether this is what pip 2 is answered.
-fn is_seen(alloc: Global, ask: &Ask, answer: &str) -> Result<bool, Fail> {
-    let plan = plan(alloc)?;
-    let sources = sources(alloc)?;
-    let inputs = inputs(alloc, &plan, 2)?;
+fn is_seen(alloc: Global, plan: &Plan, ask: &Ask, answer: &str) -> Result<bool, Fail> {
     if plan.pips().len() < 3 {
-        return Err(Fail::from("no such pip"));
+        return Err("no such pip".into());
     }
-    let mut view = PipView::new(alloc, &plan, &sources, 2, &inputs)?;
+    let sources = sources(alloc)?;
+    let inputs = inputs(alloc, plan, 2)?;
+    let mut view = PipView::new(alloc, plan, &sources, 2, &inputs)?;
     is_answer(alloc, &mut view, ask, answer)
+}
+
+fn sees(alloc: Global, kind: AskKind, file: &str, answer: &str) -> Result<bool, Fail> {
+    let path = path(alloc, file)?;
+    let plan = plan(alloc)?;
+    is_seen(alloc, &plan, &Ask { kind, path }, answer)
 }
 
 const ASKS: &[(AskKind, &str, &str)] = &[
@@ -282,11 +339,7 @@ const ASKS: &[(AskKind, &str, &str)] = &[
 fn a_view_answers_by_the_first_rule_that_applies(rt: HostRuntime) -> Result<(), Fail> {
     let alloc = rt.alloc();
     for (kind, file, answer) in ASKS {
-        let ask = Ask {
-            kind: *kind,
-            path: path(alloc, file)?,
-        };
-        assert!(rt; is_seen(alloc, &ask, answer)?);
+        assert!(rt; sees(alloc, *kind, file, answer)?, "{file}");
     }
     Ok(())
 }

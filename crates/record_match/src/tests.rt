@@ -56,11 +56,13 @@ fn no_files(alloc: Global) -> Result<Made, Fail> {
 
 // The process of a weak text, with that tool.
 fn desc(alloc: Global, weak: &str) -> Result<Desc, Fail> {
+    let exe = blob(alloc, TOOL)?;
+    let files = no_files(alloc)?;
     let parts = read_weak(alloc, weak.as_bytes())?;
     Ok(Desc {
         process: parts.process,
-        exe: blob(alloc, TOOL)?,
-        files: no_files(alloc)?,
+        exe,
+        files,
         budget: parts.budget,
     })
 }
@@ -72,64 +74,89 @@ fn given(alloc: Global, second: &Answer) -> Result<Vec<Answer>, Fail> {
     Ok(answers)
 }
 
+// The record of a run on these answers, if there is one to each ask.
+fn replayed(
+    alloc: Global,
+    desc: Desc,
+    paths: &PathSet,
+    answers: Vec<Answer>,
+) -> Result<Option<Record>, Fail> {
+    if answers.len() != paths.asks().len() {
+        return Ok(None);
+    }
+    Ok(replay(alloc, desc, paths, answers)?)
+}
+
 // The record of a run in which `a` is absent, and `b` has this answer.
 fn record(alloc: Global, second: &Answer) -> Result<Option<Record>, Fail> {
     let paths = PathSet::read(alloc, b"paths 1\nprobe a\nprobe b\n")?;
     let answers = given(alloc, second)?;
-    if answers.len() != paths.asks().len() {
-        return Ok(None);
-    }
-    Ok(replay(alloc, desc(alloc, WEAK)?, &paths, answers)?)
+    replayed(alloc, desc(alloc, WEAK)?, &paths, answers)
 }
 
-fn add_digest(alloc: Global, text: &mut Vec<u8>, digest: &Digest) -> Result<(), Fail> {
-    text.extend_from_slice(digest.hex(alloc)?.as_bytes())?;
-    text.push(b'\n')?;
+fn add_all(text: &mut Vec<u8>, pieces: &[&[u8]]) -> Result<(), Fail> {
+    for piece in pieces {
+        text.extend_from_slice(piece)?;
+    }
     Ok(())
+}
+
+fn add_digests(
+    alloc: Global,
+    text: &mut Vec<u8>,
+    word: &str,
+    held: &Digest,
+    now: &Digest,
+) -> Result<(), Fail> {
+    let held = held.hex(alloc)?;
+    let now = now.hex(alloc)?;
+    let pieces = &[
+        word.as_bytes(),
+        held.as_bytes(),
+        b"\n",
+        now.as_bytes(),
+        b"\n",
+    ];
+    add_all(text, pieces)
 }
 
 // Adds what a comparison came to.
 fn add_match(alloc: Global, text: &mut Vec<u8>, found: &Match) -> Result<(), Fail> {
     match found {
-        Match::Same => text.extend_from_slice(b"same\n")?,
-        Match::OtherDesc { held, now } => {
-            text.extend_from_slice(b"other\n")?;
-            add_digest(alloc, text, held)?;
-            add_digest(alloc, text, now)?;
-        }
-        Match::Differs { index, held, now } => {
-            text.extend_from_slice(if *index == 1 {
-                b"second\n"
-            } else {
-                b"differs\n"
-            })?;
-            add_digest(alloc, text, held)?;
-            add_digest(alloc, text, now)?;
-        }
-        Match::Memory => text.extend_from_slice(b"memory\n")?,
+        Match::Same => add_all(text, &[b"same\n"]),
+        Match::OtherDesc { held, now } => add_digests(alloc, text, "other\n", held, now),
+        Match::Differs {
+            index: 1,
+            held,
+            now,
+        } => add_digests(alloc, text, "second\n", held, now),
+        Match::Differs { held, now, .. } => add_digests(alloc, text, "differs\n", held, now),
+        Match::Memory => add_all(text, &[b"memory\n"]),
     }
-    Ok(())
 }
 
-// Adds what the comparison of a record with the process of a weak text and a view comes to, where `b` had
-// one answer and has another now.
-fn add_comparison(
-    alloc: Global,
-    text: &mut Vec<u8>,
-    weak: &str,
-    before: &Answer,
-    now: &Answer,
-) -> Result<(), Fail> {
+// What the comparison of a record with the process of a weak text and a view comes to, where `b` has this
+// answer now.
+fn compared(alloc: Global, weak: &str, held: &Record, now: &Answer) -> Result<Match, Fail> {
     let path = Path::read(alloc, b"b")?;
-    let Some(held) = record(alloc, before)? else {
-        return Ok(());
-    };
+    let desc = desc(alloc, weak)?;
     let mut view = One {
         path: &path,
         answer: now,
     };
-    let found = matches(alloc, &desc(alloc, weak)?, &held, &mut view);
-    add_match(alloc, text, &found)
+    Ok(matches(alloc, &desc, held, &mut view))
+}
+
+// What the comparison with the record of a run comes to in which `b` had another answer.
+fn comparison(alloc: Global, weak: &str, before: &Answer, now: &Answer) -> Result<Match, Fail> {
+    match record(alloc, before)? {
+        Some(held) => {
+            let found = compared(alloc, weak, &held, now);
+            drop(held);
+            found
+        }
+        None => Ok(Match::Memory),
+    }
 }
 
 fn is_compared(
@@ -139,16 +166,24 @@ fn is_compared(
     now: &Answer,
     want: &str,
 ) -> Result<bool, Fail> {
+    let found = comparison(alloc, weak, before, now)?;
     let mut got = Vec::new(alloc);
-    add_comparison(alloc, &mut got, weak, before, now)?;
+    add_match(alloc, &mut got, &found)?;
     Ok(got.as_slice() == want.as_bytes())
+}
+
+// Whether a content that stays has nothing that differs.
+fn content_stays(alloc: Global) -> Result<bool, Fail> {
+    let content = Answer::Content(blob(alloc, "x")?);
+    let stays = is_compared(alloc, WEAK, &content, &content, "same\n");
+    drop(content);
+    stays
 }
 
 #[test]
 fn nothing_differs(rt: HostRuntime) -> Result<(), Fail> {
-    let content = Answer::Content(blob(rt.alloc(), "x")?);
     assert!(rt; is_compared(rt.alloc(), WEAK, &Answer::Absent, &Answer::Absent, "same\n")?);
-    assert!(rt; is_compared(rt.alloc(), WEAK, &content, &content, "same\n")?);
+    assert!(rt; content_stays(rt.alloc())?);
     Ok(())
 }
 

@@ -1,4 +1,4 @@
-//! Tests of runs and records: of `own_writes`, `tool_run` and `run_record`.
+//! Tests of runs: of `own_writes` and `tool_run`.
 //!
 //! They are a crate of their own, since a crate is proved once more for the tests in it.
 #![tactic(auto)]

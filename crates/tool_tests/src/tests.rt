@@ -1,6 +1,4 @@
-//! Tools that are run, and the texts of their runs and records.
-
+//! Tests of runs.
 mod fixture;
-mod records;
 mod runs;
 mod written;

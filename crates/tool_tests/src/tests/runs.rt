@@ -3,27 +3,33 @@ use super::fixture::{Always, blob, desc};
 use super::written::{add_run, parts};
 use bx_digest::Blob;
 use observed::{Answer, End};
+use pip_types::Desc;
 use std::alloc::Global;
 use std::test::Fail;
 use tool_run::{Ran, run, run_no_tool};
 use tool_text::read_tool;
 
-// Runs a tool of these lines, where the view has one answer for all asks.
-fn run_lines(alloc: Global, lines: &str, answer: Answer, budget: u64) -> Result<Ran, Fail> {
-    let desc = desc(alloc, lines, "out/a out/a/b w/c w/log", budget)?;
-    let tool = read_tool(alloc, desc.exe.bytes())?;
+// Runs a process, where the view has one answer for all asks.
+fn run_desc(alloc: Global, desc: &Desc, answer: &Answer) -> Result<Ran, Fail> {
     let mut view = Always { answer };
-    Ok(run(alloc, &tool, &desc, &mut view)?)
+    let tool = read_tool(alloc, desc.exe.bytes())?;
+    Ok(run(alloc, &tool, desc, &mut view)?)
+}
+
+// Runs a tool of these lines, where the view has one answer for all asks.
+fn run_lines(alloc: Global, lines: &str, answer: &Answer, budget: u64) -> Result<Ran, Fail> {
+    let desc = desc(alloc, lines, budget)?;
+    run_desc(alloc, &desc, answer)
 }
 
 // Adds the run of these lines.
-fn add_run_of(alloc: Global, text: &mut Vec<u8>, lines: &str, answer: Answer) -> Result<(), Fail> {
+fn add_run_of(alloc: Global, text: &mut Vec<u8>, lines: &str, answer: &Answer) -> Result<(), Fail> {
     let ran = run_lines(alloc, lines, answer, 60)?;
     add_run(alloc, text, &ran)
 }
 
 // Whether the lines of a case have the run that it wants.
-fn is_wanted(alloc: Global, case: &str, answer: Answer) -> Result<bool, Fail> {
+fn is_wanted(alloc: Global, case: &str, answer: &Answer) -> Result<bool, Fail> {
     let (lines, want) = parts(case);
     let mut got = Vec::new(alloc);
     add_run_of(alloc, &mut got, lines, answer)?;
@@ -33,7 +39,7 @@ fn is_wanted(alloc: Global, case: &str, answer: Answer) -> Result<bool, Fail> {
 // The first of cases that has another run, where the view has one answer for all asks.
 fn wrong<'a>(alloc: Global, cases: &'a str, answer: &Answer) -> Result<Option<&'a str>, Fail> {
     for case in cases.split("----\n") {
-        if !is_wanted(alloc, case, answer.share()?)? {
+        if !is_wanted(alloc, case, answer)? {
             return Ok(Some(case));
         }
     }
@@ -360,9 +366,30 @@ fn what_may_be_written(rt: HostRuntime) -> Result<(), Fail> {
     Ok(())
 }
 
-// Whether a tool that lists, probes and reads has this run, where the view has one answer for all asks.
-fn looks_as(alloc: Global, answer: Answer, want: &str) -> Result<bool, Fail> {
-    let lines = r#"list r1, "l"
+// The answer of a view that says this.
+fn answer_of(alloc: Global, word: &str) -> Result<Answer, Fail> {
+    match word {
+        "absent" => Ok(Answer::Absent),
+        "file" => Ok(Answer::File),
+        "directory" => Ok(Answer::Directory),
+        "denied" => Ok(Answer::Denied),
+        "a content" => Ok(Answer::Content(blob(alloc, "b\na\nb\n")?)),
+        "names" => Ok(Answer::Names(blob(alloc, "b\na\nb\n")?)),
+        _ => Ok(Answer::Names(blob(alloc, "d\n\na\nd")?)),
+    }
+}
+
+// Whether lines have this run, where the view has one answer for all asks.
+fn runs_as(alloc: Global, word: &str, lines: &str, want: &str) -> Result<bool, Fail> {
+    let answer = answer_of(alloc, word)?;
+    let mut got = Vec::new(alloc);
+    let added = add_run_of(alloc, &mut got, lines, &answer);
+    drop(answer);
+    added?;
+    Ok(got.as_slice() == want.as_bytes())
+}
+
+const LOOKS: &str = r#"list r1, "l"
 say r1
 probe r2, "p"
 say r2
@@ -370,41 +397,47 @@ read r3, "r", none
 say r3
 exit 1
 none: exit 2"#;
-    let mut got = Vec::new(alloc);
-    add_run_of(alloc, &mut got, lines, answer)?;
-    Ok(got.as_slice() == want.as_bytes())
-}
+
+// What a view answers to all asks, lines, and their run.
+const ANSWERED: &[(&str, &str, &str)] = &[
+    (
+        "absent",
+        LOOKS,
+        "Exit(2) 6\n\nabsent\nlist w/l\nprobe w/p\nread w/r\n",
+    ),
+    (
+        "file",
+        LOOKS,
+        "Exit(2) 6\n\nfile\nlist w/l\nprobe w/p\nread w/r\n",
+    ),
+    (
+        "directory",
+        LOOKS,
+        "Exit(2) 6\n\ndirectory\nlist w/l\nprobe w/p\nread w/r\n",
+    ),
+    ("denied", LOOKS, "Denied 3\n\nlist w/l\nprobe w/p\n"),
+    (
+        "a content",
+        LOOKS,
+        "Exit(1) 7\n\nfile\nb\na\nb\n\nlist w/l\nprobe w/p\nread w/r\n",
+    ),
+    (
+        "names",
+        LOOKS,
+        "Exit(2) 6\nb\na\nb\n\nabsent\nlist w/l\nprobe w/p\nread w/r\n",
+    ),
+    (
+        "names with an empty line",
+        "write \"/out/d/c\", 1\nlist r1, \"/out/d\"\nsay r1\n",
+        "Exit(0) 3\na\nc\nd\n\nwrote out/d/c\nlist out/d\nfile out/d/c\n1\n",
+    ),
+];
 
 #[test]
 fn looks_at_what_the_view_answers(rt: HostRuntime) -> Result<(), Fail> {
-    let absent = "Exit(2) 6\n\nabsent\nlist w/l\nprobe w/p\nread w/r\n";
-    assert!(rt; looks_as(rt.alloc(), Answer::Absent, absent)?);
-    let file = "Exit(2) 6\n\nfile\nlist w/l\nprobe w/p\nread w/r\n";
-    assert!(rt; looks_as(rt.alloc(), Answer::File, file)?);
-    let directory = "Exit(2) 6\n\ndirectory\nlist w/l\nprobe w/p\nread w/r\n";
-    assert!(rt; looks_as(rt.alloc(), Answer::Directory, directory)?);
-    let denied = "Denied 3\n\nlist w/l\nprobe w/p\n";
-    assert!(rt; looks_as(rt.alloc(), Answer::Denied, denied)?);
-    Ok(())
-}
-
-#[test]
-fn contents_and_names_of_the_view(rt: HostRuntime) -> Result<(), Fail> {
-    let content = Answer::Content(blob(rt.alloc(), "b\na\nb\n")?);
-    let want = "Exit(1) 7\n\nfile\nb\na\nb\n\nlist w/l\nprobe w/p\nread w/r\n";
-    assert!(rt; looks_as(rt.alloc(), content, want)?);
-    let names = Answer::Names(blob(rt.alloc(), "b\na\nb\n")?);
-    let want = "Exit(2) 6\nb\na\nb\n\nabsent\nlist w/l\nprobe w/p\nread w/r\n";
-    assert!(rt; looks_as(rt.alloc(), names, want)?);
-    Ok(())
-}
-
-#[test]
-fn own_names_are_put_among_those_of_the_view(rt: HostRuntime) -> Result<(), Fail> {
-    let names = Answer::Names(blob(rt.alloc(), "d\n\na\nd")?);
-    let case =
-        "write \"/out/d/c\", 1\nlist r1, \"/out/d\"\nsay r1\n=> Exit(0) 3\na\nc\nd\n\nwrote out/d/c\nlist out/d\nfile out/d/c\n1\n";
-    assert!(rt; is_wanted(rt.alloc(), case, names)?);
+    for (word, lines, want) in ANSWERED {
+        assert!(rt; runs_as(rt.alloc(), word, lines, want)?, "{word}");
+    }
     Ok(())
 }
 
@@ -420,7 +453,7 @@ full: "#;
 // Whether a run of `FULL` and these lines ends in this way, after this number of steps.
 fn ends(alloc: Global, lines: &str, budget: u64, end: End, steps: u64) -> Result<bool, Fail> {
     let text = format!(in alloc; "{FULL}{lines}")?;
-    let ran = run_lines(alloc, &text, Answer::Absent, budget)?;
+    let ran = run_lines(alloc, &text, &Answer::Absent, budget)?;
     Ok(ran.end == end && ran.steps == steps)
 }
 
@@ -471,20 +504,25 @@ fn limits_of_all_output(rt: HostRuntime) -> Result<(), Fail> {
     Ok(())
 }
 
-// How a run ends that reads a file of this length, and how many accesses it has.
-fn end_of_reading(alloc: Global, count: usize) -> Result<(End, usize), Fail> {
-    let content = Blob::new(alloc, vec![in alloc; 120; count]?)?;
+// The run of a tool that reads a file of this length.
+fn run_reading(alloc: Global, count: usize) -> Result<Ran, Fail> {
+    let content = Answer::Content(Blob::new(alloc, vec![in alloc; 120; count]?)?);
     let lines = "read r1, \"/big\", end\nexit 1\nend: exit 2";
-    let ran = run_lines(alloc, lines, Answer::Content(content), 9)?;
-    Ok((ran.end, ran.accesses.len()))
+    let ran = run_lines(alloc, lines, &content, 9);
+    drop(content);
+    ran
+}
+
+// Whether it ends in this way, with one access.
+fn reads_to(alloc: Global, count: usize, end: End) -> Result<bool, Fail> {
+    let ran = run_reading(alloc, count)?;
+    Ok(ran.end == end && ran.accesses.len() == 1)
 }
 
 #[test]
 fn a_file_that_fits_no_register_is_recorded(rt: HostRuntime) -> Result<(), Fail> {
-    let (end, accesses) = end_of_reading(rt.alloc(), 1_048_576)?;
-    assert!(rt; end == End::Exit(1) && accesses == 1);
-    let (end, accesses) = end_of_reading(rt.alloc(), 1_048_577)?;
-    assert!(rt; end == End::TooLong && accesses == 1);
+    assert!(rt; reads_to(rt.alloc(), 1_048_576, End::Exit(1))?);
+    assert!(rt; reads_to(rt.alloc(), 1_048_577, End::TooLong)?);
     Ok(())
 }
 

@@ -3,7 +3,7 @@ ghost use Rattle.std.specs.Prelude.{◌≡◌, IfOk, length};
 
 use super::fixture::{Always, desc};
 use super::written::{add_record, parts};
-use bx_io::Gate;
+use bx_io::{Gate, OpenGate};
 use observed::Answer;
 use run_record::{Record, execute, replay};
 use std::alloc::Global;
@@ -23,23 +23,24 @@ impl Gate for SumGate {
     }
 }
 
-fn new_gate() -> SumGate {
-    SumGate {
-        sum: AtomicU32::new(0),
-    }
-}
-
 // The record of a run of these lines as pip 7, where the view has one answer for all asks.
-fn record_of(alloc: Global, lines: &str, answer: Answer, gate: &SumGate) -> Result<Record, Fail> {
-    let desc = desc(alloc, lines, "out/b out/a", 60)?;
+fn record_of<G: Gate>(
+    alloc: Global,
+    lines: &str,
+    answer: &Answer,
+    gate: &G,
+) -> Result<Record, Fail> {
+    let desc = desc(alloc, lines)?;
     let mut view = Always { answer };
     Ok(execute(alloc, desc, 7, &mut view, gate)?)
 }
 
 #[test]
 fn the_gate_is_passed_once_for_the_pip(rt: HostRuntime) -> Result<(), Fail> {
-    let gate = new_gate();
-    record_of(rt.alloc(), "exit 1", Answer::Absent, &gate)?;
+    let gate = SumGate {
+        sum: AtomicU32::new(0),
+    };
+    drop(record_of(rt.alloc(), "exit 1", &Answer::Absent, &gate)?);
     assert_eq!(rt; gate.sum.load(Relaxed), 7);
     Ok(())
 }
@@ -49,14 +50,14 @@ fn add_record_of(
     alloc: Global,
     text: &mut Vec<u8>,
     lines: &str,
-    answer: Answer,
+    answer: &Answer,
 ) -> Result<(), Fail> {
-    let record = record_of(alloc, lines, answer, &new_gate())?;
-    add_record(alloc, text, &record)
+    let record = record_of(alloc, lines, answer, &OpenGate)?;
+    add_record(alloc, text, record)
 }
 
 // Whether the lines of a case have the record that it wants.
-fn is_wanted(alloc: Global, case: &str, answer: Answer) -> Result<bool, Fail> {
+fn is_wanted(alloc: Global, case: &str, answer: &Answer) -> Result<bool, Fail> {
     let (lines, want) = parts(case);
     let mut got = Vec::new(alloc);
     add_record_of(alloc, &mut got, lines, answer)?;
@@ -66,7 +67,7 @@ fn is_wanted(alloc: Global, case: &str, answer: Answer) -> Result<bool, Fail> {
 // The first of cases that has another record, where the view answers that nothing is there.
 fn wrong<'a>(alloc: Global, cases: &'a str) -> Result<Option<&'a str>, Fail> {
     for case in cases.split("----\n") {
-        if !is_wanted(alloc, case, Answer::Absent)? {
+        if !is_wanted(alloc, case, &Answer::Absent)? {
             return Ok(Some(case));
         }
     }
@@ -118,7 +119,7 @@ BadProgram
 fn what_a_run_comes_to(rt: HostRuntime) -> Result<(), Fail> {
     assert_eq!(rt; wrong(rt.alloc(), OUTCOMES)?, None);
     let denied = "read r0, \"/s\", x\nx: exit 0\n=> paths 1\nread s\nread s\n";
-    assert!(rt; is_wanted(rt.alloc(), denied, Answer::Denied)?);
+    assert!(rt; is_wanted(rt.alloc(), denied, &Answer::Denied)?);
     Ok(())
 }
 
@@ -165,7 +166,7 @@ fn copies(alloc: Global, answers: &[Answer]) -> Result<Vec<Answer>, Fail>
 // The record of a tool that is run on the path set and the answers of another record.
 fn again(alloc: Global, record: &Record, lines: &str) -> Result<Option<Record>, Fail> {
     let answers = copies(alloc, record.answers())?;
-    let desc = desc(alloc, lines, "out/a", 20)?;
+    let desc = desc(alloc, lines)?;
     Ok(replay(alloc, desc, record.paths(), answers)?)
 }
 
@@ -174,13 +175,15 @@ fn again(alloc: Global, record: &Record, lines: &str) -> Result<Option<Record>, 
 fn add_again(
     alloc: Global,
     text: &mut Vec<u8>,
-    answer: Answer,
+    answer: &Answer,
     first: &str,
     lines: &str,
 ) -> Result<(), Fail> {
-    let record = record_of(alloc, first, answer, &new_gate())?;
-    match again(alloc, &record, lines)? {
-        Some(second) => add_record(alloc, text, &second),
+    let record = record_of(alloc, first, answer, &OpenGate)?;
+    let second = again(alloc, &record, lines);
+    drop(record);
+    match second? {
+        Some(second) => add_record(alloc, text, second),
         None => Ok(()),
     }
 }
@@ -188,7 +191,7 @@ fn add_again(
 // Whether lines that are run on the answers of others, which a view with one answer gave, have this record.
 fn is_run_again(
     alloc: Global,
-    answer: Answer,
+    answer: &Answer,
     first: &str,
     lines: &str,
     want: &str,
@@ -198,16 +201,23 @@ fn is_run_again(
     Ok(got.as_slice() == want.as_bytes())
 }
 
+// Lines that look twice and end by what they find first.
+const FIRST: &str = "probe r0, \"/s\"\nlist r1, \"/d\"\neq r0, \"file\", yes\nexit 4\nyes: exit 5";
+
+// These, others that ask for something else, and others that ask for less, with their records on the answers of the
+// first run.
+const AGAIN: &[(&str, &str)] = &[
+    (FIRST, "paths 1\nlist d\nprobe s\nexit 4\n"),
+    ("probe r0, \"/t\"\nlist r1, \"/d\"\nexit 4", ""),
+    ("probe r0, \"/s\"\nexit 4", ""),
+];
+
 #[test]
 fn a_run_is_made_again_on_its_answers_alone(rt: HostRuntime) -> Result<(), Fail> {
-    let first = "probe r0, \"/s\"\nlist r1, \"/d\"\neq r0, \"file\", yes\nexit 4\nyes: exit 5";
-    let other = "probe r0, \"/t\"\nlist r1, \"/d\"\nexit 4";
-    let fewer = "probe r0, \"/s\"\nexit 4";
-    let absent = "paths 1\nlist d\nprobe s\nexit 4\n";
+    for (lines, want) in AGAIN {
+        assert!(rt; is_run_again(rt.alloc(), &Answer::Absent, FIRST, lines, want)?);
+    }
     let file = "paths 1\nlist d\nprobe s\nexit 5\n";
-    assert!(rt; is_run_again(rt.alloc(), Answer::Absent, first, first, absent)?);
-    assert!(rt; is_run_again(rt.alloc(), Answer::File, first, first, file)?);
-    assert!(rt; is_run_again(rt.alloc(), Answer::Absent, first, other, "")?);
-    assert!(rt; is_run_again(rt.alloc(), Answer::Absent, first, fewer, "")?);
+    assert!(rt; is_run_again(rt.alloc(), &Answer::File, FIRST, FIRST, file)?);
     Ok(())
 }

@@ -1,0 +1,4 @@
+//! Tests of records.
+mod fixture;
+mod records;
+mod written;
