@@ -1,13 +1,11 @@
 mod WrittenPieces
-mod FaultsOverCalls
 mod FaultIsNotMemory
 mod ReadingKeepsEnding
 mod StatusesDiffer
-mod FixedPaths
-mod OutputTrees
-mod Bundling
+mod ReportPath
+mod OutputsAreTrees
 mod RulesKept
-mod Delivering
-mod Responding
+mod ExpectedIsWritten
+mod ResponsesAreExpected
 mod OneEnding
 mod SomeEnding

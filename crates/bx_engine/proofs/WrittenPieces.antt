@@ -34,12 +34,6 @@ still_ended (Some xs) None bs h t e = absurd h
 still_ended (Some xs) (Some ys) [] h t e = sym h ∙ e
 still_ended (Some xs) (Some ys) (b ∷ bs) h t e = let k : b ∷ (bs ++ ys) ≡ [] = sym h ∙ e in cc
 
--- bytes that are known stay known
-pub still_known : (a b : Option (List ℕ)) (bs : List ℕ) → Consumes a b bs → IsSome a → IsSome b
-still_known None b bs h t = cc
-still_known (Some xs) None bs h t = absurd h
-still_known (Some xs) (Some ys) bs h t = t
-
 -- something is left of no bytes nowhere
 pub none_of_none : (bytes prefix rest : List ℕ) (b : Bool) → bytes ≡ prefix ++ rest → bytes ≡ [] → b ≡ (length rest == 0) → b ≡ false → ⊥
 none_of_none bytes [] [] b e n is not = absurd (false≢true (sym not ∙ is))

@@ -157,6 +157,7 @@ fn build_plan<G: Gate>(
         (one_thread plan.now.pips sources.now plan.now.tool_budget))) }
     ensures tree { IfOk result (λ response. IsOutputText response.bytes.items) }
 {
+    // Contracts learn from the pips of a plan that each makes what later ones say it makes.
     let _pips = plan.pips();
     each_result();
     outputs_keep_apart();

@@ -1,7 +1,6 @@
 use Rattle.std.proofs.Common.{inl, inr}
 use Rattle.bx_engine.specs.Expected.{limits_of}
-use Rattle.bx_engine.specs.Statuses.{IsWhole}
-use Rattle.bx_engine.proofs.Delivering.{answered, noted, quiet_expected, tree_written, whole_expected}
+use Rattle.bx_engine.proofs.ExpectedIsWritten.{answered, noted, quiet_expected, tree_written, whole_expected}
 use Rattle.bx_engine.proofs.build.answer.Goals as goal
 
 pub deliver-requires : goal.deliver-requires

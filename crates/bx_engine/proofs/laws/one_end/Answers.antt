@@ -1,4 +1,4 @@
-use Rattle.std.proofs.Common.{◌≡◌, ℕ, List, ap, sym, ◌∙◌}
+use Rattle.std.proofs.Common.{ap, sym, ◌∙◌}
 use Rattle.bx_front.proofs.OnePlan.{OneFailure}
 use Rattle.bx_engine.specs.Ending.{status_of, output_of, notes_of}
 use Rattle.bx_engine.proofs.OneEnding.{endless_or_ending, one_ending}

@@ -1,4 +1,4 @@
-use Rattle.bx_engine.proofs.FixedPaths.{named_report}
+use Rattle.bx_engine.proofs.ReportPath.{named_report}
 use Rattle.bx_engine.proofs.output.report_path.Goals as goal
 
 pub unreachable-requires : goal.unreachable-requires

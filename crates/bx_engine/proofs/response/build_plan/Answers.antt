@@ -2,7 +2,7 @@ use Rattle.std.proofs.Common.{ap, length, ◌∙◌}
 use Rattle.std.proofs.lemmas.Result.{IfOk-weaker}
 use Rattle.std.proofs.lemmas.List.{length-map}
 use Rattle.one_thread.specs.OneThread.{Result, one_thread}
-use Rattle.bx_engine.proofs.OutputTrees.{both_ok, built_text}
+use Rattle.bx_engine.proofs.OutputsAreTrees.{both_ok, built_text}
 use Rattle.bx_engine.proofs.response.build_plan.Goals as goal
 
 pub show-requires : goal.show-requires

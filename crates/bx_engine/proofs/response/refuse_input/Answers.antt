@@ -1,6 +1,6 @@
 use Rattle.std.proofs.Common.{◌∙◌}
 use Rattle.std.proofs.lemmas.Result.{IfOk-weaker}
-use Rattle.bx_engine.proofs.Responding.{input_shown}
+use Rattle.bx_engine.proofs.ResponsesAreExpected.{input_shown}
 use Rattle.bx_engine.proofs.response.refuse_input.Goals as goal
 
 pub returns : goal.returns

@@ -1,5 +1,5 @@
 use Rattle.std.proofs.lemmas.Result.{IfOk-weaker}
-use Rattle.bx_engine.proofs.Responding.{specification_shown}
+use Rattle.bx_engine.proofs.ResponsesAreExpected.{specification_shown}
 use Rattle.bx_engine.proofs.response.refuse_specification.Goals as goal
 
 pub returns : goal.returns

@@ -1,7 +1,7 @@
 use Rattle.std.proofs.lemmas.Result.{IfOk-weaker}
 use Rattle.bx_engine.specs.Expected.{limits_of}
-use Rattle.bx_engine.proofs.OutputTrees.{bundle_text}
-use Rattle.bx_engine.proofs.Responding.{bundle_expected}
+use Rattle.bx_engine.proofs.OutputsAreTrees.{bundle_text}
+use Rattle.bx_engine.proofs.ResponsesAreExpected.{bundle_expected}
 use Rattle.bx_engine.proofs.response.respond.Goals as goal
 
 pub returns-in-Ok-clause-expected : goal.returns-in-Ok-clause-expected

@@ -4,8 +4,8 @@ use Rattle.std.proofs.lemmas.Result.{IfOk-weaker}
 use Rattle.bx_engine.specs.Ending.{InputRefused}
 use Rattle.bx_engine.specs.Expected.{limits_of}
 use Rattle.bx_engine.specs.declared.fault.InputFault.TheVariants.{Reserved}
-use Rattle.bx_engine.proofs.OutputTrees.{fault_text, input_text}
-use Rattle.bx_engine.proofs.Responding.{built_expected, expected_of, fault_expected}
+use Rattle.bx_engine.proofs.OutputsAreTrees.{fault_text, input_text}
+use Rattle.bx_engine.proofs.ResponsesAreExpected.{built_expected, expected_of, fault_expected}
 use Rattle.bx_engine.proofs.response.respond_tree.Goals as goal
 
 pub returns-then-reserved-clause-expected : goal.returns-then-reserved-clause-expected

@@ -1,4 +1,4 @@
-use Rattle.bx_engine.proofs.Delivering.{same_answers, same_begins, same_notes}
+use Rattle.bx_engine.proofs.ExpectedIsWritten.{same_answers, same_begins, same_notes}
 use Rattle.bx_engine.proofs.WrittenPieces.{appends_slice_or_fails}
 use Rattle.bx_engine.proofs.StatusesDiffer.{no_command_writes_nothing}
 use Rattle.bx_engine.proofs.top.command.Goals as goal

@@ -25,7 +25,7 @@ whole_ending (Built pips results) = whole_if (all_succeeded results)
 pub whole_expected : (limits : Limits) (input : List ℕ) (status : Status) (bytes notes : List ℕ) → IsExpected limits input status bytes notes → IsWhole status
 whole_expected limits input status bytes notes h = subst IsWhole (sym h.status_is) (whole_ending h.ending)
 
-pub cut_is_not_whole : IsWhole statuses.OutFailed → ⊥
+cut_is_not_whole : IsWhole statuses.OutFailed → ⊥
 cut_is_not_whole h = elim h [ inl a ↦ cc | inr b ↦ elim b [ inl c ↦ cc | inr d ↦ elim d [ inl e ↦ cc | inr f ↦ cc ] ] ]
 
 -- ## Notes of endings

@@ -1,5 +1,5 @@
 -- The path of the report.
-use Rattle.std.proofs.Common.{codes, [], ◌∷◌, refl, lit<, lit≤, rules}
+use Rattle.std.proofs.Common.{codes, refl, lit<, lit≤, rules}
 use Rattle.bx_tree.specs.Paths.{IsAtom, Names}
 use Rattle.bx_engine.specs.Ending.{report_path}
 

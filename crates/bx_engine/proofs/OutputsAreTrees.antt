@@ -6,13 +6,11 @@ use Rattle.std.specs.List.Sorted.{IsStrictlySortedBy}
 use Rattle.std.specs.declared.cmp.Ordering.TheVariants.{Less}
 use Rattle.std.proofs.lemmas.List.{map-append}
 use Rattle.std.proofs.lemmas.List.Elements.{All-contains, All-from_recursion, Contains-push_cases}
-use Rattle.bx_tree.specs.Bundle.{bundle}
 use Rattle.bx_tree.specs.Paths.{Atoms, IsPath, IsBelow, path_cmp}
-use Rattle.bx_tree.specs.Trees.{Files, IsTree, NoneNested, paths_of}
+use Rattle.bx_tree.specs.Trees.{Files, NoneNested, paths_of}
 use Rattle.bx_tree.specs.declared.bundle.BundleFault.{BundleFault}
 use Rattle.bx_tree.specs.declared.bundle.BundleFault.TheVariants as bundle_faults
 use Rattle.build_outputs.specs.Outputs.{AreOutputs}
-use Rattle.build_report.specs.declared.refusal.Refusal.{Refusal}
 use Rattle.bx_front.specs.declared.fault.FrontFault.{FrontFault}
 use Rattle.bx_front.specs.declared.fault.FrontFault.TheVariants as front_faults
 use Rattle.graph_outputs.specs.OutsideOut.{out_dir}
@@ -23,7 +21,7 @@ use Rattle.bx_engine.specs.OutputTrees.{IsOutputPath, IsOutputText, IsOutputTree
 use Rattle.bx_engine.specs.Responses.{IsResponseTo, IsResponseToBundle, IsResponseToFault}
 use Rattle.bx_engine.specs.declared.fault.InputFault.{InputFault}
 use Rattle.bx_engine.specs.declared.response.Response.{Response}
-use Rattle.bx_engine.proofs.FixedPaths.{named_report}
+use Rattle.bx_engine.proofs.ReportPath.{named_report}
 
 -- ## Lists
 
