@@ -1,26 +1,16 @@
 use super::*;
 
-/// The input of this many items, whose paths are in order.
-fn many_items(alloc: Global, count: usize) -> Result<Vec<u8>, Fail> {
-    let mut text = Vec::new(alloc);
-    for number in 0..count {
-        write!(
-            text,
-            "const v{number} = Transformer.writeAllText({{outputPath: p`out/{number:05}`, text: \"\"}});"
-        )?;
-    }
-    one_file(alloc, &text)
-}
+/// Writes the files `0000` to `3fff`, which are as many as there may be pips.
+const MOST: &str =
+    r#"const d = ["0", "1", "2", "3", "4", "5", "6", "7", "8", "9", "a", "b", "c", "d", "e", "f"];
+function w(n) { return Transformer.writeAllText({outputPath: p`out/${n}`, text: ""}); }
+const all = ["0", "1", "2", "3"].mapMany(a => d.mapMany(b => d.mapMany(c => d.map(e => w(a + b + c + e)))));
+"#;
 
-/// The input whose one file is a specification with this text.
-fn one_file(alloc: Global, text: &[u8]) -> Result<Vec<u8>, Fail> {
-    let mut input = b"bundle 1\n".to_vec(alloc)?;
-    add_file(&mut input, "build.dsc", text)?;
-    input.extend_from_slice(b"end\n")?;
-    Ok(input)
-}
+/// Writes one file more.
+const MORE: &str = "const more = w(\"4000\");\n";
 
-/// The report of this many items.
+/// The report of this many writes.
 fn many_lines(alloc: Global, count: usize) -> Result<Vec<u8>, Fail> {
     let mut report = b"report 1\nverdict succeeded\n".to_vec(alloc)?;
     for number in 0..count {
@@ -29,12 +19,12 @@ fn many_lines(alloc: Global, count: usize) -> Result<Vec<u8>, Fail> {
     Ok(report)
 }
 
-/// The output of this many items.
+/// The output of this many writes.
 fn many_made(alloc: Global, count: usize) -> Result<Vec<u8>, Fail> {
     let report = many_lines(alloc, count)?;
     let mut text = b"bundle 1\n".to_vec(alloc)?;
     for number in 0..count {
-        write!(text, "file 0 out/{number:05}\n\n")?;
+        write!(text, "file 0 out/{number:04x}\n\n")?;
     }
     add_file(&mut text, "report.txt", &report)?;
     text.extend_from_slice(b"end\n")?;
@@ -43,21 +33,31 @@ fn many_made(alloc: Global, count: usize) -> Result<Vec<u8>, Fail> {
 
 #[test]
 fn makes_as_many_files_as_there_may_be_pips(rt: HostRuntime) -> Result<(), Fail> {
-    let most = many_items(rt.alloc(), 16_384)?;
+    let input = bundle_of(rt.alloc(), &[("build.dsc", MOST)])?;
     let written = many_made(rt.alloc(), 16_384)?;
     let want = Want {
         code: 0,
         written: &written,
         notes: COUNTS,
     };
-    check_build(&rt, rt.alloc(), &most, NO_FAULTS, want)
+    check_build(&rt, rt.alloc(), &input, NO_FAULTS, want)
 }
 
 #[test]
 fn refuses_one_pip_more(rt: HostRuntime) -> Result<(), Fail> {
-    let more = many_items(rt.alloc(), 16_385)?;
+    let mut text = MOST.as_bytes().to_vec(rt.alloc())?;
+    text.extend_from_slice(MORE.as_bytes())?;
+    let input = one_file(rt.alloc(), &text)?;
     let lines = "specification-refused\nfault Limit build.dsc\n";
-    check_refused(&rt, rt.alloc(), &more, 4, lines)
+    check_refused(&rt, rt.alloc(), &input, 4, lines)
+}
+
+/// The input whose one file is a specification with this text.
+fn one_file(alloc: Global, text: &[u8]) -> Result<Vec<u8>, Fail> {
+    let mut input = b"bundle 1\n".to_vec(alloc)?;
+    add_file(&mut input, "build.dsc", text)?;
+    input.extend_from_slice(b"end\n")?;
+    Ok(input)
 }
 
 /// Adds a byte this many times.

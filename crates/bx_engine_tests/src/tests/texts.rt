@@ -57,7 +57,7 @@ const CUT_ITEM: &str =
 
 #[test]
 fn refuses_each_prefix_of_an_item(rt: HostRuntime) -> Result<(), Fail> {
-    for count in 1..CUT_ITEM.len() + 1 {
+    for count in 1..75usize {
         // A prefix that ends inside the template or the string has no token at its delimiter.
         let (kind, place) = match count {
             50..=59 => ("Lex", "\nat 1 50"),
