@@ -2,8 +2,8 @@
 
 mod builds;
 mod causes;
+mod denials;
 mod trees;
-mod violations;
 
 use bx_engine::command;
 use bx_io::{Gate, MemSink, MemSource, NoFaultKeeper};
