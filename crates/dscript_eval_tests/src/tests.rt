@@ -29,16 +29,13 @@ fn bundle_of(alloc: Global, files: Files<'_>) -> Result<Vec<u8>, AllocError> {
     Ok(bundle)
 }
 
-fn tree_of(alloc: Global, bundle: &[u8]) -> Result<Tree, Fail> {
-    match read_bundle(alloc, bundle) {
-        Ok(tree) => Ok(tree),
-        Err(_) => Err(Fail::new("no bundle")),
-    }
-}
-
-fn workspace_of(alloc: Global, tree: &Tree) -> Result<Workspace, Fail> {
-    match find_workspace(alloc, tree) {
-        Ok(workspace) => Ok(workspace),
+/// The tree of a bundle, with its workspace.
+fn read_tree(alloc: Global, bundle: &[u8]) -> Result<(Tree, Workspace), Fail> {
+    let Ok(tree) = read_bundle(alloc, bundle) else {
+        return Err(Fail::new("no bundle"));
+    };
+    match find_workspace(alloc, &tree) {
+        Ok(workspace) => Ok((tree, workspace)),
         Err(_) => Err(Fail::new("no workspace")),
     }
 }
@@ -177,16 +174,22 @@ fn say_program(
     say(alloc, said, program, tree, steps.saturating_sub(1))
 }
 
-fn say_tree(alloc: Global, said: &mut Vec<u8>, tree: &Tree, steps: u64) -> Result<(), Fail> {
-    let workspace = workspace_of(alloc, tree)?;
-    let program = program_of(alloc, tree, &workspace)?;
+fn say_tree(
+    alloc: Global,
+    said: &mut Vec<u8>,
+    tree: &Tree,
+    workspace: &Workspace,
+    steps: u64,
+) -> Result<(), Fail> {
+    let program = program_of(alloc, tree, workspace)?;
     say_program(alloc, said, &program, tree, steps)
 }
 
+/// Says what these files come to with the last of these steps and without it.
 fn say_files(alloc: Global, said: &mut Vec<u8>, files: Files<'_>, steps: u64) -> Result<(), Fail> {
     let bundle = bundle_of(alloc, files)?;
-    let tree = tree_of(alloc, bundle.as_slice())?;
-    say_tree(alloc, said, &tree, steps)
+    let (tree, workspace) = read_tree(alloc, bundle.as_slice())?;
+    say_tree(alloc, said, &tree, &workspace, steps)
 }
 
 /// Whether these files come to this with the last of these steps, and to that without it.

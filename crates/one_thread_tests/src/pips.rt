@@ -8,6 +8,7 @@ use pip_model::{
     Arguments, CopyDesc, DirInput, DirInputs, FileInputs, MAX_PIPS, OutDir, OutDirs, Outputs, Pip,
     PipKind, PipList, Plan, ProcessDesc, SealDesc, SealForm, Variables, WriteDesc,
 };
+use sdk_pips::files_by_path;
 use std::alloc::Global;
 use std::test::Fail;
 
@@ -55,9 +56,9 @@ fn dir(alloc: Global, word: &str) -> Result<DirInput, Fail> {
     Ok(dir_of(form_name, pip, path(alloc, root)?))
 }
 
-// What the words of a pip say.
+// What the words of a pip say that it takes and makes.
 #[derive(Drop)]
-struct Said {
+struct Parts {
     args: Vec<Text>,
     files: Vec<FileInput>,
     dirs: Vec<DirInput>,
@@ -67,8 +68,8 @@ struct Said {
     places: Vec<Path>,
 }
 
-fn nothing(alloc: Global) -> Said {
-    Said {
+fn no_parts(alloc: Global) -> Parts {
+    Parts {
         args: Vec::new(alloc),
         files: Vec::new(alloc),
         dirs: Vec::new(alloc),
@@ -105,49 +106,49 @@ fn add_outdir(alloc: Global, dirs: &mut Vec<OutDir>, word: &str, shared: bool) -
     Ok(())
 }
 
-fn hear(alloc: Global, said: &mut Said, name: &str, value: &str) -> Result<(), Fail> {
+fn add_part(alloc: Global, parts: &mut Parts, name: &str, value: &str) -> Result<(), Fail> {
     match name {
-        "arg" => add_text(alloc, &mut said.args, value),
-        "file" => add_file(alloc, &mut said.files, value),
-        "dir" => add_dir(alloc, &mut said.dirs, value),
-        "out" => add_path(alloc, &mut said.outs, value),
-        "console" => add_path(alloc, &mut said.consoles, value),
-        "in" => add_path(alloc, &mut said.places, value),
-        _ => add_outdir(alloc, &mut said.outdirs, value, name == "shared"),
+        "arg" => add_text(alloc, &mut parts.args, value),
+        "file" => add_file(alloc, &mut parts.files, value),
+        "dir" => add_dir(alloc, &mut parts.dirs, value),
+        "out" => add_path(alloc, &mut parts.outs, value),
+        "console" => add_path(alloc, &mut parts.consoles, value),
+        "in" => add_path(alloc, &mut parts.places, value),
+        _ => add_outdir(alloc, &mut parts.outdirs, value, name == "shared"),
     }
 }
 
-fn hear_all(alloc: Global, said: &mut Said, words: &str) -> Result<(), Fail> {
+fn add_parts(alloc: Global, parts: &mut Parts, words: &str) -> Result<(), Fail> {
     for word in words.split(' ') {
         if let Some((name, value)) = word.split_once('=') {
-            hear(alloc, said, name, value)?;
+            add_part(alloc, parts, name, value)?;
         }
     }
     Ok(())
 }
 
-fn process(alloc: Global, exe: Path, dir: Path, mut said: Said) -> PipKind {
-    let console = said.consoles.pop();
+fn process(alloc: Global, exe: Path, dir: Path, files: FileInputs, mut parts: Parts) -> PipKind {
+    let console = parts.consoles.pop();
     PipKind::Process(ProcessDesc {
         exe,
-        args: Arguments::of(said.args),
+        args: Arguments::of(parts.args),
         env: Variables::of(Vec::new(alloc)),
         dir,
-        files: FileInputs::of(said.files),
-        dirs: DirInputs::of(said.dirs),
-        outs: Outputs::of(said.outs),
-        outdirs: OutDirs::of(said.outdirs),
+        files,
+        dirs: DirInputs::of(parts.dirs),
+        outs: Outputs::of(parts.outs),
+        outdirs: OutDirs::of(parts.outdirs),
         console,
     })
 }
 
 // A process that runs where it says, or else at the root.
-fn run(alloc: Global, exe: Path, mut said: Said) -> Result<PipKind, Fail> {
-    match said.places.pop() {
-        Some(dir) => Ok(process(alloc, exe, dir, said)),
+fn run(alloc: Global, exe: Path, files: FileInputs, mut parts: Parts) -> Result<PipKind, Fail> {
+    match parts.places.pop() {
+        Some(dir) => Ok(process(alloc, exe, dir, files, parts)),
         None => {
             let root = Path::root(alloc)?;
-            Ok(process(alloc, exe, root, said))
+            Ok(process(alloc, exe, root, files, parts))
         }
     }
 }
@@ -166,28 +167,31 @@ fn copy(to: Path, mut files: Vec<FileInput>) -> Result<PipKind, Fail> {
     }
 }
 
-fn seal(form: SealForm, root: Path, files: Vec<FileInput>) -> PipKind {
-    PipKind::Seal(SealDesc {
-        form,
-        root,
-        files: FileInputs::of(files),
-    })
-}
-
-fn kind(alloc: Global, name: &str, at: Path, said: Said) -> Result<PipKind, Fail> {
+fn kind(
+    alloc: Global,
+    name: &str,
+    at: Path,
+    files: FileInputs,
+    parts: Parts,
+) -> Result<PipKind, Fail> {
     match name {
-        "run" => run(alloc, at, said),
-        "write" => write(at, said.args),
-        "copy" => copy(at, said.files),
-        _ => Ok(seal(form(name), at, said.files)),
+        "run" => run(alloc, at, files, parts),
+        "write" => write(at, parts.args),
+        "copy" => copy(at, parts.files),
+        _ => Ok(PipKind::Seal(SealDesc {
+            form: form(name),
+            root: at,
+            files,
+        })),
     }
 }
 
-fn said_kind(alloc: Global, name: &str, at: &str, words: &str) -> Result<PipKind, Fail> {
+fn read_kind(alloc: Global, name: &str, at: &str, words: &str) -> Result<PipKind, Fail> {
     let at = path(alloc, at)?;
-    let mut said = nothing(alloc);
-    hear_all(alloc, &mut said, words)?;
-    kind(alloc, name, at, said)
+    let mut parts = no_parts(alloc);
+    add_parts(alloc, &mut parts, words)?;
+    let files = files_by_path(alloc, parts.files.as_slice())?;
+    kind(alloc, name, at, files, parts)
 }
 
 fn add(pips: &mut PipList, pip: Pip) -> Result<(), Fail> {
@@ -203,7 +207,7 @@ fn add_line(alloc: Global, pips: &mut PipList, line: &str) -> Result<(), Fail> {
     let (name, rest) = line.split_once(' ').ok_or("a kind")?;
     let (at, words) = rest.split_once(' ').unwrap_or((rest, ""));
     let spec = path(alloc, "build.dsc")?;
-    let kind = said_kind(alloc, name, at, words)?;
+    let kind = read_kind(alloc, name, at, words)?;
     add(pips, Pip { spec, kind })
 }
 

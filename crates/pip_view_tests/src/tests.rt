@@ -2,7 +2,7 @@ use bx_digest::Blob;
 use bx_tree::{FileInput, Path, Text, Tree, TreeFile};
 use observed::{Answer, Ask, AskKind, View};
 use own_writes::with_file;
-use pip_inputs::{Inputs, desc, no_files, plain};
+use pip_inputs::{Inputs, desc, no_files, plain, process_at};
 use pip_model::{
     Arguments, CopyDesc, DirInput, DirInputs, FileInputs, MAX_PIPS, Made, OutDir, OutDirs, Outputs,
     Pip, PipKind, PipList, Plan, ProcessDesc, SealDesc, SealForm, Slot, Sources, Variables,
@@ -24,7 +24,7 @@ fn bytes(alloc: Global, text: &str) -> Result<Blob, Fail> {
     Ok(Blob::new(alloc, text.as_bytes().to_vec(alloc)?)?)
 }
 
-fn none(alloc: Global) -> FileInputs {
+fn no_inputs(alloc: Global) -> FileInputs {
     FileInputs::of(Vec::new(alloc))
 }
 
@@ -57,7 +57,7 @@ fn process(
         args: Arguments::of(Vec::new(alloc)),
         env: Variables::of(Vec::new(alloc)),
         dir,
-        files: none(alloc),
+        files: no_inputs(alloc),
         dirs,
         outs,
         outdirs,
@@ -78,7 +78,7 @@ fn seal(alloc: Global) -> Result<PipKind, Fail> {
     Ok(PipKind::Seal(SealDesc {
         form: SealForm::SourceTop,
         root: path(alloc, "lib")?,
-        files: none(alloc),
+        files: no_inputs(alloc),
     }))
 }
 
@@ -259,12 +259,14 @@ fn a_seal_makes_nothing_a_copy_its_file_and_a_write_its_text(rt: HostRuntime) ->
 
 // Whether these are the bytes of the tool of pip 2, as it is described.
 fn is_tool(alloc: Global, plan: &Plan, inputs: &Inputs, bytes: &str) -> Result<bool, Fail> {
-    if pip_inputs::process_at(plan.pips(), 2).is_none() {
-        return Err("no process".into());
+    match process_at(plan.pips(), 2) {
+        Some(_) => {
+            let sources = sources(alloc)?;
+            let desc = desc(alloc, plan, &sources, 2, inputs)?;
+            Ok(desc.exe.bytes() == bytes.as_bytes())
+        }
+        None => Err("no process".into()),
     }
-    let sources = sources(alloc)?;
-    let desc = desc(alloc, plan, &sources, 2, inputs)?;
-    Ok(desc.exe.bytes() == bytes.as_bytes())
 }
 
 fn has_tool(alloc: Global, bytes: &str) -> Result<bool, Fail> {
