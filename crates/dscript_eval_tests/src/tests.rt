@@ -1,5 +1,5 @@
 use crate::programs::{MODULES, PROGRAMS};
-use bx_tree::{MAX_FILE_BYTES, Path, Tree, TreeFile, read_bundle};
+use bx_tree::{MAX_FILE_BYTES, Path, Text, Tree, read_bundle};
 use dscript_ast::Form;
 use dscript_eval::{EvalFault, EvalKind, evaluate};
 use dscript_modules::Workspace;
@@ -60,38 +60,28 @@ fn is_project(workspace: &Workspace, path: &Path) -> bool {
     false
 }
 
-/// Adds a project file.
-fn add_parsed(alloc: Global, files: &mut Vec<Parsed>, file: &TreeFile) -> Result<(), Fail> {
-    let text = file.bytes.as_slice();
+/// A project file.
+fn parsed(alloc: Global, path: &Path, text: &[u8]) -> Result<Parsed, Fail> {
     if text.len() > MAX_FILE_BYTES {
         return Err(Fail::new("a file is too large"));
     }
-    let path = file.path.share()?;
     match read_file(alloc, text, Form::Project) {
-        Ok(file) => Ok(files.push(Parsed { path, file })?),
+        Ok(file) => Ok(Parsed {
+            path: path.share()?,
+            file,
+        }),
         Err(_) => Err(Fail::new("a file is no project file")),
     }
-}
-
-/// Adds the project files of a workspace.
-fn add_projects(
-    alloc: Global,
-    files: &mut Vec<Parsed>,
-    tree: &Tree,
-    workspace: &Workspace,
-) -> Result<(), Fail> {
-    for file in tree.files() {
-        if is_project(workspace, &file.path) {
-            add_parsed(alloc, files, file)?;
-        }
-    }
-    Ok(())
 }
 
 /// The program of the project files of a workspace.
 fn program_of(alloc: Global, tree: &Tree, workspace: &Workspace) -> Result<Program, Fail> {
     let mut files = Vec::new(alloc);
-    add_projects(alloc, &mut files, tree, workspace)?;
+    for file in tree.files() {
+        if is_project(workspace, &file.path) {
+            files.push(parsed(alloc, &file.path, file.bytes.as_slice())?)?;
+        }
+    }
     match resolve(workspace, files) {
         Ok(program) => Ok(program),
         Err(_) => Err(Fail::new("a name stands for nothing")),
@@ -112,35 +102,23 @@ fn kind_name(kind: EvalKind) -> &'static str {
     }
 }
 
-fn add_all(said: &mut Vec<u8>, pieces: &[&[u8]]) -> Result<(), Fail> {
-    for piece in pieces {
-        said.extend_from_slice(piece)?;
-    }
-    Ok(())
-}
-
 /// Says a fault.
-fn say_fault(said: &mut Vec<u8>, fault: &EvalFault) -> Result<(), Fail> {
-    match fault {
-        EvalFault::Fault {
-            kind,
-            file,
-            message,
-        } => {
-            let place = file.text().as_bytes();
-            let name = kind_name(*kind).as_bytes();
-            match message {
-                Some(message) => add_all(said, &[name, b" ", place, b" ", message.bytes()]),
-                None => add_all(said, &[name, b" ", place]),
-            }
+fn say_fault(
+    said: &mut Vec<u8>,
+    kind: EvalKind,
+    file: &Path,
+    message: Option<&Text>,
+) -> Result<(), AllocError> {
+    said.extend_from_slice(kind_name(kind).as_bytes())?;
+    said.extend_from_slice(b" ")?;
+    said.extend_from_slice(file.text().as_bytes())?;
+    match message {
+        Some(message) => {
+            said.extend_from_slice(b" ")?;
+            said.extend_from_slice(message.bytes())
         }
-        EvalFault::Memory => add_all(said, &[b"no memory"]),
+        None => Ok(()),
     }
-}
-
-fn say_count(alloc: Global, said: &mut Vec<u8>, count: usize) -> Result<(), Fail> {
-    let text = format!(in alloc; "{count} pips")?;
-    add_all(said, &[text.as_bytes()])
 }
 
 /// Says what a program over a tree comes to within a budget of steps.
@@ -150,59 +128,45 @@ fn say(
     program: &Program,
     tree: &Tree,
     budget: u64,
-) -> Result<(), Fail> {
+) -> Result<(), AllocError> {
     match evaluate(alloc, program, tree, budget) {
-        Ok(pips) => say_count(alloc, said, pips.pips().len()),
-        Err(fault) => {
-            let done = say_fault(said, &fault);
-            drop(fault);
-            done
+        Ok(pips) => {
+            let count = pips.pips().len();
+            let text = format!(in alloc; "{count} pips")?;
+            said.extend_from_slice(text.as_bytes())
         }
+        Err(
+            EvalFault::Fault {
+                kind,
+                file,
+                message,
+            },
+        ) => say_fault(said, kind, &file, message.as_ref()),
+        Err(EvalFault::Memory) => said.extend_from_slice(b"no memory"),
     }
 }
 
 /// Says what a program over a tree comes to with its last step and without it.
-fn say_program(
+fn say_last(
     alloc: Global,
     said: &mut Vec<u8>,
     program: &Program,
     tree: &Tree,
     steps: u64,
-) -> Result<(), Fail> {
+) -> Result<(), AllocError> {
     say(alloc, said, program, tree, steps)?;
-    add_all(said, &[b"; "])?;
+    said.extend_from_slice(b"; ")?;
     say(alloc, said, program, tree, steps.saturating_sub(1))
 }
 
-fn say_tree(
-    alloc: Global,
-    said: &mut Vec<u8>,
-    tree: &Tree,
-    workspace: &Workspace,
-    steps: u64,
-) -> Result<(), Fail> {
-    let program = program_of(alloc, tree, workspace)?;
-    say_program(alloc, said, &program, tree, steps)
-}
-
-/// Says what these files come to with the last of these steps and without it.
-fn say_files(alloc: Global, said: &mut Vec<u8>, files: Files<'_>, steps: u64) -> Result<(), Fail> {
+/// What these files come to with the last of these steps and without it.
+fn answers(alloc: Global, files: Files<'_>, steps: u64) -> Result<Vec<u8>, Fail> {
     let bundle = bundle_of(alloc, files)?;
     let (tree, workspace) = read_tree(alloc, bundle.as_slice())?;
-    say_tree(alloc, said, &tree, &workspace, steps)
-}
-
-/// Whether these files come to this with the last of these steps, and to that without it.
-fn come_to(
-    alloc: Global,
-    files: Files<'_>,
-    steps: u64,
-    wanted: &str,
-    without: &str,
-) -> Result<bool, Fail> {
+    let program = program_of(alloc, &tree, &workspace)?;
     let mut said = Vec::new(alloc);
-    say_files(alloc, &mut said, files, steps)?;
-    Ok(said.as_slice().strip_suffix(without.as_bytes()) == Some(wanted.as_bytes()))
+    say_last(alloc, &mut said, &program, &tree, steps)?;
+    Ok(said)
 }
 
 /// A line of a table: the steps, what is wanted, and the text.
@@ -217,14 +181,11 @@ fn row(line: &str) -> Option<(u64, &str, &str)> {
 
 #[test]
 fn each_form_takes_exactly_its_steps(rt: HostRuntime) -> Result<(), Fail> {
-    let without = "; Budget build.dsc";
     for line in PROGRAMS.lines() {
         if let Some((steps, wanted, text)) = row(line) {
-            let files = &[("build.dsc", text)];
-            assert!(rt;
-                come_to(rt.alloc(), files, steps, wanted, without)?,
-                "{text}"
-            );
+            let found = answers(rt.alloc(), &[("build.dsc", text)], steps)?;
+            let wanted = format!(in rt.alloc(); "{wanted}; Budget build.dsc")?;
+            assert_eq!(rt; found.as_slice(), wanted.as_bytes(), "{text}");
         }
     }
     Ok(())
@@ -245,7 +206,8 @@ fn a_fault_names_the_file_that_the_expression_is_in(rt: HostRuntime) -> Result<(
                 ("b/x.dsc", second),
                 ("config.dsc", CONFIG),
             ];
-            assert!(rt; come_to(rt.alloc(), &files, steps, wanted, "")?, "{texts}");
+            let found = answers(rt.alloc(), &files, steps)?;
+            assert_eq!(rt; found.as_slice(), wanted.as_bytes(), "{texts}");
         }
     }
     Ok(())
