@@ -1,2 +1,0 @@
-include limits.h
-int main

@@ -1,3 +1,0 @@
-int parts
-include limits.h
-include missing.h
