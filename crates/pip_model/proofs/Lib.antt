@@ -3,3 +3,5 @@ pub mod WalksBack
 pub mod Found
 pub mod EdgesBack
 pub mod Planning
+pub mod ByText
+pub mod OutputsFound

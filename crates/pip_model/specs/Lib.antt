@@ -4,3 +4,4 @@ pub mod Bits
 pub mod Plans
 pub mod Inputs
 pub mod Rows
+pub mod Outputs

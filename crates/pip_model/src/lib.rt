@@ -6,6 +6,7 @@
 
 mod bits;
 mod edges;
+mod outputs;
 mod plan;
 mod producing;
 mod reach;

@@ -2,10 +2,12 @@
 ghost use Rattle.std.specs.Prelude.{◌≡◌, ◌↔◌, ◌<◌, ◌≤◌, length, All, IsTrue, IfOk};
 ghost use Rattle.pip_types.specs.Makers.{IsPipList};
 ghost use Rattle.pip_model.specs.Edges.{CanProduce, Leads};
+ghost use Rattle.pip_model.specs.Outputs.{numbers_from};
 ghost use Rattle.pip_model.specs.Plans.{AreInputs};
 
 use crate::bits::{BitSet, WORD_BITS};
 use crate::edges::{Inputs, all_inputs};
+use crate::outputs::{ByOutput, by_output};
 use crate::producing::produces;
 use crate::reach::all_rows;
 use bx_tree::Path;
@@ -24,6 +26,7 @@ pub struct Plan {
     tool_budget: u64,
     inputs: Vec<Inputs>,
     reach: Vec<BitSet>,
+    outputs: ByOutput,
 }
 
 impl Model for Plan {
@@ -33,7 +36,7 @@ impl Model for Plan {
 
     ghost view = { λ p. record { pips = p.pips; tool_budget = p.tool_budget } };
 
-    ghost invariant = { λ p. KeepsPlan p.pips p.inputs.items p.reach.items };
+    ghost invariant = { λ p. KeepsPlan p.pips p.inputs.items p.reach.items p.outputs.table };
 }
 
 impl Plan {
@@ -46,11 +49,13 @@ impl Plan {
         let inputs = all_inputs(alloc, pips.pips())?;
         let words = pips.pips().len() / WORD_BITS + 1;
         let reach = all_rows(alloc, words, inputs.as_slice())?;
+        let outputs = by_output(alloc, pips.pips())?;
         Ok(Plan {
             pips,
             tool_budget,
             inputs,
             reach,
+            outputs,
         })
     }
 
@@ -86,6 +91,14 @@ impl Plan {
         ensures { IsTrue result ↔ CanProduce self.now.pips pip path.now }
     {
         produces(&self.pips()[pip as usize].kind, path)
+    }
+
+    /// The pips with an output whose path has this text, once for each such output: a declared output file, a
+    /// console file or an output directory.
+    pub fn pips_with_output(&self, text: &[u8]) -> &[u32]
+        ensures { result.now ≡ numbers_from 0 text.now self.now.pips }
+    {
+        self.outputs.at(text)
     }
 
     /// Whether a walk of one edge or more goes from one pip to another.

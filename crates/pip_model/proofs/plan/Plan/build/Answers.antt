@@ -1,5 +1,6 @@
 use Rattle.std.proofs.Common.{List, subst, sym}
 use Rattle.pip_types.specs.declared.pip.Pip.{Pip}
+use Rattle.pip_model.specs.Outputs.{HasOutputsOf}
 use Rattle.pip_model.specs.Plans.{AreAllInputs}
 use Rattle.pip_model.specs.Rows.{PointBack}
 use Rattle.pip_model.proofs.Planning.{inputs_back, keeps_plan}
@@ -15,3 +16,5 @@ invariant_of-result c =
     let inputs = subst (λ (ps : List Pip). AreAllInputs ps c.in_ok-inputs.inputs.items) c.pips-2.ensures.pips c.in_ok-inputs.ensures in
     keeps_plan c.args.pips c.in_ok-inputs.inputs.items c.as_slice.result.now c.in_ok-reach.reach.items _ c.requires inputs
     c.as_slice.ensures.value c.in_ok-reach.ensures.size c.in_ok-reach.ensures.rows
+    c.in_ok-outputs.outputs.table
+    (subst (λ (ps : List Pip). HasOutputsOf ps c.in_ok-outputs.outputs.table) c.pips-4.ensures.pips c.in_ok-outputs.ensures)

@@ -1,0 +1,52 @@
+-- Which pips have an output at a path.
+use Rattle.std.specs.Prelude.{◌≡◌, ℕ, ◌+◌, List, [], ◌∷◌, ◌++◌, map, if◌then◌else◌}
+use Rattle.std.specs.BTreeMap.{BTreeMap, get_by}
+use Rattle.std.specs.Cmp.Lexicographic.{slice_cmp}
+use Rattle.std.specs.List.{flat_map}
+use Rattle.std.specs.Option.{option_map_or, option_to_list}
+use Rattle.std.specs.Ordering.{nat_cmp}
+use Rattle.std.specs.Str.{bytes_eq}
+use Rattle.std.specs.declared.alloc.Global.{Global}
+use Rattle.std.specs.declared.vec.Vec.{Vec}
+use Rattle.bx_tree.specs.Paths.{Atoms, path_text}
+use Rattle.pip_types.specs.declared.outputs.OutDir.{OutDir}
+use Rattle.pip_types.specs.declared.pip.Pip.{Pip}
+use Rattle.pip_types.specs.declared.pip.PipKind.{PipKind}
+use Rattle.pip_types.specs.declared.pip.PipKind.TheVariants.{Process, Copy, Write, Seal}
+
+abbrev pub dir_paths : List OutDir → List Atoms
+dir_paths = map (λ (dir : OutDir). dir.path)
+
+-- the paths of a pip's outputs: of its declared output files, its console file and its output directories
+abbrev pub output_paths : PipKind → List Atoms
+output_paths (Process d) = d.outs ++ option_to_list d.console ++ dir_paths d.outdirs
+output_paths (Copy d) = d.to ∷ []
+output_paths (Write d) = d.to ∷ []
+output_paths (Seal d) = []
+
+-- the number of a pip, if the path of its output has the text
+abbrev pub number_at : ℕ → List ℕ → Atoms → List ℕ
+number_at j text path = if bytes_eq (path_text path) text then j ∷ [] else []
+
+-- the number of a pip, once for each of these paths that has the text
+abbrev pub numbers_at : ℕ → List ℕ → List Atoms → List ℕ
+numbers_at j text = flat_map (number_at j text)
+
+-- the numbers of the pips, counted from j on, once for each output whose path has the text
+abbrev pub numbers_from : ℕ → List ℕ → List Pip → List ℕ
+numbers_from j text [] = []
+numbers_from j text (pip ∷ pips) = numbers_at j text (output_paths pip.kind) ++ numbers_from (j + 1) text pips
+
+-- numbers of pips by the texts of paths
+abbrev pub Table : Type 0
+Table = BTreeMap (Vec ℕ Global) (Vec ℕ Global)
+
+-- what the table has at the text
+abbrev pub found_in : Table → List ℕ → List ℕ
+found_in table text =
+    option_map_or (λ (numbers : Vec ℕ Global). numbers.items)
+    (get_by (λ k. slice_cmp nat_cmp text k.items) table) []
+
+-- the table has the pips by the texts of the paths of their outputs
+abbrev pub HasOutputsOf : List Pip → Table → Type 0
+HasOutputsOf pips table = (text : List ℕ) → found_in table text ≡ numbers_from 0 text pips
