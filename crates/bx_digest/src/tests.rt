@@ -41,9 +41,15 @@ fn a_text_that_is_not_64_digits_in_lower_case_is_refused(rt: HostRuntime) -> Res
 
 #[test]
 fn a_shared_blob_has_the_bytes_and_their_digest(rt: HostRuntime) -> Result<(), Fail> {
-    let blob = Blob::new(rt.alloc(), b"abc".to_vec(rt.alloc())?)?;
-    let shared = blob.share()?;
-    assert_eq!(rt; shared.bytes(), b"abc".as_slice());
-    assert_eq!(rt; shared.digest(), digest_of(b"abc"));
+    let alloc = rt.alloc();
+    let blobs = [
+        Blob::new(alloc, b"abc".to_vec(alloc)?)?,
+        Blob::hashed(alloc, b"abc".to_vec(alloc)?)?,
+    ];
+    for blob in &blobs {
+        let shared = blob.share()?;
+        assert_eq!(rt; shared.bytes(), b"abc".as_slice());
+        assert_eq!(rt; shared.digest(), digest_of(b"abc"));
+    }
     Ok(())
 }
