@@ -200,3 +200,20 @@ fn as_many_pips_as_there_may_be_are_planned(rt: HostRuntime) -> Result<(), Fail>
     assert_eq!(rt; plan.inputs(16_383), [16_382].as_slice());
     Ok(())
 }
+
+#[test]
+fn pips_are_found_by_the_paths_of_their_outputs(rt: HostRuntime) -> Result<(), Fail> {
+    let plan = plan(rt.alloc())?;
+    let cases: [(&[u8], &[u32]); 6] = [
+        (b"out/a", &[0]),
+        (b"out/b", &[1]),
+        (b"out/c", &[3, 4, 5]),
+        (b"out/d", &[3, 4, 5]),
+        (b"out/log", &[3, 4, 5]),
+        (b"out", &[]),
+    ];
+    for (text, pips) in cases {
+        assert_eq!(rt; plan.pips_with_output(text), pips);
+    }
+    Ok(())
+}

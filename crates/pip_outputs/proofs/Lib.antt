@@ -1,2 +1,3 @@
 pub mod LeastUnseen
 pub mod Produced
+pub mod Producers

@@ -1,2 +1,3 @@
 pub mod Producing
 pub mod Slots
+pub mod Least

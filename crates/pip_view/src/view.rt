@@ -221,7 +221,7 @@ impl<'a> PipView<'a> {
     fn is_unseen(&self, path: &Path) -> bool
         ensures { result ≡ is_unseen_at self.now path.now }
     {
-        least_unseen(self.dirs(), self.pip, path, self.plan.pips()).is_some()
+        least_unseen(self.plan, self.pip, path).is_some()
     }
 
     // Whether a source file is a member of a directory that the pip takes.

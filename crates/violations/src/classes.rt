@@ -10,7 +10,7 @@ use crate::Memory;
 use bx_tree::Path;
 use observed::{Access, Answer, Ask, AskKind};
 use pip_model::{Plan, Sources};
-use pip_outputs::{dirs_at, least_unseen};
+use pip_outputs::least_unseen;
 use verdicts::{DeedKind, Violation, ViolationKind};
 
 // A violation that concerns no other pip.
@@ -74,9 +74,8 @@ fn producer(plan: &Plan, pip: u32, path: &Path) -> Option<u32>
     ensures there { IfSome result (λ other. other < length plan.now.pips) }
     ensures list { IsPipList plan.now.pips }
 {
-    let pips = plan.pips();
-    let dirs = dirs_at(pips, pip);
-    least_unseen(dirs, pip, path, pips)
+    let _ = plan.pips();
+    least_unseen(plan, pip, path)
 }
 
 // A denied look at a path that another pip can produce.
