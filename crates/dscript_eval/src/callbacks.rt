@@ -251,7 +251,8 @@ fn callback_with(
     callbacks: Callbacks,
     args: &[Value],
 ) -> Result<(), Stop>
-    ensures { items_from callbacks callbacks.next ≡ item_of callbacks ∷ items_from callbacks (callbacks.next + 1)
+    ensures { items_from callbacks callbacks.next
+        ≡ item_of callbacks ∷ items_from callbacks (callbacks.next + 1)
         → map plain_of args.now
         ≡ args_of callbacks.kind (seen machine.old).given (item_of callbacks) callbacks.next
         → IsDone result machine.old machine.new (works.Call (call.Loop callbacks)) }

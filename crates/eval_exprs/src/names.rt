@@ -88,7 +88,8 @@ pub fn code_at(program: &Program, number: u32) -> Option<&Function>
 // What the captured locals of an arrow function hold now.
 fn captured_now(machine: &Machine<'_>, number: u32) -> Result<Vec<Value>, Memory>
     ensures { IfOk result (λ values. map plain_of values.items
-        ≡ captures (captured_of (code.function_at (seen machine.now).program number)) (seen machine.now).state) }
+        ≡ captures (captured_of (code.function_at (seen machine.now).program number))
+          (seen machine.now).state) }
 {
     match code_at(machine.program, number) {
         Some(function) => machine

@@ -1,4 +1,4 @@
-//! The source files, each with its digest.
+//! The source files by path.
 ghost use Rattle.std.specs.Prelude.{◌≡◌, ◌≢◌, ◌↔◌, ◌<◌, ◌++◌, ◌∷◌, [], length, IsSome, IfOk, OnOk};
 ghost use Rattle.std.specs.Prelude.{MatchOption, All, Contains};
 ghost use Rattle.std.specs.List.{HoldsAt};
@@ -12,7 +12,7 @@ use bx_tree::{Path, Tree, TreeFile};
 use std::alloc::{AllocError, Global};
 use std::marker::Model;
 
-/// The source files by path, each hashed once. Contracts see them as the tree's list of (path, bytes).
+/// The source files by path. Contracts see them as the tree's list of (path, bytes).
 #[derive(Drop)]
 pub struct Sources {
     paths: Vec<Path>,
