@@ -55,13 +55,13 @@ fn call(alloc: Global, row: u8, args: &[Value]) -> Result<Value, SdkFault> {
 
 /// Whether an argument has this text, or none, and after it `@` for an artifact.
 fn says_argument(argument: &Argument, answer: &[u8]) -> bool {
-    let text = match &argument.text {
+    let text = match argument.text() {
         Some(text) => text.bytes(),
         None => b"none",
     };
     match answer.split_last() {
-        Some((b'@', before)) => argument.artifact.is_some() && text == before,
-        _ => argument.artifact.is_none() && text == answer,
+        Some((b'@', before)) => argument.artifact().is_some() && text == before,
+        _ => argument.artifact().is_none() && text == answer,
     }
 }
 

@@ -20,10 +20,7 @@ fn sample(alloc: Global, number: usize) -> Result<Value, Fail> {
         2 => Ok(Value::Path(path(alloc)?)),
         3 => Ok(Value::File(FileInput::Made(path(alloc)?, 7))),
         4 => Ok(Value::Directory(path(alloc)?)),
-        5 => Ok(Value::Argument(Argument {
-            text: None,
-            artifact: None,
-        })),
+        5 => Ok(Value::Argument(Argument::of(alloc, None, None)?)),
         6 => Ok(list_of(alloc, Vec::new(alloc))?),
         _ => Ok(Value::Undefined),
     }

@@ -31,10 +31,8 @@ fn relative(alloc: Global) -> Result<RelativePath, Fail> {
 
 fn argument(alloc: Global) -> Result<Argument, Fail> {
     let dir = StaticDir::Seal(1, path(alloc)?);
-    Ok(Argument {
-        text: Some(text(alloc, "a")?),
-        artifact: Some(Artifact::InputDir(dir)),
-    })
+    let text = text(alloc, "a")?;
+    Ok(Argument::of(alloc, Some(text), Some(Artifact::InputDir(dir)))?)
 }
 
 /// The sample with this letter, which holds this path.
