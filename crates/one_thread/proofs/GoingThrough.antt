@@ -20,7 +20,7 @@ use Rattle.one_thread.specs.Views.{AllAgree, ended_in, good_in, is_good_slot, ki
 
 -- ## Verdicts and slots, as results
 
-made_is : (vs : List Verdict) (ss : List Slot) → length vs ≡ length ss → made_by (results_of vs ss) ≡ map slot_files ss
+pub made_is : (vs : List Verdict) (ss : List Slot) → length vs ≡ length ss → made_by (results_of vs ss) ≡ map slot_files ss
 made_is [] [] e = refl
 made_is [] (s ∷ ss) e = absurd (omega (arith, e))
 made_is (v ∷ vs) [] e = absurd (omega (arith, e))
@@ -48,7 +48,7 @@ good_is (v ∷ vs) (s ∷ ss) e h zero = sym (heads_agree (is_good_slot s) (is_s
 good_is (v ∷ vs) (s ∷ ss) e h (suc j) =
     good_is vs ss (omega (arith, e)) (tails_agree (is_good_slot s) (is_success v) (map is_good_slot ss) (map is_success vs) h) j
 
-all_good : (vs : List Verdict) (ss : List Slot) → length vs ≡ length ss → AllAgree vs ss → (js : List ℕ)
+pub all_good : (vs : List Verdict) (ss : List Slot) → length vs ≡ length ss → AllAgree vs ss → (js : List ℕ)
     → list_all (λ j. is_good (slice_get (results_of vs ss) j)) js ≡ list_all (λ j. good_in (slice_get ss j)) js
 all_good vs ss e h [] = refl
 all_good vs ss e h (j ∷ js) =
