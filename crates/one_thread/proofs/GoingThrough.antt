@@ -26,7 +26,7 @@ made_is [] (s ∷ ss) e = absurd (omega (arith, e))
 made_is (v ∷ vs) [] e = absurd (omega (arith, e))
 made_is (v ∷ vs) (s ∷ ss) e = ap (λ fs. slot_files s ∷ fs) (made_is vs ss (omega (arith, e)))
 
-verdicts_are : (vs : List Verdict) (ss : List Slot) → length vs ≡ length ss → verdicts_of (results_of vs ss) ≡ vs
+pub verdicts_are : (vs : List Verdict) (ss : List Slot) → length vs ≡ length ss → verdicts_of (results_of vs ss) ≡ vs
 verdicts_are [] [] e = refl
 verdicts_are [] (s ∷ ss) e = absurd (omega (arith, e))
 verdicts_are (v ∷ vs) [] e = absurd (omega (arith, e))
@@ -56,7 +56,7 @@ all_good vs ss e h (j ∷ js) =
     ∙ ap (λ b. good_in (slice_get ss j) && b) (all_good vs ss e h js)
 
 -- what a pip comes to by slots is what it comes to by results
-ended_is : (pips : List Pip) (tree : Files) (budget i : ℕ) (kind : PipKind) (vs : List Verdict) (ss : List Slot) → length vs ≡ length ss → AllAgree vs ss
+pub ended_is : (pips : List Pip) (tree : Files) (budget i : ℕ) (kind : PipKind) (vs : List Verdict) (ss : List Slot) → length vs ≡ length ss → AllAgree vs ss
     → kind_ended pips tree budget ss i kind ≡ result_of pips tree budget (results_of vs ss) i kind
 ended_is pips tree budget i kind vs ss e h =
     ap (λ b. cond b (worked pips tree budget (map slot_files ss) (inputs_of pips kind (map slot_files ss)) i kind) (failed verdicts.Skipped))
@@ -64,7 +64,7 @@ ended_is pips tree budget i kind vs ss e h =
     ∙ ap (λ (ms : List Files). cond (inputs_are_good pips kind (results_of vs ss)) (worked pips tree budget ms (inputs_of pips kind ms) i kind) (failed verdicts.Skipped))
     (sym (made_is vs ss e))
 
-results_more : (vs : List Verdict) (ss : List Slot) (v : Verdict) (s : Slot) → length vs ≡ length ss
+pub results_more : (vs : List Verdict) (ss : List Slot) (v : Verdict) (s : Slot) → length vs ≡ length ss
     → results_of (vs ++ v ∷ []) (ss ++ s ∷ []) ≡ results_of vs ss ++ result_in v s ∷ []
 results_more [] [] v s e = refl
 results_more [] (t ∷ ts) v s e = absurd (omega (arith, e))
