@@ -1,5 +1,5 @@
-use graph_check::{GraphFault, GraphKind, check};
 use bx_tree::{FileInput, Path, Text, Tree, TreeFile};
+use graph_check::{GraphFault, GraphKind, check};
 use pip_model::{
     Arguments, CopyDesc, DirInput, DirInputs, EnvPair, FileInputs, MAX_PIPS, OutDir, OutDirs,
     Outputs, Pip, PipKind, PipList, ProcessDesc, SealDesc, SealForm, Sources, Variables, WriteDesc,

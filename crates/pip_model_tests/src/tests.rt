@@ -1,5 +1,8 @@
-use pip_model::{Arguments, CopyDesc, DirInput, DirInputs, FileInputs, MAX_PIPS, Made, OutDir, OutDirs, Outputs, Pip, PipKind, PipList, Plan, ProcessDesc, SealDesc, SealForm, Variables, WriteDesc};
 use bx_tree::{FileInput, Path, Text};
+use pip_model::{
+    Arguments, CopyDesc, DirInput, DirInputs, FileInputs, MAX_PIPS, Made, OutDir, OutDirs, Outputs,
+    Pip, PipKind, PipList, Plan, ProcessDesc, SealDesc, SealForm, Variables, WriteDesc,
+};
 use std::alloc::Global;
 use std::test::Fail;
 

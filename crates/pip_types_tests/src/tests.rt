@@ -1,6 +1,6 @@
-use pip_types::{CopyDesc, Made, MadeFile, Pip, PipKind, PipList, Sources, WriteDesc};
 use bx_digest::{Blob, Digest, digest_of};
 use bx_tree::{FileInput, Path, Text, Tree, TreeFile};
+use pip_types::{CopyDesc, Made, MadeFile, Pip, PipKind, PipList, Sources, WriteDesc};
 use std::alloc::Global;
 use std::test::Fail;
 

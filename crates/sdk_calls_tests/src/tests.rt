@@ -1,6 +1,9 @@
-use sdk_calls::{artifact_input, artifact_none, artifact_output, cmd_argument, cmd_flag, cmd_option, contract_assert, contract_fail, find_below, find_directly_in, glob_files};
 use bx_tree::{FileInput, Path, Text, Tree, TreeFile};
 use dscript_value::{Argument, Artifact, StaticDir, Value};
+use sdk_calls::{
+    artifact_input, artifact_none, artifact_output, cmd_argument, cmd_flag, cmd_option,
+    contract_assert, contract_fail, find_below, find_directly_in, glob_files,
+};
 use sdk_values::{MAX_TEXT_BYTES, SdkFault};
 use std::alloc::Global;
 use std::test::Fail;

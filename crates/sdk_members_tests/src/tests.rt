@@ -1,6 +1,6 @@
-use sdk_members::{MEMBERS, Member, call_text};
 use bx_tree::Text;
 use dscript_value::Value;
+use sdk_members::{MEMBERS, Member, call_text};
 use sdk_values::MAX_TEXT_BYTES;
 use std::alloc::Global;
 use std::test::Fail;

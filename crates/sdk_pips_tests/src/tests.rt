@@ -1,7 +1,10 @@
-use sdk_pips::{SdkState, Site, copy_file, new_output_directory, seal_directory, seal_partial_directory, seal_source_directory, write_all_lines, write_all_text};
 use bx_tree::{FileInput, Path, Text, Tree, TreeFile};
 use dscript_value::{Field, StaticDir, Value, list_of, object_of};
 use pip_types::{FileInputs, PipKind};
+use sdk_pips::{
+    SdkState, Site, copy_file, new_output_directory, seal_directory, seal_partial_directory,
+    seal_source_directory, write_all_lines, write_all_text,
+};
 use sdk_values::{MAX_TEXT_BYTES, SdkFault};
 use std::alloc::Global;
 use std::test::Fail;

@@ -1,6 +1,11 @@
-use sdk_values::{MAX_LIST_ITEMS, MAX_TEXT_BYTES, Memory, SdkFault, first_argument, list_value, number_value, read_argument, read_directory, read_field, read_file, read_flag, read_items, read_list_field, read_object, read_optional, read_optional_list, read_path, read_text, text_value, two_arguments};
 use bx_tree::{FileInput, Path, Text};
 use dscript_value::{Argument, Field, Fields, Value, list_of, object_of};
+use sdk_values::{
+    MAX_LIST_ITEMS, MAX_TEXT_BYTES, SdkFault, first_argument, list_value, number_value,
+    read_argument, read_directory, read_field, read_file, read_flag, read_items, read_list_field,
+    read_object, read_optional, read_optional_list, read_path, read_text, text_value,
+    two_arguments,
+};
 use std::alloc::Global;
 use std::test::Fail;
 

@@ -1,4 +1,3 @@
-use violations::{DeedKind, Violation, ViolationKind, classify, double_write};
 use bx_digest::Blob;
 use bx_tree::{FileInput, Path, Text, Tree, TreeFile};
 use observed::{Access, Answer, Ask, AskKind};
@@ -9,6 +8,7 @@ use pip_model::{
 };
 use std::alloc::Global;
 use std::test::Fail;
+use violations::{DeedKind, Violation, ViolationKind, classify, double_write};
 
 fn path(alloc: Global, text: &str) -> Result<Path, Fail> {
     Ok(Path::read(alloc, text.as_bytes())?)
