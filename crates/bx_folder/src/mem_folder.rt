@@ -1,0 +1,237 @@
+//! A folder in memory whose calls fail as its maker asked.
+
+ghost use Rattle.std.specs.Prelude.{◌≡◌, ◌↔◌, ◌++◌, ◌∷◌, [], IsTrue, Some, IfOk, OnOk, OnErr, string_bytes};
+ghost use Rattle.bx_io.specs.Causes.{HasCause};
+ghost use Rattle.std.specs.Prelude.{IfSome, Contains};
+ghost use Rattle.bx_folder.specs.Answers.{ListsNodes, kind_of};
+ghost use Rattle.bx_folder.specs.Folders.{File, IsFree};
+ghost use Rattle.bx_folder.specs.Places.{texts_now};
+ghost use Rattle.bx_folder.specs.Stored.{node_of, stored};
+
+use crate::folder::{Entry, Folder, FolderFault, Kind, ListFault, ReadFault, WriteFault};
+use crate::places::{is_left_out, is_within};
+use bx_io::Memory;
+use bx_tree::{MAX_FILE_BYTES, Path};
+use std::alloc::Global;
+use std::marker::Model;
+
+/// What lies at a place of a folder in memory.
+#[derive(Drop)]
+pub enum Thing {
+    /// A file with these bytes.
+    File(Vec<u8>),
+    /// Neither a file nor a directory.
+    Other,
+}
+
+/// A thing at its place: the names from the folder down, joined by `/`.
+#[derive(Drop)]
+pub struct Placed {
+    /// The place.
+    pub place: String,
+    /// What lies there.
+    pub thing: Thing,
+}
+
+/// A folder in memory. Its calls are numbered together, and fail as its maker asked.
+#[derive(Drop)]
+pub struct MemFolder {
+    things: Vec<Placed>,
+    failing: Vec<u64>,
+    calls: u64,
+    faults: u64,
+}
+
+impl Model for MemFolder {
+    ghost use Rattle.bx_folder.specs.Stored.{Scripted, scripted_code, stored};
+
+    ghost Value = { Scripted };
+
+    ghost coded = { scripted_code };
+
+    ghost view = { λ f. record {
+      nodes = stored f.things.items;
+      failing = f.failing.items;
+      calls = f.calls;
+      faults = f.faults;
+    } };
+
+    ghost use Rattle.bx_folder.specs.Folders.{IsFolder};
+
+    ghost invariant = { λ f. IsFolder (stored f.things.items) };
+}
+
+// Whether a file can be made at a place beside these things.
+fn is_free_among(things: &[Placed], place: &str) -> bool
+    ensures { IsTrue result ↔ IsFree (stored things.now) place.now }
+{
+    place != "."
+        && things.iter().all(|placed| {
+            !is_within(place, placed.place.as_str()) && !is_within(placed.place.as_str(), place)
+        })
+}
+
+impl MemFolder {
+    /// A folder with nothing in it. The calls whose numbers, from 1, are in `failing` fail.
+    pub fn new(alloc: Global, failing: Vec<u64>) -> MemFolder
+        ensures whole { result ≡ record { nodes = []; failing = failing.items; calls = 0; faults = 0 } }
+        ensures holds { ⟦<MemFolder as Folder>⟧.holds result ≡ Some [] }
+        ensures faults { ⟦<MemFolder as Folder>⟧.faults result ≡ 0 }
+    {
+        MemFolder {
+            things: Vec::new(alloc),
+            failing,
+            calls: 0,
+            faults: 0,
+        }
+    }
+
+    /// Whether something can be put at a place, as for [`Folder::is_free`]. This is no numbered call.
+    pub fn has_room(&self, place: &str) -> bool
+        ensures { IsTrue result ↔ IsFree self.now.nodes place.now }
+    {
+        is_free_among(&self.things, place)
+    }
+
+    /// Puts a thing at a place where there is room. This is no numbered call.
+    pub fn put(&mut self, placed: Placed) -> Result<(), Memory>
+        requires { IsFree self.old.nodes (string_bytes placed.place) }
+        ensures made { OnOk result (self.new
+            ≡ record self.old { nodes = self.old.nodes ++ stored (placed ∷ []) }) }
+        ensures refused { OnErr result (self.new ≡ self.old) }
+    {
+        self.things.push(placed)?;
+        Ok(())
+    }
+
+    /// All that the folder holds.
+    pub fn things(&self) -> &[Placed]
+        ensures { stored result.now ≡ self.now.nodes }
+    {
+        self.things.as_slice()
+    }
+
+    /// How many calls failed.
+    pub fn faults(&self) -> u64
+        ensures { result ≡ self.now.faults }
+    {
+        self.faults
+    }
+
+    // Counts the next call, and says whether it fails.
+    fn next_fails(&mut self) -> bool
+        ensures nodes { self.new.nodes ≡ self.old.nodes }
+        ensures cause { HasCause self.old.faults self.new.faults (IsTrue result) }
+    {
+        let due = self.calls < u64::MAX && self.failing.contains(&(self.calls + 1));
+        self.calls = self.calls.saturating_add(1);
+        if due {
+            self.faults = self.faults.saturating_add(1);
+        }
+        due
+    }
+}
+
+impl Thing {
+    fn kind(&self) -> Kind
+        ensures { result ≡ kind_of (node_of self.now) }
+    {
+        match self {
+            Thing::File(_) => Kind::File,
+            Thing::Other => Kind::Other,
+        }
+    }
+}
+
+// The entries of things that are not left out.
+fn entries_of(alloc: Global, things: &[Placed], left_out: &[&str]) -> Result<Vec<Entry>, Memory>
+    ensures { IfOk result
+        (λ entries. ListsNodes (texts_now left_out.now) (stored things.now) entries.items) }
+{
+    let mut entries = Vec::new(alloc);
+    'things: for placed in things {
+        if !is_left_out(left_out, placed.place.as_str()) {
+            entries.push(Entry {
+                place: placed.place.clone()?,
+                kind: placed.thing.kind(),
+            })?;
+        }
+    }
+    Ok(entries)
+}
+
+// The bytes of the file at a place.
+fn file_at<'a>(things: &'a [Placed], place: &str) -> Option<&'a Vec<u8>>
+    ensures { IfSome result
+        (λ bytes. Contains (stored things.entry.now) (place.now, File bytes.now.items)) }
+{
+    'things: for placed in things {
+        if let Thing::File(bytes) = &placed.thing {
+            if placed.place.as_str() == place {
+                return Some(bytes);
+            }
+        }
+    }
+    None
+}
+
+impl Folder for MemFolder {
+    ghost use Rattle.std.specs.Prelude.{Some};
+
+    ghost holds = { λ f. Some f.nodes };
+
+    ghost faults = { λ f. f.faults };
+
+    fn list(&mut self, alloc: Global, left_out: &[&str]) -> Result<Vec<Entry>, ListFault> {
+        if self.next_fails() {
+            return Err(ListFault::Failed(String::from_str(alloc, ".")?));
+        }
+        Ok(entries_of(alloc, &self.things, left_out)?)
+    }
+
+    fn read(&mut self, alloc: Global, path: &Path) -> Result<Vec<u8>, ReadFault> {
+        if self.next_fails() {
+            return Err(ReadFault::Failed);
+        }
+        let Some(bytes) = file_at(&self.things, path.text()) else {
+            self.faults = self.faults.saturating_add(1);
+            return Err(ReadFault::Failed);
+        };
+        if bytes.len() > MAX_FILE_BYTES {
+            return Err(ReadFault::TooLarge);
+        }
+        Ok(bytes.to_vec(alloc)?)
+    }
+
+    fn is_free(&mut self, _alloc: Global, path: &Path) -> Result<bool, FolderFault> {
+        if self.next_fails() {
+            return Err(FolderFault::Failed);
+        }
+        Ok(self.has_room(path.text()))
+    }
+
+    fn write_new(&mut self, alloc: Global, path: &Path, bytes: &[u8]) -> Result<(), WriteFault> {
+        if self.next_fails() {
+            return Err(WriteFault::Failed);
+        }
+        let place = path.text();
+        if !self.has_room(place) {
+            return Err(WriteFault::Exists);
+        }
+        self.put(Placed {
+            place: String::from_str(alloc, place)?,
+            thing: Thing::File(bytes.to_vec(alloc)?),
+        })?;
+        Ok(())
+    }
+
+    fn remove(&mut self, _alloc: Global, path: &Path) -> Result<(), FolderFault> {
+        if self.next_fails() {
+            return Err(FolderFault::Failed);
+        }
+        let top = path.text();
+        self.things
+            .retain(|placed| !is_within(placed.place.as_str(), top));
+        Ok(())
+    }
+}
