@@ -1,18 +1,20 @@
 -- How unpacking ends where one of its steps refuses.
 use Rattle.std.proofs.Common.{◌≡◌, ◌≢◌, ◌⊎◌, ℕ, ◌<◌, ◌≤◌, ◌+◌, List, [], ◌∷◌, ◌++◌, length, get_or, take, drop, codes, refl, ap, sym, subst, ◌∙◌, inl, inr, arith}
 use Rattle.std.specs.Prelude.{Contains, Some, None, Option, map}
-use Rattle.std.proofs.lemmas.List.{drop_more, get_or-map, length-map, take-append-drop}
-use Rattle.std.proofs.lemmas.List.Elements.{Contains-get_or}
+use Rattle.std.proofs.lemmas.List.{drop_more, get_or-map, length-map, map_more, map_push, take-append-drop, take-map}
+use Rattle.std.proofs.lemmas.List.Elements.{Contains-push_cases}
 use Rattle.bx_tree.specs.Bundle.{IsBundle}
 use Rattle.bx_tree.specs.Paths.{Atoms, path_text}
 use Rattle.bx_tree.specs.Trees.{Files, IsTree, paths_of}
+use Rattle.bx_tree.specs.Views.{file_of, files_of}
+use Rattle.bx_tree.specs.declared.tree_file.TreeFile.{TreeFile}
 use Rattle.bx_folder.specs.Folders.{IsFree, Known, Nodes, nodes_of, with_files, without}
-use Rattle.bx_folder.specs.Unpacking.{AreFree, AreFreeBut, EndsUnpack, HasFirst, IsClearFault, IsMade, IsMakeFault, IsStop, IsUnmade, IsWayFault, removed, start}
+use Rattle.bx_folder.specs.Unpacking.{AreFree, AreFreeBut, EndsUnpack, IsFreeBut, HasFirst, IsClearFault, IsMade, IsMakeFault, IsStop, IsUnmade, IsWayFault, removed, start}
 use Rattle.bx_folder.specs.declared.fault.UnpackFault.{UnpackFault}
 use Rattle.bx_folder.specs.declared.fault.UnpackFault.TheVariants as faults
 use Rattle.bx_folder.specs.declared.unpacking.Replace.{Replace}
 use Rattle.bx_folder.specs.declared.unpacking.Replace.TheVariants as replaces
-use Rattle.bx_folder.proofs.Free.{free_after, to_map}
+use Rattle.bx_folder.proofs.Free.{added, free_after, to_map}
 
 -- where a file is in the way, or a place is not seen
 pub way_ends : (text : List ℕ) (replace : Replace) (holds : Option Nodes) (files : Files) (path : Atoms) (fault : UnpackFault)
@@ -94,3 +96,49 @@ make_stop before middle now files i file (faults.Taken count path) l e t free m 
 )
 make_stop before middle now files i file (faults.Memory count) l e t free m n h =
     subst (HasFirst before now files) (sym h) (omega (arith, l), n ∙ m)
+
+-- ## One file after another
+
+files_more : (files : List TreeFile) (i : ℕ) (file : TreeFile) → i < length files → file ≡ get_or files i file
+    → files_of (take (i + 1) files) ≡ files_of (take i files) ++ file_of file ∷ []
+files_more files i file l e =
+    map_more file_of files i file l ∙ ap (λ (f : TreeFile). files_of (take i files) ++ file_of f ∷ []) (sym e)
+
+-- one more file that can be made
+pub free_but_more : (replace : Replace) (nodes : Nodes) (files : List TreeFile) (i : ℕ) (file : TreeFile) → i < length files
+    → file ≡ get_or files i file → AreFreeBut replace nodes (files_of (take i files)) → IsFreeBut replace nodes file.path
+    → AreFreeBut replace nodes (files_of (take (i + 1) files))
+free_but_more replace nodes files i file l e all one path c =
+    let here : Contains (paths_of (files_of (take i files) ++ file_of file ∷ [])) path =
+    subst (λ fs. Contains (paths_of fs) path) (files_more files i file l e) c in
+    let split : paths_of (files_of (take i files) ++ file_of file ∷ []) ≡ paths_of (files_of (take i files)) ++ file.path ∷ [] =
+    map_push (λ (f : Atoms × List ℕ). f.0) (files_of (take i files)) (file_of file) in
+    elim (Contains-push_cases (paths_of (files_of (take i files))) file.path path (subst (λ ps. Contains ps path) split here)) [
+      | inl d ↦ all path d
+      | inr f ↦ subst (IsFreeBut replace nodes) f one
+    ]
+
+-- a file of a list has its path among those of the list
+pub has_path : (files : List TreeFile) (i : ℕ) (file : TreeFile) → i < length files → file ≡ get_or files i file
+    → Contains (paths_of (files_of files)) file.path
+has_path files i file l e =
+    to_map (λ (f : Atoms × List ℕ). f.0) (files_of files) (file_of file) (to_map file_of files file (i, l, sym e))
+
+-- one more file that was made
+pub made_more : (holds middle now : Option Nodes) (files : List TreeFile) (i : ℕ) (file : TreeFile) → i < length files
+    → file ≡ get_or files i file → middle ≡ with_files holds (files_of (take i files))
+    → now ≡ with_files middle (file_of file ∷ []) → now ≡ with_files holds (files_of (take (i + 1) files))
+made_more holds middle now files i file l e m n =
+    n ∙ ap (λ h. with_files h (file_of file ∷ [])) m ∙ added holds (files_of (take i files)) (file_of file)
+    ∙ ap (with_files holds) (sym (files_more files i file l e))
+
+-- where the next file of a list is not made
+pub stop_at : (before middle now : Option Nodes) (files : List TreeFile) (i : ℕ) (file : TreeFile) (fault : UnpackFault)
+    → i < length files → file ≡ get_or files i file → IsTree (files_of files) → Known before (λ nodes. AreFree nodes (files_of files))
+    → middle ≡ with_files before (files_of (take i files)) → now ≡ middle → IsMakeFault middle file.path i fault
+    → IsStop before now (files_of files) fault
+stop_at before middle now files i file fault l e t free m n h =
+    make_stop before middle now (files_of files) i (file_of file) fault
+    (subst (λ k. i < k) (sym (length-map files file_of)) l)
+    (get_or-map file_of files i file (file_of file) l ∙ ap file_of (sym e)) t free
+    (m ∙ ap (with_files before) (sym (take-map file_of i files))) n h

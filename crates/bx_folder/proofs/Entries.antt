@@ -1,16 +1,57 @@
 -- The entries and the files among things in memory.
-use Rattle.std.proofs.Common.{◌≡◌, ◌⊎◌, ℕ, ◌<◌, Bool, true, false, List, [], ◌∷◌, ◌++◌, length, refl, ap, sym, subst, ◌∙◌, inl, inr, arith}
-use Rattle.std.specs.Prelude.{Contains, map, string_bytes}
+use Rattle.std.proofs.Common.{◌≡◌, ◌⊎◌, ℕ, ◌<◌, ◌+◌, Bool, true, false, cond, not, List, [], ◌∷◌, ◌++◌, length, get_or, take, refl, ap, sym, subst, ◌∙◌, inl, inr, arith}
+use Rattle.std.specs.Prelude.{Contains, filter, map, string_bytes}
 use Rattle.std.specs.List.{Any}
 use Rattle.std.specs.Borrow.{Bor}
 use Rattle.std.proofs.lemmas.List.Elements.{Contains-append_left, Contains-push, Contains-push_cases}
-use Rattle.std.proofs.lemmas.List.{map_push}
+use Rattle.std.proofs.lemmas.List.{map_more, map_push}
 use Rattle.bx_folder.specs.Answers.{ListsNodes, entry_of, kind_of}
-use Rattle.bx_folder.specs.Folders.{IsFolder, IsFree, Node, Nodes, Stands}
-use Rattle.bx_folder.specs.Places.{IsLeftOut, IsWithin, texts_now}
+use Rattle.bx_folder.specs.Folders.{AllApart, IsFolder, IsFree, Node, Nodes, Stands, without}
+use Rattle.bx_folder.specs.Stored.{placed, stored}
+use Rattle.bx_folder.specs.declared.mem_folder.Placed.{Placed}
+use Rattle.bx_folder.specs.Places.{IsApart, IsLeftOut, IsWithin, is_within, texts_now}
 use Rattle.bx_folder.proofs.Free.{from_map, to_map}
 use Rattle.bx_folder.specs.declared.folder.Entry.{Entry}
 use Rattle.bx_folder.specs.declared.folder.Kind.{Kind}
+
+-- ## Things one after another
+
+-- the nodes of one more thing
+pub stored_more : (things : List Placed) (i : ℕ) (thing : Placed) → i < length things → thing ≡ get_or things i thing
+    → stored (take (i + 1) things) ≡ stored (take i things) ++ placed thing ∷ []
+stored_more things i thing l e =
+    map_more placed things i thing l ∙ ap (λ (p : Placed). stored (take i things) ++ placed p ∷ []) (sym e)
+
+-- a thing is among the nodes
+pub stored_has : (things : List Placed) (i : ℕ) (thing : Placed) → i < length things → thing ≡ get_or things i thing
+    → Contains (stored things) (placed thing)
+stored_has things i thing l e = to_map placed things thing (i, l, sym e)
+
+filter_pushed : (b : Bool) (thing : Placed) (things : List Placed) (nodes : Nodes) → stored things ≡ nodes
+    → stored (cond b (thing ∷ things) things) ≡ cond b (placed thing ∷ nodes) nodes
+filter_pushed true thing things nodes e = ap (λ ns. placed thing ∷ ns) e
+filter_pushed false thing things nodes e = e
+
+-- the nodes of the things outside a place
+pub stored_outside : (top : List ℕ) (things : List Placed)
+    → stored (filter (λ (p : Placed). not (is_within (string_bytes p.place) top)) things) ≡ without top (stored things)
+stored_outside top [] = refl
+stored_outside top (thing ∷ things) =
+    filter_pushed (not (is_within (string_bytes thing.place) top)) thing
+    (filter (λ (p : Placed). not (is_within (string_bytes p.place) top)) things) (without top (stored things)) (stored_outside top things)
+
+-- what is apart from all nodes and from one more
+pub apart_more : (nodes : Nodes) (next : List ℕ × Node) (place : List ℕ) → AllApart nodes place → IsApart place next.0
+    → AllApart (nodes ++ next ∷ []) place
+apart_more nodes next place all one other node h = elim (Contains-push_cases nodes next (other, node) h) [
+  | inl c ↦ all other node c
+  | inr e ↦ subst (λ (n : List ℕ × Node). IsApart place n.0) e one
+]
+
+pub none_apart : (place : List ℕ) → AllApart [] place
+none_apart place other node h = absurd (omega (arith, h.1))
+
+-- ## Entries
 
 pub no_entries : (left_out : List (List ℕ)) → ListsNodes left_out [] []
 no_entries left_out = record {

@@ -77,6 +77,10 @@ report_is_path = (
 
 -- ## After places were cleared
 
+-- what is left was there
+pub left_nodes : (top : List ℕ) (nodes : Nodes) (n : List ℕ × Node) → Contains (without top nodes) n → Contains nodes n
+left_nodes top nodes n h = (in_filtered (λ (m : List ℕ × Node). not (is_within m.0 top)) nodes n h).0
+
 pub left_of_free : (top : List ℕ) (nodes : Nodes) (place : List ℕ) → IsFree nodes place → IsFree (without top nodes) place
 left_of_free top nodes place f = record {
   no_root = f.no_root;

@@ -21,7 +21,7 @@ use Rattle.bx_tree.specs.declared.tree_file.TreeFile.{TreeFile}
 use Rattle.bx_tree.proofs.PathTexts.{named_by_parts, prefix_from_below}
 use Rattle.bx_folder.specs.Answers.{IsEntryOf, ListsNodes, entry_of, kind_of}
 use Rattle.bx_folder.specs.Folders.{File, IsFolder, Known, Node, Nodes, Other, Stands}
-use Rattle.bx_folder.specs.Packing.{AreFilesOf, AreHeld, HasCauseIn, HasLongText, IsPack}
+use Rattle.bx_folder.specs.Packing.{AreFilesOf, AreHeld, HasCauseIn, HasLongText, HasManyFiles, IsPack}
 use Rattle.bx_folder.specs.Places.{IsWithin}
 use Rattle.bx_folder.specs.Steps.{AreFilePaths, ArePathsOf, AreRead, IsEntryFault, IsFileIn, IsFilePath, IsPlaceFault, IsTextFault, IsTextOf}
 use Rattle.bx_folder.specs.declared.folder.Entry.{Entry}
@@ -131,6 +131,11 @@ paths_of_folder left_out nodes entries paths order lists files rising same = rec
       let to = files.all entry.0 entry.1 in
       (to.0, (same to.0).1 to.1, to.2.text ∙ ap (λ (p : List ℕ × Kind). p.0) entry.2);
 }
+
+-- more paths than a bundle has files are a cause
+pub many_files : (left_out : List (List ℕ)) (nodes : Nodes) (paths : List Atoms) → ArePathsOf left_out nodes paths
+    → MAX_FILES < length paths → HasManyFiles left_out nodes
+many_files left_out nodes paths are many = (paths, are.rising, many, are.held)
 
 -- ## Files
 

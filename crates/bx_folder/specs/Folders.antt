@@ -3,7 +3,7 @@ use Rattle.std.specs.Prelude.{◌≡◌, ◌≢◌, ℕ, List, [], ◌∷◌, �
 use Rattle.std.specs.Prelude.{filter, map, not}
 use Rattle.bx_tree.specs.Paths.{Atoms, path_text}
 use Rattle.bx_tree.specs.Trees.{Files}
-use Rattle.bx_folder.specs.Places.{IsLeftOut, IsWithin, is_within}
+use Rattle.bx_folder.specs.Places.{IsApart, IsLeftOut, IsWithin, is_within}
 
 -- what may lie at a place: a file with these bytes, or a thing that is neither a file nor a directory, as a
 -- link
@@ -22,11 +22,14 @@ IsFolder nodes =
     (place top : List ℕ) (node above : Node) → Contains nodes (place, node) → Contains nodes (top, above)
     → IsWithin place top → (place ≡ top) × (node ≡ above)
 
--- a file can be made at the place: no node lies at it, below it, or where a directory above it would be
+-- no node lies at the place, below it, or where a directory above it would be
+abbrev pub AllApart : Nodes → List ℕ → Type 0
+AllApart nodes place = (other : List ℕ) (node : Node) → Contains nodes (other, node) → IsApart place other
+
+-- a file can be made at the place
 pub record IsFree (nodes : Nodes) (place : List ℕ) : Type 0 where
   pub no_root : place ≢ codes "."
-  pub apart : (other : List ℕ) (node : Node) → Contains nodes (other, node)
-      → (¬ IsWithin place other) × (¬ IsWithin other place)
+  pub apart : AllApart nodes place
 
 -- the fact holds of what a folder holds, where that is known
 abbrev pub Known : Option Nodes → (Nodes → Type 0) → Type 0

@@ -7,7 +7,11 @@ use Rattle.std.specs.Borrow.{Bor}
 abbrev pub IsWithin : List ℕ → List ℕ → Type 0
 IsWithin place top = (place ≡ top) ⊎ ((rest : List ℕ) × (place ≡ top ++ 47 ∷ rest))
 
--- whether it is
+-- neither place is the other or lies below it
+abbrev pub IsApart : List ℕ → List ℕ → Type 0
+IsApart place other = (¬ IsWithin place other) × (¬ IsWithin other place)
+
+-- whether the place is the other or lies below it
 abbrev pub is_within : List ℕ → List ℕ → Bool
 is_within [] [] = true
 is_within (b ∷ bs) [] = b == 47

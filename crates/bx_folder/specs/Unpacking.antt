@@ -79,11 +79,14 @@ BlamesFolder (faults.Memory count) = ⊥
 abbrev pub AreFree : Nodes → Files → Type 0
 AreFree nodes files = (path : Atoms) → Contains (paths_of files) path → IsFree nodes (path_text path)
 
--- each of these files can be made, or lies at a place that is to be cleared
+-- a file can be made at the path, or lies at a place that is to be cleared
+abbrev pub IsFreeBut : Replace → Nodes → Atoms → Type 0
+IsFreeBut replace nodes path =
+    ((replace ≡ replaces.Made) × IsMade (path_text path)) ⊎ IsFree nodes (path_text path)
+
 abbrev pub AreFreeBut : Replace → Nodes → Files → Type 0
 AreFreeBut replace nodes files =
-    (path : Atoms) → Contains (paths_of files) path
-    → ((replace ≡ replaces.Made) × IsMade (path_text path)) ⊎ IsFree nodes (path_text path)
+    (path : Atoms) → Contains (paths_of files) path → IsFreeBut replace nodes path
 
 -- why it is not known that a file can be made at the path
 abbrev pub IsWayFault : Option Nodes → Atoms → UnpackFault → Type 0

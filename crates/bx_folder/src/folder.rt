@@ -85,7 +85,7 @@ pub trait Folder {
     /// All that lies in the folder, but for what lies at or below the places in `left_out`. Directories are
     /// looked through, and are no entries; a link is not followed.
     fn list(&mut self, alloc: Global, left_out: &[&str]) -> Result<Vec<Entry>, ListFault>
-        ensures folder { Known (holds self.old) IsFolder }
+        ensures folder { OnOk result (Known (holds self.old) IsFolder) }
         ensures listed { IfOk result (λ entries. Known (holds self.old)
             (λ nodes. ListsNodes (texts_now left_out.now) nodes entries.items)) }
         ensures no_text { (place : _) → result ≡ Err (ListFault.NoText place) → Known (holds self.old) (λ _. ⊥) }

@@ -2,14 +2,14 @@
 
 ghost use Rattle.std.specs.Prelude.{◌≡◌, ◌↔◌, ◌++◌, ◌∷◌, [], IsTrue, Some, IfOk, OnOk, OnErr, string_bytes};
 ghost use Rattle.bx_io.specs.Causes.{HasCause};
-ghost use Rattle.std.specs.Prelude.{IfSome, Contains};
+ghost use Rattle.std.specs.Prelude.{Contains, IfSome, filter, not};
 ghost use Rattle.bx_folder.specs.Answers.{ListsNodes, kind_of};
-ghost use Rattle.bx_folder.specs.Folders.{File, IsFree};
-ghost use Rattle.bx_folder.specs.Places.{texts_now};
-ghost use Rattle.bx_folder.specs.Stored.{node_of, stored};
+ghost use Rattle.bx_folder.specs.Folders.{File, IsFolder, IsFree, Nodes, without};
+ghost use Rattle.bx_folder.specs.Places.{is_within as within, texts_now};
+ghost use Rattle.bx_folder.specs.Stored.{node_of, placed as placed_node, stored};
 
 use crate::folder::{Entry, Folder, FolderFault, Kind, ListFault, ReadFault, WriteFault};
-use crate::places::{is_left_out, is_within};
+use crate::places::{is_apart, is_left_out, is_outside};
 use bx_io::Memory;
 use bx_tree::{MAX_FILE_BYTES, Path};
 use std::alloc::Global;
@@ -65,10 +65,23 @@ impl Model for MemFolder {
 fn is_free_among(things: &[Placed], place: &str) -> bool
     ensures { IsTrue result ↔ IsFree (stored things.now) place.now }
 {
-    place != "."
-        && things.iter().all(|placed| {
-            !is_within(place, placed.place.as_str()) && !is_within(placed.place.as_str(), place)
-        })
+    if place == "." {
+        return false;
+    }
+    'things: for placed in things {
+        if !is_apart(place, placed.place.as_str()) {
+            return false;
+        }
+    }
+    true
+}
+
+// Takes away what lies at a place and below it.
+fn remove_within(things: &mut Vec<Placed>, top: &str)
+    ensures { things.new.items
+        ≡ filter (λ placed. not (within (string_bytes placed.place) top.now)) things.old.items }
+{
+    things.retain(|placed| is_outside(placed.place.as_str(), top));
 }
 
 impl MemFolder {
@@ -118,6 +131,23 @@ impl MemFolder {
         self.faults
     }
 
+    // The entries of all that is not left out.
+    fn entries(&self, alloc: Global, left_out: &[&str]) -> Result<Vec<Entry>, Memory>
+        ensures folder { IsFolder self.now.nodes }
+        ensures listed { IfOk result
+            (λ entries. ListsNodes (texts_now left_out.now) self.now.nodes entries.items) }
+    {
+        entries_of(alloc, &self.things, left_out)
+    }
+
+    // Takes away what lies at a place and below it.
+    fn take_away(&mut self, top: &str)
+        ensures nodes { self.new.nodes ≡ without top.now self.old.nodes }
+        ensures faults { self.new.faults ≡ self.old.faults }
+    {
+        remove_within(&mut self.things, top);
+    }
+
     // Counts the next call, and says whether it fails.
     fn next_fails(&mut self) -> bool
         ensures nodes { self.new.nodes ≡ self.old.nodes }
@@ -143,6 +173,27 @@ impl Thing {
     }
 }
 
+// Adds the entry of a thing, unless it is left out.
+fn add_entry(
+    alloc: Global,
+    entries: &mut Vec<Entry>,
+    placed: &Placed,
+    left_out: &[&str],
+) -> Result<(), Memory>
+    ensures { (nodes : Nodes) → ListsNodes (texts_now left_out.now) nodes entries.old.items
+        → OnOk result (ListsNodes (texts_now left_out.now)
+        (nodes ++ placed_node placed.now ∷ []) entries.new.items) }
+{
+    let text = placed.place.as_str();
+    if is_left_out(left_out, text) {
+        return Ok(());
+    }
+    let place = String::from_str(alloc, text)?;
+    let kind = placed.thing.kind();
+    entries.push(Entry { place, kind })?;
+    Ok(())
+}
+
 // The entries of things that are not left out.
 fn entries_of(alloc: Global, things: &[Placed], left_out: &[&str]) -> Result<Vec<Entry>, Memory>
     ensures { IfOk result
@@ -150,14 +201,24 @@ fn entries_of(alloc: Global, things: &[Placed], left_out: &[&str]) -> Result<Vec
 {
     let mut entries = Vec::new(alloc);
     'things: for placed in things {
-        if !is_left_out(left_out, placed.place.as_str()) {
-            entries.push(Entry {
-                place: placed.place.clone()?,
-                kind: placed.thing.kind(),
-            })?;
-        }
+        add_entry(alloc, &mut entries, placed, left_out)?;
     }
     Ok(entries)
+}
+
+// The bytes of a thing, if it is the file at a place.
+fn file_in<'a>(placed: &'a Placed, place: &str) -> Option<&'a Vec<u8>>
+    ensures { IfSome result
+        (λ bytes. placed_node placed.entry.now ≡ (place.now, File bytes.now.items)) }
+{
+    let Thing::File(bytes) = &placed.thing else {
+        return None;
+    };
+    if placed.place.as_str() == place {
+        Some(bytes)
+    } else {
+        None
+    }
 }
 
 // The bytes of the file at a place.
@@ -166,10 +227,8 @@ fn file_at<'a>(things: &'a [Placed], place: &str) -> Option<&'a Vec<u8>>
         (λ bytes. Contains (stored things.entry.now) (place.now, File bytes.now.items)) }
 {
     'things: for placed in things {
-        if let Thing::File(bytes) = &placed.thing {
-            if placed.place.as_str() == place {
-                return Some(bytes);
-            }
+        if let Some(bytes) = file_in(placed, place) {
+            return Some(bytes);
         }
     }
     None
@@ -186,7 +245,7 @@ impl Folder for MemFolder {
         if self.next_fails() {
             return Err(ListFault::Failed(String::from_str(alloc, ".")?));
         }
-        Ok(entries_of(alloc, &self.things, left_out)?)
+        Ok(self.entries(alloc, left_out)?)
     }
 
     fn read(&mut self, alloc: Global, path: &Path) -> Result<Vec<u8>, ReadFault> {
@@ -229,9 +288,7 @@ impl Folder for MemFolder {
         if self.next_fails() {
             return Err(FolderFault::Failed);
         }
-        let top = path.text();
-        self.things
-            .retain(|placed| !is_within(placed.place.as_str(), top));
+        self.take_away(path.text());
         Ok(())
     }
 }

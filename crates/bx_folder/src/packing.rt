@@ -1,6 +1,6 @@
 //! Packing: the bundle of the files of a folder.
 
-ghost use Rattle.std.specs.Prelude.{◌≡◌, ◌↔◌, ◌≤◌, ℕ, List, Contains, IfOk, IfErr, MatchResult};
+ghost use Rattle.std.specs.Prelude.{◌≡◌, ◌↔◌, ◌≤◌, ℕ, List, Contains, IfOk, IfErr, OnOk, MatchResult};
 ghost use Rattle.std.specs.Prelude.{All, length, string_bytes};
 ghost use Rattle.std.specs.List.Sorted.{IsStrictlySortedBy};
 ghost use Rattle.bx_io.specs.Causes.{HasCause};
@@ -30,7 +30,7 @@ fn list_all<F: Folder>(
     folder: &mut F,
     left_out: &[&str],
 ) -> Result<Vec<Entry>, PackFault>
-    ensures folder { Known (F.holds folder.old) IsFolder }
+    ensures folder { OnOk result (Known (F.holds folder.old) IsFolder) }
     ensures listed { MatchResult result
         (λ entries. Known (F.holds folder.old)
         (λ nodes. ListsNodes (texts_now left_out.now) nodes entries.items))

@@ -9,7 +9,7 @@ ghost use Rattle.bx_tree.specs.Trees.{IsTree, paths_of};
 ghost use Rattle.bx_tree.specs.Views.{file_of, files_of};
 ghost use Rattle.bx_folder.specs.Folders.{IsFree, Known, Nodes, with_files};
 ghost use Rattle.bx_folder.specs.Unpacking.{AreFree, AreFreeBut, BlamesFolder, EndsUnpack, IsClearFault};
-ghost use Rattle.bx_folder.specs.Unpacking.{IsMade, IsMakeFault, IsStop, IsUnpack, IsWayFault, removed, start};
+ghost use Rattle.bx_folder.specs.Unpacking.{IsFreeBut, IsMade, IsMakeFault, IsStop, IsUnpack, IsWayFault, removed, start};
 
 use crate::fault::UnpackFault;
 use crate::folder::{Folder, FolderFault, WriteFault};
@@ -73,6 +73,25 @@ fn check_place<F: Folder>(alloc: Global, folder: &mut F, path: &Path) -> Result<
     }
 }
 
+// Looks whether a file can be made, unless it lies at a place that is cleared before.
+fn check_file<F: Folder>(
+    alloc: Global,
+    folder: &mut F,
+    path: &Path,
+    replace: Replace,
+) -> Result<(), UnpackFault>
+    ensures free { OnOk result (Known (F.holds folder.old) (λ nodes. IsFreeBut replace nodes path.now)) }
+    ensures fault { IfErr result (IsWayFault (F.holds folder.old) path.now) }
+    ensures same { F.holds folder.new ≡ F.holds folder.old }
+    ensures cause { HasCause (F.faults folder.old) (F.faults folder.new)
+        (MatchResult result (λ _. ⊥) BlamesFolder) }
+{
+    if replace == Replace::Made && is_made(path) {
+        return Ok(());
+    }
+    check_place(alloc, folder, path)
+}
+
 // Looks whether all files can be made, but for those at places that are cleared before.
 fn check_places<F: Folder>(
     alloc: Global,
@@ -89,9 +108,7 @@ fn check_places<F: Folder>(
         (MatchResult result (λ _. ⊥) BlamesFolder) }
 {
     'files: for file in files {
-        if replace == Replace::Nothing || !is_made(&file.path) {
-            check_place(alloc, folder, &file.path)?;
-        }
+        check_file(alloc, folder, &file.path, replace)?;
     }
     Ok(())
 }
