@@ -300,3 +300,28 @@ text_cause left_out nodes paths files faults.Changed folder are same held h =
 text_cause left_out nodes paths files (faults.Unlisted text) folder are same held h = tt
 text_cause left_out nodes paths files (faults.Unread path) folder are same held h = tt
 text_cause left_out nodes paths files faults.Memory folder are same held h = tt
+
+-- what was read of a folder is held there
+read_held : (left_out : List (List ℕ)) (nodes : Nodes) (paths : List Atoms) (files : List TreeFile) → ArePathsOf left_out nodes paths
+    → paths_of (files_of files) ≡ paths → AreRead nodes files → AreHeld left_out nodes (files_of files)
+read_held left_out nodes paths files are same read =
+    held_files left_out nodes paths files are.held (λ path c. subst (λ ps. Contains ps path) same c) read
+
+-- the text of what was read is the text of the folder
+pub is_pack : (left_out : List (List ℕ)) (holds : Option Nodes) (paths : List Atoms) (files : List TreeFile) (text : List ℕ)
+    → Known holds IsFolder → Known holds (λ nodes. ArePathsOf left_out nodes paths) → paths_of (files_of files) ≡ paths
+    → Known holds (λ nodes. AreRead nodes files) → IsTextOf (files_of files) text → IsPack left_out holds text
+is_pack left_out holds paths files text folder are same read h = (
+  h.0,
+  h.2,
+  λ nodes e. files_of_folder left_out nodes paths (files_of files) h.0 (folder nodes e) (are nodes e) same
+      (read_held left_out nodes paths files (are nodes e) same (read nodes e)) h.1,
+)
+
+-- why what was read has no text is why the folder has none
+pub has_no_text : (left_out : List (List ℕ)) (holds : Option Nodes) (paths : List Atoms) (files : List TreeFile) (fault : PackFault)
+    → Known holds IsFolder → Known holds (λ nodes. ArePathsOf left_out nodes paths) → paths_of (files_of files) ≡ paths
+    → Known holds (λ nodes. AreRead nodes files) → IsTextFault (files_of files) fault → Known holds (λ nodes. HasCauseIn left_out nodes fault)
+has_no_text left_out holds paths files fault folder are same read h nodes e =
+    text_cause left_out nodes paths files fault (folder nodes e) (are nodes e) same
+    (read_held left_out nodes paths files (are nodes e) same (read nodes e)) h
