@@ -81,7 +81,7 @@ fn stop_message(alloc: Global, place: &str, fault: &UnpackFault) -> Result<Strin
     match fault {
         UnpackFault::Text(fault) => bundle_message(alloc, *fault),
         UnpackFault::Exists(_) => {
-            format!(in alloc; "{place}: is there already, or in the way; nothing was changed")
+            format!(in alloc; "{place}: something is there, or in its way; nothing was changed")
         }
         UnpackFault::Unseen(_) => {
             format!(in alloc; "{place}: cannot be looked at; nothing was changed")

@@ -148,6 +148,7 @@ fn read_of<R: Files>(rt: &R, alloc: Global, path: &str) -> io::Result<Vec<u8>> {
 }
 
 // What lies at a path of the system; a link is not followed.
+#[derive(Clone, Copy, Debug, PartialEq, Eq)]
 enum Seen {
     Nothing,
     Directory,

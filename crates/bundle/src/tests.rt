@@ -71,7 +71,7 @@ fn a_folder_of_the_system_goes_round(rt: HostRuntime) -> Result<(), Fail> {
     assert_eq!(rt; unpacked(&rt, name, TEXT, Replace::Nothing)?.as_str(), "3");
     let wanted = "bundle 1\nfile 2 a/b.c\nhi\nfile 1 z\n\n\nend\n";
     assert_eq!(rt; packed(&rt, name)?.as_str(), wanted);
-    let taken = "goes-round/a/b.c: is there already, or in the way; nothing was changed";
+    let taken = "goes-round/a/b.c: something is there, or in its way; nothing was changed";
     assert_eq!(rt;
         unpacked(&rt, name, TEXT, Replace::Nothing)?.as_str(),
         taken
@@ -90,7 +90,7 @@ fn only_what_a_build_made_is_replaced(rt: HostRuntime) -> Result<(), Fail> {
     assert_eq!(rt; fs::read_to_string(&rt, "replaces/out/old")?.as_str(), "n");
     assert_eq!(rt; fs::read_to_string(&rt, "replaces/s")?.as_str(), "o");
     let other = "bundle 1\nfile 1 s\nn\nend\n";
-    let taken = "replaces/s: is there already, or in the way; nothing was changed";
+    let taken = "replaces/s: something is there, or in its way; nothing was changed";
     assert_eq!(rt; unpacked(&rt, name, other, Replace::Made)?.as_str(), taken);
     assert_eq!(rt;
         fs::read_to_string(&rt, "replaces/report.txt")?.as_str(),
@@ -108,7 +108,7 @@ fn links_are_refused_and_not_followed(rt: HostRuntime) -> Result<(), Fail> {
     rt.symlink("there", "links/a")?;
     let refused = "links/a: a link or another thing that is neither file nor directory";
     assert_eq!(rt; packed(&rt, name)?.as_str(), refused);
-    let taken = "links/a: is there already, or in the way; nothing was changed";
+    let taken = "links/a/b.c: something is there, or in its way; nothing was changed";
     assert_eq!(rt;
         unpacked(&rt, name, TEXT, Replace::Nothing)?.as_str(),
         taken
@@ -140,7 +140,7 @@ fn a_file_where_the_folder_should_be_is_a_fault(rt: HostRuntime) -> Result<(), F
     let refused = unpacked(&rt, name, TEXT, Replace::Nothing)?;
     assert_eq!(rt;
         refused.as_str(),
-        "full/a: cannot be looked at; nothing was changed"
+        "full/a/b.c: cannot be looked at; nothing was changed"
     );
     fs::remove_file(&rt, name)?;
     Ok(())

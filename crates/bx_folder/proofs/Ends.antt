@@ -1,6 +1,6 @@
 -- How unpacking ends where one of its steps refuses.
 use Rattle.std.proofs.Common.{◌≡◌, ◌≢◌, ◌⊎◌, ℕ, ◌<◌, ◌≤◌, ◌+◌, List, [], ◌∷◌, ◌++◌, length, get_or, take, drop, codes, refl, ap, sym, subst, ◌∙◌, inl, inr, arith}
-use Rattle.std.specs.Prelude.{Contains, Some, None, Option, map}
+use Rattle.std.specs.Prelude.{Contains, Some, None, Option, Result, Ok, Err, IfOk, IfErr, MatchResult, map}
 use Rattle.std.proofs.lemmas.List.{drop_more, get_or-map, length-map, map_more, map_push, take-append-drop, take-map}
 use Rattle.std.proofs.lemmas.List.Elements.{Contains-push_cases}
 use Rattle.bx_tree.specs.Bundle.{IsBundle}
@@ -9,7 +9,7 @@ use Rattle.bx_tree.specs.Trees.{Files, IsTree, paths_of}
 use Rattle.bx_tree.specs.Views.{file_of, files_of}
 use Rattle.bx_tree.specs.declared.tree_file.TreeFile.{TreeFile}
 use Rattle.bx_folder.specs.Folders.{IsFree, Known, Nodes, nodes_of, with_files, without}
-use Rattle.bx_folder.specs.Unpacking.{AreFree, AreFreeBut, EndsUnpack, IsFreeBut, HasFirst, IsClearFault, IsMade, IsMakeFault, IsStop, IsUnmade, IsWayFault, removed, start}
+use Rattle.bx_folder.specs.Unpacking.{AreFree, AreFreeBut, EndsUnpack, IsFreeBut, HasFirst, IsClearFault, IsMade, IsMakeFault, IsStop, IsUnmade, IsUnpack, IsWayFault, removed, start}
 use Rattle.bx_folder.specs.declared.fault.UnpackFault.{UnpackFault}
 use Rattle.bx_folder.specs.declared.fault.UnpackFault.TheVariants as faults
 use Rattle.bx_folder.specs.declared.unpacking.Replace.{Replace}
@@ -142,3 +142,19 @@ stop_at before middle now files i file fault l e t free m n h =
     (subst (λ k. i < k) (sym (length-map files file_of)) l)
     (get_or-map file_of files i file (file_of file) l ∙ ap file_of (sym e)) t free
     (m ∙ ap (with_files before) (sym (take-map file_of i files))) n h
+
+-- how unpacking ends with the making of files
+pub made_ends : (text : List ℕ) (replace : Replace) (before middle now : Option Nodes) (files : List TreeFile) (tree : Files)
+    (r : Result ℕ UnpackFault) → IsBundle text tree → files_of files ≡ tree → middle ≡ start replace before
+    → IfOk r (λ count. (count ≡ length files) × (now ≡ with_files middle (files_of files)))
+    → IfErr r (IsStop middle now (files_of files))
+    → MatchResult r (IsUnpack text replace before now) (EndsUnpack text replace before now)
+made_ends text replace before middle now files tree (Ok count) b e m h k = (
+  tree,
+  b,
+  omega (arith, h.0, ap length e, length-map files file_of),
+  h.1 ∙ ap (λ holds. with_files holds (files_of files)) m ∙ ap (with_files (start replace before)) e,
+)
+made_ends text replace before middle now files tree (Err fault) b e m h k =
+    stop_ends text replace before now tree fault b
+    (subst (λ fs. IsStop (start replace before) now fs fault) e (subst (λ holds. IsStop holds now (files_of files) fault) m k))

@@ -6,12 +6,12 @@ use Rattle.std.specs.List.{All, AllByRecursion, slice_split}
 use Rattle.std.specs.List.Sorted.{IsPermutation, IsStrictlySortedBy}
 use Rattle.std.specs.declared.cmp.Ordering.{Ordering}
 use Rattle.std.specs.declared.cmp.Ordering.TheVariants.{Less}
-use Rattle.std.proofs.lemmas.List.{length-append, map_push, take-append-drop, take_more}
+use Rattle.std.proofs.lemmas.List.{length-append, length-map, map_push, take-append-drop, take_more}
 use Rattle.bx_tree.proofs.OneReading.{prefix_all}
 use Rattle.std.proofs.lemmas.List.Concat.{length-flat_map}
 use Rattle.std.proofs.lemmas.List.Sums.{sum_by-le-sum_by, sum_by_push}
-use Rattle.std.proofs.lemmas.List.Elements.{All-contains, All-from_recursion, All-map, All-permutation, All-push, All-weaker, All-contains_itself, recursion_from_All, Contains-push, Contains-push_cases, Contains-append_left}
-use Rattle.std.proofs.lemmas.List.Sorted.{Contains-permutation, IsPermutation-refl, IsPermutation-sym, length_permutation}
+use Rattle.std.proofs.lemmas.List.Elements.{All-contains, All-from_recursion, All-map, All-push, All-weaker, All-contains_itself, recursion_from_All, Contains-push, Contains-push_cases, Contains-append_left}
+use Rattle.std.proofs.lemmas.List.Sorted.{All-permutation, Contains-permutation, IsPermutation-refl, IsPermutation-sym, length_permutation}
 use Rattle.bx_tree.specs.Bundle.{IsBundle, IsInSize, body_text, bundle, file_text}
 use Rattle.bx_tree.specs.Paths.{Atoms, IsAtom, IsBelow, IsPath, IsPathText, Names, path_cmp, path_text}
 use Rattle.bx_tree.specs.Trees.{Files, IsTree, NoneNested, paths_of}
@@ -19,7 +19,7 @@ use Rattle.bx_tree.specs.Views.{file_of, files_of}
 use Rattle.bx_tree.specs.declared.limits.TheConstants.{MAX_BUNDLE_BYTES, MAX_FILES, MAX_FILE_BYTES, MAX_PATH_BYTES}
 use Rattle.bx_tree.specs.declared.tree_file.TreeFile.{TreeFile}
 use Rattle.bx_tree.proofs.PathTexts.{named_by_parts, prefix_from_below}
-use Rattle.bx_folder.specs.Answers.{IsEntryOf, ListsNodes, entry_of, kind_of}
+use Rattle.bx_folder.specs.Answers.{HasLargeFile, IsEntryOf, ListsNodes, entry_of, kind_of}
 use Rattle.bx_folder.specs.Folders.{File, IsFolder, Known, Node, Nodes, Other, Stands}
 use Rattle.bx_folder.specs.Packing.{AreFilesOf, AreHeld, HasCauseIn, HasLongText, HasManyFiles, IsPack}
 use Rattle.bx_folder.specs.Places.{IsWithin}
@@ -55,20 +55,20 @@ other_node Other e = refl
 -- a fault of a place that is no path is a fault of the entry
 pub entry_fault : (entry : Entry) (fault : PackFault) → (IsPathText (string_bytes entry.place) → ⊥)
     → IsPlaceFault (string_bytes entry.place) fault → IsEntryFault entry fault
-entry_fault entry (faults.BadName text) no h = (
+entry_fault entry (faults.BadName text) never h = (
   h.0,
-  λ all. no (_, named_by_parts (string_bytes entry.place) (subst (λ t. AllByRecursion IsAtom (slice_split (λ b. eqb b 47) t)) h.0 all) h.1),
+  λ all. never (_, named_by_parts (string_bytes entry.place) (subst (λ t. AllByRecursion IsAtom (slice_split (λ b. eqb b 47) t)) h.0 all) h.1),
 )
-entry_fault entry (faults.NoText text) no h = absurd h
-entry_fault entry (faults.LongPath text) no h = (h.0, subst (λ t. MAX_PATH_BYTES < length t) (sym h.0) h.1)
-entry_fault entry (faults.NoFile path) no h = absurd h
-entry_fault entry (faults.LargeFile path) no h = absurd h
-entry_fault entry faults.ManyFiles no h = absurd h
-entry_fault entry faults.LargeText no h = absurd h
-entry_fault entry faults.Changed no h = absurd h
-entry_fault entry (faults.Unlisted text) no h = absurd h
-entry_fault entry (faults.Unread path) no h = absurd h
-entry_fault entry faults.Memory no h = tt
+entry_fault entry (faults.NoText text) never h = absurd h
+entry_fault entry (faults.LongPath text) never h = (h.0, subst (λ t. MAX_PATH_BYTES < length t) (sym h.0) h.1)
+entry_fault entry (faults.NoFile path) never h = absurd h
+entry_fault entry (faults.LargeFile path) never h = absurd h
+entry_fault entry faults.ManyFiles never h = absurd h
+entry_fault entry faults.LargeText never h = absurd h
+entry_fault entry faults.Changed never h = absurd h
+entry_fault entry (faults.Unlisted text) never h = absurd h
+entry_fault entry (faults.Unread path) never h = absurd h
+entry_fault entry faults.Memory never h = tt
 
 -- a fault of an entry has its cause in the folder
 pub entry_cause : (left_out : List (List ℕ)) (nodes : Nodes) (entry : Entry) (fault : PackFault)
@@ -163,14 +163,9 @@ file_longer f =
 -- a bundle is longer than the bytes of its files
 pub bundle_longer : (files : Files) → sum_by (λ (f : Atoms × List ℕ). length f.1) files ≤ length (bundle files)
 bundle_longer files =
-    let head = codes "bundle 1\n" in
-    omega (
-      arith,
-      files_longer files,
-      length-flat_map file_text files,
-      length-append (head ++ body_text files) (codes "end\n"),
-      length-append head (body_text files),
-    )
+    let longer : sum_by (λ (f : Atoms × List ℕ). length f.1) files ≤ sum_by (λ (f : Atoms × List ℕ). length (file_text f)) files =
+    sum_by-le-sum_by (λ (f : Atoms × List ℕ). length f.1) (λ (f : Atoms × List ℕ). length (file_text f)) files file_longer in
+    omega (arith, longer, length-flat_map file_text files, length-append (body_text files) (codes "end\n"))
 
 -- ## Reading one file after another
 
@@ -192,6 +187,22 @@ size_step files file size e =
     ap (λ n. n + length file.bytes.items) e
     ∙ sym (sum_by_push (λ (f : Atoms × List ℕ). length f.1) (files_of files) (file_of file))
     ∙ ap (sum_by (λ (f : Atoms × List ℕ). length f.1)) (sym (map_push file_of files file))
+
+-- files that were read are as many as their paths, and each is within its limit
+pub in_size_read : (files : List TreeFile) (paths : List Atoms) → paths_of (files_of files) ≡ paths → length paths ≤ MAX_FILES
+    → All (λ (f : TreeFile). length f.bytes.items ≤ MAX_FILE_BYTES) files → IsInSize (files_of files)
+in_size_read files paths e few sizes = record {
+  count = omega (arith, length-map (files_of files) (λ (f : Atoms × List ℕ). f.0), ap length e, few);
+  sizes = recursion_from_All (λ (f : Atoms × List ℕ). length f.1 ≤ MAX_FILE_BYTES) (files_of files)
+      (All-map (λ (f : Atoms × List ℕ). length f.1 ≤ MAX_FILE_BYTES) file_of files sizes);
+}
+
+-- one more file that was read
+pub read_step : (nodes : Nodes) (files : List TreeFile) (file : TreeFile) (path : Atoms) → AreRead nodes files → file.path ≡ path
+    → Contains nodes (path_text path, File file.bytes.items) → AreRead nodes (files ++ file ∷ [])
+read_step nodes files file path read e there =
+    All-push (λ (f : TreeFile). Contains nodes (path_text f.path, File f.bytes.items)) files file read
+    (subst (λ p. Contains nodes (path_text p, File file.bytes.items)) (sym e) there)
 
 sorted_prefix : (xs ys : List Atoms) → IsStrictlySortedBy path_cmp (xs ++ ys) → IsStrictlySortedBy path_cmp xs
 unfolding IsStrictlySortedBy
@@ -325,3 +336,11 @@ pub has_no_text : (left_out : List (List ℕ)) (holds : Option Nodes) (paths : L
 has_no_text left_out holds paths files fault folder are same read h nodes e =
     text_cause left_out nodes paths files fault (folder nodes e) (are nodes e) same
     (read_held left_out nodes paths files (are nodes e) same (read nodes e)) h
+
+-- a file of the folder with too many bytes, by another owner of its path
+pub large_file : (left_out : List (List ℕ)) (nodes : Nodes) (path blamed : Atoms) → blamed ≡ path
+    → HasLargeFile nodes (path_text path) → IsFileIn left_out nodes path
+    → (bytes : List ℕ) × Stands left_out nodes (path_text blamed) (File bytes) × (MAX_FILE_BYTES < length bytes)
+large_file left_out nodes path blamed e large is =
+    subst (λ p. (bytes : List ℕ) × Stands left_out nodes (path_text p) (File bytes) × (MAX_FILE_BYTES < length bytes)) (sym e)
+    (large.0, record { there = large.1; counts = is.1.counts }, large.2)

@@ -28,7 +28,7 @@ returns-in_err-path_of c =
 
 pub returns-in_err-push : goal.returns-in_err-push
 returns-in_err-push c =
-    let p = err_from_is_err_and c.from_residual.result c.from_residual.ensures.1 in
+    let p = err_from_is_err_and c.from_residual-in_err-push.result c.from_residual-in_err-push.ensures.1 in
     rw (p.1, p.2) (c.entry-item.result, (c.entries.entry-index, c.entries-test.true, sym c.entry-item.is), tt)
 
 pub returns : goal.returns

@@ -1,4 +1,4 @@
-use Rattle.std.proofs.Common.{List, arith, subst, sym, ◌∙◌}
+use Rattle.std.proofs.Common.{◌≡◌, List, arith, subst, sym, ◌∙◌}
 use Rattle.std.proofs.lemmas.List.{take_all}
 use Rattle.std.proofs.lemmas.Result.{err_from_is_err_and}
 use Rattle.bx_tree.specs.Views.{files_of}
@@ -14,16 +14,16 @@ files-init g c = record { made = sym (with_none (g.F.Folder.holds c.args.folder.
 
 pub files-preserved : goal.files-preserved
 files-preserved g c = record {
-  made = made_more (g.F.Folder.holds c.args.folder.now) _ _ c.args.files.now c.files.made-counter c.file-item.result
-      c.files-test.true c.file-item.is c.files.invariant.made c.in_ok-make_file.ensures.made;
+  made = made_more (g.F.Folder.holds c.args.folder.now) _ _ c.args.files.now c.files.made c.index-files-made.result
+      c.files-test.true c.index-files-made.is c.files.invariant.made c.in_ok-make_file.ensures.made;
   later = omega (arith, c.files.invariant.later, c.in_ok-make_file.ensures.cause.later);
 }
 
 pub returns-in_err-make_file-clause-fault : goal.returns-in_err-make_file-clause-fault
 returns-in_err-make_file-clause-fault g c =
     let p = err_from_is_err_and c.from_residual.result c.from_residual.ensures.1 in
-    rw (p.1, p.2) (stop_at (g.F.Folder.holds c.args.folder.now) _ _ c.args.files.now c.files.made-counter c.file-item.result
-    c.in_err-make_file.field-0 c.files-test.true c.file-item.is c.requires.tree c.requires.free
+    rw (p.1, p.2) (stop_at (g.F.Folder.holds c.args.folder.now) _ _ c.args.files.now c.files.made c.index-files-made.result
+    c.in_err-make_file.field-0.0 c.files-test.true c.index-files-made.is c.requires.tree c.requires.free
     c.files.invariant.made c.in_err-make_file.ensures.refused c.in_err-make_file.ensures.fault)
 
 pub returns-in_err-make_file-clause-cause : goal.returns-in_err-make_file-clause-cause
@@ -35,7 +35,7 @@ pub returns-clause-made : goal.returns-clause-made
 returns-clause-made g c = (
   c.len.ensures,
   subst (λ (fs : List TreeFile). g.F.Folder.holds c.files.folder ≡ with_files (g.F.Folder.holds c.args.folder.now) (files_of fs))
-      (take_all c.files.made-counter c.args.files.now c.files-test.false) c.files.invariant.made,
+      (take_all c.files.made c.args.files.now c.files-test.false) c.files.invariant.made,
 )
 
 pub returns-clause-cause : goal.returns-clause-cause
