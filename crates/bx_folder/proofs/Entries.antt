@@ -6,7 +6,7 @@ use Rattle.std.specs.Borrow.{Bor}
 use Rattle.std.proofs.lemmas.List.Elements.{Contains-append_left, Contains-push, Contains-push_cases}
 use Rattle.std.proofs.lemmas.List.{map_more, map_push}
 use Rattle.bx_folder.specs.Answers.{ListsNodes, entry_of, kind_of}
-use Rattle.bx_folder.specs.Folders.{AllApart, IsFolder, IsFree, Node, Nodes, Stands, without}
+use Rattle.bx_folder.specs.Folders.{AllApart, IsFolder, IsFree, Node, Nodes, IsListed, without}
 use Rattle.bx_folder.specs.Stored.{placed, stored}
 use Rattle.bx_folder.specs.declared.mem_folder.Placed.{Placed}
 use Rattle.bx_folder.specs.Places.{IsApart, IsLeftOut, IsWithin, is_within, texts_now}
@@ -60,16 +60,16 @@ no_entries left_out = record {
 }
 
 -- a node in more nodes
-more_stands : (left_out : List (List ℕ)) (nodes : Nodes) (next : List ℕ × Node) (place : List ℕ) (node : Node)
-    → Stands left_out nodes place node → Stands left_out (nodes ++ next ∷ []) place node
-more_stands left_out nodes next place node h =
+more_listed : (left_out : List (List ℕ)) (nodes : Nodes) (next : List ℕ × Node) (place : List ℕ) (node : Node)
+    → IsListed left_out nodes place node → IsListed left_out (nodes ++ next ∷ []) place node
+more_listed left_out nodes next place node h =
     record { there = Contains-append_left nodes (next ∷ []) (place, node) h.there; counts = h.counts }
 
 -- one more node that is left out
 pub left_out_more : (left_out : List (List ℕ)) (nodes : Nodes) (entries : List Entry) (next : List ℕ × Node)
     → ListsNodes left_out nodes entries → IsLeftOut left_out next.0 → ListsNodes left_out (nodes ++ next ∷ []) entries
 left_out_more left_out nodes entries next lists out = record {
-  held = λ entry c. let is = lists.held entry c in (is.0, more_stands left_out nodes next (string_bytes entry.place) is.0 is.1, is.2);
+  held = λ entry c. let is = lists.held entry c in (is.0, more_listed left_out nodes next (string_bytes entry.place) is.0 is.1, is.2);
   all = λ place node h. elim (Contains-push_cases nodes next (place, node) h.there) [
     | inl c ↦ lists.all place node (record { there = c; counts = h.counts })
     | inr e ↦ absurd (h.counts (subst (λ (n : List ℕ × Node). IsLeftOut left_out n.0) e out))
@@ -82,7 +82,7 @@ pub entries_more : (left_out : List (List ℕ)) (nodes : Nodes) (entries : List 
     → ListsNodes left_out (nodes ++ next ∷ []) (entries ++ entry ∷ [])
 entries_more left_out nodes entries next entry lists counts place kind = record {
   held = λ x c. elim (Contains-push_cases entries entry x c) [
-    | inl d ↦ let is = lists.held x d in (is.0, more_stands left_out nodes next (string_bytes x.place) is.0 is.1, is.2)
+    | inl d ↦ let is = lists.held x d in (is.0, more_listed left_out nodes next (string_bytes x.place) is.0 is.1, is.2)
     | inr e ↦ (
       next.1,
       record {

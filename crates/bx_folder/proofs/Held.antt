@@ -20,7 +20,7 @@ use Rattle.bx_tree.specs.declared.limits.TheConstants.{MAX_BUNDLE_BYTES, MAX_FIL
 use Rattle.bx_tree.specs.declared.tree_file.TreeFile.{TreeFile}
 use Rattle.bx_tree.proofs.PathTexts.{named_by_parts, prefix_from_below}
 use Rattle.bx_folder.specs.Answers.{HasLargeFile, IsEntryOf, ListsNodes, entry_of, kind_of}
-use Rattle.bx_folder.specs.Folders.{File, IsFolder, Known, Node, Nodes, Other, Stands}
+use Rattle.bx_folder.specs.Folders.{File, IsFolder, Known, Node, Nodes, Other, IsListed}
 use Rattle.bx_folder.specs.Packing.{AreFilesOf, AreHeld, HasCauseIn, HasLongText, HasManyFiles, IsPack}
 use Rattle.bx_folder.specs.Places.{IsWithin}
 use Rattle.bx_folder.specs.Steps.{AreFilePaths, ArePathsOf, AreRead, IsEntryFault, IsFileIn, IsFilePath, IsPlaceFault, IsTextFault, IsTextOf}
@@ -34,9 +34,9 @@ use Rattle.bx_folder.proofs.Free.{from_map, to_map}
 -- ## Entries
 
 -- the node lies at another spelling of the place
-stands_at : (left_out : List (List ℕ)) (nodes : Nodes) (place other : List ℕ) (node : Node) → place ≡ other
-    → Stands left_out nodes place node → Stands left_out nodes other node
-stands_at left_out nodes place other node e h = subst (λ p. Stands left_out nodes p node) e h
+listed_at : (left_out : List (List ℕ)) (nodes : Nodes) (place other : List ℕ) (node : Node) → place ≡ other
+    → IsListed left_out nodes place node → IsListed left_out nodes other node
+listed_at left_out nodes place other node e h = subst (λ p. IsListed left_out nodes p node) e h
 
 no_file : kinds.Other ≡ kinds.File → ⊥
 no_file e = cc
@@ -74,13 +74,13 @@ entry_fault entry faults.Memory never h = tt
 pub entry_cause : (left_out : List (List ℕ)) (nodes : Nodes) (entry : Entry) (fault : PackFault)
     → IsEntryOf left_out nodes entry → IsEntryFault entry fault → HasCauseIn left_out nodes fault
 entry_cause left_out nodes entry (faults.BadName text) is h =
-    ((is.0, stands_at left_out nodes (string_bytes entry.place) (string_bytes text) is.0 (sym h.0) is.1), h.1)
+    ((is.0, listed_at left_out nodes (string_bytes entry.place) (string_bytes text) is.0 (sym h.0) is.1), h.1)
 entry_cause left_out nodes entry (faults.NoText text) is h = h
 entry_cause left_out nodes entry (faults.LongPath text) is h =
-    ((is.0, stands_at left_out nodes (string_bytes entry.place) (string_bytes text) is.0 (sym h.0) is.1), h.1)
+    ((is.0, listed_at left_out nodes (string_bytes entry.place) (string_bytes text) is.0 (sym h.0) is.1), h.1)
 entry_cause left_out nodes entry (faults.NoFile path) is h =
-    subst (Stands left_out nodes (path_text path)) (other_node is.0 (is.2 ∙ h.1))
-    (stands_at left_out nodes (string_bytes entry.place) (path_text path) is.0 (sym h.0) is.1)
+    subst (IsListed left_out nodes (path_text path)) (other_node is.0 (is.2 ∙ h.1))
+    (listed_at left_out nodes (string_bytes entry.place) (path_text path) is.0 (sym h.0) is.1)
 entry_cause left_out nodes entry (faults.LargeFile path) is h = absurd h
 entry_cause left_out nodes entry faults.ManyFiles is h = absurd h
 entry_cause left_out nodes entry faults.LargeText is h = absurd h
@@ -123,8 +123,8 @@ paths_of_folder left_out nodes entries paths order lists files rising same = rec
       let is = lists.held from.0 from.1 in
       let node = file_node is.0 (is.2 ∙ from.2.file) in (
         node.0,
-        subst (Stands left_out nodes (path_text path)) node.1
-            (stands_at left_out nodes (string_bytes from.0.place) (path_text path) is.0 (sym from.2.text) is.1),
+        subst (IsListed left_out nodes (path_text path)) node.1
+            (listed_at left_out nodes (string_bytes from.0.place) (path_text path) is.0 (sym from.2.text) is.1),
       );
   all = λ place node h.
       let entry = from_map entry_of entries (place, kind_of node) (lists.all place node h) in
@@ -340,7 +340,7 @@ has_no_text left_out holds paths files fault folder are same read h nodes e =
 -- a file of the folder with too many bytes, by another owner of its path
 pub large_file : (left_out : List (List ℕ)) (nodes : Nodes) (path blamed : Atoms) → blamed ≡ path
     → HasLargeFile nodes (path_text path) → IsFileIn left_out nodes path
-    → (bytes : List ℕ) × Stands left_out nodes (path_text blamed) (File bytes) × (MAX_FILE_BYTES < length bytes)
+    → (bytes : List ℕ) × IsListed left_out nodes (path_text blamed) (File bytes) × (MAX_FILE_BYTES < length bytes)
 large_file left_out nodes path blamed e large is =
-    subst (λ p. (bytes : List ℕ) × Stands left_out nodes (path_text p) (File bytes) × (MAX_FILE_BYTES < length bytes)) (sym e)
+    subst (λ p. (bytes : List ℕ) × IsListed left_out nodes (path_text p) (File bytes) × (MAX_FILE_BYTES < length bytes)) (sym e)
     (large.0, record { there = large.1; counts = is.1.counts }, large.2)

@@ -6,7 +6,7 @@ use Rattle.bx_tree.specs.Paths.{Atoms, path_text}
 use Rattle.bx_tree.specs.Trees.{Files, IsTree, paths_of}
 use Rattle.bx_tree.proofs.OneReading as readings
 use Rattle.bx_tree.proofs.PathTexts.{same_from_text}
-use Rattle.bx_folder.specs.Folders.{File, Known, Node, Nodes, Stands, nodes_of, with_files}
+use Rattle.bx_folder.specs.Folders.{File, Known, Node, Nodes, IsListed, nodes_of, with_files}
 use Rattle.bx_folder.specs.Packing.{AreFilesOf, IsPack}
 use Rattle.bx_folder.specs.Unpacking.{IsUnpack}
 use Rattle.bx_folder.specs.declared.unpacking.Replace.TheVariants as replaces
@@ -61,7 +61,7 @@ pack_of_unpack now text count h = (
 
 pub unpack_of_pack : (left_out : List (List ℕ)) (nodes : Nodes) (now : Option Nodes) (text : List ℕ) (count : ℕ)
     → IsPack left_out (Some nodes) text → IsUnpack text replaces.Nothing (Some []) now count
-    → Known now (λ made. (place : List ℕ) (node : Node) → Contains made (place, node) ↔ Stands left_out nodes place node)
+    → Known now (λ made. (place : List ℕ) (node : Node) → Contains made (place, node) ↔ IsListed left_out nodes place node)
 unpack_of_pack left_out nodes now text count h k made e place node =
     let files = h.0 in
     let same : nodes_of files ≡ made =
@@ -69,7 +69,7 @@ unpack_of_pack left_out nodes now text count h k made e place node =
     let a = h.2 nodes refl in (
       λ c.
           let f = from_map (λ (g : Atoms × List ℕ). (path_text g.0, File g.1)) files (place, node) (subst (λ n. Contains n (place, node)) (sym same) c) in
-          subst (λ (n : List ℕ × Node). Stands left_out nodes n.0 n.1) f.2 (a.held f.0.0 f.0.1 f.1),
+          subst (λ (n : List ℕ × Node). IsListed left_out nodes n.0 n.1) f.2 (a.held f.0.0 f.0.1 f.1),
       λ s.
           let f = a.all place node s in
           subst (λ n. Contains n (place, node)) same

@@ -36,7 +36,7 @@ abbrev pub Known : Option Nodes → (Nodes → Type 0) → Type 0
 Known holds fact = (nodes : Nodes) → holds ≡ Some nodes → fact nodes
 
 -- the node lies at the place, which is not left out
-pub record Stands (left_out : List (List ℕ)) (nodes : Nodes) (place : List ℕ) (node : Node) : Type 0 where
+pub record IsListed (left_out : List (List ℕ)) (nodes : Nodes) (place : List ℕ) (node : Node) : Type 0 where
   pub there : Contains nodes (place, node)
   pub counts : ¬ IsLeftOut left_out place
 

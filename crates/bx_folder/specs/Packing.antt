@@ -9,7 +9,7 @@ use Rattle.bx_tree.specs.Trees.{Files, paths_of}
 use Rattle.bx_tree.specs.Bundle.{IsBundle, bundle}
 use Rattle.bx_tree.specs.declared.limits.TheConstants.{MAX_BUNDLE_BYTES, MAX_FILE_BYTES}
 use Rattle.bx_tree.specs.declared.limits.TheConstants.{MAX_FILES, MAX_PATH_BYTES}
-use Rattle.bx_folder.specs.Folders.{File, Known, Node, Nodes, Other, Stands}
+use Rattle.bx_folder.specs.Folders.{File, Known, Node, Nodes, Other, IsListed}
 use Rattle.bx_folder.specs.declared.fault.PackFault.{PackFault}
 use Rattle.bx_folder.specs.declared.fault.PackFault.TheVariants as faults
 
@@ -17,12 +17,12 @@ use Rattle.bx_folder.specs.declared.fault.PackFault.TheVariants as faults
 abbrev pub AreHeld : List (List ℕ) → Nodes → Files → Type 0
 AreHeld left_out nodes files =
     (path : Atoms) (bytes : List ℕ) → Contains files (path, bytes)
-    → Stands left_out nodes (path_text path) (File bytes)
+    → IsListed left_out nodes (path_text path) (File bytes)
 
 -- the files are all that the folder holds, but for what is left out
 pub record AreFilesOf (left_out : List (List ℕ)) (nodes : Nodes) (files : Files) : Type 0 where
   pub held : AreHeld left_out nodes files
-  pub all : (place : List ℕ) (node : Node) → Stands left_out nodes place node
+  pub all : (place : List ℕ) (node : Node) → IsListed left_out nodes place node
       → (path : Atoms) × (bytes : List ℕ) × (path_text path ≡ place) × (File bytes ≡ node)
       × Contains files (path, bytes)
 
@@ -34,7 +34,7 @@ IsPack left_out holds text =
 -- the place has a name that is no atom, and something lies there
 abbrev pub HasBadName : List (List ℕ) → Nodes → List ℕ → Type 0
 HasBadName left_out nodes place =
-    ((node : Node) × Stands left_out nodes place node)
+    ((node : Node) × IsListed left_out nodes place node)
     × (¬ AllByRecursion IsAtom (slice_split (λ b. b == 47) place))
 
 -- the folder has more files than a bundle may have
@@ -42,7 +42,7 @@ abbrev pub HasManyFiles : List (List ℕ) → Nodes → Type 0
 HasManyFiles left_out nodes =
     (paths : List Atoms) × IsStrictlySortedBy path_cmp paths × (MAX_FILES < length paths)
     × ((path : Atoms) → Contains paths path
-    → (bytes : List ℕ) × Stands left_out nodes (path_text path) (File bytes))
+    → (bytes : List ℕ) × IsListed left_out nodes (path_text path) (File bytes))
 
 -- the folder has files whose text is longer than a bundle may be
 abbrev pub HasLongText : List (List ℕ) → Nodes → Type 0
@@ -56,11 +56,11 @@ abbrev pub HasCauseIn : List (List ℕ) → Nodes → PackFault → Type 0
 HasCauseIn left_out nodes (faults.BadName place) = HasBadName left_out nodes (string_bytes place)
 HasCauseIn left_out nodes (faults.NoText place) = ⊥
 HasCauseIn left_out nodes (faults.LongPath place) =
-    ((node : Node) × Stands left_out nodes (string_bytes place) node)
+    ((node : Node) × IsListed left_out nodes (string_bytes place) node)
     × (MAX_PATH_BYTES < length (string_bytes place))
-HasCauseIn left_out nodes (faults.NoFile path) = Stands left_out nodes (path_text path) Other
+HasCauseIn left_out nodes (faults.NoFile path) = IsListed left_out nodes (path_text path) Other
 HasCauseIn left_out nodes (faults.LargeFile path) =
-    (bytes : List ℕ) × Stands left_out nodes (path_text path) (File bytes) × (MAX_FILE_BYTES < length bytes)
+    (bytes : List ℕ) × IsListed left_out nodes (path_text path) (File bytes) × (MAX_FILE_BYTES < length bytes)
 HasCauseIn left_out nodes faults.ManyFiles = HasManyFiles left_out nodes
 HasCauseIn left_out nodes faults.LargeText = HasLongText left_out nodes
 HasCauseIn left_out nodes faults.Changed = ⊥

@@ -7,7 +7,7 @@ use Rattle.bx_tree.specs.Trees.{Files, IsTree}
 use Rattle.bx_tree.specs.Bundle.{IsBundle, bundle}
 use Rattle.bx_tree.specs.declared.tree_file.TreeFile.{TreeFile}
 use Rattle.bx_tree.specs.declared.limits.TheConstants.{MAX_BUNDLE_BYTES, MAX_PATH_BYTES}
-use Rattle.bx_folder.specs.Folders.{File, Node, Nodes, Stands}
+use Rattle.bx_folder.specs.Folders.{File, Node, Nodes, IsListed}
 use Rattle.bx_folder.specs.declared.folder.Entry.{Entry}
 use Rattle.bx_folder.specs.declared.folder.Kind.TheVariants as kinds
 use Rattle.bx_folder.specs.declared.fault.PackFault.{PackFault}
@@ -15,14 +15,14 @@ use Rattle.bx_folder.specs.declared.fault.PackFault.TheVariants as faults
 
 -- a file lies at the path, and is not left out
 abbrev pub IsFileIn : List (List ℕ) → Nodes → Atoms → Type 0
-IsFileIn left_out nodes path = (bytes : List ℕ) × Stands left_out nodes (path_text path) (File bytes)
+IsFileIn left_out nodes path = (bytes : List ℕ) × IsListed left_out nodes (path_text path) (File bytes)
 
 -- the paths are those of all that lies in a folder, which is files alone
 pub record ArePathsOf (left_out : List (List ℕ)) (nodes : Nodes) (paths : List Atoms) : Type 0 where
   pub rising : IsStrictlySortedBy path_cmp paths
   pub no_root : (path : Atoms) → Contains paths path → path ≢ []
   pub held : (path : Atoms) → Contains paths path → IsFileIn left_out nodes path
-  pub all : (place : List ℕ) (node : Node) → Stands left_out nodes place node
+  pub all : (place : List ℕ) (node : Node) → IsListed left_out nodes place node
       → (path : Atoms) × Contains paths path × (path_text path ≡ place)
 
 -- the entry is a file with this path
@@ -33,8 +33,10 @@ pub record IsFilePath (entry : Entry) (path : Atoms) : Type 0 where
 
 -- the paths are those of the entries, which are all files
 pub record AreFilePaths (entries : List Entry) (paths : List Atoms) : Type 0 where
-  pub held : (path : Atoms) → Contains paths path → (entry : Entry) × Contains entries entry × IsFilePath entry path
-  pub all : (entry : Entry) → Contains entries entry → (path : Atoms) × Contains paths path × IsFilePath entry path
+  pub held : (path : Atoms) → Contains paths path
+      → (entry : Entry) × Contains entries entry × IsFilePath entry path
+  pub all : (entry : Entry) → Contains entries entry
+      → (path : Atoms) × Contains paths path × IsFilePath entry path
 
 -- the fault of a place that is no path, or that memory ran out
 abbrev pub IsPlaceFault : List ℕ → PackFault → Type 0

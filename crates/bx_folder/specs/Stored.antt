@@ -46,6 +46,7 @@ nodes_code =
 
 abbrev pub scripted_code : Coded Scripted
 scripted_code =
-    code_by (Nodes × (List ℕ × (ℕ × ℕ))) (coded× nodes_code (coded× (coded_list coded_ℕ) (coded× coded_ℕ coded_ℕ)))
+    code_by (Nodes × (List ℕ × (ℕ × ℕ)))
+    (coded× nodes_code (coded× (coded_list coded_ℕ) (coded× coded_ℕ coded_ℕ)))
     (λ f. (f.nodes, (f.failing, (f.calls, f.faults))))
     (λ p. record { nodes = p.0; failing = p.1.0; calls = p.1.1.0; faults = p.1.1.1 }) (λ _. refl)

@@ -88,7 +88,8 @@ pub trait Folder {
         ensures folder { OnOk result (Known (holds self.old) IsFolder) }
         ensures listed { IfOk result (λ entries. Known (holds self.old)
             (λ nodes. ListsNodes (texts_now left_out.now) nodes entries.items)) }
-        ensures no_text { (place : _) → result ≡ Err (ListFault.NoText place) → Known (holds self.old) (λ _. ⊥) }
+        ensures no_text { (place : _) → result ≡ Err (ListFault.NoText place)
+            → Known (holds self.old) (λ _. ⊥) }
         ensures same { holds self.new ≡ holds self.old }
         ensures cause { HasCause (faults self.old) (faults self.new)
             ((place : _) × (result ≡ Err (ListFault.Failed place))) };

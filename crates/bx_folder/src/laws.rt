@@ -3,7 +3,7 @@
 ghost use Rattle.std.specs.Prelude.{◌≡◌, ◌↔◌, ℕ, List, [], Option, Some, Contains};
 ghost use Rattle.bx_tree.specs.Bundle.{IsBundle};
 ghost use Rattle.bx_tree.specs.Trees.{Files};
-ghost use Rattle.bx_folder.specs.Folders.{Known, Node, Nodes, Stands, with_files};
+ghost use Rattle.bx_folder.specs.Folders.{Known, Node, Nodes, IsListed, with_files};
 ghost use Rattle.bx_folder.specs.Packing.{IsPack};
 ghost use Rattle.bx_folder.specs.Unpacking.{IsUnpack};
 ghost use Rattle.bx_folder.specs.declared.unpacking.Replace.TheVariants as replaces;
@@ -26,5 +26,5 @@ pub fn packed_is_unpacked()
     ensures { (left_out : List (List ℕ)) (nodes : Nodes) (now : Option Nodes) (text : List ℕ) (count : ℕ)
         → IsPack left_out (Some nodes) text → IsUnpack text replaces.Nothing (Some []) now count
         → Known now (λ made. (place : List ℕ) (node : Node)
-        → Contains made (place, node) ↔ Stands left_out nodes place node) }
+        → Contains made (place, node) ↔ IsListed left_out nodes place node) }
 {}

@@ -100,13 +100,13 @@ impl MemFolder {
     }
 
     /// Whether something can be put at a place, as for [`Folder::is_free`]. This is no numbered call.
-    pub fn has_room(&self, place: &str) -> bool
+    pub fn can_put(&self, place: &str) -> bool
         ensures { IsTrue result ↔ IsFree self.now.nodes place.now }
     {
         is_free_among(&self.things, place)
     }
 
-    /// Puts a thing at a place where there is room. This is no numbered call.
+    /// Puts a thing at a place where that can be done. This is no numbered call.
     pub fn put(&mut self, placed: Placed) -> Result<(), Memory>
         requires { IsFree self.old.nodes (string_bytes placed.place) }
         ensures made { OnOk result (self.new
@@ -266,7 +266,7 @@ impl Folder for MemFolder {
         if self.next_fails() {
             return Err(FolderFault::Failed);
         }
-        Ok(self.has_room(path.text()))
+        Ok(self.can_put(path.text()))
     }
 
     fn write_new(&mut self, alloc: Global, path: &Path, bytes: &[u8]) -> Result<(), WriteFault> {
@@ -274,7 +274,7 @@ impl Folder for MemFolder {
             return Err(WriteFault::Failed);
         }
         let place = path.text();
-        if !self.has_room(place) {
+        if !self.can_put(place) {
             return Err(WriteFault::Exists);
         }
         self.put(Placed {

@@ -165,7 +165,9 @@ fn read_files<F: Folder>(
 // The bundle of these files.
 fn text_of(alloc: Global, files: Vec<TreeFile>) -> Result<Vec<u8>, PackFault>
     requires { IsInSize (files_of files.items) }
-    ensures { MatchResult result (λ text. IsTextOf (files_of files.items) text.items) (IsTextFault (files_of files.items)) }
+    ensures { MatchResult result
+        (λ text. IsTextOf (files_of files.items) text.items)
+        (IsTextFault (files_of files.items)) }
 {
     let Some(tree) = Tree::checked(files) else {
         return Err(PackFault::Changed);

@@ -9,7 +9,8 @@ ghost use Rattle.bx_tree.specs.Trees.{IsTree, paths_of};
 ghost use Rattle.bx_tree.specs.Views.{file_of, files_of};
 ghost use Rattle.bx_folder.specs.Folders.{IsFree, Known, Nodes, with_files};
 ghost use Rattle.bx_folder.specs.Unpacking.{AreFree, AreFreeBut, BlamesFolder, EndsUnpack, IsClearFault};
-ghost use Rattle.bx_folder.specs.Unpacking.{IsFreeBut, IsMade, IsMakeFault, IsStop, IsUnpack, IsWayFault, removed, start};
+ghost use Rattle.bx_folder.specs.Unpacking.{IsFreeBut, IsMade, IsMakeFault, IsStop, IsUnpack, IsWayFault};
+ghost use Rattle.bx_folder.specs.Unpacking.{removed, start};
 
 use crate::fault::UnpackFault;
 use crate::folder::{Folder, FolderFault, WriteFault};
@@ -166,7 +167,8 @@ fn make_file<F: Folder>(
     file: &TreeFile,
     made: usize,
 ) -> Result<(), UnpackFault>
-    ensures made { OnOk result (F.holds folder.new ≡ with_files (F.holds folder.old) (file_of file.now ∷ [])) }
+    ensures made { OnOk result
+        (F.holds folder.new ≡ with_files (F.holds folder.old) (file_of file.now ∷ [])) }
     ensures refused { OnErr result (F.holds folder.new ≡ F.holds folder.old) }
     ensures fault { IfErr result (IsMakeFault (F.holds folder.old) file.now.path made) }
     ensures cause { HasCause (F.faults folder.old) (F.faults folder.new)

@@ -3,13 +3,13 @@ use bx_tree::{MAX_FILE_BYTES, MAX_PATH_BYTES};
 use std::alloc::{AllocError, Global};
 use std::test::Fail;
 
-// Puts a thing at a place, which ends with `@` for a link. Where there is no room, nothing is done.
+// Puts a thing at a place, which ends with `@` for a link. Where it cannot be put, nothing is done.
 fn put(alloc: Global, folder: &mut MemFolder, place: &str, bytes: &str) -> Result<(), AllocError> {
     let (place, thing) = match place.strip_suffix('@') {
         Some(place) => (place, Thing::Other),
         None => (place, Thing::File(bytes.as_bytes().to_vec(alloc)?)),
     };
-    if !folder.has_room(place) {
+    if !folder.can_put(place) {
         return Ok(());
     }
     folder.put(Placed {
@@ -135,7 +135,7 @@ fn both_sides_of_the_limits_of_paths_and_files(rt: HostRuntime) -> Result<(), Fa
     let above = packed(alloc, &mut deep(alloc, MAX_PATH_BYTES - 1004)?, &[])?;
     assert!(rt; above.as_slice() == b"long path 1025".as_slice());
     let mut folder = folder_of(alloc, &[], &[])?;
-    if folder.has_room("f") {
+    if folder.can_put("f") {
         folder.put(Placed {
             place: String::from_str(alloc, "f")?,
             thing: Thing::File(vec![in alloc; b'x'; MAX_FILE_BYTES + 1]?),

@@ -1,4 +1,4 @@
-use Rattle.std.proofs.Common.{◌≡◌, List, arith, subst, sym, ◌∙◌}
+use Rattle.std.proofs.Common.{◌≡◌, List, arith, refl, subst, sym, ◌∙◌}
 use Rattle.std.proofs.lemmas.List.{take_all}
 use Rattle.std.proofs.lemmas.Result.{err_from_is_err_and}
 use Rattle.bx_tree.specs.Views.{files_of}
@@ -33,7 +33,7 @@ returns-in_err-make_file-clause-cause g c =
 
 pub returns-clause-made : goal.returns-clause-made
 returns-clause-made g c = (
-  c.len.ensures,
+  refl,
   subst (λ (fs : List TreeFile). g.F.Folder.holds c.files.folder ≡ with_files (g.F.Folder.holds c.args.folder.now) (files_of fs))
       (take_all c.files.made c.args.files.now c.files-test.false) c.files.invariant.made,
 )
