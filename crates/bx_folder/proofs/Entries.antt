@@ -1,5 +1,5 @@
 -- The entries and the files among things in memory.
-use Rattle.std.proofs.Common.{◌≡◌, ◌⊎◌, ℕ, ◌<◌, ◌+◌, Bool, true, false, cond, not, List, [], ◌∷◌, ◌++◌, length, get_or, take, refl, ap, sym, subst, ◌∙◌, inl, inr, arith}
+use Rattle.std.proofs.Common.{◌≡◌, ℕ, ◌<◌, ◌+◌, Bool, true, false, cond, not, List, [], ◌∷◌, ◌++◌, length, get_or, take, refl, ap, sym, subst, ◌∙◌, inl, inr, arith}
 use Rattle.std.specs.Prelude.{Contains, filter, map, string_bytes}
 use Rattle.std.specs.List.{Any}
 use Rattle.std.specs.Borrow.{Bor}
@@ -12,7 +12,6 @@ use Rattle.bx_folder.specs.declared.mem_folder.Placed.{Placed}
 use Rattle.bx_folder.specs.Places.{IsApart, IsLeftOut, IsWithin, is_within, texts_now}
 use Rattle.bx_folder.proofs.Free.{from_map, to_map}
 use Rattle.bx_folder.specs.declared.folder.Entry.{Entry}
-use Rattle.bx_folder.specs.declared.folder.Kind.{Kind}
 
 -- ## Things one after another
 

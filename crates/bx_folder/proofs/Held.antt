@@ -1,10 +1,9 @@
 -- What is packed is what the folder holds: its entries, their paths, and the files that were read.
-use Rattle.std.proofs.Common.{◌≡◌, ◌≢◌, ◌⊎◌, ◌↔◌, ℕ, ◌<◌, ◌≤◌, ◌+◌, Bool, true, false, List, [], ◌∷◌, ◌++◌, length, get_or, codes, refl, ap, sym, subst, ◌∙◌, inl, inr, arith, eqb}
-use Rattle.std.specs.Prelude.{Contains, Some, None, Option, map, string_bytes, sum_by, take, drop}
+use Rattle.std.proofs.Common.{◌≡◌, ◌≢◌, ◌↔◌, ℕ, ◌<◌, ◌≤◌, ◌+◌, List, [], ◌∷◌, ◌++◌, length, get_or, codes, refl, ap, sym, subst, ◌∙◌, inl, inr, arith, eqb}
+use Rattle.std.specs.Prelude.{Contains, Option, string_bytes, sum_by, take, drop}
 use Rattle.std.specs.Fmt.{decimal}
 use Rattle.std.specs.List.{All, AllByRecursion, slice_split}
 use Rattle.std.specs.List.Sorted.{IsPermutation, IsStrictlySortedBy}
-use Rattle.std.specs.declared.cmp.Ordering.{Ordering}
 use Rattle.std.specs.declared.cmp.Ordering.TheVariants.{Less}
 use Rattle.std.proofs.lemmas.List.{length-append, length-map, map_push, take-append-drop, take_more}
 use Rattle.bx_tree.proofs.OneReading.{prefix_all}
@@ -12,9 +11,9 @@ use Rattle.std.proofs.lemmas.List.Concat.{length-flat_map}
 use Rattle.std.proofs.lemmas.List.Sums.{sum_by-le-sum_by, sum_by_push}
 use Rattle.std.proofs.lemmas.List.Elements.{All-contains, All-from_recursion, All-map, All-push, All-weaker, All-contains_itself, recursion_from_All, Contains-push, Contains-push_cases, Contains-append_left}
 use Rattle.std.proofs.lemmas.List.Sorted.{All-permutation, Contains-permutation, IsPermutation-refl, IsPermutation-sym, length_permutation}
-use Rattle.bx_tree.specs.Bundle.{IsBundle, IsInSize, body_text, bundle, file_text}
-use Rattle.bx_tree.specs.Paths.{Atoms, IsAtom, IsBelow, IsPath, IsPathText, Names, path_cmp, path_text}
-use Rattle.bx_tree.specs.Trees.{Files, IsTree, NoneNested, paths_of}
+use Rattle.bx_tree.specs.Bundle.{IsInSize, body_text, bundle, file_text}
+use Rattle.bx_tree.specs.Paths.{Atoms, IsAtom, IsPath, IsPathText, path_cmp, path_text}
+use Rattle.bx_tree.specs.Trees.{Files, IsTree, paths_of}
 use Rattle.bx_tree.specs.Views.{file_of, files_of}
 use Rattle.bx_tree.specs.declared.limits.TheConstants.{MAX_BUNDLE_BYTES, MAX_FILES, MAX_FILE_BYTES, MAX_PATH_BYTES}
 use Rattle.bx_tree.specs.declared.tree_file.TreeFile.{TreeFile}

@@ -1,12 +1,12 @@
 -- Packing and unpacking undo each other, and a folder has one text.
-use Rattle.std.proofs.Common.{◌≡◌, ◌↔◌, ℕ, List, [], ◌∷◌, ◌++◌, refl, ap, sym, subst, ◌∙◌}
-use Rattle.std.specs.Prelude.{Contains, Some, None, Option, map}
-use Rattle.bx_tree.specs.Bundle.{IsBundle, bundle}
+use Rattle.std.proofs.Common.{◌≡◌, ◌↔◌, ℕ, List, [], refl, ap, sym, subst, ◌∙◌}
+use Rattle.std.specs.Prelude.{Contains, Some, Option}
+use Rattle.bx_tree.specs.Bundle.{bundle}
 use Rattle.bx_tree.specs.Paths.{Atoms, path_text}
-use Rattle.bx_tree.specs.Trees.{Files, IsTree, paths_of}
+use Rattle.bx_tree.specs.Trees.{Files, IsTree}
 use Rattle.bx_tree.proofs.OneReading as readings
 use Rattle.bx_tree.proofs.PathTexts.{same_from_text}
-use Rattle.bx_folder.specs.Folders.{File, Known, Node, Nodes, IsListed, nodes_of, with_files}
+use Rattle.bx_folder.specs.Folders.{File, Known, Node, Nodes, IsListed, nodes_of}
 use Rattle.bx_folder.specs.Packing.{AreFilesOf, IsPack}
 use Rattle.bx_folder.specs.Unpacking.{IsUnpack}
 use Rattle.bx_folder.specs.declared.unpacking.Replace.TheVariants as replaces

@@ -1,5 +1,5 @@
 -- What a folder holds.
-use Rattle.std.specs.Prelude.{◌≡◌, ◌≢◌, ℕ, List, [], ◌∷◌, ◌++◌, Option, Some, option_map, Contains, codes}
+use Rattle.std.specs.Prelude.{◌≡◌, ◌≢◌, ℕ, List, ◌++◌, Option, Some, option_map, Contains, codes}
 use Rattle.std.specs.Prelude.{filter, map, not}
 use Rattle.bx_tree.specs.Paths.{Atoms, path_text}
 use Rattle.bx_tree.specs.Trees.{Files}

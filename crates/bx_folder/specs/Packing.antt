@@ -1,9 +1,8 @@
 -- The text of a folder, and why it has none.
-use Rattle.std.specs.Prelude.{◌≡◌, ◌==◌, ℕ, ◌<◌, List, length, Option, Contains, Result, Err, ⊤, ◌⊎◌}
-use Rattle.std.specs.Prelude.{string_bytes, String}
+use Rattle.std.specs.Prelude.{◌≡◌, ◌==◌, ℕ, ◌<◌, List, length, Option, Contains, ⊤}
+use Rattle.std.specs.Prelude.{string_bytes}
 use Rattle.std.specs.List.{AllByRecursion, slice_split}
 use Rattle.std.specs.List.Sorted.{IsStrictlySortedBy}
-use Rattle.std.specs.declared.alloc.Global.{Global}
 use Rattle.bx_tree.specs.Paths.{Atoms, IsAtom, path_cmp, path_text}
 use Rattle.bx_tree.specs.Trees.{Files, paths_of}
 use Rattle.bx_tree.specs.Bundle.{IsBundle, bundle}

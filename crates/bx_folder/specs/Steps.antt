@@ -1,5 +1,5 @@
 -- What the steps of packing answer.
-use Rattle.std.specs.Prelude.{◌≡◌, ◌==◌, ◌≢◌, ℕ, ◌<◌, ◌≤◌, List, [], length, map, Contains, ⊤, string_bytes}
+use Rattle.std.specs.Prelude.{◌≡◌, ◌==◌, ◌≢◌, ℕ, ◌<◌, ◌≤◌, List, [], length, Contains, ⊤, string_bytes}
 use Rattle.std.specs.List.{All, AllByRecursion, slice_split}
 use Rattle.std.specs.List.Sorted.{IsPermutation, IsStrictlySortedBy}
 use Rattle.bx_tree.specs.Paths.{Atoms, IsAtom, path_cmp, path_text}

@@ -1,5 +1,5 @@
 -- What a folder holds after a bundle was unpacked in it, and after that was refused.
-use Rattle.std.specs.Prelude.{◌≡◌, ◌≢◌, ℕ, ◌<◌, ◌≤◌, List, [], length, take, Option, option_map, ◌⊎◌, codes}
+use Rattle.std.specs.Prelude.{◌≡◌, ◌≢◌, ℕ, ◌≤◌, List, length, take, Option, option_map, ◌⊎◌, codes}
 use Rattle.std.specs.Prelude.{Contains, ⊤}
 use Rattle.bx_tree.specs.Paths.{Atoms, path_text}
 use Rattle.bx_tree.specs.Trees.{Files, paths_of}

@@ -4,7 +4,7 @@ use Rattle.std.proofs.lemmas.List.{take_all}
 use Rattle.std.proofs.lemmas.Slice.Eq.{bytes_eq-Decides}
 use Rattle.bx_folder.specs.Folders.{AllApart}
 use Rattle.bx_folder.specs.Places.{IsApart}
-use Rattle.bx_folder.specs.Stored.{node_of, placed, stored}
+use Rattle.bx_folder.specs.Stored.{placed, stored}
 use Rattle.bx_folder.specs.declared.mem_folder.Placed.{Placed}
 use Rattle.bx_folder.proofs.Entries.{apart_more, none_apart, stored_has, stored_more}
 use Rattle.bx_folder.proofs.mem_folder.is_free_among.Goals as goal

@@ -1,4 +1,4 @@
-use Rattle.std.proofs.Common.{◌≡◌, ◌∙◌, List, subst, sym}
+use Rattle.std.proofs.Common.{◌∙◌, List, subst, sym}
 use Rattle.std.proofs.lemmas.Result.{MatchResult-weaker, err_from_is_err_and}
 use Rattle.bx_folder.specs.Answers.{ListsNodes}
 use Rattle.bx_folder.specs.Folders.{Known}
