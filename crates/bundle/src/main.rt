@@ -1,0 +1,183 @@
+//! The program `bundle`: the text of a folder, and a folder of a text.
+//!
+//! `bundle pack FOLDER` writes the bundle of the files of a folder, `bundle unpack [--replace] FOLDER` makes
+//! the files of a bundle in a folder, and `bundle list` names the files of a bundle. It depends on
+//! `bx_folder`, whose trait its folder of the system implements, and on `bx_tree`.
+#![tactic(auto)]
+
+mod message;
+mod system_folder;
+#[cfg(test)]
+mod tests;
+mod words;
+
+use crate::message::{bundle_message, pack_message, unpack_message};
+use crate::system_folder::SystemFolder;
+use crate::words::{Command, read_words};
+use bx_folder::{Replace, pack, unpack};
+use bx_tree::{MAX_BUNDLE_BYTES, Tree, read_bundle};
+use std::alloc::{AllocError, Global};
+use std::env;
+use std::io::{self, ErrorKind, IsTerminal, Read, Write};
+use std::process::ExitCode;
+use std::rt::{Env, Files};
+
+// What a build makes at the top of a folder, and what it keeps there. None of it is source.
+const LEFT_OUT: [&str; 3] = ["out", "report.txt", ".bxl-cache"];
+
+const USAGE: &str = "usage: bundle pack FOLDER | unpack [--replace] FOLDER | list\n";
+
+// How a call ends: with 0, or with 1 and a message, or with 2 and the usage.
+#[derive(Drop)]
+enum Ending {
+    Done,
+    Refused(String),
+    NoMemory,
+    NoCommand,
+}
+
+fn refused(message: Result<String, AllocError>) -> Ending {
+    match message {
+        Ok(message) => Ending::Refused(message),
+        Err(_) => Ending::NoMemory,
+    }
+}
+
+// The words after the program's name, if all are text.
+fn arguments<R: Env + AllocGlobal>(rt: &R) -> Result<Vec<String>, AllocError> {
+    match env::args(rt) {
+        Ok(args) => args.skip(1).collect(rt.alloc()),
+        Err(error) if error.kind() == ErrorKind::OutOfMemory => Err(AllocError),
+        Err(_) => Ok(Vec::new(rt.alloc())),
+    }
+}
+
+// Reads a text to its end, or to one byte more than a bundle may have.
+fn read_text<R: Read>(alloc: Global, input: &mut R) -> io::Result<Vec<u8>> {
+    let mut text = Vec::new(alloc);
+    let mut piece = vec![in alloc; 0u8; 65536]?;
+    'pieces: for _ in 0..u64::MAX {
+        let count = match input.read(&mut piece) {
+            Err(error) if error.kind() == ErrorKind::Interrupted => continue,
+            count => count?,
+        };
+        text.extend_from_slice(&piece[..count])?;
+        if count == 0 || text.len() > MAX_BUNDLE_BYTES {
+            break;
+        }
+    }
+    Ok(text)
+}
+
+// The paths of a tree with the lengths of their files, a line each.
+fn listing(alloc: Global, tree: &Tree) -> Result<String, AllocError> {
+    let mut text = String::new(alloc);
+    for file in tree.files() {
+        let length = file.bytes.len();
+        let path = file.path.text();
+        text.push_str(format!(in alloc; "{length} {path}\n")?.as_str())?;
+    }
+    Ok(text)
+}
+
+fn write_out(alloc: Global, out: &mut impl Write, bytes: &[u8]) -> Ending {
+    match out.write_all(bytes) {
+        Ok(()) => Ending::Done,
+        Err(_) => refused(String::from_str(alloc, "standard output: cannot be written")),
+    }
+}
+
+fn run_pack<R: Files + AllocGlobal + Clone + Drop, W: Write + Drop>(
+    rt: &R,
+    alloc: Global,
+    name: &str,
+    out: &mut impl Write,
+    terminal: Option<W>,
+) -> Ending {
+    let Ok(mut folder) = SystemFolder::new(rt, alloc, name, terminal) else {
+        return Ending::NoMemory;
+    };
+    let packed = pack(alloc, &mut folder, &LEFT_OUT);
+    folder.hide();
+    match packed {
+        Ok(text) => write_out(alloc, out, &text),
+        Err(fault) => refused(pack_message(alloc, name, &fault)),
+    }
+}
+
+fn run_unpack<R: Files + AllocGlobal + Clone + Drop, W: Write + Drop>(
+    rt: &R,
+    alloc: Global,
+    name: &str,
+    replace: Replace,
+    input: &mut impl Read,
+    terminal: Option<W>,
+) -> Ending {
+    let Ok(text) = read_text(alloc, input) else {
+        return refused(String::from_str(alloc, "standard input: cannot be read"));
+    };
+    let Ok(mut folder) = SystemFolder::new(rt, alloc, name, terminal) else {
+        return Ending::NoMemory;
+    };
+    let unpacked = unpack(alloc, &mut folder, &text, replace);
+    folder.hide();
+    match unpacked {
+        Ok(_) => Ending::Done,
+        Err(fault) => refused(unpack_message(alloc, name, &fault)),
+    }
+}
+
+fn run_list(alloc: Global, input: &mut impl Read, out: &mut impl Write) -> Ending {
+    let Ok(text) = read_text(alloc, input) else {
+        return refused(String::from_str(alloc, "standard input: cannot be read"));
+    };
+    let tree = match read_bundle(alloc, &text) {
+        Ok(tree) => tree,
+        Err(fault) => return refused(bundle_message(alloc, fault)),
+    };
+    match listing(alloc, &tree) {
+        Ok(lines) => write_out(alloc, out, lines.as_bytes()),
+        Err(_) => Ending::NoMemory,
+    }
+}
+
+fn run(rt: &HostRuntime, alloc: Global) -> Ending {
+    let Ok(words) = arguments(rt) else {
+        return Ending::NoMemory;
+    };
+    let stream = rt.stderr();
+    let terminal = if stream.is_terminal() {
+        Some(stream)
+    } else {
+        None
+    };
+    match read_words(&words) {
+        Some(Command::Pack(name)) => run_pack(rt, alloc, name, &mut rt.stdout(), terminal),
+        Some(Command::Unpack(replace, name)) => {
+            run_unpack(rt, alloc, name, replace, &mut rt.stdin(), terminal)
+        }
+        Some(Command::List) => run_list(alloc, &mut rt.stdin(), &mut rt.stdout()),
+        None => Ending::NoCommand,
+    }
+}
+
+fn main(rt: HostRuntime) -> ExitCode {
+    let mut notes = rt.stderr();
+    match run(&rt, rt.alloc()) {
+        Ending::Done => ExitCode::from(0),
+        Ending::Refused(message) => {
+            let _ = notes.write_all(b"bundle: ");
+            let _ = notes.write_all(message.as_bytes());
+            let _ = notes.write_all(b"\n");
+            ExitCode::from(1)
+        }
+        Ending::NoMemory => {
+            let _ = notes.write_all(b"bundle: out of memory\n");
+            ExitCode::from(1)
+        }
+        Ending::NoCommand => {
+            let _ = notes.write_all(USAGE.as_bytes());
+            ExitCode::from(2)
+        }
+    }
+}

@@ -1,0 +1,7 @@
+use Rattle.bx_folder.proofs.Held.{large_file}
+use Rattle.bx_folder.proofs.packing.read_file.Goals as goal
+
+pub returns-in_ok-share-in-Err-TooLarge-clause-fault : goal.returns-in_ok-share-in-Err-TooLarge-clause-fault
+returns-in_ok-share-in-Err-TooLarge-clause-fault g c nodes e left_out is =
+    large_file left_out nodes c.args.path.now c.in_ok-share-in-Err-TooLarge.field-0 c.in_ok-share-in-Err-TooLarge.ensures
+    (c.read.ensures.too_large (cc) nodes e) is

@@ -1,0 +1,24 @@
+//! Folders of files, and the one text of what a folder holds.
+//!
+//! A folder is a trait with a count of faults, whose contract holds for a folder of the system and for one in
+//! memory alike. What a folder holds is packed as the bundle of its files, and a bundle is unpacked as files
+//! of a folder that has none of them. This crate depends on `bx_io` for counted faults and on `bx_tree` for
+//! paths and bundles. It carries the promise that packing and unpacking undo each other, and that each
+//! refusal names the place that causes it.
+#![tactic(auto)]
+
+mod fault;
+mod folder;
+mod laws;
+mod mem_folder;
+mod packing;
+mod places;
+mod unpacking;
+
+pub use fault::{PackFault, UnpackFault};
+pub use folder::{Entry, Folder, FolderFault, Kind, ListFault, ReadFault, WriteFault};
+pub use laws::{one_packing, packed_is_unpacked, unpacked_is_packed};
+pub use mem_folder::{MemFolder, Placed, Thing};
+pub use packing::pack;
+pub use places::{is_left_out, is_within};
+pub use unpacking::{Replace, unpack};

@@ -1,0 +1,3 @@
+int parts
+include limits.h
+include missing.h
