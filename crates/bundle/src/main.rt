@@ -53,19 +53,10 @@ fn arguments<R: Env + AllocGlobal>(rt: &R) -> Result<Vec<String>, AllocError> {
 }
 
 // Reads a text to its end, or to one byte more than a bundle may have.
-fn read_text<R: Read>(alloc: Global, input: &mut R) -> io::Result<Vec<u8>> {
+fn read_text(alloc: Global, input: impl Read + Drop) -> io::Result<Vec<u8>> {
+    let mut input = input.take(MAX_BUNDLE_BYTES as u64 + 1);
     let mut text = Vec::new(alloc);
-    let mut piece = vec![in alloc; 0u8; 65536]?;
-    'pieces: for _ in 0..u64::MAX {
-        let count = match input.read(&mut piece) {
-            Err(error) if error.kind() == ErrorKind::Interrupted => continue,
-            count => count?,
-        };
-        text.extend_from_slice(&piece[..count])?;
-        if count == 0 || text.len() > MAX_BUNDLE_BYTES {
-            break;
-        }
-    }
+    input.read_to_end(&mut text)?;
     Ok(text)
 }
 
@@ -110,7 +101,7 @@ fn run_unpack<R: Files + AllocGlobal + Clone + Drop, W: Write + Drop>(
     alloc: Global,
     name: &str,
     replace: Replace,
-    input: &mut impl Read,
+    input: impl Read + Drop,
     terminal: Option<W>,
 ) -> Ending {
     let Ok(text) = read_text(alloc, input) else {
@@ -127,7 +118,7 @@ fn run_unpack<R: Files + AllocGlobal + Clone + Drop, W: Write + Drop>(
     }
 }
 
-fn run_list(alloc: Global, input: &mut impl Read, out: &mut impl Write) -> Ending {
+fn run_list(alloc: Global, input: impl Read + Drop, out: &mut impl Write) -> Ending {
     let Ok(text) = read_text(alloc, input) else {
         return refused(String::from_str(alloc, "standard input: cannot be read"));
     };
@@ -154,9 +145,9 @@ fn run(rt: &HostRuntime, alloc: Global) -> Ending {
     match read_words(&words) {
         Some(Command::Pack(name)) => run_pack(rt, alloc, name, &mut rt.stdout(), terminal),
         Some(Command::Unpack(replace, name)) => {
-            run_unpack(rt, alloc, name, replace, &mut rt.stdin(), terminal)
+            run_unpack(rt, alloc, name, replace, rt.stdin(), terminal)
         }
-        Some(Command::List) => run_list(alloc, &mut rt.stdin(), &mut rt.stdout()),
+        Some(Command::List) => run_list(alloc, rt.stdin(), &mut rt.stdout()),
         None => Ending::NoCommand,
     }
 }

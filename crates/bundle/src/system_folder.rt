@@ -1,6 +1,7 @@
 //! A folder of the system.
 
 ghost use Rattle.std.specs.Prelude.{◌≡◌, None, IfOk};
+ghost use Rattle.bx_io.specs.Causes.{counted};
 
 use bx_folder::{Entry, Folder, FolderFault, Kind, ListFault, ReadFault, WriteFault, is_left_out};
 use bx_tree::{MAX_FILE_BYTES, MAX_PATH_BYTES, Path};
@@ -131,19 +132,9 @@ fn walk_through<R: Files + AllocGlobal + Clone + Drop>(
 
 // The bytes of a file, or one more than a file may have.
 fn read_of<R: Files>(rt: &R, alloc: Global, path: &str) -> io::Result<Vec<u8>> {
-    let mut file = File::open(rt, path)?;
+    let mut file = File::open(rt, path)?.take(MAX_FILE_BYTES as u64 + 1);
     let mut bytes = Vec::new(alloc);
-    let mut piece = vec![in alloc; 0u8; 65536]?;
-    'pieces: for _ in 0..u64::MAX {
-        let count = match file.read(&mut piece) {
-            Err(error) if error.kind() == ErrorKind::Interrupted => continue,
-            count => count?,
-        };
-        bytes.extend_from_slice(&piece[..count])?;
-        if count == 0 || bytes.len() > MAX_FILE_BYTES {
-            break;
-        }
-    }
+    file.read_to_end(&mut bytes)?;
     Ok(bytes)
 }
 
@@ -215,6 +206,24 @@ fn remove_of<R: Files + AllocGlobal>(rt: &R, path: &str) -> io::Result<()> {
     }
 }
 
+// Names a file on a terminal, in place of the one before.
+fn show<W: Write>(terminal: &mut Option<W>, deed: &str, path: &Path) {
+    if let Some(terminal) = terminal {
+        let text = path.text();
+        let start = text.len().saturating_sub(SHOWN);
+        for part in ["\r\x1b[K", deed, text.get(start..).unwrap_or(text)] {
+            let _ = terminal.write_all(part.as_bytes());
+        }
+    }
+}
+
+// A count of faults with one more, up to the greatest `u64`.
+fn one_more(faults: u64) -> u64
+    ensures { result ≡ counted faults }
+{
+    faults.saturating_add(1)
+}
+
 impl<R: Files + AllocGlobal + Clone + Drop, W: Write + Drop> SystemFolder<R, W> {
     /// The folder of this name. Where there is a terminal, each file is named on it while it is read or made,
     /// in one line that is written over.
@@ -235,17 +244,6 @@ impl<R: Files + AllocGlobal + Clone + Drop, W: Write + Drop> SystemFolder<R, W> 
         })
     }
 
-    // Names a file on the terminal, in place of the one before.
-    fn show(&mut self, deed: &str, path: &Path) {
-        if let Some(terminal) = &mut self.terminal {
-            let text = path.text();
-            let start = text.len().saturating_sub(SHOWN);
-            for part in ["\r\x1b[K", deed, text.get(start..).unwrap_or(text)] {
-                let _ = terminal.write_all(part.as_bytes());
-            }
-        }
-    }
-
     /// Takes the name of a file from the terminal.
     pub fn hide(&mut self) {
         if let Some(terminal) = &mut self.terminal {
@@ -256,10 +254,6 @@ impl<R: Files + AllocGlobal + Clone + Drop, W: Write + Drop> SystemFolder<R, W> 
     // The name of a path for the system.
     fn path_of(&self, alloc: Global, path: &Path) -> Result<String, AllocError> {
         system_path(alloc, self.folder.as_str(), path.text())
-    }
-
-    fn count_fault(&mut self) {
-        self.faults = self.faults.saturating_add(1);
     }
 }
 
@@ -273,7 +267,7 @@ impl<R: Files + AllocGlobal + Clone + Drop, W: Write + Drop> Folder for SystemFo
     fn list(&mut self, alloc: Global, left_out: &[&str]) -> Result<Vec<Entry>, ListFault> {
         match walk_through(&self.rt, alloc, self.folder.as_str(), left_out) {
             Err(ListFault::Failed(dir)) => {
-                self.count_fault();
+                self.faults = one_more(self.faults);
                 Err(ListFault::Failed(dir))
             }
             listed => listed,
@@ -281,14 +275,14 @@ impl<R: Files + AllocGlobal + Clone + Drop, W: Write + Drop> Folder for SystemFo
     }
 
     fn read(&mut self, alloc: Global, path: &Path) -> Result<Vec<u8>, ReadFault> {
-        self.show("reads ", path);
+        show(&mut self.terminal, "reads ", path);
         let place = self.path_of(alloc, path)?;
         match read_of(&self.rt, alloc, place.as_str()) {
             Ok(bytes) if bytes.len() > MAX_FILE_BYTES => Err(ReadFault::TooLarge),
             Ok(bytes) => Ok(bytes),
             Err(error) if error.kind() == ErrorKind::OutOfMemory => Err(ReadFault::Memory),
             Err(_) => {
-                self.count_fault();
+                self.faults = one_more(self.faults);
                 Err(ReadFault::Failed)
             }
         }
@@ -302,14 +296,14 @@ impl<R: Files + AllocGlobal + Clone + Drop, W: Write + Drop> Folder for SystemFo
             Ok(free) => Ok(free),
             Err(error) if error.kind() == ErrorKind::OutOfMemory => Err(FolderFault::Memory),
             Err(_) => {
-                self.count_fault();
+                self.faults = one_more(self.faults);
                 Err(FolderFault::Failed)
             }
         }
     }
 
     fn write_new(&mut self, alloc: Global, path: &Path, bytes: &[u8]) -> Result<(), WriteFault> {
-        self.show("makes ", path);
+        show(&mut self.terminal, "makes ", path);
         let place = self.path_of(alloc, path)?;
         let above = make_above(&self.rt, self.folder.as_str(), place.as_str());
         match above.and_then(|_| write_of(&self.rt, place.as_str(), bytes)) {
@@ -318,7 +312,7 @@ impl<R: Files + AllocGlobal + Clone + Drop, W: Write + Drop> Folder for SystemFo
                 ErrorKind::AlreadyExists => Err(WriteFault::Exists),
                 ErrorKind::OutOfMemory => Err(WriteFault::Memory),
                 _ => {
-                    self.count_fault();
+                    self.faults = one_more(self.faults);
                     Err(WriteFault::Failed)
                 }
             },
@@ -333,7 +327,7 @@ impl<R: Files + AllocGlobal + Clone + Drop, W: Write + Drop> Folder for SystemFo
             Ok(()) => Ok(()),
             Err(error) if error.kind() == ErrorKind::OutOfMemory => Err(FolderFault::Memory),
             Err(_) => {
-                self.count_fault();
+                self.faults = one_more(self.faults);
                 Err(FolderFault::Failed)
             }
         }
