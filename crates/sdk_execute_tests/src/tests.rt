@@ -17,45 +17,86 @@ fn path(alloc: Global, bytes: &[u8]) -> Result<Path, Fail> {
 
 /// What the argument with this letter names.
 fn artifact(alloc: Global, letter: u8) -> Result<Option<Artifact>, Fail> {
+    if matches!(letter, b'A' | b'C') {
+        return Ok(None);
+    }
+    let path = path(alloc, artifact_path(letter))?;
+    Ok(Some(match letter {
+        b'B' => Artifact::Output(path),
+        b'D' => Artifact::OutputDir(path),
+        b'E' => Artifact::Plain(path),
+        b'F' => Artifact::Input(FileInput::Source(path)),
+        _ => Artifact::InputDir(StaticDir::Seal(2, path)),
+    }))
+}
+
+/// The path of what the argument with this letter names.
+fn artifact_path(letter: u8) -> &'static [u8] {
+    match letter {
+        b'B' => b"q",
+        b'E' => b"s/a",
+        b'F' => b"p",
+        _ => b"d",
+    }
+}
+
+/// What precedes the artifact in the argument with this letter.
+fn prefix(letter: u8) -> Option<&'static [u8]> {
+    match letter {
+        b'A' | b'D' => Some(b"-"),
+        b'C' | b'E' => None,
+        _ => Some(b""),
+    }
+}
+
+/// An argument of a process, by a letter.
+fn command(alloc: Global, letter: u8) -> Result<Value, Fail> {
+    let text = match prefix(letter) {
+        Some(bytes) => Some(text(alloc, bytes)?),
+        None => None,
+    };
+    let artifact = artifact(alloc, letter)?;
+    Ok(Value::Argument(Argument::of(alloc, text, artifact)?))
+}
+
+/// The path in the value with this letter.
+fn place(letter: u8) -> &'static [u8] {
+    match letter {
+        b'p' | b'f' | b'm' | b'n' => b"p",
+        b'q' => b"q",
+        b'a' => b"s/a",
+        _ => b"d",
+    }
+}
+
+/// A value that has a path, by a letter.
+fn placed(alloc: Global, letter: u8) -> Result<Value, Fail> {
+    let path = path(alloc, place(letter))?;
     Ok(match letter {
-        b'B' => Some(Artifact::Output(path(alloc, b"q")?)),
-        b'D' => Some(Artifact::OutputDir(path(alloc, b"d")?)),
-        b'E' => Some(Artifact::Plain(path(alloc, b"s/a")?)),
-        b'F' => Some(Artifact::Input(FileInput::Source(path(alloc, b"p")?))),
-        b'A' | b'C' => None,
-        _ => Some(Artifact::InputDir(StaticDir::Seal(2, path(alloc, b"d")?))),
+        b'p' | b'q' => Value::Path(path),
+        b'a' | b'f' => Value::File(FileInput::Source(path)),
+        b'm' => Value::File(FileInput::Made(path, 0)),
+        b'n' => Value::File(FileInput::Made(path, 1)),
+        b'l' => Value::Static(StaticDir::Seal(2, path)),
+        b'o' => Value::Static(StaticDir::Opaque(3, path)),
+        _ => Value::Directory(path),
     })
 }
 
 /// A value that is no object, by a letter.
 fn plain(alloc: Global, letter: u8) -> Result<Value, Fail> {
-    Ok(match letter {
-        b'p' => Value::Path(path(alloc, b"p")?),
-        b'q' => Value::Path(path(alloc, b"q")?),
-        b'd' => Value::Directory(path(alloc, b"d")?),
-        b'a' => Value::File(FileInput::Source(path(alloc, b"s/a")?)),
-        b'f' => Value::File(FileInput::Source(path(alloc, b"p")?)),
-        b'm' => Value::File(FileInput::Made(path(alloc, b"p")?, 0)),
-        b'n' => Value::File(FileInput::Made(path(alloc, b"p")?, 1)),
-        b'l' => Value::Static(StaticDir::Seal(2, path(alloc, b"d")?)),
-        b'o' => Value::Static(StaticDir::Opaque(3, path(alloc, b"d")?)),
-        b'x' => Value::Text(text(alloc, b"x")?),
-        b'y' => Value::Text(text(alloc, b"y")?),
-        b'_' => Value::Text(text(alloc, b"")?),
-        b'S' => Value::Text(text(alloc, b"shared")?),
-        _ => Value::Undefined,
-    })
+    match letter {
+        b'x' => text_value(alloc, b"x"),
+        b'y' => text_value(alloc, b"y"),
+        b'_' => text_value(alloc, b""),
+        b'S' => text_value(alloc, b"shared"),
+        b'u' => Ok(Value::Undefined),
+        _ => placed(alloc, letter),
+    }
 }
 
-/// An argument of a process, by a letter.
-fn command(alloc: Global, letter: u8) -> Result<Value, Fail> {
-    let artifact = artifact(alloc, letter)?;
-    let text = match letter {
-        b'A' | b'D' => Some(text(alloc, b"-")?),
-        b'C' | b'E' => None,
-        _ => Some(text(alloc, b"")?),
-    };
-    Ok(Value::Argument(Argument::of(alloc, text, artifact)?))
+fn text_value(alloc: Global, bytes: &[u8]) -> Result<Value, Fail> {
+    Ok(Value::Text(text(alloc, bytes)?))
 }
 
 /// The name of a field by a letter.
@@ -100,8 +141,9 @@ fn fields_of(digit: u8) -> &'static str {
     }
 }
 
-fn field(alloc: Global, letter: u8, value: Value) -> Result<Field, Fail> {
+fn field(alloc: Global, letter: u8, value: u8) -> Result<Field, Fail> {
     let name = text(alloc, field_name(letter).as_bytes())?;
+    let value = plain(alloc, value)?;
     Ok(Field { name, value })
 }
 
@@ -109,7 +151,7 @@ fn object(alloc: Global, digit: u8) -> Result<Value, Fail> {
     let mut fields = Vec::new(alloc);
     for word in fields_of(digit).split(' ') {
         if let [name, value] = word.as_bytes() {
-            fields.push(field(alloc, *name, plain(alloc, *value)?)?)?;
+            fields.push(field(alloc, *name, *value)?)?;
         }
     }
     Ok(object_of(alloc, fields)?)
@@ -140,12 +182,19 @@ fn word(alloc: Global, word: &[u8]) -> Result<Value, Fail> {
     }
 }
 
+/// A field of an object: the letter of its name, and then its value.
+fn asked_field(alloc: Global, letter: u8, value: &[u8]) -> Result<Field, Fail> {
+    let name = text(alloc, field_name(letter).as_bytes())?;
+    let value = word(alloc, value)?;
+    Ok(Field { name, value })
+}
+
 /// An object of these fields: for each the letter of its name, and then its value.
 fn asked(alloc: Global, words: &str) -> Result<Value, Fail> {
     let mut fields = Vec::new(alloc);
     for part in words.split(' ') {
         if let Some((name, value)) = part.as_bytes().split_first() {
-            fields.push(field(alloc, *name, word(alloc, value)?)?)?;
+            fields.push(asked_field(alloc, *name, value)?)?;
         }
     }
     Ok(object_of(alloc, fields)?)
@@ -169,24 +218,34 @@ fn site(alloc: Global) -> Result<Site, Fail> {
     })
 }
 
-/// Two pips that write the file `p`, a seal of `d`, and a process that makes `d`.
-fn earlier<'a>(alloc: Global, tree: &'a Tree) -> Result<SdkState<'a>, Fail> {
-    let mut state = SdkState::new(alloc, tree)?;
+/// Whether a file is written with this object.
+fn writes(alloc: Global, state: &mut SdkState, digit: u8) -> Result<bool, Fail> {
     let site = site(alloc)?;
-    let written = [object(alloc, b';')?];
-    let sealed = [plain(alloc, b'd')?];
-    let made = [asked(alloc, "t0 o[d")?];
-    for _ in 0..2 {
-        if write_all_text(alloc, &mut state, &site, &written).is_err() {
-            return Err(Fail::new("no file"));
-        }
-    }
-    if seal_source_directory(alloc, &mut state, &site, &sealed).is_err()
-        || execute(alloc, &mut state, &site, &made).is_err()
-    {
-        return Err(Fail::new("no directory"));
-    }
-    Ok(state)
+    let args = [object(alloc, digit)?];
+    let outcome = write_all_text(alloc, state, &site, &args);
+    let is_ok = outcome.is_ok();
+    drop(outcome);
+    Ok(is_ok)
+}
+
+/// Whether a source directory is sealed, by a letter.
+fn seals(alloc: Global, state: &mut SdkState, letter: u8) -> Result<bool, Fail> {
+    let site = site(alloc)?;
+    let args = [plain(alloc, letter)?];
+    let outcome = seal_source_directory(alloc, state, &site, &args);
+    let is_ok = outcome.is_ok();
+    drop(outcome);
+    Ok(is_ok)
+}
+
+/// Whether two pips that write the file `p`, a seal of `d`, and a process that makes `d` were added.
+fn adds_earlier(alloc: Global, state: &mut SdkState) -> Result<bool, Fail> {
+    Ok(
+        writes(alloc, state, b';')?
+            && writes(alloc, state, b';')?
+            && seals(alloc, state, b'd')?
+            && comes_to(alloc, state, "t0 o[d", "s/a in w own d ")?,
+    )
 }
 
 fn put(seen: &mut Vec<u8>, word: &[u8]) -> Result<(), Fail> {
@@ -287,6 +346,66 @@ fn put_outcome(
     }
 }
 
+/// Whether a call has added one pip, or none where it was refused.
+fn is_counted(before: usize, after: usize, outcome: &Result<Value, SdkFault>) -> bool {
+    if outcome.is_ok() {
+        after > before && after - before == 1
+    } else {
+        after == before
+    }
+}
+
+/// What a call came to that found some pips and left these.
+fn put_counted(
+    seen: &mut Vec<u8>,
+    before: usize,
+    pips: &[Pip],
+    outcome: &Result<Value, SdkFault>,
+) -> Result<(), Fail> {
+    if is_counted(before, pips.len(), outcome) {
+        put_outcome(seen, pips, outcome)
+    } else {
+        put(seen, b"miscounted")
+    }
+}
+
+/// A call with these arguments, and what it came to.
+fn put_call(
+    alloc: Global,
+    seen: &mut Vec<u8>,
+    state: &mut SdkState,
+    args: &[Value],
+) -> Result<(), Fail> {
+    let site = site(alloc)?;
+    let before = state.pips().len();
+    let outcome = execute(alloc, state, &site, args);
+    let put = put_counted(seen, before, state.pips(), &outcome);
+    drop(outcome);
+    put
+}
+
+/// A call with an object of these fields, and what it came to.
+fn put_asked(
+    alloc: Global,
+    seen: &mut Vec<u8>,
+    state: &mut SdkState,
+    words: &str,
+) -> Result<(), Fail> {
+    let args = [asked(alloc, words)?];
+    put_call(alloc, seen, state, &args)
+}
+
+/// A call with arguments by their letters, and what it came to.
+fn put_letters(
+    alloc: Global,
+    seen: &mut Vec<u8>,
+    state: &mut SdkState,
+    letters: &[u8],
+) -> Result<(), Fail> {
+    let args = samples(alloc, letters)?;
+    put_call(alloc, seen, state, args.as_slice())
+}
+
 fn put_pip(seen: &mut Vec<u8>, pip: &Pip) -> Result<(), Fail> {
     match &pip.kind {
         PipKind::Process(process) => put_process(seen, process),
@@ -326,19 +445,25 @@ const CALLS: &[(&str, &str)] = &[
     ("t0 o[q5q5 cp", "s/a in w > q console p shared d "),
 ];
 
+/// Whether a call with an object of these fields comes to what is wanted.
+fn comes_to(alloc: Global, state: &mut SdkState, words: &str, wanted: &str) -> Result<bool, Fail> {
+    let mut seen = Vec::new(alloc);
+    put_asked(alloc, &mut seen, state, words)?;
+    Ok(seen.as_slice() == wanted.as_bytes())
+}
+
+/// Whether a call after the earlier pips comes to what is wanted.
+fn comes_later_to(alloc: Global, tree: &Tree, words: &str, wanted: &str) -> Result<bool, Fail> {
+    let mut state = SdkState::new(alloc, tree)?;
+    Ok(adds_earlier(alloc, &mut state)? && comes_to(alloc, &mut state, words, wanted)?)
+}
+
 #[test]
 fn a_call_makes_the_process_that_its_object_asks_for(rt: HostRuntime) -> Result<(), Fail> {
     let alloc = rt.alloc();
     let tree = tree(alloc)?;
-    let site = site(alloc)?;
     for (words, wanted) in CALLS {
-        let mut state = earlier(alloc, &tree)?;
-        let args = [asked(alloc, words)?];
-        let outcome = execute(alloc, &mut state, &site, &args);
-        let mut seen = Vec::new(alloc);
-        put_outcome(&mut seen, state.pips(), &outcome)?;
-        assert_eq!(rt; seen.as_slice(), wanted.as_bytes());
-        assert_eq!(rt; state.pips().len(), 4 + outcome.is_ok() as usize);
+        assert!(rt; comes_later_to(alloc, &tree, words, wanted)?);
     }
     Ok(())
 }
@@ -347,13 +472,10 @@ fn a_call_makes_the_process_that_its_object_asks_for(rt: HostRuntime) -> Result<
 fn a_call_takes_one_object(rt: HostRuntime) -> Result<(), Fail> {
     let alloc = rt.alloc();
     let tree = tree(alloc)?;
-    let site = site(alloc)?;
-    let mut state = earlier(alloc, &tree)?;
+    let mut state = SdkState::new(alloc, &tree)?;
     let mut seen = Vec::new(alloc);
     for letters in [b"".as_slice(), b"u", b"x0", b"5x"] {
-        let args = samples(alloc, letters)?;
-        let outcome = execute(alloc, &mut state, &site, args.as_slice());
-        put_outcome(&mut seen, state.pips(), &outcome)?;
+        put_letters(alloc, &mut seen, &mut state, letters)?;
     }
     assert_eq!(rt; seen.as_slice(), b"argument kind kind argument ".as_slice());
     Ok(())
