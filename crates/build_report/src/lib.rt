@@ -15,6 +15,3 @@ pub use refusal::{MAX_SHOWN_BYTES, Refusal, refused_report};
 
 /// Out of memory, the one refusal that no contract ties to a cause.
 pub type Memory = std::alloc::AllocError;
-
-#[cfg(test)]
-mod tests;

@@ -70,6 +70,8 @@ pub fn put_blob<K: Keeper>(alloc: Global, keeper: &mut K, blob: &Blob) -> Result
     ensures bound { K.bound keeper.new ≡ K.bound keeper.old }
     ensures can_rise { CanRise (K.bound keeper.old) (K.faults keeper.old) →
         CanRise (K.bound keeper.new) (K.faults keeper.new) }
+    ensures failed_can_rise { result ≡ Err PutFault.Failed →
+        CanRise (K.bound keeper.new) (K.faults keeper.new) }
     ensures cause { HasCause (K.faults keeper.old) (K.faults keeper.new) (result ≡ Err PutFault.Failed) }
     ensures no_fault { result ≢ Err PutFault.Failed → K.faults keeper.new ≡ K.faults keeper.old }
 {

@@ -10,7 +10,7 @@ use Rattle.dscript_value.specs.declared.parts.StaticDir.{StaticDir}
 use Rattle.dscript_value.specs.declared.parts.StaticDir.TheVariants.{Seal, Opaque}
 use Rattle.dscript_value.specs.declared.parts.Artifact.{Artifact as AnyArtifact}
 use Rattle.dscript_value.specs.declared.parts.Artifact.TheVariants as artifacts
-use Rattle.dscript_value.specs.declared.parts.Argument.{Argument as AnyArgument}
+use Rattle.dscript_value.specs.declared.parts.ArgumentParts.{ArgumentParts as AnyArgument}
 use Rattle.dscript_value.specs.Plain as plain
 use Rattle.dscript_value.specs.Plain.{Plain}
 

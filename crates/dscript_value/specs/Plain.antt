@@ -5,7 +5,7 @@ use Rattle.bx_tree.specs.Paths.{Atoms}
 use Rattle.bx_tree.specs.declared.file_input.FileInput.{FileInput}
 use Rattle.dscript_value.specs.declared.parts.StaticDir.{StaticDir}
 use Rattle.dscript_value.specs.declared.parts.Artifact.{Artifact as AnyArtifact}
-use Rattle.dscript_value.specs.declared.parts.Argument.{Argument as AnyArgument}
+use Rattle.dscript_value.specs.declared.parts.ArgumentParts.{ArgumentParts as AnyArgument}
 use Rattle.dscript_value.specs.declared.parts.Callee.{Callee}
 use Rattle.dscript_value.specs.declared.value.Value.{Value}
 use Rattle.dscript_value.specs.declared.value.Values.{Values}

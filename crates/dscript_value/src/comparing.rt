@@ -126,7 +126,7 @@ fn same_options(a: &Option<Artifact>, b: &Option<Artifact>) -> bool
 fn same_arguments(a: &Argument, b: &Argument) -> bool
     ensures { result ≡ same_argument a.now b.now }
 {
-    same_texts(&a.text, &b.text) && same_options(&a.artifact, &b.artifact)
+    same_texts(a.text(), b.text()) && same_options(a.artifact(), b.artifact())
 }
 
 fn same_text(a: &Text, b: &Text) -> bool

@@ -26,11 +26,65 @@ pub enum Artifact {
     Plain(Path),
 }
 
-/// An argument of a process: a text, an artifact, or a text that an artifact's path follows.
+/// What an argument of a process says: a text, an artifact, or a text that an artifact's path follows.
 #[derive(Drop)]
-pub struct Argument {
+pub struct ArgumentParts {
     pub text: Option<Text>,
     pub artifact: Option<Artifact>,
+}
+
+/// An argument of a process, shared. Contracts see it as its parts.
+#[derive(Drop)]
+pub struct Argument {
+    parts: Rc<ArgumentParts>,
+}
+
+impl Model for Argument {
+    ghost use Rattle.dscript_value.specs.declared.parts.ArgumentParts.{ArgumentParts as Parts};
+    ghost use Rattle.std.specs.Rc.{rc_value};
+
+    ghost Value = { Parts };
+
+    ghost view = { λ a. rc_value a.parts };
+}
+
+impl Argument {
+    /// The argument that says this.
+    pub fn of(
+        alloc: Global,
+        text: Option<Text>,
+        artifact: Option<Artifact>,
+    ) -> Result<Argument, AllocError>
+        ensures { IfOk result (λ argument. argument ≡ record { text = text; artifact = artifact }) }
+    {
+        let parts = ArgumentParts { text, artifact };
+        Ok(Argument {
+            parts: Rc::new(alloc, parts)?,
+        })
+    }
+
+    /// The text, if there is one.
+    pub fn text(&self) -> &Option<Text>
+        ensures { result.now ≡ self.now.text }
+    {
+        &self.parts.text
+    }
+
+    /// The artifact, if there is one.
+    pub fn artifact(&self) -> &Option<Artifact>
+        ensures { result.now ≡ self.now.artifact }
+    {
+        &self.parts.artifact
+    }
+
+    /// The argument, shared.
+    pub fn share(&self) -> Result<Argument, AllocError>
+        ensures { IfOk result (λ copy. copy ≡ self.now) }
+    {
+        Ok(Argument {
+            parts: self.parts.clone()?,
+        })
+    }
 }
 
 /// What a function value calls: the function with this number, an ambient call, or the member with this

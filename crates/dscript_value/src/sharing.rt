@@ -2,9 +2,9 @@
 ghost use Rattle.std.specs.Prelude.{◌≡◌, IfOk};
 ghost use Rattle.dscript_value.specs.Plain.{plain_function, plain_of};
 
-use crate::parts::{Argument, Artifact, Callee, StaticDir};
+use crate::parts::{Artifact, Callee, StaticDir};
 use crate::value::{FunctionRef, Value};
-use bx_tree::{FileInput, Text};
+use bx_tree::FileInput;
 use std::alloc::AllocError;
 
 /// A file like this one.
@@ -41,37 +41,6 @@ impl Artifact {
             Artifact::OutputDir(path) => Ok(Artifact::OutputDir(path.share()?)),
             Artifact::Plain(path) => Ok(Artifact::Plain(path.share()?)),
         }
-    }
-}
-
-// A text like this one, if it is there.
-fn share_text(text: &Option<Text>) -> Result<Option<Text>, AllocError>
-    ensures { IfOk result (λ copy. copy ≡ text.now) }
-{
-    match text {
-        Some(text) => Ok(Some(text.share()?)),
-        None => Ok(None),
-    }
-}
-
-// An artifact like this one, if it is there.
-fn share_artifact(artifact: &Option<Artifact>) -> Result<Option<Artifact>, AllocError>
-    ensures { IfOk result (λ copy. copy ≡ artifact.now) }
-{
-    match artifact {
-        Some(artifact) => Ok(Some(artifact.share()?)),
-        None => Ok(None),
-    }
-}
-
-impl Argument {
-    /// An argument like this one.
-    pub fn share(&self) -> Result<Argument, AllocError>
-        ensures { IfOk result (λ copy. copy ≡ self.now) }
-    {
-        let text = share_text(&self.text)?;
-        let artifact = share_artifact(&self.artifact)?;
-        Ok(Argument { text, artifact })
     }
 }
 

@@ -89,7 +89,7 @@ pub fn code_at(program: &Program, number: u32) -> Option<&Function>
 fn captured_now(machine: &Machine<'_>, number: u32) -> Result<Vec<Value>, Memory>
     ensures { IfOk result (λ values. map plain_of values.items
         ≡ captures (captured_of (code.function_at (seen machine.now).program number))
-          (seen machine.now).state) }
+        (seen machine.now).state) }
 {
     match code_at(machine.program, number) {
         Some(function) => machine

@@ -17,6 +17,3 @@ mod twin;
 pub use checking::check;
 pub use fault::{GraphFault, GraphKind};
 pub use laws::{one_answer, some_answer};
-
-#[cfg(test)]
-mod tests;

@@ -20,13 +20,13 @@ use Rattle.one_thread.specs.Views.{AllAgree, ended_in, good_in, is_good_slot, ki
 
 -- ## Verdicts and slots, as results
 
-made_is : (vs : List Verdict) (ss : List Slot) → length vs ≡ length ss → made_by (results_of vs ss) ≡ map slot_files ss
+pub made_is : (vs : List Verdict) (ss : List Slot) → length vs ≡ length ss → made_by (results_of vs ss) ≡ map slot_files ss
 made_is [] [] e = refl
 made_is [] (s ∷ ss) e = absurd (omega (arith, e))
 made_is (v ∷ vs) [] e = absurd (omega (arith, e))
 made_is (v ∷ vs) (s ∷ ss) e = ap (λ fs. slot_files s ∷ fs) (made_is vs ss (omega (arith, e)))
 
-verdicts_are : (vs : List Verdict) (ss : List Slot) → length vs ≡ length ss → verdicts_of (results_of vs ss) ≡ vs
+pub verdicts_are : (vs : List Verdict) (ss : List Slot) → length vs ≡ length ss → verdicts_of (results_of vs ss) ≡ vs
 verdicts_are [] [] e = refl
 verdicts_are [] (s ∷ ss) e = absurd (omega (arith, e))
 verdicts_are (v ∷ vs) [] e = absurd (omega (arith, e))
@@ -48,7 +48,7 @@ good_is (v ∷ vs) (s ∷ ss) e h zero = sym (heads_agree (is_good_slot s) (is_s
 good_is (v ∷ vs) (s ∷ ss) e h (suc j) =
     good_is vs ss (omega (arith, e)) (tails_agree (is_good_slot s) (is_success v) (map is_good_slot ss) (map is_success vs) h) j
 
-all_good : (vs : List Verdict) (ss : List Slot) → length vs ≡ length ss → AllAgree vs ss → (js : List ℕ)
+pub all_good : (vs : List Verdict) (ss : List Slot) → length vs ≡ length ss → AllAgree vs ss → (js : List ℕ)
     → list_all (λ j. is_good (slice_get (results_of vs ss) j)) js ≡ list_all (λ j. good_in (slice_get ss j)) js
 all_good vs ss e h [] = refl
 all_good vs ss e h (j ∷ js) =
@@ -56,7 +56,7 @@ all_good vs ss e h (j ∷ js) =
     ∙ ap (λ b. good_in (slice_get ss j) && b) (all_good vs ss e h js)
 
 -- what a pip comes to by slots is what it comes to by results
-ended_is : (pips : List Pip) (tree : Files) (budget i : ℕ) (kind : PipKind) (vs : List Verdict) (ss : List Slot) → length vs ≡ length ss → AllAgree vs ss
+pub ended_is : (pips : List Pip) (tree : Files) (budget i : ℕ) (kind : PipKind) (vs : List Verdict) (ss : List Slot) → length vs ≡ length ss → AllAgree vs ss
     → kind_ended pips tree budget ss i kind ≡ result_of pips tree budget (results_of vs ss) i kind
 ended_is pips tree budget i kind vs ss e h =
     ap (λ b. cond b (worked pips tree budget (map slot_files ss) (inputs_of pips kind (map slot_files ss)) i kind) (failed verdicts.Skipped))
@@ -64,7 +64,7 @@ ended_is pips tree budget i kind vs ss e h =
     ∙ ap (λ (ms : List Files). cond (inputs_are_good pips kind (results_of vs ss)) (worked pips tree budget ms (inputs_of pips kind ms) i kind) (failed verdicts.Skipped))
     (sym (made_is vs ss e))
 
-results_more : (vs : List Verdict) (ss : List Slot) (v : Verdict) (s : Slot) → length vs ≡ length ss
+pub results_more : (vs : List Verdict) (ss : List Slot) (v : Verdict) (s : Slot) → length vs ≡ length ss
     → results_of (vs ++ v ∷ []) (ss ++ s ∷ []) ≡ results_of vs ss ++ result_in v s ∷ []
 results_more [] [] v s e = refl
 results_more [] (t ∷ ts) v s e = absurd (omega (arith, e))

@@ -21,20 +21,20 @@ use run_record::{Cause, Outcome, execute};
 use std::alloc::Global;
 use violations::{Verdict, classify, double_write};
 
-// What a pip came to: its verdict, and its files if it succeeded.
+/// What a pip came to: its verdict, and its files if it succeeded.
 #[derive(Drop)]
-pub(crate) struct PipResult {
-    pub(crate) verdict: Verdict,
-    pub(crate) slot: Slot,
+pub struct PipResult {
+    pub verdict: Verdict,
+    pub slot: Slot,
 }
 
-// What all pips are built with.
+/// What all pips are built with.
 #[derive(Clone, Copy)]
-pub(crate) struct Frame<'a, G: Gate> {
-    pub(crate) alloc: Global,
-    pub(crate) plan: &'a Plan,
-    pub(crate) sources: &'a Sources,
-    pub(crate) gate: &'a G,
+pub struct Frame<'a, G: Gate> {
+    pub alloc: Global,
+    pub plan: &'a Plan,
+    pub sources: &'a Sources,
+    pub gate: &'a G,
 }
 
 fn succeeded(made: Made) -> PipResult
@@ -58,7 +58,8 @@ fn failed(verdict: Verdict) -> PipResult
     }
 }
 
-fn is_good(slot: &Slot) -> bool
+/// Whether the slot is that of a pip that succeeded.
+pub fn is_good(slot: &Slot) -> bool
     ensures { result ≡ is_good_slot slot.now }
 {
     match slot {
@@ -80,8 +81,8 @@ fn all_good(inputs: &[u32], slots: &[Slot]) -> bool
     true
 }
 
-// Whether each pip for which a pip waits succeeded.
-fn inputs_are_good(plan: &Plan, pip: u32, slots: &[Slot]) -> bool
+/// Whether each pip for which a pip waits succeeded.
+pub fn inputs_are_good(plan: &Plan, pip: u32, slots: &[Slot]) -> bool
     requires pip { pip < length plan.now.pips }
     requires slots { pip ≤ length slots.now }
     ensures { result ≡ good_at plan.now.pips (slice_get plan.now.pips pip) slots.now }
@@ -90,8 +91,13 @@ fn inputs_are_good(plan: &Plan, pip: u32, slots: &[Slot]) -> bool
     all_good(inputs, slots)
 }
 
-// What a process comes to that is otherwise successful.
-fn after_success(plan: &Plan, pip: u32, made: &Made, slots: &[Slot]) -> Result<PipResult, Memory>
+/// What a process comes to that is otherwise successful.
+pub fn after_success(
+    plan: &Plan,
+    pip: u32,
+    made: &Made,
+    slots: &[Slot],
+) -> Result<PipResult, Memory>
     requires pip { pip < length plan.now.pips }
     requires slots { pip ≤ length slots.now }
     ensures result { IfOk result (λ ended. ended_result ended ≡ builds.unless_clash made.now
@@ -144,8 +150,8 @@ fn after_failure(
     }
 }
 
-// What a process comes to by the outcome of its run.
-fn after_run(
+/// What a process comes to by the outcome of its run.
+pub fn after_run(
     plan: &Plan,
     sources: &Sources,
     pip: u32,
@@ -185,8 +191,8 @@ fn run<G: Gate>(
     after_run(frame.plan, frame.sources, pip, slots, record.outcome())
 }
 
-// What a pip comes to that is no process.
-fn made_plainly<G: Gate>(
+/// What a pip comes to that is no process.
+pub fn made_plainly<G: Gate>(
     frame: &Frame<'_, G>,
     pip: u32,
     inputs: &Inputs,
@@ -216,6 +222,14 @@ fn worked<G: Gate>(frame: &Frame<'_, G>, pip: u32, slots: &[Slot]) -> Result<Pip
     }
 }
 
+/// What a pip comes to with an input that did not succeed.
+pub fn skipped() -> PipResult
+    ensures result { ended_result result ≡ builds.failed Verdict.Skipped }
+    ensures agrees { Agrees result }
+{
+    failed(Verdict::Skipped)
+}
+
 // What a pip comes to.
 pub(crate) fn ended<G: Gate>(
     frame: &Frame<'_, G>,
@@ -233,6 +247,6 @@ pub(crate) fn ended<G: Gate>(
     if good {
         worked(frame, pip, slots)
     } else {
-        Ok(failed(Verdict::Skipped))
+        Ok(skipped())
     }
 }

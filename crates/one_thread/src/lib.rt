@@ -11,6 +11,9 @@ mod gathering;
 mod laws;
 
 pub use build::{Built, build_all};
+pub use ended::{
+    Frame, PipResult, after_run, after_success, inputs_are_good, is_good, made_plainly, skipped,
+};
 pub use gathering::outputs;
 pub use laws::each_result;
 

@@ -17,6 +17,3 @@ pub use pip_types::{
     Sources, Variables, WriteDesc,
 };
 pub use plan::{MAX_PIPS, Plan};
-
-#[cfg(test)]
-mod tests;

@@ -1,20 +1,22 @@
 -- Opaque directories in the order of their pips, and the members of directories, one directory after the other.
 use Rattle.std.proofs.Common.{◌≡◌, ℕ, suc, ◌+◌, ◌<◌, ◌≤◌, Bool, true, false, not, cond, nat_le, Option, Some, None, Bor, List, [], ◌∷◌, ◌++◌, length, filter, map, take, get_or, refl, ap, sym, subst, ◌∙◌, append-nil, append_assoc, arith, inl, inr}
-use Rattle.std.specs.Prelude.{nat_lt}
+use Rattle.std.specs.Prelude.{nat_lt, slice_get}
 use Rattle.std.specs.Option.{unwrap_or}
 use Rattle.std.specs.List.{AllByRecursion, flat_map, insert, position_or_len}
-use Rattle.std.proofs.lemmas.List.{map_more, take_more}
+use Rattle.std.proofs.lemmas.List.{map-append, map_more}
 use Rattle.std.proofs.lemmas.List.Sums.{prefix_len-le-length}
 use Rattle.std.proofs.lemmas.Bool.{cases_Bool, false≢true, ltb-false}
+use Rattle.bx_tree.specs.Paths.{Atoms}
 use Rattle.bx_tree.specs.Trees.{Files}
 use Rattle.pip_types.specs.Dirs.{dir_pip}
 use Rattle.pip_types.specs.declared.dir_inputs.DirInput.{DirInput}
 use Rattle.pip_types.specs.declared.dir_inputs.DirInput.TheVariants.{Sealed, Opaque}
 use Rattle.pip_types.specs.declared.dir_inputs.SealForm.TheVariants.{Full, Partial, SourceTop, SourceAll}
 use Rattle.pip_types.specs.declared.pip.Pip.{Pip}
-use Rattle.pip_view.specs.Gathered.{listed_members, opaque_members, with_opaque}
+use Rattle.pip_view.specs.Gathered.{opaque_members, with_opaque}
 use Rattle.pip_types.specs.declared.pip.ProcessDesc.{ProcessDesc}
-use Rattle.pip_view.specs.InputFiles.{by_pip, dir_members, insert_by_pip, is_listed, is_opaque, named_files}
+use Rattle.pip_view.specs.InputFiles.{by_pip, dir_members, insert_by_pip, is_listed, is_opaque, listed_in, named_files}
+use Rattle.pip_view.specs.Taken.{dirs_files, taken_bytes, taken_files}
 use Rattle.pip_inputs.specs.Contents.{bytes_at, input_file}
 use Rattle.pip_inputs.specs.Results.{ByPip}
 
@@ -86,17 +88,19 @@ all_sorted (dir ∷ left) whole after sorted e so_far is = absurd (omega (arith,
 
 -- ## Members
 
--- the members of seals that list them are those of the seals that do
-pub listed_all : (pips : List Pip) (tree : Files) (made : ByPip) (dirs : List DirInput)
-    → flat_map (listed_members pips tree made) dirs ≡ flat_map (dir_members pips tree made) (filter is_listed dirs)
-listed_all pips tree made [] = refl
-listed_all pips tree made (Sealed pip Full root ∷ dirs) =
-    ap (λ fs. dir_members pips tree made (Sealed pip Full root) ++ fs) (listed_all pips tree made dirs)
-listed_all pips tree made (Sealed pip Partial root ∷ dirs) =
-    ap (λ fs. dir_members pips tree made (Sealed pip Partial root) ++ fs) (listed_all pips tree made dirs)
-listed_all pips tree made (Sealed pip SourceTop root ∷ dirs) = listed_all pips tree made dirs
-listed_all pips tree made (Sealed pip SourceAll root ∷ dirs) = listed_all pips tree made dirs
-listed_all pips tree made (Opaque pip path ∷ dirs) = listed_all pips tree made dirs
+-- the files that directories list are the members of the seals that list them
+taken_all : (pips : List Pip) (tree : Files) (made : ByPip) (dirs : List DirInput)
+    → map (input_file tree made) (dirs_files pips dirs) ≡ flat_map (dir_members pips tree made) (filter is_listed dirs)
+taken_all pips tree made [] = refl
+taken_all pips tree made (Sealed pip Full root ∷ dirs) =
+    map-append (input_file tree made) (listed_in (slice_get pips pip)) (dirs_files pips dirs)
+    ∙ ap (λ fs. dir_members pips tree made (Sealed pip Full root) ++ fs) (taken_all pips tree made dirs)
+taken_all pips tree made (Sealed pip Partial root ∷ dirs) =
+    map-append (input_file tree made) (listed_in (slice_get pips pip)) (dirs_files pips dirs)
+    ∙ ap (λ fs. dir_members pips tree made (Sealed pip Partial root) ++ fs) (taken_all pips tree made dirs)
+taken_all pips tree made (Sealed pip SourceTop root ∷ dirs) = taken_all pips tree made dirs
+taken_all pips tree made (Sealed pip SourceAll root ∷ dirs) = taken_all pips tree made dirs
+taken_all pips tree made (Opaque pip path ∷ dirs) = taken_all pips tree made dirs
 
 -- the members of opaque directories are what `opaque_members` says, and only opaque ones are sorted
 insert_all : (P : DirInput → Type 0) (dir : DirInput) (dirs : List DirInput) → P dir → AllByRecursion P dirs → AllByRecursion P (insert_by_pip dir dirs)
@@ -123,34 +127,26 @@ opaque_each pips tree made (Sealed pip form root ∷ dirs) h = absurd (false≢t
 opaque_each pips tree made (Opaque pip path ∷ dirs) h =
     ap (λ fs. dir_members pips tree made (Opaque pip path) ++ fs) (opaque_each pips tree made dirs h.1)
 
-pub opaque_all : (pips : List Pip) (tree : Files) (made : ByPip) (dirs : List DirInput)
+opaque_all : (pips : List Pip) (tree : Files) (made : ByPip) (dirs : List DirInput)
     → flat_map (opaque_members made) (by_pip (filter is_opaque dirs)) ≡ flat_map (dir_members pips tree made) (by_pip (filter is_opaque dirs))
 opaque_all pips tree made dirs = opaque_each pips tree made (by_pip (filter is_opaque dirs)) (all_opaque dirs)
 
--- the named input files, gathered in their order
-pub all_named : (pips : List Pip) (tree : Files) (made : ByPip) (d : ProcessDesc) (dirs : List DirInput) (own listed all : Files)
-    → own ≡ (d.exe, bytes_at tree d.exe) ∷ map (input_file tree made) d.files → listed ≡ own ++ flat_map (listed_members pips tree made) dirs
-    → all ≡ listed ++ flat_map (opaque_members made) (by_pip (filter is_opaque dirs)) → dirs ≡ d.dirs → all ≡ named_files pips tree made d
-all_named pips tree made d dirs own listed all own_are listed_are all_are are_dirs =
-    let first = (d.exe, bytes_at tree d.exe) ∷ map (input_file tree made) d.files in
-    all_are
-    ∙ ap (λ fs. fs ++ flat_map (opaque_members made) (by_pip (filter is_opaque dirs)))
-    (listed_are ∙ ap (λ fs. fs ++ flat_map (listed_members pips tree made) dirs) own_are)
-    ∙ ap (λ (ds : List DirInput). first ++ flat_map (listed_members pips tree made) ds ++ flat_map (opaque_members made) (by_pip (filter is_opaque ds))) are_dirs
-    ∙ ap (λ fs. first ++ fs ++ flat_map (opaque_members made) (by_pip (filter is_opaque d.dirs))) (listed_all pips tree made d.dirs)
-    ∙ ap (λ fs. first ++ flat_map (dir_members pips tree made) (filter is_listed d.dirs) ++ fs) (opaque_all pips tree made d.dirs)
+-- the named input files are those that a process takes by name, and the members of opaque directories
+pub named_split : (pips : List Pip) (tree : Files) (made : ByPip) (d : ProcessDesc)
+    → named_files pips tree made d ≡ taken_bytes tree made (taken_files pips d) ++ flat_map (opaque_members made) (by_pip (filter is_opaque d.dirs))
+named_split pips tree made d =
+    let own = map (input_file tree made) d.files in
+    let exe : Atoms × List ℕ = (d.exe, bytes_at tree d.exe) in
+    let opaque = flat_map (opaque_members made) (by_pip (filter is_opaque d.dirs)) in
+    sym (ap (λ fs. exe ∷ fs ++ opaque) (map-append (input_file tree made) d.files (dirs_files pips d.dirs))
+    ∙ ap (λ fs. exe ∷ (own ++ fs) ++ opaque) (taken_all pips tree made d.dirs)
+    ∙ ap (λ fs. exe ∷ own ++ flat_map (dir_members pips tree made) (filter is_listed d.dirs) ++ fs) (opaque_all pips tree made d.dirs))
 
 -- ## One directory after the other
 
 one_last : {X : Type 0} (f : X → Files) (xs : List X) (x : X) → flat_map f (xs ++ x ∷ []) ≡ flat_map f xs ++ f x
 one_last f [] x = append-nil (f x)
 one_last f (y ∷ ys) x = ap (λ fs. f y ++ fs) (one_last f ys x) ∙ sym (append_assoc (f y) (flat_map f ys) (f x))
-
-pub flat_more : {X : Type 0} (f : X → Files) (xs : List X) (i : ℕ) (x : X) (start found new : Files) → i < length xs → x ≡ get_or xs i x
-    → found ≡ start ++ flat_map f (take i xs) → new ≡ found ++ f x → new ≡ start ++ flat_map f (take (i + 1) xs)
-flat_more {X = X} f xs i x start found new l is so_far more =
-    more ∙ ap (λ fs. fs ++ f x) so_far ∙ append_assoc start (flat_map f (take i xs)) (f x)
-    ∙ ap (λ fs. start ++ fs) (sym (one_last f (take i xs) x) ∙ ap (flat_map f) (ap (λ (y : X). take i xs ++ y ∷ []) is ∙ sym (take_more xs i x l)))
 
 pub flat_next : (f : DirInput → Files) (dirs : List (Bor DirInput)) (i : ℕ) (dir : Bor DirInput) (start found new : Files) → i < length dirs
     → dir ≡ get_or dirs i dir → found ≡ start ++ flat_map f (map (λ (b : Bor DirInput). b.now) (take i dirs)) → new ≡ found ++ f dir.now

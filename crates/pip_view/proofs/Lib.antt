@@ -8,3 +8,5 @@ pub mod ByPip
 pub mod Agreeing
 pub mod OneAtom
 pub mod FilePaths
+pub mod TakenFiles
+pub mod Begun

@@ -35,7 +35,7 @@ equal_number x y Equal h e = h
 equal_number x y Greater h e = cc
 
 -- what comes before a text with a prefix, and not before the prefix, begins with it
-between : (prefix text rest : List ℕ) → is_lt (slice_cmp nat_cmp text prefix) ≡ false
+pub between : (prefix text rest : List ℕ) → is_lt (slice_cmp nat_cmp text prefix) ≡ false
     → (slice_cmp nat_cmp text (prefix ++ rest) ≡ Greater → ⊥) → (more : List ℕ) × (text ≡ prefix ++ more)
 between [] text rest after before = (text, refl)
 between (p ∷ ps) [] rest after before = absurd (false≢true (sym after))
@@ -55,7 +55,7 @@ between (p ∷ ps) (b ∷ bs) rest after before = by_first (nat_cmp b p) refl (b
 
 -- ## What lies below a directory begins with the directory's prefix
 
-starts_below : (dir path : Atoms) → IsBelow path dir → (rest : List ℕ) × (path_text path ≡ prefix_below dir ++ rest)
+pub starts_below : (dir path : Atoms) → IsBelow path dir → (rest : List ℕ) × (path_text path ≡ prefix_below dir ++ rest)
 starts_below [] path h = (path_text path, refl)
 starts_below (a ∷ as') path h =
     let some : (a ∷ as') ≢ [] = λ e. cc in
@@ -68,7 +68,7 @@ below_start (a ∷ as') path h k some rest e =
     below_from_prefix path (a ∷ as') k h (λ z. cc) rest (e ∙ append_assoc (path_text (a ∷ as')) (codes "/") rest)
 
 -- what comes before the directory's prefix does not lie below the directory
-before_not_below : (dir path : Atoms) → comes_before (prefix_below dir) path ≡ true → is_below path dir ≡ false
+pub before_not_below : (dir path : Atoms) → comes_before (prefix_below dir) path ≡ true → is_below path dir ≡ false
 before_not_below dir path e = elim (cases_Bool (is_below path dir)) [
   | inr outside ↦ outside
   | inl inside ↦
@@ -80,7 +80,7 @@ before_not_below dir path e = elim (cases_Bool (is_below path dir)) [
 text_first : (o p : Ordering) → ordering_then o p ≡ Less → o ≡ Greater → ⊥
 text_first o p e g = let level : Greater ≡ Less = sym (ap (λ q. ordering_then q p) g) ∙ e in cc
 
-not_greater : (path other : Atoms) → path_cmp path other ≡ Less → slice_cmp nat_cmp (path_text path) (path_text other) ≡ Greater → ⊥
+pub not_greater : (path other : Atoms) → path_cmp path other ≡ Less → slice_cmp nat_cmp (path_text path) (path_text other) ≡ Greater → ⊥
 not_greater path other e =
     text_first (slice_cmp nat_cmp (path_text path) (path_text other)) (slice_cmp (slice_cmp nat_cmp) path other) e
 
@@ -162,7 +162,7 @@ less_from Less e = refl
 less_from Equal e = absurd (false≢true e)
 less_from Greater e = absurd (false≢true e)
 
-earlier_before : (prefix : List ℕ) (path other : Atoms) → path_cmp path other ≡ Less → comes_before prefix other ≡ true → comes_before prefix path ≡ true
+pub earlier_before : (prefix : List ℕ) (path other : Atoms) → path_cmp path other ≡ Less → comes_before prefix other ≡ true → comes_before prefix path ≡ true
 earlier_before prefix path other less before =
     ap is_lt (before_by prefix (path_text path) (path_text other) (slice_cmp nat_cmp (path_text path) (path_text other)) refl
     (not_greater path other less) (less_from (slice_cmp nat_cmp (path_text other) prefix) before))

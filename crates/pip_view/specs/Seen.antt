@@ -2,7 +2,7 @@
 use Rattle.std.specs.Prelude.{◌≡◌, ◌↔◌, ℕ, Bool, ◌||◌, if◌then◌else◌, List, [], Contains}
 use Rattle.std.specs.Prelude.{Option, Some, None, is_some}
 use Rattle.std.specs.Prelude.{◌<◌, filter, length, slice_get}
-use Rattle.std.specs.List.{list_any}
+use Rattle.std.specs.List.{flat_map, list_any}
 use Rattle.bx_tree.specs.Paths.{Atoms}
 use Rattle.bx_tree.specs.Trees.{Files, file_at, paths_of}
 use Rattle.observed.specs.declared.access.Answer.{Answer}
@@ -13,11 +13,13 @@ use Rattle.own_writes.specs.Writes.{has_below, own_names}
 use Rattle.pip_types.specs.declared.pip.Pip.{Pip}
 use Rattle.pip_types.specs.declared.pip.ProcessDesc.{ProcessDesc}
 use Rattle.pip_outputs.specs.Producing.{dirs_at, least_unseen}
-use Rattle.pip_view.specs.InputFiles.{is_source_of, named_files}
+use Rattle.pip_view.specs.Gathered.{opaque_members}
+use Rattle.pip_view.specs.InputFiles.{by_pip, is_opaque, is_source_of, named_files}
 use Rattle.pip_inputs.specs.Plain.{process_in}
 use Rattle.pip_view.specs.Ranges.{AreFilePaths, not_root}
 use Rattle.pip_inputs.specs.Results.{ByPip}
 use Rattle.pip_view.specs.Sees.{as_input, as_source, is_root, sees}
+use Rattle.pip_view.specs.Taken.{taken_bytes, taken_files}
 
 -- a view: the pips, the source files, what the inputs made, and the pip that sees
 pub record ViewData : Type 0 where
@@ -36,6 +38,22 @@ named_by v (Some d) = named_files v.pips v.tree v.inputs d
 -- the input files of the pip, but for source files that are members of seals
 abbrev pub named_in : ViewData → Files
 named_in v = named_by v (process_in (slice_get v.pips v.pip))
+
+-- the files that a process takes by name, with their bytes
+abbrev pub taken_by : ViewData → Option ProcessDesc → Files
+taken_by v None = []
+taken_by v (Some d) = taken_bytes v.tree v.inputs (taken_files v.pips d)
+
+abbrev pub taken_in : ViewData → Files
+taken_in v = taken_by v (process_in (slice_get v.pips v.pip))
+
+-- the members of the opaque directories that a process takes
+abbrev pub opaque_by : ViewData → Option ProcessDesc → Files
+opaque_by v None = []
+opaque_by v (Some d) = flat_map (opaque_members v.inputs) (by_pip (filter is_opaque d.dirs))
+
+abbrev pub opaque_in : ViewData → Files
+opaque_in v = opaque_by v (process_in (slice_get v.pips v.pip))
 
 -- ## Steps of an answer
 
@@ -68,9 +86,9 @@ pub record AnswerAs (files others : Files) : Type 0 where
   pub directories : (p : Atoms) → has_below files p ≡ has_below others p
   pub names : (p : Atoms) (n : List ℕ) → Contains (own_names files p) n ↔ Contains (own_names others p) n
 
--- what a view keeps: the named input files by path, and their paths but for the root
+-- what a view keeps: the members of opaque directories by path, and their paths but for the root
 pub record KeepsView (v : ViewData) (kept : Files) (paths : List Atoms) : Type 0 where
   pub there : v.pip < length v.pips
-  pub answer : AnswerAs kept (named_in v)
+  pub answer : AnswerAs kept (opaque_in v)
   pub paths_are : paths ≡ filter not_root (paths_of kept)
   pub order : AreFilePaths paths

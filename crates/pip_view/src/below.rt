@@ -21,7 +21,7 @@ pub(crate) fn is_below(path: &Path, dir: &Path) -> bool
 }
 
 // The bytes with which the text of each path below a directory begins.
-fn prefix_of(alloc: Global, dir: &Path) -> Result<Vec<u8>, Memory>
+pub(crate) fn prefix_of(alloc: Global, dir: &Path) -> Result<Vec<u8>, Memory>
     ensures prefix { IfOk result (λ prefix. prefix.items ≡ prefix_below dir.now) }
     ensures is_path { IsPath dir.now }
 {
@@ -35,7 +35,7 @@ fn prefix_of(alloc: Global, dir: &Path) -> Result<Vec<u8>, Memory>
 }
 
 // Whether a path comes before all paths whose texts begin with these bytes.
-fn comes_before(path: &Path, prefix: &[u8]) -> bool
+pub(crate) fn comes_before(path: &Path, prefix: &[u8]) -> bool
     ensures { result ≡ path_before prefix.now path.now }
 {
     path.text().as_bytes().cmp(prefix).is_lt()

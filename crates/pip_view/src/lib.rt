@@ -8,9 +8,11 @@
 
 mod below;
 mod by_path;
+mod file_list;
 mod laws;
 mod listing;
 mod members;
+mod taken;
 mod view;
 
 pub use by_path::made_of;

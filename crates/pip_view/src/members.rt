@@ -1,57 +1,24 @@
-//! The input files of a process, but for those of seals whose members are source files.
-ghost use Rattle.std.specs.Prelude.{◌≡◌, ◌++◌, ◌∷◌, [], IfOk, OnOk, filter, map, nat_le, slice_get};
+//! The members of the opaque directories that a process takes.
+ghost use Rattle.std.specs.Prelude.{◌≡◌, ◌++◌, ◌∷◌, [], IfOk, OnOk, filter, map, nat_le};
 ghost use Rattle.std.specs.Borrow.{Bor};
 ghost use Rattle.std.specs.List.{flat_map, position_or_len};
-ghost use Rattle.std.specs.Option.{option_map_or};
 ghost use Rattle.own_writes.specs.Below.{is_below as lies_below};
 ghost use Rattle.pip_types.specs.Dirs.{dir_pip};
 ghost use Rattle.pip_types.specs.Made.{made_files};
 ghost use Rattle.pip_types.specs.declared.dir_inputs.DirInput.{DirInput as AnyDir};
-ghost use Rattle.pip_view.specs.Gathered.{executable_file, listed_members, opaque_members, with_opaque};
+ghost use Rattle.pip_view.specs.Gathered.{opaque_members, with_opaque};
 ghost use Rattle.pip_view.specs.InputFiles.{insert_by_pip as with_dir};
-ghost use Rattle.pip_inputs.specs.Contents.{input_file};
-ghost use Rattle.pip_view.specs.InputFiles.{by_pip, is_opaque as opaque, listed_in};
-ghost use Rattle.pip_view.specs.InputFiles.{named_files};
-ghost use Rattle.pip_view.specs.Seen.{AnswerAs, named_in};
+ghost use Rattle.pip_view.specs.InputFiles.{by_pip, is_opaque as opaque};
+ghost use Rattle.pip_view.specs.Seen.{AnswerAs, opaque_in};
 
 use crate::Memory;
 use crate::below::is_below;
 use crate::by_path::made_of;
-use bx_tree::{FileInput, Path};
-use pip_inputs::{Inputs, input_file as taken_file, no_files, process_at, source_blob};
-use pip_model::{
-    DirInput, FileInputs, Made, MadeFile, Pip, PipKind, ProcessDesc, SealForm, Sources,
-};
+use bx_tree::Path;
+use pip_inputs::{Inputs, no_files, process_at};
+use pip_model::{DirInput, Made, MadeFile, Pip, Sources};
 use std::alloc::Global;
 use std::collections::BTreeMap;
-
-// The files that a pip lists, if it is a seal.
-fn listed(pips: &[Pip], pip: u32) -> Option<&FileInputs>
-    ensures { option_map_or (λ files. files.now) result [] ≡ listed_in (slice_get pips.now pip) }
-{
-    match &pips.get(pip as usize)?.kind {
-        PipKind::Seal(seal) => Some(&seal.files),
-        PipKind::Process(_) | PipKind::Copy(_) | PipKind::Write(_) => None,
-    }
-}
-
-// Adds files that a pip takes.
-fn add_inputs(
-    alloc: Global,
-    found: &mut Vec<MadeFile>,
-    sources: &Sources,
-    inputs: &Inputs,
-    files: &[FileInput],
-) -> Result<(), Memory>
-    ensures { OnOk result (made_files found.new.items
-        ≡ made_files found.old.items ++ map (input_file sources.now inputs.now) files.now) }
-{
-    'files: for file in files {
-        let next = taken_file(alloc, sources, inputs, file)?;
-        found.push(next)?;
-    }
-    Ok(())
-}
 
 // Adds a file that a pip made, if it lies below a directory.
 fn add_if_below(found: &mut Vec<MadeFile>, file: &MadeFile, dir: &Path) -> Result<(), Memory>
@@ -90,46 +57,6 @@ fn add_opaque(found: &mut Vec<MadeFile>, inputs: &Inputs, dir: &DirInput) -> Res
         },
         DirInput::Sealed(_, _, _) => Ok(()),
     }
-}
-
-// Adds the members of a seal that lists them.
-fn add_listed(
-    alloc: Global,
-    found: &mut Vec<MadeFile>,
-    pips: &[Pip],
-    sources: &Sources,
-    inputs: &Inputs,
-    dir: &DirInput,
-) -> Result<(), Memory>
-    ensures { OnOk result (made_files found.new.items ≡ made_files found.old.items
-        ++ listed_members pips.now sources.now inputs.now dir.now) }
-{
-    match dir {
-        DirInput::Sealed(pip, SealForm::Full | SealForm::Partial, _) => match listed(pips, *pip) {
-            Some(files) => add_inputs(alloc, found, sources, inputs, files.files()),
-            None => Ok(()),
-        },
-        DirInput::Sealed(_, SealForm::SourceTop | SealForm::SourceAll, _)
-        | DirInput::Opaque(_, _) => Ok(()),
-    }
-}
-
-// Adds the members of all seals that list them.
-fn add_all_listed(
-    alloc: Global,
-    found: &mut Vec<MadeFile>,
-    pips: &[Pip],
-    sources: &Sources,
-    inputs: &Inputs,
-    dirs: &[DirInput],
-) -> Result<(), Memory>
-    ensures { OnOk result (made_files found.new.items ≡ made_files found.old.items
-        ++ flat_map (listed_members pips.now sources.now inputs.now) dirs.now) }
-{
-    'dirs: for dir in dirs {
-        add_listed(alloc, found, pips, sources, inputs, dir)?;
-    }
-    Ok(())
 }
 
 // The pip whose directory this is.
@@ -225,52 +152,6 @@ fn add_all_opaque(
     add_each_opaque(found, inputs, sorted.as_slice())
 }
 
-// The executable of a process.
-fn executable(alloc: Global, sources: &Sources, process: &ProcessDesc) -> Result<MadeFile, Memory>
-    ensures { IfOk result (λ file. (file.path, file.blob) ≡ executable_file sources.now process.now) }
-{
-    Ok(MadeFile {
-        path: process.exe.share()?,
-        blob: source_blob(alloc, sources, &process.exe)?,
-    })
-}
-
-// The executable and the declared files of a process.
-fn own_files(
-    alloc: Global,
-    sources: &Sources,
-    inputs: &Inputs,
-    process: &ProcessDesc,
-) -> Result<Vec<MadeFile>, Memory>
-    ensures { IfOk result (λ found. made_files found.items
-        ≡ executable_file sources.now process.now
-        ∷ map (input_file sources.now inputs.now) process.now.files) }
-{
-    let mut found = Vec::new(alloc);
-    found.push(executable(alloc, sources, process)?)?;
-    let files = process.files.files();
-    add_inputs(alloc, &mut found, sources, inputs, files)?;
-    Ok(found)
-}
-
-// The named input files of a process, those first that count before others at their paths.
-fn named(
-    alloc: Global,
-    pips: &[Pip],
-    sources: &Sources,
-    inputs: &Inputs,
-    process: &ProcessDesc,
-) -> Result<Vec<MadeFile>, Memory>
-    ensures { IfOk result (λ found.
-        made_files found.items ≡ named_files pips.now sources.now inputs.now process.now) }
-{
-    let mut found = own_files(alloc, sources, inputs, process)?;
-    let dirs = process.dirs.dirs();
-    add_all_listed(alloc, &mut found, pips, sources, inputs, dirs)?;
-    add_all_opaque(alloc, &mut found, inputs, dirs)?;
-    Ok(found)
-}
-
 // The files by path, the first of those at a path.
 fn by_path(alloc: Global, given: Vec<MadeFile>) -> Result<Made, Memory>
     ensures { IfOk result (λ files. AnswerAs files (made_files given.items)) }
@@ -284,29 +165,25 @@ fn by_path(alloc: Global, given: Vec<MadeFile>) -> Result<Made, Memory>
     made_of(alloc, files)
 }
 
-// The named input files of a process.
-fn members(
-    alloc: Global,
-    pips: &[Pip],
-    sources: &Sources,
-    inputs: &Inputs,
-    process: &ProcessDesc,
-) -> Result<Made, Memory>
+// The members of the opaque directories among these, by path.
+fn members(alloc: Global, inputs: &Inputs, dirs: &[DirInput]) -> Result<Made, Memory>
     ensures { IfOk result (λ files.
-        AnswerAs files (named_files pips.now sources.now inputs.now process.now)) }
+        AnswerAs files (flat_map (opaque_members inputs.now) (by_pip (filter opaque dirs.now)))) }
 {
-    by_path(alloc, named(alloc, pips, sources, inputs, process)?)
+    let mut found = Vec::new(alloc);
+    add_all_opaque(alloc, &mut found, inputs, dirs)?;
+    by_path(alloc, found)
 }
 
-/// The named input files of a pip, which has some only if it is a process.
-pub(crate) fn named_members(
+/// The members of the opaque directories that a pip takes, which takes some only if it is a process.
+pub(crate) fn opaque_files(
     alloc: Global,
     pips: &[Pip],
     sources: &Sources,
     inputs: &Inputs,
     pip: u32,
 ) -> Result<Made, Memory>
-    ensures { IfOk result (λ files. AnswerAs files (named_in (record {
+    ensures { IfOk result (λ files. AnswerAs files (opaque_in (record {
       pips = pips.now;
       tree = sources.now;
       inputs = inputs.now;
@@ -314,7 +191,7 @@ pub(crate) fn named_members(
     }))) }
 {
     match process_at(pips, pip) {
-        Some(process) => members(alloc, pips, sources, inputs, process),
+        Some(process) => members(alloc, inputs, process.dirs.dirs()),
         None => no_files(alloc),
     }
 }

@@ -5,7 +5,10 @@ ghost use Rattle.std.specs.List.{filter_map, list_any};
 ghost use Rattle.bx_tree.specs.Paths.{IsPath};
 ghost use Rattle.bx_tree.specs.Trees.{paths_of as paths_of_files};
 ghost use Rattle.own_writes.specs.Below.{next_atom};
-ghost use Rattle.own_writes.specs.Writes.{has_below as file_below};
+ghost use Rattle.std.specs.Option.{option_copied};
+ghost use Rattle.bx_tree.specs.Trees.{file_at};
+ghost use Rattle.own_writes.specs.Writes.{has_below as file_below, own_names};
+ghost use Rattle.pip_inputs.specs.Plain.{process_in};
 ghost use Rattle.tool_values.specs.Listings.{add_names as with_names};
 ghost use Rattle.tool_values.specs.NameSets.{names_now};
 ghost use Rattle.pip_types.specs.Made.{RisingFiles, made_files};
@@ -13,19 +16,20 @@ ghost use Rattle.pip_outputs.specs.Producing.{dirs_at as dirs_of_pip};
 ghost use Rattle.pip_view.specs.InputFiles as files;
 ghost use Rattle.pip_view.specs.Ranges.{AreFilePaths, not_root};
 ghost use Rattle.pip_view.specs.Sees as seen;
-ghost use Rattle.pip_view.specs.Seen.{answer_elsewhere, answer_unnamed, is_sealed_at};
+ghost use Rattle.pip_view.specs.Seen.{answer_elsewhere, answer_unnamed, is_sealed_at, named_in, taken_in};
 ghost use Rattle.pip_view.specs.Seen.{is_unseen_at, view_answers};
 ghost use Rattle.pip_view.specs.Sees.{sees};
 
 use crate::Memory;
 use crate::below::{has_below, is_below, text_below};
 use crate::listing::names_below;
-use crate::members::named_members;
+use crate::members::opaque_files;
+use crate::taken::{add_taken, has_taken, taken_blob};
 use bx_digest::Blob;
 use bx_tree::Path;
 use observed::{Answer, Ask, AskKind, View};
-use pip_inputs::Inputs;
-use pip_model::{DirInput, Made, MadeFile, Plan, SealForm, Sources};
+use pip_inputs::{Inputs, process_at};
+use pip_model::{DirInput, Made, MadeFile, Plan, ProcessDesc, SealForm, Sources};
 use pip_outputs::{dirs_at, least_unseen};
 use std::alloc::Global;
 use std::collections::BTreeSet;
@@ -108,6 +112,16 @@ fn is_sealed(path: &Path, dirs: &[DirInput]) -> bool
     ensures { result ≡ list_any (files.is_source_of path.now) dirs.now }
 {
     dirs.iter().any(|dir| is_source_of(path, dir))
+}
+
+// A file that was found, shared.
+fn share_found(found: Option<&Blob>) -> Result<Option<Blob>, Memory>
+    ensures { IfOk result (λ shared. shared ≡ option_copied found.entry) }
+{
+    match found {
+        Some(blob) => Ok(Some(blob.share()?)),
+        None => Ok(None),
+    }
 }
 
 // A file that may be read and is there.
@@ -197,7 +211,7 @@ impl<'a> PipView<'a> {
         ensures { IfOk result (λ view. ⟦<PipView<'a> as View>⟧.answers view
             ≡ sees plan.now.pips sources.now inputs.now pip) }
     {
-        let made = named_members(alloc, plan.pips(), sources, inputs, pip)?;
+        let made = opaque_files(alloc, plan.pips(), sources, inputs, pip)?;
         let list = made.files();
         let paths = paths_of(alloc, list)?;
         Ok(PipView {
@@ -215,6 +229,75 @@ impl<'a> PipView<'a> {
         ensures { result.now ≡ dirs_of_pip (slice_get self.entry.now.pips self.entry.now.pip) }
     {
         dirs_at(self.plan.pips(), self.pip)
+    }
+
+    // The process that the pip is, if it is one.
+    fn process(&self) -> Option<&ProcessDesc>
+        ensures { option_copied result ≡ process_in (slice_get self.entry.now.pips self.entry.now.pip) }
+    {
+        process_at(self.plan.pips(), self.pip)
+    }
+
+    // The bytes of the file at a path that the pip takes by name.
+    fn taken(&self, alloc: Global, path: &Path) -> Result<Option<Blob>, Memory>
+        ensures { IfOk result (λ found. found ≡ file_at (taken_in self.now) path.now) }
+    {
+        match self.process() {
+            Some(process) => {
+                let pips = self.plan.pips();
+                taken_blob(alloc, pips, self.sources, self.inputs, process, path)
+            }
+            None => Ok(None),
+        }
+    }
+
+    // The bytes of the named input file at a path.
+    fn named(&self, alloc: Global, path: &Path) -> Result<Option<Blob>, Memory>
+        ensures found { IfOk result (λ found. found ≡ file_at (named_in self.now) path.now) }
+        ensures there { IfOk result (λ found. self.now.pip < length self.now.pips) }
+    {
+        let taken = self.taken(alloc, path)?;
+        match taken {
+            Some(blob) => Ok(Some(blob)),
+            None => share_found(self.files.find(path)),
+        }
+    }
+
+    // Whether a file that the pip takes by name lies below a path.
+    fn has_taken(&self, alloc: Global, path: &Path) -> Result<bool, Memory>
+        ensures { IfOk result (λ yes. yes ≡ file_below (taken_in self.now) path.now) }
+    {
+        match self.process() {
+            Some(process) => has_taken(alloc, self.plan.pips(), process, path),
+            None => Ok(false),
+        }
+    }
+
+    // Whether a named input file lies below a path.
+    fn has_named(&self, alloc: Global, path: &Path) -> Result<bool, Memory>
+        ensures { IfOk result (λ yes. yes ≡ file_below (named_in self.now) path.now) }
+    {
+        let taken = self.has_taken(alloc, path)?;
+        if taken {
+            return Ok(true);
+        }
+        has_below(alloc, self.paths.as_slice(), path)
+    }
+
+    // Adds the names of the files below a directory that the pip takes by name.
+    fn add_taken(
+        &self,
+        alloc: Global,
+        names: &mut BTreeSet<Vec<u8>>,
+        dir: &Path,
+    ) -> Result<(), Memory>
+        ensures { OnOk result (names_now names.new.keys
+            ≡ with_names (names_now names.old.keys) (own_names (taken_in self.now) dir.now)) }
+    {
+        match self.process() {
+            Some(process) => add_taken(alloc, names, self.plan.pips(), process, dir),
+            None => Ok(()),
+        }
     }
 
     // Whether another pip can produce a path by an output that is no input of the pip.
@@ -238,6 +321,7 @@ impl<'a> PipView<'a> {
     {
         let mut names = BTreeSet::new(alloc);
         add_below(alloc, &mut names, self.sources.paths(), dir)?;
+        self.add_taken(alloc, &mut names, dir)?;
         add_below(alloc, &mut names, self.paths.as_slice(), dir)?;
         Ok(Answer::Names(Blob::new(alloc, lines(alloc, &names)?)?))
     }
@@ -290,10 +374,11 @@ impl<'a> PipView<'a> {
         requires { ask.now.kind ≢ AskKind.List }
         ensures { IfOk result (λ answer. answer ≡ view_answers self.now ask.now) }
     {
-        match self.files.find(&ask.path) {
-            Some(blob) => as_input(ask.kind, blob),
+        let named = self.named(alloc, &ask.path)?;
+        match named {
+            Some(blob) => as_input(ask.kind, &blob),
             None => {
-                let below = has_below(alloc, self.paths.as_slice(), &ask.path)?;
+                let below = self.has_named(alloc, &ask.path)?;
                 self.unnamed(alloc, ask, below)
             }
         }

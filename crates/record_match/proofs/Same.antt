@@ -21,8 +21,8 @@ use Rattle.tool_run.specs.Laws.{DependsOnPathSet}
 use Rattle.run_record.specs.Answered.{answered}
 use Rattle.run_record.specs.Facts.{AreOf, Facts, Sound, run_for}
 use Rattle.run_record.proofs.Stored.{stored_all}
-use Rattle.record_match.specs.Apart.{Apart, IsMet, IsOfDesc, contents}
-use Rattle.record_match.specs.Digests.{IsReadBack, digest_of_desc}
+use Rattle.record_match.specs.Apart.{Apart, IsMet, IsOfDesc, contents_of}
+use Rattle.record_match.specs.Digests.{IsReadBack, weak_of}
 use Rattle.record_match.specs.Matches.{IsSameDesc, Repeats, held_lines, lines_now}
 use Rattle.record_match.proofs.AnswerLines.{same_answers}
 
@@ -43,7 +43,7 @@ one_file f g path bytes = ap (λ (p : Atoms). (p, f.1)) path ∙ ap (λ (b : Lis
 abbrev content_digests : Files → List (List ℕ)
 content_digests = map (λ (f : Atoms × List ℕ). sha256 f.1)
 
-same_files : (M : List ℕ → Type 0) → Apart M → (fs gs : Files) → ((x : List ℕ) → Has (contents fs) x → M x) → ((x : List ℕ) → Has (contents gs) x → M x)
+same_files : (M : List ℕ → Type 0) → Apart M → (fs gs : Files) → ((x : List ℕ) → Has (contents_of fs) x → M x) → ((x : List ℕ) → Has (contents_of gs) x → M x)
     → paths_of fs ≡ paths_of gs → content_digests fs ≡ content_digests gs → fs ≡ gs
 same_files M apart [] [] in_fs in_gs paths digests = refl
 same_files M apart [] (g ∷ gs) in_fs in_gs paths digests = absurd cc
@@ -86,8 +86,7 @@ same_parts M apart d e of_d of_e parts =
 
 -- processes whose weak texts share a digest are one to a run
 pub same_desc : (M : List ℕ → Type 0) → Apart M → (d e : Desc) → ((x : List ℕ) → IsOfDesc d x → M x) → ((x : List ℕ) → IsOfDesc e x → M x)
-    → IsReadBack d → IsReadBack e → digest_of_desc d ≡ digest_of_desc e → described d ≡ described e
-unfolding digest_of_desc
+    → IsReadBack d → IsReadBack e → weak_of d ≡ weak_of e → described d ≡ described e
 same_desc M apart d e of_d of_e read_d read_e digests =
     let text = apart (weak_text (weak_parts d)) (weak_text (weak_parts e)) (of_d _ (inl refl)) (of_e _ (inl refl)) digests in
     same_parts M apart d e of_d of_e

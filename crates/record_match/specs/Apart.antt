@@ -1,4 +1,4 @@
--- Bytes of which no two share a digest.
+-- Bytes of which no two different ones share a digest.
 use Rattle.std.specs.Prelude.{◌≡◌, ◌⊎◌, ℕ, List, [], ◌∷◌, map}
 use Rattle.sha2.specs.Sha256.{sha256}
 use Rattle.bx_tree.specs.Trees.{Files}
@@ -20,12 +20,12 @@ Apart M = (x y : List ℕ) → M x → M y → sha256 x ≡ sha256 y → x ≡ y
 -- ## What a comparison meets
 
 -- the contents of files
-abbrev pub contents : Files → List (List ℕ)
-contents = map (λ (f : Atoms × List ℕ). f.1)
+abbrev pub contents_of : Files → List (List ℕ)
+contents_of files = map (λ (f : Atoms × List ℕ). f.1) files
 
 -- the weak text of a process, the content of its executable, or that of a declared file
 abbrev pub IsOfDesc : Desc → List ℕ → Type 0
-IsOfDesc d x = (weak_text (weak_parts d) ≡ x) ⊎ ((d.exe ≡ x) ⊎ Has (contents d.files) x)
+IsOfDesc d x = (weak_text (weak_parts d) ≡ x) ⊎ ((d.exe ≡ x) ⊎ Has (contents_of d.files) x)
 
 -- the content or the names that an answer has
 abbrev pub IsIn : Answer → List ℕ → Type 0

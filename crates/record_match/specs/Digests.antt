@@ -10,8 +10,8 @@ use Rattle.prints.specs.Strong.{answer_line, line_of}
 use Rattle.prints.specs.Weak.{weak_text}
 
 -- the digest of the weak text of a process
-unfoldable pub digest_of_desc : Desc → List ℕ
-digest_of_desc d = sha256 (weak_text (weak_parts d))
+abbrev pub weak_of : Desc → List ℕ
+weak_of d = sha256 (weak_text (weak_parts d))
 
 -- the digest of the line that says an answer
 abbrev pub digest_of_line : Answer → List ℕ

@@ -9,7 +9,7 @@ use Rattle.run_record.specs.Facts.{Facts}
 use Rattle.run_record.specs.Outcomes.{outcome_of}
 use Rattle.record_match.specs.declared.matching.Match.{Match}
 use Rattle.record_match.specs.declared.matching.Match.TheVariants as matches
-use Rattle.record_match.specs.Digests.{digest_asked, digest_of_desc, digest_of_line}
+use Rattle.record_match.specs.Digests.{digest_asked, digest_of_line, weak_of}
 
 -- The lists first differ at this place, where they have these items.
 pub record FirstDiffer (xs ys : List (List ℕ)) (place : ℕ) (x y : List ℕ) : Type 0 where
@@ -28,7 +28,7 @@ lines_now f see = map (digest_asked see) f.paths
 
 -- the weak text of the record's process has the digest of the weak text of this process
 abbrev pub IsSameDesc : Desc → Facts → Type 0
-IsSameDesc d f = digest_of_desc f.desc ≡ digest_of_desc d
+IsSameDesc d f = weak_of f.desc ≡ weak_of d
 
 -- The answer says of a process, of what a record holds and of what asks are answered now: that all digests
 -- agree; that those of the weak texts differ; or that these agree, and at which ask a line first has another
@@ -36,7 +36,7 @@ IsSameDesc d f = digest_of_desc f.desc ≡ digest_of_desc d
 abbrev pub Compares : Desc → Facts → (Ask → Answer) → Match → Type 0
 Compares d f see matches.Same = IsSameDesc d f × (held_lines f ≡ lines_now f see)
 Compares d f see (matches.OtherDesc held now) =
-    (held ≡ digest_of_desc f.desc) × (now ≡ digest_of_desc d) × (held ≢ now)
+    (held ≡ weak_of f.desc) × (now ≡ weak_of d) × (held ≢ now)
 Compares d f see (matches.Differs index held now) =
     IsSameDesc d f × FirstDiffer (held_lines f) (lines_now f see) index held now
 Compares d f see matches.Memory = Unit {0}

@@ -2,7 +2,7 @@
 ghost use Rattle.std.specs.Prelude.{◌≡◌, IfOk, MatchOption, length, map};
 ghost use Rattle.tool_run.specs.Described.{described};
 ghost use Rattle.record_match.specs.Apart.{Apart, IsMet};
-ghost use Rattle.record_match.specs.Digests.{IsReadBack, digest_asked, digest_of_desc, digest_of_line};
+ghost use Rattle.record_match.specs.Digests.{IsReadBack, digest_asked, digest_of_line, weak_of};
 ghost use Rattle.record_match.specs.Matches.{Compares, FirstDiffer, Repeats};
 
 use crate::lines::line_digest;
@@ -44,9 +44,8 @@ struct Change {
 }
 
 // The digest of the weak text of a process.
-#[tactic(auto, unfolding(crate::specs::Digests::digest_of_desc))]
 fn weak_digest(alloc: Global, desc: &Desc) -> Result<Digest, AllocError>
-    ensures digest { IfOk result (λ digest. digest ≡ digest_of_desc desc.now) }
+    ensures digest { IfOk result (λ digest. digest ≡ weak_of desc.now) }
     ensures read { IfOk result (λ _. IsReadBack desc.now) }
 {
     let printed = weak(alloc, desc)?;

@@ -1,5 +1,5 @@
 //! Calls that make arguments of processes.
-ghost use Rattle.std.specs.Prelude.{◌≡◌, Ok, map, MatchResult};
+ghost use Rattle.std.specs.Prelude.{◌≡◌, Ok, map, IfOk, MatchResult};
 ghost use Rattle.std.specs.Fmt.{signed_decimal};
 ghost use Rattle.sdk_values.specs.Outcomes.{Refuses};
 ghost use Rattle.sdk_calls.specs.ArgumentTexts as texts;
@@ -12,7 +12,7 @@ ghost use Rattle.sdk_calls.specs.CmdOption as options;
 ghost use Rattle.dscript_value.specs.Plain.{plain_of};
 
 use crate::paths::{artifact_path, file_path, path_bytes};
-use bx_tree::{Path, Text};
+use bx_tree::{Memory, Path, Text};
 use dscript_value::{Argument, Artifact, Value};
 use sdk_values::{FromValue, MAX_TEXT_BYTES, SdkFault, first_argument, two_arguments};
 use std::alloc::Global;
@@ -28,10 +28,8 @@ fn text_after(alloc: Global, before: &Text, text: &[u8]) -> Result<Value, SdkFau
     if bytes.len() > MAX_TEXT_BYTES {
         return Err(SdkFault::Range);
     }
-    Ok(Value::Argument(Argument {
-        text: Some(Text::new(alloc, bytes)?),
-        artifact: None,
-    }))
+    let text = Text::new(alloc, bytes)?;
+    Ok(Value::Argument(Argument::of(alloc, Some(text), None)?))
 }
 
 fn path_after(alloc: Global, before: &Text, path: &Path) -> Result<Value, SdkFault>
@@ -55,10 +53,9 @@ fn artifact_after(alloc: Global, before: &Text, artifact: &Artifact) -> Result<V
     if whole.len() > MAX_TEXT_BYTES {
         return Err(SdkFault::Range);
     }
-    Ok(Value::Argument(Argument {
-        text: Some(before.share()?),
-        artifact: Some(artifact.share()?),
-    }))
+    let text = before.share()?;
+    let argument = Argument::of(alloc, Some(text), Some(artifact.share()?))?;
+    Ok(Value::Argument(argument))
 }
 
 fn number_after(alloc: Global, before: &Text, number: i32) -> Result<Value, SdkFault>
@@ -77,7 +74,7 @@ fn value_after(alloc: Global, before: &Text, value: &Value) -> Result<Value, Sdk
         (λ fault. Refuses fault (argument_after before.now (plain_of value.now))) }
 {
     match value {
-        Value::Undefined => Ok(no_argument()),
+        Value::Undefined => Ok(no_argument(alloc)?),
         Value::Text(text) => text_after(alloc, before, text.bytes()),
         Value::Number(number) => number_after(alloc, before, *number),
         Value::Path(path) | Value::Directory(path) => path_after(alloc, before, path),
@@ -88,13 +85,10 @@ fn value_after(alloc: Global, before: &Text, value: &Value) -> Result<Value, Sdk
     }
 }
 
-fn no_argument() -> Value
-    ensures { plain_of result ≡ texts.no_argument }
+fn no_argument(alloc: Global) -> Result<Value, Memory>
+    ensures { IfOk result (λ value. plain_of value ≡ texts.no_argument) }
 {
-    Value::Argument(Argument {
-        text: None,
-        artifact: None,
-    })
+    Ok(Value::Argument(Argument::of(alloc, None, None)?))
 }
 
 /// One argument, or none.
@@ -127,7 +121,7 @@ fn flag_text(alloc: Global, text: &Text, flag: &Value) -> Result<Value, SdkFault
         (λ fault. Refuses fault (flagged text.now (plain_of flag.now))) }
 {
     match flag {
-        Value::Undefined | Value::Flag(false) => Ok(no_argument()),
+        Value::Undefined | Value::Flag(false) => Ok(no_argument(alloc)?),
         Value::Flag(true) => {
             let empty = Text::new(alloc, Vec::new(alloc))?;
             text_after(alloc, &empty, text.bytes())

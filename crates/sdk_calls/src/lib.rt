@@ -18,6 +18,3 @@ pub use cmd::{cmd_argument, cmd_flag, cmd_option};
 pub use globs::glob_files;
 pub use paths::{artifact_path, file_path, path_bytes, static_path};
 pub use sources::{find_below, find_directly_in, find_files, lies_below};
-
-#[cfg(test)]
-mod tests;

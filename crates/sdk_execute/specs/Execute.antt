@@ -17,7 +17,7 @@ use Rattle.pip_types.specs.declared.pip.PipKind.{PipKind}
 use Rattle.pip_types.specs.declared.pip.PipKind.TheVariants as kinds
 use Rattle.pip_types.specs.declared.pip.ProcessDesc.{ProcessDesc}
 use Rattle.dscript_value.specs.Equality.{artifact_path}
-use Rattle.dscript_value.specs.declared.parts.Argument.{Argument as AnyArgument}
+use Rattle.dscript_value.specs.declared.parts.ArgumentParts.{ArgumentParts as AnyArgument}
 use Rattle.dscript_value.specs.declared.parts.Artifact.{Artifact as AnyArtifact}
 use Rattle.dscript_value.specs.declared.parts.Artifact.TheVariants as artifacts
 use Rattle.dscript_value.specs.declared.parts.StaticDir.{StaticDir}

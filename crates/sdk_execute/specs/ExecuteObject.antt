@@ -10,7 +10,7 @@ use Rattle.bx_tree.specs.Paths.{Atoms}
 use Rattle.bx_tree.specs.declared.file_input.FileInput.{FileInput}
 use Rattle.bx_tree.specs.declared.file_input.FileInput.TheVariants as files
 use Rattle.pip_types.specs.declared.args.EnvPair.{EnvPair}
-use Rattle.dscript_value.specs.declared.parts.Argument.{Argument as AnyArgument}
+use Rattle.dscript_value.specs.declared.parts.ArgumentParts.{ArgumentParts as AnyArgument}
 use Rattle.dscript_value.specs.Plain as plain
 use Rattle.dscript_value.specs.Plain.{Plain, PlainField}
 use Rattle.sdk_values.specs.declared.fault.SdkFault.TheVariants.{BadArgument, Kind}

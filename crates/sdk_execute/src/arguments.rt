@@ -17,7 +17,7 @@ use std::alloc::Global;
 fn written_argument(alloc: Global, argument: &Argument) -> Result<Option<Text>, Memory>
     ensures { IfOk result (λ text. text ≡ written argument.now) }
 {
-    match (&argument.text, &argument.artifact) {
+    match (argument.text(), argument.artifact()) {
         (None, None) => Ok(None),
         (Some(text), None) => Ok(Some(text.share()?)),
         (None, Some(artifact)) => {
@@ -60,7 +60,7 @@ fn input_of(artifact: &Artifact) -> Result<Option<Dependency>, Memory>
 fn input_of_argument(argument: &Argument) -> Result<Option<Dependency>, Memory>
     ensures { IfOk result (λ input. input ≡ option_and_then input_of_artifact argument.now.artifact) }
 {
-    match &argument.artifact {
+    match argument.artifact() {
         Some(artifact) => input_of(artifact),
         None => Ok(None),
     }
@@ -101,7 +101,7 @@ fn output_of(artifact: &Artifact) -> Result<Option<Output>, Memory>
 fn output_of_argument(argument: &Argument) -> Result<Option<Output>, Memory>
     ensures { IfOk result (λ output. output ≡ option_and_then made_output argument.now.artifact) }
 {
-    match &argument.artifact {
+    match argument.artifact() {
         Some(artifact) => output_of(artifact),
         None => Ok(None),
     }

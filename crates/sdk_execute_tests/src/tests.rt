@@ -15,8 +15,16 @@ fn path(alloc: Global, bytes: &[u8]) -> Result<Path, Fail> {
     Ok(Path::read(alloc, bytes)?)
 }
 
-fn argument(text: Option<Text>, artifact: Option<Artifact>) -> Value {
-    Value::Argument(Argument { text, artifact })
+/// What the argument with this letter names.
+fn artifact(alloc: Global, letter: u8) -> Result<Option<Artifact>, Fail> {
+    Ok(match letter {
+        b'B' => Some(Artifact::Output(path(alloc, b"q")?)),
+        b'D' => Some(Artifact::OutputDir(path(alloc, b"d")?)),
+        b'E' => Some(Artifact::Plain(path(alloc, b"s/a")?)),
+        b'F' => Some(Artifact::Input(FileInput::Source(path(alloc, b"p")?))),
+        b'A' | b'C' => None,
+        _ => Some(Artifact::InputDir(StaticDir::Seal(2, path(alloc, b"d")?))),
+    })
 }
 
 /// A value that is no object, by a letter.
@@ -41,23 +49,13 @@ fn plain(alloc: Global, letter: u8) -> Result<Value, Fail> {
 
 /// An argument of a process, by a letter.
 fn command(alloc: Global, letter: u8) -> Result<Value, Fail> {
-    let empty = Some(text(alloc, b"")?);
-    let dash = Some(text(alloc, b"-")?);
-    Ok(match letter {
-        b'A' => argument(dash, None),
-        b'B' => argument(empty, Some(Artifact::Output(path(alloc, b"q")?))),
-        b'C' => argument(None, None),
-        b'D' => argument(dash, Some(Artifact::OutputDir(path(alloc, b"d")?))),
-        b'E' => argument(None, Some(Artifact::Plain(path(alloc, b"s/a")?))),
-        b'F' => argument(
-            empty,
-            Some(Artifact::Input(FileInput::Source(path(alloc, b"p")?))),
-        ),
-        _ => argument(
-            empty,
-            Some(Artifact::InputDir(StaticDir::Seal(2, path(alloc, b"d")?))),
-        ),
-    })
+    let artifact = artifact(alloc, letter)?;
+    let text = match letter {
+        b'A' | b'D' => Some(text(alloc, b"-")?),
+        b'C' | b'E' => None,
+        _ => Some(text(alloc, b"")?),
+    };
+    Ok(Value::Argument(Argument::of(alloc, text, artifact)?))
 }
 
 /// The name of a field by a letter.

@@ -16,6 +16,3 @@ pub use list_members::{call_list, member_of_list};
 pub use member::{MEMBERS, Member};
 pub use path_members::{call_directory, call_path, member_of_file, member_of_path, parent_of};
 pub use text_members::{call_text, member_of_text};
-
-#[cfg(test)]
-mod tests;

@@ -22,6 +22,3 @@ pub use sealing::{seal_directory, seal_partial_directory, seal_source_directory}
 pub use site::Site;
 pub use state::SdkState;
 pub use writing::{copy_file, write_all_lines, write_all_text};
-
-#[cfg(test)]
-mod tests;

@@ -2,7 +2,7 @@
 use Rattle.std.specs.Prelude.{ℕ, Bool, List, [], ◌∷◌, Ok, Err}
 use Rattle.bx_tree.specs.Paths.{Atoms}
 use Rattle.bx_tree.specs.declared.file_input.FileInput.{FileInput}
-use Rattle.dscript_value.specs.declared.parts.Argument.{Argument as AnyArgument}
+use Rattle.dscript_value.specs.declared.parts.ArgumentParts.{ArgumentParts as AnyArgument}
 use Rattle.dscript_value.specs.Plain as plain
 use Rattle.dscript_value.specs.Plain.{Plain, PlainField, item_list, member_list}
 use Rattle.sdk_values.specs.declared.fault.SdkFault.TheVariants.{Kind}

@@ -28,8 +28,3 @@ pub use reading::{
 
 /// Out of memory, the one refusal that no contract ties to a cause.
 pub type Memory = std::alloc::AllocError;
-
-#[cfg(test)]
-mod tests;
-#[cfg(test)]
-mod value_tests;

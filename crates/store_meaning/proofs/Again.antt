@@ -18,11 +18,13 @@ use Rattle.memo_format.specs.declared.selector.Selector.{Selector}
 use Rattle.memo_format.specs.declared.selector.TheConstants.{MAX_SELECTORS}
 use Rattle.memo_format.proofs.FormTexts.{selectors_again, selectors_sound}
 use Rattle.content_store.specs.Contents.{blob_put}
-use Rattle.store_meaning.specs.Contents.{HoldsAll, contents_of, desc_contents, given_contents}
+use Rattle.record_match.proofs.Digest.{is_digest}
+use Rattle.record_match.specs.Apart.{Apart, contents_of}
+use Rattle.record_match.specs.Digests.{weak_of}
+use Rattle.store_meaning.specs.Contents.{HoldsAll, desc_contents, given_contents}
 use Rattle.store_meaning.specs.Keeping.{FilesFit, KeepMet, Spelled, answers_text, blobs_of, entry_of, entry_put, list_at, list_put, made_of, or_none, paths_digest, puts_of, same_selector, selector_of, selectors_in, with_first}
-use Rattle.store_meaning.specs.Met.{Apart}
-use Rattle.store_meaning.specs.Usable.{Usable, UsableBy, weak_of}
-use Rattle.store_meaning.proofs.Digests.{digest_is, entry_no_list}
+use Rattle.store_meaning.specs.Usable.{UsableAt, UsableBy}
+use Rattle.store_meaning.proofs.Digests.{entry_no_list}
 use Rattle.store_meaning.proofs.Puts.{blobs_held, entry_grows, list_grows, still_there, there_now}
 use Rattle.store_meaning.proofs.Same.{all_has, all_map, all_right}
 
@@ -87,11 +89,11 @@ module _ (S : Holdings) (f : Facts) (spelled : Spelled f) (apart : Apart (KeepMe
       (λ e. absurd (entry_no_list (sha256 (answers_text f)) (weak_of f.desc) e))
       (there_now with_blobs (at_entry (sha256 (answers_text f))) (entry_text (entry_of f)))
 
-  first_usable : (see : Ask → Answer) → f.answers ≡ map see f.paths → UsableBy whole f.desc see (selector_of f)
+  first_usable : (see : Ask → Answer) → f.answers ≡ map see f.paths → (u : UsableBy whole f.desc see (selector_of f)) × (u.asks ≡ f.paths)
   first_usable see now =
       let more = blobs_stay.1.1.1 in
       let later = all_right (HoldsBlob whole) (desc_contents f.desc) (given_contents f.answers ++ contents_of (made_of f.outcome)) more in
-      record {
+      let first : UsableBy whole f.desc see (selector_of f) = record {
         asks = f.paths;
         paths = (paths_text f.paths, record { held = blobs_stay.1.0; digest_is = refl }, spelled.paths);
         asked = ap (λ as'. sha256 (strong_text (strong_parts (weak_of f.desc) (paths_digest f) as'))) (sym now);
@@ -104,20 +106,24 @@ module _ (S : Holdings) (f : Facts) (spelled : Spelled f) (apart : Apart (KeepMe
         files = made_of f.outcome;
         outputs = refl;
         made = all_right (HoldsBlob whole) (given_contents f.answers) (contents_of (made_of f.outcome)) later;
-      }
+      } in
+      (first, refl)
 
-  usable : (see : Ask → Answer) → f.answers ≡ map see f.paths → Usable whole f.desc see
+  usable : (see : Ask → Answer) → f.answers ≡ map see f.paths → UsableAt whole f.desc see (selector_of f) f.paths
   usable see now = record {
     list = list;
     held = (
       selectors_text list,
       there_now with_entry (at_list (weak_of f.desc)) (selectors_text list),
       selectors_again list (first_are (selector_of f) (list_at S (weak_of f.desc))
-          (digest_is (paths_text f.paths), digest_is (answers_text f)) (list_selectors (get S (at_list (weak_of f.desc))))),
+          (is_digest (paths_text f.paths), is_digest (answers_text f)) (list_selectors (get S (at_list (weak_of f.desc))))),
     );
-    any = inl (first_usable see now);
+    listed = inl refl;
+    by = (first_usable see now).0;
+    asks_are = (first_usable see now).1;
   }
 
-  pub kept : (see : Ask → Answer) → f.answers ≡ map see f.paths → Usable (after S (puts_of f list)) f.desc see
+  pub kept : (see : Ask → Answer) → f.answers ≡ map see f.paths → UsableAt (after S (puts_of f list)) f.desc see (selector_of f) f.paths
   kept see now =
-      subst (λ (T : Holdings). Usable T f.desc see) (sym (after-append S (map blob_put (blobs_of f)) (entry_put f ∷ list_put f list ∷ []))) (usable see now)
+      subst (λ (T : Holdings). UsableAt T f.desc see (selector_of f) f.paths)
+      (sym (after-append S (map blob_put (blobs_of f)) (entry_put f ∷ list_put f list ∷ []))) (usable see now)

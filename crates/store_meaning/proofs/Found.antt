@@ -24,13 +24,14 @@ use Rattle.prints.proofs.StrongTexts.{strong_again}
 use Rattle.bx_digest.specs.Digests.{IsDigest}
 use Rattle.memo_format.specs.Well.{HoldsBlob}
 use Rattle.memo_format.specs.declared.selector.Selector.{Selector}
-use Rattle.store_meaning.specs.Contents.{HoldsAll, contents_of, desc_contents, given_contents}
+use Rattle.record_match.proofs.Digest.{is_digest}
+use Rattle.record_match.specs.Apart.{Apart, contents_of}
+use Rattle.record_match.specs.Digests.{IsReadBack, weak_of}
+use Rattle.store_meaning.specs.Contents.{HoldsAll, desc_contents, given_contents}
 use Rattle.store_meaning.specs.Honest.{Honest, HonestEntry, IsGoodRun}
-use Rattle.store_meaning.specs.Keeping.{Spells}
-use Rattle.store_meaning.specs.Met.{Apart, RunMet}
+use Rattle.store_meaning.specs.Met.{RunMet}
 use Rattle.store_meaning.specs.Met as met
-use Rattle.store_meaning.specs.Usable.{UsableBy, asked_text, weak_of}
-use Rattle.store_meaning.proofs.Digests.{digest_is}
+use Rattle.store_meaning.specs.Usable.{UsableBy, asked_text}
 use Rattle.store_meaning.proofs.Same.{all_has, all_map, lines_are, same_answers, same_described, same_files}
 
 same_some : {X : Type 0} (x y : X) → Some x ≡ Some y → x ≡ y
@@ -47,7 +48,7 @@ run_on_view d see asks files run =
       outcome = ap (outcome_of d) same ∙ run.outcome;
     }
 
-module _ (S : Holdings) (d : Desc) (see : Ask → Answer) (honest : Honest S) (spells : Spells d) (apart : Apart (RunMet S d see)) where
+module _ (S : Holdings) (d : Desc) (see : Ask → Answer) (honest : Honest S) (spells : IsReadBack d) (apart : Apart (RunMet S d see)) where
   abbrev M : List ℕ → Type 0
   M = RunMet S d see
 
@@ -69,8 +70,8 @@ module _ (S : Holdings) (d : Desc) (see : Ask → Answer) (honest : Honest S) (s
       apart h.strong.0 asked (met.stored h.strong.1.held) (met.strong s.paths u.asks (inr u.paths) refl) (h.strong.1.digest_is ∙ u.held.strong_is ∙ sym u.asked) in
       let now : StrongParts = strong_parts (weak_of d) s.paths (map see u.asks) in
       let is_strong : IsStrong now = record {
-        weak = digest_is (weak_text (weak_parts d));
-        paths = subst IsDigest u.paths.1.digest_is (digest_is u.paths.0);
+        weak = is_digest (weak_text (weak_parts d));
+        paths = subst IsDigest u.paths.1.digest_is (is_digest u.paths.0);
         lines = lines_are (map see u.asks);
       } in
       let said : strong_parts u.entry.weak u.entry.paths h.given ≡ now =

@@ -1,6 +1,6 @@
 -- An honest store stays honest while a record of a success is put into it.
-use Rattle.std.proofs.Common.{◌≡◌, ◌⊎◌, ℕ, Bool, true, false, cond, List, [], ◌∷◌, ◌++◌, map, Option, Some, refl, sym, ap, ◌∙◌, subst, inl, inr}
-use Rattle.std.specs.FinMap.{get, insert, get-insert, slice_cmp-IsAntisymmetric, nat_cmp-IsAntisymmetric}
+use Rattle.std.proofs.Common.{◌≡◌, ◌⊎◌, ℕ, Bool, true, false, cond, List, [], ◌∷◌, ◌++◌, map, Option, Some, None, refl, sym, ap, ◌∙◌, subst, inl, inr}
+use Rattle.std.specs.FinMap.{empty, get, insert, get-empty, get-insert, slice_cmp-IsAntisymmetric, nat_cmp-IsAntisymmetric}
 use Rattle.std.specs.List.{AllByRecursion}
 use Rattle.std.specs.Ordering.{nat_cmp, eq_by_cmp}
 use Rattle.std.specs.Cmp.{Equal-is}
@@ -21,12 +21,13 @@ use Rattle.memo_format.specs.Well.{HoldsBlob, HoldsEntry, at_blob, at_entry, at_
 use Rattle.memo_format.specs.declared.entry.Entry.{Entry}
 use Rattle.memo_format.specs.declared.selector.Selector.{Selector}
 use Rattle.content_store.specs.Contents.{IsContent, blob_put}
-use Rattle.store_meaning.specs.Contents.{HoldsAll, contents_of, desc_contents, given_contents}
+use Rattle.record_match.proofs.Digest.{is_digest}
+use Rattle.record_match.specs.Apart.{Apart, contents_of}
+use Rattle.record_match.specs.Digests.{weak_of}
+use Rattle.store_meaning.specs.Contents.{HoldsAll, desc_contents, given_contents}
 use Rattle.store_meaning.specs.Honest.{Honest, HonestEntry}
 use Rattle.store_meaning.specs.Keeping.{IsGood, KeepMet, Spelled, answers_text, blobs_of, entry_of, entry_put, list_put, made_of, paths_digest, puts_of}
-use Rattle.store_meaning.specs.Met.{Apart}
-use Rattle.store_meaning.specs.Usable.{weak_of}
-use Rattle.store_meaning.proofs.Digests.{blob_no_entry, blob_no_list, digest_is, entry_no_blob, entry_no_list, same_blob_name}
+use Rattle.store_meaning.proofs.Digests.{blob_no_entry, blob_no_list, entry_no_blob, entry_no_list, same_blob_name}
 use Rattle.store_meaning.proofs.Same.{all_has, all_left, all_map, all_right, lines_are}
 
 same_some : {X : Type 0} (x y : X) → Some x ≡ Some y → x ≡ y
@@ -104,7 +105,7 @@ module _ (M : List ℕ → Type 0) (apart : Apart M) where
   blob_grows : (S : Holdings) → Within S → (x : List ℕ) → M x → Grows S (insert S (at_blob (sha256 x)) x)
   blob_grows S within x m y h =
       still_there S (at_blob (sha256 x)) x (at_blob (sha256 y)) y
-      (λ e. apart x y m (within y h) (sym (same_blob_name (sha256 y) (sha256 x) (digest_is y) (digest_is x) e))) h
+      (λ e. apart x y m (within y h) (sym (same_blob_name (sha256 y) (sha256 x) (is_digest y) (is_digest x) e))) h
 
   blob_within : (S : Holdings) → Within S → (x : List ℕ) → M x → Within (insert S (at_blob (sha256 x)) x)
   blob_within S within x m y h = elim (put_or_old S (at_blob (sha256 x)) x (at_blob (sha256 y)) y h) [
@@ -161,8 +162,8 @@ made_honest T f sound good spelled h =
         answers_text f,
         record { held = h.1.1.0; digest_is = refl },
         strong_again (strong_parts (weak_of f.desc) (paths_digest f) f.answers) (record {
-          weak = digest_is (weak_text (weak_parts f.desc));
-          paths = digest_is (paths_text f.paths);
+          weak = is_digest (weak_text (weak_parts f.desc));
+          paths = is_digest (paths_text f.paths);
           lines = lines_are f.answers;
         }),
       );
@@ -206,10 +207,10 @@ list_honest T weak bytes honest e h = elim (put_or_old T (at_list weak) bytes (a
 -- ## Prefixes
 
 -- a prefix of puts of contents and more changes: some of the contents, or all of them and a prefix of the rest
-abbrev Cut : List (List ℕ) → List Change → List Change → Type 0
+abbrev pub Cut : List (List ℕ) → List Change → List Change → Type 0
 Cut xs tail made = ((ys : List (List ℕ)) × (zs : List (List ℕ)) × (ys ++ zs ≡ xs) × (made ≡ map blob_put ys)) ⊎ ((rest : List Change) × (made ≡ map blob_put xs ++ rest) × IsPrefix rest tail)
 
-cut : (xs : List (List ℕ)) (tail made : List Change) → IsPrefix made (map blob_put xs ++ tail) → Cut xs tail made
+pub cut : (xs : List (List ℕ)) (tail made : List Change) → IsPrefix made (map blob_put xs ++ tail) → Cut xs tail made
 cut [] tail made p = inr (made, refl, p)
 cut (x ∷ xs) tail [] p = inl ([], x ∷ xs, refl, refl)
 cut (x ∷ xs) tail (c ∷ made) p =
@@ -256,3 +257,11 @@ keeps S f honest sound good spelled apart list made p =
           (after_tail T f list (blobs_honest M apart (blobs_of f) met S honest within) spelled
           (made_honest T f sound good spelled (blobs_held M apart (blobs_of f) met S within)) h.0 h.2))
     ]
+
+-- ## The empty store
+
+pub nothing_honest : Honest empty
+nothing_honest e h = absurd (no_some h.0 (sym (get-empty (slice_cmp nat_cmp) (at_entry e.strong)) ∙ h.1))
+  where
+    no_some : (x : List ℕ) → None ≡ Some x → ⊥
+    no_some x e = absurd cc

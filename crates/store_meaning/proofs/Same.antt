@@ -17,9 +17,9 @@ use Rattle.prints.specs.Strong.{IsAnswerLine, line_of}
 use Rattle.prints.specs.declared.weak_parts.WeakParts.{WeakParts}
 use Rattle.memo_format.specs.Found.{output_lines}
 use Rattle.memo_format.specs.declared.entry.OutputLine.{OutputLine}
-use Rattle.store_meaning.specs.Contents.{answer_contents, contents_of, desc_contents, given_contents}
-use Rattle.store_meaning.specs.Met.{Apart}
-use Rattle.store_meaning.proofs.Digests.{digest_is}
+use Rattle.record_match.proofs.Digest.{is_digest}
+use Rattle.record_match.specs.Apart.{Apart, contents_of}
+use Rattle.store_meaning.specs.Contents.{answer_contents, desc_contents, given_contents}
 
 -- ## Lists
 
@@ -54,10 +54,10 @@ same_pair (a, b) (c, d) e f = cc
 
 line_is : (a : Answer) → IsAnswerLine (line_of a)
 line_is answers.Absent = tt
-line_is (answers.Content bytes) = digest_is bytes
+line_is (answers.Content bytes) = is_digest bytes
 line_is answers.File = tt
 line_is answers.Directory = tt
-line_is (answers.Names names) = digest_is names
+line_is (answers.Names names) = is_digest names
 line_is answers.Denied = tt
 
 pub lines_are : (given : List Answer) → AllByRecursion IsAnswerLine (map line_of given)

@@ -1,8 +1,6 @@
 -- The contents that runs are given and make, and the texts and contents that a store holds.
-use Rattle.std.specs.Prelude.{◌≡◌, ℕ, List, [], ◌∷◌, map, Some}
+use Rattle.std.specs.Prelude.{◌≡◌, ℕ, List, [], ◌∷◌, Some}
 use Rattle.std.specs.List.{AllByRecursion, flat_map}
-use Rattle.bx_tree.specs.Paths.{Atoms}
-use Rattle.bx_tree.specs.Trees.{Files}
 use Rattle.pip_types.specs.declared.desc.Desc.{Desc}
 use Rattle.observed.specs.Texts.{read_paths_text}
 use Rattle.observed.specs.declared.ask.Ask.{Ask}
@@ -13,13 +11,11 @@ use Rattle.prints.specs.ReadWeak.{read_weak_text}
 use Rattle.prints.specs.Strong.{read_strong_text}
 use Rattle.prints.specs.declared.strong_parts.StrongParts.{StrongParts}
 use Rattle.prints.specs.declared.weak_parts.WeakParts.{WeakParts}
+use Rattle.record_match.specs.Apart.{contents_of}
 use Rattle.memo_format.specs.Well.{HoldsBlob}
 use Rattle.content_store.specs.Contents.{IsContent}
 
 -- ## Contents
-
-abbrev pub contents_of : Files → List (List ℕ)
-contents_of files = map (λ (f : Atoms × List ℕ). f.1) files
 
 -- those of the executable and of the declared files
 abbrev pub desc_contents : Desc → List (List ℕ)

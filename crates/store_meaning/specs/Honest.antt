@@ -17,7 +17,8 @@ use Rattle.memo_format.specs.Found.{output_lines}
 use Rattle.memo_format.specs.Well.{HoldsEntry}
 use Rattle.memo_format.specs.declared.entry.Entry.{Entry}
 use Rattle.store_meaning.specs.Contents.{HoldsAll, HoldsPaths, HoldsStrong, HoldsWeak}
-use Rattle.store_meaning.specs.Contents.{contents_of, desc_contents, given_contents}
+use Rattle.record_match.specs.Apart.{contents_of}
+use Rattle.store_meaning.specs.Contents.{desc_contents, given_contents}
 
 -- The run of a description over these answers has just this path set, and succeeds with these files.
 pub record IsGoodRun (d : Description) (a : Ask → Answer) (paths : List Ask) (files : Files)

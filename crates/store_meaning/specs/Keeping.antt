@@ -14,7 +14,6 @@ use Rattle.run_record.specs.Facts.{Facts}
 use Rattle.run_record.specs.declared.outcome.Outcome.{Outcome}
 use Rattle.run_record.specs.declared.outcome.Outcome.TheVariants.{Good, Failed}
 use Rattle.prints.specs.Processes.{weak_parts}
-use Rattle.prints.specs.ReadWeak.{read_weak_text}
 use Rattle.prints.specs.Strong.{strong_parts, strong_text}
 use Rattle.prints.specs.Weak.{weak_text}
 use Rattle.memo_format.specs.Entries.{entry_text, output_paths, read_entry_text}
@@ -25,8 +24,10 @@ use Rattle.memo_format.specs.declared.entry.Entry.{Entry}
 use Rattle.memo_format.specs.declared.selector.Selector.{Selector}
 use Rattle.memo_format.specs.declared.selector.TheConstants.{MAX_SELECTORS}
 use Rattle.content_store.specs.Contents.{blob_put}
-use Rattle.store_meaning.specs.Contents.{HoldsPaths, contents_of, desc_contents, given_contents}
-use Rattle.store_meaning.specs.Usable.{asked_text, fits, weak_of}
+use Rattle.record_match.specs.Apart.{contents_of}
+use Rattle.record_match.specs.Digests.{IsReadBack, weak_of}
+use Rattle.store_meaning.specs.Contents.{desc_contents, given_contents}
+use Rattle.store_meaning.specs.Usable.{asked_text, fits}
 
 -- ## Records of successes
 
@@ -103,22 +104,17 @@ puts_of f list = map blob_put (blobs_of f) ++ (entry_put f ∷ list_put f list �
 
 -- ## Texts that are read back
 
--- the weak text of the process is read as it
-abbrev pub Spells : Desc → Type 0
-Spells d = read_weak_text (weak_text (weak_parts d)) ≡ Some (weak_parts d)
-
--- The texts of a record are read as what they were written of.
+-- The texts of a record are read as what they were written of. The strong text of any answers is.
 pub record Spelled (f : Facts) : Type 0 where
-  pub weak : Spells f.desc
+  pub weak : IsReadBack f.desc
   pub paths : read_paths_text (paths_text f.paths) ≡ Some f.paths
   pub entry : read_entry_text (entry_text (entry_of f)) ≡ Some (entry_of f)
 
--- what is met where a record is put into a store
+-- what is met where a record is put into a store: what the store holds under its own digest, and what is put
 abbrev pub KeepMet : Holdings → Facts → List ℕ → Type 0
 KeepMet S f x = HoldsBlob S x ⊎ Has (blobs_of f) x
 
--- what is met where a record is put into a store in which something is usable for a process
-pub data StayMet (S : Holdings) (f : Facts) (d : Desc) (see : Ask → Answer) (x : List ℕ) : Type 0 where
-  kept : KeepMet S f x → StayMet S f d see x
-  asked : (digest : List ℕ) (asks : List Ask) → HoldsPaths S digest asks → asked_text d see digest asks ≡ x
-      → StayMet S f d see x
+-- what is met where a record is put into a store in which a selector with this path set is usable for a
+-- process
+abbrev pub StayMet : Holdings → Facts → Desc → (Ask → Answer) → List ℕ → List Ask → List ℕ → Type 0
+StayMet S f d see digest asks x = KeepMet S f x ⊎ (asked_text d see digest asks ≡ x)

@@ -1,4 +1,4 @@
--- What is met, of which no two may share a digest.
+-- What is met, of which no two different ones may share a digest.
 use Rattle.std.specs.Prelude.{◌≡◌, ◌⊎◌, ℕ, List, map}
 use Rattle.sha2.specs.Sha256.{sha256}
 use Rattle.bx_tree.specs.Trees.{Files}
@@ -16,12 +16,9 @@ use Rattle.run_record.specs.declared.outcome.Outcome.TheVariants.{Good}
 use Rattle.prints.specs.Processes.{weak_parts}
 use Rattle.prints.specs.Weak.{weak_text}
 use Rattle.memo_format.specs.Well.{HoldsBlob}
-use Rattle.store_meaning.specs.Contents.{HoldsPaths, contents_of, desc_contents, given_contents}
+use Rattle.record_match.specs.Apart.{contents_of}
+use Rattle.store_meaning.specs.Contents.{HoldsPaths, desc_contents, given_contents}
 use Rattle.store_meaning.specs.Usable.{asked_text}
-
--- no two of those that are met share a digest
-abbrev pub Apart : (List ℕ → Type 0) → Type 0
-Apart Met = (x y : List ℕ) → Met x → Met y → sha256 x ≡ sha256 y → x ≡ y
 
 -- the path set of the run on this view
 abbrev pub own_paths : Desc → (Ask → Answer) → List Ask

@@ -8,21 +8,22 @@ use Rattle.bx_tree.specs.Trees.{Files, NoneNested}
 use Rattle.pip_types.specs.declared.desc.Desc.{Desc}
 use Rattle.pip_types.specs.declared.outputs.OutDir.{OutDir}
 use Rattle.pip_types.specs.declared.pip.ProcessDesc.{ProcessDesc}
+use Rattle.observed.specs.Members.{Has}
 use Rattle.observed.specs.declared.ask.Ask.{Ask}
 use Rattle.observed.specs.declared.access.Answer.{Answer}
 use Rattle.bx_io.specs.Holdings.{Holdings}
 use Rattle.own_writes.specs.Below.{is_below}
 use Rattle.tool_run.specs.Description.{is_console}
-use Rattle.prints.specs.Processes.{weak_parts}
 use Rattle.prints.specs.Strong.{strong_parts, strong_text}
-use Rattle.prints.specs.Weak.{weak_text}
 use Rattle.memo_format.specs.Entries.{output_paths}
 use Rattle.memo_format.specs.Found.{output_lines}
 use Rattle.memo_format.specs.Well.{HoldsList}
 use Rattle.memo_format.specs.declared.entry.Entry.{Entry}
 use Rattle.memo_format.specs.declared.selector.Selector.{Selector}
 use Rattle.content_store.specs.HeldEntries.{IsHeld}
-use Rattle.store_meaning.specs.Contents.{HoldsAll, HoldsPaths, contents_of}
+use Rattle.record_match.specs.Apart.{contents_of}
+use Rattle.record_match.specs.Digests.{weak_of}
+use Rattle.store_meaning.specs.Contents.{HoldsAll, HoldsPaths}
 
 -- ## Outputs
 
@@ -45,10 +46,6 @@ fits p paths =
     && list_all (may_make p) paths
 
 -- ## Selectors
-
--- the digest of the weak text
-abbrev pub weak_of : Desc → List ℕ
-weak_of d = sha256 (weak_text (weak_parts d))
 
 -- the strong text of a path set that is asked now, by the digest of its text
 abbrev pub asked_text : Desc → (Ask → Answer) → List ℕ → List Ask → List ℕ
@@ -81,3 +78,12 @@ pub record Usable (S : Holdings) (d : Desc) (see : Ask → Answer) : Type 0 wher
   pub list : List Selector
   pub held : HoldsList S (weak_of d) list
   pub any : AnyUsable S d see list
+
+-- The list that is held for the process has this selector, which is usable on this view by this path set.
+pub record UsableAt (S : Holdings) (d : Desc) (see : Ask → Answer) (s : Selector) (asks : List Ask)
+    : Type 0 where
+  pub list : List Selector
+  pub held : HoldsList S (weak_of d) list
+  pub listed : Has list s
+  pub by : UsableBy S d see s
+  pub asks_are : by.asks ≡ asks

@@ -92,6 +92,7 @@ impl Content {
         Ok(Content::of(both(alloc, first, second)?))
     }
 
+    #[inline(always)]
     pub(crate) fn bytes(&self) -> &[u8]
         ensures { result.now ≡ self.now }
     {
@@ -179,7 +180,11 @@ impl Content {
         ensures { OnOk result (self.new ≡ self.old ++ more.now) }
     {
         if let Kept::Owned(bytes) = &mut self.kept {
-            bytes.extend_from_slice(more)?;
+            if more.len() == 1 {
+                bytes.push(more[0])?;
+            } else {
+                bytes.extend_from_slice(more)?;
+            }
             return Ok(());
         }
         self.kept = Kept::Owned(both(alloc, self.bytes(), more)?);

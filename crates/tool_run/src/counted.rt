@@ -131,11 +131,14 @@ impl State {
         self.set_or_jump(alloc, register, label, found)
     }
 
+    #[inline(always)]
     fn are_equal(&self, x: &Operand, y: &Operand) -> bool
         ensures { result
             ≡ bytes_eq (value_in (machine_of self.now) x.now) (value_in (machine_of self.now) y.now) }
     {
-        self.value(x) == self.value(y)
+        let x = self.value(x);
+        let y = self.value(y);
+        x.len() == y.len() && x == y
     }
 
     #[inline(always)]

@@ -55,6 +55,7 @@ fn empty_registers(alloc: Global) -> Result<Vec<Content>, AllocError>
 }
 
 // The bytes that an operand stands for.
+#[inline(always)]
 fn value_of_operand<'a>(registers: &'a [Content], operand: &'a Operand) -> &'a [u8]
     requires { REGISTERS ≤ length registers.now }
     ensures { result.now ≡ value_of registers.entry.now operand.entry.now }
@@ -108,6 +109,7 @@ impl State {
     }
 
     // The bytes that an operand stands for.
+    #[inline(always)]
     pub(crate) fn value<'a>(&'a self, operand: &'a Operand) -> &'a [u8]
         ensures { result.now ≡ value_in (machine_of self.entry.now) operand.entry.now }
     {

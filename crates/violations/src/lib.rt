@@ -16,6 +16,3 @@ pub use verdicts::{DeedKind, Verdict, Violation, ViolationKind};
 
 /// Out of memory, the one refusal that no contract ties to a cause.
 pub type Memory = std::alloc::AllocError;
-
-#[cfg(test)]
-mod tests;

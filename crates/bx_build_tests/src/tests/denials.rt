@@ -64,7 +64,7 @@ pip 2 write succeeded
 ",
         ran: 1,
     },
-    // It may be read where it is declared, and probed where it is not.
+    // A source file may be read where it is declared, and probed where it is not.
     Build {
         words: "build",
         specification: &[
@@ -97,7 +97,7 @@ pip 1 process succeeded
         report: PEEKED,
         ran: 4,
     },
-    // They may be read where they are inputs.
+    // Files of other pips may be read where they are inputs.
     Build {
         words: "build",
         specification: &[

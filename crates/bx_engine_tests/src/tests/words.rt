@@ -36,6 +36,7 @@ end
 
 /// Words with an input and what it comes to.
 const BUILDS: &[(&str, &str, u8, &str, &str)] = &[
+    ("build", ITEM, 0, ITEM_OUTPUT, COUNTS),
     ("build --eval-budget 5", ITEM, 0, ITEM_OUTPUT, COUNTS),
     ("build --eval-budget 4", ITEM, 4, OUT_OF_STEPS, ""),
     ("build --eval-budget=5", CALL, 0, NOTHING, COUNTS),
@@ -51,7 +52,7 @@ const BUILDS: &[(&str, &str, u8, &str, &str)] = &[
 ];
 
 #[test]
-fn builds_with_other_options(rt: HostRuntime) -> Result<(), Fail> {
+fn builds_with_and_without_options(rt: HostRuntime) -> Result<(), Fail> {
     for (line, input, code, written, notes) in BUILDS {
         let want = Want {
             code: *code,

@@ -204,8 +204,8 @@ fn is_run_again(
 // Lines that look twice and end by what they find first.
 const FIRST: &str = "probe r0, \"/s\"\nlist r1, \"/d\"\neq r0, \"file\", yes\nexit 4\nyes: exit 5";
 
-// These, others that ask for something else, and others that ask for less, with their records on the answers of the
-// first run.
+// Lines that are run on the answers of a first run, which ask as it did, for something else, and for less, each with
+// its record.
 const AGAIN: &[(&str, &str)] = &[
     (FIRST, "paths 1\nlist d\nprobe s\nexit 4\n"),
     ("probe r0, \"/t\"\nlist r1, \"/d\"\nexit 4", ""),

@@ -1,5 +1,6 @@
 //! Lists of selectors and entries.
 ghost use Rattle.std.specs.Prelude.{◌≤◌, length};
+ghost use Rattle.memo_format.specs.declared.selector.TheConstants.{MAX_SELECTORS};
 
 use bx_digest::digest_of;
 use memo_format::{Selector, read_entry, read_selectors, write_entry, write_selectors};
@@ -95,7 +96,7 @@ fn entry_agrees(alloc: Global, piece: &(&str, &str, bool)) -> Result<bool, Fail>
 }
 
 fn writes(alloc: Global, list: &[Selector], text: &str) -> Result<bool, Fail>
-    requires { length list.now ≤ 64 }
+    requires { length list.now ≤ MAX_SELECTORS }
 {
     Ok(write_selectors(alloc, list)?.as_slice() == text.as_bytes())
 }

@@ -513,7 +513,7 @@ fn run_reading(alloc: Global, count: usize) -> Result<Ran, Fail> {
     ran
 }
 
-// Whether it ends in this way, with one access.
+// Whether a read of a file of this length ends in this way, with one access.
 fn reads_to(alloc: Global, count: usize, end: End) -> Result<bool, Fail> {
     let ran = run_reading(alloc, count)?;
     Ok(ran.end == end && ran.accesses.len() == 1)

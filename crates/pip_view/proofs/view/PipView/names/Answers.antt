@@ -17,6 +17,7 @@ pub returns : goal.returns
 returns c =
     let keeps = subst (λ (v : ViewData). KeepsView v c.self.inside.files c.self.inside.paths.items) c.self.view_is c.self.invariant in
     names_listed c.args.self.now c.self.inside.files c.self.inside.paths.items c.as_slice.result.now c.paths.result.now c.args.dir.now
-    (names_now c.new-names.result.keys) (names_now c.add_below.new.names.keys) (names_now c.add_below-2.new.names.keys) _ keeps
+    (names_now c.new-names.result.keys) (names_now c.add_below.new.names.keys) (names_now c.add_taken.new.names.keys)
+    (names_now c.add_below-2.new.names.keys) _ keeps
     (c.paths.ensures.paths ∙ ap (λ (v : ViewData). paths_of v.tree) c.self.view_is) c.as_slice.ensures.value (ap names_now c.new-names.ensures.empty)
-    c.in_ok-add_below.ensures c.in_ok-add_below-2.ensures (c.in_ok-new.ensures ∙ c.in_ok-lines.ensures)
+    c.in_ok-add_below.ensures c.in_ok-add_taken.ensures c.in_ok-add_below-2.ensures (c.in_ok-new.ensures ∙ c.in_ok-lines.ensures)

@@ -1,0 +1,9 @@
+use Rattle.std.proofs.Common.{◌≡◌, ◌++◌, drop}
+use Rattle.observed.specs.Texts.{texts_now}
+use Rattle.pip_view.specs.Taken.{taken_names, while_begins}
+use Rattle.pip_view.proofs.file_list.add_first.Given as goal
+
+abbrev pub invariant-files : goal.invariant-files
+invariant-files l =
+    texts_now l.names.items ++ taken_names l.dir (while_begins l.prefix (drop l.file-index l.files))
+    ≡ texts_now l.initial.names.items ++ taken_names l.dir (while_begins l.prefix l.files)

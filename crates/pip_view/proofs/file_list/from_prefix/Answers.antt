@@ -1,0 +1,22 @@
+use Rattle.std.proofs.Common.{◌≡◌, ◌-◌, List, ℕ, true, false, length, drop, filter, ap, sym, ◌∙◌, subst, arith}
+use Rattle.std.proofs.lemmas.List.{length-drop, take_all}
+use Rattle.std.specs.List.Sorted.{IsPartitionPoint}
+use Rattle.bx_tree.specs.declared.file_input.FileInput.{FileInput}
+use Rattle.own_writes.specs.Below.{is_below}
+use Rattle.pip_types.specs.Inputs.{input_path}
+use Rattle.pip_view.specs.Ranges.{comes_before}
+use Rattle.pip_view.specs.Taken.{while_begins}
+use Rattle.pip_view.proofs.Begun.{begun_have_all}
+use Rattle.pip_view.proofs.file_list.from_prefix.Goals as goal
+
+pub returns : goal.returns
+returns c =
+    let files = c.args.files.now in
+    let dir = c.args.dir.now in
+    let start = c.count_before-start.result in
+    let lie = λ (fs : List FileInput). filter (λ (f : FileInput). is_below (input_path f) dir) fs in
+    let point = subst (λ (p : List ℕ). IsPartitionPoint (λ (f : FileInput). comes_before p (input_path f) ≡ true)
+    (λ (f : FileInput). comes_before p (input_path f) ≡ false) files start) c.requires.prefix c.count_before-start.ensures.before in
+    ap (λ (fs : List FileInput). lie (while_begins c.args.prefix.now fs)) (take_all (length files - start) (drop start files) (omega (arith, length-drop start files)))
+    ∙ ap (λ (p : List ℕ). lie (while_begins p (drop start files))) c.requires.prefix
+    ∙ begun_have_all dir files start c.requires.rising point

@@ -1,0 +1,235 @@
+//! The files that a process takes by name, found in its own list and in those of the seals that it takes.
+ghost use Rattle.std.specs.Prelude.{◌≡◌, ◌++◌, ◌∷◌, [], IfOk, OnOk, slice_get};
+ghost use Rattle.std.specs.Option.{option_copied, option_map_or};
+ghost use Rattle.bx_tree.specs.Trees.{file_at as found_at};
+ghost use Rattle.observed.specs.Texts.{texts_now};
+ghost use Rattle.tool_values.specs.Listings.{add_names as with_names};
+ghost use Rattle.tool_values.specs.NameSets.{names_now};
+ghost use Rattle.pip_inputs.specs.Contents.{input_bytes};
+ghost use Rattle.pip_types.specs.Inputs.{RiseByPath};
+ghost use Rattle.pip_view.specs.InputFiles.{listed_in};
+ghost use Rattle.pip_view.specs.Ranges.{prefix_below};
+ghost use Rattle.pip_view.specs.Taken.{any_below, dir_files, dirs_files, executable, first_at};
+ghost use Rattle.pip_view.specs.Taken.{taken_bytes, taken_files, taken_names};
+
+use crate::Memory;
+use crate::below::{is_below, next_atom, prefix_of};
+use crate::file_list::{add_below, file_at, has_below};
+use bx_digest::Blob;
+use bx_tree::{FileInput, Path};
+use pip_inputs::{Inputs, input_file, source_blob};
+use pip_model::{DirInput, FileInputs, Pip, PipKind, ProcessDesc, SealForm, Sources};
+use std::alloc::Global;
+use std::collections::BTreeSet;
+use tool_values::add_names;
+
+// The files that a pip lists, if it is a seal.
+fn listed(pips: &[Pip], pip: u32) -> Option<&FileInputs>
+    ensures { option_map_or (λ files. files.now) result [] ≡ listed_in (slice_get pips.entry.now pip) }
+{
+    match &pips.get(pip as usize)?.kind {
+        PipKind::Seal(seal) => Some(&seal.files),
+        PipKind::Process(_) | PipKind::Copy(_) | PipKind::Write(_) => None,
+    }
+}
+
+// No files.
+fn no_inputs<'a>() -> &'a [FileInput]
+    ensures files { result.now ≡ [] }
+    ensures rising { RiseByPath result.now }
+{
+    &[]
+}
+
+// The files that a pip lists, in order.
+fn listed_files(pips: &[Pip], pip: u32) -> &[FileInput]
+    ensures files { result.now ≡ listed_in (slice_get pips.entry.now pip) }
+    ensures rising { RiseByPath result.now }
+{
+    match listed(pips, pip) {
+        Some(files) => files.files(),
+        None => no_inputs(),
+    }
+}
+
+// The files that a directory lists, in order.
+fn files_of<'a>(pips: &'a [Pip], dir: &DirInput) -> &'a [FileInput]
+    ensures files { result.now ≡ dir_files pips.entry.now dir.now }
+    ensures rising { RiseByPath result.now }
+{
+    match dir {
+        DirInput::Sealed(pip, SealForm::Full | SealForm::Partial, _) => listed_files(pips, *pip),
+        DirInput::Sealed(_, SealForm::SourceTop | SealForm::SourceAll, _)
+        | DirInput::Opaque(_, _) => no_inputs(),
+    }
+}
+
+// The first file at a path that one of the directories lists.
+fn find_listed<'a>(pips: &'a [Pip], dirs: &[DirInput], path: &Path) -> Option<&'a FileInput>
+    ensures { option_copied result ≡ first_at path.now (dirs_files pips.entry.now dirs.now) }
+{
+    'dirs: for dir in dirs {
+        let files = files_of(pips, dir);
+        if let Some(file) = file_at(files, path) {
+            return Some(file);
+        }
+    }
+    None
+}
+
+// The first file at a path that a process declares or that one of its directories lists.
+fn find_declared<'a>(
+    pips: &'a [Pip],
+    process: &'a ProcessDesc,
+    path: &Path,
+) -> Option<&'a FileInput>
+    ensures { option_copied result ≡ first_at path.now
+        (process.entry.now.files ++ dirs_files pips.entry.now process.entry.now.dirs) }
+{
+    let files = process.files.files();
+    match file_at(files, path) {
+        Some(file) => Some(file),
+        None => find_listed(pips, process.dirs.dirs(), path),
+    }
+}
+
+// The bytes of a file that a process takes.
+fn blob_of(
+    alloc: Global,
+    sources: &Sources,
+    inputs: &Inputs,
+    file: &FileInput,
+) -> Result<Blob, Memory>
+    ensures { IfOk result (λ blob. blob ≡ input_bytes sources.now inputs.now file.now) }
+{
+    Ok(input_file(alloc, sources, inputs, file)?.blob)
+}
+
+// The bytes of the first file at a path that a process takes.
+pub(crate) fn taken_blob(
+    alloc: Global,
+    pips: &[Pip],
+    sources: &Sources,
+    inputs: &Inputs,
+    process: &ProcessDesc,
+    path: &Path,
+) -> Result<Option<Blob>, Memory>
+    ensures { IfOk result (λ found. found ≡ found_at
+        (taken_bytes sources.now inputs.now (taken_files pips.now process.now)) path.now) }
+{
+    if process.exe == *path {
+        let blob = source_blob(alloc, sources, path)?;
+        return Ok(Some(blob));
+    }
+    match find_declared(pips, process, path) {
+        Some(file) => {
+            let blob = blob_of(alloc, sources, inputs, file)?;
+            Ok(Some(blob))
+        }
+        None => Ok(None),
+    }
+}
+
+// Whether a file that one of the directories lists lies below a directory, where these bytes begin its path.
+fn has_listed(pips: &[Pip], dirs: &[DirInput], prefix: &[u8], dir: &Path) -> bool
+    requires { prefix.now ≡ prefix_below dir.now }
+    ensures { result ≡ any_below dir.now (dirs_files pips.now dirs.now) }
+{
+    'dirs: for listing in dirs {
+        let files = files_of(pips, listing);
+        if has_below(files, prefix, dir) {
+            return true;
+        }
+    }
+    false
+}
+
+// Whether a file that a process takes lies below a directory.
+pub(crate) fn has_taken(
+    alloc: Global,
+    pips: &[Pip],
+    process: &ProcessDesc,
+    dir: &Path,
+) -> Result<bool, Memory>
+    ensures { IfOk result (λ yes. yes ≡ any_below dir.now (taken_files pips.now process.now)) }
+{
+    let prefix = prefix_of(alloc, dir)?;
+    let files = process.files.files();
+    Ok(
+        is_below(&process.exe, dir)
+            || has_below(files, prefix.as_slice(), dir)
+            || has_listed(pips, process.dirs.dirs(), prefix.as_slice(), dir),
+    )
+}
+
+// Adds the names of the files below a directory that the directories list.
+fn add_listed<'a>(
+    names: &mut Vec<&'a [u8]>,
+    pips: &'a [Pip],
+    dirs: &[DirInput],
+    prefix: &[u8],
+    dir: &Path,
+) -> Result<(), Memory>
+    requires { prefix.now ≡ prefix_below dir.now }
+    ensures { OnOk result (texts_now names.new.items
+        ≡ texts_now names.old.items ++ taken_names dir.now (dirs_files pips.entry.now dirs.now)) }
+{
+    'dirs: for listing in dirs {
+        add_below(names, files_of(pips, listing), prefix, dir)?;
+    }
+    Ok(())
+}
+
+// Adds the name of the executable, if it lies below a directory.
+fn add_executable<'a>(
+    names: &mut Vec<&'a [u8]>,
+    process: &'a ProcessDesc,
+    dir: &Path,
+) -> Result<(), Memory>
+    ensures { OnOk result (texts_now names.new.items
+        ≡ texts_now names.old.items ++ taken_names dir.now (executable process.entry.now ∷ [])) }
+{
+    if let Some(name) = next_atom(dir, &process.exe) {
+        names.push(name)?;
+    }
+    Ok(())
+}
+
+// The names of the files below a directory that a process takes.
+fn names_taken<'a>(
+    alloc: Global,
+    pips: &'a [Pip],
+    process: &'a ProcessDesc,
+    dir: &Path,
+) -> Result<Vec<&'a [u8]>, Memory>
+    ensures { IfOk result (λ names. texts_now names.items
+        ≡ taken_names dir.now (taken_files pips.entry.now process.entry.now)) }
+{
+    let prefix = prefix_of(alloc, dir)?;
+    let mut names = Vec::new(alloc);
+    add_executable(&mut names, process, dir)?;
+    add_below(&mut names, process.files.files(), prefix.as_slice(), dir)?;
+    add_listed(
+        &mut names,
+        pips,
+        process.dirs.dirs(),
+        prefix.as_slice(),
+        dir,
+    )?;
+    Ok(names)
+}
+
+/// Adds the names of the files below a directory that a process takes.
+pub(crate) fn add_taken(
+    alloc: Global,
+    names: &mut BTreeSet<Vec<u8>>,
+    pips: &[Pip],
+    process: &ProcessDesc,
+    dir: &Path,
+) -> Result<(), Memory>
+    ensures { OnOk result (names_now names.new.keys ≡ with_names (names_now names.old.keys)
+        (taken_names dir.now (taken_files pips.now process.now))) }
+{
+    let taken = names_taken(alloc, pips, process, dir)?;
+    add_names(alloc, names, taken.as_slice())
+}

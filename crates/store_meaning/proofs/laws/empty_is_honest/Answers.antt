@@ -1,0 +1,5 @@
+use Rattle.store_meaning.proofs.Puts.{nothing_honest}
+use Rattle.store_meaning.proofs.laws.empty_is_honest.Goals as goal
+
+pub returns : goal.returns
+returns c = nothing_honest
