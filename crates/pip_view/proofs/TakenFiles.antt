@@ -1,15 +1,15 @@
 -- What is asked of the files that a process takes, list by list.
-use Rattle.std.proofs.Common.{◌≡◌, ◌≢◌, ◌⊎◌, ℕ, zero, suc, ◌+◌, ◌<◌, ◌≤◌, Bool, true, false, not, ◌||◌, cond, List, [], ◌∷◌, ◌++◌, length, map, drop, filter, get_or, Option, Some, None, refl, ap, sym, ◌∙◌, append_assoc, append-nil, add-one}
+use Rattle.std.proofs.Common.{◌≡◌, ℕ, suc, ◌+◌, ◌<◌, ◌≤◌, Bool, true, false, ◌||◌, cond, List, [], ◌∷◌, ◌++◌, length, drop, get_or, Option, Some, None, refl, ap, sym, ◌∙◌, append_assoc, append-nil, add-one}
 use Rattle.std.proofs.lemmas.List.{drop_all}
 use Rattle.std.proofs.Math.Seq.{drop-cons}
-use Rattle.std.specs.List.{cons_option, filter_map, flat_map, list_any}
+use Rattle.std.specs.List.{cons_option}
 use Rattle.bx_tree.specs.Orders.{same_path_decides}
 use Rattle.bx_tree.specs.Paths.{Atoms, same_path}
 use Rattle.bx_tree.specs.Trees.{Files, file_at}
 use Rattle.bx_tree.specs.declared.file_input.FileInput.{FileInput}
 use Rattle.own_writes.specs.Below.{is_below, next_atom}
 use Rattle.own_writes.specs.Writes.{has_below, own_names}
-use Rattle.pip_inputs.specs.Contents.{bytes_at, input_bytes, input_file}
+use Rattle.pip_inputs.specs.Contents.{bytes_at, input_bytes}
 use Rattle.pip_inputs.specs.Results.{ByPip}
 use Rattle.pip_types.specs.Inputs.{input_path}
 use Rattle.pip_types.specs.declared.dir_inputs.DirInput.{DirInput}

@@ -1,4 +1,4 @@
-use Rattle.std.proofs.Common.{◌≡◌, ◌-◌, List, ℕ, true, false, length, drop, filter, ap, sym, ◌∙◌, subst, arith}
+use Rattle.std.proofs.Common.{◌≡◌, ◌-◌, List, ℕ, true, false, length, drop, filter, ap, ◌∙◌, subst, arith}
 use Rattle.std.proofs.lemmas.List.{length-drop, take_all}
 use Rattle.std.specs.List.Sorted.{IsPartitionPoint}
 use Rattle.bx_tree.specs.declared.file_input.FileInput.{FileInput}

@@ -1,9 +1,8 @@
-use Rattle.std.proofs.Common.{List, Option, Some, IfOk, ap, filter, subst, sym, ◌∙◌}
+use Rattle.std.proofs.Common.{List, IfOk, ap, filter, subst, sym, ◌∙◌}
 use Rattle.std.specs.List.{flat_map}
 use Rattle.std.proofs.lemmas.Result.{IfOk-weaker}
 use Rattle.bx_tree.specs.Trees.{Files}
 use Rattle.pip_types.specs.declared.dir_inputs.DirInput.{DirInput}
-use Rattle.pip_types.specs.declared.pip.ProcessDesc.{ProcessDesc}
 use Rattle.pip_view.specs.Gathered.{opaque_members}
 use Rattle.pip_view.specs.InputFiles.{by_pip, is_opaque}
 use Rattle.pip_view.specs.Seen.{AnswerAs, ViewData, opaque_by}

@@ -1,4 +1,4 @@
-use Rattle.std.proofs.Common.{◌++◌, ap, sym, ◌∙◌}
+use Rattle.std.proofs.Common.{◌++◌, ap, ◌∙◌}
 use Rattle.observed.specs.Texts.{texts_now}
 use Rattle.pip_view.specs.Taken.{taken_names}
 use Rattle.pip_view.proofs.TakenFiles.{names_next, no_names_left}

@@ -1,6 +1,6 @@
 use Rattle.std.proofs.Common.{◌++◌, ap, sym, ◌∙◌, Some}
 use Rattle.pip_view.specs.Taken.{dirs_files}
-use Rattle.pip_view.proofs.TakenFiles.{bytes_of, executable_found, executable_passed}
+use Rattle.pip_view.proofs.TakenFiles.{executable_found, executable_passed}
 use Rattle.pip_view.proofs.taken.taken_blob.Goals as goal
 
 pub returns-in_ok-blob-in-Some : goal.returns-in_ok-blob-in-Some
