@@ -14,20 +14,6 @@ fn path(alloc: Global, bytes: &[u8]) -> Result<Path, Fail> {
     Ok(Path::read(alloc, bytes)?)
 }
 
-/// An object of two fields.
-fn object(alloc: Global, names: [&[u8]; 2], first: Value, second: Value) -> Result<Value, Fail> {
-    let mut fields = Vec::new(alloc);
-    fields.push(Field {
-        name: text(alloc, names[0])?,
-        value: first,
-    })?;
-    fields.push(Field {
-        name: text(alloc, names[1])?,
-        value: second,
-    })?;
-    Ok(object_of(alloc, fields)?)
-}
-
 fn listed(alloc: Global, value: Value) -> Result<Value, Fail> {
     let mut items = Vec::new(alloc);
     items.push(value)?;
@@ -54,6 +40,37 @@ fn outputs(alloc: Global) -> Result<Value, Fail> {
     Ok(list_of(alloc, outputs)?)
 }
 
+fn x_text(alloc: Global) -> Result<Value, Fail> {
+    Ok(Value::Text(text(alloc, b"x")?))
+}
+
+fn lines(alloc: Global) -> Result<Value, Fail> {
+    let line = x_text(alloc)?;
+    listed(alloc, line)
+}
+
+/// The name of a field by a letter.
+fn field_name(letter: u8) -> &'static [u8] {
+    match letter {
+        b't' => b"tool",
+        b'o' => b"outputs",
+        b'w' => b"outputPath",
+        b'x' => b"text",
+        _ => b"lines",
+    }
+}
+
+/// The value of a field by the letter of its name.
+fn field_value(alloc: Global, letter: u8) -> Result<Value, Fail> {
+    match letter {
+        b't' => tool(alloc),
+        b'o' => outputs(alloc),
+        b'w' => path_value(alloc, b"out/w"),
+        b'x' => x_text(alloc),
+        _ => lines(alloc),
+    }
+}
+
 fn executable(alloc: Global) -> Result<Field, Fail> {
     let name = text(alloc, b"exe")?;
     let value = source(alloc, b"s/a")?;
@@ -66,50 +83,44 @@ fn tool(alloc: Global) -> Result<Value, Fail> {
     Ok(object_of(alloc, fields)?)
 }
 
-/// A process with an output file and an output directory.
-fn process(alloc: Global) -> Result<Value, Fail> {
-    let tool = tool(alloc)?;
-    object(alloc, [b"tool", b"outputs"], tool, outputs(alloc)?)
+/// A field by the letter of its name.
+fn field(alloc: Global, letter: u8) -> Result<Field, Fail> {
+    let name = text(alloc, field_name(letter))?;
+    let value = field_value(alloc, letter)?;
+    Ok(Field { name, value })
 }
 
-fn x_text(alloc: Global) -> Result<Value, Fail> {
-    Ok(Value::Text(text(alloc, b"x")?))
+/// An object whose fields have these letters.
+fn object(alloc: Global, letters: &[u8]) -> Result<Value, Fail> {
+    let mut fields = Vec::new(alloc);
+    for letter in letters {
+        fields.push(field(alloc, *letter)?)?;
+    }
+    Ok(object_of(alloc, fields)?)
 }
 
-/// The argument of a call that writes a text.
-fn write(alloc: Global) -> Result<Value, Fail> {
-    let to = path_value(alloc, b"out/w")?;
-    object(alloc, [b"outputPath", b"text"], to, x_text(alloc)?)
-}
-
-/// The argument of a call that writes lines.
-fn write_lines(alloc: Global) -> Result<Value, Fail> {
-    let lines = listed(alloc, x_text(alloc)?)?;
-    object(
-        alloc,
-        [b"outputPath", b"lines"],
-        path_value(alloc, b"out/w")?,
-        lines,
-    )
+fn listed_source(alloc: Global) -> Result<Value, Fail> {
+    let file = source(alloc, b"s/a")?;
+    listed(alloc, file)
 }
 
 /// A value by a letter.
 fn sample(alloc: Global, letter: u8) -> Result<Value, Fail> {
-    Ok(match letter {
-        b'p' => path_value(alloc, b"out/p")?,
-        b'q' => path_value(alloc, b"s/a")?,
-        b'd' => directory(alloc, b"s")?,
-        b'e' => directory(alloc, b"out/d")?,
-        b'a' => source(alloc, b"s/a")?,
-        b'x' => x_text(alloc)?,
-        b'*' => Value::Text(text(alloc, b"*")?),
-        b't' => Value::Flag(true),
-        b'l' => listed(alloc, source(alloc, b"s/a")?)?,
-        b'W' => write(alloc)?,
-        b'L' => write_lines(alloc)?,
-        b'P' => process(alloc)?,
-        _ => Value::Undefined,
-    })
+    match letter {
+        b'p' => path_value(alloc, b"out/p"),
+        b'q' => path_value(alloc, b"s/a"),
+        b'd' => directory(alloc, b"s"),
+        b'e' => directory(alloc, b"out/d"),
+        b'a' => source(alloc, b"s/a"),
+        b'x' => x_text(alloc),
+        b'*' => Ok(Value::Text(text(alloc, b"*")?)),
+        b't' => Ok(Value::Flag(true)),
+        b'l' => listed_source(alloc),
+        b'W' => object(alloc, b"wx"),
+        b'L' => object(alloc, b"wl"),
+        b'P' => object(alloc, b"to"),
+        _ => Ok(Value::Undefined),
+    }
 }
 
 fn samples(alloc: Global, letters: &[u8]) -> Result<Vec<Value>, Fail> {
@@ -199,48 +210,54 @@ const CALLS: &[(Ambient, &str, &str, usize)] = &[
     (Ambient::GlobRecursive, "p*", "Kind ", 7),
 ];
 
+/// What a call gives.
+fn given(
+    alloc: Global,
+    state: &mut SdkState,
+    name: Ambient,
+    letters: &[u8],
+) -> Result<&'static str, Fail> {
+    let site = site(alloc)?;
+    let args = samples(alloc, letters)?;
+    let outcome = call(alloc, state, &site, name, args.as_slice());
+    let name = outcome_name(&outcome);
+    drop(outcome);
+    Ok(name)
+}
+
 #[test]
 fn each_call_gives_its_answer(rt: HostRuntime) -> Result<(), Fail> {
     let alloc = rt.alloc();
     let tree = tree(alloc)?;
-    let site = site(alloc)?;
     let mut state = SdkState::new(alloc, &tree)?;
     for (name, letters, wanted, pips) in CALLS {
-        let args = samples(alloc, letters.as_bytes())?;
-        let outcome = call(alloc, &mut state, &site, *name, args.as_slice());
-        assert_eq!(rt; outcome_name(&outcome), *wanted);
+        assert_eq!(rt;
+            given(alloc, &mut state, *name, letters.as_bytes())?,
+            *wanted
+        );
         assert_eq!(rt; state.pips().len(), *pips);
     }
     Ok(())
 }
 
-/// The state after these calls: a process, a seal that lists a file, and a seal of the source files of `s`.
-fn earlier<'a>(alloc: Global, tree: &'a Tree) -> Result<SdkState<'a>, Fail> {
-    let site = site(alloc)?;
-    let mut state = SdkState::new(alloc, tree)?;
-    let calls = [
-        (Ambient::Execute, b"P".as_slice()),
-        (Ambient::SealPartialDirectory, b"dl"),
-        (Ambient::SealSourceDirectory, b"d"),
-    ];
-    for (name, letters) in calls {
-        let args = samples(alloc, letters)?;
-        if call(alloc, &mut state, &site, name, args.as_slice()).is_err() {
-            return Err(Fail::new("no pip"));
-        }
-    }
-    Ok(state)
+/// Adds a process, a seal that lists a file, and a seal of the source files of `s`, if all three are made.
+fn adds_earlier(alloc: Global, state: &mut SdkState) -> Result<bool, Fail> {
+    Ok(
+        given(alloc, state, Ambient::Execute, b"P")? == "process "
+            && given(alloc, state, Ambient::SealPartialDirectory, b"dl")? == "seal "
+            && given(alloc, state, Ambient::SealSourceDirectory, b"d")? == "seal ",
+    )
 }
 
 /// A value whose members are asked for.
 fn owner(alloc: Global, letter: u8) -> Result<Value, Fail> {
-    Ok(match letter {
-        b'0' => Value::Process(0),
-        b'1' => Value::Static(StaticDir::Seal(1, path(alloc, b"s")?)),
-        b'2' => Value::Static(StaticDir::Seal(2, path(alloc, b"s")?)),
-        b'3' => Value::Static(StaticDir::Opaque(0, path(alloc, b"out/d")?)),
-        _ => sample(alloc, letter)?,
-    })
+    match letter {
+        b'0' => Ok(Value::Process(0)),
+        b'1' => Ok(Value::Static(StaticDir::Seal(1, path(alloc, b"s")?))),
+        b'2' => Ok(Value::Static(StaticDir::Seal(2, path(alloc, b"s")?))),
+        b'3' => Ok(Value::Static(StaticDir::Opaque(0, path(alloc, b"out/d")?))),
+        _ => sample(alloc, letter),
+    }
 }
 
 /// A value, a name, what the member is, the arguments of its call, and what the call gives.
@@ -270,8 +287,15 @@ const MEMBERS: &[(u8, &str, &str, &str, &str)] = &[
     (b't', "length", "Missing ", "", "Missing "),
 ];
 
+/// What an outcome is.
+fn name_of(outcome: Result<Value, SdkFault>) -> &'static str {
+    let name = outcome_name(&outcome);
+    drop(outcome);
+    name
+}
+
 fn member_name(alloc: Global, state: &SdkState<'_>, value: &Value, name: &Text) -> &'static str {
-    outcome_name(&member(alloc, state, value, name))
+    name_of(member(alloc, state, value, name))
 }
 
 fn method_name(
@@ -284,48 +308,75 @@ fn method_name(
     if is_callback(value, name) {
         "callback "
     } else {
-        outcome_name(&method(alloc, state, value, name, args))
+        name_of(method(alloc, state, value, name, args))
     }
 }
 
-/// What a member of a value is, whether it is a function, and what its call gives.
-fn asked(
+/// Whether a member of a value is what is wanted, a function or none, and its call gives what is wanted.
+fn is_wanted(
     alloc: Global,
     state: &SdkState<'_>,
-    letter: u8,
-    name: &str,
-    letters: &str,
-) -> Result<(&'static str, bool, &'static str), Fail> {
-    let args = samples(alloc, letters.as_bytes())?;
-    let value = owner(alloc, letter)?;
-    let name = text(alloc, name.as_bytes())?;
-    let is = member_name(alloc, state, &value, &name);
-    let gives = method_name(alloc, state, &value, &name, args.as_slice());
-    Ok((is, has_function(&value, &name), gives))
+    value: &Value,
+    row: &(u8, &str, &str, &str, &str),
+) -> Result<bool, Fail> {
+    let name = text(alloc, row.1.as_bytes())?;
+    let args = samples(alloc, row.3.as_bytes())?;
+    Ok(
+        member_name(alloc, state, value, &name) == row.2
+            && has_function(value, &name) == (row.2 == "function ")
+            && method_name(alloc, state, value, &name, args.as_slice()) == row.4,
+    )
+}
+
+/// Whether the value of a row has the member that the row says.
+fn has_member(
+    alloc: Global,
+    state: &SdkState<'_>,
+    row: &(u8, &str, &str, &str, &str),
+) -> Result<bool, Fail> {
+    let value = owner(alloc, row.0)?;
+    let is_wanted = is_wanted(alloc, state, &value, row);
+    drop(value);
+    is_wanted
 }
 
 #[test]
 fn each_value_has_its_members(rt: HostRuntime) -> Result<(), Fail> {
     let alloc = rt.alloc();
     let tree = tree(alloc)?;
-    let state = earlier(alloc, &tree)?;
-    for (letter, name, wanted, letters, given) in MEMBERS {
-        let (is, has, gives) = asked(alloc, &state, *letter, name, letters)?;
-        assert_eq!(rt; is, *wanted);
-        assert_eq!(rt; has, *wanted == "function ");
-        assert_eq!(rt; gives, *given);
+    let mut state = SdkState::new(alloc, &tree)?;
+    assert!(rt; adds_earlier(alloc, &mut state)?);
+    for row in MEMBERS {
+        assert!(rt; has_member(alloc, &state, row)?);
     }
     Ok(())
 }
 
+/// Whether a list has a function of this name that calls its argument, and `undefined` none.
+fn is_for_evaluation(alloc: Global, list: &Value, name: &[u8]) -> Result<bool, Fail> {
+    let name = text(alloc, name)?;
+    Ok(
+        is_callback(list, &name)
+            && has_function(list, &name)
+            && !is_callback(&Value::Undefined, &name),
+    )
+}
+
+/// Whether all functions of a list that call their argument are for evaluation.
+fn are_for_evaluation(alloc: Global, list: &Value) -> Result<bool, Fail> {
+    for name in [b"map".as_slice(), b"filter", b"mapMany", b"reduce"] {
+        if !is_for_evaluation(alloc, list, name)? {
+            return Ok(false);
+        }
+    }
+    Ok(true)
+}
+
 #[test]
 fn members_that_call_functions_are_for_evaluation(rt: HostRuntime) -> Result<(), Fail> {
-    let alloc = rt.alloc();
-    let list = sample(alloc, b'l')?;
-    for name in [b"map".as_slice(), b"filter", b"mapMany", b"reduce"] {
-        let name = text(alloc, name)?;
-        assert!(rt; is_callback(&list, &name) && has_function(&list, &name));
-        assert!(rt; !is_callback(&Value::Undefined, &name));
-    }
+    let list = sample(rt.alloc(), b'l')?;
+    let are = are_for_evaluation(rt.alloc(), &list);
+    drop(list);
+    assert!(rt; are?);
     Ok(())
 }

@@ -48,6 +48,7 @@ fn readers(value: &Value) -> [bool; 7] {
 fn is_taken_alone(alloc: Global, number: usize) -> Result<bool, Fail> {
     let value = sample(alloc, number)?;
     let takes = readers(&value);
+    drop(value);
     Ok(
         takes
             .iter()
@@ -83,6 +84,13 @@ fn name_of<T>(outcome: &Result<T, SdkFault>) -> &'static str {
     }
 }
 
+/// How a value is answered.
+fn value_answer(outcome: Result<Value, SdkFault>) -> &'static str {
+    let name = name_of(&outcome);
+    drop(outcome);
+    name
+}
+
 fn add_text(alloc: Global, fields: &mut Vec<Field>, name: &str) -> Result<(), Fail> {
     let name = text(alloc, name)?;
     let value = Value::Text(text(alloc, "x")?);
@@ -103,7 +111,9 @@ fn object(alloc: Global, letters: &str) -> Result<Value, Fail> {
 /// How an object is read that may have a required `a` and an optional `b`.
 fn object_answer(alloc: Global, letters: &str) -> Result<&'static str, Fail> {
     let value = object(alloc, letters)?;
-    Ok(name_of(&read_object(&value, &[b"a"], &[b"b"])))
+    let answer = name_of(&read_object(&value, &[b"a"], &[b"b"]));
+    drop(value);
+    Ok(answer)
 }
 
 /// The fields of an object, and how it is read.
@@ -177,19 +187,29 @@ fn is_read_as(alloc: Global, value: &Value, name: &[u8], answers: &[&str; 4]) ->
     }
 }
 
+/// Whether each field of an object is read as it is wanted.
+fn are_read_as_wanted(alloc: Global, value: &Value) -> bool {
+    for (name, answers) in FIELDS {
+        if !is_read_as(alloc, value, name, answers) {
+            return false;
+        }
+    }
+    true
+}
+
 #[test]
 fn fields_hold_what_they_must(rt: HostRuntime) -> Result<(), Fail> {
     let value = fields(rt.alloc())?;
-    for (name, answers) in FIELDS {
-        assert!(rt; is_read_as(rt.alloc(), &value, name, answers));
-    }
+    let are_read = are_read_as_wanted(rt.alloc(), &value);
+    drop(value);
+    assert!(rt; are_read);
     Ok(())
 }
 
 /// How a text of some bytes is answered.
 fn text_answer(alloc: Global, length: usize) -> Result<&'static str, Fail> {
     let bytes = vec![in alloc; b'x'; length]?;
-    Ok(name_of(&text_value(alloc, bytes)))
+    Ok(value_answer(text_value(alloc, bytes)))
 }
 
 /// How a list of some items is answered.
@@ -198,7 +218,7 @@ fn list_answer(alloc: Global, length: usize) -> Result<&'static str, Fail> {
     for _ in 0..length {
         items.push(Value::Undefined)?;
     }
-    Ok(name_of(&list_value(alloc, items)))
+    Ok(value_answer(list_value(alloc, items)))
 }
 
 const TEXTS: &[(usize, &str)] = &[(MAX_TEXT_BYTES, "ok"), (MAX_TEXT_BYTES + 1, "range")];
@@ -226,7 +246,7 @@ fn lists_are_within_their_limit(rt: HostRuntime) -> Result<(), Fail> {
 #[test]
 fn numbers_are_within_their_limit(rt: HostRuntime) {
     for (number, answer) in NUMBERS {
-        assert!(rt; name_of(&number_value(*number)) == *answer);
+        assert!(rt; value_answer(number_value(*number)) == *answer);
     }
 }
 

@@ -46,13 +46,18 @@ fn sample_at(letter: u8, path: Path) -> Value {
     }
 }
 
+fn member(alloc: Global) -> Result<Value, Fail> {
+    let name = text(alloc, "a")?;
+    Ok(member_of(alloc, Value::Undefined, name)?)
+}
+
 /// The sample with this letter, which is a list, an object or a function.
 fn made_sample(alloc: Global, letter: u8) -> Result<Value, Fail> {
     match letter {
         b'l' => Ok(list_of(alloc, Vec::new(alloc))?),
         b'o' => object(alloc),
         b'f' => Ok(place_function(alloc, 3, Vec::new(alloc))?),
-        _ => Ok(member_of(alloc, Value::Undefined, text(alloc, "a")?)?),
+        _ => member(alloc),
     }
 }
 
@@ -71,7 +76,9 @@ fn sample(alloc: Global, letter: u8) -> Result<Value, Fail> {
 
 fn shared(alloc: Global, letter: u8) -> Result<Value, Fail> {
     let value = sample(alloc, letter)?;
-    Ok(value.share()?)
+    let copy = value.share();
+    drop(value);
+    Ok(copy?)
 }
 
 fn sign_of(equal: Result<bool, NoOrder>) -> u8 {
@@ -85,13 +92,17 @@ fn sign_of(equal: Result<bool, NoOrder>) -> u8 {
 /// Adds whether a sample is equal to a value.
 fn compare_with(alloc: Global, seen: &mut Vec<u8>, letter: u8, b: &Value) -> Result<(), Fail> {
     let a = sample(alloc, letter)?;
-    Ok(seen.push(sign_of(equal(&a, b)))?)
+    let sign = sign_of(equal(&a, b));
+    drop(a);
+    Ok(seen.push(sign)?)
 }
 
 /// Adds whether a sample and a shared one are equal.
 fn compare(alloc: Global, seen: &mut Vec<u8>, a: u8, b: u8) -> Result<(), Fail> {
     let b = shared(alloc, b)?;
-    compare_with(alloc, seen, a, &b)
+    let compared = compare_with(alloc, seen, a, &b);
+    drop(b);
+    compared
 }
 
 /// The letters of two samples, and whether they are equal.
@@ -146,15 +157,33 @@ fn add_names(names: &mut Vec<u8>, value: &Value) -> Result<(), Fail> {
     Ok(())
 }
 
+fn digit_of(number: Option<i32>) -> u8 {
+    match number {
+        Some(1) => b'1',
+        Some(2) => b'2',
+        Some(3) => b'3',
+        Some(_) => b'?',
+        None => b'-',
+    }
+}
+
+/// Adds the names of an object's fields, and then the numbers in its fields `a`, `b` and `c`.
+fn describe(seen: &mut Vec<u8>, value: &Value) -> Result<(), Fail> {
+    add_names(seen, value)?;
+    for name in [b"a".as_slice(), b"b", b"c"] {
+        seen.push(digit_of(number_at(value, name)))?;
+    }
+    Ok(())
+}
+
 #[test]
 fn a_later_field_takes_the_place_of_the_earlier(rt: HostRuntime) -> Result<(), Fail> {
-    let mut names = Vec::new(rt.alloc());
+    let mut seen = Vec::new(rt.alloc());
     let value = object(rt.alloc())?;
-    add_names(&mut names, &value)?;
-    assert!(rt; names.as_slice() == b"ab".as_slice());
-    assert!(rt; number_at(&value, b"a") == Some(3));
-    assert!(rt; number_at(&value, b"b") == Some(2));
-    assert!(rt; number_at(&value, b"c") == None);
+    let described = describe(&mut seen, &value);
+    drop(value);
+    described?;
+    assert!(rt; seen.as_slice() == b"ab32-".as_slice());
     Ok(())
 }
 
@@ -171,7 +200,10 @@ fn nested(alloc: Global, depth: u32) -> Result<Value, Fail> {
 fn is_too_deep(alloc: Global, value: Value) -> Result<bool, Fail> {
     let mut items = Vec::new(alloc);
     items.push(value)?;
-    Ok(matches!(list_of(alloc, items), Err(DepthFault::TooDeep)))
+    let outcome = list_of(alloc, items);
+    let is_too_deep = matches!(&outcome, Err(DepthFault::TooDeep));
+    drop(outcome);
+    Ok(is_too_deep)
 }
 
 #[test]
