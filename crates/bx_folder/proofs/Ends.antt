@@ -9,7 +9,7 @@ use Rattle.bx_tree.specs.Trees.{Files, IsTree, paths_of}
 use Rattle.bx_tree.specs.Views.{file_of, files_of}
 use Rattle.bx_tree.specs.declared.tree_file.TreeFile.{TreeFile}
 use Rattle.bx_folder.specs.Folders.{IsFree, Known, Nodes, nodes_of, with_files, without}
-use Rattle.bx_folder.specs.Unpacking.{AreFree, AreFreeBut, EndsUnpack, HasFirst, IsCleared, IsClearFault, IsFreeBut, IsKept, IsMakeFault, IsNext, IsStop, IsUnpack, IsWayFault, removed, start}
+use Rattle.bx_folder.specs.Unpacking.{AreFree, AreFreeBut, EndsUnpack, HasFirst, IsCleared, IsFreeBut, IsMakeFault, IsNext, IsStop, IsUnpack, IsWayFault, removed, start}
 use Rattle.bx_folder.specs.declared.fault.UnpackFault.{UnpackFault}
 use Rattle.bx_folder.specs.declared.fault.UnpackFault.TheVariants as faults
 use Rattle.bx_folder.specs.declared.unpacking.Replace.{Replace}
@@ -36,23 +36,6 @@ way_ends text replace holds files path (faults.Kept blamed) b c a h = absurd h
 way_ends text replace holds files path (faults.Partly count blamed) b c a h = absurd h
 way_ends text replace holds files path (faults.Taken count blamed) b c a h = absurd h
 way_ends text replace holds files path (faults.Memory count) b c a h = inl (h, inl refl)
-
--- where a place is not cleared
-pub clear_ends : (text : List ℕ) (replace : Replace) (before now : Option Nodes) (top : List ℕ) (fault : UnpackFault)
-    → replace ≡ replaces.Made → IsKept top before now → IsClearFault top fault → EndsUnpack text replace before now fault
-clear_ends text replace before now top (faults.Text fault) r k h = absurd h
-clear_ends text replace before now top (faults.Exists path) r k h = absurd h
-clear_ends text replace before now top (faults.Unseen path) r k h = absurd h
-clear_ends text replace before now top (faults.Kept path) r k h = (r, subst (λ t. IsKept t before now) (sym h) k)
-clear_ends text replace before now top (faults.Partly count path) r k h = absurd h
-clear_ends text replace before now top (faults.Taken count path) r k h = absurd h
-clear_ends text replace before now top (faults.Memory count) r k h = inl (
-  h,
-  elim k [
-    | inl a ↦ inl a.1
-    | inr b ↦ inr (r, b.1)
-  ],
-)
 
 -- what a folder holds stays known where it is cleared
 unknown : (replace : Replace) (holds : Option Nodes) → Known (start replace holds) (λ _. ⊥) → Known holds (λ _. ⊥)
