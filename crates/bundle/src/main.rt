@@ -18,7 +18,7 @@ use bx_folder::{Replace, pack, unpack};
 use bx_tree::{MAX_BUNDLE_BYTES, Tree, read_bundle};
 use std::alloc::{AllocError, Global};
 use std::env;
-use std::io::{self, ErrorKind, IsTerminal, Read, Write};
+use std::io::{ErrorKind, IsTerminal, Read, Write};
 use std::process::ExitCode;
 use std::rt::{Env, Files};
 
@@ -53,11 +53,14 @@ fn arguments<R: Env + AllocGlobal>(rt: &R) -> Result<Vec<String>, AllocError> {
 }
 
 // Reads a text to its end, or to one byte more than a bundle may have.
-fn read_text(alloc: Global, input: impl Read + Drop) -> io::Result<Vec<u8>> {
+fn read_text(alloc: Global, input: impl Read + Drop) -> Result<Vec<u8>, Ending> {
     let mut input = input.take(MAX_BUNDLE_BYTES as u64 + 1);
     let mut text = Vec::new(alloc);
-    input.read_to_end(&mut text)?;
-    Ok(text)
+    match input.read_to_end(&mut text) {
+        Ok(_) => Ok(text),
+        Err(error) if error.kind() == ErrorKind::OutOfMemory => Err(Ending::NoMemory),
+        Err(_) => Err(refused(String::from_str(alloc, "standard input: cannot be read"))),
+    }
 }
 
 // The paths of a tree with the lengths of their files, a line each.
@@ -104,8 +107,9 @@ fn run_unpack<R: Files + AllocGlobal + Clone + Drop, W: Write + Drop>(
     input: impl Read + Drop,
     terminal: Option<W>,
 ) -> Ending {
-    let Ok(text) = read_text(alloc, input) else {
-        return refused(String::from_str(alloc, "standard input: cannot be read"));
+    let text = match read_text(alloc, input) {
+        Ok(text) => text,
+        Err(ending) => return ending,
     };
     let Ok(mut folder) = SystemFolder::new(rt, alloc, name, terminal) else {
         return Ending::NoMemory;
@@ -119,8 +123,9 @@ fn run_unpack<R: Files + AllocGlobal + Clone + Drop, W: Write + Drop>(
 }
 
 fn run_list(alloc: Global, input: impl Read + Drop, out: &mut impl Write) -> Ending {
-    let Ok(text) = read_text(alloc, input) else {
-        return refused(String::from_str(alloc, "standard input: cannot be read"));
+    let text = match read_text(alloc, input) {
+        Ok(text) => text,
+        Err(ending) => return ending,
     };
     let tree = match read_bundle(alloc, &text) {
         Ok(tree) => tree,

@@ -4,10 +4,10 @@ use bx_folder::{PackFault, UnpackFault};
 use bx_tree::{BundleFault, MAX_BUNDLE_BYTES, MAX_FILE_BYTES, MAX_FILES, MAX_PATH_BYTES};
 use std::alloc::{AllocError, Global};
 
-// The name of a place below a folder, with each byte that would end or hide the line as `?`.
-fn place(alloc: Global, folder: &str, place: &str) -> Result<String, AllocError> {
+// The parts of a name as one, with each byte that would end or hide the line as `?`.
+fn shown(alloc: Global, parts: &[&str]) -> Result<String, AllocError> {
     let mut text = String::new(alloc);
-    for part in [folder, "/", place] {
+    for part in parts {
         for letter in part.chars() {
             text.push(if letter.is_control() { '?' } else { letter })?;
         }
@@ -15,11 +15,12 @@ fn place(alloc: Global, folder: &str, place: &str) -> Result<String, AllocError>
     Ok(text)
 }
 
-fn at(alloc: Global, folder: &str, path: &str) -> Result<String, AllocError> {
-    if path == "." {
-        return String::from_str(alloc, folder);
+// The name of a place of a folder.
+fn at(alloc: Global, folder: &str, place: &str) -> Result<String, AllocError> {
+    if place == "." {
+        return shown(alloc, &[folder]);
     }
-    place(alloc, folder, path)
+    shown(alloc, &[folder, "/", place])
 }
 
 // Why a place was not packed.

@@ -96,10 +96,10 @@ fn add_directory<R: Files + AllocGlobal + Clone + Drop>(
     Ok(())
 }
 
-// Why a directory was not listed.
+// Why a directory was not listed. The error of a name that is not text has no code of the system.
 fn list_fault(error: io::Error, dir: String) -> ListFault {
     match error.kind() {
-        ErrorKind::InvalidFilename => ListFault::NoText(dir),
+        ErrorKind::InvalidFilename if error.raw_os_error().is_none() => ListFault::NoText(dir),
         ErrorKind::OutOfMemory => ListFault::Memory,
         _ => ListFault::Failed(dir),
     }
@@ -309,7 +309,7 @@ impl<R: Files + AllocGlobal + Clone + Drop, W: Write + Drop> Folder for SystemFo
         match above.and_then(|_| write_of(&self.rt, place.as_str(), bytes)) {
             Ok(()) => Ok(()),
             Err(error) => match error.kind() {
-                ErrorKind::AlreadyExists => Err(WriteFault::Exists),
+                ErrorKind::AlreadyExists | ErrorKind::NotADirectory => Err(WriteFault::Exists),
                 ErrorKind::OutOfMemory => Err(WriteFault::Memory),
                 _ => {
                     self.faults = one_more(self.faults);

@@ -129,6 +129,8 @@ fn a_name_that_is_no_atom_is_refused(rt: HostRuntime) -> Result<(), Fail> {
     fs::write(&rt, "names/a b", "x")?;
     assert!(rt; packed(&rt, name)?.starts_with("names/a b: a name in it has"));
     assert!(rt; packed(&rt, "names/none")?.starts_with("names/none: cannot be read"));
+    let long = "n".repeat(rt.alloc(), 300)?;
+    assert!(rt; packed(&rt, long.as_str())?.ends_with(": cannot be read"));
     fs::remove_dir_all(&rt, name)?;
     Ok(())
 }
@@ -151,6 +153,11 @@ fn messages_are_one_line(rt: HostRuntime) -> Result<(), Fail> {
     let alloc = rt.alloc();
     let bad = PackFault::BadName(String::from_str(alloc, "a\nb")?);
     assert!(rt; pack_message(alloc, "f", &bad)?.starts_with("f/a?b: "));
+    let unlisted = PackFault::Unlisted(String::from_str(alloc, ".")?);
+    assert_eq!(rt;
+        pack_message(alloc, "a\nb", &unlisted)?.as_str(),
+        "a?b: cannot be read"
+    );
     let broken = bundle_message(alloc, BundleFault::BadBundle)?;
     assert_eq!(rt;
         broken.as_str(),

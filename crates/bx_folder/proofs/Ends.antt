@@ -1,6 +1,6 @@
 -- How unpacking ends where one of its steps refuses.
 use Rattle.std.proofs.Common.{◌≡◌, ℕ, ◌<◌, ◌+◌, List, [], ◌∷◌, ◌++◌, length, get_or, take, drop, codes, refl, ap, sym, subst, ◌∙◌, inl, inr, arith}
-use Rattle.std.specs.Prelude.{Contains, Option, Result, Ok, Err, IfOk, IfErr, MatchResult}
+use Rattle.std.specs.Prelude.{Contains, Option, Result, Ok, Err, IfOk, IfErr, OnErr, MatchResult}
 use Rattle.std.proofs.lemmas.List.{drop_more, get_or-map, length-map, map_more, map_push, take-append-drop, take-map}
 use Rattle.std.proofs.lemmas.List.Elements.{Contains-push_cases}
 use Rattle.bx_tree.specs.Bundle.{IsBundle}
@@ -9,7 +9,7 @@ use Rattle.bx_tree.specs.Trees.{Files, IsTree, paths_of}
 use Rattle.bx_tree.specs.Views.{file_of, files_of}
 use Rattle.bx_tree.specs.declared.tree_file.TreeFile.{TreeFile}
 use Rattle.bx_folder.specs.Folders.{IsFree, Known, Nodes, nodes_of, with_files, without}
-use Rattle.bx_folder.specs.Unpacking.{AreFree, AreFreeBut, EndsUnpack, IsFreeBut, HasFirst, IsClearFault, IsMade, IsMakeFault, IsStop, IsUnmade, IsUnpack, IsWayFault, removed, start}
+use Rattle.bx_folder.specs.Unpacking.{AreFree, AreFreeBut, EndsUnpack, HasFirst, IsCleared, IsFreeBut, IsMakeFault, IsNext, IsStop, IsUnpack, IsWayFault, removed, start}
 use Rattle.bx_folder.specs.declared.fault.UnpackFault.{UnpackFault}
 use Rattle.bx_folder.specs.declared.fault.UnpackFault.TheVariants as faults
 use Rattle.bx_folder.specs.declared.unpacking.Replace.{Replace}
@@ -18,31 +18,24 @@ use Rattle.bx_folder.proofs.Free.{added, free_after, to_map}
 
 -- where a file is in the way, or a place is not seen
 pub way_ends : (text : List ℕ) (replace : Replace) (holds : Option Nodes) (files : Files) (path : Atoms) (fault : UnpackFault)
-    → IsBundle text files → Contains (paths_of files) path → IsWayFault holds path fault → EndsUnpack text replace holds holds fault
-way_ends text replace holds files path (faults.Text fault) b c h = absurd h
-way_ends text replace holds files path (faults.Exists blamed) b c h = (
+    → IsBundle text files → Contains (paths_of files) path → (¬ IsCleared replace path) → IsWayFault holds path fault
+    → EndsUnpack text replace holds holds fault
+way_ends text replace holds files path (faults.Text fault) b c a h = absurd h
+way_ends text replace holds files path (faults.Exists blamed) b c a h = (
   refl,
   (files, b, subst (Contains (paths_of files)) (sym h.0) c),
   subst (λ p. Known holds (λ nodes. ¬ IsFree nodes (path_text p))) (sym h.0) h.1,
+  subst (λ p. ¬ IsCleared replace p) (sym h.0) a,
 )
-way_ends text replace holds files path (faults.Unseen blamed) b c h =
-    (refl, (files, b, subst (Contains (paths_of files)) (sym h) c))
-way_ends text replace holds files path (faults.Kept blamed) b c h = absurd h
-way_ends text replace holds files path (faults.Partly count blamed) b c h = absurd h
-way_ends text replace holds files path (faults.Taken count blamed) b c h = absurd h
-way_ends text replace holds files path (faults.Memory count) b c h = inl (h, inl refl)
-
--- where a place is not cleared
-pub clear_ends : (text : List ℕ) (replace : Replace) (before now : Option Nodes) (top : List ℕ) (fault : UnpackFault)
-    → replace ≡ replaces.Made → IsMade top → IsUnmade replace before now → IsClearFault top fault
-    → EndsUnpack text replace before now fault
-clear_ends text replace before now top (faults.Text fault) r m u h = absurd h
-clear_ends text replace before now top (faults.Exists path) r m u h = absurd h
-clear_ends text replace before now top (faults.Unseen path) r m u h = absurd h
-clear_ends text replace before now top (faults.Kept path) r m u h = (r, subst IsMade (sym h) m, u)
-clear_ends text replace before now top (faults.Partly count path) r m u h = absurd h
-clear_ends text replace before now top (faults.Taken count path) r m u h = absurd h
-clear_ends text replace before now top (faults.Memory count) r m u h = inl (h, u)
+way_ends text replace holds files path (faults.Unseen blamed) b c a h = (
+  refl,
+  (files, b, subst (Contains (paths_of files)) (sym h) c),
+  subst (λ p. ¬ IsCleared replace p) (sym h) a,
+)
+way_ends text replace holds files path (faults.Kept blamed) b c a h = absurd h
+way_ends text replace holds files path (faults.Partly count blamed) b c a h = absurd h
+way_ends text replace holds files path (faults.Taken count blamed) b c a h = absurd h
+way_ends text replace holds files path (faults.Memory count) b c a h = inl (h, inl refl)
 
 -- what a folder holds stays known where it is cleared
 unknown : (replace : Replace) (holds : Option Nodes) → Known (start replace holds) (λ _. ⊥) → Known holds (λ _. ⊥)
@@ -57,9 +50,9 @@ stop_ends text replace before now files (faults.Text fault) b h = absurd h
 stop_ends text replace before now files (faults.Exists path) b h = absurd h
 stop_ends text replace before now files (faults.Unseen path) b h = absurd h
 stop_ends text replace before now files (faults.Kept path) b h = absurd h
-stop_ends text replace before now files (faults.Partly count path) b h = ((files, b, h.0), (files, b, h.1.0, h.1.1))
+stop_ends text replace before now files (faults.Partly count path) b h = (files, b, h.0, h.1)
 stop_ends text replace before now files (faults.Taken count path) b h =
-    ((files, b, h.0), (files, b, h.1.0, h.1.1), unknown replace before h.2)
+    ((files, b, h.0, h.1), unknown replace before h.2)
 stop_ends text replace before now files (faults.Memory count) b h = inr (files, b, h.0, h.1)
 
 -- a list around one of its places
@@ -75,6 +68,10 @@ free_now nodes files i file l e t free =
     free_after nodes (take i files) file (drop (i + 1) files) (subst IsTree (sym whole) t)
     (free file.0 (to_map (λ (f : Atoms × List ℕ). f.0) files file (i, l, e)))
 
+-- a file comes after those before it
+next_at : (files : Files) (i : ℕ) (file : Atoms × List ℕ) → i < length files → get_or files i file ≡ file → IsNext files i file.0
+next_at files i file l e = (file.1, drop (i + 1) files, drop_more files i file l ∙ ap (λ f. f ∷ drop (i + 1) files) e)
+
 -- where the next file is not made
 pub make_stop : (before middle now : Option Nodes) (files : Files) (i : ℕ) (file : Atoms × List ℕ) (fault : UnpackFault)
     → i < length files → get_or files i file ≡ file → IsTree files → Known before (λ nodes. AreFree nodes files)
@@ -84,12 +81,12 @@ make_stop before middle now files i file (faults.Exists path) l e t free m n h =
 make_stop before middle now files i file (faults.Unseen path) l e t free m n h = absurd h
 make_stop before middle now files i file (faults.Kept path) l e t free m n h = absurd h
 make_stop before middle now files i file (faults.Partly count path) l e t free m n h = (
-  subst (Contains (paths_of files)) (sym h.1) (to_map (λ (f : Atoms × List ℕ). f.0) files file (i, l, e)),
-  subst (HasFirst before now files) (sym h.0) (omega (arith, l), n ∙ m),
+  subst (λ k. IsNext files k path) (sym h.0) (subst (IsNext files i) (sym h.1) (next_at files i file l e)),
+  subst (λ k. now ≡ with_files before (take k files)) (sym h.0) (n ∙ m),
 )
 make_stop before middle now files i file (faults.Taken count path) l e t free m n h = (
-  subst (Contains (paths_of files)) (sym h.1) (to_map (λ (f : Atoms × List ℕ). f.0) files file (i, l, e)),
-  subst (HasFirst before now files) (sym h.0) (omega (arith, l), n ∙ m),
+  subst (λ k. IsNext files k path) (sym h.0) (subst (IsNext files i) (sym h.1) (next_at files i file l e)),
+  subst (λ k. now ≡ with_files before (take k files)) (sym h.0) (n ∙ m),
   λ nodes known.
       h.2 (nodes ++ nodes_of (take i files)) (m ∙ ap (λ holds. with_files holds (take i files)) known)
       (free_now nodes files i file l e t (free nodes known)),
@@ -145,16 +142,22 @@ stop_at before middle now files i file fault l e t free m n h =
 
 -- how unpacking ends with the making of files
 pub made_ends : (text : List ℕ) (replace : Replace) (before middle now : Option Nodes) (files : List TreeFile) (tree : Files)
-    (r : Result ℕ UnpackFault) → IsBundle text tree → files_of files ≡ tree → middle ≡ start replace before
+    (r : Result ℕ UnpackFault) → IsBundle text tree → files_of files ≡ tree → middle ≡ start replace before → Known before (λ nodes. AreFreeBut replace nodes tree)
     → IfOk r (λ count. (count ≡ length files) × (now ≡ with_files middle (files_of files)))
     → IfErr r (IsStop middle now (files_of files))
     → MatchResult r (IsUnpack text replace before now) (EndsUnpack text replace before now)
-made_ends text replace before middle now files tree (Ok count) b e m h k = (
+made_ends text replace before middle now files tree (Ok count) b e m free h k = (
   tree,
   b,
   omega (arith, h.0, ap length e, length-map files file_of),
   h.1 ∙ ap (λ holds. with_files holds (files_of files)) m ∙ ap (with_files (start replace before)) e,
+  free,
 )
-made_ends text replace before middle now files tree (Err fault) b e m h k =
+made_ends text replace before middle now files tree (Err fault) b e m free h k =
     stop_ends text replace before now tree fault b
     (subst (λ fs. IsStop (start replace before) now fs fault) e (subst (λ holds. IsStop holds now (files_of files) fault) m k))
+
+-- what holds at any answer holds where there is an error
+pub on_any_err : {T E P : Type 0} (r : Result T E) → P → OnErr r P
+on_any_err (Ok x) p = tt
+on_any_err (Err e) p = p

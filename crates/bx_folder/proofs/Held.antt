@@ -85,7 +85,7 @@ entry_cause left_out nodes entry faults.ManyFiles is h = absurd h
 entry_cause left_out nodes entry faults.LargeText is h = absurd h
 entry_cause left_out nodes entry faults.Changed is h = h
 entry_cause left_out nodes entry (faults.Unlisted text) is h = tt
-entry_cause left_out nodes entry (faults.Unread path) is h = tt
+entry_cause left_out nodes entry (faults.Unread path) is h = absurd h
 entry_cause left_out nodes entry faults.Memory is h = tt
 
 -- ## Paths
@@ -308,7 +308,7 @@ text_cause left_out nodes paths files faults.Changed folder are same held h =
     (subst (IsStrictlySortedBy path_cmp) (sym same) are.rising)
     (λ path c. are.no_root path (subst (λ ps. Contains ps path) same c)) held)
 text_cause left_out nodes paths files (faults.Unlisted text) folder are same held h = tt
-text_cause left_out nodes paths files (faults.Unread path) folder are same held h = tt
+text_cause left_out nodes paths files (faults.Unread path) folder are same held h = absurd h
 text_cause left_out nodes paths files faults.Memory folder are same held h = tt
 
 -- what was read of a folder is held there

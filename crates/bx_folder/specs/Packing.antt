@@ -64,7 +64,8 @@ HasCauseIn left_out nodes faults.ManyFiles = HasManyFiles left_out nodes
 HasCauseIn left_out nodes faults.LargeText = HasLongText left_out nodes
 HasCauseIn left_out nodes faults.Changed = ⊥
 HasCauseIn left_out nodes (faults.Unlisted place) = ⊤
-HasCauseIn left_out nodes (faults.Unread path) = ⊤
+HasCauseIn left_out nodes (faults.Unread path) =
+    (bytes : List ℕ) × IsListed left_out nodes (path_text path) (File bytes)
 HasCauseIn left_out nodes faults.Memory = ⊤
 
 abbrev pub HasPackCause : List (List ℕ) → Option Nodes → PackFault → Type 0

@@ -1,5 +1,5 @@
 -- What a folder holds after a bundle was unpacked in it, and after that was refused.
-use Rattle.std.specs.Prelude.{◌≡◌, ◌≢◌, ℕ, ◌≤◌, List, length, take, Option, option_map, ◌⊎◌, codes}
+use Rattle.std.specs.Prelude.{◌≡◌, ◌≢◌, ℕ, ◌≤◌, List, ◌∷◌, length, take, drop, Option, option_map, ◌⊎◌, codes}
 use Rattle.std.specs.Prelude.{Contains, ⊤}
 use Rattle.bx_tree.specs.Paths.{Atoms, path_text}
 use Rattle.bx_tree.specs.Trees.{Files, paths_of}
@@ -16,6 +16,19 @@ use Rattle.bx_folder.specs.declared.unpacking.Replace.TheVariants as replaces
 abbrev pub IsMade : List ℕ → Type 0
 IsMade place = IsWithin place (codes "out") ⊎ IsWithin place (codes "report.txt")
 
+-- the path lies where a build makes files, and is cleared before a file is made
+abbrev pub IsCleared : Replace → Atoms → Type 0
+IsCleared replace path = (replace ≡ replaces.Made) × IsMade (path_text path)
+
+-- a file can be made at the path, or the path is cleared before
+abbrev pub IsFreeBut : Replace → Nodes → Atoms → Type 0
+IsFreeBut replace nodes path = IsCleared replace path ⊎ IsFree nodes (path_text path)
+
+-- each of these files can be made, or its path is cleared before
+abbrev pub AreFreeBut : Replace → Nodes → Files → Type 0
+AreFreeBut replace nodes files =
+    (path : Atoms) → Contains (paths_of files) path → IsFreeBut replace nodes path
+
 -- a folder without what lies at a place and below it
 abbrev pub removed : List ℕ → Option Nodes → Option Nodes
 removed top holds = option_map (without top) holds
@@ -25,16 +38,29 @@ abbrev pub start : Replace → Option Nodes → Option Nodes
 start replaces.Nothing holds = holds
 start replaces.Made holds = removed (codes "report.txt") (removed (codes "out") holds)
 
--- the text is a bundle of this many files, and the folder holds all of them beside what it held
+-- the text is a bundle of this many files, nothing was in the way of one, and the folder holds all of them
+-- beside what it held
 abbrev pub IsUnpack : List ℕ → Replace → Option Nodes → Option Nodes → ℕ → Type 0
 IsUnpack text replace before now count =
     (files : Files) × IsBundle text files × (count ≡ length files)
     × (now ≡ with_files (start replace before) files)
+    × Known before (λ nodes. AreFreeBut replace nodes files)
 
 -- the text is a bundle, and the folder holds the first files of it, of this number, beside what it held
 abbrev pub HoldsFirst : List ℕ → Replace → Option Nodes → Option Nodes → ℕ → Type 0
 HoldsFirst text replace before now count =
     (files : Files) × IsBundle text files × (count ≤ length files)
+    × (now ≡ with_files (start replace before) (take count files))
+
+-- the file after the first ones, of this number, has this path
+abbrev pub IsNext : Files → ℕ → Atoms → Type 0
+IsNext files count path = (bytes : List ℕ) × (rest : Files) × (drop count files ≡ (path, bytes) ∷ rest)
+
+-- the text is a bundle, the folder holds the first files of it, of this number, beside what it held, and the
+-- next file has this path
+abbrev pub StopsAt : List ℕ → Replace → Option Nodes → Option Nodes → ℕ → Atoms → Type 0
+StopsAt text replace before now count path =
+    (files : Files) × IsBundle text files × IsNext files count path
     × (now ≡ with_files (start replace before) (take count files))
 
 -- the text is a bundle with a file at this path
@@ -46,6 +72,13 @@ abbrev pub IsUnmade : Replace → Option Nodes → Option Nodes → Type 0
 IsUnmade replace before now =
     (now ≡ before) ⊎ ((replace ≡ replaces.Made) × (now ≡ removed (codes "out") before))
 
+-- the place is the first that is cleared, and the folder is as before, or it is the second, and the first one
+-- is cleared
+abbrev pub IsKept : List ℕ → Option Nodes → Option Nodes → Type 0
+IsKept top before now =
+    ((top ≡ codes "out") × (now ≡ before))
+    ⊎ ((top ≡ codes "report.txt") × (now ≡ removed (codes "out") before))
+
 -- Each refusal, with its cause and with what the folder holds after it. Where what a folder holds is known,
 -- nothing comes in the way of a file after the folder was looked through.
 abbrev pub EndsUnpack : List ℕ → Replace → Option Nodes → Option Nodes → UnpackFault → Type 0
@@ -53,13 +86,14 @@ EndsUnpack text replace before now (faults.Text fault) =
     (now ≡ before) × (fault ≢ bundle_faults.Memory) × Faults text fault
 EndsUnpack text replace before now (faults.Exists path) =
     (now ≡ before) × HasFile text path × Known before (λ nodes. ¬ IsFree nodes (path_text path))
-EndsUnpack text replace before now (faults.Unseen path) = (now ≡ before) × HasFile text path
+    × (¬ IsCleared replace path)
+EndsUnpack text replace before now (faults.Unseen path) =
+    (now ≡ before) × HasFile text path × (¬ IsCleared replace path)
 EndsUnpack text replace before now (faults.Kept path) =
-    (replace ≡ replaces.Made) × IsMade (path_text path) × IsUnmade replace before now
-EndsUnpack text replace before now (faults.Partly count path) =
-    HasFile text path × HoldsFirst text replace before now count
+    (replace ≡ replaces.Made) × IsKept (path_text path) before now
+EndsUnpack text replace before now (faults.Partly count path) = StopsAt text replace before now count path
 EndsUnpack text replace before now (faults.Taken count path) =
-    HasFile text path × HoldsFirst text replace before now count × Known before (λ _. ⊥)
+    StopsAt text replace before now count path × Known before (λ _. ⊥)
 EndsUnpack text replace before now (faults.Memory count) =
     ((count ≡ 0) × IsUnmade replace before now) ⊎ HoldsFirst text replace before now count
 
@@ -78,15 +112,6 @@ BlamesFolder (faults.Memory count) = ⊥
 -- each of these files can be made
 abbrev pub AreFree : Nodes → Files → Type 0
 AreFree nodes files = (path : Atoms) → Contains (paths_of files) path → IsFree nodes (path_text path)
-
--- a file can be made at the path, or lies at a place that is to be cleared
-abbrev pub IsFreeBut : Replace → Nodes → Atoms → Type 0
-IsFreeBut replace nodes path =
-    ((replace ≡ replaces.Made) × IsMade (path_text path)) ⊎ IsFree nodes (path_text path)
-
-abbrev pub AreFreeBut : Replace → Nodes → Files → Type 0
-AreFreeBut replace nodes files =
-    (path : Atoms) → Contains (paths_of files) path → IsFreeBut replace nodes path
 
 -- why it is not known that a file can be made at the path
 abbrev pub IsWayFault : Option Nodes → Atoms → UnpackFault → Type 0
@@ -131,7 +156,7 @@ IsStop before now files (faults.Exists path) = ⊥
 IsStop before now files (faults.Unseen path) = ⊥
 IsStop before now files (faults.Kept path) = ⊥
 IsStop before now files (faults.Partly count path) =
-    Contains (paths_of files) path × HasFirst before now files count
+    IsNext files count path × (now ≡ with_files before (take count files))
 IsStop before now files (faults.Taken count path) =
-    Contains (paths_of files) path × HasFirst before now files count × Known before (λ _. ⊥)
+    IsNext files count path × (now ≡ with_files before (take count files)) × Known before (λ _. ⊥)
 IsStop before now files (faults.Memory count) = HasFirst before now files count

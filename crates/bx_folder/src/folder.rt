@@ -112,8 +112,8 @@ pub trait Folder {
         ensures same { holds self.new ≡ holds self.old }
         ensures cause { HasCause (faults self.old) (faults self.new) (result ≡ Err FolderFault.Failed) };
 
-    /// Makes a file with these bytes, and the directories above it that are not there. After a refusal there
-    /// is no such file, and some of these directories may be there.
+    /// Makes a file with these bytes, and the directories above it that are not there. After a refusal it
+    /// has made no such file, and some of these directories may be there.
     fn write_new(&mut self, alloc: Global, path: &Path, bytes: &[u8]) -> Result<(), WriteFault>
         ensures made { OnOk result
             (holds self.new ≡ with_files (holds self.old) ((path.now, bytes.now) ∷ [])) }

@@ -9,8 +9,8 @@ ghost use Rattle.bx_tree.specs.Trees.{IsTree, paths_of};
 ghost use Rattle.bx_tree.specs.Views.{file_of, files_of};
 ghost use Rattle.bx_folder.specs.Folders.{IsFree, Known, Nodes, with_files};
 ghost use Rattle.bx_folder.specs.Unpacking.{AreFree, AreFreeBut, BlamesFolder, EndsUnpack, IsClearFault};
-ghost use Rattle.bx_folder.specs.Unpacking.{IsFreeBut, IsMade, IsMakeFault, IsStop, IsUnpack, IsWayFault};
-ghost use Rattle.bx_folder.specs.Unpacking.{removed, start};
+ghost use Rattle.bx_folder.specs.Unpacking.{IsCleared, IsFreeBut, IsMade, IsMakeFault, IsStop, IsUnpack};
+ghost use Rattle.bx_folder.specs.Unpacking.{IsWayFault, removed, start};
 
 use crate::fault::UnpackFault;
 use crate::folder::{Folder, FolderFault, WriteFault};
@@ -74,7 +74,17 @@ fn check_place<F: Folder>(alloc: Global, folder: &mut F, path: &Path) -> Result<
     }
 }
 
-// Looks whether a file can be made, unless it lies at a place that is cleared before.
+// Whether a path is cleared before files are made.
+fn is_cleared(path: &Path, replace: Replace) -> bool
+    ensures { IsTrue result ↔ IsCleared replace path.now }
+{
+    match replace {
+        Replace::Nothing => false,
+        Replace::Made => is_made(path),
+    }
+}
+
+// Looks whether a file can be made, unless its path is cleared before.
 fn check_file<F: Folder>(
     alloc: Global,
     folder: &mut F,
@@ -82,18 +92,19 @@ fn check_file<F: Folder>(
     replace: Replace,
 ) -> Result<(), UnpackFault>
     ensures free { OnOk result (Known (F.holds folder.old) (λ nodes. IsFreeBut replace nodes path.now)) }
+    ensures asked { OnErr result (¬ IsCleared replace path.now) }
     ensures fault { IfErr result (IsWayFault (F.holds folder.old) path.now) }
     ensures same { F.holds folder.new ≡ F.holds folder.old }
     ensures cause { HasCause (F.faults folder.old) (F.faults folder.new)
         (MatchResult result (λ _. ⊥) BlamesFolder) }
 {
-    if replace == Replace::Made && is_made(path) {
+    if is_cleared(path, replace) {
         return Ok(());
     }
     check_place(alloc, folder, path)
 }
 
-// Looks whether all files can be made, but for those at places that are cleared before.
+// Looks whether all files can be made, but for those whose paths are cleared before.
 fn check_places<F: Folder>(
     alloc: Global,
     folder: &mut F,
@@ -103,7 +114,7 @@ fn check_places<F: Folder>(
     ensures free { OnOk result (Known (F.holds folder.old)
         (λ nodes. AreFreeBut replace nodes (files_of files.now))) }
     ensures fault { IfErr result (λ fault. (path : _) × Contains (paths_of (files_of files.now)) path
-        × IsWayFault (F.holds folder.old) path fault) }
+        × (¬ IsCleared replace path) × IsWayFault (F.holds folder.old) path fault) }
     ensures same { F.holds folder.new ≡ F.holds folder.old }
     ensures cause { HasCause (F.faults folder.old) (F.faults folder.new)
         (MatchResult result (λ _. ⊥) BlamesFolder) }

@@ -1,5 +1,5 @@
 tool 1
-# fill DIRECTORY NAME..: a file of each name in the directory, with its name as its text.
+# fill DIRECTORY NAME NAME: a file of each name in the directory, with its name as its text. The second may be left out.
 arg r0, 0, bad
 arg r1, 1, done
 cat r3, r0, "/"

@@ -32,6 +32,7 @@ returns-in_err-check_file-clause-fault g c =
     rw (p.1, p.2) (
       file.path,
       has_path c.args.files.now c.files.file-index file c.files-test.true c.file-item.is,
+      c.in_err-check_file.ensures.asked,
       subst (λ h. IsWayFault h file.path c.in_err-check_file.field-0.0) c.files.invariant.same c.in_err-check_file.ensures.fault,
     )
 

@@ -25,7 +25,7 @@ returns-in_err-check_places-clause-unpacked g c =
     let way = c.in_err-check_places.ensures.fault in
     rw (p.1, p.2) (subst (λ now. EndsUnpack text c.args.replace before now fault) (sym c.in_err-check_places.ensures.same)
     (way_ends text c.args.replace before files way.0 fault
-    (subst (IsBundle text) (sym c.files.ensures.files) c.in_ok-tree.ensures.read) way.1 way.2))
+    (subst (IsBundle text) (sym c.files.ensures.files) c.in_ok-tree.ensures.read) way.1 way.2 way.3))
 
 pub returns-in_err-clear-clause-unpacked : goal.returns-in_err-clear-clause-unpacked
 returns-in_err-clear-clause-unpacked g c =
@@ -50,4 +50,6 @@ returns-clause-unpacked g c =
     made_ends c.args.text.now c.args.replace (g.F.Folder.holds c.args.folder.now) _ _ c.files-2.result.now c.in_ok-tree.tree
     c.make_files.result c.in_ok-tree.ensures.read c.files-2.ensures.files
     (c.in_ok-clear.ensures.gone ∙ ap (start c.args.replace) c.in_ok-check_places.ensures.same)
+    (subst (λ (fs : Files). Known (g.F.Folder.holds c.args.folder.now) (λ nodes. AreFreeBut c.args.replace nodes fs))
+    c.files.ensures.files c.in_ok-check_places.ensures.free)
     c.make_files.ensures.made c.make_files.ensures.fault
