@@ -86,7 +86,7 @@ digest_of_hex_text text h =
       text_is = w.text_is;
     }
 
--- such a text is read as its digest
+-- a text of hexadecimal digits in lower case, as many as a digest has, is read as its digest
 pub decoded : (text : List ℕ) → IsHexText text → (d : DigestWith text) × (decode_sized text 32 ≡ Ok d.digest)
 decoded text h =
     let d = digest_of_hex_text text h in

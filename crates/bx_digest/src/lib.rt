@@ -1,8 +1,9 @@
 //! SHA-256 digests, and bytes that are shared with their digest.
 //!
 //! Whatever the engine stores or compares by name is named by its digest, and whatever it hands from step
-//! to step is a blob, which is hashed where its digest is asked for. This crate depends on `sha2` and `hex`. It carries the promise
-//! that a blob's digest is SHA-256 of its bytes, and that a digest is written and read back exactly.
+//! to step is a blob, which is hashed where its digest is asked for. This crate depends on `sha2` and `hex`.
+//! It carries the promise that a blob's digest is SHA-256 of its bytes, and that a digest is written and read
+//! back exactly.
 #![tactic(auto)]
 
 mod blob;

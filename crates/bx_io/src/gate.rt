@@ -1,3 +1,5 @@
+//! Where each process passes before it is run.
+
 /// Where a worker passes on its way to a pip. It has no meaning for a build, and may hold its caller: a
 /// test can make two runs meet there.
 pub trait Gate: Sync {

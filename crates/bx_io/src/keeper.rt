@@ -1,6 +1,7 @@
 //! Keepers of results and their readers: what they hold, and when they may fail.
 
-ghost use Rattle.std.specs.Prelude.{◌≡◌, ◌≢◌, ℕ, ◌-◌, ◌^◌, ◌<◌, ◌≤◌, [], ◌∷◌, Option, IfOk, IfSome, OnOk, OnErr, Err};
+ghost use Rattle.std.specs.Prelude.{◌≡◌, ◌≢◌, ℕ, ◌-◌, ◌^◌, ◌<◌, ◌≤◌, [], ◌∷◌, Option, IfOk, IfSome, OnOk};
+ghost use Rattle.std.specs.Prelude.{OnErr, Err};
 ghost use Rattle.bx_io.specs.Causes.{CanRise, HasCause, IsWithin};
 ghost use Rattle.bx_io.specs.Names.{IsName};
 ghost use Rattle.bx_io.specs.Holdings.{AreNames, Holdings, Kept, Put, Drop, held_in, known_after};

@@ -2,7 +2,8 @@
 
 ghost use Rattle.std.specs.Prelude.{◌≡◌, ℕ, ◌+◌, ◌<◌, ◌≤◌, ◌++◌, List, Option, All};
 ghost use Rattle.bx_io.specs.Causes.{Rose, last_count};
-ghost use Rattle.bx_io.specs.Holdings.{AreNames, Change, Holdings, Kept, MakesPrefix, after, known_after, name_of};
+ghost use Rattle.bx_io.specs.Holdings.{AreNames, Change, Holdings, Kept, MakesPrefix, after, known_after};
+ghost use Rattle.bx_io.specs.Holdings.{name_of};
 ghost use Rattle.bx_io.specs.Names.{IsName};
 
 /// Two lists of changes that are made one after the other are one list, and what was cut off in either is a

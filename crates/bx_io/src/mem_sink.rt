@@ -1,4 +1,7 @@
-ghost use Rattle.std.specs.Prelude.{◌≡◌, ◌≤◌, ◌<◌, ◌-◌, ◌↔◌, ◌⊎◌, [], ◌++◌, length, take, min, Some, IsErr, IfOk, OnOk, OnErr};
+//! A sink in memory of which numbered calls fail.
+
+ghost use Rattle.std.specs.Prelude.{◌≡◌, ◌≤◌, ◌<◌, ◌-◌, ◌↔◌, ◌⊎◌, [], ◌++◌, length, take, min, Some, IsErr};
+ghost use Rattle.std.specs.Prelude.{IfOk, OnOk, OnErr};
 ghost use Rattle.bx_io.specs.Causes.{HasCause};
 ghost use Rattle.bx_io.specs.Numbered.{IsFaultDue, after_work, after_fault};
 

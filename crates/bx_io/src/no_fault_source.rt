@@ -1,3 +1,5 @@
+//! A source in memory that never fails.
+
 ghost use Rattle.std.specs.Prelude.{◌≡◌, ◌≤◌, ◌<◌, [], ◌++◌, length, take, drop, min, Some, Ok, IsOk, IfOk};
 
 use crate::fault::Failed;

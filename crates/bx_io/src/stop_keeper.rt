@@ -17,11 +17,11 @@ use std::marker::Model;
 
 /// What becomes of a call.
 enum Turn {
-    /// It goes to the inner keeper.
+    /// The call goes to the inner keeper.
     Passes,
-    /// It fails.
+    /// The call fails.
     Fails,
-    /// It answers that there is no memory, since no more faults can be counted.
+    /// The call answers that there is no memory, since no more faults can be counted.
     Full,
 }
 

@@ -4,7 +4,7 @@ use Rattle.std.specs.List.{AllByRecursion}
 use Rattle.bx_tree.specs.Bundle as bundles
 use Rattle.bx_tree.specs.declared.header.Header.{Header}
 
--- its parts, without their addresses
+-- the parts of a header, without their addresses
 abbrev pub header_of : Header → bundles.Header
 header_of h = record { digits = h.digits.now; path = h.path.now; rest = h.rest.now }
 

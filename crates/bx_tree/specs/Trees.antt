@@ -9,7 +9,7 @@ use Rattle.bx_tree.specs.Paths.{Atoms, IsPath, IsBelow, path_cmp, same_path}
 abbrev pub Files : Type 0
 Files = List (Atoms × List ℕ)
 
--- their paths, in order
+-- the paths of files, in order
 abbrev pub paths_of : Files → List Atoms
 paths_of files = map (λ f. f.0) files
 

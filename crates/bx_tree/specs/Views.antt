@@ -5,7 +5,7 @@ use Rattle.bx_tree.specs.Paths.{Atoms, path_text}
 use Rattle.bx_tree.specs.Trees.{Files}
 use Rattle.bx_tree.specs.declared.tree_file.TreeFile.{TreeFile}
 
--- its path and its bytes, without their addresses
+-- the path and the bytes of a file, without their addresses
 abbrev pub file_of : TreeFile → Atoms × List ℕ
 file_of f = (f.path, f.bytes.items)
 

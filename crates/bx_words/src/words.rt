@@ -12,7 +12,7 @@ use crate::setting::read_setting;
 /// Why words are no order.
 #[derive(Clone, Copy, Debug, PartialEq, Eq)]
 pub enum WordFault {
-    /// They are no command.
+    /// The words are no command.
     NoCommand,
 }
 

@@ -3,9 +3,13 @@ use Rattle.std.specs.Prelude.{map, option_map, Option}
 use Rattle.std.specs.declared.alloc.Global.{Global}
 use Rattle.std.specs.declared.boxed.Box.{Box}
 use Rattle.dscript_ast.specs.declared.precedence.TheConstants.{PRODUCT, SUM, RELATION, EQUALITY, AND, OR}
-use Rattle.dscript_ast.specs.TypeTree.{TypeTree, Union, Array, Named, Str, Number, Undefined, True, False, Body, Function, FieldTree, Field, MemberTree, Property, Method, to_types, to_fields, to_members}
+use Rattle.dscript_ast.specs.TypeTree.{TypeTree, Union, Array, Named, Str, Number, Undefined, True, False}
+use Rattle.dscript_ast.specs.TypeTree.{Body, Function, FieldTree, Field, MemberTree, Property, Method}
+use Rattle.dscript_ast.specs.TypeTree.{to_types, to_fields, to_members}
 use Rattle.dscript_ast.specs.ExprTree as tree
-use Rattle.dscript_ast.specs.ExprTree.{ParamTree, HeadTree, ExprTree, OperandTree, PartTree, ElementTree, PropTree, HoleTree, StmtTree, to_exprs, to_operands, to_parts, to_elements, to_props, to_holes, to_stmts, to_expr, to_stmt}
+use Rattle.dscript_ast.specs.ExprTree.{ParamTree, HeadTree, ExprTree, OperandTree, PartTree, ElementTree}
+use Rattle.dscript_ast.specs.ExprTree.{PropTree, HoleTree, StmtTree, to_exprs, to_operands, to_parts}
+use Rattle.dscript_ast.specs.ExprTree.{to_elements, to_props, to_holes, to_stmts, to_expr, to_stmt}
 use Rattle.dscript_ast.specs.FileTree as files
 use Rattle.dscript_ast.specs.FileTree.{MarkedTree, DeclTree, ImportTree, ItemTree, FileTree, to_marked}
 use Rattle.dscript_ast.specs.declared.type_node.TypeNode.{TypeNode}
@@ -24,9 +28,12 @@ use Rattle.dscript_ast.specs.declared.expr.PostfixPart.{PostfixPart}
 use Rattle.dscript_ast.specs.declared.expr.Element.{Element}
 use Rattle.dscript_ast.specs.declared.expr.Prop.{Prop}
 use Rattle.dscript_ast.specs.declared.expr.Hole.{Hole}
-use Rattle.dscript_ast.specs.declared.expr.Expr.TheOpen.{Expr-F, Stmt-F, PostfixPart-F, Prop-F, Element-F, Hole-F, Operand-F}
+use Rattle.dscript_ast.specs.declared.expr.Expr.TheOpen.{Expr-F, Stmt-F, PostfixPart-F, Prop-F, Element-F}
+use Rattle.dscript_ast.specs.declared.expr.Expr.TheOpen.{Hole-F, Operand-F}
 use Rattle.dscript_ast.specs.declared.expr.Expr.TheOpen as expr
-use Rattle.dscript_ast.specs.declared.expr.Expr.TheFolds.{fold-Expr, fold-Stmt, fold-Operand, fold-PostfixPart, fold-Element, fold-Prop, fold-Hole}
+use Rattle.dscript_ast.specs.declared.expr.Expr.TheFolds.{fold-Expr, fold-Stmt, fold-Operand}
+use Rattle.dscript_ast.specs.declared.expr.Expr.TheFolds.{fold-PostfixPart, fold-Element, fold-Prop}
+use Rattle.dscript_ast.specs.declared.expr.Expr.TheFolds.{fold-Hole}
 use Rattle.dscript_ast.specs.declared.file.Decl.{Decl}
 use Rattle.dscript_ast.specs.declared.file.Marked.{Marked}
 use Rattle.dscript_ast.specs.declared.file.Decl.TheOpen.{Decl-F, Marked-F}

@@ -1,14 +1,18 @@
 -- Binding: from syntax trees to trees in which each name is resolved.
 use Rattle.std.specs.Prelude.{ℕ, Bool, true, false, List, [], ◌∷◌, ◌++◌, drop, Option, Some, None, Ok}
 use Rattle.dscript_ast.specs.ExprTree as tree
-use Rattle.dscript_ast.specs.ExprTree.{ParamTree, HeadTree, ExprTree, OperandTree, PartTree, ElementTree, PropTree, HoleTree, StmtTree, MaybeExpr, MaybeStmt, ExprTrees, OperandTrees, PartTrees, ElementTrees, PropTrees, HoleTrees, StmtTrees}
+use Rattle.dscript_ast.specs.ExprTree.{ParamTree, HeadTree, ExprTree, OperandTree, PartTree, ElementTree}
+use Rattle.dscript_ast.specs.ExprTree.{PropTree, HoleTree, StmtTree, MaybeExpr, MaybeStmt, ExprTrees}
+use Rattle.dscript_ast.specs.ExprTree.{OperandTrees, PartTrees, ElementTrees, PropTrees, HoleTrees, StmtTrees}
 use Rattle.dscript_ast.specs.FileTree as file
 use Rattle.dscript_ast.specs.FileTree.{MarkedTree, DeclTree, MarkedTrees, ImportTree, ItemTree, Marked}
 use Rattle.dscript_ast.specs.declared.expr.LoopKind.{LoopKind}
 use Rattle.dscript_ast.specs.declared.expr.LoopKind.TheVariants as loops
 use Rattle.dscript_ast.specs.declared.file.Mark.{Mark}
 use Rattle.dscript_program.specs.BoundTree as bound
-use Rattle.dscript_program.specs.BoundTree.{ExprData, OperandData, PartData, ElementData, PropData, HoleData, StmtData, MaybeStmt as MaybeBound, BodyData, to_exprs, to_operands, to_parts, to_elements, to_props, to_holes, to_stmts}
+use Rattle.dscript_program.specs.BoundTree.{ExprData, OperandData, PartData, ElementData, PropData, HoleData}
+use Rattle.dscript_program.specs.BoundTree.{StmtData, MaybeStmt as MaybeBound, BodyData, to_exprs}
+use Rattle.dscript_program.specs.BoundTree.{to_operands, to_parts, to_elements, to_props, to_holes, to_stmts}
 use Rattle.dscript_program.specs.ProgramData as declares
 use Rattle.dscript_program.specs.ProgramData.{Dotted, KindData, DeclData}
 use Rattle.dscript_program.specs.declared.target.Target.{Target}
@@ -19,7 +23,8 @@ use Rattle.dscript_scopes.specs.Names.{World, FileNames}
 use Rattle.dscript_scopes.specs.declared.found.Found.{Found}
 use Rattle.dscript_scopes.specs.declared.local.Local.{Local}
 use Rattle.dscript_scopes.specs.Lookup.{Site, found_at, assigned, import_fault, module_fault}
-use Rattle.dscript_binding.specs.Walk.{Binds, ◌>>=◌, gives, in_turn, or_fault, no_fault, next_local, declare, within, function_in, declaration}
+use Rattle.dscript_binding.specs.Walk.{Binds, ◌>>=◌, gives, in_turn, or_fault, no_fault, next_local, declare}
+use Rattle.dscript_binding.specs.Walk.{within, function_in, declaration}
 
 -- ## What a block declares
 

@@ -1,5 +1,6 @@
 -- A function whose body is walked through.
-use Rattle.std.specs.Prelude.{◌≡◌, ℕ, ◌+◌, ◌-◌, true, List, [], ◌∷◌, ◌++◌, map, length, drop, nat_lt, slice_set}
+use Rattle.std.specs.Prelude.{◌≡◌, ℕ, ◌+◌, ◌-◌, true, List, [], ◌∷◌, ◌++◌, map, length, drop, nat_lt}
+use Rattle.std.specs.Prelude.{slice_set}
 use Rattle.std.specs.List.{filter}
 use Rattle.dscript_ast.specs.ExprTree.{ParamTree}
 use Rattle.dscript_ast.specs.Views.{param_tree}

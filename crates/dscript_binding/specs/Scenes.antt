@@ -8,8 +8,10 @@ use Rattle.std.specs.declared.alloc.Global.{Global}
 use Rattle.std.specs.declared.boxed.Box.{Box}
 use Rattle.std.specs.declared.vec.Vec.{Vec}
 use Rattle.dscript_program.specs.BoundTree as bound
-use Rattle.dscript_program.specs.BoundTree.{BodyData, OperandData, PartData, ElementData, PropData, HoleData, StmtData, MaybeStmt as MaybeBound, to_stmt}
-use Rattle.dscript_program.specs.Views.{element_data, expr_data, hole_data, operand_data, part_data, prop_data, stmt_data}
+use Rattle.dscript_program.specs.BoundTree.{BodyData, OperandData, PartData, ElementData, PropData, HoleData}
+use Rattle.dscript_program.specs.BoundTree.{StmtData, MaybeStmt as MaybeBound, to_stmt}
+use Rattle.dscript_program.specs.Views.{element_data, expr_data, hole_data, operand_data, part_data}
+use Rattle.dscript_program.specs.Views.{prop_data, stmt_data}
 use Rattle.dscript_program.specs.declared.bound.BoundElement.{BoundElement}
 use Rattle.dscript_program.specs.declared.bound.BoundExpr.{BoundExpr}
 use Rattle.dscript_program.specs.declared.bound.BoundHole.{BoundHole}
@@ -22,7 +24,8 @@ use Rattle.std.specs.Prelude.{ℕ, List, drop}
 use Rattle.dscript_scopes.specs.Lookup.{Site}
 use Rattle.dscript_scopes.specs.Names.{World}
 use Rattle.dscript_scopes.specs.Spaces.{site_data}
-use Rattle.dscript_binding.specs.Binding.{bind_expr, bind_maybe, bind_name, bind_operands, bind_parts, bind_stmt, bind_stmts, loop_local, stmt_locals, with_parts}
+use Rattle.dscript_binding.specs.Binding.{bind_expr, bind_maybe, bind_name, bind_operands, bind_parts}
+use Rattle.dscript_binding.specs.Binding.{bind_stmt, bind_stmts, loop_local, stmt_locals, with_parts}
 use Rattle.dscript_binding.specs.Walk.{Binds, ◌>>=◌, declare, gives, in_turn, within}
 use Rattle.dscript_binding.specs.declared.scene.Scene.{Scene}
 

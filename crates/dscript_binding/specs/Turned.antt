@@ -6,7 +6,7 @@ use Rattle.dscript_binding.specs.Walk.{Bound, Binds, in_turn}
 use Rattle.dscript_binding.specs.Walked.{here_of, table_of}
 use Rattle.dscript_binding.specs.declared.walker.Walker.{Walker}
 
--- these values, functions and names, and then those of the others
+-- the values, functions and names of some parts, and then those of the other parts
 abbrev pub after_turns : {A : Type 0} → List A → List FunctionData → List ℕ → Result (Bound (List A)) SpecKind
     → Result (Bound (List A)) SpecKind
 after_turns xs functions names (Ok b) = Ok (record {

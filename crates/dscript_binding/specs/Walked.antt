@@ -17,7 +17,8 @@ abbrev pub table_of : Walker → List FunctionData
 table_of w = map function_data w.functions.items
 
 -- The walker went from one place to another through a part of this meaning: it gathered the functions and the
--- names of the part, and is in the blocks that it was in, but that it may have declared locals of the innermost.
+-- names of the part, and is in the blocks that it was in, but that it may have declared locals of the
+-- innermost.
 pub record Walked {X A : Type 0} (view : X → A) (meaning : Binds A) (old new : Walker) (x : X) : Type 0 where
   pub functions : List FunctionData
   pub names : List ℕ

@@ -20,7 +20,7 @@ use std::collections::BTreeSet;
 /// A function whose body is walked through.
 #[derive(Drop)]
 pub(crate) struct OpenFunction {
-    /// Its place in the table.
+    /// The place of the function in the table.
     pub number: usize,
     pub first_local: u32,
     /// How many names came before.
@@ -40,7 +40,7 @@ fn add_once(numbers: &mut Vec<u32>, seen: &mut BTreeSet<u32>, number: u32) -> Re
     Ok(())
 }
 
-/// Those of the names that come before a function's first local, each once.
+/// The names that come before a function's first local, each once.
 fn captured(alloc: Global, names: &[u32], first: u32) -> Result<Vec<u32>, Memory>
     ensures { IfOk result (λ v. v.items ≡ each_once (filter (λ n. nat_lt n first) names.now)) }
 {

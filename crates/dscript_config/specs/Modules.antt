@@ -21,7 +21,7 @@ pub record DescriptionData : Type 0 where
 abbrev pub name_in : ExprTree → Option (List ℕ)
 name_in e = option_and_then (λ text. if is_empty text then None else Some text) (string_of e)
 
--- these are below the directory and end in `.dsc`
+-- all of the paths are below the directory and end in `.dsc`
 abbrev pub are_projects : Atoms → List Atoms → Bool
 are_projects dir paths = list_all (λ path. is_below dir path && is_specification path) paths
 

@@ -2,7 +2,7 @@
 
 ghost use Rattle.std.specs.Prelude.{◌≤◌, length, MatchResult};
 ghost use Rattle.dscript_ast.specs.Views.{file_tree};
-ghost use Rattle.dscript_lex.specs.declared.limits.TheConstants.{MAX_TEXT_BYTES};
+ghost use Rattle.dscript_lex.specs.declared.limits.TheConstants.{MAX_LEXED_BYTES};
 ghost use Rattle.dscript_grammar.specs.declared.height.TheConstants.{MAX_HEIGHT};
 ghost use Rattle.dscript_print.specs.Printing.{Reads};
 ghost use Rattle.dscript_format.specs.Layouts.{IsLaidOut, Refuses};
@@ -17,7 +17,7 @@ use std::alloc::Global;
 /// The file of this form that the text is.
 #[tactic(auto, using(dscript_parse::proofs::TokenCount::at_most_bytes))]
 fn file_of(alloc: Global, text: &[u8], form: Form) -> Result<File, LayoutFault>
-    requires { length text.now ≤ MAX_TEXT_BYTES }
+    requires { length text.now ≤ MAX_LEXED_BYTES }
     ensures { MatchResult result
         (λ file. Reads form text.now (file_tree file) MAX_HEIGHT)
         (λ fault. Refuses fault form text.now) }
@@ -38,7 +38,7 @@ fn file_of(alloc: Global, text: &[u8], form: Form) -> Result<File, LayoutFault>
 /// quotes, escapes and parentheses are those that it chooses.
 #[tactic(auto, using(crate::proofs::RoundTrip::laid_out))]
 pub fn lay_out(alloc: Global, text: &[u8], form: Form) -> Result<Vec<u8>, LayoutFault>
-    requires { length text.now ≤ MAX_TEXT_BYTES }
+    requires { length text.now ≤ MAX_LEXED_BYTES }
     ensures { MatchResult result
         (λ laid. IsLaidOut form text.now laid.items)
         (λ fault. Refuses fault form text.now) }

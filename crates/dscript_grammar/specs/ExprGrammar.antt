@@ -1,17 +1,26 @@
 -- The grammar of expressions and statements. Rules are written as in docs/FORMATS.md.
 use Rattle.std.specs.Prelude.{◌≡◌, ℕ, zero, suc, ◌≤◌, Bool, true, false, List, [], ◌∷◌, length}
 use Rattle.dscript_lex.specs.declared.token.TokenKind.TheVariants as kinds
-use Rattle.dscript_grammar.specs.Language.{Language, never, token, keyword, punctuator, name, identifier, string, ◌⋅◌, either, given, only_if, optional, many, list, not_before}
+use Rattle.dscript_grammar.specs.Language.{Language, never, token, keyword, punctuator, name, identifier}
+use Rattle.dscript_grammar.specs.Language.{string, ◌⋅◌, either, given, only_if, optional, many, list}
+use Rattle.dscript_grammar.specs.Language.{not_before}
 use Rattle.dscript_ast.specs.TypeTree.{TypeTree}
 use Rattle.dscript_grammar.specs.TypeGrammar.{any_type, type_at}
-use Rattle.dscript_ast.specs.ExprTree.{ParamTree, HeadTree, Single, Params, ExprTree, Arrow, BlockArrow, Cond, Chain, Unary, Postfix, Number, Str, True, False, Undefined, Template, Path, Name, Elements, Object, OperandTree, Operand, PartTree, Member, Index, Call, ElementTree, Element, PropTree, Named, Quoted, Short, Spread, HoleTree, Hole, StmtTree, Const, Let, Assign, If, For, Return, Value, Block, Empty, MaybeStmt, no_stmt, a_stmt, expr_of, exprs_of, operands_of, parts_of, elements_of, props_of, holes_of, stmts_of}
+use Rattle.dscript_ast.specs.ExprTree.{ParamTree, HeadTree, Single, Params, ExprTree, Arrow, BlockArrow, Cond}
+use Rattle.dscript_ast.specs.ExprTree.{Chain, Unary, Postfix, Number, Str, True, False, Undefined, Template}
+use Rattle.dscript_ast.specs.ExprTree.{Path, Name, Elements, Object, OperandTree, Operand, PartTree, Member}
+use Rattle.dscript_ast.specs.ExprTree.{Index, Call, ElementTree, Element, PropTree, Named, Quoted, Short}
+use Rattle.dscript_ast.specs.ExprTree.{Spread, HoleTree, Hole, StmtTree, Const, Let, Assign, If, For, Return}
+use Rattle.dscript_ast.specs.ExprTree.{Value, Block, Empty, MaybeStmt, no_stmt, a_stmt, expr_of, exprs_of}
+use Rattle.dscript_ast.specs.ExprTree.{operands_of, parts_of, elements_of, props_of, holes_of, stmts_of}
 use Rattle.dscript_ast.specs.declared.expr.LoopKind.{LoopKind}
 use Rattle.dscript_ast.specs.declared.expr.LoopKind.TheVariants as loops
 use Rattle.dscript_ast.specs.declared.operator.BinaryOp.{BinaryOp}
 use Rattle.dscript_ast.specs.declared.expr.PathKind.{PathKind}
 use Rattle.dscript_ast.specs.declared.expr.PathKind.TheVariants as letters
 use Rattle.dscript_ast.specs.declared.operator.UnaryOp.{UnaryOp}
-use Rattle.dscript_ast.specs.declared.precedence.TheConstants.{PRIMARY, POSTFIX, UNARY, PRODUCT, OR, CONDITIONAL, ARROW}
+use Rattle.dscript_ast.specs.declared.precedence.TheConstants.{PRIMARY, POSTFIX, UNARY, PRODUCT, OR}
+use Rattle.dscript_ast.specs.declared.precedence.TheConstants.{CONDITIONAL, ARROW}
 use Rattle.dscript_ast.specs.Operators.{precedence, spelling, unary_spelling}
 
 -- The precedence level of an expression. Each rule derives the expressions of its own level and of those that

@@ -1,11 +1,21 @@
 -- Reading expressions and statements.
-use Rattle.std.specs.Prelude.{ℕ, zero, suc, max, Bool, true, false, not, ◌||◌, List, [], ◌∷◌, length, Option, Some, None, nat_eq, codes, bytes_eq}
+use Rattle.std.specs.Prelude.{ℕ, zero, suc, max, Bool, true, false, not, ◌||◌, List, [], ◌∷◌, length, Option}
+use Rattle.std.specs.Prelude.{Some, None, nat_eq, codes, bytes_eq}
 use Rattle.dscript_lex.specs.declared.token.TokenKind.{TokenKind}
 use Rattle.dscript_lex.specs.declared.token.TokenKind.TheVariants as kinds
-use Rattle.dscript_grammar.specs.Reading.{Read, Reader, got, ◌>>=◌, choose, pick, at_punctuator, take_punctuator, take_keyword, read_name, read_identifier, read_string, read_flag, read_many, read_list}
+use Rattle.dscript_grammar.specs.Reading.{Read, Reader, got, ◌>>=◌, choose, pick, at_punctuator}
+use Rattle.dscript_grammar.specs.Reading.{take_punctuator, take_keyword, read_name, read_identifier}
+use Rattle.dscript_grammar.specs.Reading.{read_string, read_flag, read_many, read_list}
 use Rattle.dscript_ast.specs.TypeTree.{TypeTree}
 use Rattle.dscript_grammar.specs.TypeReading.{above, at_identifier, read_type}
-use Rattle.dscript_ast.specs.ExprTree.{ParamTree, HeadTree, Single, Params, ExprTree, Arrow, BlockArrow, Cond, Chain, Unary, Postfix, Number, Str, True, False, Undefined, Template, Path, Name, Elements, Object, OperandTree, Operand, PartTree, Member, Index, Call, ElementTree, Element, PropTree, Named, Quoted, Short, Spread, HoleTree, Hole, StmtTree, Const, Let, Assign, If, For, Return, Value, Block, Empty, no_expr, an_expr, no_stmt, a_stmt, to_exprs, to_operands, to_parts, to_elements, to_props, to_holes, to_stmts, to_expr}
+use Rattle.dscript_ast.specs.ExprTree.{ParamTree, HeadTree, Single, Params, ExprTree, Arrow, BlockArrow, Cond}
+use Rattle.dscript_ast.specs.ExprTree.{Chain, Unary, Postfix, Number, Str, True, False, Undefined, Template}
+use Rattle.dscript_ast.specs.ExprTree.{Path, Name, Elements, Object, OperandTree, Operand, PartTree, Member}
+use Rattle.dscript_ast.specs.ExprTree.{Index, Call, ElementTree, Element, PropTree, Named, Quoted, Short}
+use Rattle.dscript_ast.specs.ExprTree.{Spread, HoleTree, Hole, StmtTree, Const, Let, Assign, If, For, Return}
+use Rattle.dscript_ast.specs.ExprTree.{Value, Block, Empty, no_expr, an_expr, no_stmt, a_stmt, to_exprs}
+use Rattle.dscript_ast.specs.ExprTree.{to_operands, to_parts, to_elements, to_props, to_holes, to_stmts}
+use Rattle.dscript_ast.specs.ExprTree.{to_expr}
 use Rattle.dscript_ast.specs.Operators.{precedence, spelling}
 use Rattle.dscript_ast.specs.declared.expr.LoopKind.{LoopKind}
 use Rattle.dscript_ast.specs.declared.expr.LoopKind.TheVariants as loops

@@ -1,11 +1,14 @@
 -- The grammar of files. Rules are written as in docs/FORMATS.md.
 use Rattle.std.specs.Prelude.{ℕ, zero, suc, List, [], ◌∷◌}
-use Rattle.dscript_grammar.specs.Language.{Language, nothing, never, keyword, punctuator, identifier, string, ◌⋅◌, optional, many, separated, list}
+use Rattle.dscript_grammar.specs.Language.{Language, nothing, never, keyword, punctuator, identifier, string}
+use Rattle.dscript_grammar.specs.Language.{◌⋅◌, optional, many, separated, list}
 use Rattle.dscript_ast.specs.TypeTree.{TypeTree}
 use Rattle.dscript_grammar.specs.TypeGrammar.{any_type, type_at, body}
 use Rattle.dscript_ast.specs.ExprTree.{StmtTree}
 use Rattle.dscript_grammar.specs.ExprGrammar.{any_expr, expr_at, stmt_at, type_note, params}
-use Rattle.dscript_ast.specs.FileTree.{MarkedTree, Marked, DeclTree, Const, Function, Namespace, Interface, TypeAlias, marked_of, ImportTree, ItemTree, ImportAll, ImportNames, Declared, Empty, FileTree, Project, Config, Module}
+use Rattle.dscript_ast.specs.FileTree.{MarkedTree, Marked, DeclTree, Const, Function, Namespace, Interface}
+use Rattle.dscript_ast.specs.FileTree.{TypeAlias, marked_of, ImportTree, ItemTree, ImportAll, ImportNames}
+use Rattle.dscript_ast.specs.FileTree.{Declared, Empty, FileTree, Project, Config, Module}
 use Rattle.dscript_ast.specs.declared.file.Form.{Form}
 use Rattle.dscript_ast.specs.declared.file.Form.TheVariants as forms
 use Rattle.dscript_ast.specs.declared.file.Mark.{Mark}

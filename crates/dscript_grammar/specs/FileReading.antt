@@ -1,12 +1,18 @@
 -- Reading files.
-use Rattle.std.specs.Prelude.{ℕ, zero, suc, ◌-◌, max, Bool, true, false, not, ◌&&◌, List, [], ◌∷◌, length, Option, Some, None, nat_le}
+use Rattle.std.specs.Prelude.{ℕ, zero, suc, ◌-◌, max, Bool, true, false, not, ◌&&◌, List, [], ◌∷◌, length}
+use Rattle.std.specs.Prelude.{Option, Some, None, nat_le}
 use Rattle.dscript_lex.specs.declared.token.TokenKind.{TokenKind}
-use Rattle.dscript_grammar.specs.Reading.{Read, Reader, got, ◌>>=◌, choose, pick, at_punctuator, take_punctuator, take_keyword, read_identifier, read_string, read_many, read_separated, read_list}
+use Rattle.dscript_grammar.specs.Reading.{Read, Reader, got, ◌>>=◌, choose, pick, at_punctuator}
+use Rattle.dscript_grammar.specs.Reading.{take_punctuator, take_keyword, read_identifier, read_string}
+use Rattle.dscript_grammar.specs.Reading.{read_many, read_separated, read_list}
 use Rattle.dscript_ast.specs.TypeTree.{TypeTree}
 use Rattle.dscript_grammar.specs.TypeReading.{read_type, read_body}
 use Rattle.dscript_ast.specs.ExprTree.{ExprTree}
-use Rattle.dscript_grammar.specs.ExprReading.{read_expr, read_stmt, read_note, read_params, read_block, read_value}
-use Rattle.dscript_ast.specs.FileTree.{MarkedTree, Marked, DeclTree, Const, Function, Namespace, Interface, TypeAlias, to_marked, ImportTree, ItemTree, ImportAll, ImportNames, Declared, Empty, FileTree, Project, Config, Module}
+use Rattle.dscript_grammar.specs.ExprReading.{read_expr, read_stmt, read_note, read_params, read_block}
+use Rattle.dscript_grammar.specs.ExprReading.{read_value}
+use Rattle.dscript_ast.specs.FileTree.{MarkedTree, Marked, DeclTree, Const, Function, Namespace, Interface}
+use Rattle.dscript_ast.specs.FileTree.{TypeAlias, to_marked, ImportTree, ItemTree, ImportAll, ImportNames}
+use Rattle.dscript_ast.specs.FileTree.{Declared, Empty, FileTree, Project, Config, Module}
 use Rattle.dscript_ast.specs.declared.file.Form.{Form}
 use Rattle.dscript_grammar.specs.declared.height.TheConstants.{MAX_HEIGHT}
 use Rattle.dscript_ast.specs.declared.file.Form.TheVariants as forms
@@ -163,7 +169,7 @@ read_items depth (suc n) ts =
     choose (read_item depth ts) (no_items ts)
     (λ i. pick (nat_le i.height depth) (item_before i (read_items depth n i.rest)) (no_items ts))
 
--- all of them
+-- the items at the start of the tokens, as many as there are
 abbrev pub items_of : ℕ → List TokenKind → Read (List ItemTree)
 items_of depth ts = read_items depth (length ts) ts
 

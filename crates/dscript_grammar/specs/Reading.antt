@@ -1,7 +1,8 @@
 -- Reading at the start of a list of tokens. A reader gives a value, the height of its highest node and the
 -- tokens after it, or nothing. The readers of the rules find the one tree that the grammar derives.
 use Prim.Native.String.{String}
-use Rattle.std.specs.Prelude.{ℕ, zero, suc, max, Bool, true, false, List, [], ◌∷◌, Option, Some, None, codes, bytes_eq}
+use Rattle.std.specs.Prelude.{ℕ, zero, suc, max, Bool, true, false, List, [], ◌∷◌, Option, Some, None, codes}
+use Rattle.std.specs.Prelude.{bytes_eq}
 use Rattle.dscript_lex.specs.declared.token.TokenKind.{TokenKind}
 use Rattle.dscript_lex.specs.declared.token.TokenKind.TheVariants as kinds
 use Rattle.dscript_grammar.specs.Language.{is_reserved}

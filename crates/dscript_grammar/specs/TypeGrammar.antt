@@ -11,8 +11,12 @@
 -- followed neither by `|` nor by `[`.
 use Rattle.std.specs.Prelude.{ℕ, zero, suc, ◌≤◌, List, [], ◌∷◌, length}
 use Rattle.dscript_lex.specs.declared.token.TokenKind.TheVariants as kinds
-use Rattle.dscript_grammar.specs.Language.{Language, nothing, never, token, keyword, punctuator, name, identifier, string, ◌⋅◌, either, given, only_if, many, times, separated, list}
-use Rattle.dscript_ast.specs.TypeTree.{TypeTree, Union, Array, Named, Str, Number, Undefined, True, False, Body, Function, FieldTree, Field, MemberTree, Property, Method, TypeTrees, no_types, more_types, types_of, fields_of, members_of}
+use Rattle.dscript_grammar.specs.Language.{Language, nothing, never, token, keyword, punctuator, name}
+use Rattle.dscript_grammar.specs.Language.{identifier, string, ◌⋅◌, either, given, only_if, many, times}
+use Rattle.dscript_grammar.specs.Language.{separated, list}
+use Rattle.dscript_ast.specs.TypeTree.{TypeTree, Union, Array, Named, Str, Number, Undefined, True, False}
+use Rattle.dscript_ast.specs.TypeTree.{Body, Function, FieldTree, Field, MemberTree, Property, Method}
+use Rattle.dscript_ast.specs.TypeTree.{TypeTrees, no_types, more_types, types_of, fields_of, members_of}
 
 -- The precedence level of a type: a smaller number binds tighter.
 abbrev pub type_precedence : TypeTree → ℕ

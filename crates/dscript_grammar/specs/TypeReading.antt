@@ -1,10 +1,15 @@
 -- Reading types.
-use Rattle.std.specs.Prelude.{ℕ, zero, suc, max, Bool, false, not, ◌||◌, List, [], ◌∷◌, length, Option, None, nat_le, codes, bytes_eq}
+use Rattle.std.specs.Prelude.{ℕ, zero, suc, max, Bool, false, not, ◌||◌, List, [], ◌∷◌, length, Option, None}
+use Rattle.std.specs.Prelude.{nat_le, codes, bytes_eq}
 use Rattle.dscript_lex.specs.declared.token.TokenKind.{TokenKind}
 use Rattle.dscript_lex.specs.declared.token.TokenKind.TheVariants as kinds
 use Rattle.dscript_grammar.specs.Language.{is_reserved}
-use Rattle.dscript_grammar.specs.Reading.{Read, Reader, got, ◌>>=◌, choose, pick, at_punctuator, take_punctuator, read_name, read_identifier, read_flag, read_many, read_separated, read_list}
-use Rattle.dscript_ast.specs.TypeTree.{TypeTree, Union, Array, Named, Str, Number, Undefined, True, False, Body, Function, FieldTree, Field, MemberTree, Property, Method, TypeTrees, no_types, to_types, to_fields, to_members}
+use Rattle.dscript_grammar.specs.Reading.{Read, Reader, got, ◌>>=◌, choose, pick, at_punctuator}
+use Rattle.dscript_grammar.specs.Reading.{take_punctuator, read_name, read_identifier, read_flag, read_many}
+use Rattle.dscript_grammar.specs.Reading.{read_separated, read_list}
+use Rattle.dscript_ast.specs.TypeTree.{TypeTree, Union, Array, Named, Str, Number, Undefined, True, False}
+use Rattle.dscript_ast.specs.TypeTree.{Body, Function, FieldTree, Field, MemberTree, Property, Method}
+use Rattle.dscript_ast.specs.TypeTree.{TypeTrees, no_types, to_types, to_fields, to_members}
 
 -- a node over parts of this height, if the depth allows one level more
 unfoldable pub above : {X : Type 0} → ℕ → ℕ → X → List TokenKind → Option (Read X)

@@ -1,7 +1,7 @@
 //! The grammar of DScript: which list of tokens is which file.
 //!
-//! `specs/` has the rules as a relation between trees and lists of tokens, and the same rules once more as a
-//! reader, which finds the one tree. docs/FORMATS.md has the rules in prose. This crate depends on
+//! `specs/` has the rules as a relation between trees and lists of tokens, and once more as a reader, which
+//! finds the one tree. docs/FORMATS.md has the rules in prose. This crate depends on
 //! `dscript_ast` for trees and on `dscript_lex` for tokens. It carries the promises that a list of tokens has
 //! one file at most, that the reader is sound and complete, and that a list of tokens without a file has one
 //! place where it is refused.

@@ -1,15 +1,18 @@
 -- What a whole text is, where it is one lexeme: a blank, a comment, or the spelling of one token.
-use Rattle.std.specs.Prelude.{ℕ, ◌+◌, ◌*◌, Bool, true, false, not, ◌&&◌, ◌||◌, ◌==◌, nat_le, List, [], ◌∷◌, Option, Some, None, pos, if◌then◌else◌, fold}
+use Rattle.std.specs.Prelude.{ℕ, ◌+◌, ◌*◌, Bool, true, false, not, ◌&&◌, ◌||◌, ◌==◌, nat_le, List, [], ◌∷◌}
+use Rattle.std.specs.Prelude.{Option, Some, None, pos, if◌then◌else◌, fold}
 use Rattle.std.specs.List.{list_all}
 use Rattle.std.specs.Char.{is_ascii_digit, is_ascii_hexdigit}
 use Rattle.dscript_lex.specs.declared.limits.TheConstants.{MAX_NUMBER}
 use Rattle.dscript_lex.specs.declared.token.TokenKind.{TokenKind}
-use Rattle.dscript_lex.specs.declared.token.TokenKind.TheVariants.{Word, Number, Str, Whole, Head, Middle, Tail, Punct}
+use Rattle.dscript_lex.specs.declared.token.TokenKind.TheVariants.{Word, Number, Str, Whole, Head, Middle}
+use Rattle.dscript_lex.specs.declared.token.TokenKind.TheVariants.{Tail, Punct}
 use Rattle.dscript_lex.specs.declared.lexeme.LexemeKind.{LexemeKind}
 use Rattle.dscript_lex.specs.declared.lexeme.LexemeKind.TheVariants.{Blank, Comment, Spelled}
 use Rattle.dscript_lex.specs.declared.opening.Opening.{Opening}
 use Rattle.dscript_lex.specs.declared.opening.Opening.TheVariants as openings
-use Rattle.dscript_lex.specs.Bytes.{is_blank, is_word_start, is_word_byte, digit_value, begins_with, escape_of}
+use Rattle.dscript_lex.specs.Bytes.{is_blank, is_word_start, is_word_byte, digit_value, begins_with}
+use Rattle.dscript_lex.specs.Bytes.{escape_of}
 use Rattle.dscript_lex.specs.Punctuators.{is_punctuator}
 
 -- Which lexeme a byte begins. A `}` begins the next part of a template in a hole, and is a punctuator

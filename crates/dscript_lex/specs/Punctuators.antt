@@ -2,7 +2,7 @@
 use Rattle.std.specs.Prelude.{ℕ, Bool, true, false, ◌&&◌, ◌==◌, List, [], ◌∷◌, codes}
 use Rattle.std.specs.List.{list_any}
 
--- those of one byte, of two and of three
+-- the punctuators of one byte, of two and of three
 abbrev pub punctuators_of_one : List ℕ
 punctuators_of_one = codes "{}()[].;,<>+-*!?:=|/%&^~"
 

@@ -1,5 +1,6 @@
 -- The longest lexeme at the start of a text, as it is scanned from the start.
-use Rattle.std.specs.Prelude.{◌≡◌, ℕ, zero, suc, ◌+◌, ◌<◌, ◌≤◌, Bool, true, false, not, ◌&&◌, ◌==◌, List, [], ◌∷◌, length, take, drop, Option, Some, None, pos, IfSome, if◌then◌else◌}
+use Rattle.std.specs.Prelude.{◌≡◌, ℕ, zero, suc, ◌+◌, ◌<◌, ◌≤◌, Bool, true, false, not, ◌&&◌, ◌==◌, List, []}
+use Rattle.std.specs.Prelude.{◌∷◌, length, take, drop, Option, Some, None, pos, IfSome, if◌then◌else◌}
 use Rattle.std.specs.List.{prefix_len}
 use Rattle.dscript_lex.specs.declared.token.TokenKind.TheVariants.{Word, Number, Str, Punct}
 use Rattle.dscript_lex.specs.declared.lexeme.LexemeKind.TheVariants.{Blank, Comment, Spelled}

@@ -1,6 +1,7 @@
 -- The tokens of a text, and the place at which a text has none. A text is cut into lexemes: blanks,
 -- comments and the spellings of tokens. At each place the longest lexeme is cut off.
-use Rattle.std.specs.Prelude.{◌≡◌, ℕ, ◌+◌, ◌<◌, ◌≤◌, Bool, true, false, ◌==◌, nat_eq, List, [], ◌∷◌, ◌++◌, length, drop, slice_range, Some, if◌then◌else◌}
+use Rattle.std.specs.Prelude.{◌≡◌, ℕ, ◌+◌, ◌<◌, ◌≤◌, Bool, true, false, ◌==◌, nat_eq, List, [], ◌∷◌, ◌++◌}
+use Rattle.std.specs.Prelude.{length, drop, slice_range, Some, if◌then◌else◌}
 use Rattle.std.specs.List.{flat_map, starts_with, AllByRecursion}
 use Rattle.dscript_lex.specs.declared.token.Token.{Token}
 use Rattle.dscript_lex.specs.declared.token.TokenKind.TheVariants.{Head, Middle, Tail, Punct}

@@ -3,7 +3,8 @@
 ghost use Rattle.std.specs.Prelude.{◌≡◌, ◌≤◌, length};
 ghost use Rattle.std.specs.Char.{is_ascii_hexdigit};
 ghost use Rattle.std.specs.List.{prefix_len};
-ghost use Rattle.dscript_lex.specs.Bytes.{is_blank, is_word_start, is_word_byte, is_escaped_as_itself, digit_value};
+ghost use Rattle.dscript_lex.specs.Bytes.{is_blank, is_word_start, is_word_byte, is_escaped_as_itself};
+ghost use Rattle.dscript_lex.specs.Bytes.{digit_value};
 
 pub(crate) fn is_blank(byte: u8) -> bool
     ensures { result ≡ is_blank byte }

@@ -6,7 +6,7 @@ ghost use Rattle.dscript_lex.specs.Tokens.{mark_len, token_of, AreTokens, Refuse
 use crate::brackets::{follow, has_no_hole, in_hole};
 use crate::fault::LexFault;
 use crate::lexeme::LexemeKind;
-use crate::limits::MAX_TEXT_BYTES;
+use crate::limits::MAX_LEXED_BYTES;
 use crate::punctuator_texts::PunctuatorTexts;
 use crate::scanner::scan;
 use crate::token::Token;
@@ -31,8 +31,8 @@ fn push_token(
     start: usize,
     end: usize,
 ) -> Result<(), AllocError>
-    requires start { start ≤ MAX_TEXT_BYTES }
-    requires end { end ≤ MAX_TEXT_BYTES }
+    requires start { start ≤ MAX_LEXED_BYTES }
+    requires end { end ≤ MAX_LEXED_BYTES }
     ensures { OnOk result (tokens.new.items ≡ tokens.old.items ++ token_of start end kind) }
 {
     if let LexemeKind::Spelled(kind) = kind {
@@ -47,7 +47,7 @@ fn push_token(
 
 /// The tokens of a text, in order. docs/FORMATS.md says how tokens are spelled.
 pub fn lex(alloc: Global, bytes: &[u8]) -> Result<Vec<Token>, LexFault>
-    requires { length bytes.now ≤ MAX_TEXT_BYTES }
+    requires { length bytes.now ≤ MAX_LEXED_BYTES }
     ensures { MatchResult result
         (λ tokens. AreTokens bytes.now tokens.items)
         (λ fault. Refuses fault bytes.now) }

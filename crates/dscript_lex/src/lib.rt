@@ -27,7 +27,7 @@ pub use laws::{
     failing_text_has_no_tokens, one_place, one_reading, place_in_text, places, tokens_or_failure,
 };
 pub use lexing::lex;
-pub use limits::{MAX_NUMBER, MAX_TEXT_BYTES};
+pub use limits::{MAX_LEXED_BYTES, MAX_NUMBER};
 pub use token::{Token, TokenKind};
 
 #[cfg(test)]

@@ -1,3 +1,5 @@
+//! Which lexeme begins with a byte.
+
 ghost use Rattle.std.specs.Prelude.{◌≡◌};
 ghost use Rattle.dscript_lex.specs.Lexemes.{opening_of};
 

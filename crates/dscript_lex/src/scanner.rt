@@ -4,7 +4,9 @@ ghost use Rattle.std.specs.Prelude.{◌≡◌, ◌<◌, ◌≤◌, ◌+◌, ◌�
 ghost use Rattle.std.specs.List.{prefix_len};
 ghost use Rattle.dscript_lex.specs.Bytes.{is_word_byte};
 ghost use Rattle.dscript_lex.specs.Lexemes.{number_of};
-ghost use Rattle.dscript_lex.specs.Scanning.{reach, scanned_word, scanned_string, scanned_part, scanned_number, scanned_other, comment_len, scan_of, IsWithin, NeverCloses};
+ghost use Rattle.dscript_lex.specs.Scanning.{reach, scanned_word, scanned_string, scanned_part};
+ghost use Rattle.dscript_lex.specs.Scanning.{scanned_number, scanned_other, comment_len, scan_of, IsWithin};
+ghost use Rattle.dscript_lex.specs.Scanning.{NeverCloses};
 
 use crate::bytes::word_len;
 use crate::comments::comment_len;

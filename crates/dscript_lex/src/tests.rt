@@ -1,5 +1,5 @@
 use super::*;
-use crate::limits::MAX_TEXT_BYTES;
+use crate::limits::MAX_LEXED_BYTES;
 use std::alloc::{AllocError, Global};
 use std::test::Fail;
 
@@ -37,7 +37,7 @@ fn push_kind(alloc: Global, out: &mut String, kind: &TokenKind) -> Result<(), Al
 /// The kinds of the tokens of a text, or the place at which it fails.
 fn kinds(alloc: Global, text: &[u8]) -> Result<String, LexFault> {
     let mut out = String::new(alloc);
-    if text.len() > MAX_TEXT_BYTES {
+    if text.len() > MAX_LEXED_BYTES {
         return Ok(out);
     }
     match lex(alloc, text) {
@@ -59,7 +59,7 @@ fn kinds(alloc: Global, text: &[u8]) -> Result<String, LexFault> {
 /// The kinds and places of the tokens of a text.
 fn places_of(alloc: Global, text: &[u8]) -> Result<String, LexFault> {
     let mut out = String::new(alloc);
-    if text.len() > MAX_TEXT_BYTES {
+    if text.len() > MAX_LEXED_BYTES {
         return Ok(out);
     }
     let tokens = lex(alloc, text)?;

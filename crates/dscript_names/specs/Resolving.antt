@@ -57,7 +57,7 @@ bind_each world n (names ∷ more) (p ∷ ps) functions =
     file_first p.path names (bind_items world n names (items_of p.file) (begun_with functions))
     (bind_each world (n + 1) more ps)
 
--- these files and functions, and then those of the rest
+-- some files and functions, and then those of the remaining files
 abbrev pub after_files : List FileData → List FunctionData → Result ProgramData FaultData
     → Result ProgramData FaultData
 after_files files functions (Ok p) = Ok (record {

@@ -60,7 +60,7 @@ pub(crate) fn import_names(alloc: Global, imports: &[Imported]) -> Result<Vec<Do
     Ok(names)
 }
 
-/// Adds names. Whether one of them was there.
+/// Adds names to those that were seen.
 fn see_all(seen: &mut BTreeSet<DottedName>, names: Vec<DottedName>) -> Result<(), Memory>
     ensures { OnOk result ((q : Dotted) → seen_in seen.new q
         ≡ (list_any (λ x. same_path x q) names.items || seen_in seen.old q)) }

@@ -2,7 +2,8 @@
 
 ghost use Rattle.std.specs.Prelude.{◌≡◌, suc, length, map};
 ghost use Rattle.dscript_ast.specs.Views.{decl_tree, marked_tree, type_tree};
-ghost use Rattle.dscript_grammar.specs.FileReading.{read_alias, read_const, read_decl, read_declared, read_extends};
+ghost use Rattle.dscript_grammar.specs.FileReading.{read_alias, read_const, read_decl, read_declared};
+ghost use Rattle.dscript_grammar.specs.FileReading.{read_extends};
 ghost use Rattle.dscript_grammar.specs.FileReading.{read_function, read_interface, read_mark, read_marked};
 ghost use Rattle.dscript_grammar.specs.FileReading.{read_namespace, read_type_params};
 ghost use Rattle.dscript_parse_tokens.specs.Enclosed.{read_closed_many};

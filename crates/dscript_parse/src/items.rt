@@ -2,7 +2,8 @@
 
 ghost use Rattle.std.specs.Prelude.{◌≡◌, length, map};
 ghost use Rattle.dscript_ast.specs.Views.{import_tree, item_tree};
-ghost use Rattle.dscript_grammar.specs.FileReading.{read_import, read_import_all, read_import_name, read_import_names};
+ghost use Rattle.dscript_grammar.specs.FileReading.{read_import, read_import_all, read_import_name};
+ghost use Rattle.dscript_grammar.specs.FileReading.{read_import_names};
 ghost use Rattle.dscript_grammar.specs.FileReading.{read_item, read_source};
 ghost use Rattle.dscript_parse_tokens.specs.Enclosed.{read_closed_list};
 ghost use Rattle.dscript_parse_tokens.specs.Gives.{kinds, Reads};

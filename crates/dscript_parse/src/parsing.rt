@@ -5,7 +5,7 @@ ghost use Rattle.dscript_ast.specs.FileTree.{FileTree};
 ghost use Rattle.dscript_ast.specs.Views.{file_tree};
 ghost use Rattle.dscript_grammar.specs.Derives.{Derives};
 ghost use Rattle.dscript_grammar.specs.declared.height.TheConstants.{MAX_HEIGHT};
-ghost use Rattle.dscript_lex.specs.declared.limits.TheConstants.{MAX_TEXT_BYTES};
+ghost use Rattle.dscript_lex.specs.declared.limits.TheConstants.{MAX_LEXED_BYTES};
 ghost use Rattle.dscript_parse.specs.Refuses.{Refuses};
 ghost use Rattle.dscript_parse_tokens.specs.Gives.{kinds};
 
@@ -27,7 +27,7 @@ use std::alloc::Global;
 /// counts one, and all else, such as parameters, properties, members and marks, counts nothing. So a file
 /// whose one item is `const x = 1;` has the height 3, and `const x = (1);` has 4.
 pub fn parse(alloc: Global, tokens: &[Token], form: Form) -> Result<File, SyntaxFault>
-    requires { length tokens.now ≤ MAX_TEXT_BYTES }
+    requires { length tokens.now ≤ MAX_LEXED_BYTES }
     ensures exact { MatchResult result
         (λ file. Derives form (kinds tokens.now) (file_tree file) MAX_HEIGHT)
         (λ fault. Refuses fault form (kinds tokens.now)) }

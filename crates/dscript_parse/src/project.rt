@@ -4,7 +4,7 @@ ghost use Rattle.std.specs.Prelude.{◌≡◌, ◌≤◌, Some, length, MatchRes
 ghost use Rattle.dscript_ast.specs.Views.{file_tree};
 ghost use Rattle.dscript_ast.specs.declared.file.Form.TheVariants as forms;
 ghost use Rattle.dscript_grammar.specs.FileReading.{file_of};
-ghost use Rattle.dscript_lex.specs.declared.limits.TheConstants.{MAX_TEXT_BYTES};
+ghost use Rattle.dscript_lex.specs.declared.limits.TheConstants.{MAX_LEXED_BYTES};
 ghost use Rattle.dscript_parse.specs.Refuses.{Refuses};
 ghost use Rattle.dscript_parse_tokens.specs.Gives.{kinds};
 
@@ -17,7 +17,7 @@ use std::alloc::Global;
 
 /// The project file that all of the tokens are: its items are read one by one, up to the first wrong one.
 pub(crate) fn project(alloc: Global, tokens: &[Token]) -> Result<File, SyntaxFault>
-    requires { length tokens.now ≤ MAX_TEXT_BYTES }
+    requires { length tokens.now ≤ MAX_LEXED_BYTES }
     ensures { MatchResult result
         (λ file. file_of forms.Project (kinds tokens.now) ≡ Some (file_tree file))
         (λ fault. Refuses fault forms.Project (kinds tokens.now)) }

@@ -3,7 +3,8 @@ use Rattle.std.specs.Prelude.{ℕ, suc, nat_eq, List, length, Option}
 use Rattle.dscript_lex.specs.declared.token.TokenKind.{TokenKind}
 use Rattle.dscript_ast.specs.ExprTree.{ExprTree, OperandTree, StmtTree}
 use Rattle.dscript_grammar.specs.Reading.{Read, Reader, and_then, read_many}
-use Rattle.dscript_grammar.specs.ExprReading.{as_chain, chain_level, operator_precedence, read_chain, read_expr, read_operand, read_stmt}
+use Rattle.dscript_grammar.specs.ExprReading.{as_chain, chain_level, operator_precedence, read_chain}
+use Rattle.dscript_grammar.specs.ExprReading.{read_expr, read_operand, read_stmt}
 
 -- a reader of what has expressions and statements with this many levels
 abbrev pub at_depth : {A : Type 0} → (ℕ → Reader ExprTree → Reader StmtTree → A) → ℕ → A

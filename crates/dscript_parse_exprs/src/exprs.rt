@@ -1,10 +1,14 @@
 //! Expressions.
 
 ghost use Rattle.std.specs.Prelude.{◌≡◌, ◌<◌, ◌≤◌, suc, nat_eq, length, map};
-ghost use Rattle.dscript_ast.specs.Views.{element_tree, expr_tree, hole_tree, operand_tree, part_tree, prop_tree};
-ghost use Rattle.dscript_grammar.specs.ExprReading.{at_part, read_branches, read_call, read_chain, read_cond, read_element, read_expr};
-ghost use Rattle.dscript_grammar.specs.ExprReading.{read_holes, read_named, read_part, read_plain, read_postfix, read_primary};
-ghost use Rattle.dscript_grammar.specs.ExprReading.{read_enclosed, read_prop, read_template, read_unary, chain_level};
+ghost use Rattle.dscript_ast.specs.Views.{element_tree, expr_tree, hole_tree, operand_tree, part_tree};
+ghost use Rattle.dscript_ast.specs.Views.{prop_tree};
+ghost use Rattle.dscript_grammar.specs.ExprReading.{at_part, read_branches, read_call, read_chain, read_cond};
+ghost use Rattle.dscript_grammar.specs.ExprReading.{read_element, read_expr};
+ghost use Rattle.dscript_grammar.specs.ExprReading.{read_holes, read_named, read_part, read_plain};
+ghost use Rattle.dscript_grammar.specs.ExprReading.{read_postfix, read_primary};
+ghost use Rattle.dscript_grammar.specs.ExprReading.{read_enclosed, read_prop, read_template, read_unary};
+ghost use Rattle.dscript_grammar.specs.ExprReading.{chain_level};
 ghost use Rattle.dscript_grammar.specs.ExprReading.{operator_precedence, read_operand};
 ghost use Rattle.dscript_grammar.specs.Reading.{read_many};
 ghost use Rattle.dscript_parse_exprs.specs.Levels.{at_depth, read_level, read_operands};

@@ -3,7 +3,8 @@
 
 ghost use Rattle.std.specs.Prelude.{ℕ};
 ghost use Rattle.dscript_grammar.specs.ExprGrammar.{any_expr, block, expr_at, params, stmt_at, type_note};
-ghost use Rattle.dscript_grammar.specs.ExprReading.{read_block, read_expr, read_note, read_params, read_value};
+ghost use Rattle.dscript_grammar.specs.ExprReading.{read_block, read_expr, read_note, read_params};
+ghost use Rattle.dscript_grammar.specs.ExprReading.{read_value};
 ghost use Rattle.dscript_grammar.specs.Language.{◌⋅◌, optional, punctuator};
 ghost use Rattle.dscript_parse_exprs.specs.Endings.{EndsExpr, EndsNote};
 ghost use Rattle.dscript_parse_exprs.specs.Levels.{at_depth};

@@ -2,10 +2,14 @@
 
 ghost use Rattle.std.specs.Prelude.{◌≡◌, length};
 ghost use Rattle.dscript_ast.specs.Operators.{precedence, spelling};
-ghost use Rattle.dscript_grammar.specs.ExprReading.{after_param_name, at_arrow, at_assign, at_params, at_part, at_prefix};
-ghost use Rattle.dscript_grammar.specs.ExprReading.{at_template, closes_params, ends_param, letter_of, optional_param};
-ghost use Rattle.dscript_grammar.specs.ExprReading.{read_letter, read_loop_keyword, read_one_of, read_operator, read_prefix};
-ghost use Rattle.dscript_grammar.specs.ExprReading.{operator_precedence, read_whole, read_head, read_middle, read_tail};
+ghost use Rattle.dscript_grammar.specs.ExprReading.{after_param_name, at_arrow, at_assign, at_params};
+ghost use Rattle.dscript_grammar.specs.ExprReading.{at_part, at_prefix};
+ghost use Rattle.dscript_grammar.specs.ExprReading.{at_template, closes_params, ends_param, letter_of};
+ghost use Rattle.dscript_grammar.specs.ExprReading.{optional_param};
+ghost use Rattle.dscript_grammar.specs.ExprReading.{read_letter, read_loop_keyword, read_one_of};
+ghost use Rattle.dscript_grammar.specs.ExprReading.{read_operator, read_prefix};
+ghost use Rattle.dscript_grammar.specs.ExprReading.{operator_precedence, read_whole, read_head, read_middle};
+ghost use Rattle.dscript_grammar.specs.ExprReading.{read_tail};
 ghost use Rattle.dscript_parse_tokens.specs.Gives.{kinds, Offers, Reads};
 
 use bx_tree::Text;

@@ -3,11 +3,14 @@
 ghost use Rattle.std.specs.Prelude.{◌≡◌, ◌≤◌, suc, length, map, max};
 ghost use Rattle.dscript_ast.specs.ExprTree as tree;
 ghost use Rattle.dscript_ast.specs.ExprTree.{to_operands, to_stmts};
-ghost use Rattle.dscript_ast.specs.Views.{expr_tree, head_tree, note_tree, operand_tree, param_tree, part_tree};
+ghost use Rattle.dscript_ast.specs.Views.{expr_tree, head_tree, note_tree, operand_tree, param_tree};
+ghost use Rattle.dscript_ast.specs.Views.{part_tree};
 ghost use Rattle.dscript_ast.specs.Views.{stmt_tree};
 ghost use Rattle.dscript_ast.specs.declared.precedence.TheConstants.{PRODUCT, OR};
-ghost use Rattle.dscript_grammar.specs.ExprReading.{as_chain, as_postfix, as_unary, at_prefix, read_arrow_head, read_expr};
-ghost use Rattle.dscript_grammar.specs.ExprReading.{read_literal, read_note, read_param, read_params, read_prefix, read_stmt};
+ghost use Rattle.dscript_grammar.specs.ExprReading.{as_chain, as_postfix, as_unary, at_prefix};
+ghost use Rattle.dscript_grammar.specs.ExprReading.{read_arrow_head, read_expr};
+ghost use Rattle.dscript_grammar.specs.ExprReading.{read_literal, read_note, read_param, read_params};
+ghost use Rattle.dscript_grammar.specs.ExprReading.{read_prefix, read_stmt};
 ghost use Rattle.dscript_grammar.specs.Reading.{got, read_many};
 ghost use Rattle.dscript_grammar.specs.TypeReading.{above};
 ghost use Rattle.dscript_parse_exprs.specs.Levels.{at_depth};

@@ -2,8 +2,10 @@
 
 ghost use Rattle.std.specs.Prelude.{◌≡◌, ◌≤◌, suc, length, map};
 ghost use Rattle.dscript_ast.specs.Views.{expr_tree, stmt_tree};
-ghost use Rattle.dscript_grammar.specs.ExprReading.{read_assign, read_block, read_by_keyword, read_const, read_else};
-ghost use Rattle.dscript_grammar.specs.ExprReading.{read_for, read_if, read_let, read_return, read_simple, read_stmt, read_value};
+ghost use Rattle.dscript_grammar.specs.ExprReading.{read_assign, read_block, read_by_keyword, read_const};
+ghost use Rattle.dscript_grammar.specs.ExprReading.{read_else};
+ghost use Rattle.dscript_grammar.specs.ExprReading.{read_for, read_if, read_let, read_return, read_simple};
+ghost use Rattle.dscript_grammar.specs.ExprReading.{read_stmt, read_value};
 ghost use Rattle.dscript_parse_exprs.specs.Levels.{at_depth};
 ghost use Rattle.dscript_parse_tokens.specs.Gives.{kinds, MayRead, Reads};
 

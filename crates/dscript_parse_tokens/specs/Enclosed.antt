@@ -1,7 +1,8 @@
 -- What is read up to a closing punctuator, and that punctuator.
 use Prim.Native.String.{String}
 use Rattle.std.specs.Prelude.{suc, List, length, not}
-use Rattle.dscript_grammar.specs.Reading.{Reader, got, ◌>>=◌, at_punctuator, take_punctuator, read_list, read_many}
+use Rattle.dscript_grammar.specs.Reading.{Reader, got, ◌>>=◌, at_punctuator, take_punctuator, read_list}
+use Rattle.dscript_grammar.specs.Reading.{read_many}
 
 -- how a punctuator is spelled
 abbrev pub Spelling : Type 0

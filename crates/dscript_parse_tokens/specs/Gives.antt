@@ -1,5 +1,6 @@
 -- What a function of the parser gives, by the reader of the grammar that has its name.
-use Rattle.std.specs.Prelude.{◌≡◌, ℕ, suc, Bool, ◌<◌, ◌≤◌, List, Option, Some, None, Result, Ok, Err, length, map}
+use Rattle.std.specs.Prelude.{◌≡◌, ℕ, suc, Bool, ◌<◌, ◌≤◌, List, Option, Some, None, Result, Ok, Err, length}
+use Rattle.std.specs.Prelude.{map}
 use Rattle.std.specs.Borrow.{Bor}
 use Rattle.dscript_lex.specs.declared.token.Token.{Token}
 use Rattle.dscript_lex.specs.declared.token.TokenKind.{TokenKind}
@@ -34,7 +35,7 @@ Gives view read limit bound (Err fault) = Fails fault read
 abbrev pub Reads : {X T : Type 0} → (X → T) → Reader T → ℕ → List Token → Result (Parsed X) Refusal → Type 0
 Reads view reader limit ts result = Gives view (reader (kinds ts)) limit (length (kinds ts)) result
 
--- It may read no token.
+-- The function reads any number of tokens, and no node of what it reads is higher than the limit.
 abbrev pub MayRead : {X T : Type 0} → (X → T) → Reader T → ℕ → List Token → Result (Parsed X) Refusal → Type 0
 MayRead view reader limit ts result = Gives view (reader (kinds ts)) limit (suc (length (kinds ts))) result
 

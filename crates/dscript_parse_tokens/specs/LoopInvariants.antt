@@ -5,7 +5,7 @@ use Rattle.std.specs.Prelude.{◌≡◌, ℕ, ◌+◌, ◌≤◌, max, Bool, Lis
 use Rattle.dscript_lex.specs.declared.token.TokenKind.{TokenKind}
 use Rattle.dscript_grammar.specs.Reading.{Read, Reader, got, and_then, read_many, read_separated, read_list}
 
--- these, and then those that are read
+-- given values, and then those that are read
 unfoldable pub with_items : {X : Type 0} → List X → ℕ → Option (Read (List X)) → Option (Read (List X))
 with_items xs n m = and_then m (λ r. got (xs ++ r.value) (max n r.height) r.rest)
 

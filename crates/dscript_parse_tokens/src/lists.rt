@@ -5,7 +5,8 @@ ghost use Rattle.dscript_lex.specs.declared.token.TokenKind.{TokenKind};
 ghost use Rattle.dscript_parse_tokens.specs.Gives.{kinds, EachReads, EachShortens, EachTests, MayRead, Reads};
 ghost use Rattle.dscript_parse_tokens.specs.Enclosed.{Spelling, read_closed_list, read_closed_many};
 ghost use Rattle.dscript_parse_tokens.specs.declared.parsed.Refusal.TheVariants as refusals;
-ghost use Rattle.dscript_grammar.specs.Reading.{Reader, read_identifier, read_many, read_separated, take_punctuator_bytes};
+ghost use Rattle.dscript_grammar.specs.Reading.{Reader, read_identifier, read_many, read_separated};
+ghost use Rattle.dscript_grammar.specs.Reading.{take_punctuator_bytes};
 
 use crate::depth::Depth;
 use crate::parsed::{Parse, Parsed, Refusal, higher};

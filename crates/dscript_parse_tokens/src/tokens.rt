@@ -4,7 +4,8 @@ ghost use Rattle.std.specs.Prelude.{bytes_eq, ◌≡◌, ◌≤◌, length, map}
 ghost use Rattle.dscript_parse_tokens.specs.Gives.{kinds, MayRead, Offers, Reads, Takes, Wants};
 ghost use Rattle.dscript_grammar.specs.Language.{is_one_of, is_reserved};
 ghost use Rattle.dscript_grammar.specs.TypeReading.{at_identifier};
-ghost use Rattle.dscript_grammar.specs.Reading.{is_punctuator_bytes, is_keyword_bytes, at_punctuator_bytes, take_punctuator_bytes, take_keyword_bytes};
+ghost use Rattle.dscript_grammar.specs.Reading.{is_punctuator_bytes, is_keyword_bytes, at_punctuator_bytes};
+ghost use Rattle.dscript_grammar.specs.Reading.{take_punctuator_bytes, take_keyword_bytes};
 ghost use Rattle.dscript_grammar.specs.Reading.{read_identifier, read_name, read_string, flag_by, got};
 
 use crate::parsed::{Parse, Parsed, Refusal};

@@ -3,9 +3,11 @@
 ghost use Rattle.std.specs.Prelude.{◌≡◌, ◌+◌, ◌≤◌, suc, length, map};
 ghost use Rattle.dscript_parse_tokens.specs.Gives.{kinds, Gives, MayRead, Reads};
 ghost use Rattle.dscript_grammar.specs.TypeReading.{at_fields, at_function, after_member_end};
-ghost use Rattle.dscript_grammar.specs.TypeReading.{read_type, read_any, read_union, as_union, read_array, as_array};
+ghost use Rattle.dscript_grammar.specs.TypeReading.{read_type, read_any, read_union, as_union, read_array};
+ghost use Rattle.dscript_grammar.specs.TypeReading.{as_array};
 ghost use Rattle.dscript_grammar.specs.TypeReading.{read_brackets, read_function, read_base, read_enclosed};
-ghost use Rattle.dscript_grammar.specs.TypeReading.{read_literal, read_named, read_arguments, read_body, read_ended};
+ghost use Rattle.dscript_grammar.specs.TypeReading.{read_literal, read_named, read_arguments, read_body};
+ghost use Rattle.dscript_grammar.specs.TypeReading.{read_ended};
 ghost use Rattle.dscript_grammar.specs.TypeReading.{read_member, read_method, read_fields, read_field};
 ghost use Rattle.dscript_grammar.specs.Reading.{read_separated};
 ghost use Rattle.dscript_ast.specs.TypeTree.{to_types};

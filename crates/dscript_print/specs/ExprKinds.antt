@@ -2,7 +2,16 @@
 use Rattle.std.specs.Prelude.{ℕ, zero, suc, nat_lt, Bool, true, false, ◌&&◌, ◌||◌, List, [], ◌∷◌, ◌++◌, map}
 use Rattle.dscript_lex.specs.declared.token.TokenKind.{TokenKind}
 use Rattle.dscript_lex.specs.declared.token.TokenKind.TheVariants as kinds
-use Rattle.dscript_ast.specs.ExprTree.{ParamTree, HeadTree, Single, Params, ExprTree, Arrow, BlockArrow, Cond, Chain, Unary, Postfix, Number, Str, True, False, Undefined, Template, Path, Name, Elements, Object, OperandTree, Operand, PartTree, Member, Index, Call, ElementTree, Element, PropTree, Named, Quoted, Short, Spread, HoleTree, Hole, StmtTree, Const, Let, Assign, If, For, Return, Value, Block, Empty, MaybeExpr, no_expr, an_expr, MaybeStmt, no_stmt, a_stmt, ExprTrees, no_exprs, more_exprs, OperandTrees, no_operands, more_operands, PartTrees, no_parts, more_parts, ElementTrees, no_elements, more_elements, PropTrees, no_props, more_props, HoleTrees, no_holes, more_holes, StmtTrees, no_stmts, more_stmts}
+use Rattle.dscript_ast.specs.ExprTree.{ParamTree, HeadTree, Single, Params, ExprTree, Arrow, BlockArrow, Cond}
+use Rattle.dscript_ast.specs.ExprTree.{Chain, Unary, Postfix, Number, Str, True, False, Undefined, Template}
+use Rattle.dscript_ast.specs.ExprTree.{Path, Name, Elements, Object, OperandTree, Operand, PartTree, Member}
+use Rattle.dscript_ast.specs.ExprTree.{Index, Call, ElementTree, Element, PropTree, Named, Quoted, Short}
+use Rattle.dscript_ast.specs.ExprTree.{Spread, HoleTree, Hole, StmtTree, Const, Let, Assign, If, For, Return}
+use Rattle.dscript_ast.specs.ExprTree.{Value, Block, Empty, MaybeExpr, no_expr, an_expr, MaybeStmt, no_stmt}
+use Rattle.dscript_ast.specs.ExprTree.{a_stmt, ExprTrees, no_exprs, more_exprs, OperandTrees, no_operands}
+use Rattle.dscript_ast.specs.ExprTree.{more_operands, PartTrees, no_parts, more_parts, ElementTrees}
+use Rattle.dscript_ast.specs.ExprTree.{no_elements, more_elements, PropTrees, no_props, more_props, HoleTrees}
+use Rattle.dscript_ast.specs.ExprTree.{no_holes, more_holes, StmtTrees, no_stmts, more_stmts}
 use Rattle.dscript_grammar.specs.ExprGrammar.{expr_precedence, any_expr, or_expr, postfix_expr, primary_expr}
 use Rattle.dscript_ast.specs.declared.expr.LoopKind.{LoopKind}
 use Rattle.dscript_ast.specs.declared.expr.LoopKind.TheVariants as loops

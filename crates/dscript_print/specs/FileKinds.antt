@@ -6,7 +6,10 @@ use Rattle.dscript_ast.specs.TypeTree.{TypeTree, MemberTree}
 use Rattle.dscript_grammar.specs.TypeGrammar.{any_type}
 use Rattle.dscript_ast.specs.ExprTree.{StmtTree}
 use Rattle.dscript_grammar.specs.ExprGrammar.{any_expr}
-use Rattle.dscript_ast.specs.FileTree.{MarkedTree, Marked, DeclTree, Const, Function, Namespace, Interface, TypeAlias, MarkedTrees, no_marked, more_marked, ImportTree, ItemTree, ImportAll, ImportNames, Declared, Empty, FileTree, Project, Config, Module}
+use Rattle.dscript_ast.specs.FileTree.{MarkedTree, Marked, DeclTree, Const, Function, Namespace, Interface}
+use Rattle.dscript_ast.specs.FileTree.{TypeAlias, MarkedTrees, no_marked, more_marked, ImportTree, ItemTree}
+use Rattle.dscript_ast.specs.FileTree.{ImportAll, ImportNames, Declared, Empty, FileTree, Project, Config}
+use Rattle.dscript_ast.specs.FileTree.{Module}
 use Rattle.dscript_ast.specs.declared.file.Mark.{Mark}
 use Rattle.dscript_ast.specs.declared.file.Mark.TheVariants as marks
 use Rattle.dscript_print.specs.Runs.{punct, keyword, joined, separate, word_run}

@@ -2,9 +2,13 @@
 use Rattle.std.specs.Prelude.{ℕ, nat_lt, Bool, Option, Some, None, List, [], ◌∷◌, ◌++◌, map}
 use Rattle.dscript_lex.specs.declared.token.TokenKind.{TokenKind}
 use Rattle.dscript_lex.specs.declared.token.TokenKind.TheVariants as kinds
-use Rattle.dscript_ast.specs.TypeTree.{TypeTree, Union, Array, Named, Str, Number, Undefined, True, False, Body, Function, FieldTree, Field, MemberTree, Property, Method, TypeTrees, no_types, more_types, FieldTrees, no_fields, more_fields, MemberTrees, no_members, more_members}
+use Rattle.dscript_ast.specs.TypeTree.{TypeTree, Union, Array, Named, Str, Number, Undefined, True, False}
+use Rattle.dscript_ast.specs.TypeTree.{Body, Function, FieldTree, Field, MemberTree, Property, Method}
+use Rattle.dscript_ast.specs.TypeTree.{TypeTrees, no_types, more_types, FieldTrees, no_fields, more_fields}
+use Rattle.dscript_ast.specs.TypeTree.{MemberTrees, no_members, more_members}
 use Rattle.dscript_grammar.specs.TypeGrammar.{type_precedence, any_type, last_type, earlier_type, base_type}
-use Rattle.dscript_print.specs.Runs.{punct, keyword, enclosed_if, run_if, joined, separate, word_run, repeated}
+use Rattle.dscript_print.specs.Runs.{punct, keyword, enclosed_if, run_if, joined, separate, word_run}
+use Rattle.dscript_print.specs.Runs.{repeated}
 
 -- the tokens of a type where at most this level is allowed: in parentheses if its own level is looser
 abbrev pub fit : ℕ → TypeTree → List TokenKind → List TokenKind

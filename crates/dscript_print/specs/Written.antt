@@ -1,8 +1,10 @@
 -- The tokens that a writer has, and the tokens of parts as they are in memory.
-use Rattle.std.specs.Prelude.{◌≡◌, ℕ, Bool, true, false, Option, option_map, map, Result, IfOk, List, [], ◌∷◌, ◌++◌}
+use Rattle.std.specs.Prelude.{◌≡◌, ℕ, Bool, true, false, Option, option_map, map, Result, IfOk, List, [], ◌∷◌}
+use Rattle.std.specs.Prelude.{◌++◌}
 use Rattle.dscript_lex.specs.declared.token.TokenKind.{TokenKind}
 use Rattle.dscript_ast.specs.declared.type_node.TypeNode.{TypeNode}
-use Rattle.dscript_ast.specs.Views.{note_tree, type_tree, member_tree, field_tree, hole_tree, head_tree, expr_tree, operand_tree, part_tree, stmt_tree}
+use Rattle.dscript_ast.specs.Views.{note_tree, type_tree, member_tree, field_tree, hole_tree, head_tree}
+use Rattle.dscript_ast.specs.Views.{expr_tree, operand_tree, part_tree, stmt_tree}
 use Rattle.dscript_lex.specs.declared.token.TokenKind.TheVariants as kinds
 use Rattle.dscript_spell.specs.Spellable as spellable
 use Rattle.dscript_ast.specs.declared.expr.Hole as holes
@@ -17,7 +19,9 @@ use Rattle.dscript_ast.specs.declared.expr.Stmt.{Stmt}
 use Rattle.dscript_ast.specs.declared.operator.UnaryOp.{UnaryOp}
 use Rattle.dscript_ast.specs.ExprTree.{to_operands, to_parts, to_holes, to_stmts, to_expr, to_stmt}
 use Rattle.dscript_grammar.specs.ExprGrammar.{any_expr, or_expr, postfix_expr, primary_expr}
-use Rattle.dscript_print.specs.ExprKinds.{hole_kinds, head_kinds, expr_kinds, stmts_kinds, operands_kinds, prefix_kind, parts_kinds, first_text, holes_kinds, value_kinds, else_kinds, stmt_kinds, loop_kind, maybe_kinds}
+use Rattle.dscript_print.specs.ExprKinds.{hole_kinds, head_kinds, expr_kinds, stmts_kinds, operands_kinds}
+use Rattle.dscript_print.specs.ExprKinds.{prefix_kind, parts_kinds, first_text, holes_kinds, value_kinds}
+use Rattle.dscript_print.specs.ExprKinds.{else_kinds, stmt_kinds, loop_kind, maybe_kinds}
 use Rattle.dscript_grammar.specs.TypeGrammar.{any_type, earlier_type}
 use Rattle.dscript_ast.specs.declared.type_node.Field as fields
 use Rattle.dscript_ast.specs.declared.type_node.Member as members

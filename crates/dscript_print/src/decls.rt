@@ -1,10 +1,15 @@
+//! Declarations.
+
 ghost use Rattle.std.specs.Prelude.{◌≡◌, IfOk, ◌++◌, ◌∷◌, [], map};
 ghost use Rattle.dscript_lex.specs.declared.token.TokenKind.TheVariants as kinds;
 ghost use Rattle.dscript_ast.specs.FileTree.{to_marked};
 ghost use Rattle.dscript_ast.specs.TypeTree.{to_types};
-ghost use Rattle.dscript_ast.specs.Views.{note_tree, param_tree, type_tree, member_tree, stmt_tree, marked_tree, decl_tree};
+ghost use Rattle.dscript_ast.specs.Views.{note_tree, param_tree, type_tree, member_tree, stmt_tree};
+ghost use Rattle.dscript_ast.specs.Views.{marked_tree, decl_tree};
 ghost use Rattle.dscript_print.specs.ExprKinds.{params_kinds};
-ghost use Rattle.dscript_print.specs.FileKinds.{interface_kinds, alias_type_kinds, type_params_kinds, extends_kinds, block_kinds, body_kinds, marked_kinds, decl_kinds, all_marked_kinds};
+ghost use Rattle.dscript_print.specs.FileKinds.{interface_kinds, alias_type_kinds, type_params_kinds};
+ghost use Rattle.dscript_print.specs.FileKinds.{extends_kinds, block_kinds, body_kinds, marked_kinds};
+ghost use Rattle.dscript_print.specs.FileKinds.{decl_kinds, all_marked_kinds};
 ghost use Rattle.dscript_print.specs.TypeKinds.{note_kinds, types_kinds, member_kinds};
 ghost use Rattle.dscript_print.specs.Written.{Writes};
 ghost use Rattle.dscript_print.specs.Runs.{punct, keyword, joined, separate, word_run};

@@ -1,10 +1,19 @@
+//! Expressions.
+
 ghost use Rattle.std.specs.Prelude.{◌≡◌, IfOk, ◌++◌, ◌∷◌, [], map, option_map};
 ghost use Rattle.dscript_lex.specs.declared.token.TokenKind.TheVariants as kinds;
 ghost use Rattle.dscript_grammar.specs.ExprGrammar.{expr_precedence};
-ghost use Rattle.dscript_ast.specs.ExprTree.{to_exprs, to_operands, to_parts, to_elements, to_props, to_holes, to_stmts};
-ghost use Rattle.dscript_ast.specs.Views.{expr_tree, operand_tree, part_tree, element_tree, prop_tree, hole_tree, stmt_tree};
-ghost use Rattle.dscript_print.specs.ExprKinds.{is_object, is_enclosed, prefix_kind, operator_kind, letter_kind, expr_kinds, node_kinds, exprs_kinds, operand_kinds, operands_kinds, part_kinds, parts_kinds, element_kinds, elements_kinds, prop_kinds, props_kinds, holes_kinds, first_text};
-ghost use Rattle.dscript_print.specs.Written.{arrow_kinds, block_arrow_kinds, branch_kinds, unary_kinds, template_kinds, Writes, middle_run, tail_run};
+ghost use Rattle.dscript_ast.specs.ExprTree.{to_exprs, to_operands, to_parts, to_elements, to_props};
+ghost use Rattle.dscript_ast.specs.ExprTree.{to_holes, to_stmts};
+ghost use Rattle.dscript_ast.specs.Views.{expr_tree, operand_tree, part_tree, element_tree, prop_tree};
+ghost use Rattle.dscript_ast.specs.Views.{hole_tree, stmt_tree};
+ghost use Rattle.dscript_print.specs.ExprKinds.{is_object, is_enclosed, prefix_kind, operator_kind};
+ghost use Rattle.dscript_print.specs.ExprKinds.{letter_kind, expr_kinds, node_kinds, exprs_kinds};
+ghost use Rattle.dscript_print.specs.ExprKinds.{operand_kinds, operands_kinds, part_kinds, parts_kinds};
+ghost use Rattle.dscript_print.specs.ExprKinds.{element_kinds, elements_kinds, prop_kinds, props_kinds};
+ghost use Rattle.dscript_print.specs.ExprKinds.{holes_kinds, first_text};
+ghost use Rattle.dscript_print.specs.Written.{arrow_kinds, block_arrow_kinds, branch_kinds, unary_kinds};
+ghost use Rattle.dscript_print.specs.Written.{template_kinds, Writes, middle_run, tail_run};
 ghost use Rattle.dscript_print.specs.Runs.{punct, run_if, joined, separate};
 
 use crate::writer::Writer;

@@ -1,3 +1,5 @@
+//! Files and their items.
+
 ghost use Rattle.std.specs.Prelude.{◌≡◌, IfOk, ◌++◌, ◌∷◌, [], map, false};
 ghost use Rattle.dscript_grammar.specs.ExprGrammar.{any_expr};
 ghost use Rattle.dscript_ast.specs.Views.{expr_tree, item_tree, file_tree};

@@ -1,3 +1,5 @@
+//! Laws of printed tokens.
+
 ghost use Rattle.std.specs.Prelude.{◌≡◌, ℕ, List, map};
 ghost use Rattle.dscript_lex.specs.declared.token.Token.{Token};
 ghost use Rattle.dscript_lex.specs.Tokens.{AreTokens};

@@ -1,3 +1,5 @@
+//! Marks, and imports with the names in them.
+
 ghost use Rattle.std.specs.Prelude.{◌≡◌, IfOk, ◌++◌, ◌∷◌, [], map};
 ghost use Rattle.dscript_lex.specs.declared.token.TokenKind.TheVariants as kinds;
 ghost use Rattle.dscript_ast.specs.Views.{import_tree};

@@ -1,3 +1,5 @@
+//! Parameters.
+
 ghost use Rattle.std.specs.Prelude.{◌≡◌, IfOk, ◌++◌, ◌∷◌, [], map};
 ghost use Rattle.dscript_ast.specs.Views.{param_tree, head_tree};
 ghost use Rattle.dscript_print.specs.ExprKinds.{param_kinds, params_kinds, head_kinds};

@@ -1,3 +1,5 @@
+//! The printed text of a file.
+
 ghost use Rattle.std.specs.Prelude.{IfOk};
 ghost use Rattle.dscript_ast.specs.Views.{file_tree};
 ghost use Rattle.dscript_print.specs.Printing.{Prints};

@@ -1,10 +1,14 @@
+//! Statements.
+
 ghost use Rattle.std.specs.Prelude.{true, ◌++◌, ◌∷◌, [], map, option_map};
 ghost use Rattle.dscript_lex.specs.declared.token.TokenKind.TheVariants as kinds;
 ghost use Rattle.dscript_ast.specs.ExprTree.{to_expr, to_stmt, to_stmts};
 ghost use Rattle.dscript_grammar.specs.ExprGrammar.{any_expr};
 ghost use Rattle.dscript_ast.specs.Views.{expr_tree, stmt_tree};
-ghost use Rattle.dscript_print.specs.ExprKinds.{expr_kinds, loop_kind, stmt_kinds, stmts_kinds, value_kinds, maybe_kinds, else_kinds};
-ghost use Rattle.dscript_print.specs.Written.{constant_kinds, terminated_kinds, variable_kinds, return_kinds, Writes};
+ghost use Rattle.dscript_print.specs.ExprKinds.{expr_kinds, loop_kind, stmt_kinds, stmts_kinds, value_kinds};
+ghost use Rattle.dscript_print.specs.ExprKinds.{maybe_kinds, else_kinds};
+ghost use Rattle.dscript_print.specs.Written.{constant_kinds, terminated_kinds, variable_kinds, return_kinds};
+ghost use Rattle.dscript_print.specs.Written.{Writes};
 ghost use Rattle.dscript_print.specs.Runs.{punct, keyword, joined};
 
 use crate::exprs::ANY_EXPR;

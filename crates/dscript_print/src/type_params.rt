@@ -1,3 +1,5 @@
+//! Type parameters.
+
 ghost use Rattle.std.specs.Prelude.{◌≡◌, IfOk, ◌++◌, map};
 ghost use Rattle.dscript_print.specs.FileKinds.{type_params_kinds};
 ghost use Rattle.dscript_print.specs.Written.{Writes};

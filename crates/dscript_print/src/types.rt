@@ -1,10 +1,14 @@
+//! Types.
+
 ghost use Rattle.std.specs.Prelude.{◌≡◌, IfOk, ◌++◌, ◌∷◌, [], map};
 ghost use Rattle.dscript_grammar.specs.TypeGrammar.{type_precedence, any_type};
 ghost use Rattle.dscript_ast.specs.Views.{note_tree, type_tree, member_tree, field_tree};
 ghost use Rattle.dscript_ast.specs.TypeTree.{to_types, to_fields, to_members};
 ghost use Rattle.dscript_print.specs.Written.{Writes, type_run, earlier_run, field_run, member_run};
 ghost use Rattle.dscript_print.specs.Runs.{punct, preceded, separate, repeated, joined, word_run};
-ghost use Rattle.dscript_print.specs.TypeKinds.{types_kinds, fields_kinds, members_kinds, type_node_kinds, type_kinds, union_kinds, argument_run, field_kinds, member_kinds, optional_name, note_kinds};
+ghost use Rattle.dscript_print.specs.TypeKinds.{types_kinds, fields_kinds, members_kinds, type_node_kinds};
+ghost use Rattle.dscript_print.specs.TypeKinds.{type_kinds, union_kinds, argument_run, field_kinds};
+ghost use Rattle.dscript_print.specs.TypeKinds.{member_kinds, optional_name, note_kinds};
 
 use crate::writer::Writer;
 use bx_tree::{Memory, Text};

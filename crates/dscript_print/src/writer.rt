@@ -1,3 +1,5 @@
+//! Tokens with the blanks before them.
+
 ghost use Rattle.std.specs.Prelude.{◌≡◌, IfOk, [], ◌∷◌, ◌++◌};
 ghost use Rattle.dscript_lex.specs.declared.token.TokenKind.TheVariants as kinds;
 ghost use Rattle.dscript_print.specs.Written.{Writes, written};

@@ -1,7 +1,15 @@
 -- How the locals of functions are numbered.
 use Rattle.std.specs.Prelude.{◌≡◌, ℕ, ◌+◌, List, [], ◌∷◌, ◌++◌, length, Option, Some, None}
 use Rattle.std.specs.List.{slice_get, AllByRecursion}
-use Rattle.dscript_program.specs.BoundTree.{ExprData, Arrow, Cond, Chain, Unary, Postfix, Number, Str, True, False, Undefined, Template, Path, Name, Elements, Object, Operand, PartData, Member, Index, Call, Element, PropData, Named, Quoted, Short, Spread, Hole, StmtData, Const, Let, Assign, If, For, Return, Value, Block, Empty, MaybeStmt, no_stmt, a_stmt, ExprRow, no_exprs, more_exprs, OperandRow, no_operands, more_operands, PartRow, no_parts, more_parts, ElementRow, no_elements, more_elements, PropRow, no_props, more_props, HoleRow, no_holes, more_holes, StmtRow, no_stmts, more_stmts, BodyData, Expr, Stmts}
+use Rattle.dscript_program.specs.BoundTree.{ExprData, Arrow, Cond, Chain, Unary, Postfix, Number, Str, True}
+use Rattle.dscript_program.specs.BoundTree.{False, Undefined, Template, Path, Name, Elements, Object, Operand}
+use Rattle.dscript_program.specs.BoundTree.{PartData, Member, Index, Call, Element, PropData, Named, Quoted}
+use Rattle.dscript_program.specs.BoundTree.{Short, Spread, Hole, StmtData, Const, Let, Assign, If, For}
+use Rattle.dscript_program.specs.BoundTree.{Return, Value, Block, Empty, MaybeStmt, no_stmt, a_stmt, ExprRow}
+use Rattle.dscript_program.specs.BoundTree.{no_exprs, more_exprs, OperandRow, no_operands, more_operands}
+use Rattle.dscript_program.specs.BoundTree.{PartRow, no_parts, more_parts, ElementRow, no_elements}
+use Rattle.dscript_program.specs.BoundTree.{more_elements, PropRow, no_props, more_props, HoleRow, no_holes}
+use Rattle.dscript_program.specs.BoundTree.{more_holes, StmtRow, no_stmts, more_stmts, BodyData, Expr, Stmts}
 use Rattle.dscript_program.specs.ProgramData.{FunctionData, ProgramData}
 
 -- what takes numbers of locals: a declaration of the local of this number, or the function of this number in

@@ -4,13 +4,19 @@ use Rattle.std.specs.declared.alloc.Global.{Global}
 use Rattle.std.specs.declared.rc.Rc.{Rc}
 use Rattle.dscript_ast.specs.Views.{note_tree, param_tree, type_tree, member_tree}
 use Rattle.dscript_program.specs.BoundTree as tree
-use Rattle.dscript_program.specs.BoundTree.{ExprData, OperandData, PartData, ElementData, PropData, HoleData, StmtData, BodyData, to_exprs, to_operands, to_parts, to_elements, to_props, to_holes, to_stmts, to_stmt}
+use Rattle.dscript_program.specs.BoundTree.{ExprData, OperandData, PartData, ElementData, PropData, HoleData}
+use Rattle.dscript_program.specs.BoundTree.{StmtData, BodyData, to_exprs, to_operands, to_parts, to_elements}
+use Rattle.dscript_program.specs.BoundTree.{to_props, to_holes, to_stmts, to_stmt}
 use Rattle.dscript_program.specs.ProgramData as kinds
 use Rattle.dscript_program.specs.ProgramData.{Dotted, FunctionData, KindData, DeclData, FileData, ProgramData}
 use Rattle.dscript_program.specs.declared.bound.BoundExpr.{BoundExpr}
-use Rattle.dscript_program.specs.declared.bound.BoundExpr.TheOpen.{BoundExpr-F, BoundPart-F, BoundProp-F, BoundElement-F, BoundHole-F, BoundOperand-F}
+use Rattle.dscript_program.specs.declared.bound.BoundExpr.TheOpen.{BoundExpr-F, BoundPart-F, BoundProp-F}
+use Rattle.dscript_program.specs.declared.bound.BoundExpr.TheOpen.{BoundElement-F, BoundHole-F}
+use Rattle.dscript_program.specs.declared.bound.BoundExpr.TheOpen.{BoundOperand-F}
 use Rattle.dscript_program.specs.declared.bound.BoundExpr.TheOpen as expr
-use Rattle.dscript_program.specs.declared.bound.BoundExpr.TheFolds.{fold-BoundExpr, fold-BoundPart, fold-BoundProp, fold-BoundElement, fold-BoundHole, fold-BoundOperand}
+use Rattle.dscript_program.specs.declared.bound.BoundExpr.TheFolds.{fold-BoundExpr, fold-BoundPart}
+use Rattle.dscript_program.specs.declared.bound.BoundExpr.TheFolds.{fold-BoundProp, fold-BoundElement}
+use Rattle.dscript_program.specs.declared.bound.BoundExpr.TheFolds.{fold-BoundHole, fold-BoundOperand}
 use Rattle.dscript_program.specs.declared.bound.BoundPart.{BoundPart}
 use Rattle.dscript_program.specs.declared.bound.BoundProp.{BoundProp}
 use Rattle.dscript_program.specs.declared.bound.BoundElement.{BoundElement}

@@ -4,7 +4,8 @@ use Rattle.std.specs.Option.{unwrap_or}
 use Rattle.std.specs.List.{flat_map, list_any, position_or_len}
 use Rattle.bx_tree.specs.Paths.{Atoms, same_path}
 use Rattle.dscript_ast.specs.FileTree as tree
-use Rattle.dscript_ast.specs.FileTree.{MarkedTree, DeclTree, MarkedTrees, ImportTree, ItemTree, FileTree, Marked}
+use Rattle.dscript_ast.specs.FileTree.{MarkedTree, DeclTree, MarkedTrees, ImportTree, ItemTree, FileTree}
+use Rattle.dscript_ast.specs.FileTree.{Marked}
 use Rattle.dscript_ast.specs.declared.file.Mark.{Mark}
 use Rattle.dscript_ast.specs.declared.file.Mark.TheVariants as marks
 use Rattle.dscript_program.specs.ProgramData.{Dotted}
@@ -96,19 +97,19 @@ world_of modules files = record { modules = map (λ m. m.name) modules; files = 
 
 -- ## Who sees a value
 
--- other files of its module
+-- whether other files of its module see a declaration with this mark
 abbrev pub is_exported : Mark → Bool
 is_exported marks.Plain = false
 is_exported marks.Export = true
 is_exported marks.Public = true
 
--- other modules
+-- whether other modules see a declaration with this mark
 abbrev pub is_public : Mark → Bool
 is_public marks.Plain = false
 is_public marks.Export = false
 is_public marks.Public = true
 
--- its own file, and whoever asks whether it is there at all
+-- its own file sees a declaration with any mark, and so does whoever asks whether it is there at all
 abbrev pub is_any : Mark → Bool
 is_any mark = true
 

@@ -1,5 +1,6 @@
 -- What a dotted name stands for.
-use Rattle.std.specs.Prelude.{ℕ, ◌+◌, Bool, false, ◌&&◌, ◌||◌, ◌==◌, List, [], ◌∷◌, ◌++◌, map, reverse, codes, Option, Some, None, Result, Ok, Err, if◌then◌else◌}
+use Rattle.std.specs.Prelude.{ℕ, ◌+◌, Bool, false, ◌&&◌, ◌||◌, ◌==◌, List, [], ◌∷◌, ◌++◌, map, reverse, codes}
+use Rattle.std.specs.Prelude.{Option, Some, None, Result, Ok, Err, if◌then◌else◌}
 use Rattle.std.specs.Option.{option_or, option_map, ok_or}
 use Rattle.std.specs.List.{find, list_any, position, position_from, join_with_byte}
 use Rattle.std.specs.Str.{bytes_eq}
@@ -64,9 +65,9 @@ in_blocks [] x = None
 in_blocks (block ∷ blocks) x =
     option_or (option_map (λ l. known l.number) (local_in x block)) (in_blocks blocks x)
 
--- An assignment is to a variable of the function that it is in: to the local that the innermost block declares,
--- up to the block that is the function's body. Another local is not assigned, and a variable not before its
--- declaration.
+-- An assignment is to a variable of the function that it is in: to the local that the innermost block
+-- declares, up to the block that is the function's body. Another local is not assigned, and a variable not
+-- before its declaration.
 abbrev pub assigned_local : Local → Result ℕ SpecKind
 assigned_local l = if l.is_let then ok_or l.number faults.UnknownName else Err faults.AssignCaptured
 

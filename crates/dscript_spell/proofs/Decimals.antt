@@ -18,7 +18,7 @@ use Rattle.dscript_lex.specs.Lexemes.{opening_of, value_in, at_most_max, number_
 abbrev is_zero : ℕ → Bool
 is_zero d = eqb d 0x30
 
--- these digits have that value, and begin with no zero unless it is zero
+-- the digits of a number, which begin with no zero unless the number is zero
 pub record AreDigits (n : ℕ) (ds : List ℕ) : Type 0 where
   pub digits : list_all is_ascii_digit ds ≡ true
   pub value : value_in 10 ds ≡ n

@@ -1,3 +1,5 @@
+//! Tokens as they are laid out.
+
 use dscript_lex::TokenKind;
 
 /// The blanks before a token.

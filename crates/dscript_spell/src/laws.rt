@@ -1,3 +1,5 @@
+//! Which tokens have a spelling.
+
 ghost use Rattle.std.specs.Prelude.{◌↔◌, Bool};
 ghost use Rattle.dscript_lex.specs.declared.token.TokenKind.{TokenKind};
 ghost use Rattle.dscript_spell.specs.Spellable.{HasSpelling};

@@ -1,3 +1,5 @@
+//! Texts that have given tokens.
+
 ghost use Rattle.std.specs.Prelude.{◌≡◌, ◌*◌, ◌++◌, ◌∷◌, [], replicate, IfOk, OnOk};
 ghost use Rattle.dscript_spell.specs.Layout.{blanks, written};
 ghost use Rattle.dscript_spell.specs.Spellable.{kinds, AreSpellable, HasKinds};

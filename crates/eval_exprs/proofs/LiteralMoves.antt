@@ -118,8 +118,8 @@ path_holes-none p act letter text s = refl
 path_holes-more
     : (p : ProgramData) (act : Acts) (letter : PathKind) (text : List ℕ) (e : ExprData) (following : List ℕ) (more : HoleRow) (s : State)
     → path_holes p act letter text (more_holes (tree.Hole e following) more) s
-    ≡ (value p act e >>= λ x. answered (first_hole text x) >>= λ front.
-    hole_texts p act literal_hole more >>= λ rest. path_value p letter front.0 (front.1 ++ following ++ rest)) s
+    ≡ (value p act e >>= λ x. answered (first_hole text x) >>= λ start.
+    hole_texts p act literal_hole more >>= λ rest. path_value p letter start.0 (start.1 ++ following ++ rest)) s
 unfolding path_holes
 path_holes-more p act letter text e following more s = refl
 
@@ -150,22 +150,22 @@ path_alone v letter text holes none =
     (sym (empty_list holes.now none))
 
 first_at
-    : (p : ProgramData) (act : Acts) (letter : PathKind) (following longer front : List ℕ) (base : Option Atoms) (more : HoleRow)
-    (o : Outcome (Option Atoms × List ℕ)) (s : State) → o ≡ Ok (base, front) → longer ≡ front ++ following
+    : (p : ProgramData) (act : Acts) (letter : PathKind) (following longer start : List ℕ) (base : Option Atoms) (more : HoleRow)
+    (o : Outcome (Option Atoms × List ℕ)) (s : State) → o ≡ Ok (base, start) → longer ≡ start ++ following
     → (answered o >>= λ found. hole_texts p act literal_hole more >>= λ rest. path_value p letter found.0 (found.1 ++ following ++ rest)) s
     ≡ (hole_texts p act literal_hole more >>= λ rest. path_value p letter base (longer ++ rest)) s
-first_at p act letter following longer front base more o s is long =
+first_at p act letter following longer start base more o s is long =
     ap (λ r. (answered r >>= λ found. hole_texts p act literal_hole more >>= λ rest. path_value p letter found.0 (found.1 ++ following ++ rest)) s) is
     ∙ followed-same (hole_texts p act literal_hole more s) _ _
     (λ rest s1. ap (λ t. path_value p letter base t s1) (ap (λ t. t ++ rest) (sym long)))
 
 pub first_hole_move
     : (v : View) (letter : PathKind) (text following : Bor (List ℕ)) (others : Bor (List BoundHole)) (base : Option Atoms)
-    (front : List ℕ) (longer : Vec ℕ Global)
-    → first_hole text.now v.given ≡ Ok (base, front) → longer.items ≡ front ++ following.now
+    (start : List ℕ) (longer : Vec ℕ Global)
+    → first_hole text.now v.given ≡ Ok (base, start) → longer.items ≡ start ++ following.now
     → comes_with (works.Expr (expr.FirstHole letter text following others)) v
     ≡ comes_by (literal_form v.program (acts_at v) (literals.Path letter base) longer.items (to_holes (map hole_data others.now))) v
-first_hole_move v letter text following others base front longer is long =
+first_hole_move v letter text following others base start longer is long =
     ap (λ r. followed r (λ x later. run v.program v.work On v.openable x later))
-    (first_at v.program (acts_at v) letter following.now longer.items front base (to_holes (map hole_data others.now))
+    (first_at v.program (acts_at v) letter following.now longer.items start base (to_holes (map hole_data others.now))
     (first_hole text.now v.given) v.state is long)

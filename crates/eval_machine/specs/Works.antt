@@ -126,9 +126,9 @@ module _ (p : ProgramData) (act : Acts) (given : Plain) where
       fields p act (to_props (map prop_data ps.now)) >>= λ found.
       answered (object_answer (map plain_field done.items ++ these ++ found))
   expr_gives (expr.FirstHole letter text following holes) =
-      answered (first_hole text.now given) >>= λ front.
+      answered (first_hole text.now given) >>= λ start.
       hole_texts p act literal_hole (to_holes (map hole_data holes.now)) >>= λ rest.
-      path_value p letter front.0 (front.1 ++ following.now ++ rest)
+      path_value p letter start.0 (start.1 ++ following.now ++ rest)
   expr_gives (expr.Holes holes text literal) =
       hole_texts p act (reader literal) (to_holes (map hole_data holes.now)) >>= λ rest.
       ended p literal (text.items ++ rest)

@@ -23,7 +23,7 @@ abbrev pub first_below : (ℕ → Bool) → ℕ → Option ℕ
 first_below p zero = None
 first_below p (suc n) = or_else (first_below p n) (p n) n
 
--- such a number, or none
+-- the first number below n that has a property, or none
 abbrev IsFirstBelow : (ℕ → Type 0) → ℕ → Option ℕ → Type 0
 IsFirstBelow P n None = (i : ℕ) → i < n → P i → ⊥
 IsFirstBelow P n (Some i) = (i < n) × P i × ((j : ℕ) → j < i → P j → ⊥)

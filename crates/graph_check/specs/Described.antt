@@ -1,6 +1,7 @@
 -- References to processes, compared by the descriptions of what they refer to.
 use Rattle.std.proofs.Common.{◌≡◌, refl}
-use Rattle.std.specs.Cmp.{IsEquivalence, IsPartialEquivalence, IsPartialOrder, IsTotalOrder, partial_equiv_from_equiv, po}
+use Rattle.std.specs.Cmp.{IsEquivalence, IsPartialEquivalence, IsPartialOrder, IsTotalOrder}
+use Rattle.std.specs.Cmp.{partial_equiv_from_equiv, po}
 use Rattle.std.specs.Ordering.{as_partial_cmp, eq_by_cmp, on}
 use Rattle.std.specs.declared.cmp.Ordering.{Ordering}
 use Rattle.std.proofs.lemmas.Cmp.{eq_by_cmp_equiv, on_total}

@@ -16,7 +16,7 @@ none_more P i none not j l p = elim (cases_lt j i) [
   | inr above ↦ let e : j ≡ i = omega arith in not (subst P e p)
 ]
 
--- it holds nowhere if it holds below n alone, and nowhere below i, which is n or more
+-- a property holds nowhere if it holds below n alone, and nowhere below i, which is n or more
 pub none_at_all : (P : ℕ → Type 0) (n i : ℕ) → n ≤ i → ((j : ℕ) → P j → j < n) → ((j : ℕ) → j < i → P j → ⊥) → (j : ℕ) → P j → ⊥
 none_at_all P n i l within none j p = let below = within j p in none j (omega (arith, below, l)) p
 

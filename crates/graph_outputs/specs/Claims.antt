@@ -1,5 +1,6 @@
 -- What all pips declare, each path with its pip and with what it is declared as.
-use Rattle.std.specs.Prelude.{◌↔◌, ℕ, ◌<◌, Bool, true, false, ◌&&◌, cond, List, [], ◌∷◌, ◌++◌, length, map, Contains, nat_lt}
+use Rattle.std.specs.Prelude.{◌↔◌, ℕ, ◌<◌, Bool, true, false, ◌&&◌, cond, List, [], ◌∷◌, ◌++◌, length, map}
+use Rattle.std.specs.Prelude.{Contains, nat_lt}
 use Rattle.std.specs.List.{flat_map}
 use Rattle.std.specs.List.Sorted.{IsSortedByKey}
 use Rattle.bx_tree.specs.Paths.{Atoms}

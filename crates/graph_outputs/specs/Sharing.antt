@@ -7,7 +7,8 @@ use Rattle.pip_types.specs.declared.pip.Pip.{Pip}
 use Rattle.pip_types.specs.declared.pip.PipKind.{PipKind}
 use Rattle.pip_types.specs.declared.pip.SealDesc.{SealDesc}
 use Rattle.graph_outputs.specs.Outputs.{declared_dirs}
-use Rattle.graph_outputs.specs.Overlap.{FileIsDir, NestedOutputs, Overlaps, SealMeetsDir, UnlistedFile, UnsharedDir, full_seals}
+use Rattle.graph_outputs.specs.Overlap.{FileIsDir, NestedOutputs, Overlaps, SealMeetsDir, UnlistedFile}
+use Rattle.graph_outputs.specs.Overlap.{UnsharedDir, full_seals}
 
 abbrev pub unless_shared : Bool → Atoms → List Atoms
 unless_shared true path = []

@@ -1,7 +1,8 @@
 //! What all pips declare together, each path with its pip, and the lists of it for the first pips.
 ghost use Rattle.std.specs.Prelude.{◌≡◌, ◌++◌, IfOk, OnOk, map};
 ghost use Rattle.std.specs.List.Sorted.{IsPermutation};
-ghost use Rattle.graph_outputs.specs.Claims.{AreClaims, IsInClaimOrder, claim_of, claims_of, if_wanted, paths_among};
+ghost use Rattle.graph_outputs.specs.Claims.{AreClaims, IsInClaimOrder, claim_of, claims_of, if_wanted};
+ghost use Rattle.graph_outputs.specs.Claims.{paths_among};
 ghost use Rattle.graph_outputs.specs.Claims.{wants, wanted_items};
 ghost use Rattle.graph_outputs.specs.Gathered.{IsListOf};
 

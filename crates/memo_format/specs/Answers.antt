@@ -4,13 +4,13 @@ use Rattle.std.proofs.Common.{Vec, Global}
 use Rattle.memo_format.specs.declared.fault.FormatFault.{FormatFault}
 use Rattle.memo_format.specs.declared.fault.FormatFault.TheVariants as faults
 
--- It gives what the function on lists gives, unless memory runs out.
+-- A function of the program gives what the function on lists gives, unless memory runs out.
 abbrev pub Reads : {X : Type 0} → Result X FormatFault → Option X → Type 0
 Reads (Ok x) read = read ≡ Some x
 Reads (Err faults.BadForm) read = read ≡ None
 Reads (Err faults.Memory) read = Unit {0}
 
--- its items are what the function on lists gives
+-- the items of a vector are what the function on lists gives, unless memory runs out
 abbrev pub ReadsItems : {X : Type 0} → Result (Vec X Global) FormatFault → Option (List X) → Type 0
 ReadsItems (Ok xs) read = read ≡ Some xs.items
 ReadsItems (Err faults.BadForm) read = read ≡ None

@@ -5,7 +5,8 @@ ghost use Rattle.std.proofs.Common.{refl};
 ghost use Rattle.stored_lines.specs.Reading.{Gives, Takes};
 ghost use Rattle.memo_format.specs.Answers.{Reads};
 ghost use Rattle.memo_format.specs.declared.entry.Entry.{Entry as AnyEntry};
-ghost use Rattle.memo_format.specs.Entries.{IsEntry, IsOutput, OutputsRise, body_entry, entry_text, output_at};
+ghost use Rattle.memo_format.specs.Entries.{IsEntry, IsOutput, OutputsRise, body_entry, entry_text};
+ghost use Rattle.memo_format.specs.Entries.{output_at};
 ghost use Rattle.memo_format.specs.Entries.{output_before, output_line, outputs_at, read_entry_text};
 ghost use Rattle.memo_format.specs.StoredForms.{output_form};
 

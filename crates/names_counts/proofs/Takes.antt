@@ -42,7 +42,7 @@ takes_less m n le a = record {
   at = λ ts rest p. let l : n + length rest ≤ length ts = a.at ts rest p in omega (arith, le, l);
 }
 
--- both, of which the first is not counted, or the last is not
+-- a row of two, of which the first is not counted, or the last is not
 pub takes_after : {A B : Language} {m n : ℕ} → Takes m A → Takes n B → Takes n (A ⋅ B)
 takes_after {m = m} {n = n} a b = takes_less n (m + n) (omega arith) (takes_then a b)
 

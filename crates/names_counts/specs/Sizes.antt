@@ -1,7 +1,9 @@
 -- The sizes of trees: one for each parameter, each local, each function and each declaration.
 use Rattle.std.specs.Prelude.{ℕ, ◌+◌, List, [], ◌∷◌, length}
 use Rattle.dscript_ast.specs.ExprTree as tree
-use Rattle.dscript_ast.specs.ExprTree.{HeadTree, ExprTree, OperandTree, PartTree, ElementTree, PropTree, HoleTree, StmtTree, MaybeExpr, MaybeStmt, ExprTrees, OperandTrees, PartTrees, ElementTrees, PropTrees, HoleTrees, StmtTrees, to_stmts}
+use Rattle.dscript_ast.specs.ExprTree.{HeadTree, ExprTree, OperandTree, PartTree, ElementTree, PropTree}
+use Rattle.dscript_ast.specs.ExprTree.{HoleTree, StmtTree, MaybeExpr, MaybeStmt, ExprTrees, OperandTrees}
+use Rattle.dscript_ast.specs.ExprTree.{PartTrees, ElementTrees, PropTrees, HoleTrees, StmtTrees, to_stmts}
 use Rattle.dscript_ast.specs.FileTree as file
 use Rattle.dscript_ast.specs.FileTree.{MarkedTree, DeclTree, MarkedTrees, ItemTree, Marked}
 

@@ -20,6 +20,6 @@ IsProject text file =
 abbrev pub AreProjects : Files → List ParsedData → Type 0
 AreProjects files parsed = AllZip (λ file p. IsProject file.1 p.file) files parsed
 
--- those of the files that are chosen
+-- the chosen ones of the files, in their order, are the project files
 abbrev pub AreProjectsAmong : (Atoms × List ℕ → Bool) → Files → List ParsedData → Type 0
 AreProjectsAmong chosen files parsed = AreProjects (filter chosen files) parsed

@@ -1,10 +1,12 @@
 -- Asks are in one total order, and `==` on them is equality.
 use Rattle.std.proofs.Common.{◌≡◌, ◌==◌, ◌∙◌, true, refl, ap, subst}
-use Rattle.std.specs.Cmp.{IsTotalOrder, IsEquivalence, IsPartialEquivalence, IsPartialOrder, po, partial_equiv_from_equiv, Equal-is, both_ways}
+use Rattle.std.specs.Cmp.{IsTotalOrder, IsEquivalence, IsPartialEquivalence, IsPartialOrder, po}
+use Rattle.std.specs.Cmp.{partial_equiv_from_equiv, Equal-is, both_ways}
 use Rattle.std.specs.Ordering.{eq_by_cmp, as_partial_cmp, nat_cmp, ordering_then, is_eq}
 use Rattle.std.specs.declared.cmp.Ordering.{Ordering}
 use Rattle.std.specs.declared.cmp.Ordering.TheVariants.{Less, Equal, Greater}
-use Rattle.std.proofs.lemmas.Cmp.{then_total, on_total, on_equiv, and_equiv, nat_cmp_total, nat_eq_equiv, tied_itself}
+use Rattle.std.proofs.lemmas.Cmp.{then_total, on_total, on_equiv, and_equiv, nat_cmp_total, nat_eq_equiv}
+use Rattle.std.proofs.lemmas.Cmp.{tied_itself}
 use Rattle.std.proofs.lemmas.Bool.{and_parts}
 use Rattle.bx_tree.specs.Paths.{Atoms, path_cmp, same_path}
 use Rattle.bx_tree.specs.Orders.{path_cmp_total, same_path_equiv, same_path_decides, equal_paths}

@@ -3,7 +3,8 @@ ghost use Rattle.std.specs.Prelude.{◌≡◌, ◌==◌, IfOk};
 ghost use Rattle.std.proofs.Common.{rules};
 ghost use Rattle.std.specs.Ordering.{as_partial_cmp};
 ghost use Rattle.observed.specs.Asks.{kind_place, ask_cmp, same_ask};
-ghost use Rattle.observed.specs.Orders.{ask_cmp_total, ask_cmp_matches, same_ask_equiv, same_ask_partial, ask_cmp_partial};
+ghost use Rattle.observed.specs.Orders.{ask_cmp_total, ask_cmp_matches, same_ask_equiv, same_ask_partial};
+ghost use Rattle.observed.specs.Orders.{ask_cmp_partial};
 
 use bx_tree::Path;
 use std::alloc::AllocError;

@@ -6,8 +6,10 @@ ghost use Rattle.std.specs.Ordering.{is_lt};
 ghost use Rattle.observed.specs.Asks.{ask_cmp};
 ghost use Rattle.bx_tree.specs.Paths.{IsPath};
 ghost use Rattle.observed.specs.declared.ask.Ask.{Ask as AnyAsk};
-ghost use Rattle.observed.specs.Texts.{Reads, ReadsAsks, after_prefix, all_asks as all_named, ask_at as ask_of_kind, ask_line, is_rising as rises, kind_text};
-ghost use Rattle.observed.specs.Texts.{named_ask, named_asks, named_path, paths_text, read_lines, read_paths_text, texts_now};
+ghost use Rattle.observed.specs.Texts.{Reads, ReadsAsks, after_prefix, all_asks as all_named};
+ghost use Rattle.observed.specs.Texts.{ask_at as ask_of_kind, ask_line, is_rising as rises, kind_text};
+ghost use Rattle.observed.specs.Texts.{named_ask, named_asks, named_path, paths_text, read_lines};
+ghost use Rattle.observed.specs.Texts.{read_paths_text, texts_now};
 
 use crate::ask::{Ask, AskKind};
 use crate::path_set::SetFault;

@@ -1,12 +1,14 @@
 -- Processes are in one total order, in which just those of one description tie.
-use Rattle.std.proofs.Common.{◌≡◌, ◌∙◌, ℕ, zero, suc, arith, Bool, true, false, List, [], ◌∷◌, Option, Some, None, map, refl, ap, sym}
+use Rattle.std.proofs.Common.{◌≡◌, ◌∙◌, ℕ, zero, suc, arith, Bool, true, false, List, [], ◌∷◌, Option, Some}
+use Rattle.std.proofs.Common.{None, map, refl, ap, sym}
 use Rattle.std.specs.Option.{option_to_list}
 use Rattle.std.specs.Cmp.{IsTotalOrder}
 use Rattle.std.specs.Cmp.Lexicographic.{slice_cmp}
 use Rattle.std.specs.Ordering.{nat_cmp, ordering_then}
 use Rattle.std.specs.declared.cmp.Ordering.{Ordering}
 use Rattle.std.specs.declared.cmp.Ordering.TheVariants.{Less, Equal, Greater}
-use Rattle.std.proofs.lemmas.Cmp.{lists_total, nat_cmp_total, nat_list_cmp_total, on_total, then_total, tied_itself}
+use Rattle.std.proofs.lemmas.Cmp.{lists_total, nat_cmp_total, nat_list_cmp_total, on_total, then_total}
+use Rattle.std.proofs.lemmas.Cmp.{tied_itself}
 use Rattle.std.proofs.lemmas.Map.Lookups.{CmpEqualImpliesEq, exact_bytes, exact_unsigned}
 use Rattle.bx_tree.specs.Orders.{equal_paths, path_cmp_total}
 use Rattle.bx_tree.specs.Paths.{Atoms, path_cmp}
@@ -23,12 +25,15 @@ use Rattle.pip_types.specs.declared.dir_inputs.SealForm.TheVariants.{Full, Parti
 use Rattle.pip_types.specs.declared.outputs.OutDir.{OutDir}
 use Rattle.pip_types.specs.declared.pip.ProcessDesc.{ProcessDesc}
 use Rattle.pip_order.specs.Descriptions.{description, without_pip}
-use Rattle.pip_order.specs.ProcessOrder.{call_cmp, env_cmp, file_cmp, form_cmp, inputs_cmp, maker_rank, outputs_cmp, process_cmp, text_cmp}
+use Rattle.pip_order.specs.ProcessOrder.{call_cmp, env_cmp, file_cmp, form_cmp, inputs_cmp, maker_rank}
+use Rattle.pip_order.specs.ProcessOrder.{outputs_cmp, process_cmp, text_cmp}
 
 inputs_cmp_total : IsTotalOrder inputs_cmp
 inputs_cmp_total =
-    then_total (on_total (λ (d : ProcessDesc). d.files) (lists_total (then_total (on_total input_path path_cmp_total) (on_total maker_rank nat_cmp_total))))
-    (on_total (λ (d : ProcessDesc). d.dirs) (lists_total (then_total (on_total dir_path path_cmp_total) (on_total form_rank nat_cmp_total))))
+    then_total (on_total (λ (d : ProcessDesc). d.files)
+    (lists_total (then_total (on_total input_path path_cmp_total) (on_total maker_rank nat_cmp_total))))
+    (on_total (λ (d : ProcessDesc). d.dirs)
+    (lists_total (then_total (on_total dir_path path_cmp_total) (on_total form_rank nat_cmp_total))))
 
 outputs_cmp_total : IsTotalOrder outputs_cmp
 outputs_cmp_total =
@@ -41,7 +46,8 @@ call_cmp_total =
     then_total (on_total (λ (d : ProcessDesc). d.exe) path_cmp_total)
     (then_total (on_total (λ (d : ProcessDesc). d.args) (lists_total nat_list_cmp_total))
     (then_total (on_total (λ (d : ProcessDesc). d.env)
-    (lists_total (then_total (on_total (λ (v : EnvPair). v.name) nat_list_cmp_total) (on_total (λ (v : EnvPair). v.value) nat_list_cmp_total))))
+    (lists_total (then_total (on_total (λ (v : EnvPair). v.name) nat_list_cmp_total)
+    (on_total (λ (v : EnvPair). v.value) nat_list_cmp_total))))
     (on_total (λ (d : ProcessDesc). d.dir) path_cmp_total)))
 
 pub process_cmp_total : IsTotalOrder process_cmp
@@ -54,8 +60,8 @@ both_equal Equal p e = (refl, e)
 both_equal Greater p e = cc
 
 -- lists tie only where their elements do, and so where what ties of them is equal
-tied_lists : {X Y : Type 0} (f : X → Y) (R : X → X → Ordering) → ((x y : X) → R x y ≡ Equal → f x ≡ f y) → (xs ys : List X)
-    → slice_cmp R xs ys ≡ Equal → map f xs ≡ map f ys
+tied_lists : {X Y : Type 0} (f : X → Y) (R : X → X → Ordering) → ((x y : X) → R x y ≡ Equal → f x ≡ f y)
+    → (xs ys : List X) → slice_cmp R xs ys ≡ Equal → map f xs ≡ map f ys
 tied_lists f R same [] [] e = refl
 tied_lists f R same [] (y ∷ ys) e = cc
 tied_lists f R same (x ∷ xs) [] e = cc
@@ -91,8 +97,10 @@ same_file (Made p m) (Made q n) e f = let same : m ≡ n = omega (arith, f) in c
 
 exact_file : CmpEqualImpliesEq file_cmp
 exact_file x y e =
-    let parts = both_equal (path_cmp (input_path x) (input_path y)) (nat_cmp (maker_rank x) (maker_rank y)) e in
-    same_file x y (equal_paths (input_path x) (input_path y) parts.0) (exact_unsigned (maker_rank x) (maker_rank y) parts.1)
+    let parts = both_equal (path_cmp (input_path x) (input_path y))
+    (nat_cmp (maker_rank x) (maker_rank y)) e in
+    same_file x y (equal_paths (input_path x) (input_path y) parts.0)
+    (exact_unsigned (maker_rank x) (maker_rank y) parts.1)
 
 same_sharing : (a b : Bool) → sharing_rank a ≡ sharing_rank b → a ≡ b
 same_sharing false false e = refl
@@ -102,9 +110,11 @@ same_sharing true true e = refl
 
 exact_outdir : CmpEqualImpliesEq outdir_cmp
 exact_outdir x y e =
-    let parts = both_equal (path_cmp x.path y.path) (nat_cmp (sharing_rank x.shared) (sharing_rank y.shared)) e in
+    let parts = both_equal (path_cmp x.path y.path)
+    (nat_cmp (sharing_rank x.shared) (sharing_rank y.shared)) e in
     let paths = equal_paths x.path y.path parts.0 in
-    let sharing = same_sharing x.shared y.shared (exact_unsigned (sharing_rank x.shared) (sharing_rank y.shared) parts.1) in
+    let sharing = same_sharing x.shared y.shared
+    (exact_unsigned (sharing_rank x.shared) (sharing_rank y.shared) parts.1) in
     let make : Atoms → Bool → OutDir = λ p b. record { path = p; shared = b } in
     ap (λ p. make p x.shared) paths ∙ ap (make y.path) sharing
 
@@ -142,12 +152,15 @@ tied_processes d e tie =
     let one = both_equal (outputs_cmp d e) (ordering_then (call_cmp d e) (inputs_cmp d e)) tie in
     let two = both_equal (call_cmp d e) (inputs_cmp d e) one.1 in
     let by_outs = both_equal (slice_cmp path_cmp d.outs e.outs)
-    (ordering_then (slice_cmp outdir_cmp d.outdirs e.outdirs) (slice_cmp path_cmp (option_to_list d.console) (option_to_list e.console))) one.0 in
+    (ordering_then (slice_cmp outdir_cmp d.outdirs e.outdirs)
+    (slice_cmp path_cmp (option_to_list d.console) (option_to_list e.console))) one.0 in
     let by_dirs = both_equal (slice_cmp outdir_cmp d.outdirs e.outdirs)
     (slice_cmp path_cmp (option_to_list d.console) (option_to_list e.console)) by_outs.1 in
     let by_exe = both_equal (path_cmp d.exe e.exe)
-    (ordering_then (slice_cmp text_cmp d.args e.args) (ordering_then (slice_cmp env_cmp d.env e.env) (path_cmp d.dir e.dir))) two.0 in
-    let by_args = both_equal (slice_cmp text_cmp d.args e.args) (ordering_then (slice_cmp env_cmp d.env e.env) (path_cmp d.dir e.dir)) by_exe.1 in
+    (ordering_then (slice_cmp text_cmp d.args e.args)
+    (ordering_then (slice_cmp env_cmp d.env e.env) (path_cmp d.dir e.dir))) two.0 in
+    let by_args = both_equal (slice_cmp text_cmp d.args e.args)
+    (ordering_then (slice_cmp env_cmp d.env e.env) (path_cmp d.dir e.dir)) by_exe.1 in
     let by_env = both_equal (slice_cmp env_cmp d.env e.env) (path_cmp d.dir e.dir) by_args.1 in
     let by_files = both_equal (slice_cmp file_cmp d.files e.files) (slice_cmp form_cmp d.dirs e.dirs) two.1 in
     let outs = exact_lists path_cmp equal_paths d.outs e.outs by_outs.0 in
@@ -168,7 +181,8 @@ same_forms (Sealed m f p) (Opaque n q) = refl
 same_forms (Opaque m p) (Sealed n g q) = refl
 same_forms (Opaque m p) (Opaque n q) = refl
 
-same_dirs : (xs ys : List DirInput) → slice_cmp form_cmp (map without_pip xs) (map without_pip ys) ≡ slice_cmp form_cmp xs ys
+same_dirs : (xs ys : List DirInput)
+    → slice_cmp form_cmp (map without_pip xs) (map without_pip ys) ≡ slice_cmp form_cmp xs ys
 same_dirs [] [] = refl
 same_dirs [] (y ∷ ys) = refl
 same_dirs (x ∷ xs) [] = refl
@@ -179,10 +193,12 @@ same_dirs (x ∷ xs) (y ∷ ys) =
 -- processes compare as their descriptions do
 by_description : (d e : ProcessDesc) → process_cmp (description d) (description e) ≡ process_cmp d e
 by_description d e =
-    ap (λ o. ordering_then (outputs_cmp d e) (ordering_then (call_cmp d e) (ordering_then (slice_cmp file_cmp d.files e.files) o)))
+    ap (λ o. ordering_then (outputs_cmp d e)
+    (ordering_then (call_cmp d e) (ordering_then (slice_cmp file_cmp d.files e.files) o)))
     (same_dirs d.dirs e.dirs)
 
 -- processes of one description tie
 pub described_alike : (d e : ProcessDesc) → description d ≡ description e → process_cmp d e ≡ Equal
 described_alike d e same =
-    sym (by_description d e) ∙ ap (process_cmp (description d)) (sym same) ∙ tied_itself process_cmp_total (description d)
+    sym (by_description d e) ∙ ap (process_cmp (description d)) (sym same)
+    ∙ tied_itself process_cmp_total (description d)

@@ -50,7 +50,7 @@ impl Outputs {
         self.paths.as_slice()
     }
 
-    /// Whether a path is one of them.
+    /// Whether a path is one of these.
     pub fn has(&self, path: &Path) -> bool
         ensures { IsTrue result ↔ Contains self.now path.now }
     {

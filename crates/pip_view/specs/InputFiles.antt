@@ -100,9 +100,9 @@ abbrev pub by_pip : List DirInput → List DirInput
 by_pip [] = []
 by_pip (dir ∷ dirs) = insert_by_pip dir (by_pip dirs)
 
--- Its executable, its declared files, the files of seals that list them, and the members of opaque
--- directories. Where two have one path, the first in this order counts. Of members of opaque directories
--- that is the one of the least pip, though one of these directories may lie in another.
+-- The executable of a process, its declared files, the files of seals that list them, and the members of
+-- opaque directories. Where two have one path, the first in this order counts. Of members of opaque
+-- directories that is the one of the least pip, though one of these directories may lie in another.
 abbrev pub named_files : List Pip → Files → ByPip → ProcessDesc → Files
 named_files pips tree made d =
     (d.exe, bytes_at tree d.exe) ∷ map (input_file tree made) d.files

@@ -27,7 +27,7 @@ as_input kinds.Read bytes = answers.Content bytes
 as_input kinds.Probe bytes = answers.File
 as_input kinds.List bytes = answers.Absent
 
--- another source file may be probed and not read
+-- a source file that is no input may be probed and not read
 abbrev pub as_source : AskKind → Answer
 as_source kinds.Read = answers.Denied
 as_source kinds.Probe = answers.File

@@ -135,7 +135,7 @@ fn as_input(kind: AskKind, blob: &Blob) -> Result<Answer, Memory>
     }
 }
 
-// Another source file, which may be probed and not read.
+// The answer of a source file that is no input: it may be probed and not read.
 fn as_source(kind: AskKind) -> Answer
     ensures { result ≡ seen.as_source kind }
 {

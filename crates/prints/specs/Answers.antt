@@ -3,7 +3,7 @@ use Rattle.std.specs.Prelude.{◌≡◌, Option, Some, None, Result, Ok, Err}
 use Rattle.prints.specs.declared.fault.PrintFault.{PrintFault}
 use Rattle.prints.specs.declared.fault.PrintFault.TheVariants as faults
 
--- It gives what the function on lists gives, unless memory runs out.
+-- A function of the program gives what the function on lists gives, unless memory runs out.
 abbrev pub Reads : {X : Type 0} → Result X PrintFault → Option X → Type 0
 Reads (Ok x) read = read ≡ Some x
 Reads (Err faults.BadPrint) read = read ≡ None

@@ -1,6 +1,7 @@
 -- The lines of weak texts are read back as they are written: proofs that the kinds of lines carry, and no
 -- definitions.
-use Rattle.std.proofs.Common.{◌≡◌, ◌⊎◌, ℕ, Bool, true, false, cond, not, ◌==◌, List, [], ◌∷◌, ◌++◌, codes, Option, Some, None, inl, inr, refl, ap, subst, ◌∙◌, IfSome}
+use Rattle.std.proofs.Common.{◌≡◌, ◌⊎◌, ℕ, Bool, true, false, cond, not, ◌==◌, List, [], ◌∷◌, ◌++◌, codes}
+use Rattle.std.proofs.Common.{Option, Some, None, inl, inr, refl, ap, subst, ◌∙◌, IfSome}
 use Rattle.std.specs.List.{list_all}
 use Rattle.std.specs.Str.{bytes_eq}
 use Rattle.std.proofs.lemmas.Bool.{and_parts}
@@ -16,13 +17,17 @@ use Rattle.pip_types.specs.declared.outputs.OutDir.{OutDir}
 use Rattle.stored_lines.specs.Forms.{Anything, IsForm}
 use Rattle.stored_lines.specs.Reading.{◌>>=◌}
 use Rattle.stored_lines.proofs.Combining.{after_form, as_form, bind_some, pair_form, prefix_sound, some_same}
-use Rattle.stored_lines.proofs.PartForms.{Lacks, IsSmall, counted_form, digest_form, lacks_append, newline, number_form, part_form, path_form, path_lacks, space}
+use Rattle.stored_lines.proofs.PartForms.{Lacks, IsSmall, counted_form, digest_form, lacks_append, newline}
+use Rattle.stored_lines.proofs.PartForms.{number_form, part_form, path_form, path_lacks, space}
 use Rattle.prints.specs.declared.weak_reading.Head.{Head}
 use Rattle.prints.specs.declared.weak_lines.DirLine.{DirLine}
 use Rattle.prints.specs.declared.weak_lines.FileLine.{FileLine}
 use Rattle.prints.specs.Processes.{IsCountable, IsDirLine, IsFileLine, IsOutDir, IsVariable}
-use Rattle.prints.specs.ReadWeak.{arg_at, env_at, env_pair, file_line, head_at, head_of, in_at, indir_at, line_of_dir, named_console, named_form, named_sharing, out_at, outdir_at, outdir_of}
-use Rattle.prints.specs.Weak.{arg_line, budget_line, console_line, console_words, cwd_line, env_line, exe_line, form_word, in_line, indir_line, out_line, outdir_line, sharing_word}
+use Rattle.prints.specs.ReadWeak.{arg_at, env_at, env_pair, file_line, head_at, head_of, in_at, indir_at}
+use Rattle.prints.specs.ReadWeak.{line_of_dir, named_console, named_form, named_sharing, out_at, outdir_at}
+use Rattle.prints.specs.ReadWeak.{outdir_of}
+use Rattle.prints.specs.Weak.{arg_line, budget_line, console_line, console_words, cwd_line, env_line}
+use Rattle.prints.specs.Weak.{exe_line, form_word, in_line, indir_line, out_line, outdir_line, sharing_word}
 
 -- ## Words
 

@@ -18,16 +18,16 @@ use Rattle.record_match.specs.Matches.{Compares, FirstDiffer}
 
 -- ## The first place
 
-get_in_front : (xs : List (List ℕ)) (i j : ℕ) → i < j → slice_get (take j xs) i ≡ slice_get xs i
-get_in_front xs i zero l = absurd (omega (arith, l))
-get_in_front [] i (suc j) l = refl
-get_in_front (x ∷ xs) zero (suc j) l = refl
-get_in_front (x ∷ xs) (suc i) (suc j) l = get_in_front xs i j (omega (arith, l))
+get_before : (xs : List (List ℕ)) (i j : ℕ) → i < j → slice_get (take j xs) i ≡ slice_get xs i
+get_before xs i zero l = absurd (omega (arith, l))
+get_before [] i (suc j) l = refl
+get_before (x ∷ xs) zero (suc j) l = refl
+get_before (x ∷ xs) (suc i) (suc j) l = get_before xs i j (omega (arith, l))
 
 -- before the first place at which they differ, lists have the same items
 not_before : (xs ys : List (List ℕ)) (i j : ℕ) (x y v w : List ℕ) → FirstDiffer xs ys i x y → FirstDiffer xs ys j v w → i < j → ⊥
 not_before xs ys i j x y v w here later l =
-    here.other (some_same x y (sym here.left ∙ sym (get_in_front xs i j l) ∙ ap (λ zs. slice_get zs i) later.before ∙ get_in_front ys i j l ∙ here.right))
+    here.other (some_same x y (sym here.left ∙ sym (get_before xs i j l) ∙ ap (λ zs. slice_get zs i) later.before ∙ get_before ys i j l ∙ here.right))
 
 one_place : (xs ys : List (List ℕ)) (i j : ℕ) (x y v w : List ℕ) → FirstDiffer xs ys i x y → FirstDiffer xs ys j v w → i ≡ j
 one_place xs ys i j x y v w one other = elim (cases_lt i j) [

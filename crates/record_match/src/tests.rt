@@ -188,7 +188,7 @@ fn nothing_differs(rt: HostRuntime) -> Result<(), Fail> {
 }
 
 #[test]
-fn the_first_line_that_differs_is_told(rt: HostRuntime) -> Result<(), Fail> {
+fn the_first_line_that_differs_is_named(rt: HostRuntime) -> Result<(), Fail> {
     let other = "second\n\
 7925d3e9a9613a093e5eb4054b32aa39de910d2b03ba7e8046c3b4550b8de1e4\n\
 8b911a8716b94442f9ca3dff20584048536e4c2f47b8b5bb9096cbd43c3432d5\n";
@@ -197,7 +197,7 @@ fn the_first_line_that_differs_is_told(rt: HostRuntime) -> Result<(), Fail> {
 }
 
 #[test]
-fn another_process_is_told_before_any_answer(rt: HostRuntime) -> Result<(), Fail> {
+fn another_process_is_named_before_any_answer(rt: HostRuntime) -> Result<(), Fail> {
     let other = "other\n\
 0bb69bfad98b5ef8a754adc9e2591b906273773bb4f53b401b5768f4274823a8\n\
 f6ec07454182b39e765c280e0cc0c3fb3365a8bad4694b9eeceab39171560d29\n";

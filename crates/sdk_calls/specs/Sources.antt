@@ -29,7 +29,7 @@ is_one_further (Some (atom ∷ next ∷ rest)) = false
 abbrev pub lies_directly_in : Atoms → Atoms → Bool
 lies_directly_in dir path = is_one_further (strip_dir dir path)
 
--- those of the source files below a directory that are directly in it
+-- the source files that are directly in a directory
 abbrev pub files_directly_in : Files → Atoms → List Atoms
 files_directly_in sources dir = filter (lies_directly_in dir) (files_below sources dir)
 

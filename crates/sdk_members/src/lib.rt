@@ -1,7 +1,7 @@
 //! The members of texts, lists and paths, and the names of all members.
 //!
 //! What `x.name` and `x.name(..)` come to where `x` is a text, a list, a path, a file or a directory. Members
-//! of processes and static directories, which need the list of pips, are not there yet. This crate depends
+//! of processes and static directories, which need the list of pips, are in `dscript_sdk`. This crate depends
 //! on `sdk_values` and `bx_path`. It carries the promise that each of these members answers what its
 //! definition says.
 #![tactic(auto)]

@@ -17,7 +17,7 @@ use Rattle.content_store.specs.Contents.{IsContent}
 
 -- ## Contents
 
--- those of the executable and of the declared files
+-- the contents of the executable and of the declared files
 abbrev pub desc_contents : Desc → List (List ℕ)
 desc_contents d = d.exe ∷ contents_of d.files
 

@@ -1,5 +1,6 @@
 -- Lines one after another.
-use Rattle.std.specs.Prelude.{ℕ, zero, suc, Bool, true, ◌&&◌, List, [], ◌∷◌, length, Some, None, is_some, if◌then◌else◌}
+use Rattle.std.specs.Prelude.{ℕ, zero, suc, Bool, true, ◌&&◌, List, [], ◌∷◌, length, Some, None, is_some}
+use Rattle.std.specs.Prelude.{if◌then◌else◌}
 use Rattle.observed.specs.Texts.{after_prefix}
 use Rattle.stored_lines.specs.Reading.{Taken, ◌>>=◌}
 

@@ -41,19 +41,20 @@ whole_of part text = part text >>= λ x. if_ended x.0 x.1
 
 -- ## What a function of the program reads
 
--- It reads what the function on lists reads and leaves the rest, unless memory runs out.
+-- A function of the program reads what the function on lists reads and leaves the rest, unless memory runs
+-- out.
 abbrev pub Takes : {X : Type 0} → Result X TextFault → List ℕ → Taken X → Type 0
 Takes (Ok x) rest taken = taken ≡ Some (x, rest)
 Takes (Err faults.Bad) rest taken = taken ≡ None
 Takes (Err faults.Memory) rest taken = Unit {0}
 
--- the items of a vector
+-- the items of a vector are what the function on lists reads, unless memory runs out
 abbrev pub TakesItems : {X : Type 0} → Result (Vec X Global) TextFault → List ℕ → Taken (List X) → Type 0
 TakesItems (Ok xs) rest taken = taken ≡ Some (xs.items, rest)
 TakesItems (Err faults.Bad) rest taken = taken ≡ None
 TakesItems (Err faults.Memory) rest taken = Unit {0}
 
--- It gives what the function on lists gives, unless memory runs out.
+-- A function of the program gives what the function on lists gives, unless memory runs out.
 abbrev pub Gives : {X : Type 0} → Result X TextFault → Option X → Type 0
 Gives (Ok x) read = read ≡ Some x
 Gives (Err faults.Bad) read = read ≡ None

@@ -3,7 +3,7 @@ use Rattle.std.specs.Prelude.{ℕ, List, drop}
 use Rattle.tool_run.specs.declared.content.Kept.{Kept}
 use Rattle.tool_run.specs.declared.content.Kept.TheVariants.{Owned, Shared, File}
 
--- its bytes, whoever owns them
+-- the bytes of a content, whoever owns them
 abbrev pub kept_bytes : Kept → List ℕ
 kept_bytes (Owned bytes) = bytes.items
 kept_bytes (Shared text start) = drop start text

@@ -6,7 +6,7 @@ use Rattle.tool_run.specs.declared.running.Ran.{Ran}
 use Rattle.tool_run.specs.Machine.{Machine}
 use Rattle.tool_run.specs.Run.{Run, Turn}
 
--- its parts, without where they lie in memory
+-- the parts of a run, without where they lie in memory
 abbrev pub seen : Ran → Run
 seen ran = record {
   accesses = ran.accesses.items;

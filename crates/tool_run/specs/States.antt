@@ -2,7 +2,7 @@
 use Rattle.tool_run.specs.declared.state.State.{State}
 use Rattle.tool_run.specs.Machine.{Machine}
 
--- its parts, without where they lie in memory
+-- the parts of a machine, without where they lie in memory
 abbrev pub machine_of : State → Machine
 machine_of s = record {
   place = s.place;

@@ -20,8 +20,8 @@ use std::alloc::{AllocError, Global};
 use std::mem;
 use tool_text::{Operand, REGISTERS, Register};
 
-// Where a run is: the place of its next instruction, its registers, what it wrote, what it said, and how many
-// bytes these are in all.
+/// Where a run is: the place of its next instruction, its registers, what it wrote, what it said, and how many
+/// bytes these are in all.
 #[derive(Drop)]
 pub struct State {
     pub place: usize,

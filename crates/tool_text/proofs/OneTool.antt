@@ -37,7 +37,7 @@ before_same c x xs e = ap (λ t. take (cond (not t) (1 + position_or_len (λ b. 
 after_same : (c : ℕ) (x : ℕ) (xs : List ℕ) → (x == c) ≡ true → after_byte c (x ∷ xs) ≡ xs
 after_same c x xs e = ap (λ t. drop (cond (not t) (1 + position_or_len (λ b. b == c) xs) 0 + 1) (x ∷ xs)) e
 
--- it is cut at such a byte, or has none
+-- a list is cut at the first byte c, or has none
 abbrev pub IsCutAt : ℕ → List ℕ → Type 0
 IsCutAt c xs = (xs ≡ before_byte c xs ++ c ∷ after_byte c xs) ⊎ ((before_byte c xs ≡ xs) × (after_byte c xs ≡ []))
 

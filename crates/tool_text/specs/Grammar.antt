@@ -1,5 +1,6 @@
 -- The grammar of tools: which text has which lines.
-use Rattle.std.specs.Prelude.{◌≡◌, ◌≢◌, ℕ, ◌<◌, ◌≤◌, Bool, false, not, IsTrue, ◌&&◌, ◌||◌, ◌==◌, nat_le, List, [], ◌∷◌, ◌++◌, codes, filter, Option, Some, None, slice_get, ◌⊎◌}
+use Rattle.std.specs.Prelude.{◌≡◌, ◌≢◌, ℕ, ◌<◌, ◌≤◌, Bool, false, not, IsTrue, ◌&&◌, ◌||◌, ◌==◌, nat_le, List}
+use Rattle.std.specs.Prelude.{[], ◌∷◌, ◌++◌, codes, filter, Option, Some, None, slice_get, ◌⊎◌}
 use Rattle.std.specs.List.{AllByRecursion, slice_split}
 use Rattle.std.specs.Str.Parse.{digits_value}
 use Rattle.tool_text.specs.declared.limits.TheConstants.{REGISTERS, MAX_EXIT}

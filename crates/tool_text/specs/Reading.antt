@@ -1,5 +1,7 @@
 -- What a text is read as: the tool that the grammar gives it, by functions on lists.
-use Rattle.std.specs.Prelude.{ℕ, suc, ◌+◌, ◌≡◌, Bool, true, false, not, ◌&&◌, ◌||◌, ◌==◌, nat_lt, nat_le, slice_index, List, [], ◌∷◌, ◌++◌, length, map, reverse, codes, filter, Option, Some, None, Result, Ok, Err, option_map, option_and_then, if◌then◌else◌}
+use Rattle.std.specs.Prelude.{ℕ, suc, ◌+◌, ◌≡◌, Bool, true, false, not, ◌&&◌, ◌||◌, ◌==◌, nat_lt, nat_le}
+use Rattle.std.specs.Prelude.{slice_index, List, [], ◌∷◌, ◌++◌, length, map, reverse, codes, filter, Option}
+use Rattle.std.specs.Prelude.{Some, None, Result, Ok, Err, option_map, option_and_then, if◌then◌else◌}
 use Rattle.std.specs.Borrow.{Bor}
 use Rattle.std.specs.List.{list_all, list_any, slice_split, before_first, after_first, onto_first}
 use Rattle.std.specs.Str.{bytes_eq}

@@ -2,7 +2,9 @@
 ghost use Rattle.std.specs.Prelude.{◌≡◌, ◌≤◌, ◌^◌, true};
 ghost use Rattle.std.specs.List.{list_all};
 ghost use Rattle.tool_text.specs.Grammar.{is_digit as digit, is_lower as lower};
-ghost use Rattle.tool_text.specs.Reading.{is_digits as digits_only, is_label as label, is_label_byte as label_byte, is_number as number, value_below as value_less};
+ghost use Rattle.tool_text.specs.Reading.{is_digits as digits_only, is_label as label};
+ghost use Rattle.tool_text.specs.Reading.{is_label_byte as label_byte, is_number as number};
+ghost use Rattle.tool_text.specs.Reading.{value_below as value_less};
 
 fn is_digit(byte: u8) -> bool
     ensures { result ≡ digit byte }

@@ -1,7 +1,13 @@
 //! Instructions with their operands.
 ghost use Rattle.std.specs.Prelude.{◌≡◌, Some, None, MatchResult};
 ghost use Rattle.tool_text.specs.Tables.{place_in};
-ghost use Rattle.tool_text.specs.Reading.{Reads, instr_in as instr_read, instr_of as instr_made, line_of as line_read, lone as one_of, pair as two_of, quadruple as four_of, register_operand as register_operand_read, register_target as register_target_read, register_two as register_two_read, split_of as split_read, texts_now, triple as three_of, two_operands as two_operands_read, two_target as two_target_read};
+ghost use Rattle.tool_text.specs.Reading.{Reads, instr_in as instr_read, instr_of as instr_made};
+ghost use Rattle.tool_text.specs.Reading.{line_of as line_read, lone as one_of, pair as two_of};
+ghost use Rattle.tool_text.specs.Reading.{quadruple as four_of, register_operand as register_operand_read};
+ghost use Rattle.tool_text.specs.Reading.{register_target as register_target_read};
+ghost use Rattle.tool_text.specs.Reading.{register_two as register_two_read, split_of as split_read};
+ghost use Rattle.tool_text.specs.Reading.{texts_now, triple as three_of, two_operands as two_operands_read};
+ghost use Rattle.tool_text.specs.Reading.{two_target as two_target_read};
 
 use crate::fault::ToolFault;
 use crate::labels::Table;

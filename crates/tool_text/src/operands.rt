@@ -1,6 +1,8 @@
 //! The operands of instructions.
 ghost use Rattle.std.specs.Prelude.{◌≡◌, Some};
-ghost use Rattle.tool_text.specs.Reading.{Reads, code_of as code_read, escape_of as escape, numbered as number_read, operand_of as operand_read, register_of as register_read, string_rest as string_read};
+ghost use Rattle.tool_text.specs.Reading.{Reads, code_of as code_read, escape_of as escape};
+ghost use Rattle.tool_text.specs.Reading.{numbered as number_read, operand_of as operand_read};
+ghost use Rattle.tool_text.specs.Reading.{register_of as register_read, string_rest as string_read};
 
 use crate::bytes::{is_digits, is_number, value_below};
 use crate::fault::ToolFault;

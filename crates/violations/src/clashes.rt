@@ -71,7 +71,7 @@ fn any_clash(path: &Path, dirs: &[OutDir], files: &[MadeFile]) -> bool
     files.iter().any(|file| is_shared(dirs, &file.path) && is_clash(path, &file.path))
 }
 
-// Whether one of them does; this is answered at once where no directory is shared.
+// Whether one of the files of a pip clashes with a path; answered at once where no directory is shared.
 fn any_shared_clash(path: &Path, dirs: &[OutDir], files: &[MadeFile]) -> bool
     ensures { result ≡ (list_any (λ (dir : AnyDir). dir.shared) dirs.now && list_any (λ (file : AnyFile).
         double_writes.is_shared dirs.now file.path && double_writes.is_clash path.now file.path) files.now) }

@@ -1,3 +1,5 @@
+//! Sources, outputs and notes that fail at each of their calls in turn.
+
 use super::*;
 
 // Three files that are copied or written, and where each of them is.

@@ -1,3 +1,5 @@
+//! Inputs that are refused, each with its first fault.
+
 use super::*;
 
 /// The start of a bundle of several files.

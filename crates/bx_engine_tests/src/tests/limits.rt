@@ -1,3 +1,5 @@
+//! Builds at the limits on pips, paths, texts and heights, and one beyond each.
+
 use super::*;
 
 /// Writes the files `0000` to `3fff`, which are as many as there may be pips.

@@ -1,3 +1,5 @@
+//! Faults of names in a specification and in a workspace.
+
 use super::workspaces::{A, ALL, B};
 use super::*;
 

@@ -1,3 +1,5 @@
+//! Specifications with the files that they make, or with the fault of their evaluation.
+
 use super::*;
 
 /// Specifications that are refused where they are evaluated, each with its fault.

@@ -1,3 +1,5 @@
+//! Texts that are no specification, each with the place of its fault.
+
 use super::*;
 
 /// Texts with the place where each has no token.

@@ -1,3 +1,5 @@
+//! Words of the command line, and builds with options.
+
 use super::*;
 use bx_engine::{Order, WordFault, read_words};
 

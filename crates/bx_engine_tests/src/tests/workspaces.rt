@@ -1,3 +1,5 @@
+//! Workspaces of modules with what they build, or with their first fault.
+
 use super::*;
 
 pub(crate) const ALL: &str =

@@ -5,14 +5,14 @@ mod texts;
 mod turns;
 
 use dscript_ast::Form;
-use dscript_lex::{MAX_TEXT_BYTES, Token, lex};
+use dscript_lex::{MAX_LEXED_BYTES, Token, lex};
 use dscript_parse::{SyntaxFault, parse};
 use std::alloc::Global;
 use std::test::Fail;
 
 /// The tokens of a text.
 fn tokens_of(alloc: Global, text: &str) -> Result<Vec<Token>, Fail> {
-    if text.len() > MAX_TEXT_BYTES {
+    if text.len() > MAX_LEXED_BYTES {
         return Err(Fail::new("a text too long for a file"));
     }
     Ok(lex(alloc, text.as_bytes())?)
@@ -20,7 +20,7 @@ fn tokens_of(alloc: Global, text: &str) -> Result<Vec<Token>, Fail> {
 
 /// The place where the tokens are refused, if they are no file of this form.
 fn place_in(alloc: Global, tokens: &[Token], form: Form) -> Result<Option<u32>, Fail> {
-    if tokens.len() > MAX_TEXT_BYTES {
+    if tokens.len() > MAX_LEXED_BYTES {
         return Err(Fail::new("too many tokens for a file"));
     }
     match parse(alloc, tokens, form) {
