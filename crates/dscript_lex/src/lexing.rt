@@ -7,10 +7,13 @@ use crate::brackets::{follow, has_no_hole, in_hole};
 use crate::fault::LexFault;
 use crate::lexeme::LexemeKind;
 use crate::limits::MAX_LEXED_BYTES;
-use crate::punctuator_texts::PunctuatorTexts;
 use crate::scanner::scan;
+use crate::shared_texts::SharedTexts;
 use crate::token::Token;
 use std::alloc::{AllocError, Global};
+
+/// For how many tokens at most memory is taken before the first is met.
+const FIRST_TOKENS: usize = 1024;
 
 /// How many bytes the byte order mark takes with which a text may begin.
 fn mark_len(bytes: &[u8]) -> usize
@@ -52,9 +55,9 @@ pub fn lex(alloc: Global, bytes: &[u8]) -> Result<Vec<Token>, LexFault>
         (λ tokens. AreTokens bytes.now tokens.items)
         (λ fault. Refuses fault bytes.now) }
 {
-    let mut tokens = Vec::new(alloc);
+    let mut tokens = Vec::with_capacity(alloc, FIRST_TOKENS.min(bytes.len() / 4))?;
     let mut brackets = Vec::new(alloc);
-    let mut texts = PunctuatorTexts::new(alloc)?;
+    let mut texts = SharedTexts::new(alloc)?;
     let mut unclosed = false;
     let mut at = mark_len(bytes);
     'lexemes: while at < bytes.len() {

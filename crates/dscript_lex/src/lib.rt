@@ -17,9 +17,9 @@ mod lexing;
 mod limits;
 mod numbers;
 mod opening;
-mod punctuator_texts;
 mod punctuators;
 mod scanner;
+mod shared_texts;
 mod token;
 
 pub use fault::LexFault;

@@ -14,18 +14,22 @@ use crate::enclosed::enclosed;
 use crate::lexeme::{LexemeKind, Scanned};
 use crate::numbers::number_of;
 use crate::opening::{Opening, opening_of};
-use crate::punctuator_texts::PunctuatorTexts;
 use crate::punctuators::punctuator_len;
+use crate::shared_texts::SharedTexts;
 use crate::token::TokenKind;
-use bx_tree::Text;
 use std::alloc::{AllocError, Global};
 
 /// The word of this many bytes at the start.
-fn scanned_word(alloc: Global, bytes: &[u8], len: usize) -> Result<Option<Scanned>, AllocError>
+fn scanned_word(
+    alloc: Global,
+    bytes: &[u8],
+    len: usize,
+    texts: &mut SharedTexts,
+) -> Result<Option<Scanned>, AllocError>
     requires { len ≤ length bytes.now }
     ensures { IfOk result (λ scanned. scanned ≡ scanned_word len bytes.now) }
 {
-    let word = Text::new(alloc, bytes[..len].to_vec(alloc)?)?;
+    let word = texts.text(alloc, &bytes[..len])?;
     Ok(Some(Scanned {
         len,
         kind: LexemeKind::Spelled(TokenKind::Word(word)),
@@ -84,7 +88,7 @@ fn scanned_other(
     alloc: Global,
     bytes: &[u8],
     unclosed: &mut bool,
-    texts: &mut PunctuatorTexts,
+    texts: &mut SharedTexts,
 ) -> Result<Option<Scanned>, AllocError>
     requires { IsTrue unclosed.old → NeverCloses bytes.now }
     ensures scanned { IfOk result (λ scanned. scanned ≡ scanned_other bytes.now (comment_len bytes.now)) }
@@ -115,7 +119,7 @@ pub(crate) fn scan(
     in_hole: bool,
     bytes: &[u8],
     unclosed: &mut bool,
-    texts: &mut PunctuatorTexts,
+    texts: &mut SharedTexts,
 ) -> Result<Option<Scanned>, AllocError>
     requires { IsTrue unclosed.old → NeverCloses bytes.now }
     ensures scanned { IfOk result (λ scanned. scanned ≡ scan_of in_hole bytes.now) }
@@ -130,7 +134,7 @@ pub(crate) fn scan(
             len: 1,
             kind: LexemeKind::Blank,
         })),
-        Opening::Word => scanned_word(alloc, bytes, 1 + word_len(rest)),
+        Opening::Word => scanned_word(alloc, bytes, 1 + word_len(rest), texts),
         Opening::Number => Ok(scanned_number(bytes, 1 + word_len(rest))),
         Opening::Quote => scanned_string(alloc, rest, *first),
         Opening::Template => scanned_part(alloc, rest, true),

@@ -14,6 +14,9 @@ use dscript_ast::{Decl, ImportName, Item, Mark, Marked};
 use dscript_scopes::{Declared, DottedName, Imported};
 use std::alloc::Global;
 
+/// For how many declarations of a file at most memory is taken before the first is met.
+const FIRST_DECLS: usize = 1024;
+
 /// The names of a file.
 #[derive(Drop)]
 pub(crate) struct Names {
@@ -189,7 +192,7 @@ pub(crate) fn names_of(alloc: Global, items: &[Item]) -> Result<Names, Memory>
     ensures { GathersItems result (map item_tree items.now) }
 {
     let mut names = Names {
-        decls: Vec::new(alloc),
+        decls: Vec::with_capacity(alloc, FIRST_DECLS.min(items.len()))?,
         opened: Vec::new(alloc),
         imports: Vec::new(alloc),
     };

@@ -26,7 +26,7 @@ fn shared(alloc: Global, name: &DottedName) -> Result<DottedName, Memory>
 pub(crate) fn decl_names(alloc: Global, decls: &[Declared]) -> Result<Vec<DottedName>, Memory>
     ensures { IfOk result (λ names. names.items ≡ map (λ d. d.name) decls.now) }
 {
-    let mut names = Vec::new(alloc);
+    let mut names = Vec::with_capacity(alloc, decls.len())?;
     'decls: for decl in decls {
         names.push(shared(alloc, &decl.name)?)?;
     }

@@ -1,15 +1,16 @@
 //! Tests on the next tokens, and tokens that only expressions and statements have.
 
-ghost use Rattle.std.specs.Prelude.{◌≡◌, length};
-ghost use Rattle.dscript_ast.specs.Operators.{precedence, spelling};
+ghost use Rattle.std.specs.Prelude.{◌≡◌, ◌∷◌, [], length};
+ghost use Rattle.dscript_ast.specs.Operators.{precedence};
 ghost use Rattle.dscript_grammar.specs.ExprReading.{after_param_name, at_arrow, at_assign, at_params};
 ghost use Rattle.dscript_grammar.specs.ExprReading.{at_part, at_prefix};
 ghost use Rattle.dscript_grammar.specs.ExprReading.{at_template, closes_params, ends_param, letter_of};
 ghost use Rattle.dscript_grammar.specs.ExprReading.{optional_param};
-ghost use Rattle.dscript_grammar.specs.ExprReading.{read_letter, read_loop_keyword, read_one_of};
+ghost use Rattle.dscript_grammar.specs.ExprReading.{read_letter, read_loop_keyword};
 ghost use Rattle.dscript_grammar.specs.ExprReading.{read_operator, read_prefix};
 ghost use Rattle.dscript_grammar.specs.ExprReading.{operator_precedence, read_whole, read_head, read_middle};
 ghost use Rattle.dscript_grammar.specs.ExprReading.{read_tail};
+ghost use Rattle.dscript_parse_exprs.specs.Spelled.{operator_spelled, read_spelled};
 ghost use Rattle.dscript_parse_tokens.specs.Gives.{kinds, Offers, Reads};
 
 use bx_tree::Text;
@@ -131,38 +132,83 @@ pub(crate) fn letter(tokens: &[Token]) -> Option<Parsed<'_, PathKind>>
     }
 }
 
-/// The first of these operators that is the first token.
-fn one_of<'a>(operators: &[BinaryOp], tokens: &'a [Token]) -> Option<Parsed<'a, BinaryOp>>
-    ensures { Offers (λ o. o) (read_one_of operators.now (kinds tokens.now))
-        (length (kinds tokens.now)) result }
+/// The operator of one byte with this spelling.
+#[tactic(auto, unfolding(crate::specs::Spelled::operator_spelled))]
+fn operator_of_one(a: u8) -> Option<BinaryOp>
+    ensures { result ≡ operator_spelled (a ∷ []) }
 {
-    'operators: for operator in operators {
-        if let Some(rest) = take_punctuator(tokens, operator.spelling()) {
-            return Some(flat(*operator, rest));
-        }
+    match a {
+        b'<' => Some(BinaryOp::Less),
+        b'>' => Some(BinaryOp::Greater),
+        b'+' => Some(BinaryOp::Add),
+        b'-' => Some(BinaryOp::Subtract),
+        b'*' => Some(BinaryOp::Multiply),
+        _ => None,
     }
-    None
+}
+
+/// The operator of two bytes with this spelling.
+#[tactic(auto, unfolding(crate::specs::Spelled::operator_spelled))]
+fn operator_of_two(a: u8, b: u8) -> Option<BinaryOp>
+    ensures { result ≡ operator_spelled (a ∷ b ∷ []) }
+{
+    match (a, b) {
+        (b'|', b'|') => Some(BinaryOp::Or),
+        (b'&', b'&') => Some(BinaryOp::And),
+        (b'<', b'=') => Some(BinaryOp::LessOrEqual),
+        (b'>', b'=') => Some(BinaryOp::GreaterOrEqual),
+        _ => None,
+    }
+}
+
+/// The operator of three bytes with this spelling.
+#[tactic(auto, unfolding(crate::specs::Spelled::operator_spelled))]
+fn operator_of_three(a: u8, b: u8, c: u8) -> Option<BinaryOp>
+    ensures { result ≡ operator_spelled (a ∷ b ∷ c ∷ []) }
+{
+    if b != b'=' || c != b'=' {
+        return None;
+    }
+    match a {
+        b'=' => Some(BinaryOp::Equal),
+        b'!' => Some(BinaryOp::NotEqual),
+        _ => None,
+    }
+}
+
+/// The operator between two operands with this spelling.
+#[tactic(auto, unfolding(crate::specs::Spelled::operator_spelled))]
+fn operator_spelled(text: &[u8]) -> Option<BinaryOp>
+    ensures { result ≡ operator_spelled text.now }
+{
+    match text {
+        [a] => operator_of_one(*a),
+        [a, b] => operator_of_two(*a, *b),
+        [a, b, c] => operator_of_three(*a, *b, *c),
+        _ => None,
+    }
+}
+
+/// The operator between two operands that the first token is, by its spelling.
+#[tactic(auto, unfolding(crate::specs::Spelled::read_spelled, dscript_grammar::specs::Reading::choose))]
+fn first_operator(tokens: &[Token]) -> Option<Parsed<'_, BinaryOp>>
+    ensures { Offers (λ o. o) (read_spelled (kinds tokens.now)) (length (kinds tokens.now)) result }
+{
+    let (token, rest) = tokens.split_first()?;
+    match &token.kind {
+        TokenKind::Punct(text) => {
+            let operator = operator_spelled(text.bytes())?;
+            Some(flat(operator, rest))
+        }
+        _ => None,
+    }
 }
 
 /// The operator between two operands, if it is the first token.
-#[tactic(auto, unfolding(dscript_grammar::specs::ExprReading::read_operator))]
 pub(crate) fn operator(tokens: &[Token]) -> Option<Parsed<'_, BinaryOp>>
     ensures { Offers (λ o. o) (read_operator (kinds tokens.now)) (length (kinds tokens.now)) result }
 {
-    let operators = [
-        BinaryOp::Or,
-        BinaryOp::And,
-        BinaryOp::Equal,
-        BinaryOp::NotEqual,
-        BinaryOp::Less,
-        BinaryOp::LessOrEqual,
-        BinaryOp::Greater,
-        BinaryOp::GreaterOrEqual,
-        BinaryOp::Add,
-        BinaryOp::Subtract,
-        BinaryOp::Multiply,
-    ];
-    one_of(&operators, tokens)
+    first_operator(tokens)
 }
 
 /// The level of the operator that is the first token; 100 where it is none.

@@ -56,38 +56,23 @@ fn is_one_of(word: &[u8], words: &[&[u8]]) -> bool
 fn is_reserved(word: &[u8]) -> bool
     ensures { result ≡ is_reserved word.now }
 {
-    let words: [&[u8]; 29] = [
-        b"import",
-        b"export",
-        b"const",
-        b"let",
-        b"function",
-        b"interface",
-        b"if",
-        b"else",
-        b"for",
-        b"return",
-        b"true",
-        b"false",
-        b"undefined",
-        b"class",
-        b"enum",
-        b"switch",
-        b"while",
-        b"do",
-        b"new",
-        b"var",
-        b"default",
-        b"typeof",
-        b"this",
-        b"null",
-        b"break",
-        b"continue",
-        b"try",
-        b"throw",
-        b"in",
-    ];
-    is_one_of(word, &words)
+    match word.len() {
+        2 => is_one_of(word, &[b"if", b"do", b"in"]),
+        3 => is_one_of(word, &[b"let", b"for", b"new", b"var", b"try"]),
+        4 => is_one_of(word, &[b"else", b"true", b"enum", b"this", b"null"]),
+        5 => is_one_of(
+            word,
+            &[b"const", b"false", b"class", b"while", b"break", b"throw"],
+        ),
+        6 => is_one_of(
+            word,
+            &[b"import", b"export", b"return", b"switch", b"typeof"],
+        ),
+        7 => is_one_of(word, &[b"default"]),
+        8 => is_one_of(word, &[b"function", b"continue"]),
+        9 => is_one_of(word, &[b"interface", b"undefined"]),
+        _ => false,
+    }
 }
 
 /// The tokens after this punctuator, if it is the first.

@@ -10,7 +10,7 @@ use Rattle.dscript_lex.proofs.lexing.lex.Goals as goal
 pub lexemes-init : goal.lexemes-init
 lexemes-init c = record {
   in_range = c.mark_len-at.ensures.in_range;
-  has_cut = cut_same _ _ _ _ _ _ _ (cut_nothing c.args.bytes.now) (sym c.mark_len-at.ensures.len) (sym (ap reverse c.new-brackets.ensures.items)) (sym c.new-tokens.ensures.items);
+  has_cut = cut_same _ _ _ _ _ _ _ (cut_nothing c.args.bytes.now) (sym c.mark_len-at.ensures.len) (sym (ap reverse c.new-brackets.ensures.items)) (sym c.in_ok-tokens.ensures.items);
   unclosed = λ never. cc;
 }
 
