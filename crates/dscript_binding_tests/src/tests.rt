@@ -4,7 +4,7 @@ use dscript_ast::{
 };
 use dscript_binding::{Binder, Scene, Walker};
 use dscript_modules::SpecKind;
-use dscript_program::Function;
+use dscript_program::{BoundDecl, Function};
 use dscript_scopes::{FileNames, Scopes, Site, Stop, World};
 use std::alloc::{AllocError, Global};
 use std::io::Write;
@@ -76,23 +76,42 @@ impl Made {
         Ok(Expr::BlockArrow(head(alloc, name)?, body))
     }
 
-    fn statement(&mut self, alloc: Global, op: Op, name: &str) -> Result<Stmt, Fail> {
+    fn constant(&mut self, alloc: Global, name: &str) -> Result<Stmt, Fail> {
         let name = text(alloc, name)?;
+        Ok(Stmt::Const(name, None, self.expr()))
+    }
+
+    fn variable(&mut self, alloc: Global, name: &str) -> Result<Stmt, Fail> {
+        let name = text(alloc, name)?;
+        Ok(Stmt::Let(name, None, Some(self.expr())))
+    }
+
+    fn assignment(&mut self, alloc: Global, name: &str) -> Result<Stmt, Fail> {
+        let name = text(alloc, name)?;
+        Ok(Stmt::Assign(name, self.expr()))
+    }
+
+    fn for_loop(&mut self, alloc: Global, name: &str) -> Result<Stmt, Fail> {
+        let name = text(alloc, name)?;
+        let body = Box::new(alloc, self.stmt())?;
+        Ok(Stmt::For(LoopKind::Const, name, self.expr(), body))
+    }
+
+    fn block(&mut self, alloc: Global) -> Result<Stmt, Fail> {
+        let mut stmts = Vec::new(alloc);
+        stmts.push(self.stmt())?;
+        stmts.push(self.stmt())?;
+        stmts.reverse();
+        Ok(Stmt::Block(stmts))
+    }
+
+    fn statement(&mut self, alloc: Global, op: Op, name: &str) -> Result<Stmt, Fail> {
         match op {
-            Op::Const => Ok(Stmt::Const(name, None, self.expr())),
-            Op::Let => Ok(Stmt::Let(name, None, Some(self.expr()))),
-            Op::Assign => Ok(Stmt::Assign(name, self.expr())),
-            Op::For => {
-                let body = Box::new(alloc, self.stmt())?;
-                Ok(Stmt::For(LoopKind::Const, name, self.expr(), body))
-            }
-            Op::Block => {
-                let last = self.stmt();
-                let mut stmts = Vec::new(alloc);
-                stmts.push(self.stmt())?;
-                stmts.push(last)?;
-                Ok(Stmt::Block(stmts))
-            }
+            Op::Const => self.constant(alloc, name),
+            Op::Let => self.variable(alloc, name),
+            Op::Assign => self.assignment(alloc, name),
+            Op::For => self.for_loop(alloc, name),
+            Op::Block => self.block(alloc),
             _ => Ok(Stmt::Value(self.expr())),
         }
     }
@@ -138,7 +157,7 @@ fn declared(alloc: Global, steps: &[(Op, &str)]) -> Result<Vec<Item>, Fail> {
     Ok(items)
 }
 
-fn kind_name(kind: SpecKind) -> &'static str {
+fn kind_name(kind: &SpecKind) -> &'static str {
     match kind {
         SpecKind::UnknownName => "UnknownName",
         SpecKind::UnknownModule => "UnknownModule",
@@ -159,12 +178,42 @@ fn write_functions(out: &mut Vec<u8>, functions: &[Function]) -> Result<(), Fail
     Ok(())
 }
 
-/// What the items of the only file of the module `A` come to.
-fn bound(alloc: Global, items: Vec<Item>) -> Result<Vec<u8>, Fail> {
-    let names = FileNames::new(alloc, 0, Vec::new(alloc), Vec::new(alloc), Vec::new(alloc))?;
+/// The functions of a file, or its first fault.
+fn write_bound(
+    out: &mut Vec<u8>,
+    outcome: &Result<Vec<BoundDecl>, Stop>,
+    functions: &[Function],
+) -> Result<(), Fail> {
+    match outcome {
+        Ok(_) => write_functions(out, functions),
+        Err(Stop::Fault(kind)) => Ok(out.extend_from_slice(kind_name(kind).as_bytes())?),
+        Err(Stop::Memory) => Err(AllocError)?,
+    }
+}
+
+/// The world of the module `A` alone.
+fn only_module(alloc: Global) -> Result<World, Fail> {
     let mut modules = Vec::new(alloc);
     modules.push(text(alloc, "A")?)?;
-    let world = World::new(alloc, modules, Vec::new(alloc))?;
+    Ok(World::new(alloc, modules, Vec::new(alloc))?)
+}
+
+fn binder(alloc: Global) -> Binder {
+    Binder {
+        walker: Walker {
+            scopes: Scopes::new(alloc),
+            locals: 0,
+            functions: Vec::new(alloc),
+            names: Vec::new(alloc),
+        },
+        decls: Vec::new(alloc),
+    }
+}
+
+/// Adds what the items of the only file of the module `A` come to.
+fn write_file(alloc: Global, out: &mut Vec<u8>, items: Vec<Item>) -> Result<(), Fail> {
+    let names = FileNames::new(alloc, 0, Vec::new(alloc), Vec::new(alloc), Vec::new(alloc))?;
+    let world = only_module(alloc)?;
     let scene = Scene {
         alloc,
         world: &world,
@@ -174,21 +223,16 @@ fn bound(alloc: Global, items: Vec<Item>) -> Result<Vec<u8>, Fail> {
             around: &[],
         },
     };
-    let mut binder = Binder {
-        walker: Walker {
-            scopes: Scopes::new(alloc),
-            locals: 0,
-            functions: Vec::new(alloc),
-            names: Vec::new(alloc),
-        },
-        decls: Vec::new(alloc),
-    };
+    let mut binder = binder(alloc);
+    let outcome = binder.file(&scene, items);
+    let written = write_bound(out, &outcome, binder.walker.functions.as_slice());
+    drop(outcome);
+    written
+}
+
+fn bound(alloc: Global, items: Vec<Item>) -> Result<Vec<u8>, Fail> {
     let mut out = Vec::new(alloc);
-    match binder.file(&scene, items) {
-        Ok(_) => write_functions(&mut out, binder.walker.functions.as_slice())?,
-        Err(Stop::Fault(kind)) => out.extend_from_slice(kind_name(kind).as_bytes())?,
-        Err(Stop::Memory) => Err(AllocError)?,
-    }
+    write_file(alloc, &mut out, items)?;
     Ok(out)
 }
 

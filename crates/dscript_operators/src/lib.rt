@@ -30,6 +30,3 @@ pub use truth::is_true;
 
 /// Out of memory, the one refusal that no contract ties to a cause.
 pub type Memory = std::alloc::AllocError;
-
-#[cfg(test)]
-mod tests;

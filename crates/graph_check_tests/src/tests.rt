@@ -2,7 +2,8 @@ use bx_tree::{FileInput, Path, Text, Tree, TreeFile};
 use graph_check::{GraphFault, GraphKind, check};
 use pip_model::{
     Arguments, CopyDesc, DirInput, DirInputs, EnvPair, FileInputs, MAX_PIPS, OutDir, OutDirs,
-    Outputs, Pip, PipKind, PipList, ProcessDesc, SealDesc, SealForm, Sources, Variables, WriteDesc,
+    Outputs, Pip, PipKind, PipList, Plan, ProcessDesc, SealDesc, SealForm, Sources, Variables,
+    WriteDesc,
 };
 use std::alloc::Global;
 use std::test::Fail;
@@ -143,22 +144,63 @@ fn call(alloc: Global, process: &mut ProcessDesc, word: &str, text: &str) -> Res
     Ok(())
 }
 
+// Sets one part of a process, by a word and a text.
+fn set_part(alloc: Global, process: &mut ProcessDesc, part: &str) -> Result<(), Fail> {
+    let (word, text) = part.split_once('=').ok_or("a word and a text")?;
+    match word {
+        "p" | "k" | "d" | "s" | "u" => declare(alloc, process, word, text),
+        _ => call(alloc, process, word, text),
+    }
+}
+
+fn set_parts(alloc: Global, process: &mut ProcessDesc, text: &str) -> Result<(), Fail> {
+    for part in text.split(' ') {
+        set_part(alloc, process, part)?;
+    }
+    Ok(())
+}
+
 // A process by words with a text for each.
 fn process(alloc: Global, text: &str) -> Result<ProcessDesc, Fail> {
     let mut process = idle(alloc)?;
-    for part in text.split(' ') {
-        let (word, text) = part.split_once('=').ok_or("a word and a text")?;
-        match word {
-            "p" | "k" | "d" | "s" | "u" => declare(alloc, &mut process, word, text)?,
-            _ => call(alloc, &mut process, word, text)?,
+    match set_parts(alloc, &mut process, text) {
+        Ok(()) => Ok(process),
+        Err(fail) => {
+            drop(process);
+            Err(fail)
         }
     }
-    Ok(process)
 }
 
-fn seal(alloc: Global, form: SealForm, root: &str, files: FileInputs) -> Result<PipKind, Fail> {
+// A seal that lists a source file, or a file that pip 0 makes.
+fn seal(
+    alloc: Global,
+    form: SealForm,
+    root: &str,
+    file: &str,
+    is_made: bool,
+) -> Result<PipKind, Fail> {
     let root = path(alloc, root)?;
+    let files = if is_made {
+        made(alloc, file)?
+    } else {
+        source(alloc, file)?
+    };
     Ok(PipKind::Seal(SealDesc { form, root, files }))
+}
+
+// The form of a seal, the file that it lists, and whether pip 0 makes that, by a word.
+fn sealed(word: &str) -> Option<(SealForm, &'static str, bool)> {
+    match word {
+        "f" => Some((SealForm::Full, "src", false)),
+        "q" => Some((SealForm::Partial, "src", false)),
+        "g" => Some((SealForm::Full, "out/z/y", true)),
+        "h" => Some((SealForm::Full, "out/z/y", false)),
+        "n" => Some((SealForm::Full, "gone", false)),
+        "r" => Some((SealForm::Partial, "gone", false)),
+        "v" => Some((SealForm::SourceTop, "gone", false)),
+        _ => None,
+    }
 }
 
 fn write(alloc: Global, to: &str) -> Result<PipKind, Fail> {
@@ -181,26 +223,31 @@ fn kind(alloc: Global, text: &str) -> Result<PipKind, Fail> {
     match word {
         "w" => write(alloc, root),
         "c" => copy(alloc, root),
-        "f" => seal(alloc, SealForm::Full, root, source(alloc, "src")?),
-        "q" => seal(alloc, SealForm::Partial, root, source(alloc, "src")?),
-        "g" => seal(alloc, SealForm::Full, root, made(alloc, "out/z/y")?),
-        "h" => seal(alloc, SealForm::Full, root, source(alloc, "out/z/y")?),
-        "n" => seal(alloc, SealForm::Full, root, source(alloc, "gone")?),
-        "r" => seal(alloc, SealForm::Partial, root, source(alloc, "gone")?),
-        "v" => seal(alloc, SealForm::SourceTop, root, source(alloc, "gone")?),
-        _ => Ok(PipKind::Process(process(alloc, text)?)),
+        _ => match sealed(word) {
+            Some((form, file, is_made)) => seal(alloc, form, root, file, is_made),
+            None => Ok(PipKind::Process(process(alloc, text)?)),
+        },
     }
 }
 
-// Adds a pip. Its specification file is named for its number.
-fn add(alloc: Global, pips: &mut PipList, kind: PipKind) -> Result<(), Fail> {
-    let number = pips.pips().len();
+// The specification file of a pip, named for its number.
+fn spec(alloc: Global, number: usize) -> Result<Path, Fail> {
     let spec = format!(in alloc; "spec{number}")?;
-    let pip = Pip {
-        spec: path(alloc, spec.as_str())?,
-        kind,
-    };
+    path(alloc, spec.as_str())
+}
+
+fn pip(alloc: Global, number: usize, text: &str) -> Result<Pip, Fail> {
+    let spec = spec(alloc, number)?;
+    let kind = kind(alloc, text)?;
+    Ok(Pip { spec, kind })
+}
+
+// Adds a pip by its text.
+fn add(alloc: Global, pips: &mut PipList, text: &str) -> Result<(), Fail> {
+    let number = pips.pips().len();
+    let pip = pip(alloc, number, text)?;
     if number >= 100_000 || !pips.fits(&pip) {
+        drop(pip);
         return Err(Fail::from("the pip does not fit"));
     }
     pips.push(pip)?;
@@ -233,21 +280,29 @@ fn fault_text(alloc: Global, kind: GraphKind, pip: u32, file: &Path) -> Result<S
     }
 }
 
-// What a check answers, as a text: the rule and the pip, or `none`.
-fn answer(alloc: Global, pips: PipList) -> Result<String, Fail> {
-    let sources = sources(alloc)?;
-    match check(alloc, pips, &sources, 1000) {
+// What a check answered, as a text: the rule and the pip, or `none`.
+fn answer_text(alloc: Global, checked: &Result<Plan, GraphFault>) -> Result<String, Fail> {
+    match checked {
         Ok(_) => Ok(String::from_str(alloc, "none")?),
-        Err(GraphFault::Fault { kind, pip, file }) => fault_text(alloc, kind, pip, &file),
+        Err(GraphFault::Fault { kind, pip, file }) => fault_text(alloc, *kind, *pip, file),
         Err(GraphFault::Memory) => Err(Fail::from("memory")),
     }
+}
+
+// What a check answers, as a text.
+fn answer(alloc: Global, pips: PipList) -> Result<String, Fail> {
+    let sources = sources(alloc)?;
+    let checked = check(alloc, pips, &sources, 1000);
+    let text = answer_text(alloc, &checked);
+    drop(checked);
+    text
 }
 
 // The pips of a text, with `;` between them.
 fn pips_of(alloc: Global, text: &str) -> Result<PipList, Fail> {
     let mut pips = PipList::new(alloc);
     for part in text.split(';') {
-        add(alloc, &mut pips, kind(alloc, part)?)?;
+        add(alloc, &mut pips, part)?;
     }
     Ok(pips)
 }
@@ -416,10 +471,10 @@ fn an_earlier_rule_and_then_an_earlier_pip_is_reported(rt: HostRuntime) -> Resul
 // As many pips: a process, and others that write a file each.
 fn many(alloc: Global, count: usize) -> Result<PipList, Fail> {
     let mut pips = PipList::new(alloc);
-    add(alloc, &mut pips, kind(alloc, "x=")?)?;
+    add(alloc, &mut pips, "x=")?;
     for number in 1..count {
         let text = format!(in alloc; "w=out/{number}")?;
-        add(alloc, &mut pips, kind(alloc, text.as_str())?)?;
+        add(alloc, &mut pips, text.as_str())?;
     }
     Ok(pips)
 }
@@ -427,7 +482,7 @@ fn many(alloc: Global, count: usize) -> Result<PipList, Fail> {
 // Whether this is answered to many pips that one more follows.
 fn many_answer(alloc: Global, count: usize, text: &str, expected: &str) -> Result<bool, Fail> {
     let mut pips = many(alloc, count)?;
-    add(alloc, &mut pips, kind(alloc, text)?)?;
+    add(alloc, &mut pips, text)?;
     let answer = answer(alloc, pips)?;
     Ok(answer.as_str() == expected)
 }

@@ -16,23 +16,30 @@ fn path(alloc: Global) -> Result<Path, Fail> {
     Ok(Path::read(alloc, b"s/a")?)
 }
 
+/// A value that has a path, by a letter.
+fn placed(alloc: Global, letter: u8) -> Result<Value, Fail> {
+    let path = path(alloc)?;
+    Ok(match letter {
+        b'p' => Value::Path(path),
+        b'd' => Value::Directory(path),
+        b'f' => Value::File(FileInput::Made(path, 3)),
+        b's' => Value::Static(StaticDir::Opaque(1, path)),
+        _ => Value::Artifact(Artifact::Plain(path)),
+    })
+}
+
 /// Values by a letter.
 fn sample(alloc: Global, letter: u8) -> Result<Value, Fail> {
-    Ok(match letter {
-        b't' => text(alloc, b"-n")?,
-        b'e' => text(alloc, b"")?,
-        b'n' => Value::Number(-7),
-        b'p' => Value::Path(path(alloc)?),
-        b'r' => Value::Directory(Path::root(alloc)?),
-        b'd' => Value::Directory(path(alloc)?),
-        b'f' => Value::File(FileInput::Made(path(alloc)?, 3)),
-        b's' => Value::Static(StaticDir::Opaque(1, path(alloc)?)),
-        b'a' => Value::Artifact(Artifact::Plain(path(alloc)?)),
-        b'T' => Value::Flag(true),
-        b'F' => Value::Flag(false),
-        b'*' => text(alloc, b"*")?,
-        _ => Value::Undefined,
-    })
+    match letter {
+        b't' => text(alloc, b"-n"),
+        b'e' => text(alloc, b""),
+        b'*' => text(alloc, b"*"),
+        b'n' => Ok(Value::Number(-7)),
+        b'T' | b'F' => Ok(Value::Flag(letter == b'T')),
+        b'r' => Ok(Value::Directory(Path::root(alloc)?)),
+        b'p' | b'd' | b'f' | b's' | b'a' => placed(alloc, letter),
+        _ => Ok(Value::Undefined),
+    }
 }
 
 fn samples(alloc: Global, letters: &[u8]) -> Result<Vec<Value>, Fail> {
@@ -132,24 +139,48 @@ const CASES: &[(u8, &[u8], &[u8])] = &[
     (7, b"F", b"argument"),
 ];
 
+/// Whether a call with these arguments has this answer.
+fn answers(alloc: Global, row: u8, letters: &[u8], answer: &[u8]) -> Result<bool, Fail> {
+    let args = samples(alloc, letters)?;
+    let outcome = call(alloc, row, args.as_slice());
+    let is_said = says(&outcome, answer);
+    drop(outcome);
+    Ok(is_said)
+}
+
 #[test]
 fn each_call_answers_its_arguments(rt: HostRuntime) -> Result<(), Fail> {
-    let alloc = rt.alloc();
     for (row, letters, answer) in CASES {
-        let args = samples(alloc, letters)?;
-        let outcome = call(alloc, *row, args.as_slice());
-        assert!(rt; says(&outcome, answer));
+        assert!(rt; answers(rt.alloc(), *row, letters, answer)?);
     }
     Ok(())
 }
 
+fn long_text(alloc: Global, length: usize) -> Result<Value, Fail> {
+    Ok(Value::Text(Text::new(alloc, vec![in alloc; b'x'; length]?)?))
+}
+
+/// A text of this length, and an artifact.
+fn long_arguments(alloc: Global, length: usize) -> Result<Vec<Value>, Fail> {
+    let mut args = Vec::new(alloc);
+    args.push(long_text(alloc, length)?)?;
+    args.push(sample(alloc, b'a')?)?;
+    Ok(args)
+}
+
+/// Whether an artifact may follow a text of this length.
+fn may_follow(alloc: Global, length: usize) -> Result<bool, Fail> {
+    let args = long_arguments(alloc, length)?;
+    let outcome = cmd_option(alloc, args.as_slice());
+    let is_ok = outcome.is_ok();
+    drop(outcome);
+    Ok(is_ok)
+}
+
 #[test]
 fn an_argument_is_within_the_limit_with_what_follows_it(rt: HostRuntime) -> Result<(), Fail> {
-    let alloc = rt.alloc();
     for (length, answer) in [(MAX_TEXT_BYTES - 4, true), (MAX_TEXT_BYTES - 3, false)] {
-        let before = Value::Text(Text::new(alloc, vec![in alloc; b'x'; length]?)?);
-        let args = [before, sample(alloc, b'a')?];
-        assert_eq!(rt; cmd_option(alloc, &args).is_ok(), answer);
+        assert_eq!(rt; may_follow(rt.alloc(), length)?, answer);
     }
     Ok(())
 }
@@ -169,11 +200,38 @@ fn tree(alloc: Global) -> Result<Tree, Fail> {
 }
 
 /// How many files a glob lists, and 9 where it is refused.
-fn listed(outcome: Result<Value, SdkFault>) -> usize {
+fn listed(outcome: &Result<Value, SdkFault>) -> usize {
     match outcome {
         Ok(Value::List(files)) => files.items().len(),
         _ => 9,
     }
+}
+
+/// Whether a glob with these arguments lists this number of files.
+fn lists(
+    alloc: Global,
+    tree: &Tree,
+    deep: bool,
+    letters: &[u8],
+    count: usize,
+) -> Result<bool, Fail> {
+    let args = samples(alloc, letters)?;
+    let outcome = glob_files(alloc, tree, deep, args.as_slice());
+    let is_listed = listed(&outcome) == count;
+    drop(outcome);
+    Ok(is_listed)
+}
+
+/// How many files are below a directory.
+fn below(alloc: Global, tree: &Tree, dir: &[u8]) -> Result<usize, Fail> {
+    let dir = Path::read(alloc, dir)?;
+    Ok(find_below(alloc, tree, &dir)?.len())
+}
+
+/// How many files are directly in a directory.
+fn directly_in(alloc: Global, tree: &Tree, dir: &[u8]) -> Result<usize, Fail> {
+    let dir = Path::read(alloc, dir)?;
+    Ok(find_directly_in(alloc, tree, &dir)?.len())
 }
 
 /// Whether a glob is deep, its arguments by letters, and how many files it lists.
@@ -188,21 +246,18 @@ const GLOBS: &[(bool, &[u8], usize)] = &[
 
 #[test]
 fn globs_list_source_files(rt: HostRuntime) -> Result<(), Fail> {
-    let alloc = rt.alloc();
-    let tree = tree(alloc)?;
+    let tree = tree(rt.alloc())?;
     for (deep, letters, count) in GLOBS {
-        let args = samples(alloc, letters)?;
-        assert_eq!(rt;
-            listed(glob_files(alloc, &tree, *deep, args.as_slice())),
-            *count
-        );
+        assert!(rt; lists(rt.alloc(), &tree, *deep, letters, *count)?);
     }
-    let root = Path::root(alloc)?;
-    assert_eq!(rt; find_below(alloc, &tree, &root)?.len(), 5);
-    assert_eq!(rt; find_directly_in(alloc, &tree, &root)?.len(), 3);
-    assert_eq!(rt;
-        find_below(alloc, &tree, &Path::read(alloc, b"s")?)?.len(),
-        2
-    );
+    Ok(())
+}
+
+#[test]
+fn directories_have_source_files(rt: HostRuntime) -> Result<(), Fail> {
+    let tree = tree(rt.alloc())?;
+    assert_eq!(rt; below(rt.alloc(), &tree, b".")?, 5);
+    assert_eq!(rt; directly_in(rt.alloc(), &tree, b".")?, 3);
+    assert_eq!(rt; below(rt.alloc(), &tree, b"s")?, 2);
     Ok(())
 }

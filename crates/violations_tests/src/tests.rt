@@ -8,7 +8,7 @@ use pip_model::{
 };
 use std::alloc::Global;
 use std::test::Fail;
-use violations::{DeedKind, Violation, ViolationKind, classify, double_write};
+use violations::{Violation, ViolationKind, classify, double_write};
 
 fn path(alloc: Global, text: &str) -> Result<Path, Fail> {
     Ok(Path::read(alloc, text.as_bytes())?)
@@ -42,34 +42,63 @@ fn shared(alloc: Global) -> Result<OutDirs, Fail> {
     Ok(OutDirs::of(dirs))
 }
 
-// A process that makes a file, and takes these.
-fn process(alloc: Global, out: &str, files: FileInputs) -> Result<PipKind, Fail> {
+// What the process with this number takes: the file of the pip before it, if that is a process.
+fn taken(alloc: Global, number: u32) -> Result<FileInputs, Fail> {
+    match number {
+        2 => one_file(alloc, "out/b", 1),
+        3 => one_file(alloc, "out/c", 2),
+        _ => Ok(no_files(alloc)),
+    }
+}
+
+// The file that the process with this number makes.
+fn output(number: u32) -> &'static str {
+    match number {
+        1 => "out/b",
+        2 => "out/c",
+        _ => "out/d",
+    }
+}
+
+fn process(alloc: Global, number: u32) -> Result<PipKind, Fail> {
+    let exe = path(alloc, "tool")?;
+    let dir = path(alloc, "out")?;
+    let files = taken(alloc, number)?;
+    let outs = one_output(alloc, output(number))?;
+    let outdirs = shared(alloc)?;
     Ok(PipKind::Process(ProcessDesc {
-        exe: path(alloc, "tool")?,
+        exe,
         args: Arguments::of(Vec::new(alloc)),
         env: Variables::of(Vec::new(alloc)),
-        dir: path(alloc, "out")?,
+        dir,
         files,
         dirs: DirInputs::of(Vec::new(alloc)),
-        outs: one_output(alloc, out)?,
-        outdirs: shared(alloc)?,
+        outs,
+        outdirs,
         console: None,
     }))
 }
 
 fn write(alloc: Global) -> Result<PipKind, Fail> {
-    Ok(PipKind::Write(WriteDesc {
-        to: path(alloc, "out/a")?,
-        text: Text::new(alloc, Vec::new(alloc))?,
-    }))
+    let to = path(alloc, "out/a")?;
+    let text = Text::new(alloc, Vec::new(alloc))?;
+    Ok(PipKind::Write(WriteDesc { to, text }))
 }
 
-fn add(alloc: Global, pips: &mut PipList, kind: PipKind) -> Result<(), Fail> {
-    let pip = Pip {
-        spec: path(alloc, "build.dsc")?,
-        kind,
+// Pip 0 writes a file, and all others are processes.
+fn pip(alloc: Global, number: u32) -> Result<Pip, Fail> {
+    let spec = path(alloc, "build.dsc")?;
+    let kind = match number {
+        0 => write(alloc)?,
+        _ => process(alloc, number)?,
     };
+    Ok(Pip { spec, kind })
+}
+
+fn add(alloc: Global, pips: &mut PipList, number: u32) -> Result<(), Fail> {
+    let pip = pip(alloc, number)?;
     if pips.pips().len() >= MAX_PIPS || !pips.fits(&pip) {
+        drop(pip);
         return Err(Fail::from("the pip does not fit"));
     }
     pips.push(pip)?;
@@ -79,12 +108,9 @@ fn add(alloc: Global, pips: &mut PipList, kind: PipKind) -> Result<(), Fail> {
 // Pip 0 writes a file. Pip 2 takes the file of pip 1, and pip 3 that of pip 2.
 fn plan(alloc: Global) -> Result<Plan, Fail> {
     let mut pips = PipList::new(alloc);
-    add(alloc, &mut pips, write(alloc)?)?;
-    add(alloc, &mut pips, process(alloc, "out/b", no_files(alloc))?)?;
-    let file = one_file(alloc, "out/b", 1)?;
-    add(alloc, &mut pips, process(alloc, "out/c", file)?)?;
-    let file = one_file(alloc, "out/c", 2)?;
-    add(alloc, &mut pips, process(alloc, "out/d", file)?)?;
+    for number in 0..4 {
+        add(alloc, &mut pips, number)?;
+    }
     if pips.pips().len() > MAX_PIPS {
         return Err(Fail::from("too many pips"));
     }
@@ -98,11 +124,11 @@ fn sources(alloc: Global) -> Result<Sources, Fail> {
     Ok(Sources::new(alloc, tree)?)
 }
 
-// What a violation says: its kind, its deed, and the other pip, if it names one.
-fn said(found: Option<Violation>) -> (Option<ViolationKind>, Option<DeedKind>, Option<u32>) {
+// Whether a violation has this kind and names this other pip, or there is none.
+fn is_said(found: &Option<Violation>, kind: Option<ViolationKind>, other: Option<u32>) -> bool {
     match found {
-        Some(found) => (Some(found.kind), Some(found.deed), found.other),
-        None => (None, None, None),
+        Some(found) => Some(found.kind) == kind && found.other == other,
+        None => kind.is_none() && other.is_none(),
     }
 }
 
@@ -110,16 +136,19 @@ fn said(found: Option<Violation>) -> (Option<ViolationKind>, Option<DeedKind>, O
 fn is_class(
     alloc: Global,
     pip: u32,
-    access: Access,
+    access: &Access,
     kind: Option<ViolationKind>,
     other: Option<u32>,
 ) -> Result<bool, Fail> {
     let plan = plan(alloc)?;
+    let sources = sources(alloc)?;
     if pip as usize >= plan.pips().len() {
         return Err(Fail::from("no such pip"));
     }
-    let found = said(classify(&plan, &sources(alloc)?, pip, &access)?);
-    Ok(found.0 == kind && found.2 == other)
+    let found = classify(&plan, &sources, pip, access)?;
+    let is_said = is_said(&found, kind, other);
+    drop(found);
+    Ok(is_said)
 }
 
 const LOOKS: &[(u32, AskKind, &str, ViolationKind, Option<u32>)] = &[
@@ -161,35 +190,56 @@ const LOOKS: &[(u32, AskKind, &str, ViolationKind, Option<u32>)] = &[
     ),
 ];
 
+fn denied_look(alloc: Global, kind: AskKind, file: &str) -> Result<Access, Fail> {
+    let path = path(alloc, file)?;
+    Ok(Access::Asked(Ask { kind, path }, Answer::Denied))
+}
+
+// Whether a denied look of a pip is this violation.
+fn is_look(
+    alloc: Global,
+    look: &(u32, AskKind, &str, ViolationKind, Option<u32>),
+) -> Result<bool, Fail> {
+    let access = denied_look(alloc, look.1, look.2)?;
+    let is_class = is_class(alloc, look.0, &access, Some(look.3), look.4);
+    drop(access);
+    is_class
+}
+
 #[test]
 fn a_denied_look_is_classed_by_walks_of_edges(rt: HostRuntime) -> Result<(), Fail> {
-    let alloc = rt.alloc();
-    for (pip, kind, file, class, other) in LOOKS {
-        let ask = Ask {
-            kind: *kind,
-            path: path(alloc, file)?,
-        };
-        let access = Access::Asked(ask, Answer::Denied);
-        assert!(rt; is_class(alloc, *pip, access, Some(*class), *other)?);
+    for look in LOOKS {
+        assert!(rt; is_look(rt.alloc(), look)?);
     }
     Ok(())
 }
 
+// Whether a denied write is an undeclared output.
+fn is_undeclared(alloc: Global, file: &str) -> Result<bool, Fail> {
+    let access = Access::WriteDenied(path(alloc, file)?);
+    let is_class = is_class(
+        alloc,
+        2,
+        &access,
+        Some(ViolationKind::UndeclaredOutput),
+        None,
+    );
+    drop(access);
+    is_class
+}
+
+// Whether a write is no violation.
+fn is_permitted(alloc: Global, file: &str) -> Result<bool, Fail> {
+    let access = Access::Wrote(path(alloc, file)?);
+    let is_class = is_class(alloc, 2, &access, None, None);
+    drop(access);
+    is_class
+}
+
 #[test]
 fn a_denied_write_is_an_undeclared_output(rt: HostRuntime) -> Result<(), Fail> {
-    let alloc = rt.alloc();
-    let denied = Access::WriteDenied(path(alloc, "out/x")?);
-    assert!(rt;
-        is_class(
-            alloc,
-            2,
-            denied,
-            Some(ViolationKind::UndeclaredOutput),
-            None
-        )?
-    );
-    let wrote = Access::Wrote(path(alloc, "out/c")?);
-    assert!(rt; is_class(alloc, 2, wrote, None, None)?);
+    assert!(rt; is_undeclared(rt.alloc(), "out/x")?);
+    assert!(rt; is_permitted(rt.alloc(), "out/c")?);
     Ok(())
 }
 
@@ -211,17 +261,24 @@ fn slot(alloc: Global, text: &str) -> Result<Slot, Fail> {
     Ok(Slot::Good(files(alloc, text)?))
 }
 
+// What pips 0, 1 and 2 came to.
+fn slots(alloc: Global, first: &str, second: &str) -> Result<Vec<Slot>, Fail> {
+    let mut slots = Vec::new(alloc);
+    for text in ["out/a", first, second] {
+        slots.push(slot(alloc, text)?)?;
+    }
+    Ok(slots)
+}
+
 // The path and the pip that the files of pip 3 clash with, after pips 1 and 2 made theirs.
 fn clash(alloc: Global, first: &str, second: &str, made: &str) -> Result<Option<Violation>, Fail> {
     let plan = plan(alloc)?;
-    let mut slots = Vec::new(alloc);
-    slots.push(Slot::Good(files(alloc, "out/a")?))?;
-    slots.push(slot(alloc, first)?)?;
-    slots.push(slot(alloc, second)?)?;
+    let slots = slots(alloc, first, second)?;
+    let made = files(alloc, made)?;
     if plan.pips().len() < 4 || slots.len() < 3 {
         return Err(Fail::from("too few pips"));
     }
-    Ok(double_write(&plan, 3, &files(alloc, made)?, &slots)?)
+    Ok(double_write(&plan, 3, &made, &slots)?)
 }
 
 fn is_clash(found: &Option<Violation>, file: &str, pip: u32) -> bool {
@@ -248,7 +305,9 @@ fn writes_clash_in_shared_directories(rt: HostRuntime) -> Result<(), Fail> {
     let alloc = rt.alloc();
     for (first, second, made, file, pip) in CLASHES {
         let found = clash(alloc, first, second, made)?;
-        assert!(rt; is_clash(&found, file, *pip));
+        let is_clash = is_clash(&found, file, *pip);
+        drop(found);
+        assert!(rt; is_clash);
     }
     Ok(())
 }

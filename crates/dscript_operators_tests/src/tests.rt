@@ -1,6 +1,10 @@
-use super::*;
 use bx_tree::{FileInput, Path, Text};
 use dscript_ast::{BinaryOp, PathKind, UnaryOp};
+use dscript_operators::{
+    add_fields, add_first_hole, add_items, add_literal_hole, add_template_hole, atom_literal,
+    callback, index, is_settled, is_true, operate, path_literal, reduction, relative_literal,
+    with_prefixes,
+};
 use dscript_value::{Field, RelativePath, Value, equal, object_of, place_function};
 use sdk_values::{MAX_LIST_ITEMS, SdkFault, list_value};
 use std::alloc::Global;
@@ -110,7 +114,11 @@ fn fault_name(fault: &SdkFault) -> &'static str {
 
 fn is_sample(alloc: Global, value: &Value, sample: Sample) -> bool {
     match value_of(alloc, sample) {
-        Ok(wanted) => equal(value, &wanted) == Ok(true),
+        Ok(wanted) => {
+            let is_equal = equal(value, &wanted) == Ok(true);
+            drop(wanted);
+            is_equal
+        }
         Err(_) => false,
     }
 }
@@ -136,6 +144,13 @@ fn is_answer(alloc: Global, outcome: &Result<Value, SdkFault>, answer: Answer) -
     }
 }
 
+/// Whether a call came to this answer.
+fn comes_to(alloc: Global, outcome: Result<Value, SdkFault>, answer: Answer) -> bool {
+    let is_answer = is_answer(alloc, &outcome, answer);
+    drop(outcome);
+    is_answer
+}
+
 fn operates_on(
     alloc: Global,
     operator: BinaryOp,
@@ -144,7 +159,11 @@ fn operates_on(
     answer: Answer,
 ) -> bool {
     match value_of(alloc, right) {
-        Ok(right) => is_answer(alloc, &operate(alloc, operator, left, &right), answer),
+        Ok(right) => {
+            let operates = comes_to(alloc, operate(alloc, operator, left, &right), answer);
+            drop(right);
+            operates
+        }
         Err(_) => false,
     }
 }
@@ -157,7 +176,11 @@ fn operates(
     answer: Answer,
 ) -> bool {
     match value_of(alloc, left) {
-        Ok(left) => operates_on(alloc, operator, &left, right, answer),
+        Ok(left) => {
+            let operates = operates_on(alloc, operator, &left, right, answer);
+            drop(left);
+            operates
+        }
         Err(_) => false,
     }
 }
@@ -280,7 +303,7 @@ fn operators_answer_at_their_operands(rt: HostRuntime) -> Result<(), Fail> {
 
 fn is_prefixed(alloc: Global, operators: &[UnaryOp], operand: Sample, answer: Answer) -> bool {
     match value_of(alloc, operand) {
-        Ok(operand) => is_answer(alloc, &with_prefixes(operators, operand), answer),
+        Ok(operand) => comes_to(alloc, with_prefixes(operators, operand), answer),
         Err(_) => false,
     }
 }
@@ -299,12 +322,18 @@ fn the_nearest_operator_acts_first(rt: HostRuntime) -> Result<(), Fail> {
 }
 
 /// Whether a value counts as true, and settles `||` and not `&&`, or does not, and settles `&&` alone.
+fn counts_as(value: &Value, wanted: bool) -> bool {
+    is_true(value) == wanted
+        && is_settled(BinaryOp::Or, value) == wanted
+        && is_settled(BinaryOp::And, value) != wanted
+}
+
 fn counts(alloc: Global, sample: Sample, wanted: bool) -> bool {
     match value_of(alloc, sample) {
         Ok(value) => {
-            is_true(&value) == wanted
-                && is_settled(BinaryOp::Or, &value) == wanted
-                && is_settled(BinaryOp::And, &value) != wanted
+            let counts = counts_as(&value, wanted);
+            drop(value);
+            counts
         }
         Err(_) => false,
     }
@@ -338,14 +367,22 @@ fn four_values_count_as_false(rt: HostRuntime) -> Result<(), Fail> {
 
 fn is_indexed_in(alloc: Global, value: &Value, at: Sample, answer: Answer) -> bool {
     match value_of(alloc, at) {
-        Ok(at) => is_answer(alloc, &index(value, &at), answer),
+        Ok(at) => {
+            let is_indexed = comes_to(alloc, index(value, &at), answer);
+            drop(at);
+            is_indexed
+        }
         Err(_) => false,
     }
 }
 
 fn is_indexed(alloc: Global, value: Sample, at: Sample, answer: Answer) -> bool {
     match value_of(alloc, value) {
-        Ok(value) => is_indexed_in(alloc, &value, at, answer),
+        Ok(value) => {
+            let is_indexed = is_indexed_in(alloc, &value, at, answer);
+            drop(value);
+            is_indexed
+        }
         Err(_) => false,
     }
 }
@@ -394,7 +431,11 @@ fn hole(alloc: Global, value: &Value, in_template: bool) -> Result<Value, SdkFau
 /// Whether a template, or else a path literal, has this of a hole.
 fn is_hole(alloc: Global, sample: Sample, in_template: bool, answer: Answer) -> bool {
     match value_of(alloc, sample) {
-        Ok(value) => is_answer(alloc, &hole(alloc, &value, in_template), answer),
+        Ok(value) => {
+            let is_hole = comes_to(alloc, hole(alloc, &value, in_template), answer);
+            drop(value);
+            is_hole
+        }
         Err(_) => false,
     }
 }
@@ -480,7 +521,8 @@ fn is_literal(alloc: Global, written: Written, answer: Answer) -> bool {
     match value_of(alloc, written.hole) {
         Ok(hole) => {
             let outcome = literal(alloc, written.letter, written.before, &hole, written.after);
-            is_answer(alloc, &outcome, answer)
+            drop(hole);
+            comes_to(alloc, outcome, answer)
         }
         Err(_) => false,
     }
@@ -575,12 +617,12 @@ fn path_literals_lead_from_their_base(rt: HostRuntime) -> Result<(), Fail> {
 }
 
 fn is_relative(alloc: Global, written: &str, answer: Answer) -> bool {
-    is_answer(alloc, &relative_literal(alloc, written.as_bytes()), answer)
+    comes_to(alloc, relative_literal(alloc, written.as_bytes()), answer)
 }
 
 fn is_atom_of(alloc: Global, written: &str, answer: Answer) -> bool {
     match written.as_bytes().to_vec(alloc) {
-        Ok(bytes) => is_answer(alloc, &atom_literal(alloc, bytes), answer),
+        Ok(bytes) => comes_to(alloc, atom_literal(alloc, bytes), answer),
         Err(_) => false,
     }
 }
@@ -595,15 +637,25 @@ fn relative_paths_have_atoms(rt: HostRuntime) -> Result<(), Fail> {
     Ok(())
 }
 
+/// This many values.
+fn values(alloc: Global, count: usize) -> Result<Vec<Value>, SdkFault> {
+    let mut values = Vec::new(alloc);
+    for _ in 0..count {
+        values.push(Value::Undefined)?;
+    }
+    Ok(values)
+}
+
 /// Whether the items of a value are added to this many.
 fn adds_item(alloc: Global, count: usize, list: &Value) -> bool {
-    let mut items = Vec::new(alloc);
-    for _ in 0..count {
-        if items.push(Value::Undefined).is_err() {
-            return false;
+    match values(alloc, count) {
+        Ok(mut items) => {
+            let is_added = add_items(&mut items, list).is_ok() && items.len() > count;
+            drop(items);
+            is_added
         }
+        Err(_) => false,
     }
-    add_items(&mut items, list).is_ok() && items.len() > count
 }
 
 /// How many fields a value adds to none, if it may be spread.
@@ -627,13 +679,22 @@ fn is_spread_object(alloc: Global, value: &Value, fields: usize) -> bool {
     added_fields(alloc, value) == Some(fields) && !adds_item(alloc, 0, value)
 }
 
+/// Whether a value is spread as the sample that it is.
+fn is_spread(alloc: Global, value: &Value, sample: Sample) -> bool {
+    match sample {
+        Sample::List => is_spread_list(alloc, value),
+        Sample::Object => is_spread_object(alloc, value, 1),
+        _ => is_spread_object(alloc, value, 0),
+    }
+}
+
 fn spreads(alloc: Global, sample: Sample) -> bool {
     match value_of(alloc, sample) {
-        Ok(value) => match sample {
-            Sample::List => is_spread_list(alloc, &value),
-            Sample::Object => is_spread_object(alloc, &value, 1),
-            _ => is_spread_object(alloc, &value, 0),
-        },
+        Ok(value) => {
+            let is_spread = is_spread(alloc, &value, sample);
+            drop(value);
+            is_spread
+        }
         Err(_) => false,
     }
 }
@@ -651,7 +712,9 @@ fn is_callback(alloc: Global, sample: Sample) -> bool {
     match value_of(alloc, sample) {
         Ok(value) => {
             let args = [value, Value::Undefined];
-            callback(&args).is_ok() && reduction(&args).is_ok()
+            let is_callback = callback(&args).is_ok() && reduction(&args).is_ok();
+            drop(args);
+            is_callback
         }
         Err(_) => false,
     }
