@@ -117,7 +117,7 @@ called_function v number held args f some found =
     ∙ ap (λ o. function_call v.program (acts v.program (v.openable - 1)) o held args v.state) found)
 
 -- the value of a body that is an expression
-expr_value : (p : ProgramData) (act : Acts) (e : ExprData) → body_value p act (tree.Expr e) ≡ value p act e
+pub expr_value : (p : ProgramData) (act : Acts) (e : ExprData) → body_value p act (tree.Expr e) ≡ value p act e
 unfolding body_value
 expr_value p act e = refl
 

@@ -8,3 +8,5 @@ pub mod Tops
 pub mod StmtRests
 pub mod Turns
 pub mod PartRests
+pub mod CallsNow
+pub mod StmtsNow

@@ -72,6 +72,14 @@ all_end v ms none =
     ∙ ap (λ r. followed r (λ way later. run v.program v.work way v.openable plain.Undefined later))
     (no_stmts-is v.program (acts_at v) v.state)
 
+-- no statements after one that goes on or returns
+last_on
+    : (v : View) (others : Bor (List BoundStmt)) (way : Way) (s : State) → length others.now ≡ 0
+    → run v.program (works.Stmt (stmt.All others) ∷ v.work) way v.openable plain.Undefined s
+    ≡ run v.program v.work way v.openable plain.Undefined s
+last_on v others On s none = all_end (record v { given = plain.Undefined; state = s }) others none
+last_on v others (Back x) s none = refl
+
 pub all_move
     : (v : View) (ms others : Bor (List BoundStmt)) (m : Bor BoundStmt) → ms.now ≡ m.now ∷ others.now
     → comes_with (works.Stmt (stmt.All ms)) v
@@ -84,6 +92,16 @@ all_move v ms others m is =
     ∙ followed-followed (does v.program (acts_at v) (stmt_data m.now) v.state) _ _
     ∙ followed-same (does v.program (acts_at v) (stmt_data m.now) v.state) _ _
     (λ way s. on_or_back v.program v.work others v.openable way s)
+
+-- nothing is left after the last statement
+pub all_last
+    : (v : View) (ms others : Bor (List BoundStmt)) (m : Bor BoundStmt) → ms.now ≡ m.now ∷ others.now
+    → length others.now ≡ 0
+    → comes_with (works.Stmt (stmt.All ms)) v ≡ comes (record v { work = works.Stmt (stmt.Does m) ∷ v.work })
+all_last v ms others m is none =
+    all_move v ms others m is
+    ∙ followed-same (does v.program (acts_at v) (stmt_data m.now) v.state) _ _
+    (λ way s. last_on v others way s none)
 
 -- the turns after one that goes on or returns
 turned
@@ -199,7 +217,7 @@ otherwise-is : (p : ProgramData) (act : Acts) (m : StmtData) (s : State) → oth
 unfolding otherwise
 otherwise-is p act m s = refl
 
-no_other-is : (p : ProgramData) (act : Acts) (s : State) → otherwise p act no_stmt s ≡ gives On s
+pub no_other-is : (p : ProgramData) (act : Acts) (s : State) → otherwise p act no_stmt s ≡ gives On s
 unfolding otherwise
 no_other-is p act s = refl
 

@@ -1,5 +1,5 @@
 //! The members of lists that call functions.
-ghost use Rattle.std.specs.Prelude.{◌≡◌, ◌≢◌, ◌+◌, ◌∷◌, ◌++◌, [], true, pos, map, IfOk};
+ghost use Rattle.std.specs.Prelude.{◌≡◌, ◌≢◌, ◌+◌, ◌∷◌, ◌++◌, [], true, pos, map, IfOk, MatchResult};
 ghost use Rattle.dscript_value.specs.Plain as plain;
 ghost use Rattle.dscript_value.specs.Plain.{item_list, plain_function, plain_of, plain_values};
 ghost use Rattle.sdk_members.specs.Names.{member_named};
@@ -9,17 +9,20 @@ ghost use Rattle.dscript_meaning.specs.Acts.{Call};
 ghost use Rattle.dscript_meaning.specs.Callbacks as meaning;
 ghost use Rattle.dscript_meaning.specs.Callbacks.{called_back};
 ghost use Rattle.dscript_meaning.specs.Calls.{items_of};
+ghost use Rattle.dscript_eval.specs.AtOnce.{AreLeft};
 ghost use Rattle.dscript_eval.specs.CallbackArgs.{AreNextArgs, args_of, kind_named, loop_form};
 ghost use Rattle.eval_machine.specs.Forms.{acts_at, each_form};
 ghost use Rattle.eval_machine.specs.Keeps.{Comes, IsDone};
 ghost use Rattle.eval_machine.specs.Views.{seen};
-ghost use Rattle.eval_machine.specs.Works.{function_of, item_of, items_from};
+ghost use Rattle.eval_machine.specs.Works.{comes_with, function_of, item_of, items_from};
+ghost use Rattle.eval_machine.specs.declared.stop.Stop.TheVariants as stops;
 ghost use Rattle.eval_machine.specs.declared.work.Callback.TheVariants as kinds;
 ghost use Rattle.eval_machine.specs.declared.work.CallWork.TheVariants as call;
 ghost use Rattle.eval_machine.specs.declared.work.Work.TheVariants as works;
 
 use crate::Memory;
 use crate::calls::{ambient, held_method, open_call};
+use crate::calls_now::call_at_once;
 use bx_tree::Text;
 use dscript_ambient::Ambient;
 use dscript_meaning::EvalKind;
@@ -43,7 +46,7 @@ fn next_item(callbacks: &Callbacks) -> Result<Value, Memory>
 }
 
 // The number of an item, as a value.
-fn number_of(number: usize) -> Result<Value, Memory>
+pub(crate) fn number_of(number: usize) -> Result<Value, Memory>
     ensures { IfOk result (λ value. plain_of value ≡ plain.Number (pos number)) }
 {
     if number > i32::MAX as usize {
@@ -238,6 +241,34 @@ fn begin_callbacks(
 pub fn callbacks_from(machine: &mut Machine<'_>, callbacks: Callbacks) -> Result<(), Stop>
     ensures { IsDone result machine.old machine.new (works.Call (call.Loop callbacks)) }
 {
+    match calls_at_once(machine, callbacks) {
+        Ok(left) => next_callback(machine, left),
+        Err(stop) => Err(stop),
+    }
+}
+
+// The callbacks that are left after those that need no call.
+fn calls_at_once(machine: &mut Machine<'_>, callbacks: Callbacks) -> Result<Callbacks, Stop>
+    ensures { AreLeft result (comes_with (works.Call (call.Loop callbacks)) (seen machine.old))
+        (seen machine.new) }
+{
+    let mut left = callbacks;
+    'items: for _ in 0..usize::MAX {
+        if !call_at_once(machine, &left) {
+            return Ok(left);
+        }
+        match after_call(machine, left) {
+            Ok(more) => left = more,
+            Err(stop) => return Err(stop),
+        }
+    }
+    Ok(left)
+}
+
+// The callback with the next item, and then the others.
+fn next_callback(machine: &mut Machine<'_>, callbacks: Callbacks) -> Result<(), Stop>
+    ensures { IsDone result machine.old machine.new (works.Call (call.Loop callbacks)) }
+{
     let found = next_args(machine.alloc, &callbacks, &machine.given)?;
     match found {
         Some(args) => callback_with(machine, callbacks, args.as_slice()),
@@ -245,7 +276,7 @@ pub fn callbacks_from(machine: &mut Machine<'_>, callbacks: Callbacks) -> Result
     }
 }
 
-// The callback with the next item, and then the others.
+// The callback with the next item and these arguments, and then the others.
 fn callback_with(
     machine: &mut Machine<'_>,
     callbacks: Callbacks,
@@ -280,62 +311,73 @@ fn end_callbacks(machine: &mut Machine<'_>, callbacks: Callbacks) -> Result<(), 
 pub fn came(machine: &mut Machine<'_>, callbacks: Callbacks) -> Result<(), Stop>
     ensures { IsDone result machine.old machine.new (works.Call (call.Came callbacks)) }
 {
+    match after_call(machine, callbacks) {
+        Ok(callbacks) => callbacks_from(machine, callbacks),
+        Err(stop) => Err(stop),
+    }
+}
+
+// The callbacks that are left, after the one at the next item, which gave what is given.
+fn after_call(machine: &mut Machine<'_>, callbacks: Callbacks) -> Result<Callbacks, Stop>
+    ensures { AreLeft result (comes_with (works.Call (call.Came callbacks)) (seen machine.old))
+        (seen machine.new) }
+{
     match callbacks.kind {
         Callback::Map => add_result(machine, callbacks),
         Callback::Filter => keep_item(machine, callbacks),
         Callback::MapMany => add_results(machine, callbacks),
-        Callback::Reduce => callbacks_after(machine, callbacks),
+        Callback::Reduce => callbacks_after(callbacks),
     }
 }
 
 // What the callback gave is an item.
-fn add_result(machine: &mut Machine<'_>, callbacks: Callbacks) -> Result<(), Stop>
-    ensures { callbacks.kind ≡ kinds.Map
-        → IsDone result machine.old machine.new (works.Call (call.Came callbacks)) }
+fn add_result(machine: &mut Machine<'_>, callbacks: Callbacks) -> Result<Callbacks, Stop>
+    ensures { callbacks.kind ≡ kinds.Map → AreLeft result
+        (comes_with (works.Call (call.Came callbacks)) (seen machine.old)) (seen machine.new) }
 {
     let mut callbacks = callbacks;
     let value = machine.take();
     add_value(&mut callbacks.done, value)?;
-    callbacks_after(machine, callbacks)
+    callbacks_after(callbacks)
 }
 
 // The item with which the callback was called stays, if what is given counts as true.
-fn keep_item(machine: &mut Machine<'_>, callbacks: Callbacks) -> Result<(), Stop>
-    ensures { callbacks.kind ≡ kinds.Filter
-        → IsDone result machine.old machine.new (works.Call (call.Came callbacks)) }
+fn keep_item(machine: &mut Machine<'_>, callbacks: Callbacks) -> Result<Callbacks, Stop>
+    ensures { callbacks.kind ≡ kinds.Filter → AreLeft result
+        (comes_with (works.Call (call.Came callbacks)) (seen machine.old)) (seen machine.new) }
 {
     if !is_true(&machine.given) {
-        return callbacks_after(machine, callbacks);
+        return callbacks_after(callbacks);
     }
     let mut callbacks = callbacks;
     let item = next_item(&callbacks)?;
     add_value(&mut callbacks.done, item)?;
-    callbacks_after(machine, callbacks)
+    callbacks_after(callbacks)
 }
 
 // What the callback gave are items.
-fn add_results(machine: &mut Machine<'_>, callbacks: Callbacks) -> Result<(), Stop>
-    ensures { callbacks.kind ≡ kinds.MapMany
-        → IsDone result machine.old machine.new (works.Call (call.Came callbacks)) }
+fn add_results(machine: &mut Machine<'_>, callbacks: Callbacks) -> Result<Callbacks, Stop>
+    ensures { callbacks.kind ≡ kinds.MapMany → AreLeft result
+        (comes_with (works.Call (call.Came callbacks)) (seen machine.old)) (seen machine.new) }
 {
     let mut callbacks = callbacks;
     match add_items(&mut callbacks.done, &machine.given) {
-        Ok(()) => callbacks_after(machine, callbacks),
+        Ok(()) => callbacks_after(callbacks),
         Err(fault) => Err(stop_of(fault, machine.frame.file)),
     }
 }
 
 // Callbacks with the items after the next.
-fn callbacks_after(machine: &mut Machine<'_>, callbacks: Callbacks) -> Result<(), Stop>
-    ensures { IsDone result machine.old machine.new
-        (works.Call (call.Loop (record callbacks { next = callbacks.next + 1 }))) }
+fn callbacks_after(callbacks: Callbacks) -> Result<Callbacks, Stop>
+    ensures { MatchResult result (λ left. left ≡ record callbacks { next = callbacks.next + 1 })
+        (λ stop. stop ≡ stops.Memory) }
 {
     if callbacks.next == usize::MAX {
         return Err(Stop::Memory);
     }
     let mut callbacks = callbacks;
     callbacks.next += 1;
-    callbacks_from(machine, callbacks)
+    Ok(callbacks)
 }
 
 // A callback, which opens a call whatever function it is.

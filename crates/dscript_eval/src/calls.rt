@@ -22,7 +22,7 @@ use dscript_meaning::EvalKind;
 use dscript_program::{Body, BoundExpr, Function};
 use dscript_sdk::{Site, call, is_callback, method};
 use dscript_value::{Callee, FunctionRef, Value};
-use eval_exprs::code_at;
+use eval_exprs::{at_once, code_at};
 use eval_frames::{Frame, path_of};
 use eval_machine::{CallWork, ExprWork, Machine, StmtWork, Stop, Use, Work, add_value, stop_of};
 
@@ -161,7 +161,12 @@ fn begin<'a>(machine: &mut Machine<'a>, body: &'a Body, frame: Frame<'a>) -> Res
 {
     let before = machine.enter(frame);
     match body {
-        Body::Expr(e) => machine.push_two(Work::Expr(ExprWork::Value(e)), Work::Leave(before)),
+        Body::Expr(e) => {
+            if at_once(machine, e) {
+                return leave(machine, before);
+            }
+            machine.push_two(Work::Expr(ExprWork::Value(e)), Work::Leave(before))
+        }
         Body::Block(statements) => machine.push_two(
             Work::Stmt(StmtWork::All(statements.as_slice())),
             Work::Leave(before),

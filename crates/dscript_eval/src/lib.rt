@@ -8,10 +8,12 @@
 
 mod callbacks;
 mod calls;
+mod calls_now;
 mod evaluation;
 mod parts;
 mod running;
 mod statements;
+mod statements_now;
 
 pub use dscript_meaning::{EvalFault, EvalKind, MAX_OPEN_CALLS};
 pub use evaluation::evaluate;

@@ -16,9 +16,11 @@ ghost use Rattle.eval_machine.specs.declared.work.StmtWork.TheVariants as stmt;
 ghost use Rattle.eval_machine.specs.declared.work.Work.TheVariants as works;
 
 use crate::calls::leave;
+use crate::statements_now::statement_at_once;
 use dscript_operators::is_true;
 use dscript_program::{BoundExpr, BoundStmt};
 use dscript_value::{Value, Values};
+use eval_exprs::at_once;
 use eval_frames::stmt_cost;
 use eval_machine::{ExprWork, Machine, StmtWork, Stop, Work, item_at, shared_items, stop_of};
 
@@ -71,6 +73,9 @@ fn bind_to<'a>(machine: &mut Machine<'a>, local: u32, e: &'a BoundExpr) -> Resul
     ensures { Goes result machine.old machine.new (λ v. bind_form v.program (acts_at v) local (expr_data
         e.now)) }
 {
+    if at_once(machine, e) {
+        return bind(machine, local);
+    }
     machine.push_two(
         Work::Expr(ExprWork::Value(e)),
         Work::Stmt(StmtWork::Bind(local)),
@@ -110,6 +115,9 @@ fn branch_by<'a>(
     ensures { Goes result machine.old machine.new (λ v. stmt_form v.program (acts_at v) (tree.If (expr_data
         condition.now) (stmt_data then.now) (to_stmt (option_map (λ o. stmt_data o.now) other.entry)))) }
 {
+    if at_once(machine, condition) {
+        return branch(machine, then, other);
+    }
     machine.push_two(
         Work::Expr(ExprWork::Value(condition)),
         Work::Stmt(StmtWork::Branch(then, other)),
@@ -126,6 +134,9 @@ fn loop_over<'a>(
     ensures { Goes result machine.old machine.new (λ v. stmt_form v.program (acts_at v) (tree.For local
         (expr_data list.now) (stmt_data body.now))) }
 {
+    if at_once(machine, list) {
+        return start(machine, local, body);
+    }
     machine.push_two(
         Work::Expr(ExprWork::Value(list)),
         Work::Stmt(StmtWork::Start(local, body)),
@@ -148,6 +159,9 @@ fn return_value<'a>(machine: &mut Machine<'a>, e: &'a BoundExpr) -> Result<(), S
     ensures { Goes result machine.old machine.new (λ v. stmt_form v.program (acts_at v) (tree.Return (Some
         (expr_data e.now)))) }
 {
+    if at_once(machine, e) {
+        return unwind(machine);
+    }
     machine.push_two(Work::Expr(ExprWork::Value(e)), Work::Stmt(StmtWork::Return))
 }
 
@@ -171,11 +185,30 @@ fn return_undefined(machine: &mut Machine<'_>) -> Result<(), Stop>
 pub fn all<'a>(machine: &mut Machine<'a>, statements: &'a [BoundStmt]) -> Result<(), Stop>
     ensures { IsDone result machine.old machine.new (works.Stmt (stmt.All statements.entry)) }
 {
+    let mut left = statements;
+    'statements: while let Some((first, others)) = left.split_first() {
+        if !statement_at_once(machine, first) {
+            return one_by_one(machine, left);
+        }
+        left = others;
+    }
+    machine.forget()
+}
+
+// Statements, one after another, the first of which is the next work.
+fn one_by_one<'a>(machine: &mut Machine<'a>, statements: &'a [BoundStmt]) -> Result<(), Stop>
+    ensures { IsDone result machine.old machine.new (works.Stmt (stmt.All statements.entry)) }
+{
     match statements.split_first() {
-        Some((first, others)) => machine.push_two(
-            Work::Stmt(StmtWork::Does(first)),
-            Work::Stmt(StmtWork::All(others)),
-        ),
+        Some((first, others)) => {
+            if others.is_empty() {
+                return machine.push(Work::Stmt(StmtWork::Does(first)));
+            }
+            machine.push_two(
+                Work::Stmt(StmtWork::Does(first)),
+                Work::Stmt(StmtWork::All(others)),
+            )
+        }
         None => machine.forget(),
     }
 }
@@ -198,10 +231,10 @@ pub fn branch<'a>(
     ensures { IsDone result machine.old machine.new (works.Stmt (stmt.Branch then.entry other.entry)) }
 {
     if is_true(&machine.given) {
-        return does(machine, then);
+        return machine.push(Work::Stmt(StmtWork::Does(then)));
     }
     match other {
-        Some(other) => does(machine, other),
+        Some(other) => machine.push(Work::Stmt(StmtWork::Does(other))),
         None => machine.forget(),
     }
 }
@@ -267,10 +300,10 @@ fn turn_with<'a>(
         body.now) (plain_of item) (drop next (item_list (plain_values items).items))) }
 {
     machine.frame.bind(local, item);
-    machine.push_two(
-        Work::Stmt(StmtWork::Does(body)),
-        Work::Stmt(StmtWork::Turns(local, body, items, next)),
-    )
+    match machine.push(Work::Stmt(StmtWork::Turns(local, body, items, next))) {
+        Ok(()) => does(machine, body),
+        Err(stop) => Err(stop),
+    }
 }
 
 /// The body returns the value that is given.

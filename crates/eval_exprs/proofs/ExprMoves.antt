@@ -23,7 +23,7 @@ use Rattle.eval_machine.specs.Works.{comes, comes_by, comes_with, run}
 use Rattle.eval_machine.specs.declared.work.ExprWork.TheVariants as expr
 use Rattle.eval_machine.specs.declared.work.Work.TheVariants as works
 use Rattle.eval_exprs.proofs.Equations.{no_operands-is, operands-are}
-use Rattle.eval_machine.proofs.Followed.{empty_list, followed-followed}
+use Rattle.eval_machine.proofs.Followed.{empty_list, followed-followed, followed-same}
 
 pub cond_move
     : (v : View) (c a b : Bor BoundExpr)
@@ -122,6 +122,15 @@ pub operated_then
 operated_then v u op x others is =
     operated_move v op x others
     ∙ ap (λ (z : View). comes_by (answered (operated op (plain_of x) z.given)) z) (sym is)
+
+-- the last operator of a chain
+pub operated_alone
+    : (v : View) (op : BinaryOp) (x : Value) (others : Bor (List BoundOperand)) → length others.now ≡ 0
+    → comes_with (works.Expr (expr.Operate op x others)) v ≡ comes_by (answered (operated op (plain_of x) v.given)) v
+operated_alone v op x others none =
+    operated_move v op x others
+    ∙ followed-same (answered (operated op (plain_of x) v.given) v.state) _ _
+    (λ y s. operands_end (record v { given = y; state = s }) others none)
 
 -- ## Conditions and prefixes
 

@@ -1,3 +1,4 @@
+pub mod AtOnce
 pub mod Equations
 pub mod ExprMoves
 pub mod ConstantMoves

@@ -2,6 +2,9 @@
 ghost use Rattle.std.specs.Prelude.{Ok, map};
 ghost use Rattle.dscript_program.specs.BoundTree.{to_holes, to_operands, to_parts};
 ghost use Rattle.dscript_program.specs.Views.{expr_data, hole_data, operand_data, part_data};
+ghost use Rattle.dscript_value.specs.Plain.{plain_of};
+ghost use Rattle.dscript_operators.specs.Operators as meaning;
+ghost use Rattle.dscript_meaning.specs.Evaluating.{answered};
 ghost use Rattle.eval_machine.specs.Forms.{acts_at, chain_form, cond_form, path_form, postfix_form};
 ghost use Rattle.eval_machine.specs.Forms.{rest_at, unary_form, value_at};
 ghost use Rattle.eval_machine.specs.Keeps.{Comes, IsDone};
@@ -9,6 +12,7 @@ ghost use Rattle.eval_machine.specs.declared.work.ExprWork.TheVariants as expr;
 ghost use Rattle.eval_machine.specs.declared.work.Work.TheVariants as works;
 
 use crate::collections::{begin_list, begin_object};
+use crate::given::at_once;
 use crate::literals::{begin_literal, begin_path};
 use crate::names::{arrow_value, name_value};
 use bx_tree::Text;
@@ -81,6 +85,9 @@ fn postfix<'a>(
     ensures { Comes result machine.old machine.new (λ v. postfix_form v.program (acts_at v) (expr_data e.now)
         (to_parts (map part_data parts.now))) }
 {
+    if at_once(machine, e) {
+        return machine.push(Work::Expr(ExprWork::After(parts)));
+    }
     machine.push_two(
         Work::Expr(ExprWork::Value(e)),
         Work::Expr(ExprWork::After(parts)),
@@ -96,6 +103,9 @@ fn cond<'a>(
     ensures { Comes result machine.old machine.new (λ v. cond_form v.program (acts_at v) (expr_data
         condition.now) (expr_data then.now) (expr_data other.now)) }
 {
+    if at_once(machine, condition) {
+        return choose(machine, then, other);
+    }
     machine.push_two(
         Work::Expr(ExprWork::Value(condition)),
         Work::Expr(ExprWork::Choose(then, other)),
@@ -110,6 +120,9 @@ fn chain<'a>(
     ensures { Comes result machine.old machine.new (λ v. chain_form v.program (acts_at v) (expr_data
         first.now) (to_operands (map operand_data more.now))) }
 {
+    if at_once(machine, first) {
+        return operands(machine, more);
+    }
     machine.push_two(
         Work::Expr(ExprWork::Value(first)),
         Work::Expr(ExprWork::Operands(more)),
@@ -124,10 +137,23 @@ fn unary<'a>(
     ensures { Comes result machine.old machine.new (λ v. unary_form v.program (acts_at v) operators.now
         (expr_data operand.now)) }
 {
+    if at_once(machine, operand) {
+        return prefix(machine, operators);
+    }
     machine.push_two(
         Work::Expr(ExprWork::Value(operand)),
         Work::Expr(ExprWork::Prefix(operators)),
     )
+}
+
+// An expression, before what is left to be done.
+fn next<'a>(machine: &mut Machine<'a>, e: &'a BoundExpr) -> Result<(), Stop>
+    ensures { Comes result machine.old machine.new (λ v. value_at v (expr_data e.now)) }
+{
+    if at_once(machine, e) {
+        return Ok(());
+    }
+    machine.push(Work::Expr(ExprWork::Value(e)))
 }
 
 /// One of two expressions, by the condition that is given.
@@ -139,9 +165,9 @@ pub fn choose<'a>(
     ensures { IsDone result machine.old machine.new (works.Expr (expr.Choose then.entry other.entry)) }
 {
     if is_true(&machine.given) {
-        eval(machine, then)
+        next(machine, then)
     } else {
-        eval(machine, other)
+        next(machine, other)
     }
 }
 
@@ -157,6 +183,11 @@ pub fn operands<'a>(machine: &mut Machine<'a>, more: &'a [BoundOperand]) -> Resu
         return machine.push(Work::Expr(ExprWork::Operands(others)));
     }
     let left = machine.take();
+    if at_once(machine, e) {
+        let outcome = operated(machine, operator, &left, others);
+        drop(left);
+        return outcome;
+    }
     machine.push_two(
         Work::Expr(ExprWork::Value(e)),
         Work::Expr(ExprWork::Operate(operator, left, others)),
@@ -173,7 +204,19 @@ pub fn operated<'a>(
     ensures { IsDone result machine.old machine.new
         (works.Expr (expr.Operate operator left.now others.entry)) }
 {
+    if others.is_empty() {
+        return operated_last(machine, operator, left);
+    }
     machine.push(Work::Expr(ExprWork::Operands(others)))?;
+    let outcome = operate(machine.alloc, operator, left, &machine.given);
+    machine.finish(outcome)
+}
+
+// The last operator of a chain at a left operand and the right one, which is given.
+fn operated_last(machine: &mut Machine<'_>, operator: BinaryOp, left: &Value) -> Result<(), Stop>
+    ensures { Comes result machine.old machine.new (λ v. answered (meaning.operated operator (plain_of
+        left.now) v.given)) }
+{
     let outcome = operate(machine.alloc, operator, left, &machine.given);
     machine.finish(outcome)
 }

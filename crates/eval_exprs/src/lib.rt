@@ -7,12 +7,14 @@
 mod collections;
 mod constants;
 mod exprs;
+mod given;
 mod literals;
 mod names;
 
 pub use collections::{fields, item, items, named_field, spread_fields, spread_item};
 pub use constants::{demands, keep};
 pub use exprs::{choose, eval, operands, operated, prefix};
+pub use given::at_once;
 pub use literals::{first_hole, hole, other_holes};
 pub use names::code_at;
 

@@ -1,12 +1,11 @@
 use Rattle.eval_machine.specs.Views.{seen}
 use Rattle.dscript_eval.proofs.CallbackMoves.{came_map}
+use Rattle.dscript_eval.proofs.CallsNow.{left_after}
 use Rattle.eval_machine.proofs.ItemLists.{ends_in}
-use Rattle.eval_machine.proofs.Kept.{keeps_at}
 use Rattle.dscript_eval.proofs.callbacks.add_result.Goals as goal
 
 pub returns : goal.returns
 returns c kind =
-    keeps_at _ _ _ _
+    left_after _ _ _ (seen c.take-value.new.self) c.callbacks_after.ensures
     (came_map (seen c.args.machine.now) _ c.args.callbacks c.add_value.new.values kind (ends_in _ _ _ _ c.in_ok-add_value.ensures c.take-value.ensures.value)
     c.take-value.ensures.taken)
-    c.callbacks_after.ensures

@@ -1,18 +1,8 @@
-use Rattle.std.proofs.Common.{sym, ◌∙◌}
-use Rattle.eval_machine.specs.Views.{seen}
-use Rattle.dscript_eval.proofs.CallbackMoves.{came_reduced}
 use Rattle.eval_machine.proofs.Kept.{keeps_at}
 use Rattle.dscript_eval.proofs.callbacks.came.Goals as goal
 
-pub returns-in-Map : goal.returns-in-Map
-returns-in-Map c = c.add_result.ensures c.in-Map.is
+pub returns-in-Ok : goal.returns-in-Ok
+returns-in-Ok c = keeps_at _ _ _ _ c.in-Ok.ensures c.callbacks_from.ensures
 
-pub returns-in-Filter : goal.returns-in-Filter
-returns-in-Filter c = c.keep_item.ensures c.in-Filter.is
-
-pub returns-in-MapMany : goal.returns-in-MapMany
-returns-in-MapMany c = c.add_results.ensures c.in-MapMany.is
-
-pub returns-in-Reduce : goal.returns-in-Reduce
-returns-in-Reduce c =
-    keeps_at _ _ _ _ (came_reduced (seen c.args.machine.now) c.args.callbacks c.in-Reduce.is) c.callbacks_after.ensures
+pub returns-in-Err : goal.returns-in-Err
+returns-in-Err c = c.in-Err.ensures

@@ -1,18 +1,17 @@
 use Rattle.std.proofs.Common.{sym, ◌∙◌}
 use Rattle.eval_machine.specs.Views.{seen}
 use Rattle.dscript_eval.proofs.CallbackMoves.{came_dropped, came_kept}
+use Rattle.dscript_eval.proofs.CallsNow.{left_after}
 use Rattle.eval_machine.proofs.ItemLists.{ends_in}
-use Rattle.eval_machine.proofs.Kept.{keeps_at}
 use Rattle.dscript_eval.proofs.callbacks.keep_item.Goals as goal
 
 pub returns-then-not-is_true : goal.returns-then-not-is_true
 returns-then-not-is_true c kind =
-    keeps_at _ _ _ _ (came_dropped (seen c.args.machine.now) c.args.callbacks kind (sym c.is_true.ensures ∙ c.if-not-is_true.true))
-    c.callbacks_after.ensures
+    left_after _ _ _ (seen c.args.machine.now) c.callbacks_after.ensures
+    (came_dropped (seen c.args.machine.now) c.args.callbacks kind (sym c.is_true.ensures ∙ c.if-not-is_true.true))
 
 pub returns : goal.returns
 returns c kind =
-    keeps_at _ _ _ _
+    left_after _ _ _ (seen c.args.machine.now) c.callbacks_after-2.ensures
     (came_kept (seen c.args.machine.now) c.args.callbacks c.add_value.new.values kind (sym c.is_true.ensures ∙ c.if-not-is_true.false)
     (ends_in _ _ _ _ c.in_ok-add_value.ensures c.in_ok-item.ensures))
-    c.callbacks_after-2.ensures

@@ -1,13 +1,28 @@
-use Rattle.eval_machine.specs.Views.{seen}
-use Rattle.eval_machine.proofs.Kept.{keeps_at, kept}
-use Rattle.dscript_eval.proofs.StmtMoves.{all_end, all_move}
+use Rattle.std.proofs.Common.{ap, sym, ◌∙◌}
+use Rattle.eval_machine.specs.Views.{View, seen}
+use Rattle.eval_machine.specs.Works.{comes_with}
+use Rattle.eval_machine.specs.declared.work.StmtWork.TheVariants as stmt
+use Rattle.eval_machine.specs.declared.work.Work.TheVariants as works
+use Rattle.eval_machine.proofs.Kept.{keeps_at}
+use Rattle.dscript_eval.proofs.StmtMoves.{all_end}
+use Rattle.dscript_eval.proofs.StmtsNow.{passed_move}
 use Rattle.dscript_eval.proofs.statements.all.Goals as goal
 
-pub returns-in-Some : goal.returns-in-Some
-returns-in-Some c =
-    kept _ _ _ _ c.push_two.ensures
-    (all_move (seen c.args.machine.now) c.args.statements c.in-Some.others c.in-Some.first c.in-Some.ensures.cases.0)
+pub returns-then-not-statement_at_once : goal.returns-then-not-statement_at_once
+returns-then-not-statement_at_once c =
+    keeps_at _ _ _ _
+    (c.statements.invariant
+    ∙ ap (λ (z : View). comes_with (works.Stmt (stmt.All c.statements.left)) z)
+    (sym (c.statement_at_once.ensures.none c.if-not-statement_at_once.true)))
+    c.one_by_one.ensures
 
-pub returns-in-None : goal.returns-in-None
-returns-in-None c =
-    keeps_at _ _ _ _ (all_end (seen c.args.machine.now) c.args.statements c.in-None.ensures.cases) c.forget.ensures
+pub statements-preserved : goal.statements-preserved
+statements-preserved c =
+    c.statements.invariant
+    ∙ passed_move (seen c.statements.machine) _ c.statements.left c.in-Some.others c.in-Some.first c.in-Some.ensures.cases.0
+    (c.statement_at_once.ensures.given c.if-not-statement_at_once.false)
+
+pub returns : goal.returns
+returns c =
+    keeps_at _ _ _ _ (c.statements.invariant ∙ all_end (seen c.statements.machine) c.statements.left c.in_default.ensures.cases)
+    c.forget.ensures

@@ -8,10 +8,10 @@ pub returns-then-is_true : goal.returns-then-is_true
 returns-then-is_true c =
     keeps_at _ _ _ _
     (choose_first (seen c.args.machine.now) c.args.then c.args.other (sym c.is_true.ensures ∙ c.if-is_true.true))
-    c.eval.ensures
+    c.next.ensures
 
 pub returns-else-is_true : goal.returns-else-is_true
 returns-else-is_true c =
     keeps_at _ _ _ _
     (choose_second (seen c.args.machine.now) c.args.then c.args.other (sym c.is_true.ensures ∙ c.if-is_true.false))
-    c.eval-else-is_true.ensures
+    c.next-else-is_true.ensures

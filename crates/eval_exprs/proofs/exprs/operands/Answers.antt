@@ -1,4 +1,7 @@
 use Rattle.eval_machine.specs.Views.{seen}
+use Rattle.eval_machine.specs.declared.work.ExprWork.TheVariants as expr
+use Rattle.eval_machine.specs.declared.work.Work.TheVariants as works
+use Rattle.eval_exprs.proofs.AtOnce.{now_then, unless_now}
 use Rattle.eval_exprs.proofs.ExprMoves.{operands_end, operands_move, operands_settled}
 use Rattle.eval_machine.proofs.Kept.{kept}
 use Rattle.std.proofs.Common.{sym, ◌∙◌}
@@ -13,10 +16,22 @@ returns-then-is_settled c =
     (operands_settled (seen c.args.machine.now) c.args.more c.in-Some.others c.in-Some.operand.now _ _ c.in-Some.ensures.cases.0
     c.operand_parts-operator.ensures (sym c.is_settled.ensures ∙ c.if-is_settled.true))
 
-pub returns : goal.returns
-returns c =
-    kept _ _ _ _ c.push_two.ensures
+pub returns-then-at_once : goal.returns-then-at_once
+returns-then-at_once c =
+    now_then _ _ _ _ c.operand_parts-operator.result.1
+    (works.Expr (expr.Operate c.operand_parts-operator.result.0 c.take-left.result c.in-Some.others)) _
     (operands_move (seen c.args.machine.now) _ c.args.more c.in-Some.others c.in-Some.operand.now _
     c.operand_parts-operator.result.1 c.take-left.result
     c.in-Some.ensures.cases.0 c.operand_parts-operator.ensures (sym c.is_settled.ensures ∙ c.if-is_settled.false)
     c.take-left.ensures.value c.take-left.ensures.taken)
+    (c.at_once.ensures.given c.if-at_once.true) c.operated-outcome.ensures
+
+pub returns : goal.returns
+returns c =
+    unless_now _ _ _ _ c.operand_parts-operator.result.1
+    (works.Expr (expr.Operate c.operand_parts-operator.result.0 c.take-left.result c.in-Some.others)) _
+    (operands_move (seen c.args.machine.now) _ c.args.more c.in-Some.others c.in-Some.operand.now _
+    c.operand_parts-operator.result.1 c.take-left.result
+    c.in-Some.ensures.cases.0 c.operand_parts-operator.ensures (sym c.is_settled.ensures ∙ c.if-is_settled.false)
+    c.take-left.ensures.value c.take-left.ensures.taken)
+    (c.at_once.ensures.none c.if-at_once.false) c.push_two.ensures

@@ -1,7 +1,16 @@
+use Rattle.std.proofs.Common.{length, sym, ◌∙◌}
+use Rattle.std.proofs.lemmas.Bool.{eqb-true}
 use Rattle.eval_machine.specs.Views.{seen}
-use Rattle.eval_exprs.proofs.ExprMoves.{operated_then}
+use Rattle.eval_exprs.proofs.ExprMoves.{operated_alone, operated_then}
 use Rattle.eval_machine.proofs.Kept.{keeps_at}
 use Rattle.eval_exprs.proofs.exprs.operated.Goals as goal
+
+pub returns-then-is_empty : goal.returns-then-is_empty
+returns-then-is_empty c =
+    keeps_at _ _ _ _
+    (operated_alone (seen c.args.machine.now) c.args.operator c.args.left.now c.args.others
+    (eqb-true (length c.args.others.now) 0 (sym c.is_empty.ensures ∙ c.if-is_empty.true)))
+    c.operated_last.ensures
 
 pub returns : goal.returns
 returns c =

@@ -1,0 +1,32 @@
+//! Expressions that need no work of their own.
+ghost use Rattle.std.specs.Prelude.{◌≡◌, true, false};
+ghost use Rattle.dscript_program.specs.Views.{expr_data};
+ghost use Rattle.eval_machine.specs.Views.{seen};
+ghost use Rattle.eval_exprs.specs.AtOnce.{IsGiven};
+
+use dscript_program::BoundExpr;
+use eval_machine::Machine;
+use eval_now::{MAX_NESTING, value_now};
+
+/// Gives the value of an expression, where that needs no call. Otherwise nothing changes.
+pub fn at_once(machine: &mut Machine<'_>, e: &BoundExpr) -> bool
+    ensures given { result ≡ true → IsGiven (seen machine.old) (seen machine.new) (expr_data e.now) }
+    ensures none { result ≡ false → seen machine.new ≡ seen machine.old }
+{
+    let known = machine.frame.own.as_slice();
+    match value_now(
+        machine.alloc,
+        known,
+        machine.frame.first,
+        e,
+        machine.left,
+        MAX_NESTING,
+    ) {
+        Some((value, left)) => {
+            machine.left = left;
+            machine.give(value);
+            true
+        }
+        None => false,
+    }
+}
