@@ -3,3 +3,4 @@ pub mod GoingThrough
 pub mod OnePip
 pub mod PutFiles
 pub mod Waiting
+pub mod SharedSets

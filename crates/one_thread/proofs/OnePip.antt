@@ -15,10 +15,7 @@ use Rattle.pip_inputs.specs.Plain.{desc_of, kind_process, plain_in, plain_of, pr
 use Rattle.pip_inputs.specs.Results.{ByPip, inputs_of, kind_inputs}
 use Rattle.pip_outputs.specs.Slots.{slot_files}
 use Rattle.pip_view.specs.Sees.{sees}
-use Rattle.run_record.specs.Facts.{Facts, IsRun, run_for}
-use Rattle.run_record.specs.Outcomes.{outcome_of}
 use Rattle.run_record.specs.declared.outcome.Outcome.{Outcome}
-use Rattle.tool_run.specs.Described.{described}
 use Rattle.verdicts.specs.declared.verdict.Verdict.TheVariants as verdicts
 use Rattle.one_thread.specs.OneThread.{Result, by_outcome, failed, ran, succeeded, worked}
 use Rattle.one_thread.specs.Views.{ended_in, good_at, worked_in}
@@ -38,25 +35,18 @@ plain_worked pips tree budget made inputs i (Some pip) there e = by_kind pip.kin
 
 -- ## Processes
 
--- the outcome of a record is that of the run of the description that it was made for
-outcome_is : (f : Facts) (d e : Desc) (a b : Ask → Answer) → IsRun f d a → d ≡ e → a ≡ b → f.outcome ≡ ran e b
-outcome_is f d e a b h same see =
-    sym h.run.outcome
-    ∙ ap (λ (x : Desc). outcome_of (described x) (run_for d a)) (h.desc ∙ same)
-    ∙ ap (λ (x : Desc). outcome_of (described e) (run_for x a)) same
-    ∙ ap (λ (s : Ask → Answer). outcome_of (described e) (run_for e s)) see
-
-pub process_worked : (pips : List Pip) (tree : Files) (budget : ℕ) (made : List Files) (inputs : ByPip) (i : ℕ) (o : Option Pip) (f : Facts) (d : Desc)
-    (see : Ask → Answer) (r : Result) → IsSomeAnd (process_in o) (λ (p : ProcessDesc). d ≡ desc_of tree inputs budget p) → see ≡ sees pips tree inputs i
-    → IsRun f d see → r ≡ by_outcome pips tree made i f.outcome → r ≡ worked_in pips tree budget made inputs i o
-process_worked pips tree budget made inputs i None f d see r there is_view is_run is = absurd there
-process_worked pips tree budget made inputs i (Some pip) f d see r there is_view is_run is = by_kind pip.kind there
+pub process_worked : (pips : List Pip) (tree : Files) (budget : ℕ) (made : List Files) (inputs : ByPip) (i : ℕ) (o : Option Pip) (d : Desc)
+    (see : Ask → Answer) (outcome : Outcome) (r : Result) → IsSomeAnd (process_in o) (λ (p : ProcessDesc). d ≡ desc_of tree inputs budget p)
+    → see ≡ sees pips tree inputs i → outcome ≡ ran d see → r ≡ by_outcome pips tree made i outcome → r ≡ worked_in pips tree budget made inputs i o
+process_worked pips tree budget made inputs i None d see outcome r there is_view is_run is = absurd there
+process_worked pips tree budget made inputs i (Some pip) d see outcome r there is_view is_run is = by_kind pip.kind there
   where
     by_kind : (kind : PipKind) → IsSomeAnd (kind_process kind) (λ (p : ProcessDesc). d ≡ desc_of tree inputs budget p)
         → r ≡ worked pips tree budget made inputs i kind
     by_kind (Process p) same =
         is
-        ∙ ap (λ (o : Outcome). by_outcome pips tree made i o) (outcome_is f d (desc_of tree inputs budget p) see (sees pips tree inputs i) is_run same is_view)
+        ∙ ap (λ (o : Outcome). by_outcome pips tree made i o)
+        (is_run ∙ ap (λ (x : Desc). ran x see) same ∙ ap (λ (s : Ask → Answer). ran (desc_of tree inputs budget p) s) is_view)
     by_kind (Copy p) same = absurd same
     by_kind (Write p) same = absurd same
     by_kind (Seal p) same = absurd same

@@ -1,2 +1,3 @@
 pub mod OneThread
 pub mod Views
+pub mod Shared

@@ -5,6 +5,7 @@ ghost use Rattle.one_thread.specs.OneThread.{made_by, one_thread, verdicts_of};
 
 use crate::Memory;
 use crate::ended::{Frame, ended};
+use crate::shared::SharedFiles;
 use bx_io::Gate;
 use pip_model::{Plan, Slot, Sources};
 use std::alloc::Global;
@@ -39,8 +40,10 @@ pub fn build_all<G: Gate>(
     let pips = plan.pips();
     let mut verdicts = Vec::new(alloc);
     let mut slots = Vec::new(alloc);
+    let mut shared = SharedFiles::new(alloc);
     'pips: for number in 0..pips.len() {
-        let next = ended(&frame, number as u32, slots.as_slice())?;
+        let next = ended(&frame, number as u32, slots.as_slice(), &shared)?;
+        shared.add_slot(alloc, plan, number as u32, &next.slot)?;
         verdicts.push(next.verdict)?;
         slots.push(next.slot)?;
     }

@@ -1,5 +1,5 @@
 //! What one pip comes to.
-ghost use Rattle.std.specs.Prelude.{◌≡◌, ◌<◌, ◌≤◌, false, All, IfOk, IsSome, length, map, slice_get};
+ghost use Rattle.std.specs.Prelude.{◌≡◌, ◌<◌, ◌≤◌, false, All, IfOk, IsSome, length, map, slice_get, take};
 ghost use Rattle.std.specs.List.{list_all};
 ghost use Rattle.pip_outputs.specs.Slots.{slot_files};
 ghost use Rattle.pip_inputs.specs.Plain.{plain_at, process_in};
@@ -8,16 +8,18 @@ ghost use Rattle.verdicts.specs.Verdicts as ends;
 ghost use Rattle.violations.specs.Classes.{class_of};
 ghost use Rattle.violations.specs.DoubleWrites.{clash_at};
 ghost use Rattle.one_thread.specs.OneThread as builds;
+ghost use Rattle.one_thread.specs.Shared.{KeepsShared, all_shared};
 ghost use Rattle.one_thread.specs.Views.{Agrees, ended_in, ended_result, good_at, good_in, is_good_slot};
 ghost use Rattle.one_thread.specs.Views.{worked_in};
 
 use crate::Memory;
+use crate::shared::SharedFiles;
 use bx_io::Gate;
 use observed::{Access, End};
 use pip_inputs::process_at;
 use pip_model::{Made, Plan, Slot, Sources};
 use pip_view::{Inputs, PipView, desc, plain};
-use run_record::{Cause, Outcome, execute};
+use run_record::{Cause, Outcome, outcome_of_run};
 use std::alloc::Global;
 use violations::{Verdict, classify, double_write};
 
@@ -170,16 +172,65 @@ pub fn after_run(
     }
 }
 
+// What a process comes to that is otherwise successful, where these are the shared files so far.
+fn after_good<G: Gate>(
+    frame: &Frame<'_, G>,
+    pip: u32,
+    made: &Made,
+    slots: &[Slot],
+    shared: &SharedFiles,
+) -> Result<PipResult, Memory>
+    requires pip { pip < length frame.now.plan.now.pips }
+    requires slots { pip ≤ length slots.now }
+    requires shared { KeepsShared shared.now.files shared.now.dirs
+        (all_shared (take pip frame.now.plan.now.pips) (map slot_files slots.now)) }
+    ensures result { IfOk result (λ ended. ended_result ended ≡ builds.unless_clash made.now
+        (clash_at frame.now.plan.now.pips (map slot_files slots.now) pip made.now)) }
+    ensures agrees { IfOk result Agrees }
+{
+    let clashes = shared.has_clash(frame.alloc, frame.plan, pip, made)?;
+    if clashes {
+        return after_success(frame.plan, pip, made, slots);
+    }
+    let files = made.share()?;
+    Ok(succeeded(files))
+}
+
+// What a process comes to by the outcome of its run, where these are the shared files so far.
+fn after_work<G: Gate>(
+    frame: &Frame<'_, G>,
+    pip: u32,
+    slots: &[Slot],
+    shared: &SharedFiles,
+    outcome: &Outcome,
+) -> Result<PipResult, Memory>
+    requires pip { pip < length frame.now.plan.now.pips }
+    requires slots { pip ≤ length slots.now }
+    requires shared { KeepsShared shared.now.files shared.now.dirs
+        (all_shared (take pip frame.now.plan.now.pips) (map slot_files slots.now)) }
+    ensures result { IfOk result (λ ended. ended_result ended ≡ builds.by_outcome frame.now.plan.now.pips
+        frame.now.sources.now (map slot_files slots.now) pip outcome.now) }
+    ensures agrees { IfOk result Agrees }
+{
+    match outcome {
+        Outcome::Good(made) => after_good(frame, pip, made, slots, shared),
+        Outcome::Failed(cause) => after_failure(frame.plan, frame.sources, pip, cause),
+    }
+}
+
 // Runs a process.
 fn run<G: Gate>(
     frame: &Frame<'_, G>,
     pip: u32,
     inputs: &Inputs,
     slots: &[Slot],
+    shared: &SharedFiles,
 ) -> Result<PipResult, Memory>
     requires process { IsSome (process_in (slice_get frame.now.plan.now.pips pip)) }
     requires pip { pip < length frame.now.plan.now.pips }
     requires slots { pip ≤ length slots.now }
+    requires shared { KeepsShared shared.now.files shared.now.dirs
+        (all_shared (take pip frame.now.plan.now.pips) (map slot_files slots.now)) }
     ensures result { IfOk result (λ ended. ended_result ended
         ≡ worked_in frame.now.plan.now.pips frame.now.sources.now frame.now.plan.now.tool_budget
         (map slot_files slots.now) inputs.now pip (slice_get frame.now.plan.now.pips pip)) }
@@ -187,8 +238,8 @@ fn run<G: Gate>(
 {
     let described = desc(frame.alloc, frame.plan, frame.sources, pip, inputs)?;
     let mut view = PipView::new(frame.alloc, frame.plan, frame.sources, pip, inputs)?;
-    let record = execute(frame.alloc, described, pip, &mut view, frame.gate)?;
-    after_run(frame.plan, frame.sources, pip, slots, record.outcome())
+    let outcome = outcome_of_run(frame.alloc, &described, pip, &mut view, frame.gate)?;
+    after_work(frame, pip, slots, shared, &outcome)
 }
 
 /// What a pip comes to that is no process.
@@ -206,9 +257,16 @@ pub fn made_plainly<G: Gate>(
 }
 
 // What a pip comes to whose inputs succeeded.
-fn worked<G: Gate>(frame: &Frame<'_, G>, pip: u32, slots: &[Slot]) -> Result<PipResult, Memory>
+fn worked<G: Gate>(
+    frame: &Frame<'_, G>,
+    pip: u32,
+    slots: &[Slot],
+    shared: &SharedFiles,
+) -> Result<PipResult, Memory>
     requires pip { pip < length frame.now.plan.now.pips }
     requires slots { pip ≤ length slots.now }
+    requires shared { KeepsShared shared.now.files shared.now.dirs
+        (all_shared (take pip frame.now.plan.now.pips) (map slot_files slots.now)) }
     ensures result { IfOk result (λ ended. ended_result ended
         ≡ worked_in frame.now.plan.now.pips frame.now.sources.now frame.now.plan.now.tool_budget
         (map slot_files slots.now) (inputs_at frame.now.plan.now.pips pip (map slot_files slots.now)) pip
@@ -217,7 +275,7 @@ fn worked<G: Gate>(frame: &Frame<'_, G>, pip: u32, slots: &[Slot]) -> Result<Pip
 {
     let inputs = Inputs::of(frame.alloc, frame.plan, pip, slots)?;
     match process_at(frame.plan.pips(), pip) {
-        Some(_) => run(frame, pip, &inputs, slots),
+        Some(_) => run(frame, pip, &inputs, slots, shared),
         None => made_plainly(frame, pip, &inputs),
     }
 }
@@ -235,9 +293,12 @@ pub(crate) fn ended<G: Gate>(
     frame: &Frame<'_, G>,
     pip: u32,
     slots: &[Slot],
+    shared: &SharedFiles,
 ) -> Result<PipResult, Memory>
     requires pip { pip < length frame.now.plan.now.pips }
     requires slots { pip ≤ length slots.now }
+    requires shared { KeepsShared shared.now.files shared.now.dirs
+        (all_shared (take pip frame.now.plan.now.pips) (map slot_files slots.now)) }
     ensures result { IfOk result (λ ended. ended_result ended
         ≡ ended_in frame.now.plan.now.pips frame.now.sources.now frame.now.plan.now.tool_budget slots.now pip
         (slice_get frame.now.plan.now.pips pip)) }
@@ -245,7 +306,7 @@ pub(crate) fn ended<G: Gate>(
 {
     let good = inputs_are_good(frame.plan, pip, slots);
     if good {
-        worked(frame, pip, slots)
+        worked(frame, pip, slots, shared)
     } else {
         Ok(skipped())
     }

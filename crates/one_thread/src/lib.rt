@@ -5,10 +5,12 @@
 //! definition of it.
 #![tactic(auto)]
 
+mod above;
 mod build;
 mod ended;
 mod gathering;
 mod laws;
+mod shared;
 
 pub use build::{Built, build_all};
 pub use ended::{

@@ -11,4 +11,4 @@ mod outcome;
 mod record;
 
 pub use outcome::{Cause, Outcome};
-pub use record::{Record, execute, replay};
+pub use record::{Record, execute, outcome_of_run, replay};

@@ -5,6 +5,7 @@ ghost use Rattle.tool_run.specs.Described.{described};
 ghost use Rattle.tool_run.specs.Run.{path_set};
 ghost use Rattle.run_record.specs.Answered.{answered};
 ghost use Rattle.run_record.specs.Facts.{IsRun, Replays, Sound, run_for};
+ghost use Rattle.run_record.specs.Outcomes.{outcome_of};
 
 use crate::answered::Stored;
 use crate::answers::given_to;
@@ -132,6 +133,23 @@ pub fn execute<V: View, G: Gate>(
         accesses: ran.accesses,
         outcome,
     })
+}
+
+/// Passes the gate once, runs the tool of a process on a view, and keeps the outcome alone.
+pub fn outcome_of_run<V: View, G: Gate>(
+    alloc: Global,
+    desc: &Desc,
+    pip: u32,
+    view: &mut V,
+    gate: &G,
+) -> Result<Outcome, AllocError>
+    ensures outcome { IfOk result (λ outcome. outcome
+        ≡ outcome_of (described desc.now) (run_for desc.now (V.answers view.old))) }
+    ensures meaning { V.answers view.new ≡ V.answers view.old }
+{
+    gate.pass(pip);
+    let ran = run_process(alloc, desc, view)?;
+    judge(alloc, desc, &ran)
 }
 
 /// Runs the tool of a process on stored answers: none where the run asks for something else or has another
