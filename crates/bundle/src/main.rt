@@ -2,18 +2,10 @@
 //!
 //! `bundle pack FOLDER` writes the bundle of the files of a folder, `bundle unpack [--replace] FOLDER` makes
 //! the files of a bundle in a folder, and `bundle list` names the files of a bundle. It depends on
-//! `bx_folder`, whose trait its folder of the system implements, and on `bx_tree`.
+//! `bx_bundle` for its words, its messages and its folder of the system, on `bx_folder` and on `bx_tree`.
 #![tactic(auto)]
 
-mod message;
-mod system_folder;
-#[cfg(test)]
-mod tests;
-mod words;
-
-use crate::message::{bundle_message, pack_message, unpack_message};
-use crate::system_folder::SystemFolder;
-use crate::words::{Command, read_words};
+use bx_bundle::{Command, SystemFolder, bundle_message, pack_message, read_words, unpack_message};
 use bx_folder::{Replace, pack, unpack};
 use bx_tree::{MAX_BUNDLE_BYTES, Tree, read_bundle};
 use std::alloc::{AllocError, Global};

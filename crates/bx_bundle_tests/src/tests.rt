@@ -1,6 +1,4 @@
-use crate::message::{bundle_message, pack_message, unpack_message};
-use crate::system_folder::SystemFolder;
-use crate::words::{Command, read_words};
+use bx_bundle::{Command, SystemFolder, bundle_message, pack_message, read_words, unpack_message};
 use bx_folder::{PackFault, Replace, UnpackFault, pack, unpack};
 use bx_tree::{BundleFault, Path};
 use std::alloc::{AllocError, Global};

@@ -1,0 +1,14 @@
+//! What the program `bundle` is made of: its words, its messages, and its folder of the system.
+//!
+//! It depends on `bx_folder`, whose trait the folder of the system implements, and on `bx_tree` for paths. It
+//! carries no promise but that the folder counts a fault where it reports one; its tests are in
+//! `bx_bundle_tests`.
+#![tactic(auto)]
+
+mod message;
+mod system_folder;
+mod words;
+
+pub use message::{bundle_message, pack_message, unpack_message};
+pub use system_folder::SystemFolder;
+pub use words::{Command, read_words};
