@@ -1,0 +1,157 @@
+-- What is found under names, and that nothing else is.
+use Rattle.std.proofs.Common.{◌≡◌, ℕ, true, List, [], Option, Some, None, Result, Ok, Err, IfOk, Vec, Global, sym, ap, ◌∙◌, subst, inl, inr}
+use Rattle.std.specs.FinMap.{get}
+use Rattle.sha2.specs.Sha256.{sha256}
+use Rattle.bx_tree.specs.Trees.{Files}
+use Rattle.bx_io.specs.Answers as held_names
+use Rattle.bx_io.specs.Holdings.{Holdings, Kept, held_in}
+use Rattle.bx_io.specs.declared.keeper.Got.TheVariants as got
+use Rattle.observed.specs.Texts.{read_paths_text}
+use Rattle.observed.specs.declared.ask.Ask.{Ask}
+use Rattle.pip_types.specs.declared.desc.Desc.{Desc}
+use Rattle.memo_format.specs.Entries.{output_paths, read_entry_text}
+use Rattle.memo_format.specs.Selectors.{read_selectors_text}
+use Rattle.memo_format.specs.Well.{HoldsList, at_blob, at_entry, at_list}
+use Rattle.memo_format.specs.declared.entry.Entry.{Entry}
+use Rattle.memo_format.specs.declared.entry.OutputLine.{OutputLine}
+use Rattle.memo_format.specs.declared.selector.Selector.{Selector}
+use Rattle.content_store.specs.Contents.{Fetches, IsContent}
+use Rattle.content_store.specs.HeldEntries.{FetchesEntry, IsHeld}
+use Rattle.content_store.specs.declared.content.Fetched.TheVariants as fetched
+use Rattle.content_store.specs.declared.entries.FetchedEntry.TheVariants as fetched_entries
+use Rattle.store_meaning.specs.Contents.{HoldsPaths}
+use Rattle.store_meaning.specs.Keeping.{or_none, selectors_in}
+use Rattle.record_match.specs.Digests.{weak_of}
+use Rattle.store_meaning.specs.Usable.{fits}
+use Rattle.two_phase.specs.Putting.{IsListAt}
+use Rattle.two_phase.specs.Finding.{AddsTo, FindsOne, IsEntryFor, PutsIn}
+
+pub same_some : {X : Type 0} (x y : X) → Some x ≡ Some y → x ≡ y
+same_some x y e = cc
+
+none_and_some : {X : Type 0} (o : Option X) (x : X) → o ≡ None → o ≡ Some x → ⊥
+none_and_some o x h k = let never : None ≡ Some x = sym h ∙ k in cc
+
+-- ## One thing is held under a name
+
+pub one_content : (S : Holdings) (digest x y : List ℕ) → IsContent S digest x → IsContent S digest y → x ≡ y
+one_content S digest x y h k = same_some x y (sym h.held ∙ ap (λ d. get S (at_blob d)) (h.digest_is ∙ sym k.digest_is) ∙ k.held)
+
+pub one_set : (S : Holdings) (digest : List ℕ) (a b : List Ask) → HoldsPaths S digest a → HoldsPaths S digest b → a ≡ b
+one_set S digest a b h k = same_some a b (sym h.2 ∙ ap read_paths_text (one_content S digest h.0 k.0 h.1 k.1) ∙ k.2)
+
+pub one_list : (S : Holdings) (weak : List ℕ) (a b : List Selector) → HoldsList S weak a → HoldsList S weak b → a ≡ b
+one_list S weak a b h k = same_some a b (sym h.2 ∙ ap read_selectors_text (same_some h.0 k.0 (sym h.1 ∙ k.1)) ∙ k.2)
+
+pub one_entry : (S : Holdings) (strong : List ℕ) (a b : Entry) → IsHeld S strong a → IsHeld S strong b → a ≡ b
+one_entry S strong a b h k =
+    let there : get S (at_entry a.strong) ≡ get S (at_entry b.strong) = ap (λ d. get S (at_entry d)) (h.strong_is ∙ sym k.strong_is) in
+    same_some a b (sym h.held.2 ∙ ap read_entry_text (same_some h.held.0 k.held.0 (sym h.held.1 ∙ there ∙ k.held.1)) ∙ k.held.2)
+
+-- ## Contents
+
+pub content_found : (held : Option Holdings) (digest x : List ℕ) → Fetches held digest (fetched.Found x) → FindsOne held (λ S y. IsContent S digest y) (Some x)
+content_found None digest x h = tt
+content_found (Some S) digest x h = h
+
+pub no_content : (held : Option Holdings) (digest : List ℕ) → Fetches held digest fetched.NotWell → FindsOne held (λ S y. IsContent S digest y) None
+no_content None digest h = tt
+no_content (Some S) digest h = h
+
+-- a content that is put among files as a call answers it
+pub put_given : {E : Type 0} (held : Option Holdings) (files : Files) (o : OutputLine) (bytes : List ℕ) (r : Result (Option Files) E)
+    → FindsOne held (λ S y. IsContent S o.digest y) (Some bytes) → sha256 bytes ≡ o.digest → IfOk r (PutsIn files o.path bytes) → IfOk r (AddsTo held files o)
+put_given held files o bytes (Ok (Some now)) h digest put = record { bytes = bytes; found = h; digest_is = digest; put = put }
+put_given held files o bytes (Ok None) h digest put = inr (bytes, put)
+put_given held files o bytes (Err e) h digest put = tt
+
+pub no_put : (held : Option Holdings) (files : Files) (o : OutputLine) → FindsOne held (λ S y. IsContent S o.digest y) None → AddsTo held files o None
+no_put held files o h = inl h
+
+-- ## Path sets
+
+pub set_read : (held : Option Holdings) (digest text : List ℕ) (set : Option (List Ask)) → FindsOne held (λ S y. IsContent S digest y) (Some text)
+    → read_paths_text text ≡ set → FindsOne held (λ S asks. HoldsPaths S digest asks) set
+set_read None digest text set h e = tt
+set_read (Some S) digest text None h e =
+    λ asks there. none_and_some (read_paths_text text) asks e (ap read_paths_text (one_content S digest text there.0 h there.1) ∙ there.2)
+set_read (Some S) digest text (Some asks) h e = (text, h, e)
+
+-- as a call answers it
+pub set_given : {E : Type 0} (held : Option Holdings) (digest text bytes : List ℕ) (r : Result (Option (List Ask)) E) → FindsOne held (λ S y. IsContent S digest y) (Some text)
+    → bytes ≡ text → IfOk r (λ set. read_paths_text bytes ≡ set) → IfOk r (FindsOne held (λ S asks. HoldsPaths S digest asks))
+set_given held digest text bytes (Ok set) h same e = set_read held digest text set h (ap read_paths_text (sym same) ∙ e)
+set_given held digest text bytes (Err x) h same e = tt
+
+pub no_set : (held : Option Holdings) (digest : List ℕ) → FindsOne held (λ S y. IsContent S digest y) None → FindsOne held (λ S asks. HoldsPaths S digest asks) None
+no_set None digest h = tt
+no_set (Some S) digest h = λ asks there. h there.0 there.1
+
+-- ## Entries
+
+pub entry_found : (held : Option Holdings) (strong : List ℕ) (e : Entry) → FetchesEntry held strong (fetched_entries.Found e) → FindsOne held (λ S x. IsHeld S strong x) (Some e)
+entry_found None strong e h = tt
+entry_found (Some S) strong e h = h
+
+pub no_entry : (held : Option Holdings) (strong : List ℕ) → FetchesEntry held strong fetched_entries.NotWell → FindsOne held (λ S x. IsHeld S strong x) None
+no_entry None strong h = tt
+no_entry (Some S) strong h = h
+
+-- what an entry must be to be taken
+abbrev pub IsTaken : Desc → Selector → Entry → Type 0
+IsTaken d s e = (e.weak ≡ weak_of d) × ((e.paths ≡ s.paths) × (fits d.process (output_paths e.outputs) ≡ true))
+
+pub entry_taken : (held : Option Holdings) (d : Desc) (s : Selector) (e : Entry) → FindsOne held (λ S x. IsHeld S s.strong x) (Some e) → IsTaken d s e
+    → FindsOne held (λ S x. IsEntryFor S d s x) (Some e)
+entry_taken None d s e h taken = tt
+entry_taken (Some S) d s e h taken = record { held = h; weak_is = taken.0; paths_are = taken.1.0; fit = taken.1.1 }
+
+pub entry_left : (held : Option Holdings) (d : Desc) (s : Selector) (e : Entry) → FindsOne held (λ S x. IsHeld S s.strong x) (Some e) → (IsTaken d s e → ⊥)
+    → FindsOne held (λ S x. IsEntryFor S d s x) None
+entry_left None d s e h left = tt
+entry_left (Some S) d s e h left =
+    λ x there. left (subst (IsTaken d s) (one_entry S s.strong x e there.held h) (there.weak_is, (there.paths_are, there.fit)))
+
+pub no_entry_for : (held : Option Holdings) (d : Desc) (s : Selector) → FindsOne held (λ S x. IsHeld S s.strong x) None → FindsOne held (λ S x. IsEntryFor S d s x) None
+no_entry_for None d s h = tt
+no_entry_for (Some S) d s h = λ x there. h x there.held
+
+-- ## Lists of selectors
+
+pub list_read : (held : Option Holdings) (weak name : List ℕ) (text : Vec ℕ Global) (list : Option (List Selector)) → name ≡ at_list weak
+    → held_names.Finds held name (got.Found text) → read_selectors_text text.items ≡ list → FindsOne held (λ S l. HoldsList S weak l) list
+list_read None weak name text list named h e = tt
+list_read (Some S) weak name text None named h e =
+    λ l there.
+    let same : text.items ≡ there.0 = same_some text.items there.0 (sym h ∙ ap (get S) named ∙ there.1) in
+    none_and_some (read_selectors_text text.items) l e (ap read_selectors_text same ∙ there.2)
+list_read (Some S) weak name text (Some l) named h e = (text.items, ap (get S) (sym named) ∙ h, e)
+
+-- as a call answers it
+pub list_given : {E : Type 0} (held : Option Holdings) (weak name : List ℕ) (text : Vec ℕ Global) (bytes : List ℕ) (r : Result (Option (List Selector)) E) → name ≡ at_list weak
+    → held_names.Finds held name (got.Found text) → bytes ≡ text.items → IfOk r (λ list. read_selectors_text bytes ≡ list)
+    → IfOk r (FindsOne held (λ S l. HoldsList S weak l))
+list_given held weak name text bytes (Ok list) named h same e = list_read held weak name text list named h (ap read_selectors_text (sym same) ∙ e)
+list_given held weak name text bytes (Err x) named h same e = tt
+
+pub no_list : (held : Option Holdings) (weak name : List ℕ) → name ≡ at_list weak → held_names.Finds held name got.None → FindsOne held (λ S l. HoldsList S weak l) None
+no_list None weak name named h = tt
+no_list (Some S) weak name named h = λ l there. none_and_some (get S name) there.0 h (ap (get S) named ∙ there.1)
+
+-- ## Lists for a keep
+
+pub held_text : (known : Option Kept) (weak name : List ℕ) (text : Vec ℕ Global) (list : List Selector) → name ≡ at_list weak
+    → held_names.Finds (held_in known) name (got.Found text) → list ≡ or_none (read_selectors_text text.items) → IsListAt known weak list
+held_text None weak name text list named h is = tt
+held_text (Some kept) weak name text list named h is = is ∙ ap selectors_in (sym (ap (get kept.held) (sym named) ∙ h))
+
+-- as a call answers it
+pub held_given : (known : Option Kept) (weak name : List ℕ) (text : Vec ℕ Global) (bytes : List ℕ) (list : List Selector) → name ≡ at_list weak
+    → held_names.Finds (held_in known) name (got.Found text) → bytes ≡ text.items → list ≡ or_none (read_selectors_text bytes) → IsListAt known weak list
+held_given known weak name text bytes list named h same is =
+    held_text known weak name text list named h (is ∙ ap (λ t. or_none (read_selectors_text t)) same)
+
+pub none_listed : (known : Option Kept) (weak name : List ℕ) (list : List Selector) → name ≡ at_list weak → held_names.Finds (held_in known) name got.None
+    → list ≡ [] → IsListAt known weak list
+none_listed None weak name list named h is = tt
+none_listed (Some kept) weak name list named h is = is ∙ ap selectors_in (sym (ap (get kept.held) (sym named) ∙ h))

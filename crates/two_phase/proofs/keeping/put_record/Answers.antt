@@ -1,0 +1,31 @@
+use Rattle.std.proofs.Common.{List, ℕ, refl, subst, sym}
+use Rattle.two_phase.specs.Putting.{IsNextList}
+use Rattle.two_phase.proofs.Prefixes.{nothing_put, paths_printed, record_cut, record_made, strong_printed, weak_printed}
+use Rattle.two_phase.proofs.keeping.put_record.Goals as goal
+
+pub put_all-requires-clause-weak : goal.put_all-requires-clause-weak
+put_all-requires-clause-weak g c = λ κs a. weak_printed c.args.ran.now c.in_ok-written.written c.in_ok-written.ensures
+
+pub put_all-requires-clause-paths : goal.put_all-requires-clause-paths
+put_all-requires-clause-paths g c = λ κs a. paths_printed c.args.ran.now c.in_ok-written.written c.in_ok-written.ensures
+
+pub put_all-requires-clause-strong : goal.put_all-requires-clause-strong
+put_all-requires-clause-strong g c = λ κs a. strong_printed c.args.ran.now c.in_ok-written.written c.in_ok-written.ensures
+
+pub returns-in_err-written-clause-first : goal.returns-in_err-written-clause-first
+returns-in_err-written-clause-first g c = nothing_put (g.K.Keeper.known c.args.keeper.now) (g.K.Keeper.known c.args.keeper.now) c.args.ran.now refl
+
+pub returns-in_err-list-clause-first : goal.returns-in_err-list-clause-first
+returns-in_err-list-clause-first g c = nothing_put (g.K.Keeper.known c.args.keeper.now) (g.K.Keeper.known c.next_list.new.keeper) c.args.ran.now c.next_list.ensures.known
+
+pub returns-clause-made : goal.returns-clause-made
+returns-clause-made g c =
+    record_made (g.K.Keeper.known c.args.keeper.now) (g.K.Keeper.known c.next_list.new.keeper) (g.K.Keeper.known c.put_all.new.keeper) c.args.ran.now c.in_ok-written.written c.as_slice.result.now
+    c.put_all.result c.next_list.ensures.known c.in_ok-written.ensures (subst (λ (text : List ℕ). IsNextList (g.K.Keeper.known c.args.keeper.now) c.in_ok-written.written text) (sym c.as_slice.ensures.value)
+    c.in_ok-list.ensures.list) c.put_all.ensures.made
+
+pub returns-clause-first : goal.returns-clause-first
+returns-clause-first g c =
+    record_cut (g.K.Keeper.known c.args.keeper.now) (g.K.Keeper.known c.next_list.new.keeper) (g.K.Keeper.known c.put_all.new.keeper) c.args.ran.now c.in_ok-written.written c.as_slice.result.now
+    c.next_list.ensures.known c.in_ok-written.ensures (subst (λ (text : List ℕ). IsNextList (g.K.Keeper.known c.args.keeper.now) c.in_ok-written.written text) (sym c.as_slice.ensures.value)
+    c.in_ok-list.ensures.list) c.put_all.ensures.first

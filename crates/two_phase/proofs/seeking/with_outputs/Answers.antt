@@ -1,0 +1,20 @@
+use Rattle.std.proofs.Common.{List, Option, Some, subst, sym}
+use Rattle.bx_tree.specs.Trees.{Files}
+use Rattle.memo_format.specs.declared.entry.OutputLine.{OutputLine}
+use Rattle.two_phase.specs.Finding.{AreOutputs, FindsOne}
+use Rattle.two_phase.proofs.Tried.{no_outputs, with_found}
+use Rattle.two_phase.proofs.seeking.with_outputs.Goals as goal
+
+pub returns-in-Some-clause-found : goal.returns-in-Some-clause-found
+returns-in-Some-clause-found g c =
+    let all = subst (λ (os : List OutputLine). FindsOne (g.R.KeepReader.held c.args.reader.now) (λ S fs. AreOutputs S os fs) c.in_ok-made.field-0) c.lines.ensures c.in_ok-made.ensures.found in
+    let found = subst (λ (o : Option Files). FindsOne (g.R.KeepReader.held c.args.reader.now) (λ S fs. AreOutputs S c.args.entry.outputs fs) o) c.in-Some.is all in
+    with_found (g.R.KeepReader.held c.args.reader.now) c.args.entry c.args.paths c.args.answers.items c.new.result
+    (subst (λ (fs : Files). FindsOne (g.R.KeepReader.held c.args.reader.now) (λ S x. AreOutputs S c.args.entry.outputs x) (Some fs)) (sym c.new.ensures.made) found)
+    c.new.ensures.entry c.new.ensures.paths c.new.ensures.answers
+
+pub returns-in-None-clause-found : goal.returns-in-None-clause-found
+returns-in-None-clause-found g c =
+    let all = subst (λ (os : List OutputLine). FindsOne (g.R.KeepReader.held c.args.reader.now) (λ S fs. AreOutputs S os fs) c.in_ok-made.field-0) c.lines.ensures c.in_ok-made.ensures.found in
+    no_outputs (g.R.KeepReader.held c.args.reader.now) c.args.entry c.args.paths c.args.answers.items
+    (subst (λ (o : Option Files). FindsOne (g.R.KeepReader.held c.args.reader.now) (λ S fs. AreOutputs S c.args.entry.outputs fs) o) c.in-None.is all)

@@ -1,0 +1,85 @@
+-- What puts of a record leave.
+use Rattle.std.specs.Prelude.{◌≡◌, ◌⊎◌, ℕ, List, [], ◌∷◌, ◌++◌, map, Option, Some, None, ⊤}
+use Rattle.sha2.specs.Sha256.{sha256}
+use Rattle.observed.specs.Texts.{paths_text}
+use Rattle.bx_io.specs.Holdings.{Change, IsPrefix, Kept, Put, after, kept_after, known_after}
+use Rattle.run_record.specs.Facts.{Facts}
+use Rattle.memo_format.specs.declared.selector.Selector.{Selector}
+use Rattle.prints.specs.Processes.{weak_parts}
+use Rattle.prints.specs.Weak.{weak_text}
+use Rattle.memo_format.specs.Entries.{entry_text}
+use Rattle.memo_format.specs.Selectors.{selectors_text}
+use Rattle.memo_format.specs.Well.{at_entry, at_list}
+use Rattle.content_store.specs.Contents.{blob_put}
+use Rattle.record_match.specs.Apart.{contents_of}
+use Rattle.record_match.specs.Digests.{weak_of}
+use Rattle.store_meaning.specs.Contents.{desc_contents, given_contents}
+use Rattle.store_meaning.specs.Honest.{Honest}
+use Rattle.store_meaning.specs.Keeping.{Spelled, answers_text, entry_of, list_at, made_of, paths_digest, puts_of, selector_of, with_first}
+use Rattle.two_phase.specs.declared.recording.Written.{Written}
+
+-- These selectors are held for the weak text, as far as that is known.
+abbrev pub IsListAt : Option Kept → List ℕ → List Selector → Type 0
+IsListAt None weak list = ⊤
+IsListAt (Some kept) weak list = list ≡ list_at kept.held weak
+
+-- the selector of what was written
+abbrev pub written_selector : Written → Selector
+written_selector w = record { paths = w.paths.digest; strong = w.strong.digest }
+
+-- The text is that of the list that is held, with the selector of what was written first.
+pub record IsNextList (known : Option Kept) (w : Written) (text : List ℕ) : Type 0 where
+  pub old : List Selector
+  pub old_is : IsListAt known w.weak.digest old
+  pub text_is : text ≡ selectors_text (with_first (written_selector w) old)
+
+-- what is put for a record where these selectors are held for its process
+abbrev pub planned : Facts → List Selector → List Change
+planned f old = puts_of f (with_first (selector_of f) old)
+
+-- The texts of the record, each with its digest and all but the strong one read back, its contents, and the
+-- text of its entry.
+pub record IsWritten (f : Facts) (w : Written) : Type 0 where
+  pub weak : w.weak.text.items ≡ weak_text (weak_parts f.desc)
+  pub weak_digest : w.weak.digest ≡ weak_of f.desc
+  pub paths : w.paths.text.items ≡ paths_text f.paths
+  pub paths_is : w.paths.digest ≡ paths_digest f
+  pub strong : w.strong.text.items ≡ answers_text f
+  pub strong_digest : w.strong.digest ≡ sha256 (answers_text f)
+  pub contents : w.contents.items
+      ≡ desc_contents f.desc ++ (given_contents f.answers ++ contents_of (made_of f.outcome))
+  pub entry : w.entry.items ≡ entry_text (entry_of f)
+  pub spelled : Spelled f
+
+-- the texts and contents that were written
+abbrev pub all_blobs : Written → List (List ℕ)
+all_blobs w = w.weak.text.items ∷ w.paths.text.items ∷ w.strong.text.items ∷ w.contents.items
+
+-- the puts of all that was written, and of the text of a list
+abbrev pub all_puts : Written → List ℕ → List Change
+all_puts w list =
+    map blob_put (all_blobs w)
+    ++ (Put (at_entry w.strong.digest) w.entry.items ∷ Put (at_list w.weak.digest) list ∷ [])
+
+-- The puts of the record were made up to some place, and nothing else; where any were made, the texts of the
+-- record are read back.
+pub record PutsUpTo (before now : Option Kept) (f : Facts) : Type 0 where
+  pub old : List Selector
+  pub old_is : IsListAt before (weak_of f.desc) old
+  pub made : List Change
+  pub first : IsPrefix made (planned f old)
+  pub makes : now ≡ known_after before made
+  pub spelled : (made ≡ []) ⊎ Spelled f
+
+-- All puts of the record were made, and nothing else.
+pub record PutsAll (before now : Option Kept) (f : Facts) : Type 0 where
+  pub old : List Selector
+  pub old_is : IsListAt before (weak_of f.desc) old
+  pub makes : now ≡ known_after before (planned f old)
+  pub spelled : Spelled f
+
+-- These changes were made, and what is held was honest before them and after each.
+pub record LeavesHonest (before : Kept) (now : Option Kept) : Type 0 where
+  pub made : List Change
+  pub makes : now ≡ Some (kept_after before made)
+  pub along : (start : List Change) → IsPrefix start made → Honest (after before.held start)

@@ -1,0 +1,76 @@
+-- What a lookup answers.
+use Rattle.std.specs.Prelude.{◌≡◌, ◌⊎◌, List, [], ◌∷◌, map, Option, Some, None, ⊤}
+use Rattle.pip_types.specs.declared.desc.Desc.{Desc}
+use Rattle.observed.specs.declared.ask.Ask.{Ask}
+use Rattle.observed.specs.declared.access.Answer.{Answer}
+use Rattle.bx_io.specs.Holdings.{Holdings}
+use Rattle.memo_format.specs.Found.{FoundParts}
+use Rattle.memo_format.specs.Well.{HoldsList}
+use Rattle.memo_format.specs.declared.selector.Selector.{Selector}
+use Rattle.record_match.specs.Digests.{IsReadBack, weak_of}
+use Rattle.store_meaning.specs.Usable.{AnyUsable, Usable, UsableBy}
+use Rattle.two_phase.specs.declared.seeking.Sought.{Sought}
+use Rattle.two_phase.specs.declared.seeking.Sought.TheVariants as sought
+
+-- The selector is usable, and leads to this.
+pub record LeadsTo (S : Holdings) (d : Desc) (see : Ask → Answer) (s : Selector) (found : FoundParts)
+    : Type 0 where
+  pub usable : UsableBy S d see s
+  pub entry_is : usable.entry ≡ found.entry
+  pub asks_are : usable.asks ≡ found.paths
+  pub files_are : usable.files ≡ found.made
+
+-- The first usable selector of the list leads to this.
+abbrev pub FirstLeadsTo : Holdings → Desc → (Ask → Answer) → List Selector → FoundParts → Type 0
+FirstLeadsTo S d see [] found = ⊥
+FirstLeadsTo S d see (s ∷ rest) found =
+    LeadsTo S d see s found ⊎ ((UsableBy S d see s → ⊥) × FirstLeadsTo S d see rest found)
+
+-- What is found is what the first usable selector of the list leads to, and where nothing is found, none is
+-- usable. Nothing is said where the holdings are unknown.
+abbrev pub FindsFirst : Option Holdings → Desc → (Ask → Answer) → List Selector → Option FoundParts → Type 0
+FindsFirst None d see list found = ⊤
+FindsFirst (Some S) d see list None = AnyUsable S d see list → ⊥
+FindsFirst (Some S) d see list (Some found) = FirstLeadsTo S d see list found
+
+-- Of the list that is held for the process the first usable selector leads to this.
+pub record Hits (S : Holdings) (d : Desc) (see : Ask → Answer) (found : FoundParts) : Type 0 where
+  pub list : List Selector
+  pub held : HoldsList S (weak_of d) list
+  pub first : FirstLeadsTo S d see list found
+
+-- What is found is a hit, and where nothing is found, nothing is usable. Nothing is said where the holdings
+-- are unknown.
+abbrev pub FindsUsable : Option Holdings → Desc → (Ask → Answer) → Option FoundParts → Type 0
+FindsUsable None d see found = ⊤
+FindsUsable (Some S) d see None = Usable S d see → ⊥
+FindsUsable (Some S) d see (Some found) = Hits S d see found
+
+-- A hit is what the first usable selector leads to, and a miss says that nothing is usable. Nothing is said
+-- of the other answers, nor where the holdings are unknown.
+abbrev pub Seeks : Option Holdings → Desc → (Ask → Answer) → Sought → Type 0
+Seeks None d see answer = ⊤
+Seeks (Some S) d see (sought.Hit found) = Hits S d see found
+Seeks (Some S) d see sought.Miss = Usable S d see → ⊥
+Seeks (Some S) d see sought.Fault = ⊤
+Seeks (Some S) d see sought.Memory = ⊤
+
+-- What was found is of this process, and has what the view answers now.
+pub record IsNow (d : Desc) (see : Ask → Answer) (found : FoundParts) : Type 0 where
+  pub weak_is : found.entry.weak ≡ weak_of d
+  pub answers_are : found.answers ≡ map see found.paths
+
+-- a hit is of now, whatever is known of the holdings, and the weak text of the process is read back
+abbrev pub HitIsNow : Desc → (Ask → Answer) → Sought → Type 0
+HitIsNow d see (sought.Hit found) = IsReadBack d × IsNow d see found
+HitIsNow d see sought.Miss = ⊤
+HitIsNow d see sought.Fault = ⊤
+HitIsNow d see sought.Memory = ⊤
+
+-- What the first usable selector of the rest of a list leads to is what that of all of it leads to, and what
+-- is usable in all of it is usable in the rest. Nothing is said where the holdings are unknown.
+abbrev pub Onward : Option Holdings → Desc → (Ask → Answer) → List Selector → List Selector → Type 0
+Onward None d see all rest = ⊤
+Onward (Some S) d see all rest =
+    ((found : FoundParts) → FirstLeadsTo S d see rest found → FirstLeadsTo S d see all found)
+    × (AnyUsable S d see all → AnyUsable S d see rest)

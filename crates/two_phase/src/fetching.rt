@@ -1,0 +1,199 @@
+//! What the names of a store hold, as far as they are well.
+ghost use Rattle.std.specs.Prelude.{◌≡◌, ◌≢◌, Err, IfOk, IfSome};
+ghost use Rattle.sha2.specs.Sha256.{sha256};
+ghost use Rattle.content_store.specs.Contents.{IsContent};
+ghost use Rattle.content_store.specs.HeldEntries.{IsHeld};
+ghost use Rattle.memo_format.specs.Entries.{IsEntry, OutputsRise};
+ghost use Rattle.memo_format.specs.Found.{output_lines};
+ghost use Rattle.memo_format.specs.Selectors.{read_selectors_text};
+ghost use Rattle.memo_format.specs.Well.{HoldsList};
+ghost use Rattle.observed.specs.Texts.{read_paths_text};
+ghost use Rattle.store_meaning.specs.Contents.{HoldsPaths};
+ghost use Rattle.two_phase.specs.Calls.{Reads};
+ghost use Rattle.two_phase.specs.Finding.{AddsTo, AreOutputs, FindsOne, PutsIn};
+
+use crate::trouble::Trouble;
+use bx_digest::{Blob, Digest};
+use bx_io::{Got, KeepReader};
+use content_store::{Fetched, FetchedEntry, get_blob, get_entry, list_name};
+use memo_format::{Entry, FormatFault, OutputLine, Selector, read_selectors};
+use observed::{PathSet, SetFault};
+use own_writes::Writes;
+use pip_types::Made;
+use std::alloc::Global;
+use std::marker::Model;
+
+/// Selectors, in order. Contracts see them as a list.
+#[derive(Drop)]
+pub(crate) struct SelectorList {
+    list: Vec<Selector>,
+}
+
+impl Model for SelectorList {
+    ghost use Rattle.std.specs.Prelude.{List};
+    ghost use Rattle.memo_format.specs.declared.selector.Selector.{Selector};
+
+    ghost Value = { List Selector };
+
+    ghost view = { λ s. s.list.items };
+}
+
+impl SelectorList {
+    // The selectors, in order.
+    pub(crate) fn list(&self) -> &[Selector]
+        ensures { result.now ≡ self.now }
+    {
+        self.list.as_slice()
+    }
+}
+
+// The content of a digest.
+fn content<R: KeepReader>(
+    alloc: Global,
+    reader: &mut R,
+    digest: &Digest,
+) -> Result<Option<Blob>, Trouble>
+    ensures found { IfOk result (FindsOne (R.held reader.old) (λ S bytes. IsContent S digest.now bytes)) }
+    ensures digest { IfOk result (λ found. IfSome found (λ bytes. sha256 bytes ≡ digest.now)) }
+    ensures reader { Reads (R.held reader.old) (R.held reader.new) (R.bound reader.old) (R.bound reader.new)
+        (R.faults reader.old) (R.faults reader.new) (result ≡ Err Trouble.Fault) }
+{
+    match get_blob(alloc, reader, digest) {
+        Fetched::Found(blob) => Ok(Some(blob)),
+        Fetched::NotWell => Ok(None),
+        Fetched::Fault => Err(Trouble::Fault),
+        Fetched::Memory => Err(Trouble::Memory),
+    }
+}
+
+// The path set of a text, if it is one.
+fn read_set(alloc: Global, text: &[u8]) -> Result<Option<PathSet>, Trouble>
+    ensures read { IfOk result (λ set. read_paths_text text.now ≡ set) }
+    ensures no_fault { result ≢ Err Trouble.Fault }
+{
+    match PathSet::read(alloc, text) {
+        Ok(set) => Ok(Some(set)),
+        Err(SetFault::BadSet) => Ok(None),
+        Err(SetFault::Memory) => Err(Trouble::Memory),
+    }
+}
+
+// The path set whose text has a digest.
+pub(crate) fn path_set<R: KeepReader>(
+    alloc: Global,
+    reader: &mut R,
+    digest: &Digest,
+) -> Result<Option<PathSet>, Trouble>
+    ensures found { IfOk result (FindsOne (R.held reader.old) (λ S asks. HoldsPaths S digest.now asks)) }
+    ensures reader { Reads (R.held reader.old) (R.held reader.new) (R.bound reader.old) (R.bound reader.new)
+        (R.faults reader.old) (R.faults reader.new) (result ≡ Err Trouble.Fault) }
+{
+    match content(alloc, reader, digest)? {
+        Some(text) => read_set(alloc, text.bytes()),
+        None => Ok(None),
+    }
+}
+
+// The entry of a strong digest.
+pub(crate) fn entry<R: KeepReader>(
+    alloc: Global,
+    reader: &mut R,
+    strong: &Digest,
+) -> Result<Option<Entry>, Trouble>
+    ensures found { IfOk result (FindsOne (R.held reader.old) (λ S e. IsHeld S strong.now e)) }
+    ensures entry { IfOk result (λ found. IfSome found IsEntry) }
+    ensures reader { Reads (R.held reader.old) (R.held reader.new) (R.bound reader.old) (R.bound reader.new)
+        (R.faults reader.old) (R.faults reader.new) (result ≡ Err Trouble.Fault) }
+{
+    match get_entry(alloc, reader, strong) {
+        FetchedEntry::Found(entry) => Ok(Some(entry)),
+        FetchedEntry::NotWell => Ok(None),
+        FetchedEntry::Fault => Err(Trouble::Fault),
+        FetchedEntry::Memory => Err(Trouble::Memory),
+    }
+}
+
+// The selectors of a text, if it is a list of them.
+fn read_list(alloc: Global, text: &[u8]) -> Result<Option<SelectorList>, Trouble>
+    ensures read { IfOk result (λ list. read_selectors_text text.now ≡ list) }
+    ensures no_fault { result ≢ Err Trouble.Fault }
+{
+    match read_selectors(alloc, text) {
+        Ok(list) => Ok(Some(SelectorList { list })),
+        Err(FormatFault::BadForm) => Ok(None),
+        Err(FormatFault::Memory) => Err(Trouble::Memory),
+    }
+}
+
+// The selectors that are held for a weak text.
+pub(crate) fn selectors<R: KeepReader>(
+    alloc: Global,
+    reader: &mut R,
+    weak: &Digest,
+) -> Result<Option<SelectorList>, Trouble>
+    ensures found { IfOk result (FindsOne (R.held reader.old) (λ S list. HoldsList S weak.now list)) }
+    ensures reader { Reads (R.held reader.old) (R.held reader.new) (R.bound reader.old) (R.bound reader.new)
+        (R.faults reader.old) (R.faults reader.new) (result ≡ Err Trouble.Fault) }
+{
+    let name = list_name(alloc, weak)?;
+    match reader.get(alloc, name.as_str()) {
+        Got::Found(text) => read_list(alloc, text.as_slice()),
+        Got::None => Ok(None),
+        Got::Failed => Err(Trouble::Fault),
+        Got::Memory => Err(Trouble::Memory),
+    }
+}
+
+// Puts an output among files: none where its path clashes with one of them.
+fn put_output(
+    alloc: Global,
+    writes: Writes,
+    output: &OutputLine,
+    blob: Blob,
+) -> Result<Option<Writes>, Trouble>
+    ensures put { IfOk result (PutsIn writes output.now.path blob) }
+    ensures no_fault { result ≢ Err Trouble.Fault }
+{
+    let path = output.path.share()?;
+    let (now, is_put) = writes.put(alloc, path, blob)?;
+    if is_put { Ok(Some(now)) } else { Ok(None) }
+}
+
+// Adds an output to files: none where it is not held, or its path clashes with one of them.
+fn add_output<R: KeepReader>(
+    alloc: Global,
+    reader: &mut R,
+    writes: Writes,
+    output: &OutputLine,
+) -> Result<Option<Writes>, Trouble>
+    ensures added { IfOk result (AddsTo (R.held reader.old) writes output.now) }
+    ensures reader { Reads (R.held reader.old) (R.held reader.new) (R.bound reader.old) (R.bound reader.new)
+        (R.faults reader.old) (R.faults reader.new) (result ≡ Err Trouble.Fault) }
+{
+    match content(alloc, reader, &output.digest)? {
+        Some(blob) => put_output(alloc, writes, output, blob),
+        None => Ok(None),
+    }
+}
+
+// The files of outputs, which rise by path.
+pub(crate) fn outputs<R: KeepReader>(
+    alloc: Global,
+    reader: &mut R,
+    outputs: &[OutputLine],
+) -> Result<Option<Made>, Trouble>
+    requires { OutputsRise outputs.now }
+    ensures found { IfOk result (FindsOne (R.held reader.old) (λ S files. AreOutputs S outputs.now files)) }
+    ensures made { IfOk result (λ found. IfSome found (λ files. output_lines files ≡ outputs.now)) }
+    ensures reader { Reads (R.held reader.old) (R.held reader.new) (R.bound reader.old) (R.bound reader.new)
+        (R.faults reader.old) (R.faults reader.new) (result ≡ Err Trouble.Fault) }
+{
+    let mut writes = Writes::new(alloc);
+    'outputs: for output in outputs {
+        match add_output(alloc, reader, writes, output)? {
+            Some(now) => writes = now,
+            None => return Ok(None),
+        }
+    }
+    Ok(Some(writes.into_made(alloc)?))
+}

@@ -1,0 +1,103 @@
+//! Whether outputs are what a process may make.
+ghost use Rattle.std.specs.Prelude.{◌≡◌, true};
+ghost use Rattle.std.specs.List.{list_all, list_any};
+ghost use Rattle.std.specs.Option.{option_copied, option_map_or};
+ghost use Rattle.memo_format.specs.Entries.{OutputsRise, output_paths};
+ghost use Rattle.own_writes.specs.Below.{is_below as lies_below};
+ghost use Rattle.tool_run.specs.Description.{is_console as console_at};
+ghost use Rattle.store_meaning.specs.Usable.{fits as all_fit, has_path, may_make as makes};
+
+use bx_tree::Path;
+use memo_format::OutputLine;
+use pip_types::{OutDir, Outputs, ProcessDesc};
+
+// Whether one of the outputs, which rise by path, has a path.
+fn has_output(outputs: &[OutputLine], path: &Path) -> bool
+    requires { OutputsRise outputs.now }
+    ensures { result ≡ has_path (output_paths outputs.now) path.now }
+{
+    outputs
+        .binary_search_by(|output| output.path.cmp(path))
+        .is_ok()
+}
+
+// Whether the outputs have all of these paths.
+fn have_all(outputs: &[OutputLine], paths: &[Path]) -> bool
+    requires { OutputsRise outputs.now }
+    ensures { result ≡ list_all (has_path (output_paths outputs.now)) paths.now }
+{
+    'paths: for path in paths {
+        if !has_output(outputs, path) {
+            return false;
+        }
+    }
+    true
+}
+
+fn have_console(outputs: &[OutputLine], console: Option<&Path>) -> bool
+    requires { OutputsRise outputs.now }
+    ensures { result
+        ≡ option_map_or (has_path (output_paths outputs.now)) (option_copied console.entry) true }
+{
+    match console {
+        Some(path) => has_output(outputs, path),
+        None => true,
+    }
+}
+
+fn is_below(path: &Path, dir: &Path) -> bool
+    ensures { result ≡ lies_below path.now dir.now }
+{
+    path.is_below(dir)
+}
+
+fn is_output(outs: &Outputs, path: &Path) -> bool
+    ensures { result ≡ has_path outs.now path.now }
+{
+    outs.has(path)
+}
+
+fn is_console(console: Option<&Path>, path: &Path) -> bool
+    ensures { result ≡ console_at (option_copied console.entry) path.now }
+{
+    match console {
+        Some(file) => *file == *path,
+        None => false,
+    }
+}
+
+fn is_below_any(dirs: &[OutDir], path: &Path) -> bool
+    ensures { result ≡ list_any (λ dir. lies_below path.now dir.path) dirs.now }
+{
+    dirs.iter().any(|dir| is_below(path, &dir.path))
+}
+
+// Whether a process may make a file at a path.
+fn may_make(process: &ProcessDesc, path: &Path) -> bool
+    ensures { result ≡ makes process.now path.now }
+{
+    is_output(&process.outs, path)
+        || is_console(process.console.as_ref(), path)
+        || is_below_any(process.outdirs.dirs(), path)
+}
+
+fn may_make_all(process: &ProcessDesc, outputs: &[OutputLine]) -> bool
+    ensures { result ≡ list_all (makes process.now) (output_paths outputs.now) }
+{
+    'outputs: for output in outputs {
+        if !may_make(process, &output.path) {
+            return false;
+        }
+    }
+    true
+}
+
+// Whether outputs, which rise by path, are what a process declares to make and may make.
+pub(crate) fn fits(process: &ProcessDesc, outputs: &[OutputLine]) -> bool
+    requires { OutputsRise outputs.now }
+    ensures { result ≡ all_fit process.now (output_paths outputs.now) }
+{
+    have_all(outputs, process.outs.paths())
+        && have_console(outputs, process.console.as_ref())
+        && may_make_all(process, outputs)
+}

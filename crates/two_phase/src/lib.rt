@@ -1,0 +1,23 @@
+//! The cache in two phases: lookups and keeps.
+//!
+//! A lookup goes through the selectors that a store has under the weak text of a process, and takes the first
+//! whose path set, asked now, gives its strong text, if the entry and all outputs are there. A keep puts what
+//! a run made: its texts and contents, then its entry, then the list of selectors. This crate depends on
+//! `store_meaning` for what is usable and what is put. It carries the promise that a hit is the first usable
+//! selector, that a miss says that there is none, and that a keep that is cut off made a prefix of its puts.
+#![tactic(auto)]
+
+mod fetching;
+mod fitting;
+mod keeping;
+mod laws;
+mod recording;
+mod seeking;
+mod trouble;
+
+pub use keeping::{Kept, keep};
+pub use laws::keeps_honest;
+pub use seeking::{Sought, lookup};
+
+/// Out of memory, the one refusal that no contract ties to a cause.
+pub type Memory = std::alloc::AllocError;
