@@ -1,4 +1,4 @@
-//! Tests of the parser, the printer and the layout of texts, by tables of texts.
+//! Tests of the layout of texts, and so of the printer, by a table of texts.
 //!
 //! They are a crate of their own, since a crate is proved once more for the tests in it.
 #![tactic(auto)]

@@ -19,7 +19,7 @@ const NO_SELECTORS: &str = "selectors 1\n\
 seal a81b0520884270c3068718e30ae4bc83ccb2454fd816285005ab955f791b96bf\n";
 
 // An entry with two outputs.
-pub(super) const ENTRY: &str = "entry 1\n\
+const ENTRY: &str = "entry 1\n\
 weak e3b0c44298fc1c149afbf4c8996fb92427ae41e4649b934ca495991b7852b855\n\
 paths ba7816bf8f01cfea414140de5dae2223b00361a396177a9cb410ff61f20015ad\n\
 strong e3b0c44298fc1c149afbf4c8996fb92427ae41e4649b934ca495991b7852b855\n\

@@ -1,4 +1,4 @@
-//! Tests of stored forms and contents in keepers: of `memo_format` and `content_store`.
+//! Tests of the keeper of `bx_system` over folders of the system.
 //!
 //! They are a crate of their own, since a crate is proved once more for the tests in it.
 #![tactic(auto)]

@@ -1,5 +1,4 @@
 //! Contents and entries in keepers.
-use super::forms::ENTRY;
 use bx_digest::{Blob, digest_of};
 use bx_io::{FailKeeper, KeepReader, Keeper, MemKeeper, PutFault};
 use content_store::{
@@ -7,6 +6,15 @@ use content_store::{
 };
 use std::alloc::Global;
 use std::test::Fail;
+
+// An entry with two outputs.
+const ENTRY: &str = "entry 1\n\
+weak e3b0c44298fc1c149afbf4c8996fb92427ae41e4649b934ca495991b7852b855\n\
+paths ba7816bf8f01cfea414140de5dae2223b00361a396177a9cb410ff61f20015ad\n\
+strong e3b0c44298fc1c149afbf4c8996fb92427ae41e4649b934ca495991b7852b855\n\
+output out/a ba7816bf8f01cfea414140de5dae2223b00361a396177a9cb410ff61f20015ad\n\
+output out/b e3b0c44298fc1c149afbf4c8996fb92427ae41e4649b934ca495991b7852b855\n\
+seal 1ffb410a8f461838e269053f54568b2cfc12900821540b596de19ce5ae652b26\n";
 
 fn blob(alloc: Global, bytes: &[u8]) -> Result<Blob, Fail> {
     Ok(Blob::new(alloc, bytes.to_vec(alloc)?)?)

@@ -1,2 +1,0 @@
-mod contents;
-mod forms;
