@@ -6,3 +6,4 @@ pub mod OneString
 pub mod FirstValues
 pub mod Examples
 pub mod Placed
+pub mod TableValues

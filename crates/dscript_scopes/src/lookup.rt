@@ -1,6 +1,6 @@
 //! What a dotted name stands for, with the levels at which it is looked for.
 
-ghost use Rattle.std.specs.Prelude.{◌≡◌, ◌≤◌, ◌∷◌, ◌++◌, IfOk, Some, map, option_copied, reverse};
+ghost use Rattle.std.specs.Prelude.{◌≡◌, ◌≤◌, ◌∷◌, [], IfOk, Some, map, option_copied, reverse};
 ghost use Rattle.std.specs.Result.{result_err};
 ghost use Rattle.dscript_ast.specs.ExprTree.{to_parts};
 ghost use Rattle.dscript_ast.specs.Views.{expr_tree, part_tree};
@@ -11,7 +11,9 @@ ghost use Rattle.dscript_scopes.specs.Lookup.{in_import_call, in_imports, in_mod
 ghost use Rattle.dscript_scopes.specs.Lookup.{in_own_module};
 ghost use Rattle.dscript_scopes.specs.Lookup.{in_other_module, is_module, members_at, module_fault};
 ghost use Rattle.dscript_scopes.specs.Lookup.{one_string, sdk_found, string_of, through_import};
-ghost use Rattle.dscript_scopes.specs.Spaces.{site_data};
+ghost use Rattle.dscript_scopes.specs.Declarations.{is_any};
+ghost use Rattle.dscript_scopes.specs.Lookup.{shortest, value_of_module};
+ghost use Rattle.dscript_scopes.specs.Spaces.{kind_hidden, site_data};
 
 use crate::found::Found;
 use crate::names::{FileNames, Imported, Viewer, World};
@@ -19,10 +21,12 @@ use crate::scopes::Scopes;
 use crate::site::Site;
 use crate::spaces::{Space, is_sdk_namespace, shortest};
 use crate::stop::Stop;
+use crate::tables::values_of_modules;
 use bx_tree::{Memory, Text};
 use dscript_ast::{Expr, PostfixPart};
 use dscript_modules::SpecKind;
 use std::alloc::Global;
+use std::slice;
 
 /// In the namespaces outwards, the first that has a value of a prefix of the name.
 #[tactic(auto, using(crate::proofs::Outwards::outwards))]
@@ -44,7 +48,29 @@ fn in_namespaces(alloc: Global, site: &Site<'_>, written: &[Text]) -> Result<Opt
     }
 }
 
+/// Why names that stand for no public value of a module are refused. The table of all its values is made here,
+/// as only the first such names are refused.
+#[tactic(auto, using(crate::proofs::TableValues::same_shortest))]
+fn hidden(
+    alloc: Global,
+    world: &World,
+    number: usize,
+    parts: usize,
+    names: &[Text],
+) -> Result<SpecKind, Memory>
+    requires { parts ≤ 2 }
+    ensures { IfOk result (λ kind. kind
+        ≡ kind_hidden (shortest (value_of_module is_any number 0 world.now.files) parts [] names.now)) }
+{
+    let values = values_of_modules(alloc, world.files(), Viewer::Any)?;
+    match shortest(alloc, &Space::Values(&values, number), parts, &[], names)? {
+        Some(_) => Ok(SpecKind::NotPublic),
+        None => Ok(SpecKind::UnknownName),
+    }
+}
+
 /// What the names stand for in a module that is not their own.
+#[tactic(auto, using(crate::proofs::TableValues::same_shortest))]
 fn in_other_module(
     alloc: Global,
     world: &World,
@@ -55,14 +81,10 @@ fn in_other_module(
     requires { parts ≤ 2 }
     ensures { Answers result (in_other_module world.now number parts names.now) }
 {
-    let public = Space::Module(world, number, Viewer::Other);
-    if let Some(found) = shortest(alloc, &public, parts, &[], names)? {
-        return Ok(found);
-    }
-    let any = Space::Module(world, number, Viewer::Any);
-    match shortest(alloc, &any, parts, &[], names)? {
-        Some(_) => Err(Stop::Fault(SpecKind::NotPublic)),
-        None => Err(Stop::Fault(SpecKind::UnknownName)),
+    let public = Space::Values(world.public(), number);
+    match shortest(alloc, &public, parts, &[], names)? {
+        Some(found) => Ok(found),
+        None => Err(Stop::Fault(hidden(alloc, world, number, parts, names)?)),
     }
 }
 
@@ -265,6 +287,7 @@ fn in_import_call(
 }
 
 /// The name as a value that its module exports.
+#[tactic(auto, using(crate::proofs::TableValues::same_shortest, crate::proofs::TableValues::none_shortest))]
 fn in_own_module(
     alloc: Global,
     world: &World,
@@ -273,24 +296,29 @@ fn in_own_module(
 ) -> Result<Option<Found>, Memory>
     ensures { IfOk result (λ found. found ≡ in_own_module world.now file.now written.now) }
 {
-    let exported = Space::Module(world, file.module_number, Viewer::Module);
+    let exported = world.exported();
+    if exported.has_none(file.module_number) {
+        return Ok(None);
+    }
+    let exported = Space::Values(exported, file.module_number);
     shortest(alloc, &exported, 0, &[], written)
 }
 
-/// What a name stands for outside of the blocks around it, with the parts after it.
+/// What a name stands for outside of the blocks around it, with the parts after it. The names that are written
+/// there are given too.
 #[tactic(auto, unfolding(crate::specs::Lookup::found_outside))]
-fn found_outside(
+fn found_written(
     alloc: Global,
     world: &World,
     site: &Site<'_>,
     name: &Text,
     parts: &[PostfixPart],
+    written: &[Text],
 ) -> Result<Found, Stop>
+    requires { written.now ≡ name.now ∷ members_at (to_parts (map part_tree parts.now)) }
     ensures { Answers result
         (found_outside world.now (site_data site.now) name.now (to_parts (map part_tree parts.now))) }
 {
-    let written = with_members(alloc, name, parts)?;
-    let written = written.as_slice();
     if let Some(found) = in_namespaces(alloc, site, written)? {
         return Ok(found);
     }
@@ -306,6 +334,26 @@ fn found_outside(
     match shortest(alloc, &Space::Ambient, 0, &[], written)? {
         Some(found) => Ok(found),
         None => Err(Stop::Fault(SpecKind::UnknownName)),
+    }
+}
+
+/// What a name stands for outside of the blocks around it, with the parts after it.
+fn found_outside(
+    alloc: Global,
+    world: &World,
+    site: &Site<'_>,
+    name: &Text,
+    parts: &[PostfixPart],
+) -> Result<Found, Stop>
+    ensures { Answers result
+        (found_outside world.now (site_data site.now) name.now (to_parts (map part_tree parts.now))) }
+{
+    match parts.split_first() {
+        None => found_written(alloc, world, site, name, parts, slice::from_ref(name)),
+        Some(_) => {
+            let written = with_members(alloc, name, parts)?;
+            found_written(alloc, world, site, name, parts, written.as_slice())
+        }
     }
 }
 

@@ -3,8 +3,9 @@
 ghost use Rattle.std.specs.Prelude.{◌≡◌, IfOk, Some, option_copied};
 ghost use Rattle.std.specs.List.{find, list_any, slice_get};
 ghost use Rattle.std.specs.Str.{bytes_eq};
-ghost use Rattle.dscript_scopes.specs.Declarations.{is_any, sees_of};
-ghost use Rattle.dscript_scopes.specs.Lookup.{module_number, opens, value_in, value_of_module};
+ghost use Rattle.dscript_scopes.specs.Declarations.{is_any, is_exported, is_public, sees_of};
+ghost use Rattle.dscript_scopes.specs.Lookup.{module_number, opens, value_in};
+ghost use Rattle.dscript_scopes.specs.Tables.{HasModulesOf};
 
 use crate::dotted::DottedName;
 use crate::opened::{Opened, opened_of_modules};
@@ -12,7 +13,6 @@ use crate::places::{Places, places_of_imports, places_of_texts};
 use crate::tables::{ByModule, numbers_of, values_of_modules};
 use bx_tree::{Memory, Text};
 use dscript_ast::Mark;
-use dscript_program::Target;
 use std::alloc::Global;
 use std::collections::BTreeMap;
 use std::marker::Model;
@@ -157,8 +157,7 @@ impl FileNames {
 pub struct World {
     pub(crate) modules: Vec<Text>,
     pub(crate) files: Vec<FileNames>,
-    // the values of each module, by who sees them
-    any: ByModule,
+    // the values of each module that others see, by who sees them
     exported: ByModule,
     public: ByModule,
     // the names of namespaces, by module
@@ -168,7 +167,7 @@ pub struct World {
 }
 
 impl Model for World {
-    ghost use Rattle.dscript_scopes.specs.Declarations.{is_any, is_exported, is_public};
+    ghost use Rattle.dscript_scopes.specs.Declarations.{is_exported, is_public};
     ghost use Rattle.dscript_scopes.specs.Names.{World as AllNames};
     ghost use Rattle.dscript_scopes.specs.Tables.{HasModulesOf, HasOpenedOf, HasPlacesOf};
 
@@ -177,7 +176,6 @@ impl Model for World {
     ghost view = { λ w. record { modules = w.modules.items; files = w.files.items } };
 
     ghost invariant = { λ w. record {
-      any : HasModulesOf is_any w.files.items w.any.tables;
       exported : HasModulesOf is_exported w.files.items w.exported.tables;
       public : HasModulesOf is_public w.files.items w.public.tables;
       namespaces : HasOpenedOf w.files.items w.namespaces.tables;
@@ -190,7 +188,6 @@ impl World {
     pub fn new(alloc: Global, modules: Vec<Text>, files: Vec<FileNames>) -> Result<World, Memory>
         ensures { IfOk result (λ world. world ≡ record { modules = modules.items; files = files.items }) }
     {
-        let any = values_of_modules(alloc, files.as_slice(), Viewer::Any)?;
         let exported = values_of_modules(alloc, files.as_slice(), Viewer::Module)?;
         let public = values_of_modules(alloc, files.as_slice(), Viewer::Other)?;
         let namespaces = opened_of_modules(alloc, files.as_slice())?;
@@ -198,7 +195,6 @@ impl World {
         Ok(World {
             modules,
             files,
-            any,
             exported,
             public,
             namespaces,
@@ -213,16 +209,18 @@ impl World {
         self.files.as_slice()
     }
 
-    /// The first value of a module with this dotted name that is seen.
-    pub(crate) fn value(&self, owner: usize, viewer: Viewer, name: &DottedName) -> Option<Target>
-        ensures { result ≡ value_of_module (sees_of viewer) owner 0 self.now.files name.now }
+    /// The values that each module exports.
+    pub(crate) fn exported(&self) -> &ByModule
+        ensures { HasModulesOf is_exported self.now.files result.now.tables }
     {
-        let tables = match viewer {
-            Viewer::Any => &self.any,
-            Viewer::Module => &self.exported,
-            Viewer::Other => &self.public,
-        };
-        tables.value(owner, name)
+        &self.exported
+    }
+
+    /// The values of each module that are public.
+    pub(crate) fn public(&self) -> &ByModule
+        ensures { HasModulesOf is_public self.now.files result.now.tables }
+    {
+        &self.public
     }
 
     /// The number of the module of this name.

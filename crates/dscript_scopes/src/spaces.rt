@@ -7,18 +7,21 @@ ghost use Rattle.dscript_scopes.specs.Spaces.{target_in};
 
 use crate::dotted::{DottedName, shared};
 use crate::found::Found;
-use crate::names::{FileNames, Viewer, World};
-use crate::tables::declared;
+use crate::names::FileNames;
+use crate::tables::{ByModule, declared};
 use bx_tree::{Memory, Text};
 use dscript_ambient::Ambient;
 use dscript_program::Target;
 use std::alloc::Global;
 
+/// For how many bytes of a dotted name memory is taken at first.
+const FIRST_BYTES: usize = 32;
+
 /// The parts of a dotted name, with dots between them.
 fn written(alloc: Global, name: &[Text]) -> Result<Vec<u8>, Memory>
     ensures { IfOk result (λ text. text.items ≡ join_with_byte 46 name.now) }
 {
-    let mut text = Vec::new(alloc);
+    let mut text = Vec::with_capacity(alloc, FIRST_BYTES)?;
     let Some((first, rest)) = name.split_first() else {
         return Ok(text);
     };
@@ -66,8 +69,8 @@ fn sdk(alloc: Global, name: &[Text]) -> Result<Option<Target>, Memory>
 pub(crate) enum Space<'a> {
     /// In the file of this number.
     File(usize, &'a FileNames),
-    /// In the files of the module of this number, as far as they are seen.
-    Module(&'a World, usize, Viewer),
+    /// In the module of this number, by tables of values.
+    Values(&'a ByModule, usize),
     /// In the module that is always there.
     Sdk,
     /// Among all ambient calls.
@@ -84,7 +87,7 @@ impl Space<'_> {
                 Some(decl) => Ok(Some(declared(*number, decl)?)),
                 None => Ok(None),
             },
-            Space::Module(world, module, viewer) => Ok(world.value(*module, *viewer, name)),
+            Space::Values(values, module) => Ok(values.value(*module, name)),
             Space::Sdk => sdk(alloc, name.parts()),
             Space::Ambient => ambient(alloc, name.parts()),
         }

@@ -1,6 +1,6 @@
 //! Tables of values by dotted name, which are made once and searched by each lookup.
 
-ghost use Rattle.std.specs.Prelude.{◌≡◌, ℕ, IfOk, OnOk, None, if◌then◌else◌, ◌==◌};
+ghost use Rattle.std.specs.Prelude.{◌≡◌, ℕ, IfOk, IsTrue, OnOk, None, if◌then◌else◌, ◌==◌};
 ghost use Rattle.std.specs.List.{position_from};
 ghost use Rattle.std.specs.Option.{option_map, option_or};
 ghost use Rattle.dscript_program.specs.ProgramData.{Dotted};
@@ -72,6 +72,14 @@ fn add_values(
     Ok(())
 }
 
+/// Whether a table has no value.
+#[tactic(auto, using(crate::proofs::TableValues::none_in))]
+fn is_empty(values: &BTreeMap<DottedName, Target>) -> bool
+    ensures { IsTrue result → (name : Dotted) → at_name values.now name ≡ None }
+{
+    values.is_empty()
+}
+
 /// Values by the number of their module and their dotted name. Contracts see the table.
 #[derive(Drop)]
 pub(crate) struct ByModule {
@@ -84,6 +92,16 @@ impl ByModule {
         ensures { result ≡ at_module self.now.tables owner name.now }
     {
         self.tables.get(&owner)?.get(name).copied()
+    }
+
+    /// Whether the module has no value.
+    pub(crate) fn has_none(&self, owner: usize) -> bool
+        ensures { IsTrue result → (name : Dotted) → at_module self.now.tables owner name ≡ None }
+    {
+        match self.tables.get(&owner) {
+            Some(values) => is_empty(values),
+            None => true,
+        }
     }
 
     /// Puts the values of a file that are seen before those of the other files of its module.
