@@ -1,6 +1,6 @@
 -- Outputs that have a path.
 use Rattle.std.proofs.Common.{◌≡◌, ◌≢◌, ℕ, ◌<◌, List, [], length, Result, Ok, Err, refl, ◌∙◌, arith}
-use Rattle.std.specs.Prelude.{◌↔◌, IsTrue, MatchResult, is_ok, false}
+use Rattle.std.specs.Prelude.{◌↔◌, IsTrue, MatchResult, is_ok}
 use Rattle.std.specs.List.{All, Contains, HoldsAt}
 use Rattle.std.proofs.lemmas.Bool.{false≢true}
 use Rattle.std.proofs.lemmas.List.{length-map, get_or-map}

@@ -1,10 +1,13 @@
 -- What selectors lead to, one after another.
 use Rattle.std.proofs.Common.{◌≡◌, ℕ, ◌+◌, ◌<◌, ◌≤◌, List, [], ◌∷◌, length, get_or, drop, map, Option, Some, None, Result, Ok, Err, IfOk, IfSome, refl, sym, ap, ◌∙◌, subst, inl, inr}
+use Rattle.std.specs.Prelude.{IsTrue}
 use Rattle.sha2.specs.Sha256.{sha256}
+use Rattle.bx_tree.specs.Paths.{Atoms}
 use Rattle.bx_io.specs.Holdings.{Holdings}
 use Rattle.observed.specs.declared.ask.Ask.{Ask}
 use Rattle.observed.specs.declared.access.Answer.{Answer}
 use Rattle.pip_types.specs.declared.desc.Desc.{Desc}
+use Rattle.memo_format.specs.Entries.{output_paths}
 use Rattle.memo_format.specs.Found.{FoundParts, found_parts}
 use Rattle.memo_format.specs.Well.{HoldsList}
 use Rattle.memo_format.specs.declared.entry.Entry.{Entry}
@@ -12,12 +15,12 @@ use Rattle.prints.specs.Strong.{strong_parts, strong_text}
 use Rattle.memo_format.specs.declared.selector.Selector.{Selector}
 use Rattle.store_meaning.specs.Contents.{HoldsPaths}
 use Rattle.record_match.specs.Digests.{IsReadBack, weak_of}
-use Rattle.store_meaning.specs.Usable.{AnyUsable, UsableBy, asked_text}
+use Rattle.store_meaning.specs.Usable.{AnyUsable, UsableBy, asked_text, fits}
 use Rattle.two_phase.specs.Finding.{AreOutputs, FindsOne, HasParts, IsAsked, IsEntryFor, IsOf, IsOn, IsWith}
 use Rattle.two_phase.specs.Seeking.{FindsFirst, FindsUsable, IsNow, LeadsTo, Onward, Seeks}
 use Rattle.two_phase.specs.declared.seeking.Sought.TheVariants as sought
 use Rattle.two_phase.proofs.Fetched.{one_entry, one_list, one_set}
-use Rattle.two_phase.proofs.Outputs.{drop_past, next_of}
+use Rattle.two_phase.proofs.Outputs.{drop_past, next_of, paths-lines}
 
 -- ## Found with one property, and so with another
 
@@ -252,7 +255,12 @@ memory (Some S) d see = tt
 
 pub of_now : {E : Type 0} (d : Desc) (see : Ask → Answer) (asks : List Ask) (given : List Answer) (r : Result (Option FoundParts) E) → given ≡ map see asks
     → IfOk r (λ found. IfSome found (IsOf d asks given)) → IfOk r (λ found. IfSome found (IsNow d see))
-of_now d see asks given (Ok (Some f)) is h = record { weak_is = h.weak_is; answers_are = h.given_are ∙ is ∙ ap (map see) (sym h.asks_are) }
+of_now d see asks given (Ok (Some f)) is h = record {
+  weak_is = h.weak_is;
+  answers_are = h.given_are ∙ is ∙ ap (map see) (sym h.asks_are);
+  fit = h.fit;
+  unnested = h.unnested;
+}
 of_now d see asks given (Ok None) is h = tt
 of_now d see asks given (Err e) is h = tt
 
@@ -263,7 +271,13 @@ now_spelled d see (Ok None) spells h = tt
 now_spelled d see (Err e) spells h = tt
 
 pub parts_of : {E : Type 0} (d : Desc) (e : Entry) (asks : List Ask) (given : List Answer) (r : Result (Option FoundParts) E) → e.weak ≡ weak_of d
-    → IfOk r (λ found. IfSome found (HasParts e asks given)) → IfOk r (λ found. IfSome found (IsOf d asks given))
-parts_of d e asks given (Ok (Some f)) is h = record { weak_is = ap (λ (x : Entry). x.weak) h.entry_is ∙ is; asks_are = h.asks_are; given_are = h.given_are }
-parts_of d e asks given (Ok None) is h = tt
-parts_of d e asks given (Err x) is h = tt
+    → IsTrue (fits d.process (output_paths e.outputs)) → IfOk r (λ found. IfSome found (HasParts e asks given)) → IfOk r (λ found. IfSome found (IsOf d asks given))
+parts_of d e asks given (Ok (Some f)) is fit h = record {
+  weak_is = ap (λ (x : Entry). x.weak) h.entry_is ∙ is;
+  asks_are = h.asks_are;
+  given_are = h.given_are;
+  fit = subst (λ (ps : List Atoms). IsTrue (fits d.process ps)) (sym (ap output_paths h.lines_are) ∙ paths-lines f.made) fit;
+  unnested = h.unnested;
+}
+parts_of d e asks given (Ok None) is fit h = tt
+parts_of d e asks given (Err x) is fit h = tt

@@ -1,5 +1,5 @@
 -- Calls of a reader or a keeper, one after another.
-use Rattle.std.proofs.Common.{◌≡◌, ℕ, ◌-◌, ◌≤◌, Option, Ok, Err, refl, ◌∙◌, subst, arith}
+use Rattle.std.proofs.Common.{◌≡◌, ℕ, ◌≤◌, Option, Ok, Err, refl, ◌∙◌, subst, arith}
 use Rattle.bx_io.specs.Causes.{HasCause, Rose}
 use Rattle.bx_io.specs.Holdings.{Holdings}
 use Rattle.two_phase.specs.Calls.{Keeps, Reads}

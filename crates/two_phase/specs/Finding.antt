@@ -2,7 +2,7 @@
 use Rattle.std.specs.Prelude.{◌≡◌, ◌⊎◌, ℕ, true, false, List, map, Option, Some, None, IsTrue, ⊤}
 use Rattle.sha2.specs.Sha256.{sha256}
 use Rattle.bx_tree.specs.Paths.{Atoms}
-use Rattle.bx_tree.specs.Trees.{Files, NoneNested}
+use Rattle.bx_tree.specs.Trees.{Files, NoneNested, paths_of}
 use Rattle.own_writes.specs.Writes.{put_file}
 use Rattle.pip_types.specs.declared.desc.Desc.{Desc}
 use Rattle.observed.specs.declared.ask.Ask.{Ask}
@@ -84,14 +84,19 @@ pub record IsAsked (S : Holdings) (d : Desc) (see : Ask → Answer) (s : Selecto
 
 -- ## Whatever is held
 
--- it is this entry, under this path set and these answers
+-- it is this entry, under this path set and these answers, with files for the outputs, none below another
 pub record HasParts (e : Entry) (asks : List Ask) (given : List Answer) (found : FoundParts) : Type 0 where
   pub entry_is : found.entry ≡ e
   pub asks_are : found.paths ≡ asks
   pub given_are : found.answers ≡ given
+  pub lines_are : output_lines found.made ≡ e.outputs
+  pub unnested : NoneNested (paths_of found.made)
 
--- it is of this process, under this path set and these answers
+-- it is of this process, under this path set and these answers, with files that fit the process, none below
+-- another
 pub record IsOf (d : Desc) (asks : List Ask) (given : List Answer) (found : FoundParts) : Type 0 where
   pub weak_is : found.entry.weak ≡ weak_of d
   pub asks_are : found.paths ≡ asks
   pub given_are : found.answers ≡ given
+  pub fit : IsTrue (fits d.process (paths_of found.made))
+  pub unnested : NoneNested (paths_of found.made)

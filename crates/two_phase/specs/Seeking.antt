@@ -1,5 +1,6 @@
 -- What a lookup answers.
-use Rattle.std.specs.Prelude.{◌≡◌, ◌⊎◌, List, [], ◌∷◌, map, Option, Some, None, ⊤}
+use Rattle.std.specs.Prelude.{◌≡◌, ◌⊎◌, List, [], ◌∷◌, map, Option, Some, None, IsTrue, ⊤}
+use Rattle.bx_tree.specs.Trees.{NoneNested, paths_of}
 use Rattle.pip_types.specs.declared.desc.Desc.{Desc}
 use Rattle.observed.specs.declared.ask.Ask.{Ask}
 use Rattle.observed.specs.declared.access.Answer.{Answer}
@@ -8,7 +9,7 @@ use Rattle.memo_format.specs.Found.{FoundParts}
 use Rattle.memo_format.specs.Well.{HoldsList}
 use Rattle.memo_format.specs.declared.selector.Selector.{Selector}
 use Rattle.record_match.specs.Digests.{IsReadBack, weak_of}
-use Rattle.store_meaning.specs.Usable.{AnyUsable, Usable, UsableBy}
+use Rattle.store_meaning.specs.Usable.{AnyUsable, Usable, UsableBy, fits}
 use Rattle.two_phase.specs.declared.seeking.Sought.{Sought}
 use Rattle.two_phase.specs.declared.seeking.Sought.TheVariants as sought
 
@@ -55,10 +56,13 @@ Seeks (Some S) d see sought.Miss = Usable S d see → ⊥
 Seeks (Some S) d see sought.Fault = ⊤
 Seeks (Some S) d see sought.Memory = ⊤
 
--- What was found is of this process, and has what the view answers now.
+-- What was found is of this process, and has what the view answers now; its files fit the process, and none
+-- is below another.
 pub record IsNow (d : Desc) (see : Ask → Answer) (found : FoundParts) : Type 0 where
   pub weak_is : found.entry.weak ≡ weak_of d
   pub answers_are : found.answers ≡ map see found.paths
+  pub fit : IsTrue (fits d.process (paths_of found.made))
+  pub unnested : NoneNested (paths_of found.made)
 
 -- a hit is of now, whatever is known of the holdings, and the weak text of the process is read back
 abbrev pub HitIsNow : Desc → (Ask → Answer) → Sought → Type 0

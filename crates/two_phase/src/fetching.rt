@@ -1,6 +1,7 @@
 //! What the names of a store hold, as far as they are well.
 ghost use Rattle.std.specs.Prelude.{◌≡◌, ◌≢◌, Err, IfOk, IfSome};
 ghost use Rattle.sha2.specs.Sha256.{sha256};
+ghost use Rattle.bx_tree.specs.Trees.{NoneNested, paths_of};
 ghost use Rattle.content_store.specs.Contents.{IsContent};
 ghost use Rattle.content_store.specs.HeldEntries.{IsHeld};
 ghost use Rattle.memo_format.specs.Entries.{IsEntry, OutputsRise};
@@ -185,6 +186,7 @@ pub(crate) fn outputs<R: KeepReader>(
     requires { OutputsRise outputs.now }
     ensures found { IfOk result (FindsOne (R.held reader.old) (λ S files. AreOutputs S outputs.now files)) }
     ensures made { IfOk result (λ found. IfSome found (λ files. output_lines files ≡ outputs.now)) }
+    ensures unnested { IfOk result (λ found. IfSome found (λ files. NoneNested (paths_of files))) }
     ensures reader { Reads (R.held reader.old) (R.held reader.new) (R.bound reader.old) (R.bound reader.new)
         (R.faults reader.old) (R.faults reader.new) (result ≡ Err Trouble.Fault) }
 {

@@ -94,6 +94,8 @@ fn entry_for<R: KeepReader>(
     ensures found { IfOk result (FindsOne (R.held reader.old) (λ S e. IsEntryFor S desc.now selector.now e)) }
     ensures entry { IfOk result (λ found. IfSome found (λ e.
         (e.weak ≡ weak_of desc.now) × OutputsRise e.outputs)) }
+    ensures fit { IfOk result (λ found. IfSome found (λ e.
+        IsTrue (all_fit desc.now.process (output_paths e.outputs)))) }
     ensures reader { Reads (R.held reader.old) (R.held reader.new) (R.bound reader.old) (R.bound reader.new)
         (R.faults reader.old) (R.faults reader.new) (result ≡ Err Trouble.Fault) }
 {

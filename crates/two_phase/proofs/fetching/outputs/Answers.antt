@@ -1,5 +1,5 @@
 use Rattle.std.proofs.Common.{Some, ap, sym, ◌∙◌, subst}
-use Rattle.bx_tree.specs.Trees.{Files}
+use Rattle.bx_tree.specs.Trees.{Files, NoneNested, paths_of}
 use Rattle.memo_format.specs.Found.{output_lines}
 use Rattle.two_phase.specs.Finding.{AreOutputs, FindsOne}
 use Rattle.two_phase.proofs.Outputs.{Gathered, added_at, gathered_all, gathered_end, gathered_none, gathered_past, not_added_at}
@@ -35,3 +35,6 @@ returns-clause-made g c =
     ap output_lines c.in_ok-into_made.ensures
     ∙ gathered_all (g.R.KeepReader.held c.args.reader.now) c.args.outputs.now c.outputs.writes
     (gathered_past (g.R.KeepReader.held c.args.reader.now) c.args.outputs.now c.outputs.output-index c.outputs.writes c.outputs-test.false c.outputs.invariant.gathered)
+
+pub returns-clause-unnested : goal.returns-clause-unnested
+returns-clause-unnested g c = subst (λ (fs : Files). NoneNested (paths_of fs)) (sym c.in_ok-into_made.ensures) c.outputs.invariant.gathered.unnested

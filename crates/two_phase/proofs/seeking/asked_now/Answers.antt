@@ -1,6 +1,6 @@
 use Rattle.std.proofs.Common.{◌∙◌, sym, true≢false}
 use Rattle.std.proofs.lemmas.Slice.Eq.{bytes_eq-Decides}
-use Rattle.two_phase.proofs.Tried.{asked_given, not_asked, one_digest}
+use Rattle.two_phase.proofs.Tried.{asked_given, not_asked, of_now, one_digest}
 use Rattle.two_phase.proofs.seeking.asked_now.Goals as goal
 
 pub returns-then-eq-clause-found : goal.returns-then-eq-clause-found
@@ -18,3 +18,8 @@ returns-else-eq-clause-found g c =
     let digest = one_digest d c.args.weak.now s.paths c.in_ok-answers.answers.items c.as_slice.result.now c.in_ok-digest.digest c.requires c.as_slice.ensures.value c.in_ok-digest.ensures in
     not_asked (g.R.KeepReader.held c.args.reader.now) d (g.V.View.answers c.args.view.now) s c.args.paths c.in_ok-answers.answers.items c.in_ok-answers.ensures.answers
     (λ e. true≢false (sym ((bytes_eq-Decides c.in_ok-digest.digest s.strong).1 (digest ∙ e)) ∙ sym c.eq.ensures ∙ c.if-eq.false))
+
+pub returns-then-eq-clause-now : goal.returns-then-eq-clause-now
+returns-then-eq-clause-now g c =
+    of_now c.args.desc.now (g.V.View.answers c.args.view.now) c.args.paths c.in_ok-answers.answers.items c.found_by.result c.in_ok-answers.ensures.answers
+    c.found_by.ensures.of
