@@ -4,3 +4,4 @@ pub mod Permitted
 pub mod AskPlaces
 pub mod Turns
 pub mod Appended
+pub mod FromRoot

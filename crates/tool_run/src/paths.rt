@@ -1,5 +1,5 @@
 //! The paths that texts stand for, and which of them a run may write.
-ghost use Rattle.std.specs.Prelude.{◌≡◌, ◌||◌, IfOk};
+ghost use Rattle.std.specs.Prelude.{◌≡◌, ◌||◌, [], IfOk};
 ghost use Rattle.std.specs.List.{list_any};
 ghost use Rattle.std.specs.Option.{option_copied};
 ghost use Rattle.bx_tree.specs.Paths.{same_path};
@@ -25,19 +25,43 @@ fn joined(alloc: Global, base: &Path, text: &[u8]) -> Result<Option<Path>, Alloc
     }
 }
 
+// The path that a text leads to from the root, if it is one. Most texts name that path as they are.
+fn from_root(alloc: Global, text: &[u8]) -> Result<Option<Path>, AllocError>
+    ensures { IfOk result (λ path. path ≡ join_of [] text.now) }
+{
+    match Path::read(alloc, text) {
+        Ok(path) => Ok(Some(path)),
+        Err(PathFault::BadPath) => {
+            let root = Path::root(alloc)?;
+            joined(alloc, &root, text)
+        }
+        Err(PathFault::Memory) => Err(AllocError),
+    }
+}
+
+// The path that a text leads to from a directory, if it is one.
+fn from_dir(alloc: Global, dir: &Path, text: &[u8]) -> Result<Option<Path>, AllocError>
+    ensures { IfOk result (λ path. path ≡ join_of dir.now text.now) }
+{
+    let name = dir.text();
+    if name == "." {
+        return from_root(alloc, text);
+    }
+    joined(alloc, dir, text)
+}
+
 // The path that a text stands for in a working directory, if it is one.
 pub(crate) fn resolved(alloc: Global, dir: &Path, text: &[u8]) -> Result<Option<Path>, AllocError>
     ensures { IfOk result (λ path. path ≡ path_of_text dir.now text.now) }
 {
     match text.split_first() {
         Some((b'/', rest)) => {
-            let root = Path::root(alloc)?;
             if rest.is_empty() {
-                return Ok(Some(root));
+                return Ok(Some(Path::root(alloc)?));
             }
-            joined(alloc, &root, rest)
+            from_root(alloc, rest)
         }
-        _ => joined(alloc, dir, text),
+        _ => from_dir(alloc, dir, text),
     }
 }
 
