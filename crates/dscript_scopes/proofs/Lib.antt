@@ -7,3 +7,4 @@ pub mod FirstValues
 pub mod Examples
 pub mod Placed
 pub mod TableValues
+pub mod FoldSteps

@@ -3,6 +3,7 @@ pub mod Blocks
 pub mod Declarations
 pub mod Duplicates
 pub mod Lookup
+pub mod Hashes
 pub mod Orders
 pub mod Tables
 pub mod Answers

@@ -6,8 +6,11 @@ ghost use Rattle.std.specs.Ordering.{as_partial_cmp};
 ghost use Rattle.std.proofs.Common.{rules};
 ghost use Rattle.bx_tree.specs.Orders.{same_path_equiv, same_path_partial};
 ghost use Rattle.bx_tree.specs.Paths.{same_path};
+ghost use Rattle.dscript_scopes.specs.Hashes.{name_hash};
 ghost use Rattle.dscript_scopes.specs.Orders.{name_cmp, name_cmp_matches, name_cmp_partial, name_cmp_total};
+ghost use Rattle.dscript_scopes.specs.Orders.{parts_cmp};
 
+use crate::hashing::name_hash;
 use bx_tree::{Memory, Text};
 use std::alloc::Global;
 use std::cmp::Ordering;
@@ -43,9 +46,9 @@ fn same_names(names: &[Text], others: &[Text]) -> bool
     right.is_empty()
 }
 
-/// The order of two dotted names.
+/// The order of two dotted names by their parts.
 fn compare(names: &[Text], others: &[Text]) -> Ordering
-    ensures { result ≡ name_cmp names.now others.now }
+    ensures { result ≡ parts_cmp names.now others.now }
 {
     let mut left = names;
     let mut right = others;
@@ -71,14 +74,19 @@ fn compare(names: &[Text], others: &[Text]) -> Ordering
 #[derive(Drop)]
 pub struct DottedName {
     parts: Vec<Text>,
+    // the hash of the parts
+    hash: u64,
 }
 
 impl Model for DottedName {
-    ghost use Rattle.std.specs.Prelude.{List, ℕ};
+    ghost use Rattle.std.specs.Prelude.{◌≡◌, List, ℕ};
+    ghost use Rattle.dscript_scopes.specs.Hashes.{name_hash};
 
     ghost Value = { List (List ℕ) };
 
     ghost view = { λ n. n.parts.items };
+
+    ghost invariant = { λ n. n.hash ≡ name_hash n.parts.items };
 }
 
 impl DottedName {
@@ -86,7 +94,8 @@ impl DottedName {
     pub fn new(parts: Vec<Text>) -> DottedName
         ensures { result ≡ parts.items }
     {
-        DottedName { parts }
+        let hash = name_hash(parts.as_slice());
+        DottedName { parts, hash }
     }
 
     /// The parts, from the left.
@@ -96,12 +105,21 @@ impl DottedName {
         self.parts.as_slice()
     }
 
+    /// The hash of the name.
+    fn hash(&self) -> u64
+        ensures { result ≡ name_hash self.now }
+    {
+        self.hash
+    }
+
     /// Another owner of the parts.
     pub(crate) fn share(&self, alloc: Global) -> Result<DottedName, Memory>
         ensures { IfOk result (λ name. name ≡ self.now) }
     {
+        let parts = shared(alloc, self.parts())?;
         Ok(DottedName {
-            parts: shared(alloc, self.parts())?,
+            parts,
+            hash: self.hash(),
         })
     }
 
@@ -110,6 +128,7 @@ impl DottedName {
         ensures { IfOk result (λ _. self.new ≡ self.old ++ part ∷ []) }
     {
         self.parts.push(part)?;
+        self.hash = name_hash(self.parts.as_slice());
         Ok(())
     }
 }
@@ -138,7 +157,10 @@ impl Ord for DottedName {
     ghost matches_eq = { name_cmp_matches };
 
     fn cmp(&self, other: &DottedName) -> Ordering {
-        compare(self.parts(), other.parts())
+        match self.hash().cmp(&other.hash()) {
+            Ordering::Equal => compare(self.parts(), other.parts()),
+            unequal => unequal,
+        }
     }
 }
 

@@ -11,6 +11,7 @@
 
 mod dotted;
 mod found;
+mod hashing;
 mod indexed;
 mod local;
 mod lookup;
