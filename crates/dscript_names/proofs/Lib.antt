@@ -7,6 +7,7 @@ mod Examples
 pub mod Found
 pub mod Listed
 pub mod SeenNames
+pub mod Distinct
 pub mod Collected
 pub mod Owning
 pub mod Duplicated

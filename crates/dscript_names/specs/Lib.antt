@@ -1,6 +1,7 @@
 pub mod Named
 pub mod Views
 pub mod Singles
+pub mod Lent
 pub mod Gathered
 pub mod Owners
 pub mod Exports

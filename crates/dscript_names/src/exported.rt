@@ -6,7 +6,7 @@ ghost use Rattle.bx_tree.specs.Paths.{same_path};
 ghost use Rattle.dscript_program.specs.ProgramData.{Dotted};
 ghost use Rattle.dscript_scopes.specs.Declarations.{is_exported};
 ghost use Rattle.dscript_names.specs.Exports.{exported_at, seen_in};
-ghost use Rattle.dscript_names.specs.Singles.{single};
+ghost use Rattle.dscript_names.specs.Lent.{names_lent, texts_lent};
 
 use crate::collecting::joined;
 use crate::seen::see;
@@ -23,12 +23,15 @@ fn shared(alloc: Global, name: &DottedName) -> Result<DottedName, Memory>
 }
 
 /// The names of declarations.
-pub(crate) fn decl_names(alloc: Global, decls: &[Declared]) -> Result<Vec<DottedName>, Memory>
-    ensures { IfOk result (λ names. names.items ≡ map (λ d. d.name) decls.now) }
+pub(crate) fn decl_names<'a>(
+    alloc: Global,
+    decls: &'a [Declared],
+) -> Result<Vec<&'a DottedName>, Memory>
+    ensures { IfOk result (λ names. names_lent names.items ≡ map (λ d. d.name) decls.entry.now) }
 {
     let mut names = Vec::with_capacity(alloc, decls.len())?;
     'decls: for decl in decls {
-        names.push(shared(alloc, &decl.name)?)?;
+        names.push(&decl.name)?;
     }
     Ok(names)
 }
@@ -48,14 +51,15 @@ pub(crate) fn exported_names(alloc: Global, decls: &[Declared]) -> Result<Vec<Do
 }
 
 /// The names that imports give.
-pub(crate) fn import_names(alloc: Global, imports: &[Imported]) -> Result<Vec<DottedName>, Memory>
-    ensures { IfOk result (λ names. names.items ≡ map single (map (λ i. i.name) imports.now)) }
+pub(crate) fn import_names<'a>(
+    alloc: Global,
+    imports: &'a [Imported],
+) -> Result<Vec<&'a [u8]>, Memory>
+    ensures { IfOk result (λ names. texts_lent names.items ≡ map (λ i. i.name) imports.entry.now) }
 {
-    let mut names = Vec::new(alloc);
+    let mut names = Vec::with_capacity(alloc, imports.len())?;
     'imports: for import in imports {
-        let mut parts = Vec::new(alloc);
-        parts.push(import.name.share()?)?;
-        names.push(DottedName::new(parts))?;
+        names.push(import.name.bytes())?;
     }
     Ok(names)
 }

@@ -49,9 +49,9 @@ fn repeats_itself(alloc: Global, names: &Names, items: &[Item]) -> Result<bool, 
         || list_any item_repeats (map item_tree items.now)))) }
 {
     let decls = decl_names(alloc, names.decls.as_slice())?;
-    let declared = has_repeat(alloc, decls)?;
+    let declared = has_repeat(decls);
     let imports = import_names(alloc, names.imports.as_slice())?;
-    let imported = has_repeat(alloc, imports)?;
+    let imported = has_repeat(imports);
     let in_blocks = blocks_repeat(alloc, items)?;
     let others = either(imported, in_blocks);
     Ok(either(declared, others))

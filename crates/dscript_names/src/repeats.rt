@@ -96,7 +96,7 @@ impl Repeats {
     fn look(&mut self, names: Vec<DottedName>) -> Result<(), Memory>
         ensures { Finds self.old self.new result (has_repeat same_path names.items) }
     {
-        let repeats = has_repeat(self.alloc, names)?;
+        let repeats = has_repeat(names);
         self.found = self.found || repeats;
         Ok(())
     }

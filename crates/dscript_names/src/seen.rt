@@ -1,8 +1,7 @@
-//! Dotted names that were seen.
+//! Names that were seen, and elements that are there twice.
 
-ghost use Rattle.std.specs.Prelude.{◌≡◌, ◌||◌, not, IfOk, OnOk, map};
+ghost use Rattle.std.specs.Prelude.{◌≡◌, ◌||◌, IfOk, OnOk};
 ghost use Rattle.std.specs.BTreeSet.{contains};
-ghost use Rattle.std.specs.List.{list_any};
 ghost use Rattle.bx_tree.specs.Paths.{same_path};
 ghost use Rattle.dscript_program.specs.ProgramData.{Dotted};
 ghost use Rattle.dscript_scopes.specs.Duplicates.{has_repeat};
@@ -10,7 +9,6 @@ ghost use Rattle.dscript_scopes.specs.Orders.{name_cmp};
 
 use bx_tree::Memory;
 use dscript_scopes::DottedName;
-use std::alloc::Global;
 use std::collections::BTreeSet;
 
 /// Whether one of the two holds.
@@ -29,15 +27,13 @@ pub(crate) fn see(seen: &mut BTreeSet<DottedName>, name: DottedName) -> Result<b
     Ok(!seen.insert(name)?)
 }
 
-/// Whether a list has a dotted name twice.
-pub(crate) fn has_repeat(alloc: Global, names: Vec<DottedName>) -> Result<bool, Memory>
-    ensures { IfOk result (λ repeats. repeats ≡ has_repeat same_path names.items) }
+/// Whether a list has an element twice.
+pub(crate) fn has_repeat<T: Ord + Drop>(items: Vec<T>) -> bool
+    ensures { result ≡ has_repeat T.eq items.items }
 {
-    let mut seen = BTreeSet::new(alloc);
-    let mut repeats = false;
-    'names: for name in names {
-        let was = see(&mut seen, name)?;
-        repeats = either(repeats, was);
-    }
-    Ok(repeats)
+    let mut items = items;
+    let count = items.len();
+    items.sort_unstable();
+    items.dedup();
+    items.len() < count
 }
