@@ -1,5 +1,5 @@
 -- The files of a whole build keep apart.
-use Rattle.std.proofs.Common.{◌≡◌, ◌⊎◌, ℕ, ◌<◌, zero, suc, true, List, [], ◌∷◌, length, take, Option, Some, refl, ap, sym, ◌∙◌, subst, inl, inr, arith}
+use Rattle.std.proofs.Common.{◌≡◌, ◌⊎◌, ℕ, ◌<◌, zero, suc, true, List, [], ◌∷◌, length, take, Option, Some, None, refl, ap, sym, ◌∙◌, subst, inl, inr, arith}
 use Rattle.std.specs.Prelude.{slice_get}
 use Rattle.std.specs.List.{AllByRecursion}
 use Rattle.std.specs.Option.{option_map}
@@ -14,7 +14,7 @@ use Rattle.graph_outputs.specs.Outputs.{declared_dirs}
 use Rattle.observed.specs.Members.{Has}
 use Rattle.observed.proofs.OneSet.{has_contained}
 use Rattle.one_thread.proofs.EachResult.{number_of_results, result_of_all}
-use Rattle.one_thread.specs.OneThread.{Result, all_made, made_by, one_thread, outputs_of, result_of}
+use Rattle.one_thread.specs.OneThread.{Result, all_made, made_by, one_thread, outputs_of, put_all, result_of}
 use Rattle.pip_types.specs.Made.{RisingFiles}
 use Rattle.pip_types.specs.Makers.{IsPipList}
 use Rattle.pip_types.specs.declared.outputs.OutDir.{OutDir}
@@ -22,10 +22,11 @@ use Rattle.pip_types.specs.declared.pip.Pip.{Pip}
 use Rattle.pip_types.specs.declared.pip.PipKind.{PipKind}
 use Rattle.pip_types.specs.declared.pip.PipKind.TheVariants.{Process, Copy, Write, Seal}
 use Rattle.violations.specs.DoubleWrites.{outdirs_of, shared_paths}
+use Rattle.build_outputs.specs.Keeping.{AreKept, Keeps, KeptAt}
 use Rattle.build_outputs.specs.Outputs.{AreOutputs}
 use Rattle.build_outputs.proofs.Clashing.{clash_above, clash_below, no_clash_between, shared_has}
 use Rattle.build_outputs.proofs.Meeting.{Apart, InOneDir, both_share, in_one_dir, kept_apart, kept_below, made_below}
-use Rattle.build_outputs.proofs.OneResult.{AllHold, Keeps, kept_result}
+use Rattle.build_outputs.proofs.OneResult.{AllHold, kept_result}
 use Rattle.build_outputs.proofs.PutAll.{MadeAt, has_put_all, made_at, put_all_rising}
 
 -- ## Places in lists
@@ -42,40 +43,30 @@ get_take (x ∷ xs) zero i l = absurd (omega (arith, l))
 get_take (x ∷ xs) (suc n) zero l = refl
 get_take (x ∷ xs) (suc n) (suc i) l = get_take xs n i (omega (arith, l))
 
-files_at : (results : List Result) (i : ℕ) (r : Result) → slice_get results i ≡ Some r → slice_get (made_by results) i ≡ Some r.files
-files_at results i r at =
-    slice_get-map (λ (x : Result). x.files) results i ∙ ap (λ (o : Option Result). option_map (λ (x : Result). x.files) o) at
-
 same_dirs : (kind : PipKind) → declared_dirs kind ≡ outdirs_of kind
 same_dirs (Process d) = refl
 same_dirs (Copy d) = refl
 same_dirs (Write d) = refl
 same_dirs (Seal d) = refl
 
--- ## Two results
-
--- the files of pip i, which are those of its result
-pub record KeptAt (pips : List Pip) (results : List Result) (i : ℕ) (r : Result) : Type 0 where
-  pub pip : Pip
-  pub at : slice_get pips i ≡ Some pip
-  pub keeps : Keeps pips (made_by results) i pip.kind r.files
+-- ## Two pips
 
 shares : (pip : Pip) (dir : OutDir) (files : Files) (path : Atoms) → Has (declared_dirs pip.kind) dir → dir.shared ≡ true → IsBelow path dir.path
     → Has (paths_of files) path → Has (shared_paths (outdirs_of pip.kind) files) path
 shares pip dir files path h shared below there =
     shared_has (outdirs_of pip.kind) files dir path (subst (λ (ds : List OutDir). Has ds dir) (same_dirs pip.kind) h) shared below there
 
-module _ (pips : List Pip) (results : List Result) (apart : Apart pips) (i j : ℕ) (r s : Result) (at_r : slice_get results i ≡ Some r)
-    (at_s : slice_get results j ≡ Some s) (k : KeptAt pips results i r) (m : KeptAt pips results j s) (p q : Atoms) (p_made : Has (paths_of r.files) p)
-    (q_made : Has (paths_of s.files) q) (below : IsBelow p q) where
+module _ (pips : List Pip) (made : List Files) (apart : Apart pips) (i j : ℕ) (fs gs : Files) (at_fs : slice_get made i ≡ Some fs)
+    (at_gs : slice_get made j ≡ Some gs) (k : KeptAt pips made i fs) (m : KeptAt pips made j gs) (p q : Atoms) (p_made : Has (paths_of fs) p)
+    (q_made : Has (paths_of gs) q) (below : IsBelow p q) where
   one_dir : InOneDir k.pip.kind m.pip.kind p q
   one_dir = in_one_dir pips apart i j k.pip m.pip k.at m.at p q below (k.keeps.makes p p_made) (m.keeps.makes q q_made)
 
-  shared : (i ≡ j → ⊥) → Has (shared_paths (outdirs_of k.pip.kind) r.files) p × Has (shared_paths (outdirs_of m.pip.kind) s.files) q
+  shared : (i ≡ j → ⊥) → Has (shared_paths (outdirs_of k.pip.kind) fs) p × Has (shared_paths (outdirs_of m.pip.kind) gs) q
   shared differ =
       let both = both_share pips apart i j k.pip m.pip one_dir.first one_dir.second k.at m.at differ one_dir.has_first one_dir.has_second one_dir.one_path in (
-        shares k.pip one_dir.first r.files p one_dir.has_first both.0 one_dir.below_first p_made,
-        shares m.pip one_dir.second s.files q one_dir.has_second both.1 one_dir.below_second q_made,
+        shares k.pip one_dir.first fs p one_dir.has_first both.0 one_dir.below_first p_made,
+        shares m.pip one_dir.second gs q one_dir.has_second both.1 one_dir.below_second q_made,
       )
 
   -- the earlier of the two did not clash with the later, nor the later with the earlier
@@ -83,31 +74,71 @@ module _ (pips : List Pip) (results : List Result) (apart : Apart pips) (i j : �
   between (inl less) =
       let h = shared (λ e. absurd (omega (arith, e, less))) in
       clash_above q p
-      (no_clash_between (take j pips) (made_by results) (outdirs_of m.pip.kind) s.files i k.pip r.files q p m.keeps.unclashed
-      (get_take pips j i less ∙ k.at) (files_at results i r at_r) h.1 h.0) below
+      (no_clash_between (take j pips) made (outdirs_of m.pip.kind) gs i k.pip fs q p m.keeps.unclashed (get_take pips j i less ∙ k.at) at_fs h.1 h.0) below
   between (inr more) =
       let h = shared (λ e. absurd (omega (arith, e, more))) in
       clash_below p q
-      (no_clash_between (take i pips) (made_by results) (outdirs_of k.pip.kind) r.files j m.pip s.files p q k.keeps.unclashed
-      (get_take pips i j more ∙ m.at) (files_at results j s at_s) h.0 h.1) below
+      (no_clash_between (take i pips) made (outdirs_of k.pip.kind) fs j m.pip gs p q k.keeps.unclashed (get_take pips i j more ∙ m.at) at_gs h.0 h.1) below
 
--- two files of one result
-within : (pips : List Pip) (results : List Result) (i j : ℕ) (r s : Result) → slice_get results i ≡ Some r → slice_get results j ≡ Some s
-    → KeptAt pips results i r → i ≡ j → (p q : Atoms) → Has (paths_of r.files) p → Has (paths_of s.files) q → IsBelow p q → ⊥
-within pips results i j r s at_r at_s k e p q h m below =
-    let same : s ≡ r = same_Some s r (sym at_s ∙ ap (slice_get results) (sym e) ∙ at_r) in
-    k.keeps.unnested p q h (subst (λ (x : Result). Has (paths_of x.files) q) same m) below
+-- two files of one pip
+within : (pips : List Pip) (made : List Files) (i j : ℕ) (fs gs : Files) → slice_get made i ≡ Some fs → slice_get made j ≡ Some gs
+    → KeptAt pips made i fs → i ≡ j → (p q : Atoms) → Has (paths_of fs) p → Has (paths_of gs) q → IsBelow p q → ⊥
+within pips made i j fs gs at_fs at_gs k e p q h m below =
+    let same : gs ≡ fs = same_Some gs fs (sym at_gs ∙ ap (slice_get made) (sym e) ∙ at_fs) in
+    k.keeps.unnested p q h (subst (λ (x : Files). Has (paths_of x) q) same m) below
 
 -- no files rise
 none_rising : RisingFiles []
 unfolding IsStrictlySortedBy
 none_rising = tt
 
--- ## All results
+-- ## Any files that keep to their pips
+
+module _ (pips : List Pip) (tree : Files) (keeps : KeepsRules pips tree) (made : List Files) (kept : AreKept pips made) where
+  place : (q : Atoms) → Has (paths_of (put_all [] (all_made made))) q → MadeAt made q
+  place q h = elim (has_put_all (all_made made) [] q h) [
+    | inl none ↦ absurd none
+    | inr some ↦ made_at made q some
+  ]
+
+  nested : (p q : Atoms) → MadeAt made p → MadeAt made q → IsBelow p q → ⊥
+  nested p q a b below =
+      let k = kept a.number a.files a.there in
+      elim (cases_order a.number b.number) [
+        | inl same ↦ within pips made a.number b.number a.files b.files a.there b.there k same p q a.has b.has below
+        | inr order ↦
+            between pips made (kept_apart pips tree keeps) a.number b.number a.files b.files a.there b.there k (kept b.number b.files b.there) p q a.has b.has
+            below order
+      ]
+
+  below_out : (q : Atoms) → MadeAt made q → IsBelow q out_dir
+  below_out q a =
+      let k = kept a.number a.files a.there in
+      made_below pips a.number k.pip q (kept_below pips tree keeps) k.at (k.keeps.makes q a.has)
+
+  all_below : (files : Files) → ((q : Atoms) → Has (paths_of files) q → IsBelow q out_dir) → AllByRecursion (λ path. IsBelow path out_dir) (paths_of files)
+  all_below [] each = tt
+  all_below (f ∷ fs) each = (each f.0 (inl refl), all_below fs (λ q h. each q (inr h)))
+
+  pub are_outputs : AreOutputs (put_all [] (all_made made))
+  are_outputs =
+      let files = put_all [] (all_made made) in
+      record {
+        below = all_below files (λ q h. below_out q (place q h));
+        rising = put_all_rising (all_made made) [] none_rising;
+        unnested = λ dir path h k below. nested path dir (place path (has_contained (paths_of files) path k)) (place dir (has_contained (paths_of files) dir h)) below;
+      }
+
+-- ## The build on one thread
+
+-- the result whose files these are
+result_at : (o : Option Result) (files : Files) → option_map (λ (x : Result). x.files) o ≡ Some files → (r : Result) × (o ≡ Some r) × (r.files ≡ files)
+result_at None files e = cc
+result_at (Some r) files e = (r, refl, same_Some r.files files e)
 
 module _ (pips : List Pip) (tree : Files) (budget : ℕ) (list : IsPipList pips) (keeps : KeepsRules pips tree) (hold : AllHold) where
-  kept_at : (i : ℕ) (r : Result) → slice_get (one_thread pips tree budget) i ≡ Some r → KeptAt pips (one_thread pips tree budget) i r
-  kept_at i r at =
+  kept_result_at : (i : ℕ) (r : Result) → slice_get (one_thread pips tree budget) i ≡ Some r → KeptAt pips (made_by (one_thread pips tree budget)) i r.files
+  kept_result_at i r at =
       let results = one_thread pips tree budget in
       let within_pips : i < length pips = let l = slice_get_within results i r at in omega (arith, l, number_of_results pips tree budget) in
       let here = pip_at pips i within_pips in
@@ -120,37 +151,11 @@ module _ (pips : List Pip) (tree : Files) (budget : ℕ) (list : IsPipList pips)
             (kept_result pips tree budget i here.0 results (kept_apart pips tree keeps) hold here.1);
       }
 
-  place : (q : Atoms) → Has (paths_of (outputs_of (one_thread pips tree budget))) q → MadeAt (one_thread pips tree budget) q
-  place q h = elim (has_put_all (all_made (made_by (one_thread pips tree budget))) [] q h) [
-    | inl none ↦ absurd none
-    | inr some ↦ made_at (one_thread pips tree budget) q some
-  ]
-
-  nested : (p q : Atoms) → MadeAt (one_thread pips tree budget) p → MadeAt (one_thread pips tree budget) q → IsBelow p q → ⊥
-  nested p q a b below =
+  kept_at : AreKept pips (made_by (one_thread pips tree budget))
+  kept_at i files at =
       let results = one_thread pips tree budget in
-      let k = kept_at a.number a.result a.there in
-      elim (cases_order a.number b.number) [
-        | inl same ↦ within pips results a.number b.number a.result b.result a.there b.there k same p q a.made b.made below
-        | inr order ↦
-            between pips results (kept_apart pips tree keeps) a.number b.number a.result b.result a.there b.there k (kept_at b.number b.result b.there) p q
-            a.made b.made below order
-      ]
-
-  below_out : (q : Atoms) → MadeAt (one_thread pips tree budget) q → IsBelow q out_dir
-  below_out q a =
-      let k = kept_at a.number a.result a.there in
-      made_below pips a.number k.pip q (kept_below pips tree keeps) k.at (k.keeps.makes q a.made)
-
-  all_below : (files : Files) → ((q : Atoms) → Has (paths_of files) q → IsBelow q out_dir) → AllByRecursion (λ path. IsBelow path out_dir) (paths_of files)
-  all_below [] each = tt
-  all_below (f ∷ fs) each = (each f.0 (inl refl), all_below fs (λ q h. each q (inr h)))
+      let r = result_at (slice_get results i) files (sym (slice_get-map (λ (x : Result). x.files) results i) ∙ at) in
+      subst (λ (fs : Files). KeptAt pips (made_by results) i fs) r.2 (kept_result_at i r.0 r.1)
 
   pub kept : AreOutputs (outputs_of (one_thread pips tree budget))
-  kept =
-      let files = outputs_of (one_thread pips tree budget) in
-      record {
-        below = all_below files (λ q h. below_out q (place q h));
-        rising = put_all_rising (all_made (made_by (one_thread pips tree budget))) [] none_rising;
-        unnested = λ dir path h k below. nested path dir (place path (has_contained (paths_of files) path k)) (place dir (has_contained (paths_of files) dir h)) below;
-      }
+  kept = are_outputs pips tree keeps (made_by (one_thread pips tree budget)) kept_at

@@ -4,4 +4,5 @@ pub mod Making
 pub mod Clashing
 pub mod Meeting
 pub mod OneResult
+pub mod OneMore
 pub mod KeptApart

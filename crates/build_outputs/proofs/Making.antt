@@ -23,13 +23,10 @@ use Rattle.run_record.specs.declared.outcome.Cause.TheVariants as causes
 use Rattle.tool_run.specs.Described.{described, dir_paths}
 use Rattle.tool_run.specs.Description.{Description, is_console, permits}
 use Rattle.tool_run.specs.Run.{Run}
+use Rattle.build_outputs.specs.Keeping.{Makes}
 use Rattle.build_outputs.proofs.PutAll.{has_put}
 
 -- ## What a pip may make
-
--- the pip declares the file, or it lies below a directory that the pip declares
-abbrev pub Makes : PipKind → Atoms → Type 0
-Makes kind path = Has (declared_files kind) path ⊎ ((dir : OutDir) × Has (declared_dirs kind) dir × IsBelow path dir.path)
 
 pub has_first : {X : Type 0} (xs ys : List X) (x : X) → Has xs x → Has (xs ++ ys) x
 has_first [] ys x h = absurd h

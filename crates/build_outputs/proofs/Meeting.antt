@@ -16,7 +16,8 @@ use Rattle.own_writes.proofs.BelowByAtoms.{below_decides}
 use Rattle.pip_types.specs.declared.outputs.OutDir.{OutDir}
 use Rattle.pip_types.specs.declared.pip.Pip.{Pip}
 use Rattle.pip_types.specs.declared.pip.PipKind.{PipKind}
-use Rattle.build_outputs.proofs.Making.{Makes, has_first, has_last}
+use Rattle.build_outputs.specs.Keeping.{Makes}
+use Rattle.build_outputs.proofs.Making.{has_first, has_last}
 use Rattle.build_outputs.proofs.Prefixes.{Related, Below, Above, Same, below_above, both_above}
 
 -- ## Rules

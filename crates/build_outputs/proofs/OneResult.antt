@@ -32,7 +32,8 @@ use Rattle.verdicts.specs.declared.verdict.Verdict.TheVariants as verdicts
 use Rattle.verdicts.specs.declared.verdict.Violation.{Violation}
 use Rattle.violations.specs.Classes.{class_of}
 use Rattle.violations.specs.DoubleWrites.{clash_at, clash_of, outdirs_in, outdirs_of}
-use Rattle.build_outputs.proofs.Making.{Makes, good_files, has_last, with_console_has, written_makes}
+use Rattle.build_outputs.specs.Keeping.{Keeps, Makes}
+use Rattle.build_outputs.proofs.Making.{good_files, has_last, with_console_has, written_makes}
 use Rattle.build_outputs.proofs.Meeting.{Apart, below_file, file_below}
 use Rattle.build_outputs.proofs.Prefixes.{not_itself}
 
@@ -40,15 +41,8 @@ use Rattle.build_outputs.proofs.Prefixes.{not_itself}
 abbrev pub AllHold : Type 0
 AllHold = (d : Description) (a : Ask → Answer) → Holds d a (run_of d a)
 
--- The files of pip i of this kind, where the first pips made these files: it makes each of them, none lies
--- below another, and none clashes.
-pub record Keeps (pips : List Pip) (made : List Files) (i : ℕ) (kind : PipKind) (files : Files) : Type 0 where
-  pub makes : (q : Atoms) → Has (paths_of files) q → Makes kind q
-  pub unnested : (p q : Atoms) → Has (paths_of files) p → Has (paths_of files) q → IsBelow p q → ⊥
-  pub unclashed : clash_of (take i pips) made (outdirs_of kind) files ≡ None
-
 -- no files
-none_kept : (pips : List Pip) (made : List Files) (i : ℕ) (kind : PipKind) → Keeps pips made i kind []
+pub none_kept : (pips : List Pip) (made : List Files) (i : ℕ) (kind : PipKind) → Keeps pips made i kind []
 none_kept pips made i kind = record {
   makes = λ q h. absurd h;
   unnested = λ p q h k below. absurd h;
@@ -110,6 +104,17 @@ module _ (pips : List Pip) (apart : Apart pips) (hold : AllHold) (tree : Files) 
       ap (λ (k : PipKind). clash_of (take i pips) made (outdirs_of k) files) (sym is)
       ∙ ap (λ (o : Option Pip). clash_of (take i pips) made (outdirs_in o) files) (sym at)
 
+  -- files that the process makes, none below another, unless they clash
+  pub of_unclashed : (d : ProcessDesc) (files : Files) → pip.kind ≡ Process d → ((q : Atoms) → Has (paths_of files) q → Makes (Process d) q)
+      → ((p q : Atoms) → Has (paths_of files) p → Has (paths_of files) q → IsBelow p q → ⊥) → (c : Option Violation)
+      → clash_at pips made i files ≡ c → Keeps pips made i (Process d) (unless_clash files c).files
+  of_unclashed d files is makes unnested None e = record {
+    makes = makes;
+    unnested = unnested;
+    unclashed = clash_is (Process d) files is ∙ e;
+  }
+  of_unclashed d files is makes unnested (Some v) e = none_kept pips made i (Process d)
+
   of_clash : (x : Desc) (see : Ask → Answer) (files : Files) → pip.kind ≡ Process x.process → ran x see ≡ Good files → (c : Option Violation)
       → clash_at pips made i files ≡ c → Keeps pips made i (Process x.process) (unless_clash files c).files
   of_clash x see files is good None e = of_good x see files is good (clash_is (Process x.process) files is ∙ e)
@@ -125,14 +130,14 @@ module _ (pips : List Pip) (apart : Apart pips) (hold : AllHold) (tree : Files) 
   of_cause d (causes.MissingOutput path) = none_kept pips made i (Process d)
   of_cause d (causes.Denied access) = of_violation d (class_of pips tree i access)
 
-  of_outcome : (x : Desc) (see : Ask → Answer) → pip.kind ≡ Process x.process → (o : Outcome) → ran x see ≡ o
+  pub of_outcome : (x : Desc) (see : Ask → Answer) → pip.kind ≡ Process x.process → (o : Outcome) → ran x see ≡ o
       → Keeps pips made i (Process x.process) (by_outcome pips tree made i o).files
   of_outcome x see is (Good files) e = of_clash x see files is e (clash_at pips made i files) refl
   of_outcome x see is (Failed cause) e = of_cause x.process cause
 
   -- ## Pips
 
-  of_kind : (budget : ℕ) (inputs : ByPip) (kind : PipKind) → pip.kind ≡ kind → Keeps pips made i kind (worked pips tree budget made inputs i kind).files
+  pub of_kind : (budget : ℕ) (inputs : ByPip) (kind : PipKind) → pip.kind ≡ kind → Keeps pips made i kind (worked pips tree budget made inputs i kind).files
   of_kind budget inputs (Process d) is =
       of_outcome (desc_of tree inputs budget d) (sees pips tree inputs i) is (outcome_at pips tree budget inputs i d) refl
   of_kind budget inputs (Copy d) is = record {

@@ -14,7 +14,7 @@ use Rattle.observed.proofs.OneSet.{has_insert}
 use Rattle.own_writes.specs.Writes.{with_file}
 use Rattle.own_writes.proofs.Unnested.{put_rising}
 use Rattle.pip_types.specs.Made.{RisingFiles}
-use Rattle.one_thread.specs.OneThread.{Result, all_made, made_by, put_all}
+use Rattle.one_thread.specs.OneThread.{all_made, put_all}
 
 -- ## One file
 
@@ -48,7 +48,7 @@ pub put_all_rising : (more files : Files) → RisingFiles files → RisingFiles 
 put_all_rising [] files h = h
 put_all_rising (f ∷ fs) files h = put_all_rising fs (with_file files f.0 f.1) (put_rising files f.0 f.1 h)
 
--- ## Results
+-- ## Files of many pips
 
 has_either : (xs ys : Files) (q : Atoms) → Has (paths_of (xs ++ ys)) q → Has (paths_of xs) q ⊎ Has (paths_of ys) q
 has_either [] ys q h = inr h
@@ -57,19 +57,19 @@ has_either (x ∷ xs) ys q h = elim h [
   | inr k ↦ elim (has_either xs ys q k) [ inl m ↦ inl (inr m) | inr m ↦ inr m ]
 ]
 
--- the result with this number has a file at this path
-pub record MadeAt (results : List Result) (q : Atoms) : Type 0 where
+-- the files with this number have this path
+pub record MadeAt (made : List Files) (q : Atoms) : Type 0 where
   pub number : ℕ
-  pub result : Result
-  pub there : slice_get results number ≡ Some result
-  pub made : Has (paths_of result.files) q
+  pub files : Files
+  pub there : slice_get made number ≡ Some files
+  pub has : Has (paths_of files) q
 
-one_on : (r : Result) (rs : List Result) (q : Atoms) → MadeAt rs q → MadeAt (r ∷ rs) q
-one_on r rs q m = record { number = suc m.number; result = m.result; there = m.there; made = m.made }
+one_on : (files : Files) (made : List Files) (q : Atoms) → MadeAt made q → MadeAt (files ∷ made) q
+one_on files made q m = record { number = suc m.number; files = m.files; there = m.there; has = m.has }
 
-pub made_at : (results : List Result) (q : Atoms) → Has (paths_of (all_made (made_by results))) q → MadeAt results q
+pub made_at : (made : List Files) (q : Atoms) → Has (paths_of (all_made made)) q → MadeAt made q
 made_at [] q h = absurd h
-made_at (r ∷ rs) q h = elim (has_either r.files (all_made (made_by rs)) q h) [
-  | inl k ↦ record { number = 0; result = r; there = refl; made = k }
-  | inr k ↦ one_on r rs q (made_at rs q k)
+made_at (files ∷ made) q h = elim (has_either files (all_made made) q h) [
+  | inl k ↦ record { number = 0; files = files; there = refl; has = k }
+  | inr k ↦ one_on files made q (made_at made q k)
 ]

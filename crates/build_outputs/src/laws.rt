@@ -1,10 +1,11 @@
 //! What holds of the files of all builds.
-ghost use Rattle.std.specs.Prelude.{ℕ, List};
+ghost use Rattle.std.specs.Prelude.{[], ℕ, List};
 ghost use Rattle.bx_tree.specs.Trees.{Files};
 ghost use Rattle.graph_check.specs.Rules.{KeepsRules};
-ghost use Rattle.one_thread.specs.OneThread.{one_thread, outputs_of};
+ghost use Rattle.one_thread.specs.OneThread.{all_made, one_thread, outputs_of, put_all};
 ghost use Rattle.pip_types.specs.Makers.{IsPipList};
 ghost use Rattle.pip_types.specs.declared.pip.Pip.{Pip};
+ghost use Rattle.build_outputs.specs.Keeping.{AreKept};
 ghost use Rattle.build_outputs.specs.Outputs.{AreOutputs};
 
 use tool_run::accesses_hold;
@@ -17,3 +18,10 @@ pub fn outputs_keep_apart()
 {
     accesses_hold();
 }
+
+/// Files that keep to their pips lie below `out`, and none lies below another, where the pips keep the rules
+/// of the graph: each is made by its pip, and none clashes with a file of an earlier pip.
+pub fn kept_files_keep_apart()
+    ensures { (pips : List Pip) (tree : Files) (made : List Files) → KeepsRules pips tree → AreKept pips made
+        → AreOutputs (put_all [] (all_made made)) }
+{}

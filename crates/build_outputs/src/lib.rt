@@ -6,4 +6,4 @@
 
 mod laws;
 
-pub use laws::outputs_keep_apart;
+pub use laws::{kept_files_keep_apart, outputs_keep_apart};

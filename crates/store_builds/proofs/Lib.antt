@@ -1,0 +1,5 @@
+pub mod RecordMet
+pub mod SoFar
+pub mod SuccessFits
+pub mod Twins
+pub mod AllHits

@@ -1,0 +1,3 @@
+pub mod Met
+pub mod HitSet
+pub mod Runs
