@@ -155,7 +155,7 @@ partitioned_files prefix files rising i j d low high before = elim (cases_lt i j
 
 -- ## One file after another
 
-begun_next : (prefix : List ℕ) (files : List FileInput) (i : ℕ) (file : FileInput) → i < length files → file ≡ get_or files i file
+pub begun_next : (prefix : List ℕ) (files : List FileInput) (i : ℕ) (file : FileInput) → i < length files → file ≡ get_or files i file
     → while_begins prefix (drop i files) ≡ cond (begins prefix file) (file ∷ while_begins prefix (drop (i + 1) files)) []
 begun_next prefix files i file l is =
     ap (while_begins prefix) (drop-cons files i file l)

@@ -1,4 +1,3 @@
-pub mod Answered
 pub mod Together
 pub mod FirstNames
 pub mod SourceMembers
@@ -10,3 +9,5 @@ pub mod OneAtom
 pub mod FilePaths
 pub mod TakenFiles
 pub mod Begun
+pub mod MadeLists
+pub mod OpaqueMembers

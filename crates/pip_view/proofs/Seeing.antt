@@ -1,6 +1,6 @@
 -- What a view answers, from what it keeps.
 use Rattle.std.proofs.Common.{◌≡◌, ◌⊎◌, ◌<◌, ℕ, zero, suc, Bool, true, false, ◌||◌, cond, List, [], ◌∷◌, ◌++◌, length, Option, Some, None, refl, ap, sym, ◌∙◌, subst, inl, inr, arith}
-use Rattle.std.specs.Prelude.{◌↔◌, Contains, is_some, slice_get}
+use Rattle.std.specs.Prelude.{is_some, slice_get}
 use Rattle.std.specs.List.{filter_map, list_any}
 use Rattle.std.specs.List.Sorted.{IsStrictlySortedBy}
 use Rattle.std.proofs.lemmas.Bool.{false≢true}
@@ -23,11 +23,11 @@ use Rattle.pip_types.specs.declared.pip.PipKind.TheVariants.{Process, Copy, Writ
 use Rattle.tool_values.specs.Listings.{add_names, names_text}
 use Rattle.pip_view.specs.InputFiles.{input_files, is_source_of}
 use Rattle.pip_view.specs.Sees.{as_input, as_source, is_root, looked, pip_sees}
-use Rattle.pip_view.specs.Seen.{AnswerAs, KeepsView, ViewData, answer_by_source, answer_elsewhere, answer_unnamed, is_sealed_at, is_unseen_at, named_by, named_in, opaque_by, opaque_in, taken_by, taken_in, view_answers}
+use Rattle.pip_view.specs.Seen.{AnswerAs, ViewData, answer_by_source, answer_elsewhere, answer_unnamed, is_sealed_at, is_unseen_at, named_by, named_in, opaque_by, opaque_in, taken_by, taken_in, view_answers}
 use Rattle.pip_inputs.specs.Plain.{kind_process, process_in}
 use Rattle.pip_view.proofs.ByPip.{named_split}
 use Rattle.pip_view.proofs.NameSets.{IsNameSet, added_after, one_addition, set_has, set_kept}
-use Rattle.pip_view.proofs.Together.{below_files, below_sources, names_files, names_sources}
+use Rattle.pip_view.proofs.Together.{below_sources, names_sources}
 use Rattle.pip_view.proofs.SourceMembers.{at_both, below_both, has_both, names_both, or_else, sealed_at, sealed_below, sealed_names, sealed_sources}
 
 -- the input files are the named ones, and the members of seals of source files
@@ -199,7 +199,7 @@ pub view_lists : (v : ViewData) (files : Files) → AnswerAs files (named_in v) 
     ≡ answers.Names (names_text (add_names (add_names [] (own_names v.tree path)) (own_names files path)))
 view_lists v files h l path = let keeps = keeps_of v files h l in listed v files keeps.0 keeps.1 path
 
--- ## From what a view keeps
+-- ## By the files that the pip takes by name, and the members of opaque directories
 
 itself : (files : Files) → AnswerAs files files
 itself files = record { contents = λ p. refl; directories = λ p. refl; names = λ p n. (λ h. h, λ h. h) }
@@ -212,73 +212,41 @@ named_are v (Some d) = named_split v.pips v.tree v.inputs d
 split_in : (v : ViewData) → named_in v ≡ taken_in v ++ opaque_in v
 split_in v = named_are v (process_in (slice_get v.pips v.pip))
 
--- files that come first leave the others to answer as they do
-after_first : (first files others : Files) → AnswerAs files others → AnswerAs (first ++ files) (first ++ others)
-after_first first files others h = record {
-  contents = λ p. at_both first files p ∙ ap (or_else (file_at first p)) (h.contents p) ∙ sym (at_both first others p);
-  directories = λ p. below_both first files p ∙ ap (λ t. has_below first p || t) (h.directories p) ∙ sym (below_both first others p);
-  names = λ p n. (moved first files others (λ q m. h.names q m) p n, moved first others files (λ q m. ((h.names q m).1, (h.names q m).0)) p n);
-}
-  where
-    joined : (xs ys : List (List ℕ)) (n : List ℕ) → Has xs n ⊎ Has ys n → Has (xs ++ ys) n
-    joined [] ys n (inl h) = absurd h
-    joined [] ys n (inr h) = h
-    joined (x ∷ xs) ys n (inl (inl e)) = inl e
-    joined (x ∷ xs) ys n (inl (inr h)) = inr (joined xs ys n (inl h))
-    joined (x ∷ xs) ys n (inr h) = inr (joined xs ys n (inr h))
-
-    moved : (first files others : Files) → ((q : Atoms) (m : List ℕ) → Contains (own_names files q) m ↔ Contains (own_names others q) m)
-        → (p : Atoms) (n : List ℕ) → Contains (own_names (first ++ files) p) n → Contains (own_names (first ++ others) p) n
-    moved first files others h p n m =
-        let here = subst (λ (ns : List (List ℕ)). Has ns n) (names_both first files p) (has_contained (own_names (first ++ files) p) n m) in
-        contains_has (own_names (first ++ others) p) n (subst (λ (ns : List (List ℕ)). Has ns n) (sym (names_both first others p))
-        (joined (own_names first p) (own_names others p) n (elim (has_both (own_names first p) (own_names files p) n here) [
-          | inl a ↦ inl a
-          | inr b ↦ inr (has_contained (own_names others p) n ((h p n).0 (contains_has (own_names files p) n b)))
-        ])))
-
--- the files that a view answers by
-all_kept : (v : ViewData) (kept : Files) (paths : List Atoms) → KeepsView v kept paths → AnswerAs (taken_in v ++ kept) (named_in v)
-all_kept v kept paths h = subst (AnswerAs (taken_in v ++ kept)) (sym (split_in v)) (after_first (taken_in v) kept (opaque_in v) h.answer)
-
 -- the names of a listing
-pub names_listed : (v : ViewData) (files : Files) (paths kept sources : List Atoms) (dir : Atoms) (none first more both : List (List ℕ)) (text : List ℕ)
-    → KeepsView v files paths → sources ≡ paths_of v.tree → kept ≡ paths → none ≡ [] → first ≡ add_names none (filter_map (next_atom dir) sources)
-    → more ≡ add_names first (own_names (taken_in v) dir) → both ≡ add_names more (filter_map (next_atom dir) kept) → text ≡ names_text both
+pub names_listed : (v : ViewData) (sources : List Atoms) (dir : Atoms) (none first more both : List (List ℕ)) (text : List ℕ) → v.pip < length v.pips
+    → sources ≡ paths_of v.tree → none ≡ [] → first ≡ add_names none (filter_map (next_atom dir) sources)
+    → more ≡ add_names first (own_names (taken_in v) dir) → both ≡ add_names more (own_names (opaque_in v) dir) → text ≡ names_text both
     → answers.Names text ≡ view_answers v (record { kind = kinds.List; path = dir })
-names_listed v files paths kept sources dir none first more both text h are_sources are_kept empty is_first is_more is_both is_text =
+names_listed v sources dir none first more both text there are_sources empty is_first is_more is_both is_text =
     ap answers.Names
     (is_text
     ∙ ap names_text
     (is_both
-    ∙ ap (λ (ns : List (List ℕ)). add_names ns (filter_map (next_atom dir) kept))
+    ∙ ap (λ (ns : List (List ℕ)). add_names ns (own_names (opaque_in v) dir))
     (is_more ∙ ap (λ (ns : List (List ℕ)). add_names ns (own_names (taken_in v) dir))
     (is_first ∙ ap (λ (ns : List (List ℕ)). add_names ns (filter_map (next_atom dir) sources)) empty
     ∙ ap (add_names []) (ap (filter_map (next_atom dir)) are_sources ∙ names_sources dir v.tree)))
-    ∙ ap (add_names (add_names (add_names [] (own_names v.tree dir)) (own_names (taken_in v) dir)))
-    (ap (filter_map (next_atom dir)) (are_kept ∙ h.paths_are) ∙ names_files dir files)
-    ∙ sym (added_after (own_names (taken_in v) dir) (own_names files dir) (add_names [] (own_names v.tree dir)))
-    ∙ ap (add_names (add_names [] (own_names v.tree dir))) (sym (names_both (taken_in v) files dir))))
-    ∙ sym (view_lists v (taken_in v ++ files) (all_kept v files paths h) h.there dir)
+    ∙ sym (added_after (own_names (taken_in v) dir) (own_names (opaque_in v) dir) (add_names [] (own_names v.tree dir)))
+    ∙ ap (add_names (add_names [] (own_names v.tree dir)))
+    (sym (ap (λ (fs : Files). own_names fs dir) (split_in v) ∙ names_both (taken_in v) (opaque_in v) dir))))
+    ∙ sym (view_lists v (named_in v) (itself (named_in v)) there dir)
 
--- the file at a path is one that the pip takes by name, or else one that is kept
-pub named_first : (v : ViewData) (files : Files) (paths : List Atoms) (path : Atoms) (bytes : List ℕ) → KeepsView v files paths
-    → Some bytes ≡ file_at (taken_in v) path → Some bytes ≡ file_at (named_in v) path
-named_first v files paths path bytes h e =
-    ap (λ o. or_else o (file_at files path)) e ∙ sym (at_both (taken_in v) files path) ∙ (all_kept v files paths h).contents path
+at_named : (v : ViewData) (path : Atoms) → file_at (named_in v) path ≡ or_else (file_at (taken_in v) path) (file_at (opaque_in v) path)
+at_named v path = ap (λ (fs : Files). file_at fs path) (split_in v) ∙ at_both (taken_in v) (opaque_in v) path
 
-pub named_kept : (v : ViewData) (files : Files) (paths : List Atoms) (path : Atoms) → KeepsView v files paths
-    → None ≡ file_at (taken_in v) path → file_at files path ≡ file_at (named_in v) path
-named_kept v files paths path h e =
-    ap (λ o. or_else o (file_at files path)) e ∙ sym (at_both (taken_in v) files path) ∙ (all_kept v files paths h).contents path
+-- the file at a path is one that the pip takes by name, or else a member of an opaque directory
+pub named_first : (v : ViewData) (path : Atoms) (bytes : List ℕ) → Some bytes ≡ file_at (taken_in v) path → Some bytes ≡ file_at (named_in v) path
+named_first v path bytes e = ap (λ o. or_else o (file_at (opaque_in v) path)) e ∙ sym (at_named v path)
 
--- whether a file lies below a path, by those that the pip takes by name and those that are kept
-pub below_named : (v : ViewData) (files : Files) (paths : List Atoms) (path : Atoms) (t : Bool) → KeepsView v files paths
-    → t ≡ has_below (taken_in v) path → (t || list_any (λ p. is_below p path) paths) ≡ has_below (named_in v) path
-below_named v files paths path t h e =
-    ap (λ b. b || list_any (λ p. is_below p path) paths) e
-    ∙ ap (λ b. has_below (taken_in v) path || b) (ap (list_any (λ p. is_below p path)) h.paths_are ∙ below_files path files)
-    ∙ sym (below_both (taken_in v) files path) ∙ (all_kept v files paths h).directories path
+pub named_member : (v : ViewData) (path : Atoms) → None ≡ file_at (taken_in v) path → file_at (opaque_in v) path ≡ file_at (named_in v) path
+named_member v path e = ap (λ o. or_else o (file_at (opaque_in v) path)) e ∙ sym (at_named v path)
+
+-- whether a file lies below a path, by those that the pip takes by name and the members of opaque directories
+pub below_named : (v : ViewData) (path : Atoms) (t : Bool) → t ≡ has_below (taken_in v) path
+    → (t || has_below (opaque_in v) path) ≡ has_below (named_in v) path
+below_named v path t e =
+    ap (λ b. b || has_below (opaque_in v) path) e
+    ∙ sym (ap (λ (fs : Files). has_below fs path) (split_in v) ∙ below_both (taken_in v) (opaque_in v) path)
 
 pub below_first : (v : ViewData) (path : Atoms) (t : Bool) → t ≡ true → t ≡ has_below (taken_in v) path → true ≡ has_below (named_in v) path
 below_first v path t there e =

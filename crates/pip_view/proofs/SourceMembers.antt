@@ -51,7 +51,7 @@ names_both (x ∷ xs) ys dir = ap (cons_option (next_atom dir x.0)) (names_both 
 abbrev passing : (Atoms → Bool) → Files → Files
 passing test files = filter (λ (f : Atoms × List ℕ). test f.0) files
 
-at_passing : (test : Atoms → Bool) (files : Files) (p : Atoms) → file_at (passing test files) p ≡ cond (test p) (file_at files p) None
+pub at_passing : (test : Atoms → Bool) (files : Files) (p : Atoms) → file_at (passing test files) p ≡ cond (test p) (file_at files p) None
 at_passing test [] p = nothing (test p) None
   where
     nothing : (t : Bool) (o : Option (List ℕ)) → o ≡ cond t o o

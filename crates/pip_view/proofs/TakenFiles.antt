@@ -79,7 +79,7 @@ below_after dir (x ∷ xs) ys = by_test (is_below (input_path x) dir) (below_aft
     by_test true more = refl
     by_test false more = more
 
-put_after : (o : Option (List ℕ)) (xs ys : List (List ℕ)) → cons_option o (xs ++ ys) ≡ cons_option o xs ++ ys
+pub put_after : (o : Option (List ℕ)) (xs ys : List (List ℕ)) → cons_option o (xs ++ ys) ≡ cons_option o xs ++ ys
 put_after None xs ys = refl
 put_after (Some n) xs ys = refl
 

@@ -1,5 +1,5 @@
 -- Paths below a directory are next to one another in a list that rises by path.
-use Rattle.std.proofs.Common.{append_assoc, ◌≡◌, ◌≢◌, ℕ, ◌<◌, zero, suc, Bool, true, false, not, ◌||◌, cond, List, [], ◌∷◌, ◌++◌, length, filter, get_or, drop, codes, refl, ap, sym, ◌∙◌, subst, inl, inr, arith}
+use Rattle.std.proofs.Common.{append_assoc, ◌≡◌, ◌≢◌, ℕ, ◌<◌, zero, suc, Bool, true, false, ◌||◌, cond, List, [], ◌∷◌, ◌++◌, length, filter, get_or, drop, codes, refl, ap, sym, ◌∙◌, subst, inl, inr, arith}
 use Rattle.std.specs.Cmp.Lexicographic.{slice_cmp}
 use Rattle.std.specs.List.{AllByRecursion, AllWithin, cons_option, filter_map, list_any}
 use Rattle.std.specs.List.Sorted.{IsPartitionPoint, IsPartitionedBy, IsStrictlySortedBy}
@@ -17,8 +17,7 @@ use Rattle.own_writes.specs.Below.{is_below, next_atom}
 use Rattle.own_writes.specs.Writes.{has_below, own_names}
 use Rattle.own_writes.proofs.BelowByAtoms.{below_decides}
 use Rattle.own_writes.proofs.NextAtoms.{none_next}
-use Rattle.pip_view.specs.Ranges.{AreFilePaths, comes_before, first_below, not_root, prefix_below}
-use Rattle.pip_view.specs.Sees.{is_root}
+use Rattle.pip_view.specs.Ranges.{AreFilePaths, comes_before, first_below, prefix_below}
 
 -- ## Texts that begin with a prefix
 
@@ -225,34 +224,8 @@ names_filtered dir (p ∷ ps) = by_test (is_below p dir) refl (names_filtered di
     by_test true e so_far = ap (cons_option (next_atom dir p)) so_far
     by_test false e so_far = so_far ∙ sym (ap (λ o. cons_option o (filter_map (next_atom dir) ps)) (none_next dir p e))
 
--- ## Paths of files, but for the root
+-- ## Source files
 
-root_is_not_below : (path dir : Atoms) → is_root path ≡ true → is_below path dir ≡ false
-root_is_not_below [] [] e = refl
-root_is_not_below [] (d ∷ ds) e = refl
-root_is_not_below (a ∷ as') dir e = absurd (false≢true e)
-
-pub below_files : (dir : Atoms) (files : Files) → list_any (λ p. is_below p dir) (filter not_root (paths_of files)) ≡ has_below files dir
-below_files dir [] = refl
-below_files dir (f ∷ fs) = by_test (is_root f.0) refl (below_files dir fs)
-  where
-    by_test : (t : Bool) → is_root f.0 ≡ t → list_any (λ p. is_below p dir) (filter not_root (paths_of fs)) ≡ has_below fs dir
-        → list_any (λ p. is_below p dir) (cond (not t) (f.0 ∷ filter not_root (paths_of fs)) (filter not_root (paths_of fs)))
-        ≡ (is_below f.0 dir || has_below fs dir)
-    by_test true e more = more ∙ ap (λ t. t || has_below fs dir) (sym (root_is_not_below f.0 dir e))
-    by_test false e more = ap (λ t. is_below f.0 dir || t) more
-
-pub names_files : (dir : Atoms) (files : Files) → filter_map (next_atom dir) (filter not_root (paths_of files)) ≡ own_names files dir
-names_files dir [] = refl
-names_files dir (f ∷ fs) = by_test (is_root f.0) refl (names_files dir fs)
-  where
-    by_test : (t : Bool) → is_root f.0 ≡ t → filter_map (next_atom dir) (filter not_root (paths_of fs)) ≡ own_names fs dir
-        → filter_map (next_atom dir) (cond (not t) (f.0 ∷ filter not_root (paths_of fs)) (filter not_root (paths_of fs)))
-        ≡ cons_option (next_atom dir f.0) (own_names fs dir)
-    by_test true e more = more ∙ sym (ap (λ o. cons_option o (own_names fs dir)) (none_next dir f.0 (root_is_not_below f.0 dir e)))
-    by_test false e more = ap (cons_option (next_atom dir f.0)) more
-
--- source files have no root among them
 pub below_sources : (dir : Atoms) (files : Files) → list_any (λ p. is_below p dir) (paths_of files) ≡ has_below files dir
 below_sources dir [] = refl
 below_sources dir (f ∷ fs) = ap (λ t. is_below f.0 dir || t) (below_sources dir fs)

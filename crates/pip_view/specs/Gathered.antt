@@ -1,17 +1,54 @@
--- The members of one directory, if it is opaque.
-use Rattle.std.specs.Prelude.{if◌then◌else◌, List, [], filter}
+-- The members of opaque directories, and where they lie.
+use Rattle.std.specs.Prelude.{ℕ, ◌||◌, if◌then◌else◌, List, [], filter, map, Option, Some, None}
+use Rattle.std.specs.Borrow.{Bor}
+use Rattle.std.specs.List.{flat_map}
+use Rattle.bx_tree.specs.Paths.{Atoms, same_path}
 use Rattle.bx_tree.specs.Trees.{Files}
+use Rattle.bx_tree.specs.declared.file_input.FileInput.{FileInput}
+use Rattle.bx_tree.specs.declared.file_input.FileInput.TheVariants.{Source}
 use Rattle.own_writes.specs.Below.{is_below}
+use Rattle.pip_types.specs.Inputs.{input_path}
 use Rattle.pip_types.specs.declared.dir_inputs.DirInput.{DirInput}
 use Rattle.pip_types.specs.declared.dir_inputs.DirInput.TheVariants.{Sealed, Opaque}
+use Rattle.pip_types.specs.declared.made.MadeFile.{MadeFile}
 use Rattle.pip_view.specs.InputFiles.{insert_by_pip, is_opaque}
+use Rattle.pip_view.specs.Taken.{taken_names}
 use Rattle.pip_inputs.specs.Results.{ByPip, files_by}
+
+-- the files that lie below a directory
+abbrev pub below_of : Atoms → Files → Files
+below_of dir files = filter (λ f. is_below f.0 dir) files
 
 -- the members of an opaque directory, and none of a seal
 abbrev pub opaque_members : ByPip → DirInput → Files
 opaque_members made (Sealed pip form root) = []
-opaque_members made (Opaque pip path) = filter (λ f. is_below f.0 path) (files_by made pip)
+opaque_members made (Opaque pip path) = below_of path (files_by made pip)
+
+-- directories that are borrowed
+abbrev pub dirs_now : List (Bor DirInput) → List DirInput
+dirs_now = map (λ (d : Bor DirInput). d.now)
+
+-- the members of all these directories, one directory after the other
+abbrev pub members_of : ByPip → List DirInput → Files
+members_of made dirs = flat_map (opaque_members made) dirs
 
 -- directories in the order of their pips with one more, if it is opaque
 abbrev pub with_opaque : DirInput → List DirInput → List DirInput
 with_opaque dir dirs = if is_opaque dir then insert_by_pip dir dirs else dirs
+
+-- the deeper of two directories, if one contains the other or is the other
+abbrev pub deeper : Atoms → Atoms → Option Atoms
+deeper dir other =
+    if is_below other dir then Some other
+    else (if same_path dir other || is_below dir other then Some dir else None)
+
+-- a file that a pip made, as one of a list of files that a pip takes: its path is what is searched
+abbrev pub as_taken : MadeFile → FileInput
+as_taken file = Source file.path
+
+abbrev pub all_taken : List MadeFile → List FileInput
+all_taken files = map as_taken files
+
+-- the names that those of the files which lie below one directory add to the listing of another
+abbrev pub names_within : Atoms → Atoms → List FileInput → List (List ℕ)
+names_within top dir files = taken_names top (filter (λ (f : FileInput). is_below (input_path f) dir) files)

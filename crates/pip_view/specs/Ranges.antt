@@ -1,21 +1,17 @@
 -- Where the paths below a directory are in a list that rises by path.
-use Rattle.std.specs.Prelude.{◌≢◌, ℕ, Bool, not, if◌then◌else◌, List, [], ◌∷◌, ◌++◌, codes}
+use Rattle.std.specs.Prelude.{◌≢◌, ℕ, Bool, if◌then◌else◌, List, [], ◌∷◌, ◌++◌, codes}
 use Rattle.std.specs.Cmp.Lexicographic.{slice_cmp}
 use Rattle.std.specs.List.{AllByRecursion}
 use Rattle.std.specs.List.Sorted.{IsStrictlySortedBy}
 use Rattle.std.specs.Ordering.{is_lt, nat_cmp}
 use Rattle.bx_tree.specs.Paths.{Atoms, IsPath, path_cmp, path_text}
 use Rattle.own_writes.specs.Below.{is_below}
-use Rattle.pip_view.specs.Sees.{is_root}
 
 -- paths of files, in order
 pub record AreFilePaths (paths : List Atoms) : Type 0 where
   pub are_paths : AllByRecursion IsPath paths
   pub no_root : AllByRecursion (λ path. path ≢ []) paths
   pub rising : IsStrictlySortedBy path_cmp paths
-
-abbrev pub not_root : Atoms → Bool
-not_root path = not (is_root path)
 
 -- the bytes with which the text of each path below a directory begins
 abbrev pub prefix_below : Atoms → List ℕ

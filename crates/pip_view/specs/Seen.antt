@@ -2,21 +2,21 @@
 use Rattle.std.specs.Prelude.{◌≡◌, ◌↔◌, ℕ, Bool, ◌||◌, if◌then◌else◌, List, [], Contains}
 use Rattle.std.specs.Prelude.{Option, Some, None, is_some}
 use Rattle.std.specs.Prelude.{◌<◌, filter, length, slice_get}
-use Rattle.std.specs.List.{flat_map, list_any}
+use Rattle.std.specs.List.{list_any}
 use Rattle.bx_tree.specs.Paths.{Atoms}
-use Rattle.bx_tree.specs.Trees.{Files, file_at, paths_of}
+use Rattle.bx_tree.specs.Trees.{Files, file_at}
 use Rattle.observed.specs.declared.access.Answer.{Answer}
 use Rattle.observed.specs.declared.access.Answer.TheVariants as answers
 use Rattle.observed.specs.declared.ask.Ask.{Ask}
 use Rattle.observed.specs.declared.ask.AskKind.{AskKind}
 use Rattle.own_writes.specs.Writes.{has_below, own_names}
+use Rattle.pip_types.specs.declared.dir_inputs.DirInput.{DirInput}
 use Rattle.pip_types.specs.declared.pip.Pip.{Pip}
 use Rattle.pip_types.specs.declared.pip.ProcessDesc.{ProcessDesc}
 use Rattle.pip_outputs.specs.Producing.{dirs_at, least_unseen}
-use Rattle.pip_view.specs.Gathered.{opaque_members}
+use Rattle.pip_view.specs.Gathered.{members_of}
 use Rattle.pip_view.specs.InputFiles.{by_pip, is_opaque, is_source_of, named_files}
 use Rattle.pip_inputs.specs.Plain.{process_in}
-use Rattle.pip_view.specs.Ranges.{AreFilePaths, not_root}
 use Rattle.pip_inputs.specs.Results.{ByPip}
 use Rattle.pip_view.specs.Sees.{as_input, as_source, is_root, sees}
 use Rattle.pip_view.specs.Taken.{taken_bytes, taken_files}
@@ -50,7 +50,7 @@ taken_in v = taken_by v (process_in (slice_get v.pips v.pip))
 -- the members of the opaque directories that a process takes
 abbrev pub opaque_by : ViewData → Option ProcessDesc → Files
 opaque_by v None = []
-opaque_by v (Some d) = flat_map (opaque_members v.inputs) (by_pip (filter is_opaque d.dirs))
+opaque_by v (Some d) = members_of v.inputs (by_pip (filter is_opaque d.dirs))
 
 abbrev pub opaque_in : ViewData → Files
 opaque_in v = opaque_by v (process_in (slice_get v.pips v.pip))
@@ -86,9 +86,7 @@ pub record AnswerAs (files others : Files) : Type 0 where
   pub directories : (p : Atoms) → has_below files p ≡ has_below others p
   pub names : (p : Atoms) (n : List ℕ) → Contains (own_names files p) n ↔ Contains (own_names others p) n
 
--- what a view keeps: the members of opaque directories by path, and their paths but for the root
-pub record KeepsView (v : ViewData) (kept : Files) (paths : List Atoms) : Type 0 where
+-- what a view keeps: the opaque directories that its pip takes, those of the least pip first
+pub record KeepsView (v : ViewData) (kept : List DirInput) : Type 0 where
   pub there : v.pip < length v.pips
-  pub answer : AnswerAs kept (opaque_in v)
-  pub paths_are : paths ≡ filter not_root (paths_of kept)
-  pub order : AreFilePaths paths
+  pub dirs : kept ≡ by_pip (filter is_opaque (dirs_at (slice_get v.pips v.pip)))

@@ -11,6 +11,7 @@ mod by_path;
 mod file_list;
 mod laws;
 mod listing;
+mod made_list;
 mod members;
 mod taken;
 mod view;

@@ -1,63 +1,33 @@
-//! The members of the opaque directories that a process takes.
-ghost use Rattle.std.specs.Prelude.{◌≡◌, ◌++◌, ◌∷◌, [], IfOk, OnOk, filter, map, nat_le};
+//! The members of the opaque directories that a process takes, found in the lists of the pips that made them.
+ghost use Rattle.std.specs.Prelude.{◌≡◌, ◌||◌, ◌++◌, [], IfOk, OnOk, filter, nat_le};
 ghost use Rattle.std.specs.Borrow.{Bor};
-ghost use Rattle.std.specs.List.{flat_map, position_or_len};
+ghost use Rattle.std.specs.List.{position_or_len};
+ghost use Rattle.std.specs.Option.{option_copied};
+ghost use Rattle.bx_tree.specs.Paths.{same_path};
+ghost use Rattle.bx_tree.specs.Trees.{file_at};
+ghost use Rattle.observed.specs.Texts.{texts_now};
 ghost use Rattle.own_writes.specs.Below.{is_below as lies_below};
+ghost use Rattle.own_writes.specs.Writes.{has_below as file_below, own_names};
+ghost use Rattle.pip_inputs.specs.Results.{files_by};
 ghost use Rattle.pip_types.specs.Dirs.{dir_pip};
-ghost use Rattle.pip_types.specs.Made.{made_files};
+ghost use Rattle.pip_types.specs.Made.{RisingFiles, made_files};
 ghost use Rattle.pip_types.specs.declared.dir_inputs.DirInput.{DirInput as AnyDir};
+ghost use Rattle.pip_view.specs.Gathered.{below_of, deeper as deeper_of, dirs_now, members_of};
 ghost use Rattle.pip_view.specs.Gathered.{opaque_members, with_opaque};
-ghost use Rattle.pip_view.specs.InputFiles.{insert_by_pip as with_dir};
-ghost use Rattle.pip_view.specs.InputFiles.{by_pip, is_opaque as opaque};
-ghost use Rattle.pip_view.specs.Seen.{AnswerAs, opaque_in};
+ghost use Rattle.pip_view.specs.InputFiles.{by_pip, insert_by_pip as with_dir, is_opaque as opaque};
+ghost use Rattle.tool_values.specs.Listings.{add_names as with_names};
+ghost use Rattle.tool_values.specs.NameSets.{names_now};
 
 use crate::Memory;
-use crate::below::is_below;
-use crate::by_path::made_of;
+use crate::below::{is_below, prefix_of};
+use crate::made_list::{add_below, has_below};
+use bx_digest::Blob;
 use bx_tree::Path;
-use pip_inputs::{Inputs, no_files, process_at};
-use pip_model::{DirInput, Made, MadeFile, Pip, Sources};
+use pip_inputs::Inputs;
+use pip_model::{DirInput, MadeFile};
 use std::alloc::Global;
-use std::collections::BTreeMap;
-
-// Adds a file that a pip made, if it lies below a directory.
-fn add_if_below(found: &mut Vec<MadeFile>, file: &MadeFile, dir: &Path) -> Result<(), Memory>
-    ensures { OnOk result (made_files found.new.items ≡ made_files found.old.items
-        ++ filter (λ f. lies_below f.0 dir.now) ((file.now.path, file.now.blob) ∷ [])) }
-{
-    if is_below(&file.path, dir) {
-        found.push(MadeFile {
-            path: file.path.share()?,
-            blob: file.blob.share()?,
-        })?;
-    }
-    Ok(())
-}
-
-// Adds the files that a pip made below a directory.
-fn add_made(found: &mut Vec<MadeFile>, files: &[MadeFile], dir: &Path) -> Result<(), Memory>
-    ensures { OnOk result (made_files found.new.items ≡ made_files found.old.items
-        ++ filter (λ f. lies_below f.0 dir.now) (made_files files.now)) }
-{
-    'files: for file in files {
-        add_if_below(found, file, dir)?;
-    }
-    Ok(())
-}
-
-// Adds the members of an opaque directory.
-fn add_opaque(found: &mut Vec<MadeFile>, inputs: &Inputs, dir: &DirInput) -> Result<(), Memory>
-    ensures { OnOk result (made_files found.new.items
-        ≡ made_files found.old.items ++ opaque_members inputs.now dir.now) }
-{
-    match dir {
-        DirInput::Opaque(pip, path) => match inputs.find(*pip) {
-            Some(made) => add_made(found, made.files(), path),
-            None => Ok(()),
-        },
-        DirInput::Sealed(_, _, _) => Ok(()),
-    }
-}
+use std::collections::BTreeSet;
+use tool_values::add_names;
 
 // The pip whose directory this is.
 fn pip_of(dir: &DirInput) -> u32
@@ -90,8 +60,8 @@ fn place_by_pip(sorted: &[&DirInput], pip: u32) -> usize
 
 // Puts a directory before the first of a greater pip, or of the pip itself.
 fn insert_by_pip<'a>(sorted: &mut Vec<&'a DirInput>, dir: &'a DirInput) -> Result<(), Memory>
-    ensures { OnOk result (map (λ (d : Bor AnyDir). d.now) sorted.new.items
-        ≡ with_dir dir.entry.now (map (λ (d : Bor AnyDir). d.now) sorted.old.items)) }
+    ensures { OnOk result
+        (dirs_now sorted.new.items ≡ with_dir dir.entry.now (dirs_now sorted.old.items)) }
 {
     let place = place_by_pip(sorted.as_slice(), pip_of(dir));
     sorted.insert(place, dir)?;
@@ -100,8 +70,8 @@ fn insert_by_pip<'a>(sorted: &mut Vec<&'a DirInput>, dir: &'a DirInput) -> Resul
 
 // Puts a directory in its place, if it is opaque.
 fn insert_opaque<'a>(sorted: &mut Vec<&'a DirInput>, dir: &'a DirInput) -> Result<(), Memory>
-    ensures { OnOk result (map (λ (d : Bor AnyDir). d.now) sorted.new.items
-        ≡ with_opaque dir.entry.now (map (λ (d : Bor AnyDir). d.now) sorted.old.items)) }
+    ensures { OnOk result
+        (dirs_now sorted.new.items ≡ with_opaque dir.entry.now (dirs_now sorted.old.items)) }
 {
     if is_opaque(dir) {
         return insert_by_pip(sorted, dir);
@@ -110,9 +80,8 @@ fn insert_opaque<'a>(sorted: &mut Vec<&'a DirInput>, dir: &'a DirInput) -> Resul
 }
 
 // The opaque directories in the order of their pips.
-fn opaque_by_pip(alloc: Global, dirs: &[DirInput]) -> Result<Vec<&DirInput>, Memory>
-    ensures { IfOk result (λ sorted.
-        map (λ (d : Bor AnyDir). d.now) sorted.items ≡ by_pip (filter opaque dirs.entry.now)) }
+pub(crate) fn opaque_by_pip(alloc: Global, dirs: &[DirInput]) -> Result<Vec<&DirInput>, Memory>
+    ensures { IfOk result (λ sorted. dirs_now sorted.items ≡ by_pip (filter opaque dirs.entry.now)) }
 {
     let mut sorted = Vec::new(alloc);
     let mut left = dirs;
@@ -123,75 +92,211 @@ fn opaque_by_pip(alloc: Global, dirs: &[DirInput]) -> Result<Vec<&DirInput>, Mem
     Ok(sorted)
 }
 
-// Adds the members of opaque directories, one after the other.
-fn add_each_opaque(
-    found: &mut Vec<MadeFile>,
-    inputs: &Inputs,
+// No files.
+fn no_made<'a>() -> &'a [MadeFile]
+    ensures files { made_files result.now ≡ [] }
+    ensures rising { RisingFiles (made_files result.now) }
+{
+    &[]
+}
+
+// The files that a pip made, in order.
+fn made_by(inputs: &Inputs, pip: u32) -> &[MadeFile]
+    ensures files { made_files result.now ≡ files_by inputs.entry.now pip }
+    ensures rising { RisingFiles (made_files result.now) }
+{
+    match inputs.find(pip) {
+        Some(made) => made.files(),
+        None => no_made(),
+    }
+}
+
+// Whether a path is a directory or lies below it.
+fn is_at_or_below(path: &Path, dir: &Path) -> bool
+    ensures { result ≡ (same_path path.now dir.now || lies_below path.now dir.now) }
+{
+    *path == *dir || is_below(path, dir)
+}
+
+// The deeper of two directories, if one contains the other or is the other.
+fn deeper<'a>(dir: &'a Path, other: &'a Path) -> Option<&'a Path>
+    ensures { option_copied result ≡ deeper_of dir.entry.now other.entry.now }
+{
+    if is_below(other, dir) {
+        return Some(other);
+    }
+    if is_at_or_below(dir, other) {
+        return Some(dir);
+    }
+    None
+}
+
+// The file that a pip made at a path.
+fn made_at<'a>(inputs: &'a Inputs, pip: u32, path: &Path) -> Option<&'a Blob>
+    ensures { option_copied result ≡ file_at (files_by inputs.entry.now pip) path.now }
+{
+    match inputs.find(pip) {
+        Some(made) => made.find(path),
+        None => None,
+    }
+}
+
+// The file at a path that a pip made below a directory.
+fn made_below<'a>(inputs: &'a Inputs, pip: u32, dir: &Path, path: &Path) -> Option<&'a Blob>
+    ensures { option_copied result
+        ≡ file_at (below_of dir.now (files_by inputs.entry.now pip)) path.now }
+{
+    if !is_below(path, dir) {
+        return None;
+    }
+    made_at(inputs, pip, path)
+}
+
+// The member of an opaque directory at a path.
+fn member_at<'a>(inputs: &'a Inputs, dir: &DirInput, path: &Path) -> Option<&'a Blob>
+    ensures { option_copied result ≡ file_at (opaque_members inputs.entry.now dir.now) path.now }
+{
+    match dir {
+        DirInput::Opaque(pip, root) => made_below(inputs, *pip, root, path),
+        DirInput::Sealed(_, _, _) => None,
+    }
+}
+
+// The member at a path of the first of these directories that has one.
+pub(crate) fn find_member<'a>(
+    inputs: &'a Inputs,
     dirs: &[&DirInput],
-) -> Result<(), Memory>
-    ensures { OnOk result (made_files found.new.items ≡ made_files found.old.items
-        ++ flat_map (opaque_members inputs.now) (map (λ (d : Bor AnyDir). d.now) dirs.now)) }
+    path: &Path,
+) -> Option<&'a Blob>
+    ensures { option_copied result
+        ≡ file_at (members_of inputs.entry.now (dirs_now dirs.now)) path.now }
 {
     'dirs: for dir in dirs {
-        add_opaque(found, inputs, dir)?;
+        if let Some(blob) = member_at(inputs, dir, path) {
+            return Some(blob);
+        }
     }
-    Ok(())
+    None
 }
 
-// Adds the members of all opaque directories, those of the least pip first.
-fn add_all_opaque(
+// Whether a file that a pip made below a directory lies below another.
+fn has_made(
     alloc: Global,
-    found: &mut Vec<MadeFile>,
-    inputs: &Inputs,
-    dirs: &[DirInput],
-) -> Result<(), Memory>
-    ensures { OnOk result (made_files found.new.items ≡ made_files found.old.items
-        ++ flat_map (opaque_members inputs.now) (by_pip (filter opaque dirs.now))) }
-{
-    let sorted = opaque_by_pip(alloc, dirs)?;
-    add_each_opaque(found, inputs, sorted.as_slice())
-}
-
-// The files by path, the first of those at a path.
-fn by_path(alloc: Global, given: Vec<MadeFile>) -> Result<Made, Memory>
-    ensures { IfOk result (λ files. AnswerAs files (made_files given.items)) }
-{
-    let mut found = given;
-    let mut files = BTreeMap::new(alloc);
-    'files: while let Some(file) = found.pop() {
-        let MadeFile { path, blob } = file;
-        files.insert(path, blob)?;
-    }
-    made_of(alloc, files)
-}
-
-// The members of the opaque directories among these, by path.
-fn members(alloc: Global, inputs: &Inputs, dirs: &[DirInput]) -> Result<Made, Memory>
-    ensures { IfOk result (λ files.
-        AnswerAs files (flat_map (opaque_members inputs.now) (by_pip (filter opaque dirs.now)))) }
-{
-    let mut found = Vec::new(alloc);
-    add_all_opaque(alloc, &mut found, inputs, dirs)?;
-    by_path(alloc, found)
-}
-
-/// The members of the opaque directories that a pip takes, which takes some only if it is a process.
-pub(crate) fn opaque_files(
-    alloc: Global,
-    pips: &[Pip],
-    sources: &Sources,
     inputs: &Inputs,
     pip: u32,
-) -> Result<Made, Memory>
-    ensures { IfOk result (λ files. AnswerAs files (opaque_in (record {
-      pips = pips.now;
-      tree = sources.now;
-      inputs = inputs.now;
-      pip = pip;
-    }))) }
+    dir: &Path,
+    path: &Path,
+) -> Result<bool, Memory>
+    ensures { IfOk result (λ yes. yes
+        ≡ file_below (below_of dir.now (files_by inputs.now pip)) path.now) }
 {
-    match process_at(pips, pip) {
-        Some(process) => members(alloc, inputs, process.dirs.dirs()),
-        None => no_files(alloc),
+    let Some(root) = deeper(dir, path) else {
+        return Ok(false);
+    };
+    let prefix = prefix_of(alloc, root)?;
+    let files = made_by(inputs, pip);
+    Ok(has_below(files, prefix.as_slice(), root))
+}
+
+// Whether a member of an opaque directory lies below a path.
+fn has_member_of(
+    alloc: Global,
+    inputs: &Inputs,
+    dir: &DirInput,
+    path: &Path,
+) -> Result<bool, Memory>
+    ensures { IfOk result (λ yes. yes ≡ file_below (opaque_members inputs.now dir.now) path.now) }
+{
+    match dir {
+        DirInput::Opaque(pip, root) => has_made(alloc, inputs, *pip, root, path),
+        DirInput::Sealed(_, _, _) => Ok(false),
     }
+}
+
+// Whether a member of one of these directories lies below a path.
+pub(crate) fn has_member(
+    alloc: Global,
+    inputs: &Inputs,
+    dirs: &[&DirInput],
+    path: &Path,
+) -> Result<bool, Memory>
+    ensures { IfOk result (λ yes. yes
+        ≡ file_below (members_of inputs.now (dirs_now dirs.now)) path.now) }
+{
+    'dirs: for dir in dirs {
+        let found = has_member_of(alloc, inputs, dir, path)?;
+        if found {
+            return Ok(true);
+        }
+    }
+    Ok(false)
+}
+
+// Adds the names, in the listing of a path, of the files that a pip made below a directory.
+fn add_made<'a>(
+    alloc: Global,
+    names: &mut Vec<&'a [u8]>,
+    inputs: &'a Inputs,
+    pip: u32,
+    dir: &Path,
+    path: &Path,
+) -> Result<(), Memory>
+    ensures { OnOk result (texts_now names.new.items ≡ texts_now names.old.items
+        ++ own_names (below_of dir.now (files_by inputs.entry.now pip)) path.now) }
+{
+    let Some(root) = deeper(dir, path) else {
+        return Ok(());
+    };
+    let prefix = prefix_of(alloc, root)?;
+    let files = made_by(inputs, pip);
+    add_below(names, files, prefix.as_slice(), root, path)
+}
+
+// Adds the names, in the listing of a path, of the members of an opaque directory.
+fn add_members_of<'a>(
+    alloc: Global,
+    names: &mut Vec<&'a [u8]>,
+    inputs: &'a Inputs,
+    dir: &DirInput,
+    path: &Path,
+) -> Result<(), Memory>
+    ensures { OnOk result (texts_now names.new.items
+        ≡ texts_now names.old.items ++ own_names (opaque_members inputs.entry.now dir.now) path.now) }
+{
+    match dir {
+        DirInput::Opaque(pip, root) => add_made(alloc, names, inputs, *pip, root, path),
+        DirInput::Sealed(_, _, _) => Ok(()),
+    }
+}
+
+// The names, in the listing of a path, of the members of these directories.
+fn names_of<'a>(
+    alloc: Global,
+    inputs: &'a Inputs,
+    dirs: &[&DirInput],
+    path: &Path,
+) -> Result<Vec<&'a [u8]>, Memory>
+    ensures { IfOk result (λ names. texts_now names.items
+        ≡ own_names (members_of inputs.entry.now (dirs_now dirs.now)) path.now) }
+{
+    let mut names = Vec::new(alloc);
+    'dirs: for dir in dirs {
+        add_members_of(alloc, &mut names, inputs, dir, path)?;
+    }
+    Ok(names)
+}
+
+// Adds the names, in the listing of a path, of the members of these directories.
+pub(crate) fn add_members(
+    alloc: Global,
+    names: &mut BTreeSet<Vec<u8>>,
+    inputs: &Inputs,
+    dirs: &[&DirInput],
+    path: &Path,
+) -> Result<(), Memory>
+    ensures { OnOk result (names_now names.new.keys ≡ with_names (names_now names.old.keys)
+        (own_names (members_of inputs.now (dirs_now dirs.now)) path.now)) }
+{
+    let found = names_of(alloc, inputs, dirs, path)?;
+    add_names(alloc, names, found.as_slice())
 }

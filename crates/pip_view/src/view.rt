@@ -1,9 +1,7 @@
 //! What a pip sees.
-ghost use Rattle.std.specs.Prelude.{◌≡◌, ◌≢◌, ◌<◌, ◌||◌, ◌∷◌, ◌++◌, [], IfOk, OnOk, filter, if◌then◌else◌};
+ghost use Rattle.std.specs.Prelude.{◌≡◌, ◌≢◌, ◌<◌, ◌||◌, IfOk, OnOk, if◌then◌else◌};
 ghost use Rattle.std.specs.Prelude.{length, slice_get};
 ghost use Rattle.std.specs.List.{filter_map, list_any};
-ghost use Rattle.bx_tree.specs.Paths.{IsPath};
-ghost use Rattle.bx_tree.specs.Trees.{paths_of as paths_of_files};
 ghost use Rattle.own_writes.specs.Below.{next_atom};
 ghost use Rattle.std.specs.Option.{option_copied};
 ghost use Rattle.bx_tree.specs.Trees.{file_at};
@@ -11,25 +9,24 @@ ghost use Rattle.own_writes.specs.Writes.{has_below as file_below, own_names};
 ghost use Rattle.pip_inputs.specs.Plain.{process_in};
 ghost use Rattle.tool_values.specs.Listings.{add_names as with_names};
 ghost use Rattle.tool_values.specs.NameSets.{names_now};
-ghost use Rattle.pip_types.specs.Made.{RisingFiles, made_files};
 ghost use Rattle.pip_outputs.specs.Producing.{dirs_at as dirs_of_pip};
 ghost use Rattle.pip_view.specs.InputFiles as files;
-ghost use Rattle.pip_view.specs.Ranges.{AreFilePaths, not_root};
+ghost use Rattle.pip_view.specs.Ranges.{AreFilePaths};
 ghost use Rattle.pip_view.specs.Sees as seen;
-ghost use Rattle.pip_view.specs.Seen.{answer_elsewhere, answer_unnamed, is_sealed_at, named_in, taken_in};
-ghost use Rattle.pip_view.specs.Seen.{is_unseen_at, view_answers};
+ghost use Rattle.pip_view.specs.Seen.{answer_elsewhere, answer_unnamed, is_sealed_at, is_unseen_at};
+ghost use Rattle.pip_view.specs.Seen.{named_in, opaque_in, taken_in, view_answers};
 ghost use Rattle.pip_view.specs.Sees.{sees};
 
 use crate::Memory;
 use crate::below::{has_below, is_below, text_below};
 use crate::listing::names_below;
-use crate::members::opaque_files;
+use crate::members::{add_members, find_member, has_member, opaque_by_pip};
 use crate::taken::{add_taken, has_taken, taken_blob};
 use bx_digest::Blob;
 use bx_tree::Path;
 use observed::{Answer, Ask, AskKind, View};
 use pip_inputs::{Inputs, process_at};
-use pip_model::{DirInput, Made, MadeFile, Plan, ProcessDesc, SealForm, Sources};
+use pip_model::{DirInput, Plan, ProcessDesc, SealForm, Sources};
 use pip_outputs::{dirs_at, least_unseen};
 use std::alloc::Global;
 use std::collections::BTreeSet;
@@ -43,12 +40,11 @@ pub struct PipView<'a> {
     sources: &'a Sources,
     inputs: &'a Inputs,
     pip: u32,
-    files: Made,
-    paths: Vec<Path>,
+    opaque: Vec<&'a DirInput>,
 }
 
 impl<'a> Model for PipView<'a> {
-    ghost use Rattle.std.specs.Prelude.{length};
+    ghost use Rattle.pip_view.specs.Gathered.{dirs_now};
     ghost use Rattle.pip_view.specs.Seen.{KeepsView, ViewData};
 
     ghost Value = { ViewData };
@@ -65,7 +61,7 @@ impl<'a> Model for PipView<'a> {
       tree = v.sources.now;
       inputs = v.inputs.now;
       pip = v.pip;
-    }) v.files v.paths.items };
+    }) (dirs_now v.opaque.items) };
 }
 
 // Whether a source file is a member of a seal of this form and root.
@@ -91,8 +87,7 @@ fn is_directly_in(path: &Path, dir: &Path) -> bool
 
 // Whether a path is the root.
 fn is_root(path: &Path) -> bool
-    ensures root { result ≡ seen.is_root path.now }
-    ensures is_path { IsPath path.now }
+    ensures { result ≡ seen.is_root path.now }
 {
     path.text() == "."
 }
@@ -157,32 +152,6 @@ fn directory_if(there: bool) -> Answer
     }
 }
 
-// Adds a path, unless it is the root.
-fn add_path(paths: &mut Vec<Path>, path: &Path) -> Result<(), Memory>
-    ensures paths { OnOk result (paths.new.items ≡ paths.old.items ++ filter not_root (path.now ∷ [])) }
-    ensures is_path { IsPath path.now }
-{
-    if is_root(path) {
-        return Ok(());
-    }
-    paths.push(path.share()?)?;
-    Ok(())
-}
-
-// The paths of files, but for the root, below which all others lie.
-fn paths_of(alloc: Global, files: &[MadeFile]) -> Result<Vec<Path>, Memory>
-    requires { RisingFiles (made_files files.now) }
-    ensures paths { IfOk result (λ paths.
-        paths.items ≡ filter not_root (paths_of_files (made_files files.now))) }
-    ensures order { IfOk result (λ paths. AreFilePaths paths.items) }
-{
-    let mut paths = Vec::new(alloc);
-    'files: for file in files {
-        add_path(&mut paths, &file.path)?;
-    }
-    Ok(paths)
-}
-
 // Adds the names of those of the paths that lie below a directory.
 fn add_below(
     alloc: Global,
@@ -211,16 +180,14 @@ impl<'a> PipView<'a> {
         ensures { IfOk result (λ view. ⟦<PipView<'a> as View>⟧.answers view
             ≡ sees plan.now.pips sources.now inputs.now pip) }
     {
-        let made = opaque_files(alloc, plan.pips(), sources, inputs, pip)?;
-        let list = made.files();
-        let paths = paths_of(alloc, list)?;
+        let dirs = dirs_at(plan.pips(), pip);
+        let opaque = opaque_by_pip(alloc, dirs)?;
         Ok(PipView {
             plan,
             sources,
             inputs,
             pip,
-            files: made,
-            paths,
+            opaque,
         })
     }
 
@@ -259,7 +226,10 @@ impl<'a> PipView<'a> {
         let taken = self.taken(alloc, path)?;
         match taken {
             Some(blob) => Ok(Some(blob)),
-            None => share_found(self.files.find(path)),
+            None => {
+                let opaque = self.opaque.as_slice();
+                share_found(find_member(self.inputs, opaque, path))
+            }
         }
     }
 
@@ -273,6 +243,13 @@ impl<'a> PipView<'a> {
         }
     }
 
+    // Whether a member of an opaque directory lies below a path.
+    fn has_member(&self, alloc: Global, path: &Path) -> Result<bool, Memory>
+        ensures { IfOk result (λ yes. yes ≡ file_below (opaque_in self.now) path.now) }
+    {
+        has_member(alloc, self.inputs, self.opaque.as_slice(), path)
+    }
+
     // Whether a named input file lies below a path.
     fn has_named(&self, alloc: Global, path: &Path) -> Result<bool, Memory>
         ensures { IfOk result (λ yes. yes ≡ file_below (named_in self.now) path.now) }
@@ -281,7 +258,7 @@ impl<'a> PipView<'a> {
         if taken {
             return Ok(true);
         }
-        has_below(alloc, self.paths.as_slice(), path)
+        self.has_member(alloc, path)
     }
 
     // Adds the names of the files below a directory that the pip takes by name.
@@ -298,6 +275,19 @@ impl<'a> PipView<'a> {
             Some(process) => add_taken(alloc, names, self.plan.pips(), process, dir),
             None => Ok(()),
         }
+    }
+
+    // Adds the names of the members of opaque directories below a directory.
+    fn add_members(
+        &self,
+        alloc: Global,
+        names: &mut BTreeSet<Vec<u8>>,
+        dir: &Path,
+    ) -> Result<(), Memory>
+        ensures { OnOk result (names_now names.new.keys
+            ≡ with_names (names_now names.old.keys) (own_names (opaque_in self.now) dir.now)) }
+    {
+        add_members(alloc, names, self.inputs, self.opaque.as_slice(), dir)
     }
 
     // Whether another pip can produce a path by an output that is no input of the pip.
@@ -322,7 +312,7 @@ impl<'a> PipView<'a> {
         let mut names = BTreeSet::new(alloc);
         add_below(alloc, &mut names, self.sources.paths(), dir)?;
         self.add_taken(alloc, &mut names, dir)?;
-        add_below(alloc, &mut names, self.paths.as_slice(), dir)?;
+        self.add_members(alloc, &mut names, dir)?;
         Ok(Answer::Names(Blob::new(alloc, lines(alloc, &names)?)?))
     }
 
@@ -338,12 +328,14 @@ impl<'a> PipView<'a> {
     }
 
     // What is answered of a path at which neither an input file nor a source file is.
-    fn elsewhere(&self, alloc: Global, path: &Path, below: bool) -> Result<Answer, Memory>
-        ensures { IfOk result (λ answer. answer ≡ answer_elsewhere self.now path.now below) }
+    fn elsewhere(&self, alloc: Global, path: &Path) -> Result<Answer, Memory>
+        ensures { IfOk result (λ answer. answer
+            ≡ answer_elsewhere self.now path.now (file_below (named_in self.now) path.now)) }
     {
         if self.is_unseen(path) {
             return Ok(Answer::Denied);
         }
+        let below = self.has_named(alloc, path)?;
         Ok(directory_if(self.is_directory(alloc, path, below)?))
     }
 
@@ -360,12 +352,13 @@ impl<'a> PipView<'a> {
     }
 
     // What is answered of a path at which no named input file is.
-    fn unnamed(&self, alloc: Global, ask: &Ask, below: bool) -> Result<Answer, Memory>
-        ensures { IfOk result (λ answer. answer ≡ answer_unnamed self.now ask.now.kind ask.now.path below) }
+    fn unnamed(&self, alloc: Global, ask: &Ask) -> Result<Answer, Memory>
+        ensures { IfOk result (λ answer. answer ≡ answer_unnamed self.now ask.now.kind ask.now.path
+            (file_below (named_in self.now) ask.now.path)) }
     {
         match self.sources.find(&ask.path) {
             Some(blob) => self.source(ask, blob),
-            None => self.elsewhere(alloc, &ask.path, below),
+            None => self.elsewhere(alloc, &ask.path),
         }
     }
 
@@ -377,10 +370,7 @@ impl<'a> PipView<'a> {
         let named = self.named(alloc, &ask.path)?;
         match named {
             Some(blob) => as_input(ask.kind, &blob),
-            None => {
-                let below = self.has_named(alloc, &ask.path)?;
-                self.unnamed(alloc, ask, below)
-            }
+            None => self.unnamed(alloc, ask),
         }
     }
 }

@@ -14,5 +14,5 @@ pub returns : goal.returns
 returns c =
     subst (λ (there : Bool). IfOk c.has_below.result (λ yes. yes ≡ there))
     (directory_is c.args.below (is_root c.args.path.now) c.args.path.now c.args.self.now.tree c.paths.result.now c.if-below.false
-    (sym c.is_root.ensures.root ∙ c.if-is_root.false) (c.paths.ensures.paths ∙ ap (λ (v : ViewData). paths_of v.tree) c.self.view_is))
+    (sym c.is_root.ensures ∙ c.if-is_root.false) (c.paths.ensures.paths ∙ ap (λ (v : ViewData). paths_of v.tree) c.self.view_is))
     c.has_below.ensures

@@ -1,5 +1,7 @@
-use Rattle.std.proofs.Common.{◌≡◌, IfOk, subst, sym, ◌∙◌}
+use Rattle.std.proofs.Common.{◌≡◌, IfOk, refl, subst, sym, ◌∙◌}
 use Rattle.observed.specs.declared.access.Answer.{Answer}
+use Rattle.own_writes.specs.Writes.{has_below}
+use Rattle.pip_view.specs.Seen.{named_in}
 use Rattle.pip_view.proofs.Seeing.{found_answers, unnamed_answers}
 use Rattle.pip_view.proofs.view.PipView.looked.Goals as goal
 
@@ -10,9 +12,10 @@ returns-in-Some c =
     (sym c.in-Some.is ∙ c.in_ok-named.ensures.found))
     c.as_input.ensures
 
-pub returns-in_ok-below-in-None : goal.returns-in_ok-below-in-None
-returns-in_ok-below-in-None c =
+pub returns-in-None : goal.returns-in-None
+returns-in-None c =
+    let v = c.args.self.now in
+    let ask = c.args.ask.now in
     subst (λ (a : Answer). IfOk c.unnamed.result (λ answer. answer ≡ a))
-    (unnamed_answers c.args.self.now c.args.ask.now c.in_ok-below-in-None.below c.in_ok-named.ensures.there c.requires
-    (sym c.in-None.is ∙ c.in_ok-named.ensures.found) c.in_ok-below-in-None.ensures)
+    (unnamed_answers v ask (has_below (named_in v) ask.path) c.in_ok-named.ensures.there c.requires (sym c.in-None.is ∙ c.in_ok-named.ensures.found) refl)
     c.unnamed.ensures

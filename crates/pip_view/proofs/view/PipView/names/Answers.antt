@@ -1,8 +1,8 @@
-use Rattle.std.proofs.Common.{ap, subst, sym, ◌∙◌}
+use Rattle.std.proofs.Common.{◌<◌, ap, length, subst, sym, ◌∙◌}
 use Rattle.bx_tree.specs.Trees.{paths_of}
 use Rattle.tool_values.specs.NameSets.{names_now}
 use Rattle.pip_view.specs.Ranges.{AreFilePaths}
-use Rattle.pip_view.specs.Seen.{KeepsView, ViewData}
+use Rattle.pip_view.specs.Seen.{ViewData}
 use Rattle.pip_view.proofs.FilePaths.{tree_paths}
 use Rattle.pip_view.proofs.Seeing.{names_listed}
 use Rattle.pip_view.proofs.view.PipView.names.Goals as goal
@@ -10,14 +10,10 @@ use Rattle.pip_view.proofs.view.PipView.names.Goals as goal
 pub add_below-requires : goal.add_below-requires
 add_below-requires c = subst AreFilePaths (sym c.paths.ensures.paths) (tree_paths c.self.inside.sources.now c.paths.ensures.tree)
 
-pub add_below-requires-2 : goal.add_below-requires-2
-add_below-requires-2 c = subst AreFilePaths (sym c.as_slice.ensures.value) c.self.invariant.order
-
 pub returns : goal.returns
 returns c =
-    let keeps = subst (λ (v : ViewData). KeepsView v c.self.inside.files c.self.inside.paths.items) c.self.view_is c.self.invariant in
-    names_listed c.args.self.now c.self.inside.files c.self.inside.paths.items c.as_slice.result.now c.paths.result.now c.args.dir.now
-    (names_now c.new-names.result.keys) (names_now c.add_below.new.names.keys) (names_now c.add_taken.new.names.keys)
-    (names_now c.add_below-2.new.names.keys) _ keeps
-    (c.paths.ensures.paths ∙ ap (λ (v : ViewData). paths_of v.tree) c.self.view_is) c.as_slice.ensures.value (ap names_now c.new-names.ensures.empty)
-    c.in_ok-add_below.ensures c.in_ok-add_taken.ensures c.in_ok-add_below-2.ensures (c.in_ok-new.ensures ∙ c.in_ok-lines.ensures)
+    names_listed c.args.self.now c.paths.result.now c.args.dir.now (names_now c.new-names.result.keys) (names_now c.add_below.new.names.keys)
+    (names_now c.add_taken.new.names.keys) (names_now c.add_members.new.names.keys) _
+    (subst (λ (v : ViewData). v.pip < length v.pips) c.self.view_is c.self.invariant.there)
+    (c.paths.ensures.paths ∙ ap (λ (v : ViewData). paths_of v.tree) c.self.view_is) (ap names_now c.new-names.ensures.empty)
+    c.in_ok-add_below.ensures c.in_ok-add_taken.ensures c.in_ok-add_members.ensures (c.in_ok-new.ensures ∙ c.in_ok-lines.ensures)

@@ -1,15 +1,14 @@
-use Rattle.std.proofs.Common.{List, filter, ap, subst, ◌∙◌}
-use Rattle.bx_tree.specs.Trees.{Files, paths_of}
+use Rattle.std.proofs.Common.{List, filter, ap, ◌∙◌}
+use Rattle.std.specs.Prelude.{slice_get}
+use Rattle.pip_outputs.specs.Producing.{dirs_at}
+use Rattle.pip_types.specs.declared.dir_inputs.DirInput.{DirInput}
 use Rattle.pip_types.specs.declared.pip.Pip.{Pip}
-use Rattle.pip_view.specs.Ranges.{not_root}
-use Rattle.pip_view.specs.Seen.{AnswerAs, opaque_in}
+use Rattle.pip_view.specs.InputFiles.{by_pip, is_opaque}
 use Rattle.pip_view.proofs.view.PipView.new.Goals as goal
 
 pub invariant_of-result : goal.invariant_of-result
 invariant_of-result c = record {
   there = c.requires;
-  answer = subst (λ (ps : List Pip). AnswerAs c.in_ok-made.made (opaque_in (record { pips = ps; tree = c.args.sources.now; inputs = c.args.inputs.now; pip = c.args.pip })))
-      c.pips.ensures.pips c.in_ok-made.ensures;
-  paths_are = c.in_ok-paths.ensures.paths ∙ ap (λ (fs : Files). filter not_root (paths_of fs)) c.files-list.ensures.files;
-  order = c.in_ok-paths.ensures.order;
+  dirs = c.in_ok-opaque.ensures ∙ ap (λ (ds : List DirInput). by_pip (filter is_opaque ds))
+      (c.dirs_at-dirs.ensures ∙ ap (λ (ps : List Pip). dirs_at (slice_get ps c.args.pip)) c.pips.ensures.pips);
 }

@@ -1,0 +1,25 @@
+use Rattle.std.proofs.Common.{◌≡◌, ◌++◌, List, ℕ, OnOk, ap, append-nil, subst, sym, ◌∙◌}
+use Rattle.observed.specs.Texts.{texts_now}
+use Rattle.bx_tree.specs.Trees.{Files}
+use Rattle.own_writes.specs.Writes.{own_names}
+use Rattle.pip_inputs.specs.Results.{files_by}
+use Rattle.pip_view.specs.Gathered.{below_of}
+use Rattle.pip_view.proofs.OpaqueMembers.{names_at, names_deeper}
+use Rattle.pip_view.proofs.members.add_made.Goals as goal
+
+pub returns-in_default : goal.returns-in_default
+returns-in_default c =
+    let path = c.args.path.now in
+    let files = files_by c.args.inputs.now c.args.pip in
+    sym (append-nil (texts_now c.args.names.now.items))
+    ∙ ap (λ ns. texts_now c.args.names.now.items ++ ns)
+    (ap (λ o. names_at o path files) c.in_default.ensures ∙ sym (names_deeper c.args.dir.now path files))
+
+pub returns : goal.returns
+returns c =
+    let path = c.args.path.now in
+    let files = files_by c.args.inputs.now c.args.pip in
+    subst (λ (ns : List (List ℕ)). OnOk c.add_below.result (texts_now c.add_below.new.names.items ≡ texts_now c.args.names.now.items ++ ns))
+    (ap (λ (fs : Files). own_names (below_of c.in-Some.root.now fs) path) c.made_by-files.ensures.files
+    ∙ ap (λ o. names_at o path files) c.in-Some.ensures ∙ sym (names_deeper c.args.dir.now path files))
+    c.add_below.ensures
