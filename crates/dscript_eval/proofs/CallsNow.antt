@@ -138,15 +138,10 @@ called_then v w c is =
     ∙ ap (λ r. followed r (λ x later. run v.program (works.Call (call.Came c) ∷ v.work) On v.openable x later)) is.value
     ∙ ap (λ (z : View). comes_with (works.Call (call.Came c)) z) (sym is.others)
 
--- what comes may be written in another way
-pub left_at
-    : (r : Result Callbacks Stop) (before now : Answer) (w : View) → before ≡ now → AreLeft r now w → AreLeft r before w
-left_at r before now w is left = let P : Answer → Type 0 = λ a. AreLeft r a w in subst P (sym is) left
-
 -- the callbacks after the next item are left
 pub left_after
-    : (r : Result Callbacks Stop) (c : Callbacks) (before : Answer) (w : View)
-    → MatchResult r (λ left. left ≡ record c { next = c.next + 1 }) (λ stop. stop ≡ stops.Memory)
-    → before ≡ comes_with (works.Call (call.Loop (record c { next = c.next + 1 }))) w → AreLeft r before w
-left_after (Ok left) c before w is move = move ∙ ap (λ d. comes_with (works.Call (call.Loop d)) w) (sym is)
-left_after (Err stop) c before w is move = memory_stops stop before is
+    : (r : Result (Unit {0}) Stop) (c d : Callbacks) (before : Answer) (w : View)
+    → MatchResult r (λ _. d ≡ record c { next = c.next + 1 }) (λ stop. stop ≡ stops.Memory)
+    → before ≡ comes_with (works.Call (call.Loop (record c { next = c.next + 1 }))) w → AreLeft r d before w
+left_after (Ok done) c d before w is move = move ∙ ap (λ e. comes_with (works.Call (call.Loop e)) w) (sym is)
+left_after (Err stop) c d before w is move = memory_stops stop before is

@@ -28,6 +28,7 @@ use Rattle.eval_machine.specs.declared.work.ExprWork.TheVariants as expr
 use Rattle.eval_machine.specs.declared.work.Use.{Use}
 use Rattle.eval_machine.specs.declared.work.Use.TheVariants as uses
 use Rattle.eval_machine.specs.declared.work.Work.TheVariants as works
+use Rattle.eval_exprs.specs.AtOnce.{IsGiven}
 use Rattle.eval_exprs.proofs.Equations.{call-is, index-is, member-is, no_parts-is}
 use Rattle.eval_machine.proofs.Followed.{empty_list, followed-end, followed-followed, followed-same}
 
@@ -89,6 +90,42 @@ call_move v args done use' others none =
     ∙ ap (λ xs. followed ((arguments v.program (acts_at v) (to_exprs (map expr_data args.now)) >>= λ ys. used v.program (acts_at v) use' (map plain_of xs ++ ys)) v.state)
     (λ y later. run v.program (works.Expr (expr.After others) ∷ v.work) On v.openable y later)) (sym none)
 
+-- where no parts follow, there comes what comes without them
+pub last_part
+    : (v : View) (m : Gives Plain) (others : Bor (List BoundPart)) → length others.now ≡ 0
+    → comes_by m (record v { work = works.Expr (expr.After others) ∷ v.work }) ≡ comes_by m v
+last_part v m others none =
+    followed-same (m v.state) _ _ (λ x s. after_end (record v { given = x; state = s }) others none)
+
+pub call_alone
+    : (v : View) (args : Bor (List BoundExpr)) (done : Vec Value Global) (use' : Use) (others : Bor (List BoundPart))
+    → done.items ≡ [] → length others.now ≡ 0
+    → comes_by (call_form v.program (acts_at v) (to_exprs (map expr_data args.now)) use' (to_parts (map part_data others.now))) v
+    ≡ comes_with (works.Call (call.Arguments args done use')) v
+call_alone v args done use' others none last =
+    call_move v args done use' others none
+    ∙ last_part v (arguments v.program (acts_at v) (to_exprs (map expr_data args.now)) >>= λ xs.
+    used v.program (acts_at v) use' (map plain_of done.items ++ xs)) others last
+
+-- an index that was given at once
+pub index_now
+    : (v w : View) (e : Bor BoundExpr) (others : Bor (List BoundPart)) (x : Value) → IsGiven v w (expr_data e.now)
+    → comes (record v { work = works.Expr (expr.Value e) ∷ works.Expr (expr.Index x) ∷ works.Expr (expr.After others) ∷ v.work })
+    ≡ comes_with (works.Expr (expr.Index x)) (record w { work = works.Expr (expr.After others) ∷ w.work })
+index_now v w e others x given =
+    ap (λ r. followed r (λ y later. run v.program (works.Expr (expr.Index x) ∷ works.Expr (expr.After others) ∷ v.work) On v.openable y later))
+    given.value
+    ∙ ap (λ (z : View). comes_with (works.Expr (expr.Index x)) (record z { work = works.Expr (expr.After others) ∷ z.work }))
+    (sym given.others)
+
+pub index_next
+    : (v w : View) (e : Bor BoundExpr) (others : Bor (List BoundPart)) (x : Value) → w ≡ v
+    → comes (record v { work = works.Expr (expr.Value e) ∷ works.Expr (expr.Index x) ∷ works.Expr (expr.After others) ∷ v.work })
+    ≡ comes (record w { work = works.Expr (expr.Value e) ∷ works.Expr (expr.Index x) ∷ works.Expr (expr.After others) ∷ w.work })
+index_next v w e others x same =
+    ap (λ (u : View). comes (record u { work = works.Expr (expr.Value e) ∷ works.Expr (expr.Index x) ∷ works.Expr (expr.After others) ∷ u.work }))
+    (sym same)
+
 -- ## Parts after a member
 
 -- a member that is not called as a function is a value first
@@ -142,6 +179,17 @@ unfolding member
 member_then v u name parts h is =
     member_move v name parts h
     ∙ ap (λ (z : View). comes_by (answered (member_of z.state.calls z.given name.now)) z) (sym is)
+
+-- a member after which no parts follow
+pub member_alone
+    : (v : View) (name : Bor (List ℕ)) (parts : Bor (List BoundPart))
+    → (begins_with_call (to_parts (map part_data parts.now)) ≡ true → is_function_named v.state.calls v.given name.now ≡ false)
+    → length parts.now ≡ 0
+    → comes_with (works.Expr (expr.AfterMember name parts)) v
+    ≡ comes_by (answered (member_of v.state.calls v.given name.now)) v
+unfolding member
+member_alone v name parts h none =
+    member_move v name parts h ∙ last_part v (member v.given name.now) parts none
 
 -- the call of a member function
 method_part

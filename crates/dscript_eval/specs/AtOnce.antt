@@ -50,7 +50,7 @@ pub record IsCalled (v w : View) (c : Callbacks) : Type 0 where
       ≡ Ok (w.given, w.state)
   pub others : w ≡ record v { given = w.given; state = w.state }
 
--- callbacks are left, to which this comes, or it stops so
-abbrev pub AreLeft : Result Callbacks Stop → Answer → View → Type 0
-AreLeft result before v =
-    MatchResult result (λ c. before ≡ comes_with (works.Call (call.Loop c)) v) (λ stop. StopsWith stop before)
+-- these callbacks are left, to which this comes, or it stops so
+abbrev pub AreLeft : Result (Unit {0}) Stop → Callbacks → Answer → View → Type 0
+AreLeft result c before v =
+    MatchResult result (λ _. before ≡ comes_with (works.Call (call.Loop c)) v) (λ stop. StopsWith stop before)

@@ -241,28 +241,28 @@ fn begin_callbacks(
 pub fn callbacks_from(machine: &mut Machine<'_>, callbacks: Callbacks) -> Result<(), Stop>
     ensures { IsDone result machine.old machine.new (works.Call (call.Loop callbacks)) }
 {
-    match calls_at_once(machine, callbacks) {
-        Ok(left) => next_callback(machine, left),
+    let mut callbacks = callbacks;
+    match calls_at_once(machine, &mut callbacks) {
+        Ok(()) => next_callback(machine, callbacks),
         Err(stop) => Err(stop),
     }
 }
 
 // The callbacks that are left after those that need no call.
-fn calls_at_once(machine: &mut Machine<'_>, callbacks: Callbacks) -> Result<Callbacks, Stop>
-    ensures { AreLeft result (comes_with (works.Call (call.Loop callbacks)) (seen machine.old))
+fn calls_at_once(machine: &mut Machine<'_>, callbacks: &mut Callbacks) -> Result<(), Stop>
+    ensures { AreLeft result callbacks.new (comes_with (works.Call (call.Loop callbacks.old)) (seen machine.old))
         (seen machine.new) }
 {
-    let mut left = callbacks;
     'items: for _ in 0..usize::MAX {
-        if !call_at_once(machine, &left) {
-            return Ok(left);
+        if !call_at_once(machine, callbacks) {
+            return Ok(());
         }
-        match after_call(machine, left) {
-            Ok(more) => left = more,
+        match after_call(machine, callbacks) {
+            Ok(()) => {}
             Err(stop) => return Err(stop),
         }
     }
-    Ok(left)
+    Ok(())
 }
 
 // The callback with the next item, and then the others.
@@ -311,73 +311,70 @@ fn end_callbacks(machine: &mut Machine<'_>, callbacks: Callbacks) -> Result<(), 
 pub fn came(machine: &mut Machine<'_>, callbacks: Callbacks) -> Result<(), Stop>
     ensures { IsDone result machine.old machine.new (works.Call (call.Came callbacks)) }
 {
-    match after_call(machine, callbacks) {
-        Ok(callbacks) => callbacks_from(machine, callbacks),
+    let mut callbacks = callbacks;
+    match after_call(machine, &mut callbacks) {
+        Ok(()) => callbacks_from(machine, callbacks),
         Err(stop) => Err(stop),
     }
 }
 
-// The callbacks that are left, after the one at the next item, which gave what is given.
-fn after_call(machine: &mut Machine<'_>, callbacks: Callbacks) -> Result<Callbacks, Stop>
-    ensures { AreLeft result (comes_with (works.Call (call.Came callbacks)) (seen machine.old))
+// Goes on to the callbacks after the one at the next item, which gave what is given.
+fn after_call(machine: &mut Machine<'_>, callbacks: &mut Callbacks) -> Result<(), Stop>
+    ensures { AreLeft result callbacks.new (comes_with (works.Call (call.Came callbacks.old)) (seen machine.old))
         (seen machine.new) }
 {
     match callbacks.kind {
         Callback::Map => add_result(machine, callbacks),
         Callback::Filter => keep_item(machine, callbacks),
         Callback::MapMany => add_results(machine, callbacks),
-        Callback::Reduce => callbacks_after(callbacks),
+        Callback::Reduce => go_on(callbacks),
     }
 }
 
 // What the callback gave is an item.
-fn add_result(machine: &mut Machine<'_>, callbacks: Callbacks) -> Result<Callbacks, Stop>
-    ensures { callbacks.kind ≡ kinds.Map → AreLeft result
-        (comes_with (works.Call (call.Came callbacks)) (seen machine.old)) (seen machine.new) }
+fn add_result(machine: &mut Machine<'_>, callbacks: &mut Callbacks) -> Result<(), Stop>
+    ensures { callbacks.old.kind ≡ kinds.Map → AreLeft result callbacks.new
+        (comes_with (works.Call (call.Came callbacks.old)) (seen machine.old)) (seen machine.new) }
 {
-    let mut callbacks = callbacks;
     let value = machine.take();
     add_value(&mut callbacks.done, value)?;
-    callbacks_after(callbacks)
+    go_on(callbacks)
 }
 
 // The item with which the callback was called stays, if what is given counts as true.
-fn keep_item(machine: &mut Machine<'_>, callbacks: Callbacks) -> Result<Callbacks, Stop>
-    ensures { callbacks.kind ≡ kinds.Filter → AreLeft result
-        (comes_with (works.Call (call.Came callbacks)) (seen machine.old)) (seen machine.new) }
+fn keep_item(machine: &mut Machine<'_>, callbacks: &mut Callbacks) -> Result<(), Stop>
+    ensures { callbacks.old.kind ≡ kinds.Filter → AreLeft result callbacks.new
+        (comes_with (works.Call (call.Came callbacks.old)) (seen machine.old)) (seen machine.new) }
 {
     if !is_true(&machine.given) {
-        return callbacks_after(callbacks);
+        return go_on(callbacks);
     }
-    let mut callbacks = callbacks;
-    let item = next_item(&callbacks)?;
+    let item = next_item(callbacks)?;
     add_value(&mut callbacks.done, item)?;
-    callbacks_after(callbacks)
+    go_on(callbacks)
 }
 
 // What the callback gave are items.
-fn add_results(machine: &mut Machine<'_>, callbacks: Callbacks) -> Result<Callbacks, Stop>
-    ensures { callbacks.kind ≡ kinds.MapMany → AreLeft result
-        (comes_with (works.Call (call.Came callbacks)) (seen machine.old)) (seen machine.new) }
+fn add_results(machine: &mut Machine<'_>, callbacks: &mut Callbacks) -> Result<(), Stop>
+    ensures { callbacks.old.kind ≡ kinds.MapMany → AreLeft result callbacks.new
+        (comes_with (works.Call (call.Came callbacks.old)) (seen machine.old)) (seen machine.new) }
 {
-    let mut callbacks = callbacks;
     match add_items(&mut callbacks.done, &machine.given) {
-        Ok(()) => callbacks_after(callbacks),
+        Ok(()) => go_on(callbacks),
         Err(fault) => Err(stop_of(fault, machine.frame.file)),
     }
 }
 
-// Callbacks with the items after the next.
-fn callbacks_after(callbacks: Callbacks) -> Result<Callbacks, Stop>
-    ensures { MatchResult result (λ left. left ≡ record callbacks { next = callbacks.next + 1 })
+// Goes on to the callbacks after the next item.
+fn go_on(callbacks: &mut Callbacks) -> Result<(), Stop>
+    ensures { MatchResult result (λ _. callbacks.new ≡ record callbacks.old { next = callbacks.old.next + 1 })
         (λ stop. stop ≡ stops.Memory) }
 {
     if callbacks.next == usize::MAX {
         return Err(Stop::Memory);
     }
-    let mut callbacks = callbacks;
     callbacks.next += 1;
-    Ok(callbacks)
+    Ok(())
 }
 
 // A callback, which opens a call whatever function it is.

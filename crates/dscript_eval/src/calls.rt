@@ -1,5 +1,5 @@
 //! Calls of functions, ambient calls and members.
-ghost use Rattle.std.specs.Prelude.{◌≡◌, ◌<◌, map, None, Some, MatchOption};
+ghost use Rattle.std.specs.Prelude.{◌≡◌, ◌<◌, ◌∷◌, map, None, Some, MatchOption};
 ghost use Rattle.dscript_program.specs.Views.{body_data};
 ghost use Rattle.dscript_value.specs.Plain.{item_list, plain_function, plain_of};
 ghost use Rattle.dscript_meaning.specs.Acts.{Call};
@@ -10,8 +10,9 @@ ghost use Rattle.eval_machine.specs.Forms.{acts_at};
 ghost use Rattle.dscript_eval.specs.Bodies.{body_comes};
 ghost use Rattle.eval_machine.specs.Keeps.{Comes, IsDone, Keeps};
 ghost use Rattle.eval_machine.specs.Views.{seen};
-ghost use Rattle.eval_machine.specs.Works.{callee_in, function_of, used};
+ghost use Rattle.eval_machine.specs.Works.{callee_in, comes, function_of, used};
 ghost use Rattle.eval_machine.specs.declared.work.CallWork.TheVariants as call;
+ghost use Rattle.eval_machine.specs.declared.work.ExprWork.TheVariants as expr;
 ghost use Rattle.eval_machine.specs.declared.work.Work.TheVariants as works;
 ghost use Rattle.dscript_value.specs.declared.parts.Callee.TheVariants as callees;
 
@@ -40,6 +41,33 @@ fn function_in(value: &Value) -> Option<&FunctionRef>
 
 /// The other arguments of a call, after these.
 pub fn arguments<'a>(
+    machine: &mut Machine<'a>,
+    es: &'a [BoundExpr],
+    done: Vec<Value>,
+    for_call: Use,
+) -> Result<(), Stop>
+    ensures { IsDone result machine.old machine.new (works.Call (call.Arguments es.entry done for_call)) }
+{
+    let mut made = done;
+    let mut left = es;
+    'arguments: while let Some((e, others)) = left.split_first() {
+        if !at_once(machine, e) {
+            return arguments_by_work(machine, left, made, for_call);
+        }
+        let argument = machine.take();
+        match add_value(&mut made, argument) {
+            Ok(()) => left = others,
+            Err(_) => {
+                drop(for_call);
+                return Err(Stop::Memory);
+            }
+        }
+    }
+    arguments_by_work(machine, left, made, for_call)
+}
+
+// The other arguments of a call, after these. The first is the next work.
+fn arguments_by_work<'a>(
     machine: &mut Machine<'a>,
     es: &'a [BoundExpr],
     done: Vec<Value>,
@@ -161,17 +189,28 @@ fn begin<'a>(machine: &mut Machine<'a>, body: &'a Body, frame: Frame<'a>) -> Res
 {
     let before = machine.enter(frame);
     match body {
-        Body::Expr(e) => {
-            if at_once(machine, e) {
-                return leave(machine, before);
-            }
-            machine.push_two(Work::Expr(ExprWork::Value(e)), Work::Leave(before))
-        }
+        Body::Expr(e) => begin_value(machine, e, before),
         Body::Block(statements) => machine.push_two(
             Work::Stmt(StmtWork::All(statements.as_slice())),
             Work::Leave(before),
         ),
     }
+}
+
+// Begins a body that is an expression. The frame from before is back after it.
+fn begin_value<'a>(
+    machine: &mut Machine<'a>,
+    e: &'a BoundExpr,
+    before: Frame<'a>,
+) -> Result<(), Stop>
+    ensures { Keeps result (comes (record (seen machine.old) {
+      work = works.Expr (expr.Value e.entry) ∷ works.Leave before.entry ∷ (seen machine.old).work;
+    })) (seen machine.new) }
+{
+    if at_once(machine, e) {
+        return leave(machine, before);
+    }
+    machine.push_two(Work::Expr(ExprWork::Value(e)), Work::Leave(before))
 }
 
 /// A body ends with the value that is given, and the frame from before is back.

@@ -1,22 +1,26 @@
 //! Members, indices and calls after a value.
-ghost use Rattle.std.specs.Prelude.{◌≡◌, map, true, false, MatchOption};
+ghost use Rattle.std.specs.Prelude.{◌≡◌, ◌∷◌, map, true, false, MatchOption};
 ghost use Rattle.dscript_program.specs.BoundTree as tree;
 ghost use Rattle.dscript_program.specs.BoundTree.{more_parts, to_exprs, to_parts};
 ghost use Rattle.dscript_program.specs.Views.{expr_data, part_data};
-ghost use Rattle.dscript_sdk.specs.Members.{is_function_named};
+ghost use Rattle.dscript_sdk.specs.Members.{is_function_named, member_of};
+ghost use Rattle.dscript_meaning.specs.Evaluating.{answered};
 ghost use Rattle.eval_machine.specs.Forms.{acts_at, begins_with_call, call_form, method_form};
 ghost use Rattle.eval_machine.specs.Forms.{method_step_form, part_form};
 ghost use Rattle.eval_machine.specs.Views.{seen};
-ghost use Rattle.eval_machine.specs.Keeps.{Comes, IsDone};
+ghost use Rattle.eval_machine.specs.Keeps.{Comes, IsDone, Keeps};
+ghost use Rattle.eval_machine.specs.Works.{comes_with};
 ghost use Rattle.eval_machine.specs.declared.work.ExprWork.TheVariants as expr;
 ghost use Rattle.eval_machine.specs.declared.work.Work.TheVariants as works;
 
+use crate::calls::arguments;
 use bx_tree::Text;
 use dscript_operators::index;
 use dscript_program::{BoundExpr, BoundPart};
 use dscript_sdk::{has_function, member};
 use dscript_value::Value;
-use eval_machine::{CallWork, ExprWork, Machine, Stop, Use, Work};
+use eval_exprs::at_once;
+use eval_machine::{ExprWork, Machine, Stop, Use, Work};
 
 // The arguments of the first part and the other parts, if the first is a call.
 #[tactic(auto, using(dscript_program::proofs::NodeViews::bound_views))]
@@ -57,7 +61,7 @@ fn part<'a>(
         part.now) (to_parts (map part_data others.now))) }
 {
     match part {
-        BoundPart::Member(name) => machine.push(Work::Expr(ExprWork::AfterMember(name, others))),
+        BoundPart::Member(name) => after_member(machine, name, others),
         BoundPart::Index(e) => before_index(machine, e, others),
         BoundPart::Call(args) => before_apply(machine, args.as_slice(), others),
     }
@@ -86,11 +90,35 @@ fn before_index<'a>(
         (expr_data e.now)) (to_parts (map part_data others.now))) }
 {
     let subject = machine.take();
+    if at_once(machine, e) {
+        let outcome = index_then(machine, &subject, others);
+        drop(subject);
+        return outcome;
+    }
     machine.push_three(
         Work::Expr(ExprWork::Value(e)),
         Work::Expr(ExprWork::Index(subject)),
         Work::Expr(ExprWork::After(others)),
     )
+}
+
+// What a value has at the index that is given, and then the other parts.
+fn index_then<'a>(
+    machine: &mut Machine<'a>,
+    subject: &Value,
+    others: &'a [BoundPart],
+) -> Result<(), Stop>
+    ensures { Keeps result (comes_with (works.Expr (expr.Index subject.now)) (record (seen machine.old) {
+      work = works.Expr (expr.After others.entry) ∷ (seen machine.old).work;
+    })) (seen machine.new) }
+{
+    if others.is_empty() {
+        return index_value(machine, subject);
+    }
+    match machine.push(Work::Expr(ExprWork::After(others))) {
+        Ok(()) => index_value(machine, subject),
+        Err(stop) => Err(stop),
+    }
 }
 
 // The arguments of a call, the call, and then the other parts.
@@ -104,10 +132,16 @@ fn before_call<'a>(
         expr_data args.now)) for_call (to_parts (map part_data others.now))) }
 {
     let done = Vec::new(machine.alloc);
-    machine.push_two(
-        Work::Call(CallWork::Arguments(args, done, for_call)),
-        Work::Expr(ExprWork::After(others)),
-    )
+    if others.is_empty() {
+        return arguments(machine, args, done, for_call);
+    }
+    match machine.push(Work::Expr(ExprWork::After(others))) {
+        Ok(()) => arguments(machine, args, done, for_call),
+        Err(stop) => {
+            drop(for_call);
+            Err(stop)
+        }
+    }
 }
 
 /// The parts after a member of the value that is given.
@@ -140,13 +174,22 @@ fn member_value<'a>(
         → is_function_named (seen machine.old).state.calls (seen machine.old).given name.now ≡ false)
         → IsDone result machine.old machine.new (works.Expr (expr.AfterMember name.entry parts.entry)) }
 {
+    if parts.is_empty() {
+        return member_last(machine, name);
+    }
     match machine.push(Work::Expr(ExprWork::After(parts))) {
-        Ok(()) => {
-            let outcome = member(machine.alloc, &machine.calls, &machine.given, name);
-            machine.finish(outcome)
-        }
+        Ok(()) => member_last(machine, name),
         Err(stop) => Err(stop),
     }
+}
+
+// A member of the value that is given.
+fn member_last(machine: &mut Machine<'_>, name: &Text) -> Result<(), Stop>
+    ensures { Comes result machine.old machine.new
+        (λ v. answered (member_of v.state.calls v.given name.now)) }
+{
+    let outcome = member(machine.alloc, &machine.calls, &machine.given, name);
+    machine.finish(outcome)
 }
 
 // The call of a member function of the value that is given, and then the other parts.

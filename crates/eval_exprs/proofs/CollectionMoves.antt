@@ -1,5 +1,5 @@
 -- What comes of lists and objects comes of the works in their places.
-use Rattle.std.proofs.Common.{◌≡◌, ℕ, true, false, List, [], ◌∷◌, ◌++◌, append_assoc, length, map, Ok, ap, sym, ◌∙◌}
+use Rattle.std.proofs.Common.{◌≡◌, ℕ, true, false, List, [], ◌∷◌, ◌++◌, append_assoc, length, map, Some, None, Ok, inl, inr, ◌⊎◌, ap, sym, ◌∙◌}
 use Rattle.std.specs.Borrow.{Bor}
 use Rattle.std.specs.declared.alloc.Global.{Global}
 use Rattle.std.specs.declared.vec.Vec.{Vec}
@@ -29,6 +29,8 @@ use Rattle.eval_machine.specs.Works.{comes, comes_by, comes_with, run}
 use Rattle.eval_frames.specs.Made.{object_answer}
 use Rattle.eval_machine.specs.declared.work.ExprWork.TheVariants as expr
 use Rattle.eval_machine.specs.declared.work.Work.TheVariants as works
+use Rattle.eval_now.specs.Now.{name_and_value}
+use Rattle.eval_now.proofs.Makes.{named_or_quoted}
 use Rattle.eval_exprs.proofs.Equations.{element-is, named-is, no_elements-is, no_fields-is}
 use Rattle.eval_exprs.proofs.Equations.{quoted-is, short-is, spread-is, spread_fields-are}
 use Rattle.eval_machine.proofs.Followed.{empty_list, followed-followed, followed-same}
@@ -175,6 +177,19 @@ pub quoted_move
 quoted_move v ps others p name e done is shape =
     property_first v ps others p (tree.Quoted name e) name (value_at v e) done is shape
     (quoted-is v.program (acts_at v) v.state name e (to_props (map prop_data others.now)))
+
+-- a property that has a name and an expression of its own
+pub field_named
+    : (v : View) (ps others : Bor (List BoundProp)) (p : BoundProp) (name : List ℕ) (e : ExprData) (done : Vec Field Global)
+    → ps.now ≡ p ∷ others.now → name_and_value (prop_data p) ≡ Some (name, e)
+    → comes_with (works.Expr (expr.Fields ps done)) v
+    ≡ comes_by (field_form v.program (acts_at v) name (map plain_field done.items) (to_props (map prop_data others.now)) (value_at v e)) v
+field_named v ps others p name e done is has =
+    let parts = named_or_quoted (prop_data p) name e has in
+    elim parts [
+      | inl named ↦ named_move v ps others p name e done is named
+      | inr quoted ↦ quoted_move v ps others p name e done is quoted
+    ]
 
 -- the name of a short property is its own value, which takes a step
 pub short_move

@@ -9,6 +9,7 @@ ghost use Rattle.eval_machine.specs.Keeps.{Comes, IsDone};
 ghost use Rattle.eval_machine.specs.declared.work.ExprWork.TheVariants as expr;
 ghost use Rattle.eval_machine.specs.declared.work.Work.TheVariants as works;
 
+use crate::given::at_once;
 use crate::names::name_value;
 use bx_tree::Text;
 use dscript_operators::{add_fields, add_items};
@@ -16,6 +17,7 @@ use dscript_program::{BoundElement, BoundExpr, BoundProp, Target};
 use dscript_value::{Field, Value};
 use eval_frames::{element_parts, object_value};
 use eval_machine::{ExprWork, Machine, Stop, Work, add_field, add_value, stop_of};
+use eval_now::named_parts;
 use sdk_values::list_value;
 
 /// The elements of a list.
@@ -38,6 +40,31 @@ pub fn begin_object<'a>(machine: &mut Machine<'a>, ps: &'a [BoundProp]) -> Resul
 
 /// The other elements of a list, after these items.
 pub fn items<'a>(
+    machine: &mut Machine<'a>,
+    es: &'a [BoundElement],
+    done: Vec<Value>,
+) -> Result<(), Stop>
+    ensures { IsDone result machine.old machine.new (works.Expr (expr.Items es.entry done)) }
+{
+    let mut made = done;
+    let mut left = es;
+    'elements: while let Some((element, others)) = left.split_first() {
+        let (is_spread, e) = element_parts(element);
+        if is_spread {
+            return items_by_work(machine, left, made);
+        }
+        if !at_once(machine, e) {
+            return items_by_work(machine, left, made);
+        }
+        let item = machine.take();
+        add_value(&mut made, item)?;
+        left = others;
+    }
+    items_by_work(machine, left, made)
+}
+
+// The other elements of a list, after these items. The first is the next work.
+fn items_by_work<'a>(
     machine: &mut Machine<'a>,
     es: &'a [BoundElement],
     done: Vec<Value>,
@@ -91,6 +118,31 @@ pub fn spread_item<'a>(
 
 /// The other properties of an object, after these fields.
 pub fn fields<'a>(
+    machine: &mut Machine<'a>,
+    ps: &'a [BoundProp],
+    done: Vec<Field>,
+) -> Result<(), Stop>
+    ensures { IsDone result machine.old machine.new (works.Expr (expr.Fields ps.entry done)) }
+{
+    let mut made = done;
+    let mut left = ps;
+    'properties: while let Some((property, others)) = left.split_first() {
+        let Some((name, e)) = named_parts(property) else {
+            return fields_by_work(machine, left, made);
+        };
+        if !at_once(machine, e) {
+            return fields_by_work(machine, left, made);
+        }
+        let name = name.share()?;
+        let value = machine.take();
+        add_field(&mut made, name, value)?;
+        left = others;
+    }
+    fields_by_work(machine, left, made)
+}
+
+// The other properties of an object, after these fields. The first is the next work.
+fn fields_by_work<'a>(
     machine: &mut Machine<'a>,
     ps: &'a [BoundProp],
     done: Vec<Field>,

@@ -16,6 +16,7 @@ ghost use Rattle.eval_machine.specs.declared.work.ExprWork.TheVariants as expr;
 ghost use Rattle.eval_machine.specs.declared.work.Work.TheVariants as works;
 
 use crate::Memory;
+use crate::given::at_once;
 use bx_tree::{Path, Text};
 use dscript_ast::PathKind;
 use dscript_operators::{
@@ -87,6 +88,9 @@ pub fn begin_path<'a>(
     match holes.split_first() {
         Some((hole, others)) => {
             let (e, after) = hole_parts(hole);
+            if at_once(machine, e) {
+                return first_hole(machine, letter, text, after, others);
+            }
             machine.push_two(
                 Work::Expr(ExprWork::Value(e)),
                 Work::Expr(ExprWork::FirstHole(letter, text, after, others)),
@@ -119,6 +123,31 @@ pub fn first_hole<'a>(
 
 /// The other holes of a literal, after this text.
 pub fn other_holes<'a>(
+    machine: &mut Machine<'a>,
+    holes: &'a [BoundHole],
+    text: Vec<u8>,
+    literal: Literal,
+) -> Result<(), Stop>
+    ensures { IsDone result machine.old machine.new (works.Expr (expr.Holes holes.entry text literal)) }
+{
+    let mut made = text;
+    let mut left = holes;
+    'holes: while let Some((hole, others)) = left.split_first() {
+        let (e, after) = hole_parts(hole);
+        if !at_once(machine, e) {
+            return holes_by_work(machine, left, made, literal);
+        }
+        match add_hole(machine.alloc, &mut made, &literal, &machine.given) {
+            Ok(()) => add_text(&mut made, after)?,
+            Err(fault) => return Err(stop_of(fault, machine.frame.file)),
+        }
+        left = others;
+    }
+    holes_by_work(machine, left, made, literal)
+}
+
+// The other holes of a literal, after this text. The first is the next work.
+fn holes_by_work<'a>(
     machine: &mut Machine<'a>,
     holes: &'a [BoundHole],
     text: Vec<u8>,

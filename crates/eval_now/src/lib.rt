@@ -7,6 +7,8 @@
 #![tactic(auto)]
 
 mod leaves;
+mod numbers;
 mod values;
 
+pub use leaves::named_parts;
 pub use values::{MAX_NESTING, value_now};

@@ -6,6 +6,6 @@ use Rattle.dscript_eval.proofs.callbacks.add_result.Goals as goal
 
 pub returns : goal.returns
 returns c kind =
-    left_after _ _ _ (seen c.take-value.new.self) c.callbacks_after.ensures
-    (came_map (seen c.args.machine.now) _ c.args.callbacks c.add_value.new.values kind (ends_in _ _ _ _ c.in_ok-add_value.ensures c.take-value.ensures.value)
+    left_after _ _ _ _ (seen c.take-value.new.self) c.go_on.ensures
+    (came_map (seen c.args.machine.now) _ c.args.callbacks.now c.add_value.new.values kind (ends_in _ _ _ _ c.in_ok-add_value.ensures c.take-value.ensures.value)
     c.take-value.ensures.taken)

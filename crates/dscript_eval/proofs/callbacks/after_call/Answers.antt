@@ -14,4 +14,4 @@ returns-in-MapMany c = c.add_results.ensures c.in-MapMany.is
 
 pub returns-in-Reduce : goal.returns-in-Reduce
 returns-in-Reduce c =
-    left_after _ _ _ (seen c.args.machine.now) c.callbacks_after.ensures (came_reduced (seen c.args.machine.now) c.args.callbacks c.in-Reduce.is)
+    left_after _ _ _ _ (seen c.args.machine.now) c.go_on.ensures (came_reduced (seen c.args.machine.now) c.args.callbacks.now c.in-Reduce.is)

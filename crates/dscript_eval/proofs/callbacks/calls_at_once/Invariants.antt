@@ -8,4 +8,4 @@ use Rattle.dscript_eval.proofs.callbacks.calls_at_once.Given as goal
 abbrev pub invariant-items : goal.invariant-items
 invariant-items l =
     comes_with (works.Call (call.Loop l.fn.callbacks)) (seen l.fn.machine)
-    ≡ comes_with (works.Call (call.Loop l.left)) (seen l.machine)
+    ≡ comes_with (works.Call (call.Loop l.callbacks)) (seen l.machine)

@@ -7,11 +7,11 @@ use Rattle.dscript_eval.proofs.callbacks.keep_item.Goals as goal
 
 pub returns-then-not-is_true : goal.returns-then-not-is_true
 returns-then-not-is_true c kind =
-    left_after _ _ _ (seen c.args.machine.now) c.callbacks_after.ensures
-    (came_dropped (seen c.args.machine.now) c.args.callbacks kind (sym c.is_true.ensures ∙ c.if-not-is_true.true))
+    left_after _ _ _ _ (seen c.args.machine.now) c.go_on.ensures
+    (came_dropped (seen c.args.machine.now) c.args.callbacks.now kind (sym c.is_true.ensures ∙ c.if-not-is_true.true))
 
 pub returns : goal.returns
 returns c kind =
-    left_after _ _ _ (seen c.args.machine.now) c.callbacks_after-2.ensures
-    (came_kept (seen c.args.machine.now) c.args.callbacks c.add_value.new.values kind (sym c.is_true.ensures ∙ c.if-not-is_true.false)
+    left_after _ _ _ _ (seen c.args.machine.now) c.go_on-2.ensures
+    (came_kept (seen c.args.machine.now) c.args.callbacks.now c.add_value.new.values kind (sym c.is_true.ensures ∙ c.if-not-is_true.false)
     (ends_in _ _ _ _ c.in_ok-add_value.ensures c.in_ok-item.ensures))

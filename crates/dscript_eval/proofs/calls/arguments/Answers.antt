@@ -1,22 +1,32 @@
-use Rattle.std.proofs.Common.{List, ap, map, sym, ◌∙◌}
-use Rattle.dscript_value.specs.Plain.{plain_of}
-use Rattle.dscript_value.specs.declared.value.Value.{Value}
-use Rattle.eval_machine.specs.Forms.{acts_at}
-use Rattle.eval_machine.specs.Views.{seen}
-use Rattle.eval_machine.specs.Works.{comes_by, used}
-use Rattle.dscript_eval.proofs.CallMoves.{arguments_end, arguments_move}
-use Rattle.eval_machine.proofs.Kept.{keeps_at, kept}
+use Rattle.std.proofs.Common.{ap, sym, ◌∙◌}
+use Rattle.eval_machine.specs.Views.{View, seen}
+use Rattle.eval_machine.specs.Works.{comes_with}
+use Rattle.eval_machine.specs.declared.work.CallWork.TheVariants as call
+use Rattle.eval_machine.specs.declared.work.Work.TheVariants as works
+use Rattle.eval_machine.proofs.ItemLists.{ends_in}
+use Rattle.eval_machine.proofs.Kept.{keeps_at}
+use Rattle.eval_exprs.proofs.AtOnce.{given_then}
+use Rattle.dscript_eval.proofs.CallMoves.{argument_move, arguments_move}
 use Rattle.dscript_eval.proofs.calls.arguments.Goals as goal
 
-pub returns-in-Some : goal.returns-in-Some
-returns-in-Some c =
-    kept _ _ _ _ c.push_two.ensures
-    (arguments_move (seen c.args.machine.now) c.args.es c.in-Some.others c.in-Some.e c.args.done c.args.for_call c.in-Some.ensures.cases.0)
-
-pub returns-in-None : goal.returns-in-None
-returns-in-None c =
-    let v = seen c.args.machine.now in
+pub returns-then-not-at_once : goal.returns-then-not-at_once
+returns-then-not-at_once c =
     keeps_at _ _ _ _
-    (arguments_end v c.args.es c.args.done c.args.for_call c.in-None.ensures.cases
-    ∙ ap (λ (xs : List Value). comes_by (used v.program (acts_at v) c.args.for_call (map plain_of xs)) v) (sym c.as_slice.ensures.value))
-    c.use_arguments-outcome.ensures
+    (c.arguments.invariant
+    ∙ ap (λ (z : View). comes_with (works.Call (call.Arguments c.arguments.left c.arguments.made c.args.for_call)) z)
+    (sym (c.at_once.ensures.none c.if-not-at_once.true)))
+    c.arguments_by_work.ensures
+
+pub arguments-preserved : goal.arguments-preserved
+arguments-preserved c =
+    c.arguments.invariant
+    ∙ arguments_move (seen c.arguments.machine) c.arguments.left c.in-Some.others c.in-Some.e c.arguments.made c.args.for_call
+    c.in-Some.ensures.cases.0
+    ∙ given_then (seen c.arguments.machine) _ c.in-Some.e
+    (works.Call (call.Argument c.in-Some.others c.arguments.made c.args.for_call))
+    (c.at_once.ensures.given c.if-not-at_once.false)
+    ∙ argument_move _ _ c.in-Some.others c.arguments.made c.add_value.new.values c.args.for_call
+    (ends_in _ _ _ _ c.in-Ok.ensures c.take-argument.ensures.value) c.take-argument.ensures.taken
+
+pub returns : goal.returns
+returns c = keeps_at _ _ _ _ c.arguments.invariant c.arguments_by_work-2.ensures

@@ -1,15 +1,14 @@
-use Rattle.std.proofs.Common.{ap, refl, ◌∙◌}
+use Rattle.std.proofs.Common.{ap, ◌∙◌}
 use Rattle.dscript_program.specs.Views.{part_data}
 use Rattle.dscript_program.proofs.NodeViews.{part_data-Call, part_data-Index, part_data-Member}
 use Rattle.eval_machine.specs.Views.{seen}
-use Rattle.eval_machine.proofs.Kept.{kept}
 use Rattle.dscript_eval.proofs.PartRests.{call_from, index_from, part_as}
 use Rattle.dscript_eval.proofs.parts.part.Goals as goal
 
 pub returns-in-Member : goal.returns-in-Member
 returns-in-Member c =
     part_as _ (seen c.args.machine.now) _ _ _ _ (ap part_data c.in-Member.is ∙ part_data-Member _)
-    (kept _ _ _ _ c.push.ensures refl)
+    c.after_member.ensures
 
 pub returns-in-Index : goal.returns-in-Index
 returns-in-Index c =

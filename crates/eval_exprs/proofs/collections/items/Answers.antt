@@ -1,28 +1,38 @@
-use Rattle.std.proofs.Common.{ap, ◌∙◌}
+use Rattle.std.proofs.Common.{ap, sym, ◌∙◌}
 use Rattle.dscript_program.specs.BoundTree as tree
 use Rattle.dscript_program.specs.Views.{expr_data}
-use Rattle.eval_machine.specs.Views.{seen}
-use Rattle.eval_exprs.proofs.CollectionMoves.{element_move, items_end, spread_move}
-use Rattle.eval_machine.proofs.Kept.{keeps_at, kept}
+use Rattle.eval_machine.specs.Views.{View, seen}
+use Rattle.eval_machine.specs.Works.{comes_with}
+use Rattle.eval_machine.specs.declared.work.ExprWork.TheVariants as expr
+use Rattle.eval_machine.specs.declared.work.Work.TheVariants as works
+use Rattle.eval_machine.proofs.ItemLists.{ends_in}
+use Rattle.eval_machine.proofs.Kept.{keeps_at}
+use Rattle.eval_exprs.proofs.AtOnce.{given_then}
+use Rattle.eval_exprs.proofs.CollectionMoves.{element_move, item_move}
 use Rattle.eval_exprs.proofs.collections.items.Goals as goal
 
-pub returns-in_default : goal.returns-in_default
-returns-in_default c =
-    keeps_at _ _ _ _ (items_end (seen c.args.machine.now) c.args.es c.args.done c.in_default.ensures.cases)
-    (c.finish.ensures _ c.list_value.ensures)
-
 pub returns-then-is_spread : goal.returns-then-is_spread
-returns-then-is_spread c =
-    kept _ _ _ _ c.push_two.ensures
-    (spread_move (seen c.args.machine.now) c.args.es c.in-Some.others c.in-Some.element.now c.element_parts-is_spread.result.1 c.args.done
+returns-then-is_spread c = keeps_at _ _ _ _ c.elements.invariant c.items_by_work.ensures
+
+pub returns-then-not-at_once : goal.returns-then-not-at_once
+returns-then-not-at_once c =
+    keeps_at _ _ _ _
+    (c.elements.invariant
+    ∙ ap (λ (z : View). comes_with (works.Expr (expr.Items c.elements.left c.elements.made)) z)
+    (sym (c.at_once.ensures.none c.if-not-at_once.true)))
+    c.items_by_work-then-not-at_once.ensures
+
+pub elements-preserved : goal.elements-preserved
+elements-preserved c =
+    let e = c.element_parts-is_spread.result.1 in
+    c.elements.invariant
+    ∙ element_move (seen c.elements.machine) c.elements.left c.in-Some.others c.in-Some.element.now e c.elements.made
     c.in-Some.ensures.cases.0
-    (c.element_parts-is_spread.ensures
-    ∙ ap (λ b. tree.Element b (expr_data c.element_parts-is_spread.result.1.now)) c.if-is_spread.true))
+    (c.element_parts-is_spread.ensures ∙ ap (λ b. tree.Element b (expr_data e.now)) c.if-is_spread.false)
+    ∙ given_then (seen c.elements.machine) _ e (works.Expr (expr.Item c.in-Some.others c.elements.made))
+    (c.at_once.ensures.given c.if-not-at_once.false)
+    ∙ item_move _ _ c.in-Some.others c.elements.made c.add_value.new.values
+    (ends_in _ _ _ _ c.in_ok-add_value.ensures c.take-item.ensures.value) c.take-item.ensures.taken
 
 pub returns : goal.returns
-returns c =
-    kept _ _ _ _ c.push_two-2.ensures
-    (element_move (seen c.args.machine.now) c.args.es c.in-Some.others c.in-Some.element.now c.element_parts-is_spread.result.1 c.args.done
-    c.in-Some.ensures.cases.0
-    (c.element_parts-is_spread.ensures
-    ∙ ap (λ b. tree.Element b (expr_data c.element_parts-is_spread.result.1.now)) c.if-is_spread.false))
+returns c = keeps_at _ _ _ _ c.elements.invariant c.items_by_work-2.ensures
