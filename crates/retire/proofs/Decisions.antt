@@ -1,0 +1,118 @@
+-- How one pip is decided, by what the calls of a decision answer.
+use Rattle.std.proofs.Common.{◌≡◌, ℕ, true, false, List, map, Option, Some, None, refl, ap, ◌∙◌, subst}
+use Rattle.std.specs.Prelude.{IfSome, IsSome, IsSomeAnd}
+use Rattle.bx_tree.specs.Trees.{Files}
+use Rattle.bx_io.specs.Holdings.{Holdings}
+use Rattle.pip_types.specs.declared.desc.Desc.{Desc}
+use Rattle.pip_types.specs.declared.made.Slot.{Slot}
+use Rattle.pip_types.specs.declared.pip.Pip.{Pip}
+use Rattle.pip_types.specs.declared.pip.PipKind.{PipKind}
+use Rattle.pip_types.specs.declared.pip.PipKind.TheVariants.{Process, Copy, Write, Seal}
+use Rattle.pip_types.specs.declared.pip.ProcessDesc.{ProcessDesc}
+use Rattle.observed.specs.declared.ask.Ask.{Ask}
+use Rattle.observed.specs.declared.access.Answer.{Answer}
+use Rattle.run_record.specs.Facts.{Facts, IsRun}
+use Rattle.memo_format.specs.Found.{FoundParts}
+use Rattle.pip_inputs.specs.Plain.{desc_of, kind_process, plain_in, process_in}
+use Rattle.pip_inputs.specs.Results.{ByPip, inputs_of, kind_inputs}
+use Rattle.pip_outputs.specs.Slots.{slot_files}
+use Rattle.pip_view.specs.Sees.{sees}
+use Rattle.verdicts.specs.Verdicts.{is_success}
+use Rattle.verdicts.specs.declared.verdict.Verdict.TheVariants as verdicts
+use Rattle.one_thread.specs.OneThread.{by_outcome, failed, succeeded}
+use Rattle.one_thread.specs.Views.{ended_result, good_at}
+use Rattle.one_thread.proofs.OnePip.{plain_worked}
+use Rattle.two_phase.specs.Seeking.{HitIsNow, Seeks}
+use Rattle.two_phase.specs.declared.seeking.Sought.TheVariants as sought
+use Rattle.retire.specs.Deciding as deciding
+use Rattle.retire.specs.Deciding.{DecidedBy, DecidedPlainly, Decides, DecidesAt}
+use Rattle.retire.specs.Taking.{IsOfNow, TakesFrom, kept_if, outcome_in, record_in, way_of}
+use Rattle.retire.specs.declared.deciding.Next.{Next}
+use Rattle.retire.specs.declared.taking.Taken.{Taken}
+use Rattle.retire.specs.declared.taking.Taken.TheVariants as takings
+use Rattle.retire.specs.declared.taking.Way.TheVariants as ways
+
+-- ## Lookups and runs
+
+pub hit_taken : (held : Option Holdings) (S : Holdings) (d : Desc) (see : Ask → Answer) (f : FoundParts) → held ≡ Some S → Seeks held d see (sought.Hit f)
+    → HitIsNow d see (sought.Hit f) → TakesFrom S d see (takings.Hit f)
+hit_taken held S d see f is seeks now = (subst (λ (o : Option Holdings). Seeks o d see (sought.Hit f)) is seeks, now.0)
+
+pub miss_taken : (held : Option Holdings) (S : Holdings) (d : Desc) (see view : Ask → Answer) (f : Facts) → held ≡ Some S → Seeks held d see sought.Miss
+    → view ≡ see → IsRun f d view → TakesFrom S d see (takings.Missed f)
+miss_taken held S d see view f is seeks same run = (
+  subst (λ (o : Option Holdings). Seeks o d see sought.Miss) is seeks,
+  subst (IsRun f d) same run,
+)
+
+-- what is so of a description is so of the process that it is of
+pub takes_in : (o : Option ProcessDesc) (tree : Files) (inputs : ByPip) (budget : ℕ) (d : Desc) (see view : Ask → Answer) (held : Option Holdings) (t : Taken)
+    → IsSomeAnd o (λ p. d ≡ desc_of tree inputs budget p) → view ≡ see → ((S : Holdings) → held ≡ Some S → TakesFrom S d view t)
+    → IfSome o (λ p. (S : Holdings) → held ≡ Some S → TakesFrom S (desc_of tree inputs budget p) see t)
+takes_in None tree inputs budget d see view held t same seen h = tt
+takes_in (Some p) tree inputs budget d see view held t same seen h =
+    λ S e. subst (λ (x : Desc). TakesFrom S x see t) same (subst (λ (v : Ask → Answer). TakesFrom S d v t) seen (h S e))
+
+-- so is what was taken, whatever is held
+pub now_in : (o : Option ProcessDesc) (tree : Files) (inputs : ByPip) (budget : ℕ) (d : Desc) (see view : Ask → Answer) (t : Taken)
+    → IsSomeAnd o (λ p. d ≡ desc_of tree inputs budget p) → view ≡ see → IsOfNow d view t
+    → IfSome o (λ p. IsOfNow (desc_of tree inputs budget p) see t)
+now_in None tree inputs budget d see view t same seen h = tt
+now_in (Some p) tree inputs budget d see view t same seen h =
+    subst (λ (x : Desc). IsOfNow x see t) same (subst (λ (v : Ask → Answer). IsOfNow d v t) seen h)
+
+-- ## Processes
+
+pub decided_by : (pips : List Pip) (tree : Files) (budget : ℕ) (held : Option Holdings) (made : List Files) (inputs : ByPip) (i : ℕ) (o : Option ProcessDesc)
+    (t : Taken) (next : Next)
+    → IfSome o (λ p. (S : Holdings) → held ≡ Some S → TakesFrom S (desc_of tree inputs budget p) (sees pips tree inputs i) t)
+    → IfSome o (λ p. IsOfNow (desc_of tree inputs budget p) (sees pips tree inputs i) t) → ended_result next.ended ≡ by_outcome pips tree made i (outcome_in t) → next.way ≡ way_of t
+    → next.kept ≡ kept_if (is_success next.ended.verdict) (record_in t)
+    → IfSome o (λ p. DecidedBy pips tree budget held made inputs i p next)
+decided_by pips tree budget held made inputs i None t next takes now result way kept = tt
+decided_by pips tree budget held made inputs i (Some p) t next takes now result way kept =
+    record { taken = t; takes = takes; now = now; result_is = result; way_is = way; record_is = kept }
+
+-- ## Pips
+
+pub decide_skipped : (pips : List Pip) (tree : Files) (budget : ℕ) (held : Option Holdings) (ss : List Slot) (i : ℕ) (o : Option Pip) (next : Next) → IsSome o
+    → good_at pips o ss ≡ false → ended_result next.ended ≡ failed verdicts.Skipped → next.way ≡ ways.Plain → next.kept ≡ None
+    → DecidesAt pips tree budget held ss i o next
+decide_skipped pips tree budget held ss i None next there bad result way kept = absurd cc
+decide_skipped pips tree budget held ss i (Some pip) next there bad result way kept =
+    deciding.skipped bad (record { result_is = result; way_is = way; record_is = kept })
+
+pub decide_plainly : (pips : List Pip) (tree : Files) (budget : ℕ) (held : Option Holdings) (ss : List Slot) (i : ℕ) (o : Option Pip) (inputs : ByPip) (next : Next)
+    → IsSome o → good_at pips o ss ≡ true → process_in o ≡ None → inputs ≡ kind_inputs pips o (map slot_files ss)
+    → ended_result next.ended ≡ succeeded (plain_in tree inputs o) → next.way ≡ ways.Plain → next.kept ≡ None → DecidesAt pips tree budget held ss i o next
+decide_plainly pips tree budget held ss i None inputs next there good none same result way kept = absurd cc
+decide_plainly pips tree budget held ss i (Some pip) inputs next there good none same result way kept =
+    deciding.plain good none (record {
+      result_is =
+          result ∙ ap (λ (m : ByPip). succeeded (plain_in tree m (Some pip))) same
+          ∙ plain_worked pips tree budget (map slot_files ss) (kind_inputs pips (Some pip) (map slot_files ss)) i (Some pip) there none;
+      way_is = way;
+      record_is = kept;
+    })
+
+process_kind : (kind : PipKind) (p : ProcessDesc) → kind_process kind ≡ Some p → kind ≡ Process p
+process_kind (Process d) p e = cc
+process_kind (Copy d) p e = absurd cc
+process_kind (Write d) p e = absurd cc
+process_kind (Seal d) p e = absurd cc
+
+pub decide_process : (pips : List Pip) (tree : Files) (budget : ℕ) (held : Option Holdings) (ss : List Slot) (i : ℕ) (o : Option Pip) (inputs : ByPip) (next : Next)
+    → good_at pips o ss ≡ true → IsSome (process_in o) → inputs ≡ kind_inputs pips o (map slot_files ss)
+    → IfSome (process_in o) (λ q. DecidedBy pips tree budget held (map slot_files ss) inputs i q next) → DecidesAt pips tree budget held ss i o next
+decide_process pips tree budget held ss i None inputs next good there same h = absurd cc
+decide_process pips tree budget held ss i (Some pip) inputs next good there same h = by_process (kind_process pip.kind) refl there h
+  where
+    by_process : (x : Option ProcessDesc) → kind_process pip.kind ≡ x → IsSome x
+        → IfSome x (λ q. DecidedBy pips tree budget held (map slot_files ss) inputs i q next) → DecidesAt pips tree budget held ss i (Some pip) next
+    by_process None is some by = absurd cc
+    by_process (Some p) is some by =
+        let kind : pip.kind ≡ Process p = process_kind pip.kind p is in
+        let now : DecidedBy pips tree budget held (map slot_files ss) (inputs_of pips pip.kind (map slot_files ss)) i p next =
+        subst (λ (m : ByPip). DecidedBy pips tree budget held (map slot_files ss) m i p next) same by in
+        deciding.process p good kind
+        (subst (λ (k : PipKind). DecidedBy pips tree budget held (map slot_files ss) (inputs_of pips k (map slot_files ss)) i p next) kind now)

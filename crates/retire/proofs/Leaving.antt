@@ -1,0 +1,172 @@
+-- What a build over a fair store leaves.
+use Rattle.std.proofs.Common.{◌≡◌, ◌⊎◌, ℕ, zero, suc, ◌+◌, List, [], ◌∷◌, map, take, Option, Some, refl, sym, ap, ◌∙◌, subst, inl, inr, arith}
+use Rattle.std.specs.Prelude.{slice_get}
+use Rattle.std.specs.List.{AllByRecursion}
+use Rattle.bx_tree.specs.Trees.{Files}
+use Rattle.bx_io.specs.Holdings.{Holdings, Kept}
+use Rattle.pip_types.specs.Makers.{IsPipList}
+use Rattle.pip_types.specs.declared.desc.Desc.{Desc}
+use Rattle.pip_types.specs.declared.made.Slot.{Slot}
+use Rattle.pip_types.specs.declared.pip.Pip.{Pip}
+use Rattle.pip_types.specs.declared.pip.PipKind.TheVariants.{Process}
+use Rattle.observed.specs.Members.{Has}
+use Rattle.observed.specs.declared.ask.Ask.{Ask}
+use Rattle.observed.specs.declared.access.Answer.{Answer}
+use Rattle.graph_check.specs.Rules.{KeepsRules}
+use Rattle.run_record.specs.Facts.{Facts, Sound}
+use Rattle.memo_format.specs.declared.selector.Selector.{Selector}
+use Rattle.prints.specs.Strong.{strong_parts, strong_text}
+use Rattle.record_match.specs.Digests.{IsReadBack, weak_of}
+use Rattle.store_meaning.specs.Contents.{HoldsPaths}
+use Rattle.store_meaning.specs.Keeping.{answers_text, paths_digest, selector_of}
+use Rattle.store_meaning.specs.Met as met
+use Rattle.store_meaning.specs.Usable.{Usable, UsableAt, asked_text}
+use Rattle.store_meaning.proofs.Stays.{at_one, usable_at}
+use Rattle.verdicts.specs.declared.verdict.Verdict.{Verdict}
+use Rattle.store_builds.specs.Met.{Met, desc_after, view_after}
+use Rattle.store_builds.specs.Runs.{IsOfSuccess, NoneReserved, RunsAs, results_before}
+use Rattle.store_builds.proofs.SoFar.{process_there, run_met, success_met}
+use Rattle.store_builds.proofs.SuccessFits.{success_fits}
+use Rattle.retire.specs.Builds.{Between, IsFair, LeavesFair, LeavesUsable}
+use Rattle.retire.specs.Deciding.{FollowsAll, IsThere}
+use Rattle.retire.specs.Keeping.{PutsAllEach, PutsFirst}
+use Rattle.retire.proofs.Chain.{IsReady, Leaves, chain}
+use Rattle.retire.proofs.Others.{NoneAt, all_others, none_is, spelled_each}
+use Rattle.retire.proofs.Records.{all_successes}
+use Rattle.retire.proofs.Stay.{kept_stays, stay}
+
+same_some : {X : Type 0} (x y : X) → Some x ≡ Some y → x ≡ y
+same_some x y e = cc
+
+-- ## Lists of records
+
+all_first : (P : Facts → Type 0) (n : ℕ) (fs : List Facts) → AllByRecursion P fs → AllByRecursion P (take n fs)
+all_first P zero fs h = tt
+all_first P (suc n) [] h = tt
+all_first P (suc n) (f ∷ fs) h = (h.0, all_first P n fs h.1)
+
+one_of_all : (P : Facts → Type 0) (fs : List Facts) (f : Facts) → AllByRecursion P fs → Has fs f → P f
+one_of_all P [] f h has = absurd has
+one_of_all P (g ∷ gs) f h has = elim has [ inl same ↦ subst P same h.0 | inr later ↦ one_of_all P gs f h.1 later ]
+
+are_ready : (pips : List Pip) (tree : Files) (budget : ℕ) (S : Holdings) (fs : List Facts) → AllByRecursion (IsOfSuccess pips tree budget) fs → AllByRecursion Sound fs
+    → AllByRecursion (IsReady (Met pips tree budget S)) fs
+are_ready pips tree budget S [] h sounds = tt
+are_ready pips tree budget S (f ∷ fs) h sounds = (
+  record { sound = sounds.0; good = h.0.good; met = success_met pips tree budget S f h.0 },
+  are_ready pips tree budget S fs h.1 sounds.1,
+)
+
+-- ## What a fair store is left as
+
+module _ (pips : List Pip) (tree : Files) (budget : ℕ) (before : Kept) (vs : List Verdict) (ss : List Slot) (fs : List Facts) (hits faults : ℕ)
+    (follows : FollowsAll pips tree budget before.held vs ss fs hits faults) (fair : IsFair pips tree budget before.held) where
+  all_of : AllByRecursion (IsOfSuccess pips tree budget) fs
+  all_of = all_successes pips tree budget 0 follows.high fs follows.successes
+
+  ready : AllByRecursion (IsReady (Met pips tree budget before.held)) fs
+  ready = are_ready pips tree budget before.held fs all_of follows.sounds
+
+  pub leaves_fair : (now : Option Kept) → PutsFirst (Some before) fs now → LeavesFair pips tree budget before now
+  leaves_fair now puts =
+      let gs = take puts.number fs in
+      let left : Leaves before gs now =
+      chain (Met pips tree budget before.held) fair.apart gs before now (all_first (IsReady (Met pips tree budget before.held)) puts.number fs ready)
+      (λ x held. inl held) fair.honest puts.each in
+      record {
+        honest = left.honest;
+        adds = λ kept is e h. elim (left.adds kept is e h) [
+          | inl old ↦ inl old
+          | inr new ↦
+              inr (new.0, one_of_all (IsOfSuccess pips tree budget) gs new.0 (all_first (IsOfSuccess pips tree budget) puts.number fs all_of) new.1, new.2)
+        ];
+        puts = (fs, follows.high, follows.successes, puts);
+      }
+
+  -- ## What is usable in it
+
+  -- a record of pip i, or none
+  find : (i : ℕ) (gs : List Facts) (low high : ℕ) (h : Between pips tree budget low high gs)
+      → ((f : Facts) × Has gs f × (s : IsOfSuccess pips tree budget f) × (s.pip ≡ i)) ⊎ NoneAt pips tree budget i low high gs h
+  find i [] low high h = inr tt
+  find i (g ∷ gs) low high h = elim (same_number h.0.pip i) [
+    | inl same ↦ inl (g, inl refl, h.0, same)
+    | inr other ↦ elim (find i gs (h.0.pip + 1) high h.2) [
+      | inl later ↦ inl (later.0, inr later.1, later.2, later.3)
+      | inr none ↦ inr (other, none)
+    ]
+  ]
+    where
+      same_number : (a b : ℕ) → (a ≡ b) ⊎ (a ≡ b → ⊥)
+      same_number zero zero = inl refl
+      same_number zero (suc b) = inr (λ e. absurd (omega (arith, e)))
+      same_number (suc a) zero = inr (λ e. absurd (omega (arith, e)))
+      same_number (suc a) (suc b) = elim (same_number a b) [
+        | inl e ↦ inl (ap suc e)
+        | inr other ↦ inr (λ e. other (omega (arith, e)))
+      ]
+
+  -- what runs as one pip is one process on one view
+  one_run : (i : ℕ) (d e : Desc) (see view : Ask → Answer) → RunsAs pips tree budget i d see → RunsAs pips tree budget i e view → (d ≡ e) × (see ≡ view)
+  one_run i d e see view a b =
+      let s = process_there (slice_get pips i) a.process a.is_process in
+      let t = process_there (slice_get pips i) b.process b.is_process in
+      let pip : s.0 ≡ t.0 = same_some s.0 t.0 (sym s.1 ∙ t.1) in
+      let kinds : Process a.process ≡ Process b.process = sym s.2 ∙ ap (λ (p : Pip). p.kind) pip ∙ t.2 in
+      let same : a.process ≡ b.process = cc in (
+        sym a.desc_is ∙ ap (desc_after pips tree budget (results_before pips tree budget i)) same ∙ b.desc_is,
+        sym a.view_is ∙ ap (view_after pips tree (results_before pips tree budget i) i) same ∙ b.view_is,
+      )
+
+  module _ (list : IsPipList pips) (keeps : KeepsRules pips tree) (free : NoneReserved tree) (now : Option Kept) (puts : PutsAllEach (Some before) fs now) (kept : Kept)
+      (is : now ≡ Some kept) where
+    spelled : AllByRecursion (λ (f : Facts). IsReadBack f.desc) fs
+    spelled = spelled_each (Some before) now fs puts
+
+    -- what was kept is usable
+    by_record : (f : Facts) → Has fs f → IsOfSuccess pips tree budget f → (see : Ask → Answer) → f.answers ≡ map see f.paths → Usable kept.held f.desc see
+    by_record f has s see answers =
+        let text : answers_text f ≡ asked_text f.desc see (paths_digest f) f.paths =
+        ap (λ (as' : List Answer). strong_text (strong_parts (weak_of f.desc) (paths_digest f) as')) answers in
+        usable_at kept.held f.desc see (selector_of f) f.paths
+        (kept_stays (Met pips tree budget before.held) fair.apart fs before now ready
+        (all_others pips tree list keeps free budget before.held fair.apart fs 0 follows.high follows.successes spelled)
+        (λ x held. inl held) puts f has (success_fits pips tree budget list f s keeps (one_of_all Sound fs f follows.sounds has)) see answers
+        (success_met pips tree budget before.held f s (asked_text f.desc see (paths_digest f) f.paths) (inr (inr (inl text)))) kept is)
+
+    -- what was usable stays so, where no record is of its pip
+    by_store : (i : ℕ) (d : Desc) (see : Ask → Answer) → RunsAs pips tree budget i d see → Usable before.held d see → IsReadBack d
+        → NoneAt pips tree budget i 0 follows.high fs follows.successes → Usable kept.held d see
+    by_store i d see runs usable read none =
+        let one = at_one before.held d see usable in
+        let s : Selector = one.0 in
+        let asks : List Ask = one.1.0 in
+        let u : UsableAt before.held d see s asks = one.1.1 in
+        let held : HoldsPaths before.held s.paths asks = subst (λ (qs : List Ask). HoldsPaths before.held s.paths qs) u.asks_are u.by.paths in
+        let asked : Met pips tree budget before.held (asked_text d see s.paths asks) =
+        run_met pips tree budget before.held (asked_text d see s.paths asks) i d see runs (met.strong s.paths asks (inr held) refl) in
+        usable_at kept.held d see s asks
+        (stay (Met pips tree budget before.held) fair.apart d see s asks asked fs before now ready
+        (none_is pips tree list keeps free budget before.held fair.apart i d see runs read fs 0 follows.high follows.successes spelled none)
+        (λ x there. inl there) puts u kept is)
+
+    there_usable : (i : ℕ) (d : Desc) (see : Ask → Answer) → RunsAs pips tree budget i d see → IsThere before.held fs d see → Usable kept.held d see
+    there_usable i d see runs there = elim (find i fs 0 follows.high follows.successes) [
+      | inl own ↦
+          let f : Facts = own.0 in
+          let s : IsOfSuccess pips tree budget f = own.2 in
+          let same = one_run i f.desc d s.see see (subst (λ k. RunsAs pips tree budget k f.desc s.see) own.3 s.runs) runs in
+          subst (λ (x : Desc). Usable kept.held x see) same.0
+          (by_record f own.1 s see (s.run.answers ∙ ap (λ (v : Ask → Answer). map v f.paths) same.1))
+      | inr none ↦ elim there [
+        | inl usable ↦ by_store i d see runs usable.0 usable.1 none
+        | inr own ↦
+            let f : Facts = own.0 in
+            let s : IsOfSuccess pips tree budget f = one_of_all (IsOfSuccess pips tree budget) fs f all_of own.1 in
+            subst (λ (x : Desc). Usable kept.held x see) own.2 (by_record f own.1 s see own.3)
+      ]
+    ]
+
+  pub leaves_usable : IsPipList pips → KeepsRules pips tree → NoneReserved tree → (now : Option Kept) → PutsAllEach (Some before) fs now → LeavesUsable pips tree budget now
+  leaves_usable list keeps free now puts kept is i d see runs succeeds =
+      there_usable list keeps free now puts kept is i d see runs (follows.all_there i d see runs succeeds)

@@ -1,0 +1,15 @@
+pub mod Chain
+pub mod Stay
+pub mod Along
+pub mod Spared
+pub mod Adding
+pub mod Records
+pub mod Following
+pub mod Counts
+pub mod Lookups
+pub mod Decisions
+pub mod Placed
+pub mod Putting
+pub mod Others
+pub mod Leaving
+pub mod Whole

@@ -1,0 +1,152 @@
+-- The files of a pip keep to it, whatever the store holds.
+use Rattle.std.proofs.Common.{◌≡◌, ◌⊎◌, ℕ, Bool, true, false, ◌&&◌, ◌||◌, List, [], ◌∷◌, ◌++◌, length, map, Option, Some, None, refl, sym, ap, ◌∙◌, subst, inl, inr}
+use Rattle.std.specs.Prelude.{slice_get}
+use Rattle.std.specs.List.{list_all, list_any}
+use Rattle.std.specs.Option.{option_map_or, option_to_list}
+use Rattle.std.proofs.lemmas.Bool.{or_cases}
+use Rattle.std.proofs.lemmas.List.{length-map, map-append}
+use Rattle.bx_tree.specs.Orders.{same_path_decides}
+use Rattle.bx_tree.specs.Paths.{Atoms, IsBelow, same_path}
+use Rattle.bx_tree.specs.Trees.{Files, paths_of}
+use Rattle.bx_io.specs.Holdings.{Holdings}
+use Rattle.observed.specs.Members.{Has}
+use Rattle.observed.specs.declared.ask.Ask.{Ask}
+use Rattle.observed.specs.declared.access.Answer.{Answer}
+use Rattle.observed.proofs.OneSet.{contains_has}
+use Rattle.own_writes.specs.Below.{is_below}
+use Rattle.own_writes.proofs.BelowByAtoms.{below_decides}
+use Rattle.pip_types.specs.declared.desc.Desc.{Desc}
+use Rattle.pip_types.specs.declared.made.Slot.{Slot}
+use Rattle.pip_types.specs.declared.outputs.OutDir.{OutDir}
+use Rattle.pip_types.specs.declared.pip.Pip.{Pip}
+use Rattle.pip_types.specs.declared.pip.PipKind.{PipKind}
+use Rattle.pip_types.specs.declared.pip.PipKind.TheVariants.{Process}
+use Rattle.pip_types.specs.declared.pip.ProcessDesc.{ProcessDesc}
+use Rattle.pip_inputs.specs.Plain.{desc_of}
+use Rattle.pip_inputs.specs.Results.{inputs_of}
+use Rattle.pip_outputs.specs.Slots.{slot_files}
+use Rattle.pip_view.specs.Sees.{sees}
+use Rattle.tool_run.specs.Description.{is_console}
+use Rattle.store_meaning.specs.Usable.{fits, has_path, may_make}
+use Rattle.violations.specs.DoubleWrites.{clash_at}
+use Rattle.one_thread.specs.OneThread.{Result, by_outcome}
+use Rattle.one_thread.specs.Views.{ended_result}
+use Rattle.build_outputs.specs.Keeping.{AreKept, Keeps, KeptAt, Makes}
+use Rattle.build_outputs.proofs.Making.{has_first, has_last}
+use Rattle.build_outputs.proofs.Meeting.{Apart}
+use Rattle.build_outputs.proofs.OneMore.{one_more_kept}
+use Rattle.build_outputs.proofs.OneResult.{AllHold, none_kept, of_kind, of_outcome, of_unclashed}
+use Rattle.retire.specs.Deciding as deciding
+use Rattle.retire.specs.Deciding.{Decides, DecidesAt}
+use Rattle.retire.specs.Taking.{IsOfNow, outcome_in}
+use Rattle.retire.specs.declared.deciding.Next.{Next}
+use Rattle.retire.specs.declared.taking.Taken.{Taken}
+use Rattle.retire.specs.declared.taking.Taken.TheVariants as takings
+use Rattle.retire.proofs.Along.{ran_is}
+
+-- ## What fits a process, it makes
+
+three_cases : (a b c : Bool) → (a || b || c) ≡ true → (a ≡ true) ⊎ ((b ≡ true) ⊎ (c ≡ true))
+three_cases true b c e = inl refl
+three_cases false true c e = inr (inl refl)
+three_cases false false c e = inr (inr e)
+
+last_true : (a b c : Bool) → (a && b && c) ≡ true → c ≡ true
+last_true true true c e = e
+last_true true false c e = cc
+last_true false b c e = cc
+
+both_true : (a b : Bool) → (a && b) ≡ true → (a ≡ true) × (b ≡ true)
+both_true true b e = (refl, e)
+both_true false b e = cc
+
+all_at : {X : Type 0} (p : X → Bool) (xs : List X) (x : X) → list_all p xs ≡ true → Has xs x → p x ≡ true
+all_at p [] x e h = absurd h
+all_at p (y ∷ ys) x e h =
+    let both = both_true (p y) (list_all p ys) e in
+    elim h [ inl same ↦ subst (λ z. p z ≡ true) same both.0 | inr more ↦ all_at p ys x both.1 more ]
+
+has_file : (paths : List Atoms) (path : Atoms) → has_path paths path ≡ true → Has paths path
+has_file [] path e = cc
+has_file (p ∷ ps) path e = elim (or_cases (same_path p path) (has_path ps path) e) [
+  | inl same ↦ inl ((same_path_decides p path).0 same)
+  | inr more ↦ inr (has_file ps path more)
+]
+
+has_console : (console : Option Atoms) (path : Atoms) → is_console console path ≡ true → Has (option_to_list console) path
+has_console None path e = cc
+has_console (Some p) path e = inl ((same_path_decides p path).0 e)
+
+has_dir : (dirs : List OutDir) (path : Atoms) → list_any (λ (dir : OutDir). is_below path dir.path) dirs ≡ true
+    → (dir : OutDir) × Has dirs dir × IsBelow path dir.path
+has_dir [] path e = cc
+has_dir (dir ∷ dirs) path e = elim (or_cases (is_below path dir.path) (list_any (λ (d : OutDir). is_below path d.path) dirs) e) [
+  | inl here ↦ (dir, inl refl, (below_decides path dir.path).0 here)
+  | inr more ↦ let rest = has_dir dirs path more in (rest.0, inr rest.1, rest.2)
+]
+
+may_makes : (p : ProcessDesc) (path : Atoms) → may_make p path ≡ true → Makes (Process p) path
+may_makes p path e = elim (three_cases (has_path p.outs path) (is_console p.console path) (list_any (λ (dir : OutDir). is_below path dir.path) p.outdirs) e) [
+  | inl out ↦ inl (has_first p.outs (option_to_list p.console) path (has_file p.outs path out))
+  | inr other ↦ elim other [
+    | inl console ↦ inl (has_last p.outs (option_to_list p.console) path (has_console p.console path console))
+    | inr dir ↦ inr (has_dir p.outdirs path dir)
+  ]
+]
+
+fit_makes : (p : ProcessDesc) (paths : List Atoms) (path : Atoms) → fits p paths ≡ true → Has paths path → Makes (Process p) path
+fit_makes p paths path e h =
+    may_makes p path
+    (all_at (may_make p) paths path
+    (last_true (list_all (has_path paths) p.outs) (option_map_or (has_path paths) p.console true) (list_all (may_make p) paths) e) h)
+
+-- ## One pip
+
+module _ (pips : List Pip) (tree : Files) (budget : ℕ) (apart : Apart pips) (hold : AllHold) (ss : List Slot) (n : ℕ) (pip : Pip)
+    (at : slice_get pips n ≡ Some pip) where
+  abbrev made : List Files
+  made = map slot_files ss
+
+  of_taken : (x : Desc) (see : Ask → Answer) (t : Taken) → pip.kind ≡ Process x.process → IsOfNow x see t
+      → Keeps pips made n (Process x.process) (by_outcome pips tree made n (outcome_in t)).files
+  of_taken x see (takings.Hit f) is now =
+      of_unclashed pips apart hold tree made n pip at x.process f.made is (λ q h. fit_makes x.process (paths_of f.made) q now.fit h)
+      (λ p q a b below. now.unnested q p (contains_has (paths_of f.made) q b) (contains_has (paths_of f.made) p a) below)
+      (clash_at pips made n f.made) refl
+  of_taken x see (takings.Missed f) is now =
+      of_outcome pips apart hold tree made n pip at x see is f.outcome (sym (ran_is f x see now.1))
+  of_taken x see (takings.Faulted f) is now =
+      of_outcome pips apart hold tree made n pip at x see is f.outcome (sym (ran_is f x see now.1))
+
+  abbrev files_as : (next : Next) (r : Result) → ended_result next.ended ≡ r → slot_files next.ended.slot ≡ r.files
+  files_as next r e = ap (λ (x : Result). x.files) e
+
+  placed : (held : Option Holdings) (next : Next) → Decides pips tree budget held ss n pip.kind next
+      → Keeps pips made n pip.kind (slot_files next.ended.slot)
+  placed held next (deciding.skipped e d) =
+      subst (λ (fs : Files). Keeps pips made n pip.kind fs) (sym (files_as next _ d.result_is)) (none_kept pips made n pip.kind)
+  placed held next (deciding.plain e none d) =
+      subst (λ (fs : Files). Keeps pips made n pip.kind fs) (sym (files_as next _ d.result_is))
+      (of_kind pips apart hold tree made n pip at budget (inputs_of pips pip.kind made) pip.kind refl)
+  placed held next (deciding.process p e is d) =
+      let inputs = inputs_of pips (Process p) made in
+      subst (λ (k : PipKind). Keeps pips made n k (slot_files next.ended.slot)) (sym is)
+      (subst (λ (fs : Files). Keeps pips made n (Process p) fs) (sym (files_as next _ d.result_is))
+      (of_taken (desc_of tree inputs budget p) (sees pips tree inputs n) d.taken is d.now))
+
+  pub placed_at : (held : Option Holdings) (next : Next) → Decides pips tree budget held ss n pip.kind next
+      → KeptAt pips made n (slot_files next.ended.slot)
+  placed_at held next d = record { pip = pip; at = at; keeps = placed held next d }
+
+-- ## One pip more
+
+pub kept_next : (pips : List Pip) (tree : Files) (budget : ℕ) (apart : Apart pips) (hold : AllHold) (held : Option Holdings) (ss : List Slot) (n : ℕ) (next : Next)
+    (o : Option Pip) → slice_get pips n ≡ o → length ss ≡ n → DecidesAt pips tree budget held ss n o next → AreKept pips (map slot_files ss)
+    → AreKept pips (map slot_files (ss ++ next.ended.slot ∷ []))
+kept_next pips tree budget apart hold held ss n next None at long d kept = absurd d
+kept_next pips tree budget apart hold held ss n next (Some pip) at long d kept =
+    let made = map slot_files ss in
+    let here : KeptAt pips made n (slot_files next.ended.slot) = placed_at pips tree budget apart hold ss n pip at held next d in
+    subst (AreKept pips) (sym (map-append slot_files ss (next.ended.slot ∷ [])))
+    (one_more_kept pips made (slot_files next.ended.slot) kept
+    (subst (λ k. KeptAt pips made k (slot_files next.ended.slot)) (sym (length-map ss slot_files ∙ long)) here))

@@ -1,0 +1,157 @@
+-- Hits, and the processes that the store would spare.
+use Rattle.std.proofs.Common.{◌≡◌, ◌⊎◌, ℕ, ◌+◌, ◌≤◌, Bool, true, false, List, [], ◌∷◌, length, map, Some, None, refl, sym, ap, ◌∙◌, subst, inl, inr, arith}
+use Rattle.bx_tree.specs.Trees.{Files}
+use Rattle.bx_io.specs.Holdings.{Holdings}
+use Rattle.pip_types.specs.declared.desc.Desc.{Desc}
+use Rattle.pip_types.specs.declared.made.Slot.{Slot}
+use Rattle.pip_types.specs.declared.pip.Pip.{Pip}
+use Rattle.pip_types.specs.declared.pip.PipKind.{PipKind}
+use Rattle.pip_types.specs.declared.pip.PipKind.TheVariants.{Process, Copy, Write, Seal}
+use Rattle.pip_types.specs.declared.pip.ProcessDesc.{ProcessDesc}
+use Rattle.pip_model.specs.Edges.{targets}
+use Rattle.observed.specs.declared.ask.Ask.{Ask}
+use Rattle.observed.specs.declared.access.Answer.{Answer}
+use Rattle.memo_format.specs.Found.{FoundParts}
+use Rattle.memo_format.specs.declared.selector.Selector.{Selector}
+use Rattle.store_meaning.specs.Usable.{AnyUsable, Usable}
+use Rattle.pip_inputs.specs.Plain.{desc_of, kind_process}
+use Rattle.pip_inputs.specs.Results.{inputs_of}
+use Rattle.pip_outputs.specs.Slots.{slot_files}
+use Rattle.pip_view.specs.Sees.{sees}
+use Rattle.verdicts.specs.declared.verdict.Verdict.{Verdict}
+use Rattle.one_thread.specs.OneThread.{inputs_are_good}
+use Rattle.one_thread.specs.Views.{results_of, slots_are_good}
+use Rattle.one_thread.proofs.GoingThrough.{IsSoFar, all_good, made_is}
+use Rattle.two_phase.specs.Seeking.{FirstLeadsTo, Hits}
+use Rattle.store_builds.specs.HitSet.{PipHits, WorkHits}
+use Rattle.store_builds.specs.Met.{desc_after, view_after}
+use Rattle.retire.specs.Counting.{one_fault, one_hit}
+use Rattle.retire.specs.Deciding as deciding
+use Rattle.retire.specs.Deciding.{DecidedBy, Decides}
+use Rattle.retire.specs.Taking.{TakesFrom, way_of}
+use Rattle.retire.specs.declared.deciding.Next.{Next}
+use Rattle.retire.specs.declared.taking.Taken.{Taken}
+use Rattle.retire.specs.declared.taking.Taken.TheVariants as takings
+use Rattle.retire.specs.declared.taking.Way.{Way}
+use Rattle.retire.specs.declared.taking.Way.TheVariants as ways
+
+-- what a way says of whether the store would spare the pip
+abbrev pub Tells : Type 0 → Way → Type 0
+Tells P ways.Plain = P → ⊥
+Tells P ways.Hit = P
+Tells P ways.Ran = P → ⊥
+Tells P ways.Faulted = Unit {0}
+
+-- ## Counts
+
+pub record Counted (Q : List ℕ → Type 0) (hits faults all : ℕ) : Type 0 where
+  pub rest : List ℕ
+  pub goes_on : Q rest
+  pub at_most : hits + length rest ≤ all
+  pub at_least : all ≤ hits + faults + length rest
+
+-- a set of numbers from n on: n and those after it, where the store would spare pip n, and else those after it
+abbrev pub Splits : Type 0 → (List ℕ → Type 0) → ℕ → List ℕ → Type 0
+Splits P Q n numbers = (P × ((rest : List ℕ) × (numbers ≡ n ∷ rest) × Q rest)) ⊎ ((P → ⊥) × Q numbers)
+
+pub counted_step : (P : Type 0) (Q : List ℕ → Type 0) (n : ℕ) (way : Way) (hits faults all : ℕ) → Tells P way → Counted (Splits P Q n) hits faults all
+    → Counted Q (hits + one_hit way) (faults + one_fault way) all
+counted_step P Q n ways.Plain hits faults all t c = elim c.goes_on [
+  | inl a ↦ absurd (t a.0)
+  | inr b ↦ let lo = c.at_most in let hi = c.at_least in record { rest = c.rest; goes_on = b.1; at_most = omega (arith, lo); at_least = omega (arith, hi) }
+]
+counted_step P Q n ways.Hit hits faults all t c = elim c.goes_on [
+  | inl a ↦
+      let lo = c.at_most in let hi = c.at_least in let long : length c.rest ≡ length (n ∷ a.1.0) = ap length a.1.1 in
+      record { rest = a.1.0; goes_on = a.1.2; at_most = omega (arith, lo, long); at_least = omega (arith, hi, long) }
+  | inr b ↦ absurd (b.0 t)
+]
+counted_step P Q n ways.Ran hits faults all t c = elim c.goes_on [
+  | inl a ↦ absurd (t a.0)
+  | inr b ↦ let lo = c.at_most in let hi = c.at_least in record { rest = c.rest; goes_on = b.1; at_most = omega (arith, lo); at_least = omega (arith, hi) }
+]
+counted_step P Q n ways.Faulted hits faults all t c = elim c.goes_on [
+  | inl a ↦
+      let lo = c.at_most in let hi = c.at_least in let long : length c.rest ≡ length (n ∷ a.1.0) = ap length a.1.1 in
+      record { rest = a.1.0; goes_on = a.1.2; at_most = omega (arith, lo, long); at_least = omega (arith, hi, long) }
+  | inr b ↦ let lo = c.at_most in let hi = c.at_least in record { rest = c.rest; goes_on = b.1; at_most = omega (arith, lo); at_least = omega (arith, hi) }
+]
+
+-- ## Ways
+
+any_first : (S : Holdings) (d : Desc) (see : Ask → Answer) (list : List Selector) (f : FoundParts) → FirstLeadsTo S d see list f → AnyUsable S d see list
+any_first S d see [] f h = absurd h
+any_first S d see (s ∷ rest) f h = elim h [ inl here ↦ inl here.usable | inr later ↦ inr (any_first S d see rest f later.1) ]
+
+pub hit_usable : (S : Holdings) (d : Desc) (see : Ask → Answer) (f : FoundParts) → Hits S d see f → Usable S d see
+hit_usable S d see f h = record { list = h.list; held = h.held; any = any_first S d see h.list f h.first }
+
+way_tells : (S : Holdings) (d : Desc) (see : Ask → Answer) (t : Taken) → TakesFrom S d see t → Tells (Usable S d see) (way_of t)
+way_tells S d see (takings.Hit f) h = hit_usable S d see f h.0
+way_tells S d see (takings.Missed f) h = h.0
+way_tells S d see (takings.Faulted f) h = tt
+
+-- what a way says of one thing it says of another that is so just where the first is
+tells_same : (P P' : Type 0) (way : Way) → (P → P') → (P' → P) → Tells P way → Tells P' way
+tells_same P P' ways.Plain to back t = λ p. t (back p)
+tells_same P P' ways.Hit to back t = to t
+tells_same P P' ways.Ran to back t = λ p. t (back p)
+tells_same P P' ways.Faulted to back t = tt
+
+not_good : (b : Bool) → b ≡ false → b ≡ true → ⊥
+not_good true e k = cc
+not_good false e k = cc
+
+no_process_hits : (pips : List Pip) (tree : Files) (budget : ℕ) (S : Holdings) (vs : List Verdict) (ss : List Slot) (n : ℕ) (kind : PipKind) → kind_process kind ≡ None
+    → WorkHits pips tree budget S (results_of vs ss) n kind → ⊥
+no_process_hits pips tree budget S vs ss n (Process p) e h = absurd cc
+no_process_hits pips tree budget S vs ss n (Copy p) e h = h
+no_process_hits pips tree budget S vs ss n (Write p) e h = h
+no_process_hits pips tree budget S vs ss n (Seal p) e h = h
+
+module _ (pips : List Pip) (tree : Files) (budget : ℕ) (n : ℕ) (vs : List Verdict) (ss : List Slot) (so_far : IsSoFar pips tree budget n vs ss) (S : Holdings) where
+  even : length vs ≡ length ss
+  even = omega (arith, so_far.verdicts, so_far.slots)
+
+  goods : (kind : PipKind) → inputs_are_good pips kind (results_of vs ss) ≡ slots_are_good pips kind ss
+  goods kind = all_good vs ss even so_far.agree (targets pips kind)
+
+  abbrev desc_now : ProcessDesc → Desc
+  desc_now p = desc_of tree (inputs_of pips (Process p) (map slot_files ss)) budget p
+
+  abbrev view_now : ProcessDesc → Ask → Answer
+  view_now p = sees pips tree (inputs_of pips (Process p) (map slot_files ss)) n
+
+  desc_same : (p : ProcessDesc) → desc_after pips tree budget (results_of vs ss) p ≡ desc_now p
+  desc_same p = ap (λ (made : List Files). desc_of tree (inputs_of pips (Process p) made) budget p) (made_is vs ss even)
+
+  view_same : (p : ProcessDesc) → view_after pips tree (results_of vs ss) n p ≡ view_now p
+  view_same p = ap (λ (made : List Files). sees pips tree (inputs_of pips (Process p) made) n) (made_is vs ss even)
+
+  by_process : (p : ProcessDesc) (next : Next) → slots_are_good pips (Process p) ss ≡ true
+      → DecidedBy pips tree budget (Some S) (map slot_files ss) (inputs_of pips (Process p) (map slot_files ss)) n p next
+      → Tells (PipHits pips tree budget S (results_of vs ss) n (Process p)) next.way
+  by_process p next good d =
+      subst (Tells (PipHits pips tree budget S (results_of vs ss) n (Process p))) (sym d.way_is)
+      (tells_same (Usable S (desc_now p) (view_now p)) (PipHits pips tree budget S (results_of vs ss) n (Process p)) (way_of d.taken)
+      (λ u. (
+        goods (Process p) ∙ good,
+        subst (λ (e : Desc). Usable S e (view_after pips tree (results_of vs ss) n p)) (sym (desc_same p))
+            (subst (λ (v : Ask → Answer). Usable S (desc_now p) v) (sym (view_same p)) u),
+      ))
+      (λ h. subst (λ (v : Ask → Answer). Usable S (desc_now p) v) (view_same p)
+      (subst (λ (e : Desc). Usable S e (view_after pips tree (results_of vs ss) n p)) (desc_same p) h.1))
+      (way_tells S (desc_now p) (view_now p) d.taken (d.takes S refl)))
+
+  -- the way in which a pip is decided says whether the store would spare it
+  pub tells : (kind : PipKind) (next : Next) → Decides pips tree budget (Some S) ss n kind next
+      → Tells (PipHits pips tree budget S (results_of vs ss) n kind) next.way
+  tells kind next (deciding.skipped e d) =
+      subst (Tells (PipHits pips tree budget S (results_of vs ss) n kind)) (sym d.way_is)
+      (λ h. not_good (slots_are_good pips kind ss) e (sym (goods kind) ∙ h.0))
+  tells kind next (deciding.plain e none d) =
+      subst (Tells (PipHits pips tree budget S (results_of vs ss) n kind)) (sym d.way_is)
+      (λ h. no_process_hits pips tree budget S vs ss n kind none h.1)
+  tells kind next (deciding.process p e is d) =
+      subst (λ (k : PipKind). Tells (PipHits pips tree budget S (results_of vs ss) n k) next.way) (sym is)
+      (by_process p next (subst (λ (k : PipKind). slots_are_good pips k ss ≡ true) is e) d)

@@ -1,0 +1,70 @@
+-- What a build over a store gives and leaves.
+use Rattle.std.specs.Prelude.{◌≡◌, ℕ, ◌+◌, ◌≤◌, Bool, true, false, List, [], ◌∷◌, length, Option, Some, ⊤}
+use Rattle.std.specs.Prelude as prelude
+use Rattle.bx_tree.specs.Trees.{Files}
+use Rattle.bx_io.specs.Holdings.{Holdings, Kept}
+use Rattle.pip_types.specs.declared.pip.Pip.{Pip}
+use Rattle.run_record.specs.Facts.{Facts}
+use Rattle.verdicts.specs.declared.verdict.Verdict.{Verdict}
+use Rattle.record_match.specs.Apart.{Apart}
+use Rattle.store_meaning.specs.Honest.{Honest}
+use Rattle.one_thread.specs.OneThread.{one_thread, outputs_of, run_count, verdicts_of}
+use Rattle.two_phase.specs.Putting.{LeavesHonest}
+use Rattle.store_builds.specs.HitSet.{IsHitSet}
+use Rattle.store_builds.specs.Met.{Met}
+use Rattle.store_builds.specs.Runs.{AddsSuccesses, AllUsable, IsOfSuccess}
+use Rattle.retire.specs.Keeping.{PutsFirst}
+
+-- These are the verdicts and the files of the build on one thread, and all processes that are not skipped
+-- there hit or ran.
+pub record IsBuild (pips : List Pip) (tree : Files) (budget : ℕ) (verdicts : List Verdict) (outputs : Files)
+    (hits ran : ℕ) : Type 0 where
+  pub verdicts_are : verdicts ≡ verdicts_of (one_thread pips tree budget)
+  pub outputs_are : outputs ≡ outputs_of (one_thread pips tree budget)
+  pub all_counted : hits + ran ≡ run_count pips verdicts
+
+-- The store is honest, and no two different ones of what is met in the build share a digest.
+pub record IsFair (pips : List Pip) (tree : Files) (budget : ℕ) (S : Holdings) : Type 0 where
+  pub honest : Honest S
+  pub apart : Apart (Met pips tree budget S)
+
+-- what is asked of a store: nothing where it is not used, and that it is known and fair where it is
+abbrev pub Fair : List Pip → Files → ℕ → Bool → Option Holdings → Type 0
+Fair pips tree budget false held = ⊤
+Fair pips tree budget true prelude.None = ⊥
+Fair pips tree budget true (Some S) = IsFair pips tree budget S
+
+-- The hits are at most the processes that the store would spare, and fall short of them by the faults at
+-- most.
+pub record Spares (pips : List Pip) (tree : Files) (budget : ℕ) (S : Holdings) (hits faults : ℕ)
+    : Type 0 where
+  pub at_most : (numbers : List ℕ) → IsHitSet pips tree budget S numbers → hits ≤ length numbers
+  pub at_least : (numbers : List ℕ) → IsHitSet pips tree budget S numbers → length numbers ≤ hits + faults
+
+-- The processes whose tools ran here are at least those that run and that the store would not spare, and
+-- exceed them by the faults at most.
+pub record RunsLate (pips : List Pip) (tree : Files) (budget : ℕ) (S : Holdings) (late faults : ℕ)
+    : Type 0 where
+  pub at_least : (numbers : List ℕ) → IsHitSet pips tree budget S numbers
+      → run_count pips (verdicts_of (one_thread pips tree budget)) ≤ late + length numbers
+  pub at_most : (numbers : List ℕ) → IsHitSet pips tree budget S numbers
+      → late + length numbers ≤ run_count pips (verdicts_of (one_thread pips tree budget)) + faults
+
+-- records of processes that succeed, whose numbers rise from `low` on and are below `high`
+abbrev pub Between : List Pip → Files → ℕ → ℕ → ℕ → List Facts → Type 0
+Between pips tree budget low high [] = low ≤ high
+Between pips tree budget low high (f ∷ fs) =
+    (s : IsOfSuccess pips tree budget f) × (low ≤ s.pip) × Between pips tree budget (s.pip + 1) high fs
+
+-- A fair store is left: it was honest before each change and after it, each entry that was added is that of a
+-- process that succeeds, and nothing was done but that records of such processes were kept, by number.
+pub record LeavesFair (pips : List Pip) (tree : Files) (budget : ℕ) (before : Kept) (now : Option Kept)
+    : Type 0 where
+  pub honest : LeavesHonest before now
+  pub adds : (kept : Kept) → now ≡ Some kept → AddsSuccesses pips tree budget before.held kept.held
+  pub puts : (fs : List Facts) × (high : ℕ) × Between pips tree budget 0 high fs
+      × PutsFirst (Some before) fs now
+
+-- For each process that succeeds something is usable in the store that is left.
+abbrev pub LeavesUsable : List Pip → Files → ℕ → Option Kept → Type 0
+LeavesUsable pips tree budget now = (kept : Kept) → now ≡ Some kept → AllUsable pips tree budget kept.held

@@ -1,0 +1,57 @@
+//! Keeping the records of a build.
+ghost use Rattle.std.specs.Prelude.{◌≡◌, ◌+◌, ◌≤◌, IfOk, IsSome, length};
+ghost use Rattle.std.specs.List.{AllByRecursion};
+ghost use Rattle.store_meaning.specs.Keeping.{IsGood};
+ghost use Rattle.retire.specs.Keeping.{IsSuccess, PutsAllEach, PutsFirst};
+ghost use Rattle.two_phase.specs.Putting.{PutsAll, PutsUpTo};
+
+use crate::Memory;
+use bx_io::Keeper;
+use run_record::Record;
+use std::alloc::{AllocError, Global};
+use two_phase::{Kept, keep};
+
+// Keeps a record up to the first refusal; how many faults there were, one at most.
+fn keep_one<K: Keeper>(alloc: Global, keeper: &mut K, ran: &Record) -> Result<u64, Memory>
+    requires good { IsGood ran.now }
+    ensures all { IfOk result (λ faults. faults ≡ 0
+        → PutsAll (K.known keeper.old) (K.known keeper.new) ran.now) }
+    ensures first { PutsUpTo (K.known keeper.old) (K.known keeper.new) ran.now }
+    ensures bound { K.bound keeper.new ≡ K.bound keeper.old }
+    ensures faults { IsSome (K.bound keeper.old)
+        → IfOk result (λ faults. K.faults keeper.old + faults ≤ K.faults keeper.new) }
+    ensures few { IfOk result (λ faults. faults ≤ 1) }
+    ensures seen { IfOk result (λ faults. faults ≡ 0 → K.faults keeper.new ≡ K.faults keeper.old) }
+    ensures later { K.faults keeper.old ≤ K.faults keeper.new }
+{
+    match keep(alloc, keeper, ran) {
+        Kept::Kept => Ok(0),
+        Kept::Fault => Ok(1),
+        Kept::Memory => Err(AllocError),
+    }
+}
+
+// Keeps the records, one after another, each up to its first refusal; how many keeps failed.
+pub(crate) fn keep_all<K: Keeper>(
+    alloc: Global,
+    keeper: &mut K,
+    records: &[Record],
+) -> Result<u64, Memory>
+    requires { AllByRecursion IsSuccess records.now }
+    ensures all { IfOk result (λ faults. faults ≡ 0
+        → PutsAllEach (K.known keeper.old) records.now (K.known keeper.new)) }
+    ensures first { PutsFirst (K.known keeper.old) records.now (K.known keeper.new) }
+    ensures bound { K.bound keeper.new ≡ K.bound keeper.old }
+    ensures faults { IsSome (K.bound keeper.old)
+        → IfOk result (λ faults. K.faults keeper.old + faults ≤ K.faults keeper.new) }
+    ensures few { IfOk result (λ faults. faults ≤ length records.now) }
+    ensures seen { IfOk result (λ faults. faults ≡ 0 → K.faults keeper.new ≡ K.faults keeper.old) }
+    ensures later { K.faults keeper.old ≤ K.faults keeper.new }
+{
+    let mut faults = 0;
+    'records: for ran in records {
+        let failed = keep_one(alloc, keeper, ran)?;
+        faults += failed;
+    }
+    Ok(faults)
+}

@@ -1,0 +1,11 @@
+//! Tests of builds over a store, and nothing else.
+//!
+//! They are a crate of their own, since a crate is proved once more for the tests in it.
+#![tactic(auto)]
+
+#[cfg(test)]
+mod pips;
+#[cfg(test)]
+mod tests;
+#[cfg(test)]
+mod trees;
