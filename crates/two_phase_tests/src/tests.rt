@@ -1,12 +1,9 @@
 //! Lookups and keeps over keepers in memory.
 use bx_digest::Blob;
 use bx_io::{FailKeeper, KeepReader, Keeper, MemKeeper, OpenGate};
-use bx_tree::Path;
 use observed::{Answer, Ask, View};
-use pip_types::{
-    Arguments, Desc, DirInputs, FileInputs, Made, MadeFile, OutDirs, Outputs, ProcessDesc,
-    Variables,
-};
+use pip_types::{Desc, Made, ProcessDesc};
+use prints::read_weak;
 use run_record::{Outcome, Record, execute};
 use std::alloc::{AllocError, Global};
 use std::test::Fail;
@@ -26,38 +23,37 @@ impl View for Always<'_> {
     }
 }
 
-fn path(alloc: Global, text: &str) -> Result<Path, Fail> {
-    Ok(Path::read(alloc, text.as_bytes())?)
+fn no_files(alloc: Global) -> Result<Made, Fail> {
+    Ok(Made::of(alloc, Vec::new(alloc))?)
 }
 
-fn outputs(alloc: Global) -> Result<Outputs, Fail> {
-    let mut paths = Vec::new(alloc);
-    paths.push(path(alloc, "out/o")?)?;
-    Ok(Outputs::of(paths))
-}
+// The weak text of a process, with a digest that no lookup and no keep looks at.
+const PROCESS: &str = "bxl 1\n\
+exe t.tool 0000000000000000000000000000000000000000000000000000000000000000\n\
+cwd .\n\
+budget 10\n\
+no-console\n\
+out out/o\n";
 
 fn process(alloc: Global) -> Result<ProcessDesc, Fail> {
-    Ok(ProcessDesc {
-        exe: path(alloc, "t.tool")?,
-        args: Arguments::of(Vec::new(alloc)),
-        env: Variables::of(Vec::new(alloc)),
-        dir: Path::root(alloc)?,
-        files: FileInputs::of(Vec::new(alloc)),
-        dirs: DirInputs::of(Vec::new(alloc)),
-        outs: outputs(alloc)?,
-        outdirs: OutDirs::of(Vec::new(alloc)),
-        console: None,
-    })
+    let parts = read_weak(alloc, PROCESS.as_bytes())?;
+    Ok(parts.process)
 }
 
-// A process that writes what is at `opt` into `out/o`.
+// It writes what is at `opt` into `out/o`.
+fn tool(alloc: Global) -> Result<Blob, Fail> {
+    let text = b"tool 1\nprobe r1, \"/opt\"\nwrite \"/out/o\", r1\n";
+    Ok(Blob::new(alloc, text.to_vec(alloc)?)?)
+}
+
+// The process with its tool.
 fn desc(alloc: Global) -> Result<Desc, Fail> {
-    let tool = b"tool 1\nprobe r1, \"/opt\"\nwrite \"/out/o\", r1\n";
-    let files: Vec<MadeFile> = Vec::new(alloc);
+    let exe = tool(alloc)?;
+    let files = no_files(alloc)?;
     Ok(Desc {
         process: process(alloc)?,
-        exe: Blob::new(alloc, tool.to_vec(alloc)?)?,
-        files: Made::of(alloc, files)?,
+        exe,
+        files,
         budget: 10,
     })
 }
@@ -107,47 +103,57 @@ fn sees<R: KeepReader>(
     Ok(seen(&sought) == want)
 }
 
+// Whether a lookup over what this keeper holds now sees this.
+fn sees_now(alloc: Global, keeper: &MemKeeper, answer: &Answer, want: &[u8]) -> Result<bool, Fail> {
+    let mut reader = keeper.reader(alloc)?;
+    sees(alloc, &mut reader, answer, want)
+}
+
+fn keeps(alloc: Global, keeper: &mut MemKeeper, answer: &Answer) -> Result<bool, Fail> {
+    Ok(keep_run(alloc, keeper, answer)? == Kept::Kept)
+}
+
+// Whether a run is found once it was kept, and then where its ask is answered as it was.
+fn finds_one(alloc: Global, keeper: &mut MemKeeper) -> Result<bool, Fail> {
+    Ok(
+        sees_now(alloc, keeper, &Answer::Absent, b"miss")?
+            && keeps(alloc, keeper, &Answer::Absent)?
+            && sees_now(alloc, keeper, &Answer::Absent, b"absent")?
+            && sees_now(alloc, keeper, &Answer::File, b"miss")?,
+    )
+}
+
+// Whether another run is found then, and the one before it still is.
+fn finds_both(alloc: Global, keeper: &mut MemKeeper) -> Result<bool, Fail> {
+    Ok(
+        keeps(alloc, keeper, &Answer::File)?
+            && sees_now(alloc, keeper, &Answer::Absent, b"absent")?
+            && sees_now(alloc, keeper, &Answer::File, b"file")?,
+    )
+}
+
 #[test]
 fn a_run_is_found_where_its_asks_are_answered_as_they_were(rt: HostRuntime) -> Result<(), Fail> {
     let alloc = rt.alloc();
     let mut keeper = MemKeeper::new(alloc, Vec::new(alloc));
-    assert!(rt; sees(alloc, &mut keeper.reader(alloc)?, &Answer::Absent, b"miss")?);
-    assert!(rt; keep_run(alloc, &mut keeper, &Answer::Absent)? == Kept::Kept);
-    assert!(rt;
-        sees(
-            alloc,
-            &mut keeper.reader(alloc)?,
-            &Answer::Absent,
-            b"absent"
-        )?
-    );
-    assert!(rt; sees(alloc, &mut keeper.reader(alloc)?, &Answer::File, b"miss")?);
-    assert!(rt; keep_run(alloc, &mut keeper, &Answer::File)? == Kept::Kept);
-    assert!(rt;
-        sees(
-            alloc,
-            &mut keeper.reader(alloc)?,
-            &Answer::Absent,
-            b"absent"
-        )?
-    );
-    assert!(rt; sees(alloc, &mut keeper.reader(alloc)?, &Answer::File, b"file")?);
+    assert!(rt; finds_one(alloc, &mut keeper)?);
+    assert!(rt; finds_both(alloc, &mut keeper)?);
     Ok(())
 }
 
-// Keeps a run with a keeper whose call with this number fails, and then once more.
+// Whether a keep over this keeper, one of whose calls fails, is not found, and one more is.
+fn is_healed(alloc: Global, keeper: &mut MemKeeper) -> Result<bool, Fail> {
+    Ok(
+        keep_run(alloc, keeper, &Answer::Absent)? == Kept::Fault
+            && sees_now(alloc, keeper, &Answer::Absent, b"miss")?
+            && keeps(alloc, keeper, &Answer::Absent)?
+            && sees_now(alloc, keeper, &Answer::Absent, b"absent")?,
+    )
+}
+
 fn is_cut_at(alloc: Global, number: u64) -> Result<bool, Fail> {
     let mut keeper = MemKeeper::new(alloc, vec![in alloc; number]?);
-    let first = keep_run(alloc, &mut keeper, &Answer::Absent)?;
-    let missed = sees(alloc, &mut keeper.reader(alloc)?, &Answer::Absent, b"miss")?;
-    let second = keep_run(alloc, &mut keeper, &Answer::Absent)?;
-    let found = sees(
-        alloc,
-        &mut keeper.reader(alloc)?,
-        &Answer::Absent,
-        b"absent",
-    )?;
-    Ok(first == Kept::Fault && missed && second == Kept::Kept && found)
+    is_healed(alloc, &mut keeper)
 }
 
 // The list is read, and then put are the weak text, the path set, the strong text, the executable, the file,
