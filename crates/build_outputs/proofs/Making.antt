@@ -6,7 +6,6 @@ use Rattle.std.proofs.lemmas.Bool.{or_cases}
 use Rattle.bx_tree.specs.Orders.{same_path_decides}
 use Rattle.bx_tree.specs.Paths.{Atoms, IsBelow, same_path}
 use Rattle.bx_tree.specs.Trees.{Files, paths_of}
-use Rattle.graph_outputs.specs.Outputs.{declared_dirs, declared_files}
 use Rattle.observed.specs.Members.{Has}
 use Rattle.observed.specs.declared.access.Access.{Access}
 use Rattle.observed.specs.declared.access.End.{End}
@@ -15,7 +14,6 @@ use Rattle.own_writes.specs.Below.{is_below}
 use Rattle.own_writes.proofs.BelowByAtoms.{below_decides}
 use Rattle.pip_types.specs.declared.desc.Desc.{Desc}
 use Rattle.pip_types.specs.declared.outputs.OutDir.{OutDir}
-use Rattle.pip_types.specs.declared.pip.PipKind.{PipKind}
 use Rattle.pip_types.specs.declared.pip.PipKind.TheVariants.{Process}
 use Rattle.run_record.specs.Outcomes.{complete, first_missing, last_access, outcome_at, outcome_of, refused, with_console}
 use Rattle.run_record.specs.declared.outcome.Outcome.TheVariants.{Good, Failed}

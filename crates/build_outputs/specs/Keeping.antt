@@ -1,5 +1,5 @@
 -- Files that keep to the pip that made them.
-use Rattle.std.specs.Prelude.{◌≡◌, ◌⊎◌, ℕ, List, take, Option, Some, None, slice_get}
+use Rattle.std.specs.Prelude.{◌≡◌, ◌⊎◌, ℕ, List, take, Some, None, slice_get}
 use Rattle.bx_tree.specs.Paths.{Atoms, IsBelow}
 use Rattle.bx_tree.specs.Trees.{Files, paths_of}
 use Rattle.graph_outputs.specs.Outputs.{declared_dirs, declared_files}
