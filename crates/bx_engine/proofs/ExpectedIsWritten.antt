@@ -1,13 +1,21 @@
 -- What follows from an expected response for the status and for what is written.
-use Rattle.std.proofs.Common.{◌≡◌, ◌⊎◌, inl, inr, ℕ, List, [], Bool, true, false, cond, refl, sym, subst}
+use Rattle.std.proofs.Common.{◌≡◌, ◌⊎◌, inl, inr, ℕ, List, Bool, true, false, cond, Some, refl, sym, subst, ◌∙◌}
 use Rattle.std.specs.declared.option.Option.{Option}
 use Rattle.std.specs.Io.KnownBytes.{Appends}
 use Rattle.bx_front.specs.declared.limits.Limits.{Limits}
 use Rattle.bx_words.specs.declared.order.Order.{Order}
-use Rattle.bx_engine.specs.Ending.{Ending, InputRefused, SpecificationRefused, Built, all_succeeded, notes_of, status_of}
-use Rattle.bx_engine.specs.Expected.{Answers, AppendsOrFails, Begins, Expected, IsExpected, Notes}
-use Rattle.bx_engine.specs.OutputTrees.{IsOutputText, IsTreeWritten}
-use Rattle.bx_engine.specs.Statuses.{HasNoNotes, IsWhole}
+use Rattle.bx_io.specs.Holdings.{Kept}
+use Rattle.pip_types.specs.declared.pip.Pip.{Pip}
+use Rattle.bx_engine.specs.Counting.{IsNoted, IsShown, Notes, StoreChange}
+use Rattle.bx_engine.specs.Ending.{Ending, InputRefused, SpecificationRefused, Built, all_succeeded, status_of}
+use Rattle.bx_engine.specs.Expected.{Answers, AppendsOrFails, Begins, Expected, IsExpected, limits_of}
+use Rattle.bx_engine.specs.Known.{AppendsPrefix}
+use Rattle.bx_engine.specs.OutputTrees.{IsOutputText, IsTreeBegun, IsTreeWritten}
+use Rattle.bx_engine.specs.Responses.{IsGoneTo}
+use Rattle.bx_engine.specs.declared.response.Response.{Response}
+use Rattle.bx_engine.specs.Statuses.{IsGone, IsRefusal, IsWhole}
+use Rattle.bx_engine.specs.Stores.{AsksFor, StoreLeft}
+use Rattle.bx_engine.proofs.StatusesDiffer.{gone_same, gone_whole, refusal_whole, refused_status}
 use Rattle.bx_engine.specs.declared.status.Status.{Status}
 use Rattle.bx_engine.specs.declared.status.Status.TheVariants as statuses
 
@@ -22,62 +30,80 @@ whole_ending (InputRefused fault) = inr (inr (inl refl))
 whole_ending (SpecificationRefused refusal) = inr (inr (inr refl))
 whole_ending (Built pips results) = whole_if (all_succeeded results)
 
-pub whole_expected : (limits : Limits) (input : List ℕ) (status : Status) (bytes notes : List ℕ) → IsExpected limits input status bytes notes → IsWhole status
-whole_expected limits input status bytes notes h = subst IsWhole (sym h.status_is) (whole_ending h.ending)
+pub whole_expected : (limits : Limits) (input : List ℕ) (status : Status) (bytes : List ℕ) → IsExpected limits input status bytes → IsWhole status
+whole_expected limits input status bytes h = subst IsWhole (sym h.status_is) (whole_ending h.ending)
 
 cut_is_not_whole : IsWhole statuses.OutFailed → ⊥
 cut_is_not_whole h = elim h [ inl a ↦ cc | inr b ↦ elim b [ inl c ↦ cc | inr d ↦ elim d [ inl e ↦ cc | inr f ↦ cc ] ] ]
 
--- ## Notes of endings
-
-noted_if : (good : Bool) → HasNoNotes (cond good statuses.Done statuses.FailuresFound) → ⊥
-noted_if true h = elim h [
-  | inl a ↦ cc
-  | inr b ↦ elim b [ inl c ↦ cc | inr d ↦ elim d [ inl e ↦ cc | inr f ↦ elim f [ inl g ↦ cc | inr k ↦ cc ] ] ]
-]
-noted_if false h = elim h [
-  | inl a ↦ cc
-  | inr b ↦ elim b [ inl c ↦ cc | inr d ↦ elim d [ inl e ↦ cc | inr f ↦ elim f [ inl g ↦ cc | inr k ↦ cc ] ] ]
-]
-
-quiet_ending : (ending : Ending) → HasNoNotes (status_of ending) → notes_of ending ≡ []
-quiet_ending (InputRefused fault) h = refl
-quiet_ending (SpecificationRefused refusal) h = refl
-quiet_ending (Built pips results) h = absurd (noted_if (all_succeeded results) h)
-
--- nothing is written to the notes where the status says so
-pub quiet_expected : (limits : Limits) (input : List ℕ) (status result : Status) (bytes notes : List ℕ) → IsExpected limits input status bytes notes
-    → result ≡ status → HasNoNotes result → notes ≡ []
-quiet_expected limits input status result bytes notes h same quiet =
-    subst (λ (n : List ℕ). n ≡ []) (sym h.notes_are) (quiet_ending h.ending (subst HasNoNotes h.status_is (subst HasNoNotes same quiet)))
-
 -- ## What is written
 
-same_status : (order : Order) (input : List ℕ) (status result : Status) (bytes notes : List ℕ) → Expected order input status bytes notes
-    → (result ≡ status) ⊎ (result ≡ statuses.OutFailed) → IsWhole result → Expected order input result bytes notes
-same_status order input status result bytes notes h s whole = elim s [
-  | inl same ↦ subst (λ (r : Status). Expected order input r bytes notes) (sym same) h
+same_status : (order : Order) (input : List ℕ) (status result : Status) (bytes : List ℕ) → Expected order input status bytes
+    → (result ≡ status) ⊎ (result ≡ statuses.OutFailed) → IsWhole result → Expected order input result bytes
+same_status order input status result bytes h s whole = elim s [
+  | inl same ↦ subst (λ (r : Status). Expected order input r bytes) (sym same) h
   | inr cut ↦ absurd (cut_is_not_whole (subst IsWhole cut whole))
 ]
 
-pub answered : (order : Order) (input : List ℕ) (status result : Status) (bytes notes : List ℕ) (before now : Option (List ℕ))
-    → Expected order input status bytes notes → (result ≡ status) ⊎ (result ≡ statuses.OutFailed) → IsWhole result → Appends before now bytes
+pub answered : (order : Order) (input : List ℕ) (status result : Status) (bytes : List ℕ) (before now : Option (List ℕ))
+    → Expected order input status bytes → (result ≡ status) ⊎ (result ≡ statuses.OutFailed) → IsWhole result → Appends before now bytes
     → Answers order input result before now
-answered order input status result bytes notes before now h s whole appended = record {
+answered order input status result bytes before now h s whole appended = record {
   bytes = bytes;
-  notes = notes;
-  expected = same_status order input status result bytes notes h s whole;
+  expected = same_status order input status result bytes h s whole;
   appended = appended;
 }
 
-pub noted : (order : Order) (input : List ℕ) (status result : Status) (bytes notes : List ℕ) (before now : Option (List ℕ)) (m n : ℕ)
-    → Expected order input status bytes notes → (result ≡ status) ⊎ (result ≡ statuses.OutFailed) → IsWhole result
-    → AppendsOrFails notes before now m n → Notes order input result before now m n
-noted order input status result bytes notes before now m n h s whole appended = record {
-  bytes = bytes;
-  notes = notes;
-  expected = same_status order input status result bytes notes h s whole;
+pub refused : (order : Order) (input : List ℕ) (status result : Status) (bytes : List ℕ) (before now : Option (List ℕ))
+    → (IsRefusal status → Expected order input status bytes) → (result ≡ status) ⊎ (result ≡ statuses.OutFailed) → IsRefusal result
+    → (IsWhole result → Appends before now bytes) → Answers order input result before now
+refused order input status result bytes before now h s r appended =
+    let whole = refusal_whole result r in
+    answered order input status result bytes before now (h (refused_status status result s r)) s whole (appended whole)
+
+pub begun : (order : Order) (input : List ℕ) (status : Status) (bytes : List ℕ) (before now : Option (List ℕ)) → Expected order input status bytes
+    → AppendsPrefix before now bytes → Begins order input before now
+begun order input status bytes before now h appended = record { status = status; bytes = bytes; expected = h; appended = appended }
+
+same_bytes : (limits : Limits) (input bytes : List ℕ) (pips : List Pip) → Some input ≡ Some bytes → AsksFor limits input pips → AsksFor limits bytes pips
+same_bytes limits input bytes pips e h =
+    let same : input ≡ bytes = cc in
+    subst (λ (i : List ℕ). AsksFor limits i pips) same h
+
+pub shown : (order : Order) (input : List ℕ) (change : StoreChange) (response : Response) (result : Status)
+    (out_before out_now before now : Option (List ℕ)) (m n : ℕ) → (IsGone response.status → IsGoneTo order input change response)
+    → (result ≡ response.status) ⊎ (result ≡ statuses.OutFailed) → IsGone result → (IsWhole result → Appends out_before out_now response.bytes.items)
+    → (IsWhole result → AppendsOrFails response.notes.items before now m n)
+    → IsShown order (Some input) change result out_before out_now before now m n
+shown order input change response result out_before out_now before now m n h s gone written noted =
+    let same = gone_same response.status result s gone in
+    let g = h (subst IsGone same gone) in
+    let whole = gone_whole result gone in
+    record {
+      gone = g.went.gone;
+      asked = λ bytes e. same_bytes (limits_of order) input bytes g.went.gone.pips e g.asked;
+      status_is = same ∙ g.went.status_is;
+      written = subst (λ (t : List ℕ). Appends out_before out_now t) g.went.bytes_are (written whole);
+      noted = subst (λ (t : List ℕ). AppendsOrFails t before now m n) g.went.notes_are (noted whole);
+    }
+
+pub noted : (order : Order) (input : List ℕ) (change : StoreChange) (status result : Status) (text : List ℕ) (before now : Option (List ℕ)) (m n : ℕ)
+    → IsNoted order input change status text → (result ≡ status) ⊎ (result ≡ statuses.OutFailed) → IsWhole result
+    → AppendsOrFails text before now m n → Notes order input change result before now m n
+noted order input change status result text before now m n h s whole appended = record {
+  text = text;
+  noted = elim s [
+    | inl same ↦ subst (λ (r : Status). IsNoted order input change r text) (sym same) h
+    | inr cut ↦ absurd (cut_is_not_whole (subst IsWhole cut whole))
+  ];
   appended = appended;
+}
+
+pub tree_begun : (text : List ℕ) (before now : Option (List ℕ)) → IsOutputText text → AppendsPrefix before now text → IsTreeBegun before now
+tree_begun text before now h appended = record {
+  files = h.0;
+  output = h.1;
+  appended = subst (λ (t : List ℕ). AppendsPrefix before now t) h.2 appended;
 }
 
 pub tree_written : (text : List ℕ) (before now : Option (List ℕ)) → IsOutputText text → Appends before now text → IsTreeWritten before now
@@ -96,6 +122,15 @@ same_answers a b input status before now e h = subst (λ (o : Order). Answers o 
 pub same_begins : (a b : Order) (input : List ℕ) (before now : Option (List ℕ)) → a ≡ b → Begins a input before now → Begins b input before now
 same_begins a b input before now e h = subst (λ (o : Order). Begins o input before now) e h
 
-pub same_notes : (a b : Order) (input : List ℕ) (status : Status) (before now : Option (List ℕ)) (m n : ℕ) → a ≡ b
-    → Notes a input status before now m n → Notes b input status before now m n
-same_notes a b input status before now m n e h = subst (λ (o : Order). Notes o input status before now m n) e h
+pub same_notes : (a b : Order) (input : List ℕ) (change : StoreChange) (status : Status) (before now : Option (List ℕ)) (m n : ℕ) → a ≡ b
+    → Notes a input change status before now m n → Notes b input change status before now m n
+same_notes a b input change status before now m n e h = subst (λ (o : Order). Notes o input change status before now m n) e h
+
+pub same_shown : (a b : Order) (input : Option (List ℕ)) (change : StoreChange) (status : Status) (out_before out_now before now : Option (List ℕ)) (m n : ℕ)
+    → a ≡ b → IsShown a input change status out_before out_now before now m n → IsShown b input change status out_before out_now before now m n
+same_shown a b input change status out_before out_now before now m n e h =
+    subst (λ (o : Order). IsShown o input change status out_before out_now before now m n) e h
+
+pub same_left : (a b : Order) (input : List ℕ) (before : Kept) (now : Option Kept) → a ≡ b → StoreLeft (limits_of a) input before now
+    → StoreLeft (limits_of b) input before now
+same_left a b input before now e h = subst (λ (o : Order). StoreLeft (limits_of o) input before now) e h

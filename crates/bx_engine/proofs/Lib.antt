@@ -5,6 +5,9 @@ mod StatusesDiffer
 mod ReportPath
 mod OutputsAreTrees
 mod RulesKept
+mod FairPlans
+mod StoresLeft
+mod BuildsAreShown
 mod ExpectedIsWritten
 mod ResponsesAreExpected
 mod OneEnding

@@ -1,24 +1,23 @@
 -- The files below `out` with the report after them are a tree.
 use Rattle.std.proofs.Common.{◌≡◌, ◌≢◌, ℕ, inl, inr, Bool, true, false, cond, List, [], ◌∷◌, ◌++◌, codes, refl, sym, subst, ◌∙◌, ap}
-use Rattle.std.specs.Prelude.{IfOk, Result as Answer, Ok, Err}
-use Rattle.std.specs.List.{AllByRecursion, Contains}
+use Rattle.std.specs.List.{AllByRecursion, Contains, list_all}
 use Rattle.std.specs.List.Sorted.{IsStrictlySortedBy}
 use Rattle.std.specs.declared.cmp.Ordering.TheVariants.{Less}
 use Rattle.std.proofs.lemmas.List.{map-append}
 use Rattle.std.proofs.lemmas.List.Elements.{All-contains, All-from_recursion, Contains-push_cases}
 use Rattle.bx_tree.specs.Paths.{Atoms, IsPath, IsBelow, path_cmp}
 use Rattle.bx_tree.specs.Trees.{Files, NoneNested, paths_of}
-use Rattle.bx_tree.specs.declared.bundle.BundleFault.{BundleFault}
-use Rattle.bx_tree.specs.declared.bundle.BundleFault.TheVariants as bundle_faults
 use Rattle.build_outputs.specs.Outputs.{AreOutputs}
-use Rattle.bx_front.specs.declared.fault.FrontFault.{FrontFault}
-use Rattle.bx_front.specs.declared.fault.FrontFault.TheVariants as front_faults
+use Rattle.build_report.specs.declared.refusal.Refusal.{Refusal}
 use Rattle.graph_outputs.specs.OutsideOut.{out_dir}
-use Rattle.one_thread.specs.OneThread.{Result, outputs_of}
+use Rattle.build_report.specs.Reports.{report_text}
 use Rattle.pip_types.specs.declared.pip.Pip.{Pip}
-use Rattle.bx_engine.specs.Ending.{Ending, InputRefused, SpecificationRefused, Built, all_succeeded, made_of, report_of, report_path}
+use Rattle.verdicts.specs.Verdicts.{is_success}
+use Rattle.verdicts.specs.declared.verdict.Verdict.{Verdict}
+use Rattle.bx_engine.specs.Counting.{given_files, gone_output}
+use Rattle.bx_engine.specs.Ending.{Ending, InputRefused, SpecificationRefused, made_of, report_of, report_path}
 use Rattle.bx_engine.specs.OutputTrees.{IsOutputPath, IsOutputText, IsOutputTree}
-use Rattle.bx_engine.specs.Responses.{IsResponseTo, IsResponseToBundle, IsResponseToFault}
+use Rattle.bx_engine.specs.Responses.{IsResponseTo}
 use Rattle.bx_engine.specs.declared.fault.InputFault.{InputFault}
 use Rattle.bx_engine.specs.declared.response.Response.{Response}
 use Rattle.bx_engine.proofs.ReportPath.{named_report}
@@ -130,37 +129,25 @@ no_outputs = record {
 
 -- ## Responses
 
--- what follows from two facts of an answer
-pub both_ok : {X E : Type 0} (r : Answer X E) (P Q R : X → Type 0) → ((x : X) → P x → Q x → R x) → IfOk r P → IfOk r Q → IfOk r R
-both_ok (Ok x) P Q R f p q = f x p q
-both_ok (Err y) P Q R f p q = tt
-
-shown_text : (ending : Ending) (response : Response) → IsResponseTo ending response → AreOutputs (made_of ending)
+shown_text : (ending : Ending) (notes : List ℕ) (response : Response) → IsResponseTo ending notes response → AreOutputs (made_of ending)
     → AllByRecursion IsPath (paths_of (made_of ending)) → IsOutputText response.bytes.items
-shown_text ending response h outputs paths =
+shown_text ending notes response h outputs paths =
     (made_of ending ++ (report_path, report_of ending) ∷ [], with_report (made_of ending) (report_of ending) outputs paths, h.bytes_are)
 
 outputs_if : (good : Bool) (files : Files) → AreOutputs files → AreOutputs (cond good files [])
 outputs_if true files h = h
 outputs_if false files h = no_outputs
 
-pub built_text : (pips : List Pip) (results : List Result) (response : Response) → IsResponseTo (Built pips results) response
-    → AreOutputs (outputs_of results) → AllByRecursion IsPath (paths_of (made_of (Built pips results))) → IsOutputText response.bytes.items
-built_text pips results response h outputs paths =
-    shown_text (Built pips results) response h (outputs_if (all_succeeded results) (outputs_of results) outputs) paths
+-- the output of pips that were gone through
+pub gone_text : (pips : List Pip) (verdicts : List Verdict) (files : Files) (text : List ℕ) → text ≡ gone_output pips verdicts files → AreOutputs files
+    → AllByRecursion IsPath (paths_of (given_files verdicts files)) → IsOutputText text
+gone_text pips verdicts files text is outputs paths =
+    let given = given_files verdicts files in
+    let report = report_text pips verdicts in
+    (given ++ (report_path, report) ∷ [], with_report given report (outputs_if (list_all is_success verdicts) files outputs) paths, is)
 
-pub input_text : (fault : InputFault) (response : Response) → IsResponseTo (InputRefused fault) response → IsOutputText response.bytes.items
-input_text fault response h = shown_text (InputRefused fault) response h no_outputs tt
+pub input_text : (fault : InputFault) (response : Response) → IsResponseTo (InputRefused fault) [] response → IsOutputText response.bytes.items
+input_text fault response h = shown_text (InputRefused fault) [] response h no_outputs tt
 
-pub fault_text : (fault : FrontFault) (response : Response) → IsResponseToFault fault response → IsOutputText response.bytes.items
-fault_text (front_faults.Refused refusal) response h = shown_text (SpecificationRefused refusal) response h no_outputs tt
-fault_text front_faults.Memory response h = absurd h
-
-pub bundle_text : (fault : BundleFault) (response : Response) → IsResponseToBundle fault response → IsOutputText response.bytes.items
-bundle_text bundle_faults.BadBundle response h = input_text _ response h
-bundle_text bundle_faults.BadPath response h = input_text _ response h
-bundle_text bundle_faults.Unordered response h = input_text _ response h
-bundle_text bundle_faults.Nested response h = input_text _ response h
-bundle_text bundle_faults.TooManyFiles response h = input_text _ response h
-bundle_text bundle_faults.TooLarge response h = input_text _ response h
-bundle_text bundle_faults.Memory response h = absurd h
+pub refusal_text : (refusal : Refusal) (response : Response) → IsResponseTo (SpecificationRefused refusal) [] response → IsOutputText response.bytes.items
+refusal_text refusal response h = shown_text (SpecificationRefused refusal) [] response h no_outputs tt

@@ -1,5 +1,5 @@
 -- An input that is read up to one byte past the limit ends as the whole input does.
-use Rattle.std.proofs.Common.{◌≡◌, ℕ, ◌<◌, ◌≤◌, ◌⊎◌, inl, inr, List, [], ◌++◌, length, drop}
+use Rattle.std.proofs.Common.{◌≡◌, ℕ, Bool, true, false, ◌<◌, ◌≤◌, ◌⊎◌, inl, inr, List, [], ◌++◌, length, drop}
 use Rattle.std.proofs.Common.{refl, sym, ap, subst, ◌∙◌, arith}
 use Rattle.std.specs.Prelude.{Some, None, IsSome}
 use Rattle.std.specs.declared.option.Option.{Option}
@@ -15,9 +15,13 @@ use Rattle.bx_engine.specs.declared.status.Status.{Status}
 use Rattle.bx_engine.specs.declared.limits.TheConstants.{READ_LIMIT}
 use Rattle.bx_tree.specs.declared.limits.TheConstants.{MAX_BUNDLE_BYTES}
 use Rattle.bx_engine.specs.Ends.{Ends}
-use Rattle.bx_engine.specs.Expected.{IsExpected, Answers, Begins, Notes, limits_of}
+use Rattle.bx_io.specs.Holdings.{Holdings, Kept}
+use Rattle.bx_engine.specs.Counting.{IsNoted, IsShown, Notes, NotesOf, StoreChange}
+use Rattle.bx_engine.specs.Expected.{IsExpected, Answers, Begins, limits_of}
+use Rattle.bx_engine.specs.Stores.{AsksFor, FairWhere, LeftOfBuild, StoreLeft}
 use Rattle.bx_engine.specs.Ending.{Ending, InputRefused, SpecificationRefused, Built}
 use Rattle.bx_front.specs.declared.limits.Limits.{Limits}
+use Rattle.pip_types.specs.declared.pip.Pip.{Pip}
 
 -- the input is longer than an input may be
 abbrev pub IsLong : List ℕ → Type 0
@@ -110,14 +114,13 @@ ends_whole limits input bytes left ending r e = elim r.whole [
   | inr long ↦ long_ends limits bytes input ending long.0 long.1 e
 ]
 
-expected_whole : (limits : Limits) (input bytes : List ℕ) (left : Option (List ℕ)) (status : Status) (written notes : List ℕ)
-    → ReadOf input bytes left → IsExpected limits bytes status written notes → IsExpected limits input status written notes
-expected_whole limits input bytes left status written notes r e = record {
+expected_whole : (limits : Limits) (input bytes : List ℕ) (left : Option (List ℕ)) (status : Status) (written : List ℕ)
+    → ReadOf input bytes left → IsExpected limits bytes status written → IsExpected limits input status written
+expected_whole limits input bytes left status written r e = record {
   ending = e.ending;
   ends = ends_whole limits input bytes left e.ending r e.ends;
   status_is = e.status_is;
   bytes_are = e.bytes_are;
-  notes_are = e.notes_are;
 }
 
 pub answers_whole : (order : Order) (input bytes : List ℕ) (left : Option (List ℕ)) (status : Status)
@@ -125,8 +128,7 @@ pub answers_whole : (order : Order) (input bytes : List ℕ) (left : Option (Lis
     → Answers order bytes status before now → Answers order input status before now
 answers_whole order input bytes left status before now r a = record {
   bytes = a.bytes;
-  notes = a.notes;
-  expected = expected_whole (limits_of order) input bytes left status a.bytes a.notes r a.expected;
+  expected = expected_whole (limits_of order) input bytes left status a.bytes r a.expected;
   appended = a.appended;
 }
 
@@ -135,17 +137,86 @@ pub begins_whole : (order : Order) (input bytes : List ℕ) (left : Option (List
 begins_whole order input bytes left before now r b = record {
   status = b.status;
   bytes = b.bytes;
-  notes = b.notes;
-  expected = expected_whole (limits_of order) input bytes left b.status b.bytes b.notes r b.expected;
+  expected = expected_whole (limits_of order) input bytes left b.status b.bytes r b.expected;
   appended = b.appended;
 }
 
-pub notes_whole : (order : Order) (input bytes : List ℕ) (left : Option (List ℕ)) (status : Status)
+-- ## Notes
+
+long_notes : (order : Order) (a b : List ℕ) (change : StoreChange) (ending : Ending) (text : List ℕ) → IsLong a → Ends (limits_of order) a ending
+    → NotesOf order a change ending text → NotesOf order b change ending text
+long_notes order a b change (InputRefused fault) text h e n = n
+long_notes order a b change (SpecificationRefused refusal) text h e n = n
+long_notes order a b change (Built pips results) text h e n = absurd (not_long a h e.1.bundle.whole)
+
+noted_whole : (order : Order) (input bytes : List ℕ) (left : Option (List ℕ)) (change : StoreChange) (status : Status) (text : List ℕ)
+    → ReadOf input bytes left → IsNoted order bytes change status text → IsNoted order input change status text
+noted_whole order input bytes left change status text r n = elim r.whole [
+  | inl is ↦ subst (λ i. IsNoted order i change status text) is n
+  | inr long ↦ record {
+    ending = n.ending;
+    ends = long_ends (limits_of order) bytes input n.ending long.0 long.1 n.ends;
+    status_is = n.status_is;
+    text_is = long_notes order bytes input change n.ending text long.0 n.ends n.text_is;
+  }
+]
+
+pub notes_whole : (order : Order) (input bytes : List ℕ) (left : Option (List ℕ)) (change : StoreChange) (status : Status)
     (before now : Option (List ℕ)) (m n : ℕ) → ReadOf input bytes left
-    → Notes order bytes status before now m n → Notes order input status before now m n
-notes_whole order input bytes left status before now m n r t = record {
-  bytes = t.bytes;
-  notes = t.notes;
-  expected = expected_whole (limits_of order) input bytes left status t.bytes t.notes r t.expected;
+    → Notes order bytes change status before now m n → Notes order input change status before now m n
+notes_whole order input bytes left change status before now m n r t = record {
+  text = t.text;
+  noted = noted_whole order input bytes left change status t.text r t.noted;
   appended = t.appended;
+}
+
+-- ## Stores
+
+long_fair : (cached : Bool) (limits : Limits) (input : List ℕ) (held : Option Holdings) → IsLong input → FairWhere cached limits input held
+long_fair false limits input held h = tt
+long_fair true limits input held h = λ sources pips s plans. absurd (not_long input h s.bundle.whole)
+
+-- a store that is fair for an input is fair for what is read of it
+pub fair_read : (cached : Bool) (limits : Limits) (input bytes : List ℕ) (left : Option (List ℕ)) (held : Option Holdings) → ReadOf input bytes left
+    → FairWhere cached limits input held → FairWhere cached limits bytes held
+fair_read cached limits input bytes left held r fair = elim r.whole [
+  | inl is ↦ subst (λ (i : List ℕ). FairWhere cached limits i held) (sym is) fair
+  | inr long ↦ long_fair cached limits bytes held long.0
+]
+
+came_whole : (limits : Limits) (input bytes : List ℕ) (left : Option (List ℕ)) (before : Kept) (now : Option Kept) → ReadOf input bytes left
+    → LeftOfBuild limits bytes before now → LeftOfBuild limits input before now
+came_whole limits input bytes left before now r came = elim r.whole [
+  | inl is ↦ subst (λ (i : List ℕ). LeftOfBuild limits i before now) is came
+  | inr long ↦ elim came [
+    | inl same ↦ inl same
+    | inr h ↦ absurd (not_long bytes long.0 h.2.bundle.whole)
+  ]
+]
+
+pub left_whole : (limits : Limits) (input bytes : List ℕ) (left : Option (List ℕ)) (before : Kept) (now : Option Kept) → ReadOf input bytes left
+    → StoreLeft limits bytes before now → StoreLeft limits input before now
+left_whole limits input bytes left before now r s = record {
+  honest = s.honest;
+  came = came_whole limits input bytes left before now r s.came;
+}
+
+-- ## Pips that were gone through
+
+asked_whole : (limits : Limits) (input bytes : List ℕ) (left : Option (List ℕ)) (pips : List Pip) → ReadOf input bytes left → AsksFor limits bytes pips
+    → AsksFor limits input pips
+asked_whole limits input bytes left pips r h = elim r.whole [
+  | inl is ↦ subst (λ (i : List ℕ). AsksFor limits i pips) is h
+  | inr long ↦ absurd (not_long bytes long.0 h.1.bundle.whole)
+]
+
+pub shown_whole : (order : Order) (source left : Option (List ℕ)) (bytes : List ℕ) (change : StoreChange) (status : Status)
+    (out_before out_now before now : Option (List ℕ)) (m n : ℕ) → ((input : List ℕ) → source ≡ Some input → ReadOf input bytes left)
+    → IsShown order (Some bytes) change status out_before out_now before now m n → IsShown order source change status out_before out_now before now m n
+shown_whole order source left bytes change status out_before out_now before now m n read s = record {
+  gone = s.gone;
+  asked = λ input known. asked_whole (limits_of order) input bytes left s.gone.pips (read input known) (s.asked bytes refl);
+  status_is = s.status_is;
+  written = s.written;
+  noted = s.noted;
 }

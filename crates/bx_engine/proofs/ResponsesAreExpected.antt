@@ -1,35 +1,45 @@
 -- Responses to inputs.
-use Rattle.std.proofs.Common.{◌≡◌, ◌≢◌, ℕ, List, ap, subst, ◌∙◌}
+use Rattle.std.proofs.Common.{◌≡◌, ◌≢◌, ℕ, inl, inr, Bool, List, [], refl, sym, subst}
 use Rattle.bx_tree.specs.Bundle.{Faults, IsBundle, bundle}
 use Rattle.bx_tree.specs.declared.bundle.BundleFault.{BundleFault}
 use Rattle.bx_tree.specs.declared.bundle.BundleFault.TheVariants as bundle_faults
 use Rattle.bx_front.specs.Faults.{IsRefused}
 use Rattle.bx_front.specs.declared.fault.FrontFault.{FrontFault}
 use Rattle.bx_front.specs.declared.fault.FrontFault.TheVariants as front_faults
+use Rattle.bx_io.specs.Holdings.{held_in}
 use Rattle.bx_tree.specs.Trees.{Files}
+use Rattle.bx_words.specs.declared.order.Order.{Order}
+use Rattle.build_report.specs.Notes.{notes_text}
 use Rattle.build_report.specs.declared.refusal.Refusal.{Refusal}
 use Rattle.build_report.specs.declared.refusal.Refusal.TheVariants.{Input}
 use Rattle.bx_front.specs.Refusals as front
 use Rattle.bx_front.specs.Specifications.{Plans}
 use Rattle.bx_front.specs.declared.limits.Limits.{Limits}
 use Rattle.one_thread.specs.OneThread.{one_thread}
-use Rattle.one_thread.specs.declared.build.Built.{Built}
 use Rattle.pip_types.specs.declared.pip.Pip.{Pip}
+use Rattle.retire.specs.Builds.{Fair}
+use Rattle.bx_engine.specs.Counting.{StoreChange}
 use Rattle.bx_engine.specs.Ending as endings
 use Rattle.bx_engine.specs.Ending.{Ending, input_fault_name}
-use Rattle.bx_engine.specs.Ends.{Ends, HasReserved}
-use Rattle.bx_engine.specs.Expected.{IsExpected}
-use Rattle.bx_engine.specs.Responses.{IsReportOf, IsResponseTo, IsResponseToBundle, IsResponseToFault}
+use Rattle.bx_engine.specs.Ends.{AreSources, Ends, HasReserved, RefusesInput}
+use Rattle.bx_engine.specs.Expected.{IsExpected, limits_of}
+use Rattle.bx_engine.specs.Responses.{IsBuildResponse, IsReportOf, IsResponseTo, IsResponseToBundle, IsResponseToFault, Responds}
+use Rattle.bx_engine.specs.Statuses.{IsRefusal}
+use Rattle.bx_engine.specs.Stores.{AsksFor, FairStore, uses_store}
+use Rattle.bx_engine.proofs.ExpectedIsWritten.{whole_expected}
+use Rattle.bx_engine.proofs.FairPlans.{fair_plan, none_reserved}
 use Rattle.bx_engine.proofs.FaultIsNotMemory.{bad_bundle, bad_path, nested, too_large, too_many_files, unordered}
+use Rattle.bx_engine.proofs.OutputsAreTrees.{input_text, refusal_text}
+use Rattle.bx_engine.proofs.StatusesDiffer.{gone_is, gone_or_refused, gone_whole}
 use Rattle.bx_engine.specs.declared.fault.InputFault.{InputFault}
 use Rattle.bx_engine.specs.declared.fault.InputFault.TheVariants as input_faults
 use Rattle.bx_engine.specs.declared.response.Response.{Response}
 use Rattle.bx_engine.specs.declared.status.Status.TheVariants as statuses
 
--- ## Refusals
+-- ## Reports of refusals
 
 pub input_shown : (fault : InputFault) (name : List ℕ) (response : Response) → name ≡ input_fault_name fault
-    → IsReportOf statuses.InputRefused (Input name) response → IsResponseTo (endings.InputRefused fault) response
+    → IsReportOf statuses.InputRefused (Input name) response → IsResponseTo (endings.InputRefused fault) [] response
 input_shown fault name response is h = record {
   status_is = h.status_is;
   bytes_are = subst (λ (n : List ℕ). response.bytes.items ≡ endings.refusal_output (Input n)) is h.bytes_are;
@@ -37,52 +47,129 @@ input_shown fault name response is h = record {
 }
 
 pub specification_shown : (refusal : Refusal) (response : Response) → IsReportOf statuses.SpecificationRefused refusal response
-    → IsResponseTo (endings.SpecificationRefused refusal) response
+    → IsResponseTo (endings.SpecificationRefused refusal) [] response
 specification_shown refusal response h = record { status_is = h.status_is; bytes_are = h.bytes_are; notes_are = h.notes_are }
 
--- ## Expected answers
-
 -- a response to an input that ends so is expected
-pub expected_of : (limits : Limits) (input : List ℕ) (ending : Ending) (response : Response) → Ends limits input ending → IsResponseTo ending response
-    → IsExpected limits input response.status response.bytes.items response.notes.items
-expected_of limits input ending response ends h = record {
+expected_of : (limits : Limits) (input : List ℕ) (ending : Ending) (notes : List ℕ) (response : Response) → Ends limits input ending
+    → IsResponseTo ending notes response → IsExpected limits input response.status response.bytes.items
+expected_of limits input ending notes response ends h = record {
   ending = ending;
   ends = ends;
   status_is = h.status_is;
   bytes_are = h.bytes_are;
-  notes_are = h.notes_are;
 }
 
-refused_expected : (limits : Limits) (input : List ℕ) (tree : Files) (refusal : Refusal) (response : Response) → IsBundle input tree
-    → (HasReserved tree → ⊥) → front.Refuses limits tree refusal → IsResponseTo (endings.SpecificationRefused refusal) response
-    → IsExpected limits input response.status response.bytes.items response.notes.items
-refused_expected limits input tree refusal response bundle free h shows =
-    expected_of limits input (endings.SpecificationRefused refusal) response (tree, record { bundle = bundle; free = free }, h) shows
+-- ## Refused inputs
 
-pub built_expected : (limits : Limits) (input : List ℕ) (tree sources : Files) (pips : List Pip) (budget : ℕ) (response : Response) → IsBundle input tree
-    → (HasReserved tree → ⊥) → Plans limits tree pips → sources ≡ tree → budget ≡ limits.tool_budget
-    → IsResponseTo (endings.Built pips (one_thread pips sources budget)) response
-    → IsExpected limits input response.status response.bytes.items response.notes.items
-built_expected limits input tree sources pips budget response bundle free plans same steps shows =
-    let results = one_thread pips sources budget in
-    let is : results ≡ one_thread pips tree limits.tool_budget =
-    ap (λ (t : Files). one_thread pips t budget) same ∙ ap (one_thread pips tree) steps in
-    expected_of limits input (endings.Built pips results) response
-    (tree, record { bundle = bundle; free = free }, record { plans = plans; built = is }) shows
+pub input_responds : (order : Order) (input : List ℕ) (change : StoreChange) (fault : InputFault) (response : Response) → RefusesInput input fault
+    → IsResponseTo (endings.InputRefused fault) [] response → Responds order input change response
+input_responds order input change fault response refuses h =
+    let expected = expected_of (limits_of order) input (endings.InputRefused fault) [] response refuses h in
+    record {
+      whole = whole_expected (limits_of order) input response.status response.bytes.items expected;
+      text = input_text fault response h;
+      refused = λ r. expected;
+      quiet = λ r. h.notes_are;
+      went = λ g. absurd (gone_or_refused response.status g (inl h.status_is));
+      expected = λ fair. expected;
+      noted = λ fair. record { ending = endings.InputRefused fault; ends = refuses; status_is = h.status_is; text_is = h.notes_are };
+    }
 
-pub fault_expected : (limits : Limits) (input : List ℕ) (tree : Files) (fault : FrontFault) (response : Response) → IsBundle input tree
-    → (HasReserved tree → ⊥) → IsRefused limits tree fault → IsResponseToFault fault response
-    → IsExpected limits input response.status response.bytes.items response.notes.items
-fault_expected limits input tree (front_faults.Refused refusal) response bundle free h shows = refused_expected limits input tree refusal response bundle free h shows
-fault_expected limits input tree front_faults.Memory response bundle free h shows = absurd shows
+pub bundle_responds : (order : Order) (input : List ℕ) (change : StoreChange) (fault : BundleFault) (response : Response)
+    → (fault ≢ bundle_faults.Memory → Faults input fault) → IsResponseToBundle fault response → Responds order input change response
+bundle_responds order input change bundle_faults.BadBundle response h shows = input_responds order input change input_faults.BadBundle response (h bad_bundle) shows
+bundle_responds order input change bundle_faults.BadPath response h shows = input_responds order input change input_faults.BadPath response (h bad_path) shows
+bundle_responds order input change bundle_faults.Unordered response h shows = input_responds order input change input_faults.Unordered response (h unordered) shows
+bundle_responds order input change bundle_faults.Nested response h shows = input_responds order input change input_faults.Nested response (h nested) shows
+bundle_responds order input change bundle_faults.TooManyFiles response h shows =
+    input_responds order input change input_faults.TooManyFiles response (h too_many_files) shows
+bundle_responds order input change bundle_faults.TooLarge response h shows = input_responds order input change input_faults.TooLarge response (h too_large) shows
+bundle_responds order input change bundle_faults.Memory response h shows = absurd shows
 
-pub bundle_expected : (limits : Limits) (input : List ℕ) (fault : BundleFault) (response : Response) → (fault ≢ bundle_faults.Memory → Faults input fault)
-    → IsResponseToBundle fault response → IsExpected limits input response.status response.bytes.items response.notes.items
-bundle_expected limits input bundle_faults.BadBundle response h shows = expected_of limits input (endings.InputRefused input_faults.BadBundle) response (h bad_bundle) shows
-bundle_expected limits input bundle_faults.BadPath response h shows = expected_of limits input (endings.InputRefused input_faults.BadPath) response (h bad_path) shows
-bundle_expected limits input bundle_faults.Unordered response h shows = expected_of limits input (endings.InputRefused input_faults.Unordered) response (h unordered) shows
-bundle_expected limits input bundle_faults.Nested response h shows = expected_of limits input (endings.InputRefused input_faults.Nested) response (h nested) shows
-bundle_expected limits input bundle_faults.TooManyFiles response h shows =
-    expected_of limits input (endings.InputRefused input_faults.TooManyFiles) response (h too_many_files) shows
-bundle_expected limits input bundle_faults.TooLarge response h shows = expected_of limits input (endings.InputRefused input_faults.TooLarge) response (h too_large) shows
-bundle_expected limits input bundle_faults.Memory response h shows = absurd shows
+-- ## Refused specifications
+
+refusal_responds : (order : Order) (input : List ℕ) (change : StoreChange) (tree : Files) (refusal : Refusal) (response : Response) → AreSources input tree
+    → front.Refuses (limits_of order) tree refusal → IsResponseTo (endings.SpecificationRefused refusal) [] response → Responds order input change response
+refusal_responds order input change tree refusal response sources refuses h =
+    let limits = limits_of order in
+    let ends : Ends limits input (endings.SpecificationRefused refusal) = (tree, sources, refuses) in
+    let expected = expected_of limits input (endings.SpecificationRefused refusal) [] response ends h in
+    record {
+      whole = whole_expected limits input response.status response.bytes.items expected;
+      text = refusal_text refusal response h;
+      refused = λ r. expected;
+      quiet = λ r. h.notes_are;
+      went = λ g. absurd (gone_or_refused response.status g (inr h.status_is));
+      expected = λ fair. expected;
+      noted = λ fair. record { ending = endings.SpecificationRefused refusal; ends = ends; status_is = h.status_is; text_is = h.notes_are };
+    }
+
+pub fault_responds : (order : Order) (input : List ℕ) (change : StoreChange) (tree : Files) (fault : FrontFault) (response : Response) → IsBundle input tree
+    → (HasReserved tree → ⊥) → IsRefused (limits_of order) tree fault → IsResponseToFault fault response → Responds order input change response
+fault_responds order input change tree (front_faults.Refused refusal) response bundle free h shows =
+    refusal_responds order input change tree refusal response (record { bundle = bundle; free = free }) h shows
+fault_responds order input change tree front_faults.Memory response bundle free h shows = absurd shows
+
+-- ## Builds
+
+-- a store that is fair for the input is fair for its plan
+is_fair : (order : Order) (input : List ℕ) (change : StoreChange) (tree : Files) (pips : List Pip) → AreSources input tree → Plans (limits_of order) tree pips
+    → FairStore order input (held_in change.before)
+    → Fair pips tree (limits_of order).tool_budget (uses_store order) (held_in change.before)
+is_fair order input change tree pips sources plans fair =
+    fair_plan (uses_store order) (limits_of order) input (held_in change.before) tree pips fair sources plans
+
+plan_responds : (order : Order) (input : List ℕ) (change : StoreChange) (tree : Files) (pips : List Pip) (response : Response) → AreSources input tree
+    → Plans (limits_of order) tree pips → IsBuildResponse pips tree (limits_of order).tool_budget (uses_store order) change response
+    → Responds order input change response
+plan_responds order input change tree pips response sources plans b =
+    let limits = limits_of order in
+    let results = one_thread pips tree limits.tool_budget in
+    let ends : Ends limits input (endings.Built pips results) = (tree, sources, record { plans = plans; built = refl }) in
+    let gone = gone_is response.status b.went.gone.verdicts b.went.status_is in
+    record {
+      whole = gone_whole response.status gone;
+      text = b.text;
+      refused = λ r. absurd (gone_or_refused response.status gone r);
+      quiet = λ r. absurd (gone_or_refused response.status gone r);
+      went = λ g. record {
+        went = b.went;
+        asked = subst (λ (ps : List Pip). AsksFor limits input ps) (sym b.pips_are) (tree, sources, plans);
+      };
+      expected = λ fair.
+          expected_of limits input (endings.Built pips results) (notes_text b.went.gone.counts) response ends
+          (b.shown (is_fair order input change tree pips sources plans fair));
+      noted = λ fair. record {
+        ending = endings.Built pips results;
+        ends = ends;
+        status_is = (b.shown (is_fair order input change tree pips sources plans fair)).status_is;
+        text_is = (
+          tree,
+          sources,
+          b.went.gone.counts,
+          b.built (is_fair order input change tree pips sources plans fair) (none_reserved tree sources.free),
+          b.went.notes_are,
+        );
+      };
+    }
+
+-- the plan is given with its own sources and budget
+pub build_responds : (order : Order) (input : List ℕ) (change : StoreChange) (tree given : Files) (pips : List Pip) (budget : ℕ) (cached : Bool) (response : Response)
+    → IsBundle input tree → (HasReserved tree → ⊥) → Plans (limits_of order) tree pips → given ≡ tree → budget ≡ (limits_of order).tool_budget
+    → cached ≡ uses_store order → IsBuildResponse pips given budget cached change response → Responds order input change response
+build_responds order input change tree given pips budget cached response bundle free plans same steps on b =
+    let limits = limits_of order in
+    let here : IsBuildResponse pips tree budget cached change response =
+    subst (λ (t : Files). IsBuildResponse pips t budget cached change response) same b in
+    let there : IsBuildResponse pips tree limits.tool_budget cached change response =
+    subst (λ (n : ℕ). IsBuildResponse pips tree n cached change response) steps here in
+    let all : IsBuildResponse pips tree limits.tool_budget (uses_store order) change response =
+    subst (λ (c : Bool). IsBuildResponse pips tree limits.tool_budget c change response) on there in
+    plan_responds order input change tree pips response (record { bundle = bundle; free = free }) plans all
+
+-- a build whose pips were gone through is no refusal
+pub build_not_refused : (pips : List Pip) (tree : Files) (budget : ℕ) (cached : Bool) (change : StoreChange) (response : Response)
+    → IsBuildResponse pips tree budget cached change response → IsRefusal response.status → ⊥
+build_not_refused pips tree budget cached change response h refused =
+    gone_or_refused response.status (gone_is response.status h.went.gone.verdicts h.went.status_is) refused

@@ -4,13 +4,11 @@ use Rattle.std.specs.List.{list_all}
 use Rattle.bx_tree.specs.Paths.{Atoms}
 use Rattle.bx_tree.specs.Trees.{Files}
 use Rattle.bx_tree.specs.Bundle.{bundle}
-use Rattle.build_report.specs.Notes.{notes_text}
 use Rattle.build_report.specs.Refusals.{refused_text}
 use Rattle.build_report.specs.Reports.{report_text}
-use Rattle.build_report.specs.declared.counts.Counts.{Counts}
 use Rattle.build_report.specs.declared.refusal.Refusal.{Refusal}
 use Rattle.build_report.specs.declared.refusal.Refusal.TheVariants.{Input}
-use Rattle.one_thread.specs.OneThread.{Result, outputs_of, run_count, verdicts_of}
+use Rattle.one_thread.specs.OneThread.{Result, outputs_of, verdicts_of}
 use Rattle.pip_types.specs.declared.pip.Pip.{Pip}
 use Rattle.verdicts.specs.Verdicts.{is_success}
 use Rattle.bx_engine.specs.declared.status.Status.{Status}
@@ -75,19 +73,6 @@ abbrev pub output_of : Ending → List ℕ
 output_of ending = bundle (made_of ending ++ (report_path, report_of ending) ∷ [])
 
 -- ## The notes
-
--- No result is taken from a store yet, so each process that is not skipped is run, by the thread that goes
--- through the pips.
-abbrev pub counts_for : ℕ → Counts
-counts_for ran = record { hits = 0; ran = ran; late = ran; faults = 0; starved = 0 }
-
-abbrev pub counts_of : List Pip → List Result → Counts
-counts_of pips results = counts_for (run_count pips (verdicts_of results))
-
-abbrev pub notes_of : Ending → List ℕ
-notes_of (InputRefused fault) = []
-notes_of (SpecificationRefused refusal) = []
-notes_of (Built pips results) = notes_text (counts_of pips results)
 
 -- the notes where the words are no command
 abbrev pub usage_text : List ℕ

@@ -1,4 +1,4 @@
--- What a whole call comes to: its status, what it writes to `out`, and what it writes to the notes.
+-- What a whole call comes to: its status, and what it writes to `out`.
 use Rattle.std.specs.Prelude.{◌≡◌, ℕ, List, ◌⊎◌}
 use Rattle.std.specs.declared.option.Option.{Option}
 use Rattle.std.specs.Io.KnownBytes.{Appends}
@@ -7,19 +7,17 @@ use Rattle.bx_io.specs.Causes.{Rose}
 use Rattle.bx_words.specs.declared.order.Order.{Order}
 use Rattle.bx_words.specs.declared.order.Order.TheVariants.{Build}
 use Rattle.bx_engine.specs.declared.status.Status.{Status}
-use Rattle.bx_engine.specs.Ending.{Ending, status_of, output_of, notes_of}
+use Rattle.bx_engine.specs.Ending.{Ending, status_of, output_of}
 use Rattle.bx_engine.specs.Ends.{Ends}
 use Rattle.bx_engine.specs.Known.{AppendsPrefix}
 
--- A build of this input has this status, writes these bytes to `out`, and writes this text to the notes. That
--- is what the build on one thread without a cache does.
-pub record IsExpected (limits : Limits) (input : List ℕ) (status : Status) (bytes notes : List ℕ)
-    : Type 0 where
+-- A build of this input has this status and writes these bytes to `out`. That is what the build on one thread
+-- without a cache does.
+pub record IsExpected (limits : Limits) (input : List ℕ) (status : Status) (bytes : List ℕ) : Type 0 where
   pub ending : Ending
   pub ends : Ends limits input ending
   pub status_is : status ≡ status_of ending
   pub bytes_are : bytes ≡ output_of ending
-  pub notes_are : notes ≡ notes_of ending
 
 -- the steps that an order allows; nothing else of it changes what is built
 abbrev pub limits_of : Order → Limits
@@ -29,8 +27,8 @@ limits_of (Build workers cached eval_budget tool_budget) = record {
 }
 
 -- What an order comes to on this input. Each order is a build.
-abbrev pub Expected : Order → List ℕ → Status → List ℕ → List ℕ → Type 0
-Expected order input status bytes notes = IsExpected (limits_of order) input status bytes notes
+abbrev pub Expected : Order → List ℕ → Status → List ℕ → Type 0
+Expected order input status bytes = IsExpected (limits_of order) input status bytes
 
 -- ## What was written
 
@@ -38,27 +36,17 @@ Expected order input status bytes notes = IsExpected (limits_of order) input sta
 pub record Answers (order : Order) (input : List ℕ) (status : Status) (before now : Option (List ℕ))
     : Type 0 where
   pub bytes : List ℕ
-  pub notes : List ℕ
-  pub expected : Expected order input status bytes notes
+  pub expected : Expected order input status bytes
   pub appended : Appends before now bytes
 
 -- a prefix of the expected bytes was appended
 pub record Begins (order : Order) (input : List ℕ) (before now : Option (List ℕ)) : Type 0 where
   pub status : Status
   pub bytes : List ℕ
-  pub notes : List ℕ
-  pub expected : Expected order input status bytes notes
+  pub expected : Expected order input status bytes
   pub appended : AppendsPrefix before now bytes
 
 -- the text was appended, or a prefix of it and the sink's count of faults rose
 abbrev pub AppendsOrFails : List ℕ → Option (List ℕ) → Option (List ℕ) → ℕ → ℕ → Type 0
 AppendsOrFails text before now faults_before faults_now =
     Appends before now text ⊎ (AppendsPrefix before now text × Rose faults_before faults_now)
-
--- the expected notes were appended, or a prefix of them and the sink's count of faults rose
-pub record Notes (order : Order) (input : List ℕ) (status : Status) (before now : Option (List ℕ))
-    (faults_before faults_now : ℕ) : Type 0 where
-  pub bytes : List ℕ
-  pub notes : List ℕ
-  pub expected : Expected order input status bytes notes
-  pub appended : AppendsOrFails notes before now faults_before faults_now

@@ -2,6 +2,8 @@ pub mod Ending
 pub mod Ends
 pub mod Expected
 pub mod Known
+pub mod Stores
+pub mod Counting
 pub mod OutputTrees
 pub mod Responses
 pub mod Statuses

@@ -8,6 +8,7 @@ use Rattle.bx_tree.specs.Paths.{Atoms, IsBelow}
 use Rattle.bx_tree.specs.Trees.{Files, IsTree, paths_of}
 use Rattle.graph_outputs.specs.OutsideOut.{out_dir}
 use Rattle.bx_engine.specs.Ending.{report_path}
+use Rattle.bx_engine.specs.Known.{AppendsPrefix}
 
 -- the path of the report, or one strictly below `out`
 abbrev pub IsOutputPath : Atoms → Type 0
@@ -27,3 +28,9 @@ pub record IsTreeWritten (before now : Option (List ℕ)) : Type 0 where
   pub files : Files
   pub output : IsOutputTree files
   pub appended : Appends before now (bundle files)
+
+-- a prefix of the bundle of such a tree was appended
+pub record IsTreeBegun (before now : Option (List ℕ)) : Type 0 where
+  pub files : Files
+  pub output : IsOutputTree files
+  pub appended : AppendsPrefix before now (bundle files)

@@ -1,24 +1,39 @@
 -- What a response says of a build.
-use Rattle.std.specs.Prelude.{◌≡◌, List, [], map}
+use Rattle.std.specs.Prelude.{◌≡◌, ℕ, Bool, List, []}
+use Rattle.build_report.specs.Notes.{notes_text}
+use Rattle.build_report.specs.declared.counts.Counts.{Counts}
 use Rattle.build_report.specs.declared.refusal.Refusal.{Refusal}
-use Rattle.one_thread.specs.OneThread.{Result, made_by, verdicts_of}
-use Rattle.one_thread.specs.declared.build.Built.{Built}
-use Rattle.pip_outputs.specs.Slots.{slot_files}
+use Rattle.bx_io.specs.Holdings.{held_in}
+use Rattle.bx_tree.specs.Trees.{Files}
+use Rattle.one_thread.specs.OneThread.{one_thread}
+use Rattle.pip_types.specs.declared.pip.Pip.{Pip}
+use Rattle.retire.specs.Builds.{Fair}
+use Rattle.retire.specs.declared.retiring.RetireTally.{RetireTally}
+use Rattle.retire.specs.declared.retiring.Retired.{Retired}
+use Rattle.store_builds.specs.Runs.{NoneReserved}
 use Rattle.bx_front.specs.declared.fault.FrontFault.{FrontFault}
 use Rattle.bx_front.specs.declared.fault.FrontFault.TheVariants as front_faults
 use Rattle.bx_tree.specs.declared.bundle.BundleFault.{BundleFault}
 use Rattle.bx_tree.specs.declared.bundle.BundleFault.TheVariants as bundle_faults
-use Rattle.bx_engine.specs.Ending.{Ending, InputRefused, SpecificationRefused}
-use Rattle.bx_engine.specs.Ending.{notes_of, output_of, refusal_output, status_of}
+use Rattle.bx_words.specs.declared.order.Order.{Order}
+use Rattle.bx_engine.specs.Counting.{CountsOf, Gone, IsNoted, StoreChange, gone_output, gone_status}
+use Rattle.bx_engine.specs.Ending.{Ending, InputRefused, SpecificationRefused, Built}
+use Rattle.bx_engine.specs.Ending.{output_of, refusal_output, status_of}
+use Rattle.bx_engine.specs.Expected.{Expected, limits_of}
+use Rattle.bx_engine.specs.OutputTrees.{IsOutputText}
+use Rattle.bx_engine.specs.Statuses.{IsGone, IsRefusal, IsWhole}
+use Rattle.bx_engine.specs.Stores.{AsksFor, FairStore, uses_store}
 use Rattle.bx_engine.specs.declared.fault.InputFault.TheVariants as input_faults
 use Rattle.bx_engine.specs.declared.response.Response.{Response}
 use Rattle.bx_engine.specs.declared.status.Status.{Status}
 
--- the response is that to an input which ends so
-pub record IsResponseTo (ending : Ending) (response : Response) : Type 0 where
+-- the response is that to an input which ends so, with these notes
+pub record IsResponseTo (ending : Ending) (notes : List ℕ) (response : Response) : Type 0 where
   pub status_is : response.status ≡ status_of ending
   pub bytes_are : response.bytes.items ≡ output_of ending
-  pub notes_are : response.notes.items ≡ notes_of ending
+  pub notes_are : response.notes.items ≡ notes
+
+-- ## Refusals
 
 -- the response has this status, the report of this refusal alone, and no notes
 pub record IsReportOf (status : Status) (refusal : Refusal) (response : Response) : Type 0 where
@@ -26,27 +41,84 @@ pub record IsReportOf (status : Status) (refusal : Refusal) (response : Response
   pub bytes_are : response.bytes.items ≡ refusal_output refusal
   pub notes_are : response.notes.items ≡ []
 
--- what was built has these results
-pub record AreResults (built : Built) (results : List Result) : Type 0 where
-  pub verdicts : built.verdicts.items ≡ verdicts_of results
-  pub files : map slot_files built.slots.items ≡ made_by results
-
 -- the response says why a tree is refused; want of memory has none
 abbrev pub IsResponseToFault : FrontFault → Response → Type 0
 IsResponseToFault (front_faults.Refused refusal) response =
-    IsResponseTo (SpecificationRefused refusal) response
+    IsResponseTo (SpecificationRefused refusal) [] response
 IsResponseToFault front_faults.Memory response = ⊥
 
 -- the response says why an input is no bundle; want of memory has none
 abbrev pub IsResponseToBundle : BundleFault → Response → Type 0
 IsResponseToBundle bundle_faults.BadBundle response =
-    IsResponseTo (InputRefused input_faults.BadBundle) response
-IsResponseToBundle bundle_faults.BadPath response = IsResponseTo (InputRefused input_faults.BadPath) response
+    IsResponseTo (InputRefused input_faults.BadBundle) [] response
+IsResponseToBundle bundle_faults.BadPath response =
+    IsResponseTo (InputRefused input_faults.BadPath) [] response
 IsResponseToBundle bundle_faults.Unordered response =
-    IsResponseTo (InputRefused input_faults.Unordered) response
-IsResponseToBundle bundle_faults.Nested response = IsResponseTo (InputRefused input_faults.Nested) response
+    IsResponseTo (InputRefused input_faults.Unordered) [] response
+IsResponseToBundle bundle_faults.Nested response =
+    IsResponseTo (InputRefused input_faults.Nested) [] response
 IsResponseToBundle bundle_faults.TooManyFiles response =
-    IsResponseTo (InputRefused input_faults.TooManyFiles) response
+    IsResponseTo (InputRefused input_faults.TooManyFiles) [] response
 IsResponseToBundle bundle_faults.TooLarge response =
-    IsResponseTo (InputRefused input_faults.TooLarge) response
+    IsResponseTo (InputRefused input_faults.TooLarge) [] response
 IsResponseToBundle bundle_faults.Memory response = ⊥
+
+-- ## Builds
+
+-- the counts of a build in which no worker starves
+abbrev pub counts_in : RetireTally → Counts
+counts_in tally = record {
+  hits = tally.hits;
+  ran = tally.ran;
+  late = tally.late;
+  faults = tally.faults;
+  starved = 0;
+}
+
+-- The response has the status, the output and the notes of what these pips came to.
+pub record IsResponseOf (pips : List Pip) (retired : Retired) (response : Response) : Type 0 where
+  pub status_is : response.status ≡ gone_status retired.verdicts.items
+  pub bytes_are : response.bytes.items ≡ gone_output pips retired.verdicts.items retired.outputs
+  pub notes_are : response.notes.items ≡ notes_text (counts_in retired.tally)
+
+-- The response is that of pips that were gone through.
+pub record IsGoneResponse (cached : Bool) (change : StoreChange) (response : Response) : Type 0 where
+  pub gone : Gone cached change
+  pub status_is : response.status ≡ gone_status gone.verdicts
+  pub bytes_are : response.bytes.items ≡ gone_output gone.pips gone.verdicts gone.files
+  pub notes_are : response.notes.items ≡ notes_text gone.counts
+
+-- The response of a build of these pips. Whatever the store, its bytes are an output; over a fair store it is
+-- that of the build on one thread, with its counts.
+pub record IsBuildResponse (pips : List Pip) (tree : Files) (budget : ℕ) (cached : Bool)
+    (change : StoreChange) (response : Response) : Type 0 where
+  pub went : IsGoneResponse cached change response
+  pub pips_are : went.gone.pips ≡ pips
+  pub text : IsOutputText response.bytes.items
+  pub shown : Fair pips tree budget cached (held_in change.before)
+      → IsResponseTo (Built pips (one_thread pips tree budget)) (notes_text went.gone.counts) response
+  pub built : Fair pips tree budget cached (held_in change.before) → NoneReserved tree
+      → CountsOf cached pips tree budget (one_thread pips tree budget) change went.gone.counts
+
+-- ## Inputs
+
+-- The response is that of pips that were gone through and that the input asks for.
+pub record IsGoneTo (order : Order) (input : List ℕ) (change : StoreChange) (response : Response)
+    : Type 0 where
+  pub went : IsGoneResponse (uses_store order) change response
+  pub asked : AsksFor (limits_of order) input went.gone.pips
+
+-- The response to this input. Whatever the store, its bytes are an output; a refusal is expected and has no
+-- notes; and any other status is that of pips that were gone through. Over a fair store it is the expected
+-- one, with its notes.
+pub record Responds (order : Order) (input : List ℕ) (change : StoreChange) (response : Response)
+    : Type 0 where
+  pub whole : IsWhole response.status
+  pub text : IsOutputText response.bytes.items
+  pub refused : IsRefusal response.status → Expected order input response.status response.bytes.items
+  pub quiet : IsRefusal response.status → response.notes.items ≡ []
+  pub went : IsGone response.status → IsGoneTo order input change response
+  pub expected : FairStore order input (held_in change.before)
+      → Expected order input response.status response.bytes.items
+  pub noted : FairStore order input (held_in change.before)
+      → IsNoted order input change response.status response.notes.items

@@ -21,6 +21,18 @@ IsWhole status =
     (status ≡ statuses.Done) ⊎ (status ≡ statuses.FailuresFound) ⊎ (status ≡ statuses.InputRefused)
     ⊎ (status ≡ statuses.SpecificationRefused)
 
+-- all pips of a build were gone through
+abbrev pub IsGone : Status → Type 0
+IsGone status = (status ≡ statuses.Done) ⊎ (status ≡ statuses.FailuresFound)
+
+-- the input or its specification was refused
+abbrev pub IsRefusal : Status → Type 0
+IsRefusal status = (status ≡ statuses.InputRefused) ⊎ (status ≡ statuses.SpecificationRefused)
+
+-- no build was begun
+abbrev pub HasNoBuild : Status → Type 0
+HasNoBuild status = (status ≡ statuses.NoCommand) ⊎ (status ≡ statuses.SourceFailed) ⊎ IsRefusal status
+
 -- nothing was written to `out`
 abbrev pub IsSilent : Status → Type 0
 IsSilent status =

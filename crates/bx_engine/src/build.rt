@@ -1,19 +1,24 @@
 //! A build, from the source's bytes to the sinks'.
 
-ghost use Rattle.std.specs.Prelude.{◌≡◌, ◌≢◌, ◌⊎◌, [], ℕ, List, Some, drop};
+ghost use Rattle.std.specs.Prelude.{◌≡◌, ◌≢◌, ◌⊎◌, ◌≤◌, [], ℕ, List, Some, drop, false};
 ghost use Rattle.std.specs.Io.KnownBytes.{Appends};
 ghost use Rattle.bx_io.specs.Causes.{HasCause};
-ghost use Rattle.bx_engine.specs.Expected.{Answers, AppendsOrFails, Begins, Notes};
+ghost use Rattle.bx_io.specs.Holdings.{Kept as KeptParts, held_in};
+ghost use Rattle.store_meaning.specs.Honest.{Honest};
+ghost use Rattle.retire.specs.Keeping.{OnlyPuts};
+ghost use Rattle.bx_engine.specs.Counting.{IsShown, Notes, change_of};
+ghost use Rattle.bx_engine.specs.Expected.{Answers, AppendsOrFails, Begins, limits_of};
 ghost use Rattle.bx_engine.specs.Known.{AppendsPrefix};
-ghost use Rattle.bx_engine.specs.OutputTrees.{IsTreeWritten};
-ghost use Rattle.bx_engine.specs.Statuses.{HasNoNotes, IsSilent, IsWhole};
+ghost use Rattle.bx_engine.specs.OutputTrees.{IsTreeBegun, IsTreeWritten};
+ghost use Rattle.bx_engine.specs.Statuses.{HasNoBuild, HasNoNotes, IsGone, IsRefusal, IsSilent, IsWhole};
+ghost use Rattle.bx_engine.specs.Stores.{FairStore, StoreLeft, uses_store};
 
 use crate::limits::READ_LIMIT;
 use crate::reading::{ReadFault, read_all};
 use crate::response::{Response, respond};
 use crate::status::Status;
 use crate::writing::write_all;
-use bx_io::{Gate, Sink, Source};
+use bx_io::{Gate, Keeper, Sink, Source};
 use bx_words::Order;
 use std::alloc::Global;
 
@@ -42,50 +47,85 @@ fn deliver<O: Sink, N: Sink>(out: &mut O, notes: &mut N, response: &Response) ->
 }
 
 /// Answers an input that was read.
-fn answer<O: Sink, N: Sink, G: Gate>(
+fn answer<O: Sink, N: Sink, K: Keeper, G: Gate>(
     alloc: Global,
     input: &[u8],
     order: &Order,
     out: &mut O,
     notes: &mut N,
+    keeper: &mut K,
     gate: &G,
 ) -> Status
     ensures status { IsWhole result ⊎ (result ≡ Status.OutFailed) ⊎ (result ≡ Status.OutOfMemory) }
-    ensures answers { IsWhole result
+
+    // What is written, over a fair store, and where the input is refused.
+    ensures answers { FairStore order.now input.now (held_in (K.known keeper.old)) → IsWhole result
         → Answers order.now input.now result (O.taken out.old) (O.taken out.new) }
+    ensures refused { IsRefusal result
+        → Answers order.now input.now result (O.taken out.old) (O.taken out.new) }
+    ensures shown { IsGone result → IsShown order.now (Some input.now)
+        (change_of (K.known keeper.old) (K.known keeper.new) (K.bound keeper.old) (K.faults keeper.old)
+        (K.faults keeper.new)) result (O.taken out.old) (O.taken out.new)
+        (N.taken notes.old) (N.taken notes.new) (N.faults notes.old) (N.faults notes.new) }
     ensures tree { IsWhole result → IsTreeWritten (O.taken out.old) (O.taken out.new) }
-    ensures begins { result ≡ Status.OutFailed
-        → Begins order.now input.now (O.taken out.old) (O.taken out.new) }
+    ensures tree_begun { result ≡ Status.OutFailed → IsTreeBegun (O.taken out.old) (O.taken out.new) }
+    ensures begins { FairStore order.now input.now (held_in (K.known keeper.old))
+        → result ≡ Status.OutFailed → Begins order.now input.now (O.taken out.old) (O.taken out.new) }
     ensures silent { result ≡ Status.OutOfMemory → out.new ≡ out.old }
     ensures cause { HasCause (O.faults out.old) (O.faults out.new) (result ≡ Status.OutFailed) }
     ensures no_fault { result ≢ Status.OutFailed → O.faults out.new ≡ O.faults out.old }
-    ensures notes { IsWhole result
-        → Notes order.now input.now result (N.taken notes.old) (N.taken notes.new)
-        (N.faults notes.old) (N.faults notes.new) }
+
+    // What is noted.
+    ensures notes { FairStore order.now input.now (held_in (K.known keeper.old)) → IsWhole result
+        → Notes order.now input.now (change_of (K.known keeper.old) (K.known keeper.new)
+        (K.bound keeper.old) (K.faults keeper.old) (K.faults keeper.new)) result
+        (N.taken notes.old) (N.taken notes.new) (N.faults notes.old) (N.faults notes.new) }
     ensures no_notes { HasNoNotes result → notes.new ≡ notes.old }
+
+    // What is left of the store.
+    ensures left { (before : KeptParts) → K.known keeper.old ≡ Some before → Honest before.held
+        → FairStore order.now input.now (Some before.held)
+        → StoreLeft (limits_of order.now) input.now before (K.known keeper.new) }
+    ensures kept { IsRefusal result → keeper.new ≡ keeper.old }
+    ensures untouched { uses_store order.now ≡ false → keeper.new ≡ keeper.old }
+    ensures puts { OnlyPuts (K.known keeper.old) (K.known keeper.new) }
+    ensures bound { K.bound keeper.new ≡ K.bound keeper.old }
+    ensures later { K.faults keeper.old ≤ K.faults keeper.new }
 {
-    match respond(alloc, input, order, gate) {
+    match respond(alloc, input, order, keeper, gate) {
         Err(_) => Status::OutOfMemory,
         Ok(response) => deliver(out, notes, &response),
     }
 }
 
 /// Builds what the source has left.
-pub(crate) fn build<S: Source, O: Sink, N: Sink, G: Gate>(
+pub(crate) fn build<S: Source, O: Sink, N: Sink, K: Keeper, G: Gate>(
     alloc: Global,
     order: &Order,
     source: &mut S,
     out: &mut O,
     notes: &mut N,
+    keeper: &mut K,
     gate: &G,
 ) -> Status
     ensures status { IsWhole result
         ⊎ (result ≡ Status.SourceFailed) ⊎ (result ≡ Status.OutFailed) ⊎ (result ≡ Status.OutOfMemory) }
-    ensures answers { (input : List ℕ) → S.left source.old ≡ Some input → IsWhole result
+
+    // What is written, over a fair store, and where the input is refused.
+    ensures answers { (input : List ℕ) → S.left source.old ≡ Some input
+        → FairStore order.now input (held_in (K.known keeper.old)) → IsWhole result
         → Answers order.now input result (O.taken out.old) (O.taken out.new) }
+    ensures refused { (input : List ℕ) → S.left source.old ≡ Some input → IsRefusal result
+        → Answers order.now input result (O.taken out.old) (O.taken out.new) }
+    ensures shown { IsGone result → IsShown order.now (S.left source.old)
+        (change_of (K.known keeper.old) (K.known keeper.new) (K.bound keeper.old) (K.faults keeper.old)
+        (K.faults keeper.new)) result (O.taken out.old) (O.taken out.new)
+        (N.taken notes.old) (N.taken notes.new) (N.faults notes.old) (N.faults notes.new) }
     ensures tree { IsWhole result → IsTreeWritten (O.taken out.old) (O.taken out.new) }
+    ensures tree_begun { result ≡ Status.OutFailed → IsTreeBegun (O.taken out.old) (O.taken out.new) }
     ensures begins { (input : List ℕ) → S.left source.old ≡ Some input
-        → result ≡ Status.OutFailed → Begins order.now input (O.taken out.old) (O.taken out.new) }
+        → FairStore order.now input (held_in (K.known keeper.old)) → result ≡ Status.OutFailed
+        → Begins order.now input (O.taken out.old) (O.taken out.new) }
     ensures silent { IsSilent result → out.new ≡ out.old }
     ensures source_cause { HasCause (S.faults source.old) (S.faults source.new)
         (result ≡ Status.SourceFailed) }
@@ -94,14 +134,29 @@ pub(crate) fn build<S: Source, O: Sink, N: Sink, G: Gate>(
     ensures out_no_fault { result ≢ Status.OutFailed → O.faults out.new ≡ O.faults out.old }
     ensures read { (input : List ℕ) → S.left source.old ≡ Some input
         → (IsWhole result ⊎ (result ≡ Status.OutFailed)) → S.left source.new ≡ Some (drop READ_LIMIT input) }
-    ensures notes { (input : List ℕ) → S.left source.old ≡ Some input → IsWhole result
-        → Notes order.now input result (N.taken notes.old) (N.taken notes.new)
-        (N.faults notes.old) (N.faults notes.new) }
+
+    // What is noted.
+    ensures notes { (input : List ℕ) → S.left source.old ≡ Some input
+        → FairStore order.now input (held_in (K.known keeper.old)) → IsWhole result
+        → Notes order.now input (change_of (K.known keeper.old) (K.known keeper.new) (K.bound keeper.old)
+        (K.faults keeper.old) (K.faults keeper.new)) result
+        (N.taken notes.old) (N.taken notes.new) (N.faults notes.old) (N.faults notes.new) }
     ensures no_notes { HasNoNotes result → notes.new ≡ notes.old }
+
+    // What is left of the store.
+    ensures left { (input : List ℕ) (before : KeptParts) → S.left source.old ≡ Some input
+        → K.known keeper.old ≡ Some before → Honest before.held
+        → FairStore order.now input (Some before.held)
+        → StoreLeft (limits_of order.now) input before (K.known keeper.new) }
+    ensures kept { HasNoBuild result → keeper.new ≡ keeper.old }
+    ensures untouched { uses_store order.now ≡ false → keeper.new ≡ keeper.old }
+    ensures puts { OnlyPuts (K.known keeper.old) (K.known keeper.new) }
+    ensures bound { K.bound keeper.new ≡ K.bound keeper.old }
+    ensures later { K.faults keeper.old ≤ K.faults keeper.new }
 {
     match read_all(alloc, source) {
         Err(ReadFault::Failed) => Status::SourceFailed,
         Err(ReadFault::Memory) => Status::OutOfMemory,
-        Ok(input) => answer(alloc, &input, order, out, notes, gate),
+        Ok(input) => answer(alloc, &input, order, out, notes, keeper, gate),
     }
 }

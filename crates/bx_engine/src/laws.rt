@@ -1,24 +1,28 @@
 //! Laws of what a build comes to.
 
-ghost use Rattle.std.specs.Prelude.{◌≡◌, ℕ, List};
+ghost use Rattle.std.specs.Prelude.{◌≡◌, ℕ, List, false};
 ghost use Rattle.bx_front.specs.declared.limits.Limits.{Limits as AnyLimits};
+ghost use Rattle.bx_words.specs.declared.order.Order.{Order as AnyOrder};
+ghost use Rattle.bx_engine.specs.Counting.{IsNoted, StoreChange};
 ghost use Rattle.bx_engine.specs.Ending.{Ending};
 ghost use Rattle.bx_engine.specs.Ends.{Ends, IsEndless};
 ghost use Rattle.bx_engine.specs.Expected.{IsExpected};
+ghost use Rattle.bx_engine.specs.Stores.{uses_store};
 
 use crate::status::Status;
 use graph_check::one_answer;
 
-/// An input ends in one way at most, so one status, one output and one text of notes are expected of it.
+/// An input ends in one way at most, so one status and one output are expected of it, and where no store is
+/// used, one text of notes.
 pub fn one_end()
     ensures ending { (limits : AnyLimits) (input : List ℕ) (d e : Ending)
         → Ends limits input d → Ends limits input e → d ≡ e }
-    ensures status { (limits : AnyLimits) (input : List ℕ) (r s : Status) (a b m n : List ℕ)
-        → IsExpected limits input r a m → IsExpected limits input s b n → r ≡ s }
-    ensures bytes { (limits : AnyLimits) (input : List ℕ) (r s : Status) (a b m n : List ℕ)
-        → IsExpected limits input r a m → IsExpected limits input s b n → a ≡ b }
-    ensures notes { (limits : AnyLimits) (input : List ℕ) (r s : Status) (a b m n : List ℕ)
-        → IsExpected limits input r a m → IsExpected limits input s b n → m ≡ n }
+    ensures status { (limits : AnyLimits) (input : List ℕ) (r s : Status) (a b : List ℕ)
+        → IsExpected limits input r a → IsExpected limits input s b → r ≡ s }
+    ensures bytes { (limits : AnyLimits) (input : List ℕ) (r s : Status) (a b : List ℕ)
+        → IsExpected limits input r a → IsExpected limits input s b → a ≡ b }
+    ensures notes { (order : AnyOrder) (input : List ℕ) (c d : StoreChange) (r s : Status) (m n : List ℕ)
+        → uses_store order ≡ false → IsNoted order input c r m → IsNoted order input d s n → m ≡ n }
     ensures endless { (limits : AnyLimits) (input : List ℕ) (e : Ending)
         → IsEndless limits input → Ends limits input e → ⊥ }
 {

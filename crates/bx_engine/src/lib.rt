@@ -2,13 +2,13 @@
 //! the bytes of the output, and the notes.
 //!
 //! This crate depends on `bx_words` for the words, on `bx_io` for the outside, on `bx_tree` for bundles, on
-//! `bx_front` for the plan of a build, on `one_thread` for the build, and on `build_report` for its texts. It
-//! carries the promise that all others are for: the call writes the bytes and gives the status that the
-//! definition of a build gives for the input, on both sides of every refusal.
+//! `bx_front` for the plan of a build, on `retire` for the build over a store, and on `build_report` for its
+//! texts. It carries the promise that all others are for: the call writes the bytes and gives the status that
+//! the definition of a build gives for the input, on both sides of every refusal and whatever an honest store
+//! holds.
 #![tactic(auto)]
 
 mod build;
-mod counting;
 mod fault;
 mod laws;
 mod limits;

@@ -1,7 +1,8 @@
-//! How much of the source a build reads, and how long it may run.
+//! How much of the source a build reads, how long it may run, and whether it uses the store.
 
 ghost use Rattle.std.specs.Prelude.{◌≡◌};
 ghost use Rattle.bx_engine.specs.Expected.{limits_of as limits_of_order};
+ghost use Rattle.bx_engine.specs.Stores.{uses_store};
 
 use bx_front::Limits;
 use bx_tree::MAX_BUNDLE_BYTES;
@@ -27,5 +28,14 @@ pub(crate) fn limits_of(order: &Order) -> Limits
             eval_budget: *eval_budget,
             tool_budget: *tool_budget,
         },
+    }
+}
+
+/// Whether an order lets the build use the store.
+pub(crate) fn is_cached(order: &Order) -> bool
+    ensures { result ≡ uses_store order.now }
+{
+    match order {
+        Order::Build { cached, .. } => *cached,
     }
 }

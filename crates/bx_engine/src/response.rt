@@ -1,35 +1,38 @@
 //! What a build of an input comes to: its status, its output and its notes.
 
-ghost use Rattle.std.specs.Prelude.{◌≡◌, [], ℕ, List, IfOk, OnOk, if◌then◌else◌, length, map};
+ghost use Rattle.std.specs.Prelude.{◌≡◌, ◌≤◌, [], ℕ, List, Some, false, IfOk, OnOk, if◌then◌else◌, length};
 ghost use Rattle.std.specs.List.{AllByRecursion, list_all};
+ghost use Rattle.bx_io.specs.Holdings.{Kept as KeptParts};
 ghost use Rattle.bx_tree.specs.Bundle.{IsBundle, IsInSize};
 ghost use Rattle.bx_tree.specs.Paths.{IsPath};
 ghost use Rattle.bx_tree.specs.Trees.{paths_of};
 ghost use Rattle.graph_check.specs.Rules.{KeepsRules};
-ghost use Rattle.one_thread.specs.OneThread.{Result as AnyResult, all_made, one_thread, put_all};
-ghost use Rattle.pip_outputs.specs.Slots.{slot_files};
+ghost use Rattle.pip_types.specs.Made.{made_files};
+ghost use Rattle.store_meaning.specs.Honest.{Honest};
+ghost use Rattle.retire.specs.Builds.{IsFair, LeavesFair};
+ghost use Rattle.retire.specs.Keeping.{OnlyPuts};
 ghost use Rattle.verdicts.specs.Verdicts as ends;
+ghost use Rattle.bx_engine.specs.Counting.{change_of, given_files};
 ghost use Rattle.bx_engine.specs.Ending as endings;
-ghost use Rattle.bx_engine.specs.Expected.{Expected};
-ghost use Rattle.bx_engine.specs.OutputTrees.{IsOutputText};
-ghost use Rattle.bx_engine.specs.Responses.{AreResults, IsReportOf, IsResponseTo, IsResponseToBundle};
-ghost use Rattle.bx_engine.specs.Responses.{IsResponseToFault};
+ghost use Rattle.bx_engine.specs.Expected.{limits_of};
+ghost use Rattle.bx_engine.specs.Responses.{IsBuildResponse, IsReportOf, IsResponseOf, IsResponseTo};
+ghost use Rattle.bx_engine.specs.Responses.{IsResponseToBundle, IsResponseToFault, Responds, counts_in};
+ghost use Rattle.bx_engine.specs.Statuses.{IsRefusal};
+ghost use Rattle.bx_engine.specs.Stores.{FairStore, StoreLeft, uses_store};
 
 use crate::Memory;
-use crate::counting::run_count;
 use crate::fault::{InputFault, input_name};
+use crate::limits::is_cached;
 use crate::output::output;
 use crate::planning::front;
 use crate::status::Status;
-use build_outputs::outputs_keep_apart;
 use build_report::{Counts, notes, refused_report, report};
 use bx_front::{FrontFault, Refusal};
-use bx_io::Gate;
+use bx_io::{Gate, Keeper};
 use bx_tree::{BundleFault, Text, Tree, read_bundle, reserved};
 use bx_words::Order;
-use one_thread::{Built, build_all, each_result, outputs};
-use pip_inputs::no_files;
-use pip_model::{Made, Plan, Slot, Sources};
+use pip_model::{Made, MadeFile, Plan, Sources};
+use retire::{RetireTally, Retired, retire_empty};
 use std::alloc::{AllocError, Global};
 use verdicts::Verdict;
 
@@ -56,7 +59,7 @@ fn refused(alloc: Global, status: Status, refusal: &Refusal) -> Result<Response,
 
 // The response to an input that is refused.
 fn refuse_input(alloc: Global, fault: InputFault) -> Result<Response, Memory>
-    ensures { IfOk result (IsResponseTo (endings.InputRefused fault)) }
+    ensures { IfOk result (IsResponseTo (endings.InputRefused fault) []) }
 {
     let name = Vec::from_slice(alloc, input_name(fault).as_bytes())?;
     let kind = Text::new(alloc, name)?;
@@ -66,7 +69,7 @@ fn refuse_input(alloc: Global, fault: InputFault) -> Result<Response, Memory>
 
 // The response to a specification that is refused.
 fn refuse_specification(alloc: Global, refusal: &Refusal) -> Result<Response, Memory>
-    ensures { IfOk result (IsResponseTo (endings.SpecificationRefused refusal.now)) }
+    ensures { IfOk result (IsResponseTo (endings.SpecificationRefused refusal.now) []) }
 {
     refused(alloc, Status::SpecificationRefused, refusal)
 }
@@ -99,45 +102,37 @@ fn status_if(good: bool) -> Status
 }
 
 // The files that a build gives, which are none unless all pips succeeded.
-fn files_if(alloc: Global, good: bool, slots: &[Slot]) -> Result<Made, Memory>
-    ensures { IfOk result (λ made.
-        made ≡ (if good then put_all [] (all_made (map slot_files slots.now)) else [])) }
+fn files_if(good: bool, outputs: &Made) -> &[MadeFile]
+    ensures { made_files result.now ≡ (if good then outputs.now else []) }
 {
-    if good {
-        outputs(alloc, slots)
-    } else {
-        no_files(alloc)
-    }
+    if good { outputs.files() } else { &[] }
 }
 
-// The counts of a build in which this many processes were not skipped, all of them run late.
-fn counts(ran: u64) -> Counts
-    ensures { result ≡ endings.counts_for ran }
+// The counts of a build in which no worker starves.
+fn counts(tally: RetireTally) -> Counts
+    ensures { result ≡ counts_in tally }
 {
     Counts {
-        hits: 0,
-        ran,
-        late: ran,
-        faults: 0,
+        hits: tally.hits,
+        ran: tally.ran,
+        late: tally.late,
+        faults: tally.faults,
         starved: 0,
     }
 }
 
 // The response of a build whose pips were gone through.
-fn show(alloc: Global, plan: &Plan, built: &Built) -> Result<Response, Memory>
-    requires { length built.now.verdicts.items ≡ length plan.now.pips }
-    ensures shown { IfOk result (λ response. (results : List AnyResult) → AreResults built.now results
-        → IsResponseTo (endings.Built plan.now.pips results) response) }
-    ensures paths { OnOk result ((results : List AnyResult) → AreResults built.now results
-        → AllByRecursion IsPath (paths_of (endings.made_of (endings.Built plan.now.pips results)))) }
+fn show(alloc: Global, plan: &Plan, retired: &Retired) -> Result<Response, Memory>
+    requires { length retired.now.verdicts.items ≡ length plan.now.pips }
+    ensures shown { IfOk result (IsResponseOf plan.now.pips retired.now) }
+    ensures paths { OnOk result (AllByRecursion IsPath (paths_of (given_files retired.now.verdicts.items
+        retired.now.outputs))) }
 {
-    let verdicts = built.verdicts.as_slice();
+    let verdicts = retired.verdicts.as_slice();
     let good = all_succeeded(verdicts);
     let report = report(alloc, plan, verdicts)?;
-    let made = files_if(alloc, good, built.slots.as_slice())?;
-    let bytes = output(alloc, made.files(), report.as_slice())?;
-    let counted = counts(run_count(plan.pips(), verdicts));
-    let notes = notes(alloc, &counted)?;
+    let bytes = output(alloc, files_if(good, &retired.outputs), report.as_slice())?;
+    let notes = notes(alloc, &counts(retired.tally))?;
     Ok(Response {
         status: status_if(good),
         bytes,
@@ -146,42 +141,64 @@ fn show(alloc: Global, plan: &Plan, built: &Built) -> Result<Response, Memory>
 }
 
 // The response of the build of a plan.
-fn build_plan<G: Gate>(
+fn build_plan<K: Keeper, G: Gate>(
     alloc: Global,
     plan: &Plan,
     sources: &Sources,
+    keeper: &mut K,
     gate: &G,
+    cached: bool,
 ) -> Result<Response, Memory>
     requires { KeepsRules plan.now.pips sources.now }
-    ensures shown { IfOk result (IsResponseTo (endings.Built plan.now.pips
-        (one_thread plan.now.pips sources.now plan.now.tool_budget))) }
-    ensures tree { IfOk result (λ response. IsOutputText response.bytes.items) }
+    ensures response { IfOk result (IsBuildResponse plan.now.pips sources.now plan.now.tool_budget cached
+        (change_of (K.known keeper.old) (K.known keeper.new) (K.bound keeper.old) (K.faults keeper.old)
+        (K.faults keeper.new))) }
+    ensures left { (before : KeptParts) → K.known keeper.old ≡ Some before
+        → IsFair plan.now.pips sources.now plan.now.tool_budget before.held
+        → LeavesFair plan.now.pips sources.now plan.now.tool_budget before (K.known keeper.new) }
+    ensures untouched { cached ≡ false → keeper.new ≡ keeper.old }
+    ensures puts { OnlyPuts (K.known keeper.old) (K.known keeper.new) }
+    ensures bound { K.bound keeper.new ≡ K.bound keeper.old }
+    ensures later { K.faults keeper.old ≤ K.faults keeper.new }
 {
-    // Contracts learn from the pips of a plan that each makes what later ones say it makes.
-    let _pips = plan.pips();
-    each_result();
-    outputs_keep_apart();
-    let built = build_all(alloc, plan, sources, gate)?;
-    show(alloc, plan, &built)
+    let retired = retire_empty(alloc, plan, sources, keeper, gate, cached)?;
+    show(alloc, plan, &retired)
 }
 
 // The response to a source tree.
-fn respond_tree<G: Gate>(
+fn respond_tree<K: Keeper, G: Gate>(
     alloc: Global,
     tree: Tree,
     order: &Order,
+    keeper: &mut K,
     gate: &G,
 ) -> Result<Response, Memory>
     requires { IsInSize tree }
-    ensures expected { IfOk result (λ response. (input : List ℕ) → IsBundle input tree
-        → Expected order.now input response.status response.bytes.items response.notes.items) }
-    ensures tree { IfOk result (λ response. IsOutputText response.bytes.items) }
+    ensures response { (input : List ℕ) → IsBundle input tree → IfOk result (Responds order.now input
+        (change_of (K.known keeper.old) (K.known keeper.new) (K.bound keeper.old) (K.faults keeper.old)
+        (K.faults keeper.new))) }
+    ensures kept { IfOk result (λ response. IsRefusal response.status → keeper.new ≡ keeper.old) }
+    ensures left { (input : List ℕ) (before : KeptParts) → IsBundle input tree
+        → K.known keeper.old ≡ Some before → Honest before.held
+        → FairStore order.now input (Some before.held)
+        → StoreLeft (limits_of order.now) input before (K.known keeper.new) }
+    ensures untouched { uses_store order.now ≡ false → keeper.new ≡ keeper.old }
+    ensures puts { OnlyPuts (K.known keeper.old) (K.known keeper.new) }
+    ensures bound { K.bound keeper.new ≡ K.bound keeper.old }
+    ensures later { K.faults keeper.old ≤ K.faults keeper.new }
 {
     if reserved(&tree) {
         return refuse_input(alloc, InputFault::Reserved);
     }
     match front(alloc, tree, order) {
-        Ok(end) => build_plan(alloc, &end.plan, &end.sources, gate),
+        Ok(end) => build_plan(
+            alloc,
+            &end.plan,
+            &end.sources,
+            keeper,
+            gate,
+            is_cached(order),
+        ),
         Err(fault) => refuse_fault(alloc, fault),
     }
 }
@@ -202,18 +219,26 @@ fn refuse_bundle(alloc: Global, fault: BundleFault) -> Result<Response, Memory>
 }
 
 /// What a build of this input comes to.
-pub(crate) fn respond<G: Gate>(
+pub(crate) fn respond<K: Keeper, G: Gate>(
     alloc: Global,
     input: &[u8],
     order: &Order,
+    keeper: &mut K,
     gate: &G,
 ) -> Result<Response, Memory>
-    ensures expected { IfOk result (λ response.
-        Expected order.now input.now response.status response.bytes.items response.notes.items) }
-    ensures tree { IfOk result (λ response. IsOutputText response.bytes.items) }
+    ensures response { IfOk result (Responds order.now input.now (change_of (K.known keeper.old)
+        (K.known keeper.new) (K.bound keeper.old) (K.faults keeper.old) (K.faults keeper.new))) }
+    ensures kept { IfOk result (λ response. IsRefusal response.status → keeper.new ≡ keeper.old) }
+    ensures left { (before : KeptParts) → K.known keeper.old ≡ Some before → Honest before.held
+        → FairStore order.now input.now (Some before.held)
+        → StoreLeft (limits_of order.now) input.now before (K.known keeper.new) }
+    ensures untouched { uses_store order.now ≡ false → keeper.new ≡ keeper.old }
+    ensures puts { OnlyPuts (K.known keeper.old) (K.known keeper.new) }
+    ensures bound { K.bound keeper.new ≡ K.bound keeper.old }
+    ensures later { K.faults keeper.old ≤ K.faults keeper.new }
 {
     match read_bundle(alloc, input) {
-        Ok(tree) => respond_tree(alloc, tree, order, gate),
+        Ok(tree) => respond_tree(alloc, tree, order, keeper, gate),
         Err(fault) => refuse_bundle(alloc, fault),
     }
 }

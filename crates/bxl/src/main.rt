@@ -1,17 +1,25 @@
-//! The program `bxl`: the engine over standard input, output and error.
+//! The program `bxl`: the engine over standard input, output and error, and a folder that holds results.
 //!
-//! This crate makes the real outside and gives it to the engine. It depends on `bx_system` for the streams, on
-//! `bx_io`, whose traits they implement, and on `bx_engine`.
+//! This crate makes the real outside and gives it to the engine. It depends on `bx_system` for the streams
+//! and the folder, on `bx_io`, whose traits they implement, and on `bx_engine`.
 #![tactic(auto)]
 
 use bx_engine::{Status, command};
-use bx_io::{NoFaultKeeper, OpenGate};
-use bx_system::{StdSink, StdSource};
-use std::alloc::AllocError;
+use bx_io::OpenGate;
+use bx_system::{FolderKeeper, StdSink, StdSource};
+use std::alloc::{AllocError, Global};
 use std::env;
 use std::io::ErrorKind;
 use std::process::ExitCode;
 use std::rt::Env;
+
+/// The folder of the working directory that holds results from one build to the next.
+const FOLDER: &str = ".bxl-cache";
+
+/// The keeper over that folder.
+fn keeper(rt: &HostRuntime, alloc: Global) -> Result<FolderKeeper<HostRuntime>, AllocError> {
+    Ok(FolderKeeper::new(rt.clone()?, String::from_str(alloc, FOLDER)?))
+}
 
 /// The words after the program's name. Where they are not all text, there are none, which is no command.
 fn words<R: Env + AllocGlobal>(rt: &R) -> Result<Vec<String>, AllocError> {
@@ -27,6 +35,9 @@ fn main(rt: HostRuntime) -> ExitCode {
     let Ok(words) = words(&rt) else {
         return ExitCode::from(Status::OutOfMemory.code());
     };
+    let Ok(mut keeper) = keeper(&rt, alloc) else {
+        return ExitCode::from(Status::OutOfMemory.code());
+    };
     let status = command(
         &rt,
         alloc,
@@ -34,7 +45,7 @@ fn main(rt: HostRuntime) -> ExitCode {
         &mut StdSource::new(rt.stdin()),
         &mut StdSink::new(rt.stdout()),
         &mut StdSink::new(rt.stderr()),
-        &mut NoFaultKeeper::new(alloc),
+        &mut keeper,
         &OpenGate,
     );
     ExitCode::from(status.code())

@@ -1,14 +1,14 @@
 //! Whole calls of `bx_engine` over an outside in memory, for tests that compare each with its whole answer.
 //!
-//! Nothing here may end the process, so a call that differs is an error with what differs. The gate and the keeper
-//! note that they were used, which no call here may do.
+//! Nothing here may end the process, so a call that differs is an error with what differs. The builds here have no
+//! processes: the gate notes that it was passed, which no call here may do, and nothing may be kept.
 #![tactic(auto)]
 
 mod shut;
 
 use bx_engine::command;
-use bx_io::{MemSink, MemSource};
-use shut::{ShutGate, ShutKeeper};
+use bx_io::{Keeper, Listed, MemSink, MemSource, NoFaultKeeper};
+use shut::ShutGate;
 use std::alloc::{AllocError, Global};
 use std::io::Write;
 use std::sync::Wait;
@@ -92,7 +92,15 @@ fn sink_of(alloc: Global, bytes: usize, chunk: usize, fails: u64) -> Result<MemS
     Ok(MemSink::new(alloc, bytes, chunk.max(1), numbers(alloc, fails)?)?)
 }
 
-/// The code of the status of one call, if it used neither the gate nor the keeper.
+/// Whether a keeper holds anything.
+fn holds_any(alloc: Global, keeper: &mut NoFaultKeeper) -> bool {
+    match keeper.names(alloc) {
+        Listed::Names(names) => !names.is_empty(),
+        Listed::Failed | Listed::Memory => true,
+    }
+}
+
+/// The code of the status of one call, if it neither passed the gate nor kept anything.
 fn code_of<H: Threads + Wait + Sync>(
     rt: &H,
     alloc: Global,
@@ -101,10 +109,10 @@ fn code_of<H: Threads + Wait + Sync>(
     out: &mut MemSink,
     notes: &mut MemSink,
 ) -> Option<u8> {
-    let mut keeper = ShutKeeper::new();
+    let mut keeper = NoFaultKeeper::new(alloc);
     let gate = ShutGate::new();
     let code = command(rt, alloc, words, source, out, notes, &mut keeper, &gate).code();
-    if keeper.is_used() || gate.is_used() {
+    if gate.is_used() || holds_any(alloc, &mut keeper) {
         return None;
     }
     Some(code)

@@ -1,18 +1,27 @@
+use Rattle.std.proofs.Common.{refl}
 use Rattle.std.proofs.lemmas.Result.{IfOk-weaker}
 use Rattle.bx_engine.specs.Expected.{limits_of}
-use Rattle.bx_engine.proofs.OutputsAreTrees.{bundle_text}
-use Rattle.bx_engine.proofs.ResponsesAreExpected.{bundle_expected}
+use Rattle.bx_engine.proofs.ResponsesAreExpected.{bundle_responds}
+use Rattle.bx_engine.proofs.StoresLeft.{left_same, none_put}
 use Rattle.bx_engine.proofs.response.respond.Goals as goal
 
-pub returns-in-Ok-clause-expected : goal.returns-in-Ok-clause-expected
-returns-in-Ok-clause-expected g c =
-    IfOk-weaker c.respond_tree.result _ _ (λ response h. h c.args.input.now c.in-Ok.ensures) c.respond_tree.ensures.expected
+pub returns-in-Ok-clause-response : goal.returns-in-Ok-clause-response
+returns-in-Ok-clause-response g c = c.respond_tree.ensures.response c.args.input.now c.in-Ok.ensures
 
-pub returns-in-Err-clause-expected : goal.returns-in-Err-clause-expected
-returns-in-Err-clause-expected g c =
+pub returns-in-Ok-clause-left : goal.returns-in-Ok-clause-left
+returns-in-Ok-clause-left g c before is honest fair = c.respond_tree.ensures.left c.args.input.now before c.in-Ok.ensures is honest fair
+
+pub returns-in-Err-clause-response : goal.returns-in-Err-clause-response
+returns-in-Err-clause-response g c =
     IfOk-weaker c.refuse_bundle.result _ _
-    (λ response h. bundle_expected (limits_of c.args.order.now) c.args.input.now c.in-Err.fault response c.in-Err.ensures h) c.refuse_bundle.ensures
+    (λ response h. bundle_responds c.args.order.now c.args.input.now _ c.in-Err.fault response c.in-Err.ensures h) c.refuse_bundle.ensures
 
-pub returns-in-Err-clause-tree : goal.returns-in-Err-clause-tree
-returns-in-Err-clause-tree g c =
-    IfOk-weaker c.refuse_bundle.result _ _ (λ response h. bundle_text c.in-Err.fault response h) c.refuse_bundle.ensures
+pub returns-in-Err-clause-kept : goal.returns-in-Err-clause-kept
+returns-in-Err-clause-kept g c = IfOk-weaker c.refuse_bundle.result _ _ (λ response h refused. refl) c.refuse_bundle.ensures
+
+pub returns-in-Err-clause-left : goal.returns-in-Err-clause-left
+returns-in-Err-clause-left g c before is honest fair =
+    left_same (limits_of c.args.order.now) c.args.input.now before (g.K.Keeper.known c.args.keeper.now) is honest
+
+pub returns-in-Err-clause-puts : goal.returns-in-Err-clause-puts
+returns-in-Err-clause-puts g c = none_put _ _ refl

@@ -1,39 +1,67 @@
-use Rattle.std.proofs.Common.{refl}
+use Rattle.std.proofs.Common.{◌∙◌, ap, refl}
 use Rattle.std.proofs.lemmas.Bool.{false≢true}
 use Rattle.std.proofs.lemmas.Result.{IfOk-weaker}
-use Rattle.bx_engine.specs.Ending.{InputRefused}
 use Rattle.bx_engine.specs.Expected.{limits_of}
+use Rattle.bx_engine.specs.Stores.{uses_store}
 use Rattle.bx_engine.specs.declared.fault.InputFault.TheVariants.{Reserved}
-use Rattle.bx_engine.proofs.OutputsAreTrees.{fault_text, input_text}
-use Rattle.bx_engine.proofs.ResponsesAreExpected.{built_expected, expected_of, fault_expected}
+use Rattle.bx_engine.proofs.ResponsesAreExpected.{build_not_refused, build_responds, fault_responds, input_responds}
+use Rattle.bx_engine.proofs.StoresLeft.{left_of_plan, left_same, none_put}
 use Rattle.bx_engine.proofs.response.respond_tree.Goals as goal
 
-pub returns-then-reserved-clause-expected : goal.returns-then-reserved-clause-expected
-returns-then-reserved-clause-expected g c =
+-- ## A reserved path
+
+pub returns-then-reserved-clause-response : goal.returns-then-reserved-clause-response
+returns-then-reserved-clause-response g c input bundle =
     IfOk-weaker c.refuse_input.result _ _
-    (λ response h input bundle.
-    expected_of (limits_of c.args.order.now) input (InputRefused Reserved) response (c.args.tree, bundle, c.if-reserved.ensures.0 refl) h)
-    c.refuse_input.ensures
+    (λ response h. input_responds c.args.order.now input _ Reserved response (c.args.tree, bundle, c.if-reserved.ensures.0 refl) h) c.refuse_input.ensures
 
-pub returns-then-reserved-clause-tree : goal.returns-then-reserved-clause-tree
-returns-then-reserved-clause-tree g c = IfOk-weaker c.refuse_input.result _ _ (λ response h. input_text Reserved response h) c.refuse_input.ensures
+pub returns-then-reserved-clause-kept : goal.returns-then-reserved-clause-kept
+returns-then-reserved-clause-kept g c = IfOk-weaker c.refuse_input.result _ _ (λ response h refused. refl) c.refuse_input.ensures
 
-pub returns-in-Ok-clause-expected : goal.returns-in-Ok-clause-expected
-returns-in-Ok-clause-expected g c =
+pub returns-then-reserved-clause-left : goal.returns-then-reserved-clause-left
+returns-then-reserved-clause-left g c input before bundle is honest fair =
+    left_same (limits_of c.args.order.now) input before (g.K.Keeper.known c.args.keeper.now) is honest
+
+-- ## A plan
+
+pub returns-in-Ok-clause-response : goal.returns-in-Ok-clause-response
+returns-in-Ok-clause-response g c input bundle =
     IfOk-weaker c.build_plan.result _ _
-    (λ response h input bundle.
-    built_expected (limits_of c.args.order.now) input c.args.tree c.in-Ok.end.sources c.in-Ok.end.plan.pips c.in-Ok.end.plan.tool_budget response bundle
-    (λ r. false≢true (c.if-reserved.ensures.1 r)) c.in-Ok.ensures.plan c.in-Ok.ensures.sources c.in-Ok.ensures.tool_budget h)
-    c.build_plan.ensures.shown
+    (λ response h.
+    build_responds c.args.order.now input _ c.args.tree c.in-Ok.end.sources c.in-Ok.end.plan.pips c.in-Ok.end.plan.tool_budget c.is_cached.result response
+    bundle (λ r. false≢true (c.if-reserved.ensures.1 r)) c.in-Ok.ensures.plan c.in-Ok.ensures.sources c.in-Ok.ensures.tool_budget c.is_cached.ensures h)
+    c.build_plan.ensures.response
 
-pub returns-in-Err-clause-expected : goal.returns-in-Err-clause-expected
-returns-in-Err-clause-expected g c =
+pub returns-in-Ok-clause-kept : goal.returns-in-Ok-clause-kept
+returns-in-Ok-clause-kept g c =
+    IfOk-weaker c.build_plan.result _ _ (λ response h refused. absurd (build_not_refused _ _ _ _ _ response h refused)) c.build_plan.ensures.response
+
+pub returns-in-Ok-clause-left : goal.returns-in-Ok-clause-left
+returns-in-Ok-clause-left g c input before bundle is honest fair =
+    left_of_plan (uses_store c.args.order.now) (limits_of c.args.order.now) input c.args.tree c.in-Ok.end.sources c.in-Ok.end.plan.pips
+    c.in-Ok.end.plan.tool_budget before (g.K.Keeper.known c.args.keeper.now) (g.K.Keeper.known c.build_plan.new.keeper) is honest fair
+    (record { bundle = bundle; free = λ r. false≢true (c.if-reserved.ensures.1 r) }) c.in-Ok.ensures.plan c.in-Ok.ensures.sources
+    c.in-Ok.ensures.tool_budget (c.build_plan.ensures.left before is)
+    (λ off. ap (λ k. g.K.Keeper.known k) (c.build_plan.ensures.untouched (c.is_cached.ensures ∙ off)))
+
+-- ## No plan
+
+pub returns-in-Err-clause-response : goal.returns-in-Err-clause-response
+returns-in-Err-clause-response g c input bundle =
     IfOk-weaker c.refuse_fault.result _ _
-    (λ response h input bundle.
-    fault_expected (limits_of c.args.order.now) input c.args.tree c.in-Err.fault response bundle (λ r. false≢true (c.if-reserved.ensures.1 r))
-    c.in-Err.ensures.plan h)
+    (λ response h.
+    fault_responds c.args.order.now input _ c.args.tree c.in-Err.fault response bundle (λ r. false≢true (c.if-reserved.ensures.1 r)) c.in-Err.ensures.plan h)
     c.refuse_fault.ensures
 
-pub returns-in-Err-clause-tree : goal.returns-in-Err-clause-tree
-returns-in-Err-clause-tree g c =
-    IfOk-weaker c.refuse_fault.result _ _ (λ response h. fault_text c.in-Err.fault response h) c.refuse_fault.ensures
+pub returns-in-Err-clause-kept : goal.returns-in-Err-clause-kept
+returns-in-Err-clause-kept g c = IfOk-weaker c.refuse_fault.result _ _ (λ response h refused. refl) c.refuse_fault.ensures
+
+pub returns-in-Err-clause-left : goal.returns-in-Err-clause-left
+returns-in-Err-clause-left g c input before bundle is honest fair =
+    left_same (limits_of c.args.order.now) input before (g.K.Keeper.known c.args.keeper.now) is honest
+
+pub returns-then-reserved-clause-puts : goal.returns-then-reserved-clause-puts
+returns-then-reserved-clause-puts g c = none_put _ _ refl
+
+pub returns-in-Err-clause-puts : goal.returns-in-Err-clause-puts
+returns-in-Err-clause-puts g c = none_put _ _ refl

@@ -1,0 +1,129 @@
+-- What the notes of a build count, and what a build writes whatever its store.
+use Rattle.std.specs.Prelude.{◌≡◌, ℕ, ◌+◌, ◌≤◌, Bool, true, false, List, [], ◌∷◌, ◌++◌, length, Option, Some}
+use Rattle.std.specs.Prelude.{if◌then◌else◌}
+use Rattle.std.specs.Io.KnownBytes.{Appends}
+use Rattle.std.specs.List.{list_all}
+use Rattle.bx_tree.specs.Bundle.{bundle}
+use Rattle.bx_tree.specs.Trees.{Files}
+use Rattle.bx_io.specs.Holdings.{Holdings, Kept, held_in}
+use Rattle.bx_words.specs.declared.order.Order.{Order}
+use Rattle.build_report.specs.Notes.{notes_text}
+use Rattle.build_report.specs.Reports.{report_text}
+use Rattle.build_report.specs.declared.counts.Counts.{Counts}
+use Rattle.pip_types.specs.declared.pip.Pip.{Pip}
+use Rattle.one_thread.specs.OneThread.{Result, run_count, verdicts_of}
+use Rattle.retire.specs.Builds.{LeavesUsable, RunsLate, Spares}
+use Rattle.verdicts.specs.Verdicts.{is_success}
+use Rattle.verdicts.specs.declared.verdict.Verdict.{Verdict}
+use Rattle.bx_engine.specs.Ending.{Ending, InputRefused, SpecificationRefused, Built, report_path, status_of}
+use Rattle.bx_engine.specs.Ends.{AreSources, Ends}
+use Rattle.bx_engine.specs.Expected.{AppendsOrFails, limits_of}
+use Rattle.bx_engine.specs.Stores.{AsksFor, uses_store}
+use Rattle.bx_engine.specs.declared.status.Status.{Status}
+use Rattle.bx_engine.specs.declared.status.Status.TheVariants as statuses
+
+-- what is known of a keeper before a call and after it
+pub record StoreChange : Type 0 where
+  pub before : Option Kept
+  pub now : Option Kept
+  pub bound : Option ℕ
+  pub faults_before : ℕ
+  pub faults_now : ℕ
+
+abbrev pub change_of : Option Kept → Option Kept → Option ℕ → ℕ → ℕ → StoreChange
+change_of before now bound faults_before faults_now = record {
+  before = before;
+  now = now;
+  bound = bound;
+  faults_before = faults_before;
+  faults_now = faults_now;
+}
+
+-- ## Over any store
+
+-- Each process that runs is run by the thread that goes through the pips, and that is the only one. Where the
+-- keeper has a bound, at most as many faults are counted as its count rose by and its reader may count; where
+-- no fault is counted, the keeper's count did not rise; and where the store is not used, no hit and no fault
+-- is counted.
+pub record AreCounts (cached : Bool) (change : StoreChange) (counts : Counts) : Type 0 where
+  pub all_late : counts.late ≡ counts.ran
+  pub none_starved : counts.starved ≡ 0
+  pub few_faults : (b : ℕ) → change.bound ≡ Some b
+      → change.faults_before + counts.faults ≤ change.faults_now + b
+  pub seen : counts.faults ≡ 0 → change.faults_now ≡ change.faults_before
+  pub unused : cached ≡ false → (counts.hits ≡ 0) × (counts.faults ≡ 0)
+
+-- Pips that were gone through: how each ended, the files that are given if all succeeded, and the counts.
+pub record Gone (cached : Bool) (change : StoreChange) : Type 0 where
+  pub pips : List Pip
+  pub verdicts : List Verdict
+  pub files : Files
+  pub counts : Counts
+  pub one_each : length verdicts ≡ length pips
+  pub counted : AreCounts cached change counts
+  pub hit_or_ran : counts.hits + counts.ran ≡ run_count pips verdicts
+
+-- the status by how the pips ended
+abbrev pub gone_status : List Verdict → Status
+gone_status verdicts = if list_all is_success verdicts then statuses.Done else statuses.FailuresFound
+
+-- the files that are given, which are none unless all pips succeeded
+abbrev pub given_files : List Verdict → Files → Files
+given_files verdicts files = if list_all is_success verdicts then files else []
+
+-- the bundle of those files and of the report
+abbrev pub gone_output : List Pip → List Verdict → Files → List ℕ
+gone_output pips verdicts files =
+    bundle (given_files verdicts files ++ (report_path, report_text pips verdicts) ∷ [])
+
+-- The status, the output and the notes are those of pips that were gone through, and that the input asks for,
+-- where it is known.
+pub record IsShown (order : Order) (input : Option (List ℕ)) (change : StoreChange) (status : Status)
+    (out_before out_now notes_before notes_now : Option (List ℕ)) (faults_before faults_now : ℕ)
+    : Type 0 where
+  pub gone : Gone (uses_store order) change
+  pub asked : (bytes : List ℕ) → input ≡ Some bytes → AsksFor (limits_of order) bytes gone.pips
+  pub status_is : status ≡ gone_status gone.verdicts
+  pub written : Appends out_before out_now (gone_output gone.pips gone.verdicts gone.files)
+  pub noted : AppendsOrFails (notes_text gone.counts) notes_before notes_now faults_before faults_now
+
+-- ## Over a fair store
+
+-- The counts of the build of these pips with these results: each process that is not skipped hit or ran. The
+-- hits are the processes that the store would spare, and the late runs the others, but for as many as there
+-- were faults; and where none was counted, something is usable for each process that succeeds in the store
+-- that is left.
+pub record CountsOf (cached : Bool) (pips : List Pip) (tree : Files) (budget : ℕ) (results : List Result)
+    (change : StoreChange) (counts : Counts) : Type 0 where
+  pub counted : AreCounts cached change counts
+  pub hit_or_ran : counts.hits + counts.ran ≡ run_count pips (verdicts_of results)
+  pub spared : cached ≡ true → (S : Holdings) → held_in change.before ≡ Some S
+      → Spares pips tree budget S counts.hits counts.faults
+  pub runs : cached ≡ true → (S : Holdings) → held_in change.before ≡ Some S
+      → RunsLate pips tree budget S counts.late counts.faults
+  pub usable : cached ≡ true → (kept : Kept) → change.before ≡ Some kept → counts.faults ≡ 0
+      → LeavesUsable pips tree budget change.now
+
+-- These are the notes of an input that ends so: none of one that is refused, and the counts of a build.
+abbrev pub NotesOf : Order → List ℕ → StoreChange → Ending → List ℕ → Type 0
+NotesOf order input change (InputRefused fault) text = text ≡ []
+NotesOf order input change (SpecificationRefused refusal) text = text ≡ []
+NotesOf order input change (Built pips results) text =
+    (sources : Files) × AreSources input sources × (counts : Counts)
+    × CountsOf (uses_store order) pips sources (limits_of order).tool_budget results change counts
+    × (text ≡ notes_text counts)
+
+-- These are the notes of an order on this input, where it has this status.
+pub record IsNoted (order : Order) (input : List ℕ) (change : StoreChange) (status : Status) (text : List ℕ)
+    : Type 0 where
+  pub ending : Ending
+  pub ends : Ends (limits_of order) input ending
+  pub status_is : status ≡ status_of ending
+  pub text_is : NotesOf order input change ending text
+
+-- those notes were appended, or a prefix of them and the sink's count of faults rose
+pub record Notes (order : Order) (input : List ℕ) (change : StoreChange) (status : Status)
+    (before now : Option (List ℕ)) (faults_before faults_now : ℕ) : Type 0 where
+  pub text : List ℕ
+  pub noted : IsNoted order input change status text
+  pub appended : AppendsOrFails text before now faults_before faults_now

@@ -1,0 +1,50 @@
+-- The store of a build: what is asked of it, and what is left of it.
+use Rattle.std.specs.Prelude.{◌≡◌, ◌⊎◌, ℕ, Bool, true, false, List, Option, Some, ⊤}
+use Rattle.bx_tree.specs.Trees.{Files}
+use Rattle.bx_io.specs.Holdings.{Holdings, Kept}
+use Rattle.bx_front.specs.Specifications.{Plans}
+use Rattle.bx_front.specs.declared.limits.Limits.{Limits}
+use Rattle.bx_words.specs.declared.order.Order.{Order}
+use Rattle.bx_words.specs.declared.order.Order.TheVariants.{Build}
+use Rattle.pip_types.specs.declared.pip.Pip.{Pip}
+use Rattle.two_phase.specs.Putting.{LeavesHonest}
+use Rattle.retire.specs.Builds.{Fair, LeavesFair}
+use Rattle.bx_engine.specs.Ends.{AreSources}
+use Rattle.bx_engine.specs.Expected.{limits_of}
+
+-- whether the order lets the build use the store
+abbrev pub uses_store : Order → Bool
+uses_store (Build workers cached eval_budget tool_budget) = cached
+
+-- ## What is asked of the store
+
+-- Where the store is used and the input asks for a build, the store is known and honest, and no two different
+-- ones of what is met in the build share a digest. Nothing is asked where the store is not used.
+abbrev pub FairWhere : Bool → Limits → List ℕ → Option Holdings → Type 0
+FairWhere false limits input held = ⊤
+FairWhere true limits input held =
+    (sources : Files) (pips : List Pip) → AreSources input sources → Plans limits sources pips
+    → Fair pips sources limits.tool_budget true held
+
+-- what is asked of the store of an order
+abbrev pub FairStore : Order → List ℕ → Option Holdings → Type 0
+FairStore order input held = FairWhere (uses_store order) (limits_of order) input held
+
+-- ## What is left of the store
+
+-- the input asks for these pips
+abbrev pub AsksFor : Limits → List ℕ → List Pip → Type 0
+AsksFor limits input pips = (sources : Files) × AreSources input sources × Plans limits sources pips
+
+-- The store is as it was, or as the build which the input asks for leaves it.
+abbrev pub LeftOfBuild : Limits → List ℕ → Kept → Option Kept → Type 0
+LeftOfBuild limits input before now =
+    (now ≡ Some before)
+    ⊎ ((sources : Files) × (pips : List Pip) × AreSources input sources × Plans limits sources pips
+    × LeavesFair pips sources limits.tool_budget before now)
+
+-- An honest store is left: it was honest before each change and after it, and it is as it was or as the build
+-- leaves it.
+pub record StoreLeft (limits : Limits) (input : List ℕ) (before : Kept) (now : Option Kept) : Type 0 where
+  pub honest : LeavesHonest before now
+  pub came : LeftOfBuild limits input before now
