@@ -12,6 +12,7 @@ use std::test::Fail;
 use std::thread::Threads;
 
 /// A build and what it comes to.
+#[derive(Clone, Copy)]
 struct Build<'a> {
     words: &'a str,
     sources: Files<'a>,
