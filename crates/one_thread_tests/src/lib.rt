@@ -4,8 +4,4 @@
 #![tactic(auto)]
 
 #[cfg(test)]
-mod pips;
-#[cfg(test)]
 mod tests;
-#[cfg(test)]
-mod trees;

@@ -1,27 +1,11 @@
 //! Builds, with their reports and files worked out by hand.
-use crate::pips::plan;
-use crate::trees::{big_sources, sources};
 use build_report::report;
 use bx_io::OpenGate;
 use one_thread::{Built, build_all, outputs};
-use pip_model::{MadeFile, Plan, Sources};
+use pip_lines::{add_files, big_sources, plan, sources};
+use pip_model::{Plan, Sources};
 use std::alloc::Global;
 use std::test::Fail;
-
-fn add_all(seen: &mut Vec<u8>, pieces: &[&[u8]]) -> Result<(), Fail> {
-    for piece in pieces {
-        seen.extend_from_slice(piece)?;
-    }
-    Ok(())
-}
-
-fn add_files(seen: &mut Vec<u8>, files: &[MadeFile]) -> Result<(), Fail> {
-    for file in files {
-        let path = file.path.text().as_bytes();
-        add_all(seen, &[path, b"=", file.blob.bytes(), b"\n"])?;
-    }
-    Ok(())
-}
 
 fn add_report(alloc: Global, seen: &mut Vec<u8>, plan: &Plan, built: &Built) -> Result<(), Fail> {
     if built.verdicts.len() != plan.pips().len() {

@@ -117,7 +117,7 @@ fn sources_of(alloc: Global, files: Vec<TreeFile>) -> Result<Sources, Fail> {
 }
 
 /// The tools, and the sources that a text names: `path=bytes`, with `,` between them.
-pub(crate) fn sources(alloc: Global, named: &str) -> Result<Sources, Fail> {
+pub fn sources(alloc: Global, named: &str) -> Result<Sources, Fail> {
     let mut files = Vec::new(alloc);
     add_tools(alloc, &mut files)?;
     add_named(alloc, &mut files, named)?;
@@ -125,7 +125,7 @@ pub(crate) fn sources(alloc: Global, named: &str) -> Result<Sources, Fail> {
 }
 
 /// The tools, and a file `big` of as many bytes.
-pub(crate) fn big_sources(alloc: Global, count: usize) -> Result<Sources, Fail> {
+pub fn big_sources(alloc: Global, count: usize) -> Result<Sources, Fail> {
     let mut files = Vec::new(alloc);
     add_tools(alloc, &mut files)?;
     add_file(alloc, &mut files, "big", vec![in alloc; b'x'; count]?)?;
