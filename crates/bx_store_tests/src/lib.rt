@@ -1,4 +1,4 @@
-//! Tests of whole builds over a store in memory.
+//! Tests of a build over a store, a change, and a rebuild.
 //!
 //! They are a crate of their own, since a crate is proved once more for the tests in it.
 #![tactic(auto)]

@@ -1,132 +1,161 @@
-//! Whole builds over a store in memory, each compared with its whole answer.
+//! A build, a change, and a rebuild.
 
-mod faults;
-mod rebuilds;
-
-use bx_engine::command;
-use bx_io::{Keeper, MemKeeper, MemSink, MemSource, OpenGate};
-use engine_calls::{Files, bundle_of, output_of, words_of};
-use std::alloc::{AllocError, Global};
+use engine_calls::Files;
+use std::alloc::Global;
 use std::sync::Wait;
 use std::test::Fail;
 use std::thread::Threads;
+use store_calls::{
+    ALL_HIT, ALL_RAN, Build, CAT, MADE, REPORT, SOURCES, THREE, empty_keeper, is_so,
+};
 
-/// A build and what it comes to.
-#[derive(Clone, Copy)]
-struct Build<'a> {
-    words: &'a str,
-    sources: Files<'a>,
-    code: u8,
-    made: Files<'a>,
-    /// The lines of the report after the first.
-    report: &'a str,
-    notes: &'a str,
-}
-
-/// Reads two files, and writes them one after the other.
-const CAT: &str = "tool 1
-arg r0, 0, bad
-arg r1, 1, bad
-arg r2, 2, bad
-read r3, r1, bad
-read r4, r2, bad
-cat r5, r3, r4
-write r0, r5
-exit 0
-bad: exit 1
-";
-
-/// Three processes, the last of which takes what the others make.
-const THREE: &str = r#"function cat(out: Path, a: File, b: File): File {
-    return Transformer.execute({
-        tool: {exe: f`cat.tool`},
-        arguments: [Cmd.argument(Artifact.output(out)), Cmd.argument(Artifact.input(a)), Cmd.argument(Artifact.input(b))],
-    }).getOutputFile(out);
-}
-const ab = cat(p`out/ab`, f`a`, f`b`);
-const cd = cat(p`out/cd`, f`c`, f`d`);
-const all = cat(p`out/all`, ab, cd);
-"#;
-
-const SOURCES: Files<'static> = &[
+const CHANGED: Files<'static> = &[
     ("a", "A"),
     ("b", "B"),
     ("build.dsc", THREE),
-    ("c", "C"),
+    ("c", "E"),
     ("cat.tool", CAT),
     ("d", "D"),
 ];
 
-const MADE: Files<'static> = &[("out/ab", "AB"), ("out/all", "ABCD"), ("out/cd", "CD")];
+/// Writes what the path `/opt` is.
+const PROBE: &str = "tool 1\narg r0, 0, end\nprobe r1, \"/opt\"\nwrite r0, r1\nend: exit 0\n";
 
-const REPORT: &str = "succeeded
-pip 0 process succeeded
-pip 1 process succeeded
-pip 2 process succeeded
-";
+const PROBED: &str = "const p = Transformer.execute({tool: {exe: f`pr.tool`}, \
+arguments: [Cmd.argument(Artifact.output(p`out/p`))], dependencies: []});\n";
 
-const ALL_RAN: &str = "hits 0\nran 3\nlate 3\nstore-faults 0\nstarved 0\n";
+const NO_OPT: Files<'static> = &[("build.dsc", PROBED), ("pr.tool", PROBE)];
 
-const ALL_HIT: &str = "hits 3\nran 0\nlate 0\nstore-faults 0\nstarved 0\n";
+const OPT: Files<'static> = &[("build.dsc", PROBED), ("opt", "o"), ("pr.tool", PROBE)];
 
-const TWO_HIT: &str = "hits 2\nran 1\nlate 1\nstore-faults 0\nstarved 0\n";
+const ONE: &str = "succeeded\npip 0 process succeeded\n";
 
-/// The build of the three processes that has these notes.
-fn three<'a>(words: &'a str, notes: &'a str) -> Build<'a> {
-    Build {
-        words,
-        sources: SOURCES,
-        code: 0,
-        made: MADE,
-        report: REPORT,
-        notes,
+const ONE_RAN: &str = "hits 0\nran 1\nlate 1\nstore-faults 0\nstarved 0\n";
+
+/// Ends with 1 if it has no second argument.
+const ENDS: &str = "tool 1\narg r0, 0, bad\nwrite r0, r0\narg r1, 1, bad\nexit 0\nbad: exit 1\n";
+
+/// A process that succeeds, and one that does not.
+const FAILS: &str = r#"const good = Transformer.execute({
+    tool: {exe: f`t.tool`},
+    arguments: [Cmd.argument(Artifact.output(p`out/g`)), Cmd.argument("x")],
+});
+const bad = Transformer.execute({tool: {exe: f`t.tool`}, arguments: [Cmd.argument(Artifact.output(p`out/f`))]});
+"#;
+
+const FAILING: Files<'static> = &[("build.dsc", FAILS), ("t.tool", ENDS)];
+
+const FAILED: &str = "failed\npip 0 process succeeded\npip 1 process failed exit 1\n";
+
+/// Builds that are done one after another over one keeper.
+const SERIES: &[&[Build<'static>]] = &[
+    &[
+        Build {
+            words: "build",
+            sources: SOURCES,
+            code: 0,
+            made: MADE,
+            report: REPORT,
+            notes: ALL_RAN,
+        },
+        Build {
+            words: "build",
+            sources: SOURCES,
+            code: 0,
+            made: MADE,
+            report: REPORT,
+            notes: ALL_HIT,
+        },
+        Build {
+            words: "build --no-cache",
+            sources: SOURCES,
+            code: 0,
+            made: MADE,
+            report: REPORT,
+            notes: ALL_RAN,
+        },
+        Build {
+            words: "build --workers 1",
+            sources: CHANGED,
+            code: 0,
+            made: &[("out/ab", "AB"), ("out/all", "ABED"), ("out/cd", "ED")],
+            report: REPORT,
+            notes: "hits 1\nran 2\nlate 2\nstore-faults 0\nstarved 0\n",
+        },
+        Build {
+            words: "build",
+            sources: SOURCES,
+            code: 0,
+            made: MADE,
+            report: REPORT,
+            notes: ALL_HIT,
+        },
+    ],
+    &[
+        Build {
+            words: "build",
+            sources: NO_OPT,
+            code: 0,
+            made: &[("out/p", "absent")],
+            report: ONE,
+            notes: ONE_RAN,
+        },
+        Build {
+            words: "build",
+            sources: OPT,
+            code: 0,
+            made: &[("out/p", "file")],
+            report: ONE,
+            notes: ONE_RAN,
+        },
+        Build {
+            words: "build",
+            sources: NO_OPT,
+            code: 0,
+            made: &[("out/p", "absent")],
+            report: ONE,
+            notes: "hits 1\nran 0\nlate 0\nstore-faults 0\nstarved 0\n",
+        },
+    ],
+    &[
+        Build {
+            words: "build",
+            sources: FAILING,
+            code: 1,
+            made: &[],
+            report: FAILED,
+            notes: "hits 0\nran 2\nlate 2\nstore-faults 0\nstarved 0\n",
+        },
+        Build {
+            words: "build",
+            sources: FAILING,
+            code: 1,
+            made: &[],
+            report: FAILED,
+            notes: "hits 1\nran 1\nlate 1\nstore-faults 0\nstarved 0\n",
+        },
+    ],
+];
+
+/// How many of the builds come to what they are to come to, up to the first that does not.
+fn first_right<H: Threads + Wait + Sync>(
+    rt: &H,
+    alloc: Global,
+    builds: &[Build<'_>],
+) -> Result<usize, Fail> {
+    let mut keeper = empty_keeper(alloc);
+    for (number, build) in builds.iter().enumerate() {
+        if !is_so(rt, alloc, &mut keeper, build)? {
+            return Ok(number);
+        }
     }
+    Ok(builds.len())
 }
 
-fn empty_keeper(alloc: Global) -> MemKeeper {
-    MemKeeper::new(alloc, Vec::new(alloc))
-}
-
-fn sink_of(alloc: Global, failing: Vec<u64>) -> Result<MemSink, AllocError> {
-    MemSink::new(alloc, 100_000, 4096, failing)
-}
-
-/// The code of a build over a keeper, whose output and notes these sinks take.
-fn code_of<H: Threads + Wait + Sync, K: Keeper>(
-    rt: &H,
-    alloc: Global,
-    keeper: &mut K,
-    build: &Build<'_>,
-    out: &mut MemSink,
-    notes: &mut MemSink,
-) -> Result<u8, Fail> {
-    let words = words_of(alloc, build.words)?;
-    let input = bundle_of(alloc, build.sources)?;
-    let mut source = MemSource::new(input, 4096, Vec::new(alloc));
-    Ok(command(
-        rt,
-        alloc,
-        &words,
-        &mut source,
-        out,
-        notes,
-        keeper,
-        &OpenGate,
-    )
-    .code())
-}
-
-/// Whether a build over a keeper gives its output, and its notes if any are wanted.
-fn is_so<H: Threads + Wait + Sync, K: Keeper>(
-    rt: &H,
-    alloc: Global,
-    keeper: &mut K,
-    build: &Build<'_>,
-) -> Result<bool, Fail> {
-    let mut out = sink_of(alloc, Vec::new(alloc))?;
-    let mut notes = sink_of(alloc, Vec::new(alloc))?;
-    let code = code_of(rt, alloc, keeper, build, &mut out, &mut notes)?;
-    let want = output_of(alloc, build.made, build.report)?;
-    let noted = build.notes.is_empty() || notes.taken() == build.notes.as_bytes();
-    Ok(code == build.code && out.taken() == want.as_slice() && noted)
+#[test]
+fn takes_what_is_usable_and_runs_the_rest(rt: HostRuntime) -> Result<(), Fail> {
+    for builds in SERIES {
+        assert_eq!(rt; first_right(&rt, rt.alloc(), builds)?, builds.len());
+    }
+    Ok(())
 }

@@ -1,7 +1,11 @@
 //! Keepers and readers that fail at each of their calls in turn, and builds that are cut off.
 
-use super::*;
-use bx_io::{FailKeeper, StopKeeper};
+use bx_io::{FailKeeper, Keeper, MemKeeper, StopKeeper};
+use std::alloc::Global;
+use std::sync::Wait;
+use std::test::Fail;
+use std::thread::Threads;
+use store_calls::{ALL_HIT, ALL_RAN, TWO_HIT, code_of, empty_keeper, is_so, sink_of, three};
 
 const ONE_FAULT: &str = "hits 0\nran 3\nlate 3\nstore-faults 1\nstarved 0\n";
 
