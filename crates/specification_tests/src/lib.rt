@@ -1,4 +1,4 @@
-//! Tests of what specifications and workspaces come to, by whole calls of `bx_engine`.
+//! Tests of what a specification comes to, by whole calls of `bx_engine`.
 //!
 //! They are a crate of their own, since a crate is proved once more for the tests in it.
 #![tactic(auto)]

@@ -1,0 +1,7 @@
+//! Builds of workspaces, each compared with its whole answer.
+
+mod names;
+mod workspaces;
+
+use engine_calls::{Files, bundle_of, check_made, check_refused, check_text};
+use std::test::Fail;
