@@ -222,16 +222,12 @@ fn lists(
     Ok(is_listed)
 }
 
-/// How many files are below a directory.
-fn below(alloc: Global, tree: &Tree, dir: &[u8]) -> Result<usize, Fail> {
-    let dir = Path::read(alloc, dir)?;
-    Ok(find_below(alloc, tree, &dir)?.len())
-}
-
-/// How many files are directly in a directory.
-fn directly_in(alloc: Global, tree: &Tree, dir: &[u8]) -> Result<usize, Fail> {
-    let dir = Path::read(alloc, dir)?;
-    Ok(find_directly_in(alloc, tree, &dir)?.len())
+/// Whether this many files are below a directory, and this many directly in it.
+fn has(alloc: Global, tree: &Tree, dir: &Path, below: usize, within: usize) -> Result<bool, Fail> {
+    Ok(
+        find_below(alloc, tree, dir)?.len() == below
+            && find_directly_in(alloc, tree, dir)?.len() == within,
+    )
 }
 
 /// Whether a glob is deep, its arguments by letters, and how many files it lists.
@@ -256,8 +252,9 @@ fn globs_list_source_files(rt: HostRuntime) -> Result<(), Fail> {
 #[test]
 fn directories_have_source_files(rt: HostRuntime) -> Result<(), Fail> {
     let tree = tree(rt.alloc())?;
-    assert_eq!(rt; below(rt.alloc(), &tree, b".")?, 5);
-    assert_eq!(rt; directly_in(rt.alloc(), &tree, b".")?, 3);
-    assert_eq!(rt; below(rt.alloc(), &tree, b"s")?, 2);
+    let root = Path::root(rt.alloc())?;
+    assert!(rt; has(rt.alloc(), &tree, &root, 5, 3)?);
+    let dir = Path::read(rt.alloc(), b"s")?;
+    assert!(rt; has(rt.alloc(), &tree, &dir, 2, 1)?);
     Ok(())
 }
