@@ -1,8 +1,8 @@
 //! Trees of source files.
-use super::*;
+use crate::Files;
 
 /// Two files in C that are compiled, and linked.
-pub(crate) const COMPILED: Files = &[
+pub const COMPILED: Files = &[
     (
         "config.dsc",
         "config({resolvers: [{kind: \"DScript\", modules: [f`src/module.config.dsc`]}]});",
@@ -71,23 +71,21 @@ bad: exit 1
 ];
 
 /// Lists a directory.
-pub(crate) const LIST: &str =
-    "tool 1\narg r0, 0, end\nlist r1, \"/s\"\nwrite r0, r1\nend: exit 0\n";
+pub const LIST: &str = "tool 1\narg r0, 0, end\nlist r1, \"/s\"\nwrite r0, r1\nend: exit 0\n";
 
 /// Reads a file.
-pub(crate) const READ: &str =
+pub const READ: &str =
     "tool 1\narg r0, 0, end\nread r1, \"/s/x\", end\nwrite r0, r1\nend: exit 0\n";
 
 /// Asks what a path is.
-pub(crate) const PROBE: &str =
-    "tool 1\narg r0, 0, end\nprobe r1, \"/opt\"\nwrite r0, r1\nend: exit 0\n";
+pub const PROBE: &str = "tool 1\narg r0, 0, end\nprobe r1, \"/opt\"\nwrite r0, r1\nend: exit 0\n";
 
 /// Reads what its second argument names, and writes that argument.
-pub(crate) const PEEK: &str =
+pub const PEEK: &str =
     "tool 1\narg r0, 0, end\narg r1, 1, end\nread r2, r1, next\nnext: write r0, r1\nend: exit 0\n";
 
 /// A process that looks at a path.
-pub(crate) const PEEK_FUNCTION: &str = r#"function peek(out: Path, what: Path, deps: File[]): File {
+pub const PEEK_FUNCTION: &str = r#"function peek(out: Path, what: Path, deps: File[]): File {
     return Transformer.execute({
         tool: {exe: f`peek.tool`},
         arguments: [Cmd.argument(Artifact.output(out)), Cmd.argument(what)],
@@ -97,11 +95,11 @@ pub(crate) const PEEK_FUNCTION: &str = r#"function peek(out: Path, what: Path, d
 "#;
 
 /// Writes a file into a directory that many share.
-pub(crate) const SHARE: &str =
+pub const SHARE: &str =
     "tool 1\narg r0, 0, end\ncat r0, \"/out/s/\", r0\nwrite r0, \"1\"\nend: exit 0\n";
 
 /// A process that writes a file into a directory that many share.
-pub(crate) const SHARE_FUNCTION: &str = r#"function put(name: string) {
+pub const SHARE_FUNCTION: &str = r#"function put(name: string) {
     return Transformer.execute({
         tool: {exe: f`sh.tool`},
         arguments: [Cmd.argument(name)],
@@ -111,7 +109,7 @@ pub(crate) const SHARE_FUNCTION: &str = r#"function put(name: string) {
 "#;
 
 /// A process with one output, which is its argument.
-pub(crate) const RUN_FUNCTION: &str = r#"function run(tool: File, out: Path, deps) {
+pub const RUN_FUNCTION: &str = r#"function run(tool: File, out: Path, deps) {
     return Transformer.execute({
         tool: {exe: tool},
         arguments: [Cmd.argument(Artifact.output(out))],

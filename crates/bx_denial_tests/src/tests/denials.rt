@@ -1,6 +1,9 @@
 //! What a process may not look at or write, and beside it what it may.
-use super::trees::{PEEK, PEEK_FUNCTION, RUN_FUNCTION, SHARE, SHARE_FUNCTION};
-use super::*;
+use build_calls::{
+    Build, PEEK, PEEK_FUNCTION, RUN_FUNCTION, SHARE, SHARE_FUNCTION, add_input, call, is_so,
+    new_gate,
+};
+use std::test::Fail;
 
 /// Probes a source file.
 const PROBE_HEADER: &str =
@@ -224,6 +227,6 @@ fn passes_the_gate_once_for_each_process_that_runs(rt: HostRuntime) -> Result<()
     add_input(rt.alloc(), &mut input, &SIX_PIPS)?;
     let mut seen = Vec::new(rt.alloc());
     call(&rt, rt.alloc(), "build", &input, &gate, &mut seen)?;
-    assert_eq!(rt; gate.sum.load(Relaxed), 10);
+    assert_eq!(rt; gate.sum(), 10);
     Ok(())
 }

@@ -1,6 +1,6 @@
 //! Which cause a process has that did not succeed, and files that two processes write.
-use super::trees::{RUN_FUNCTION, SHARE, SHARE_FUNCTION};
-use super::*;
+use build_calls::{Build, Files, RUN_FUNCTION, SHARE, SHARE_FUNCTION, is_so};
+use std::test::Fail;
 
 /// Writes files with the names of its arguments into a directory that many share.
 const SHARE_ALL: &str = r#"tool 1

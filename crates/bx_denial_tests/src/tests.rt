@@ -1,0 +1,4 @@
+//! Whole builds of processes that do not succeed.
+
+mod causes;
+mod denials;
