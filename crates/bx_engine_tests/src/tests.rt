@@ -1,13 +1,10 @@
-//! Whole calls over an outside in memory, each compared with its whole answer.
+//! Whole calls on inputs that are refused, and on those at the limits, each compared with its whole answer.
 
-mod faults;
 mod inputs;
 mod limits;
-mod words;
 
 use engine_calls::{
-    COUNTS, ITEM, ITEM_OUTPUT, NO_FAULTS, NOTHING, Outside, Want, add_file, bundle_of, check,
-    check_build, check_refused, words_of,
+    COUNTS, ITEM, NO_FAULTS, Want, add_file, bundle_of, check_build, check_refused,
 };
 use std::alloc::{AllocError, Global};
 use std::io::Write;
