@@ -8,22 +8,18 @@ ghost use Rattle.bx_io.specs.declared.keeper.Listed.TheVariants as listed;
 
 use bx_io::{Got, KeepReader, Keeper, Listed, PutFault, is_name};
 use std::alloc::{AllocError, Global};
-use std::collections::BTreeSet;
 use std::fs::{self, DirEntry, File, OpenFile};
 use std::io::{self, ErrorKind, Write};
 use std::rt::Files;
 
 /// A folder that holds each name as the plain file of that name, in a folder for each kind of name; other
 /// files in it are ignored. What it holds is not known. Each error of the system but that nothing is there is
-/// a fault, and raises the count by one, up to the greatest `u64`. A content, whose name is that of its digest,
-/// is written once: what this keeper has put under such a name it does not write again.
+/// a fault, and raises the count by one, up to the greatest `u64`.
 #[derive(Drop)]
 pub struct FolderKeeper<R> {
     rt: R,
     folder: String,
     faults: u64,
-    // The names of contents that were put.
-    written: BTreeSet<String>,
 }
 
 /// A reader of the folder of a [`FolderKeeper`], with a count of faults of its own.
@@ -93,25 +89,7 @@ fn make_folders<R: Files>(rt: &R, alloc: Global, folder: &str, name: &str) -> io
 fn write_synced<R: Files>(rt: &R, path: &str, bytes: &[u8]) -> io::Result<()> {
     let mut file = File::create(rt, path)?;
     file.write_all(bytes)?;
-    file.sync_data()
-}
-
-// Writes the file in which a name is begun, and makes the folders for it where they are not there.
-fn write_begun<R: Files>(
-    rt: &R,
-    alloc: Global,
-    folder: &str,
-    name: &str,
-    begun: &str,
-    bytes: &[u8],
-) -> io::Result<()> {
-    match write_synced(rt, begun, bytes) {
-        Err(error) if error.kind() == ErrorKind::NotFound => {
-            make_folders(rt, alloc, folder, name)?;
-            write_synced(rt, begun, bytes)
-        }
-        written => written,
-    }
+    file.sync_all()
 }
 
 // Writes the file of a name beside it, and then gives it its name. A stop at any moment leaves the old file
@@ -123,23 +101,15 @@ fn write<R: Files>(
     name: &str,
     bytes: &[u8],
 ) -> io::Result<()> {
+    make_folders(rt, alloc, folder, name)?;
     let path = path_of(alloc, folder, name)?;
     let begun = format!(in alloc; "{path}.new")?;
-    let written = write_begun(rt, alloc, folder, name, begun.as_str(), bytes);
+    let written = write_synced(rt, begun.as_str(), bytes);
     if written.is_err() {
         let _ = fs::remove_file(rt, begun.as_str());
         return written;
     }
     fs::rename(rt, begun.as_str(), path.as_str())
-}
-
-// Notes that a content was put, if there is memory for it.
-fn note(alloc: Global, written: &mut BTreeSet<String>, name: &str) {
-    if name.as_bytes().starts_with(b"b/") {
-        if let Ok(name) = String::from_str(alloc, name) {
-            let _ = written.insert(name);
-        }
-    }
 }
 
 fn remove<R: Files>(rt: &R, alloc: Global, folder: &str, name: &str) -> Outcome<()> {
@@ -239,15 +209,13 @@ fn one_more(faults: u64) -> u64
     faults.saturating_add(1)
 }
 
-impl<R: AllocGlobal> FolderKeeper<R> {
+impl<R> FolderKeeper<R> {
     /// The keeper over this folder, which need not be there.
     pub fn new(rt: R, folder: String) -> FolderKeeper<R> {
-        let written = BTreeSet::new(rt.alloc());
         FolderKeeper {
             rt,
             folder,
             faults: 0,
-            written,
         }
     }
 }
@@ -306,14 +274,8 @@ impl<R: Files + AllocGlobal + Clone + Drop + Send> Keeper for FolderKeeper<R> {
     }
 
     fn put(&mut self, alloc: Global, name: &str, bytes: &[u8]) -> Result<(), PutFault> {
-        if self.written.contains(name) {
-            return Ok(());
-        }
         match outcome_of(write(&self.rt, alloc, self.folder.as_str(), name, bytes)) {
-            Outcome::Done(()) => {
-                note(alloc, &mut self.written, name);
-                Ok(())
-            }
+            Outcome::Done(()) => Ok(()),
             Outcome::Memory => Err(PutFault::Memory),
             Outcome::Absent | Outcome::Failed => {
                 self.faults = one_more(self.faults);
@@ -323,7 +285,6 @@ impl<R: Files + AllocGlobal + Clone + Drop + Send> Keeper for FolderKeeper<R> {
     }
 
     fn drop_name(&mut self, alloc: Global, name: &str) -> Result<(), PutFault> {
-        self.written.remove(name);
         match remove(&self.rt, alloc, self.folder.as_str(), name) {
             Outcome::Done(()) | Outcome::Absent => Ok(()),
             Outcome::Memory => Err(PutFault::Memory),
