@@ -1,5 +1,6 @@
 //! Builds of one specification, each compared with its whole answer.
 
+mod names;
 mod specifications;
 mod texts;
 

@@ -3,5 +3,5 @@
 mod names;
 mod workspaces;
 
-use engine_calls::{Files, bundle_of, check_made, check_refused, check_text};
+use engine_calls::{Files, bundle_of, check_made, check_refused};
 use std::test::Fail;

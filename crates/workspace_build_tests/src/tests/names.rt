@@ -1,38 +1,7 @@
-//! Faults of names in a specification and in a workspace.
+//! Faults of names in a workspace.
 
 use super::workspaces::{A, ALL, B};
 use super::*;
-
-/// Texts of a specification with a fault of names, each with the kind of the fault.
-const SPECIFICATIONS: &[(&str, &str)] = &[
-    ("DuplicateName", "const x = 1; const x = 2;"),
-    ("DuplicateName", "const x = y; function f(a, a) {}"),
-    ("UnknownName", "const x = y;"),
-    (
-        "UnknownName",
-        "const x = transformer.writeAllText({outputPath: p`out/a`, text: \"\"});",
-    ),
-    (
-        "UnknownName",
-        "const x = Transformer.writeAllText({outputPath: p`out/${a}`, text: \"\"});",
-    ),
-    (
-        "UnknownName",
-        "const x = Transformer[\"writeAllText\"]({outputPath: p`out/a`, text: \"\"});",
-    ),
-    ("UnknownName", "const x = importFrom(\"main\").y;"),
-    ("UnknownModule", "import * as m from \"A\";"),
-    ("UnknownModule", "const x = importFrom(\"A\").y;"),
-    ("AssignCaptured", "function f() { const x = 1; x = 2; }"),
-];
-
-#[test]
-fn refuses_a_name_in_a_specification(rt: HostRuntime) -> Result<(), Fail> {
-    for (kind, text) in SPECIFICATIONS {
-        check_text(&rt, rt.alloc(), text, kind, "")?;
-    }
-    Ok(())
-}
 
 /// The texts of `a/y.dsc` in a module `A` and of `b/x.dsc` in a module `B`, and the fault of their workspace.
 const WORKSPACES: &[(&str, &str, &str)] = &[
