@@ -21,12 +21,14 @@ fn is_healed<H: Threads + Wait + Sync>(
     )
 }
 
-/// Each record is kept by ten calls: the list is read, and then put are the weak text, the path set, the strong
-/// text, the executable, the two files that are read, the file that is made, the entry and the list.
+/// The first record is kept by ten calls: the list is read, and then put are the weak text, the path set, the
+/// strong text, the executable, the two files that are read, the file that is made, the entry and the list. The
+/// path set and the executable are those of the other two, too, which take eight calls and six, as the files
+/// that the last one reads were made by the others.
 #[test]
 fn leaves_out_a_record_where_a_call_of_the_keeper_fails(rt: HostRuntime) -> Result<(), Fail> {
     let alloc = rt.alloc();
-    for number in 1..=30 {
+    for number in 1..=24 {
         let mut keeper = MemKeeper::new(alloc, vec![in alloc; number]?);
         assert!(rt; is_so(&rt, alloc, &mut keeper, &three("build", ONE_FAULT))?);
         assert!(rt; is_healed(&rt, alloc, &mut keeper)?);
@@ -75,7 +77,7 @@ fn goes_on_after<H: Threads + Wait + Sync>(
 
 #[test]
 fn goes_on_over_what_another_build_left_half_done(rt: HostRuntime) -> Result<(), Fail> {
-    for calls in 0..=30 {
+    for calls in 0..=24 {
         assert!(rt; goes_on_after(&rt, rt.alloc(), calls)?);
     }
     Ok(())

@@ -89,7 +89,25 @@ fn make_folders<R: Files>(rt: &R, alloc: Global, folder: &str, name: &str) -> io
 fn write_synced<R: Files>(rt: &R, path: &str, bytes: &[u8]) -> io::Result<()> {
     let mut file = File::create(rt, path)?;
     file.write_all(bytes)?;
-    file.sync_all()
+    file.sync_data()
+}
+
+// Writes the file that is to get its name later, and makes the folders for it where they are missing.
+fn write_begun<R: Files>(
+    rt: &R,
+    alloc: Global,
+    folder: &str,
+    name: &str,
+    begun: &str,
+    bytes: &[u8],
+) -> io::Result<()> {
+    match write_synced(rt, begun, bytes) {
+        Err(error) if error.kind() == ErrorKind::NotFound => {
+            make_folders(rt, alloc, folder, name)?;
+            write_synced(rt, begun, bytes)
+        }
+        written => written,
+    }
 }
 
 // Writes the file of a name beside it, and then gives it its name. A stop at any moment leaves the old file
@@ -101,10 +119,9 @@ fn write<R: Files>(
     name: &str,
     bytes: &[u8],
 ) -> io::Result<()> {
-    make_folders(rt, alloc, folder, name)?;
     let path = path_of(alloc, folder, name)?;
     let begun = format!(in alloc; "{path}.new")?;
-    let written = write_synced(rt, begun.as_str(), bytes);
+    let written = write_begun(rt, alloc, folder, name, begun.as_str(), bytes);
     if written.is_err() {
         let _ = fs::remove_file(rt, begun.as_str());
         return written;

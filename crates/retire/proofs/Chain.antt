@@ -2,7 +2,7 @@
 use Rattle.std.proofs.Common.{◌≡◌, ◌⊎◌, ℕ, List, [], ◌∷◌, ◌++◌, Option, Some, refl, sym, ap, ◌∙◌, subst, inl, inr, append-nil}
 use Rattle.std.specs.List.{AllByRecursion}
 use Rattle.observed.specs.Members.{Has}
-use Rattle.bx_io.specs.Holdings.{Change, IsPrefix, Kept, after, kept_after}
+use Rattle.bx_io.specs.Holdings.{Change, Holdings, IsPrefix, Kept, after, kept_after}
 use Rattle.bx_io.proofs.Changes.{after-append, known_after-append, known_after-nil}
 use Rattle.run_record.specs.Facts.{Facts, Sound}
 use Rattle.memo_format.specs.Well.{HoldsBlob, HoldsEntry}
@@ -12,6 +12,7 @@ use Rattle.store_meaning.specs.Honest.{Honest}
 use Rattle.store_meaning.specs.Keeping.{IsGood, KeepMet, blobs_of, entry_of, selector_of, with_first}
 use Rattle.store_meaning.proofs.Added.{contents_added, entries_added}
 use Rattle.two_phase.specs.Putting.{LeavesHonest, PutsUpTo}
+use Rattle.two_phase.proofs.Applied.{Made, made_of}
 use Rattle.two_phase.proofs.Prefixes.{leaves_honest}
 use Rattle.retire.specs.Keeping.{PutsEach}
 
@@ -63,18 +64,18 @@ module _ (M : List ℕ → Type 0) (apart : Apart M) where
       met_of z h = elim h [ inl held ↦ within z held | inr put ↦ ready.met z put ]
 
   step_within : (before : Kept) (f : Facts) (between : Option Kept) → Within before → IsReady M f → (p : PutsUpTo (Some before) between f)
-      → Within (kept_after before p.made)
-  step_within before f between within ready p x h =
-      elim (contents_added before.held f (with_first (selector_of f) p.old) p.made p.first x h) [
+      → (done : Made before p.first between) → Within (kept_after before done.made)
+  step_within before f between within ready p done x h =
+      elim (contents_added before.held f (with_first (selector_of f) p.old) p.first p.is_first x (subst (λ (S : Holdings). HoldsBlob S x) done.same h)) [
         | inl old ↦ within x old
         | inr new ↦ ready.met x new
       ]
 
   step_entry : (before : Kept) (f : Facts) (between : Option Kept) (p : PutsUpTo (Some before) between f) (e : Entry)
-      → HoldsEntry (after before.held p.made) e → HoldsEntry before.held e ⊎ (e ≡ entry_of f)
+      → HoldsEntry (after before.held p.first) e → HoldsEntry before.held e ⊎ (e ≡ entry_of f)
   step_entry before f between p e h = elim p.spelled [
     | inl none ↦ inl (subst (λ (cs : List Change). HoldsEntry (after before.held cs) e) none h)
-    | inr spelled ↦ entries_added before.held f (with_first (selector_of f) p.old) p.made spelled p.first e h
+    | inr spelled ↦ entries_added before.held f (with_first (selector_of f) p.old) p.first spelled p.is_first e h
   ]
 
   -- ## All records
@@ -92,10 +93,11 @@ module _ (M : List ℕ → Type 0) (apart : Apart M) where
   chain (f ∷ fs) before now ready within honest p =
       let one : PutsUpTo (Some before) p.0 f = p.1 in
       let first : LeavesHonest before p.0 = leaves_honest before p.0 f ready.0.sound ready.0.good one honest (keep_apart before f within ready.0) in
-      let same : kept_after before one.made ≡ kept_after before first.made =
-      same_some (kept_after before one.made) (kept_after before first.made) (sym one.makes ∙ first.makes) in
+      let done : Made before one.first p.0 = made_of one.first before p.0 one.applies in
+      let same : kept_after before done.made ≡ kept_after before first.made =
+      same_some (kept_after before done.made) (kept_after before first.made) (sym done.makes ∙ first.makes) in
       let rest : Leaves (kept_after before first.made) fs now =
-      chain fs (kept_after before first.made) now ready.1 (subst Within same (step_within before f p.0 within ready.0 one))
+      chain fs (kept_after before first.made) now ready.1 (subst Within same (step_within before f p.0 within ready.0 one done))
       (first.along first.made (record { rest = []; joined = append-nil first.made }))
       (subst (λ (k : Option Kept). PutsEach k fs now) first.makes p.2) in
       record {
@@ -110,10 +112,11 @@ module _ (M : List ℕ → Type 0) (apart : Apart M) where
           ];
         };
         adds = λ kept is e h. elim (rest.adds kept is e h) [
-          | inl early ↦ elim (step_entry before f p.0 one e (subst (λ (k : Kept). HoldsEntry k.held e) (sym same) early)) [
-            | inl old ↦ inl old
-            | inr new ↦ inr (f, inl refl, new)
-          ]
+          | inl early ↦ elim (step_entry before f p.0 one e
+              (subst (λ (S : Holdings). HoldsEntry S e) done.same (subst (λ (k : Kept). HoldsEntry k.held e) (sym same) early))) [
+                | inl old ↦ inl old
+                | inr new ↦ inr (f, inl refl, new)
+              ]
           | inr late ↦ inr (late.0, inr late.1, late.2)
         ];
       }

@@ -5,7 +5,7 @@ use Rattle.pip_types.specs.declared.desc.Desc.{Desc}
 use Rattle.observed.specs.Members.{Has}
 use Rattle.observed.specs.declared.ask.Ask.{Ask}
 use Rattle.observed.specs.declared.access.Answer.{Answer}
-use Rattle.bx_io.specs.Holdings.{Kept, after, kept_after}
+use Rattle.bx_io.specs.Holdings.{Holdings, Kept, after, kept_after}
 use Rattle.run_record.specs.Facts.{Facts}
 use Rattle.memo_format.specs.Well.{HoldsBlob}
 use Rattle.memo_format.specs.declared.selector.Selector.{Selector}
@@ -17,6 +17,7 @@ use Rattle.store_meaning.proofs.Added.{contents_added}
 use Rattle.store_meaning.proofs.Again as again
 use Rattle.store_meaning.proofs.Stays.{stays_met}
 use Rattle.two_phase.specs.Putting.{PutsAll, planned}
+use Rattle.two_phase.proofs.Applied.{Made, made_of}
 use Rattle.retire.specs.Keeping.{PutsAllEach}
 use Rattle.retire.proofs.Chain.{IsReady}
 
@@ -49,6 +50,15 @@ module _ (M : List ℕ → Type 0) (apart : Apart M) where
         | inr put ↦ ready.met x put
       ]
 
+  -- what was made of all puts of a record
+  abbrev done : (before : Kept) (f : Facts) (between : Option Kept) (p : PutsAll (Some before) between f) → Made before (planned f p.old) between
+  done before f between p = made_of (planned f p.old) before between p.applies
+
+  done_within : (before : Kept) (f : Facts) (between : Option Kept) (p : PutsAll (Some before) between f) → Within before → IsReady M f
+      → Within (kept_after before (done before f between p).made)
+  done_within before f between p within ready x h =
+      next_within before f p.old within ready x (subst (λ (S : Holdings). HoldsBlob S x) (done before f between p).same h)
+
   -- ## A process that is usable
 
   module _ (d : Desc) (see : Ask → Answer) (s : Selector) (asks : List Ask) (asked : M (asked_text d see s.paths asks)) where
@@ -66,9 +76,10 @@ module _ (M : List ℕ → Type 0) (apart : Apart M) where
         subst (λ (k : Kept). UsableAt k.held d see s asks) (same_some before kept (sym p ∙ is)) u
     stay (f ∷ fs) before now ready others within p u kept is =
         let one : PutsAll (Some before) p.0 f = p.1 in
-        stay fs (next before f one.old) now ready.1 others.1 (next_within before f one.old within ready.0)
-        (subst (λ (k : Option Kept). PutsAllEach k fs now) one.makes p.2)
-        (stay_once before f one.old within ready.0 others.0 u) kept is
+        let step : Made before (planned f one.old) p.0 = done before f p.0 one in
+        stay fs (kept_after before step.made) now ready.1 others.1 (done_within before f p.0 one within ready.0)
+        (subst (λ (k : Option Kept). PutsAllEach k fs now) step.makes p.2)
+        (subst (λ (S : Holdings). UsableAt S d see s asks) (sym step.same) (stay_once before f one.old within ready.0 others.0 u)) kept is
 
   -- ## A record that was kept
 
@@ -85,13 +96,15 @@ module _ (M : List ℕ → Type 0) (apart : Apart M) where
   kept_stays [] before now ready others within p f h fit see as_now asked kept is = absurd h
   kept_stays (g ∷ gs) before now ready others within p f h fit see as_now asked kept is =
       let one : PutsAll (Some before) p.0 g = p.1 in
-      let later = subst (λ (k : Option Kept). PutsAllEach k gs now) one.makes p.2 in
-      let more : Within (next before g one.old) = next_within before g one.old within ready.0 in
+      let step : Made before (planned g one.old) p.0 = done before g p.0 one in
+      let later = subst (λ (k : Option Kept). PutsAllEach k gs now) step.makes p.2 in
+      let more : Within (kept_after before step.made) = done_within before g p.0 one within ready.0 in
       elim h [
         | inl same ↦
             subst (λ (x : Facts). UsableAt kept.held x.desc see (selector_of x) x.paths) same
             (stay g.desc see (selector_of g) g.paths (subst (λ (x : Facts). M (asked_text x.desc see (selector_of x).paths x.paths)) (sym same) asked)
-            gs (next before g one.old) now ready.1 others.0 more later
-            (own before g p.0 one within ready.0 (subst FilesFit (sym same) fit) see (subst (λ (x : Facts). x.answers ≡ map see x.paths) (sym same) as_now)) kept is)
-        | inr there ↦ kept_stays gs (next before g one.old) now ready.1 others.1 more later f there fit see as_now asked kept is
+            gs (kept_after before step.made) now ready.1 others.0 more later
+            (subst (λ (S : Holdings). UsableAt S g.desc see (selector_of g) g.paths) (sym step.same)
+            (own before g p.0 one within ready.0 (subst FilesFit (sym same) fit) see (subst (λ (x : Facts). x.answers ≡ map see x.paths) (sym same) as_now))) kept is)
+        | inr there ↦ kept_stays gs (kept_after before step.made) now ready.1 others.1 more later f there fit see as_now asked kept is
       ]

@@ -3,20 +3,28 @@ ghost use Rattle.std.specs.Prelude.{◌≡◌, ◌+◌, ◌≤◌, IfOk, IsSome,
 ghost use Rattle.std.specs.List.{AllByRecursion};
 ghost use Rattle.store_meaning.specs.Keeping.{IsGood};
 ghost use Rattle.retire.specs.Keeping.{IsSuccess, PutsAllEach, PutsFirst};
+ghost use Rattle.two_phase.specs.Held.{AreHeld};
 ghost use Rattle.two_phase.specs.Putting.{PutsAll, PutsUpTo};
 
 use crate::Memory;
 use bx_io::Keeper;
 use run_record::Record;
 use std::alloc::{AllocError, Global};
-use two_phase::{Kept, keep};
+use two_phase::{HeldContents, Kept, keep};
 
 // Keeps a record up to the first refusal; how many faults there were, one at most.
-fn keep_one<K: Keeper>(alloc: Global, keeper: &mut K, ran: &Record) -> Result<u64, Memory>
+fn keep_one<K: Keeper>(
+    alloc: Global,
+    keeper: &mut K,
+    held: &mut HeldContents,
+    ran: &Record,
+) -> Result<u64, Memory>
     requires good { IsGood ran.now }
+    requires held { AreHeld (K.known keeper.old) held.old }
     ensures all { IfOk result (λ faults. faults ≡ 0
         → PutsAll (K.known keeper.old) (K.known keeper.new) ran.now) }
     ensures first { PutsUpTo (K.known keeper.old) (K.known keeper.new) ran.now }
+    ensures held { AreHeld (K.known keeper.new) held.new }
     ensures bound { K.bound keeper.new ≡ K.bound keeper.old }
     ensures faults { IsSome (K.bound keeper.old)
         → IfOk result (λ faults. K.faults keeper.old + faults ≤ K.faults keeper.new) }
@@ -24,14 +32,15 @@ fn keep_one<K: Keeper>(alloc: Global, keeper: &mut K, ran: &Record) -> Result<u6
     ensures seen { IfOk result (λ faults. faults ≡ 0 → K.faults keeper.new ≡ K.faults keeper.old) }
     ensures later { K.faults keeper.old ≤ K.faults keeper.new }
 {
-    match keep(alloc, keeper, ran) {
+    match keep(alloc, keeper, held, ran) {
         Kept::Kept => Ok(0),
         Kept::Fault => Ok(1),
         Kept::Memory => Err(AllocError),
     }
 }
 
-// Keeps the records, one after another, each up to its first refusal; how many keeps failed.
+// Keeps the records, one after another, each up to its first refusal; how many keeps failed. A path set or a
+// content of a file that was put for one of them is not put again for another.
 pub(crate) fn keep_all<K: Keeper>(
     alloc: Global,
     keeper: &mut K,
@@ -48,9 +57,10 @@ pub(crate) fn keep_all<K: Keeper>(
     ensures seen { IfOk result (λ faults. faults ≡ 0 → K.faults keeper.new ≡ K.faults keeper.old) }
     ensures later { K.faults keeper.old ≤ K.faults keeper.new }
 {
+    let mut held = HeldContents::new(alloc);
     let mut faults = 0;
     'records: for ran in records {
-        let failed = keep_one(alloc, keeper, ran)?;
+        let failed = keep_one(alloc, keeper, &mut held, ran)?;
         faults += failed;
     }
     Ok(faults)

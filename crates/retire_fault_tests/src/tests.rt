@@ -28,9 +28,13 @@ fn is_one_fault(alloc: Global, number: u64) -> Result<bool, Fail> {
     Ok(good && is_healed(alloc, &mut keeper)?)
 }
 
+// The first record is kept by ten calls: the list is read, and then put are the weak text, the path set, the
+// strong text, the executable, the source file, the header, the object, the entry and the list. The second has
+// another path set, the executable of the first and an object like its source file: seven. The third has the
+// path set of the second, and reads the objects: seven.
 #[test]
 fn each_call_of_the_keeper_may_fail(rt: HostRuntime) -> Result<(), Fail> {
-    for number in 1..=29 {
+    for number in 1..=24 {
         assert!(rt; is_one_fault(rt.alloc(), number)?);
     }
     Ok(())
@@ -48,7 +52,7 @@ fn is_cut(alloc: Global, calls: u64) -> Result<bool, Fail> {
 
 #[test]
 fn a_store_that_a_build_left_half_serves_the_next(rt: HostRuntime) -> Result<(), Fail> {
-    for calls in 0..=29 {
+    for calls in 0..=24 {
         assert!(rt; is_cut(rt.alloc(), calls)?);
     }
     Ok(())

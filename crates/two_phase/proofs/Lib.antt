@@ -3,5 +3,7 @@ pub mod Fits
 pub mod Fetched
 pub mod Outputs
 pub mod Tried
+pub mod Applied
+pub mod Noted
 pub mod Prefixes
 pub mod Recorded

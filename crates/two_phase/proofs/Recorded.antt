@@ -71,27 +71,27 @@ all_joined c0 c1 c2 c3 c4 x y files given made h0 h1 hx h2 h3 h4 =
 
 -- ## All that is written
 
-pub written_is : (f : Facts) (w : Written) (d e : Desc) (ps : List Ask) (as' bs : List Answer) (files : Files)
+pub written_is : (f : Facts) (w : Written) (d e : Desc) (ps : List Ask) (paths_now : List ℕ) (as' bs : List Answer) (files : Files)
     → d ≡ f.desc → e ≡ f.desc → ps ≡ f.paths → as' ≡ f.answers → bs ≡ f.answers → files ≡ made_of f.outcome
     → w.weak.text.items ≡ weak_text (weak_parts d) → w.weak.digest ≡ sha256 w.weak.text.items → read_weak_text w.weak.text.items ≡ Some (weak_parts d)
-    → w.paths.text.items ≡ paths_text ps → w.paths.digest ≡ sha256 (paths_text ps) → read_paths_text w.paths.text.items ≡ Some ps
-    → w.strong.text.items ≡ strong_text (strong_parts w.weak.digest w.paths.digest as') → w.strong.digest ≡ sha256 w.strong.text.items
-    → w.entry.items ≡ entry_text (entry_with w.weak.digest w.paths.digest w.strong.digest files)
-    → read_entry_text w.entry.items ≡ Some (entry_with w.weak.digest w.paths.digest w.strong.digest files)
+    → w.paths ≡ paths_text ps → paths_now ≡ sha256 w.paths → read_paths_text w.paths ≡ Some ps
+    → w.strong.text.items ≡ strong_text (strong_parts w.weak.digest paths_now as') → w.strong.digest ≡ sha256 w.strong.text.items
+    → w.entry.items ≡ entry_text (entry_with w.weak.digest paths_now w.strong.digest files)
+    → read_entry_text w.entry.items ≡ Some (entry_with w.weak.digest paths_now w.strong.digest files)
     → w.contents.items ≡ desc_contents e ++ (given_contents bs ++ contents_of files) → IsWritten f w
-written_is f w d e ps as' bs files hd he hp ha hb hf weak weak_digest weak_read paths paths_digest_is paths_read strong strong_digest entry entry_read contents =
+written_is f w d e ps paths_now as' bs files hd he hp ha hb hf weak weak_digest weak_read paths paths_digest_is paths_read strong strong_digest entry entry_read contents =
     let weak_is : w.weak.text.items ≡ weak_text (weak_parts f.desc) = weak ∙ ap (λ (x : Desc). weak_text (weak_parts x)) hd in
     let weak_d : w.weak.digest ≡ weak_of f.desc = weak_digest ∙ ap sha256 weak_is in
-    let paths_is : w.paths.text.items ≡ paths_text f.paths = paths ∙ ap paths_text hp in
-    let paths_d : w.paths.digest ≡ paths_digest f = paths_digest_is ∙ ap (λ qs. sha256 (paths_text qs)) hp in
+    let paths_is : w.paths ≡ paths_text f.paths = paths ∙ ap paths_text hp in
+    let paths_d : paths_now ≡ paths_digest f = paths_digest_is ∙ ap sha256 paths_is in
     let strong_is : w.strong.text.items ≡ answers_text f =
     strong
-    ∙ ap (λ x. strong_text (strong_parts x w.paths.digest as')) weak_d
+    ∙ ap (λ x. strong_text (strong_parts x paths_now as')) weak_d
     ∙ ap (λ x. strong_text (strong_parts (weak_of f.desc) x as')) paths_d
     ∙ ap (λ (xs : List Answer). strong_text (strong_parts (weak_of f.desc) (paths_digest f) xs)) ha in
     let strong_d : w.strong.digest ≡ sha256 (answers_text f) = strong_digest ∙ ap sha256 strong_is in
-    let entry_same : entry_with w.weak.digest w.paths.digest w.strong.digest files ≡ entry_of f =
-    ap (λ x. entry_with x w.paths.digest w.strong.digest files) weak_d
+    let entry_same : entry_with w.weak.digest paths_now w.strong.digest files ≡ entry_of f =
+    ap (λ x. entry_with x paths_now w.strong.digest files) weak_d
     ∙ ap (λ x. entry_with (weak_of f.desc) x w.strong.digest files) paths_d
     ∙ ap (λ x. entry_with (weak_of f.desc) (paths_digest f) x files) strong_d
     ∙ ap (λ (fs : Files). entry_with (weak_of f.desc) (paths_digest f) (sha256 (answers_text f)) fs) hf in
@@ -100,7 +100,6 @@ written_is f w d e ps as' bs files hd he hp ha hb hf weak weak_digest weak_read 
       weak = weak_is;
       weak_digest = weak_d;
       paths = paths_is;
-      paths_is = paths_d;
       strong = strong_is;
       strong_digest = strong_d;
       contents = contents

@@ -2,7 +2,7 @@
 use Rattle.std.specs.Prelude.{◌≡◌, ◌⊎◌, ℕ, List, [], ◌∷◌, ◌++◌, map, Option, Some, None, ⊤}
 use Rattle.sha2.specs.Sha256.{sha256}
 use Rattle.observed.specs.Texts.{paths_text}
-use Rattle.bx_io.specs.Holdings.{Change, IsPrefix, Kept, Put, after, kept_after, known_after}
+use Rattle.bx_io.specs.Holdings.{Change, IsPrefix, Kept, Put, after, kept_after}
 use Rattle.run_record.specs.Facts.{Facts}
 use Rattle.memo_format.specs.declared.selector.Selector.{Selector}
 use Rattle.prints.specs.Processes.{weak_parts}
@@ -15,7 +15,8 @@ use Rattle.record_match.specs.Apart.{contents_of}
 use Rattle.record_match.specs.Digests.{weak_of}
 use Rattle.store_meaning.specs.Contents.{desc_contents, given_contents}
 use Rattle.store_meaning.specs.Honest.{Honest}
-use Rattle.store_meaning.specs.Keeping.{Spelled, answers_text, entry_of, list_at, made_of, paths_digest, puts_of, selector_of, with_first}
+use Rattle.store_meaning.specs.Keeping.{Spelled, answers_text, entry_of, list_at, made_of, puts_of, selector_of, with_first}
+use Rattle.two_phase.specs.Applying.{AppliesAll}
 use Rattle.two_phase.specs.declared.recording.Written.{Written}
 
 -- These selectors are held for the weak text, as far as that is known.
@@ -25,7 +26,7 @@ IsListAt (Some kept) weak list = list ≡ list_at kept.held weak
 
 -- the selector of what was written
 abbrev pub written_selector : Written → Selector
-written_selector w = record { paths = w.paths.digest; strong = w.strong.digest }
+written_selector w = record { paths = sha256 w.paths; strong = w.strong.digest }
 
 -- The text is that of the list that is held, with the selector of what was written first.
 pub record IsNextList (known : Option Kept) (w : Written) (text : List ℕ) : Type 0 where
@@ -42,8 +43,7 @@ planned f old = puts_of f (with_first (selector_of f) old)
 pub record IsWritten (f : Facts) (w : Written) : Type 0 where
   pub weak : w.weak.text.items ≡ weak_text (weak_parts f.desc)
   pub weak_digest : w.weak.digest ≡ weak_of f.desc
-  pub paths : w.paths.text.items ≡ paths_text f.paths
-  pub paths_is : w.paths.digest ≡ paths_digest f
+  pub paths : w.paths ≡ paths_text f.paths
   pub strong : w.strong.text.items ≡ answers_text f
   pub strong_digest : w.strong.digest ≡ sha256 (answers_text f)
   pub contents : w.contents.items
@@ -53,7 +53,7 @@ pub record IsWritten (f : Facts) (w : Written) : Type 0 where
 
 -- the texts and contents that were written
 abbrev pub all_blobs : Written → List (List ℕ)
-all_blobs w = w.weak.text.items ∷ w.paths.text.items ∷ w.strong.text.items ∷ w.contents.items
+all_blobs w = w.weak.text.items ∷ w.paths ∷ w.strong.text.items ∷ w.contents.items
 
 -- the puts of all that was written, and of the text of a list
 abbrev pub all_puts : Written → List ℕ → List Change
@@ -61,21 +61,21 @@ all_puts w list =
     map blob_put (all_blobs w)
     ++ (Put (at_entry w.strong.digest) w.entry.items ∷ Put (at_list w.weak.digest) list ∷ [])
 
--- The puts of the record were made up to some place, and nothing else; where any were made, the texts of the
--- record are read back.
+-- The puts of the record were made up to some place, but for those that would have changed nothing, and
+-- nothing else; where that is not the first place, the texts of the record are read back.
 pub record PutsUpTo (before now : Option Kept) (f : Facts) : Type 0 where
   pub old : List Selector
   pub old_is : IsListAt before (weak_of f.desc) old
-  pub made : List Change
-  pub first : IsPrefix made (planned f old)
-  pub makes : now ≡ known_after before made
-  pub spelled : (made ≡ []) ⊎ Spelled f
+  pub first : List Change
+  pub is_first : IsPrefix first (planned f old)
+  pub applies : AppliesAll before first now
+  pub spelled : (first ≡ []) ⊎ Spelled f
 
--- All puts of the record were made, and nothing else.
+-- All puts of the record were made, but for those that would have changed nothing, and nothing else.
 pub record PutsAll (before now : Option Kept) (f : Facts) : Type 0 where
   pub old : List Selector
   pub old_is : IsListAt before (weak_of f.desc) old
-  pub makes : now ≡ known_after before (planned f old)
+  pub applies : AppliesAll before (planned f old) now
   pub spelled : Spelled f
 
 -- These changes were made, and what is held was honest before them and after each.

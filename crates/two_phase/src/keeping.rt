@@ -1,19 +1,22 @@
 //! Keeps.
 ghost use Rattle.std.specs.Prelude.{◌≡◌, ◌∷◌, [], Err, IfOk, OnErr, OnOk, map};
 ghost use Rattle.sha2.specs.Sha256.{sha256};
-ghost use Rattle.bx_io.specs.Holdings.{MakesPrefix, Put, known_after};
+ghost use Rattle.bx_io.specs.Holdings.{Put, known_after};
 ghost use Rattle.content_store.specs.Contents.{blob_put};
 ghost use Rattle.memo_format.specs.Selectors.{read_selectors_text};
 ghost use Rattle.memo_format.specs.Well.{at_entry, at_list};
 ghost use Rattle.store_meaning.specs.Keeping.{IsGood, or_none, same_selector};
 ghost use Rattle.store_meaning.specs.Keeping.{with_first as first_of};
+ghost use Rattle.two_phase.specs.Applying.{Applies, AppliesAll, AppliesPrefix};
 ghost use Rattle.two_phase.specs.Calls.{Keeps};
+ghost use Rattle.two_phase.specs.Held.{AreHeld};
 ghost use Rattle.two_phase.specs.Putting.{IsListAt, IsNextList, PutsAll, PutsUpTo, all_blobs, all_puts};
 
+use crate::held::HeldContents;
 use crate::recording::{Written, write};
 use bx_digest::{Blob, Digest};
 use bx_io::{Got, Keeper, PutFault};
-use content_store::{blob_name, entry_name, list_name, put_blob};
+use content_store::{blob_name, entry_name, list_name};
 use memo_format::{FormatFault, MAX_SELECTORS, Selector, read_selectors, write_selectors};
 use prints::Printed;
 use run_record::Record;
@@ -22,7 +25,7 @@ use std::alloc::{AllocError, Global};
 /// The answer to a keep.
 #[derive(Clone, Copy, Debug, PartialEq, Eq)]
 pub enum Kept {
-    /// All puts were made.
+    /// All puts were made, but for those of contents that were held.
     Kept,
     /// The keeper failed, and the puts after that were not made.
     Fault,
@@ -82,49 +85,112 @@ fn held_list<K: Keeper>(
     }
 }
 
-// Puts a text under its digest.
-fn put_text<K: Keeper>(alloc: Global, keeper: &mut K, printed: &Printed) -> Result<(), PutFault>
-    requires { printed.now.digest ≡ sha256 printed.now.text.items }
-    ensures made { OnOk result (K.known keeper.new
-        ≡ known_after (K.known keeper.old) (blob_put printed.now.text.items ∷ [])) }
+// Puts bytes under their digest.
+fn put_bytes<K: Keeper>(
+    alloc: Global,
+    keeper: &mut K,
+    digest: &Digest,
+    bytes: &[u8],
+) -> Result<(), PutFault>
+    requires { digest.now ≡ sha256 bytes.now }
+    ensures made { OnOk result
+        (K.known keeper.new ≡ known_after (K.known keeper.old) (blob_put bytes.now ∷ [])) }
     ensures refused { OnErr result (K.known keeper.new ≡ K.known keeper.old) }
     ensures keeper { Keeps (K.bound keeper.old) (K.bound keeper.new) (K.faults keeper.old)
         (K.faults keeper.new) (result ≡ Err PutFault.Failed) }
 {
-    let name = blob_name(alloc, &printed.digest)?;
-    keeper.put(alloc, name.as_str(), printed.text.as_slice())
+    let name = blob_name(alloc, digest)?;
+    keeper.put(alloc, name.as_str(), bytes)
+}
+
+// Puts a text under its digest.
+fn put_text<K: Keeper>(
+    alloc: Global,
+    keeper: &mut K,
+    held: &mut HeldContents,
+    printed: &Printed,
+) -> Result<(), PutFault>
+    requires digest { printed.now.digest ≡ sha256 printed.now.text.items }
+    requires held { AreHeld (K.known keeper.old) held.old }
+    ensures made { OnOk result
+        (Applies (K.known keeper.old) (blob_put printed.now.text.items) (K.known keeper.new)) }
+    ensures refused { OnErr result (K.known keeper.new ≡ K.known keeper.old) }
+    ensures held { AreHeld (K.known keeper.new) held.new }
+    ensures keeper { Keeps (K.bound keeper.old) (K.bound keeper.new) (K.faults keeper.old)
+        (K.faults keeper.new) (result ≡ Err PutFault.Failed) }
+{
+    put_bytes(alloc, keeper, &printed.digest, printed.text.as_slice())?;
+    held.forget(&printed.digest);
+    Ok(())
+}
+
+// Puts a content under its digest, unless it is known to be held there.
+fn put_content<K: Keeper>(
+    alloc: Global,
+    keeper: &mut K,
+    held: &mut HeldContents,
+    content: &Blob,
+) -> Result<(), PutFault>
+    requires { AreHeld (K.known keeper.old) held.old }
+    ensures made { OnOk result
+        (Applies (K.known keeper.old) (blob_put content.now) (K.known keeper.new)) }
+    ensures refused { OnErr result (K.known keeper.new ≡ K.known keeper.old) }
+    ensures held { AreHeld (K.known keeper.new) held.new }
+    ensures keeper { Keeps (K.bound keeper.old) (K.bound keeper.new) (K.faults keeper.old)
+        (K.faults keeper.new) (result ≡ Err PutFault.Failed) }
+{
+    let digest = content.digest();
+    if held.has(&digest, content) {
+        return Ok(());
+    }
+    put_bytes(alloc, keeper, &digest, content.bytes())?;
+    held.note(alloc, &digest, content);
+    Ok(())
 }
 
 // Puts contents under their digests.
-fn put_contents<K: Keeper>(alloc: Global, keeper: &mut K, contents: &[Blob]) -> Result<(), PutFault>
+fn put_contents<K: Keeper>(
+    alloc: Global,
+    keeper: &mut K,
+    held: &mut HeldContents,
+    contents: &[Blob],
+) -> Result<(), PutFault>
+    requires { AreHeld (K.known keeper.old) held.old }
     ensures made { OnOk result
-        (K.known keeper.new ≡ known_after (K.known keeper.old) (map blob_put contents.now)) }
-    ensures first { MakesPrefix (K.known keeper.old) (K.known keeper.new) (map blob_put contents.now) }
+        (AppliesAll (K.known keeper.old) (map blob_put contents.now) (K.known keeper.new)) }
+    ensures first { AppliesPrefix (K.known keeper.old) (K.known keeper.new) (map blob_put contents.now) }
+    ensures held { AreHeld (K.known keeper.new) held.new }
     ensures keeper { Keeps (K.bound keeper.old) (K.bound keeper.new) (K.faults keeper.old)
         (K.faults keeper.new) (result ≡ Err PutFault.Failed) }
 {
     'contents: for blob in contents {
-        put_blob(alloc, keeper, blob)?;
+        put_content(alloc, keeper, held, blob)?;
     }
     Ok(())
 }
 
 // Puts the texts and the contents of a record.
-fn put_blobs<K: Keeper>(alloc: Global, keeper: &mut K, written: &Written) -> Result<(), PutFault>
+fn put_blobs<K: Keeper>(
+    alloc: Global,
+    keeper: &mut K,
+    held: &mut HeldContents,
+    written: &Written,
+) -> Result<(), PutFault>
     requires weak { written.now.weak.digest ≡ sha256 written.now.weak.text.items }
-    requires paths { written.now.paths.digest ≡ sha256 written.now.paths.text.items }
     requires strong { written.now.strong.digest ≡ sha256 written.now.strong.text.items }
+    requires held { AreHeld (K.known keeper.old) held.old }
     ensures made { OnOk result
-        (K.known keeper.new ≡ known_after (K.known keeper.old) (map blob_put (all_blobs written.now))) }
-    ensures first { MakesPrefix (K.known keeper.old) (K.known keeper.new)
+        (AppliesAll (K.known keeper.old) (map blob_put (all_blobs written.now)) (K.known keeper.new)) }
+    ensures first { AppliesPrefix (K.known keeper.old) (K.known keeper.new)
         (map blob_put (all_blobs written.now)) }
+    ensures held { AreHeld (K.known keeper.new) held.new }
     ensures keeper { Keeps (K.bound keeper.old) (K.bound keeper.new) (K.faults keeper.old)
         (K.faults keeper.new) (result ≡ Err PutFault.Failed) }
 {
-    put_text(alloc, keeper, &written.weak)?;
-    put_text(alloc, keeper, &written.paths)?;
-    put_text(alloc, keeper, &written.strong)?;
-    put_contents(alloc, keeper, written.contents.as_slice())
+    put_text(alloc, keeper, held, &written.weak)?;
+    put_content(alloc, keeper, held, &written.paths)?;
+    put_text(alloc, keeper, held, &written.strong)?;
+    put_contents(alloc, keeper, held, written.contents.as_slice())
 }
 
 // Puts the text of an entry under the strong digest.
@@ -160,19 +226,21 @@ fn put_list<K: Keeper>(
 fn put_all<K: Keeper>(
     alloc: Global,
     keeper: &mut K,
+    held: &mut HeldContents,
     written: &Written,
     list: &[u8],
 ) -> Result<(), PutFault>
     requires weak { written.now.weak.digest ≡ sha256 written.now.weak.text.items }
-    requires paths { written.now.paths.digest ≡ sha256 written.now.paths.text.items }
     requires strong { written.now.strong.digest ≡ sha256 written.now.strong.text.items }
+    requires held { AreHeld (K.known keeper.old) held.old }
     ensures made { OnOk result
-        (K.known keeper.new ≡ known_after (K.known keeper.old) (all_puts written.now list.now)) }
-    ensures first { MakesPrefix (K.known keeper.old) (K.known keeper.new) (all_puts written.now list.now) }
+        (AppliesAll (K.known keeper.old) (all_puts written.now list.now) (K.known keeper.new)) }
+    ensures first { AppliesPrefix (K.known keeper.old) (K.known keeper.new) (all_puts written.now list.now) }
+    ensures held { AreHeld (K.known keeper.new) held.new }
     ensures keeper { Keeps (K.bound keeper.old) (K.bound keeper.new) (K.faults keeper.old)
         (K.faults keeper.new) (result ≡ Err PutFault.Failed) }
 {
-    put_blobs(alloc, keeper, written)?;
+    put_blobs(alloc, keeper, held, written)?;
     put_entry(alloc, keeper, written)?;
     put_list(alloc, keeper, &written.weak.digest, list)
 }
@@ -190,7 +258,7 @@ fn next_list<K: Keeper>(
 {
     let old = held_list(alloc, keeper, &written.weak.digest)?;
     let selector = Selector {
-        paths: written.paths.digest,
+        paths: written.paths.digest(),
         strong: written.strong.digest,
     };
     let list = with_first(alloc, selector, old.as_slice())?;
@@ -199,28 +267,38 @@ fn next_list<K: Keeper>(
 }
 
 // Puts a record.
-fn put_record<K: Keeper>(alloc: Global, keeper: &mut K, ran: &Record) -> Result<(), PutFault>
-    requires { IsGood ran.now }
+fn put_record<K: Keeper>(
+    alloc: Global,
+    keeper: &mut K,
+    held: &mut HeldContents,
+    ran: &Record,
+) -> Result<(), PutFault>
+    requires good { IsGood ran.now }
+    requires held { AreHeld (K.known keeper.old) held.old }
     ensures made { OnOk result (PutsAll (K.known keeper.old) (K.known keeper.new) ran.now) }
     ensures first { PutsUpTo (K.known keeper.old) (K.known keeper.new) ran.now }
+    ensures held { AreHeld (K.known keeper.new) held.new }
     ensures keeper { Keeps (K.bound keeper.old) (K.bound keeper.new) (K.faults keeper.old)
         (K.faults keeper.new) (result ≡ Err PutFault.Failed) }
 {
     let written = write(alloc, ran)?;
     let list = next_list(alloc, keeper, &written)?;
-    put_all(alloc, keeper, &written, list.as_slice())
+    put_all(alloc, keeper, held, &written, list.as_slice())
 }
 
 /// Puts what a record of a success is: its texts and contents, then its entry, then the list of its process
-/// with its selector first. It stops at the first refusal.
-pub fn keep<K: Keeper>(alloc: Global, keeper: &mut K, ran: &Record) -> Kept
-    requires { IsGood ran.now }
+/// with its selector first. Path sets and contents of files that are noted as held are left out, and those
+/// that it puts are noted. It stops at the first refusal.
+pub fn keep<K: Keeper>(alloc: Global, keeper: &mut K, held: &mut HeldContents, ran: &Record) -> Kept
+    requires good { IsGood ran.now }
+    requires held { AreHeld (K.known keeper.old) held.old }
     ensures kept { result ≡ Kept.Kept → PutsAll (K.known keeper.old) (K.known keeper.new) ran.now }
     ensures first { PutsUpTo (K.known keeper.old) (K.known keeper.new) ran.now }
+    ensures held { AreHeld (K.known keeper.new) held.new }
     ensures keeper { Keeps (K.bound keeper.old) (K.bound keeper.new) (K.faults keeper.old)
         (K.faults keeper.new) (result ≡ Kept.Fault) }
 {
-    match put_record(alloc, keeper, ran) {
+    match put_record(alloc, keeper, held, ran) {
         Ok(()) => Kept::Kept,
         Err(PutFault::Failed) => Kept::Fault,
         Err(PutFault::Memory) => Kept::Memory,

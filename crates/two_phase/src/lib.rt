@@ -2,19 +2,22 @@
 //!
 //! A lookup goes through the selectors that a store has under the weak text of a process, and takes the first
 //! whose path set, asked now, gives its strong text, if the entry and all outputs are there. A keep puts what
-//! a run made: its texts and contents, then its entry, then the list of selectors. This crate depends on
-//! `store_meaning` for what is usable and what is put. It carries the promise that a hit is the first usable
-//! selector, that a miss says that there is none, and that a keep that is cut off made a prefix of its puts.
+//! a run made: its texts and contents, then its entry, then the list of selectors; contents that are held
+//! already are left out. This crate depends on `store_meaning` for what is usable and what is put. It carries
+//! the promise that a hit is the first usable selector, that a miss says that there is none, and that a keep
+//! that is cut off made a prefix of its puts, but for those that would change nothing.
 #![tactic(auto)]
 
 mod fetching;
 mod fitting;
+mod held;
 mod keeping;
 mod laws;
 mod recording;
 mod seeking;
 mod trouble;
 
+pub use held::HeldContents;
 pub use keeping::{Kept, keep};
 pub use laws::keeps_honest;
 pub use seeking::{Sought, lookup};

@@ -1,6 +1,5 @@
 //! The texts and contents that are put for a record.
 ghost use Rattle.std.specs.Prelude.{◌≡◌, ◌++◌, ◌∷◌, [], IfOk, OnOk, Some};
-ghost use Rattle.sha2.specs.Sha256.{sha256};
 ghost use Rattle.memo_format.specs.Entries.{entry_text, read_entry_text};
 ghost use Rattle.memo_format.specs.Found.{output_lines};
 ghost use Rattle.observed.specs.Texts.{paths_text, read_paths_text};
@@ -10,7 +9,7 @@ ghost use Rattle.store_meaning.specs.Contents.{answer_contents, desc_contents, g
 ghost use Rattle.store_meaning.specs.Keeping.{IsGood, entry_with, made_of as files_of};
 ghost use Rattle.two_phase.specs.Putting.{IsWritten};
 
-use bx_digest::{Blob, Digest, digest_of};
+use bx_digest::{Blob, Digest};
 use memo_format::{Entry, OutputLine, OutputLines, write_entry};
 use observed::{Answer, PathSet};
 use pip_types::{Desc, Made, MadeFile};
@@ -19,25 +18,25 @@ use run_record::{Outcome, Record};
 use std::alloc::{AllocError, Global};
 
 // What is put for a record, but for its list: the weak text, the path set's text and the strong text, each
-// with its digest, the contents that they and the entry name, and the text of the entry.
+// with its digest, the contents that they and the entry name, and the text of the entry. Many processes have
+// one path set, so its text is shared.
 #[derive(Drop)]
 pub(crate) struct Written {
     pub(crate) weak: Printed,
-    pub(crate) paths: Printed,
+    pub(crate) paths: Blob,
     pub(crate) strong: Printed,
     pub(crate) contents: Vec<Blob>,
     pub(crate) entry: Vec<u8>,
 }
 
 // The text of a path set, with its digest.
-fn print_paths(alloc: Global, paths: &PathSet) -> Result<Printed, AllocError>
-    ensures text { IfOk result (λ printed. printed.text.items ≡ paths_text paths.now) }
-    ensures digest { IfOk result (λ printed. printed.digest ≡ sha256 (paths_text paths.now)) }
-    ensures read { IfOk result (λ printed. read_paths_text printed.text.items ≡ Some paths.now) }
+fn print_paths(alloc: Global, paths: &PathSet) -> Result<Blob, AllocError>
+    ensures text { IfOk result (λ text. text ≡ paths_text paths.now) }
+    ensures read { IfOk result (λ text. read_paths_text text ≡ Some paths.now) }
 {
     let text = paths.text(alloc)?;
-    let digest = digest_of(text.as_slice());
-    Ok(Printed { text, digest })
+    let blob = Blob::hashed(alloc, text)?;
+    Ok(blob)
 }
 
 // Adds a content, shared.
@@ -151,8 +150,9 @@ pub(crate) fn write(alloc: Global, ran: &Record) -> Result<Written, AllocError>
     let made = made_by(ran.outcome());
     let weak = weak(alloc, ran.desc())?;
     let paths = print_paths(alloc, ran.paths())?;
-    let strong = strong_of(alloc, &weak.digest, &paths.digest, ran.answers())?;
-    let entry = entry_text_of(alloc, weak.digest, paths.digest, strong.digest, made)?;
+    let paths_digest = paths.digest();
+    let strong = strong_of(alloc, &weak.digest, &paths_digest, ran.answers())?;
+    let entry = entry_text_of(alloc, weak.digest, paths_digest, strong.digest, made)?;
     let contents = all_contents(alloc, ran.desc(), ran.answers(), made)?;
     Ok(Written {
         weak,

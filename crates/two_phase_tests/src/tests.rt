@@ -1,4 +1,6 @@
 //! Lookups and keeps over keepers in memory.
+ghost use Rattle.two_phase.specs.Held.{AreHeld};
+
 use bx_digest::Blob;
 use bx_io::{FailKeeper, KeepReader, Keeper, MemKeeper, OpenGate};
 use observed::{Answer, Ask, View};
@@ -7,7 +9,7 @@ use prints::read_weak;
 use run_record::{Outcome, Record, execute};
 use std::alloc::{AllocError, Global};
 use std::test::Fail;
-use two_phase::{Kept, Sought, keep, lookup};
+use two_phase::{HeldContents, Kept, Sought, keep, lookup};
 
 // A view that answers each ask alike.
 #[derive(Drop)]
@@ -64,17 +66,39 @@ fn record(alloc: Global, answer: &Answer) -> Result<Record, Fail> {
     Ok(execute(alloc, desc(alloc)?, 0, &mut view, &OpenGate)?)
 }
 
-fn keep_good<K: Keeper>(alloc: Global, keeper: &mut K, ran: &Record) -> Kept {
+fn keep_good<K: Keeper>(
+    alloc: Global,
+    keeper: &mut K,
+    held: &mut HeldContents,
+    ran: &Record,
+) -> Kept
+    requires { AreHeld (K.known keeper.old) held.old }
+    ensures { AreHeld (K.known keeper.new) held.new }
+{
     match ran.outcome() {
-        Outcome::Good(_) => keep(alloc, keeper, ran),
+        Outcome::Good(_) => keep(alloc, keeper, held, ran),
         Outcome::Failed(_) => Kept::Memory,
     }
 }
 
-// Keeps the run where each ask has this answer.
-fn keep_run<K: Keeper>(alloc: Global, keeper: &mut K, answer: &Answer) -> Result<Kept, Fail> {
+// Keeps the run where each ask has this answer, with what is held.
+fn keep_next<K: Keeper>(
+    alloc: Global,
+    keeper: &mut K,
+    held: &mut HeldContents,
+    answer: &Answer,
+) -> Result<Kept, Fail>
+    requires { AreHeld (K.known keeper.old) held.old }
+    ensures { AreHeld (K.known keeper.new) held.new }
+{
     let ran = record(alloc, answer)?;
-    Ok(keep_good(alloc, keeper, &ran))
+    Ok(keep_good(alloc, keeper, held, &ran))
+}
+
+// Keeps the run where each ask has this answer, alone.
+fn keep_run<K: Keeper>(alloc: Global, keeper: &mut K, answer: &Answer) -> Result<Kept, Fail> {
+    let mut held = HeldContents::new(alloc);
+    keep_next(alloc, keeper, &mut held, answer)
 }
 
 // The bytes of the one file of a hit; else a word for the answer.
@@ -164,6 +188,33 @@ fn what_is_cut_off_is_not_found(rt: HostRuntime) -> Result<(), Fail> {
     for number in 1..=8 {
         assert!(rt; is_cut_at(alloc, number)?);
     }
+    Ok(())
+}
+
+// Keeps two runs of the process, one after another; the answer to the second, where the first was kept.
+fn keep_both<K: Keeper>(alloc: Global, keeper: &mut K) -> Result<Kept, Fail> {
+    let mut held = HeldContents::new(alloc);
+    if keep_next(alloc, keeper, &mut held, &Answer::Absent)? != Kept::Kept {
+        return Ok(Kept::Memory);
+    }
+    keep_next(alloc, keeper, &mut held, &Answer::File)
+}
+
+// Keeps both over a keeper whose call with this number fails.
+fn second_kept(alloc: Global, number: u64) -> Result<Kept, Fail> {
+    let mut keeper = MemKeeper::new(alloc, vec![in alloc; number]?);
+    keep_both(alloc, &mut keeper)
+}
+
+// The first keep calls the keeper eight times. The second reads the list, and puts the weak text, the strong
+// text, its file, the entry and the list: the path set and the executable are held.
+#[test]
+fn contents_that_are_held_are_not_put_again(rt: HostRuntime) -> Result<(), Fail> {
+    let alloc = rt.alloc();
+    for number in 9..=14 {
+        assert_eq!(rt; second_kept(alloc, number)?, Kept::Fault);
+    }
+    assert_eq!(rt; second_kept(alloc, 15)?, Kept::Kept);
     Ok(())
 }
 

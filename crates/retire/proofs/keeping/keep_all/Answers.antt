@@ -7,6 +7,7 @@ pub records-init : goal.records-init
 records-init g c = record {
   all = λ none. refl;
   each = refl;
+  held = c.new-held.ensures (g.K.Keeper.known c.args.keeper.now);
   bound = refl;
   rose = λ some. omega arith;
   later = omega arith;
@@ -28,6 +29,7 @@ records-preserved g c =
       each =
           each_next c.args.records.now c.records.ran-index c.ran-item.result (g.K.Keeper.known c.args.keeper.now) (g.K.Keeper.known c.records.keeper)
           (g.K.Keeper.known c.keep_one.new.keeper) c.records-test.true c.ran-item.is inv.each step.first;
+      held = step.held;
       bound = step.bound ∙ inv.bound;
       rose = rose_more _ _ _ _ _ _ _ inv.bound inv.rose step.faults;
       later = let a = inv.later in let b = step.later in omega (arith, a, b);

@@ -1,5 +1,6 @@
 use Rattle.std.proofs.Common.{◌≡◌, ◌+◌, ◌≤◌, take}
 use Rattle.std.specs.Prelude.{IsSome}
+use Rattle.two_phase.specs.Held.{AreHeld}
 use Rattle.retire.specs.Keeping.{PutsAllEach, PutsEach}
 use Rattle.retire.proofs.keeping.keep_all.Given as goal
 
@@ -7,6 +8,7 @@ abbrev pub invariant-records : goal.invariant-records
 invariant-records g l = record {
   all : l.faults ≡ 0 → PutsAllEach (g.K.Keeper.known l.fn.keeper) (take l.ran-index l.records) (g.K.Keeper.known l.keeper);
   each : PutsEach (g.K.Keeper.known l.fn.keeper) (take l.ran-index l.records) (g.K.Keeper.known l.keeper);
+  held : AreHeld (g.K.Keeper.known l.keeper) l.held;
   bound : g.K.Keeper.bound l.keeper ≡ g.K.Keeper.bound l.fn.keeper;
   rose : IsSome (g.K.Keeper.bound l.fn.keeper) → g.K.Keeper.faults l.fn.keeper + l.faults ≤ g.K.Keeper.faults l.keeper;
   later : g.K.Keeper.faults l.fn.keeper ≤ g.K.Keeper.faults l.keeper;

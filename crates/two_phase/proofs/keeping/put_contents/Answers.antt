@@ -1,30 +1,30 @@
-use Rattle.std.proofs.Common.{map, sym}
-use Rattle.bx_io.proofs.Changes.{known_after-nil}
+use Rattle.std.proofs.Common.{map, refl}
 use Rattle.content_store.specs.Contents.{blob_put}
-use Rattle.two_phase.proofs.Prefixes.{blob_more, blobs_cut, blobs_whole, whole_made}
+use Rattle.two_phase.proofs.Applied.{blob_more, blobs_cut, blobs_whole, whole_applied}
 use Rattle.two_phase.proofs.Used.{keeps_none, keeps_on, ok_no_err}
 use Rattle.two_phase.proofs.keeping.put_contents.Goals as goal
 
 pub contents-init : goal.contents-init
 contents-init g c = record {
-  made = sym (known_after-nil (g.K.Keeper.known c.args.keeper.now));
+  made = refl;
+  held = c.requires;
   keeps = keeps_none (g.K.Keeper.bound c.args.keeper.now) (g.K.Keeper.faults c.args.keeper.now) ⊥ (λ e. e);
 }
 
 pub contents-preserved : goal.contents-preserved
 contents-preserved g c =
-    let put = c.in_ok-put_blob.ensures in
+    let put = c.in_ok-put_content.ensures in
     record {
-      made = blob_more (g.K.Keeper.known c.args.keeper.now) (g.K.Keeper.known c.contents.keeper) (g.K.Keeper.known c.put_blob.new.keeper) c.args.contents.now c.contents.blob-index
-          c.blob-item.result c.contents-test.true c.blob-item.is c.contents.invariant.made put.made;
-      keeps = keeps_on _ _ _ _ _ _ _ (ok_no_err _ _) c.contents.invariant.keeps
-          (record { bound_is = put.bound; can_rise = put.can_rise; fault_can_rise = put.failed_can_rise; cause = put.cause; no_fault = put.no_fault });
+      made = blob_more (g.K.Keeper.known c.args.keeper.now) (g.K.Keeper.known c.contents.keeper) (g.K.Keeper.known c.put_content.new.keeper) c.args.contents.now
+          c.contents.blob-index c.blob-item.result c.contents-test.true c.blob-item.is c.contents.invariant.made put.made;
+      held = put.held;
+      keeps = keeps_on _ _ _ _ _ _ _ (ok_no_err _ _) c.contents.invariant.keeps put.keeper;
     }
 
-pub returns-in_err-put_blob-clause-first : goal.returns-in_err-put_blob-clause-first
-returns-in_err-put_blob-clause-first g c =
-    blobs_cut (g.K.Keeper.known c.args.keeper.now) (g.K.Keeper.known c.contents.keeper) (g.K.Keeper.known c.put_blob.new.keeper) c.args.contents.now c.contents.blob-index
-    c.contents.invariant.made c.in_err-put_blob.ensures.refused
+pub returns-in_err-put_content-clause-first : goal.returns-in_err-put_content-clause-first
+returns-in_err-put_content-clause-first g c =
+    blobs_cut (g.K.Keeper.known c.args.keeper.now) (g.K.Keeper.known c.contents.keeper) (g.K.Keeper.known c.put_content.new.keeper) c.args.contents.now c.contents.blob-index
+    c.contents.invariant.made c.in_err-put_content.ensures.refused
 
 pub returns-clause-made : goal.returns-clause-made
 returns-clause-made g c =
@@ -32,5 +32,5 @@ returns-clause-made g c =
 
 pub returns-clause-first : goal.returns-clause-first
 returns-clause-first g c =
-    whole_made (g.K.Keeper.known c.args.keeper.now) (g.K.Keeper.known c.contents.keeper) (map blob_put c.args.contents.now)
+    whole_applied (g.K.Keeper.known c.args.keeper.now) (g.K.Keeper.known c.contents.keeper) (map blob_put c.args.contents.now)
     (blobs_whole (g.K.Keeper.known c.args.keeper.now) (g.K.Keeper.known c.contents.keeper) c.args.contents.now c.contents.blob-index c.contents-test.false c.contents.invariant.made)

@@ -6,9 +6,9 @@ use Rattle.two_phase.proofs.recording.write.Goals as goal
 
 pub returns : goal.returns
 returns c =
-    written_is c.args.ran.now _ c.desc.result.now c.desc-2.result.now c.paths.result.now c.answers.result.now c.answers-2.result.now c.made_by-made.result.now
+    written_is c.args.ran.now _ c.desc.result.now c.desc-2.result.now c.paths.result.now c.digest-paths_digest.result c.answers.result.now c.answers-2.result.now c.made_by-made.result.now
     c.desc.ensures.value c.desc-2.ensures.value c.paths.ensures c.answers.ensures.value c.answers-2.ensures.value
     (c.made_by-made.ensures ∙ ap (λ (o : Outcome). made_of o) c.outcome.ensures)
     c.in_ok-weak.ensures.text c.in_ok-weak.ensures.digest c.in_ok-weak.ensures.read
-    c.in_ok-paths.ensures.text c.in_ok-paths.ensures.digest c.in_ok-paths.ensures.read
+    c.in_ok-paths.ensures.text c.digest-paths_digest.ensures c.in_ok-paths.ensures.read
     c.in_ok-strong.ensures.text c.in_ok-strong.ensures.digest c.in_ok-entry.ensures.text c.in_ok-entry.ensures.read c.in_ok-contents.ensures

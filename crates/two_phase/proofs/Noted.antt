@@ -1,0 +1,187 @@
+-- Contents that a keeper is known to hold.
+use Rattle.std.proofs.Common.{◌≡◌, ◌⊎◌, ℕ, Bool, true, false, List, [], ◌∷◌, Option, Some, None, Result, Ok, Err, cond, refl, sym, ap, ◌∙◌, subst, inl, inr}
+use Rattle.std.proofs.lemmas.Bool.{cases_Bool, cond-true, cond-false}
+use Rattle.std.proofs.lemmas.Cmp.{eq_by_cmp_equiv, nat_list_cmp_total}
+use Rattle.std.proofs.lemmas.Map.Text.{is_eq-slice_cmp}
+use Rattle.std.proofs.lemmas.Slice.Eq.{bytes_eq-Decides}
+use Rattle.std.specs.BTreeMap.{BTreeMap, UpdatesBy, get_by}
+use Rattle.std.specs.Cmp.{Equal-is}
+use Rattle.std.specs.Cmp.Lexicographic.{slice_cmp}
+use Rattle.std.specs.FinMap.{get, insert, get-insert, same_map, slice_cmp-IsAntisymmetric, nat_cmp-IsAntisymmetric}
+use Rattle.std.specs.Map.{AreApart, IsKeyTest, KeepsOthers, lookup}
+use Rattle.std.specs.Ordering.{eq_by_cmp, is_eq, nat_cmp}
+use Rattle.std.specs.Prelude.{OnErr, OnOk}
+use Rattle.std.specs.Str.{bytes_eq}
+use Rattle.std.specs.declared.alloc.Global.{Global}
+use Rattle.std.specs.declared.vec.Vec.{Vec}
+use Rattle.sha2.specs.Sha256.{sha256}
+use Rattle.bx_io.specs.Holdings.{Holdings, Kept, Put, known_after}
+use Rattle.bx_io.specs.declared.keeper.PutFault.{PutFault}
+use Rattle.memo_format.specs.Well.{HoldsBlob, at_blob, at_entry, at_list}
+use Rattle.content_store.specs.Contents.{IsContent, blob_put}
+use Rattle.record_match.proofs.Digest.{is_digest}
+use Rattle.store_meaning.proofs.Digests.{blob_no_entry, blob_no_list, same_blob_name}
+use Rattle.store_meaning.proofs.Puts.{still_there, there_now}
+use Rattle.two_phase.specs.Applying.{Applies, IsNoOp}
+use Rattle.two_phase.specs.Held.{AreHeld, Notes, noted_at}
+use Rattle.two_phase.specs.declared.held.HeldContents.{HeldContents}
+
+-- ## The table
+
+other_entries : {K X : Type 0} (eq : K → K → Bool) (test : K → Bool) (old new : List (K × X)) → KeepsOthers eq test old new → (other : K → Bool) → IsKeyTest eq other
+    → AreApart test other → lookup other new ≡ lookup other old
+unfolding KeepsOthers
+other_entries eq test old new kept = kept
+
+-- a digest that differs from that of an entry is not at it
+apart : (key q k : List ℕ) → bytes_eq key q ≡ false → is_eq (slice_cmp nat_cmp key k) ≡ true → is_eq (slice_cmp nat_cmp q k) ≡ false
+apart key q k n y =
+    let at = (bytes_eq-Decides key k).0 (sym (is_eq-slice_cmp key k) ∙ y) in
+    elim (cases_Bool (bytes_eq q k)) [
+      | inl t ↦
+          let same : key ≡ q = at ∙ sym ((bytes_eq-Decides q k).0 t) in
+          let both : bytes_eq key q ≡ true = (bytes_eq-Decides key q).1 same in
+          cc
+      | inr f ↦ is_eq-slice_cmp q k ∙ f
+    ]
+
+same_or_other : (a b : List ℕ) → (a ≡ b) ⊎ (a ≡ b → ⊥)
+same_or_other a b = elim (cases_Bool (bytes_eq a b)) [
+  | inl t ↦ inl ((bytes_eq-Decides a b).0 t)
+  | inr f ↦ inr (λ same. let both : bytes_eq a b ≡ true = (bytes_eq-Decides a b).1 same in absurd cc)
+]
+
+not_equal : (a b : List ℕ) → (a ≡ b → ⊥) → bytes_eq a b ≡ false
+not_equal a b other = elim (cases_Bool (bytes_eq a b)) [
+  | inl t ↦ absurd (other ((bytes_eq-Decides a b).0 t))
+  | inr f ↦ f
+]
+
+abbrev Updated : List ℕ → HeldContents → HeldContents → Option (List ℕ) → Type 0
+Updated key old new value =
+    UpdatesBy (λ a b. slice_cmp nat_cmp a.items b.items) (λ k. slice_cmp nat_cmp key k.items) old.contents new.contents value
+
+other_noted : (key : List ℕ) (old new : HeldContents) (value : Option (List ℕ)) → Updated key old new value → (q : List ℕ) → (key ≡ q → ⊥)
+    → noted_at new q ≡ noted_at old q
+other_noted key old new value h q other =
+    other_entries _ _ old.contents.entries new.contents.entries h.3 _ (λ a b. (eq_by_cmp_equiv nat_list_cmp_total).congr q a.items b.items)
+    (λ k. apart key q k.items (not_equal key q other))
+
+same_some : {X : Type 0} (x y : X) → Some x ≡ Some y → x ≡ y
+same_some x y e = cc
+
+pub forgotten : (digest key : List ℕ) (old new : HeldContents) → key ≡ digest → Updated key old new None → (content : List ℕ) → Notes old new digest content
+forgotten digest key old new is h content = record {
+  here = λ other there. let none : noted_at new digest ≡ None = ap (noted_at new) (sym is) ∙ h.1 in absurd cc;
+  others = λ q apart. other_noted key old new None h q (λ e. apart (sym is ∙ e));
+}
+
+pub noted : (digest key content value : List ℕ) (old new : HeldContents) → key ≡ digest → value ≡ content → Updated key old new (Some value)
+    → Notes old new digest content
+noted digest key content value old new is same h = record {
+  here = λ other there. same_some other content (sym there ∙ ap (noted_at new) (sym is) ∙ h.1 ∙ ap Some same);
+  others = λ q apart. other_noted key old new (Some value) h q (λ e. apart (sym is ∙ e));
+}
+
+pub unchanged : (old new : HeldContents) → new.contents.entries ≡ old.contents.entries → (q : List ℕ) → noted_at new q ≡ noted_at old q
+unchanged old new same q = ap (λ es. lookup (λ k. is_eq (slice_cmp nat_cmp q k.items)) es) same
+
+pub on_err : {X E : Type 0} (P : Type 0) (r : Result X E) → P → OnErr r P
+on_err P (Ok x) p = tt
+on_err P (Err e) p = p
+
+-- what is at the digest was taken out, and the content was noted there or not
+pub noted_or_none : {E : Type 0} (digest content : List ℕ) (old between new : HeldContents) (r : Result (Unit {0}) E) → Notes old between digest content
+    → OnOk r (Notes between new digest content) → OnErr r ((q : List ℕ) → noted_at new q ≡ noted_at between q) → Notes old new digest content
+noted_or_none digest content old between new (Ok x) first next same = record {
+  here = next.here;
+  others = λ q apart. next.others q apart ∙ first.others q apart;
+}
+noted_or_none digest content old between new (Err e) first next same = record {
+  here = λ other there. first.here other (sym (same digest) ∙ there);
+  others = λ q apart. same q ∙ first.others q apart;
+}
+
+-- ## What is held
+
+same_holdings : (S T : Holdings) → ((q : List ℕ) → get S q ≡ get T q) → S ≡ T
+same_holdings = same_map nat_list_cmp_total (slice_cmp-IsAntisymmetric nat_cmp-IsAntisymmetric)
+
+same_name : (q name : List ℕ) → eq_by_cmp (slice_cmp nat_cmp) q name ≡ true → q ≡ name
+same_name q name e = slice_cmp-IsAntisymmetric nat_cmp-IsAntisymmetric q name ((Equal-is (slice_cmp nat_cmp q name)).0 e)
+
+held_there : (b : Bool) (S : Holdings) (name bytes q : List ℕ) → eq_by_cmp (slice_cmp nat_cmp) q name ≡ b → get S name ≡ Some bytes
+    → cond b (Some bytes) (get S q) ≡ get S q
+held_there true S name bytes q e there = sym there ∙ ap (get S) (sym (same_name q name e))
+held_there false S name bytes q e there = refl
+
+-- a put of what is held changes nothing
+put_again : (S : Holdings) (name bytes : List ℕ) → get S name ≡ Some bytes → insert S name bytes ≡ S
+put_again S name bytes there =
+    same_holdings (insert S name bytes) S
+    (λ q. get-insert nat_list_cmp_total S name bytes q ∙ held_there (eq_by_cmp (slice_cmp nat_cmp) q name) S name bytes q refl there)
+
+pub no_op : (known : Option Kept) (h : HeldContents) (digest content : List ℕ) → AreHeld known h → noted_at h digest ≡ Some content
+    → IsNoOp known (blob_put content)
+no_op None h digest content held there = tt
+no_op (Some kept) h digest content held there = put_again kept.held (at_blob (sha256 content)) content (held digest content there).held
+
+pub left_out : (known : Option Kept) (h : HeldContents) (digest content : List ℕ) → AreHeld known h → noted_at h digest ≡ Some content
+    → Applies known (blob_put content) known
+left_out known h digest content held there = inr (refl, no_op known h digest content held there)
+
+-- nothing was put
+pub held_still : (before now : Option Kept) (h : HeldContents) → now ≡ before → AreHeld before h → AreHeld now h
+held_still before now h same held = subst (λ (k : Option Kept). AreHeld k h) (sym same) held
+
+-- a content was put, and noted or forgotten
+pub held_noted : (before now : Option Kept) (old new : HeldContents) (digest content : List ℕ) → digest ≡ sha256 content → AreHeld before old
+    → now ≡ known_after before (blob_put content ∷ []) → Notes old new digest content → AreHeld now new
+held_noted None now old new digest content is held put notes = subst (λ (k : Option Kept). AreHeld k new) (sym put) tt
+held_noted (Some kept) now old new digest content is held put notes =
+    subst (λ (k : Option Kept). AreHeld k new) (sym put) (λ q x there. elim (same_or_other digest q) [
+      | inl same ↦
+          let new_one : x ≡ content = notes.here x (ap (noted_at new) same ∙ there) in
+          record {
+            held = subst (HoldsBlob (insert kept.held (at_blob (sha256 content)) content)) (sym new_one) (there_now kept.held (at_blob (sha256 content)) content);
+            digest_is = ap sha256 new_one ∙ sym is ∙ same;
+          }
+      | inr other ↦
+          let old_one : IsContent kept.held q x = held q x (sym (notes.others q other) ∙ there) in
+          record {
+            held = still_there kept.held (at_blob (sha256 content)) content (at_blob (sha256 x)) x
+                (λ e. absurd (other (is ∙ sym (same_blob_name (sha256 x) (sha256 content) (is_digest x) (is_digest content) e) ∙ old_one.digest_is))) old_one.held;
+            digest_is = old_one.digest_is;
+          }
+    ])
+
+held_beside : (before now : Option Kept) (h : HeldContents) (name bytes : List ℕ) → ((digest : List ℕ) → at_blob digest ≡ name → ⊥) → AreHeld before h
+    → now ≡ known_after before (Put name bytes ∷ []) → AreHeld now h
+held_beside None now h name bytes none held put = subst (λ (k : Option Kept). AreHeld k h) (sym put) tt
+held_beside (Some kept) now h name bytes none held put =
+    subst (λ (k : Option Kept). AreHeld k h) (sym put) (λ q x there.
+    let old_one : IsContent kept.held q x = held q x there in
+    record {
+      held = still_there kept.held name bytes (at_blob (sha256 x)) x (λ e. absurd (none (sha256 x) e)) old_one.held;
+      digest_is = old_one.digest_is;
+    })
+
+-- an entry or a list was put
+pub held_by_entry : (before now : Option Kept) (h : HeldContents) (strong bytes : List ℕ) → AreHeld before h
+    → now ≡ known_after before (Put (at_entry strong) bytes ∷ []) → AreHeld now h
+held_by_entry before now h strong bytes held put = held_beside before now h (at_entry strong) bytes (λ digest e. blob_no_entry digest strong e) held put
+
+held_by_list : (before now : Option Kept) (h : HeldContents) (weak bytes : List ℕ) → AreHeld before h
+    → now ≡ known_after before (Put (at_list weak) bytes ∷ []) → AreHeld now h
+held_by_list before now h weak bytes held put = held_beside before now h (at_list weak) bytes (λ digest e. blob_no_list digest weak e) held put
+
+pub held_then_list : (before now : Option Kept) (h : HeldContents) (weak bytes : List ℕ) (r : Result (Unit {0}) PutFault) → AreHeld before h
+    → OnOk r (now ≡ known_after before (Put (at_list weak) bytes ∷ [])) → OnErr r (now ≡ before) → AreHeld now h
+held_then_list before now h weak bytes (Ok x) held put refused = held_by_list before now h weak bytes held put
+held_then_list before now h weak bytes (Err e) held put refused = held_still before now h refused held
+
+-- nothing is noted
+pub none_noted : (known : Option Kept) (h : HeldContents) → h.contents.entries ≡ [] → AreHeld known h
+none_noted None h none = tt
+none_noted (Some kept) h none =
+    λ q x there. let nothing : noted_at h q ≡ None = ap (λ es. lookup (λ k. is_eq (slice_cmp nat_cmp q k.items)) es) none in absurd cc

@@ -1,0 +1,60 @@
+//! Contents that a keeper is known to hold.
+ghost use Rattle.std.specs.Prelude.{◌≡◌, ℕ, IsTrue, List, OnErr, OnOk, Option, Some};
+ghost use Rattle.bx_io.specs.Holdings.{Kept as KeptParts};
+ghost use Rattle.two_phase.specs.Held.{AreHeld, Notes, noted_at};
+
+use bx_digest::{Blob, Digest};
+use std::alloc::{AllocError, Global};
+use std::collections::BTreeMap;
+
+/// Contents that were put into a keeper, shared, by their digests: they are not put again. A keeper of which a
+/// name was dropped needs a new table.
+#[derive(Drop)]
+pub struct HeldContents {
+    contents: BTreeMap<Vec<u8>, Blob>,
+}
+
+impl HeldContents {
+    /// No content is known to be held.
+    pub fn new(alloc: Global) -> HeldContents
+        ensures { (known : Option KeptParts) → AreHeld known result }
+    {
+        HeldContents {
+            contents: BTreeMap::new(alloc),
+        }
+    }
+
+    // Whether this content is noted at the digest.
+    pub(crate) fn has(&self, digest: &Digest, content: &Blob) -> bool
+        ensures { IsTrue result → noted_at self.now digest.now ≡ Some content.now }
+    {
+        match self.contents.get(digest.bytes()) {
+            Some(noted) => noted.bytes() == content.bytes(),
+            None => false,
+        }
+    }
+
+    // Takes out what is noted at a digest.
+    pub(crate) fn forget(&mut self, digest: &Digest)
+        ensures { (content : List ℕ) → Notes self.old self.new digest.now content }
+    {
+        self.contents.remove(digest.bytes());
+    }
+
+    fn add(&mut self, alloc: Global, digest: &Digest, content: &Blob) -> Result<(), AllocError>
+        ensures added { OnOk result (Notes self.old self.new digest.now content.now) }
+        ensures refused { OnErr result ((q : List ℕ) → noted_at self.new q ≡ noted_at self.old q) }
+    {
+        let key = Vec::from_slice(alloc, digest.bytes())?;
+        self.contents.insert(key, content.share()?)?;
+        Ok(())
+    }
+
+    // Notes a content at its digest. Where there is no memory for it, nothing is noted there.
+    pub(crate) fn note(&mut self, alloc: Global, digest: &Digest, content: &Blob)
+        ensures { Notes self.old self.new digest.now content.now }
+    {
+        self.forget(digest);
+        let _ = self.add(alloc, digest, content);
+    }
+}
