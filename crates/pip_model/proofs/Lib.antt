@@ -5,3 +5,4 @@ pub mod EdgesBack
 pub mod Planning
 pub mod ByText
 pub mod OutputsFound
+pub mod NearTexts

@@ -5,3 +5,4 @@ pub mod Plans
 pub mod Inputs
 pub mod Rows
 pub mod Outputs
+pub mod Listings

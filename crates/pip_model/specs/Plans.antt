@@ -6,6 +6,7 @@ use Rattle.pip_types.specs.declared.pip.Pip.{Pip}
 use Rattle.pip_model.specs.declared.plan.TheConstants.{MAX_PIPS}
 use Rattle.pip_model.specs.Edges.{Edge}
 use Rattle.pip_model.specs.Bits.{HasBit}
+use Rattle.pip_model.specs.Listings.{HasListingsOf}
 use Rattle.pip_model.specs.Outputs.{HasOutputsOf, Table}
 use Rattle.pip_model.specs.Walks.{Walk}
 
@@ -34,9 +35,10 @@ pub record PlanData : Type 0 where
   pub tool_budget : ℕ
 
 -- what a plan keeps of its pips
-pub record KeepsPlan (pips : List Pip) (inputs rows : List (List ℕ)) (outputs : Table) : Type 0 where
+pub record KeepsPlan (pips : List Pip) (inputs rows : List (List ℕ)) (outputs listings : Table) : Type 0 where
   pub few : length pips ≤ MAX_PIPS
   pub all_inputs : AreAllInputs pips inputs
   pub all_rows : length rows ≡ length pips
   pub reach : (i : ℕ) → i < length pips → HoldsAt (IsReachOf (Edge pips) i) rows i
   pub outputs_of : HasOutputsOf pips outputs
+  pub listings_of : HasListingsOf pips listings

@@ -1,16 +1,19 @@
 //! The plan of a build: its pips, which of them each one waits for, and what each can produce.
 //!
 //! This crate depends on `pip_types`, which it re-exports, on `bx_tree` and on `bx_digest`. Its invariant: the
-//! inputs and the reachability that a `Plan` keeps are those that its definitions read off the list of pips.
+//! inputs, the outputs and the reachability that a `Plan` keeps are those of its list of pips, and each seal is
+//! found by the files that it lists, where a pip takes many directories.
 #![tactic(auto)]
 
 mod bits;
 mod edges;
+mod listings;
 mod outputs;
 mod plan;
 mod producing;
 mod reach;
 
+pub use listings::FEW_DIRS;
 pub use pip_types::{
     Arguments, CopyDesc, Desc, DirInput, DirInputs, EnvPair, FileInputs, Made, MadeFile, Memory,
     OutDir, OutDirs, Outputs, Pip, PipKind, PipList, ProcessDesc, SealDesc, SealForm, Slot,

@@ -1,7 +1,10 @@
 //! The pips by the paths of their outputs, so that those at a path are found without going through all pips.
-ghost use Rattle.std.specs.Prelude.{◌≡◌, ◌++◌, ◌≤◌, ℕ, List, length, IfOk, OnOk};
+ghost use Rattle.std.specs.Prelude.{◌≡◌, ◌++◌, ◌∷◌, [], ◌≤◌, ℕ, List, Contains, length, IfOk, OnOk};
+ghost use Rattle.std.specs.Prelude.{if◌then◌else◌};
 ghost use Rattle.std.specs.BTreeMap.{IsEmpty};
 ghost use Rattle.std.specs.Option.{option_to_list};
+ghost use Rattle.std.specs.Str.{bytes_eq};
+ghost use Rattle.pip_model.specs.Listings.{KeepsFound};
 ghost use Rattle.pip_model.specs.Outputs.{HasOutputsOf, dir_paths, found_in, number_at};
 ghost use Rattle.pip_model.specs.Outputs.{numbers_at, output_paths};
 
@@ -10,23 +13,23 @@ use pip_types::{OutDir, Pip, PipKind};
 use std::alloc::{AllocError, Global};
 use std::collections::BTreeMap;
 
-/// The numbers of pips by the text of the path of each output. Contracts see the table.
+/// Numbers of pips by the texts of paths. Contracts see the table.
 #[derive(Drop)]
-pub(crate) struct ByOutput {
+pub(crate) struct ByText {
     pub(crate) table: BTreeMap<Vec<u8>, Vec<u32>>,
 }
 
-impl ByOutput {
-    // No pips.
-    fn new(alloc: Global) -> ByOutput
+impl ByText {
+    /// No pips.
+    pub(crate) fn new(alloc: Global) -> ByText
         ensures { IsEmpty result.table }
     {
-        ByOutput {
+        ByText {
             table: BTreeMap::new(alloc),
         }
     }
 
-    /// The pips with an output whose path has this text.
+    /// The numbers at this text.
     pub(crate) fn at(&self, text: &[u8]) -> &[u32]
         ensures { result.now ≡ found_in self.now.table text.now }
     {
@@ -36,17 +39,35 @@ impl ByOutput {
         }
     }
 
-    // Adds a pip at the path of one of its outputs.
-    fn add(&mut self, alloc: Global, number: u32, path: &Path) -> Result<(), AllocError>
-        ensures { OnOk result ((text : List ℕ) → found_in self.new.table text
-            ≡ found_in self.old.table text ++ number_at number text path.now) }
+    // Adds a number at a text.
+    fn add_at(&mut self, alloc: Global, number: u32, text: &[u8]) -> Result<(), AllocError>
+        ensures { OnOk result ((other : List ℕ) → found_in self.new.table other
+            ≡ found_in self.old.table other ++ (if bytes_eq text.now other then number ∷ [] else [])) }
     {
-        let text = path.text().as_bytes();
         let mut numbers = self.table.remove(text).unwrap_or(Vec::new(alloc));
         numbers.push(number)?;
         let key = Vec::from_slice(alloc, text)?;
         self.table.insert(key, numbers)?;
         Ok(())
+    }
+
+    /// Adds a number at a text, if it is not the last one there.
+    pub(crate) fn note(&mut self, alloc: Global, number: u32, text: &[u8]) -> Result<(), AllocError>
+        ensures kept { OnOk result (KeepsFound self.old.table self.new.table) }
+        ensures noted { OnOk result (Contains (found_in self.new.table text.now) number) }
+    {
+        if self.at(text).last() == Some(&number) {
+            return Ok(());
+        }
+        self.add_at(alloc, number, text)
+    }
+
+    // Adds a pip at the path of one of its outputs.
+    fn add(&mut self, alloc: Global, number: u32, path: &Path) -> Result<(), AllocError>
+        ensures { OnOk result ((text : List ℕ) → found_in self.new.table text
+            ≡ found_in self.old.table text ++ number_at number text path.now) }
+    {
+        self.add_at(alloc, number, path.text().as_bytes())
     }
 
     // Adds a pip at each of these paths.
@@ -106,11 +127,11 @@ impl ByOutput {
 }
 
 /// The pips by their outputs.
-pub(crate) fn by_output(alloc: Global, pips: &[Pip]) -> Result<ByOutput, AllocError>
+pub(crate) fn by_output(alloc: Global, pips: &[Pip]) -> Result<ByText, AllocError>
     requires { length pips.now ≤ u32.MAX }
     ensures { IfOk result (λ found. HasOutputsOf pips.now found.table) }
 {
-    let mut found = ByOutput::new(alloc);
+    let mut found = ByText::new(alloc);
     'pips: for (place, pip) in pips.iter().enumerate() {
         found.add_pip(alloc, place as u32, &pip.kind)?;
     }

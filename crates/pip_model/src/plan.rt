@@ -1,13 +1,15 @@
 //! The plan of a build.
-ghost use Rattle.std.specs.Prelude.{◌≡◌, ◌↔◌, ◌<◌, ◌≤◌, length, All, IsTrue, IfOk};
+ghost use Rattle.std.specs.Prelude.{◌≡◌, ◌↔◌, ◌<◌, ◌≤◌, ℕ, true, length, All, Contains, IsTrue, IfOk};
 ghost use Rattle.pip_types.specs.Makers.{IsPipList};
 ghost use Rattle.pip_model.specs.Edges.{CanProduce, Leads};
+ghost use Rattle.pip_model.specs.Listings.{ListsNear, has_wide};
 ghost use Rattle.pip_model.specs.Outputs.{numbers_from};
 ghost use Rattle.pip_model.specs.Plans.{AreInputs};
 
 use crate::bits::{BitSet, WORD_BITS};
 use crate::edges::{Inputs, all_inputs};
-use crate::outputs::{ByOutput, by_output};
+use crate::listings::by_listing;
+use crate::outputs::{ByText, by_output};
 use crate::producing::produces;
 use crate::reach::all_rows;
 use bx_tree::Path;
@@ -26,7 +28,8 @@ pub struct Plan {
     tool_budget: u64,
     inputs: Vec<Inputs>,
     reach: Vec<BitSet>,
-    outputs: ByOutput,
+    outputs: ByText,
+    listings: ByText,
 }
 
 impl Model for Plan {
@@ -36,7 +39,7 @@ impl Model for Plan {
 
     ghost view = { λ p. record { pips = p.pips; tool_budget = p.tool_budget } };
 
-    ghost invariant = { λ p. KeepsPlan p.pips p.inputs.items p.reach.items p.outputs.table };
+    ghost invariant = { λ p. KeepsPlan p.pips p.inputs.items p.reach.items p.outputs.table p.listings.table };
 }
 
 impl Plan {
@@ -50,12 +53,14 @@ impl Plan {
         let words = pips.pips().len() / WORD_BITS + 1;
         let reach = all_rows(alloc, words, inputs.as_slice())?;
         let outputs = by_output(alloc, pips.pips())?;
+        let listings = by_listing(alloc, pips.pips())?;
         Ok(Plan {
             pips,
             tool_budget,
             inputs,
             reach,
             outputs,
+            listings,
         })
     }
 
@@ -99,6 +104,15 @@ impl Plan {
         ensures { result.now ≡ numbers_from 0 text.now self.now.pips }
     {
         self.outputs.at(text)
+    }
+
+    /// The seals that list a file at the path with this text or below it, and maybe others. Where no pip takes
+    /// more than `FEW_DIRS` directories, any may be left out.
+    pub fn seals_near(&self, text: &[u8]) -> &[u32]
+        ensures { has_wide self.now.pips ≡ true
+            → (j : ℕ) → ListsNear self.now.pips j text.now → Contains result.now j }
+    {
+        self.listings.at(text)
     }
 
     /// Whether a walk of one edge or more goes from one pip to another.

@@ -103,7 +103,7 @@ taken_all pips tree made (Sealed pip SourceAll root ∷ dirs) = taken_all pips t
 taken_all pips tree made (Opaque pip path ∷ dirs) = taken_all pips tree made dirs
 
 -- the members of opaque directories are what `opaque_members` says, and only opaque ones are sorted
-insert_all : (P : DirInput → Type 0) (dir : DirInput) (dirs : List DirInput) → P dir → AllByRecursion P dirs → AllByRecursion P (insert_by_pip dir dirs)
+pub insert_all : (P : DirInput → Type 0) (dir : DirInput) (dirs : List DirInput) → P dir → AllByRecursion P dirs → AllByRecursion P (insert_by_pip dir dirs)
 insert_all P dir [] here all = (here, tt)
 insert_all P dir (other ∷ rest) here all = by_test (comes_after dir other) (insert_all P dir rest here all.1)
   where

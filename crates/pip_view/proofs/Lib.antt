@@ -11,3 +11,6 @@ pub mod TakenFiles
 pub mod Begun
 pub mod MadeLists
 pub mod OpaqueMembers
+pub mod NearFiles
+pub mod TakenDirs
+pub mod AroundMembers

@@ -27,7 +27,7 @@ use Rattle.pip_view.proofs.SourceMembers.{at_both, below_both, names_both, or_el
 -- ## Two directories
 
 -- of two directories above one path, one is at or above the other
-alike : (dir other r s : Atoms) → dir ++ r ≡ other ++ s → ((t : Atoms) × (other ≡ dir ++ t)) ⊎ ((t : Atoms) × (dir ≡ other ++ t))
+pub alike : (dir other r s : Atoms) → dir ++ r ≡ other ++ s → ((t : Atoms) × (other ≡ dir ++ t)) ⊎ ((t : Atoms) × (dir ≡ other ++ t))
 alike [] other r s e = inl (other, refl)
 alike (d ∷ ds) [] r s e = inr (d ∷ ds, refl)
 alike (d ∷ ds) (o ∷ os) r s e =
@@ -49,7 +49,7 @@ below_through f path dir e k =
     let b = (below_decides path dir).0 k in
     (below_decides f dir).1 (b.0 ++ a.0, longer b.0 a.0 b.1, a.2 ∙ ap (λ p. p ++ a.0) b.2 ∙ append_assoc dir b.0 a.0)
 
-near : (path dir t : Atoms) → path ≡ dir ++ t → (path ≡ dir) ⊎ (is_below path dir ≡ true)
+pub near : (path dir t : Atoms) → path ≡ dir ++ t → (path ≡ dir) ⊎ (is_below path dir ≡ true)
 near path dir [] e = inl (e ∙ append-nil dir)
 near path dir (a ∷ as') e = inr ((below_decides path dir).1 (a ∷ as', (λ (none : a ∷ as' ≡ []). cc), e))
 
@@ -240,10 +240,10 @@ of_kind v (Copy d) = refl
 of_kind v (Write d) = refl
 of_kind v (Seal d) = refl
 
-of_pip : (v : ViewData) (o : Option Pip) → members_of v.inputs (by_pip (filter is_opaque (dirs_at o))) ≡ opaque_by v (process_in o)
+pub of_pip : (v : ViewData) (o : Option Pip) → members_of v.inputs (by_pip (filter is_opaque (dirs_at o))) ≡ opaque_by v (process_in o)
 of_pip v None = refl
 of_pip v (Some pip) = of_kind v pip.kind
 
 -- the members of the directories that are kept are those that the pip takes
-pub kept_members : (v : ViewData) (kept : List DirInput) → KeepsView v kept → members_of v.inputs kept ≡ opaque_in v
-kept_members v kept h = ap (members_of v.inputs) h.dirs ∙ of_pip v (slice_get v.pips v.pip)
+pub kept_members : (v : ViewData) (kept others : List DirInput) → KeepsView v kept others → members_of v.inputs kept ≡ opaque_in v
+kept_members v kept others h = ap (members_of v.inputs) h.dirs ∙ of_pip v (slice_get v.pips v.pip)

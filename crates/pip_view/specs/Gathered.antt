@@ -11,7 +11,7 @@ use Rattle.pip_types.specs.Inputs.{input_path}
 use Rattle.pip_types.specs.declared.dir_inputs.DirInput.{DirInput}
 use Rattle.pip_types.specs.declared.dir_inputs.DirInput.TheVariants.{Sealed, Opaque}
 use Rattle.pip_types.specs.declared.made.MadeFile.{MadeFile}
-use Rattle.pip_view.specs.InputFiles.{insert_by_pip, is_opaque}
+use Rattle.pip_view.specs.InputFiles.{by_pip, insert_by_pip, is_opaque}
 use Rattle.pip_view.specs.Taken.{taken_names}
 use Rattle.pip_inputs.specs.Results.{ByPip, files_by}
 
@@ -35,6 +35,11 @@ members_of made dirs = flat_map (opaque_members made) dirs
 -- directories in the order of their pips with one more, if it is opaque
 abbrev pub with_opaque : DirInput → List DirInput → List DirInput
 with_opaque dir dirs = if is_opaque dir then insert_by_pip dir dirs else dirs
+
+-- the opaque ones of the directories that were found, by pip; all, where there was no answer
+abbrev pub opaque_of : Option (List DirInput) → List DirInput → List DirInput
+opaque_of None all = all
+opaque_of (Some near) all = by_pip (filter is_opaque near)
 
 -- the deeper of two directories, if one contains the other or is the other
 abbrev pub deeper : Atoms → Atoms → Option Atoms

@@ -3,13 +3,16 @@ use Rattle.std.specs.Prelude.{◌≡◌, ◌↔◌, ℕ, Bool, ◌||◌, if◌th
 use Rattle.std.specs.Prelude.{Option, Some, None, is_some}
 use Rattle.std.specs.Prelude.{◌<◌, filter, length, slice_get}
 use Rattle.std.specs.List.{list_any}
-use Rattle.bx_tree.specs.Paths.{Atoms}
+use Rattle.bx_tree.specs.Paths.{Atoms, same_path}
 use Rattle.bx_tree.specs.Trees.{Files, file_at}
 use Rattle.observed.specs.declared.access.Answer.{Answer}
 use Rattle.observed.specs.declared.access.Answer.TheVariants as answers
 use Rattle.observed.specs.declared.ask.Ask.{Ask}
 use Rattle.observed.specs.declared.ask.AskKind.{AskKind}
+use Rattle.own_writes.specs.Below.{is_below}
 use Rattle.own_writes.specs.Writes.{has_below, own_names}
+use Rattle.pip_near.specs.Ranges.{AreOthers}
+use Rattle.pip_types.specs.Dirs.{RiseByForm}
 use Rattle.pip_types.specs.declared.dir_inputs.DirInput.{DirInput}
 use Rattle.pip_types.specs.declared.pip.Pip.{Pip}
 use Rattle.pip_types.specs.declared.pip.ProcessDesc.{ProcessDesc}
@@ -86,7 +89,21 @@ pub record AnswerAs (files others : Files) : Type 0 where
   pub directories : (p : Atoms) → has_below files p ≡ has_below others p
   pub names : (p : Atoms) (n : List ℕ) → Contains (own_names files p) n ↔ Contains (own_names others p) n
 
--- what a view keeps: the opaque directories that its pip takes, those of the least pip first
-pub record KeepsView (v : ViewData) (kept : List DirInput) : Type 0 where
+-- what a view keeps: the opaque directories that its pip takes, those of the least pip first, and all that do not
+-- list their files
+pub record KeepsView (v : ViewData) (kept others : List DirInput) : Type 0 where
   pub there : v.pip < length v.pips
+  pub rising : RiseByForm (dirs_at (slice_get v.pips v.pip))
   pub dirs : kept ≡ by_pip (filter is_opaque (dirs_at (slice_get v.pips v.pip)))
+  pub unlisted : AreOthers (dirs_at (slice_get v.pips v.pip)) others
+
+-- whether a file is at the path or below it
+abbrev pub lies_near : Atoms → Atoms × List ℕ → Bool
+lies_near path file = same_path file.0 path || is_below file.0 path
+
+-- What is searched at a path in place of all directories that the pip takes: its opaque ones have the members
+-- at the path and below it that all have, and a source file at the path is a member of a seal as it is of all.
+pub record SearchedAt (v : ViewData) (path : Atoms) (near : List DirInput) : Type 0 where
+  pub members : filter (lies_near path) (members_of v.inputs (by_pip (filter is_opaque near)))
+      ≡ filter (lies_near path) (opaque_in v)
+  pub sealed : list_any (is_source_of path) near ≡ is_sealed_at v path

@@ -9,8 +9,7 @@ ghost use Rattle.observed.specs.Texts.{texts_now};
 ghost use Rattle.own_writes.specs.Below.{is_below as lies_below};
 ghost use Rattle.pip_types.specs.Inputs.{RiseByPath, input_path};
 ghost use Rattle.pip_view.specs.Ranges.{comes_before as path_before, prefix_below};
-ghost use Rattle.pip_view.specs.Taken.{any_below, begins as begins_with, first_at, taken_names};
-ghost use Rattle.pip_view.specs.Taken.{while_begins};
+ghost use Rattle.pip_view.specs.Taken.{any_below, begins as begins_with, first_at, taken_names, while_begins};
 
 use crate::Memory;
 use crate::below::{comes_before, is_below, next_atom};

@@ -2,8 +2,8 @@
 //!
 //! The view of a process is the rule of its input files, of other source files, and of what other pips can
 //! produce. This crate depends on `pip_inputs` for the results of its inputs, on `pip_outputs` for what pips
-//! can produce, and on `observed` and `own_writes` for what runs ask and are answered. It carries the promise
-//! that a view answers as the rules of a build say.
+//! can produce, on `pip_near` for the directories that matter at a path, and on `observed` and `own_writes` for
+//! what runs ask and are answered. It carries the promise that a view answers as the rules of a build say.
 #![tactic(auto)]
 
 mod below;
@@ -23,3 +23,6 @@ pub use view::PipView;
 
 /// Out of memory, the one refusal that no contract ties to a cause.
 pub type Memory = std::alloc::AllocError;
+
+// The names of a listing.
+type Names = std::collections::BTreeSet<Vec<u8>>;

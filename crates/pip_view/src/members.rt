@@ -13,20 +13,19 @@ ghost use Rattle.pip_types.specs.Dirs.{dir_pip};
 ghost use Rattle.pip_types.specs.Made.{RisingFiles, made_files};
 ghost use Rattle.pip_types.specs.declared.dir_inputs.DirInput.{DirInput as AnyDir};
 ghost use Rattle.pip_view.specs.Gathered.{below_of, deeper as deeper_of, dirs_now, members_of};
-ghost use Rattle.pip_view.specs.Gathered.{opaque_members, with_opaque};
+ghost use Rattle.pip_view.specs.Gathered.{opaque_members, opaque_of, with_opaque};
 ghost use Rattle.pip_view.specs.InputFiles.{by_pip, insert_by_pip as with_dir, is_opaque as opaque};
 ghost use Rattle.tool_values.specs.Listings.{add_names as with_names};
 ghost use Rattle.tool_values.specs.NameSets.{names_now};
 
-use crate::Memory;
 use crate::below::{is_below, prefix_of};
 use crate::made_list::{add_below, has_below};
+use crate::{Memory, Names};
 use bx_digest::Blob;
 use bx_tree::Path;
 use pip_inputs::Inputs;
-use pip_model::{DirInput, MadeFile};
+use pip_model::{DirInput, DirInputs, MadeFile};
 use std::alloc::Global;
-use std::collections::BTreeSet;
 use tool_values::add_names;
 
 // The pip whose directory this is.
@@ -34,8 +33,7 @@ fn pip_of(dir: &DirInput) -> u32
     ensures { result ≡ dir_pip dir.now }
 {
     match dir {
-        DirInput::Sealed(pip, _, _) => *pip,
-        DirInput::Opaque(pip, _) => *pip,
+        DirInput::Sealed(pip, _, _) | DirInput::Opaque(pip, _) => *pip,
     }
 }
 
@@ -90,6 +88,21 @@ pub(crate) fn opaque_by_pip(alloc: Global, dirs: &[DirInput]) -> Result<Vec<&Dir
         left = rest;
     }
     Ok(sorted)
+}
+
+// The opaque directories that are searched, by pip: those that were found, or all where there was no answer.
+pub(crate) fn opaque_searched<'a>(
+    alloc: Global,
+    near: &'a Option<DirInputs>,
+    all: &[&'a DirInput],
+) -> Result<Vec<&'a DirInput>, Memory>
+    ensures { IfOk result (λ found. dirs_now found.items
+        ≡ opaque_of near.entry.now (dirs_now all.now)) }
+{
+    match near {
+        Some(near) => opaque_by_pip(alloc, near.dirs()),
+        None => Ok(all.to_vec(alloc)?),
+    }
 }
 
 // No files.
@@ -289,7 +302,7 @@ fn names_of<'a>(
 // Adds the names, in the listing of a path, of the members of these directories.
 pub(crate) fn add_members(
     alloc: Global,
-    names: &mut BTreeSet<Vec<u8>>,
+    names: &mut Names,
     inputs: &Inputs,
     dirs: &[&DirInput],
     path: &Path,

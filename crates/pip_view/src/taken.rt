@@ -6,21 +6,24 @@ ghost use Rattle.observed.specs.Texts.{texts_now};
 ghost use Rattle.tool_values.specs.Listings.{add_names as with_names};
 ghost use Rattle.tool_values.specs.NameSets.{names_now};
 ghost use Rattle.pip_inputs.specs.Contents.{input_bytes};
+ghost use Rattle.pip_near.specs.Near.{AreTaken};
 ghost use Rattle.pip_types.specs.Inputs.{RiseByPath};
 ghost use Rattle.pip_view.specs.InputFiles.{listed_in};
 ghost use Rattle.pip_view.specs.Ranges.{prefix_below};
 ghost use Rattle.pip_view.specs.Taken.{any_below, dir_files, dirs_files, executable, first_at};
 ghost use Rattle.pip_view.specs.Taken.{taken_bytes, taken_files, taken_names};
 
-use crate::Memory;
 use crate::below::{is_below, next_atom, prefix_of};
 use crate::file_list::{add_below, file_at, has_below};
+use crate::{Memory, Names};
 use bx_digest::Blob;
 use bx_tree::{FileInput, Path};
 use pip_inputs::{Inputs, input_file, source_blob};
-use pip_model::{DirInput, FileInputs, Pip, PipKind, ProcessDesc, SealForm, Sources};
+use pip_model::{
+    DirInput, DirInputs, FileInputs, Pip, PipKind, Plan, ProcessDesc, SealForm, Sources,
+};
+use pip_near::{near_dirs, searched};
 use std::alloc::Global;
-use std::collections::BTreeSet;
 use tool_values::add_names;
 
 // The files that a pip lists, if it is a seal.
@@ -77,19 +80,20 @@ fn find_listed<'a>(pips: &'a [Pip], dirs: &[DirInput], path: &Path) -> Option<&'
     None
 }
 
-// The first file at a path that a process declares or that one of its directories lists.
+// The first file at a path that a process declares or that one of these directories lists.
 fn find_declared<'a>(
     pips: &'a [Pip],
     process: &'a ProcessDesc,
+    dirs: &[DirInput],
     path: &Path,
 ) -> Option<&'a FileInput>
     ensures { option_copied result ≡ first_at path.now
-        (process.entry.now.files ++ dirs_files pips.entry.now process.entry.now.dirs) }
+        (process.entry.now.files ++ dirs_files pips.entry.now dirs.now) }
 {
     let files = process.files.files();
     match file_at(files, path) {
         Some(file) => Some(file),
-        None => find_listed(pips, process.dirs.dirs(), path),
+        None => find_listed(pips, dirs, path),
     }
 }
 
@@ -105,29 +109,48 @@ fn blob_of(
     Ok(input_file(alloc, sources, inputs, file)?.blob)
 }
 
-// The bytes of the first file at a path that a process takes.
-pub(crate) fn taken_blob(
+// The bytes of the first file at a path that a process declares or that one of these directories lists.
+fn declared_blob(
     alloc: Global,
     pips: &[Pip],
     sources: &Sources,
     inputs: &Inputs,
     process: &ProcessDesc,
+    dirs: &[DirInput],
     path: &Path,
 ) -> Result<Option<Blob>, Memory>
-    ensures { IfOk result (λ found. found ≡ found_at
-        (taken_bytes sources.now inputs.now (taken_files pips.now process.now)) path.now) }
+    ensures { IfOk result (λ found. found ≡ found_at (taken_bytes sources.now inputs.now
+        (process.now.files ++ dirs_files pips.now dirs.now)) path.now) }
 {
-    if process.exe == *path {
-        let blob = source_blob(alloc, sources, path)?;
-        return Ok(Some(blob));
-    }
-    match find_declared(pips, process, path) {
+    match find_declared(pips, process, dirs, path) {
         Some(file) => {
             let blob = blob_of(alloc, sources, inputs, file)?;
             Ok(Some(blob))
         }
         None => Ok(None),
     }
+}
+
+// The bytes of the first file at a path, of the executable, the declared files and those that seals list.
+pub(crate) fn taken_blob(
+    alloc: Global,
+    plan: &Plan,
+    sources: &Sources,
+    inputs: &Inputs,
+    process: &ProcessDesc,
+    path: &Path,
+) -> Result<Option<Blob>, Memory>
+    requires { AreTaken plan.now.pips process.now.dirs }
+    ensures { IfOk result (λ found. found ≡ found_at
+        (taken_bytes sources.now inputs.now (taken_files plan.now.pips process.now)) path.now) }
+{
+    if process.exe == *path {
+        let blob = source_blob(alloc, sources, path)?;
+        return Ok(Some(blob));
+    }
+    let near = near_dirs(alloc, plan, &process.dirs, path)?;
+    let dirs = searched(&near, process.dirs.dirs());
+    declared_blob(alloc, plan.pips(), sources, inputs, process, dirs, path)
 }
 
 // Whether a file that one of the directories lists lies below a directory, where these bytes begin its path.
@@ -144,22 +167,39 @@ fn has_listed(pips: &[Pip], dirs: &[DirInput], prefix: &[u8], dir: &Path) -> boo
     false
 }
 
-// Whether a file that a process takes lies below a directory.
-pub(crate) fn has_taken(
+// Whether one of the executable, the declared files and those that these directories list is below a directory.
+fn has_among(
     alloc: Global,
     pips: &[Pip],
     process: &ProcessDesc,
+    dirs: &[DirInput],
     dir: &Path,
 ) -> Result<bool, Memory>
-    ensures { IfOk result (λ yes. yes ≡ any_below dir.now (taken_files pips.now process.now)) }
+    ensures { IfOk result (λ yes. yes ≡ any_below dir.now
+        (executable process.now ∷ process.now.files ++ dirs_files pips.now dirs.now)) }
 {
     let prefix = prefix_of(alloc, dir)?;
     let files = process.files.files();
     Ok(
         is_below(&process.exe, dir)
             || has_below(files, prefix.as_slice(), dir)
-            || has_listed(pips, process.dirs.dirs(), prefix.as_slice(), dir),
+            || has_listed(pips, dirs, prefix.as_slice(), dir),
     )
+}
+
+// Whether a file that a process takes lies below a directory.
+pub(crate) fn has_taken(
+    alloc: Global,
+    plan: &Plan,
+    process: &ProcessDesc,
+    dir: &Path,
+) -> Result<bool, Memory>
+    requires { AreTaken plan.now.pips process.now.dirs }
+    ensures { IfOk result (λ yes. yes ≡ any_below dir.now (taken_files plan.now.pips process.now)) }
+{
+    let near = near_dirs(alloc, plan, &process.dirs, dir)?;
+    let dirs = searched(&near, process.dirs.dirs());
+    has_among(alloc, plan.pips(), process, dirs, dir)
 }
 
 // Adds the names of the files below a directory that the directories list.
@@ -195,41 +235,39 @@ fn add_executable<'a>(
     Ok(())
 }
 
-// The names of the files below a directory that a process takes.
-fn names_taken<'a>(
+// The names below a directory of the executable, the declared files and those that these directories list.
+fn names_among<'a>(
     alloc: Global,
     pips: &'a [Pip],
     process: &'a ProcessDesc,
+    dirs: &[DirInput],
     dir: &Path,
 ) -> Result<Vec<&'a [u8]>, Memory>
-    ensures { IfOk result (λ names. texts_now names.items
-        ≡ taken_names dir.now (taken_files pips.entry.now process.entry.now)) }
+    ensures { IfOk result (λ names. texts_now names.items ≡ taken_names dir.now
+        (executable process.entry.now ∷ process.entry.now.files ++ dirs_files pips.entry.now dirs.now)) }
 {
     let prefix = prefix_of(alloc, dir)?;
     let mut names = Vec::new(alloc);
     add_executable(&mut names, process, dir)?;
     add_below(&mut names, process.files.files(), prefix.as_slice(), dir)?;
-    add_listed(
-        &mut names,
-        pips,
-        process.dirs.dirs(),
-        prefix.as_slice(),
-        dir,
-    )?;
+    add_listed(&mut names, pips, dirs, prefix.as_slice(), dir)?;
     Ok(names)
 }
 
 /// Adds the names of the files below a directory that a process takes.
 pub(crate) fn add_taken(
     alloc: Global,
-    names: &mut BTreeSet<Vec<u8>>,
-    pips: &[Pip],
+    names: &mut Names,
+    plan: &Plan,
     process: &ProcessDesc,
     dir: &Path,
 ) -> Result<(), Memory>
+    requires { AreTaken plan.now.pips process.now.dirs }
     ensures { OnOk result (names_now names.new.keys ≡ with_names (names_now names.old.keys)
-        (taken_names dir.now (taken_files pips.now process.now))) }
+        (taken_names dir.now (taken_files plan.now.pips process.now))) }
 {
-    let taken = names_taken(alloc, pips, process, dir)?;
+    let near = near_dirs(alloc, plan, &process.dirs, dir)?;
+    let dirs = searched(&near, process.dirs.dirs());
+    let taken = names_among(alloc, plan.pips(), process, dirs, dir)?;
     add_names(alloc, names, taken.as_slice())
 }

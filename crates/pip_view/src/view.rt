@@ -1,33 +1,35 @@
 //! What a pip sees.
-ghost use Rattle.std.specs.Prelude.{◌≡◌, ◌≢◌, ◌<◌, ◌||◌, IfOk, OnOk, if◌then◌else◌};
-ghost use Rattle.std.specs.Prelude.{length, slice_get};
+ghost use Rattle.std.specs.Prelude.{◌≡◌, ◌≢◌, ◌<◌, ◌||◌, IfOk, IfSome, OnOk, if◌then◌else◌, length, slice_get};
 ghost use Rattle.std.specs.List.{filter_map, list_any};
 ghost use Rattle.own_writes.specs.Below.{next_atom};
 ghost use Rattle.std.specs.Option.{option_copied};
 ghost use Rattle.bx_tree.specs.Trees.{file_at};
 ghost use Rattle.own_writes.specs.Writes.{has_below as file_below, own_names};
 ghost use Rattle.pip_inputs.specs.Plain.{process_in};
+ghost use Rattle.pip_near.specs.Near.{AreTaken};
+ghost use Rattle.pip_types.specs.Dirs.{RiseByForm};
 ghost use Rattle.tool_values.specs.Listings.{add_names as with_names};
 ghost use Rattle.tool_values.specs.NameSets.{names_now};
 ghost use Rattle.pip_outputs.specs.Producing.{dirs_at as dirs_of_pip};
 ghost use Rattle.pip_view.specs.InputFiles as files;
 ghost use Rattle.pip_view.specs.Ranges.{AreFilePaths};
 ghost use Rattle.pip_view.specs.Sees as seen;
-ghost use Rattle.pip_view.specs.Seen.{answer_elsewhere, answer_unnamed, is_sealed_at, is_unseen_at};
+ghost use Rattle.pip_view.specs.Seen.{SearchedAt, answer_elsewhere, answer_unnamed, is_sealed_at, is_unseen_at};
 ghost use Rattle.pip_view.specs.Seen.{named_in, opaque_in, taken_in, view_answers};
 ghost use Rattle.pip_view.specs.Sees.{sees};
 
-use crate::Memory;
 use crate::below::{has_below, is_below, text_below};
 use crate::listing::names_below;
-use crate::members::{add_members, find_member, has_member, opaque_by_pip};
+use crate::members::{add_members, find_member, has_member, opaque_by_pip, opaque_searched};
 use crate::taken::{add_taken, has_taken, taken_blob};
+use crate::{Memory, Names};
 use bx_digest::Blob;
 use bx_tree::Path;
 use observed::{Answer, Ask, AskKind, View};
 use pip_inputs::{Inputs, process_at};
-use pip_model::{DirInput, Plan, ProcessDesc, SealForm, Sources};
-use pip_outputs::{dirs_at, least_unseen};
+use pip_model::{DirInput, DirInputs, Pip, Plan, ProcessDesc, SealForm, Sources};
+use pip_near::{around_dirs, other_dirs, searched};
+use pip_outputs::least_unseen;
 use std::alloc::Global;
 use std::collections::BTreeSet;
 use std::marker::Model;
@@ -41,6 +43,7 @@ pub struct PipView<'a> {
     inputs: &'a Inputs,
     pip: u32,
     opaque: Vec<&'a DirInput>,
+    others: DirInputs,
 }
 
 impl<'a> Model for PipView<'a> {
@@ -61,7 +64,7 @@ impl<'a> Model for PipView<'a> {
       tree = v.sources.now;
       inputs = v.inputs.now;
       pip = v.pip;
-    }) (dirs_now v.opaque.items) };
+    }) (dirs_now v.opaque.items) v.others };
 }
 
 // Whether a source file is a member of a seal of this form and root.
@@ -153,18 +156,24 @@ fn directory_if(there: bool) -> Answer
 }
 
 // Adds the names of those of the paths that lie below a directory.
-fn add_below(
-    alloc: Global,
-    names: &mut BTreeSet<Vec<u8>>,
-    paths: &[Path],
-    dir: &Path,
-) -> Result<(), Memory>
+fn add_below(alloc: Global, names: &mut Names, paths: &[Path], dir: &Path) -> Result<(), Memory>
     requires { AreFilePaths paths.now }
     ensures { OnOk result (names_now names.new.keys
         ≡ with_names (names_now names.old.keys) (filter_map (next_atom dir.now) paths.now)) }
 {
     let below = names_below(alloc, paths, dir)?;
     add_names(alloc, names, below.as_slice())
+}
+
+// The directories that a pip takes, in order.
+fn taken_dirs(pips: &[Pip], pip: u32) -> &[DirInput]
+    ensures dirs { result.now ≡ dirs_of_pip (slice_get pips.entry.now pip) }
+    ensures rising { RiseByForm result.now }
+{
+    match process_at(pips, pip) {
+        Some(process) => process.dirs.dirs(),
+        None => &[],
+    }
 }
 
 impl<'a> PipView<'a> {
@@ -180,27 +189,30 @@ impl<'a> PipView<'a> {
         ensures { IfOk result (λ view. ⟦<PipView<'a> as View>⟧.answers view
             ≡ sees plan.now.pips sources.now inputs.now pip) }
     {
-        let dirs = dirs_at(plan.pips(), pip);
+        let dirs = taken_dirs(plan.pips(), pip);
         let opaque = opaque_by_pip(alloc, dirs)?;
+        let others = other_dirs(alloc, dirs)?;
         Ok(PipView {
             plan,
             sources,
             inputs,
             pip,
             opaque,
+            others,
         })
     }
 
-    // The directories that the pip takes.
-    fn dirs(&self) -> &[DirInput]
-        ensures { result.now ≡ dirs_of_pip (slice_get self.entry.now.pips self.entry.now.pip) }
+    // Directories that are searched at a path in place of all that the pip takes, if these are few.
+    fn near(&self, alloc: Global, path: &Path) -> Result<Option<DirInputs>, Memory>
+        ensures { IfOk result (λ near. IfSome near (SearchedAt self.now path.now)) }
     {
-        dirs_at(self.plan.pips(), self.pip)
+        around_dirs(alloc, &self.others, path)
     }
 
     // The process that the pip is, if it is one.
     fn process(&self) -> Option<&ProcessDesc>
-        ensures { option_copied result ≡ process_in (slice_get self.entry.now.pips self.entry.now.pip) }
+        ensures taken { IfSome result (λ process. AreTaken self.entry.now.pips process.now.dirs) }
+        ensures found { option_copied result ≡ process_in (slice_get self.entry.now.pips self.entry.now.pip) }
     {
         process_at(self.plan.pips(), self.pip)
     }
@@ -211,11 +223,19 @@ impl<'a> PipView<'a> {
     {
         match self.process() {
             Some(process) => {
-                let pips = self.plan.pips();
-                taken_blob(alloc, pips, self.sources, self.inputs, process, path)
+                taken_blob(alloc, self.plan, self.sources, self.inputs, process, path)
             }
             None => Ok(None),
         }
+    }
+
+    // The bytes of the member of an opaque directory at a path.
+    fn member(&self, alloc: Global, path: &Path) -> Result<Option<Blob>, Memory>
+        ensures { IfOk result (λ found. found ≡ file_at (opaque_in self.now) path.now) }
+    {
+        let near = self.near(alloc, path)?;
+        let opaque = opaque_searched(alloc, &near, self.opaque.as_slice())?;
+        share_found(find_member(self.inputs, opaque.as_slice(), path))
     }
 
     // The bytes of the named input file at a path.
@@ -223,13 +243,12 @@ impl<'a> PipView<'a> {
         ensures found { IfOk result (λ found. found ≡ file_at (named_in self.now) path.now) }
         ensures there { IfOk result (λ found. self.now.pip < length self.now.pips) }
     {
+        // The type of the view says that its pip is one of the plan.
+        let _pip = self.pip;
         let taken = self.taken(alloc, path)?;
         match taken {
             Some(blob) => Ok(Some(blob)),
-            None => {
-                let opaque = self.opaque.as_slice();
-                share_found(find_member(self.inputs, opaque, path))
-            }
+            None => self.member(alloc, path),
         }
     }
 
@@ -238,7 +257,7 @@ impl<'a> PipView<'a> {
         ensures { IfOk result (λ yes. yes ≡ file_below (taken_in self.now) path.now) }
     {
         match self.process() {
-            Some(process) => has_taken(alloc, self.plan.pips(), process, path),
+            Some(process) => has_taken(alloc, self.plan, process, path),
             None => Ok(false),
         }
     }
@@ -247,7 +266,9 @@ impl<'a> PipView<'a> {
     fn has_member(&self, alloc: Global, path: &Path) -> Result<bool, Memory>
         ensures { IfOk result (λ yes. yes ≡ file_below (opaque_in self.now) path.now) }
     {
-        has_member(alloc, self.inputs, self.opaque.as_slice(), path)
+        let near = self.near(alloc, path)?;
+        let opaque = opaque_searched(alloc, &near, self.opaque.as_slice())?;
+        has_member(alloc, self.inputs, opaque.as_slice(), path)
     }
 
     // Whether a named input file lies below a path.
@@ -262,32 +283,24 @@ impl<'a> PipView<'a> {
     }
 
     // Adds the names of the files below a directory that the pip takes by name.
-    fn add_taken(
-        &self,
-        alloc: Global,
-        names: &mut BTreeSet<Vec<u8>>,
-        dir: &Path,
-    ) -> Result<(), Memory>
+    fn add_taken(&self, alloc: Global, names: &mut Names, dir: &Path) -> Result<(), Memory>
         ensures { OnOk result (names_now names.new.keys
             ≡ with_names (names_now names.old.keys) (own_names (taken_in self.now) dir.now)) }
     {
         match self.process() {
-            Some(process) => add_taken(alloc, names, self.plan.pips(), process, dir),
+            Some(process) => add_taken(alloc, names, self.plan, process, dir),
             None => Ok(()),
         }
     }
 
     // Adds the names of the members of opaque directories below a directory.
-    fn add_members(
-        &self,
-        alloc: Global,
-        names: &mut BTreeSet<Vec<u8>>,
-        dir: &Path,
-    ) -> Result<(), Memory>
+    fn add_members(&self, alloc: Global, names: &mut Names, dir: &Path) -> Result<(), Memory>
         ensures { OnOk result (names_now names.new.keys
             ≡ with_names (names_now names.old.keys) (own_names (opaque_in self.now) dir.now)) }
     {
-        add_members(alloc, names, self.inputs, self.opaque.as_slice(), dir)
+        let near = self.near(alloc, dir)?;
+        let opaque = opaque_searched(alloc, &near, self.opaque.as_slice())?;
+        add_members(alloc, names, self.inputs, opaque.as_slice(), dir)
     }
 
     // Whether another pip can produce a path by an output that is no input of the pip.
@@ -298,10 +311,12 @@ impl<'a> PipView<'a> {
     }
 
     // Whether a source file is a member of a directory that the pip takes.
-    fn is_sealed(&self, path: &Path) -> bool
-        ensures { result ≡ is_sealed_at self.now path.now }
+    fn is_sealed(&self, alloc: Global, path: &Path) -> Result<bool, Memory>
+        ensures { IfOk result (λ yes. yes ≡ is_sealed_at self.now path.now) }
     {
-        is_sealed(path, self.dirs())
+        let near = self.near(alloc, path)?;
+        let all = taken_dirs(self.plan.pips(), self.pip);
+        Ok(is_sealed(path, searched(&near, all)))
     }
 
     // The names of a listing.
@@ -340,12 +355,12 @@ impl<'a> PipView<'a> {
     }
 
     // What is answered of a source file at which no named input file is.
-    fn source(&self, ask: &Ask, blob: &Blob) -> Result<Answer, Memory>
+    fn source(&self, alloc: Global, ask: &Ask, blob: &Blob) -> Result<Answer, Memory>
         ensures { IfOk result (λ answer. answer
             ≡ (if is_sealed_at self.now ask.now.path then seen.as_input ask.now.kind blob.now
             else seen.as_source ask.now.kind)) }
     {
-        if self.is_sealed(&ask.path) {
+        if self.is_sealed(alloc, &ask.path)? {
             return as_input(ask.kind, blob);
         }
         Ok(as_source(ask.kind))
@@ -357,7 +372,7 @@ impl<'a> PipView<'a> {
             (file_below (named_in self.now) ask.now.path)) }
     {
         match self.sources.find(&ask.path) {
-            Some(blob) => self.source(ask, blob),
+            Some(blob) => self.source(alloc, ask, blob),
             None => self.elsewhere(alloc, &ask.path),
         }
     }

@@ -28,6 +28,14 @@ fn no_inputs(alloc: Global) -> FileInputs {
     FileInputs::of(Vec::new(alloc))
 }
 
+// A source file alone.
+fn one_input(alloc: Global, text: &str) -> Result<FileInputs, Fail> {
+    let mut files = Vec::new(alloc);
+    let file = FileInput::Source(path(alloc, text)?);
+    files.push(file)?;
+    Ok(FileInputs::of(files))
+}
+
 fn output(alloc: Global, file: Path) -> Result<Outputs, Fail> {
     let mut outs = Vec::new(alloc);
     outs.push(file)?;
@@ -202,7 +210,7 @@ fn made(alloc: Global) -> Result<Made, Fail> {
 fn slots(alloc: Global) -> Result<Vec<Slot>, Fail> {
     let mut slots = Vec::new(alloc);
     slots.push(Slot::Good(made(alloc)?))?;
-    for _ in 0..4 {
+    for _ in 0..8 {
         slots.push(Slot::Bad)?;
     }
     Ok(slots)
@@ -301,21 +309,21 @@ fn is_answer(alloc: Global, view: &mut PipView<'_>, ask: &Ask, answer: &str) -> 
     Ok(same)
 }
 
-// Whether this is what pip 2 is answered.
-fn is_seen(alloc: Global, plan: &Plan, ask: &Ask, answer: &str) -> Result<bool, Fail> {
-    if plan.pips().len() < 3 {
+// Whether this is what a pip is answered.
+fn is_seen(alloc: Global, plan: &Plan, pip: u32, ask: &Ask, answer: &str) -> Result<bool, Fail> {
+    if plan.pips().len() <= pip as usize {
         return Err("no such pip".into());
     }
     let sources = sources(alloc)?;
-    let inputs = inputs(alloc, plan, 2)?;
-    let mut view = PipView::new(alloc, plan, &sources, 2, &inputs)?;
+    let inputs = inputs(alloc, plan, pip)?;
+    let mut view = PipView::new(alloc, plan, &sources, pip, &inputs)?;
     is_answer(alloc, &mut view, ask, answer)
 }
 
 fn sees(alloc: Global, kind: AskKind, file: &str, answer: &str) -> Result<bool, Fail> {
     let path = path(alloc, file)?;
     let plan = plan(alloc)?;
-    is_seen(alloc, &plan, &Ask { kind, path }, answer)
+    is_seen(alloc, &plan, 2, &Ask { kind, path }, answer)
 }
 
 const ASKS: &[(AskKind, &str, &str)] = &[
@@ -342,6 +350,76 @@ fn a_view_answers_by_the_first_rule_that_applies(rt: HostRuntime) -> Result<(), 
     let alloc = rt.alloc();
     for (kind, file, answer) in ASKS {
         assert!(rt; sees(alloc, *kind, file, answer)?, "{file}");
+    }
+    Ok(())
+}
+
+// The file that a seal lists.
+fn listed(number: u32) -> &'static str {
+    match number {
+        0 => "cc.tool",
+        1 => "lib/a",
+        _ => "lib/b/c",
+    }
+}
+
+// Adds a seal that lists a file, and its directory.
+fn add_seal(
+    alloc: Global,
+    pips: &mut PipList,
+    dirs: &mut Vec<DirInput>,
+    number: u32,
+) -> Result<(), Fail> {
+    let files = one_input(alloc, listed(number))?;
+    let kind = PipKind::Seal(SealDesc {
+        form: SealForm::Partial,
+        root: Path::root(alloc)?,
+        files,
+    });
+    let spec = path(alloc, "build.dsc")?;
+    add(pips, Pip { spec, kind })?;
+    dirs.push(DirInput::Sealed(number, SealForm::Partial, Path::root(alloc)?))?;
+    Ok(())
+}
+
+// Adds nine seals, and then a process that takes the directories of all.
+fn add_taker(alloc: Global, pips: &mut PipList) -> Result<(), Fail> {
+    let mut dirs = Vec::new(alloc);
+    for number in 0..9 {
+        add_seal(alloc, pips, &mut dirs, number)?;
+    }
+    let kind = maker(alloc, DirInputs::of(dirs), "out/y", "out/e")?;
+    let spec = path(alloc, "build.dsc")?;
+    add(pips, Pip { spec, kind })
+}
+
+fn sealed_plan(alloc: Global) -> Result<Plan, Fail> {
+    let mut pips = PipList::new(alloc);
+    add_taker(alloc, &mut pips)?;
+    plan_of(alloc, pips)
+}
+
+fn taker_sees(alloc: Global, kind: AskKind, file: &str, answer: &str) -> Result<bool, Fail> {
+    let path = path(alloc, file)?;
+    let plan = sealed_plan(alloc)?;
+    is_seen(alloc, &plan, 9, &Ask { kind, path }, answer)
+}
+
+const SEALED: &[(AskKind, &str, &str)] = &[
+    (AskKind::Read, "cc.tool", "tool 1\n"),
+    (AskKind::Read, "lib/a", "a"),
+    (AskKind::Read, "lib/b/c", "c"),
+    (AskKind::Read, "readme", "denied"),
+    (AskKind::Probe, "lib", "directory"),
+    (AskKind::Read, "lib/d", "absent"),
+    (AskKind::List, "lib", "a\nb\n"),
+];
+
+#[test]
+fn a_process_that_takes_nine_seals_reads_what_they_list(rt: HostRuntime) -> Result<(), Fail> {
+    let alloc = rt.alloc();
+    for (kind, file, answer) in SEALED {
+        assert!(rt; taker_sees(alloc, *kind, file, answer)?, "{file}");
     }
     Ok(())
 }

@@ -1,5 +1,6 @@
 use Rattle.std.proofs.Common.{List, subst, sym}
 use Rattle.pip_types.specs.declared.pip.Pip.{Pip}
+use Rattle.pip_model.specs.Listings.{HasListingsOf}
 use Rattle.pip_model.specs.Outputs.{HasOutputsOf}
 use Rattle.pip_model.specs.Plans.{AreAllInputs}
 use Rattle.pip_model.specs.Rows.{PointBack}
@@ -18,3 +19,5 @@ invariant_of-result c =
     c.as_slice.ensures.value c.in_ok-reach.ensures.size c.in_ok-reach.ensures.rows
     c.in_ok-outputs.outputs.table
     (subst (λ (ps : List Pip). HasOutputsOf ps c.in_ok-outputs.outputs.table) c.pips-4.ensures.pips c.in_ok-outputs.ensures)
+    c.in_ok-listings.listings.table
+    (subst (λ (ps : List Pip). HasListingsOf ps c.in_ok-listings.listings.table) c.pips-5.ensures.pips c.in_ok-listings.ensures)

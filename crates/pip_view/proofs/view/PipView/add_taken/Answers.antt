@@ -1,6 +1,6 @@
-use Rattle.std.proofs.Common.{◌≡◌, ℕ, List, Option, Some, OnOk, ap, subst, ◌∙◌}
+use Rattle.std.proofs.Common.{◌≡◌, ℕ, List, Option, Some, OnOk, ap, subst, sym, ◌∙◌}
 use Rattle.own_writes.specs.Writes.{own_names}
-use Rattle.pip_types.specs.declared.pip.Pip.{Pip}
+use Rattle.pip_near.specs.Near.{AreTaken}
 use Rattle.pip_types.specs.declared.pip.ProcessDesc.{ProcessDesc}
 use Rattle.tool_values.specs.Listings.{add_names}
 use Rattle.tool_values.specs.NameSets.{names_now}
@@ -15,12 +15,15 @@ returns-in-Some c =
     let process = c.in-Some.process.now in
     let view = c.self.inside in
     subst (λ (ns : List (List ℕ)). OnOk c.add_taken.result (names_now c.add_taken.new.names.keys ≡ add_names (names_now c.args.names.now.keys) ns))
-    (ap (λ (ps : List Pip). taken_names dir (taken_files ps process)) c.pips.ensures.pips
-    ∙ names_of_taken view.sources.now view.inputs.now dir (taken_files view.plan.now.pips process)
+    (names_of_taken view.sources.now view.inputs.now dir (taken_files view.plan.now.pips process)
     ∙ ap (λ (v : ViewData). own_names (taken_by v (Some process)) dir) c.self.view_is
-    ∙ ap (λ (o : Option ProcessDesc). own_names (taken_by c.args.self.now o) dir) c.in-Some.ensures)
+    ∙ ap (λ (o : Option ProcessDesc). own_names (taken_by c.args.self.now o) dir) c.in-Some.ensures.found)
     c.add_taken.ensures
 
 pub returns-in-None : goal.returns-in-None
 returns-in-None c =
-    ap (λ (o : Option ProcessDesc). add_names (names_now c.args.names.now.keys) (own_names (taken_by c.args.self.now o) c.args.dir.now)) c.in-None.ensures
+    ap (λ (o : Option ProcessDesc). add_names (names_now c.args.names.now.keys) (own_names (taken_by c.args.self.now o) c.args.dir.now)) c.in-None.ensures.found
+
+pub add_taken-requires : goal.add_taken-requires
+add_taken-requires c =
+    subst (λ (v : ViewData). AreTaken v.pips c.in-Some.process.now.dirs) (sym c.self.view_is) c.in-Some.ensures.taken

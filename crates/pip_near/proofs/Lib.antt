@@ -1,0 +1,4 @@
+pub mod Rising
+pub mod OfSeals
+pub mod Between
+pub mod AtPaths

@@ -1,0 +1,14 @@
+use Rattle.std.proofs.Common.{◌++◌, ◌∷◌, ap, ◌∙◌}
+use Rattle.observed.specs.Texts.{texts_now}
+use Rattle.pip_view.specs.Taken.{dirs_files, executable, taken_names}
+use Rattle.pip_view.proofs.TakenFiles.{three_names}
+use Rattle.pip_view.proofs.taken.names_among.Goals as goal
+
+pub returns : goal.returns
+returns c =
+    let process = c.args.process.now in
+    let dir = c.args.dir.now in
+    three_names dir (executable process) c.files.result.now (dirs_files c.args.pips.now c.args.dirs.now) (texts_now c.new-names.result.items)
+    (texts_now c.add_executable.new.names.items) (texts_now c.add_below.new.names.items) (texts_now c.add_listed.new.names.items)
+    (ap texts_now c.new-names.ensures.items) c.in_ok-add_executable.ensures c.in_ok-add_below.ensures c.in_ok-add_listed.ensures
+    ∙ ap (λ fs. taken_names dir (executable process ∷ fs ++ dirs_files c.args.pips.now c.args.dirs.now)) c.files.ensures.files
