@@ -1,21 +1,21 @@
 //! A value and an index in brackets.
-ghost use Rattle.std.specs.Prelude.{◌≡◌, Ok, map, unwrap_or, IfOk, MatchResult};
+ghost use Rattle.std.specs.Prelude.{◌≡◌, Ok, unwrap_or, IfOk, MatchResult};
 ghost use Rattle.dscript_value.specs.Depths.{field_at};
 ghost use Rattle.dscript_value.specs.Plain as plain;
-ghost use Rattle.dscript_value.specs.Plain.{member_list, plain_fields, plain_of};
+ghost use Rattle.dscript_value.specs.Plain.{item_list, member_list, plain_fields, plain_of, plain_values};
 ghost use Rattle.sdk_values.specs.Outcomes.{Refuses};
 ghost use Rattle.dscript_operators.specs.Indexing.{indexed, item_at};
 
 use crate::Memory;
 use bx_tree::Text;
-use dscript_value::{Fields, Value};
+use dscript_value::{Fields, Value, Values};
 use sdk_values::SdkFault;
 
 // The item with this number.
-fn item(items: &[Value], number: i32) -> Result<Value, SdkFault>
+fn item(items: &Values, number: i32) -> Result<Value, SdkFault>
     ensures { MatchResult result
-        (λ value. item_at (map plain_of items.now) number ≡ Ok (plain_of value))
-        (λ fault. Refuses fault (item_at (map plain_of items.now) number)) }
+        (λ value. item_at (item_list (plain_values items.now).items) number ≡ Ok (plain_of value))
+        (λ fault. Refuses fault (item_at (item_list (plain_values items.now).items) number)) }
 {
     if number < 0 {
         return Err(SdkFault::Range);
@@ -46,7 +46,7 @@ pub fn index(value: &Value, at: &Value) -> Result<Value, SdkFault>
         (λ fault. Refuses fault (indexed (plain_of value.now) (plain_of at.now))) }
 {
     match (value, at) {
-        (Value::List(items), Value::Number(number)) => item(items.items(), *number),
+        (Value::List(items), Value::Number(number)) => item(items, *number),
         (Value::Object(fields), Value::Text(name)) => Ok(field(fields, name)?),
         _ => Err(SdkFault::Kind),
     }

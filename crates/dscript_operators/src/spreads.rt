@@ -1,37 +1,27 @@
 //! What `...` adds to a list or an object.
 ghost use Rattle.std.specs.Prelude.{◌≡◌, ◌++◌, Ok, map, IfOk, MatchResult};
+ghost use Rattle.dscript_value.specs.Grown.{grown_items};
 ghost use Rattle.dscript_value.specs.Plain.{plain_field, plain_of};
 ghost use Rattle.sdk_values.specs.Outcomes.{Refuses};
 ghost use Rattle.dscript_operators.specs.Spreads.{with_fields_of, with_items_of};
 
 use crate::Memory;
-use dscript_value::{Field, Value};
-use sdk_values::{MAX_LIST_ITEMS, SdkFault, read_items};
-
-// Adds values like these.
-fn add_values(values: &mut Vec<Value>, more: &[Value]) -> Result<(), Memory>
-    ensures { IfOk result (λ _. map plain_of values.new.items
-        ≡ map plain_of values.old.items ++ map plain_of more.now) }
-{
-    'values: for value in more {
-        values.push(value.share()?)?;
-    }
-    Ok(())
-}
+use dscript_value::{Field, GrowingList, Value};
+use sdk_values::{MAX_LIST_ITEMS, SdkFault, read_values};
+use std::alloc::Global;
 
 /// Adds the items of a list to some items, which together must be few enough.
 #[tactic(auto, unfolding(crate::specs::Spreads::with_items_of))]
-pub fn add_items(items: &mut Vec<Value>, list: &Value) -> Result<(), SdkFault>
+pub fn add_items(alloc: Global, items: &mut GrowingList, list: &Value) -> Result<(), SdkFault>
     ensures { MatchResult result
-        (λ _. with_items_of (map plain_of items.old.items) (plain_of list.now)
-        ≡ Ok (map plain_of items.new.items))
-        (λ fault. Refuses fault (with_items_of (map plain_of items.old.items) (plain_of list.now))) }
+        (λ _. with_items_of (grown_items items.old) (plain_of list.now) ≡ Ok (grown_items items.new))
+        (λ fault. Refuses fault (with_items_of (grown_items items.old) (plain_of list.now))) }
 {
-    let more = read_items(list)?;
+    let more = read_values(list)?;
     if items.len() > MAX_LIST_ITEMS || more.len() > MAX_LIST_ITEMS - items.len() {
         return Err(SdkFault::Range);
     }
-    add_values(items, more)?;
+    items.append(alloc, more)?;
     Ok(())
 }
 

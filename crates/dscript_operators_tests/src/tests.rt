@@ -5,7 +5,7 @@ use dscript_operators::{
     callback, index, is_settled, is_true, operate, path_literal, reduction, relative_literal,
     with_prefixes,
 };
-use dscript_value::{Field, RelativePath, Value, equal, object_of, place_function};
+use dscript_value::{Field, GrowingList, RelativePath, Value, equal, object_of, place_function};
 use sdk_values::{MAX_LIST_ITEMS, SdkFault, list_value};
 use std::alloc::Global;
 use std::test::Fail;
@@ -638,8 +638,8 @@ fn relative_paths_have_atoms(rt: HostRuntime) -> Result<(), Fail> {
 }
 
 /// This many values.
-fn values(alloc: Global, count: usize) -> Result<Vec<Value>, SdkFault> {
-    let mut values = Vec::new(alloc);
+fn values(alloc: Global, count: usize) -> Result<GrowingList, SdkFault> {
+    let mut values = GrowingList::new(alloc);
     for _ in 0..count {
         values.push(Value::Undefined)?;
     }
@@ -650,7 +650,7 @@ fn values(alloc: Global, count: usize) -> Result<Vec<Value>, SdkFault> {
 fn adds_item(alloc: Global, count: usize, list: &Value) -> bool {
     match values(alloc, count) {
         Ok(mut items) => {
-            let is_added = add_items(&mut items, list).is_ok() && items.len() > count;
+            let is_added = add_items(alloc, &mut items, list).is_ok() && items.len() > count;
             drop(items);
             is_added
         }

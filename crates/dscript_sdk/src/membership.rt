@@ -46,7 +46,7 @@ fn call_function(
 {
     match value {
         Value::Text(text) => call_text(alloc, text, member, args),
-        Value::List(values) => call_list(alloc, values.items(), member, args),
+        Value::List(values) => call_list(alloc, values, member, args),
         Value::Path(path) => call_path(alloc, path, member, args),
         Value::File(file) => call_path(alloc, file_path(file), member, args),
         Value::Directory(path) => call_directory(alloc, path, member, args),
@@ -64,7 +64,7 @@ fn property(alloc: Global, value: &Value, member: Member) -> Result<Option<Value
 {
     match value {
         Value::Text(text) => member_of_text(text, member),
-        Value::List(values) => member_of_list(values.items(), member),
+        Value::List(values) => member_of_list(values, member),
         Value::Path(path) | Value::Directory(path) => member_of_path(alloc, path, member),
         Value::File(file) => member_of_file(alloc, file_path(file), member),
         Value::Static(dir) => member_of_static(dir, member),

@@ -2,7 +2,7 @@
 use Rattle.std.proofs.Common.{◌≡◌, ℕ, ◌+◌, ◌<◌, ◌≤◌, max, true, false, List, [], ◌∷◌, map, length, get_or, drop, Option, Some, None, cond, ap, sym, ◌∙◌, arith}
 use Rattle.std.specs.Str.{bytes_eq}
 use Rattle.std.proofs.lemmas.List.{at_drop_more, at_drop_all}
-use Rattle.dscript_value.specs.Plain.{Plain, PlainField}
+use Rattle.dscript_value.specs.Data.{Plain, PlainField}
 use Rattle.dscript_value.specs.Depths.{depth_of, field_at, greatest_depth}
 
 -- one more value of a list

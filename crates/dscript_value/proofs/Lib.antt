@@ -1,4 +1,8 @@
-pub mod PlainOf
+pub mod Deep
 pub mod Deeper
+pub mod Finding
+pub mod Getting
+pub mod Inside
 pub mod Putting
+pub mod Tabled
 pub mod AtomByAtom

@@ -9,7 +9,7 @@ use Rattle.std.proofs.lemmas.List.{length-map, map-append, map-set}
 use Rattle.std.specs.BTreeMap.{BTreeMap}
 use Rattle.std.specs.declared.vec.Vec.{Vec}
 use Rattle.std.specs.declared.alloc.Global.{Global}
-use Rattle.dscript_value.specs.Plain.{PlainField}
+use Rattle.dscript_value.specs.Data.{PlainField}
 use Rattle.dscript_value.specs.Depths.{put_field}
 use Rattle.dscript_value.specs.Places.{KeepPlaces, KeepsToo, first_place, kept_place}
 
@@ -112,7 +112,7 @@ at_place pf xs x name i e h =
 pub kept_after : {X : Type 0} (pf : X → PlainField) (xs : List X) (x : X) (places : BTreeMap (Vec ℕ Global) ℕ) (name : List ℕ) (i : ℕ) → name ≡ (pf x).0
     → first_place (map pf xs) name ≡ Some i → KeepPlaces places (map pf xs) → KeepPlaces places (put_field (map pf xs) (pf x))
 kept_after pf xs x places name i e h kept other =
-    kept other ∙ sym (places_stay (map pf xs) 0 (pf x) i (ap (first_place (map pf xs)) (sym e) ∙ h) other.items)
+    kept other ∙ sym (places_stay (map pf xs) 0 (pf x) i (ap (first_place (map pf xs)) (sym e) ∙ h) other)
 
 -- a name that is at no place
 pub at_end : {X : Type 0} (pf : X → PlainField) (xs : List X) (x : X) (name : List ℕ) → name ≡ (pf x).0 → first_place (map pf xs) name ≡ None
@@ -123,10 +123,10 @@ at_end pf xs x name e h =
 pub kept_with : {X : Type 0} (pf : X → PlainField) (xs : List X) (x : X) (before after : BTreeMap (Vec ℕ Global) ℕ) (name : List ℕ) → name ≡ (pf x).0
     → first_place (map pf xs) name ≡ None → KeepsToo before after name (length xs) → KeepPlaces before (map pf xs) → KeepPlaces after (map pf (xs ++ x ∷ []))
 kept_with pf xs x before after name e h changed kept other =
-    let new = places_last (map pf xs) 0 (pf x) (ap (first_place (map pf xs)) (sym e) ∙ h) other.items in
+    let new = places_last (map pf xs) 0 (pf x) (ap (first_place (map pf xs)) (sym e) ∙ h) other in
     let n : length xs ≡ 0 + length (map pf xs) = omega (arith, length-map xs pf) in
     changed other
-    ∙ ap (λ m. cond (bytes_eq m other.items) (Some (length xs)) (kept_place before other)) e
-    ∙ ap (λ k. cond (bytes_eq (pf x).0 other.items) (Some k) (kept_place before other)) n
-    ∙ ap (λ o. cond (bytes_eq (pf x).0 other.items) (Some (0 + length (map pf xs))) o) (kept other)
-    ∙ sym new ∙ ap (λ fs. first_place fs other.items) (sym (map-append pf xs (x ∷ [])))
+    ∙ ap (λ m. cond (bytes_eq m other) (Some (length xs)) (kept_place before other)) e
+    ∙ ap (λ k. cond (bytes_eq (pf x).0 other) (Some k) (kept_place before other)) n
+    ∙ ap (λ o. cond (bytes_eq (pf x).0 other) (Some (0 + length (map pf xs))) o) (kept other)
+    ∙ sym new ∙ ap (λ fs. first_place fs other) (sym (map-append pf xs (x ∷ [])))

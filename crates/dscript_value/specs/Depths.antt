@@ -1,10 +1,11 @@
 -- How deep values are, and what lists, objects and functions are made.
-use Rattle.std.specs.Prelude.{ℕ, ◌+◌, nat_lt, List, [], ◌∷◌, map, max, Option, Some, None}
+use Rattle.std.specs.Prelude.{◌≡◌, ℕ, ◌+◌, ◌<◌, nat_lt, List, [], ◌∷◌, map, max, Option, Some, None}
 use Rattle.std.specs.Prelude.{if◌then◌else◌}
 use Rattle.std.specs.Str.{bytes_eq}
 use Rattle.dscript_value.specs.declared.makers.TheConstants.{MAX_DEPTH}
 use Rattle.dscript_value.specs.declared.parts.Callee.{Callee}
-use Rattle.dscript_value.specs.Plain.{Plain, PlainField, Listed, Object, Function, to_items, to_members}
+use Rattle.dscript_value.specs.Data.{Plain, PlainField, Listed, Object, Function, PlainValues}
+use Rattle.dscript_value.specs.Data.{item_list, to_items, to_members}
 
 -- lists, objects and functions have a depth of their own, and all other values depth 0
 abbrev pub depth_of : Plain → ℕ
@@ -17,6 +18,11 @@ depth_of _ = 0
 abbrev pub greatest_depth : List Plain → ℕ
 greatest_depth [] = 0
 greatest_depth (x ∷ xs) = max (depth_of x) (greatest_depth xs)
+
+-- the depth is one more than that of the deepest item, and within the limit
+pub record IsDeep (values : PlainValues) : Type 0 where
+  pub one_more : values.depth ≡ greatest_depth (item_list values.items) + 1
+  pub within : greatest_depth (item_list values.items) < MAX_DEPTH
 
 -- a value that holds these, one deeper than the deepest of them; none where that is above the limit
 abbrev pub one_deeper : List Plain → (ℕ → Plain) → Option Plain
@@ -42,10 +48,13 @@ put_fields done (f ∷ fs) = put_fields (put_field done f) fs
 abbrev pub values_of : List PlainField → List Plain
 values_of fields = map (λ (f : PlainField). f.1) fields
 
+-- the object of fields of which no two have one name
+abbrev pub fields_value : List PlainField → Option Plain
+fields_value fields = one_deeper (values_of fields) (λ depth. Object depth (to_members fields))
+
 -- the object of these fields: each name once, a later value in the earlier place
 abbrev pub object_value : List PlainField → Option Plain
-object_value fields =
-    one_deeper (values_of (put_fields [] fields)) (λ depth. Object depth (to_members (put_fields [] fields)))
+object_value fields = fields_value (put_fields [] fields)
 
 -- the value of the field with a name, if there is one
 abbrev pub field_at : List PlainField → List ℕ → Option Plain

@@ -1,4 +1,10 @@
+pub mod Data
+pub mod Code
+pub mod Weight
+pub mod Inner
+pub mod Falls
 pub mod Plain
 pub mod Depths
 pub mod Equality
 pub mod Places
+pub mod Grown

@@ -7,6 +7,8 @@
 #![tactic(auto)]
 
 mod comparing;
+mod growing;
+mod joining;
 mod makers;
 mod objects;
 mod parts;
@@ -14,10 +16,11 @@ mod sharing;
 mod value;
 
 pub use comparing::{NoOrder, equal};
+pub use growing::GrowingList;
 pub use makers::{DepthFault, MAX_DEPTH, ambient_function, list_of, member_of, place_function};
 pub use objects::object_of;
 pub use parts::{Argument, Artifact, Callee, RelativePath, StaticDir};
-pub use value::{Field, Fields, FunctionRef, Value, Values};
+pub use value::{Field, Fields, FlatValues, FunctionRef, Value, Values};
 
 /// Out of memory, the one refusal that no contract ties to a cause.
 pub type Memory = std::alloc::AllocError;

@@ -5,7 +5,7 @@ ghost use Rattle.dscript_value.specs.Plain.{plain_of};
 ghost use Rattle.dscript_value.specs.declared.parts.Callee.TheVariants as callees;
 
 use crate::parts::Callee;
-use crate::value::{FunctionRef, Value, Values};
+use crate::value::{FlatValues, FunctionRef, Value, Values};
 use bx_tree::Text;
 use dscript_ambient::Ambient;
 use std::alloc::{AllocError, AllocFailed, Global};
@@ -51,7 +51,7 @@ pub(crate) fn larger(a: u32, b: u32) -> u32
 }
 
 // The greatest depth of some values.
-fn deepest(items: &[Value]) -> u32
+pub(crate) fn deepest(items: &[Value]) -> u32
     ensures { result ≡ greatest_depth (map plain_of items.now) }
 {
     let mut depth = 0;
@@ -71,7 +71,7 @@ pub fn list_of(alloc: Global, items: Vec<Value>) -> Result<Value, DepthFault>
     if depth >= MAX_DEPTH {
         return Err(DepthFault::TooDeep);
     }
-    Ok(Value::List(Values::new(alloc, depth + 1, items)?))
+    Ok(Values::of(FlatValues::new(alloc, depth, items)?).list())
 }
 
 /// The declared or arrow function with this number, which captured these values.
@@ -85,7 +85,7 @@ pub fn place_function(alloc: Global, number: u32, captured: Vec<Value>) -> Resul
     if depth >= MAX_DEPTH {
         return Err(DepthFault::TooDeep);
     }
-    let held = Values::new(alloc, depth + 1, captured)?;
+    let held = FlatValues::new(alloc, depth, captured)?;
     Ok(Value::Function(FunctionRef::new(Callee::Place(number), held)))
 }
 
@@ -93,7 +93,7 @@ pub fn place_function(alloc: Global, number: u32, captured: Vec<Value>) -> Resul
 pub fn ambient_function(alloc: Global, call: Ambient) -> Result<Value, AllocError>
     ensures { IfOk result (λ value. function_value (callees.Ambient call) [] ≡ Some (plain_of value)) }
 {
-    let held = Values::new(alloc, 1, Vec::new(alloc))?;
+    let held = FlatValues::new(alloc, 0, Vec::new(alloc))?;
     Ok(Value::Function(FunctionRef::new(Callee::Ambient(call), held)))
 }
 
@@ -110,6 +110,6 @@ pub fn member_of(alloc: Global, value: Value, name: Text) -> Result<Value, Depth
     }
     let mut held = Vec::new(alloc);
     held.push(value)?;
-    let held = Values::new(alloc, depth + 1, held)?;
+    let held = FlatValues::new(alloc, depth, held)?;
     Ok(Value::Function(FunctionRef::new(Callee::Member(name), held)))
 }

@@ -202,7 +202,7 @@ fn tree(alloc: Global) -> Result<Tree, Fail> {
 /// How many files a glob lists, and 9 where it is refused.
 fn listed(outcome: &Result<Value, SdkFault>) -> usize {
     match outcome {
-        Ok(Value::List(files)) => files.items().len(),
+        Ok(Value::List(files)) => files.len(),
         _ => 9,
     }
 }

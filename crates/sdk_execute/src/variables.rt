@@ -100,7 +100,8 @@ fn read_variables(alloc: Global, value: &Value) -> Result<Variables, SdkFault>
         (λ variables. variables_in (plain_of value.now) ≡ Ok variables)
         (λ fault. Refuses fault (variables_in (plain_of value.now))) }
 {
-    let read = read_each_variable(alloc, read_items(value)?)?;
+    let flat = read_items(alloc, value)?;
+    let read = read_each_variable(alloc, flat.items())?;
     let variables = Variables::of(read);
     if !are_distinct(variables.pairs()) {
         return Err(SdkFault::BadArgument);

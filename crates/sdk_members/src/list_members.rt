@@ -1,6 +1,6 @@
 //! The members of lists, without those that call functions.
-ghost use Rattle.std.specs.Prelude.{◌≡◌, ◌++◌, IfOk, Ok, Err, map, MatchResult};
-ghost use Rattle.dscript_value.specs.Plain.{plain_of};
+ghost use Rattle.std.specs.Prelude.{◌≡◌, Ok, Err, map, MatchResult};
+ghost use Rattle.dscript_value.specs.Plain.{item_list, plain_of, plain_values};
 ghost use Rattle.sdk_values.specs.Answers.{text_answer};
 ghost use Rattle.sdk_values.specs.Outcomes.{Refuses};
 ghost use Rattle.sdk_members.specs.Gives.{Gives, applied};
@@ -9,34 +9,25 @@ ghost use Rattle.sdk_members.specs.ListMembers.{join_items, joined, list_functio
 
 use crate::member::Member;
 use bx_tree::Text;
-use dscript_value::{NoOrder, Value, equal};
+use dscript_value::{GrowingList, NoOrder, Value, Values, equal};
 use sdk_values::{
-    MAX_TEXT_BYTES, Memory, SdkFault, first_argument, list_value, number_value, read_each,
-    read_items, read_text, text_value,
+    MAX_TEXT_BYTES, SdkFault, first_argument, grown_list, number_value, read_each, read_text,
+    read_values, text_value,
 };
 use std::alloc::Global;
 
-// Adds values like these to some values.
-fn add_all(values: &mut Vec<Value>, more: &[Value]) -> Result<(), Memory>
-    ensures { IfOk result (λ _. map plain_of values.new.items
-        ≡ map plain_of values.old.items ++ map plain_of more.now) }
-{
-    'values: for value in more {
-        values.push(value.share()?)?;
-    }
-    Ok(())
-}
-
-fn concat(alloc: Global, items: &[Value], args: &[Value]) -> Result<Value, SdkFault>
+fn concat(alloc: Global, values: &Values, args: &[Value]) -> Result<Value, SdkFault>
     ensures { MatchResult result
-        (λ value. concat_lists (map plain_of items.now) (map plain_of args.now) ≡ Ok (plain_of value))
-        (λ fault. Refuses fault (concat_lists (map plain_of items.now) (map plain_of args.now))) }
+        (λ value. concat_lists (item_list (plain_values values.now).items) (map plain_of args.now)
+        ≡ Ok (plain_of value))
+        (λ fault. Refuses fault
+        (concat_lists (item_list (plain_values values.now).items) (map plain_of args.now))) }
 {
-    let more = read_items(first_argument(args)?)?;
-    let mut all = Vec::new(alloc);
-    add_all(&mut all, items)?;
-    add_all(&mut all, more)?;
-    list_value(alloc, all)
+    let more = read_values(first_argument(args)?)?;
+    let mut all = GrowingList::new(alloc);
+    all.append(alloc, values)?;
+    all.append(alloc, more)?;
+    grown_list(alloc, all)
 }
 
 // Whether an item equals a value; no item after the first equal one is looked at.
@@ -55,12 +46,16 @@ fn has_equal(items: &[Value], value: &Value) -> Result<bool, SdkFault>
     Ok(false)
 }
 
-fn contains(items: &[Value], args: &[Value]) -> Result<Value, SdkFault>
+fn contains(alloc: Global, values: &Values, args: &[Value]) -> Result<Value, SdkFault>
     ensures { MatchResult result
-        (λ value. contains_item (map plain_of items.now) (map plain_of args.now) ≡ Ok (plain_of value))
-        (λ fault. contains_item (map plain_of items.now) (map plain_of args.now) ≡ Err fault) }
+        (λ value. contains_item (item_list (plain_values values.now).items) (map plain_of args.now)
+        ≡ Ok (plain_of value))
+        (λ fault. Refuses fault
+        (contains_item (item_list (plain_values values.now).items) (map plain_of args.now))) }
 {
-    let found = has_equal(items, first_argument(args)?)?;
+    let value = first_argument(args)?;
+    let flat = values.flat(alloc)?;
+    let found = has_equal(flat.items(), value)?;
     Ok(Value::Flag(found))
 }
 
@@ -84,13 +79,16 @@ fn join_texts(alloc: Global, separator: &Text, texts: &[Text]) -> Result<Value, 
     text_value(alloc, bytes)
 }
 
-fn join(alloc: Global, items: &[Value], args: &[Value]) -> Result<Value, SdkFault>
+fn join(alloc: Global, values: &Values, args: &[Value]) -> Result<Value, SdkFault>
     ensures { MatchResult result
-        (λ value. join_items (map plain_of items.now) (map plain_of args.now) ≡ Ok (plain_of value))
-        (λ fault. Refuses fault (join_items (map plain_of items.now) (map plain_of args.now))) }
+        (λ value. join_items (item_list (plain_values values.now).items) (map plain_of args.now)
+        ≡ Ok (plain_of value))
+        (λ fault. Refuses fault
+        (join_items (item_list (plain_values values.now).items) (map plain_of args.now))) }
 {
     let separator = read_text(first_argument(args)?)?;
-    let texts = read_each::<Text>(alloc, items)?;
+    let flat = values.flat(alloc)?;
+    let texts = read_each::<Text>(alloc, flat.items())?;
     join_texts(alloc, separator, texts.as_slice())
 }
 
@@ -98,27 +96,29 @@ fn join(alloc: Global, items: &[Value], args: &[Value]) -> Result<Value, SdkFaul
 #[tactic(auto, unfolding(crate::specs::ListMembers::list_function))]
 pub fn call_list(
     alloc: Global,
-    items: &[Value],
+    values: &Values,
     member: Member,
     args: &[Value],
 ) -> Result<Option<Value>, SdkFault>
-    ensures { Gives (applied (list_function member (map plain_of items.now)) (map plain_of args.now)) result }
+    ensures { Gives
+        (applied (list_function member (item_list (plain_values values.now).items)) (map plain_of args.now))
+        result }
 {
     match member {
-        Member::Concat => Ok(Some(concat(alloc, items, args)?)),
-        Member::Contains => Ok(Some(contains(items, args)?)),
-        Member::Join => Ok(Some(join(alloc, items, args)?)),
+        Member::Concat => Ok(Some(concat(alloc, values, args)?)),
+        Member::Contains => Ok(Some(contains(alloc, values, args)?)),
+        Member::Join => Ok(Some(join(alloc, values, args)?)),
         _ => Ok(None),
     }
 }
 
 /// A member of a list that is no function.
 #[tactic(auto, unfolding(crate::specs::ListMembers::list_property))]
-pub fn member_of_list(items: &[Value], member: Member) -> Result<Option<Value>, SdkFault>
-    ensures { Gives (list_property member (map plain_of items.now)) result }
+pub fn member_of_list(values: &Values, member: Member) -> Result<Option<Value>, SdkFault>
+    ensures { Gives (list_property member (item_list (plain_values values.now).items)) result }
 {
     match member {
-        Member::Length => Ok(Some(number_value(items.len())?)),
+        Member::Length => Ok(Some(number_value(values.len())?)),
         _ => Ok(None),
     }
 }

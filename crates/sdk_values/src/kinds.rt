@@ -1,12 +1,14 @@
 //! Values of a stated kind.
-ghost use Rattle.std.specs.Prelude.{◌≡◌, Ok, Err, map, MatchResult};
-ghost use Rattle.dscript_value.specs.Plain.{plain_of};
+ghost use Rattle.std.specs.Prelude.{◌≡◌, Ok, Err, MatchResult};
+ghost use Rattle.dscript_value.specs.Plain.{item_list, plain_of, plain_values};
 ghost use Rattle.sdk_values.specs.Kinds.{argument_in, directory_in, file_in, flag_in, items_in};
 ghost use Rattle.sdk_values.specs.Kinds.{path_in, text_in};
+ghost use Rattle.sdk_values.specs.Outcomes.{Refuses};
 
 use crate::fault::SdkFault;
 use bx_tree::{FileInput, Path, Text};
-use dscript_value::{Argument, Value};
+use dscript_value::{Argument, FlatValues, Value, Values};
+use std::alloc::Global;
 
 /// The flag that a value is.
 pub fn read_flag(value: &Value) -> Result<bool, SdkFault>
@@ -80,14 +82,23 @@ pub fn read_argument(value: &Value) -> Result<&Argument, SdkFault>
     }
 }
 
-/// The items of the list that a value is.
-pub fn read_items(value: &Value) -> Result<&[Value], SdkFault>
+/// The list that a value is.
+pub fn read_values(value: &Value) -> Result<&Values, SdkFault>
     ensures { MatchResult result
-        (λ items. items_in (plain_of value.now) ≡ Ok (map plain_of items.now))
+        (λ values. items_in (plain_of value.now) ≡ Ok (item_list (plain_values values.now).items))
         (λ fault. items_in (plain_of value.now) ≡ Err fault) }
 {
     match value {
-        Value::List(values) => Ok(values.items()),
+        Value::List(values) => Ok(values),
         _ => Err(SdkFault::Kind),
     }
+}
+
+/// The items of the list that a value is, in one piece.
+pub fn read_items(alloc: Global, value: &Value) -> Result<FlatValues, SdkFault>
+    ensures { MatchResult result
+        (λ items. items_in (plain_of value.now) ≡ Ok (item_list (plain_values items).items))
+        (λ fault. Refuses fault (items_in (plain_of value.now))) }
+{
+    Ok(read_values(value)?.flat(alloc)?)
 }

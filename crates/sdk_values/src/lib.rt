@@ -13,11 +13,12 @@ mod limits;
 mod objects;
 mod reading;
 
-pub use answers::{list_value, number_value, text_value};
+pub use answers::{grown_list, list_value, number_value, text_value};
 pub use arguments::{first_argument, two_arguments};
 pub use fault::SdkFault;
 pub use kinds::{
     read_argument, read_directory, read_file, read_flag, read_items, read_path, read_text,
+    read_values,
 };
 pub use limits::{MAX_LIST_ITEMS, MAX_TEXT_BYTES};
 pub use objects::read_object;

@@ -85,7 +85,8 @@ pub fn read_list<T: FromValue>(alloc: Global, value: &Value) -> Result<Vec<T>, S
         (λ held. list_in T.reads (plain_of value.now) ≡ Ok held.items)
         (λ fault. Refuses fault (list_in T.reads (plain_of value.now))) }
 {
-    read_each(alloc, read_items(value)?)
+    let items = read_items(alloc, value)?;
+    read_each(alloc, items.items())
 }
 
 /// The data of a field that must be there.

@@ -1,9 +1,9 @@
 use bx_tree::{FileInput, Path, Text};
-use dscript_value::{Argument, Field, Fields, Value, list_of, object_of};
+use dscript_value::{Argument, Field, Fields, GrowingList, Value, list_of, object_of};
 use sdk_values::{
-    MAX_LIST_ITEMS, MAX_TEXT_BYTES, SdkFault, first_argument, list_value, number_value,
+    MAX_LIST_ITEMS, MAX_TEXT_BYTES, SdkFault, first_argument, grown_list, list_value, number_value,
     read_argument, read_directory, read_field, read_file, read_flag, read_items, read_list_field,
-    read_object, read_optional, read_optional_list, read_path, read_text, text_value,
+    read_object, read_optional, read_optional_list, read_path, read_text, read_values, text_value,
     two_arguments,
 };
 use std::alloc::Global;
@@ -32,7 +32,7 @@ fn sample(alloc: Global, number: usize) -> Result<Value, Fail> {
 }
 
 /// Which of the readers take a value.
-fn readers(value: &Value) -> [bool; 7] {
+fn readers(alloc: Global, value: &Value) -> [bool; 7] {
     [
         read_flag(value).is_ok(),
         read_text(value).is_ok(),
@@ -40,14 +40,14 @@ fn readers(value: &Value) -> [bool; 7] {
         read_file(value).is_ok(),
         read_directory(value).is_ok(),
         read_argument(value).is_ok(),
-        read_items(value).is_ok(),
+        read_values(value).is_ok() && read_items(alloc, value).is_ok(),
     ]
 }
 
 /// Whether the reader with the number of a sample alone takes it.
 fn is_taken_alone(alloc: Global, number: usize) -> Result<bool, Fail> {
     let value = sample(alloc, number)?;
-    let takes = readers(&value);
+    let takes = readers(alloc, &value);
     drop(value);
     Ok(
         takes
@@ -221,6 +221,15 @@ fn list_answer(alloc: Global, length: usize) -> Result<&'static str, Fail> {
     Ok(value_answer(list_value(alloc, items)))
 }
 
+/// How a grown list of some items is answered.
+fn grown_answer(alloc: Global, length: usize) -> Result<&'static str, Fail> {
+    let mut list = GrowingList::new(alloc);
+    for _ in 0..length {
+        list.push(Value::Undefined)?;
+    }
+    Ok(value_answer(grown_list(alloc, list)))
+}
+
 const TEXTS: &[(usize, &str)] = &[(MAX_TEXT_BYTES, "ok"), (MAX_TEXT_BYTES + 1, "range")];
 
 const LISTS: &[(usize, &str)] = &[(MAX_LIST_ITEMS, "ok"), (MAX_LIST_ITEMS + 1, "range")];
@@ -239,6 +248,14 @@ fn texts_are_within_their_limit(rt: HostRuntime) -> Result<(), Fail> {
 fn lists_are_within_their_limit(rt: HostRuntime) -> Result<(), Fail> {
     for (length, answer) in LISTS {
         assert!(rt; list_answer(rt.alloc(), *length)? == *answer);
+    }
+    Ok(())
+}
+
+#[test]
+fn grown_lists_are_within_their_limit(rt: HostRuntime) -> Result<(), Fail> {
+    for (length, answer) in LISTS {
+        assert!(rt; grown_answer(rt.alloc(), *length)? == *answer);
     }
     Ok(())
 }

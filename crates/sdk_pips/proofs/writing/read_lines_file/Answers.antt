@@ -3,6 +3,11 @@ use Rattle.std.proofs.lemmas.Result.{err_from_is_err_and}
 use Rattle.sdk_pips.specs.WriteAllLines.{whole_text}
 use Rattle.sdk_pips.proofs.writing.read_lines_file.Goals as goal
 
+pub returns-in_err-to : goal.returns-in_err-to
+returns-in_err-to c =
+    let p = err_from_is_err_and c.from_residual-in_err-to.result c.from_residual-in_err-to.ensures.1 in
+    rw (p.1, p.2) (λ n. simp (c.in_ok-first_argument.ensures, c.in_ok-fields.ensures, c.in_err-to.ensures n))
+
 pub returns-in_err-lines : goal.returns-in_err-lines
 returns-in_err-lines c =
     let p = err_from_is_err_and c.from_residual-in_err-lines.result c.from_residual-in_err-lines.ensures.1 in

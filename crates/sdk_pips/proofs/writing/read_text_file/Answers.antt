@@ -9,3 +9,8 @@ returns-in_err-text c =
     let p = err_from_is_err_and c.from_residual-in_err-text.result c.from_residual-in_err-text.ensures.1 in
     rw (p.1, p.2)
     (λ n. simp (c.in_ok-first_argument.ensures, c.in_ok-fields.ensures, c.in_ok-to.ensures, c.in_err-text.ensures n))
+
+pub returns-in_err-to : goal.returns-in_err-to
+returns-in_err-to c =
+    let p = err_from_is_err_and c.from_residual-in_err-to.result c.from_residual-in_err-to.ensures.1 in
+    rw (p.1, p.2) (λ n. simp (c.in_ok-first_argument.ensures, c.in_ok-fields.ensures, c.in_err-to.ensures n))

@@ -2,7 +2,7 @@ use Rattle.std.proofs.Common.{◌≡◌, [], map}
 use Rattle.dscript_value.specs.Depths.{put_fields}
 use Rattle.dscript_value.specs.Places.{KeepPlaces}
 use Rattle.dscript_value.specs.Plain.{plain_field}
-use Rattle.dscript_value.proofs.objects.each_name_once.Given as goal
+use Rattle.dscript_value.proofs.objects.many_fields.Given as goal
 
 abbrev pub invariant-fields : goal.invariant-fields
 invariant-fields l = record {
