@@ -1,12 +1,11 @@
 -- What comes of callbacks comes of the works in their places.
 use Rattle.std.proofs.Common.{◌≡◌, ◌≢◌, ℕ, ◌+◌, ◌-◌, ◌<◌, pos, true, false, if◌then◌else◌, List, [], ◌∷◌, ◌++◌, append_assoc, drop, map, Option, Some, None, Ok, Err, refl, ap, sym, subst, ◌∙◌, arith}
 use Rattle.std.specs.Prelude.{unwrap_or}
-use Rattle.std.specs.declared.alloc.Global.{Global}
-use Rattle.std.specs.declared.vec.Vec.{Vec}
 use Rattle.std.proofs.lemmas.List.{append-nil}
+use Rattle.dscript_value.specs.Grown.{grown_items}
 use Rattle.dscript_value.specs.Plain as plain
-use Rattle.dscript_value.specs.Plain.{Plain, plain_of}
-use Rattle.dscript_value.specs.declared.value.Value.{Value}
+use Rattle.dscript_value.specs.Plain.{Plain}
+use Rattle.dscript_value.specs.declared.growing.GrowingList.{GrowingList}
 use Rattle.sdk_values.specs.Answers.{list_answer}
 use Rattle.sdk_values.specs.declared.fault.SdkFault.{SdkFault}
 use Rattle.sdk_values.specs.Outcomes.{Refuses}
@@ -164,8 +163,8 @@ loops_as v kind c is = ap (λ k. comes_by (loops v.program (acts_at v) v.given k
 
 -- what `map` gets is an item
 pub came_map
-    : (v w : View) (c : Callbacks) (more : Vec Value Global) → c.kind ≡ kinds.Map
-    → map plain_of more.items ≡ done_of c ++ v.given ∷ [] → w ≡ record v { given = plain.Undefined }
+    : (v w : View) (c : Callbacks) (more : GrowingList) → c.kind ≡ kinds.Map
+    → grown_items more ≡ done_of c ++ v.given ∷ [] → w ≡ record v { given = plain.Undefined }
     → comes_with (works.Call (call.Came c)) v
     ≡ comes_with (works.Call (call.Loop (record c { done = more; next = c.next + 1 }))) w
 came_map v w c more kind is taken =
@@ -189,8 +188,8 @@ came_dropped v c kind never =
     ∙ loops_as v kinds.Filter (record c { next = c.next + 1 }) kind
 
 pub came_kept
-    : (v : View) (c : Callbacks) (more : Vec Value Global) → c.kind ≡ kinds.Filter → is_true v.given ≡ true
-    → map plain_of more.items ≡ done_of c ++ item_of c ∷ []
+    : (v : View) (c : Callbacks) (more : GrowingList) → c.kind ≡ kinds.Filter → is_true v.given ≡ true
+    → grown_items more ≡ done_of c ++ item_of c ∷ []
     → comes_with (works.Call (call.Came c)) v
     ≡ comes_with (works.Call (call.Loop (record c { done = more; next = c.next + 1 }))) v
 came_kept v c more kind holds is =
@@ -206,8 +205,8 @@ came_kept v c more kind holds is =
 
 -- what `mapMany` gets are items
 pub came_many
-    : (v : View) (c : Callbacks) (more : Vec Value Global) → c.kind ≡ kinds.MapMany
-    → with_items_of (done_of c) v.given ≡ Ok (map plain_of more.items)
+    : (v : View) (c : Callbacks) (more : GrowingList) → c.kind ≡ kinds.MapMany
+    → with_items_of (done_of c) v.given ≡ Ok (grown_items more)
     → comes_with (works.Call (call.Came c)) v
     ≡ comes_with (works.Call (call.Loop (record c { done = more; next = c.next + 1 }))) v
 came_many v c more kind is =
@@ -261,14 +260,14 @@ form_with v kinds.Reduce f items = refl
 pub loop_begins
     : (v : View) (kind : Callback) (c : Callbacks) (f : Function) (items : List Plain)
     → c.kind ≡ kind → function_of c.function ≡ f → item_list (plain_values c.items).items ≡ items
-    → c.next ≡ 0 → c.done.items ≡ []
+    → c.next ≡ 0 → grown_items c.done ≡ []
     → comes_by (loop_form (acts_at v) v.given kind f items) v ≡ comes_with (works.Call (call.Loop c)) v
 loop_begins v kind c f items kind_is function_is items_are next_is done_is =
     ap (λ m. comes_by m v) (form_with v kind f items)
     ∙ ap (λ g. comes_by (loop_with v kind g 0 [] items) v) (sym function_is)
     ∙ ap (λ xs. comes_by (loop_with v kind (function_of c.function) 0 [] (drop 0 xs)) v) (sym items_are)
     ∙ ap (λ n. comes_by (loop_with v kind (function_of c.function) n [] (items_from c n)) v) (sym next_is)
-    ∙ ap (λ ds. comes_by (loop_with v kind (function_of c.function) c.next (map plain_of ds) (items_from c c.next)) v) (sym done_is)
+    ∙ ap (λ ds. comes_by (loop_with v kind (function_of c.function) c.next ds (items_from c c.next)) v) (sym done_is)
     ∙ ap (λ m. comes_by m v) (loops_with v kind c)
     ∙ loops_as v kind c kind_is
 

@@ -9,8 +9,7 @@ use Rattle.dscript_program.specs.Views.{expr_data, stmt_data}
 use Rattle.dscript_program.specs.declared.bound.BoundExpr.{BoundExpr}
 use Rattle.dscript_program.specs.declared.bound.BoundStmt.{BoundStmt}
 use Rattle.dscript_value.specs.Plain as plain
-use Rattle.dscript_value.specs.Plain.{Plain, item_list, plain_values}
-use Rattle.dscript_value.specs.declared.value.Values.{Values}
+use Rattle.dscript_value.specs.Plain.{Plain, PlainValues, item_list, plain_values}
 use Rattle.dscript_meaning.specs.Acts.{Acts}
 use Rattle.sdk_values.specs.Kinds.{items_in}
 use Rattle.dscript_operators.specs.Truth.{is_true}
@@ -105,7 +104,7 @@ all_last v ms others m is none =
 
 -- the turns after one that goes on or returns
 turned
-    : (p : ProgramData) (ws : List Work) (n : ℕ) (body : Bor BoundStmt) (items : Values) (i openable : ℕ) (way : Way) (s : State)
+    : (p : ProgramData) (ws : List Work) (n : ℕ) (body : Bor BoundStmt) (items : PlainValues) (i openable : ℕ) (way : Way) (s : State)
     → followed (next way (turns n (does p (acts p openable) (stmt_data body.now)) (drop i (item_list (plain_values items).items))) s)
     (λ way' later. run p ws way' openable plain.Undefined later)
     ≡ run p (works.Stmt (stmt.Turns n body items i) ∷ ws) way openable plain.Undefined s
@@ -242,7 +241,7 @@ branch_none v m other is never =
 -- ## Turns
 
 pub start_move
-    : (v : View) (n : ℕ) (body : Bor BoundStmt) (items : Values)
+    : (v : View) (n : ℕ) (body : Bor BoundStmt) (items : PlainValues)
     → items_in v.given ≡ Ok (item_list (plain_values items).items)
     → comes_with (works.Stmt (stmt.Start n body)) v
     ≡ comes (record v { work = works.Stmt (stmt.Turns n body items 0) ∷ v.work })
@@ -250,7 +249,7 @@ start_move v n body items is =
     ap (λ o. goes_by (answered o >>= λ xs. turns n (does v.program (acts_at v) (stmt_data body.now)) xs) v) is
 
 pub turns_end
-    : (v : View) (n : ℕ) (body : Bor BoundStmt) (items : Values) (i : ℕ)
+    : (v : View) (n : ℕ) (body : Bor BoundStmt) (items : PlainValues) (i : ℕ)
     → drop i (item_list (plain_values items).items) ≡ []
     → comes_with (works.Stmt (stmt.Turns n body items i)) v ≡ comes_with (works.Stmt stmt.Forget) v
 turns_end v n body items i none =
@@ -258,7 +257,7 @@ turns_end v n body items i none =
 
 -- a turn takes its step first
 pub turn_first
-    : (v : View) (n : ℕ) (body : Bor BoundStmt) (items : Values) (i j : ℕ) (x : Plain)
+    : (v : View) (n : ℕ) (body : Bor BoundStmt) (items : PlainValues) (i j : ℕ) (x : Plain)
     → drop i (item_list (plain_values items).items) ≡ x ∷ drop j (item_list (plain_values items).items)
     → comes_with (works.Stmt (stmt.Turns n body items i)) v
     ≡ goes_by (spend 1 >> turn_form v.program (acts_at v) n (stmt_data body.now) x (drop j (item_list (plain_values items).items))) v
@@ -266,7 +265,7 @@ turn_first v n body items i j x is =
     ap (λ xs. goes_by (turns n (does v.program (acts_at v) (stmt_data body.now)) xs) v) is
 
 pub turn_move
-    : (v : View) (n : ℕ) (body : Bor BoundStmt) (items : Values) (j : ℕ) (x : Plain) (frame : meaning.Frame)
+    : (v : View) (n : ℕ) (body : Bor BoundStmt) (items : PlainValues) (j : ℕ) (x : Plain) (frame : meaning.Frame)
     → frame ≡ with_local n x v.state.frame
     → goes_by (turn_form v.program (acts_at v) n (stmt_data body.now) x (drop j (item_list (plain_values items).items))) v
     ≡ comes (record v {

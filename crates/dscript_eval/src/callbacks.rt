@@ -29,10 +29,11 @@ use dscript_meaning::EvalKind;
 use dscript_operators::{add_items, callback, is_true, reduction};
 use dscript_value::{Callee, FunctionRef, Value, Values};
 use eval_machine::{
-    CallWork, Callback, Callbacks, Machine, Stop, Work, add_value, item_ref, shared_items, stop_of,
+    CallWork, Callback, Callbacks, Machine, Stop, Work, add_value, item_ref, push_item,
+    shared_items, stop_of,
 };
 use sdk_members::Member;
-use sdk_values::list_value;
+use sdk_values::grown_list;
 use std::alloc::{AllocError, Global};
 
 // The item that is next; undefined if there is none.
@@ -301,7 +302,7 @@ fn end_callbacks(machine: &mut Machine<'_>, callbacks: Callbacks) -> Result<(), 
     match callbacks.kind {
         Callback::Reduce => Ok(()),
         _ => {
-            let outcome = list_value(machine.alloc, callbacks.done);
+            let outcome = grown_list(machine.alloc, callbacks.done);
             machine.finish(outcome)
         }
     }
@@ -337,7 +338,7 @@ fn add_result(machine: &mut Machine<'_>, callbacks: &mut Callbacks) -> Result<()
         (comes_with (works.Call (call.Came callbacks.old)) (seen machine.old)) (seen machine.new) }
 {
     let value = machine.take();
-    add_value(&mut callbacks.done, value)?;
+    push_item(&mut callbacks.done, value)?;
     go_on(callbacks)
 }
 
@@ -350,7 +351,7 @@ fn keep_item(machine: &mut Machine<'_>, callbacks: &mut Callbacks) -> Result<(),
         return go_on(callbacks);
     }
     let item = next_item(callbacks)?;
-    add_value(&mut callbacks.done, item)?;
+    push_item(&mut callbacks.done, item)?;
     go_on(callbacks)
 }
 
@@ -359,7 +360,7 @@ fn add_results(machine: &mut Machine<'_>, callbacks: &mut Callbacks) -> Result<(
     ensures { callbacks.old.kind ≡ kinds.MapMany → AreLeft result callbacks.new
         (comes_with (works.Call (call.Came callbacks.old)) (seen machine.old)) (seen machine.new) }
 {
-    match add_items(&mut callbacks.done, &machine.given) {
+    match add_items(machine.alloc, &mut callbacks.done, &machine.given) {
         Ok(()) => go_on(callbacks),
         Err(fault) => Err(stop_of(fault, machine.frame.file)),
     }

@@ -218,7 +218,7 @@ pub fn bind(machine: &mut Machine<'_>, local: u32) -> Result<(), Stop>
     ensures { IsDone result machine.old machine.new (works.Stmt (stmt.Bind local)) }
 {
     let value = machine.take();
-    machine.frame.bind(local, value);
+    machine.frame.bind(local, value)?;
     Ok(())
 }
 
@@ -299,7 +299,7 @@ fn turn_with<'a>(
     ensures { Goes result machine.old machine.new (λ v. turn_form v.program (acts_at v) local (stmt_data
         body.now) (plain_of item) (drop next (item_list (plain_values items).items))) }
 {
-    machine.frame.bind(local, item);
+    machine.frame.bind(local, item)?;
     match machine.push(Work::Stmt(StmtWork::Turns(local, body, items, next))) {
         Ok(()) => does(machine, body),
         Err(stop) => Err(stop),

@@ -29,11 +29,13 @@ fn bound_at_once(machine: &mut Machine<'_>, local: u32, e: &BoundExpr) -> bool
         left,
         MAX_NESTING,
     ) {
-        Some((value, after)) => {
-            machine.left = after;
-            machine.frame.bind(local, value);
-            true
-        }
+        Some((value, after)) => match machine.frame.bind(local, value) {
+            Ok(()) => {
+                machine.left = after;
+                true
+            }
+            Err(_) => false,
+        },
         None => false,
     }
 }

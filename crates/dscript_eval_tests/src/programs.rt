@@ -96,6 +96,7 @@ pub(crate) const PROGRAMS: &str = r#"# Operators, conditions and names.
 8 0 pips : const o = {f, o: 1}; function f() { return 1; } const x = o.f();
 9 0 pips : const a = 2; const o = {a}; const x = o.a === 2 ? 1 : {}.a.b;
 28 0 pips : function f(n) { let t = []; for (const i of n) { t = [t, ...n]; } return t; } const x = f([1, 2])[0].length === 3 ? 1 : {}.a.b;
+52 0 pips : function f() { let t = [1, 2]; for (const i of [1, 2, 3, 4, 5, 6]) { t = [...t, ...t]; } return t; } const x = f()[127] === 2 ? 1 : {}.a.b;
 # Members of lists that call functions.
 22 0 pips : const x = [1, 2, 3].map(y => y * 2)[2] === 6 ? 1 : {}.a.b;
 14 0 pips : const x = [3, 4].map((y, i) => i)[1] === 1 ? 1 : {}.a.b;

@@ -9,6 +9,7 @@ use Rattle.dscript_value.specs.declared.value.Value.{Value}
 use Rattle.dscript_meaning.specs.Evaluating.{followed}
 use Rattle.dscript_meaning.specs.Statements.{On}
 use Rattle.eval_frames.specs.Frames.{frame_of}
+use Rattle.eval_frames.proofs.OwnLocals.{own_first}
 use Rattle.eval_frames.specs.declared.frame.Frame.{Frame}
 use Rattle.eval_now.specs.Now.{IsAtOnce, Knows}
 use Rattle.eval_machine.specs.Forms.{acts_at, value_at}
@@ -28,7 +29,8 @@ pub knows_own
     : (f : Frame) (known : List Value) → known ≡ f.own.items → Knows (map plain_of known) f.first (frame_of f)
 knows_own f known is = record {
   first_is = refl;
-  own_are = λ k x there. ap (λ (l : List Value). slice_get (map plain_of l) k) (sym is) ∙ there;
+  own_are = λ k x there. own_first f.own.items f.far f.count k x
+      (ap (λ (l : List Value). slice_get (map plain_of l) k) (sym is) ∙ there);
 }
 
 -- what the known locals give is what the machine gives

@@ -12,10 +12,11 @@ use Rattle.dscript_program.specs.declared.bound.BoundElement.{BoundElement}
 use Rattle.dscript_program.specs.declared.bound.BoundExpr.{BoundExpr}
 use Rattle.dscript_program.specs.declared.bound.BoundProp.{BoundProp}
 use Rattle.dscript_program.specs.declared.target.Target.{Target}
+use Rattle.dscript_value.specs.Grown.{grown_items}
 use Rattle.dscript_value.specs.Plain as plain
-use Rattle.dscript_value.specs.Plain.{Plain, PlainField, plain_field, plain_of}
+use Rattle.dscript_value.specs.Plain.{Plain, PlainField, plain_field}
+use Rattle.dscript_value.specs.declared.growing.GrowingList.{GrowingList}
 use Rattle.dscript_value.specs.declared.value.Field.{Field}
-use Rattle.dscript_value.specs.declared.value.Value.{Value}
 use Rattle.sdk_values.specs.Answers.{list_answer}
 use Rattle.dscript_operators.specs.Spreads.{spread_fields, with_items_of}
 use Rattle.dscript_meaning.specs.Acts.{Acts}
@@ -41,56 +42,56 @@ abbrev then_list : View → Gives (List Plain) → Gives Plain
 then_list v m = m >>= λ items. answered (list_answer items)
 
 pub list_move
-    : (v : View) (es : Bor (List BoundElement)) (done : Vec Value Global) → done.items ≡ []
+    : (v : View) (es : Bor (List BoundElement)) (done : GrowingList) → grown_items done ≡ []
     → comes_by (list_form v.program (acts_at v) (to_elements (map element_data es.now))) v
     ≡ comes_with (works.Expr (expr.Items es done)) v
 list_move v es done none =
-    ap (λ xs. comes_by (then_list v (elements v.program (acts_at v) (to_elements (map element_data es.now)) (map plain_of xs))) v)
+    ap (λ xs. comes_by (then_list v (elements v.program (acts_at v) (to_elements (map element_data es.now)) xs)) v)
     (sym none)
 
 pub items_end
-    : (v : View) (es : Bor (List BoundElement)) (done : Vec Value Global) → length es.now ≡ 0
+    : (v : View) (es : Bor (List BoundElement)) (done : GrowingList) → length es.now ≡ 0
     → comes_with (works.Expr (expr.Items es done)) v
-    ≡ comes_by (answered (list_answer (map plain_of done.items))) v
+    ≡ comes_by (answered (list_answer (grown_items done))) v
 items_end v es done none =
-    ap (λ xs. comes_by (then_list v (elements v.program (acts_at v) (to_elements (map element_data xs)) (map plain_of done.items))) v)
+    ap (λ xs. comes_by (then_list v (elements v.program (acts_at v) (to_elements (map element_data xs)) (grown_items done))) v)
     (empty_list es.now none)
     ∙ ap (λ r. followed (followed r (λ items. answered (list_answer items))) (λ x later. run v.program v.work On v.openable x later))
-    (no_elements-is v.program (acts_at v) v.state (map plain_of done.items))
+    (no_elements-is v.program (acts_at v) v.state (grown_items done))
 
 pub element_move
-    : (v : View) (es others : Bor (List BoundElement)) (element : BoundElement) (e : Bor BoundExpr) (done : Vec Value Global)
+    : (v : View) (es others : Bor (List BoundElement)) (element : BoundElement) (e : Bor BoundExpr) (done : GrowingList)
     → es.now ≡ element ∷ others.now → element_data element ≡ tree.Element false (expr_data e.now)
     → comes_with (works.Expr (expr.Items es done)) v
     ≡ comes (record v { work = works.Expr (expr.Value e) ∷ works.Expr (expr.Item others done) ∷ v.work })
 element_move v es others element e done is parts =
-    ap (λ xs. comes_by (then_list v (elements v.program (acts_at v) (to_elements (map element_data xs)) (map plain_of done.items))) v) is
-    ∙ ap (λ d. comes_by (then_list v (elements v.program (acts_at v) (more_elements d (to_elements (map element_data others.now))) (map plain_of done.items))) v) parts
+    ap (λ xs. comes_by (then_list v (elements v.program (acts_at v) (to_elements (map element_data xs)) (grown_items done))) v) is
+    ∙ ap (λ d. comes_by (then_list v (elements v.program (acts_at v) (more_elements d (to_elements (map element_data others.now))) (grown_items done))) v) parts
     ∙ ap (λ r. followed (followed r (λ items. answered (list_answer items))) (λ x later. run v.program v.work On v.openable x later))
-    (element-is v.program (acts_at v) v.state (expr_data e.now) (to_elements (map element_data others.now)) (map plain_of done.items))
+    (element-is v.program (acts_at v) v.state (expr_data e.now) (to_elements (map element_data others.now)) (grown_items done))
     ∙ ap (λ r. followed r (λ x later. run v.program v.work On v.openable x later)) (followed-followed (value_at v (expr_data e.now) v.state) _ _)
     ∙ followed-followed (value_at v (expr_data e.now) v.state) _ _
 
 pub spread_move
-    : (v : View) (es others : Bor (List BoundElement)) (element : BoundElement) (e : Bor BoundExpr) (done : Vec Value Global)
+    : (v : View) (es others : Bor (List BoundElement)) (element : BoundElement) (e : Bor BoundExpr) (done : GrowingList)
     → es.now ≡ element ∷ others.now → element_data element ≡ tree.Element true (expr_data e.now)
     → comes_with (works.Expr (expr.Items es done)) v
     ≡ comes (record v { work = works.Expr (expr.Value e) ∷ works.Expr (expr.SpreadItem others done) ∷ v.work })
 spread_move v es others element e done is parts =
-    ap (λ xs. comes_by (then_list v (elements v.program (acts_at v) (to_elements (map element_data xs)) (map plain_of done.items))) v) is
-    ∙ ap (λ d. comes_by (then_list v (elements v.program (acts_at v) (more_elements d (to_elements (map element_data others.now))) (map plain_of done.items))) v) parts
+    ap (λ xs. comes_by (then_list v (elements v.program (acts_at v) (to_elements (map element_data xs)) (grown_items done))) v) is
+    ∙ ap (λ d. comes_by (then_list v (elements v.program (acts_at v) (more_elements d (to_elements (map element_data others.now))) (grown_items done))) v) parts
     ∙ ap (λ r. followed (followed r (λ items. answered (list_answer items))) (λ x later. run v.program v.work On v.openable x later))
-    (spread-is v.program (acts_at v) v.state (expr_data e.now) (to_elements (map element_data others.now)) (map plain_of done.items))
+    (spread-is v.program (acts_at v) v.state (expr_data e.now) (to_elements (map element_data others.now)) (grown_items done))
     ∙ ap (λ r. followed r (λ x later. run v.program v.work On v.openable x later)) (followed-followed (value_at v (expr_data e.now) v.state) _ _)
     ∙ followed-followed (value_at v (expr_data e.now) v.state) _ _
     ∙ followed-same (value_at v (expr_data e.now) v.state) _ _
     (λ x s. ap (λ r. followed r (λ y later. run v.program v.work On v.openable y later))
-    (followed-followed (answered (with_items_of (map plain_of done.items) x) s) _ _))
+    (followed-followed (answered (with_items_of (grown_items done) x) s) _ _))
 
 -- the item that is given is added after those that are done
 pub item_move
-    : (v w : View) (others : Bor (List BoundElement)) (done more : Vec Value Global)
-    → map plain_of more.items ≡ map plain_of done.items ++ v.given ∷ []
+    : (v w : View) (others : Bor (List BoundElement)) (done more : GrowingList)
+    → grown_items more ≡ grown_items done ++ v.given ∷ []
     → w ≡ record v { given = plain.Undefined }
     → comes_with (works.Expr (expr.Item others done)) v ≡ comes_with (works.Expr (expr.Items others more)) w
 item_move v w others done more is taken =
@@ -99,8 +100,8 @@ item_move v w others done more is taken =
 
 -- the list that is given is spread after the items that are done
 pub spread_item_move
-    : (v : View) (others : Bor (List BoundElement)) (done more : Vec Value Global)
-    → with_items_of (map plain_of done.items) v.given ≡ Ok (map plain_of more.items)
+    : (v : View) (others : Bor (List BoundElement)) (done more : GrowingList)
+    → with_items_of (grown_items done) v.given ≡ Ok (grown_items more)
     → comes_with (works.Expr (expr.SpreadItem others done)) v ≡ comes_with (works.Expr (expr.Items others more)) v
 spread_item_move v others done more is =
     ap (λ o. comes_by (answered o >>= λ items. then_list v (elements v.program (acts_at v) (to_elements (map element_data others.now)) items)) v) is

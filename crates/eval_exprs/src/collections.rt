@@ -14,18 +14,18 @@ use crate::names::name_value;
 use bx_tree::Text;
 use dscript_operators::{add_fields, add_items};
 use dscript_program::{BoundElement, BoundExpr, BoundProp, Target};
-use dscript_value::{Field, Value};
+use dscript_value::{Field, GrowingList};
 use eval_frames::{element_parts, object_value};
-use eval_machine::{ExprWork, Machine, Stop, Work, add_field, add_value, stop_of};
+use eval_machine::{ExprWork, Machine, Stop, Work, add_field, push_item, stop_of};
 use eval_now::named_parts;
-use sdk_values::list_value;
+use sdk_values::grown_list;
 
 /// The elements of a list.
 pub fn begin_list<'a>(machine: &mut Machine<'a>, es: &'a [BoundElement]) -> Result<(), Stop>
     ensures { Comes result machine.old machine.new (λ v. list_form v.program (acts_at v) (to_elements (map
         element_data es.now))) }
 {
-    let none = Vec::new(machine.alloc);
+    let none = GrowingList::new(machine.alloc);
     items(machine, es, none)
 }
 
@@ -42,7 +42,7 @@ pub fn begin_object<'a>(machine: &mut Machine<'a>, ps: &'a [BoundProp]) -> Resul
 pub fn items<'a>(
     machine: &mut Machine<'a>,
     es: &'a [BoundElement],
-    done: Vec<Value>,
+    done: GrowingList,
 ) -> Result<(), Stop>
     ensures { IsDone result machine.old machine.new (works.Expr (expr.Items es.entry done)) }
 {
@@ -57,7 +57,7 @@ pub fn items<'a>(
             return items_by_work(machine, left, made);
         }
         let item = machine.take();
-        add_value(&mut made, item)?;
+        push_item(&mut made, item)?;
         left = others;
     }
     items_by_work(machine, left, made)
@@ -67,12 +67,12 @@ pub fn items<'a>(
 fn items_by_work<'a>(
     machine: &mut Machine<'a>,
     es: &'a [BoundElement],
-    done: Vec<Value>,
+    done: GrowingList,
 ) -> Result<(), Stop>
     ensures { IsDone result machine.old machine.new (works.Expr (expr.Items es.entry done)) }
 {
     let Some((element, others)) = es.split_first() else {
-        return machine.finish(list_value(machine.alloc, done));
+        return machine.finish(grown_list(machine.alloc, done));
     };
     let (is_spread, e) = element_parts(element);
     if is_spread {
@@ -91,13 +91,13 @@ fn items_by_work<'a>(
 pub fn item<'a>(
     machine: &mut Machine<'a>,
     others: &'a [BoundElement],
-    done: Vec<Value>,
+    done: GrowingList,
 ) -> Result<(), Stop>
     ensures { IsDone result machine.old machine.new (works.Expr (expr.Item others.entry done)) }
 {
     let mut done = done;
     let item = machine.take();
-    add_value(&mut done, item)?;
+    push_item(&mut done, item)?;
     items(machine, others, done)
 }
 
@@ -105,12 +105,12 @@ pub fn item<'a>(
 pub fn spread_item<'a>(
     machine: &mut Machine<'a>,
     others: &'a [BoundElement],
-    done: Vec<Value>,
+    done: GrowingList,
 ) -> Result<(), Stop>
     ensures { IsDone result machine.old machine.new (works.Expr (expr.SpreadItem others.entry done)) }
 {
     let mut done = done;
-    match add_items(&mut done, &machine.given) {
+    match add_items(machine.alloc, &mut done, &machine.given) {
         Ok(()) => items(machine, others, done),
         Err(fault) => Err(stop_of(fault, machine.frame.file)),
     }

@@ -1,4 +1,4 @@
--- What captured locals hold, and the values with which a body begins.
+-- What captured locals hold.
 use Rattle.std.proofs.Common.{◌≡◌, ℕ, zero, suc, ◌+◌, ◌<◌, ◌≤◌, cond, List, [], ◌∷◌, ◌++◌, append_assoc, length, drop, map}
 use Rattle.std.proofs.Common.{get_or, slice_get, unwrap_or, refl, ap, sym, ◌∙◌, arith, add-one}
 use Rattle.std.proofs.lemmas.Bool.{eq-eqb, ne_eqb}
@@ -8,8 +8,6 @@ use Rattle.dscript_value.specs.declared.value.Value.{Value}
 use Rattle.dscript_value.specs.declared.value.Value.TheVariants as values
 use Rattle.sdk_values.proofs.Views.{plain-Undefined}
 use Rattle.dscript_meaning.specs.Frames.{captured_value, filled}
-
--- ## Captured locals
 
 captured_empty : (cs : List ℕ) (n : ℕ) → captured_value cs [] n ≡ Undefined
 captured_empty [] n = refl
@@ -25,7 +23,7 @@ captured_found (c ∷ cs) [] (suc i) n d less is = captured_empty (drop i cs) n
 captured_found (c ∷ cs) (x ∷ xs) zero n d less is = ap (λ b. cond b x (captured_value cs xs n)) (eq-eqb c n is)
 captured_found (c ∷ cs) (x ∷ xs) (suc i) n d less is = captured_found cs xs i n d (omega (arith, less)) is
 
-next_captured
+pub next_captured
     : (cs : List ℕ) (xs : List Plain) (i n d : ℕ) → i < length cs → (get_or cs i d ≡ n → ⊥)
     → captured_value (drop i cs) (drop i xs) n ≡ captured_value (drop (suc i) cs) (drop (suc i) xs) n
 next_captured [] xs i n d less other = absurd (omega (arith, less))
@@ -62,28 +60,3 @@ pub no_value
 no_value [] n le = refl
 no_value (x ∷ xs) zero le = absurd (omega (arith, le))
 no_value (x ∷ xs) (suc n) le = no_value xs n (omega (arith, le))
-
--- ## Arguments
-
--- the next argument is the next value
-pub next_added
-    : (before now left others : List Value) (x y : Value) (n : ℕ) → now ≡ before ++ x ∷ [] → plain_of x ≡ plain_of y
-    → left ≡ y ∷ others
-    → map plain_of now ++ filled n (map plain_of others) ≡ map plain_of before ++ filled (suc n) (map plain_of left)
-next_added before now left others x y n is same rest =
-    ap (λ l. map plain_of l ++ filled n (map plain_of others)) is
-    ∙ ap (λ l. l ++ filled n (map plain_of others)) (map-append plain_of before (x ∷ []))
-    ∙ append_assoc (map plain_of before) (plain_of x ∷ []) (filled n (map plain_of others))
-    ∙ ap (λ p. map plain_of before ++ p ∷ filled n (map plain_of others)) same
-    ∙ ap (λ l. map plain_of before ++ filled (suc n) (map plain_of l)) (sym rest)
-
--- a missing argument is undefined
-pub none_added
-    : (before now left : List Value) (n : ℕ) → now ≡ before ++ values.Undefined ∷ [] → length left ≡ 0
-    → map plain_of now ++ filled n (map plain_of left) ≡ map plain_of before ++ filled (suc n) (map plain_of left)
-none_added before now [] n is none =
-    ap (λ l. map plain_of l ++ filled n []) is
-    ∙ ap (λ l. l ++ filled n []) (map-append plain_of before (values.Undefined ∷ []))
-    ∙ append_assoc (map plain_of before) (plain_of values.Undefined ∷ []) (filled n [])
-    ∙ ap (λ p. map plain_of before ++ p ∷ filled n []) plain-Undefined
-none_added before now (x ∷ xs) n is none = absurd (omega (arith, none))

@@ -1,8 +1,9 @@
 -- What contracts see of a frame.
-use Rattle.std.specs.Prelude.{List, [], map, Option, Some, None}
-use Rattle.dscript_value.specs.Plain.{Plain, item_list, plain_function, plain_of}
+use Rattle.std.specs.Prelude.{List, [], Option, Some, None}
+use Rattle.dscript_value.specs.Plain.{Plain, item_list, plain_function}
 use Rattle.dscript_value.specs.declared.value.FunctionRef.{FunctionRef}
 use Rattle.dscript_meaning.specs.States as meaning
+use Rattle.eval_frames.specs.Own.{own_values}
 use Rattle.eval_frames.specs.declared.frame.Frame.{Frame}
 
 abbrev pub held_by : Option FunctionRef → List Plain
@@ -12,8 +13,8 @@ held_by (Some f) = item_list (plain_function f).held.items
 abbrev pub frame_of : Frame → meaning.Frame
 frame_of f = record {
   file = f.file;
-  captured = f.captured.now;
+  captured = f.captured.locals.now;
   held = held_by f.function;
   first = f.first;
-  own = map plain_of f.own.items;
+  own = own_values f.own.items f.far f.count;
 }

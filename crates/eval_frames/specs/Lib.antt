@@ -1,3 +1,5 @@
+pub mod Ascending
+pub mod Own
 pub mod Frames
 pub mod Statuses
 pub mod Consts

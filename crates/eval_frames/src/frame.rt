@@ -1,54 +1,42 @@
 //! The frame of the running body.
-ghost use Rattle.std.specs.Prelude.{◌≡◌, ◌<◌, ◌++◌, ℕ, suc, [], map, slice_get, slice_set, take};
-ghost use Rattle.std.specs.Prelude.{Some, None, unwrap_or, IfOk};
+ghost use Rattle.std.specs.Prelude.{◌≡◌, ◌<◌, ◌≤◌, [], length, map, slice_set};
+ghost use Rattle.std.specs.Prelude.{Some, None, IfOk, OnErr, OnOk};
 ghost use Rattle.dscript_program.specs.Views.{function_data};
-ghost use Rattle.dscript_value.specs.Plain as plain;
 ghost use Rattle.dscript_value.specs.Plain.{plain_of};
-ghost use Rattle.dscript_meaning.specs.Frames.{captured_value, constant_frame, filled};
-ghost use Rattle.dscript_meaning.specs.Frames.{function_frame, local_value, with_local};
+ghost use Rattle.dscript_meaning.specs.Frames.{constant_frame, function_frame, local_value, with_local};
 ghost use Rattle.eval_frames.specs.Frames.{frame_of, held_by};
 
 use crate::Memory;
+use crate::captured::Captured;
+use crate::own::{own_arguments, put_after, put_at, put_far, value_in};
 use dscript_program::Function;
 use dscript_value::{FunctionRef, Value};
 use std::alloc::Global;
-use std::mem;
+use std::collections::BTreeMap;
 
 /// The running body: its file, the locals that it captured and the function that holds their values, and its
 /// own locals from the first one on. A constant has neither.
 #[derive(Drop)]
 pub struct Frame<'a> {
     pub file: u32,
-    pub captured: &'a [u32],
+    pub captured: Captured<'a>,
     pub function: Option<FunctionRef>,
     pub first: u32,
+    /// How many own locals the body has.
+    pub count: u32,
+    /// Own locals from the first one on, as far as the list goes.
     pub own: Vec<Value>,
+    /// Own locals that were bound far beyond the end of the list, by place.
+    pub far: BTreeMap<usize, Value>,
+    /// How many places before a local that is bound further on may still be filled.
+    pub spare: usize,
 }
 
-// The value with this number, or `undefined` where there is none.
-fn value_at(values: &[Value], number: usize) -> Result<Value, Memory>
-    ensures { IfOk result (λ value. plain_of value
-        ≡ unwrap_or (slice_get (map plain_of values.now) number) plain.Undefined) }
-{
-    match values.get(number) {
-        Some(value) => value.share(),
-        None => Ok(Value::Undefined),
-    }
-}
+// How many places a frame may fill before locals that are bound beyond the end of its list, and how many more
+// each time that it keeps such a local by its place.
+const SPARE: usize = 64;
 
-// The value of a captured local, by the values that a function holds.
-#[tactic(auto, using(crate::proofs::Locals::captures))]
-fn captured_at(captured: &[u32], held: &[Value], local: u32) -> Result<Value, Memory>
-    ensures { IfOk result (λ value. plain_of value
-        ≡ captured_value captured.now (map plain_of held.now) local) }
-{
-    'captured: for (place, first) in captured.iter().enumerate() {
-        if *first == local {
-            return value_at(held, place);
-        }
-    }
-    Ok(Value::Undefined)
-}
+const MORE_SPARE: usize = 16;
 
 // The values that a function holds.
 fn held_values(function: &Option<FunctionRef>) -> &[Value]
@@ -60,49 +48,6 @@ fn held_values(function: &Option<FunctionRef>) -> &[Value]
     }
 }
 
-// Adds the next of some values, or `undefined` where there is none, and gives those after it.
-fn add_next<'a>(values: &mut Vec<Value>, left: &'a [Value]) -> Result<&'a [Value], Memory>
-    ensures { IfOk result (λ later. (n : ℕ)
-        → map plain_of values.new.items ++ filled n (map plain_of later.now)
-        ≡ map plain_of values.old.items ++ filled (suc n) (map plain_of left.entry.now)) }
-{
-    match left.split_first() {
-        Some((value, others)) => {
-            let copy = value.share()?;
-            values.push(copy)?;
-            Ok(others)
-        }
-        None => {
-            values.push(Value::Undefined)?;
-            Ok(left)
-        }
-    }
-}
-
-// Some values: these, and `undefined` in the places of those that are missing.
-fn filled_values(alloc: Global, count: u32, args: &[Value]) -> Result<Vec<Value>, Memory>
-    ensures { IfOk result (λ values. map plain_of values.items ≡ filled count (map plain_of args.now)) }
-{
-    let mut values = Vec::new(alloc);
-    let mut left = args;
-    'values: for _ in 0..count {
-        let others = add_next(&mut values, left)?;
-        left = others;
-    }
-    Ok(values)
-}
-
-// The first of these values.
-fn first_of(values: &[Value], count: usize) -> &[Value]
-    ensures { map plain_of result.now ≡ take count (map plain_of values.now) }
-{
-    if count < values.len() {
-        &values[..count]
-    } else {
-        values
-    }
-}
-
 impl<'a> Frame<'a> {
     /// The frame of a constant of a file.
     pub fn of_constant(alloc: Global, file: u32) -> Frame<'a>
@@ -110,10 +55,13 @@ impl<'a> Frame<'a> {
     {
         Frame {
             file,
-            captured: &[],
+            captured: Captured::of(&[]),
             function: None,
             first: 0,
+            count: 0,
             own: Vec::new(alloc),
+            far: BTreeMap::new(alloc),
+            spare: SPARE,
         }
     }
 
@@ -127,17 +75,16 @@ impl<'a> Frame<'a> {
         ensures { IfOk result (λ frame. frame_of frame
             ≡ function_frame (function_data function.now) (held_by held) (map plain_of args.now)) }
     {
-        let own = filled_values(
-            alloc,
-            function.local_count,
-            first_of(args, function.params.len()),
-        )?;
+        let own = own_arguments(alloc, args, function.params.len(), function.local_count)?;
         Ok(Frame {
             file: function.file,
-            captured: function.captured.as_slice(),
+            captured: Captured::of(function.captured.as_slice()),
             function: held,
             first: function.first_local,
+            count: function.local_count,
             own,
+            far: BTreeMap::new(alloc),
+            spare: SPARE,
         })
     }
 
@@ -146,9 +93,10 @@ impl<'a> Frame<'a> {
         ensures { IfOk result (λ value. plain_of value ≡ local_value (frame_of self.now) local) }
     {
         if local < self.first {
-            captured_at(self.captured, held_values(&self.function), local)
+            self.captured.value(held_values(&self.function), local)
         } else {
-            value_at(self.own.as_slice(), (local - self.first) as usize)
+            let place = (local - self.first) as usize;
+            value_in(self.own.as_slice(), &self.far, self.count, place)
         }
     }
 
@@ -164,24 +112,39 @@ impl<'a> Frame<'a> {
         Ok(values)
     }
 
-    /// A local of the body holds a value from now on.
-    pub fn bind(&mut self, local: u32, value: Value)
-        ensures { frame_of self.new ≡ with_local local (plain_of value) (frame_of self.old) }
+    // A local that is beyond the end of the list holds a value from now on.
+    fn bind_further(&mut self, place: usize, value: Value) -> Result<(), Memory>
+        requires { (length self.old.own.items ≤ place) × (place < self.old.count) }
+        ensures bound { OnOk result (frame_of self.new ≡ record (frame_of self.old) {
+          own = slice_set (frame_of self.old).own place (plain_of value);
+        }) }
+        ensures none { OnErr result (frame_of self.new ≡ frame_of self.old) }
+    {
+        let missing = place - self.own.len();
+        if missing > self.spare {
+            self.spare = self.spare.saturating_add(MORE_SPARE);
+            put_far(&mut self.far, place, value)
+        } else {
+            self.spare -= missing;
+            put_after(&mut self.own, &self.far, missing, value)
+        }
+    }
+
+    /// A local of the body holds a value from now on. Nothing changes where memory is lacking.
+    pub fn bind(&mut self, local: u32, value: Value) -> Result<(), Memory>
+        ensures bound { IfOk result (λ _. frame_of self.new
+            ≡ with_local local (plain_of value) (frame_of self.old)) }
+        ensures none { OnErr result (frame_of self.new ≡ frame_of self.old) }
     {
         let place = local.saturating_sub(self.first) as usize;
-        put_at(&mut self.own, place, value);
-    }
-}
-
-// Puts a value in a place, if there is one.
-#[tactic(auto, using(crate::proofs::Places::places))]
-fn put_at(values: &mut Vec<Value>, place: usize, value: Value)
-    ensures { map plain_of values.new.items
-        ≡ slice_set (map plain_of values.old.items) place (plain_of value) }
-{
-    if place < values.len() {
-        drop(mem::replace(&mut values[place], value));
-    } else {
-        drop(value);
+        if place < self.own.len() {
+            put_at(&mut self.own, place, value);
+            Ok(())
+        } else if place < self.count as usize {
+            self.bind_further(place, value)
+        } else {
+            drop(value);
+            Ok(())
+        }
     }
 }

@@ -5,10 +5,12 @@
 //! words it is defined.
 #![tactic(auto)]
 
+mod captured;
 mod frame;
 mod lookups;
 mod made;
 mod nodes;
+mod own;
 mod status;
 
 pub use frame::Frame;

@@ -180,10 +180,10 @@ fn further_arguments_are_dropped_and_missing_ones_are_undefined(
     Ok(())
 }
 
-fn bind_some(frame: &mut Frame<'_>) {
-    frame.bind(5, Value::Number(1));
-    frame.bind(5, Value::Number(2));
-    frame.bind(6, Value::Number(3));
+fn bind_some(frame: &mut Frame<'_>) -> Result<(), Memory> {
+    frame.bind(5, Value::Number(1))?;
+    frame.bind(5, Value::Number(2))?;
+    frame.bind(6, Value::Number(3))
 }
 
 fn has_the_last(alloc: Global, frame: &Frame<'_>) -> Result<bool, Memory> {
@@ -194,7 +194,7 @@ fn has_the_last(alloc: Global, frame: &Frame<'_>) -> Result<bool, Memory> {
 
 fn binds(alloc: Global, function: &Function) -> Result<bool, Memory> {
     let mut frame = Frame::of_function(alloc, function, None, &[])?;
-    bind_some(&mut frame);
+    bind_some(&mut frame)?;
     let bound = has_the_last(alloc, &frame);
     drop(frame);
     bound
@@ -210,6 +210,71 @@ fn binds_locals(alloc: Global) -> Result<bool, Memory> {
 #[test]
 fn a_local_holds_what_was_bound_last(rt: HostRuntime) -> Result<(), Fail> {
     assert!(rt; binds_locals(rt.alloc())?);
+    Ok(())
+}
+
+/// A function with 200 locals from the local 40 on, which captures the locals with even numbers below 36.
+fn long_function(alloc: Global) -> Result<Function, Memory> {
+    let mut captured = Vec::new(alloc);
+    for number in 0..18 {
+        captured.push(number * 2)?;
+    }
+    Ok(Function {
+        file: 0,
+        captured,
+        params: Vec::new(alloc),
+        first_local: 40,
+        local_count: 200,
+        body: Body::Block(Vec::new(alloc)),
+    })
+}
+
+/// A function that holds the numbers below 18.
+fn long_holder(alloc: Global) -> Result<Option<FunctionRef>, Memory> {
+    let captured = numbers(alloc, 18)?;
+    match function_at(alloc, 0, captured) {
+        Ok(value) => Ok(function_in(value)),
+        Err(fault) => {
+            drop(fault);
+            Ok(None)
+        }
+    }
+}
+
+/// Whether locals far from one another hold what was bound last, and those between them nothing.
+fn binds_far(frame: &mut Frame<'_>) -> Result<bool, Memory> {
+    frame.bind(190, Value::Number(1))?;
+    frame.bind(60, Value::Number(2))?;
+    frame.bind(191, Value::Number(3))?;
+    frame.bind(190, Value::Number(4))?;
+    frame.bind(110, Value::Number(5))?;
+    let far = holds(frame, 190, 4) && holds(frame, 191, 3) && is_unset(frame, 189);
+    Ok(far && holds(frame, 60, 2) && holds(frame, 110, 5) && is_unset(frame, 109))
+}
+
+/// Whether captured locals hold what the function holds for them, and those between them nothing.
+fn has_captured(frame: &Frame<'_>) -> bool {
+    holds(frame, 0, 0) && holds(frame, 34, 17) && holds(frame, 12, 6) && is_unset(frame, 13)
+}
+
+fn binds_long(alloc: Global, function: &Function) -> Result<bool, Memory> {
+    let held = long_holder(alloc)?;
+    let mut frame = Frame::of_function(alloc, function, held, &[])?;
+    let bound = has_captured(&frame) && binds_far(&mut frame)?;
+    drop(frame);
+    Ok(bound)
+}
+
+fn binds_far_locals(alloc: Global) -> Result<bool, Memory> {
+    let function = long_function(alloc)?;
+    let bound = binds_long(alloc, &function);
+    drop(function);
+    bound
+}
+
+#[test]
+fn locals_that_are_far_from_one_another_are_found(rt: HostRuntime) -> Result<(), Fail> {
+    assert!(rt; binds_far_locals(rt.alloc())?);
     Ok(())
 }
 

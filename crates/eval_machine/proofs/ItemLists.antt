@@ -61,28 +61,19 @@ item_there [] (suc n) x ys is = let never : [] ≡ x ∷ ys = is in cc
 item_there (y ∷ xs) zero x ys is = let same : y ≡ x = cc in ap Some same
 item_there (y ∷ xs) (suc n) x ys is = item_there xs n x ys is
 
--- what is read from a list of which another list is made
+-- an item that is shared, and those after it
 pub shared_first
-    : {A B : Type 0} (f : A → B) (xs : List A) (ys : List B) (n : ℕ) (x copy : A) → map f xs ≡ ys
-    → slice_get xs n ≡ Some x → f copy ≡ f x → drop n ys ≡ f copy ∷ drop (n + 1) ys
-shared_first f xs ys n x copy all is same =
-    ap (drop n) (sym all)
-    ∙ item_first f xs n x is
-    ∙ ap (λ y. y ∷ drop (n + 1) (map f xs)) (sym same)
-    ∙ ap (λ l. f copy ∷ drop (n + 1) l) all
-
-pub shared_none
-    : {A B : Type 0} (f : A → B) (xs : List A) (ys : List B) (n : ℕ) → map f xs ≡ ys → slice_get xs n ≡ None
-    → drop n ys ≡ []
-shared_none f xs ys n all none = ap (drop n) (sym all) ∙ no_item f xs n none
+    : {A : Type 0} (xs : List A) (n : ℕ) (x copy : A) → slice_get xs n ≡ Some x → copy ≡ x
+    → drop n xs ≡ copy ∷ drop (n + 1) xs
+shared_first xs n x copy is same = same_first xs n x is ∙ ap (λ y. y ∷ drop (n + 1) xs) (sym same)
 
 -- an item that is read where it is
 pub item_where
-    : (r : Option (Bor Value)) (xs : List Value) (ys : List Plain) (n : ℕ) → map plain_of xs ≡ ys
-    → MatchOption r (slice_get xs n ≡ None) (λ v. (slice_get xs n ≡ Some v.now) × (n < length xs))
-    → MatchOption r (drop n ys ≡ []) (λ v. drop n ys ≡ plain_of v.now ∷ drop (n + 1) ys)
-item_where None xs ys n all none = shared_none plain_of xs ys n all none
-item_where (Some v) xs ys n all found = shared_first plain_of xs ys n v.now v.now all found.0 refl
+    : (r : Option (Bor Value)) (xs : List Plain) (n : ℕ)
+    → MatchOption r (slice_get xs n ≡ None) (λ v. slice_get xs n ≡ Some (plain_of v.now))
+    → MatchOption r (drop n xs ≡ []) (λ v. drop n xs ≡ plain_of v.now ∷ drop (n + 1) xs)
+item_where None xs n none = none_left xs n none
+item_where (Some v) xs n found = same_first xs n (plain_of v.now) found
 
 pub mapped_none
     : {A B : Type 0} (f : A → B) (xs zs : List A) (n : ℕ) → xs ≡ zs → slice_get xs n ≡ None

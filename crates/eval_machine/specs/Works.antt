@@ -6,6 +6,7 @@ use Rattle.dscript_program.specs.BoundTree.{to_stmt, to_stmts}
 use Rattle.dscript_program.specs.ProgramData.{DeclData, FileData, ProgramData}
 use Rattle.dscript_program.specs.Views.{element_data, expr_data, hole_data, operand_data, part_data}
 use Rattle.dscript_program.specs.Views.{prop_data, stmt_data}
+use Rattle.dscript_value.specs.Grown.{grown_items}
 use Rattle.dscript_value.specs.Plain as plain
 use Rattle.dscript_value.specs.Plain.{Plain, item_list, plain_field, plain_function, plain_of}
 use Rattle.dscript_value.specs.Plain.{plain_values}
@@ -84,7 +85,7 @@ abbrev pub item_of : Callbacks → Plain
 item_of c = unwrap_or (slice_get (item_list (plain_values c.items).items) c.next) plain.Undefined
 
 abbrev pub done_of : Callbacks → List Plain
-done_of c = map plain_of c.done.items
+done_of c = grown_items c.done
 
 abbrev pub decls_of : Option FileData → List DeclData
 decls_of None = []
@@ -106,13 +107,13 @@ module _ (p : ProgramData) (act : Acts) (given : Plain) where
       after p act (to_parts (map part_data parts.now)) (Named given name.now)
   expr_gives (expr.Index x) = answered (indexed (plain_of x) given)
   expr_gives (expr.Items es done) =
-      elements p act (to_elements (map element_data es.now)) (map plain_of done.items) >>= λ items.
+      elements p act (to_elements (map element_data es.now)) (grown_items done) >>= λ items.
       answered (list_answer items)
   expr_gives (expr.Item es done) =
-      elements p act (to_elements (map element_data es.now)) (map plain_of done.items ++ given ∷ [])
+      elements p act (to_elements (map element_data es.now)) (grown_items done ++ given ∷ [])
       >>= λ items. answered (list_answer items)
   expr_gives (expr.SpreadItem es done) =
-      answered (with_items_of (map plain_of done.items) given) >>= λ more.
+      answered (with_items_of (grown_items done) given) >>= λ more.
       elements p act (to_elements (map element_data es.now)) more >>= λ items.
       answered (list_answer items)
   expr_gives (expr.Fields ps done) =

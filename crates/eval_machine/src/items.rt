@@ -1,6 +1,6 @@
 //! Items of lists that are gone through one by one, and lists that grow.
-ghost use Rattle.std.specs.Prelude.{◌≡◌, ◌<◌, ◌+◌, ◌∷◌, ◌++◌, [], drop, length, map, slice_get, IfOk};
-ghost use Rattle.std.specs.Prelude.{MatchOption, MatchResult, None, Ok, Some};
+ghost use Rattle.std.specs.Prelude.{◌≡◌, ◌+◌, ◌∷◌, ◌++◌, [], drop, map, IfOk, MatchOption, MatchResult, Ok};
+ghost use Rattle.dscript_value.specs.Grown.{grown_items};
 ghost use Rattle.dscript_value.specs.Plain.{item_list, plain_field, plain_of, plain_values};
 ghost use Rattle.sdk_values.specs.Kinds.{items_in};
 ghost use Rattle.sdk_values.specs.Outcomes.{Refuses};
@@ -8,7 +8,7 @@ ghost use Rattle.eval_machine.specs.ItemsFrom.{IsItemFrom};
 
 use crate::Memory;
 use bx_tree::Text;
-use dscript_value::{Field, Value, Values};
+use dscript_value::{Field, GrowingList, Value, Values};
 use sdk_values::SdkFault;
 
 /// The items of a list, shared.
@@ -23,15 +23,6 @@ pub fn shared_items(value: &Value) -> Result<Values, SdkFault>
     }
 }
 
-// The value at a position, if there is one.
-fn value_at(values: &[Value], at: usize) -> Option<&Value>
-    ensures { MatchOption result
-        (slice_get values.now at ≡ None)
-        (λ value. (slice_get values.now at ≡ Some value.now) × (at < length values.now)) }
-{
-    values.get(at)
-}
-
 /// The item at a position, if there is one.
 pub fn item_ref(items: &Values, at: usize) -> Option<&Value>
     ensures { MatchOption result
@@ -39,20 +30,30 @@ pub fn item_ref(items: &Values, at: usize) -> Option<&Value>
         (λ item. drop at (item_list (plain_values items.now).items)
         ≡ plain_of item.now ∷ drop (at + 1) (item_list (plain_values items.now).items)) }
 {
-    value_at(items.items(), at)
+    items.get(at)
 }
 
 /// The item at a position, and the position after it, if there is an item.
 pub fn item_at(items: &Values, at: usize) -> Result<Option<(Value, usize)>, Memory>
     ensures { IfOk result (λ found. IsItemFrom (item_list (plain_values items.now).items) at found) }
 {
-    match value_at(items.items(), at) {
+    if at >= items.len() {
+        return Ok(None);
+    }
+    match items.get(at) {
         Some(item) => {
             let copy = item.share()?;
             Ok(Some((copy, at + 1)))
         }
         None => Ok(None),
     }
+}
+
+/// Adds an item to those of a list that is being made.
+pub fn push_item(items: &mut GrowingList, item: Value) -> Result<(), Memory>
+    ensures { IfOk result (λ _. grown_items items.new ≡ grown_items items.old ++ plain_of item ∷ []) }
+{
+    items.push(item)
 }
 
 /// Adds a value to those that are there.

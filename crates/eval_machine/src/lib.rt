@@ -11,7 +11,7 @@ mod outcomes;
 mod stop;
 mod work;
 
-pub use items::{add_field, add_value, item_at, item_ref, shared_items};
+pub use items::{add_field, add_value, item_at, item_ref, push_item, shared_items};
 pub use machine::Machine;
 pub use outcomes::stop_of;
 pub use stop::Stop;

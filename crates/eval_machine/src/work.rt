@@ -1,12 +1,13 @@
 //! What is still to be done. A work that waits for a value finds it in the machine's `given`.
 ghost use Rattle.std.specs.Prelude.{◌≡◌, []};
+ghost use Rattle.dscript_value.specs.Grown.{grown_items};
 
 use bx_tree::{Path, Text};
 use dscript_ast::{BinaryOp, PathKind, UnaryOp};
 use dscript_program::{
     BoundElement, BoundExpr, BoundHole, BoundOperand, BoundPart, BoundProp, BoundStmt,
 };
-use dscript_value::{Field, FunctionRef, Value, Values};
+use dscript_value::{Field, FunctionRef, GrowingList, Value, Values};
 use eval_frames::Frame;
 use std::alloc::Global;
 
@@ -45,11 +46,11 @@ pub enum ExprWork<'a> {
     /// What a value has at the index that is given.
     Index(Value),
     /// The other elements of a list, after these items.
-    Items(&'a [BoundElement], Vec<Value>),
+    Items(&'a [BoundElement], GrowingList),
     /// The item that is given, and then the other elements.
-    Item(&'a [BoundElement], Vec<Value>),
+    Item(&'a [BoundElement], GrowingList),
     /// The list that is given, spread, and then the other elements.
-    SpreadItem(&'a [BoundElement], Vec<Value>),
+    SpreadItem(&'a [BoundElement], GrowingList),
     /// The other properties of an object, after these fields.
     Fields(&'a [BoundProp], Vec<Field>),
     /// The field whose value is given, and then the other properties.
@@ -114,7 +115,7 @@ pub struct Callbacks {
     /// The number of the next item.
     pub next: usize,
     /// What came of the items before it.
-    pub done: Vec<Value>,
+    pub done: GrowingList,
 }
 
 impl Callbacks {
@@ -124,14 +125,14 @@ impl Callbacks {
         ensures function { result.function ≡ function }
         ensures items { result.items ≡ items }
         ensures next { result.next ≡ 0 }
-        ensures done { result.done.items ≡ [] }
+        ensures done { grown_items result.done ≡ [] }
     {
         Callbacks {
             kind,
             function,
             items,
             next: 0,
-            done: Vec::new(alloc),
+            done: GrowingList::new(alloc),
         }
     }
 }

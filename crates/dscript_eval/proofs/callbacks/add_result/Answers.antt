@@ -7,5 +7,5 @@ use Rattle.dscript_eval.proofs.callbacks.add_result.Goals as goal
 pub returns : goal.returns
 returns c kind =
     left_after _ _ _ _ (seen c.take-value.new.self) c.go_on.ensures
-    (came_map (seen c.args.machine.now) _ c.args.callbacks.now c.add_value.new.values kind (ends_in _ _ _ _ c.in_ok-add_value.ensures c.take-value.ensures.value)
+    (came_map (seen c.args.machine.now) _ c.args.callbacks.now c.push_item.new.items kind (ends_in _ _ _ _ c.in_ok-push_item.ensures c.take-value.ensures.value)
     c.take-value.ensures.taken)

@@ -1,6 +1,5 @@
 use Rattle.std.proofs.Common.{ap, ◌∙◌}
-use Rattle.dscript_value.specs.Plain.{PlainFunction, item_list, plain_function, plain_values}
-use Rattle.dscript_value.specs.declared.value.Values.{Values}
+use Rattle.dscript_value.specs.Plain.{PlainFunction, PlainValues, item_list, plain_function}
 use Rattle.eval_machine.specs.Views.{seen}
 use Rattle.dscript_eval.proofs.CallbackMoves.{loop_begins}
 use Rattle.eval_machine.proofs.Kept.{kept}
@@ -11,5 +10,5 @@ returns c =
     kept _ _ _ _ c.push.ensures
     (loop_begins (seen c.args.machine.now) c.args.kind c.new-callbacks.result _ _ c.new-callbacks.ensures.kind
     (ap (λ (f : PlainFunction). (f.callee, item_list f.held.items)) (ap plain_function c.new-callbacks.ensures.function ∙ c.in_ok-function.ensures))
-    (ap (λ (vs : Values). item_list (plain_values vs).items) c.new-callbacks.ensures.items)
+    (ap (λ (vs : PlainValues). item_list vs.items) c.new-callbacks.ensures.items)
     c.new-callbacks.ensures.next c.new-callbacks.ensures.done)

@@ -9,4 +9,4 @@ returns-in-Reduce c none = reduction_end (seen c.args.machine.now) c.args.callba
 pub returns-in_default : goal.returns-in_default
 returns-in_default c none =
     keeps_at _ _ _ _ (loop_end (seen c.args.machine.now) c.args.callbacks c.in_default.not-Reduce none)
-    (c.finish.ensures _ c.list_value-outcome.ensures)
+    (c.finish.ensures _ c.grown_list-outcome.ensures)

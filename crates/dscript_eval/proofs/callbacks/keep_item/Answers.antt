@@ -13,5 +13,5 @@ returns-then-not-is_true c kind =
 pub returns : goal.returns
 returns c kind =
     left_after _ _ _ _ (seen c.args.machine.now) c.go_on-2.ensures
-    (came_kept (seen c.args.machine.now) c.args.callbacks.now c.add_value.new.values kind (sym c.is_true.ensures ∙ c.if-not-is_true.false)
-    (ends_in _ _ _ _ c.in_ok-add_value.ensures c.in_ok-item.ensures))
+    (came_kept (seen c.args.machine.now) c.args.callbacks.now c.push_item.new.items kind (sym c.is_true.ensures ∙ c.if-not-is_true.false)
+    (ends_in _ _ _ _ c.in_ok-push_item.ensures c.in_ok-item.ensures))

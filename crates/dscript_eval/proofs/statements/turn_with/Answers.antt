@@ -11,7 +11,7 @@ use Rattle.dscript_eval.proofs.statements.turn_with.Goals as goal
 pub returns-in-Ok : goal.returns-in-Ok
 returns-in-Ok c =
     keeps_at _ _ _ _
-    (turn_move (seen c.args.machine.now) c.args.local c.args.body c.args.items c.args.next (plain_of c.args.item) _ c.bind.ensures
+    (turn_move (seen c.args.machine.now) c.args.local c.args.body c.args.items c.args.next (plain_of c.args.item) _ c.in_ok-bind.ensures.bound
     ∙ ap (λ (z : View). comes_with (works.Stmt (stmt.Does c.args.body)) z) (sym c.in-Ok.ensures))
     c.does.ensures
 

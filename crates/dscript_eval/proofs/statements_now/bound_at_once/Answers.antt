@@ -5,8 +5,8 @@ use Rattle.eval_exprs.proofs.AtOnce.{knows_own}
 use Rattle.dscript_eval.proofs.StmtsNow.{bound_passes}
 use Rattle.dscript_eval.proofs.statements_now.bound_at_once.Goals as goal
 
-pub returns-in-Some-value_now-clause-given : goal.returns-in-Some-value_now-clause-given
-returns-in-Some-value_now-clause-given c holds =
+pub returns-in-Ok-clause-given : goal.returns-in-Ok-clause-given
+returns-in-Ok-clause-given c holds =
     bound_passes (seen c.args.machine.now) _ c.args.local (expr_data c.args.e.now) _ _ _ _ _ _ c.in-Some.ensures.0
     c.in-Some.ensures.1 c.in-Some-value_now.ensures
-    (knows_own c.args.machine.now.frame c.as_slice-known.result.now c.as_slice-known.ensures.value) c.bind.ensures refl
+    (knows_own c.args.machine.now.frame c.as_slice-known.result.now c.as_slice-known.ensures.value) c.in-Ok.ensures.bound refl

@@ -7,6 +7,6 @@ use Rattle.eval_exprs.proofs.collections.item.Goals as goal
 pub returns : goal.returns
 returns c =
     keeps_at _ _ _ _
-    (item_move (seen c.args.machine.now) _ c.args.others c.args.done c.add_value.new.values
-    (ends_in _ _ _ _ c.in_ok-add_value.ensures c.take-item.ensures.value) c.take-item.ensures.taken)
+    (item_move (seen c.args.machine.now) _ c.args.others c.args.done c.push_item.new.items
+    (ends_in _ _ _ _ c.in_ok-push_item.ensures c.take-item.ensures.value) c.take-item.ensures.taken)
     c.items.ensures

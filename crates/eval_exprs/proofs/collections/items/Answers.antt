@@ -31,8 +31,8 @@ elements-preserved c =
     (c.element_parts-is_spread.ensures ∙ ap (λ b. tree.Element b (expr_data e.now)) c.if-is_spread.false)
     ∙ given_then (seen c.elements.machine) _ e (works.Expr (expr.Item c.in-Some.others c.elements.made))
     (c.at_once.ensures.given c.if-not-at_once.false)
-    ∙ item_move _ _ c.in-Some.others c.elements.made c.add_value.new.values
-    (ends_in _ _ _ _ c.in_ok-add_value.ensures c.take-item.ensures.value) c.take-item.ensures.taken
+    ∙ item_move _ _ c.in-Some.others c.elements.made c.push_item.new.items
+    (ends_in _ _ _ _ c.in_ok-push_item.ensures c.take-item.ensures.value) c.take-item.ensures.taken
 
 pub returns : goal.returns
 returns c = keeps_at _ _ _ _ c.elements.invariant c.items_by_work-2.ensures

@@ -9,7 +9,7 @@ use Rattle.eval_exprs.proofs.collections.items_by_work.Goals as goal
 pub returns-in_default : goal.returns-in_default
 returns-in_default c =
     keeps_at _ _ _ _ (items_end (seen c.args.machine.now) c.args.es c.args.done c.in_default.ensures.cases)
-    (c.finish.ensures _ c.list_value.ensures)
+    (c.finish.ensures _ c.grown_list.ensures)
 
 pub returns-then-is_spread : goal.returns-then-is_spread
 returns-then-is_spread c =

@@ -2,4 +2,4 @@ use Rattle.eval_machine.proofs.ItemLists.{item_where}
 use Rattle.eval_machine.proofs.items.item_ref.Goals as goal
 
 pub returns : goal.returns
-returns c = item_where _ _ _ c.args.at c.items.ensures c.value_at.ensures
+returns c = item_where _ _ c.args.at c.get.ensures

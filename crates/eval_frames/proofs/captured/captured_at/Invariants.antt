@@ -1,7 +1,7 @@
 use Rattle.std.proofs.Common.{◌≡◌, drop, map}
 use Rattle.dscript_value.specs.Plain.{plain_of}
 use Rattle.dscript_meaning.specs.Frames.{captured_value}
-use Rattle.eval_frames.proofs.frame.captured_at.Given as goal
+use Rattle.eval_frames.proofs.captured.captured_at.Given as goal
 
 abbrev pub invariant-captured : goal.invariant-captured
 invariant-captured l =
