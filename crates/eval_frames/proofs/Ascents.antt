@@ -1,8 +1,7 @@
 -- Locals that ascend.
-use Rattle.std.proofs.Common.{◌≡◌, ℕ, zero, suc, ◌+◌, ◌<◌, ◌≤◌, Bool, true, false, cond, List, [], ◌∷◌, length, drop, map}
+use Rattle.std.proofs.Common.{◌≡◌, ℕ, zero, suc, ◌+◌, ◌<◌, ◌≤◌, Bool, true, false, cond, List, [], ◌∷◌, length, drop}
 use Rattle.std.proofs.Common.{get_or, slice_get, unwrap_or, ltb, MatchResult, Result, Ok, Err, nat_cmp, refl, ap, sym, ◌∙◌, arith, add-one}
 use Rattle.std.proofs.Common.{◌⊎◌, inl, inr, eq-or-lt_of_le, ltb-true, ltb-false, lt-ltb, le-ltb, true≢false, ⊎_elim}
-use Rattle.std.proofs.lemmas.List.{get_or_default}
 use Rattle.std.proofs.lemmas.List.Sorted.{searched}
 use Rattle.std.specs.List.Sorted.{IsBinarySearchResult}
 use Rattle.dscript_value.specs.Plain.{Plain, Undefined}

@@ -1,13 +1,10 @@
 -- What captured locals hold.
-use Rattle.std.proofs.Common.{◌≡◌, ℕ, zero, suc, ◌+◌, ◌<◌, ◌≤◌, cond, List, [], ◌∷◌, ◌++◌, append_assoc, length, drop, map}
+use Rattle.std.proofs.Common.{◌≡◌, ℕ, zero, suc, ◌+◌, ◌<◌, ◌≤◌, cond, List, [], ◌∷◌, length, drop, map}
 use Rattle.std.proofs.Common.{get_or, slice_get, unwrap_or, refl, ap, sym, ◌∙◌, arith, add-one}
 use Rattle.std.proofs.lemmas.Bool.{eq-eqb, ne_eqb}
-use Rattle.std.proofs.lemmas.List.{map-append}
 use Rattle.dscript_value.specs.Plain.{Plain, Undefined, plain_of}
 use Rattle.dscript_value.specs.declared.value.Value.{Value}
-use Rattle.dscript_value.specs.declared.value.Value.TheVariants as values
-use Rattle.sdk_values.proofs.Views.{plain-Undefined}
-use Rattle.dscript_meaning.specs.Frames.{captured_value, filled}
+use Rattle.dscript_meaning.specs.Frames.{captured_value}
 
 captured_empty : (cs : List ℕ) (n : ℕ) → captured_value cs [] n ≡ Undefined
 captured_empty [] n = refl

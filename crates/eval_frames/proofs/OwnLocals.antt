@@ -1,6 +1,6 @@
 -- The own locals of a body: those of its list, and those that are kept for places beyond it.
-use Rattle.std.proofs.Common.{◌≡◌, ℕ, zero, suc, ◌+◌, ◌-◌, ◌<◌, ◌≤◌, Bool, true, false, cond, List, [], ◌∷◌, ◌++◌, append_assoc}
-use Rattle.std.proofs.Common.{length, map, set, take, slice_get, slice_set, unwrap_or, option_map, Option, Some, None, BTreeMap, nat_cmp, eqb}
+use Rattle.std.proofs.Common.{◌≡◌, ℕ, zero, suc, ◌+◌, ◌-◌, ◌<◌, ◌≤◌, cond, List, [], ◌∷◌, ◌++◌, append_assoc}
+use Rattle.std.proofs.Common.{length, map, take, slice_get, slice_set, unwrap_or, option_map, Some, None, BTreeMap, nat_cmp, eqb}
 use Rattle.std.proofs.Common.{refl, ap, sym, ◌∙◌, arith, add-one, eq-eqb, ne_eqb, eq-or-lt_of_le, ⊎_elim}
 use Rattle.std.proofs.lemmas.List.{length-map, length_push, map-append, set_at, set_past, set-append_left, set-append_right}
 use Rattle.std.specs.BTreeMap.{get, is_at}

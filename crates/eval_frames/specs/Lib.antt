@@ -1,4 +1,5 @@
 pub mod Ascending
+pub mod Placed
 pub mod Own
 pub mod Frames
 pub mod Statuses

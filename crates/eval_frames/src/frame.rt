@@ -55,7 +55,7 @@ impl<'a> Frame<'a> {
     {
         Frame {
             file,
-            captured: Captured::of(&[]),
+            captured: Captured::few(&[]),
             function: None,
             first: 0,
             count: 0,
@@ -76,9 +76,10 @@ impl<'a> Frame<'a> {
             ≡ function_frame (function_data function.now) (held_by held) (map plain_of args.now)) }
     {
         let own = own_arguments(alloc, args, function.params.len(), function.local_count)?;
+        let captured = Captured::of(alloc, function.captured.as_slice())?;
         Ok(Frame {
             file: function.file,
-            captured: Captured::of(function.captured.as_slice()),
+            captured,
             function: held,
             first: function.first_local,
             count: function.local_count,

@@ -213,25 +213,35 @@ fn a_local_holds_what_was_bound_last(rt: HostRuntime) -> Result<(), Fail> {
     Ok(())
 }
 
-/// A function with 200 locals from the local 40 on, which captures the locals with even numbers below 36.
-fn long_function(alloc: Global) -> Result<Function, Memory> {
-    let mut captured = Vec::new(alloc);
-    for number in 0..18 {
-        captured.push(number * 2)?;
+/// The even numbers below 400, upwards or downwards.
+fn even_numbers(alloc: Global, downwards: bool) -> Result<Vec<u32>, Memory> {
+    let mut numbers = Vec::new(alloc);
+    for number in 0..200 {
+        if downwards {
+            numbers.push(398 - number * 2)?;
+        } else {
+            numbers.push(number * 2)?;
+        }
     }
+    Ok(numbers)
+}
+
+/// A function with 200 locals from the local 400 on, which captures the locals with even numbers below 400, in
+/// their order or from the last to the first.
+fn long_function(alloc: Global, downwards: bool) -> Result<Function, Memory> {
     Ok(Function {
         file: 0,
-        captured,
+        captured: even_numbers(alloc, downwards)?,
         params: Vec::new(alloc),
-        first_local: 40,
+        first_local: 400,
         local_count: 200,
         body: Body::Block(Vec::new(alloc)),
     })
 }
 
-/// A function that holds the numbers below 18.
+/// A function that holds the numbers below 200.
 fn long_holder(alloc: Global) -> Result<Option<FunctionRef>, Memory> {
-    let captured = numbers(alloc, 18)?;
+    let captured = numbers(alloc, 200)?;
     match function_at(alloc, 0, captured) {
         Ok(value) => Ok(function_in(value)),
         Err(fault) => {
@@ -243,38 +253,49 @@ fn long_holder(alloc: Global) -> Result<Option<FunctionRef>, Memory> {
 
 /// Whether locals far from one another hold what was bound last, and those between them nothing.
 fn binds_far(frame: &mut Frame<'_>) -> Result<bool, Memory> {
-    frame.bind(190, Value::Number(1))?;
-    frame.bind(60, Value::Number(2))?;
-    frame.bind(191, Value::Number(3))?;
-    frame.bind(190, Value::Number(4))?;
-    frame.bind(110, Value::Number(5))?;
-    let far = holds(frame, 190, 4) && holds(frame, 191, 3) && is_unset(frame, 189);
-    Ok(far && holds(frame, 60, 2) && holds(frame, 110, 5) && is_unset(frame, 109))
+    frame.bind(550, Value::Number(1))?;
+    frame.bind(420, Value::Number(2))?;
+    frame.bind(551, Value::Number(3))?;
+    frame.bind(550, Value::Number(4))?;
+    frame.bind(470, Value::Number(5))?;
+    let far = holds(frame, 550, 4) && holds(frame, 551, 3) && is_unset(frame, 549);
+    Ok(far && holds(frame, 420, 2) && holds(frame, 470, 5) && is_unset(frame, 469))
 }
 
 /// Whether captured locals hold what the function holds for them, and those between them nothing.
 fn has_captured(frame: &Frame<'_>) -> bool {
-    holds(frame, 0, 0) && holds(frame, 34, 17) && holds(frame, 12, 6) && is_unset(frame, 13)
+    holds(frame, 0, 0) && holds(frame, 398, 199) && holds(frame, 12, 6) && is_unset(frame, 13)
 }
 
-fn binds_long(alloc: Global, function: &Function) -> Result<bool, Memory> {
+/// The same for locals that are captured from the last to the first.
+fn has_captured_downwards(frame: &Frame<'_>) -> bool {
+    holds(frame, 0, 199) && holds(frame, 398, 0) && holds(frame, 12, 193) && is_unset(frame, 13)
+}
+
+fn binds_long(alloc: Global, function: &Function, downwards: bool) -> Result<bool, Memory> {
     let held = long_holder(alloc)?;
     let mut frame = Frame::of_function(alloc, function, held, &[])?;
-    let bound = has_captured(&frame) && binds_far(&mut frame)?;
+    let found = if downwards {
+        has_captured_downwards(&frame)
+    } else {
+        has_captured(&frame)
+    };
+    let bound = found && binds_far(&mut frame)?;
     drop(frame);
     Ok(bound)
 }
 
-fn binds_far_locals(alloc: Global) -> Result<bool, Memory> {
-    let function = long_function(alloc)?;
-    let bound = binds_long(alloc, &function);
+fn binds_far_locals(alloc: Global, downwards: bool) -> Result<bool, Memory> {
+    let function = long_function(alloc, downwards)?;
+    let bound = binds_long(alloc, &function, downwards);
     drop(function);
     bound
 }
 
 #[test]
 fn locals_that_are_far_from_one_another_are_found(rt: HostRuntime) -> Result<(), Fail> {
-    assert!(rt; binds_far_locals(rt.alloc())?);
+    assert!(rt; binds_far_locals(rt.alloc(), false)?);
+    assert!(rt; binds_far_locals(rt.alloc(), true)?);
     Ok(())
 }
 

@@ -1,4 +1,4 @@
-use Rattle.std.proofs.Common.{◌≡◌, IfOk, Option, Some, ap, arith, option_map, slice_get, subst, sym, unwrap_or, ◌∙◌}
+use Rattle.std.proofs.Common.{◌≡◌, IfOk, Option, ap, option_map, subst, sym, unwrap_or, ◌∙◌}
 use Rattle.dscript_value.specs.Plain.{Plain, Undefined, plain_of}
 use Rattle.sdk_values.proofs.Views.{plain-Undefined}
 use Rattle.eval_frames.proofs.OwnLocals.{far_value, listed_value, no_local}

@@ -22,7 +22,7 @@ returns c =
     } in
     let params : c.len.result ≡ length (function_data f).params = omega (arith, c.len.ensures, f.params.ok.0, length-map f.params.items param_tree) in
     ap (λ cs. with_own cs (own_values c.in_ok-own.own.items c.new.result f.local_count))
-    (c.of.ensures ∙ c.as_slice.ensures.value)
+    (c.in_ok-captured.ensures ∙ c.as_slice.ensures.value)
     ∙ ap (with_own f.captured.items)
     (own_begun c.in_ok-own.own.items c.new.result f.local_count (take (length (function_data f).params) args) c.new.ensures.empty
     (c.in_ok-own.ensures ∙ ap (λ n. take f.local_count (take n args)) params))
