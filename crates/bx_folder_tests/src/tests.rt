@@ -71,6 +71,52 @@ fn ended(alloc: Global, end: Result<usize, UnpackFault>) -> Result<String, Alloc
     }
 }
 
+// Whether this is the bundle of a folder, or why there is none.
+fn packs(
+    alloc: Global,
+    folder: &mut MemFolder,
+    left_out: &[&str],
+    wanted: &str,
+) -> Result<bool, AllocError> {
+    Ok(packed(alloc, folder, left_out)?.as_slice() == wanted.as_bytes())
+}
+
+// Whether this is the bundle of a folder of these places, or why there is none, where the calls with these numbers
+// fail, and each of them is made.
+fn packs_of(
+    alloc: Global,
+    places: &[(&str, &str)],
+    failing: &[u64],
+    wanted: &str,
+) -> Result<bool, AllocError> {
+    let mut folder = folder_of(alloc, places, failing)?;
+    Ok(packs(alloc, &mut folder, &[], wanted)? && folder.faults() as usize == failing.len())
+}
+
+// Whether an unpacking into a folder ends so.
+fn unpacks(
+    alloc: Global,
+    folder: &mut MemFolder,
+    text: &str,
+    replace: Replace,
+    wanted: &str,
+) -> Result<bool, AllocError> {
+    let end = unpack(alloc, folder, text.as_bytes(), replace);
+    Ok(ended(alloc, end)?.as_str() == wanted)
+}
+
+// Whether an unpacking into a folder of one place ends so.
+fn unpacks_over(
+    alloc: Global,
+    place: &str,
+    text: &str,
+    replace: Replace,
+    wanted: &str,
+) -> Result<bool, AllocError> {
+    let mut folder = folder_of(alloc, &[(place, "")], &[])?;
+    unpacks(alloc, &mut folder, text, replace, wanted)
+}
+
 const PLACES: &[(&str, &str)] = &[
     ("z/out", "not at the top"),
     ("a-b", "2"),
@@ -83,14 +129,16 @@ const PLACES: &[(&str, &str)] = &[
 const TEXT: &str =
     "bundle 1\nfile 1 a-b\n2\nfile 2 a/b\n1\n\nfile 0 a/c/d\n\nfile 14 z/out\nnot at the top\nend\n";
 
+// Whether this is packed of these places where some are left out.
+fn packs_without(alloc: Global, left_out: &[&str], wanted: &str) -> Result<bool, AllocError> {
+    let mut folder = folder_of(alloc, PLACES, &[])?;
+    packs(alloc, &mut folder, left_out, wanted)
+}
+
 #[test]
 fn a_folder_is_packed_as_the_bundle_of_its_files(rt: HostRuntime) -> Result<(), Fail> {
-    let alloc = rt.alloc();
-    let mut folder = folder_of(alloc, PLACES, &[])?;
-    let text = packed(alloc, &mut folder, &["out", "report.txt"])?;
-    assert!(rt; text.as_slice() == TEXT.as_bytes());
-    let refused = packed(alloc, &mut folder, &["report.txt"])?;
-    assert!(rt; refused.as_slice() == b"bad name out/x y".as_slice());
+    assert!(rt; packs_without(rt.alloc(), &["out", "report.txt"], TEXT)?);
+    assert!(rt; packs_without(rt.alloc(), &["report.txt"], "bad name out/x y")?);
     Ok(())
 }
 
@@ -106,11 +154,8 @@ const REFUSED: &[(&str, &str)] = &[
 
 #[test]
 fn a_refused_folder_has_a_place_that_causes_it(rt: HostRuntime) -> Result<(), Fail> {
-    let alloc = rt.alloc();
     'cases: for (place, wanted) in REFUSED {
-        let mut folder = folder_of(alloc, &[("x", ""), (*place, "")], &[])?;
-        let refused = packed(alloc, &mut folder, &[])?;
-        assert!(rt; refused.as_slice() == wanted.as_bytes());
+        assert!(rt; packs_of(rt.alloc(), &[("x", ""), (*place, "")], &[], wanted)?);
     }
     Ok(())
 }
@@ -127,22 +172,32 @@ fn deep(alloc: Global, more: usize) -> Result<MemFolder, AllocError> {
     folder_of(alloc, &[(place.as_str(), "")], &[])
 }
 
-#[test]
-fn both_sides_of_the_limits_of_paths_and_files(rt: HostRuntime) -> Result<(), Fail> {
-    let alloc = rt.alloc();
-    let within = packed(alloc, &mut deep(alloc, MAX_PATH_BYTES - 1005)?, &[])?;
-    assert!(rt; within.starts_with(b"bundle 1\nfile 0 d".as_slice()));
-    let above = packed(alloc, &mut deep(alloc, MAX_PATH_BYTES - 1004)?, &[])?;
-    assert!(rt; above.as_slice() == b"long path 1025".as_slice());
+// Whether what is packed of a folder begins so.
+fn packs_from(alloc: Global, mut folder: MemFolder, wanted: &str) -> Result<bool, AllocError> {
+    Ok(packed(alloc, &mut folder, &[])?.starts_with(wanted.as_bytes()))
+}
+
+// A folder with a file of this many bytes.
+fn large_folder(alloc: Global, count: usize) -> Result<MemFolder, AllocError> {
     let mut folder = folder_of(alloc, &[], &[])?;
     if folder.can_put("f") {
         folder.put(Placed {
             place: String::from_str(alloc, "f")?,
-            thing: Thing::File(vec![in alloc; b'x'; MAX_FILE_BYTES + 1]?),
+            thing: Thing::File(vec![in alloc; b'x'; count]?),
         })?;
     }
-    let large = packed(alloc, &mut folder, &[])?;
-    assert!(rt; large.as_slice() == b"large file f".as_slice());
+    Ok(folder)
+}
+
+#[test]
+fn both_sides_of_the_limits_of_paths_and_files(rt: HostRuntime) -> Result<(), Fail> {
+    let alloc = rt.alloc();
+    let within = deep(alloc, MAX_PATH_BYTES - 1005)?;
+    assert!(rt; packs_from(alloc, within, "bundle 1\nfile 0 d")?);
+    let above = deep(alloc, MAX_PATH_BYTES - 1004)?;
+    assert!(rt; packs_from(alloc, above, "long path 1025")?);
+    let large = large_folder(alloc, MAX_FILE_BYTES + 1)?;
+    assert!(rt; packs_from(alloc, large, "large file f")?);
     Ok(())
 }
 
@@ -163,26 +218,24 @@ const IN_THE_WAY: &[(&str, &str, &str, &str)] = &[
 
 #[test]
 fn what_is_in_the_way_is_kept_or_replaced(rt: HostRuntime) -> Result<(), Fail> {
-    let alloc = rt.alloc();
     'cases: for (place, text, plain, replaced) in IN_THE_WAY {
-        let mut folder = folder_of(alloc, &[(*place, "")], &[])?;
-        let end = unpack(alloc, &mut folder, text.as_bytes(), Replace::Nothing);
-        assert!(rt; ended(alloc, end)?.as_str() == *plain);
-        let mut folder = folder_of(alloc, &[(*place, "")], &[])?;
-        let end = unpack(alloc, &mut folder, text.as_bytes(), Replace::Made);
-        assert!(rt; ended(alloc, end)?.as_str() == *replaced);
+        assert!(rt; unpacks_over(rt.alloc(), place, text, Replace::Nothing, plain)?);
+        assert!(rt; unpacks_over(rt.alloc(), place, text, Replace::Made, replaced)?);
     }
     Ok(())
 }
 
+// Whether a text is unpacked, and packed again as it was.
+fn goes_round(alloc: Global, text: &str) -> Result<bool, AllocError> {
+    let mut folder = folder_of(alloc, &[], &[])?;
+    let made = unpack(alloc, &mut folder, text.as_bytes(), Replace::Nothing).is_ok();
+    Ok(made && packs(alloc, &mut folder, &[], text)?)
+}
+
 #[test]
 fn what_is_unpacked_is_packed_again(rt: HostRuntime) -> Result<(), Fail> {
-    let alloc = rt.alloc();
     'texts: for text in [TEXT, OUTPUT, "bundle 1\nend\n"] {
-        let mut folder = folder_of(alloc, &[], &[])?;
-        let end = unpack(alloc, &mut folder, text.as_bytes(), Replace::Nothing);
-        assert!(rt; end.is_ok());
-        assert!(rt; packed(alloc, &mut folder, &[])?.as_slice() == text.as_bytes());
+        assert!(rt; goes_round(rt.alloc(), text)?);
     }
     Ok(())
 }
@@ -196,31 +249,36 @@ const FAILING: &[(u64, &str, usize)] = &[
     (5, "made 2", 2),
 ];
 
+// Whether an unpacking into a folder of these places, whose call with this number fails, ends so and leaves this
+// many things.
+fn unpacks_failing(
+    alloc: Global,
+    places: &[(&str, &str)],
+    number: u64,
+    replace: Replace,
+    wanted: &str,
+    left: usize,
+) -> Result<bool, AllocError> {
+    let mut folder = folder_of(alloc, places, &[number])?;
+    Ok(unpacks(alloc, &mut folder, OUTPUT, replace, wanted)? && folder.things().len() == left)
+}
+
 #[test]
 fn a_folder_that_fails_says_what_was_made(rt: HostRuntime) -> Result<(), Fail> {
     let alloc = rt.alloc();
     'cases: for (number, wanted, count) in FAILING {
-        let mut folder = folder_of(alloc, &[], &[*number])?;
-        let end = unpack(alloc, &mut folder, OUTPUT.as_bytes(), Replace::Nothing);
-        assert!(rt; ended(alloc, end)?.as_str() == *wanted);
-        assert!(rt; folder.things().len() == *count);
+        assert!(rt; unpacks_failing(alloc, &[], *number, Replace::Nothing, wanted, *count)?);
     }
     'clearing: for (number, wanted) in [(1, "kept out"), (2, "kept report.txt")] {
-        let mut folder = folder_of(alloc, &[("x", "")], &[number])?;
-        let end = unpack(alloc, &mut folder, OUTPUT.as_bytes(), Replace::Made);
-        assert!(rt; ended(alloc, end)?.as_str() == wanted);
-        assert!(rt; folder.things().len() == 1);
+        assert!(rt; unpacks_failing(alloc, &[("x", "")], number, Replace::Made, wanted, 1)?);
     }
     Ok(())
 }
 
 #[test]
 fn a_folder_that_fails_is_not_packed(rt: HostRuntime) -> Result<(), Fail> {
-    let alloc = rt.alloc();
     'cases: for (number, wanted) in [(1, "unlisted ."), (2, "unread a/b")] {
-        let mut folder = folder_of(alloc, &[("a/b", "1")], &[number])?;
-        assert!(rt; packed(alloc, &mut folder, &[])?.as_slice() == wanted.as_bytes());
-        assert!(rt; folder.faults() == 1);
+        assert!(rt; packs_of(rt.alloc(), &[("a/b", "1")], &[number], wanted)?);
     }
     Ok(())
 }

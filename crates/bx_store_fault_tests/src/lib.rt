@@ -1,4 +1,4 @@
-//! Tests of whole builds over a store whose calls fail, or that are cut off.
+//! Tests of whole builds over a store whose calls fail.
 //!
 //! They are a crate of their own, since a crate is proved once more for the tests in it.
 #![tactic(auto)]

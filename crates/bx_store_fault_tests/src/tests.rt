@@ -1,11 +1,13 @@
-//! Keepers and readers that fail at each of their calls in turn, and builds that are cut off.
+//! Keepers and readers that fail at each of their calls in turn.
 
-use bx_io::{FailKeeper, Keeper, MemKeeper, StopKeeper};
+use bx_io::{FailKeeper, MemKeeper};
 use std::alloc::Global;
 use std::sync::Wait;
 use std::test::Fail;
 use std::thread::Threads;
-use store_calls::{ALL_HIT, ALL_RAN, TWO_HIT, code_of, empty_keeper, is_so, sink_of, three};
+use store_calls::{
+    ALL_HIT, ALL_RAN, FIRST_CALLS, TWO_HIT, code_of, empty_keeper, is_so, sink_of, three,
+};
 
 const ONE_FAULT: &str = "hits 0\nran 3\nlate 3\nstore-faults 1\nstarved 0\n";
 
@@ -21,19 +23,32 @@ fn is_healed<H: Threads + Wait + Sync>(
     )
 }
 
-/// The first record is kept by ten calls: the list is read, and then put are the weak text, the path set, the
-/// strong text, the executable, the two files that are read, the file that is made, the entry and the list. The
-/// path set and the executable are those of the other two, too, which take eight calls and six, as the files
-/// that the last one reads were made by the others.
+/// Whether a first build makes no call of its keeper with this number.
+fn runs_at<H: Threads + Wait + Sync>(rt: &H, alloc: Global, number: u64) -> Result<bool, Fail> {
+    let mut keeper = MemKeeper::new(alloc, vec![in alloc; number]?);
+    is_so(rt, alloc, &mut keeper, &three("build", ALL_RAN))
+}
+
 #[test]
 fn leaves_out_a_record_where_a_call_of_the_keeper_fails(rt: HostRuntime) -> Result<(), Fail> {
     let alloc = rt.alloc();
-    for number in 1..=24 {
+    for number in 1..=FIRST_CALLS {
         let mut keeper = MemKeeper::new(alloc, vec![in alloc; number]?);
         assert!(rt; is_so(&rt, alloc, &mut keeper, &three("build", ONE_FAULT))?);
         assert!(rt; is_healed(&rt, alloc, &mut keeper)?);
     }
+    assert!(rt; runs_at(&rt, alloc, FIRST_CALLS + 1)?);
     Ok(())
+}
+
+/// A store in which a build has kept all its records.
+fn full_keeper<H: Threads + Wait + Sync>(rt: &H, alloc: Global) -> Result<MemKeeper, Fail> {
+    let mut keeper = empty_keeper(alloc);
+    if is_so(rt, alloc, &mut keeper, &three("build", ALL_RAN))? {
+        Ok(keeper)
+    } else {
+        Err("the first build is wrong".into())
+    }
 }
 
 /// Whether a build over a full store gives these notes where this call of its reader fails.
@@ -43,10 +58,8 @@ fn notes_at<H: Threads + Wait + Sync>(
     number: u64,
     notes: &str,
 ) -> Result<bool, Fail> {
-    let mut inner = empty_keeper(alloc);
-    let first = is_so(rt, alloc, &mut inner, &three("build", ALL_RAN))?;
-    let mut keeper = FailKeeper::new(inner, vec![in alloc; number]?);
-    Ok(first && is_so(rt, alloc, &mut keeper, &three("build", notes))?)
+    let mut keeper = FailKeeper::new(full_keeper(rt, alloc)?, vec![in alloc; number]?);
+    is_so(rt, alloc, &mut keeper, &three("build", notes))
 }
 
 /// Each lookup reads the list, the path set, the entry and the file.
@@ -58,28 +71,6 @@ fn runs_a_process_where_a_call_of_the_reader_fails(rt: HostRuntime) -> Result<()
         assert!(rt; notes_at(&rt, alloc, number, notes)?);
     }
     assert!(rt; notes_at(&rt, alloc, 13, ALL_HIT)?);
-    Ok(())
-}
-
-/// Whether builds over what a build leaves that is cut off after this many calls of its keeper give its files,
-/// the last of them from the store alone.
-fn goes_on_after<H: Threads + Wait + Sync>(
-    rt: &H,
-    alloc: Global,
-    calls: u64,
-) -> Result<bool, Fail> {
-    let mut cut = StopKeeper::new(empty_keeper(alloc), calls);
-    let first = is_so(rt, alloc, &mut cut, &three("build", ""))?;
-    let mut keeper = cut.into_inner();
-    let second = is_so(rt, alloc, &mut keeper, &three("build", ""))?;
-    Ok(first && second && is_so(rt, alloc, &mut keeper, &three("build", ALL_HIT))?)
-}
-
-#[test]
-fn goes_on_over_what_another_build_left_half_done(rt: HostRuntime) -> Result<(), Fail> {
-    for calls in 0..=24 {
-        assert!(rt; goes_on_after(&rt, rt.alloc(), calls)?);
-    }
     Ok(())
 }
 

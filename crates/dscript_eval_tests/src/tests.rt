@@ -40,6 +40,12 @@ fn read_tree(alloc: Global, bundle: &[u8]) -> Result<(Tree, Workspace), Fail> {
     }
 }
 
+/// The tree of these files, with its workspace.
+fn tree_of(alloc: Global, files: Files<'_>) -> Result<(Tree, Workspace), Fail> {
+    let bundle = bundle_of(alloc, files)?;
+    read_tree(alloc, bundle.as_slice())
+}
+
 /// Whether a file is one of these.
 fn is_among(files: &[Path], path: &Path) -> bool {
     for file in files {
@@ -74,14 +80,20 @@ fn parsed(alloc: Global, path: &Path, text: &[u8]) -> Result<Parsed, Fail> {
     }
 }
 
-/// The program of the project files of a workspace.
-fn program_of(alloc: Global, tree: &Tree, workspace: &Workspace) -> Result<Program, Fail> {
+/// The project files of a workspace.
+fn project_files(alloc: Global, tree: &Tree, workspace: &Workspace) -> Result<Vec<Parsed>, Fail> {
     let mut files = Vec::new(alloc);
     for file in tree.files() {
         if is_project(workspace, &file.path) {
             files.push(parsed(alloc, &file.path, file.bytes.as_slice())?)?;
         }
     }
+    Ok(files)
+}
+
+/// The program of the project files of a workspace.
+fn program_of(alloc: Global, tree: &Tree, workspace: &Workspace) -> Result<Program, Fail> {
+    let files = project_files(alloc, tree, workspace)?;
     match resolve(workspace, files) {
         Ok(program) => Ok(program),
         Err(_) => Err(Fail::new("a name stands for nothing")),
@@ -121,6 +133,12 @@ fn say_fault(
     }
 }
 
+/// Says how many pips there are.
+fn say_count(alloc: Global, said: &mut Vec<u8>, count: usize) -> Result<(), AllocError> {
+    let text = format!(in alloc; "{count} pips")?;
+    said.extend_from_slice(text.as_bytes())
+}
+
 /// Says what a program over a tree comes to within a budget of steps.
 fn say(
     alloc: Global,
@@ -129,44 +147,51 @@ fn say(
     tree: &Tree,
     budget: u64,
 ) -> Result<(), AllocError> {
-    match evaluate(alloc, program, tree, budget) {
-        Ok(pips) => {
-            let count = pips.pips().len();
-            let text = format!(in alloc; "{count} pips")?;
-            said.extend_from_slice(text.as_bytes())
-        }
+    match &evaluate(alloc, program, tree, budget) {
+        Ok(pips) => say_count(alloc, said, pips.pips().len()),
         Err(
             EvalFault::Fault {
                 kind,
                 file,
                 message,
             },
-        ) => say_fault(said, kind, &file, message.as_ref()),
+        ) => say_fault(said, *kind, file, message.as_ref()),
         Err(EvalFault::Memory) => said.extend_from_slice(b"no memory"),
     }
 }
 
-/// Says what a program over a tree comes to with its last step and without it.
+/// Says what the project files of a workspace come to with the last of these steps and without it.
 fn say_last(
     alloc: Global,
     said: &mut Vec<u8>,
-    program: &Program,
     tree: &Tree,
+    workspace: &Workspace,
     steps: u64,
-) -> Result<(), AllocError> {
-    say(alloc, said, program, tree, steps)?;
+) -> Result<(), Fail> {
+    let program = program_of(alloc, tree, workspace)?;
+    say(alloc, said, &program, tree, steps)?;
     said.extend_from_slice(b"; ")?;
-    say(alloc, said, program, tree, steps.saturating_sub(1))
+    say(alloc, said, &program, tree, steps.saturating_sub(1))?;
+    Ok(())
 }
 
-/// What these files come to with the last of these steps and without it.
-fn answers(alloc: Global, files: Files<'_>, steps: u64) -> Result<Vec<u8>, Fail> {
-    let bundle = bundle_of(alloc, files)?;
-    let (tree, workspace) = read_tree(alloc, bundle.as_slice())?;
-    let program = program_of(alloc, &tree, &workspace)?;
+/// Says what these files come to with the last of these steps and without it.
+fn say_files(alloc: Global, said: &mut Vec<u8>, files: Files<'_>, steps: u64) -> Result<(), Fail> {
+    let (tree, workspace) = tree_of(alloc, files)?;
+    say_last(alloc, said, &tree, &workspace, steps)
+}
+
+/// Whether these files come to this with the last of these steps and without it.
+fn come_to(alloc: Global, files: Files<'_>, steps: u64, wanted: &[u8]) -> Result<bool, Fail> {
     let mut said = Vec::new(alloc);
-    say_last(alloc, &mut said, &program, &tree, steps)?;
-    Ok(said)
+    say_files(alloc, &mut said, files, steps)?;
+    Ok(said.as_slice() == wanted)
+}
+
+/// Whether a file comes to this with the last of these steps, and lacks it without.
+fn takes(alloc: Global, text: &str, steps: u64, wanted: &str) -> Result<bool, Fail> {
+    let wanted = format!(in alloc; "{wanted}; Budget build.dsc")?;
+    come_to(alloc, &[("build.dsc", text)], steps, wanted.as_bytes())
 }
 
 /// A line of a table: the steps, what is wanted, and the text.
@@ -183,9 +208,7 @@ fn row(line: &str) -> Option<(u64, &str, &str)> {
 fn each_form_takes_exactly_its_steps(rt: HostRuntime) -> Result<(), Fail> {
     for line in PROGRAMS.lines() {
         if let Some((steps, wanted, text)) = row(line) {
-            let found = answers(rt.alloc(), &[("build.dsc", text)], steps)?;
-            let wanted = format!(in rt.alloc(); "{wanted}; Budget build.dsc")?;
-            assert_eq!(rt; found.as_slice(), wanted.as_bytes(), "{text}");
+            assert!(rt; takes(rt.alloc(), text, steps, wanted)?, "{text}");
         }
     }
     Ok(())
@@ -206,8 +229,10 @@ fn a_fault_names_the_file_that_the_expression_is_in(rt: HostRuntime) -> Result<(
                 ("b/x.dsc", second),
                 ("config.dsc", CONFIG),
             ];
-            let found = answers(rt.alloc(), &files, steps)?;
-            assert_eq!(rt; found.as_slice(), wanted.as_bytes(), "{texts}");
+            assert!(rt;
+                come_to(rt.alloc(), &files, steps, wanted.as_bytes())?,
+                "{texts}"
+            );
         }
     }
     Ok(())

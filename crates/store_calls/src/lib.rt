@@ -75,6 +75,12 @@ pub const ALL_HIT: &str = "hits 3\nran 0\nlate 0\nstore-faults 0\nstarved 0\n";
 /// Its notes where one process ran.
 pub const TWO_HIT: &str = "hits 2\nran 1\nlate 1\nstore-faults 0\nstarved 0\n";
 
+/// How many calls of a keeper its first build makes. The first record is kept by ten calls: the list is read, and
+/// then put are the weak text, the path set, the strong text, the executable, the two files that are read, the file
+/// that is made, the entry and the list. The path set and the executable are those of the other two, too, which
+/// take eight calls and six, as the files that the last one reads were made by the others.
+pub const FIRST_CALLS: u64 = 24;
+
 /// The build of the three processes that has these notes.
 pub fn three<'a>(words: &'a str, notes: &'a str) -> Build<'a> {
     Build {

@@ -149,16 +149,21 @@ fn forgets<K: Keeper>(alloc: Global, keeper: &mut K) -> bool {
     drops(alloc, keeper, BLOB) && held_letter(alloc, keeper, BLOB) == b'-'
 }
 
+// Whether a reader finds what was put.
+fn is_read<K: Keeper>(alloc: Global, keeper: &mut K) -> bool {
+    match keeper.reader(alloc) {
+        Ok(mut reader) => reader_holds(alloc, &mut reader, LIST, b"old"),
+        Err(_) => false,
+    }
+}
+
 #[test]
 fn a_folder_keeps_what_was_put(rt: HostRuntime) -> Result<(), Fail> {
     let alloc = rt.alloc();
     let folder = "keeps-what-was-put";
     let mut keeper = FolderKeeper::new(rt.clone()?, String::from_str(alloc, folder)?);
-    assert!(rt; begins_empty(alloc, &mut keeper));
-    assert!(rt; keeps(alloc, &mut keeper));
-    let mut reader = keeper.reader(alloc)?;
-    assert!(rt; reader_holds(alloc, &mut reader, LIST, b"old"));
-    assert!(rt; forgets(alloc, &mut keeper));
+    assert!(rt; begins_empty(alloc, &mut keeper) && keeps(alloc, &mut keeper));
+    assert!(rt; is_read(alloc, &mut keeper) && forgets(alloc, &mut keeper));
     assert!(rt; fs::remove_dir_all(&rt, folder).is_ok());
     Ok(())
 }
@@ -194,10 +199,10 @@ fn what_is_no_file_of_a_name_is_ignored(rt: HostRuntime) -> Result<(), Fail> {
     let alloc = rt.alloc();
     let folder = "ignores-other-files";
     let mut keeper = FolderKeeper::new(rt.clone()?, String::from_str(alloc, folder)?);
-    assert!(rt; puts(alloc, &mut keeper, BLOB, b"abc"));
-    assert!(rt; begun_is_ignored(&rt, alloc, &mut keeper));
-    assert!(rt; adds_others(&rt, alloc, folder));
-    assert!(rt; holds_one(alloc, &mut keeper));
+    assert!(rt;
+        puts(alloc, &mut keeper, BLOB, b"abc") && begun_is_ignored(&rt, alloc, &mut keeper)
+    );
+    assert!(rt; adds_others(&rt, alloc, folder) && holds_one(alloc, &mut keeper));
     assert!(rt; fs::remove_dir_all(&rt, folder).is_ok());
     Ok(())
 }
@@ -219,16 +224,36 @@ fn below_a_file<K: Keeper>(alloc: Global, keeper: &mut K) -> [u8; 4] {
     [held, put, listed, kept]
 }
 
+// Whether a folder at the place of a name is a fault of that name alone.
+fn keeps_beside_a_folder<R: Files, K: Keeper>(
+    rt: &R,
+    alloc: Global,
+    folder: &str,
+    keeper: &mut K,
+) -> bool {
+    puts(alloc, keeper, BLOB, b"abc")
+        && makes(rt, alloc, folder, "e")
+        && makes(rt, alloc, folder, ENTRY)
+        && at_a_folder(alloc, keeper) == *b"fff"
+}
+
+// Whether a file at the place of a folder is a fault of the names below it alone.
+fn keeps_beside_a_file<R: Files, K: Keeper>(
+    rt: &R,
+    alloc: Global,
+    folder: &str,
+    keeper: &mut K,
+) -> bool {
+    writes(rt, alloc, folder, "w") && below_a_file(alloc, keeper) == *b"fffa"
+}
+
 #[test]
 fn faults_of_the_folder_lose_nothing(rt: HostRuntime) -> Result<(), Fail> {
     let alloc = rt.alloc();
     let folder = "loses-nothing";
     let mut keeper = FolderKeeper::new(rt.clone()?, String::from_str(alloc, folder)?);
-    assert!(rt; puts(alloc, &mut keeper, BLOB, b"abc"));
-    assert!(rt; makes(&rt, alloc, folder, "e") && makes(&rt, alloc, folder, ENTRY));
-    assert!(rt; at_a_folder(alloc, &mut keeper) == *b"fff");
-    assert!(rt; writes(&rt, alloc, folder, "w"));
-    assert!(rt; below_a_file(alloc, &mut keeper) == *b"fffa");
+    assert!(rt; keeps_beside_a_folder(&rt, alloc, folder, &mut keeper));
+    assert!(rt; keeps_beside_a_file(&rt, alloc, folder, &mut keeper));
     assert!(rt; fs::remove_dir_all(&rt, folder).is_ok());
     Ok(())
 }
@@ -241,16 +266,21 @@ fn links_to_full<R: Files>(rt: &R, alloc: Global) -> bool {
     }
 }
 
+// Whether a put on a full disk is a fault and loses nothing.
+fn keeps_on_a_full_disk<R: Files, K: Keeper>(rt: &R, alloc: Global, keeper: &mut K) -> bool {
+    puts(alloc, keeper, BLOB, b"abc")
+        && links_to_full(rt, alloc)
+        && letter_of(put(alloc, keeper, BLOB, b"new")) == b'f'
+        && holds(alloc, keeper, BLOB, b"abc")
+        && lists(alloc, keeper, &[BLOB])
+}
+
 #[test]
 fn a_full_disk_is_a_fault(rt: HostRuntime) -> Result<(), Fail> {
     let alloc = rt.alloc();
     let folder = "full-disk";
     let mut keeper = FolderKeeper::new(rt.clone()?, String::from_str(alloc, folder)?);
-    assert!(rt; puts(alloc, &mut keeper, BLOB, b"abc"));
-    assert!(rt; links_to_full(&rt, alloc));
-    assert!(rt; letter_of(put(alloc, &mut keeper, BLOB, b"new")) == b'f');
-    assert!(rt; holds(alloc, &mut keeper, BLOB, b"abc"));
-    assert!(rt; lists(alloc, &mut keeper, &[BLOB]));
+    assert!(rt; keeps_on_a_full_disk(&rt, alloc, &mut keeper));
     assert!(rt; fs::remove_dir_all(&rt, folder).is_ok());
     Ok(())
 }
@@ -259,23 +289,48 @@ fn permit<R: Files>(rt: &R, mode: u32) -> bool {
     fs::set_permissions(rt, "no-permission/b", Permissions::from_mode(mode)).is_ok()
 }
 
+// Letters for what becomes of a put and a drop in a folder that may not be written.
+fn unwritable<R: Files, K: Keeper>(rt: &R, alloc: Global, keeper: &mut K) -> [u8; 2] {
+    if !permit(rt, 0o555) {
+        return *b"??";
+    }
+    let put = letter_of(put(alloc, keeper, BLOB, b"new"));
+    let dropped = letter_of(drop_name(alloc, keeper, BLOB));
+    [put, dropped]
+}
+
+// Letters for what is held and listed in a folder that may not be read, and for what is held once it may.
+fn hidden<R: Files, K: Keeper>(rt: &R, alloc: Global, keeper: &mut K) -> [u8; 3] {
+    if !permit(rt, 0) {
+        return *b"???";
+    }
+    let held = held_letter(alloc, keeper, BLOB);
+    let listed = names_letter(alloc, keeper);
+    if !permit(rt, 0o755) {
+        return *b"???";
+    }
+    [held, listed, held_letter(alloc, keeper, BLOB)]
+}
+
+// Whether files are made where the folder may not be written.
+fn is_root<R: Files>(rt: &R, alloc: Global) -> bool {
+    permit(rt, 0o555) && writes(rt, alloc, "no-permission", "b/more")
+}
+
 // Who runs tests as root is refused nothing: then the changes are made.
 #[test]
 fn no_permission_is_a_fault(rt: HostRuntime) -> Result<(), Fail> {
     let alloc = rt.alloc();
     let mut keeper = FolderKeeper::new(rt.clone()?, String::from_str(alloc, "no-permission")?);
     assert!(rt; puts(alloc, &mut keeper, BLOB, b"abc"));
-    assert!(rt; permit(&rt, 0o555));
-    let is_root = writes(&rt, alloc, "no-permission", "b/more");
-    let put_letter = letter_of(put(alloc, &mut keeper, BLOB, b"new"));
-    let drop_letter = letter_of(drop_name(alloc, &mut keeper, BLOB));
-    assert!(rt; permit(&rt, 0));
-    let hidden = held_letter(alloc, &mut keeper, BLOB);
-    let listed = names_letter(alloc, &mut keeper);
-    assert!(rt; permit(&rt, 0o755));
-    let kept = held_letter(alloc, &mut keeper, BLOB);
-    let expected = if is_root { *b"dd-n-" } else { *b"ffffa" };
-    assert!(rt; [put_letter, drop_letter, hidden, listed, kept] == expected);
+    let is_root = is_root(&rt, alloc);
+    let (changed, seen) = if is_root {
+        (*b"dd", *b"-n-")
+    } else {
+        (*b"ff", *b"ffa")
+    };
+    assert!(rt; unwritable(&rt, alloc, &mut keeper) == changed);
+    assert!(rt; hidden(&rt, alloc, &mut keeper) == seen);
     assert!(rt; fs::remove_dir_all(&rt, "no-permission").is_ok());
     Ok(())
 }
