@@ -94,6 +94,7 @@ impl GrowingList {
             return self.append_each(alloc, values);
         }
         let depth = deepest(self.last.as_slice());
+        // An item that is too deep is refused when the list is finished.
         if depth >= MAX_DEPTH {
             return self.append_each(alloc, values);
         }
@@ -106,7 +107,7 @@ impl GrowingList {
         Ok(())
     }
 
-    /// The list.
+    /// The list. `Memory` also where its items are too many to be counted.
     pub fn finish(self, alloc: Global) -> Result<Value, DepthFault>
         ensures { MatchResult result
             (λ value. list_value (grown_items self) ≡ Some (plain_of value))

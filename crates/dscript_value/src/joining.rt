@@ -11,7 +11,7 @@ use std::rc::Rc;
 /// The most items that are copied into one piece where lists are joined.
 pub(crate) const MAX_PIECE: usize = 32;
 
-// The most items of a list that is joined: two counts have a sum.
+// The most items of a list that is joined, so that the sum of two counts fits.
 const MAX_COUNT: usize = 0x7fff_ffff_ffff_ffff;
 
 // Adds the items of a list to some items, each shared.
@@ -52,7 +52,7 @@ fn one_piece(alloc: Global, left: &Values, right: &Values) -> Result<Values, All
     Ok(Values::of(FlatValues::new(alloc, depth - 1, items)?))
 }
 
-// One list after another. None may be empty.
+// One list after another. Neither may be empty.
 fn node(alloc: Global, left: Values, right: Values) -> Result<Values, AllocError>
     requires left { 0 < length (item_list left.items) }
     requires right { 0 < length (item_list right.items) }

@@ -135,7 +135,7 @@ fn many_fields(alloc: Global, fields: Vec<Field>) -> Result<Fields, DepthFault>
     with_depth(alloc, done, Some(Rc::new(alloc, places)?))
 }
 
-// The fields of an object, which are each name once, with its depth.
+// The fields of an object with its depth. Each name is there once.
 fn with_depth(
     alloc: Global,
     fields: Vec<Field>,
@@ -183,7 +183,7 @@ pub(crate) fn find_placed<'a>(
     }
 }
 
-// The same places.
+// The places, shared.
 pub(crate) fn share_places(places: &Option<Rc<Places>>) -> Result<Option<Rc<Places>>, AllocError>
     ensures { IfOk result (λ copy. option_map rc_value copy ≡ option_map rc_value places.now) }
 {

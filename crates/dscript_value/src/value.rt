@@ -59,7 +59,8 @@ pub(crate) enum Parts {
     Joined(Rc<Join>),
 }
 
-// Two lists one after another: how many items they have, and how deep a value is that holds these.
+// Two lists one after another: how many items they have, how deep a value is that holds these, and how many joins
+// lead to an item at most.
 #[cycle(value)]
 #[derive(Drop)]
 pub(crate) struct Join {
@@ -223,7 +224,7 @@ impl FlatValues {
         self.items.as_slice()
     }
 
-    // The value at a place.
+    // The value at a place, counted from 0.
     fn get(&self, at: usize) -> Option<&Value>
         ensures { MatchOption result
             (slice_get (item_list (plain_values self.now).items) at ≡ None)
@@ -270,6 +271,7 @@ impl Values {
     pub(crate) fn of(piece: FlatValues) -> Values
         ensures { result ≡ piece }
     {
+        // The type of the piece says that its depth is right.
         let _depth = piece.depth;
         Values {
             parts: Parts::Flat(piece),
@@ -280,6 +282,7 @@ impl Values {
     pub(crate) fn list(self) -> Value
         ensures { list_value (item_list self.items) ≡ Some (plain_of result) }
     {
+        // The type of the list says that its depth is right.
         let _parts = &self.parts;
         Value::List(self)
     }
@@ -339,7 +342,7 @@ impl Values {
     }
 }
 
-// The item at a place.
+// The item at a place, counted from 0.
 fn item_at(items: &[Value], at: usize) -> Option<&Value>
     ensures { MatchOption result
         (slice_get (map plain_of items.now) at ≡ None)

@@ -7,11 +7,11 @@ use Rattle.std.specs.Str.{bytes_eq}
 use Rattle.std.proofs.lemmas.Slice.Eq.{bytes_eq-Decides}
 use Rattle.bx_path.proofs.StepsOfTexts.{root_from_text}
 use Rattle.std.proofs.lemmas.List.{take_more, take_all}
-use Rattle.std.proofs.lemmas.List.Elements.{All-contains, Contains-append_left, Contains-push, Contains-push_cases}
+use Rattle.std.proofs.lemmas.List.Elements.{All-contains, Contains-push, Contains-push_cases}
 use Rattle.bx_tree.specs.Paths.{Atoms, IsBelow, IsPath, path_text}
 use Rattle.bx_tree.specs.declared.file_input.FileInput.{FileInput}
 use Rattle.bx_tree.proofs.PathTexts.{prefix_from_below}
-use Rattle.pip_types.specs.Dirs.{RiseByForm, dir_cmp, dir_pip}
+use Rattle.pip_types.specs.Dirs.{dir_cmp, dir_pip}
 use Rattle.pip_types.specs.Inputs.{input_path}
 use Rattle.pip_types.specs.Makers.{HasOutDir, IsDirAmong, IsSealOf}
 use Rattle.pip_types.specs.Sets.{IsSetOf}
@@ -22,7 +22,7 @@ use Rattle.pip_types.specs.declared.pip.Pip.{Pip}
 use Rattle.pip_types.specs.declared.pip.PipKind.{PipKind}
 use Rattle.pip_types.specs.declared.pip.PipKind.TheVariants.{Process, Copy, Write, Seal}
 use Rattle.pip_model.specs.Listings.{IsNear, ListsNear, listed_files}
-use Rattle.pip_near.specs.Near.{AddsDir, AreNear, AreOfSeals, AreTaken, ListsAt, dir_in, kind_dir}
+use Rattle.pip_near.specs.Near.{AddsDir, AreNear, AreOfSeals, ListsAt, dir_in, kind_dir}
 
 -- ## The root
 

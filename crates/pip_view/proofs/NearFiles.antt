@@ -1,28 +1,24 @@
 -- Which files near a path the searched directories list.
-use Rattle.std.proofs.Common.{◌≡◌, ℕ, Bool, true, false, ◌||◌, cond, List, [], ◌∷◌, ◌++◌, ◌⊎◌, filter, length, take, get_or, Option, Some, None, refl, ap, sym, subst, ◌∙◌, inl, inr, arith}
+use Rattle.std.proofs.Common.{◌≡◌, ℕ, Bool, true, false, ◌||◌, cond, List, [], ◌∷◌, ◌++◌, ◌⊎◌, filter, Option, Some, None, refl, ap, sym, subst, ◌∙◌, inl, inr, arith}
 use Rattle.std.specs.Prelude.{Any, Contains, IfSome, IsSomeAnd, slice_get}
-use Rattle.std.specs.List.{All, cons_option, flat_map}
+use Rattle.std.specs.List.{cons_option, flat_map}
 use Rattle.std.specs.Option.{unwrap_or}
 use Rattle.std.proofs.lemmas.Bool.{cases_Bool, false≢true}
 use Rattle.std.proofs.lemmas.List.Elements.{filter-append}
-use Rattle.std.proofs.lemmas.List.Folds.{Any-from_list_any, list_any-from_Any}
-use Rattle.std.proofs.lemmas.List.Kept.{IsStrictlySortedBy-filter}
 use Rattle.bx_tree.specs.Orders.{same_path_decides}
 use Rattle.bx_tree.specs.Paths.{Atoms, IsBelow, same_path}
 use Rattle.bx_tree.specs.declared.file_input.FileInput.{FileInput}
 use Rattle.own_writes.specs.Below.{is_below, next_atom}
 use Rattle.own_writes.proofs.BelowByAtoms.{below_decides}
 use Rattle.own_writes.proofs.NextAtoms.{none_next}
-use Rattle.pip_types.specs.Dirs.{RiseByForm, dir_cmp, dir_pip, same_dir}
+use Rattle.pip_types.specs.Dirs.{RiseByForm, dir_pip}
 use Rattle.pip_types.specs.Inputs.{input_path}
-use Rattle.pip_types.specs.Orders.{same_dir_equiv}
 use Rattle.pip_types.specs.declared.dir_inputs.DirInput.{DirInput}
 use Rattle.pip_types.specs.declared.dir_inputs.DirInput.TheVariants.{Sealed, Opaque}
 use Rattle.pip_types.specs.declared.dir_inputs.SealForm.TheVariants.{Full, Partial, SourceTop, SourceAll}
 use Rattle.pip_types.specs.declared.pip.Pip.{Pip}
 use Rattle.pip_types.specs.declared.pip.PipKind.{PipKind}
 use Rattle.pip_types.specs.declared.pip.PipKind.TheVariants.{Process, Copy, Write, Seal}
-use Rattle.pip_types.proofs.SetsOf.{same_dir_exact}
 use Rattle.pip_model.specs.Listings.{listed_files}
 use Rattle.pip_near.specs.Near.{AreNear, ListsAt}
 use Rattle.pip_near.proofs.Rising.{at_head, in_decides, in_rest, is_in, none_there, some_by_test}

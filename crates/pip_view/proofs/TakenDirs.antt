@@ -3,7 +3,7 @@ use Rattle.std.proofs.Common.{◌≡◌, ℕ, zero, suc, ◌<◌, true, List, []
 use Rattle.std.specs.Borrow.{Bor}
 use Rattle.std.specs.List.Sorted.{IsStrictlySortedBy}
 use Rattle.std.specs.Option.{option_copied}
-use Rattle.std.specs.Prelude.{IfSome, IsSomeAnd, nat_lt, slice_get}
+use Rattle.std.specs.Prelude.{IfSome, IsSomeAnd, slice_get}
 use Rattle.pip_outputs.specs.Producing.{dirs_at, dirs_of}
 use Rattle.pip_types.specs.Dirs.{RiseByForm}
 use Rattle.std.specs.List.{All}
@@ -18,7 +18,7 @@ use Rattle.pip_types.specs.declared.pip.PipKind.{PipKind}
 use Rattle.pip_types.specs.declared.pip.PipKind.TheVariants.{Process, Copy, Write, Seal}
 use Rattle.pip_types.specs.declared.pip.ProcessDesc.{ProcessDesc}
 use Rattle.pip_inputs.specs.Plain.{kind_process, process_in}
-use Rattle.pip_model.specs.Listings.{has_wide, is_wide}
+use Rattle.pip_model.specs.Listings.{is_wide}
 use Rattle.pip_model.specs.declared.listings.TheConstants.{FEW_DIRS}
 use Rattle.pip_near.specs.Near.{AreTaken}
 

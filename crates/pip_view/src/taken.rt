@@ -19,9 +19,7 @@ use crate::{Memory, Names};
 use bx_digest::Blob;
 use bx_tree::{FileInput, Path};
 use pip_inputs::{Inputs, input_file, source_blob};
-use pip_model::{
-    DirInput, DirInputs, FileInputs, Pip, PipKind, Plan, ProcessDesc, SealForm, Sources,
-};
+use pip_model::{DirInput, FileInputs, Pip, PipKind, Plan, ProcessDesc, SealForm, Sources};
 use pip_near::{near_dirs, searched};
 use std::alloc::Global;
 use tool_values::add_names;

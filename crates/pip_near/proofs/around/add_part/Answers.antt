@@ -1,7 +1,7 @@
 use Rattle.std.proofs.Common.{take}
 use Rattle.std.proofs.lemmas.Result.{IfOk-weaker}
 use Rattle.pip_near.specs.Around.{HasText, IsPart}
-use Rattle.pip_near.proofs.Between.{adds_fewer, adds_none}
+use Rattle.pip_near.proofs.Between.{adds_fewer}
 use Rattle.pip_near.proofs.around.add_part.Goals as goal
 
 pub returns : goal.returns

@@ -1,5 +1,4 @@
 use Rattle.std.proofs.Common.{◌≡◌, ◌++◌, ℕ, List, Option, IfOk, ap, refl, subst, sym, ◌∙◌}
-use Rattle.bx_tree.specs.Trees.{file_at}
 use Rattle.std.specs.Option.{unwrap_or}
 use Rattle.pip_view.specs.Taken.{dirs_files, first_at}
 use Rattle.pip_view.proofs.NearFiles.{first_searched}

@@ -1,6 +1,5 @@
 use Rattle.std.proofs.Common.{◌≡◌, ℕ, List, OnOk, ap, subst, ◌∙◌}
 use Rattle.std.specs.Borrow.{Bor}
-use Rattle.bx_tree.specs.Trees.{Files}
 use Rattle.own_writes.specs.Writes.{own_names}
 use Rattle.pip_types.specs.declared.dir_inputs.DirInput.{DirInput}
 use Rattle.tool_values.specs.Listings.{add_names}

@@ -5,7 +5,7 @@ use Rattle.pip_types.specs.declared.pip.ProcessDesc.{ProcessDesc}
 use Rattle.tool_values.specs.Listings.{add_names}
 use Rattle.tool_values.specs.NameSets.{names_now}
 use Rattle.pip_view.specs.Seen.{ViewData, taken_by}
-use Rattle.pip_view.specs.Taken.{taken_files, taken_names}
+use Rattle.pip_view.specs.Taken.{taken_files}
 use Rattle.pip_view.proofs.TakenFiles.{names_of_taken}
 use Rattle.pip_view.proofs.view.PipView.add_taken.Goals as goal
 

@@ -1,6 +1,5 @@
 use Rattle.std.proofs.Common.{◌≡◌, Bool, IfOk, List, ap, subst, ◌∙◌}
 use Rattle.std.specs.Borrow.{Bor}
-use Rattle.bx_tree.specs.Trees.{Files}
 use Rattle.own_writes.specs.Writes.{has_below}
 use Rattle.pip_types.specs.declared.dir_inputs.DirInput.{DirInput}
 use Rattle.pip_view.specs.Gathered.{dirs_now, members_of, opaque_of}

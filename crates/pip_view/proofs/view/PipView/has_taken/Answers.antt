@@ -3,7 +3,7 @@ use Rattle.own_writes.specs.Writes.{has_below}
 use Rattle.pip_near.specs.Near.{AreTaken}
 use Rattle.pip_types.specs.declared.pip.ProcessDesc.{ProcessDesc}
 use Rattle.pip_view.specs.Seen.{ViewData, taken_by}
-use Rattle.pip_view.specs.Taken.{any_below, taken_files}
+use Rattle.pip_view.specs.Taken.{taken_files}
 use Rattle.pip_view.proofs.TakenFiles.{below_taken}
 use Rattle.pip_view.proofs.view.PipView.has_taken.Goals as goal
 

@@ -3,7 +3,6 @@ use Rattle.bx_tree.specs.Trees.{file_at}
 use Rattle.pip_near.specs.Near.{AreTaken}
 use Rattle.pip_types.specs.declared.pip.ProcessDesc.{ProcessDesc}
 use Rattle.pip_view.specs.Seen.{ViewData, taken_by}
-use Rattle.pip_view.specs.Taken.{taken_bytes, taken_files}
 use Rattle.pip_view.proofs.view.PipView.taken.Goals as goal
 
 pub returns-in-Some : goal.returns-in-Some
