@@ -2,7 +2,7 @@
 use Rattle.std.proofs.Common.{◌≡◌, ℕ, ◌+◌, List, [], ◌∷◌, drop, Result, Ok, Err, refl, ap, sym, ◌∙◌}
 use Rattle.std.specs.Prelude.{slice_get}
 use Rattle.bx_tree.specs.Trees.{Files}
-use Rattle.dscript_program.specs.ProgramData.{FileData, ProgramData}
+use Rattle.dscript_program.specs.ProgramData.{FileData, FunctionData, ProgramData}
 use Rattle.dscript_value.specs.Plain as plain
 use Rattle.dscript_meaning.specs.Acts.{Acts}
 use Rattle.dscript_meaning.specs.Answers.{Stops}
@@ -92,13 +92,16 @@ state_at budget frame table calls = record { left = budget; frame = frame; const
 
 -- the machine before the first step, part by part
 pub first_is
-    : (p : ProgramData) (sources : Files) (budget : ℕ) (work : List Work) (given : Plain) (frame : states.Frame)
-    (table : Table) (calls : Calls) → work ≡ works.Stmt (stmt.Demands 0 0) ∷ [] → given ≡ plain.Undefined
+    : (p : ProgramData) (functions : List FunctionData) (sources : Files) (budget : ℕ) (work : List Work) (given : Plain)
+    (frame : states.Frame) (table : Table) (calls : Calls) → functions ≡ p.functions
+    → work ≡ works.Stmt (stmt.Demands 0 0) ∷ [] → given ≡ plain.Undefined
     → frame ≡ constant_frame 0 → table ≡ all_waiting p → calls ≡ no_calls sources
-    → view_at p work given (state_at budget frame table calls) ≡ first_view p sources budget
-first_is p sources budget work given frame table calls work_is given_is frame_is table_is calls_is =
+    → view_at (record { files = p.files; functions = functions }) work given (state_at budget frame table calls)
+    ≡ first_view p sources budget
+first_is p functions sources budget work given frame table calls functions_are work_is given_is frame_is table_is calls_is =
     let first : List Work = works.Stmt (stmt.Demands 0 0) ∷ [] in
-    ap (λ w. view_at p w given (state_at budget frame table calls)) work_is
+    ap (λ fs. view_at (record { files = p.files; functions = fs }) work given (state_at budget frame table calls)) functions_are
+    ∙ ap (λ w. view_at p w given (state_at budget frame table calls)) work_is
     ∙ ap (λ x. view_at p first x (state_at budget frame table calls)) given_is
     ∙ ap (λ f. view_at p first plain.Undefined (state_at budget f table calls)) frame_is
     ∙ ap (λ t. view_at p first plain.Undefined (state_at budget (constant_frame 0) t calls)) table_is

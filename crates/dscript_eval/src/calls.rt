@@ -23,7 +23,7 @@ use dscript_meaning::EvalKind;
 use dscript_program::{Body, BoundExpr, Function};
 use dscript_sdk::{Site, call, is_callback, method};
 use dscript_value::{Callee, FunctionRef, Value};
-use eval_exprs::{at_once, code_at};
+use eval_exprs::at_once;
 use eval_frames::{Frame, path_of};
 use eval_machine::{CallWork, ExprWork, Machine, StmtWork, Stop, Use, Work, add_value, stop_of};
 
@@ -173,12 +173,12 @@ pub fn open_call(
     if machine.openable == 0 {
         return Err(machine.fault(EvalKind::Depth));
     }
-    let Some(code) = code_at(machine.program, number) else {
+    let Some(code) = machine.code(number) else {
         return Err(machine.fault(EvalKind::Kind));
     };
     let held = function.share()?;
     let frame = Frame::of_function(machine.alloc, code, Some(held), args)?;
-    begin(machine, &code.body, frame)
+    begin(machine, &code.function.body, frame)
 }
 
 // Begins a body in a frame of its own.

@@ -10,7 +10,6 @@ ghost use Rattle.dscript_eval.specs.CallbackArgs.{args_of};
 use crate::callbacks::number_of;
 use dscript_program::{Body, BoundExpr, Function};
 use dscript_value::{Callee, Value};
-use eval_exprs::code_at;
 use eval_machine::{Callback, Callbacks, Machine, item_ref};
 use eval_now::{MAX_NESTING, value_now};
 
@@ -138,11 +137,18 @@ pub fn call_at_once(machine: &mut Machine<'_>, callbacks: &Callbacks) -> bool
     let Callee::Place(place) = callbacks.function.callee() else {
         return false;
     };
-    let Some(code) = code_at(machine.program, *place) else {
+    let Some(code) = machine.code(*place) else {
         return false;
     };
-    match &code.body {
-        Body::Expr(e) => callback_at_once(machine, callbacks.kind, code, e, item, callbacks.next),
+    match &code.function.body {
+        Body::Expr(e) => callback_at_once(
+            machine,
+            callbacks.kind,
+            code.function,
+            e,
+            item,
+            callbacks.next,
+        ),
         Body::Block(_) => false,
     }
 }

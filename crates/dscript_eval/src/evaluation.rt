@@ -1,10 +1,11 @@
 //! The evaluation of a program.
-ghost use Rattle.std.specs.Prelude.{◌≡◌, Err, IfErr, IfOk};
+ghost use Rattle.std.specs.Prelude.{◌≡◌, map, Err, IfErr, IfOk};
 ghost use Rattle.dscript_program.specs.Views.{program_data};
 ghost use Rattle.dscript_meaning.specs.Answers.{Builds, Stops};
 ghost use Rattle.dscript_meaning.specs.Meaning.{Unnumbered, meaning};
 ghost use Rattle.dscript_meaning.specs.declared.fault.EvalFault.TheVariants as eval_faults;
 ghost use Rattle.dscript_eval.specs.Tops.{IsAnsweredAs, first_view};
+ghost use Rattle.eval_frames.specs.Codes.{code_data};
 ghost use Rattle.eval_machine.specs.Views.{seen};
 
 use crate::Memory;
@@ -14,7 +15,7 @@ use dscript_meaning::{EvalFault, MAX_OPEN_CALLS};
 use dscript_program::Program;
 use dscript_sdk::SdkState;
 use dscript_value::Value;
-use eval_frames::{Frame, all_waiting, path_of};
+use eval_frames::{Code, Frame, all_waiting, codes_of, path_of};
 use eval_machine::{Machine, StmtWork, Stop, Work};
 use pip_types::PipList;
 use std::alloc::Global;
@@ -23,9 +24,11 @@ use std::alloc::Global;
 fn start<'a>(
     alloc: Global,
     program: &'a Program,
+    codes: &'a [Code<'a>],
     tree: &'a Tree,
     budget: u64,
 ) -> Result<Machine<'a>, Memory>
+    requires { map code_data codes.now ≡ (program_data program.now).functions }
     ensures { IfOk result (λ machine. seen machine
         ≡ first_view (program_data program.entry.now) tree.entry.now budget) }
 {
@@ -36,6 +39,7 @@ fn start<'a>(
     Ok(Machine {
         alloc,
         program,
+        codes,
         work,
         given: Value::Undefined,
         openable: MAX_OPEN_CALLS,
@@ -95,7 +99,8 @@ pub fn evaluate(
     ensures unnumbered { meaning (program_data program.now) tree.now budget ≡ Err Unnumbered
         → result ≡ Err eval_faults.Memory }
 {
-    let mut machine = start(alloc, program, tree, budget)?;
+    let codes = codes_of(alloc, program)?;
+    let mut machine = start(alloc, program, codes.as_slice(), tree, budget)?;
     match run(&mut machine) {
         Ok(()) => Ok(into_pips(machine)),
         Err(stop) => {

@@ -16,7 +16,6 @@ pub use constants::{demands, keep};
 pub use exprs::{choose, eval, operands, operated, prefix};
 pub use given::at_once;
 pub use literals::{first_hole, hole, other_holes};
-pub use names::code_at;
 
 /// Out of memory, the one refusal that no contract ties to a cause.
 pub type Memory = std::alloc::AllocError;

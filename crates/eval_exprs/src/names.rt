@@ -1,11 +1,10 @@
 //! Names and arrow functions.
-ghost use Rattle.std.specs.Prelude.{◌≡◌, map, IfOk, MatchOption, None, Some};
-ghost use Rattle.dscript_program.specs.Views.{function_data, kind_data, program_data};
+ghost use Rattle.std.specs.Prelude.{◌≡◌, map, IfOk, Some};
+ghost use Rattle.dscript_program.specs.Views.{kind_data};
 ghost use Rattle.dscript_meaning.specs.Evaluating.{answered};
 ghost use Rattle.dscript_meaning.specs.Expressions.{captured_of};
 ghost use Rattle.dscript_meaning.specs.Frames.{captures};
-ghost use Rattle.dscript_meaning.specs.Lookups as code;
-ghost use Rattle.dscript_meaning.specs.Lookups.{declared_at};
+ghost use Rattle.dscript_meaning.specs.Lookups.{declared_at, function_at};
 ghost use Rattle.dscript_value.specs.Plain.{plain_of};
 ghost use Rattle.dscript_value.specs.declared.parts.Callee.TheVariants as callees;
 ghost use Rattle.sdk_values.specs.Answers.{function_answer};
@@ -17,7 +16,7 @@ ghost use Rattle.eval_machine.specs.Views.{seen};
 use crate::Memory;
 use crate::constants::constant_value;
 use dscript_meaning::EvalKind;
-use dscript_program::{DeclKind, Function, Program, Target};
+use dscript_program::{DeclKind, Target};
 use dscript_value::{Value, ambient_function};
 use eval_frames::{function_at, kind_at};
 use eval_machine::{Machine, Stop};
@@ -75,26 +74,16 @@ fn function_value(machine: &mut Machine<'_>, number: u32, held: Vec<Value>) -> R
     machine.finish(outcome)
 }
 
-/// A function of the program, by its number.
-pub fn code_at(program: &Program, number: u32) -> Option<&Function>
-    ensures { MatchOption result
-        (code.function_at (program_data program.now) number ≡ None)
-        (λ function. code.function_at (program_data program.now) number
-        ≡ Some (function_data function.now)) }
-{
-    program.functions().get(number as usize)
-}
-
 // What the captured locals of an arrow function hold now.
 fn captured_now(machine: &Machine<'_>, number: u32) -> Result<Vec<Value>, Memory>
     ensures { IfOk result (λ values. map plain_of values.items
-        ≡ captures (captured_of (code.function_at (seen machine.now).program number))
+        ≡ captures (captured_of (function_at (seen machine.now).program number))
         (seen machine.now).state) }
 {
-    match code_at(machine.program, number) {
-        Some(function) => machine
+    match machine.code(number) {
+        Some(code) => machine
             .frame
-            .locals(machine.alloc, function.captured.as_slice()),
+            .locals(machine.alloc, code.function.captured.as_slice()),
         None => Ok(Vec::new(machine.alloc)),
     }
 }

@@ -1,5 +1,6 @@
 pub mod Ascending
 pub mod Placed
+pub mod Codes
 pub mod Own
 pub mod Frames
 pub mod Statuses

@@ -1,25 +1,24 @@
 //! The frame of the running body.
 ghost use Rattle.std.specs.Prelude.{◌≡◌, ◌<◌, ◌≤◌, [], length, map, slice_set};
 ghost use Rattle.std.specs.Prelude.{Some, None, IfOk, OnErr, OnOk};
-ghost use Rattle.dscript_program.specs.Views.{function_data};
 ghost use Rattle.dscript_value.specs.Plain.{plain_of};
 ghost use Rattle.dscript_meaning.specs.Frames.{constant_frame, function_frame, local_value, with_local};
+ghost use Rattle.eval_frames.specs.Codes.{code_data};
 ghost use Rattle.eval_frames.specs.Frames.{frame_of, held_by};
 
 use crate::Memory;
-use crate::captured::Captured;
+use crate::code::Code;
 use crate::own::{own_arguments, put_after, put_at, put_far, value_in};
-use dscript_program::Function;
 use dscript_value::{FunctionRef, Value};
 use std::alloc::Global;
 use std::collections::BTreeMap;
 
-/// The running body: its file, the locals that it captured and the function that holds their values, and its
-/// own locals from the first one on. A constant has neither.
+/// The running body: its file, its code, which tells the locals that it captured, the function that holds their
+/// values, and its own locals from the first one on. A constant has no code, no function and no locals.
 #[derive(Drop)]
 pub struct Frame<'a> {
     pub file: u32,
-    pub captured: Captured<'a>,
+    pub code: Option<&'a Code<'a>>,
     pub function: Option<FunctionRef>,
     pub first: u32,
     /// How many own locals the body has.
@@ -55,7 +54,7 @@ impl<'a> Frame<'a> {
     {
         Frame {
             file,
-            captured: Captured::few(&[]),
+            code: None,
             function: None,
             first: 0,
             count: 0,
@@ -68,18 +67,18 @@ impl<'a> Frame<'a> {
     /// The frame in which a function begins that is called with these arguments.
     pub fn of_function(
         alloc: Global,
-        function: &'a Function,
+        code: &'a Code<'a>,
         held: Option<FunctionRef>,
         args: &[Value],
     ) -> Result<Frame<'a>, Memory>
         ensures { IfOk result (λ frame. frame_of frame
-            ≡ function_frame (function_data function.now) (held_by held) (map plain_of args.now)) }
+            ≡ function_frame (code_data code.now) (held_by held) (map plain_of args.now)) }
     {
+        let function = code.function;
         let own = own_arguments(alloc, args, function.params.len(), function.local_count)?;
-        let captured = Captured::of(alloc, function.captured.as_slice())?;
         Ok(Frame {
             file: function.file,
-            captured,
+            code: Some(code),
             function: held,
             first: function.first_local,
             count: function.local_count,
@@ -94,7 +93,10 @@ impl<'a> Frame<'a> {
         ensures { IfOk result (λ value. plain_of value ≡ local_value (frame_of self.now) local) }
     {
         if local < self.first {
-            self.captured.value(held_values(&self.function), local)
+            match self.code {
+                Some(code) => code.value(held_values(&self.function), local),
+                None => Ok(Value::Undefined),
+            }
         } else {
             let place = (local - self.first) as usize;
             value_in(self.own.as_slice(), &self.far, self.count, place)

@@ -1,11 +1,13 @@
 //! What evaluation keeps of running bodies and constants, and what it reads from programs.
 //!
-//! The frame of a body with its locals, the table of constants, what a program has at a number, the steps and
-//! parts of bound nodes, and values that evaluation makes. This crate depends on `dscript_meaning`, by whose
-//! words it is defined.
+//! The frame of a body with its locals, functions with how the locals that they captured are found, the table of
+//! constants, what a program has at a number, the steps and parts of bound nodes, and values that evaluation makes.
+//! This crate depends on `dscript_meaning`, by whose words it is defined.
 #![tactic(auto)]
 
 mod captured;
+mod code;
+mod codes;
 mod frame;
 mod lookups;
 mod made;
@@ -13,6 +15,8 @@ mod nodes;
 mod own;
 mod status;
 
+pub use code::Code;
+pub use codes::codes_of;
 pub use frame::Frame;
 pub use lookups::{const_at, kind_at, path_of};
 pub use made::{directory_of, function_at, object_value, text_of};

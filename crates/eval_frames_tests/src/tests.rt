@@ -5,8 +5,8 @@ use dscript_program::{
 };
 use dscript_value::{FunctionRef, Value};
 use eval_frames::{
-    Frame, Memory, Status, all_waiting, const_at, directory_of, expr_cost, function_at, kind_at,
-    object_value, path_of, set_status, status_at, stmt_cost, text_of,
+    Code, Frame, Memory, Status, all_waiting, codes_of, const_at, directory_of, expr_cost,
+    function_at, kind_at, object_value, path_of, set_status, status_at, stmt_cost, text_of,
 };
 use sdk_values::SdkFault;
 use std::alloc::Global;
@@ -79,6 +79,42 @@ fn function(alloc: Global) -> Result<Function, Memory> {
         first_local: 4,
         local_count: 2,
         body: Body::Block(Vec::new(alloc)),
+    })
+}
+
+/// The even numbers below 400, upwards or downwards.
+fn even_numbers(alloc: Global, downwards: bool) -> Result<Vec<u32>, Memory> {
+    let mut numbers = Vec::new(alloc);
+    for number in 0..200 {
+        let place = if downwards { 199 - number } else { number };
+        numbers.push(place * 2)?;
+    }
+    Ok(numbers)
+}
+
+/// A function with 200 locals from the local 400 on, which captures the locals with even numbers below 400, in
+/// their order or from the last to the first.
+fn long_function(alloc: Global, downwards: bool) -> Result<Function, Memory> {
+    Ok(Function {
+        file: 0,
+        captured: even_numbers(alloc, downwards)?,
+        params: Vec::new(alloc),
+        first_local: 400,
+        local_count: 200,
+        body: Body::Block(Vec::new(alloc)),
+    })
+}
+
+/// A program of three functions: a short one, and two that capture many locals, in their order and from the last
+/// to the first.
+fn functions(alloc: Global) -> Result<Program, Memory> {
+    let mut functions = Vec::new(alloc);
+    functions.push(function(alloc)?)?;
+    functions.push(long_function(alloc, false)?)?;
+    functions.push(long_function(alloc, true)?)?;
+    Ok(Program {
+        files: Vec::new(alloc),
+        functions,
     })
 }
 
@@ -156,9 +192,9 @@ fn has_its_locals(frame: &Frame<'_>) -> bool {
     holds(frame, 3, 0) && holds(frame, 4, 0) && is_unset(frame, 5) && is_unset(frame, 2)
 }
 
-fn takes(alloc: Global, function: &Function, args: &[Value]) -> Result<bool, Memory> {
+fn takes(alloc: Global, code: &Code<'_>, args: &[Value]) -> Result<bool, Memory> {
     let held = holder(alloc)?;
-    let frame = Frame::of_function(alloc, function, held, args)?;
+    let frame = Frame::of_function(alloc, code, held, args)?;
     let taken = has_its_locals(&frame);
     drop(frame);
     Ok(taken)
@@ -166,10 +202,12 @@ fn takes(alloc: Global, function: &Function, args: &[Value]) -> Result<bool, Mem
 
 fn takes_two(alloc: Global) -> Result<bool, Memory> {
     let args = numbers(alloc, 2)?;
-    let function = function(alloc)?;
-    let taken = takes(alloc, &function, args.as_slice());
-    drop(function);
-    taken
+    let program = functions(alloc)?;
+    let codes = codes_of(alloc, &program)?;
+    match codes.as_slice().get(0) {
+        Some(code) => takes(alloc, code, args.as_slice()),
+        None => Ok(false),
+    }
 }
 
 #[test]
@@ -192,8 +230,8 @@ fn has_the_last(alloc: Global, frame: &Frame<'_>) -> Result<bool, Memory> {
     Ok(first && holds(frame, 5, 2) && is_unset(frame, 6))
 }
 
-fn binds(alloc: Global, function: &Function) -> Result<bool, Memory> {
-    let mut frame = Frame::of_function(alloc, function, None, &[])?;
+fn binds(alloc: Global, code: &Code<'_>) -> Result<bool, Memory> {
+    let mut frame = Frame::of_function(alloc, code, None, &[])?;
     bind_some(&mut frame)?;
     let bound = has_the_last(alloc, &frame);
     drop(frame);
@@ -201,42 +239,18 @@ fn binds(alloc: Global, function: &Function) -> Result<bool, Memory> {
 }
 
 fn binds_locals(alloc: Global) -> Result<bool, Memory> {
-    let function = function(alloc)?;
-    let bound = binds(alloc, &function);
-    drop(function);
-    bound
+    let program = functions(alloc)?;
+    let codes = codes_of(alloc, &program)?;
+    match codes.as_slice().get(0) {
+        Some(code) => binds(alloc, code),
+        None => Ok(false),
+    }
 }
 
 #[test]
 fn a_local_holds_what_was_bound_last(rt: HostRuntime) -> Result<(), Fail> {
     assert!(rt; binds_locals(rt.alloc())?);
     Ok(())
-}
-
-/// The even numbers below 400, upwards or downwards.
-fn even_numbers(alloc: Global, downwards: bool) -> Result<Vec<u32>, Memory> {
-    let mut numbers = Vec::new(alloc);
-    for number in 0..200 {
-        if downwards {
-            numbers.push(398 - number * 2)?;
-        } else {
-            numbers.push(number * 2)?;
-        }
-    }
-    Ok(numbers)
-}
-
-/// A function with 200 locals from the local 400 on, which captures the locals with even numbers below 400, in
-/// their order or from the last to the first.
-fn long_function(alloc: Global, downwards: bool) -> Result<Function, Memory> {
-    Ok(Function {
-        file: 0,
-        captured: even_numbers(alloc, downwards)?,
-        params: Vec::new(alloc),
-        first_local: 400,
-        local_count: 200,
-        body: Body::Block(Vec::new(alloc)),
-    })
 }
 
 /// A function that holds the numbers below 200.
@@ -272,9 +286,9 @@ fn has_captured_downwards(frame: &Frame<'_>) -> bool {
     holds(frame, 0, 199) && holds(frame, 398, 0) && holds(frame, 12, 193) && is_unset(frame, 13)
 }
 
-fn binds_long(alloc: Global, function: &Function, downwards: bool) -> Result<bool, Memory> {
+fn binds_long(alloc: Global, code: &Code<'_>, downwards: bool) -> Result<bool, Memory> {
     let held = long_holder(alloc)?;
-    let mut frame = Frame::of_function(alloc, function, held, &[])?;
+    let mut frame = Frame::of_function(alloc, code, held, &[])?;
     let found = if downwards {
         has_captured_downwards(&frame)
     } else {
@@ -285,17 +299,19 @@ fn binds_long(alloc: Global, function: &Function, downwards: bool) -> Result<boo
     Ok(bound)
 }
 
-fn binds_far_locals(alloc: Global, downwards: bool) -> Result<bool, Memory> {
-    let function = long_function(alloc, downwards)?;
-    let bound = binds_long(alloc, &function, downwards);
-    drop(function);
-    bound
+fn binds_far_locals(alloc: Global, number: usize, downwards: bool) -> Result<bool, Memory> {
+    let program = functions(alloc)?;
+    let codes = codes_of(alloc, &program)?;
+    match codes.as_slice().get(number) {
+        Some(code) => binds_long(alloc, code, downwards),
+        None => Ok(false),
+    }
 }
 
 #[test]
 fn locals_that_are_far_from_one_another_are_found(rt: HostRuntime) -> Result<(), Fail> {
-    assert!(rt; binds_far_locals(rt.alloc(), false)?);
-    assert!(rt; binds_far_locals(rt.alloc(), true)?);
+    assert!(rt; binds_far_locals(rt.alloc(), 1, false)?);
+    assert!(rt; binds_far_locals(rt.alloc(), 2, true)?);
     Ok(())
 }
 

@@ -1,9 +1,10 @@
 -- What contracts see of the machine.
-use Rattle.std.specs.Prelude.{ℕ, List, reverse}
+use Rattle.std.specs.Prelude.{ℕ, List, map, reverse}
 use Rattle.dscript_program.specs.ProgramData.{ProgramData}
 use Rattle.dscript_program.specs.Views.{program_data}
 use Rattle.dscript_value.specs.Plain.{Plain, plain_of}
 use Rattle.dscript_meaning.specs.States.{State}
+use Rattle.eval_frames.specs.Codes.{code_data}
 use Rattle.eval_frames.specs.Frames.{frame_of}
 use Rattle.eval_frames.specs.Statuses.{statuses}
 use Rattle.eval_machine.specs.declared.machine.Machine.{Machine}
@@ -20,7 +21,7 @@ pub record View : Type 0 where
 
 abbrev pub seen : Machine → View
 seen m = record {
-  program = program_data m.program.now;
+  program = record { files = (program_data m.program.now).files; functions = map code_data m.codes.now };
   work = reverse m.work.items;
   given = plain_of m.given;
   openable = m.openable;

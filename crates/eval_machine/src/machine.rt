@@ -1,5 +1,7 @@
 //! The machine: what is still to be done, the last value, and the state.
-ghost use Rattle.std.specs.Prelude.{◌≡◌, ◌+◌, ◌-◌, ◌<◌, ◌∷◌, [], None, MatchOption, MatchResult};
+ghost use Rattle.std.specs.Prelude.{◌≡◌, ◌+◌, ◌-◌, ◌<◌, ◌∷◌, [], None, Some, MatchOption, MatchResult};
+ghost use Rattle.dscript_meaning.specs.Lookups.{function_at};
+ghost use Rattle.eval_frames.specs.Codes.{code_data};
 ghost use Rattle.eval_frames.specs.Frames.{frame_of};
 ghost use Rattle.dscript_value.specs.Plain as plain;
 ghost use Rattle.dscript_value.specs.Plain.{plain_of};
@@ -13,7 +15,7 @@ use dscript_meaning::EvalKind;
 use dscript_program::Program;
 use dscript_sdk::SdkState;
 use dscript_value::Value;
-use eval_frames::{Frame, Status};
+use eval_frames::{Code, Frame, Status};
 use std::alloc::Global;
 use std::mem;
 
@@ -22,6 +24,8 @@ use std::mem;
 pub struct Machine<'a> {
     pub alloc: Global,
     pub program: &'a Program,
+    /// The functions of the program, by number.
+    pub codes: &'a [Code<'a>],
     pub work: Vec<Work<'a>>,
     pub given: Value,
     /// How many calls may still be opened.
@@ -33,6 +37,15 @@ pub struct Machine<'a> {
 }
 
 impl<'a> Machine<'a> {
+    /// A function of the program, by its number.
+    pub fn code(&self, number: u32) -> Option<&'a Code<'a>>
+        ensures { MatchOption result
+            (function_at (seen self.now).program number ≡ None)
+            (λ code. function_at (seen self.now).program number ≡ Some (code_data code.now)) }
+    {
+        self.codes.get(number as usize)
+    }
+
     /// Does this first.
     pub fn push(&mut self, work: Work<'a>) -> Result<(), Stop>
         ensures { MatchResult result

@@ -1,7 +1,7 @@
 use Rattle.std.proofs.Common.{ap, arith, map, ◌∙◌}
-use Rattle.dscript_program.specs.Views.{function_data}
 use Rattle.dscript_value.specs.Plain.{PlainFunction, item_list, plain_of}
 use Rattle.dscript_meaning.specs.Frames.{function_frame}
+use Rattle.eval_frames.specs.Codes.{code_data}
 use Rattle.eval_machine.specs.Views.{seen}
 use Rattle.eval_machine.proofs.Opening.{none_openable}
 use Rattle.dscript_eval.proofs.CallMoves.{no_code, opened_body}
@@ -23,5 +23,5 @@ returns c =
     keeps_at _ _ _ _
     (opened_body (seen c.args.machine.now) c.args.number _ _ _ _ (omega (arith, c.if-machine-eq0.false)) c.in-Some.ensures
     (c.in_ok-frame.ensures
-    ∙ ap (λ (g : PlainFunction). function_frame (function_data c.in-Some.code.now) (item_list g.held.items) (map plain_of c.args.args.now)) c.in_ok-held.ensures))
+    ∙ ap (λ (g : PlainFunction). function_frame (code_data c.in-Some.code.now) (item_list g.held.items) (map plain_of c.args.args.now)) c.in_ok-held.ensures))
     c.begin.ensures

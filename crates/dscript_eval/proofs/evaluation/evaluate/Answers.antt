@@ -12,8 +12,8 @@ returns-in-Ok-clause-pips c =
     (ap comes (sym c.in_ok-machine.ensures) ∙ c.in-Ok.ensures.kept ∙ ended (seen c.run.new.machine) c.in-Ok.ensures.done)
     ∙ ap Ok (sym c.into_pips.ensures)
 
-pub returns-in-Err-clause-fault : goal.returns-in-Err-clause-fault
-returns-in-Err-clause-fault c =
+pub returns-clause-fault : goal.returns-clause-fault
+returns-clause-fault c =
     let P : Answer → Type 0 = λ a. StopsWith c.in-Err.stop a in
     answered_as (program_data c.args.program.now) c.args.tree.now c.args.budget c.in-Err.stop _
     (subst P (ap comes c.in_ok-machine.ensures) c.in-Err.ensures.kept) c.fault_of.ensures
@@ -21,6 +21,6 @@ returns-in-Err-clause-fault c =
 pub returns-in-Ok-clause-unnumbered : goal.returns-in-Ok-clause-unnumbered
 returns-in-Ok-clause-unnumbered c none = let pips = returns-in-Ok-clause-pips c in cc
 
-pub returns-in-Err-clause-unnumbered : goal.returns-in-Err-clause-unnumbered
-returns-in-Err-clause-unnumbered c none =
-    ap Err (unnumbered_is (program_data c.args.program.now) c.args.tree.now c.args.budget _ (returns-in-Err-clause-fault c) none)
+pub returns-clause-unnumbered : goal.returns-clause-unnumbered
+returns-clause-unnumbered c none =
+    ap Err (unnumbered_is (program_data c.args.program.now) c.args.tree.now c.args.budget _ (returns-clause-fault c) none)

@@ -9,7 +9,7 @@ use Rattle.dscript_eval.proofs.evaluation.start.Goals as goal
 
 pub returns : goal.returns
 returns c =
-    first_is (program_data c.args.program.now) c.args.tree.now c.args.budget _ _ _ _ _
+    first_is (program_data c.args.program.now) _ c.args.tree.now c.args.budget _ _ _ _ _ c.requires
     (ap reverse (c.in_ok-push.ensures.items
     ∙ ap (λ (ws : List Work). ws ++ works.Stmt (stmt.Demands 0 0) ∷ []) c.new-work.ensures.items))
     plain-Undefined c.of_constant.ensures c.in_ok-constants.ensures c.in_ok-calls.ensures

@@ -1,0 +1,77 @@
+//! A function of a program, with how the locals that it captured are found.
+ghost use Rattle.std.specs.Prelude.{◌≡◌, map, ℕ, IfOk, IsTrue};
+ghost use Rattle.std.specs.BTreeMap.{BTreeMap};
+ghost use Rattle.dscript_value.specs.Plain.{plain_of};
+ghost use Rattle.dscript_meaning.specs.Frames.{captured_value};
+ghost use Rattle.eval_frames.specs.Ascending.{ascends};
+ghost use Rattle.eval_frames.specs.Placed.{KeepPlaces};
+ghost use Rattle.eval_frames.specs.declared.code.Search.TheVariants as searches;
+
+use crate::Memory;
+use crate::captured::{Places, captured_at, halved, is_ascending, placed, places_of};
+use dscript_program::Function;
+use dscript_value::Value;
+use std::alloc::Global;
+
+/// How the captured locals of a function are found.
+#[derive(Drop)]
+pub enum Search {
+    /// One after another, where there are few.
+    InTurn,
+    /// By halving, where each is greater than the one before it.
+    Halving,
+    /// By the place of each.
+    Placed(Places),
+}
+
+/// A function of a program, with how its captured locals are found.
+#[derive(Drop)]
+pub struct Code<'a> {
+    pub function: &'a Function,
+    pub search: Search,
+    pub ghost ascending: { search ≡ searches.Halving → IsTrue (ascends function.now.captured.items) },
+    pub ghost placed: { (places : BTreeMap ℕ ℕ) → search ≡ searches.Placed places
+        → KeepPlaces places 0 function.now.captured.items },
+}
+
+// Up to this many captured locals are looked through one after another.
+const MANY: usize = 128;
+
+impl<'a> Code<'a> {
+    // A function. Where it captures many locals that do not ascend, the place of each is kept.
+    pub(crate) fn of(alloc: Global, function: &'a Function) -> Result<Code<'a>, Memory>
+        ensures { IfOk result (λ code. code.function.now ≡ function.now) }
+    {
+        let captured = function.captured.as_slice();
+        if captured.len() <= MANY {
+            return Ok(Code {
+                function,
+                search: Search::InTurn,
+            });
+        }
+        if is_ascending(captured) {
+            return Ok(Code {
+                function,
+                search: Search::Halving,
+            });
+        }
+        let places = places_of(alloc, captured)?;
+        Ok(Code {
+            function,
+            search: Search::Placed(places),
+        })
+    }
+
+    // What a captured local holds, by the values that a function holds.
+    pub(crate) fn value(&self, held: &[Value], local: u32) -> Result<Value, Memory>
+        ensures { IfOk result (λ value. plain_of value
+            ≡ captured_value self.now.function.now.captured.items (map plain_of held.now) local) }
+    {
+        let captured = self.function.captured.as_slice();
+        match &self.search {
+            Search::InTurn => captured_at(captured, held, local),
+            Search::Halving => halved(captured, held, local),
+            Search::Placed(places) => placed(captured, places, held, local),
+        }
+    }
+}
