@@ -1,8 +1,8 @@
 //! Rows of tokens with the text that they are spelled as.
 
-use crate::{Gap, Laid, spell};
 use bx_tree::Text;
 use dscript_lex::TokenKind;
+use dscript_spell::{Gap, Laid, spell};
 use std::alloc::Global;
 use std::test::Fail;
 
@@ -107,27 +107,13 @@ fn spelled(alloc: Global, row: &str) -> Result<Vec<u8>, Fail> {
 }
 
 #[test]
-fn puts_what_is_asked_for_between_tokens(rt: HostRuntime) -> Result<(), Fail> {
-    for (row, text) in LAYOUTS {
-        assert_eq!(rt; spelled(rt.alloc(), row)?.as_slice(), text.as_bytes());
+fn tokens_are_spelled_with_the_blanks_they_need(rt: HostRuntime) -> Result<(), Fail> {
+    for rows in [LAYOUTS, NEIGHBOURS, ESCAPES] {
+        for (row, text) in rows {
+            assert_eq!(rt; spelled(rt.alloc(), row)?.as_slice(), text.as_bytes());
+        }
     }
     let nothing = spell(rt.alloc(), &[])?;
     assert!(rt; nothing.is_empty());
-    Ok(())
-}
-
-#[test]
-fn keeps_apart_what_would_run_together(rt: HostRuntime) -> Result<(), Fail> {
-    for (row, text) in NEIGHBOURS {
-        assert_eq!(rt; spelled(rt.alloc(), row)?.as_slice(), text.as_bytes());
-    }
-    Ok(())
-}
-
-#[test]
-fn escapes_only_what_has_to_be(rt: HostRuntime) -> Result<(), Fail> {
-    for (row, text) in ESCAPES {
-        assert_eq!(rt; spelled(rt.alloc(), row)?.as_slice(), text.as_bytes());
-    }
     Ok(())
 }

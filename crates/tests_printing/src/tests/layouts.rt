@@ -2,12 +2,15 @@
 
 use dscript_ast::Form;
 use dscript_format::{LayoutFault, lay_out};
-use dscript_print::{printed_text_reads_back, printed_tokens_derive};
 use std::alloc::Global;
 use std::test::Fail;
 
 const PROJECTS: &[(&str, &str)] = &[
     ("", ""),
+    (
+        "const x = Transformer.writeAllText({outputPath: p`out/a.txt`, text: \"hi\"});\n",
+        "const x = Transformer.writeAllText({outputPath: p`out/a.txt`, text: \"hi\"});\n",
+    ),
     (";", ";\n"),
     ("import * as a from \"m\";", "import * as a from \"m\";\n"),
     ("import {} from 'm';", "import {} from \"m\";\n"),
@@ -270,10 +273,4 @@ fn configurations_are_laid_out_and_others_refused(rt: HostRuntime) -> Result<(),
         LayoutFault::Syntax { at: 2 }
     );
     Ok(())
-}
-
-#[test]
-fn laws_of_printing_are_called(_rt: HostRuntime) {
-    printed_tokens_derive();
-    printed_text_reads_back();
 }
