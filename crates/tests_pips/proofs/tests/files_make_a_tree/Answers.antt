@@ -4,7 +4,7 @@ use Rattle.bx_tree.specs.Paths.{same_path}
 use Rattle.bx_tree.specs.Trees.{paths_of}
 use Rattle.bx_tree.specs.Views.{files_of}
 use Rattle.bx_tree.specs.declared.tree_file.TreeFile.{TreeFile}
-use Rattle.bx_tree_tests.proofs.tests.files_make_a_tree.Goals as goal
+use Rattle.tests_pips.proofs.tests.files_make_a_tree.Goals as goal
 
 none_alike : IsDistinct same_path []
 unfolding IsDistinct

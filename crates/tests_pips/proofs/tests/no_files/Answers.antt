@@ -3,7 +3,7 @@ use Rattle.std.specs.List.{IsDistinct}
 use Rattle.bx_tree.specs.Paths.{same_path}
 use Rattle.bx_tree.specs.declared.file_input.FileInput.{FileInput}
 use Rattle.pip_types.specs.Inputs.{input_path}
-use Rattle.graph_check_tests.proofs.tests.no_files.Goals as goal
+use Rattle.tests_pips.proofs.tests.no_files.Goals as goal
 
 no_paths : IsDistinct same_path (map input_path [])
 unfolding IsDistinct
