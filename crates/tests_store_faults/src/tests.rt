@@ -1,0 +1,3 @@
+//! Tests of stores that fail.
+mod builds;
+mod lookups;
