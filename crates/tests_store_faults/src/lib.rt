@@ -1,4 +1,4 @@
-//! Tests of lookups, keeps and builds over keepers and readers whose calls fail.
+//! Tests of builds over keepers and readers whose calls fail, and so of lookups and keeps.
 #![tactic(auto)]
 
 #[cfg(test)]
