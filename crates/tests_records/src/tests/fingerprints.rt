@@ -1,45 +1,85 @@
 //! Readers of fingerprints, and the strong fingerprint of a path set on a view.
 use super::fixture::{ASKED, One, WEAK, blob};
-use bx_digest::{Digest, digest_of};
+use bx_digest::digest_of;
 use bx_tree::Path;
 use observed::{Answer, PathSet};
+use pip_types::ProcessDesc;
 use prints::{AnswerLine, StrongParts, WeakParts, read_strong, read_weak, strong};
 use std::alloc::Global;
 use std::test::Fail;
 
-// The weak text of a process that compiles `src/a.c` with the source files directly in `src`.
-const CC_WEAK: &str = "bxl 1\n\
-exe src/cc.tool 6c13ef4d379c066955cbde61b82b992b9fdd5ac059decb79d9a8973c7264951a\n\
+// The weak text of a process with all that a description may have, over the digests of no bytes and of `abc`.
+const FULL_WEAK: &str = "bxl 1\n\
+exe src/cc.tool e3b0c44298fc1c149afbf4c8996fb92427ae41e4649b934ca495991b7852b855\n\
 cwd src\n\
 budget 100000\n\
-no-console\n\
+console out/log\n\
 arg 8 /src/a.c\n\
-arg 8 /out/a.o\n\
-in src/a.c 49c2e3af904176e304eb8b09d94f73fa254f4c3a21cbfb5ca9d39fa05a81eb9f\n\
+arg 0 \n\
+arg 3 a\nb\n\
+env 4 MODE 4 fast\n\
+env 4 MODE 0 \n\
+in src/a.c ba7816bf8f01cfea414140de5dae2223b00361a396177a9cb410ff61f20015ad\n\
+in src/b.c e3b0c44298fc1c149afbf4c8996fb92427ae41e4649b934ca495991b7852b855\n\
+indir full src\n\
+indir partial src\n\
 indir source-top src\n\
-out out/a.o\n";
+indir source-all src\n\
+indir opaque src\n\
+out out/a.o\n\
+outdir exclusive out/d\n\
+outdir shared out/s\n";
 
-// Whether this is what the compiler's weak text says.
-fn is_compiler(parts: &WeakParts) -> bool {
-    let process = &parts.process;
-    let args = process.args.texts();
-    let outs = process.outs.paths();
+// How many arguments, variables, declared files, input directories, output files and output directories.
+fn counts(process: &ProcessDesc) -> [usize; 6] {
+    [
+        process.args.texts().len(),
+        process.env.pairs().len(),
+        process.files.files().len(),
+        process.dirs.dirs().len(),
+        process.outs.paths().len(),
+        process.outdirs.dirs().len(),
+    ]
+}
+
+fn are_texts(process: &ProcessDesc) -> bool {
+    match process.args.texts() {
+        [_, _, third] => third.bytes() == b"a\nb".as_slice(),
+        _ => false,
+    }
+}
+
+fn is_said(console: Option<&Path>) -> bool {
+    match console {
+        Some(path) => path.text() == "out/log",
+        None => false,
+    }
+}
+
+fn has_paths(process: &ProcessDesc) -> bool {
     process.exe.text() == "src/cc.tool"
         && process.dir.text() == "src"
+        && is_said(process.console.as_ref())
+}
+
+fn are_digests(parts: &WeakParts) -> bool {
+    parts.exe == digest_of(b"")
+        && parts.files.digests() == [digest_of(b"abc"), digest_of(b"")].as_slice()
+}
+
+// Whether this is what the weak text says.
+fn is_full(parts: &WeakParts) -> bool {
+    counts(&parts.process) == [3, 2, 2, 5, 1, 2]
+        && are_texts(&parts.process)
+        && has_paths(&parts.process)
         && parts.budget == 100_000
-        && process.console.is_none()
-        && args.len() == 2
-        && args[0].bytes() == b"/src/a.c".as_slice()
-        && process.files.files().len() == 1
-        && process.dirs.dirs().len() == 1
-        && outs.len() == 1
-        && outs[0].text() == "out/a.o"
+        && are_digests(parts)
 }
 
 #[test]
-fn a_weak_text_says_this_of_a_compiler(rt: HostRuntime) -> Result<(), Fail> {
-    let parts = read_weak(rt.alloc(), CC_WEAK.as_bytes())?;
-    assert!(rt; is_compiler(&parts));
+fn a_weak_text_says_this(rt: HostRuntime) -> Result<(), Fail> {
+    let parts = read_weak(rt.alloc(), FULL_WEAK.as_bytes())?;
+    assert!(rt; is_full(&parts));
     Ok(())
 }
 
@@ -76,20 +116,52 @@ fn the_strong_text_on_a_view_is_this(rt: HostRuntime) -> Result<(), Fail> {
     Ok(())
 }
 
-// Whether this is what the strong text says.
-fn is_strong(parts: &StrongParts, x: Digest) -> bool {
-    let are_lines = match parts.lines.lines() {
-        [AnswerLine::Absent, AnswerLine::Content(content)] => *content == x,
+// A strong text with all answers, over the digests of no bytes and of `abc`.
+const FULL_STRONG: &str = "strong 1\n\
+weak e3b0c44298fc1c149afbf4c8996fb92427ae41e4649b934ca495991b7852b855\n\
+paths ba7816bf8f01cfea414140de5dae2223b00361a396177a9cb410ff61f20015ad\n\
+absent\n\
+content ba7816bf8f01cfea414140de5dae2223b00361a396177a9cb410ff61f20015ad\n\
+file\n\
+directory\n\
+names e3b0c44298fc1c149afbf4c8996fb92427ae41e4649b934ca495991b7852b855\n\
+denied\n";
+
+// A letter for each answer, where contents have the digest of `abc` and names that of no bytes.
+fn letter(line: &AnswerLine) -> u8 {
+    match line {
+        AnswerLine::Absent => b'a',
+        AnswerLine::Content(content) if *content == digest_of(b"abc") => b'c',
+        AnswerLine::File => b'f',
+        AnswerLine::Directory => b'd',
+        AnswerLine::Names(names) if *names == digest_of(b"") => b'n',
+        AnswerLine::Denied => b'x',
+        _ => b'?',
+    }
+}
+
+fn are_all(lines: &[AnswerLine]) -> bool {
+    match lines {
+        [a, c, f, d, n, x] => {
+            letter(a) == b'a'
+                && letter(c) == b'c'
+                && letter(f) == b'f'
+                && letter(d) == b'd'
+                && letter(n) == b'n'
+                && letter(x) == b'x'
+        }
         _ => false,
-    };
-    are_lines
-        && parts.weak == digest_of(WEAK.as_bytes())
-        && parts.paths == digest_of(ASKED.as_bytes())
+    }
+}
+
+// Whether this is what the strong text says.
+fn is_strong(parts: &StrongParts) -> bool {
+    parts.weak == digest_of(b"") && parts.paths == digest_of(b"abc") && are_all(parts.lines.lines())
 }
 
 #[test]
 fn a_strong_text_says_this(rt: HostRuntime) -> Result<(), Fail> {
-    let parts = read_strong(rt.alloc(), STRONG.as_bytes())?;
-    assert!(rt; is_strong(&parts, digest_of(b"x")));
+    let parts = read_strong(rt.alloc(), FULL_STRONG.as_bytes())?;
+    assert!(rt; is_strong(&parts));
     Ok(())
 }
