@@ -14,6 +14,3 @@ pub use digest::{Digest, NotHex, digest_of};
 
 /// Out of memory, the one refusal that no contract ties to a cause.
 pub type Memory = std::alloc::AllocError;
-
-#[cfg(test)]
-mod tests;

@@ -11,6 +11,3 @@ mod matching;
 
 pub use globbing::{GlobFault, MAX_PATTERN_BYTES, glob};
 pub use joining::join;
-
-#[cfg(test)]
-mod tests;

@@ -17,6 +17,3 @@ pub use order::{
     MAX_WORKERS, Order,
 };
 pub use words::{WordFault, read_words};
-
-#[cfg(test)]
-mod tests;

@@ -8,6 +8,3 @@
 mod ambient;
 
 pub use ambient::Ambient;
-
-#[cfg(test)]
-mod tests;

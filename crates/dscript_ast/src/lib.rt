@@ -17,6 +17,3 @@ pub use expr::{
 pub use file::{Decl, File, Form, ImportName, ImportedNames, Item, Mark, Marked};
 pub use operator::{BinaryOp, UnaryOp};
 pub use type_node::{Field, Member, TypeNode};
-
-#[cfg(test)]
-mod tests;

@@ -15,6 +15,3 @@ pub use laws::{
     at_most_one_file, at_most_one_place, file_or_place, heights_that_count, items_are_prefix_free,
     reading_finds_the_place, reading_is_deriving,
 };
-
-#[cfg(test)]
-mod tests;

@@ -29,6 +29,3 @@ pub use laws::{
 pub use lexing::lex;
 pub use limits::{MAX_LEXED_BYTES, MAX_NUMBER};
 pub use token::{Token, TokenKind};
-
-#[cfg(test)]
-mod tests;

@@ -15,6 +15,3 @@ pub use fault::ReadFault;
 pub use laws::{one_reading, some_reading};
 pub use place::{place_at, start_of};
 pub use reading::read_file;
-
-#[cfg(test)]
-mod tests;

@@ -16,6 +16,3 @@ mod writing;
 pub use laid::{Gap, Laid};
 pub use laws::spelled_tokens;
 pub use writing::spell;
-
-#[cfg(test)]
-mod tests;

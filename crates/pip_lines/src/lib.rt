@@ -8,5 +8,5 @@ mod lines;
 mod trees;
 
 pub use files::add_files;
-pub use lines::{pips, plan};
-pub use trees::{big_sources, sources};
+pub use lines::pips;
+pub use trees::sources;

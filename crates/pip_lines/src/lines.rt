@@ -6,7 +6,7 @@
 use bx_tree::{FileInput, Path, Text};
 use pip_model::{
     Arguments, CopyDesc, DirInput, DirInputs, FileInputs, MAX_PIPS, OutDir, OutDirs, Outputs, Pip,
-    PipKind, PipList, Plan, ProcessDesc, SealDesc, SealForm, Variables, WriteDesc,
+    PipKind, PipList, ProcessDesc, SealDesc, SealForm, Variables, WriteDesc,
 };
 use sdk_pips::files_by_path;
 use std::alloc::Global;
@@ -218,22 +218,9 @@ fn add_lines(alloc: Global, pips: &mut PipList, lines: &str) -> Result<(), Fail>
     Ok(())
 }
 
-fn plan_of(alloc: Global, pips: PipList, budget: u64) -> Result<Plan, Fail> {
-    if pips.pips().len() > MAX_PIPS {
-        return Err("too many pips".into());
-    }
-    Ok(Plan::build(alloc, pips, budget)?)
-}
-
 /// The pips of these lines.
 pub fn pips(alloc: Global, lines: &str) -> Result<PipList, Fail> {
     let mut pips = PipList::new(alloc);
     add_lines(alloc, &mut pips, lines)?;
     Ok(pips)
-}
-
-/// The plan of these lines, whose tools may take as many steps.
-pub fn plan(alloc: Global, lines: &str, budget: u64) -> Result<Plan, Fail> {
-    let pips = pips(alloc, lines)?;
-    plan_of(alloc, pips, budget)
 }

@@ -123,11 +123,3 @@ pub fn sources(alloc: Global, named: &str) -> Result<Sources, Fail> {
     add_named(alloc, &mut files, named)?;
     sources_of(alloc, files)
 }
-
-/// The tools, and a file `big` of as many bytes.
-pub fn big_sources(alloc: Global, count: usize) -> Result<Sources, Fail> {
-    let mut files = Vec::new(alloc);
-    add_tools(alloc, &mut files)?;
-    add_file(alloc, &mut files, "big", vec![in alloc; b'x'; count]?)?;
-    sources_of(alloc, files)
-}

@@ -10,8 +10,6 @@
 mod laws;
 mod lines;
 mod matching;
-#[cfg(test)]
-mod tests;
 
 pub use laws::one_match;
 pub use lines::line_digest;

@@ -1,7 +1,0 @@
-//! Tests of fingerprints: of `prints`, and of `stored_lines` below it.
-//!
-//! They are a crate of their own, since a crate is proved once more for the tests in it.
-#![tactic(auto)]
-
-#[cfg(test)]
-mod tests;

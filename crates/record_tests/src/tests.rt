@@ -1,4 +1,0 @@
-//! Tests of records.
-mod fixture;
-mod records;
-mod written;

@@ -1,7 +1,0 @@
-//! Tests of `sdk_members`: members of texts at their greatest length.
-//!
-//! They are a crate of their own, since a crate is proved once more for the tests in it.
-#![tactic(auto)]
-
-#[cfg(test)]
-mod tests;

@@ -1,4 +1,0 @@
-//! Tests of runs.
-mod fixture;
-mod runs;
-mod written;

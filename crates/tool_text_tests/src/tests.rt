@@ -1,4 +1,0 @@
-//! Texts of tools and path sets.
-
-mod path_sets;
-mod tools;
