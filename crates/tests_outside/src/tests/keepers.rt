@@ -16,6 +16,29 @@ const LIST: &str = "w/abcdef0123456789abcdef0123456789abcdef0123456789abcdef0123
 
 const ENTRY: &str = "e/ffffffffffffffffffffffffffffffffffffffffffffffffffffffffffffffff";
 
+// Texts that are no names, a line each. The first is empty.
+const NO_NAMES: &str = "
+b/
+c/0000000000000000000000000000000000000000000000000000000000000000
+b-0000000000000000000000000000000000000000000000000000000000000000
+b/000000000000000000000000000000000000000000000000000000000000000
+b/00000000000000000000000000000000000000000000000000000000000000000
+b/000000000000000000000000000000000000000000000000000000000000000F
+b/000000000000000000000000000000000000000000000000000000000000000g
+b/000000000000000000000000000000000000000000000000000000000000000/
+b/000000000000000000000000000000000000000000000000000000000000000:
+";
+
+#[test]
+fn names_are_a_kind_and_a_digest(rt: HostRuntime) {
+    for text in [BLOB, LIST, ENTRY] {
+        assert!(rt; is_name(text.as_bytes()), "{text}");
+    }
+    for text in NO_NAMES.lines() {
+        assert!(rt; !is_name(text.as_bytes()), "{text}");
+    }
+}
+
 fn say_made(said: &mut Vec<u8>, made: Result<(), PutFault>) -> Result<(), AllocError> {
     let word = match made {
         Ok(()) => "made",
@@ -229,7 +252,17 @@ fn links_to_full<R: Files>(rt: &R, alloc: Global) -> Result<bool, AllocError> {
     Ok(rt.symlink("/dev/full", path.as_str()).is_ok())
 }
 
-/// Says what a keeper over a folder answers, and then on a full disk.
+/// Puts a file beside the names, and a folder at the place of one.
+fn adds_others<R: Files>(rt: &R, alloc: Global) -> Result<bool, AllocError> {
+    let path = format!(in alloc; "test-folder/{LIST}")?;
+    Ok(
+        fs::write(rt, "test-folder/b/notes", "x").is_ok()
+            && fs::create_dir(rt, "test-folder/w").is_ok()
+            && fs::create_dir(rt, path.as_str()).is_ok(),
+    )
+}
+
+/// Says what a keeper over a folder answers, then on a full disk, and then where there are other things in it.
 fn say_folder<R: Files, K: Keeper>(
     rt: &R,
     alloc: Global,
@@ -242,7 +275,10 @@ fn say_folder<R: Files, K: Keeper>(
         say_call(alloc, said, keeper, Call::Put, BLOB, "new")?;
     }
     say_call(alloc, said, keeper, Call::Get, BLOB, "")?;
-    say_call(alloc, said, keeper, Call::Names, BLOB, "")
+    if adds_others(rt, alloc)? {
+        say_call(alloc, said, keeper, Call::Names, BLOB, "")?;
+    }
+    Ok(())
 }
 
 /// A full disk loses nothing, and what was begun on it is no name.
