@@ -1,4 +1,5 @@
 //! What the calls of an object answer is said by a text, a word for each.
 
+mod contents;
 mod keepers;
 mod streams;
