@@ -1,8 +1,8 @@
 //! What the program `bundle` is made of: its words, its messages, and its folder of the system.
 //!
 //! It depends on `bx_folder`, whose trait the folder of the system implements, and on `bx_tree` for paths. It
-//! carries no promise but that the folder counts a fault where it reports one; its tests are in
-//! `bx_bundle_tests`.
+//! carries no promise but that the folder counts a fault where it reports one; `cases/folders` shows
+//! what it does.
 #![tactic(auto)]
 
 mod message;

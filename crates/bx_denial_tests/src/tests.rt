@@ -1,4 +1,0 @@
-//! Whole builds of processes that do not succeed.
-
-mod causes;
-mod denials;

@@ -1,0 +1,126 @@
+//! Whole calls over an outside in memory. What each writes and answers is compared as one text.
+
+mod stores;
+mod streams;
+
+use bx_engine::command;
+use bx_io::{FailKeeper, Gate, Keeper, MemKeeper, MemSink, MemSource};
+use std::alloc::{AllocError, Global};
+use std::sync::Wait;
+use std::sync::atomic::AtomicU32;
+use std::sync::atomic::Ordering::Relaxed;
+use std::test::Fail;
+use std::thread::Threads;
+
+/// A gate that counts for how many runs it was passed.
+#[derive(Drop)]
+struct CountGate {
+    passed: AtomicU32,
+}
+
+impl Gate for CountGate {
+    fn pass(&self, _pip: u32) {
+        self.passed.fetch_add(1, Relaxed);
+    }
+}
+
+fn new_gate() -> CountGate {
+    CountGate {
+        passed: AtomicU32::new(0),
+    }
+}
+
+/// The streams of a call: the most bytes that one read or write moves, and the number of the call of each that
+/// fails, or 0.
+#[derive(Clone, Copy)]
+struct Streams {
+    chunk: usize,
+    source_fails: u64,
+    out_fails: u64,
+    notes_fail: u64,
+}
+
+const NO_FAULTS: Streams = Streams {
+    chunk: 4096,
+    source_fails: 0,
+    out_fails: 0,
+    notes_fail: 0,
+};
+
+/// The one word of a build.
+fn words(alloc: Global) -> Result<Vec<String>, AllocError> {
+    let mut words = Vec::new(alloc);
+    words.push(String::from_str(alloc, "build")?)?;
+    Ok(words)
+}
+
+fn source_of(alloc: Global, input: &[u8], streams: Streams) -> Result<MemSource, AllocError> {
+    let failing = [streams.source_fails].to_vec(alloc)?;
+    Ok(MemSource::new(input.to_vec(alloc)?, streams.chunk.max(1), failing))
+}
+
+fn sink_of(alloc: Global, streams: Streams, fails: u64) -> Result<MemSink, AllocError> {
+    let failing = [fails].to_vec(alloc)?;
+    MemSink::new(alloc, 10_000, streams.chunk.max(1), failing)
+}
+
+/// A keeper that holds nothing, and whose call with this number fails, if it is not 0.
+fn empty_keeper(alloc: Global, fails: u64) -> Result<MemKeeper, AllocError> {
+    Ok(MemKeeper::new(alloc, [fails].to_vec(alloc)?))
+}
+
+/// The same with readers that do not fail.
+fn keeper_of(alloc: Global, fails: u64) -> Result<FailKeeper, AllocError> {
+    Ok(FailKeeper::new(empty_keeper(alloc, fails)?, Vec::new(alloc)))
+}
+
+/// Adds what was written, what was noted, and the status.
+fn add_answer(
+    seen: &mut Vec<u8>,
+    out: &MemSink,
+    notes: &MemSink,
+    code: u8,
+) -> Result<(), AllocError> {
+    seen.extend_from_slice(out.taken())?;
+    seen.extend_from_slice(b"notes ")?;
+    seen.extend_from_slice(notes.taken())?;
+    seen.extend_from_slice(match code {
+        0 => b"status 0",
+        5 => b"status 5",
+        6 => b"status 6",
+        _ => b"status ?",
+    })
+}
+
+/// Adds what a build of this source comes to.
+fn add_call<H: Threads + Wait + Sync, K: Keeper>(
+    rt: &H,
+    alloc: Global,
+    source: &mut MemSource,
+    streams: Streams,
+    keeper: &mut K,
+    gate: &CountGate,
+    seen: &mut Vec<u8>,
+) -> Result<(), AllocError> {
+    let words = words(alloc)?;
+    let mut out = sink_of(alloc, streams, streams.out_fails)?;
+    let mut notes = sink_of(alloc, streams, streams.notes_fail)?;
+    let status = command(
+        rt, alloc, &words, source, &mut out, &mut notes, keeper, gate,
+    );
+    add_answer(seen, &out, &notes, status.code())
+}
+
+/// Adds what a build of this input comes to.
+fn add_build<H: Threads + Wait + Sync, K: Keeper>(
+    rt: &H,
+    alloc: Global,
+    input: &str,
+    streams: Streams,
+    keeper: &mut K,
+    gate: &CountGate,
+    seen: &mut Vec<u8>,
+) -> Result<(), AllocError> {
+    let mut source = source_of(alloc, input.as_bytes(), streams)?;
+    add_call(rt, alloc, &mut source, streams, keeper, gate, seen)
+}
