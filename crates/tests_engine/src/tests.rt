@@ -1,7 +1,7 @@
 //! Whole calls over an outside in memory. What each writes and answers is compared as one text.
 
-mod stores;
-mod streams;
+mod broken_stores;
+mod broken_streams;
 
 use bx_engine::command;
 use bx_io::{FailKeeper, Gate, Keeper, MemKeeper, MemSink, MemSource};
