@@ -1,7 +1,5 @@
-//! Whole calls over an outside in memory. What each writes and answers is compared as one text.
-
-mod broken_stores;
-mod broken_streams;
+//! For tests: whole calls of `command` over an outside in memory. What each writes and answers is one text.
+#![tactic(auto)]
 
 use bx_engine::command;
 use bx_io::{FailKeeper, Gate, Keeper, MemKeeper, MemSink, MemSource};
@@ -9,12 +7,11 @@ use std::alloc::{AllocError, Global};
 use std::sync::Wait;
 use std::sync::atomic::AtomicU32;
 use std::sync::atomic::Ordering::Relaxed;
-use std::test::Fail;
 use std::thread::Threads;
 
 /// A gate that counts for how many runs it was passed.
 #[derive(Drop)]
-struct CountGate {
+pub struct CountGate {
     passed: AtomicU32,
 }
 
@@ -24,23 +21,32 @@ impl Gate for CountGate {
     }
 }
 
-fn new_gate() -> CountGate {
-    CountGate {
-        passed: AtomicU32::new(0),
+impl CountGate {
+    /// A gate that nothing passed yet.
+    pub fn new() -> CountGate {
+        CountGate {
+            passed: AtomicU32::new(0),
+        }
+    }
+
+    /// How many runs passed it.
+    pub fn passed(&self) -> u32 {
+        self.passed.load(Relaxed)
     }
 }
 
 /// The streams of a call: the most bytes that one read or write moves, and the number of the call of each that
 /// fails, or 0.
 #[derive(Clone, Copy)]
-struct Streams {
-    chunk: usize,
-    source_fails: u64,
-    out_fails: u64,
-    notes_fail: u64,
+pub struct Streams {
+    pub chunk: usize,
+    pub source_fails: u64,
+    pub out_fails: u64,
+    pub notes_fail: u64,
 }
 
-const NO_FAULTS: Streams = Streams {
+/// Streams of which no call fails.
+pub const NO_FAULTS: Streams = Streams {
     chunk: 4096,
     source_fails: 0,
     out_fails: 0,
@@ -65,12 +71,12 @@ fn sink_of(alloc: Global, streams: Streams, fails: u64) -> Result<MemSink, Alloc
 }
 
 /// A keeper that holds nothing, and whose call with this number fails, if it is not 0.
-fn empty_keeper(alloc: Global, fails: u64) -> Result<MemKeeper, AllocError> {
+pub fn empty_keeper(alloc: Global, fails: u64) -> Result<MemKeeper, AllocError> {
     Ok(MemKeeper::new(alloc, [fails].to_vec(alloc)?))
 }
 
 /// The same with readers that do not fail.
-fn keeper_of(alloc: Global, fails: u64) -> Result<FailKeeper, AllocError> {
+pub fn keeper_of(alloc: Global, fails: u64) -> Result<FailKeeper, AllocError> {
     Ok(FailKeeper::new(empty_keeper(alloc, fails)?, Vec::new(alloc)))
 }
 
@@ -111,8 +117,8 @@ fn add_call<H: Threads + Wait + Sync, K: Keeper>(
     add_answer(seen, &out, &notes, status.code())
 }
 
-/// Adds what a build of this input comes to.
-fn add_build<H: Threads + Wait + Sync, K: Keeper>(
+/// Adds what a build of this input comes to: the output, `notes ` and the notes, and `status ` and the status.
+pub fn add_build<H: Threads + Wait + Sync, K: Keeper>(
     rt: &H,
     alloc: Global,
     input: &str,

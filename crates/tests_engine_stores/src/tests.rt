@@ -1,7 +1,9 @@
-//! Keepers and readers that fail at each of their calls in turn, and builds that are cut off.
-
-use super::*;
-use bx_io::StopKeeper;
+use bx_io::{FailKeeper, Keeper, MemKeeper, StopKeeper};
+use std::alloc::{AllocError, Global};
+use std::sync::Wait;
+use std::test::Fail;
+use std::thread::Threads;
+use tests_with_engine::{CountGate, NO_FAULTS, add_build, empty_keeper, keeper_of};
 
 /// Two files in C that are compiled, and linked.
 const INPUT: &str = r#"bundle 1
@@ -155,7 +157,7 @@ fn are_built<H: Threads + Wait + Sync, K: Keeper>(
 #[test]
 fn leaves_out_a_record_where_a_call_of_the_keeper_fails(rt: HostRuntime) -> Result<(), Fail> {
     let alloc = rt.alloc();
-    let gate = new_gate();
+    let gate = CountGate::new();
     for number in 1..=FIRST_CALLS {
         let mut keeper = keeper_of(alloc, number)?;
         let series = [ALL_RAN_WITH_A_FAULT, ONE_RAN, ALL_HIT];
@@ -164,7 +166,7 @@ fn leaves_out_a_record_where_a_call_of_the_keeper_fails(rt: HostRuntime) -> Resu
     let mut keeper = keeper_of(alloc, FIRST_CALLS + 1)?;
     assert!(rt; are_built(&rt, alloc, &mut keeper, &gate, &[ALL_RAN])?);
     // The gate is passed once for each process that runs.
-    assert_eq!(rt; gate.passed.load(Relaxed), 24 * 4 + 3);
+    assert_eq!(rt; gate.passed(), 24 * 4 + 3);
     Ok(())
 }
 
@@ -176,7 +178,7 @@ fn left_after<H: Threads + Wait + Sync>(
     notes: &str,
 ) -> Result<MemKeeper, Fail> {
     let mut cut = StopKeeper::new(empty_keeper(alloc, 0)?, calls);
-    if !is_built(rt, alloc, &mut cut, &new_gate(), notes)? {
+    if !is_built(rt, alloc, &mut cut, &CountGate::new(), notes)? {
         return Err("the build that is cut off gives something else".into());
     }
     Ok(cut.into_inner())
@@ -194,7 +196,7 @@ fn runs_a_process_where_a_call_of_the_reader_fails(rt: HostRuntime) -> Result<()
         } else {
             ONE_RAN_WITH_A_FAULT
         };
-        assert!(rt; is_built(&rt, alloc, &mut keeper, &new_gate(), notes)?);
+        assert!(rt; is_built(&rt, alloc, &mut keeper, &CountGate::new(), notes)?);
     }
     Ok(())
 }
@@ -205,7 +207,7 @@ fn goes_on_over_what_another_build_left_half_done(rt: HostRuntime) -> Result<(),
     let alloc = rt.alloc();
     for calls in 0..=FIRST_CALLS {
         let mut keeper = FailKeeper::new(left_after(&rt, alloc, calls, "")?, Vec::new(alloc));
-        assert!(rt; are_built(&rt, alloc, &mut keeper, &new_gate(), &["", ALL_HIT])?);
+        assert!(rt; are_built(&rt, alloc, &mut keeper, &CountGate::new(), &["", ALL_HIT])?);
     }
     Ok(())
 }

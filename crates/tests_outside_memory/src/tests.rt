@@ -2,4 +2,3 @@
 
 mod contents;
 mod keepers;
-mod streams;

@@ -1,13 +1,10 @@
-//! Keepers in memory and over a folder.
+//! Keepers in memory.
 
 use bx_io::{
     FailKeeper, Got, KeepReader, Keeper, Listed, MemKeeper, NoFaultKeeper, PutFault, StopKeeper,
     is_name,
 };
-use bx_system::FolderKeeper;
 use std::alloc::{AllocError, Global};
-use std::fs;
-use std::rt::Files;
 use std::test::Fail;
 
 const BLOB: &str = "b/0000000000000000000000000000000000000000000000000000000000000000";
@@ -243,53 +240,5 @@ fn readers_read_what_was_held_and_fail_where_asked(rt: HostRuntime) -> Result<()
     say_failing(rt.alloc(), &mut said)?;
     let wanted = "made failed none made one made made ew none ";
     assert_eq!(rt; said.as_slice(), wanted.as_bytes());
-    Ok(())
-}
-
-/// Puts at the place of the file that is written first a link to a device on which each write meets a full disk.
-fn links_to_full<R: Files>(rt: &R, alloc: Global) -> Result<bool, AllocError> {
-    let path = format!(in alloc; "test-folder/{BLOB}.new")?;
-    Ok(rt.symlink("/dev/full", path.as_str()).is_ok())
-}
-
-/// Puts a file beside the names, and a folder at the place of one.
-fn adds_others<R: Files>(rt: &R, alloc: Global) -> Result<bool, AllocError> {
-    let path = format!(in alloc; "test-folder/{LIST}")?;
-    Ok(
-        fs::write(rt, "test-folder/b/notes", "x").is_ok()
-            && fs::create_dir(rt, "test-folder/w").is_ok()
-            && fs::create_dir(rt, path.as_str()).is_ok(),
-    )
-}
-
-/// Says what a keeper over a folder answers, then on a full disk, and then where there are other things in it.
-fn say_folder<R: Files, K: Keeper>(
-    rt: &R,
-    alloc: Global,
-    said: &mut Vec<u8>,
-    keeper: &mut K,
-) -> Result<(), AllocError> {
-    six_calls(alloc, said, keeper)?;
-    say_call(alloc, said, keeper, Call::Put, BLOB, "abc")?;
-    if links_to_full(rt, alloc)? {
-        say_call(alloc, said, keeper, Call::Put, BLOB, "new")?;
-    }
-    say_call(alloc, said, keeper, Call::Get, BLOB, "")?;
-    if adds_others(rt, alloc)? {
-        say_call(alloc, said, keeper, Call::Names, BLOB, "")?;
-    }
-    Ok(())
-}
-
-/// A full disk loses nothing, and what was begun on it is no name.
-#[test]
-fn a_folder_keeps_what_was_put_and_a_full_disk_is_a_fault(rt: HostRuntime) -> Result<(), Fail> {
-    let alloc = rt.alloc();
-    let mut said = Vec::new(alloc);
-    let mut keeper = FolderKeeper::new(rt.clone()?, String::from_str(alloc, "test-folder")?);
-    say_folder(&rt, alloc, &mut said, &mut keeper)?;
-    let wanted = "made one made made e none made failed abc be ";
-    assert_eq!(rt; said.as_slice(), wanted.as_bytes());
-    fs::remove_dir_all(&rt, "test-folder")?;
     Ok(())
 }

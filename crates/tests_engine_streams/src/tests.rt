@@ -1,6 +1,8 @@
-//! Sources, outputs and notes that fail at each of their calls in turn.
-
-use super::*;
+use std::alloc::{AllocError, Global};
+use std::sync::Wait;
+use std::test::Fail;
+use std::thread::Threads;
+use tests_with_engine::{CountGate, NO_FAULTS, Streams, add_build, keeper_of};
 
 const INPUT: &str = r#"bundle 1
 file 76 build.dsc
@@ -38,7 +40,7 @@ fn comes_to<H: Threads + Wait + Sync>(
     status: &str,
 ) -> Result<bool, AllocError> {
     let mut seen = Vec::new(alloc);
-    let gate = new_gate();
+    let gate = CountGate::new();
     let mut keeper = keeper_of(alloc, 1)?;
     add_build(rt, alloc, INPUT, streams, &mut keeper, &gate, &mut seen)?;
     Ok(is_joined(&seen, start(OUTPUT, written), start(NOTES, noted), status))
