@@ -22,7 +22,7 @@ use Rattle.pip_types.specs.declared.pip.Pip.{Pip}
 use Rattle.pip_types.specs.declared.pip.PipKind.{PipKind}
 use Rattle.pip_types.specs.declared.pip.PipKind.TheVariants.{Process, Copy, Write, Seal}
 use Rattle.violations.specs.DoubleWrites.{outdirs_of, shared_paths}
-use Rattle.build_outputs.specs.Keeping.{AreKept, Keeps, KeptAt}
+use Rattle.build_outputs.specs.Keeping.{AreKept, AreOwnOutputs, KeptAt}
 use Rattle.build_outputs.specs.Outputs.{AreOutputs}
 use Rattle.build_outputs.proofs.Clashing.{clash_above, clash_below, no_clash_between, shared_has}
 use Rattle.build_outputs.proofs.Meeting.{Apart, InOneDir, both_share, in_one_dir, kept_apart, kept_below, made_below}
@@ -147,7 +147,7 @@ module _ (pips : List Pip) (tree : Files) (budget : ℕ) (list : IsPipList pips)
       record {
         pip = here.0;
         at = here.1;
-        keeps = subst (λ (x : Result). Keeps pips (made_by results) i here.0.kind x.files) is
+        keeps = subst (λ (x : Result). AreOwnOutputs pips (made_by results) i here.0.kind x.files) is
             (kept_result pips tree budget i here.0 results (kept_apart pips tree keeps) hold here.1);
       }
 

@@ -15,7 +15,7 @@ use Rattle.own_writes.proofs.BelowByAtoms.{below_decides}
 use Rattle.pip_types.specs.declared.desc.Desc.{Desc}
 use Rattle.pip_types.specs.declared.outputs.OutDir.{OutDir}
 use Rattle.pip_types.specs.declared.pip.PipKind.TheVariants.{Process}
-use Rattle.run_record.specs.Outcomes.{complete, first_missing, last_access, outcome_at, outcome_of, refused, with_console}
+use Rattle.run_record.specs.Outcomes.{complete, first_missing, last_access, outcome_by_end, outcome_of, refused, with_console}
 use Rattle.run_record.specs.declared.outcome.Outcome.TheVariants.{Good, Failed}
 use Rattle.run_record.specs.declared.outcome.Cause.TheVariants as causes
 use Rattle.tool_run.specs.Described.{described, dir_paths}
@@ -99,7 +99,7 @@ of_exit : (t : Bool) (code : ℕ) (missing : Option Atoms) (made files : Files)
 of_exit true code missing made files e = of_complete missing made files e
 of_exit false code missing made files e = cc
 
-of_end : (d : Description) (r : Run) (end : End) (files : Files) → outcome_at d r end ≡ Good files → files ≡ with_console d.console r.writes r.console
+of_end : (d : Description) (r : Run) (end : End) (files : Files) → outcome_by_end d r end ≡ Good files → files ≡ with_console d.console r.writes r.console
 of_end d r (ends.Exit code) files e =
     of_exit (code == 0) code (first_missing d.outs r.writes) (with_console d.console r.writes r.console) files e
 of_end d r ends.Denied files e = absurd (of_refused (last_access r.accesses) files e)

@@ -7,7 +7,7 @@ use Rattle.bx_tree.specs.Trees.{Files}
 use Rattle.graph_check.specs.Rules.{KeepsRules}
 use Rattle.graph_check.specs.declared.fault.GraphKind.TheVariants as rules
 use Rattle.graph_outputs.specs.OutsideOut.{out_dir}
-use Rattle.graph_outputs.specs.Outputs.{declared_dirs, declared_files, outputs, Has as At}
+use Rattle.graph_outputs.specs.Outputs.{declared_dirs, declared_files, outputs, PipHas as At}
 use Rattle.graph_outputs.specs.Overlap.{Overlaps, Nested, OnePath, Unshared}
 use Rattle.observed.specs.Members.{Has}
 use Rattle.observed.proofs.OneSet.{contains_has}

@@ -8,7 +8,7 @@ use Rattle.pip_types.specs.declared.pip.Pip.{Pip}
 use Rattle.pip_types.specs.declared.pip.PipKind.{PipKind}
 use Rattle.verdicts.specs.declared.verdict.Violation.{Violation}
 use Rattle.violations.specs.DoubleWrites.{first_clash, has_clash, least_clash, or_next, outdirs_of, shared_paths}
-use Rattle.build_outputs.specs.Keeping.{AreKept, Keeps, KeptAt}
+use Rattle.build_outputs.specs.Keeping.{AreKept, AreOwnOutputs, KeptAt}
 
 -- ## Clashes with the files of the first pips
 
@@ -33,8 +33,8 @@ short zero (p ∷ ps) = omega arith
 short (suc i) [] = omega arith
 short (suc i) (p ∷ ps) = let rest = short i ps in omega (arith, rest)
 
-keeps_more : (pips : List Pip) (made more : List Files) (i : ℕ) (kind : PipKind) (files : Files) → i ≤ length made → Keeps pips made i kind files
-    → Keeps pips (made ++ more) i kind files
+keeps_more : (pips : List Pip) (made more : List Files) (i : ℕ) (kind : PipKind) (files : Files) → i ≤ length made → AreOwnOutputs pips made i kind files
+    → AreOwnOutputs pips (made ++ more) i kind files
 keeps_more pips made more i kind files l k = record {
   makes = k.makes;
   unnested = k.unnested;

@@ -9,7 +9,7 @@ use Rattle.observed.specs.Members.{Has}
 use Rattle.observed.specs.declared.access.Answer.{Answer}
 use Rattle.observed.specs.declared.ask.Ask.{Ask}
 use Rattle.observed.proofs.OneSet.{contains_has}
-use Rattle.one_thread.specs.OneThread.{Result, by_cause, by_outcome, failed, inputs_are_good, made_by, outcome_at, ran, result_of, unless_clash, violated, worked}
+use Rattle.one_thread.specs.OneThread.{Result, by_cause, by_outcome, failed, inputs_are_good, made_by, process_outcome, ran, result_of, unless_clash, violated, worked}
 use Rattle.pip_inputs.specs.Contents.{input_bytes}
 use Rattle.pip_inputs.specs.Plain.{desc_of}
 use Rattle.pip_inputs.specs.Results.{ByPip, inputs_of}
@@ -26,23 +26,23 @@ use Rattle.run_record.specs.declared.outcome.Cause.{Cause}
 use Rattle.run_record.specs.declared.outcome.Cause.TheVariants as causes
 use Rattle.tool_run.specs.Described.{described}
 use Rattle.tool_run.specs.Description.{Description}
-use Rattle.tool_run.specs.Laws.{Holds}
+use Rattle.tool_run.specs.Laws.{RunInvariant}
 use Rattle.tool_run.specs.Run.{run_of}
 use Rattle.verdicts.specs.declared.verdict.Verdict.TheVariants as verdicts
 use Rattle.verdicts.specs.declared.verdict.Violation.{Violation}
 use Rattle.violations.specs.Classes.{class_of}
 use Rattle.violations.specs.DoubleWrites.{clash_at, clash_of, outdirs_in, outdirs_of}
-use Rattle.build_outputs.specs.Keeping.{Keeps, Makes}
+use Rattle.build_outputs.specs.Keeping.{AreOwnOutputs, Makes}
 use Rattle.build_outputs.proofs.Making.{good_files, has_last, with_console_has, written_makes}
 use Rattle.build_outputs.proofs.Meeting.{Apart, below_file, file_below}
 use Rattle.build_outputs.proofs.Prefixes.{not_itself}
 
 -- each run keeps to its description
 abbrev pub AllHold : Type 0
-AllHold = (d : Description) (a : Ask → Answer) → Holds d a (run_of d a)
+AllHold = (d : Description) (a : Ask → Answer) → RunInvariant d a (run_of d a)
 
 -- no files
-pub none_kept : (pips : List Pip) (made : List Files) (i : ℕ) (kind : PipKind) → Keeps pips made i kind []
+pub none_kept : (pips : List Pip) (made : List Files) (i : ℕ) (kind : PipKind) → AreOwnOutputs pips made i kind []
 none_kept pips made i kind = record {
   makes = λ q h. absurd h;
   unnested = λ p q h k below. absurd h;
@@ -84,7 +84,7 @@ module _ (pips : List Pip) (apart : Apart pips) (hold : AllHold) (tree : Files) 
       none q p (contains_has (paths_of writes) q v) (contains_has (paths_of writes) p w) below
 
   of_good : (x : Desc) (see : Ask → Answer) (files : Files) → pip.kind ≡ Process x.process → ran x see ≡ Good files
-      → clash_of (take i pips) made (outdirs_of (Process x.process)) files ≡ None → Keeps pips made i (Process x.process) files
+      → clash_of (take i pips) made (outdirs_of (Process x.process)) files ≡ None → AreOwnOutputs pips made i (Process x.process) files
   of_good x see files is good none =
       let run = run_for x see in
       let h = hold (described x) see in
@@ -107,7 +107,7 @@ module _ (pips : List Pip) (apart : Apart pips) (hold : AllHold) (tree : Files) 
   -- files that the process makes, none below another, unless they clash
   pub of_unclashed : (d : ProcessDesc) (files : Files) → pip.kind ≡ Process d → ((q : Atoms) → Has (paths_of files) q → Makes (Process d) q)
       → ((p q : Atoms) → Has (paths_of files) p → Has (paths_of files) q → IsBelow p q → ⊥) → (c : Option Violation)
-      → clash_at pips made i files ≡ c → Keeps pips made i (Process d) (unless_clash files c).files
+      → clash_at pips made i files ≡ c → AreOwnOutputs pips made i (Process d) (unless_clash files c).files
   of_unclashed d files is makes unnested None e = record {
     makes = makes;
     unnested = unnested;
@@ -116,30 +116,30 @@ module _ (pips : List Pip) (apart : Apart pips) (hold : AllHold) (tree : Files) 
   of_unclashed d files is makes unnested (Some v) e = none_kept pips made i (Process d)
 
   of_clash : (x : Desc) (see : Ask → Answer) (files : Files) → pip.kind ≡ Process x.process → ran x see ≡ Good files → (c : Option Violation)
-      → clash_at pips made i files ≡ c → Keeps pips made i (Process x.process) (unless_clash files c).files
+      → clash_at pips made i files ≡ c → AreOwnOutputs pips made i (Process x.process) (unless_clash files c).files
   of_clash x see files is good None e = of_good x see files is good (clash_is (Process x.process) files is ∙ e)
   of_clash x see files is good (Some v) e = none_kept pips made i (Process x.process)
 
-  of_violation : (d : ProcessDesc) (c : Option Violation) → Keeps pips made i (Process d) (violated c).files
+  of_violation : (d : ProcessDesc) (c : Option Violation) → AreOwnOutputs pips made i (Process d) (violated c).files
   of_violation d None = none_kept pips made i (Process d)
   of_violation d (Some v) = none_kept pips made i (Process d)
 
-  of_cause : (d : ProcessDesc) (cause : Cause) → Keeps pips made i (Process d) (by_cause pips tree i cause).files
+  of_cause : (d : ProcessDesc) (cause : Cause) → AreOwnOutputs pips made i (Process d) (by_cause pips tree i cause).files
   of_cause d (causes.Exit code) = none_kept pips made i (Process d)
   of_cause d (causes.Tool end) = none_kept pips made i (Process d)
   of_cause d (causes.MissingOutput path) = none_kept pips made i (Process d)
   of_cause d (causes.Denied access) = of_violation d (class_of pips tree i access)
 
   pub of_outcome : (x : Desc) (see : Ask → Answer) → pip.kind ≡ Process x.process → (o : Outcome) → ran x see ≡ o
-      → Keeps pips made i (Process x.process) (by_outcome pips tree made i o).files
+      → AreOwnOutputs pips made i (Process x.process) (by_outcome pips tree made i o).files
   of_outcome x see is (Good files) e = of_clash x see files is e (clash_at pips made i files) refl
   of_outcome x see is (Failed cause) e = of_cause x.process cause
 
   -- ## Pips
 
-  pub of_kind : (budget : ℕ) (inputs : ByPip) (kind : PipKind) → pip.kind ≡ kind → Keeps pips made i kind (worked pips tree budget made inputs i kind).files
+  pub of_kind : (budget : ℕ) (inputs : ByPip) (kind : PipKind) → pip.kind ≡ kind → AreOwnOutputs pips made i kind (worked pips tree budget made inputs i kind).files
   of_kind budget inputs (Process d) is =
-      of_outcome (desc_of tree inputs budget d) (sees pips tree inputs i) is (outcome_at pips tree budget inputs i d) refl
+      of_outcome (desc_of tree inputs budget d) (sees pips tree inputs i) is (process_outcome pips tree budget inputs i d) refl
   of_kind budget inputs (Copy d) is = record {
     makes = one_makes (Copy d) d.to (input_bytes tree inputs d.from) (inl refl);
     unnested = one_unnested d.to (input_bytes tree inputs d.from);
@@ -153,12 +153,12 @@ module _ (pips : List Pip) (apart : Apart pips) (hold : AllHold) (tree : Files) 
   of_kind budget inputs (Seal d) is = none_kept pips made i (Seal d)
 
   pub kept_if : (budget : ℕ) (inputs : ByPip) (b : Bool)
-      → Keeps pips made i pip.kind (cond b (worked pips tree budget made inputs i pip.kind) (failed verdicts.Skipped)).files
+      → AreOwnOutputs pips made i pip.kind (cond b (worked pips tree budget made inputs i pip.kind) (failed verdicts.Skipped)).files
   kept_if budget inputs true = of_kind budget inputs pip.kind refl
   kept_if budget inputs false = none_kept pips made i pip.kind
 
 -- the files of the result that the results of all pips give
 pub kept_result : (pips : List Pip) (tree : Files) (budget i : ℕ) (pip : Pip) (results : List Result) → Apart pips → AllHold → slice_get pips i ≡ Some pip
-    → Keeps pips (made_by results) i pip.kind (result_of pips tree budget results i pip.kind).files
+    → AreOwnOutputs pips (made_by results) i pip.kind (result_of pips tree budget results i pip.kind).files
 kept_result pips tree budget i pip results apart hold at =
     kept_if pips apart hold tree (made_by results) i pip at budget (inputs_of pips pip.kind (made_by results)) (inputs_are_good pips pip.kind results)

@@ -17,7 +17,7 @@ Makes kind path =
 
 -- The files of pip i of this kind, where the first pips made these files: it makes each of them, none lies
 -- below another, and none clashes with a file of an earlier pip.
-pub record Keeps (pips : List Pip) (made : List Files) (i : ℕ) (kind : PipKind) (files : Files)
+pub record AreOwnOutputs (pips : List Pip) (made : List Files) (i : ℕ) (kind : PipKind) (files : Files)
     : Type 0 where
   pub makes : (q : Atoms) → Has (paths_of files) q → Makes kind q
   pub unnested : (p q : Atoms) → Has (paths_of files) p → Has (paths_of files) q → IsBelow p q → ⊥
@@ -27,7 +27,7 @@ pub record Keeps (pips : List Pip) (made : List Files) (i : ℕ) (kind : PipKind
 pub record KeptAt (pips : List Pip) (made : List Files) (i : ℕ) (files : Files) : Type 0 where
   pub pip : Pip
   pub at : slice_get pips i ≡ Some pip
-  pub keeps : Keeps pips made i pip.kind files
+  pub keeps : AreOwnOutputs pips made i pip.kind files
 
 -- these are the files of the first pips, and they keep to them
 abbrev pub AreKept : List Pip → List Files → Type 0

@@ -4,7 +4,7 @@ use Rattle.std.specs.Prelude.{IfOk, OnOk, Result as Answer, Ok, Err}
 use Rattle.std.specs.List.{AllByRecursion}
 use Rattle.bx_tree.specs.Paths.{IsPath}
 use Rattle.bx_tree.specs.Trees.{Files, paths_of}
-use Rattle.bx_io.specs.Holdings.{Holdings, Kept, held_in}
+use Rattle.bx_io.specs.Holdings.{Holdings, StoreState, held_in}
 use Rattle.build_outputs.specs.Outputs.{AreOutputs}
 use Rattle.build_report.specs.Notes.{notes_text}
 use Rattle.pip_types.specs.declared.pip.Pip.{Pip}
@@ -33,7 +33,7 @@ pub record Went (pips : List Pip) (tree : Files) (budget : ℕ) (cached : Bool) 
       → Spares pips tree budget S retired.tally.hits retired.tally.faults
   pub runs : cached ≡ true → (S : Holdings) → held_in change.before ≡ Some S → IsFair pips tree budget S
       → RunsLate pips tree budget S retired.tally.late retired.tally.faults
-  pub usable : cached ≡ true → (before : Kept) → change.before ≡ Some before → IsFair pips tree budget before.held → NoneReserved tree
+  pub usable : cached ≡ true → (before : StoreState) → change.before ≡ Some before → IsFair pips tree budget before.held → NoneReserved tree
       → retired.tally.faults ≡ 0 → LeavesUsable pips tree budget change.now
   pub faults : (b : ℕ) → change.bound ≡ Some b → change.faults_before + retired.tally.faults ≤ change.faults_now + b
   pub seen : retired.tally.faults ≡ 0 → change.faults_now ≡ change.faults_before

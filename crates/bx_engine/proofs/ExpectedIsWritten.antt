@@ -4,9 +4,9 @@ use Rattle.std.specs.declared.option.Option.{Option}
 use Rattle.std.specs.Io.KnownBytes.{Appends}
 use Rattle.bx_front.specs.declared.limits.Limits.{Limits}
 use Rattle.bx_words.specs.declared.order.Order.{Order}
-use Rattle.bx_io.specs.Holdings.{Kept}
+use Rattle.bx_io.specs.Holdings.{StoreState}
 use Rattle.pip_types.specs.declared.pip.Pip.{Pip}
-use Rattle.bx_engine.specs.Counting.{IsNoted, IsShown, Notes, StoreChange}
+use Rattle.bx_engine.specs.Counting.{AppendsNotes, IsNoted, IsShown, StoreChange}
 use Rattle.bx_engine.specs.Ending.{Ending, InputRefused, SpecificationRefused, Built, all_succeeded, status_of}
 use Rattle.bx_engine.specs.Expected.{Answers, AppendsOrFails, Begins, Expected, IsExpected, limits_of}
 use Rattle.bx_engine.specs.Known.{AppendsPrefix}
@@ -89,7 +89,7 @@ shown order input change response result out_before out_now before now m n h s g
 
 pub noted : (order : Order) (input : List ℕ) (change : StoreChange) (status result : Status) (text : List ℕ) (before now : Option (List ℕ)) (m n : ℕ)
     → IsNoted order input change status text → (result ≡ status) ⊎ (result ≡ statuses.OutFailed) → IsWhole result
-    → AppendsOrFails text before now m n → Notes order input change result before now m n
+    → AppendsOrFails text before now m n → AppendsNotes order input change result before now m n
 noted order input change status result text before now m n h s whole appended = record {
   text = text;
   noted = elim s [
@@ -123,14 +123,14 @@ pub same_begins : (a b : Order) (input : List ℕ) (before now : Option (List �
 same_begins a b input before now e h = subst (λ (o : Order). Begins o input before now) e h
 
 pub same_notes : (a b : Order) (input : List ℕ) (change : StoreChange) (status : Status) (before now : Option (List ℕ)) (m n : ℕ) → a ≡ b
-    → Notes a input change status before now m n → Notes b input change status before now m n
-same_notes a b input change status before now m n e h = subst (λ (o : Order). Notes o input change status before now m n) e h
+    → AppendsNotes a input change status before now m n → AppendsNotes b input change status before now m n
+same_notes a b input change status before now m n e h = subst (λ (o : Order). AppendsNotes o input change status before now m n) e h
 
 pub same_shown : (a b : Order) (input : Option (List ℕ)) (change : StoreChange) (status : Status) (out_before out_now before now : Option (List ℕ)) (m n : ℕ)
     → a ≡ b → IsShown a input change status out_before out_now before now m n → IsShown b input change status out_before out_now before now m n
 same_shown a b input change status out_before out_now before now m n e h =
     subst (λ (o : Order). IsShown o input change status out_before out_now before now m n) e h
 
-pub same_left : (a b : Order) (input : List ℕ) (before : Kept) (now : Option Kept) → a ≡ b → StoreLeft (limits_of a) input before now
+pub same_left : (a b : Order) (input : List ℕ) (before : StoreState) (now : Option StoreState) → a ≡ b → StoreLeft (limits_of a) input before now
     → StoreLeft (limits_of b) input before now
 same_left a b input before now e h = subst (λ (o : Order). StoreLeft (limits_of o) input before now) e h

@@ -15,7 +15,7 @@ use Rattle.pip_types.specs.declared.pip.Pip.{Pip}
 use Rattle.verdicts.specs.Verdicts.{is_success}
 use Rattle.verdicts.specs.declared.verdict.Verdict.{Verdict}
 use Rattle.bx_engine.specs.Counting.{given_files, gone_output}
-use Rattle.bx_engine.specs.Ending.{Ending, InputRefused, SpecificationRefused, made_of, report_of, report_path}
+use Rattle.bx_engine.specs.Ending.{Ending, InputRefused, SpecificationRefused, ending_files, report_of, report_path}
 use Rattle.bx_engine.specs.OutputTrees.{IsOutputPath, IsOutputText, IsOutputTree}
 use Rattle.bx_engine.specs.Responses.{IsResponseTo}
 use Rattle.bx_engine.specs.declared.fault.InputFault.{InputFault}
@@ -129,10 +129,10 @@ no_outputs = record {
 
 -- ## Responses
 
-shown_text : (ending : Ending) (notes : List ℕ) (response : Response) → IsResponseTo ending notes response → AreOutputs (made_of ending)
-    → AllByRecursion IsPath (paths_of (made_of ending)) → IsOutputText response.bytes.items
+shown_text : (ending : Ending) (notes : List ℕ) (response : Response) → IsResponseTo ending notes response → AreOutputs (ending_files ending)
+    → AllByRecursion IsPath (paths_of (ending_files ending)) → IsOutputText response.bytes.items
 shown_text ending notes response h outputs paths =
-    (made_of ending ++ (report_path, report_of ending) ∷ [], with_report (made_of ending) (report_of ending) outputs paths, h.bytes_are)
+    (ending_files ending ++ (report_path, report_of ending) ∷ [], with_report (ending_files ending) (report_of ending) outputs paths, h.bytes_are)
 
 outputs_if : (good : Bool) (files : Files) → AreOutputs files → AreOutputs (cond good files [])
 outputs_if true files h = h

@@ -15,8 +15,8 @@ use Rattle.bx_engine.specs.declared.status.Status.{Status}
 use Rattle.bx_engine.specs.declared.limits.TheConstants.{READ_LIMIT}
 use Rattle.bx_tree.specs.declared.limits.TheConstants.{MAX_BUNDLE_BYTES}
 use Rattle.bx_engine.specs.Ends.{Ends}
-use Rattle.bx_io.specs.Holdings.{Holdings, Kept}
-use Rattle.bx_engine.specs.Counting.{IsNoted, IsShown, Notes, NotesOf, StoreChange}
+use Rattle.bx_io.specs.Holdings.{Holdings, StoreState}
+use Rattle.bx_engine.specs.Counting.{AppendsNotes, IsNoted, IsShown, NotesOf, StoreChange}
 use Rattle.bx_engine.specs.Expected.{IsExpected, Answers, Begins, limits_of}
 use Rattle.bx_engine.specs.Stores.{AsksFor, FairWhere, LeftOfBuild, StoreLeft}
 use Rattle.bx_engine.specs.Ending.{Ending, InputRefused, SpecificationRefused, Built}
@@ -163,7 +163,7 @@ noted_whole order input bytes left change status text r n = elim r.whole [
 
 pub notes_whole : (order : Order) (input bytes : List ℕ) (left : Option (List ℕ)) (change : StoreChange) (status : Status)
     (before now : Option (List ℕ)) (m n : ℕ) → ReadOf input bytes left
-    → Notes order bytes change status before now m n → Notes order input change status before now m n
+    → AppendsNotes order bytes change status before now m n → AppendsNotes order input change status before now m n
 notes_whole order input bytes left change status before now m n r t = record {
   text = t.text;
   noted = noted_whole order input bytes left change status t.text r t.noted;
@@ -184,7 +184,7 @@ fair_read cached limits input bytes left held r fair = elim r.whole [
   | inr long ↦ long_fair cached limits bytes held long.0
 ]
 
-came_whole : (limits : Limits) (input bytes : List ℕ) (left : Option (List ℕ)) (before : Kept) (now : Option Kept) → ReadOf input bytes left
+came_whole : (limits : Limits) (input bytes : List ℕ) (left : Option (List ℕ)) (before : StoreState) (now : Option StoreState) → ReadOf input bytes left
     → LeftOfBuild limits bytes before now → LeftOfBuild limits input before now
 came_whole limits input bytes left before now r came = elim r.whole [
   | inl is ↦ subst (λ (i : List ℕ). LeftOfBuild limits i before now) is came
@@ -194,7 +194,7 @@ came_whole limits input bytes left before now r came = elim r.whole [
   ]
 ]
 
-pub left_whole : (limits : Limits) (input bytes : List ℕ) (left : Option (List ℕ)) (before : Kept) (now : Option Kept) → ReadOf input bytes left
+pub left_whole : (limits : Limits) (input bytes : List ℕ) (left : Option (List ℕ)) (before : StoreState) (now : Option StoreState) → ReadOf input bytes left
     → StoreLeft limits bytes before now → StoreLeft limits input before now
 left_whole limits input bytes left before now r s = record {
   honest = s.honest;

@@ -5,7 +5,7 @@ use Rattle.std.specs.Io.KnownBytes.{Appends}
 use Rattle.std.specs.List.{list_all}
 use Rattle.bx_tree.specs.Bundle.{bundle}
 use Rattle.bx_tree.specs.Trees.{Files}
-use Rattle.bx_io.specs.Holdings.{Holdings, Kept, held_in}
+use Rattle.bx_io.specs.Holdings.{Holdings, StoreState, held_in}
 use Rattle.bx_words.specs.declared.order.Order.{Order}
 use Rattle.build_report.specs.Notes.{notes_text}
 use Rattle.build_report.specs.Reports.{report_text}
@@ -24,13 +24,13 @@ use Rattle.bx_engine.specs.declared.status.Status.TheVariants as statuses
 
 -- what is known of a keeper before a call and after it
 pub record StoreChange : Type 0 where
-  pub before : Option Kept
-  pub now : Option Kept
+  pub before : Option StoreState
+  pub now : Option StoreState
   pub bound : Option ℕ
   pub faults_before : ℕ
   pub faults_now : ℕ
 
-abbrev pub change_of : Option Kept → Option Kept → Option ℕ → ℕ → ℕ → StoreChange
+abbrev pub change_of : Option StoreState → Option StoreState → Option ℕ → ℕ → ℕ → StoreChange
 change_of before now bound faults_before faults_now = record {
   before = before;
   now = now;
@@ -101,7 +101,7 @@ pub record CountsOf (cached : Bool) (pips : List Pip) (tree : Files) (budget : �
       → Spares pips tree budget S counts.hits counts.faults
   pub runs : cached ≡ true → (S : Holdings) → held_in change.before ≡ Some S
       → RunsLate pips tree budget S counts.late counts.faults
-  pub usable : cached ≡ true → (kept : Kept) → change.before ≡ Some kept → counts.faults ≡ 0
+  pub usable : cached ≡ true → (kept : StoreState) → change.before ≡ Some kept → counts.faults ≡ 0
       → LeavesUsable pips tree budget change.now
 
 -- These are the notes of an input that ends so: none of one that is refused, and the counts of a build.
@@ -122,7 +122,7 @@ pub record IsNoted (order : Order) (input : List ℕ) (change : StoreChange) (st
   pub text_is : NotesOf order input change ending text
 
 -- those notes were appended, or a prefix of them and the sink's count of faults rose
-pub record Notes (order : Order) (input : List ℕ) (change : StoreChange) (status : Status)
+pub record AppendsNotes (order : Order) (input : List ℕ) (change : StoreChange) (status : Status)
     (before now : Option (List ℕ)) (faults_before faults_now : ℕ) : Type 0 where
   pub text : List ℕ
   pub noted : IsNoted order input change status text

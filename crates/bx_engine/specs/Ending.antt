@@ -59,10 +59,10 @@ abbrev pub report_path : Atoms
 report_path = codes "report.txt" ∷ []
 
 -- the files that a build gives: those that its pips made, if all of them succeeded
-abbrev pub made_of : Ending → Files
-made_of (InputRefused fault) = []
-made_of (SpecificationRefused refusal) = []
-made_of (Built pips results) = if all_succeeded results then outputs_of results else []
+abbrev pub ending_files : Ending → Files
+ending_files (InputRefused fault) = []
+ending_files (SpecificationRefused refusal) = []
+ending_files (Built pips results) = if all_succeeded results then outputs_of results else []
 
 -- the bundle of the report of a refusal
 abbrev pub refusal_output : Refusal → List ℕ
@@ -70,7 +70,7 @@ refusal_output refusal = bundle ((report_path, refused_text refusal) ∷ [])
 
 -- the bundle of the files that were made and of the report
 abbrev pub output_of : Ending → List ℕ
-output_of ending = bundle (made_of ending ++ (report_path, report_of ending) ∷ [])
+output_of ending = bundle (ending_files ending ++ (report_path, report_of ending) ∷ [])
 
 -- ## The notes
 

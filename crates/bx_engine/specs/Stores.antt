@@ -1,7 +1,7 @@
 -- The store of a build: what is asked of it, and what is left of it.
 use Rattle.std.specs.Prelude.{◌≡◌, ◌⊎◌, ℕ, Bool, true, false, List, Option, Some, ⊤}
 use Rattle.bx_tree.specs.Trees.{Files}
-use Rattle.bx_io.specs.Holdings.{Holdings, Kept}
+use Rattle.bx_io.specs.Holdings.{Holdings, StoreState}
 use Rattle.bx_front.specs.Specifications.{Plans}
 use Rattle.bx_front.specs.declared.limits.Limits.{Limits}
 use Rattle.bx_words.specs.declared.order.Order.{Order}
@@ -37,7 +37,7 @@ abbrev pub AsksFor : Limits → List ℕ → List Pip → Type 0
 AsksFor limits input pips = (sources : Files) × AreSources input sources × Plans limits sources pips
 
 -- The store is as it was, or as the build which the input asks for leaves it.
-abbrev pub LeftOfBuild : Limits → List ℕ → Kept → Option Kept → Type 0
+abbrev pub LeftOfBuild : Limits → List ℕ → StoreState → Option StoreState → Type 0
 LeftOfBuild limits input before now =
     (now ≡ Some before)
     ⊎ ((sources : Files) × (pips : List Pip) × AreSources input sources × Plans limits sources pips
@@ -45,6 +45,6 @@ LeftOfBuild limits input before now =
 
 -- An honest store is left: it was honest before each change and after it, and it is as it was or as the build
 -- leaves it.
-pub record StoreLeft (limits : Limits) (input : List ℕ) (before : Kept) (now : Option Kept) : Type 0 where
+pub record StoreLeft (limits : Limits) (input : List ℕ) (before : StoreState) (now : Option StoreState) : Type 0 where
   pub honest : LeavesHonest before now
   pub came : LeftOfBuild limits input before now

@@ -3,10 +3,10 @@
 ghost use Rattle.std.specs.Prelude.{◌≡◌, ◌≢◌, ◌⊎◌, ◌≤◌, [], ℕ, List, Some, drop, false};
 ghost use Rattle.std.specs.Io.KnownBytes.{Appends};
 ghost use Rattle.bx_io.specs.Causes.{HasCause};
-ghost use Rattle.bx_io.specs.Holdings.{Kept as KeptParts, held_in};
+ghost use Rattle.bx_io.specs.Holdings.{StoreState as KeptParts, held_in};
 ghost use Rattle.store_meaning.specs.Honest.{Honest};
 ghost use Rattle.retire.specs.Keeping.{OnlyPuts};
-ghost use Rattle.bx_engine.specs.Counting.{IsShown, Notes, change_of};
+ghost use Rattle.bx_engine.specs.Counting.{AppendsNotes, IsShown, change_of};
 ghost use Rattle.bx_engine.specs.Expected.{Answers, AppendsOrFails, Begins, limits_of};
 ghost use Rattle.bx_engine.specs.Known.{AppendsPrefix};
 ghost use Rattle.bx_engine.specs.OutputTrees.{IsTreeBegun, IsTreeWritten};
@@ -77,7 +77,7 @@ fn answer<O: Sink, N: Sink, K: Keeper, G: Gate>(
 
     // What is noted.
     ensures notes { FairStore order.now input.now (held_in (K.known keeper.old)) → IsWhole result
-        → Notes order.now input.now (change_of (K.known keeper.old) (K.known keeper.new)
+        → AppendsNotes order.now input.now (change_of (K.known keeper.old) (K.known keeper.new)
         (K.bound keeper.old) (K.faults keeper.old) (K.faults keeper.new)) result
         (N.taken notes.old) (N.taken notes.new) (N.faults notes.old) (N.faults notes.new) }
     ensures no_notes { HasNoNotes result → notes.new ≡ notes.old }
@@ -138,7 +138,7 @@ pub(crate) fn build<S: Source, O: Sink, N: Sink, K: Keeper, G: Gate>(
     // What is noted.
     ensures notes { (input : List ℕ) → S.left source.old ≡ Some input
         → FairStore order.now input (held_in (K.known keeper.old)) → IsWhole result
-        → Notes order.now input (change_of (K.known keeper.old) (K.known keeper.new) (K.bound keeper.old)
+        → AppendsNotes order.now input (change_of (K.known keeper.old) (K.known keeper.new) (K.bound keeper.old)
         (K.faults keeper.old) (K.faults keeper.new)) result
         (N.taken notes.old) (N.taken notes.new) (N.faults notes.old) (N.faults notes.new) }
     ensures no_notes { HasNoNotes result → notes.new ≡ notes.old }

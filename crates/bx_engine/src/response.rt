@@ -2,7 +2,7 @@
 
 ghost use Rattle.std.specs.Prelude.{◌≡◌, ◌≤◌, [], ℕ, List, Some, false, IfOk, OnOk, if◌then◌else◌, length};
 ghost use Rattle.std.specs.List.{AllByRecursion, list_all};
-ghost use Rattle.bx_io.specs.Holdings.{Kept as KeptParts};
+ghost use Rattle.bx_io.specs.Holdings.{StoreState as KeptParts};
 ghost use Rattle.bx_tree.specs.Bundle.{IsBundle, IsInSize};
 ghost use Rattle.bx_tree.specs.Paths.{IsPath};
 ghost use Rattle.bx_tree.specs.Trees.{paths_of};

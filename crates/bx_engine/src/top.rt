@@ -2,10 +2,10 @@
 
 ghost use Rattle.std.specs.Prelude.{◌≡◌, ◌≢◌, ◌⊎◌, ◌≤◌, ℕ, List, Some, drop, false, map, string_bytes};
 ghost use Rattle.bx_io.specs.Causes.{HasCause};
-ghost use Rattle.bx_io.specs.Holdings.{Kept as KeptParts, held_in};
+ghost use Rattle.bx_io.specs.Holdings.{StoreState as KeptParts, held_in};
 ghost use Rattle.store_meaning.specs.Honest.{Honest};
 ghost use Rattle.retire.specs.Keeping.{OnlyPuts};
-ghost use Rattle.bx_engine.specs.Counting.{IsShown, Notes, change_of};
+ghost use Rattle.bx_engine.specs.Counting.{AppendsNotes, IsShown, change_of};
 ghost use Rattle.bx_engine.specs.Ending.{usage_text};
 ghost use Rattle.bx_engine.specs.Expected.{Answers, AppendsOrFails, Begins, limits_of};
 ghost use Rattle.bx_engine.specs.OutputTrees.{IsTreeBegun, IsTreeWritten};
@@ -96,7 +96,7 @@ pub fn command<H: Threads + Wait + Sync, S: Source, O: Sink, N: Sink, K: Keeper,
     ensures notes { (order : TheOrder) (input : List ℕ) → Orders (map string_bytes words.now) order
         → S.left source.old ≡ Some input → FairStore order input (held_in (K.known keeper.old))
         → IsWhole result
-        → Notes order input (change_of (K.known keeper.old) (K.known keeper.new) (K.bound keeper.old)
+        → AppendsNotes order input (change_of (K.known keeper.old) (K.known keeper.new) (K.bound keeper.old)
         (K.faults keeper.old) (K.faults keeper.new)) result
         (N.taken notes.old) (N.taken notes.new) (N.faults notes.old) (N.faults notes.new) }
     ensures no_notes { HasNoNotes result → notes.new ≡ notes.old }

@@ -5,7 +5,7 @@ use Rattle.std.specs.List.{Any}
 use Rattle.std.specs.Borrow.{Bor}
 use Rattle.std.proofs.lemmas.List.Elements.{Contains-append_left, Contains-push, Contains-push_cases}
 use Rattle.std.proofs.lemmas.List.{map_more, map_push}
-use Rattle.bx_folder.specs.Answers.{ListsNodes, entry_of, kind_of}
+use Rattle.bx_folder.specs.Answers.{ListsNodes, entry_data, kind_of}
 use Rattle.bx_folder.specs.Folders.{AllApart, IsFolder, IsFree, Node, Nodes, IsListed, without}
 use Rattle.bx_folder.specs.Stored.{placed, stored}
 use Rattle.bx_folder.specs.declared.mem_folder.Placed.{Placed}
@@ -92,13 +92,13 @@ entries_more left_out nodes entries next entry lists counts place kind = record 
     )
   ];
   all = λ p node h.
-      subst (λ xs. Contains xs (p, kind_of node)) (sym (map_push entry_of entries entry))
+      subst (λ xs. Contains xs (p, kind_of node)) (sym (map_push entry_data entries entry))
       (elim (Contains-push_cases nodes next (p, node) h.there) [
-        | inl c ↦ Contains-append_left (map entry_of entries) (entry_of entry ∷ []) (p, kind_of node) (lists.all p node (record { there = c; counts = h.counts }))
-        | inr e ↦ subst (λ (n : List ℕ × Node). Contains (map entry_of entries ++ entry_of entry ∷ []) (n.0, kind_of n.1)) e
-            (subst (λ k. Contains (map entry_of entries ++ entry_of entry ∷ []) (next.0, k)) kind
-            (subst (λ q. Contains (map entry_of entries ++ entry_of entry ∷ []) (q, entry.kind)) place
-            (Contains-push (map entry_of entries) (entry_of entry))))
+        | inl c ↦ Contains-append_left (map entry_data entries) (entry_data entry ∷ []) (p, kind_of node) (lists.all p node (record { there = c; counts = h.counts }))
+        | inr e ↦ subst (λ (n : List ℕ × Node). Contains (map entry_data entries ++ entry_data entry ∷ []) (n.0, kind_of n.1)) e
+            (subst (λ k. Contains (map entry_data entries ++ entry_data entry ∷ []) (next.0, k)) kind
+            (subst (λ q. Contains (map entry_data entries ++ entry_data entry ∷ []) (q, entry.kind)) place
+            (Contains-push (map entry_data entries) (entry_data entry))))
       ]);
 }
 

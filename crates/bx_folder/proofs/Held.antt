@@ -18,7 +18,7 @@ use Rattle.bx_tree.specs.Views.{file_of, files_of}
 use Rattle.bx_tree.specs.declared.limits.TheConstants.{MAX_BUNDLE_BYTES, MAX_FILES, MAX_FILE_BYTES, MAX_PATH_BYTES}
 use Rattle.bx_tree.specs.declared.tree_file.TreeFile.{TreeFile}
 use Rattle.bx_tree.proofs.PathTexts.{named_by_parts, prefix_from_below}
-use Rattle.bx_folder.specs.Answers.{HasLargeFile, IsEntryOf, ListsNodes, entry_of, kind_of}
+use Rattle.bx_folder.specs.Answers.{HasLargeFile, IsEntryOf, ListsNodes, entry_data, kind_of}
 use Rattle.bx_folder.specs.Folders.{File, IsFolder, Known, Node, Nodes, Other, IsListed}
 use Rattle.bx_folder.specs.Packing.{AreFilesOf, AreHeld, HasCauseIn, HasLongText, HasManyFiles, IsPack}
 use Rattle.bx_folder.specs.Places.{IsWithin}
@@ -126,7 +126,7 @@ paths_of_folder left_out nodes entries paths order lists files rising same = rec
             (listed_at left_out nodes (string_bytes from.0.place) (path_text path) is.0 (sym from.2.text) is.1),
       );
   all = λ place node h.
-      let entry = from_map entry_of entries (place, kind_of node) (lists.all place node h) in
+      let entry = from_map entry_data entries (place, kind_of node) (lists.all place node h) in
       let to = files.all entry.0 entry.1 in
       (to.0, (same to.0).1 to.1, to.2.text ∙ ap (λ (p : List ℕ × Kind). p.0) entry.2);
 }

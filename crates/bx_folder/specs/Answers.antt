@@ -12,8 +12,8 @@ kind_of (File bytes) = kinds.File
 kind_of Other = kinds.Other
 
 -- an entry as its place and its kind
-abbrev pub entry_of : Entry → List ℕ × Kind
-entry_of entry = (string_bytes entry.place, entry.kind)
+abbrev pub entry_data : Entry → List ℕ × Kind
+entry_data entry = (string_bytes entry.place, entry.kind)
 
 -- the entry is that of a node that is not left out
 abbrev pub IsEntryOf : List (List ℕ) → Nodes → Entry → Type 0
@@ -24,7 +24,7 @@ IsEntryOf left_out nodes entry =
 pub record ListsNodes (left_out : List (List ℕ)) (nodes : Nodes) (entries : List Entry) : Type 0 where
   pub held : (entry : Entry) → Contains entries entry → IsEntryOf left_out nodes entry
   pub all : (place : List ℕ) (node : Node) → IsListed left_out nodes place node
-      → Contains (map entry_of entries) (place, kind_of node)
+      → Contains (map entry_data entries) (place, kind_of node)
 
 -- a file with more bytes than a bundle may have in one lies at the place
 abbrev pub HasLargeFile : Nodes → List ℕ → Type 0

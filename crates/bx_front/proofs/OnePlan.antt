@@ -6,7 +6,7 @@ use Rattle.bx_tree.specs.Trees.{Files}
 use Rattle.dscript_meaning.specs.Meaning.{Refusal, Refused as Stopped, Unnumbered, meaning}
 use Rattle.dscript_meaning.specs.declared.fault.EvalKind.{EvalKind}
 use Rattle.dscript_program.specs.ProgramData.{ProgramData}
-use Rattle.graph_check.specs.Rules.{KeepsRules, IsFirstFault as IsFirstBroken}
+use Rattle.graph_check.specs.Rules.{KeepsRules, IsFirstBrokenRule as IsFirstBroken}
 use Rattle.graph_check.specs.declared.fault.GraphKind.{GraphKind}
 use Rattle.pip_types.specs.declared.pip.Pip.{Pip}
 use Rattle.bx_front.specs.Specifications.{AsksForTooMany, HasFault, IsProgram, MakesPips, Plans, SpecificationFault, OfProgram, OfEvaluation, OfGraph}

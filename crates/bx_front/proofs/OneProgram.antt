@@ -11,7 +11,7 @@ use Rattle.dscript_workspace.proofs.OneAnswer.{one_answer}
 use Rattle.dscript_workspace.specs.Finding.{Finds}
 use Rattle.dscript_workspace.specs.Workspaces.{Found, Refused}
 use Rattle.bx_front.specs.Names.{AreParsed}
-use Rattle.bx_front.specs.Projects.{IsFirstFault, project_files}
+use Rattle.bx_front.specs.Projects.{IsFirstProjectFault, project_files}
 use Rattle.bx_front.specs.Specifications.{HasModules, IsMalformed, IsProgram}
 use Rattle.bx_front.proofs.ProjectFaults.{fault_or_none, one_first_fault, one_parsing, parsed_well}
 
@@ -34,8 +34,8 @@ found_or_refused tree m f h k = not_both m f (one_answer tree (Found m) (Refused
 
 -- the first fault of project files, in the modules of another account
 faults_of : (tree : Files) (m n : List ModuleData) (f : FaultData) → Finds tree (Found m) → Finds tree (Found n)
-    → IsFirstFault (project_files tree m) f → IsFirstFault (project_files tree n) f
-faults_of tree m n f h k is = subst (λ (ms : List ModuleData). IsFirstFault (project_files tree ms) f) (one_workspace tree m n h k) is
+    → IsFirstProjectFault (project_files tree m) f → IsFirstProjectFault (project_files tree n) f
+faults_of tree m n f h k is = subst (λ (ms : List ModuleData). IsFirstProjectFault (project_files tree ms) f) (one_workspace tree m n h k) is
 
 -- ## Syntax trees
 
@@ -50,7 +50,7 @@ same_named tree m n ps qs h k =
     ap (λ (ms : List ModuleData). named ms ps) (one_workspace tree m n h.finds k.finds) ∙ ap (named n) (same_parsed tree m n ps qs h k)
 
 ill_or_parsed : (tree : Files) (m n : List ModuleData) (f : FaultData) (ps : List ParsedData) → Finds tree (Found m)
-    → IsFirstFault (project_files tree m) f → HasModules tree n ps → ⊥
+    → IsFirstProjectFault (project_files tree m) f → HasModules tree n ps → ⊥
 ill_or_parsed tree m n f ps h is k =
     fault_or_none (project_files tree n) f (faults_of tree m n f h k.finds is) (parsed_well (project_files tree n) ps k.parses)
 
@@ -92,7 +92,7 @@ one_bad_name tree m ps f g h is k = elim k [
 ]
 
 -- the fault of a tree one of whose project files is ill-formed
-one_ill_form : (tree : Files) (m : List ModuleData) (f g : FaultData) → Finds tree (Found m) → IsFirstFault (project_files tree m) f
+one_ill_form : (tree : Files) (m : List ModuleData) (f g : FaultData) → Finds tree (Found m) → IsFirstProjectFault (project_files tree m) f
     → IsMalformed tree g → f ≡ g
 one_ill_form tree m f g h is k = elim k [
   | inl refused ↦ absurd (found_or_refused tree m g h refused)

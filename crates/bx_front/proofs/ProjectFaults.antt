@@ -14,7 +14,7 @@ use Rattle.dscript_read.proofs.SomeReading.{some_reading}
 use Rattle.dscript_scopes.specs.Declarations.{ParsedData}
 use Rattle.dscript_workspace.specs.Finding.{fault_at}
 use Rattle.bx_front.specs.Names.{AreParsed, IsParsed}
-use Rattle.bx_front.specs.Projects.{IsFirstFault, IsIllFormed, IsWellFormed}
+use Rattle.bx_front.specs.Projects.{IsFirstProjectFault, IsIllFormed, IsWellFormed}
 
 -- ## One file
 
@@ -49,7 +49,7 @@ some_form file = let reads = some_reading forms.Project file.1 in of_reading fil
 
 -- ## All files
 
-pub one_first_fault : (files : Files) (f g : FaultData) → IsFirstFault files f → IsFirstFault files g → f ≡ g
+pub one_first_fault : (files : Files) (f g : FaultData) → IsFirstProjectFault files f → IsFirstProjectFault files g → f ≡ g
 one_first_fault [] f g h k = absurd h
 one_first_fault (file ∷ files) f g h k = elim h [
   | inl a ↦ elim k [
@@ -62,14 +62,14 @@ one_first_fault (file ∷ files) f g h k = elim h [
   ]
 ]
 
-pub fault_or_none : (files : Files) (fault : FaultData) → IsFirstFault files fault → AllByRecursion IsWellFormed files → ⊥
+pub fault_or_none : (files : Files) (fault : FaultData) → IsFirstProjectFault files fault → AllByRecursion IsWellFormed files → ⊥
 fault_or_none [] fault h k = h
 fault_or_none (file ∷ files) fault h k = elim h [
   | inl a ↦ well_or_ill file fault k.0 a
   | inr a ↦ fault_or_none files fault a.1 k.1
 ]
 
-pub some_first_fault : (files : Files) → AllByRecursion IsWellFormed files ⊎ ((fault : FaultData) × IsFirstFault files fault)
+pub some_first_fault : (files : Files) → AllByRecursion IsWellFormed files ⊎ ((fault : FaultData) × IsFirstProjectFault files fault)
 some_first_fault [] = inl tt
 some_first_fault (file ∷ files) = elim (some_form file) [
   | inr ill ↦ inr (ill.0, inl ill.1)

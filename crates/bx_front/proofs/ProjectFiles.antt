@@ -27,14 +27,14 @@ use Rattle.dscript_scopes.specs.Declarations.{ParsedData}
 use Rattle.bx_front.specs.FileFaults.{RefusesFile, RefusesFiles}
 use Rattle.bx_front.specs.Names.{AreParsed, IsParsed, all_parsed}
 use Rattle.dscript_config.specs.Paths.{is_one_of}
-use Rattle.bx_front.specs.Projects.{IsFirstFault, IsShort, files_among, is_among, lent_files}
+use Rattle.bx_front.specs.Projects.{IsFirstProjectFault, IsShort, files_among, is_among, lent_files}
 use Rattle.bx_front.specs.Projects.{paths_of_modules, project_files}
 
 -- ## Reading one by one
 
 -- of these files all but the rest were read, with these syntax trees
 pub record ReadSoFar (files rest : Files) (parsed : List ParsedData) : Type 0 where
-  pub first : (fault : FaultData) → IsFirstFault rest fault → IsFirstFault files fault
+  pub first : (fault : FaultData) → IsFirstProjectFault rest fault → IsFirstProjectFault files fault
   pub all : (more : List ParsedData) → AreParsed rest more → AreParsed files (parsed ++ more)
 
 pub none_read : (files : Files) (parsed : List ParsedData) → parsed ≡ [] → ReadSoFar files files parsed

@@ -5,7 +5,7 @@ use Rattle.bx_tree.specs.Trees.{Files}
 use Rattle.dscript_modules.specs.Faults.{FaultData}
 use Rattle.dscript_modules.specs.declared.fault.SpecFault.{SpecFault}
 use Rattle.dscript_modules.specs.declared.fault.SpecFault.TheVariants as spec_faults
-use Rattle.bx_front.specs.Projects.{IsFirstFault, IsIllFormed}
+use Rattle.bx_front.specs.Projects.{IsFirstProjectFault, IsIllFormed}
 use Rattle.bx_front.specs.Specifications.{IsMalformed}
 
 -- the fault is this one; running out of memory has no cause that is stated
@@ -23,7 +23,7 @@ RefusesFile file spec_faults.Memory = ⊤
 -- this is the fault of the first file that is ill-formed
 abbrev pub RefusesFiles : Files → SpecFault → Type 0
 RefusesFiles files (spec_faults.Fault kind path place) =
-    IsFirstFault files (record { kind = kind; file = path; place = place })
+    IsFirstProjectFault files (record { kind = kind; file = path; place = place })
 RefusesFiles files spec_faults.Memory = ⊤
 
 -- the tree is no program, with this fault

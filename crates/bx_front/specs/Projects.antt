@@ -52,9 +52,9 @@ IsIllFormed file fault =
     ⊎ ((place : Place) × IsNoFile forms.Project file.1 place × (fault ≡ fault_at kinds.Syntax file.0 place))
 
 -- the fault is that of the first file that is ill-formed
-abbrev pub IsFirstFault : Files → FaultData → Type 0
-IsFirstFault [] fault = ⊥
-IsFirstFault (file ∷ files) fault = IsIllFormed file fault ⊎ (IsWellFormed file × IsFirstFault files fault)
+abbrev pub IsFirstProjectFault : Files → FaultData → Type 0
+IsFirstProjectFault [] fault = ⊥
+IsFirstProjectFault (file ∷ files) fault = IsIllFormed file fault ⊎ (IsWellFormed file × IsFirstProjectFault files fault)
 
 -- ## Files that are lent
 

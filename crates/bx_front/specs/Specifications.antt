@@ -11,11 +11,11 @@ use Rattle.dscript_program.specs.ProgramData.{ProgramData}
 use Rattle.dscript_scopes.specs.Declarations.{ParsedData}
 use Rattle.dscript_workspace.specs.Finding.{Finds}
 use Rattle.dscript_workspace.specs.Workspaces.{Found, Refused}
-use Rattle.graph_check.specs.Rules.{KeepsRules, IsFirstFault as IsFirstBroken}
+use Rattle.graph_check.specs.Rules.{KeepsRules, IsFirstBrokenRule as IsFirstBroken}
 use Rattle.graph_check.specs.declared.fault.GraphKind.{GraphKind}
 use Rattle.pip_types.specs.declared.pip.Pip.{Pip}
 use Rattle.bx_front.specs.Names.{AreParsed}
-use Rattle.bx_front.specs.Projects.{IsFirstFault, project_files}
+use Rattle.bx_front.specs.Projects.{IsFirstProjectFault, project_files}
 use Rattle.bx_front.specs.declared.limits.Limits.{Limits}
 
 -- ## Programs
@@ -39,7 +39,7 @@ abbrev pub IsMalformed : Files → FaultData → Type 0
 IsMalformed tree fault =
     Finds tree (Refused fault)
     ⊎ ((modules : List ModuleData) × Finds tree (Found modules)
-    × IsFirstFault (project_files tree modules) fault)
+    × IsFirstProjectFault (project_files tree modules) fault)
     ⊎ ((modules : List ModuleData) × (parsed : List ParsedData) × HasModules tree modules parsed
     × (named modules parsed ≡ Err fault))
 

@@ -8,23 +8,23 @@ use Rattle.std.specs.FinMap.{get, get-insert, get-remove, slice_cmp-IsAntisymmet
 use Rattle.std.proofs.lemmas.List.Elements.{All-head, All-tail}
 use Rattle.bx_io.specs.Causes.{Rose, last_count}
 use Rattle.bx_io.specs.Names.{IsName}
-use Rattle.bx_io.specs.Holdings.{Holdings, AreNames, Change, Put, Drop, changed, after, name_of, Kept, kept_after, known_after, MakesPrefix}
+use Rattle.bx_io.specs.Holdings.{Holdings, AreNames, Change, Put, Drop, changed, holdings_after, name_of, StoreState, state_after, known_after, MakesPrefix}
 
-pub after-append : (held : Holdings) (first next : List Change) → after held (first ++ next) ≡ after (after held first) next
+pub after-append : (held : Holdings) (first next : List Change) → holdings_after held (first ++ next) ≡ holdings_after (holdings_after held first) next
 after-append held [] next = refl
 after-append held (change ∷ first) next = after-append (changed held change) first next
 
-kept_after-append : (kept : Kept) (first next : List Change) → kept_after kept (first ++ next) ≡ kept_after (kept_after kept first) next
+kept_after-append : (kept : StoreState) (first next : List Change) → state_after kept (first ++ next) ≡ state_after (state_after kept first) next
 kept_after-append kept first next =
     let held = after-append kept.held first next in
     let changes : kept.changes ++ (first ++ next) ≡ (kept.changes ++ first) ++ next = sym (append_assoc kept.changes first next) in
     cc
 
-pub known_after-append : (known : Option Kept) (first next : List Change) → known_after known (first ++ next) ≡ known_after (known_after known first) next
+pub known_after-append : (known : Option StoreState) (first next : List Change) → known_after known (first ++ next) ≡ known_after (known_after known first) next
 known_after-append None first next = refl
 known_after-append (Some kept) first next = ap Some (kept_after-append kept first next)
 
-pub known_after-nil : (known : Option Kept) → known_after known [] ≡ known
+pub known_after-nil : (known : Option StoreState) → known_after known [] ≡ known
 known_after-nil None = refl
 known_after-nil (Some kept) = ap (λ (changes : List Change). Some (record { held = kept.held; changes = changes })) (append-nil kept.changes)
 
@@ -51,7 +51,7 @@ names-changed held (Drop name) names named = record {
       (sym (get-remove nat_list_cmp_total held name q) ∙ is);
 }
 
-pub names-after : (held : Holdings) (changes : List Change) → AreNames held → All (λ change. IsName (name_of change)) changes → AreNames (after held changes)
+pub names-after : (held : Holdings) (changes : List Change) → AreNames held → All (λ change. IsName (name_of change)) changes → AreNames (holdings_after held changes)
 names-after held [] names named = names
 names-after held (change ∷ changes) names named =
     names-after (changed held change) changes
@@ -59,7 +59,7 @@ names-after held (change ∷ changes) names named =
 
 -- changes that were cut off in the first list, or in the next one once the first was made, are a prefix of both lists
 
-pub prefix_of_first : (before now : Option Kept) (first next : List Change) → MakesPrefix before now first → MakesPrefix before now (first ++ next)
+pub prefix_of_first : (before now : Option StoreState) (first next : List Change) → MakesPrefix before now first → MakesPrefix before now (first ++ next)
 prefix_of_first before now first next made = record {
   made = made.made;
   first = record {
@@ -69,7 +69,7 @@ prefix_of_first before now first next made = record {
   makes = made.makes;
 }
 
-pub prefix_of_next : (before between now : Option Kept) (first next : List Change) → between ≡ known_after before first → MakesPrefix between now next → MakesPrefix before now (first ++ next)
+pub prefix_of_next : (before between now : Option StoreState) (first next : List Change) → between ≡ known_after before first → MakesPrefix between now next → MakesPrefix before now (first ++ next)
 prefix_of_next before between now first next done made = record {
   made = first ++ made.made;
   first = record {

@@ -3,7 +3,7 @@ use Rattle.std.proofs.Common.{◌≡◌, ℕ, List, [], ◌∷◌, Some, None, c
 use Rattle.std.specs.FinMap.{empty, get, gets, same_map, slice_cmp-IsAntisymmetric, nat_cmp-IsAntisymmetric}
 use Rattle.std.specs.Cmp.Lexicographic.{nat_list_cmp_total}
 use Rattle.bx_io.specs.Causes.{Rose, last_count}
-use Rattle.bx_io.specs.Holdings.{Holdings, Put, Drop, after, known_after, IsPrefix}
+use Rattle.bx_io.specs.Holdings.{Holdings, Put, Drop, holdings_after, known_after, IsPrefix}
 
 abbrev a : List ℕ
 a = codes "b/0a"
@@ -23,31 +23,31 @@ none = empty
 same : (m n : Holdings) → ((q : List ℕ) → get m q ≡ get n q) → m ≡ n
 same = same_map nat_list_cmp_total (slice_cmp-IsAntisymmetric nat_cmp-IsAntisymmetric)
 
-no_change : after none [] ≡ none
+no_change : holdings_after none [] ≡ none
 no_change = refl
 
-put_is_held : get (after none (Put a one ∷ [])) a ≡ Some one
+put_is_held : get (holdings_after none (Put a one ∷ [])) a ≡ Some one
 put_is_held = grind (gets, rules)
 
-others_are_not : get (after none (Put a one ∷ [])) b ≡ None
+others_are_not : get (holdings_after none (Put a one ∷ [])) b ≡ None
 others_are_not = grind (gets, rules)
 
-later_put_counts : get (after none (Put a one ∷ Put a two ∷ [])) a ≡ Some two
+later_put_counts : get (holdings_after none (Put a one ∷ Put a two ∷ [])) a ≡ Some two
 later_put_counts = grind (gets, rules)
 
-dropped_is_gone : get (after none (Put a one ∷ Drop a ∷ [])) a ≡ None
+dropped_is_gone : get (holdings_after none (Put a one ∷ Drop a ∷ [])) a ≡ None
 dropped_is_gone = grind (gets, rules)
 
-put_after_drop : get (after none (Drop a ∷ Put a one ∷ [])) a ≡ Some one
+put_after_drop : get (holdings_after none (Drop a ∷ Put a one ∷ [])) a ≡ Some one
 put_after_drop = grind (gets, rules)
 
-drop_of_nothing : after none (Drop a ∷ []) ≡ none
-drop_of_nothing = same (after none (Drop a ∷ [])) none (λ q. grind (gets, rules))
+drop_of_nothing : holdings_after none (Drop a ∷ []) ≡ none
+drop_of_nothing = same (holdings_after none (Drop a ∷ [])) none (λ q. grind (gets, rules))
 
-drop_leaves_others : get (after none (Put a one ∷ Put b two ∷ Drop a ∷ [])) b ≡ Some two
+drop_leaves_others : get (holdings_after none (Put a one ∷ Put b two ∷ Drop a ∷ [])) b ≡ Some two
 drop_leaves_others = grind (gets, rules)
 
-other_name_stays : get (after none (Put b two ∷ Put a one ∷ [])) b ≡ Some two
+other_name_stays : get (holdings_after none (Put b two ∷ Put a one ∷ [])) b ≡ Some two
 other_name_stays = grind (gets, rules)
 
 -- a change that changes nothing is listed too

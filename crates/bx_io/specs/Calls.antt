@@ -2,7 +2,7 @@
 use Rattle.std.specs.Prelude.{◌≡◌, ◌+◌, ◌-◌, ◌<◌, ◌≤◌, ℕ, List, [], ◌∷◌, Some, Result, Err, OnOk, OnErr}
 use Rattle.bx_io.specs.Answers.{Finds, Lists, ListsNames, MayBeHeld}
 use Rattle.bx_io.specs.Causes.{last_count}
-use Rattle.bx_io.specs.Holdings.{Change, kept_after}
+use Rattle.bx_io.specs.Holdings.{Change, state_after}
 use Rattle.bx_io.specs.Memories.{Scripted, Stopping, faults_in}
 use Rattle.bx_io.specs.Numbered.{IsNumbered}
 use Rattle.bx_io.specs.declared.keeper.Got.{Got}
@@ -23,7 +23,7 @@ pub record Looks (before now : Scripted) (name : List ℕ) (answer : Got) : Type
 pub record Tries (before now : Scripted) (change : Change)
     (answer : Result (Unit {0}) PutFault) : Type 0 where
   pub numbered : IsNumbered before.script now.script (answer ≡ Err put_faults.Failed)
-  pub made : OnOk answer (now.kept ≡ kept_after before.kept (change ∷ []))
+  pub made : OnOk answer (now.kept ≡ state_after before.kept (change ∷ []))
   pub refused : OnErr answer (now.kept ≡ before.kept)
 
 -- a question for all names

@@ -29,25 +29,25 @@ changed held (Put name bytes) = insert held name bytes
 changed held (Drop name) = remove held name
 
 -- what is held after a list of changes, which are made in its order
-abbrev pub after : Holdings → List Change → Holdings
-after held [] = held
-after held (change ∷ changes) = after (changed held change) changes
+abbrev pub holdings_after : Holdings → List Change → Holdings
+holdings_after held [] = held
+holdings_after held (change ∷ changes) = holdings_after (changed held change) changes
 
 -- what a keeper holds, and all changes that led there, in order
-pub record Kept : Type 0 where
+pub record StoreState : Type 0 where
   pub held : Holdings
   pub changes : List Change
 
 -- a keeper after a list of changes
-abbrev pub kept_after : Kept → List Change → Kept
-kept_after kept made = record { held = after kept.held made; changes = kept.changes ++ made }
+abbrev pub state_after : StoreState → List Change → StoreState
+state_after kept made = record { held = holdings_after kept.held made; changes = kept.changes ++ made }
 
 -- a keeper of which this may be unknown, after a list of changes
-abbrev pub known_after : Option Kept → List Change → Option Kept
-known_after known made = option_map (λ kept. kept_after kept made) known
+abbrev pub known_after : Option StoreState → List Change → Option StoreState
+known_after known made = option_map (λ kept. state_after kept made) known
 
 -- what is held, where that is known
-abbrev pub held_in : Option Kept → Option Holdings
+abbrev pub held_in : Option StoreState → Option Holdings
 held_in known = option_map (λ kept. kept.held) known
 
 -- The first list of changes is a prefix of the second.
@@ -56,7 +56,7 @@ pub record IsPrefix (start whole : List Change) : Type 0 where
   pub joined : start ++ rest ≡ whole
 
 -- Of the changes that were planned a prefix was made, and nothing else.
-pub record MakesPrefix (before now : Option Kept) (planned : List Change) : Type 0 where
+pub record MakesPrefix (before now : Option StoreState) (planned : List Change) : Type 0 where
   pub made : List Change
   pub first : IsPrefix made planned
   pub makes : now ≡ known_after before made

@@ -2,7 +2,7 @@
 use Rattle.std.specs.Prelude.{◌≡◌, ℕ, List, Option, Some, None, refl}
 use Rattle.std.specs.Coded.{Coded, code_by, coded×, coded_ℕ, coded_list, coded_option}
 use Rattle.std.specs.FinMap as map
-use Rattle.bx_io.specs.Holdings.{Holdings, Change, Kept, Put, Drop}
+use Rattle.bx_io.specs.Holdings.{Holdings, Change, StoreState, Put, Drop}
 use Rattle.bx_io.specs.Numbered.{Script}
 
 abbrev pub holdings_code : Coded Holdings
@@ -27,7 +27,7 @@ changes_code =
     (coded× (coded_list coded_ℕ) (coded_option (coded_list coded_ℕ)))
     parts (λ p. with_parts p.0 p.1) with_parts-parts)
 
-abbrev pub kept_code : Coded Kept
+abbrev pub kept_code : Coded StoreState
 kept_code =
     code_by (Holdings × List Change) (coded× holdings_code changes_code) (λ k. (k.held, k.changes))
     (λ p. record { held = p.0; changes = p.1 }) (λ _. refl)

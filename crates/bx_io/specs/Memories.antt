@@ -1,7 +1,7 @@
 -- What contracts see of the objects in memory.
 use Rattle.std.specs.Prelude.{ℕ, ◌+◌, List, refl}
 use Rattle.std.specs.Coded.{Coded, code_by, coded×, coded_ℕ, coded_list}
-use Rattle.bx_io.specs.Holdings.{Holdings, Kept}
+use Rattle.bx_io.specs.Holdings.{Holdings, StoreState}
 use Rattle.bx_io.specs.Kept.{holdings_code, kept_code, script_code}
 use Rattle.bx_io.specs.Numbered.{Script}
 
@@ -20,7 +20,7 @@ pub record Store : Type 0 where
 
 -- a keeper whose calls fail as its script says
 pub record Scripted : Type 0 where
-  pub kept : Kept
+  pub kept : StoreState
   pub script : Script
 
 -- a reader whose calls fail as its script says
@@ -45,7 +45,7 @@ faults_in keeper = keeper.inner.script.faults + keeper.refused
 
 abbrev pub scripted_code : Coded Scripted
 scripted_code =
-    code_by (Kept × Script) (coded× kept_code script_code) (λ k. (k.kept, k.script))
+    code_by (StoreState × Script) (coded× kept_code script_code) (λ k. (k.kept, k.script))
     (λ p. record { kept = p.0; script = p.1 }) (λ _. refl)
 
 abbrev pub scripted_reader_code : Coded ScriptedReader

@@ -4,7 +4,7 @@ ghost use Rattle.std.specs.Prelude.{◌≡◌, ◌≢◌, [], ◌∷◌, Some, I
 ghost use Rattle.std.specs.FinMap.{empty, get};
 ghost use Rattle.std.specs.Prelude.{option_map};
 ghost use Rattle.bx_io.specs.Answers.{Finds, Lists, ListsNames};
-ghost use Rattle.bx_io.specs.Holdings.{AreNames, Put, Drop, kept_after};
+ghost use Rattle.bx_io.specs.Holdings.{AreNames, Put, Drop, state_after};
 ghost use Rattle.bx_io.specs.Names.{IsName};
 
 use crate::fault::Memory;
@@ -22,10 +22,10 @@ pub struct Archive {
 }
 
 impl Model for Archive {
-    ghost use Rattle.bx_io.specs.Holdings.{Kept};
+    ghost use Rattle.bx_io.specs.Holdings.{StoreState};
     ghost use Rattle.bx_io.specs.Kept.{kept_code};
 
-    ghost Value = { Kept };
+    ghost Value = { StoreState };
 
     ghost coded = { kept_code };
 
@@ -53,7 +53,7 @@ impl Archive {
     /// Holds the bytes under the name, in place of what was held there.
     pub fn put(&mut self, alloc: Global, name: &str, bytes: &[u8]) -> Result<(), Memory>
         requires { IsName name.now }
-        ensures made { OnOk result (self.new ≡ kept_after self.old (Put name.now bytes.now ∷ [])) }
+        ensures made { OnOk result (self.new ≡ state_after self.old (Put name.now bytes.now ∷ [])) }
         ensures refused { OnErr result (self.new ≡ self.old) }
     {
         let key = String::from_str(alloc, name)?;
@@ -71,7 +71,7 @@ impl Archive {
 
     /// Holds nothing under the name.
     pub fn drop_name(&mut self, alloc: Global, name: &str) -> Result<(), Memory>
-        ensures made { OnOk result (self.new ≡ kept_after self.old (Drop name.now ∷ [])) }
+        ensures made { OnOk result (self.new ≡ state_after self.old (Drop name.now ∷ [])) }
         ensures refused { OnErr result (self.new ≡ self.old) }
     {
         let change = Change::Drop(String::from_str(alloc, name)?);

@@ -4,7 +4,7 @@ ghost use Rattle.std.specs.Prelude.{◌≡◌, ◌≢◌, ℕ, ◌-◌, ◌^◌,
 ghost use Rattle.std.specs.Prelude.{OnErr, Err};
 ghost use Rattle.bx_io.specs.Causes.{CanRise, HasCause, IsWithin};
 ghost use Rattle.bx_io.specs.Names.{IsName};
-ghost use Rattle.bx_io.specs.Holdings.{AreNames, Holdings, Kept, Put, Drop, held_in, known_after};
+ghost use Rattle.bx_io.specs.Holdings.{AreNames, Holdings, StoreState, Put, Drop, held_in, known_after};
 ghost use Rattle.bx_io.specs.Answers.{Finds, Lists, ListsNames, MayBeHeld};
 
 use crate::fault::Memory;
@@ -75,7 +75,7 @@ pub trait Keeper {
     type Reader: KeepReader;
 
     // The held bytes by name and all changes so far, where they are known.
-    ghost known: { Self → Option Kept };
+    ghost known: { Self → Option StoreState };
 
     // How often the keeper has failed.
     ghost faults: { Self → ℕ };

@@ -4,7 +4,7 @@ ghost use Rattle.std.specs.Prelude.{◌≡◌, ◌<◌, [], ◌∷◌, Some, Err
 ghost use Rattle.std.specs.FinMap.{empty, get};
 ghost use Rattle.bx_io.specs.Calls.{ListsAll, Looks, Tries};
 ghost use Rattle.bx_io.specs.Causes.{HasCause, last_count};
-ghost use Rattle.bx_io.specs.Holdings.{Put, Drop, kept_after};
+ghost use Rattle.bx_io.specs.Holdings.{Put, Drop, state_after};
 ghost use Rattle.bx_io.specs.Names.{IsName};
 
 use crate::archive::Archive;
@@ -64,7 +64,7 @@ impl MemKeeper {
     pub fn set_raw(&mut self, alloc: Global, name: &str, bytes: Vec<u8>) -> Result<(), Memory>
         requires { IsName name.now }
         ensures made { OnOk result (self.new ≡ record self.old {
-          kept = kept_after self.old.kept (Put name.now bytes.items ∷ []);
+          kept = state_after self.old.kept (Put name.now bytes.items ∷ []);
         }) }
         ensures refused { OnErr result (self.new ≡ self.old) }
     {

@@ -17,10 +17,10 @@ pub struct NoFaultKeeper {
 }
 
 impl Model for NoFaultKeeper {
-    ghost use Rattle.bx_io.specs.Holdings.{Kept};
+    ghost use Rattle.bx_io.specs.Holdings.{StoreState};
     ghost use Rattle.bx_io.specs.Kept.{kept_code};
 
-    ghost Value = { Kept };
+    ghost Value = { StoreState };
 
     ghost coded = { kept_code };
 

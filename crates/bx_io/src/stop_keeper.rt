@@ -4,7 +4,7 @@ ghost use Rattle.std.specs.Prelude.{◌≡◌, ◌≢◌, ◌+◌, ◌-◌, ◌<
 ghost use Rattle.bx_io.specs.Answers.{Finds, Lists, ListsNames};
 ghost use Rattle.bx_io.specs.Calls.{ListsAll, Looks, Stops, Tries};
 ghost use Rattle.bx_io.specs.Causes.{HasCause, last_count};
-ghost use Rattle.bx_io.specs.Holdings.{Put, Drop, kept_after};
+ghost use Rattle.bx_io.specs.Holdings.{Put, Drop, state_after};
 ghost use Rattle.bx_io.specs.Memories.{faults_in};
 ghost use Rattle.bx_io.specs.Names.{IsName};
 
@@ -140,7 +140,7 @@ impl Keeper for StopKeeper {
             (Tries self.old.inner self.new.inner (Put name.now bytes.now) result)
             (result ≡ Err PutFault.Failed) (result ≡ Err PutFault.Memory) }
         ensures made { OnOk result
-            (self.new.inner.kept ≡ kept_after self.old.inner.kept (Put name.now bytes.now ∷ [])) }
+            (self.new.inner.kept ≡ state_after self.old.inner.kept (Put name.now bytes.now ∷ [])) }
         ensures kept { OnErr result (self.new.inner.kept ≡ self.old.inner.kept) }
         ensures can_rise { faults_in self.new < last_count }
         ensures cause { HasCause (faults_in self.old) (faults_in self.new) (result ≡ Err PutFault.Failed) }
@@ -158,7 +158,7 @@ impl Keeper for StopKeeper {
         ensures stops { Stops self.old self.new (Tries self.old.inner self.new.inner (Drop name.now) result)
             (result ≡ Err PutFault.Failed) (result ≡ Err PutFault.Memory) }
         ensures made { OnOk result
-            (self.new.inner.kept ≡ kept_after self.old.inner.kept (Drop name.now ∷ [])) }
+            (self.new.inner.kept ≡ state_after self.old.inner.kept (Drop name.now ∷ [])) }
         ensures kept { OnErr result (self.new.inner.kept ≡ self.old.inner.kept) }
         ensures can_rise { faults_in self.new < last_count }
         ensures cause { HasCause (faults_in self.old) (faults_in self.new) (result ≡ Err PutFault.Failed) }

@@ -5,7 +5,7 @@ use Rattle.bx_io.specs.Answers.{Finds}
 use Rattle.bx_io.specs.Holdings.{Holdings}
 use Rattle.bx_io.specs.declared.keeper.Got.TheVariants as got
 use Rattle.memo_format.specs.Entries.{read_entry_text}
-use Rattle.memo_format.specs.Well.{at_entry}
+use Rattle.memo_format.specs.StoreNames.{at_entry}
 use Rattle.memo_format.specs.declared.entry.Entry.{Entry}
 use Rattle.content_store.specs.declared.entries.FetchedEntry.{FetchedEntry}
 use Rattle.content_store.specs.declared.entries.FetchedEntry.TheVariants as fetched

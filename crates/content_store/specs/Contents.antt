@@ -3,7 +3,7 @@ use Rattle.std.specs.Prelude.{◌≡◌, ℕ, List, Option, Some, ⊤}
 use Rattle.std.specs.Prelude as prelude
 use Rattle.sha2.specs.Sha256.{sha256}
 use Rattle.bx_io.specs.Holdings.{Change, Holdings, Put}
-use Rattle.memo_format.specs.Well.{HoldsBlob, at_blob}
+use Rattle.memo_format.specs.StoreNames.{HoldsBlob, at_blob}
 use Rattle.content_store.specs.declared.content.Fetched.{Fetched}
 use Rattle.content_store.specs.declared.content.Fetched.TheVariants as fetched
 

@@ -3,7 +3,7 @@ use Rattle.std.specs.Prelude.{◌≡◌, ℕ, List, Option, Some, ⊤}
 use Rattle.std.specs.Prelude as prelude
 use Rattle.bx_io.specs.Holdings.{Holdings}
 use Rattle.memo_format.specs.Entries.{IsEntry, read_entry_text}
-use Rattle.memo_format.specs.Well.{HoldsEntry}
+use Rattle.memo_format.specs.StoreNames.{HoldsEntry}
 use Rattle.memo_format.specs.declared.entry.Entry.{Entry}
 use Rattle.content_store.specs.declared.entries.FetchedEntry.{FetchedEntry}
 use Rattle.content_store.specs.declared.entries.FetchedEntry.TheVariants as fetched

@@ -1,7 +1,7 @@
 //! The names under which a store holds things.
 ghost use Rattle.std.specs.Prelude.{◌≡◌, IfOk, string_bytes};
 ghost use Rattle.bx_io.specs.Names.{IsName};
-ghost use Rattle.memo_format.specs.Well.{at_blob, at_entry, at_list};
+ghost use Rattle.memo_format.specs.StoreNames.{at_blob, at_entry, at_list};
 
 use bx_digest::Digest;
 use std::alloc::{AllocError, Global};

@@ -22,7 +22,7 @@ use Rattle.std.specs.Option.{option_or}
 use Rattle.dscript_scopes.specs.Names.{World, FileNames}
 use Rattle.dscript_scopes.specs.declared.found.Found.{Found}
 use Rattle.dscript_scopes.specs.declared.local.Local.{Local}
-use Rattle.dscript_scopes.specs.Lookup.{Site, found_at, assigned, import_fault, module_fault}
+use Rattle.dscript_scopes.specs.Lookup.{Site, found_at, assigned, import_fault, unknown_module_fault}
 use Rattle.dscript_binding.specs.Walk.{Binds, ◌>>=◌, gives, in_turn, or_fault, no_fault, next_local, declare}
 use Rattle.dscript_binding.specs.Walk.{within, function_in, declaration}
 
@@ -209,7 +209,7 @@ named_decl around mark x kind = gives (record { name = around ++ x ∷ []; mark 
 
 -- the first fault of an import: of its names in braces, or of its module
 abbrev pub imports_fault : World → List ImportTree → List ℕ → Option SpecKind
-imports_fault world [] module_name = module_fault world module_name
+imports_fault world [] module_name = unknown_module_fault world module_name
 imports_fault world (i ∷ more) module_name =
     option_or (import_fault world module_name i.name) (imports_fault world more module_name)
 

@@ -5,7 +5,7 @@ use Rattle.std.specs.declared.alloc.Global.{Global}
 use Rattle.std.specs.declared.vec.Vec.{Vec}
 use Rattle.bx_tree.specs.Paths.{Atoms}
 use Rattle.bx_tree.specs.Trees.{Files}
-use Rattle.dscript_config.specs.Lists.{joined}
+use Rattle.dscript_config.specs.Lists.{concat_if_all}
 use Rattle.dscript_config.specs.Paths.{paths_at}
 use Rattle.dscript_config.specs.Views.{ArePlaces, HasPlaces}
 use Rattle.dscript_config.proofs.JoinedLists.{after, joined-none, joined-step}
@@ -18,10 +18,10 @@ IsGathered files whole positions rest =
 
 pub gathered_next : {A X : Type 0} (files : Files) (f : X → Option (List Atoms)) (view : A → X) (items : List A) (i : ℕ)
     (item : A) (whole : Option (List Atoms)) (before more after' : List ℕ) → i < length items → item ≡ get_or items i item
-    → IsGathered files whole before (joined f (map view (drop i items)))
+    → IsGathered files whole before (concat_if_all f (map view (drop i items)))
     → (paths : List Atoms) × (f (view item) ≡ Some paths) × ArePlaces files paths more
     → ArePlaces files (paths_at files before ++ paths_at files more) after'
-    → IsGathered files whole after' (joined f (map view (drop (i + 1) items)))
+    → IsGathered files whole after' (concat_if_all f (map view (drop (i + 1) items)))
 gathered_next files f view items i item whole before more after' l is h k all = (
   h.0 ++ k.0,
   joined-step f view items i item whole h.0 k.0 l is h.1 k.1,
@@ -30,7 +30,7 @@ gathered_next files f view items i item whole before more after' l is h k all = 
 
 pub gathered_none : {A X : Type 0} (files : Files) (f : X → Option (List Atoms)) (view : A → X) (items : List A) (i : ℕ)
     (item : A) (whole : Option (List Atoms)) (before : List ℕ) → i < length items → item ≡ get_or items i item
-    → IsGathered files whole before (joined f (map view (drop i items))) → f (view item) ≡ None → whole ≡ None
+    → IsGathered files whole before (concat_if_all f (map view (drop i items))) → f (view item) ≡ None → whole ≡ None
 gathered_none files f view items i item whole before l is h k =
     joined-none f view items i item whole h.0 l is h.1 k
 

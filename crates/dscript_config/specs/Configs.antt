@@ -8,7 +8,7 @@ use Rattle.bx_tree.specs.Paths.{Atoms}
 use Rattle.bx_tree.specs.Trees.{Files}
 use Rattle.dscript_ast.specs.ExprTree.{ExprTree}
 use Rattle.dscript_config.specs.Paths.{in_tree, is_empty, is_module_file}
-use Rattle.dscript_config.specs.Lists.{ItemTree, One, Many, joined, string_of, items_of}
+use Rattle.dscript_config.specs.Lists.{ItemTree, One, Many, concat_if_all, string_of, items_of}
 use Rattle.dscript_config.specs.Lists.{listed_by, files_listed}
 use Rattle.dscript_config.specs.Objects.{object_with, field_named}
 
@@ -48,7 +48,7 @@ resolvers_list e =
 
 -- the module files of resolvers, in the order of the text and with repetitions
 abbrev pub resolvers : Files → ExprTree → Option (List Atoms)
-resolvers files list = joined (resolver_at files) (items_of list)
+resolvers files list = concat_if_all (resolver_at files) (items_of list)
 
 -- the module files that a configuration lists, in the order of the tree and each once, if it is one
 abbrev pub configured : Files → ExprTree → Option (List Atoms)

@@ -134,9 +134,9 @@ abbrev pub sources : Files → List Atoms → Option (List Atoms)
 sources files paths = if list_all (is_source files) paths then Some paths else None
 
 -- the lists for these, one after the other, if there is one for each
-abbrev pub joined : {X Y : Type 0} → (X → Option (List Y)) → List X → Option (List Y)
-joined f [] = Some []
-joined f (x ∷ xs) = option_and_then (λ ys. option_map (λ more. ys ++ more) (joined f xs)) (f x)
+abbrev pub concat_if_all : {X Y : Type 0} → (X → Option (List Y)) → List X → Option (List Y)
+concat_if_all f [] = Some []
+concat_if_all f (x ∷ xs) = option_and_then (λ ys. option_map (λ more. ys ++ more) (concat_if_all f xs)) (f x)
 
 -- the source files that an item stands for
 abbrev pub sources_at : Files → Atoms → ItemTree → Option (List Atoms)
@@ -144,4 +144,4 @@ sources_at files dir item = option_and_then (sources files) (files_at files dir 
 
 -- the source files of a list, in the order of the text and with repetitions
 abbrev pub files_listed : Files → Atoms → ExprTree → Option (List Atoms)
-files_listed files dir e = joined (sources_at files dir) (items_of e)
+files_listed files dir e = concat_if_all (sources_at files dir) (items_of e)

@@ -7,7 +7,7 @@ ghost use Rattle.dscript_config.specs.Configs.{configured as modules_configured,
 ghost use Rattle.dscript_config.specs.Configs.{module_files as files_of_modules};
 ghost use Rattle.dscript_config.specs.Configs.{resolver as files_of_resolver, resolver_at as files_of_item};
 ghost use Rattle.dscript_config.specs.Configs.{modules_list, resolvers as files_of_resolvers, resolvers_list};
-ghost use Rattle.dscript_config.specs.Lists.{joined};
+ghost use Rattle.dscript_config.specs.Lists.{concat_if_all};
 ghost use Rattle.dscript_config.specs.Paths.{AreWithin, is_module_file as names_module, paths_at};
 ghost use Rattle.dscript_config.specs.Views.{FindsPlaces, FindsPositions, item_tree, item_trees};
 
@@ -112,7 +112,7 @@ fn resolvers_in(
     items: &[ListItem<'_>],
 ) -> Result<Option<Vec<usize>>, AllocError>
     ensures { IfOk result (λ found.
-        FindsPlaces tree.now (joined (files_of_item tree.now) (item_trees items.now)) found) }
+        FindsPlaces tree.now (concat_if_all (files_of_item tree.now) (item_trees items.now)) found) }
 {
     let mut positions = Vec::new(alloc);
     'items: for item in items {

@@ -3,7 +3,7 @@
 ghost use Rattle.std.specs.Prelude.{◌≡◌, None, Some, IfOk, MatchOption};
 ghost use Rattle.dscript_ast.specs.Views.{expr_tree};
 ghost use Rattle.dscript_config.specs.Lists.{files_at as files_meant, files_listed as files_of_list};
-ghost use Rattle.dscript_config.specs.Lists.{joined, literal_at, sources, sources_at as sources_meant};
+ghost use Rattle.dscript_config.specs.Lists.{concat_if_all, literal_at, sources, sources_at as sources_meant};
 ghost use Rattle.dscript_config.specs.Views.{FindsPlaces, FindsPositions, item_tree, item_trees};
 
 use crate::gathering::gathered;
@@ -99,7 +99,7 @@ fn sources_in(
     items: &[ListItem<'_>],
 ) -> Result<Option<Vec<usize>>, AllocError>
     ensures { IfOk result (λ found.
-        FindsPlaces tree.now (joined (sources_meant tree.now dir.now) (item_trees items.now)) found) }
+        FindsPlaces tree.now (concat_if_all (sources_meant tree.now dir.now) (item_trees items.now)) found) }
 {
     let mut positions = Vec::new(alloc);
     'items: for item in items {

@@ -30,7 +30,7 @@ use Rattle.eval_machine.specs.declared.stop.Stop.{Stop}
 use Rattle.dscript_meaning.specs.declared.fault.EvalKind.TheVariants as kinds
 use Rattle.dscript_meaning.specs.Acts.{Act, Acts, Call, Demand}
 use Rattle.dscript_meaning.specs.Callbacks.{callbacks}
-use Rattle.dscript_meaning.specs.Calls.{ambient, applied, called, items_of, method, plain_method, with_calls}
+use Rattle.dscript_meaning.specs.Calls.{ambient, applied, call_of_function, items_of, method, plain_method, with_calls}
 use Rattle.dscript_meaning.specs.Evaluating.{Fault, Gives, answered, fails, followed, gives, ◌>>=◌}
 use Rattle.dscript_meaning.specs.Expressions.{arguments, value}
 use Rattle.dscript_meaning.specs.Frames.{function_frame, within}
@@ -169,11 +169,11 @@ begin_stmts v u body frame ms before some body_is frame_is entered =
 
 pub applied_function
     : (v : View) (f : Plain) (args : List Plain) (g : Function) → callee_in f ≡ Some g
-    → comes_by (applied v.program (acts_at v) f args) v ≡ comes_by (called v.program (acts_at v) g.0 g.1 args) v
+    → comes_by (applied v.program (acts_at v) f args) v ≡ comes_by (call_of_function v.program (acts_at v) g.0 g.1 args) v
 unfolding applied
 applied_function v (plain.Function callee depth held) args g is =
     let e : (callee, item_list held) ≡ g = cc in
-    ap (λ (q : Function). comes_by (called v.program (acts_at v) q.0 q.1 args) v) e
+    ap (λ (q : Function). comes_by (call_of_function v.program (acts_at v) q.0 q.1 args) v) e
 applied_function v _ args g is = let never : None ≡ Some g = is in cc
 
 pub applied_none

@@ -5,7 +5,7 @@ use Rattle.dscript_program.specs.BoundTree.{PartData, PartRow, to_exprs}
 use Rattle.dscript_program.specs.Views.{expr_data}
 use Rattle.dscript_program.specs.declared.bound.BoundExpr.{BoundExpr}
 use Rattle.eval_machine.specs.Forms.{acts_at, part_form}
-use Rattle.eval_machine.specs.Keeps.{Keeps}
+use Rattle.eval_machine.specs.Keeps.{PreservesAnswer}
 use Rattle.eval_machine.specs.Views.{View}
 use Rattle.eval_machine.specs.Works.{comes_by}
 use Rattle.eval_machine.specs.declared.stop.Stop.{Stop}
@@ -13,8 +13,8 @@ use Rattle.eval_machine.proofs.Kept.{keeps_at}
 
 pub part_as
     : (result : Result (Unit {0}) Stop) (v w : View) (d e : PartData) (rest : PartRow) → d ≡ e
-    → Keeps result (comes_by (part_form v.program (acts_at v) v.given e rest) v) w
-    → Keeps result (comes_by (part_form v.program (acts_at v) v.given d rest) v) w
+    → PreservesAnswer result (comes_by (part_form v.program (acts_at v) v.given e rest) v) w
+    → PreservesAnswer result (comes_by (part_form v.program (acts_at v) v.given d rest) v) w
 part_as result v w d e rest is kept =
     keeps_at result _ _ w (ap (λ x. comes_by (part_form v.program (acts_at v) v.given x rest) v) is) kept
 

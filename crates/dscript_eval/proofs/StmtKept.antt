@@ -5,7 +5,7 @@ use Rattle.dscript_program.specs.Views.{stmt_data}
 use Rattle.dscript_program.specs.declared.bound.BoundStmt.{BoundStmt}
 use Rattle.eval_machine.specs.Forms.{acts_at, stmt_form}
 use Rattle.eval_frames.specs.Costs.{stmt_cost}
-use Rattle.eval_machine.specs.Keeps.{Keeps, StopsWith}
+use Rattle.eval_machine.specs.Keeps.{PreservesAnswer, StopsWith}
 use Rattle.eval_machine.specs.Steps.{Spent, Unspent}
 use Rattle.eval_machine.specs.Views.{View}
 use Rattle.eval_machine.specs.Works.{Answer, comes_with, goes_by}
@@ -18,8 +18,8 @@ use Rattle.dscript_eval.proofs.StmtMoves.{does_move}
 pub spent_does
     : (result : Result (Unit {0}) Stop) (v w u : View) (m : Bor BoundStmt) (n : ℕ)
     → n ≡ stmt_cost (stmt_data m.now) → Spent n v w
-    → Keeps result (goes_by (stmt_form w.program (acts_at w) (stmt_data m.now)) w) u
-    → Keeps result (comes_with (works.Stmt (stmt.Does m)) v) u
+    → PreservesAnswer result (goes_by (stmt_form w.program (acts_at w) (stmt_data m.now)) w) u
+    → PreservesAnswer result (comes_with (works.Stmt (stmt.Does m)) v) u
 spent_does result v w u m n is spent after =
     keeps_at result _ _ u (does_move v m)
     (spent_goes result (stmt_cost (stmt_data m.now)) (λ (z : View). stmt_form z.program (acts_at z) (stmt_data m.now)) v w u

@@ -22,7 +22,7 @@ use Rattle.dscript_meaning.specs.Statements.{Way, Back, On, all, does, next, oth
 use Rattle.eval_machine.specs.Forms.{acts_at, bind_form, stmt_form, turn_form, unset_form, value_at}
 use Rattle.eval_frames.specs.Costs.{stmt_cost}
 use Rattle.eval_machine.specs.Views.{View}
-use Rattle.eval_machine.specs.Works.{Rest, comes, comes_with, goes_by, returned_by, run, unwound}
+use Rattle.eval_machine.specs.Works.{Continuation, comes, comes_with, goes_by, returned_by, run, unwound}
 use Rattle.eval_machine.specs.declared.work.ExprWork.TheVariants as expr
 use Rattle.eval_machine.specs.declared.work.StmtWork.{StmtWork}
 use Rattle.eval_machine.specs.declared.work.StmtWork.TheVariants as stmt
@@ -285,7 +285,7 @@ turn_move v n body items j x frame is =
 -- ## Returns
 
 pub unwound_other
-    : (w : Work) (x : Plain) (k : Rest) (openable : ℕ) (s : State) → ((frame : Frame) → w ≢ works.Leave frame)
+    : (w : Work) (x : Plain) (k : Continuation) (openable : ℕ) (s : State) → ((frame : Frame) → w ≢ works.Leave frame)
     → unwound w x k openable s ≡ k (Back x) openable plain.Undefined s
 unwound_other (works.Expr w) x k openable s never = refl
 unwound_other (works.Call w) x k openable s never = refl

@@ -6,7 +6,7 @@ use Rattle.dscript_program.specs.Views.{expr_data, stmt_data}
 use Rattle.dscript_program.specs.declared.bound.BoundExpr.{BoundExpr}
 use Rattle.dscript_program.specs.declared.bound.BoundStmt.{BoundStmt}
 use Rattle.eval_machine.specs.Forms.{acts_at, let_form, return_form, stmt_form}
-use Rattle.eval_machine.specs.Keeps.{Keeps}
+use Rattle.eval_machine.specs.Keeps.{PreservesAnswer}
 use Rattle.eval_machine.specs.Views.{View}
 use Rattle.eval_machine.specs.Works.{goes_by}
 use Rattle.eval_machine.specs.declared.stop.Stop.{Stop}
@@ -14,22 +14,22 @@ use Rattle.eval_machine.proofs.Kept.{keeps_at}
 
 pub stmt_as
     : (result : Result (Unit {0}) Stop) (v w : View) (m d : StmtData) → m ≡ d
-    → Keeps result (goes_by (stmt_form v.program (acts_at v) d) v) w
-    → Keeps result (goes_by (stmt_form v.program (acts_at v) m) v) w
+    → PreservesAnswer result (goes_by (stmt_form v.program (acts_at v) d) v) w
+    → PreservesAnswer result (goes_by (stmt_form v.program (acts_at v) m) v) w
 stmt_as result v w m d is kept =
     keeps_at result _ _ w (ap (λ x. goes_by (stmt_form v.program (acts_at v) x) v) is) kept
 
 pub let_as
     : (result : Result (Unit {0}) Stop) (v w : View) (n : ℕ) (e d : Option BoundExpr) → e ≡ d
-    → Keeps result (goes_by (let_form v.program (acts_at v) n (option_map expr_data d)) v) w
-    → Keeps result (goes_by (let_form v.program (acts_at v) n (option_map expr_data e)) v) w
+    → PreservesAnswer result (goes_by (let_form v.program (acts_at v) n (option_map expr_data d)) v) w
+    → PreservesAnswer result (goes_by (let_form v.program (acts_at v) n (option_map expr_data e)) v) w
 let_as result v w n e d is kept =
     keeps_at result _ _ w (ap (λ x. goes_by (let_form v.program (acts_at v) n (option_map expr_data x)) v) is) kept
 
 pub return_as
     : (result : Result (Unit {0}) Stop) (v w : View) (e d : Option BoundExpr) → e ≡ d
-    → Keeps result (goes_by (return_form v.program (acts_at v) (option_map expr_data d)) v) w
-    → Keeps result (goes_by (return_form v.program (acts_at v) (option_map expr_data e)) v) w
+    → PreservesAnswer result (goes_by (return_form v.program (acts_at v) (option_map expr_data d)) v) w
+    → PreservesAnswer result (goes_by (return_form v.program (acts_at v) (option_map expr_data e)) v) w
 return_as result v w e d is kept =
     keeps_at result _ _ w (ap (λ x. goes_by (return_form v.program (acts_at v) (option_map expr_data x)) v) is) kept
 

@@ -4,11 +4,11 @@ ghost use Rattle.dscript_program.specs.Views.{body_data};
 ghost use Rattle.dscript_value.specs.Plain.{item_list, plain_function, plain_of};
 ghost use Rattle.dscript_meaning.specs.Acts.{Call};
 ghost use Rattle.dscript_meaning.specs.Calls as calls;
-ghost use Rattle.dscript_meaning.specs.Calls.{applied, called};
+ghost use Rattle.dscript_meaning.specs.Calls.{applied, call_of_function};
 ghost use Rattle.eval_frames.specs.Frames.{frame_of};
 ghost use Rattle.eval_machine.specs.Forms.{acts_at};
 ghost use Rattle.dscript_eval.specs.Bodies.{body_comes};
-ghost use Rattle.eval_machine.specs.Keeps.{Comes, IsDone, Keeps};
+ghost use Rattle.eval_machine.specs.Keeps.{Comes, IsDone, PreservesAnswer};
 ghost use Rattle.eval_machine.specs.Views.{seen};
 ghost use Rattle.eval_machine.specs.Works.{callee_in, comes, function_of, used};
 ghost use Rattle.eval_machine.specs.declared.work.CallWork.TheVariants as call;
@@ -136,7 +136,7 @@ fn call_function(
     function: &FunctionRef,
     args: &[Value],
 ) -> Result<(), Stop>
-    ensures { Comes result machine.old machine.new (λ v. called v.program (acts_at v) (plain_function
+    ensures { Comes result machine.old machine.new (λ v. call_of_function v.program (acts_at v) (plain_function
         function.now).callee (item_list (plain_function function.now).held.items) (map plain_of
         args.now)) }
 {
@@ -150,7 +150,7 @@ fn call_of(
     function: &FunctionRef,
     args: &[Value],
 ) -> Result<(), Stop>
-    ensures { Comes result machine.old machine.new (λ v. called v.program (acts_at v) callee.now (item_list
+    ensures { Comes result machine.old machine.new (λ v. call_of_function v.program (acts_at v) callee.now (item_list
         (plain_function function.now).held.items) (map plain_of args.now)) }
 {
     match callee {
@@ -184,7 +184,7 @@ pub fn open_call(
 // Begins a body in a frame of its own.
 fn begin<'a>(machine: &mut Machine<'a>, body: &'a Body, frame: Frame<'a>) -> Result<(), Stop>
     requires { 0 < machine.old.openable }
-    ensures { Keeps result (body_comes (body_data body.now) (frame_of frame.entry) (seen machine.old))
+    ensures { PreservesAnswer result (body_comes (body_data body.now) (frame_of frame.entry) (seen machine.old))
         (seen machine.new) }
 {
     let before = machine.enter(frame);
@@ -203,7 +203,7 @@ fn begin_value<'a>(
     e: &'a BoundExpr,
     before: Frame<'a>,
 ) -> Result<(), Stop>
-    ensures { Keeps result (comes (record (seen machine.old) {
+    ensures { PreservesAnswer result (comes (record (seen machine.old) {
       work = works.Expr (expr.Value e.entry) ∷ works.Leave before.entry ∷ (seen machine.old).work;
     })) (seen machine.new) }
 {

@@ -8,7 +8,7 @@ ghost use Rattle.dscript_meaning.specs.Evaluating.{answered};
 ghost use Rattle.eval_machine.specs.Forms.{acts_at, begins_with_call, call_form, method_form};
 ghost use Rattle.eval_machine.specs.Forms.{method_step_form, part_form};
 ghost use Rattle.eval_machine.specs.Views.{seen};
-ghost use Rattle.eval_machine.specs.Keeps.{Comes, IsDone, Keeps};
+ghost use Rattle.eval_machine.specs.Keeps.{Comes, IsDone, PreservesAnswer};
 ghost use Rattle.eval_machine.specs.Works.{comes_with};
 ghost use Rattle.eval_machine.specs.declared.work.ExprWork.TheVariants as expr;
 ghost use Rattle.eval_machine.specs.declared.work.Work.TheVariants as works;
@@ -108,7 +108,7 @@ fn index_then<'a>(
     subject: &Value,
     others: &'a [BoundPart],
 ) -> Result<(), Stop>
-    ensures { Keeps result (comes_with (works.Expr (expr.Index subject.now)) (record (seen machine.old) {
+    ensures { PreservesAnswer result (comes_with (works.Expr (expr.Index subject.now)) (record (seen machine.old) {
       work = works.Expr (expr.After others.entry) ∷ (seen machine.old).work;
     })) (seen machine.new) }
 {

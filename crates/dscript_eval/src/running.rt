@@ -1,6 +1,6 @@
 //! The loop of the machine.
 ghost use Rattle.std.specs.Prelude.{◌≡◌, [], IfOk};
-ghost use Rattle.eval_machine.specs.Keeps.{IsDone, Keeps};
+ghost use Rattle.eval_machine.specs.Keeps.{IsDone, PreservesAnswer};
 ghost use Rattle.eval_machine.specs.Views.{seen};
 ghost use Rattle.eval_machine.specs.Works.{comes};
 ghost use Rattle.eval_machine.specs.declared.work.Work.TheVariants as works;
@@ -95,7 +95,7 @@ fn turn<'a>(machine: &mut Machine<'a>, work: Work<'a>) -> Result<(), Stop>
 
 /// Does all work.
 pub fn run(machine: &mut Machine<'_>) -> Result<(), Stop>
-    ensures kept { Keeps result (comes (seen machine.old)) (seen machine.new) }
+    ensures kept { PreservesAnswer result (comes (seen machine.old)) (seen machine.new) }
     ensures done { IfOk result (λ _. (seen machine.new).work ≡ []) }
 {
     'turns: for _ in 0..u64::MAX {

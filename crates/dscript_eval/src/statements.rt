@@ -9,7 +9,7 @@ ghost use Rattle.dscript_meaning.specs.Evaluating.{gives};
 ghost use Rattle.dscript_meaning.specs.Statements.{Back};
 ghost use Rattle.eval_machine.specs.Forms.{acts_at, bind_form, let_form, return_form, stmt_form, turn_form, unset_form};
 ghost use Rattle.dscript_eval.specs.TurnSteps.{turn_step_form};
-ghost use Rattle.eval_machine.specs.Keeps.{Goes, IsDone, Keeps};
+ghost use Rattle.eval_machine.specs.Keeps.{Goes, IsDone, PreservesAnswer};
 ghost use Rattle.eval_machine.specs.Views.{seen};
 ghost use Rattle.eval_machine.specs.Works.{returned_by};
 ghost use Rattle.eval_machine.specs.declared.work.StmtWork.TheVariants as stmt;
@@ -308,7 +308,7 @@ fn turn_with<'a>(
 
 /// The body returns the value that is given.
 pub fn unwind(machine: &mut Machine<'_>) -> Result<(), Stop>
-    ensures { Keeps result (returned_by (seen machine.old).given (seen machine.old)) (seen machine.new) }
+    ensures { PreservesAnswer result (returned_by (seen machine.old).given (seen machine.old)) (seen machine.new) }
 {
     'work: while let Some(work) = machine.next_work() {
         match work {

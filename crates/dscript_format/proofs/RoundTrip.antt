@@ -2,10 +2,10 @@
 use Rattle.std.specs.Prelude.{ℕ, List}
 use Rattle.dscript_ast.specs.declared.file.Form.{Form}
 use Rattle.dscript_ast.specs.FileTree.{FileTree}
-use Rattle.dscript_print.specs.Printing.{Prints, Reads}
+use Rattle.dscript_print.specs.Printing.{Prints, TextDerives}
 use Rattle.dscript_format.specs.Layouts.{IsLaidOut}
 
 pub laid_out : (form : Form) (text laid : List ℕ) (file : FileTree) (height : ℕ)
-    → Reads form text file height → Prints laid file → IsLaidOut form text laid
+    → TextDerives form text file height → Prints laid file → IsLaidOut form text laid
 laid_out form text laid file height reads prints =
     record { file = file; height = height; was = reads; is = prints form text height reads }

@@ -5,7 +5,7 @@ use Rattle.dscript_lex.specs.Tokens.{AreTokens, FailsAt}
 use Rattle.dscript_ast.specs.declared.file.Form.{Form}
 use Rattle.dscript_ast.specs.FileTree.{FileTree}
 use Rattle.dscript_grammar.specs.Place.{IsRefusedAt}
-use Rattle.dscript_print.specs.Printing.{Reads}
+use Rattle.dscript_print.specs.Printing.{TextDerives}
 use Rattle.dscript_format.specs.declared.fault.LayoutFault.{LayoutFault}
 use Rattle.dscript_format.specs.declared.fault.LayoutFault.TheVariants as faults
 
@@ -13,8 +13,8 @@ use Rattle.dscript_format.specs.declared.fault.LayoutFault.TheVariants as faults
 pub record IsLaidOut (form : Form) (text laid : List ℕ) : Type 0 where
   pub file : FileTree
   pub height : ℕ
-  pub was : Reads form text file height
-  pub is : Reads form laid file height
+  pub was : TextDerives form text file height
+  pub is : TextDerives form laid file height
 
 -- The text fails at this byte, or its tokens are refused at this place. Out of memory says nothing of it.
 abbrev pub Refuses : LayoutFault → Form → List ℕ → Type 0

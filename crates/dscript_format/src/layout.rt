@@ -4,7 +4,7 @@ ghost use Rattle.std.specs.Prelude.{◌≤◌, length, MatchResult};
 ghost use Rattle.dscript_ast.specs.Views.{file_tree};
 ghost use Rattle.dscript_lex.specs.declared.limits.TheConstants.{MAX_LEXED_BYTES};
 ghost use Rattle.dscript_grammar.specs.declared.height.TheConstants.{MAX_HEIGHT};
-ghost use Rattle.dscript_print.specs.Printing.{Reads};
+ghost use Rattle.dscript_print.specs.Printing.{TextDerives};
 ghost use Rattle.dscript_format.specs.Layouts.{IsLaidOut, Refuses};
 
 use crate::fault::LayoutFault;
@@ -19,7 +19,7 @@ use std::alloc::Global;
 fn file_of(alloc: Global, text: &[u8], form: Form) -> Result<File, LayoutFault>
     requires { length text.now ≤ MAX_LEXED_BYTES }
     ensures { MatchResult result
-        (λ file. Reads form text.now (file_tree file) MAX_HEIGHT)
+        (λ file. TextDerives form text.now (file_tree file) MAX_HEIGHT)
         (λ fault. Refuses fault form text.now) }
 {
     let tokens = match lex(alloc, text) {

@@ -54,14 +54,14 @@ held_method act [] name args = fails kinds.Kind
 held_method act (x ∷ others) name args = method act x name args
 
 -- The call of a function. A function with a body opens a call; ambient calls and members do not.
-abbrev pub called : ProgramData → Acts → Callee → List Plain → List Plain → Gives Plain
-called p act (Place number) held args = act (Call (Place number) held args)
-called p act (Ambient name) held args = ambient p name args
-called p act (Member name) held args = held_method act held name args
+abbrev pub call_of_function : ProgramData → Acts → Callee → List Plain → List Plain → Gives Plain
+call_of_function p act (Place number) held args = act (Call (Place number) held args)
+call_of_function p act (Ambient name) held args = ambient p name args
+call_of_function p act (Member name) held args = held_method act held name args
 
 -- the call of a value, which must be a function
 unfoldable pub applied : ProgramData → Acts → Plain → List Plain → Gives Plain
-applied p act (plain.Function callee depth held) args = called p act callee (item_list held) args
+applied p act (plain.Function callee depth held) args = call_of_function p act callee (item_list held) args
 applied p act _ args = fails kinds.Kind
 
 -- What a part is applied to: a value, or a member of a value. A member function that is called at once is

@@ -27,12 +27,12 @@ followed (Ok r) more = more r.0 r.1
 followed (Err stop) more = Err stop
 
 -- one thing, and then another with its value
-infixr 10 ◌>>=◌
+infixl 10 ◌>>=◌
 abbrev pub ◌>>=◌ : {A B : Type 0} → Gives A → (A → Gives B) → Gives B
 m >>= more = λ s. followed (m s) more
 
 -- one thing, and then another
-infixr 10 ◌>>◌
+infixr 9 ◌>>◌
 abbrev pub ◌>>◌ : {A B : Type 0} → Gives A → Gives B → Gives B
 m >> more = λ s. followed (m s) (λ x. more)
 

@@ -24,7 +24,7 @@ use Rattle.dscript_scopes.specs.Declarations.{ParsedData, declared_by}
 use Rattle.dscript_scopes.specs.Duplicates.{expr_repeats, marked_repeats}
 use Rattle.dscript_scopes.specs.Lookup.{found_at, found_outside}
 use Rattle.dscript_binding.specs.Binding.{bind_expr, bind_marked}
-use Rattle.dscript_names.specs.Named.{named, name_fault}
+use Rattle.dscript_names.specs.Named.{named, fault_in_file}
 
 -- ## Trees
 
@@ -152,7 +152,7 @@ abbrev arrow : List StmtTree → ExprTree
 arrow ss = tree.BlockArrow (tree.Params []) (to_stmts ss)
 
 abbrev refused : SpecKind → List (List ℕ) → Result ProgramData FaultData
-refused kind path = Err (name_fault kind path)
+refused kind path = Err (fault_in_file kind path)
 
 abbrev is_ok : Result ProgramData FaultData → Bool
 is_ok (Ok p) = true

@@ -13,8 +13,8 @@ use Rattle.dscript_binding.specs.Walk.{Bound}
 use Rattle.dscript_binding.specs.Binding.{bind_items}
 
 -- a fault of names has its file, and no place in it
-abbrev pub name_fault : SpecKind → Atoms → FaultData
-name_fault kind path = record { kind = kind; file = path; place = None }
+abbrev pub fault_in_file : SpecKind → Atoms → FaultData
+fault_in_file kind path = record { kind = kind; file = path; place = None }
 
 -- a file's declarations before the files after it, and its functions before theirs
 abbrev pub before_others : Atoms → FileNames → Bound (List DeclData) → Result ProgramData FaultData
@@ -29,7 +29,7 @@ before_others path names b (Err fault) = Err fault
 abbrev pub file_first : Atoms → FileNames → Result (Bound (List DeclData)) SpecKind
     → (ℕ → Result ProgramData FaultData) → Result ProgramData FaultData
 file_first path names (Ok b) others = before_others path names b (others b.after.functions)
-file_first path names (Err kind) others = Err (name_fault kind path)
+file_first path names (Err kind) others = Err (fault_in_file kind path)
 
 module _ (modules : List ModuleData) (world : World) where
   -- the files from the one of this number on, with this many functions before them: bound, or the first fault
@@ -43,7 +43,7 @@ module _ (modules : List ModuleData) (world : World) where
 
 -- No name is declared twice anywhere, or else the first file where one is decides.
 abbrev pub unless_duplicate : Option Atoms → Result ProgramData FaultData → Result ProgramData FaultData
-unless_duplicate (Some path) program = Err (name_fault faults.DuplicateName path)
+unless_duplicate (Some path) program = Err (fault_in_file faults.DuplicateName path)
 unless_duplicate None program = program
 
 -- The program of these modules with these parsed files, or the first fault: that of a name that is declared

@@ -35,6 +35,6 @@ template_hole (plain.Directory path) = Ok (written_path path)
 template_hole v = literal_hole v
 
 -- a text, and what a hole adds to it
-abbrev pub after : List ℕ → Outcome (List ℕ) → Outcome (List ℕ)
-after text (Ok hole) = Ok (text ++ hole)
-after text (Err fault) = Err fault
+abbrev pub appended_hole : List ℕ → Outcome (List ℕ) → Outcome (List ℕ)
+appended_hole text (Ok hole) = Ok (text ++ hole)
+appended_hole text (Err fault) = Err fault

@@ -4,7 +4,7 @@ ghost use Rattle.std.specs.Fmt.{signed_decimal};
 ghost use Rattle.dscript_value.specs.Equality.{file_path as path_in_file};
 ghost use Rattle.dscript_value.specs.Plain.{plain_of};
 ghost use Rattle.sdk_values.specs.Outcomes.{Refuses};
-ghost use Rattle.dscript_operators.specs.Texts.{after, literal_hole, template_hole, written_path};
+ghost use Rattle.dscript_operators.specs.Texts.{appended_hole, literal_hole, template_hole, written_path};
 ghost use Rattle.dscript_operators.specs.Texts.{written_relative};
 
 use crate::Memory;
@@ -55,7 +55,7 @@ fn add_atoms(text: &mut Vec<u8>, atoms: &[Text]) -> Result<(), Memory>
 #[tactic(auto, unfolding(crate::specs::Texts::literal_hole))]
 pub fn add_literal_hole(alloc: Global, text: &mut Vec<u8>, hole: &Value) -> Result<(), SdkFault>
     ensures { MatchResult result
-        (λ _. after text.old.items (literal_hole (plain_of hole.now)) ≡ Ok text.new.items)
+        (λ _. appended_hole text.old.items (literal_hole (plain_of hole.now)) ≡ Ok text.new.items)
         (λ fault. Refuses fault (literal_hole (plain_of hole.now))) }
 {
     match hole {
@@ -73,7 +73,7 @@ pub fn add_literal_hole(alloc: Global, text: &mut Vec<u8>, hole: &Value) -> Resu
 #[tactic(auto, unfolding(crate::specs::Texts::template_hole))]
 pub fn add_template_hole(alloc: Global, text: &mut Vec<u8>, hole: &Value) -> Result<(), SdkFault>
     ensures { MatchResult result
-        (λ _. after text.old.items (template_hole (plain_of hole.now)) ≡ Ok text.new.items)
+        (λ _. appended_hole text.old.items (template_hole (plain_of hole.now)) ≡ Ok text.new.items)
         (λ fault. Refuses fault (template_hole (plain_of hole.now))) }
 {
     match hole {

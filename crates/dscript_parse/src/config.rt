@@ -5,7 +5,7 @@ ghost use Rattle.dscript_ast.specs.Views.{expr_tree, file_tree};
 ghost use Rattle.dscript_ast.specs.declared.file.Form.TheVariants as forms;
 ghost use Rattle.dscript_grammar.specs.FileReading.{read_called, read_file};
 ghost use Rattle.dscript_parse.specs.Refuses.{Finishes};
-ghost use Rattle.dscript_parse_tokens.specs.Gives.{Reads};
+ghost use Rattle.dscript_parse_tokens.specs.Gives.{Parses};
 
 use crate::fault::SyntaxFault;
 use dscript_ast::{Expr, File};
@@ -17,7 +17,7 @@ use std::alloc::Global;
 /// What a configuration is called with, after its keyword.
 #[tactic(auto, unfolding(dscript_grammar::specs::FileReading::read_called, dscript_grammar::specs::Reading::and_then))]
 fn called<'a>(alloc: Global, depth: Depth, tokens: &'a [Token]) -> Parse<'a, Expr>
-    ensures { Reads expr_tree (read_called depth.levels) depth.levels tokens.now result }
+    ensures { Parses expr_tree (read_called depth.levels) depth.levels tokens.now result }
 {
     let rest = punctuator(tokens, b"(")?;
     let value = closed(expr(alloc, depth, rest)?, b")")?;
@@ -27,7 +27,7 @@ fn called<'a>(alloc: Global, depth: Depth, tokens: &'a [Token]) -> Parse<'a, Exp
 /// The configuration of a workspace.
 #[tactic(auto, unfolding(dscript_grammar::specs::FileReading::read_file, dscript_grammar::specs::Reading::and_then))]
 pub(crate) fn config<'a>(alloc: Global, depth: Depth, tokens: &'a [Token]) -> Parse<'a, File>
-    ensures { Reads file_tree (read_file (suc depth.levels) forms.Config) (suc depth.levels)
+    ensures { Parses file_tree (read_file (suc depth.levels) forms.Config) (suc depth.levels)
         tokens.now result }
 {
     let rest = keyword(tokens, b"config")?;
@@ -42,7 +42,7 @@ pub(crate) fn config<'a>(alloc: Global, depth: Depth, tokens: &'a [Token]) -> Pa
 /// The configuration of a module.
 #[tactic(auto, unfolding(dscript_grammar::specs::FileReading::read_file, dscript_grammar::specs::Reading::and_then))]
 pub(crate) fn module<'a>(alloc: Global, depth: Depth, tokens: &'a [Token]) -> Parse<'a, File>
-    ensures { Reads file_tree (read_file (suc depth.levels) forms.Module) (suc depth.levels)
+    ensures { Parses file_tree (read_file (suc depth.levels) forms.Module) (suc depth.levels)
         tokens.now result }
 {
     let rest = keyword(tokens, b"module")?;

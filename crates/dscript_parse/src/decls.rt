@@ -7,7 +7,7 @@ ghost use Rattle.dscript_grammar.specs.FileReading.{read_extends};
 ghost use Rattle.dscript_grammar.specs.FileReading.{read_function, read_interface, read_mark, read_marked};
 ghost use Rattle.dscript_grammar.specs.FileReading.{read_namespace, read_type_params};
 ghost use Rattle.dscript_parse_tokens.specs.Enclosed.{read_closed_many};
-ghost use Rattle.dscript_parse_tokens.specs.Gives.{kinds, MayRead, Reads};
+ghost use Rattle.dscript_parse_tokens.specs.Gives.{kinds, MayRead, Parses};
 
 use bx_tree::Text;
 use dscript_ast::{Decl, Mark, Marked, TypeNode};
@@ -96,7 +96,7 @@ pub(crate) fn extends<'a>(
 /// A constant, after its keyword.
 #[tactic(auto, using(dscript_ast::proofs::NodeViews::tree_views), unfolding(dscript_grammar::specs::FileReading::read_const, dscript_grammar::specs::Reading::and_then))]
 pub(crate) fn constant<'a>(alloc: Global, depth: Depth, tokens: &'a [Token]) -> Parse<'a, Decl>
-    ensures { Reads decl_tree
+    ensures { Parses decl_tree
         (read_const depth.levels (read_marked depth.levels)) depth.levels tokens.now result }
 {
     let name = identifier(tokens)?;
@@ -112,7 +112,7 @@ pub(crate) fn constant<'a>(alloc: Global, depth: Depth, tokens: &'a [Token]) -> 
 /// A function, after its keyword.
 #[tactic(auto, using(dscript_ast::proofs::NodeViews::tree_views), unfolding(dscript_grammar::specs::FileReading::read_function, dscript_grammar::specs::Reading::and_then))]
 pub(crate) fn function<'a>(alloc: Global, depth: Depth, tokens: &'a [Token]) -> Parse<'a, Decl>
-    ensures { Reads decl_tree
+    ensures { Parses decl_tree
         (read_function depth.levels (read_marked depth.levels)) depth.levels tokens.now result }
 {
     let name = identifier(tokens)?;
@@ -138,7 +138,7 @@ pub(crate) fn function<'a>(alloc: Global, depth: Depth, tokens: &'a [Token]) -> 
 /// An interface, after its keyword.
 #[tactic(auto, using(dscript_ast::proofs::NodeViews::tree_views), unfolding(dscript_grammar::specs::FileReading::read_interface, dscript_grammar::specs::Reading::and_then))]
 pub(crate) fn interface<'a>(alloc: Global, depth: Depth, tokens: &'a [Token]) -> Parse<'a, Decl>
-    ensures { Reads decl_tree
+    ensures { Parses decl_tree
         (read_interface depth.levels (read_marked depth.levels)) depth.levels tokens.now result }
 {
     let name = identifier(tokens)?;
@@ -156,7 +156,7 @@ pub(crate) fn interface<'a>(alloc: Global, depth: Depth, tokens: &'a [Token]) ->
 /// A name for a type, after its keyword.
 #[tactic(auto, using(dscript_ast::proofs::NodeViews::tree_views), unfolding(dscript_grammar::specs::FileReading::read_alias, dscript_grammar::specs::Reading::and_then))]
 pub(crate) fn type_alias<'a>(alloc: Global, depth: Depth, tokens: &'a [Token]) -> Parse<'a, Decl>
-    ensures { Reads decl_tree
+    ensures { Parses decl_tree
         (read_alias depth.levels (read_marked depth.levels)) depth.levels tokens.now result }
 {
     let name = identifier(tokens)?;
@@ -173,7 +173,7 @@ pub(crate) fn type_alias<'a>(alloc: Global, depth: Depth, tokens: &'a [Token]) -
 /// Declarations, and the brace after them.
 #[cycle(decls)]
 fn declarations<'a>(alloc: Global, depth: Depth, tokens: &'a [Token]) -> Parse<'a, Vec<Marked>>
-    ensures { Reads (λ v. map marked_tree v.items)
+    ensures { Parses (λ v. map marked_tree v.items)
         (read_closed_many "}" (read_marked depth.levels)) depth.levels tokens.now result }
 {
     until(alloc, depth, b"}", tokens, marked)
@@ -183,7 +183,7 @@ fn declarations<'a>(alloc: Global, depth: Depth, tokens: &'a [Token]) -> Parse<'
 #[cycle(decls)]
 #[tactic(auto, using(dscript_ast::proofs::NodeViews::tree_views), unfolding(dscript_grammar::specs::FileReading::read_namespace, dscript_grammar::specs::Reading::and_then))]
 fn namespace<'a>(alloc: Global, depth: Depth, tokens: &'a [Token]) -> Parse<'a, Decl>
-    ensures { Reads decl_tree
+    ensures { Parses decl_tree
         (read_namespace depth.levels (read_marked depth.levels)) depth.levels tokens.now result }
 {
     let names = dotted(alloc, depth, tokens)?;
@@ -200,7 +200,7 @@ fn namespace<'a>(alloc: Global, depth: Depth, tokens: &'a [Token]) -> Parse<'a, 
 #[cycle(decls)]
 #[tactic(auto, unfolding(dscript_grammar::specs::FileReading::read_decl, dscript_grammar::specs::Reading::choose, dscript_grammar::specs::Reading::and_then))]
 fn declaration<'a>(alloc: Global, depth: Depth, tokens: &'a [Token]) -> Parse<'a, Decl>
-    ensures { Reads decl_tree
+    ensures { Parses decl_tree
         (read_decl depth.levels (read_marked depth.levels)) depth.levels tokens.now result }
 {
     if let Some(rest) = take_keyword(tokens, b"const") {
@@ -223,7 +223,7 @@ fn declaration<'a>(alloc: Global, depth: Depth, tokens: &'a [Token]) -> Parse<'a
 #[cycle(decls)]
 #[tactic(auto, using(dscript_ast::proofs::NodeViews::tree_views), unfolding(dscript_grammar::specs::FileReading::read_declared, dscript_grammar::specs::Reading::and_then))]
 fn declared<'a>(alloc: Global, depth: Depth, tokens: &'a [Token]) -> Parse<'a, Marked>
-    ensures { Reads marked_tree
+    ensures { Parses marked_tree
         (read_declared depth.levels (read_marked depth.levels)) (suc depth.levels) tokens.now result }
 {
     let mark = mark(tokens)?;
@@ -243,7 +243,7 @@ fn declared<'a>(alloc: Global, depth: Depth, tokens: &'a [Token]) -> Parse<'a, M
 #[cycle(decls)]
 #[tactic(auto, unfolding(dscript_grammar::specs::FileReading::read_marked))]
 pub(crate) fn marked<'a>(alloc: Global, depth: Depth, tokens: &'a [Token]) -> Parse<'a, Marked>
-    ensures { Reads marked_tree (read_marked depth.levels) depth.levels tokens.now result }
+    ensures { Parses marked_tree (read_marked depth.levels) depth.levels tokens.now result }
 {
     declared(alloc, depth.below()?, tokens)
 }

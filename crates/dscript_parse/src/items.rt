@@ -6,7 +6,7 @@ ghost use Rattle.dscript_grammar.specs.FileReading.{read_import, read_import_all
 ghost use Rattle.dscript_grammar.specs.FileReading.{read_import_names};
 ghost use Rattle.dscript_grammar.specs.FileReading.{read_item, read_source};
 ghost use Rattle.dscript_parse_tokens.specs.Enclosed.{read_closed_list};
-ghost use Rattle.dscript_parse_tokens.specs.Gives.{kinds, Reads};
+ghost use Rattle.dscript_parse_tokens.specs.Gives.{kinds, Parses};
 
 use crate::decls::marked;
 use bx_tree::Text;
@@ -25,7 +25,7 @@ pub(crate) fn import_name<'a>(
     depth: Depth,
     tokens: &'a [Token],
 ) -> Parse<'a, ImportName>
-    ensures { Reads import_tree read_import_name depth.levels tokens.now result }
+    ensures { Parses import_tree read_import_name depth.levels tokens.now result }
 {
     let name = identifier(tokens)?;
     let Some(rest) = take_keyword(name.rest, b"as") else {
@@ -53,7 +53,7 @@ pub(crate) fn import_name<'a>(
 
 /// Names that are imported, and the brace after them.
 fn imported<'a>(alloc: Global, depth: Depth, tokens: &'a [Token]) -> Parse<'a, Vec<ImportName>>
-    ensures { Reads (λ v. map import_tree v.items)
+    ensures { Parses (λ v. map import_tree v.items)
         (read_closed_list "}" read_import_name) depth.levels tokens.now result }
 {
     list(alloc, depth, b"}", tokens, import_name)
@@ -62,7 +62,7 @@ fn imported<'a>(alloc: Global, depth: Depth, tokens: &'a [Token]) -> Parse<'a, V
 /// The name of the module of an import, after its names.
 #[tactic(auto, unfolding(dscript_grammar::specs::FileReading::read_source, dscript_grammar::specs::Reading::and_then))]
 fn source(tokens: &[Token]) -> Parse<'_, Text>
-    ensures { Reads (λ x. x) read_source 0 tokens.now result }
+    ensures { Parses (λ x. x) read_source 0 tokens.now result }
 {
     let rest = keyword(tokens, b"from")?;
     let module = string(rest)?;
@@ -77,7 +77,7 @@ fn source(tokens: &[Token]) -> Parse<'_, Text>
 /// The import of a whole module, after its `*`.
 #[tactic(auto, unfolding(dscript_grammar::specs::FileReading::read_import_all, dscript_grammar::specs::Reading::and_then))]
 fn import_all(tokens: &[Token]) -> Parse<'_, Item>
-    ensures { Reads item_tree read_import_all 1 tokens.now result }
+    ensures { Parses item_tree read_import_all 1 tokens.now result }
 {
     let rest = keyword(tokens, b"as")?;
     let name = identifier(rest)?;
@@ -92,7 +92,7 @@ fn import_all(tokens: &[Token]) -> Parse<'_, Item>
 /// The import of names, after its keyword.
 #[tactic(auto, unfolding(dscript_grammar::specs::FileReading::read_import_names, dscript_grammar::specs::Reading::and_then))]
 fn import_names<'a>(alloc: Global, depth: Depth, tokens: &'a [Token]) -> Parse<'a, Item>
-    ensures { Reads item_tree read_import_names 1 tokens.now result }
+    ensures { Parses item_tree read_import_names 1 tokens.now result }
 {
     let rest = punctuator(tokens, b"{")?;
     let names = imported(alloc, depth, rest)?;
@@ -111,7 +111,7 @@ fn import_names<'a>(alloc: Global, depth: Depth, tokens: &'a [Token]) -> Parse<'
 /// An import, after its keyword.
 #[tactic(auto, unfolding(dscript_grammar::specs::FileReading::read_import, dscript_grammar::specs::Reading::choose))]
 fn import<'a>(alloc: Global, depth: Depth, tokens: &'a [Token]) -> Parse<'a, Item>
-    ensures { Reads item_tree read_import 1 tokens.now result }
+    ensures { Parses item_tree read_import 1 tokens.now result }
 {
     match take_punctuator(tokens, b"*") {
         Some(rest) => import_all(rest),
@@ -122,7 +122,7 @@ fn import<'a>(alloc: Global, depth: Depth, tokens: &'a [Token]) -> Parse<'a, Ite
 /// An item.
 #[tactic(auto, unfolding(dscript_grammar::specs::FileReading::read_item, dscript_grammar::specs::Reading::choose, dscript_grammar::specs::Reading::and_then))]
 pub(crate) fn item<'a>(alloc: Global, depth: Depth, tokens: &'a [Token]) -> Parse<'a, Item>
-    ensures { Reads item_tree (read_item depth.levels) depth.levels tokens.now result }
+    ensures { Parses item_tree (read_item depth.levels) depth.levels tokens.now result }
 {
     depth.below()?;
     if let Some(rest) = take_punctuator(tokens, b";") {

@@ -14,7 +14,7 @@ ghost use Rattle.dscript_grammar.specs.Reading.{read_many};
 ghost use Rattle.dscript_parse_exprs.specs.Levels.{at_depth, read_level, read_operands};
 ghost use Rattle.dscript_parse_exprs.specs.TemplateView.{template_view};
 ghost use Rattle.dscript_parse_tokens.specs.Enclosed.{read_closed_list};
-ghost use Rattle.dscript_parse_tokens.specs.Gives.{kinds, Gives, MayRead, Reads};
+ghost use Rattle.dscript_parse_tokens.specs.Gives.{kinds, Gives, MayRead, Parses};
 
 use crate::lookahead::{
     at_arrow, at_part, at_template, letter, next_precedence, operator, template_head,
@@ -48,7 +48,7 @@ pub(crate) struct TemplateParts {
 #[cycle(trees)]
 #[tactic(auto, using(dscript_ast::proofs::NodeViews::tree_views), unfolding(dscript_grammar::specs::ExprReading::read_expr, dscript_grammar::specs::ExprReading::read_any, dscript_grammar::specs::ExprReading::read_arrow, dscript_grammar::specs::ExprReading::read_arrow_body, dscript_grammar::specs::Reading::and_then, dscript_grammar::specs::Reading::pick))]
 pub fn expr<'a>(alloc: Global, depth: Depth, tokens: &'a [Token]) -> Parse<'a, Expr>
-    ensures { Reads expr_tree (read_expr depth.levels) depth.levels tokens.now result }
+    ensures { Parses expr_tree (read_expr depth.levels) depth.levels tokens.now result }
 {
     let inner = depth.below()?;
     if !at_arrow(tokens) {
@@ -67,7 +67,7 @@ pub fn expr<'a>(alloc: Global, depth: Depth, tokens: &'a [Token]) -> Parse<'a, E
 #[cycle(trees)]
 #[tactic(auto, unfolding(dscript_grammar::specs::ExprReading::read_cond, dscript_grammar::specs::Reading::and_then, dscript_grammar::specs::Reading::choose))]
 fn cond<'a>(alloc: Global, depth: Depth, tokens: &'a [Token]) -> Parse<'a, Expr>
-    ensures { Reads expr_tree (at_depth read_cond depth.levels) (suc depth.levels) tokens.now result }
+    ensures { Parses expr_tree (at_depth read_cond depth.levels) (suc depth.levels) tokens.now result }
 {
     let condition = chain(alloc, depth, CHAIN_LEVELS, tokens)?;
     match take_punctuator(condition.rest, b"?") {
@@ -86,7 +86,7 @@ fn branches<'a>(
     tokens: &'a [Token],
 ) -> Parse<'a, Expr>
     requires { condition.height ≤ suc depth.levels }
-    ensures { Reads expr_tree
+    ensures { Parses expr_tree
         (at_depth read_branches depth.levels (expr_tree condition.entry.value) condition.entry.height)
         (suc depth.levels) tokens.now result }
 {
@@ -99,7 +99,7 @@ fn branches<'a>(
 #[cycle(trees)]
 fn chain<'a>(alloc: Global, depth: Depth, level: u32, tokens: &'a [Token]) -> Parse<'a, Expr>
     requires { level ≤ CHAIN_LEVELS }
-    ensures { Reads expr_tree (at_depth read_chain depth.levels level) (suc depth.levels) tokens.now result }
+    ensures { Parses expr_tree (at_depth read_chain depth.levels level) (suc depth.levels) tokens.now result }
 {
     let mut first = unary(alloc, depth, tokens)?;
     let mut next = next_precedence(first.rest);
@@ -168,7 +168,7 @@ fn operands<'a>(
 #[tactic(auto, using(dscript_ast::proofs::NodeViews::tree_views), unfolding(dscript_grammar::specs::ExprReading::read_operand, dscript_grammar::specs::Reading::and_then, dscript_grammar::specs::Reading::pick))]
 fn operand<'a>(alloc: Global, depth: Depth, tighter: u32, tokens: &'a [Token]) -> Parse<'a, Operand>
     requires { tighter < CHAIN_LEVELS }
-    ensures { Reads operand_tree (at_depth read_operand depth.levels (chain_level tighter)
+    ensures { Parses operand_tree (at_depth read_operand depth.levels (chain_level tighter)
         (at_depth read_chain depth.levels tighter)) (suc depth.levels) tokens.now result }
 {
     let Some(operator) = operator(tokens) else {
@@ -193,7 +193,7 @@ fn operand<'a>(alloc: Global, depth: Depth, tighter: u32, tokens: &'a [Token]) -
 #[cycle(trees)]
 #[tactic(auto, unfolding(dscript_grammar::specs::ExprReading::read_unary, dscript_grammar::specs::Reading::and_then))]
 fn unary<'a>(alloc: Global, depth: Depth, tokens: &'a [Token]) -> Parse<'a, Expr>
-    ensures { Reads expr_tree (at_depth read_unary depth.levels) (suc depth.levels) tokens.now result }
+    ensures { Parses expr_tree (at_depth read_unary depth.levels) (suc depth.levels) tokens.now result }
 {
     let operators = prefixes(alloc, depth, tokens)?;
     let operand = postfix(alloc, depth, operators.rest)?;
@@ -204,7 +204,7 @@ fn unary<'a>(alloc: Global, depth: Depth, tokens: &'a [Token]) -> Parse<'a, Expr
 #[cycle(trees)]
 #[tactic(auto, unfolding(dscript_grammar::specs::ExprReading::read_postfix, dscript_grammar::specs::Reading::and_then))]
 fn postfix<'a>(alloc: Global, depth: Depth, tokens: &'a [Token]) -> Parse<'a, Expr>
-    ensures { Reads expr_tree (at_depth read_postfix depth.levels) (suc depth.levels) tokens.now result }
+    ensures { Parses expr_tree (at_depth read_postfix depth.levels) (suc depth.levels) tokens.now result }
 {
     let first = primary(alloc, depth, tokens)?;
     let parts = parts(alloc, depth, first.rest)?;
@@ -225,7 +225,7 @@ fn parts<'a>(alloc: Global, depth: Depth, tokens: &'a [Token]) -> Parse<'a, Vec<
 #[cycle(trees)]
 #[tactic(auto, using(dscript_ast::proofs::NodeViews::tree_views), unfolding(dscript_grammar::specs::ExprReading::read_part, dscript_grammar::specs::ExprReading::read_index, dscript_grammar::specs::Reading::and_then, dscript_grammar::specs::Reading::choose))]
 fn part<'a>(alloc: Global, depth: Depth, tokens: &'a [Token]) -> Parse<'a, PostfixPart>
-    ensures { Reads part_tree (at_depth read_part depth.levels) depth.levels tokens.now result }
+    ensures { Parses part_tree (at_depth read_part depth.levels) depth.levels tokens.now result }
 {
     if let Some(rest) = take_punctuator(tokens, b".") {
         let member = name(rest)?;
@@ -250,7 +250,7 @@ fn part<'a>(alloc: Global, depth: Depth, tokens: &'a [Token]) -> Parse<'a, Postf
 #[cycle(trees)]
 #[tactic(auto, using(dscript_ast::proofs::NodeViews::tree_views), unfolding(dscript_grammar::specs::ExprReading::read_call, dscript_grammar::specs::Reading::and_then))]
 fn call<'a>(alloc: Global, depth: Depth, tokens: &'a [Token]) -> Parse<'a, PostfixPart>
-    ensures { Reads part_tree (at_depth read_call depth.levels) depth.levels tokens.now result }
+    ensures { Parses part_tree (at_depth read_call depth.levels) depth.levels tokens.now result }
 {
     let rest = punctuator(tokens, b"(")?;
     let arguments = arguments(alloc, depth, rest)?;
@@ -264,7 +264,7 @@ fn call<'a>(alloc: Global, depth: Depth, tokens: &'a [Token]) -> Parse<'a, Postf
 /// Arguments, and the parenthesis after them.
 #[cycle(trees)]
 fn arguments<'a>(alloc: Global, depth: Depth, tokens: &'a [Token]) -> Parse<'a, Vec<Expr>>
-    ensures { Reads (λ v. map expr_tree v.items) (read_closed_list ")" (read_expr depth.levels)) depth.levels
+    ensures { Parses (λ v. map expr_tree v.items) (read_closed_list ")" (read_expr depth.levels)) depth.levels
         tokens.now result }
 {
     list(alloc, depth, b")", tokens, expr)
@@ -274,7 +274,7 @@ fn arguments<'a>(alloc: Global, depth: Depth, tokens: &'a [Token]) -> Parse<'a, 
 #[cycle(trees)]
 #[tactic(auto, using(dscript_ast::proofs::NodeViews::tree_views), unfolding(dscript_grammar::specs::ExprReading::read_primary, dscript_grammar::specs::ExprReading::read_elements, dscript_grammar::specs::ExprReading::read_object, dscript_grammar::specs::Reading::and_then, dscript_grammar::specs::Reading::choose))]
 fn primary<'a>(alloc: Global, depth: Depth, tokens: &'a [Token]) -> Parse<'a, Expr>
-    ensures { Reads expr_tree (at_depth read_primary depth.levels) (suc depth.levels) tokens.now result }
+    ensures { Parses expr_tree (at_depth read_primary depth.levels) (suc depth.levels) tokens.now result }
 {
     if let Some(rest) = take_punctuator(tokens, b"(") {
         return enclosed(alloc, depth, rest);
@@ -302,7 +302,7 @@ fn primary<'a>(alloc: Global, depth: Depth, tokens: &'a [Token]) -> Parse<'a, Ex
 #[cycle(trees)]
 #[tactic(auto, unfolding(dscript_grammar::specs::ExprReading::read_enclosed, dscript_grammar::specs::Reading::and_then))]
 fn enclosed<'a>(alloc: Global, depth: Depth, tokens: &'a [Token]) -> Parse<'a, Expr>
-    ensures { Reads expr_tree (at_depth read_enclosed depth.levels) (suc depth.levels) tokens.now result }
+    ensures { Parses expr_tree (at_depth read_enclosed depth.levels) (suc depth.levels) tokens.now result }
 {
     let inner = closed(expr(alloc, depth, tokens)?, b")")?;
     Ok(Parsed {
@@ -316,7 +316,7 @@ fn enclosed<'a>(alloc: Global, depth: Depth, tokens: &'a [Token]) -> Parse<'a, E
 #[cycle(trees)]
 #[tactic(auto, using(dscript_ast::proofs::NodeViews::tree_views), unfolding(dscript_grammar::specs::ExprReading::read_plain, dscript_grammar::specs::Reading::and_then, dscript_grammar::specs::Reading::pick))]
 fn plain<'a>(alloc: Global, depth: Depth, tokens: &'a [Token]) -> Parse<'a, Expr>
-    ensures { Reads expr_tree (at_depth read_plain depth.levels) (suc depth.levels) tokens.now result }
+    ensures { Parses expr_tree (at_depth read_plain depth.levels) (suc depth.levels) tokens.now result }
 {
     if at_template(tokens) {
         let template = template(alloc, depth, tokens)?;
@@ -337,7 +337,7 @@ fn plain<'a>(alloc: Global, depth: Depth, tokens: &'a [Token]) -> Parse<'a, Expr
 #[cycle(trees)]
 #[tactic(auto, using(dscript_ast::proofs::NodeViews::tree_views), unfolding(dscript_grammar::specs::ExprReading::read_named, dscript_grammar::specs::Reading::and_then, dscript_grammar::specs::Reading::choose))]
 fn named<'a>(alloc: Global, depth: Depth, tokens: &'a [Token]) -> Parse<'a, Expr>
-    ensures { Reads expr_tree (at_depth read_named depth.levels) (suc depth.levels) tokens.now result }
+    ensures { Parses expr_tree (at_depth read_named depth.levels) (suc depth.levels) tokens.now result }
 {
     let Some(kind) = letter(tokens) else {
         let name = identifier(tokens)?;
@@ -360,7 +360,7 @@ fn named<'a>(alloc: Global, depth: Depth, tokens: &'a [Token]) -> Parse<'a, Expr
 #[cycle(trees)]
 #[tactic(auto, unfolding(dscript_grammar::specs::ExprReading::read_template, dscript_grammar::specs::Reading::and_then, dscript_grammar::specs::Reading::choose))]
 fn template<'a>(alloc: Global, depth: Depth, tokens: &'a [Token]) -> Parse<'a, TemplateParts>
-    ensures { Reads template_view (at_depth read_template depth.levels) depth.levels tokens.now result }
+    ensures { Parses template_view (at_depth read_template depth.levels) depth.levels tokens.now result }
 {
     if let Some(whole) = template_whole(tokens) {
         let template = TemplateParts {
@@ -392,7 +392,7 @@ fn template<'a>(alloc: Global, depth: Depth, tokens: &'a [Token]) -> Parse<'a, T
 /// The holes of a template, after its first text.
 #[cycle(trees)]
 fn holes<'a>(alloc: Global, depth: Depth, tokens: &'a [Token]) -> Parse<'a, Vec<Hole>>
-    ensures { Reads (λ v. map hole_tree v.items)
+    ensures { Parses (λ v. map hole_tree v.items)
         (λ ts. at_depth read_holes depth.levels (length ts) ts) depth.levels
         tokens.now result }
 {
@@ -425,7 +425,7 @@ fn holes<'a>(alloc: Global, depth: Depth, tokens: &'a [Token]) -> Parse<'a, Vec<
 /// The elements of a list, and the bracket after them.
 #[cycle(trees)]
 fn elements<'a>(alloc: Global, depth: Depth, tokens: &'a [Token]) -> Parse<'a, Vec<Element>>
-    ensures { Reads (λ v. map element_tree v.items) (read_closed_list "]"
+    ensures { Parses (λ v. map element_tree v.items) (read_closed_list "]"
         (at_depth read_element depth.levels))
         depth.levels tokens.now result }
 {
@@ -436,7 +436,7 @@ fn elements<'a>(alloc: Global, depth: Depth, tokens: &'a [Token]) -> Parse<'a, V
 #[cycle(trees)]
 #[tactic(auto, using(dscript_ast::proofs::NodeViews::tree_views), unfolding(dscript_grammar::specs::ExprReading::read_element, dscript_grammar::specs::Reading::and_then))]
 fn element<'a>(alloc: Global, depth: Depth, tokens: &'a [Token]) -> Parse<'a, Element>
-    ensures { Reads element_tree (at_depth read_element depth.levels) depth.levels tokens.now result }
+    ensures { Parses element_tree (at_depth read_element depth.levels) depth.levels tokens.now result }
 {
     let (spread, rest) = flag(tokens, b"...");
     let element = expr(alloc, depth, rest)?;
@@ -454,7 +454,7 @@ fn element<'a>(alloc: Global, depth: Depth, tokens: &'a [Token]) -> Parse<'a, El
 /// The properties of an object, and the brace after them.
 #[cycle(trees)]
 fn props<'a>(alloc: Global, depth: Depth, tokens: &'a [Token]) -> Parse<'a, Vec<Prop>>
-    ensures { Reads (λ v. map prop_tree v.items) (read_closed_list "}" (at_depth read_prop depth.levels))
+    ensures { Parses (λ v. map prop_tree v.items) (read_closed_list "}" (at_depth read_prop depth.levels))
         depth.levels tokens.now result }
 {
     list(alloc, depth, b"}", tokens, prop)
@@ -464,7 +464,7 @@ fn props<'a>(alloc: Global, depth: Depth, tokens: &'a [Token]) -> Parse<'a, Vec<
 #[cycle(trees)]
 #[tactic(auto, using(dscript_ast::proofs::NodeViews::tree_views), unfolding(dscript_grammar::specs::ExprReading::read_prop, dscript_grammar::specs::ExprReading::read_word_prop, dscript_grammar::specs::Reading::and_then, dscript_grammar::specs::Reading::choose))]
 fn prop<'a>(alloc: Global, depth: Depth, tokens: &'a [Token]) -> Parse<'a, Prop>
-    ensures { Reads prop_tree (at_depth read_prop depth.levels) depth.levels tokens.now result }
+    ensures { Parses prop_tree (at_depth read_prop depth.levels) depth.levels tokens.now result }
 {
     if let Some(rest) = take_punctuator(tokens, b"...") {
         let spread = expr(alloc, depth, rest)?;

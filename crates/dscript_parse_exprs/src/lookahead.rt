@@ -11,7 +11,7 @@ ghost use Rattle.dscript_grammar.specs.ExprReading.{read_operator, read_prefix};
 ghost use Rattle.dscript_grammar.specs.ExprReading.{operator_precedence, read_whole, read_head, read_middle};
 ghost use Rattle.dscript_grammar.specs.ExprReading.{read_tail};
 ghost use Rattle.dscript_parse_exprs.specs.Spelled.{operator_spelled, read_spelled};
-ghost use Rattle.dscript_parse_tokens.specs.Gives.{kinds, Offers, Reads};
+ghost use Rattle.dscript_parse_tokens.specs.Gives.{kinds, Offers, Parses};
 
 use bx_tree::Text;
 use dscript_ast::{BinaryOp, LoopKind, PathKind, UnaryOp};
@@ -233,7 +233,7 @@ pub(crate) fn at_prefix(tokens: &[Token]) -> bool
 /// An operator before an operand.
 #[tactic(auto, unfolding(dscript_grammar::specs::ExprReading::read_prefix, dscript_grammar::specs::Reading::choose))]
 pub(crate) fn prefix<'a>(_alloc: Global, depth: Depth, tokens: &'a [Token]) -> Parse<'a, UnaryOp>
-    ensures { Reads (λ o. o) read_prefix depth.levels tokens.now result }
+    ensures { Parses (λ o. o) read_prefix depth.levels tokens.now result }
 {
     if let Some(rest) = take_punctuator(tokens, b"!") {
         return Ok(flat(UnaryOp::Not, rest));
@@ -340,7 +340,7 @@ pub(crate) fn at_assign(tokens: &[Token]) -> bool
 /// How the variable of a loop is declared.
 #[tactic(auto, unfolding(dscript_grammar::specs::ExprReading::read_loop_keyword, dscript_grammar::specs::Reading::choose, dscript_grammar::specs::Reading::and_then))]
 pub(crate) fn loop_kind(tokens: &[Token]) -> Parse<'_, LoopKind>
-    ensures { Reads (λ k. k) read_loop_keyword 0 tokens.now result }
+    ensures { Parses (λ k. k) read_loop_keyword 0 tokens.now result }
 {
     if let Some(rest) = take_keyword(tokens, b"const") {
         return Ok(flat(LoopKind::Const, rest));

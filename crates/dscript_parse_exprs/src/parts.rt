@@ -14,7 +14,7 @@ ghost use Rattle.dscript_grammar.specs.ExprReading.{read_prefix, read_stmt};
 ghost use Rattle.dscript_grammar.specs.Reading.{got, read_many};
 ghost use Rattle.dscript_grammar.specs.TypeReading.{above};
 ghost use Rattle.dscript_parse_exprs.specs.Levels.{at_depth};
-ghost use Rattle.dscript_parse_tokens.specs.Gives.{kinds, Gives, MayRead, Reads};
+ghost use Rattle.dscript_parse_tokens.specs.Gives.{kinds, Gives, MayRead, Parses};
 
 use crate::lookahead::{at_prefix, prefix};
 use bx_tree::Text;
@@ -56,7 +56,7 @@ pub fn note<'a>(
 /// A parameter of a function.
 #[tactic(auto, unfolding(dscript_grammar::specs::ExprReading::read_param, dscript_grammar::specs::Reading::and_then))]
 pub(crate) fn param<'a>(alloc: Global, depth: Depth, tokens: &'a [Token]) -> Parse<'a, Param>
-    ensures { Reads param_tree (at_depth read_param depth.levels) depth.levels tokens.now result }
+    ensures { Parses param_tree (at_depth read_param depth.levels) depth.levels tokens.now result }
 {
     let name = identifier(tokens)?;
     let (optional, rest) = flag(name.rest, b"?");
@@ -76,7 +76,7 @@ pub(crate) fn param<'a>(alloc: Global, depth: Depth, tokens: &'a [Token]) -> Par
 /// Parameters in parentheses.
 #[tactic(auto, unfolding(dscript_grammar::specs::ExprReading::read_params, dscript_grammar::specs::Reading::and_then))]
 pub fn params<'a>(alloc: Global, depth: Depth, tokens: &'a [Token]) -> Parse<'a, Vec<Param>>
-    ensures { Reads (λ v. map param_tree v.items)
+    ensures { Parses (λ v. map param_tree v.items)
         (at_depth read_params depth.levels) depth.levels tokens.now result }
 {
     let rest = punctuator(tokens, b"(")?;
@@ -90,7 +90,7 @@ pub(crate) fn arrow_head<'a>(
     depth: Depth,
     tokens: &'a [Token],
 ) -> Parse<'a, ArrowHead>
-    ensures { Reads head_tree (at_depth read_arrow_head depth.levels) depth.levels tokens.now result }
+    ensures { Parses head_tree (at_depth read_arrow_head depth.levels) depth.levels tokens.now result }
 {
     if at_punctuator(tokens, b"(") {
         let params = params(alloc, depth, tokens)?;
@@ -111,7 +111,7 @@ pub(crate) fn arrow_head<'a>(
 /// An expression that is one token.
 #[tactic(auto, using(dscript_ast::proofs::NodeViews::tree_views), unfolding(dscript_grammar::specs::ExprReading::read_literal, dscript_grammar::specs::Reading::pick))]
 pub(crate) fn literal(tokens: &[Token]) -> Parse<'_, Expr>
-    ensures { Reads expr_tree read_literal 1 tokens.now result }
+    ensures { Parses expr_tree read_literal 1 tokens.now result }
 {
     let Some((token, rest)) = tokens.split_first() else {
         return Err(Refusal::Syntax);

@@ -7,7 +7,7 @@ ghost use Rattle.dscript_grammar.specs.ExprReading.{read_else};
 ghost use Rattle.dscript_grammar.specs.ExprReading.{read_for, read_if, read_let, read_return, read_simple};
 ghost use Rattle.dscript_grammar.specs.ExprReading.{read_stmt, read_value};
 ghost use Rattle.dscript_parse_exprs.specs.Levels.{at_depth};
-ghost use Rattle.dscript_parse_tokens.specs.Gives.{kinds, MayRead, Reads};
+ghost use Rattle.dscript_parse_tokens.specs.Gives.{kinds, MayRead, Parses};
 
 use crate::exprs::expr;
 use crate::lookahead::{at_assign, loop_kind};
@@ -24,7 +24,7 @@ use std::alloc::Global;
 #[cycle(trees)]
 #[tactic(auto, unfolding(dscript_grammar::specs::ExprReading::read_block, dscript_grammar::specs::Reading::and_then))]
 pub fn block<'a>(alloc: Global, depth: Depth, tokens: &'a [Token]) -> Parse<'a, Vec<Stmt>>
-    ensures { Reads (λ v. map stmt_tree v.items)
+    ensures { Parses (λ v. map stmt_tree v.items)
         (at_depth read_block depth.levels) depth.levels tokens.now result }
 {
     let rest = punctuator(tokens, b"{")?;
@@ -35,7 +35,7 @@ pub fn block<'a>(alloc: Global, depth: Depth, tokens: &'a [Token]) -> Parse<'a, 
 #[cycle(trees)]
 #[tactic(auto, using(dscript_ast::proofs::NodeViews::tree_views), unfolding(dscript_grammar::specs::ExprReading::read_stmt, dscript_grammar::specs::ExprReading::read_any_stmt, dscript_grammar::specs::Reading::and_then, dscript_grammar::specs::Reading::choose, dscript_grammar::specs::Reading::pick))]
 fn stmt<'a>(alloc: Global, depth: Depth, tokens: &'a [Token]) -> Parse<'a, Stmt>
-    ensures { Reads stmt_tree (read_stmt depth.levels) depth.levels tokens.now result }
+    ensures { Parses stmt_tree (read_stmt depth.levels) depth.levels tokens.now result }
 {
     let inner = depth.below()?;
     if let Some(rest) = take_punctuator(tokens, b";") {
@@ -60,7 +60,7 @@ fn stmt<'a>(alloc: Global, depth: Depth, tokens: &'a [Token]) -> Parse<'a, Stmt>
 #[cycle(trees)]
 #[tactic(auto, unfolding(dscript_grammar::specs::ExprReading::read_by_keyword, dscript_grammar::specs::Reading::choose))]
 fn by_keyword<'a>(alloc: Global, depth: Depth, tokens: &'a [Token]) -> Parse<'a, Stmt>
-    ensures { Reads stmt_tree (at_depth read_by_keyword depth.levels) (suc depth.levels) tokens.now result }
+    ensures { Parses stmt_tree (at_depth read_by_keyword depth.levels) (suc depth.levels) tokens.now result }
 {
     if let Some(rest) = take_keyword(tokens, b"const") {
         return const_stmt(alloc, depth, rest);
@@ -84,7 +84,7 @@ fn by_keyword<'a>(alloc: Global, depth: Depth, tokens: &'a [Token]) -> Parse<'a,
 #[cycle(trees)]
 #[tactic(auto, unfolding(dscript_grammar::specs::ExprReading::read_value, dscript_grammar::specs::Reading::and_then))]
 pub fn value<'a>(alloc: Global, depth: Depth, tokens: &'a [Token]) -> Parse<'a, Expr>
-    ensures { Reads expr_tree (at_depth read_value depth.levels) depth.levels tokens.now result }
+    ensures { Parses expr_tree (at_depth read_value depth.levels) depth.levels tokens.now result }
 {
     let rest = punctuator(tokens, b"=")?;
     closed(expr(alloc, depth, rest)?, b";")
@@ -94,7 +94,7 @@ pub fn value<'a>(alloc: Global, depth: Depth, tokens: &'a [Token]) -> Parse<'a, 
 #[cycle(trees)]
 #[tactic(auto, using(dscript_ast::proofs::NodeViews::tree_views), unfolding(dscript_grammar::specs::ExprReading::read_const, dscript_grammar::specs::Reading::and_then))]
 fn const_stmt<'a>(alloc: Global, depth: Depth, tokens: &'a [Token]) -> Parse<'a, Stmt>
-    ensures { Reads stmt_tree (at_depth read_const depth.levels) (suc depth.levels) tokens.now result }
+    ensures { Parses stmt_tree (at_depth read_const depth.levels) (suc depth.levels) tokens.now result }
 {
     let name = identifier(tokens)?;
     let note = note(alloc, depth, name.rest)?;
@@ -110,7 +110,7 @@ fn const_stmt<'a>(alloc: Global, depth: Depth, tokens: &'a [Token]) -> Parse<'a,
 #[cycle(trees)]
 #[tactic(auto, using(crate::proofs::OptionalParts::optional_views), unfolding(dscript_grammar::specs::ExprReading::read_let, dscript_grammar::specs::ExprReading::read_start, dscript_grammar::specs::Reading::and_then, dscript_grammar::specs::Reading::choose))]
 fn let_stmt<'a>(alloc: Global, depth: Depth, tokens: &'a [Token]) -> Parse<'a, Stmt>
-    ensures { Reads stmt_tree (at_depth read_let depth.levels) (suc depth.levels) tokens.now result }
+    ensures { Parses stmt_tree (at_depth read_let depth.levels) (suc depth.levels) tokens.now result }
 {
     let name = identifier(tokens)?;
     let note = note(alloc, depth, name.rest)?;
@@ -134,7 +134,7 @@ fn let_stmt<'a>(alloc: Global, depth: Depth, tokens: &'a [Token]) -> Parse<'a, S
 #[cycle(trees)]
 #[tactic(auto, unfolding(dscript_grammar::specs::ExprReading::read_if, dscript_grammar::specs::Reading::and_then))]
 fn if_stmt<'a>(alloc: Global, depth: Depth, tokens: &'a [Token]) -> Parse<'a, Stmt>
-    ensures { Reads stmt_tree (at_depth read_if depth.levels) (suc depth.levels) tokens.now result }
+    ensures { Parses stmt_tree (at_depth read_if depth.levels) (suc depth.levels) tokens.now result }
 {
     let rest = punctuator(tokens, b"(")?;
     let condition = closed(expr(alloc, depth, rest)?, b")")?;
@@ -171,7 +171,7 @@ fn otherwise<'a>(
 #[cycle(trees)]
 #[tactic(auto, unfolding(dscript_grammar::specs::ExprReading::read_for, dscript_grammar::specs::Reading::and_then))]
 fn for_stmt<'a>(alloc: Global, depth: Depth, tokens: &'a [Token]) -> Parse<'a, Stmt>
-    ensures { Reads stmt_tree (at_depth read_for depth.levels) (suc depth.levels) tokens.now result }
+    ensures { Parses stmt_tree (at_depth read_for depth.levels) (suc depth.levels) tokens.now result }
 {
     let rest = punctuator(tokens, b"(")?;
     let kind = loop_kind(rest)?;
@@ -186,7 +186,7 @@ fn for_stmt<'a>(alloc: Global, depth: Depth, tokens: &'a [Token]) -> Parse<'a, S
 #[cycle(trees)]
 #[tactic(auto, using(crate::proofs::OptionalParts::optional_views), unfolding(dscript_grammar::specs::ExprReading::read_return, dscript_grammar::specs::Reading::and_then, dscript_grammar::specs::Reading::choose))]
 fn return_stmt<'a>(alloc: Global, depth: Depth, tokens: &'a [Token]) -> Parse<'a, Stmt>
-    ensures { Reads stmt_tree (at_depth read_return depth.levels) (suc depth.levels) tokens.now result }
+    ensures { Parses stmt_tree (at_depth read_return depth.levels) (suc depth.levels) tokens.now result }
 {
     if let Some(rest) = take_punctuator(tokens, b";") {
         return Ok(Parsed {
@@ -207,7 +207,7 @@ fn return_stmt<'a>(alloc: Global, depth: Depth, tokens: &'a [Token]) -> Parse<'a
 #[cycle(trees)]
 #[tactic(auto, using(dscript_ast::proofs::NodeViews::tree_views), unfolding(dscript_grammar::specs::ExprReading::read_simple, dscript_grammar::specs::ExprReading::read_assign, dscript_grammar::specs::Reading::and_then, dscript_grammar::specs::Reading::pick))]
 fn simple<'a>(alloc: Global, depth: Depth, tokens: &'a [Token]) -> Parse<'a, Stmt>
-    ensures { Reads stmt_tree (at_depth read_simple depth.levels) (suc depth.levels) tokens.now result }
+    ensures { Parses stmt_tree (at_depth read_simple depth.levels) (suc depth.levels) tokens.now result }
 {
     if at_assign(tokens) {
         let name = identifier(tokens)?;

@@ -32,8 +32,8 @@ Gives view read limit bound (Ok p) = IsRead view read limit bound p
 Gives view read limit bound (Err fault) = Fails fault read
 
 -- The function reads at least one token, and no node of what it reads is higher than the limit.
-abbrev pub Reads : {X T : Type 0} → (X → T) → Reader T → ℕ → List Token → Result (Parsed X) Refusal → Type 0
-Reads view reader limit ts result = Gives view (reader (kinds ts)) limit (length (kinds ts)) result
+abbrev pub Parses : {X T : Type 0} → (X → T) → Reader T → ℕ → List Token → Result (Parsed X) Refusal → Type 0
+Parses view reader limit ts result = Gives view (reader (kinds ts)) limit (length (kinds ts)) result
 
 -- The function reads any number of tokens, and no node of what it reads is higher than the limit.
 abbrev pub MayRead : {X T : Type 0} → (X → T) → Reader T → ℕ → List Token → Result (Parsed X) Refusal → Type 0
@@ -43,7 +43,7 @@ MayRead view reader limit ts result = Gives view (reader (kinds ts)) limit (suc 
 abbrev pub EachReads : {X T : Type 0} → (X → T) → Reader T → ℕ
     → (Bor (List Token) → Result (Parsed X) Refusal → Type 0) → Type 0
 EachReads view reader limit answers = (ts : _) (result : _) → answers ts result
-    → Reads view reader limit ts.now result
+    → Parses view reader limit ts.now result
 
 -- each call of a test with these answers tests so
 abbrev pub EachTests : (List TokenKind → Bool) → (Bor (List Token) → Bool → Type 0) → Type 0

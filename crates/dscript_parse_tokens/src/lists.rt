@@ -2,7 +2,7 @@
 
 ghost use Rattle.std.specs.Prelude.{◌≡◌, ◌<◌, ◌≤◌, Bool, List, codes, length, map, max, suc, MatchResult};
 ghost use Rattle.dscript_lex.specs.declared.token.TokenKind.{TokenKind};
-ghost use Rattle.dscript_parse_tokens.specs.Gives.{kinds, EachReads, EachShortens, EachTests, MayRead, Reads};
+ghost use Rattle.dscript_parse_tokens.specs.Gives.{kinds, EachReads, EachShortens, EachTests, MayRead, Parses};
 ghost use Rattle.dscript_parse_tokens.specs.Enclosed.{Spelling, read_closed_list, read_closed_many};
 ghost use Rattle.dscript_parse_tokens.specs.declared.parsed.Refusal.TheVariants as refusals;
 ghost use Rattle.dscript_grammar.specs.Reading.{Reader, read_identifier, read_many, read_separated};
@@ -46,7 +46,7 @@ pub fn list<'a, T: Syntax, F: Fn(Global, Depth, &'a [Token]) -> Parse<'a, T>>(
     requires shortens { EachShortens (F.post one alloc depth) }
     ensures { (reader : Reader T.Tree) (closer : Spelling)
         → EachReads T.tree reader depth.levels (F.post one alloc depth) → close.now ≡ codes closer
-        → Reads (λ v. map T.tree v.items) (read_closed_list closer reader) depth.levels tokens.now result }
+        → Parses (λ v. map T.tree v.items) (read_closed_list closer reader) depth.levels tokens.now result }
 {
     let mut values = Vec::new(alloc);
     let mut height = 0;
@@ -88,7 +88,7 @@ pub fn until<'a, T: Syntax, F: Fn(Global, Depth, &'a [Token]) -> Parse<'a, T>>(
     requires shortens { EachShortens (F.post one alloc depth) }
     ensures { (reader : Reader T.Tree) (closer : Spelling)
         → EachReads T.tree reader depth.levels (F.post one alloc depth) → close.now ≡ codes closer
-        → Reads (λ v. map T.tree v.items) (read_closed_many closer reader) depth.levels tokens.now result }
+        → Parses (λ v. map T.tree v.items) (read_closed_many closer reader) depth.levels tokens.now result }
 {
     let mut values = Vec::new(alloc);
     let mut height = 0;
@@ -155,7 +155,7 @@ pub fn separated<'a, T: Syntax, F: Fn(Global, Depth, &'a [Token]) -> Parse<'a, T
     requires shortens { EachShortens (F.post one alloc depth) }
     ensures { (reader : Reader T.Tree) (between : Spelling)
         → EachReads T.tree reader depth.levels (F.post one alloc depth) → separator.now ≡ codes between
-        → Reads (λ v. map T.tree v.items)
+        → Parses (λ v. map T.tree v.items)
         (λ ts. read_separated between reader (length ts) ts) depth.levels tokens.now result }
 {
     let mut values = Vec::new(alloc);
@@ -181,14 +181,14 @@ pub fn separated<'a, T: Syntax, F: Fn(Global, Depth, &'a [Token]) -> Parse<'a, T
 
 /// A name, as lists read it.
 fn one_name<'a>(_alloc: Global, depth: Depth, tokens: &'a [Token]) -> Parse<'a, Text>
-    ensures { Reads (λ x. x) read_identifier depth.levels tokens.now result }
+    ensures { Parses (λ x. x) read_identifier depth.levels tokens.now result }
 {
     identifier(tokens)
 }
 
 /// Names with dots between them.
 pub fn dotted<'a>(alloc: Global, depth: Depth, tokens: &'a [Token]) -> Parse<'a, Vec<Text>>
-    ensures { Reads (λ v. v.items) (λ ts. read_separated "." read_identifier (length ts) ts) depth.levels
+    ensures { Parses (λ v. v.items) (λ ts. read_separated "." read_identifier (length ts) ts) depth.levels
         tokens.now result }
 {
     separated(alloc, depth, b".", tokens, one_name)
@@ -196,7 +196,7 @@ pub fn dotted<'a>(alloc: Global, depth: Depth, tokens: &'a [Token]) -> Parse<'a,
 
 /// Names with commas between them.
 pub fn names<'a>(alloc: Global, depth: Depth, tokens: &'a [Token]) -> Parse<'a, Vec<Text>>
-    ensures { Reads (λ v. v.items) (λ ts. read_separated "," read_identifier (length ts) ts) depth.levels
+    ensures { Parses (λ v. v.items) (λ ts. read_separated "," read_identifier (length ts) ts) depth.levels
         tokens.now result }
 {
     separated(alloc, depth, b",", tokens, one_name)

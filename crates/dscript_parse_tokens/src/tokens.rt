@@ -1,7 +1,7 @@
 //! Single tokens.
 
 ghost use Rattle.std.specs.Prelude.{bytes_eq, ◌≡◌, ◌≤◌, length, map};
-ghost use Rattle.dscript_parse_tokens.specs.Gives.{kinds, MayRead, Offers, Reads, Takes, Wants};
+ghost use Rattle.dscript_parse_tokens.specs.Gives.{kinds, MayRead, Offers, Parses, Takes, Wants};
 ghost use Rattle.dscript_grammar.specs.Language.{is_one_of, is_reserved};
 ghost use Rattle.dscript_grammar.specs.TypeReading.{at_identifier};
 ghost use Rattle.dscript_grammar.specs.Reading.{is_punctuator_bytes, is_keyword_bytes, at_punctuator_bytes};
@@ -131,7 +131,7 @@ pub fn keyword<'a>(tokens: &'a [Token], spelling: &[u8]) -> Result<&'a [Token], 
 /// A word, reserved or not.
 #[tactic(auto, unfolding(dscript_grammar::specs::Reading::read_name))]
 pub fn name(tokens: &[Token]) -> Parse<'_, Text>
-    ensures { Reads (λ x. x) read_name 0 tokens.now result }
+    ensures { Parses (λ x. x) read_name 0 tokens.now result }
 {
     let Some((token, rest)) = tokens.split_first() else {
         return Err(Refusal::Syntax);
@@ -149,7 +149,7 @@ pub fn name(tokens: &[Token]) -> Parse<'_, Text>
 /// A word that is not reserved.
 #[tactic(auto, unfolding(dscript_grammar::specs::Reading::read_identifier, dscript_grammar::specs::Reading::pick))]
 pub fn identifier(tokens: &[Token]) -> Parse<'_, Text>
-    ensures { Reads (λ x. x) read_identifier 0 tokens.now result }
+    ensures { Parses (λ x. x) read_identifier 0 tokens.now result }
 {
     let Some((token, rest)) = tokens.split_first() else {
         return Err(Refusal::Syntax);
@@ -172,7 +172,7 @@ pub fn identifier(tokens: &[Token]) -> Parse<'_, Text>
 /// A string.
 #[tactic(auto, unfolding(dscript_grammar::specs::Reading::read_string))]
 pub fn string(tokens: &[Token]) -> Parse<'_, Text>
-    ensures { Reads (λ x. x) read_string 0 tokens.now result }
+    ensures { Parses (λ x. x) read_string 0 tokens.now result }
 {
     let Some((token, rest)) = tokens.split_first() else {
         return Err(Refusal::Syntax);

@@ -1,7 +1,7 @@
 //! Types.
 
 ghost use Rattle.std.specs.Prelude.{◌≡◌, ◌+◌, ◌≤◌, suc, length, map};
-ghost use Rattle.dscript_parse_tokens.specs.Gives.{kinds, Gives, MayRead, Reads};
+ghost use Rattle.dscript_parse_tokens.specs.Gives.{kinds, Gives, MayRead, Parses};
 ghost use Rattle.dscript_grammar.specs.TypeReading.{at_fields, at_function, after_member_end};
 ghost use Rattle.dscript_grammar.specs.TypeReading.{read_type, read_any, read_union, as_union, read_array};
 ghost use Rattle.dscript_grammar.specs.TypeReading.{as_array};
@@ -66,7 +66,7 @@ pub(crate) fn after_member_end(tokens: &[Token]) -> &[Token]
 #[cycle(types)]
 #[tactic(auto, unfolding(dscript_grammar::specs::TypeReading::read_type))]
 pub fn type_node<'a>(alloc: Global, depth: Depth, tokens: &'a [Token]) -> Parse<'a, TypeNode>
-    ensures { Reads type_tree (read_type depth.levels) depth.levels tokens.now result }
+    ensures { Parses type_tree (read_type depth.levels) depth.levels tokens.now result }
 {
     any_type(alloc, depth.below()?, tokens)
 }
@@ -75,7 +75,7 @@ pub fn type_node<'a>(alloc: Global, depth: Depth, tokens: &'a [Token]) -> Parse<
 #[cycle(types)]
 #[tactic(auto, using(dscript_ast::proofs::NodeViews::type_views), unfolding(dscript_grammar::specs::TypeReading::read_field, dscript_grammar::specs::Reading::and_then))]
 fn field<'a>(alloc: Global, depth: Depth, tokens: &'a [Token]) -> Parse<'a, Field>
-    ensures { Reads field_tree (read_field (read_type depth.levels)) depth.levels tokens.now result }
+    ensures { Parses field_tree (read_field (read_type depth.levels)) depth.levels tokens.now result }
 {
     let name = identifier(tokens)?;
     let (optional, rest) = flag(name.rest, b"?");
@@ -97,7 +97,7 @@ fn field<'a>(alloc: Global, depth: Depth, tokens: &'a [Token]) -> Parse<'a, Fiel
 #[cycle(types)]
 #[tactic(auto, unfolding(dscript_grammar::specs::TypeReading::read_fields, dscript_grammar::specs::Reading::and_then))]
 fn fields<'a>(alloc: Global, depth: Depth, tokens: &'a [Token]) -> Parse<'a, Vec<Field>>
-    ensures { Reads (λ v. map field_tree v.items)
+    ensures { Parses (λ v. map field_tree v.items)
         (read_fields (read_type depth.levels)) depth.levels tokens.now result }
 {
     let rest = punctuator(tokens, b"(")?;
@@ -114,7 +114,7 @@ fn method<'a>(
     optional: bool,
     tokens: &'a [Token],
 ) -> Parse<'a, Member>
-    ensures { Reads member_tree (read_method (read_type depth.levels) name optional) depth.levels tokens.now
+    ensures { Parses member_tree (read_method (read_type depth.levels) name optional) depth.levels tokens.now
         result }
 {
     let fields = fields(alloc, depth, tokens)?;
@@ -131,7 +131,7 @@ fn method<'a>(
 #[cycle(types)]
 #[tactic(auto, using(dscript_ast::proofs::NodeViews::type_views), unfolding(dscript_grammar::specs::TypeReading::read_member, dscript_grammar::specs::Reading::and_then, dscript_grammar::specs::Reading::choose))]
 fn member<'a>(alloc: Global, depth: Depth, tokens: &'a [Token]) -> Parse<'a, Member>
-    ensures { Reads member_tree (read_member (read_type depth.levels)) depth.levels tokens.now result }
+    ensures { Parses member_tree (read_member (read_type depth.levels)) depth.levels tokens.now result }
 {
     let name = name(tokens)?;
     let (optional, rest) = flag(name.rest, b"?");
@@ -150,7 +150,7 @@ fn member<'a>(alloc: Global, depth: Depth, tokens: &'a [Token]) -> Parse<'a, Mem
 #[cycle(types)]
 #[tactic(auto, unfolding(dscript_grammar::specs::TypeReading::read_ended, dscript_grammar::specs::Reading::and_then))]
 fn ended_member<'a>(alloc: Global, depth: Depth, tokens: &'a [Token]) -> Parse<'a, Member>
-    ensures { Reads member_tree (read_ended (read_type depth.levels)) depth.levels tokens.now result }
+    ensures { Parses member_tree (read_ended (read_type depth.levels)) depth.levels tokens.now result }
 {
     let member = member(alloc, depth, tokens)?;
     Ok(Parsed {
@@ -164,7 +164,7 @@ fn ended_member<'a>(alloc: Global, depth: Depth, tokens: &'a [Token]) -> Parse<'
 #[cycle(types)]
 #[tactic(auto, unfolding(dscript_grammar::specs::TypeReading::read_body, dscript_grammar::specs::Reading::and_then))]
 pub fn body<'a>(alloc: Global, depth: Depth, tokens: &'a [Token]) -> Parse<'a, Vec<Member>>
-    ensures { Reads (λ v. map member_tree v.items)
+    ensures { Parses (λ v. map member_tree v.items)
         (read_body (read_type depth.levels)) depth.levels tokens.now result }
 {
     let rest = punctuator(tokens, b"{")?;
@@ -174,7 +174,7 @@ pub fn body<'a>(alloc: Global, depth: Depth, tokens: &'a [Token]) -> Parse<'a, V
 /// Types with commas between them.
 #[cycle(types)]
 pub fn type_list<'a>(alloc: Global, depth: Depth, tokens: &'a [Token]) -> Parse<'a, Vec<TypeNode>>
-    ensures { Reads (λ v. map type_tree v.items)
+    ensures { Parses (λ v. map type_tree v.items)
         (λ ts. read_separated "," (read_type depth.levels) (length ts) ts)
         depth.levels tokens.now result }
 {
@@ -208,7 +208,7 @@ fn arguments<'a>(alloc: Global, depth: Depth, tokens: &'a [Token]) -> Parse<'a, 
 #[cycle(types)]
 #[tactic(auto, using(dscript_ast::proofs::NodeViews::type_views), unfolding(dscript_grammar::specs::TypeReading::read_named, dscript_grammar::specs::Reading::and_then))]
 fn named<'a>(alloc: Global, depth: Depth, tokens: &'a [Token]) -> Parse<'a, TypeNode>
-    ensures { Reads type_tree (read_named (read_type depth.levels)) (suc depth.levels) tokens.now result }
+    ensures { Parses type_tree (read_named (read_type depth.levels)) (suc depth.levels) tokens.now result }
 {
     let names = dotted(alloc, depth, tokens)?;
     let arguments = arguments(alloc, depth, names.rest)?;
@@ -222,7 +222,7 @@ fn named<'a>(alloc: Global, depth: Depth, tokens: &'a [Token]) -> Parse<'a, Type
 /// A type that is one token.
 #[tactic(auto, using(dscript_ast::proofs::NodeViews::type_views), unfolding(dscript_grammar::specs::TypeReading::read_literal, dscript_grammar::specs::Reading::pick))]
 pub(crate) fn literal(tokens: &[Token]) -> Parse<'_, TypeNode>
-    ensures { Reads type_tree read_literal 1 tokens.now result }
+    ensures { Parses type_tree read_literal 1 tokens.now result }
 {
     let Some((token, rest)) = tokens.split_first() else {
         return Err(Refusal::Syntax);
@@ -246,7 +246,7 @@ pub(crate) fn literal(tokens: &[Token]) -> Parse<'_, TypeNode>
 #[cycle(types)]
 #[tactic(auto, unfolding(dscript_grammar::specs::TypeReading::read_enclosed, dscript_grammar::specs::Reading::and_then))]
 fn enclosed<'a>(alloc: Global, depth: Depth, tokens: &'a [Token]) -> Parse<'a, TypeNode>
-    ensures { Reads type_tree (read_enclosed (read_type depth.levels)) (suc depth.levels) tokens.now result }
+    ensures { Parses type_tree (read_enclosed (read_type depth.levels)) (suc depth.levels) tokens.now result }
 {
     let inner = type_node(alloc, depth, tokens)?;
     Ok(Parsed {
@@ -260,7 +260,7 @@ fn enclosed<'a>(alloc: Global, depth: Depth, tokens: &'a [Token]) -> Parse<'a, T
 #[cycle(types)]
 #[tactic(auto, using(dscript_ast::proofs::NodeViews::type_views), unfolding(dscript_grammar::specs::TypeReading::read_base, dscript_grammar::specs::Reading::and_then, dscript_grammar::specs::Reading::choose, dscript_grammar::specs::Reading::pick))]
 fn base<'a>(alloc: Global, depth: Depth, tokens: &'a [Token]) -> Parse<'a, TypeNode>
-    ensures { Reads type_tree (read_base (read_type depth.levels)) (suc depth.levels) tokens.now result }
+    ensures { Parses type_tree (read_base (read_type depth.levels)) (suc depth.levels) tokens.now result }
 {
     if let Some(rest) = take_punctuator(tokens, b"(") {
         return enclosed(alloc, depth, rest);
@@ -283,7 +283,7 @@ fn base<'a>(alloc: Global, depth: Depth, tokens: &'a [Token]) -> Parse<'a, TypeN
 #[cycle(types)]
 #[tactic(auto, using(dscript_ast::proofs::NodeViews::type_views), unfolding(dscript_grammar::specs::TypeReading::read_function, dscript_grammar::specs::Reading::and_then))]
 fn function<'a>(alloc: Global, depth: Depth, tokens: &'a [Token]) -> Parse<'a, TypeNode>
-    ensures { Reads type_tree (read_function (read_type depth.levels)) (suc depth.levels) tokens.now result }
+    ensures { Parses type_tree (read_function (read_type depth.levels)) (suc depth.levels) tokens.now result }
 {
     let fields = fields(alloc, depth, tokens)?;
     let rest = punctuator(fields.rest, b"=>")?;
@@ -341,7 +341,7 @@ pub(crate) fn as_array<'a>(
 #[cycle(types)]
 #[tactic(auto, unfolding(dscript_grammar::specs::TypeReading::read_array, dscript_grammar::specs::Reading::and_then))]
 fn array<'a>(alloc: Global, depth: Depth, tokens: &'a [Token]) -> Parse<'a, TypeNode>
-    ensures { Reads type_tree (read_array (read_type depth.levels) depth.levels)
+    ensures { Parses type_tree (read_array (read_type depth.levels) depth.levels)
         (suc depth.levels) tokens.now result }
 {
     let element = base(alloc, depth, tokens)?;
@@ -352,7 +352,7 @@ fn array<'a>(alloc: Global, depth: Depth, tokens: &'a [Token]) -> Parse<'a, Type
 /// Types with `|` between them; a function type is the last.
 #[cycle(types)]
 fn union<'a>(alloc: Global, depth: Depth, tokens: &'a [Token]) -> Parse<'a, Vec<TypeNode>>
-    ensures { Reads (λ v. map type_tree v.items)
+    ensures { Parses (λ v. map type_tree v.items)
         (λ ts. read_union (read_type depth.levels) depth.levels (suc (length ts)) ts)
         (suc depth.levels) tokens.now result }
 {
@@ -419,7 +419,7 @@ pub(crate) fn as_union<'a>(
 #[cycle(types)]
 #[tactic(auto, unfolding(dscript_grammar::specs::TypeReading::read_any, dscript_grammar::specs::Reading::and_then))]
 fn any_type<'a>(alloc: Global, depth: Depth, tokens: &'a [Token]) -> Parse<'a, TypeNode>
-    ensures { Reads type_tree (read_any (read_type depth.levels) depth.levels)
+    ensures { Parses type_tree (read_any (read_type depth.levels) depth.levels)
         (suc depth.levels) tokens.now result }
 {
     let alternatives = union(alloc, depth, tokens)?;

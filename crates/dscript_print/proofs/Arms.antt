@@ -14,7 +14,7 @@ use Rattle.dscript_ast.specs.declared.expr.Hole as holes
 use Rattle.dscript_ast.specs.declared.expr.LoopKind.{LoopKind}
 use Rattle.dscript_ast.specs.declared.expr.PathKind.{PathKind}
 use Rattle.dscript_ast.specs.declared.operator.UnaryOp.{UnaryOp}
-use Rattle.dscript_print.specs.Runs.{punct, keyword, joined}
+use Rattle.dscript_print.specs.Runs.{punct, keyword, concat_tokens}
 use Rattle.dscript_print.specs.Written.{middle_run, tail_run}
 use Rattle.dscript_print.specs.ExprKinds.{tighter, prefix_kind, letter_kind, loop_kind, node_kinds, expr_kinds, exprs_kinds, operands_kinds, operand_kinds, parts_kinds, part_kinds, elements_kinds, element_kinds, props_kinds, prop_kinds, holes_kinds, hole_kinds, first_text, stmt_kinds, stmts_kinds, maybe_kinds}
 
@@ -31,7 +31,7 @@ pub five_steps : (o s u v w n a b d f g k : List TokenKind) → k ≡ a ++ (b ++
 five_steps o s u v w n a b d f g k e p q r t x = two_steps o s n a (b ++ (d ++ (f ++ g))) k e p (four_steps s u v w n b d f g (b ++ (d ++ (f ++ g))) refl q r t x)
 
 pub chain_run : (unbraced : Bool) (x : ExprTree) (level : ℕ) (d : Expr) (l : List operands.Operand) → x ≡ Chain level (expr_tree d) (to_operands (map operand_tree l))
-    → node_kinds x unbraced ≡ expr_kinds unbraced (tighter level) (expr_tree d) ++ joined (operands_kinds (tighter level) (to_operands (map operand_tree l)))
+    → node_kinds x unbraced ≡ expr_kinds unbraced (tighter level) (expr_tree d) ++ concat_tokens (operands_kinds (tighter level) (to_operands (map operand_tree l)))
 unfolding node_kinds
 chain_run unbraced x level d l e = ap (λ y. node_kinds y unbraced) e
 
@@ -44,7 +44,7 @@ pub signed_run : (unbraced : Bool) (x : ExprTree) (ops : List UnaryOp) (d : Expr
 unfolding node_kinds
 signed_run unbraced x ops d e = ap (λ y. node_kinds y unbraced) e
 
-pub post_run : (unbraced : Bool) (x : ExprTree) (d : Expr) (l : List PostfixPart) → x ≡ Postfix (expr_tree d) (to_parts (map part_tree l)) → node_kinds x unbraced ≡ expr_kinds unbraced 0 (expr_tree d) ++ joined (parts_kinds (to_parts (map part_tree l)))
+pub post_run : (unbraced : Bool) (x : ExprTree) (d : Expr) (l : List PostfixPart) → x ≡ Postfix (expr_tree d) (to_parts (map part_tree l)) → node_kinds x unbraced ≡ expr_kinds unbraced 0 (expr_tree d) ++ concat_tokens (parts_kinds (to_parts (map part_tree l)))
 unfolding node_kinds
 post_run unbraced x d l e = ap (λ y. node_kinds y unbraced) e
 
@@ -114,9 +114,9 @@ hole_then : (y : holes.Hole) (ys : List holes.Hole) (x : holes.Hole) → holes_k
 hole_then y [] x = hole_row y x [] ∙ hole_first (hole_tree y) kinds.Middle (holes_kinds (to_holes (map hole_tree (x ∷ []))))
 hole_then y (z ∷ zs) x = hole_row y z (zs ++ (x ∷ [])) ∙ hole_first (hole_tree y) kinds.Middle (holes_kinds (to_holes (map hole_tree (z ∷ (zs ++ (x ∷ []))))))
 
-holes_listed : (xs : List holes.Hole) (x : holes.Hole) → holes_kinds (to_holes (map hole_tree (xs ++ (x ∷ [])))) ≡ joined (map middle_run xs) ++ tail_run x
+holes_listed : (xs : List holes.Hole) (x : holes.Hole) → holes_kinds (to_holes (map hole_tree (xs ++ (x ∷ [])))) ≡ concat_tokens (map middle_run xs) ++ tail_run x
 holes_listed [] x = hole_alone x
-holes_listed (y ∷ ys) x = hole_then y ys x ∙ ap (λ zs. middle_run y ++ zs) (holes_listed ys x) ∙ sym (append_assoc (middle_run y) (joined (map middle_run ys)) (tail_run x))
+holes_listed (y ∷ ys) x = hole_then y ys x ∙ ap (λ zs. middle_run y ++ zs) (holes_listed ys x) ∙ sym (append_assoc (middle_run y) (concat_tokens (map middle_run ys)) (tail_run x))
 
 some_holes : (xs : List holes.Hole) (x : holes.Hole) (text : List ℕ) → first_text (to_holes (map hole_tree (xs ++ (x ∷ [])))) text ≡ kinds.Head text
 some_holes [] x text = refl
@@ -134,12 +134,12 @@ take_whole (x ∷ xs) zero l = absurd (omega (arith, l))
 take_whole (x ∷ xs) (suc i) l = ap (λ ys. x ∷ ys) (take_whole xs i (omega (arith, l)))
 
 pub template_run : (xs all : List holes.Hole) (x : holes.Hole) (text : List ℕ) (i : ℕ) (o s n m : List TokenKind)
-    → all ≡ xs ++ (x ∷ []) → length xs ≤ i → s ≡ o ++ (kinds.Head text ∷ []) → n ≡ s ++ joined (map middle_run (take i xs)) → m ≡ n ++ tail_run x
+    → all ≡ xs ++ (x ∷ []) → length xs ≤ i → s ≡ o ++ (kinds.Head text ∷ []) → n ≡ s ++ concat_tokens (map middle_run (take i xs)) → m ≡ n ++ tail_run x
     → m ≡ o ++ (first_text (to_holes (map hole_tree all)) text ∷ holes_kinds (to_holes (map hole_tree all)))
 template_run xs all x text i o s n m whole l p q r =
-    three_steps o s n m (kinds.Head text ∷ []) (joined (map middle_run xs)) (tail_run x) _
+    three_steps o s n m (kinds.Head text ∷ []) (concat_tokens (map middle_run xs)) (tail_run x) _
     (ap (λ ys. first_text (to_holes (map hole_tree ys)) text ∷ holes_kinds (to_holes (map hole_tree ys))) whole ∙ ap (λ h. h ∷ holes_kinds (to_holes (map hole_tree (xs ++ (x ∷ []))))) (some_holes xs x text) ∙ ap (λ zs. kinds.Head text ∷ zs) (holes_listed xs x))
-    p (q ∙ ap (λ ys. s ++ joined (map middle_run ys)) (take_whole xs i l)) r
+    p (q ∙ ap (λ ys. s ++ concat_tokens (map middle_run ys)) (take_whole xs i l)) r
 
 -- a tree is put together of equal parts
 pub chain_from : (t : ExprTree) (level : ℕ) (f d : Expr) (v l : List operands.Operand) → t ≡ Chain level (expr_tree f) (to_operands (map operand_tree v)) → d ≡ f → l ≡ v → t ≡ Chain level (expr_tree d) (to_operands (map operand_tree l))

@@ -8,7 +8,7 @@ use Rattle.dscript_ast.specs.Views.{type_tree, stmt_tree, marked_tree}
 use Rattle.dscript_ast.specs.declared.type_node.TypeNode.{TypeNode}
 use Rattle.dscript_ast.specs.declared.expr.Stmt.{Stmt}
 use Rattle.dscript_ast.specs.declared.file.Marked as marked
-use Rattle.dscript_print.specs.Runs.{punct, keyword, joined, separate}
+use Rattle.dscript_print.specs.Runs.{punct, keyword, concat_tokens, separate}
 use Rattle.dscript_print.specs.TypeKinds.{types_kinds, type_kinds}
 use Rattle.dscript_grammar.specs.TypeGrammar.{any_type}
 use Rattle.dscript_print.specs.ExprKinds.{stmt_kinds, stmts_kinds}
@@ -29,8 +29,8 @@ pub some_extended : (xs : List TypeNode) → 0 < length xs → extends_kinds (ma
 some_extended [] e = absurd (omega (arith, e))
 some_extended (x ∷ xs) e = ap (λ ys. keyword "extends" ∷ separate "," ys) (maps_listed (type_kinds any_type) type_tree (x ∷ xs) ∙ sym (types_listed (x ∷ xs)))
 
-pub block_listed : (xs : List Stmt) → punct "{" ∷ (joined (stmts_kinds (to_stmts (map stmt_tree xs))) ++ (punct "}" ∷ [])) ≡ block_kinds (map stmt_tree xs)
-block_listed xs = ap (λ ys. punct "{" ∷ (joined ys ++ (punct "}" ∷ []))) (stmts_listed xs ∙ sym (maps_listed stmt_kinds stmt_tree xs))
+pub block_listed : (xs : List Stmt) → punct "{" ∷ (concat_tokens (stmts_kinds (to_stmts (map stmt_tree xs))) ++ (punct "}" ∷ [])) ≡ block_kinds (map stmt_tree xs)
+block_listed xs = ap (λ ys. punct "{" ∷ (concat_tokens ys ++ (punct "}" ∷ []))) (stmts_listed xs ∙ sym (maps_listed stmt_kinds stmt_tree xs))
 
-pub block_step : (o s n : List TokenKind) (xs : List Stmt) → s ≡ o → n ≡ s ++ (punct "{" ∷ (joined (stmts_kinds (to_stmts (map stmt_tree xs))) ++ (punct "}" ∷ []))) → n ≡ o ++ block_kinds (map stmt_tree xs)
-block_step o s n xs p q = q ∙ ap (λ z. z ++ (punct "{" ∷ (joined (stmts_kinds (to_stmts (map stmt_tree xs))) ++ (punct "}" ∷ [])))) p ∙ ap (λ z. o ++ z) (block_listed xs)
+pub block_step : (o s n : List TokenKind) (xs : List Stmt) → s ≡ o → n ≡ s ++ (punct "{" ∷ (concat_tokens (stmts_kinds (to_stmts (map stmt_tree xs))) ++ (punct "}" ∷ []))) → n ≡ o ++ block_kinds (map stmt_tree xs)
+block_step o s n xs p q = q ∙ ap (λ z. z ++ (punct "{" ∷ (concat_tokens (stmts_kinds (to_stmts (map stmt_tree xs))) ++ (punct "}" ∷ [])))) p ∙ ap (λ z. o ++ z) (block_listed xs)

@@ -18,7 +18,7 @@ use Rattle.dscript_ast.specs.declared.expr.PathKind.{PathKind}
 use Rattle.dscript_ast.specs.declared.expr.PathKind.TheVariants as letters
 use Rattle.dscript_ast.specs.declared.operator.UnaryOp.{UnaryOp}
 use Rattle.dscript_ast.specs.declared.operator.UnaryOp.TheVariants as unary
-use Rattle.dscript_print.specs.Runs.{punct, keyword, enclosed, run_if, joined, separate}
+use Rattle.dscript_print.specs.Runs.{punct, keyword, enclosed, run_if, concat_tokens, separate}
 use Rattle.dscript_print.specs.TypeKinds.{note_kinds, type_kinds}
 use Rattle.dscript_print.specs.ExprKinds.{is_object, is_enclosed, placed, tighter, prefix_kind, operator_kind, letter_kind, loop_kind, param_kinds, params_kinds, head_kinds, first_text, node_kinds, exprs_kinds, operand_kinds, operands_kinds, part_kinds, parts_kinds, element_kinds, elements_kinds, prop_kinds, props_kinds, holes_kinds, stmt_kinds, value_kinds, maybe_kinds, stmts_kinds, expr_kinds}
 use Rattle.dscript_print.proofs.Spelled.{is_plain, Closes, append_assoc, balanced_head, closes_tail, closes_middle, closes_after}
@@ -106,7 +106,7 @@ operator_spelled binary.Add = refl
 operator_spelled binary.Subtract = refl
 operator_spelled binary.Multiply = refl
 
-joined_one : {X : Type 0} (k : X → TokenKind) (xs : List X) → joined (map (λ x. k x ∷ []) xs) ≡ map k xs
+joined_one : {X : Type 0} (k : X → TokenKind) (xs : List X) → concat_tokens (map (λ x. k x ∷ []) xs) ≡ map k xs
 joined_one k [] = refl
 joined_one k (x ∷ xs) = ap (λ ys. k x ∷ ys) (joined_one k xs)
 
@@ -171,13 +171,13 @@ module _ (h h2 : ℕ) (le : h ≤ h2) where
         subst (λ (k : TokenKind). Reprints (operand h expr stmt level tight (Operand op e)) (operand h2 expr2 stmt2 level tight (Operand op e)) (k ∷ expr_kinds false tight e)) (sym (operator_spelled op))
         (reprints_given _ _ _ _ (reprints_after (punct (spelling op)) (operator_plain op) (expr tight e) (expr2 tight e) _ (one tight e)))
 
-    reprints_operands : (level tight : ℕ) (xs : OperandTrees) → Reprints (many (operand h expr stmt level tight) (operands_of xs)) (many (operand h2 expr2 stmt2 level tight) (operands_of xs)) (joined (operands_kinds tight xs))
+    reprints_operands : (level tight : ℕ) (xs : OperandTrees) → Reprints (many (operand h expr stmt level tight) (operands_of xs)) (many (operand h2 expr2 stmt2 level tight) (operands_of xs)) (concat_tokens (operands_kinds tight xs))
     reprints_operands level tight xs =
-        subst (λ (runs : List (List TokenKind)). Reprints (many (operand h expr stmt level tight) (operands_of xs)) (many (operand h2 expr2 stmt2 level tight) (operands_of xs)) (joined runs)) (sym (operands_runs tight xs))
+        subst (λ (runs : List (List TokenKind)). Reprints (many (operand h expr stmt level tight) (operands_of xs)) (many (operand h2 expr2 stmt2 level tight) (operands_of xs)) (concat_tokens runs)) (sym (operands_runs tight xs))
         (reprints_many (operand h expr stmt level tight) (operand h2 expr2 stmt2 level tight) (operand_kinds tight) (reprints_operand level tight) (operands_of xs))
 
     reprints_chain : (unbraced : Bool) (level : ℕ) (e : ExprTree) (xs : OperandTrees)
-        → ReprintsAt unbraced (chain h expr stmt level e (operands_of xs)) (chain h2 expr2 stmt2 level e (operands_of xs)) (expr_kinds unbraced (tighter level) e ++ joined (operands_kinds (tighter level) xs))
+        → ReprintsAt unbraced (chain h expr stmt level e (operands_of xs)) (chain h2 expr2 stmt2 level e (operands_of xs)) (expr_kinds unbraced (tighter level) e ++ concat_tokens (operands_kinds (tighter level) xs))
     reprints_chain unbraced zero e xs = λ ts rest free fine d. absurd d
     reprints_chain unbraced (suc tight) e xs =
         reprints_given_at unbraced _ _ _ _ (reprints_first unbraced (expr tight e) (expr2 tight e) _ _ (expr_kinds unbraced tight e) _ (at unbraced tight e) (reprints_operands (suc tight) tight xs))
@@ -194,9 +194,9 @@ module _ (h h2 : ℕ) (le : h ≤ h2) where
     reprints_part (Call args) =
         reprints_after (punct "(") refl _ _ _ (reprints_seq (list (expr any_expr) (exprs_of args)) (list (expr2 any_expr) (exprs_of args)) (punctuator ")") (punctuator ")") (separate "," (exprs_kinds args)) (punct ")" ∷ []) (reprints_exprs args) (reprints_token (punct ")") refl))
 
-    reprints_parts : (xs : PartTrees) → Reprints (many (part h expr stmt) (parts_of xs)) (many (part h2 expr2 stmt2) (parts_of xs)) (joined (parts_kinds xs))
+    reprints_parts : (xs : PartTrees) → Reprints (many (part h expr stmt) (parts_of xs)) (many (part h2 expr2 stmt2) (parts_of xs)) (concat_tokens (parts_kinds xs))
     reprints_parts xs =
-        subst (λ (runs : List (List TokenKind)). Reprints (many (part h expr stmt) (parts_of xs)) (many (part h2 expr2 stmt2) (parts_of xs)) (joined runs)) (sym (parts_runs xs))
+        subst (λ (runs : List (List TokenKind)). Reprints (many (part h expr stmt) (parts_of xs)) (many (part h2 expr2 stmt2) (parts_of xs)) (concat_tokens runs)) (sym (parts_runs xs))
         (reprints_many (part h expr stmt) (part h2 expr2 stmt2) part_kinds reprints_part (parts_of xs))
 
     reprints_element : (x : ElementTree) → Reprints (element h expr stmt x) (element h2 expr2 stmt2 x) (element_kinds x)
@@ -258,10 +258,10 @@ module _ (h h2 : ℕ) (le : h ≤ h2) where
           left = o.left;
         }
 
-    reprints_stmts : (ss : StmtTrees) → Reprints (block h expr stmt (stmts_of ss)) (block h2 expr2 stmt2 (stmts_of ss)) (punct "{" ∷ (joined (stmts_kinds ss) ++ (punct "}" ∷ [])))
+    reprints_stmts : (ss : StmtTrees) → Reprints (block h expr stmt (stmts_of ss)) (block h2 expr2 stmt2 (stmts_of ss)) (punct "{" ∷ (concat_tokens (stmts_kinds ss) ++ (punct "}" ∷ [])))
     reprints_stmts ss =
-        subst (λ (runs : List (List TokenKind)). Reprints (block h expr stmt (stmts_of ss)) (block h2 expr2 stmt2 (stmts_of ss)) (punct "{" ∷ (joined runs ++ (punct "}" ∷ [])))) (sym (stmts_runs ss))
-        (reprints_in_braces (many stmt (stmts_of ss)) (many stmt2 (stmts_of ss)) (joined (map stmt_kinds (stmts_of ss))) (reprints_many stmt stmt2 stmt_kinds stmt_one (stmts_of ss)))
+        subst (λ (runs : List (List TokenKind)). Reprints (block h expr stmt (stmts_of ss)) (block h2 expr2 stmt2 (stmts_of ss)) (punct "{" ∷ (concat_tokens runs ++ (punct "}" ∷ [])))) (sym (stmts_runs ss))
+        (reprints_in_braces (many stmt (stmts_of ss)) (many stmt2 (stmts_of ss)) (concat_tokens (map stmt_kinds (stmts_of ss))) (reprints_many stmt stmt2 stmt_kinds stmt_one (stmts_of ss)))
 
     reprints_signs : (ops : List UnaryOp) → Reprints (many prefix ops) (many prefix ops) (map prefix_kind ops)
     reprints_signs ops =

@@ -15,7 +15,7 @@ use Rattle.dscript_ast.specs.declared.file.Form.TheVariants as forms
 use Rattle.dscript_ast.specs.declared.file.Mark.{Mark}
 use Rattle.dscript_ast.specs.declared.file.Mark.TheVariants as marks
 use Rattle.dscript_spell.specs.Spellable.{AreSpellable}
-use Rattle.dscript_print.specs.Runs.{punct, keyword, joined, separate, word_run}
+use Rattle.dscript_print.specs.Runs.{punct, keyword, concat_tokens, separate, word_run}
 use Rattle.dscript_print.specs.TypeKinds.{type_kinds, note_kinds}
 use Rattle.dscript_print.specs.ExprKinds.{expr_kinds, stmt_kinds, params_kinds}
 use Rattle.dscript_print.specs.FileKinds.{alias_kinds, import_kinds, mark_kinds, type_params_kinds, extends_kinds, block_kinds, body_kinds, marked_kinds, decl_kinds, all_marked_kinds, item_kinds, file_kinds}
@@ -55,7 +55,7 @@ module _ (h m : ℕ) (le : h ≤ m) where
       (reprints_separated (type_at h any_type) (type_at m any_type) (type_kinds any_type) (type_reprint h m le any_type) "," refl (t ∷ more))
 
   reprints_block : (ss : List StmtTree) → Reprints (block_at h ss) (block_at m ss) (block_kinds ss)
-  reprints_block ss = reprints_in_braces (many (stmt_at h) ss) (many (stmt_at m) ss) (joined (map stmt_kinds ss)) (reprints_many (stmt_at h) (stmt_at m) stmt_kinds (stmt_reprint h m le) ss)
+  reprints_block ss = reprints_in_braces (many (stmt_at h) ss) (many (stmt_at m) ss) (concat_tokens (map stmt_kinds ss)) (reprints_many (stmt_at h) (stmt_at m) stmt_kinds (stmt_reprint h m le) ss)
 
   reprints_noted : (t : Option TypeTree) (B B2 : Language) (ys : List TokenKind) → Reprints B B2 ys → Reprints (optional (type_note h) t ⋅ B) (optional (type_note m) t ⋅ B2) (note_kinds t ++ ys)
   reprints_noted t B B2 ys b = reprints_seq (optional (type_note h) t) (optional (type_note m) t) B B2 (note_kinds t) ys (reprints_notes h m le t) b
@@ -64,10 +64,10 @@ module _ (h m : ℕ) (le : h ≤ m) where
   reprints_generic xs B B2 ys b = reprints_seq (type_params xs) (type_params xs) B B2 (type_params_kinds xs) ys (reprints_type_params xs) b
 
   module _ (marked marked2 : MarkedTree → Language) (one : (x : MarkedTree) → Reprints (marked x) (marked2 x) (marked_kinds x)) where
-    reprints_all_marked : (xs : MarkedTrees) → Reprints (punctuator "{" ⋅ many marked (marked_of xs) ⋅ punctuator "}") (punctuator "{" ⋅ many marked2 (marked_of xs) ⋅ punctuator "}") (punct "{" ∷ (joined (all_marked_kinds xs) ++ (punct "}" ∷ [])))
+    reprints_all_marked : (xs : MarkedTrees) → Reprints (punctuator "{" ⋅ many marked (marked_of xs) ⋅ punctuator "}") (punctuator "{" ⋅ many marked2 (marked_of xs) ⋅ punctuator "}") (punct "{" ∷ (concat_tokens (all_marked_kinds xs) ++ (punct "}" ∷ [])))
     reprints_all_marked xs =
-        subst (λ (runs : List (List TokenKind)). Reprints (punctuator "{" ⋅ many marked (marked_of xs) ⋅ punctuator "}") (punctuator "{" ⋅ many marked2 (marked_of xs) ⋅ punctuator "}") (punct "{" ∷ (joined runs ++ (punct "}" ∷ [])))) (sym (marked_runs xs))
-        (reprints_in_braces (many marked (marked_of xs)) (many marked2 (marked_of xs)) (joined (map marked_kinds (marked_of xs))) (reprints_many marked marked2 marked_kinds one (marked_of xs)))
+        subst (λ (runs : List (List TokenKind)). Reprints (punctuator "{" ⋅ many marked (marked_of xs) ⋅ punctuator "}") (punctuator "{" ⋅ many marked2 (marked_of xs) ⋅ punctuator "}") (punct "{" ∷ (concat_tokens runs ++ (punct "}" ∷ [])))) (sym (marked_runs xs))
+        (reprints_in_braces (many marked (marked_of xs)) (many marked2 (marked_of xs)) (concat_tokens (map marked_kinds (marked_of xs))) (reprints_many marked marked2 marked_kinds one (marked_of xs)))
 
     reprints_decl : (d : DeclTree) → Reprints (decl_node h marked d) (decl_node m marked2 d) (decl_kinds d)
     unfolding decl_kinds

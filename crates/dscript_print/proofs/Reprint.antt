@@ -5,7 +5,7 @@ use Rattle.std.specs.List.{AllByRecursion}
 use Rattle.dscript_lex.specs.declared.token.TokenKind.{TokenKind}
 use Rattle.dscript_lex.specs.declared.token.TokenKind.TheVariants as kinds
 use Rattle.dscript_grammar.specs.Language.{Language, nothing, token, punctuator, identifier, ◌⋅◌, either, given, only_if, many, times, separated, list}
-use Rattle.dscript_print.specs.Runs.{punct, enclosed, run_if, joined, preceded, separate, repeated}
+use Rattle.dscript_print.specs.Runs.{punct, enclosed, run_if, concat_tokens, preceded, separate, repeated}
 use Rattle.dscript_print.proofs.Spelled.{Spells, is_plain, Balanced, append_assoc, append_nil, balanced_append, balanced_token, balanced_braces, open_paren, close_paren}
 
 -- each token has a spelling
@@ -99,9 +99,9 @@ pub reprints_alone : (B A : Language) (xs : List TokenKind) → Reprints A B xs 
 reprints_alone B A xs a = subst (Reprints A B) (sym (append_nil xs)) a
 
 module _ {X : Type 0} (A B : X → Language) (k : X → List TokenKind) (one : (x : X) → Reprints (A x) (B x) (k x)) where
-  pub reprints_many : (xs : List X) → Reprints (many A xs) (many B xs) (joined (map k xs))
+  pub reprints_many : (xs : List X) → Reprints (many A xs) (many B xs) (concat_tokens (map k xs))
   reprints_many [] = reprints_nothing
-  reprints_many (x ∷ xs) = reprints_seq (A x) (B x) (many A xs) (many B xs) (k x) (joined (map k xs)) (one x) (reprints_many xs)
+  reprints_many (x ∷ xs) = reprints_seq (A x) (B x) (many A xs) (many B xs) (k x) (concat_tokens (map k xs)) (one x) (reprints_many xs)
 
   pub reprints_separated : (s : String) → is_plain (punct s) ≡ true → (xs : List X) → Reprints (separated s A xs) (separated s B xs) (separate s (map k xs))
   reprints_separated s plain [] = λ ts rest fine d. absurd d

@@ -10,23 +10,23 @@ use Rattle.dscript_grammar.specs.TypeGrammar.{earlier_type, last_type}
 use Rattle.dscript_ast.specs.declared.type_node.TypeNode.{TypeNode}
 use Rattle.dscript_ast.specs.declared.type_node.Field as fields
 use Rattle.dscript_ast.specs.declared.type_node.Member as members
-use Rattle.dscript_print.specs.Runs.{punct, joined, preceded, repeated}
+use Rattle.dscript_print.specs.Runs.{punct, concat_tokens, preceded, repeated}
 use Rattle.dscript_print.specs.TypeKinds.{argument_run, type_kinds, types_kinds, fields_kinds, members_kinds, union_kinds}
 use Rattle.dscript_print.specs.Written.{type_run, earlier_run, field_run, member_run}
 
-pub joined_snoc : (xs : List (List TokenKind)) (x : List TokenKind) → joined (xs ++ (x ∷ [])) ≡ joined xs ++ x
+pub joined_snoc : (xs : List (List TokenKind)) (x : List TokenKind) → concat_tokens (xs ++ (x ∷ [])) ≡ concat_tokens xs ++ x
 joined_snoc [] x = append_nil x
-joined_snoc (y ∷ ys) x = ap (λ zs. y ++ zs) (joined_snoc ys x) ∙ sym (append_assoc y (joined ys) x)
+joined_snoc (y ∷ ys) x = ap (λ zs. y ++ zs) (joined_snoc ys x) ∙ sym (append_assoc y (concat_tokens ys) x)
 
 pub led_snoc : (s : String) (xs : List (List TokenKind)) (x : List TokenKind) → preceded s (xs ++ (x ∷ [])) ≡ preceded s xs ++ (punct s ∷ x)
 led_snoc s [] x = ap (λ ys. punct s ∷ ys) (append_nil x)
 led_snoc s (y ∷ ys) x = ap (λ zs. punct s ∷ (y ++ zs)) (led_snoc s ys x) ∙ ap (λ zs. punct s ∷ zs) (sym (append_assoc y (preceded s ys) (punct s ∷ x)))
 
 -- one part more
-pub joined_more : {X : Type 0} (k : X → List TokenKind) (xs : List X) (i : ℕ) (x : X) → i < length xs → x ≡ get_or xs i x → joined (map k (take (i + 1) xs)) ≡ joined (map k (take i xs)) ++ k x
+pub joined_more : {X : Type 0} (k : X → List TokenKind) (xs : List X) (i : ℕ) (x : X) → i < length xs → x ≡ get_or xs i x → concat_tokens (map k (take (i + 1) xs)) ≡ concat_tokens (map k (take i xs)) ++ k x
 joined_more k xs i x l e =
-    ap (λ ys. joined (map k ys)) (take_more xs i x l) ∙ ap joined (map-append k (take i xs) (get_or xs i x ∷ []))
-    ∙ joined_snoc (map k (take i xs)) (k (get_or xs i x)) ∙ ap (λ y. joined (map k (take i xs)) ++ k y) (sym e)
+    ap (λ ys. concat_tokens (map k ys)) (take_more xs i x l) ∙ ap concat_tokens (map-append k (take i xs) (get_or xs i x ∷ []))
+    ∙ joined_snoc (map k (take i xs)) (k (get_or xs i x)) ∙ ap (λ y. concat_tokens (map k (take i xs)) ++ k y) (sym e)
 
 pub led_more : {X : Type 0} (s : String) (k : X → List TokenKind) (xs : List X) (i : ℕ) (x : X) → i < length xs → x ≡ get_or xs i x → preceded s (map k (take (i + 1) xs)) ≡ preceded s (map k (take i xs)) ++ (punct s ∷ k x)
 led_more s k xs i x l e =
@@ -55,7 +55,7 @@ unfolding members_kinds
 members_listed [] = refl
 members_listed (x ∷ xs) = ap (λ ys. member_run x ∷ ys) (members_listed xs)
 
-pub union_listed : (xs : List TypeNode) (x : TypeNode) → union_kinds (to_types (map type_tree (xs ++ (x ∷ [])))) ≡ joined (map (λ t. type_kinds earlier_type (type_tree t) ++ (punct "|" ∷ [])) xs) ++ type_kinds last_type (type_tree x)
+pub union_listed : (xs : List TypeNode) (x : TypeNode) → union_kinds (to_types (map type_tree (xs ++ (x ∷ [])))) ≡ concat_tokens (map (λ t. type_kinds earlier_type (type_tree t) ++ (punct "|" ∷ [])) xs) ++ type_kinds last_type (type_tree x)
 unfolding union_kinds
 union_listed [] x = append_nil (type_kinds last_type (type_tree x))
 union_listed (y ∷ ys) x = before y ys x (union_listed ys x)
@@ -66,18 +66,18 @@ union_listed (y ∷ ys) x = before y ys x (union_listed ys x)
         ∙ sym (append_assoc (type_kinds earlier_type (type_tree y) ++ (punct "|" ∷ [])) more last)
 
     before : (y : TypeNode) (ys : List TypeNode) (x : TypeNode)
-        → union_kinds (to_types (map type_tree (ys ++ (x ∷ [])))) ≡ joined (map (λ t. type_kinds earlier_type (type_tree t) ++ (punct "|" ∷ [])) ys) ++ type_kinds last_type (type_tree x)
-        → union_kinds (to_types (map type_tree (y ∷ (ys ++ (x ∷ []))))) ≡ joined (map (λ t. type_kinds earlier_type (type_tree t) ++ (punct "|" ∷ [])) (y ∷ ys)) ++ type_kinds last_type (type_tree x)
+        → union_kinds (to_types (map type_tree (ys ++ (x ∷ [])))) ≡ concat_tokens (map (λ t. type_kinds earlier_type (type_tree t) ++ (punct "|" ∷ [])) ys) ++ type_kinds last_type (type_tree x)
+        → union_kinds (to_types (map type_tree (y ∷ (ys ++ (x ∷ []))))) ≡ concat_tokens (map (λ t. type_kinds earlier_type (type_tree t) ++ (punct "|" ∷ [])) (y ∷ ys)) ++ type_kinds last_type (type_tree x)
     before y [] x e = ap (λ zs. type_kinds earlier_type (type_tree y) ++ (punct "|" ∷ zs)) e ∙ first y [] (type_kinds last_type (type_tree x))
     before y (z ∷ zs) x e =
         ap (λ ws. type_kinds earlier_type (type_tree y) ++ (punct "|" ∷ ws)) e
-        ∙ first y (joined (map (λ t. type_kinds earlier_type (type_tree t) ++ (punct "|" ∷ [])) (z ∷ zs))) (type_kinds last_type (type_tree x))
+        ∙ first y (concat_tokens (map (λ t. type_kinds earlier_type (type_tree t) ++ (punct "|" ∷ [])) (z ∷ zs))) (type_kinds last_type (type_tree x))
 
 -- one step of a loop that writes parts, and of one that writes a punctuator before each
 pub joined_step : {X : Type 0} (k : X → List TokenKind) (xs : List X) (i : ℕ) (x : X) (before now after : List TokenKind)
-    → now ≡ before ++ joined (map k (take i xs)) → after ≡ now ++ k x → i < length xs → x ≡ get_or xs i x → after ≡ before ++ joined (map k (take (i + 1) xs))
+    → now ≡ before ++ concat_tokens (map k (take i xs)) → after ≡ now ++ k x → i < length xs → x ≡ get_or xs i x → after ≡ before ++ concat_tokens (map k (take (i + 1) xs))
 joined_step k xs i x before now after p q l e =
-    q ∙ ap (λ ys. ys ++ k x) p ∙ append_assoc before (joined (map k (take i xs))) (k x) ∙ ap (λ ys. before ++ ys) (sym (joined_more k xs i x l e))
+    q ∙ ap (λ ys. ys ++ k x) p ∙ append_assoc before (concat_tokens (map k (take i xs))) (k x) ∙ ap (λ ys. before ++ ys) (sym (joined_more k xs i x l e))
 
 pub led_step : {X : Type 0} (s : String) (k : X → List TokenKind) (xs : List X) (i : ℕ) (x : X) (before now mid after : List TokenKind)
     → now ≡ before ++ preceded s (map k (take i xs)) → mid ≡ now ++ (punct s ∷ []) → after ≡ mid ++ k x → i < length xs → x ≡ get_or xs i x → after ≡ before ++ preceded s (map k (take (i + 1) xs))
@@ -102,9 +102,9 @@ some_arguments (x ∷ xs) run e = refl
 -- one step of such a loop, where K gives the tokens of each part of a list
 module _ {X : Type 0} (K : List X → List (List TokenKind)) (k : X → List TokenKind) (listed : (xs : List X) → K xs ≡ map k xs) where
   pub joined_turn : (xs : List X) (i : ℕ) (x : X) (before now after : List TokenKind)
-      → now ≡ before ++ joined (K (take i xs)) → after ≡ now ++ k x → i < length xs → x ≡ get_or xs i x → after ≡ before ++ joined (K (take (i + 1) xs))
+      → now ≡ before ++ concat_tokens (K (take i xs)) → after ≡ now ++ k x → i < length xs → x ≡ get_or xs i x → after ≡ before ++ concat_tokens (K (take (i + 1) xs))
   joined_turn xs i x before now after p q l e =
-      joined_step k xs i x before now after (p ∙ ap (λ r. before ++ joined r) (listed (take i xs))) q l e ∙ ap (λ r. before ++ joined r) (sym (listed (take (i + 1) xs)))
+      joined_step k xs i x before now after (p ∙ ap (λ r. before ++ concat_tokens r) (listed (take i xs))) q l e ∙ ap (λ r. before ++ concat_tokens r) (sym (listed (take (i + 1) xs)))
 
   pub led_turn : (s : String) (xs : List X) (i : ℕ) (x : X) (before now mid after : List TokenKind)
       → now ≡ before ++ preceded s (K (take i xs)) → mid ≡ now ++ (punct s ∷ []) → after ≡ mid ++ k x → i < length xs → x ≡ get_or xs i x → after ≡ before ++ preceded s (K (take (i + 1) xs))
@@ -123,10 +123,10 @@ take_whole (x ∷ xs) zero l = absurd (omega (arith, l))
 take_whole (x ∷ xs) (suc i) l = ap (λ ys. x ∷ ys) (take_whole xs i (omega (arith, l)))
 
 pub union_written : (xs all : List TypeNode) (x : TypeNode) (i : ℕ) (before now after : List TokenKind)
-    → all ≡ xs ++ (x ∷ []) → length xs ≤ i → now ≡ before ++ joined (map earlier_run (take i xs)) → after ≡ now ++ type_kinds last_type (type_tree x) → after ≡ before ++ union_kinds (to_types (map type_tree all))
+    → all ≡ xs ++ (x ∷ []) → length xs ≤ i → now ≡ before ++ concat_tokens (map earlier_run (take i xs)) → after ≡ now ++ type_kinds last_type (type_tree x) → after ≡ before ++ union_kinds (to_types (map type_tree all))
 union_written xs all x i before now after whole l p q =
-    q ∙ ap (λ ys. ys ++ type_kinds last_type (type_tree x)) (p ∙ ap (λ ys. before ++ joined (map earlier_run ys)) (take_whole xs i l))
-    ∙ append_assoc before (joined (map earlier_run xs)) (type_kinds last_type (type_tree x))
+    q ∙ ap (λ ys. ys ++ type_kinds last_type (type_tree x)) (p ∙ ap (λ ys. before ++ concat_tokens (map earlier_run ys)) (take_whole xs i l))
+    ∙ append_assoc before (concat_tokens (map earlier_run xs)) (type_kinds last_type (type_tree x))
     ∙ ap (λ ys. before ++ ys) (sym (union_listed xs x)) ∙ ap (λ ys. before ++ union_kinds (to_types (map type_tree ys))) (sym whole)
 
 pub union_none : (xs : List TypeNode) (before : List TokenKind) → length xs ≡ 0 → before ≡ before ++ union_kinds (to_types (map type_tree xs))

@@ -6,7 +6,7 @@ use Rattle.dscript_lex.specs.declared.token.TokenKind.TheVariants as kinds
 use Rattle.dscript_grammar.specs.Language.{Language, punctuator, name, identifier, ◌⋅◌, only_if, many, separated, list}
 use Rattle.dscript_ast.specs.TypeTree.{TypeTree, Union, Array, Named, Str, Number, Undefined, True, False, Body, Function, FieldTree, Field, MemberTree, Property, Method, TypeTrees, no_types, more_types, FieldTrees, no_fields, more_fields, MemberTrees, no_members, more_members, types_of, fields_of, members_of}
 use Rattle.dscript_grammar.specs.TypeGrammar.{type_precedence, any_type, last_type, earlier_type, base_type, union, arguments, field, member, member_end, body, type_node, type_at}
-use Rattle.dscript_print.specs.Runs.{punct, enclosed, enclosed_if, run_if, joined, separate, word_run}
+use Rattle.dscript_print.specs.Runs.{punct, enclosed, enclosed_if, run_if, concat_tokens, separate, word_run}
 use Rattle.dscript_print.specs.TypeKinds.{argument_run, optional_name, type_node_kinds, union_kinds, types_kinds, field_kinds, fields_kinds, member_kinds, members_kinds, type_kinds}
 use Rattle.dscript_print.proofs.Spelled.{balanced_token, semicolon}
 use Rattle.dscript_print.proofs.Reprint.{AllSpell, token_left, reprints_in_braces, IsReprint, Reprints, reprints_seq, reprints_nothing, reprints_token, reprints_after, reprints_id, reprints_after_id, reprints_given, reprints_if, reprints_times, reprints_many, reprints_separated, reprints_list, reprints_alone, reprint_enclosed}
@@ -64,9 +64,9 @@ module _ (type type2 : ℕ → TypeTree → Language)
       reprints_end
 
   pub reprints_members : (xs : List MemberTree)
-      → Reprints (body type xs) (body type2 xs) (punct "{" ∷ (joined (map member_kinds xs) ++ (punct "}" ∷ [])))
+      → Reprints (body type xs) (body type2 xs) (punct "{" ∷ (concat_tokens (map member_kinds xs) ++ (punct "}" ∷ [])))
   reprints_members xs =
-      reprints_in_braces (many (λ m. member type m ⋅ member_end) xs) (many (λ m. member type2 m ⋅ member_end) xs) (joined (map member_kinds xs))
+      reprints_in_braces (many (λ m. member type m ⋅ member_end) xs) (many (λ m. member type2 m ⋅ member_end) xs) (concat_tokens (map member_kinds xs))
       (reprints_many (λ m. member type m ⋅ member_end) (λ m. member type2 m ⋅ member_end) member_kinds reprints_member xs)
 
   reprints_union : (ts : TypeTrees) → Reprints (union type (types_of ts)) (union type2 (types_of ts)) (union_kinds ts)
@@ -103,7 +103,7 @@ module _ (type type2 : ℕ → TypeTree → Language)
   reprints_type_node True = reprints_token _ refl
   reprints_type_node False = reprints_token _ refl
   reprints_type_node (Body members) =
-      subst (λ (runs : List (List TokenKind)). Reprints (body type (members_of members)) (body type2 (members_of members)) (punct "{" ∷ (joined runs ++ (punct "}" ∷ [])))) (sym (members_runs members))
+      subst (λ (runs : List (List TokenKind)). Reprints (body type (members_of members)) (body type2 (members_of members)) (punct "{" ∷ (concat_tokens runs ++ (punct "}" ∷ [])))) (sym (members_runs members))
       (reprints_members (members_of members))
   reprints_type_node (Function fields t) =
       reprints_fields _ _ _ fields (reprints_after (punct ")") refl _ _ _ (reprints_after (punct "=>") refl _ _ _ (one any_type t)))

@@ -20,7 +20,7 @@ use Rattle.dscript_ast.specs.declared.expr.PathKind.{PathKind}
 use Rattle.dscript_ast.specs.declared.expr.PathKind.TheVariants as letters
 use Rattle.dscript_ast.specs.declared.operator.UnaryOp.{UnaryOp}
 use Rattle.dscript_ast.specs.Operators.{spelling, unary_spelling}
-use Rattle.dscript_print.specs.Runs.{punct, keyword, enclosed_if, run_if, joined, separate}
+use Rattle.dscript_print.specs.Runs.{punct, keyword, enclosed_if, run_if, concat_tokens, separate}
 use Rattle.dscript_print.specs.TypeKinds.{optional_name, note_kinds}
 
 -- an object, which begins with `{`
@@ -89,15 +89,15 @@ unfoldable mutual
   pub node_kinds : ExprTree → Bool → List TokenKind
   node_kinds (Arrow x e) unbraced = head_kinds x ++ (punct "=>" ∷ fit true any_expr e (node_kinds e))
   node_kinds (BlockArrow x ss) unbraced =
-      head_kinds x ++ (punct "=>" ∷ punct "{" ∷ (joined (stmts_kinds ss) ++ (punct "}" ∷ [])))
+      head_kinds x ++ (punct "=>" ∷ punct "{" ∷ (concat_tokens (stmts_kinds ss) ++ (punct "}" ∷ [])))
   node_kinds (Cond c a b) unbraced =
       fit unbraced or_expr c (node_kinds c) ++ (punct "?" ∷ (fit false any_expr a (node_kinds a) ++ (punct ":"
       ∷ fit false any_expr b (node_kinds b))))
   node_kinds (Chain level e more) unbraced =
-      fit unbraced (tighter level) e (node_kinds e) ++ joined (operands_kinds (tighter level) more)
+      fit unbraced (tighter level) e (node_kinds e) ++ concat_tokens (operands_kinds (tighter level) more)
   node_kinds (Unary ops e) unbraced = map prefix_kind ops ++ fit false postfix_expr e (node_kinds e)
   node_kinds (Postfix e parts) unbraced =
-      fit unbraced primary_expr e (node_kinds e) ++ joined (parts_kinds parts)
+      fit unbraced primary_expr e (node_kinds e) ++ concat_tokens (parts_kinds parts)
   node_kinds (Number n) unbraced = kinds.Number n ∷ []
   node_kinds (Str s) unbraced = kinds.Str s ∷ []
   node_kinds True unbraced = keyword "true" ∷ []
@@ -170,7 +170,7 @@ unfoldable mutual
       ∷ (fit false any_expr list (node_kinds list) ++ (punct ")" ∷ stmt_kinds s))
   stmt_kinds (Return e) = keyword "return" ∷ (maybe_kinds e ++ (punct ";" ∷ []))
   stmt_kinds (Value e) = fit true any_expr e (node_kinds e) ++ (punct ";" ∷ [])
-  stmt_kinds (Block ss) = punct "{" ∷ (joined (stmts_kinds ss) ++ (punct "}" ∷ []))
+  stmt_kinds (Block ss) = punct "{" ∷ (concat_tokens (stmts_kinds ss) ++ (punct "}" ∷ []))
   stmt_kinds Empty = punct ";" ∷ []
 
   pub value_kinds : MaybeExpr → List TokenKind

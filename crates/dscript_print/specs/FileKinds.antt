@@ -12,7 +12,7 @@ use Rattle.dscript_ast.specs.FileTree.{ImportAll, ImportNames, Declared, Empty, 
 use Rattle.dscript_ast.specs.FileTree.{Module}
 use Rattle.dscript_ast.specs.declared.file.Mark.{Mark}
 use Rattle.dscript_ast.specs.declared.file.Mark.TheVariants as marks
-use Rattle.dscript_print.specs.Runs.{punct, keyword, joined, separate, word_run}
+use Rattle.dscript_print.specs.Runs.{punct, keyword, concat_tokens, separate, word_run}
 use Rattle.dscript_print.specs.TypeKinds.{type_kinds, note_kinds, member_kinds}
 use Rattle.dscript_print.specs.ExprKinds.{expr_kinds, stmt_kinds, params_kinds}
 
@@ -38,10 +38,10 @@ extends_kinds [] = []
 extends_kinds (t ∷ more) = keyword "extends" ∷ separate "," (map (type_kinds any_type) (t ∷ more))
 
 abbrev pub block_kinds : List StmtTree → List TokenKind
-block_kinds ss = punct "{" ∷ (joined (map stmt_kinds ss) ++ (punct "}" ∷ []))
+block_kinds ss = punct "{" ∷ (concat_tokens (map stmt_kinds ss) ++ (punct "}" ∷ []))
 
 abbrev pub body_kinds : List MemberTree → List TokenKind
-body_kinds ms = punct "{" ∷ (joined (map member_kinds ms) ++ (punct "}" ∷ []))
+body_kinds ms = punct "{" ∷ (concat_tokens (map member_kinds ms) ++ (punct "}" ∷ []))
 
 abbrev pub interface_kinds : List ℕ → List (List ℕ) → List TypeTree → List MemberTree → List TokenKind
 interface_kinds x ts es ms =
@@ -64,7 +64,7 @@ unfoldable mutual
       keyword "function" ∷ kinds.Word x ∷ (type_params_kinds ts ++ (params_kinds ps ++ (note_kinds t
       ++ block_kinds ss)))
   decl_kinds (Namespace names ms) =
-      keyword "namespace" ∷ (separate "." (map word_run names) ++ (punct "{" ∷ (joined (all_marked_kinds ms)
+      keyword "namespace" ∷ (separate "." (map word_run names) ++ (punct "{" ∷ (concat_tokens (all_marked_kinds ms)
       ++ (punct "}" ∷ []))))
   decl_kinds (Interface x ts es ms) = interface_kinds x ts es ms
   decl_kinds (TypeAlias x ts t) = alias_type_kinds x ts t
@@ -85,7 +85,7 @@ item_kinds Empty = punct ";" ∷ []
 
 -- a whole file
 abbrev pub file_kinds : FileTree → List TokenKind
-file_kinds (Project items) = joined (map item_kinds items)
+file_kinds (Project items) = concat_tokens (map item_kinds items)
 file_kinds (Config e) =
     keyword "config" ∷ punct "(" ∷ (expr_kinds false any_expr e ++ (punct ")" ∷ punct ";" ∷ []))
 file_kinds (Module e) =

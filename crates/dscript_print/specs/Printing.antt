@@ -7,7 +7,7 @@ use Rattle.dscript_grammar.specs.Derives.{Derives}
 use Rattle.dscript_ast.specs.FileTree.{FileTree}
 
 -- the tokens of this text derive the file as this form within this height
-pub record Reads (form : Form) (text : List ℕ) (file : FileTree) (height : ℕ) : Type 0 where
+pub record TextDerives (form : Form) (text : List ℕ) (file : FileTree) (height : ℕ) : Type 0 where
   pub tokens : List Token
   pub are : AreTokens text tokens
   pub derive : Derives form (map (λ t. t.kind) tokens) file height
@@ -16,4 +16,4 @@ pub record Reads (form : Form) (text : List ℕ) (file : FileTree) (height : ℕ
 -- a file to which no text is parsed.
 abbrev pub Prints : List ℕ → FileTree → Type 0
 Prints printed file =
-    (form : Form) (text : List ℕ) (height : ℕ) → Reads form text file height → Reads form printed file height
+    (form : Form) (text : List ℕ) (height : ℕ) → TextDerives form text file height → TextDerives form printed file height

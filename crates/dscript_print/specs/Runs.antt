@@ -27,9 +27,9 @@ run_if true xs = xs
 run_if false xs = []
 
 -- the lists, one after another
-abbrev pub joined : List (List TokenKind) → List TokenKind
-joined [] = []
-joined (x ∷ xs) = x ++ joined xs
+abbrev pub concat_tokens : List (List TokenKind) → List TokenKind
+concat_tokens [] = []
+concat_tokens (x ∷ xs) = x ++ concat_tokens xs
 
 -- the lists, with the punctuator before each
 abbrev pub preceded : String → List (List TokenKind) → List TokenKind

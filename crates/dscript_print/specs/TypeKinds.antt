@@ -7,7 +7,7 @@ use Rattle.dscript_ast.specs.TypeTree.{Body, Function, FieldTree, Field, MemberT
 use Rattle.dscript_ast.specs.TypeTree.{TypeTrees, no_types, more_types, FieldTrees, no_fields, more_fields}
 use Rattle.dscript_ast.specs.TypeTree.{MemberTrees, no_members, more_members}
 use Rattle.dscript_grammar.specs.TypeGrammar.{type_precedence, any_type, last_type, earlier_type, base_type}
-use Rattle.dscript_print.specs.Runs.{punct, keyword, enclosed_if, run_if, joined, separate, word_run}
+use Rattle.dscript_print.specs.Runs.{punct, keyword, enclosed_if, run_if, concat_tokens, separate, word_run}
 use Rattle.dscript_print.specs.Runs.{repeated}
 
 -- the tokens of a type where at most this level is allowed: in parentheses if its own level is looser
@@ -45,7 +45,7 @@ unfoldable mutual
   type_node_kinds Undefined = keyword "undefined" ∷ []
   type_node_kinds True = keyword "true" ∷ []
   type_node_kinds False = keyword "false" ∷ []
-  type_node_kinds (Body members) = punct "{" ∷ (joined (members_kinds members) ++ (punct "}" ∷ []))
+  type_node_kinds (Body members) = punct "{" ∷ (concat_tokens (members_kinds members) ++ (punct "}" ∷ []))
   type_node_kinds (Function fields t) =
       punct "(" ∷ (separate "," (fields_kinds fields) ++ (punct ")" ∷ punct "=>"
       ∷ fit any_type t (type_node_kinds t)))

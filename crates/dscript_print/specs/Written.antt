@@ -26,7 +26,7 @@ use Rattle.dscript_grammar.specs.TypeGrammar.{any_type, earlier_type}
 use Rattle.dscript_ast.specs.declared.type_node.Field as fields
 use Rattle.dscript_ast.specs.declared.type_node.Member as members
 use Rattle.dscript_print.specs.declared.writer.Writer.{Writer}
-use Rattle.dscript_print.specs.Runs.{punct, keyword, joined}
+use Rattle.dscript_print.specs.Runs.{punct, keyword, concat_tokens}
 use Rattle.dscript_print.specs.TypeKinds.{type_kinds, field_kinds, member_kinds, note_kinds}
 
 -- the tokens that were written, in order
@@ -63,7 +63,7 @@ arrow_kinds head body =
     head_kinds (head_tree head) ++ (punct "=>" ∷ expr_kinds true any_expr (expr_tree body))
 
 abbrev pub block_run : List Stmt → List TokenKind
-block_run body = punct "{" ∷ (joined (stmts_kinds (to_stmts (map stmt_tree body))) ++ (punct "}" ∷ []))
+block_run body = punct "{" ∷ (concat_tokens (stmts_kinds (to_stmts (map stmt_tree body))) ++ (punct "}" ∷ []))
 
 abbrev pub block_arrow_kinds : ArrowHead → List Stmt → List TokenKind
 block_arrow_kinds head body = head_kinds (head_tree head) ++ (punct "=>" ∷ block_run body)

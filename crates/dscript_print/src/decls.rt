@@ -12,7 +12,7 @@ ghost use Rattle.dscript_print.specs.FileKinds.{extends_kinds, block_kinds, body
 ghost use Rattle.dscript_print.specs.FileKinds.{decl_kinds, all_marked_kinds};
 ghost use Rattle.dscript_print.specs.TypeKinds.{note_kinds, types_kinds, member_kinds};
 ghost use Rattle.dscript_print.specs.Written.{Writes};
-ghost use Rattle.dscript_print.specs.Runs.{punct, keyword, joined, separate, word_run};
+ghost use Rattle.dscript_print.specs.Runs.{punct, keyword, concat_tokens, separate, word_run};
 
 use crate::exprs::ANY_EXPR;
 use crate::types::ANY_TYPE;
@@ -64,7 +64,7 @@ impl Writer {
     #[cycle(decls)]
     fn namespace(&mut self, marked: &[Marked]) -> Result<(), Memory>
         ensures { Writes self.old self.new result
-            (punct "{" ∷ (joined (all_marked_kinds (to_marked (map marked_tree marked.now))) ++ (punct "}"
+            (punct "{" ∷ (concat_tokens (all_marked_kinds (to_marked (map marked_tree marked.now))) ++ (punct "}"
             ∷ []))) }
     {
         self.space();
@@ -80,7 +80,7 @@ impl Writer {
     #[cycle(decls)]
     fn all_marked(&mut self, marked: &[Marked]) -> Result<(), Memory>
         ensures { Writes self.old self.new result
-            (joined (all_marked_kinds (to_marked (map marked_tree marked.now)))) }
+            (concat_tokens (all_marked_kinds (to_marked (map marked_tree marked.now)))) }
     {
         for one in marked {
             self.line();
@@ -196,7 +196,7 @@ impl Writer {
 
     /// Writes members, each on a line of its own.
     fn lined_members(&mut self, members: &[Member]) -> Result<(), Memory>
-        ensures { Writes self.old self.new result (joined (map member_kinds (map member_tree members.now))) }
+        ensures { Writes self.old self.new result (concat_tokens (map member_kinds (map member_tree members.now))) }
     {
         for member in members {
             self.line();

@@ -14,7 +14,7 @@ ghost use Rattle.dscript_print.specs.ExprKinds.{element_kinds, elements_kinds, p
 ghost use Rattle.dscript_print.specs.ExprKinds.{holes_kinds, first_text};
 ghost use Rattle.dscript_print.specs.Written.{arrow_kinds, block_arrow_kinds, branch_kinds, unary_kinds};
 ghost use Rattle.dscript_print.specs.Written.{template_kinds, Writes, middle_run, tail_run};
-ghost use Rattle.dscript_print.specs.Runs.{punct, run_if, joined, separate};
+ghost use Rattle.dscript_print.specs.Runs.{punct, run_if, concat_tokens, separate};
 
 use crate::writer::Writer;
 use bx_tree::{Memory, Text};
@@ -174,7 +174,7 @@ impl Writer {
     #[cycle(exprs)]
     fn operands(&mut self, operands: &[Operand], tight: u32) -> Result<(), Memory>
         ensures { Writes self.old self.new result
-            (joined (operands_kinds tight (to_operands (map operand_tree operands.now)))) }
+            (concat_tokens (operands_kinds tight (to_operands (map operand_tree operands.now)))) }
     {
         for operand in operands {
             self.operand(operand, tight)?;
@@ -221,7 +221,7 @@ impl Writer {
     #[cycle(exprs)]
     fn parts(&mut self, parts: &[PostfixPart]) -> Result<(), Memory>
         ensures { Writes self.old self.new result
-            (joined (parts_kinds (to_parts (map part_tree parts.now)))) }
+            (concat_tokens (parts_kinds (to_parts (map part_tree parts.now)))) }
     {
         for part in parts {
             self.part(part)?;

@@ -6,7 +6,7 @@ ghost use Rattle.dscript_ast.specs.Views.{expr_tree, item_tree, file_tree};
 ghost use Rattle.dscript_print.specs.ExprKinds.{expr_kinds};
 ghost use Rattle.dscript_print.specs.FileKinds.{item_kinds, file_kinds};
 ghost use Rattle.dscript_print.specs.Written.{Writes};
-ghost use Rattle.dscript_print.specs.Runs.{punct, joined};
+ghost use Rattle.dscript_print.specs.Runs.{punct, concat_tokens};
 
 use crate::exprs::ANY_EXPR;
 use crate::writer::Writer;
@@ -44,7 +44,7 @@ impl Writer {
 
     /// Writes items, each on a line of its own.
     fn items(&mut self, items: &[Item]) -> Result<(), Memory>
-        ensures { Writes self.old self.new result (joined (map item_kinds (map item_tree items.now))) }
+        ensures { Writes self.old self.new result (concat_tokens (map item_kinds (map item_tree items.now))) }
     {
         for item in items {
             self.item(item)?;

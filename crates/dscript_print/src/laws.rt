@@ -8,7 +8,7 @@ ghost use Rattle.dscript_grammar.specs.Derives.{Derives};
 ghost use Rattle.dscript_ast.specs.FileTree.{FileTree};
 ghost use Rattle.dscript_spell.specs.Spellable.{AreSpellable};
 ghost use Rattle.dscript_print.specs.FileKinds.{file_kinds};
-ghost use Rattle.dscript_print.specs.Printing.{Prints, Reads};
+ghost use Rattle.dscript_print.specs.Printing.{Prints, TextDerives};
 
 /// The tokens that are printed of a file derive it, within the height within which tokens of some text derive
 /// it, and they can be written one after another.
@@ -26,7 +26,7 @@ pub fn printed_tokens_derive()
 pub fn printed_text_reads_back()
     ensures { (form : Form) (file other : FileTree) (source printed : List ℕ) (height other_height : ℕ)
         (tokens : List Token)
-        → Prints printed file → Reads form source file height
+        → Prints printed file → TextDerives form source file height
         → AreTokens printed tokens → Derives form (map (λ t. t.kind) tokens) other other_height
         → other ≡ file }
 {}

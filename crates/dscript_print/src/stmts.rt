@@ -9,7 +9,7 @@ ghost use Rattle.dscript_print.specs.ExprKinds.{expr_kinds, loop_kind, stmt_kind
 ghost use Rattle.dscript_print.specs.ExprKinds.{maybe_kinds, else_kinds};
 ghost use Rattle.dscript_print.specs.Written.{constant_kinds, terminated_kinds, variable_kinds, return_kinds};
 ghost use Rattle.dscript_print.specs.Written.{Writes};
-ghost use Rattle.dscript_print.specs.Runs.{punct, keyword, joined};
+ghost use Rattle.dscript_print.specs.Runs.{punct, keyword, concat_tokens};
 
 use crate::exprs::ANY_EXPR;
 use crate::writer::Writer;
@@ -219,7 +219,7 @@ impl Writer {
     #[cycle(exprs)]
     pub(crate) fn block(&mut self, stmts: &[Stmt]) -> Result<(), Memory>
         ensures { Writes self.old self.new result
-            (punct "{" ∷ (joined (stmts_kinds (to_stmts (map stmt_tree stmts.now))) ++ (punct "}" ∷ []))) }
+            (punct "{" ∷ (concat_tokens (stmts_kinds (to_stmts (map stmt_tree stmts.now))) ++ (punct "}" ∷ []))) }
     {
         self.punctuator(b"{")?;
         self.indent();
@@ -233,7 +233,7 @@ impl Writer {
     #[cycle(exprs)]
     fn stmts(&mut self, stmts: &[Stmt]) -> Result<(), Memory>
         ensures { Writes self.old self.new result
-            (joined (stmts_kinds (to_stmts (map stmt_tree stmts.now)))) }
+            (concat_tokens (stmts_kinds (to_stmts (map stmt_tree stmts.now)))) }
     {
         for stmt in stmts {
             self.line();

@@ -5,7 +5,7 @@ ghost use Rattle.dscript_grammar.specs.TypeGrammar.{type_precedence, any_type};
 ghost use Rattle.dscript_ast.specs.Views.{note_tree, type_tree, member_tree, field_tree};
 ghost use Rattle.dscript_ast.specs.TypeTree.{to_types, to_fields, to_members};
 ghost use Rattle.dscript_print.specs.Written.{Writes, type_run, earlier_run, field_run, member_run};
-ghost use Rattle.dscript_print.specs.Runs.{punct, preceded, separate, repeated, joined, word_run};
+ghost use Rattle.dscript_print.specs.Runs.{punct, preceded, separate, repeated, concat_tokens, word_run};
 ghost use Rattle.dscript_print.specs.TypeKinds.{types_kinds, fields_kinds, members_kinds, type_node_kinds};
 ghost use Rattle.dscript_print.specs.TypeKinds.{type_kinds, union_kinds, argument_run, field_kinds};
 ghost use Rattle.dscript_print.specs.TypeKinds.{member_kinds, optional_name, note_kinds};
@@ -196,7 +196,7 @@ impl Writer {
     #[cycle(types)]
     fn inline_body(&mut self, members: &[Member]) -> Result<(), Memory>
         ensures { Writes self.old self.new result
-            (punct "{" ∷ (joined (members_kinds (to_members (map member_tree members.now))) ++ (punct "}"
+            (punct "{" ∷ (concat_tokens (members_kinds (to_members (map member_tree members.now))) ++ (punct "}"
             ∷ []))) }
     {
         self.punctuator(b"{")?;
@@ -210,7 +210,7 @@ impl Writer {
     #[cycle(types)]
     fn members(&mut self, members: &[Member]) -> Result<(), Memory>
         ensures { Writes self.old self.new result
-            (joined (members_kinds (to_members (map member_tree members.now)))) }
+            (concat_tokens (members_kinds (to_members (map member_tree members.now)))) }
     {
         for member in members {
             self.member(member)?;

@@ -201,18 +201,18 @@ has_namespace world module_name x =
     else list_any (opens x (module_number world module_name)) world.files
 
 -- the fault, if there is one
-abbrev pub fault_of : Result Found SpecKind → Option SpecKind
-fault_of (Ok found) = None
-fault_of (Err kind) = Some kind
+abbrev pub lookup_fault : Result Found SpecKind → Option SpecKind
+lookup_fault (Ok found) = None
+lookup_fault (Err kind) = Some kind
 
 -- a module that is named has to be there
-abbrev pub module_fault : World → List ℕ → Option SpecKind
-module_fault world name = if is_module world name then None else Some faults.UnknownModule
+abbrev pub unknown_module_fault : World → List ℕ → Option SpecKind
+unknown_module_fault world name = if is_module world name then None else Some faults.UnknownModule
 
 -- a name in braces is that of a namespace or of a value of its module, or else a fault
 abbrev pub import_fault : World → List ℕ → List ℕ → Option SpecKind
 import_fault world module_name x =
-    if has_namespace world module_name x then None else fault_of (in_module world module_name 0 (x ∷ []))
+    if has_namespace world module_name x then None else lookup_fault (in_module world module_name 0 (x ∷ []))
 
 -- ## `importFrom`
 

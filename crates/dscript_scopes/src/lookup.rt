@@ -9,7 +9,7 @@ ghost use Rattle.dscript_scopes.specs.Lookup.{beginnings, found_at, found_outsid
 ghost use Rattle.dscript_scopes.specs.Lookup.{import_fault};
 ghost use Rattle.dscript_scopes.specs.Lookup.{in_import_call, in_imports, in_module, in_namespaces};
 ghost use Rattle.dscript_scopes.specs.Lookup.{in_own_module};
-ghost use Rattle.dscript_scopes.specs.Lookup.{in_other_module, is_module, members_at, module_fault};
+ghost use Rattle.dscript_scopes.specs.Lookup.{in_other_module, is_module, members_at, unknown_module_fault};
 ghost use Rattle.dscript_scopes.specs.Lookup.{one_string, sdk_found, string_of, through_import};
 ghost use Rattle.dscript_scopes.specs.Declarations.{is_any};
 ghost use Rattle.dscript_scopes.specs.Lookup.{shortest, value_of_module};
@@ -190,7 +190,7 @@ fn has_namespace(world: &World, module_name: &Text, name: &Text) -> bool
 
 /// Checks that a module is there.
 pub fn check_module(world: &World, module_name: &Text) -> Result<(), SpecKind>
-    ensures { result_err result ≡ module_fault world.now module_name.now }
+    ensures { result_err result ≡ unknown_module_fault world.now module_name.now }
 {
     if is_module(world, module_name) {
         return Ok(());

@@ -95,10 +95,10 @@ function_named s v None = None
 function_named s v (Some m) = function_at s m v
 
 -- what a member comes to when it is called, which only a function can be
-abbrev pub called : State → Plain → List ℕ → List Plain → Option MemberFunction → Outcome Plain
-called s v name args None = member_of s v name >>= λ _. Err Kind
-called s v name args (Some function) = function args
+abbrev pub call_of_member : State → Plain → List ℕ → List Plain → Option MemberFunction → Outcome Plain
+call_of_member s v name args None = member_of s v name >>= λ _. Err Kind
+call_of_member s v name args (Some function) = function args
 
 -- what the call of a member function comes to, where it does not call functions
 unfoldable pub method_of : State → Plain → List ℕ → List Plain → Outcome Plain
-method_of s v name args = called s v name args (function_named s v (member_named name))
+method_of s v name args = call_of_member s v name args (function_named s v (member_named name))

@@ -12,7 +12,7 @@ ghost use Rattle.dscript_sdk.specs.ProcessMembers.{process_function};
 ghost use Rattle.dscript_sdk.specs.StaticMembers.{seal_function};
 ghost use Rattle.sdk_members.specs.Gives.{Gives, applied};
 ghost use Rattle.sdk_values.specs.Outcomes.{Refuses};
-ghost use Rattle.dscript_sdk.specs.Members.{called, function_at, function_named, is_callback_named};
+ghost use Rattle.dscript_sdk.specs.Members.{call_of_member, function_at, function_named, is_callback_named};
 ghost use Rattle.dscript_sdk.specs.Members.{is_function_found};
 ghost use Rattle.dscript_sdk.specs.Members.{is_callback_of, is_function_named, is_function_of, member_answer};
 ghost use Rattle.dscript_sdk.specs.Members.{member_of, method_of, own_member, property_at};

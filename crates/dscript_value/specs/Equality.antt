@@ -113,9 +113,9 @@ abbrev pub is_relative : List (List ℕ) → Plain → Bool
 is_relative x (plain.Relative y) = same_path x y
 is_relative x _ = false
 
-abbrev pub is_atom : List ℕ → Plain → Bool
-is_atom x (plain.Atom y) = bytes_eq x y
-is_atom x _ = false
+abbrev pub equals_atom : List ℕ → Plain → Bool
+equals_atom x (plain.Atom y) = bytes_eq x y
+equals_atom x _ = false
 
 abbrev pub is_static : StaticDir → Plain → Bool
 is_static x (plain.Static y) = same_static x y
@@ -161,7 +161,7 @@ equal_of (plain.Path x) b = Some (is_path x b)
 equal_of (plain.File x) b = Some (is_file x b)
 equal_of (plain.Directory x) b = Some (is_directory x b)
 equal_of (plain.Relative x) b = Some (is_relative x b)
-equal_of (plain.Atom x) b = Some (is_atom x b)
+equal_of (plain.Atom x) b = Some (equals_atom x b)
 equal_of (plain.Listed depth items) b = unanswered (is_list b)
 equal_of (plain.Object depth members) b = unanswered (is_object b)
 equal_of (plain.Function callee depth held) b = unanswered (is_function b)

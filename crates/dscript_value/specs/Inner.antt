@@ -8,12 +8,12 @@ use Rattle.dscript_value.specs.Data.{PlainValues, item_list, to_items}
 use Rattle.dscript_value.specs.Depths.{IsDeep}
 
 -- two lists, one after another
-abbrev pub joined : Join → PlainValues
-joined j = record { depth = j.depth; items = to_items (item_list j.left.items ++ item_list j.right.items) }
+abbrev pub joined_items : Join → PlainValues
+joined_items j = record { depth = j.depth; items = to_items (item_list j.left.items ++ item_list j.right.items) }
 
 abbrev pub values_of_parts : Parts → PlainValues
 values_of_parts (Flat values) = values
-values_of_parts (Joined j) = joined (rc_value j)
+values_of_parts (Joined j) = joined_items (rc_value j)
 
 -- both lists have items, which are counted, and the depth is the greater one
 pub record IsJoin (j : Join) : Type 0 where
@@ -21,7 +21,7 @@ pub record IsJoin (j : Join) : Type 0 where
   pub right_some : 0 < length (item_list j.right.items)
   pub count : j.count ≡ length (item_list j.left.items) + length (item_list j.right.items)
   pub countable : j.count < 2 ^ 63
-  pub deep : IsDeep (joined j)
+  pub deep : IsDeep (joined_items j)
 
 abbrev pub IsWhole : Parts → Type 0
 IsWhole (Flat values) = IsDeep values

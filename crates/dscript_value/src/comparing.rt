@@ -219,7 +219,7 @@ fn is_relative(value: &Value, path: &RelativePath) -> bool
 }
 
 fn is_atom(value: &Value, atom: &Text) -> bool
-    ensures { result ≡ spec.is_atom atom.now (plain_of value.now) }
+    ensures { result ≡ spec.equals_atom atom.now (plain_of value.now) }
 {
     match value {
         Value::Atom(other) => atom.bytes() == other.bytes(),

@@ -10,7 +10,7 @@ use Rattle.bx_tree.specs.Paths.{Atoms}
 use Rattle.dscript_modules.specs.Faults.{FaultData}
 use Rattle.dscript_workspace.specs.declared.module_file.ModuleFile as memory
 use Rattle.dscript_workspace.specs.ModuleFiles.{file_data, files_data}
-use Rattle.dscript_workspace.specs.Workspaces.{ModuleFile, fault_of, file_fault, has_file, implies_file, is_taken, option_or}
+use Rattle.dscript_workspace.specs.Workspaces.{ModuleFile, file_fault, has_file, implies_file, is_taken, module_file_fault, option_or}
 
 prefix-more : (all : List memory.ModuleFile) (i : ℕ) (m : memory.ModuleFile) → i < length all → m ≡ get_or all i m
     → files_data (take (i + 1) all) ≡ files_data (take i all) ++ file_data m ∷ []
@@ -46,14 +46,14 @@ taken_more all i m path old new l is e f =
     ∙ ap (λ ms. is_taken (files_data all) ms path) (sym (prefix-more all i m l is))
 
 same_fault : (taken other : Atoms → Bool) (m : ModuleFile) → ((path : Atoms) → taken path ≡ other path)
-    → fault_of taken m ≡ fault_of other m
-same_fault taken other m same = ap (λ (t : Atoms → Bool). fault_of t m) (fun_ext same)
+    → module_file_fault taken m ≡ module_file_fault other m
+same_fault taken other m same = ap (λ (t : Atoms → Bool). module_file_fault t m) (fun_ext same)
 
 -- the first fault is that of a module file, if those before it have none
 pub fault_here : (all : List memory.ModuleFile) (i : ℕ) (m : memory.ModuleFile) (taken : Atoms → Bool) (fault : FaultData)
     → i < length all → m ≡ get_or all i m
     → ((path : Atoms) → taken path ≡ is_taken (files_data all) (files_data (take i all)) path)
-    → Some fault ≡ fault_of taken (file_data m)
+    → Some fault ≡ module_file_fault taken (file_data m)
     → Some fault ≡ file_fault (files_data all) (files_data (take i all)) (files_data (drop i all))
 fault_here all i m taken fault l is same e =
     let before = files_data (take i all) in
@@ -65,7 +65,7 @@ fault_here all i m taken fault l is same e =
 pub fault_later : (all : List memory.ModuleFile) (i : ℕ) (m : memory.ModuleFile) (taken : Atoms → Bool)
     → i < length all → m ≡ get_or all i m
     → ((path : Atoms) → taken path ≡ is_taken (files_data all) (files_data (take i all)) path)
-    → None ≡ fault_of taken (file_data m)
+    → None ≡ module_file_fault taken (file_data m)
     → file_fault (files_data all) (files_data (take (i + 1) all)) (files_data (drop (i + 1) all))
     ≡ file_fault (files_data all) (files_data (take i all)) (files_data (drop i all))
 fault_later all i m taken l is same e =

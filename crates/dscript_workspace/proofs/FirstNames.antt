@@ -16,7 +16,7 @@ use Rattle.dscript_modules.specs.declared.fault.SpecKind.TheVariants as kinds
 use Rattle.dscript_modules.specs.declared.workspace.ModuleText.{ModuleText}
 use Rattle.dscript_modules.specs.Faults.{FaultData}
 use Rattle.dscript_modules.specs.Workspaces.{ModuleData, module_data, modules_data, sdk_name}
-use Rattle.dscript_workspace.specs.Workspaces.{is_used, name_fault}
+use Rattle.dscript_workspace.specs.Workspaces.{is_used, repeated_module_name}
 
 same_text : (x y : List ℕ) → bytes_eq x y ≡ is_eq (slice_cmp nat_cmp x y)
 same_text x y = both_ways (bytes_eq x y) (is_eq (slice_cmp nat_cmp x y))
@@ -76,24 +76,24 @@ twice m = record { kind = kinds.DuplicateModule; file = m.config; place = None }
 -- the first fault is that of a module whose name is used before, if the names before it are not
 pub fault_here : (all : List ModuleText) (i : ℕ) (m : ModuleText) → i < length all → m ≡ get_or all i m
     → is_used (modules_data (take i all)) m.name ≡ true
-    → Some (twice (module_data m)) ≡ name_fault (modules_data (take i all)) (modules_data (drop i all))
+    → Some (twice (module_data m)) ≡ repeated_module_name (modules_data (take i all)) (modules_data (drop i all))
 fault_here all i m l is e =
     let prefix = modules_data (take i all) in
-    let later = name_fault (prefix ++ module_data m ∷ []) (modules_data (drop (i + 1) all)) in
+    let later = repeated_module_name (prefix ++ module_data m ∷ []) (modules_data (drop (i + 1) all)) in
     ap (λ b. cond b (Some (twice (module_data m))) later) (sym e)
-    ∙ ap (name_fault prefix) (sym (rest-less all i m l is))
+    ∙ ap (repeated_module_name prefix) (sym (rest-less all i m l is))
 
 -- a module whose name is not used before leaves the first fault to the rest
 pub fault_later : (all : List ModuleText) (i : ℕ) (m : ModuleText) → i < length all → m ≡ get_or all i m
     → is_used (modules_data (take i all)) m.name ≡ false
-    → name_fault (modules_data (take (i + 1) all)) (modules_data (drop (i + 1) all))
-    ≡ name_fault (modules_data (take i all)) (modules_data (drop i all))
+    → repeated_module_name (modules_data (take (i + 1) all)) (modules_data (drop (i + 1) all))
+    ≡ repeated_module_name (modules_data (take i all)) (modules_data (drop i all))
 fault_later all i m l is e =
     let prefix = modules_data (take i all) in
-    let later = name_fault (prefix ++ module_data m ∷ []) (modules_data (drop (i + 1) all)) in
-    ap (λ ms. name_fault ms (modules_data (drop (i + 1) all))) (prefix-more all i m l is)
+    let later = repeated_module_name (prefix ++ module_data m ∷ []) (modules_data (drop (i + 1) all)) in
+    ap (λ ms. repeated_module_name ms (modules_data (drop (i + 1) all))) (prefix-more all i m l is)
     ∙ ap (λ b. cond b (Some (twice (module_data m))) later) (sym e)
-    ∙ ap (name_fault prefix) (sym (rest-less all i m l is))
+    ∙ ap (repeated_module_name prefix) (sym (rest-less all i m l is))
 
 -- what was not added was there
 pub was_there : (b added : Bool) → added ≡ not b → added ≡ false → b ≡ true

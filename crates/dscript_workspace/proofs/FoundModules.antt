@@ -14,7 +14,7 @@ use Rattle.dscript_modules.specs.Workspaces.{ModuleData}
 use Rattle.dscript_read.specs.Reading.{Reading, Read, NoTokens, NoFile, ReadsAs}
 use Rattle.dscript_workspace.specs.Membership.{config_path, dir_of}
 use Rattle.dscript_workspace.specs.Workspaces.{Answer, Found, Refused, ModuleFile, answer_of, file_fault, module_in}
-use Rattle.dscript_workspace.specs.Workspaces.{modules, name_fault, option_or, refused_or}
+use Rattle.dscript_workspace.specs.Workspaces.{modules, option_or, refused_or, repeated_module_name}
 use Rattle.dscript_workspace.specs.Finding.{ComesTo, Finds, IsModuleFile, LeadsTo, Lists, Starts, build_path}
 use Rattle.dscript_workspace.specs.Finding.{main_module, without_config}
 
@@ -32,7 +32,7 @@ pub record IsListed (files : Files) (ms : List ModuleData) : Type 0 where
   pub module_files : List ModuleFile
   pub read : AllZip (IsModuleFile files (map dir_of (in_tree files said))) (in_tree files said) module_files
   pub no_file_fault : file_fault module_files [] module_files ≡ None
-  pub no_name_fault : name_fault [] (modules module_files) ≡ None
+  pub no_name_fault : repeated_module_name [] (modules module_files) ≡ None
   pub are : ms ≡ modules module_files
 
 answered : (f n : Option FaultData) (found ms : List ModuleData) → Found ms ≡ refused_or (option_or f n) found
@@ -51,7 +51,7 @@ listed_are : (files : Files) (config : ExprTree) (o : Option (List Atoms)) (ms :
     → Lists files (option_map (in_tree files) o) (Found ms) → IsListed files ms
 listed_are files config None ms e h = cc
 listed_are files config (Some said) ms e h =
-    let parts = answered (file_fault h.0 [] h.0) (name_fault [] (modules h.0)) (modules h.0) ms h.2 in
+    let parts = answered (file_fault h.0 [] h.0) (repeated_module_name [] (modules h.0)) (modules h.0) ms h.2 in
     record {
       config = config;
       said = said;

@@ -10,7 +10,7 @@ use Rattle.dscript_modules.specs.Faults.{FaultData}
 use Rattle.dscript_modules.specs.Workspaces.{ModuleData, sdk_name}
 use Rattle.dscript_workspace.specs.Finding.{Finds, main_module}
 use Rattle.dscript_workspace.specs.ModuleLaws.{HaveOwnNames}
-use Rattle.dscript_workspace.specs.Workspaces.{Found, fault_in, is_used, modules, name_fault}
+use Rattle.dscript_workspace.specs.Workspaces.{Found, fault_in, is_used, modules, repeated_module_name}
 use Rattle.dscript_workspace.proofs.FoundModules.{found_from}
 
 abbrev named : List ℕ → ModuleData → Bool
@@ -51,17 +51,17 @@ no_fault false fault later e = (refl, e)
 abbrev twice : ModuleData → FaultData
 twice m = fault_in kinds.DuplicateModule m.config
 
-unused : (before ms : List ModuleData) → name_fault before ms ≡ None → AreUnused before ms
+unused : (before ms : List ModuleData) → repeated_module_name before ms ≡ None → AreUnused before ms
 unused before [] e = tt
 unused before (m ∷ ms) e =
-    let parts = no_fault (is_used before m.name) (twice m) (name_fault (before ++ m ∷ []) ms) e in
+    let parts = no_fault (is_used before m.name) (twice m) (repeated_module_name (before ++ m ∷ []) ms) e in
     (parts.0, each_before before m ms (unused (before ++ m ∷ []) ms parts.1))
 
-distinct : (before ms : List ModuleData) → name_fault before ms ≡ None → IsDistinct bytes_eq (map (λ m. m.name) ms)
+distinct : (before ms : List ModuleData) → repeated_module_name before ms ≡ None → IsDistinct bytes_eq (map (λ m. m.name) ms)
 unfolding IsDistinct
 distinct before [] e = tt
 distinct before (m ∷ ms) e =
-    let parts = no_fault (is_used before m.name) (twice m) (name_fault (before ++ m ∷ []) ms) e in
+    let parts = no_fault (is_used before m.name) (twice m) (repeated_module_name (before ++ m ∷ []) ms) e in
     (each_differs before m ms (unused (before ++ m ∷ []) ms parts.1), distinct (before ++ m ∷ []) ms parts.1)
 
 not_sdk : (b : Bool) (rest : Bool) → (b || rest) ≡ false → b ≡ false
@@ -72,7 +72,7 @@ none_is_sdk : (ms : List ModuleData) → AreUnused [] ms → AllByRecursion (λ 
 none_is_sdk [] h = tt
 none_is_sdk (m ∷ ms) h = (not_sdk (bytes_eq sdk_name m.name) false h.0, none_is_sdk ms h.1)
 
-own_names_of : (ms : List ModuleData) → name_fault [] ms ≡ None → HaveOwnNames ms
+own_names_of : (ms : List ModuleData) → repeated_module_name [] ms ≡ None → HaveOwnNames ms
 own_names_of ms e = record { distinct = distinct [] ms e; not_sdk = none_is_sdk ms (unused [] ms e) }
 
 pub own_names : (files : Files) (ms : List ModuleData) → Finds files (Found ms) → HaveOwnNames ms

@@ -15,7 +15,7 @@ use Rattle.bx_tree.specs.Trees.{Files, IsTree, paths_of}
 use Rattle.dscript_ast.specs.ExprTree.{ExprTree}
 use Rattle.dscript_ast.specs.FileTree as trees
 use Rattle.dscript_config.specs.Configs.{module_files, modules_list, resolver_at, resolvers, resolvers_list}
-use Rattle.dscript_config.specs.Lists.{ItemTree, One, Many, files_listed, items_of, joined, listed_by}
+use Rattle.dscript_config.specs.Lists.{ItemTree, One, Many, files_listed, items_of, concat_if_all, listed_by}
 use Rattle.dscript_config.specs.Modules.{DescriptionData, described}
 use Rattle.dscript_config.specs.Paths.{in_tree, is_below, is_empty, is_module_file, is_one_of, is_specification}
 use Rattle.dscript_config.proofs.FilePaths.{below_decides}
@@ -24,8 +24,8 @@ use Rattle.dscript_modules.specs.Workspaces.{ModuleData}
 use Rattle.dscript_read.specs.Reading.{Reading, Read, NoTokens, NoFile}
 use Rattle.dscript_workspace.specs.Membership.{dir_of, files_of_module, implied_files, is_between, is_config, is_deeper, is_implied}
 use Rattle.dscript_workspace.specs.ModuleLaws.{ShareNoFile, ShareNone}
-use Rattle.dscript_workspace.specs.Workspaces.{Found, ModuleFile, Described, Faulty, fault_of, file_fault, has_file, implies_file}
-use Rattle.dscript_workspace.specs.Workspaces.{is_taken, module_fault, module_in, modules, option_or}
+use Rattle.dscript_workspace.specs.Workspaces.{Found, ModuleFile, Described, Faulty, module_file_fault, file_fault, has_file, implies_file}
+use Rattle.dscript_workspace.specs.Workspaces.{configuration_fault, is_taken, module_in, modules, option_or}
 use Rattle.dscript_workspace.specs.Finding.{Finds, IsModuleFile, main_module, module_described, module_file}
 use Rattle.dscript_workspace.proofs.Deepest.{comparable}
 use Rattle.dscript_workspace.proofs.FoundModules.{IsListed, found_from}
@@ -97,10 +97,10 @@ free_listed : (b : Bool) (fault : FaultData) (later : Option FaultData)
 free_listed true fault later e = cc
 free_listed false fault later e = (refl, e)
 
-free_from : (taken : Atoms → Bool) (m : ModuleFile) (later : Option FaultData) → option_or (fault_of taken m) later ≡ None
+free_from : (taken : Atoms → Bool) (m : ModuleFile) (later : Option FaultData) → option_or (module_file_fault taken m) later ≡ None
     → IsFree taken m × (later ≡ None)
 free_from taken (Faulty fault) later e = cc
-free_from taken (Described m true) later e = free_listed (list_any taken m.files) (module_fault m.config) later e
+free_from taken (Described m true) later e = free_listed (list_any taken m.files) (configuration_fault m.config) later e
 free_from taken (Described m false) later e = (tt, e)
 
 -- a module that lists no files has the implied ones
@@ -117,7 +117,7 @@ projects_implied files dirs path name (Some paths) = tt
 
 description_implied : (files : Files) (dirs : List Atoms) (path : Atoms) (o : Option DescriptionData)
     → IsImplied files dirs path (option_map_or (module_described files (implied_files files dirs (dir_of path)) path) o
-    (Faulty (module_fault path)))
+    (Faulty (configuration_fault path)))
 description_implied files dirs path None = tt
 description_implied files dirs path (Some d) = projects_implied files dirs path d.name d.projects
 
@@ -341,9 +341,9 @@ named_append None p h k = tt
 named_append (Some xs) None h k = tt
 named_append (Some xs) (Some ys) h k = all_joined is_module_file xs ys h k
 
-named_joined : {X : Type 0} (f : X → Option (List Atoms)) → ((x : X) → Named (f x)) → (xs : List X) → Named (joined f xs)
+named_joined : {X : Type 0} (f : X → Option (List Atoms)) → ((x : X) → Named (f x)) → (xs : List X) → Named (concat_if_all f xs)
 named_joined f h [] = refl
-named_joined f h (x ∷ xs) = named_append (f x) (joined f xs) (h x) (named_joined f h xs)
+named_joined f h (x ∷ xs) = named_append (f x) (concat_if_all f xs) (h x) (named_joined f h xs)
 
 named_tested : (o : Option (List Atoms))
     → Named (option_and_then (λ paths. cond (list_all is_module_file paths) (Some paths) None) o)

@@ -20,7 +20,7 @@ use Rattle.dscript_modules.specs.Workspaces.{ModuleData}
 use Rattle.dscript_read.specs.Reading.{Reading, Read, NoTokens, NoFile}
 use Rattle.dscript_workspace.specs.Membership.{dir_of, files_of_module, implied_files, is_config, is_deeper, is_implied}
 use Rattle.dscript_workspace.specs.ModuleLaws.{AreSpecifications}
-use Rattle.dscript_workspace.specs.Workspaces.{Found, ModuleFile, Described, Faulty, module_fault, module_in, modules}
+use Rattle.dscript_workspace.specs.Workspaces.{Found, ModuleFile, Described, Faulty, configuration_fault, module_in, modules}
 use Rattle.dscript_workspace.specs.Finding.{Finds, IsModuleFile, build_path, main_module, module_described, module_file}
 use Rattle.dscript_workspace.proofs.FoundModules.{found_from}
 
@@ -220,7 +220,7 @@ IsOwn files (Faulty fault) = Unit {0}
 
 described_own : (files : Files) (implied : List Atoms) (path : Atoms) (e : ExprTree) (o : Option DescriptionData)
     → described files (dir_of path) e ≡ o → AreSpecifications files implied
-    → IsOwn files (option_map_or (module_described files implied path) o (Faulty (module_fault path)))
+    → IsOwn files (option_map_or (module_described files implied path) o (Faulty (configuration_fault path)))
 described_own files implied path e None h k = tt
 described_own files implied path e (Some d) h k = files_are files implied d.projects k (described_are files (dir_of path) e d h)
 

@@ -14,7 +14,7 @@ use Rattle.dscript_read.proofs.SomeReading.{some_reading}
 use Rattle.dscript_modules.specs.declared.fault.SpecKind.TheVariants as kinds
 use Rattle.dscript_config.specs.Paths.{in_tree, is_one_of}
 use Rattle.dscript_workspace.specs.Membership.{config_path, dir_of, implied_files}
-use Rattle.dscript_workspace.specs.Workspaces.{Answer, ModuleFile, Refused, answer_of, module_fault}
+use Rattle.dscript_workspace.specs.Workspaces.{Answer, ModuleFile, Refused, answer_of, configuration_fault}
 use Rattle.dscript_workspace.specs.Finding.{ComesTo, Finds, IsModuleFile, LeadsTo, Lists, Starts, build_path, fault_at}
 use Rattle.dscript_workspace.specs.Finding.{module_file, without_config}
 
@@ -73,16 +73,16 @@ comes_to_some files listed h =
 
 lists_some : (files : Files) (said : Option (List Atoms))
     → (answer : Answer) × Lists files (option_map (in_tree files) said) answer
-lists_some files None = (Refused (module_fault config_path), refl)
+lists_some files None = (Refused (configuration_fault config_path), refl)
 lists_some files (Some paths) =
     comes_to_some files (in_tree files paths) (kept (HasText files) (is_one_of paths) (paths_of files) (all_have files))
 
 leads_to_some : (files : Files) (reading : Reading) → (answer : Answer) × LeadsTo files reading answer
 leads_to_some files (NoTokens place) = (Refused (fault_at kinds.Lex config_path place), refl)
 leads_to_some files (NoFile place) = (Refused (fault_at kinds.Syntax config_path place), refl)
-leads_to_some files (Read (trees.Project items)) = (Refused (module_fault config_path), refl)
+leads_to_some files (Read (trees.Project items)) = (Refused (configuration_fault config_path), refl)
 leads_to_some files (Read (trees.Config e)) = lists_some files (option_and_then (resolvers files) (resolvers_list e))
-leads_to_some files (Read (trees.Module e)) = (Refused (module_fault config_path), refl)
+leads_to_some files (Read (trees.Module e)) = (Refused (configuration_fault config_path), refl)
 
 starts_some : (files : Files) (text : Option (List ℕ)) → (answer : Answer) × Starts files text answer
 starts_some files None = (without_config (file_at files build_path), refl)

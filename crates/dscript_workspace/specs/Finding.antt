@@ -16,7 +16,7 @@ use Rattle.dscript_config.specs.Configs.{configured}
 use Rattle.dscript_config.specs.Modules.{DescriptionData, described}
 use Rattle.dscript_workspace.specs.Membership.{config_path, dir_of, files_of_module, implied_files}
 use Rattle.dscript_workspace.specs.Workspaces.{Answer, Found, Refused, ModuleFile}
-use Rattle.dscript_workspace.specs.Workspaces.{Described, Faulty, module_fault, answer_of}
+use Rattle.dscript_workspace.specs.Workspaces.{Described, Faulty, configuration_fault, answer_of}
 
 -- the specification of a tree without a configuration
 abbrev pub build_path : Atoms
@@ -44,8 +44,8 @@ module_file files implied path (NoTokens place) = Faulty (fault_at kinds.Lex pat
 module_file files implied path (NoFile place) = Faulty (fault_at kinds.Syntax path place)
 module_file files implied path (Read (trees.Module e)) =
     option_map_or (module_described files implied path) (described files (dir_of path) e)
-    (Faulty (module_fault path))
-module_file files implied path (Read _) = Faulty (module_fault path)
+    (Faulty (configuration_fault path))
+module_file files implied path (Read _) = Faulty (configuration_fault path)
 
 -- the text is read as a module file, and comes to this
 abbrev pub IsRead : Files → List Atoms → Atoms → List ℕ → ModuleFile → Type 0
@@ -71,7 +71,7 @@ ComesTo files listed answer =
 
 -- the configuration lists these module files, or says something that is not allowed
 abbrev pub Lists : Files → Option (List Atoms) → Answer → Type 0
-Lists files None answer = answer ≡ Refused (module_fault config_path)
+Lists files None answer = answer ≡ Refused (configuration_fault config_path)
 Lists files (Some listed) answer = ComesTo files listed answer
 
 -- what the configuration leads to, once it was read
@@ -79,12 +79,12 @@ abbrev pub LeadsTo : Files → Reading → Answer → Type 0
 LeadsTo files (NoTokens place) answer = answer ≡ Refused (fault_at kinds.Lex config_path place)
 LeadsTo files (NoFile place) answer = answer ≡ Refused (fault_at kinds.Syntax config_path place)
 LeadsTo files (Read (trees.Config e)) answer = Lists files (configured files e) answer
-LeadsTo files (Read _) answer = answer ≡ Refused (module_fault config_path)
+LeadsTo files (Read _) answer = answer ≡ Refused (configuration_fault config_path)
 
 -- without a configuration the tree is one module of the one file `build.dsc`, if that is there
 abbrev pub without_config : Option (List ℕ) → Answer
 without_config (Some text) = Found (main_module ∷ [])
-without_config None = Refused (module_fault config_path)
+without_config None = Refused (configuration_fault config_path)
 
 -- the text of the configuration leads to this answer, or there is none
 abbrev pub Starts : Files → Option (List ℕ) → Answer → Type 0

@@ -45,14 +45,14 @@ abbrev pub fault_in : SpecKind → Atoms → FaultData
 fault_in kind file = record { kind = kind; file = file; place = None }
 
 -- that a configuration is at fault
-abbrev pub module_fault : Atoms → FaultData
-module_fault path = fault_in kinds.ModuleConfig path
+abbrev pub configuration_fault : Atoms → FaultData
+configuration_fault path = fault_in kinds.ModuleConfig path
 
 -- the fault of a module file: its own, or that it lists a file that is taken
-abbrev pub fault_of : (Atoms → Bool) → ModuleFile → Option FaultData
-fault_of taken (Faulty fault) = Some fault
-fault_of taken (Described m lists) =
-    if lists && list_any taken m.files then Some (module_fault m.config) else None
+abbrev pub module_file_fault : (Atoms → Bool) → ModuleFile → Option FaultData
+module_file_fault taken (Faulty fault) = Some fault
+module_file_fault taken (Described m lists) =
+    if lists && list_any taken m.files then Some (configuration_fault m.config) else None
 
 -- the first of two options that is there
 abbrev pub option_or : {X : Type 0} → Option X → Option X → Option X
@@ -63,7 +63,7 @@ option_or None other = other
 abbrev pub file_fault : List ModuleFile → List ModuleFile → List ModuleFile → Option FaultData
 file_fault all before [] = None
 file_fault all before (m ∷ rest) =
-    option_or (fault_of (is_taken all before) m) (file_fault all (before ++ m ∷ []) rest)
+    option_or (module_file_fault (is_taken all before) m) (file_fault all (before ++ m ∷ []) rest)
 
 -- the module of a file that has no fault of its own
 abbrev pub module_in : ModuleFile → Option ModuleData
@@ -79,11 +79,11 @@ abbrev pub is_used : List ModuleData → List ℕ → Bool
 is_used before name = bytes_eq sdk_name name || list_any (λ m. bytes_eq m.name name) before
 
 -- the first of the rest of these modules whose name is used before
-abbrev pub name_fault : List ModuleData → List ModuleData → Option FaultData
-name_fault before [] = None
-name_fault before (m ∷ rest) =
+abbrev pub repeated_module_name : List ModuleData → List ModuleData → Option FaultData
+repeated_module_name before [] = None
+repeated_module_name before (m ∷ rest) =
     if is_used before m.name then Some (fault_in kinds.DuplicateModule m.config)
-    else name_fault (before ++ m ∷ []) rest
+    else repeated_module_name (before ++ m ∷ []) rest
 
 -- ## The answer
 
@@ -95,5 +95,5 @@ refused_or None found = Found found
 -- What the listed module files come to: the first fault of a file, or else of a name, or else their modules.
 abbrev pub answer_of : List ModuleFile → Answer
 answer_of module_files =
-    refused_or (option_or (file_fault module_files [] module_files) (name_fault [] (modules module_files)))
+    refused_or (option_or (file_fault module_files [] module_files) (repeated_module_name [] (modules module_files)))
     (modules module_files)

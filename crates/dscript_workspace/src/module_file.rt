@@ -8,10 +8,10 @@ ghost use Rattle.dscript_modules.specs.Workspaces.{modules_data};
 ghost use Rattle.dscript_config.specs.Paths.{is_one_of};
 ghost use Rattle.dscript_workspace.specs.ModuleFiles.{file_data, files_data};
 ghost use Rattle.dscript_workspace.specs.PathSets.{has};
-ghost use Rattle.dscript_workspace.specs.Workspaces.{fault_of as fault_among, file_fault as first_file_fault};
+ghost use Rattle.dscript_workspace.specs.Workspaces.{file_fault as first_file_fault, module_file_fault as fault_among};
 ghost use Rattle.dscript_workspace.specs.Workspaces.{fault_in as fault_of_kind, has_file, implies_file};
 ghost use Rattle.dscript_workspace.specs.Workspaces.{module_in};
-ghost use Rattle.dscript_workspace.specs.Workspaces.{name_fault as first_name_fault};
+ghost use Rattle.dscript_workspace.specs.Workspaces.{repeated_module_name as first_name_fault};
 
 use crate::path_set::add_paths;
 use bx_tree::Path;

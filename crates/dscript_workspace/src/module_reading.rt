@@ -15,7 +15,7 @@ ghost use Rattle.dscript_workspace.specs.Finding.{module_described, module_file}
 ghost use Rattle.dscript_workspace.specs.Membership.{dir_of as directory_of, files_of_module as module_has};
 ghost use Rattle.dscript_workspace.specs.ModuleFiles.{file_data, files_data};
 ghost use Rattle.dscript_workspace.specs.PathSets.{files_in};
-ghost use Rattle.dscript_workspace.specs.Workspaces.{Faulty, module_fault as fault_of_module};
+ghost use Rattle.dscript_workspace.specs.Workspaces.{Faulty, configuration_fault as fault_of_module};
 
 use crate::membership::{dir_of, implied_files};
 use crate::module_file::{ModuleFile, fault_in};

@@ -13,7 +13,7 @@ use Rattle.eval_frames.proofs.OwnLocals.{own_first}
 use Rattle.eval_frames.specs.declared.frame.Frame.{Frame}
 use Rattle.eval_now.specs.Now.{IsAtOnce, Knows}
 use Rattle.eval_machine.specs.Forms.{acts_at, value_at}
-use Rattle.eval_machine.specs.Keeps.{Keeps}
+use Rattle.eval_machine.specs.Keeps.{PreservesAnswer}
 use Rattle.eval_machine.specs.Views.{View}
 use Rattle.eval_machine.specs.Works.{Answer, comes, comes_by, comes_with, run}
 use Rattle.eval_machine.specs.declared.stop.Stop.{Stop}
@@ -63,7 +63,7 @@ given_alone v w e given =
 pub now_then
     : (result : Result (Unit {0}) Stop) (v w u : View) (e : Bor BoundExpr) (x : Work) (before : Answer)
     → before ≡ comes (record v { work = works.Expr (expr.Value e) ∷ x ∷ v.work })
-    → IsGiven v w (expr_data e.now) → Keeps result (comes_with x w) u → Keeps result before u
+    → IsGiven v w (expr_data e.now) → PreservesAnswer result (comes_with x w) u → PreservesAnswer result before u
 now_then result v w u e x before move given after =
     keeps_at result before (comes_with x w) u (move ∙ given_then v w e x given) after
 
@@ -71,7 +71,7 @@ pub unless_now
     : (result : Result (Unit {0}) Stop) (v w u : View) (e : Bor BoundExpr) (x : Work) (before : Answer)
     → before ≡ comes (record v { work = works.Expr (expr.Value e) ∷ x ∷ v.work }) → w ≡ v
     → MatchResult result (λ _. u ≡ record w { work = works.Expr (expr.Value e) ∷ x ∷ w.work }) (λ stop. stop ≡ stops.Memory)
-    → Keeps result before u
+    → PreservesAnswer result before u
 unless_now result v w u e x before move same pushed =
     kept result before (record w { work = works.Expr (expr.Value e) ∷ x ∷ w.work }) u pushed
     (move ∙ ap (λ (z : View). comes (record z { work = works.Expr (expr.Value e) ∷ x ∷ z.work })) (sym same))

@@ -15,7 +15,7 @@ use Rattle.dscript_program.specs.declared.bound.BoundHole.{BoundHole}
 use Rattle.dscript_value.specs.Plain.{Plain, plain_of}
 use Rattle.sdk_values.specs.Outcomes.{Outcome}
 use Rattle.dscript_operators.specs.PathLiterals.{first_hole}
-use Rattle.dscript_operators.specs.Texts.{after, literal_hole}
+use Rattle.dscript_operators.specs.Texts.{appended_hole, literal_hole}
 use Rattle.dscript_meaning.specs.Acts.{Acts}
 use Rattle.dscript_meaning.specs.Evaluating.{Gives, answered, followed, gives, ◌>>=◌}
 use Rattle.dscript_meaning.specs.Expressions.{hole_texts, path_holes, path_value, value}
@@ -86,7 +86,7 @@ holes_move v holes others hole e following text literal is parts =
 
 hole_at
     : (p : ProgramData) (act : Acts) (literal : Literal) (text following longer with_hole : List ℕ) (more : HoleRow)
-    (o : Outcome (List ℕ)) (s : State) → after text o ≡ Ok with_hole → longer ≡ with_hole ++ following
+    (o : Outcome (List ℕ)) (s : State) → appended_hole text o ≡ Ok with_hole → longer ≡ with_hole ++ following
     → (answered o >>= λ hole. hole_texts p act (reader literal) more >>= λ rest. ended p literal (text ++ hole ++ following ++ rest)) s
     ≡ (hole_texts p act (reader literal) more >>= λ rest. ended p literal (longer ++ rest)) s
 hole_at p act literal text following longer with_hole more (Err fault) s is long = let never : Err fault ≡ Ok with_hole = is in cc
@@ -99,7 +99,7 @@ hole_at p act literal text following longer with_hole more (Ok hole) s is long =
 -- the hole that is given, with the text after it, is added after the text before it
 pub hole_move
     : (v : View) (following : Bor (List ℕ)) (others : Bor (List BoundHole)) (text with_hole longer : Vec ℕ Global) (literal : Literal)
-    → after text.items (reader literal v.given) ≡ Ok with_hole.items → longer.items ≡ with_hole.items ++ following.now
+    → appended_hole text.items (reader literal v.given) ≡ Ok with_hole.items → longer.items ≡ with_hole.items ++ following.now
     → comes_with (works.Expr (expr.Hole following others text literal)) v
     ≡ comes_with (works.Expr (expr.Holes others longer literal)) v
 hole_move v following others text with_hole longer literal is more =

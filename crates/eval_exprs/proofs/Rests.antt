@@ -14,7 +14,7 @@ use Rattle.dscript_program.specs.declared.bound.BoundProp.{BoundProp}
 use Rattle.dscript_value.specs.Plain.{Plain}
 use Rattle.dscript_meaning.specs.Evaluating.{gives}
 use Rattle.eval_machine.specs.Forms.{acts_at, path_form, rest_at}
-use Rattle.eval_machine.specs.Keeps.{Keeps}
+use Rattle.eval_machine.specs.Keeps.{PreservesAnswer}
 use Rattle.eval_machine.specs.Views.{View}
 use Rattle.eval_machine.specs.Works.{comes_by}
 use Rattle.eval_machine.specs.declared.stop.Stop.{Stop}
@@ -23,20 +23,20 @@ use Rattle.eval_machine.proofs.Kept.{keeps_at}
 
 pub rest_as
     : (result : Result (Unit {0}) Stop) (v w : View) (e d : ExprData) → e ≡ d
-    → Keeps result (comes_by (rest_at v d) v) w → Keeps result (comes_by (rest_at v e) v) w
+    → PreservesAnswer result (comes_by (rest_at v d) v) w → PreservesAnswer result (comes_by (rest_at v e) v) w
 rest_as result v w e d is kept = keeps_at result _ _ w (ap (λ x. comes_by (rest_at v x) v) is) kept
 
 -- a value may be written in another way
 pub value_as
     : (result : Result (Unit {0}) Stop) (v w : View) (x y : Plain) → y ≡ x
-    → Keeps result (comes_by (gives x) v) w → Keeps result (comes_by (gives y) v) w
+    → PreservesAnswer result (comes_by (gives x) v) w → PreservesAnswer result (comes_by (gives y) v) w
 value_as result v w x y is kept = keeps_at result _ _ w (ap (λ z. comes_by (gives z) v) is) kept
 
 -- the letter of a path may be written in another way
 pub path_as
     : (result : Result (Unit {0}) Stop) (v w : View) (k letter : PathKind) (text : List ℕ) (holes : HoleRow) → k ≡ letter
-    → Keeps result (comes_by (path_form v.program (acts_at v) letter text holes) v) w
-    → Keeps result (comes_by (path_form v.program (acts_at v) k text holes) v) w
+    → PreservesAnswer result (comes_by (path_form v.program (acts_at v) letter text holes) v) w
+    → PreservesAnswer result (comes_by (path_form v.program (acts_at v) k text holes) v) w
 path_as result v w k letter text holes is kept =
     keeps_at result _ _ w (ap (λ l. comes_by (path_form v.program (acts_at v) l text holes) v) is) kept
 

@@ -1,7 +1,7 @@
 //! Templates and path literals.
 ghost use Rattle.std.specs.Prelude.{◌≡◌, ◌++◌, map, Ok, IfOk, MatchResult};
 ghost use Rattle.dscript_operators.specs.PathLiterals as spec;
-ghost use Rattle.dscript_operators.specs.Texts.{after};
+ghost use Rattle.dscript_operators.specs.Texts.{appended_hole};
 ghost use Rattle.dscript_program.specs.BoundTree.{to_holes};
 ghost use Rattle.dscript_program.specs.Views.{hole_data};
 ghost use Rattle.dscript_value.specs.Plain.{plain_of};
@@ -38,7 +38,7 @@ fn add_hole(
     hole: &Value,
 ) -> Result<(), SdkFault>
     ensures { MatchResult result
-        (λ _. after text.old.items (reader literal.now (plain_of hole.now)) ≡ Ok text.new.items)
+        (λ _. appended_hole text.old.items (reader literal.now (plain_of hole.now)) ≡ Ok text.new.items)
         (λ fault. Refuses fault (reader literal.now (plain_of hole.now))) }
 {
     match literal {

@@ -6,7 +6,7 @@ use Rattle.std.proofs.lemmas.List.Sorted.{searched}
 use Rattle.std.specs.List.Sorted.{IsBinarySearchResult}
 use Rattle.dscript_value.specs.Plain.{Plain, Undefined}
 use Rattle.dscript_meaning.specs.Frames.{captured_value}
-use Rattle.eval_frames.specs.Ascending.{ascends, rises}
+use Rattle.eval_frames.specs.Increasing.{is_increasing, rises}
 use Rattle.eval_frames.proofs.Locals.{captured_end, captured_found, next_captured}
 
 -- ## The test
@@ -74,7 +74,7 @@ rises_by (n ∷ ns) least (suc i) (suc j) d up below less =
     rises_by ns (suc n) i j d (head_rises n least ns up).1 (omega (arith, below)) (omega (arith, less))
 
 upwards
-    : (ns : List ℕ) → ascends ns ≡ true → (i j : ℕ) → i ≤ j → j < length ns → get_or ns i 0 ≤ get_or ns j 0
+    : (ns : List ℕ) → is_increasing ns ≡ true → (i j : ℕ) → i ≤ j → j < length ns → get_or ns i 0 ≤ get_or ns j 0
 upwards ns up i j le less =
     ⊎_elim
     (λ same. let is = ap (λ k. get_or ns k 0) same in omega (arith, is))
@@ -98,7 +98,7 @@ below_or_not false k i is = inr (ltb-false k i is)
 
 -- the value of a local where a search found its place, or found none
 pub halved
-    : (cs : List ℕ) (xs : List Plain) (n : ℕ) (r : Result ℕ ℕ) → ascends cs ≡ true
+    : (cs : List ℕ) (xs : List Plain) (n : ℕ) (r : Result ℕ ℕ) → is_increasing cs ≡ true
     → IsBinarySearchResult (λ y. nat_cmp y n) cs r
     → MatchResult r (λ i. captured_value cs xs n ≡ unwrap_or (slice_get xs i) Undefined)
     (λ _. captured_value cs xs n ≡ Undefined)

@@ -1,4 +1,4 @@
-pub mod Ascending
+pub mod Increasing
 pub mod Placed
 pub mod Codes
 pub mod Own

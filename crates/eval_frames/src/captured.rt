@@ -4,7 +4,7 @@ ghost use Rattle.std.specs.BTreeMap.{get};
 ghost use Rattle.std.specs.Ordering.{nat_cmp};
 ghost use Rattle.dscript_value.specs.Plain.{plain_of};
 ghost use Rattle.dscript_meaning.specs.Frames.{captured_value};
-ghost use Rattle.eval_frames.specs.Ascending.{ascends};
+ghost use Rattle.eval_frames.specs.Increasing.{is_increasing};
 ghost use Rattle.eval_frames.specs.Placed.{KeepPlaces};
 
 use crate::Memory;
@@ -18,8 +18,8 @@ pub(crate) type Places = BTreeMap<u32, usize>;
 
 // Whether each local is greater than the one before it.
 #[tactic(auto, using(crate::proofs::Ascents::ascents))]
-pub(crate) fn is_ascending(locals: &[u32]) -> bool
-    ensures { result ≡ ascends locals.now }
+pub(crate) fn are_increasing(locals: &[u32]) -> bool
+    ensures { result ≡ is_increasing locals.now }
 {
     let mut least = 0;
     'locals: for local in locals {
@@ -46,8 +46,8 @@ pub(crate) fn captured_at(captured: &[u32], held: &[Value], local: u32) -> Resul
 }
 
 // The value of a captured local, where each is greater than the one before it.
-pub(crate) fn halved(captured: &[u32], held: &[Value], local: u32) -> Result<Value, Memory>
-    requires { IsTrue (ascends captured.now) }
+pub(crate) fn binary_searched(captured: &[u32], held: &[Value], local: u32) -> Result<Value, Memory>
+    requires { IsTrue (is_increasing captured.now) }
     ensures { IfOk result (λ value. plain_of value
         ≡ captured_value captured.now (map plain_of held.now) local) }
 {

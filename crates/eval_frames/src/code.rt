@@ -3,12 +3,12 @@ ghost use Rattle.std.specs.Prelude.{◌≡◌, map, ℕ, IfOk, IsTrue};
 ghost use Rattle.std.specs.BTreeMap.{BTreeMap};
 ghost use Rattle.dscript_value.specs.Plain.{plain_of};
 ghost use Rattle.dscript_meaning.specs.Frames.{captured_value};
-ghost use Rattle.eval_frames.specs.Ascending.{ascends};
+ghost use Rattle.eval_frames.specs.Increasing.{is_increasing};
 ghost use Rattle.eval_frames.specs.Placed.{KeepPlaces};
 ghost use Rattle.eval_frames.specs.declared.code.Search.TheVariants as searches;
 
 use crate::Memory;
-use crate::captured::{Places, captured_at, halved, is_ascending, placed, places_of};
+use crate::captured::{Places, are_increasing, binary_searched, captured_at, placed, places_of};
 use dscript_program::Function;
 use dscript_value::Value;
 use std::alloc::Global;
@@ -17,9 +17,9 @@ use std::alloc::Global;
 #[derive(Drop)]
 pub enum Search {
     /// One after another, where there are few.
-    InTurn,
+    Linear,
     /// By halving, where each is greater than the one before it.
-    Halving,
+    Binary,
     /// By the place of each.
     Placed(Places),
 }
@@ -29,7 +29,7 @@ pub enum Search {
 pub struct Code<'a> {
     pub function: &'a Function,
     pub search: Search,
-    pub ghost ascending: { search ≡ searches.Halving → IsTrue (ascends function.now.captured.items) },
+    pub ghost increasing: { search ≡ searches.Binary → IsTrue (is_increasing function.now.captured.items) },
     pub ghost placed: { (places : BTreeMap ℕ ℕ) → search ≡ searches.Placed places
         → KeepPlaces places 0 function.now.captured.items },
 }
@@ -46,13 +46,13 @@ impl<'a> Code<'a> {
         if captured.len() <= MANY {
             return Ok(Code {
                 function,
-                search: Search::InTurn,
+                search: Search::Linear,
             });
         }
-        if is_ascending(captured) {
+        if are_increasing(captured) {
             return Ok(Code {
                 function,
-                search: Search::Halving,
+                search: Search::Binary,
             });
         }
         let places = places_of(alloc, captured)?;
@@ -69,8 +69,8 @@ impl<'a> Code<'a> {
     {
         let captured = self.function.captured.as_slice();
         match &self.search {
-            Search::InTurn => captured_at(captured, held, local),
-            Search::Halving => halved(captured, held, local),
+            Search::Linear => captured_at(captured, held, local),
+            Search::Binary => binary_searched(captured, held, local),
             Search::Placed(places) => placed(captured, places, held, local),
         }
     }

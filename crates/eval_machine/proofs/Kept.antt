@@ -16,29 +16,29 @@ use Rattle.eval_machine.specs.Forms.{rest_at, rest_of, value_at}
 use Rattle.eval_frames.specs.Costs.{expr_cost}
 use Rattle.eval_frames.specs.Made.{Answers}
 use Rattle.eval_machine.proofs.Forms.{value_begins}
-use Rattle.eval_machine.specs.Keeps.{Keeps, StopsWith}
+use Rattle.eval_machine.specs.Keeps.{PreservesAnswer, StopsWith}
 use Rattle.eval_machine.specs.Steps.{Spent, Unspent}
 use Rattle.eval_machine.specs.Views.{View}
-use Rattle.eval_machine.specs.Works.{Answer, Rest, comes, comes_by, goes_by, run, with_value, with_way}
+use Rattle.eval_machine.specs.Works.{Answer, Continuation, comes, comes_by, goes_by, run, with_value, with_way}
 use Rattle.eval_machine.specs.declared.stop.Stop.{Stop}
 use Rattle.eval_machine.specs.declared.stop.Stop.TheVariants as stops
 
 -- what was pushed or put keeps what comes
 pub kept
     : (result : Result (Unit {0}) Stop) (before : Answer) (v w : View)
-    → MatchResult result (λ _. w ≡ v) (λ stop. stop ≡ stops.Memory) → before ≡ comes v → Keeps result before w
+    → MatchResult result (λ _. w ≡ v) (λ stop. stop ≡ stops.Memory) → before ≡ comes v → PreservesAnswer result before w
 kept (Ok done) before v w is move = move ∙ ap comes (sym is)
 kept (Err stop) before v w is move = let P : Stop → Type 0 = λ e. StopsWith e before in subst P (sym is) tt
 
 -- what comes may be written in another way
 pub keeps_at
     : (result : Result (Unit {0}) Stop) (before now : Answer) (w : View)
-    → before ≡ now → Keeps result now w → Keeps result before w
-keeps_at result before now w is kept = let P : Answer → Type 0 = λ a. Keeps result a w in subst P (sym is) kept
+    → before ≡ now → PreservesAnswer result now w → PreservesAnswer result before w
+keeps_at result before now w is kept = let P : Answer → Type 0 = λ a. PreservesAnswer result a w in subst P (sym is) kept
 
 -- a fault is that of what was to come
 pub refused
-    : (o : Outcome Plain) (fault : SdkFault) (k : Rest) (openable : ℕ) (s : State) → Refuses fault o
+    : (o : Outcome Plain) (fault : SdkFault) (k : Continuation) (openable : ℕ) (s : State) → Refuses fault o
     → StopsWith (stop_in s.frame.file fault) (with_value k openable (answered o) s)
 refused o sdk_faults.Kind k openable s h = ap (λ r. with_value k openable (answered r) s) (h (λ e. cc))
 refused o sdk_faults.Missing k openable s h = ap (λ r. with_value k openable (answered r) s) (h (λ e. cc))
@@ -51,7 +51,7 @@ refused o sdk_faults.Memory k openable s h = tt
 -- steps before what comes
 pub spent_first
     : (result : Result (Unit {0}) Stop) (n : ℕ) (m : Gives Plain) (v w u : View) → Spent n v w
-    → Keeps result (comes_by m w) u → Keeps result (comes_by (spend n >> m) v) u
+    → PreservesAnswer result (comes_by m w) u → PreservesAnswer result (comes_by (spend n >> m) v) u
 spent_first result n m v w u spent after =
     keeps_at result _ _ u
     (ap (λ r. followed (followed r (λ x. m)) (λ x later. run v.program v.work On v.openable x later)) spent.state
@@ -75,7 +75,7 @@ begins v e = ap (λ r. followed r (λ x later. run v.program v.work On v.openabl
 
 pub spent_rest
     : (result : Result (Unit {0}) Stop) (v w u : View) (e : ExprData) (n : ℕ) → n ≡ expr_cost e → Spent n v w
-    → Keeps result (comes_by (rest_at w e) w) u → Keeps result (comes_by (value_at v e) v) u
+    → PreservesAnswer result (comes_by (rest_at w e) w) u → PreservesAnswer result (comes_by (value_at v e) v) u
 spent_rest result v w u e n is spent after =
     keeps_at result _ _ u (begins v e)
     (spent_first result (expr_cost e) (rest_at v e) v w u (subst (λ k. Spent k v w) is spent)
@@ -91,7 +91,7 @@ unspent_rest v e stop n is unspent =
 -- a value, or the fault in its place
 pub finished
     : (result : Result (Unit {0}) Stop) (o : Outcome Plain) (x : Plain) (v w : View) → o ≡ Ok x
-    → Keeps result (comes_by (gives x) v) w → Keeps result (comes_by (answered o) v) w
+    → PreservesAnswer result (comes_by (gives x) v) w → PreservesAnswer result (comes_by (answered o) v) w
 finished result o x v w is after = keeps_at result _ _ w (ap (λ r. comes_by (answered r) v) is) after
 
 pub unfinished
@@ -105,7 +105,7 @@ unfinished stop o fault v h is =
 pub spent_then
     : (result : Result (Unit {0}) Stop) (n : ℕ) (f : View → Gives Plain) (v w u : View) → Spent n v w
     → f (record v { state = w.state }) ≡ f v
-    → Keeps result (comes_by (f w) w) u → Keeps result (comes_by (spend n >> f v) v) u
+    → PreservesAnswer result (comes_by (f w) w) u → PreservesAnswer result (comes_by (spend n >> f v) v) u
 spent_then result n f v w u spent same after =
     spent_first result n (f v) v w u spent
     (keeps_at result _ _ u (ap (λ m. comes_by m w) (sym (ap f spent.others ∙ same))) after)
@@ -114,7 +114,7 @@ spent_then result n f v w u spent same after =
 pub spent_goes
     : (result : Result (Unit {0}) Stop) (n : ℕ) (f : View → Gives Way) (v w u : View) → Spent n v w
     → f (record v { state = w.state }) ≡ f v
-    → Keeps result (goes_by (f w) w) u → Keeps result (goes_by (spend n >> f v) v) u
+    → PreservesAnswer result (goes_by (f w) w) u → PreservesAnswer result (goes_by (spend n >> f v) v) u
 spent_goes result n f v w u spent same after =
     keeps_at result _ _ u
     (ap (λ r. followed (followed r (λ x. f v)) (λ way later. run v.program v.work way v.openable plain.Undefined later)) spent.state

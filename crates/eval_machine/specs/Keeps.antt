@@ -16,20 +16,20 @@ StopsWith (stops.Fault kind file message) answer = answer ≡ Err (Fault kind fi
 StopsWith stops.Memory answer = Unit {0}
 
 -- what was to come still comes
-abbrev pub Keeps : Result (Unit {0}) Stop → Answer → View → Type 0
-Keeps (Ok done) before v = before ≡ comes v
-Keeps (Err stop) before v = StopsWith stop before
+abbrev pub PreservesAnswer : Result (Unit {0}) Stop → Answer → View → Type 0
+PreservesAnswer (Ok done) before v = before ≡ comes v
+PreservesAnswer (Err stop) before v = StopsWith stop before
 
 -- ## What the calls of the machine ensure, by the machine before and after
 
 -- after the call there comes what came, before it, of the value that this meaning gives
 abbrev pub Comes : Result (Unit {0}) Stop → Machine → Machine → (View → Gives Plain) → Type 0
-Comes result before now m = Keeps result (comes_by (m (seen before)) (seen before)) (seen now)
+Comes result before now m = PreservesAnswer result (comes_by (m (seen before)) (seen before)) (seen now)
 
 -- after the call there comes what came, before it, of this meaning of a statement, which goes on or returns
 abbrev pub Goes : Result (Unit {0}) Stop → Machine → Machine → (View → Gives Way) → Type 0
-Goes result before now m = Keeps result (goes_by (m (seen before)) (seen before)) (seen now)
+Goes result before now m = PreservesAnswer result (goes_by (m (seen before)) (seen before)) (seen now)
 
 -- after the call there comes what came, before it, of this work
 abbrev pub IsDone : Result (Unit {0}) Stop → Machine → Machine → Work → Type 0
-IsDone result before now w = Keeps result (comes_with w (seen before)) (seen now)
+IsDone result before now w = PreservesAnswer result (comes_with w (seen before)) (seen now)

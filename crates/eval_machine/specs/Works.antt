@@ -204,16 +204,16 @@ abbrev pub Answer : Type 0
 Answer = Result (Unit {0} × State) Stop
 
 -- how the works after one go on, at a way, the calls that may be opened, a value and a state
-abbrev pub Rest : Type 0
-Rest = Way → ℕ → Plain → State → Answer
+abbrev pub Continuation : Type 0
+Continuation = Way → ℕ → Plain → State → Answer
 
-abbrev pub with_value : Rest → ℕ → Gives Plain → State → Answer
+abbrev pub with_value : Continuation → ℕ → Gives Plain → State → Answer
 with_value k openable m s = followed (m s) (λ x later. k On openable x later)
 
-abbrev pub with_way : Rest → ℕ → Gives Way → State → Answer
+abbrev pub with_way : Continuation → ℕ → Gives Way → State → Answer
 with_way k openable m s = followed (m s) (λ way later. k way openable plain.Undefined later)
 
-abbrev pub does_work : ProgramData → Work → Rest → ℕ → Plain → State → Answer
+abbrev pub does_work : ProgramData → Work → Continuation → ℕ → Plain → State → Answer
 does_work p (works.Expr w) k openable given s =
     with_value k openable (expr_gives p (acts p openable) given w) s
 does_work p (works.Call w) k openable given s =
@@ -230,11 +230,11 @@ does_work p (works.Keep file decl frame) k openable given s =
 does_work p works.Close k openable given s = k On (openable + 1) given s
 
 -- a return passes over all work up to the end of the body
-abbrev pub unwound : Work → Plain → Rest → ℕ → State → Answer
+abbrev pub unwound : Work → Plain → Continuation → ℕ → State → Answer
 unwound (works.Leave frame) x k openable s = k On (openable + 1) x (record s { frame = frame_of frame })
 unwound _ x k openable s = k (Back x) openable plain.Undefined s
 
-abbrev pub run : ProgramData → List Work → Rest
+abbrev pub run : ProgramData → List Work → Continuation
 run p [] way openable given s = Ok (tt, s)
 run p (w ∷ ws) On openable given s = does_work p w (run p ws) openable given s
 run p (w ∷ ws) (Back x) openable given s = unwound w x (run p ws) openable s

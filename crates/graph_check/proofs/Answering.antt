@@ -11,7 +11,7 @@ use Rattle.graph_check.specs.declared.fault.GraphKind.{GraphKind}
 use Rattle.graph_check.specs.declared.fault.GraphKind.TheVariants.{DoubleProducer, Overlap, NoSuchSource, OutsideOut, Twin, Limit}
 use Rattle.graph_check.specs.NoSuchSource.{named_sources}
 use Rattle.graph_outputs.specs.Outputs.{declared_files, outputs}
-use Rattle.graph_check.specs.Rules.{FailsAt, Holds, KeepsRules, rank}
+use Rattle.graph_check.specs.Rules.{FailsAt, KeepsRules, RuleHolds, rank}
 use Rattle.graph_check.specs.Twin.{descriptions}
 use Rattle.graph_outputs.proofs.Has.{has_within}
 use Rattle.graph_outputs.proofs.Prefixes.{overlaps_within}
@@ -33,9 +33,9 @@ spec_at pips i pip file l e is =
     subst (λ o. IsSomeAnd o (λ (p : Pip). p.spec ≡ file)) (sym (slice_get_read pips (length pips) i pip refl l e)) (sym is)
 
 -- the rules of a rank below some number hold if each does
-pub by_rank : (pips : List Pip) (tree : Files) (n : ℕ) → (1 < n → Holds DoubleProducer pips tree) → (2 < n → Holds Overlap pips tree)
-    → (3 < n → Holds NoSuchSource pips tree) → (4 < n → Holds OutsideOut pips tree) → (5 < n → Holds Twin pips tree)
-    → (6 < n → Holds Limit pips tree) → (rule : GraphKind) → rank rule < n → Holds rule pips tree
+pub by_rank : (pips : List Pip) (tree : Files) (n : ℕ) → (1 < n → RuleHolds DoubleProducer pips tree) → (2 < n → RuleHolds Overlap pips tree)
+    → (3 < n → RuleHolds NoSuchSource pips tree) → (4 < n → RuleHolds OutsideOut pips tree) → (5 < n → RuleHolds Twin pips tree)
+    → (6 < n → RuleHolds Limit pips tree) → (rule : GraphKind) → rank rule < n → RuleHolds rule pips tree
 by_rank pips tree n a b c d e f DoubleProducer l = a l
 by_rank pips tree n a b c d e f Overlap l = b l
 by_rank pips tree n a b c d e f NoSuchSource l = c l
@@ -44,8 +44,8 @@ by_rank pips tree n a b c d e f Twin l = e l
 by_rank pips tree n a b c d e f Limit l = f l
 
 -- all rules hold if each does
-pub all_hold : (pips : List Pip) (tree : Files) → Holds DoubleProducer pips tree → Holds Overlap pips tree → Holds NoSuchSource pips tree
-    → Holds OutsideOut pips tree → Holds Twin pips tree → Holds Limit pips tree → KeepsRules pips tree
+pub all_hold : (pips : List Pip) (tree : Files) → RuleHolds DoubleProducer pips tree → RuleHolds Overlap pips tree → RuleHolds NoSuchSource pips tree
+    → RuleHolds OutsideOut pips tree → RuleHolds Twin pips tree → RuleHolds Limit pips tree → KeepsRules pips tree
 all_hold pips tree a b c d e f DoubleProducer = a
 all_hold pips tree a b c d e f Overlap = b
 all_hold pips tree a b c d e f NoSuchSource = c

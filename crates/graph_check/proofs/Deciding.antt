@@ -29,7 +29,7 @@ use Rattle.graph_check.specs.declared.fault.GraphKind.TheVariants as rules
 use Rattle.graph_outputs.specs.DoubleProducer.{DoubleProducerAt}
 use Rattle.graph_check.specs.NoSuchSource.{NoSuchSourceAt, named_sources}
 use Rattle.pip_order.specs.Orders.{described_alike, tied_processes}
-use Rattle.graph_outputs.specs.Outputs.{Has, IsWithin, declared_dirs, declared_files, outputs}
+use Rattle.graph_outputs.specs.Outputs.{IsWithin, PipHas, declared_dirs, declared_files, outputs}
 use Rattle.graph_outputs.specs.OutsideOut.{OutsideOutAt, out_dir}
 use Rattle.graph_outputs.specs.Overlap.{FileIsDir, IsUnlisted, NestedOutputs, OverlapAt, Overlaps, SealMeetsDir, UnlistedFile, UnsharedDir, full_seals}
 use Rattle.graph_outputs.specs.Overlap.Overlaps.{Nested, OnePath, Unshared, Unlisted, Meets}
@@ -65,7 +65,7 @@ decides_at items p P each (Some pip) = (
     found (k, x, l, is, t) = (x, (k, l, is), (each x).0 t)
 
 pub Decides-any_item : {X : Type 0} (items : PipKind → List X) (p : X → Bool) (P : X → Type 0) → ((x : X) → Decides (p x) (P x))
-    → (pips : List Pip) (i : ℕ) → Decides (any_item items p pips i) ((x : X) × Has items pips i x × P x)
+    → (pips : List Pip) (i : ℕ) → Decides (any_item items p pips i) ((x : X) × PipHas items pips i x × P x)
 Decides-any_item items p P each pips i = decides_at items p P each (slice_get pips i)
 
 -- some number below n passes the test
@@ -126,7 +126,7 @@ nested_test pips i j = any_item outputs (λ path. any_item outputs (λ dir. belo
 Decides-nested : (pips : List Pip) (i j : ℕ) → Decides (nested_test pips i j) (NestedOutputs pips i j)
 Decides-nested pips i j =
     along (nested_test pips i j)
-    (Decides-any_item outputs (λ path. any_item outputs (λ dir. below_test path dir) pips j) (λ path. (dir : Atoms) × Has outputs pips j dir × IsBelow path dir)
+    (Decides-any_item outputs (λ path. any_item outputs (λ dir. below_test path dir) pips j) (λ path. (dir : Atoms) × PipHas outputs pips j dir × IsBelow path dir)
     (λ path. Decides-any_item outputs (λ dir. below_test path dir) (λ dir. IsBelow path dir) (λ dir. Decides-below path dir) pips j) pips i)
     (λ (path, h, (dir, k, b)). (path, dir, h, k, b)) (λ (path, dir, h, k, b). (path, h, (dir, k, b)))
 
@@ -137,7 +137,7 @@ Decides-file_dir : (pips : List Pip) (i j : ℕ) → Decides (file_dir_test pips
 Decides-file_dir pips i j =
     along (file_dir_test pips i j)
     (Decides-any_item declared_files (λ file. any_item declared_dirs (λ (dir : OutDir). same_path file dir.path) pips j)
-    (λ file. (dir : OutDir) × Has declared_dirs pips j dir × (file ≡ dir.path))
+    (λ file. (dir : OutDir) × PipHas declared_dirs pips j dir × (file ≡ dir.path))
     (λ file. Decides-any_item declared_dirs (λ (dir : OutDir). same_path file dir.path) (λ (dir : OutDir). file ≡ dir.path)
     (λ (dir : OutDir). same_path_decides file dir.path) pips j) pips i)
     (λ (file, h, (dir, k, e)). (file, dir, h, k, e)) (λ (file, dir, h, k, e). (file, h, (dir, k, e)))
@@ -165,7 +165,7 @@ Decides-unshared pips i j =
     (Decides-not (nat_eq i j) (Decides-eqb i j))
     (along (any_item declared_dirs (λ dir. any_item declared_dirs (λ other. apart_test dir other) pips j) pips i)
     (Decides-any_item declared_dirs (λ dir. any_item declared_dirs (λ other. apart_test dir other) pips j)
-    (λ (dir : OutDir). (other : OutDir) × Has declared_dirs pips j other
+    (λ (dir : OutDir). (other : OutDir) × PipHas declared_dirs pips j other
     × ((dir.path ≡ other.path) × (IsTrue dir.shared → IsTrue other.shared → ⊥)))
     (λ dir. Decides-any_item declared_dirs (λ other. apart_test dir other)
     (λ (other : OutDir). (dir.path ≡ other.path) × (IsTrue dir.shared → IsTrue other.shared → ⊥)) (λ other. Decides-apart dir other) pips j) pips i)
@@ -181,7 +181,7 @@ Decides-unlisted pips i j =
     along (unlisted_test pips i j)
     (Decides-any_item declared_files
     (λ file. any_item full_seals (λ (seal : SealDesc). within_test file seal.root && not (among_test file (map input_path seal.files))) pips j)
-    (λ file. (seal : SealDesc) × Has full_seals pips j seal × IsUnlisted seal file)
+    (λ file. (seal : SealDesc) × PipHas full_seals pips j seal × IsUnlisted seal file)
     (λ file. Decides-any_item full_seals (λ (seal : SealDesc). within_test file seal.root && not (among_test file (map input_path seal.files)))
     (λ seal. IsUnlisted seal file)
     (λ (seal : SealDesc). Decides-and (within_test file seal.root) (not (among_test file (map input_path seal.files))) (Decides-within file seal.root)
@@ -198,7 +198,7 @@ Decides-seal pips i j =
     along (seal_test pips i j)
     (Decides-any_item full_seals
     (λ (seal : SealDesc). any_item declared_dirs (λ (dir : OutDir). within_test seal.root dir.path || below_test dir.path seal.root) pips j)
-    (λ (seal : SealDesc). (dir : OutDir) × Has declared_dirs pips j dir × (IsWithin seal.root dir.path ⊎ IsBelow dir.path seal.root))
+    (λ (seal : SealDesc). (dir : OutDir) × PipHas declared_dirs pips j dir × (IsWithin seal.root dir.path ⊎ IsBelow dir.path seal.root))
     (λ (seal : SealDesc). Decides-any_item declared_dirs (λ (dir : OutDir). within_test seal.root dir.path || below_test dir.path seal.root)
     (λ (dir : OutDir). IsWithin seal.root dir.path ⊎ IsBelow dir.path seal.root)
     (λ (dir : OutDir). Decides-or (within_test seal.root dir.path) (below_test dir.path seal.root) (Decides-within seal.root dir.path)
@@ -241,11 +241,11 @@ double_test pips i = any_below (λ j. any_item declared_files (λ file. any_item
 Decides-double : (pips : List Pip) (i : ℕ) → Decides (double_test pips i) (DoubleProducerAt pips i)
 Decides-double pips i =
     Decides-any_below (λ j. any_item declared_files (λ file. any_item declared_files (same_path file) pips j) pips i)
-    (λ j. (file : Atoms) × Has declared_files pips i file × Has declared_files pips j file)
-    (λ j. Decides-any_item declared_files (λ file. any_item declared_files (same_path file) pips j) (λ file. Has declared_files pips j file)
+    (λ j. (file : Atoms) × PipHas declared_files pips i file × PipHas declared_files pips j file)
+    (λ j. Decides-any_item declared_files (λ file. any_item declared_files (same_path file) pips j) (λ file. PipHas declared_files pips j file)
     (λ file. along (any_item declared_files (same_path file) pips j)
     (Decides-any_item declared_files (same_path file) (λ other. file ≡ other) (λ other. same_path_decides file other) pips j)
-    (λ (other, h, e). subst (Has declared_files pips j) (sym e) h) (λ h. (file, h, refl))) pips i) i
+    (λ (other, h, e). subst (PipHas declared_files pips j) (sym e) h) (λ h. (file, h, refl))) pips i) i
 
 abbrev pub overlap_test : List Pip → ℕ → Bool
 overlap_test pips i = any_below (λ j. overlaps_test pips i j || overlaps_test pips j i) (suc i)
@@ -297,20 +297,20 @@ itself_in (Copy p) d (k, l, e) = absurd (omega (arith, l))
 itself_in (Write p) d (k, l, e) = absurd (omega (arith, l))
 itself_in (Seal p) d (k, l, e) = absurd (omega (arith, l))
 
-itself : (pips : List Pip) (i : ℕ) (d : ProcessDesc) → Has descriptions pips i d → description d ≡ d
+itself : (pips : List Pip) (i : ℕ) (d : ProcessDesc) → PipHas descriptions pips i d → description d ≡ d
 itself pips i d h = (has_along descriptions descriptions d (λ e. description d ≡ d) (λ kind c. (d, c, itself_in kind d c)) pips i h).2
 
 Decides-twin : (pips : List Pip) (i : ℕ) → Decides (twin_test pips i) (TwinAt pips i)
 Decides-twin pips i =
     Decides-any_below (λ j. any_item descriptions (λ d. any_item descriptions (λ e. is_eq (process_cmp d e)) pips j) pips i)
-    (λ j. (d : ProcessDesc) × Has descriptions pips i d × Has descriptions pips j d)
+    (λ j. (d : ProcessDesc) × PipHas descriptions pips i d × PipHas descriptions pips j d)
     (λ j. along (any_item descriptions (λ d. any_item descriptions (λ e. is_eq (process_cmp d e)) pips j) pips i)
     (Decides-any_item descriptions (λ d. any_item descriptions (λ e. is_eq (process_cmp d e)) pips j)
-    (λ d. (e : ProcessDesc) × Has descriptions pips j e × (description d ≡ description e))
+    (λ d. (e : ProcessDesc) × PipHas descriptions pips j e × (description d ≡ description e))
     (λ d. Decides-any_item descriptions (λ e. is_eq (process_cmp d e)) (λ e. description d ≡ description e)
     (λ e. (λ t. tied_processes d e ((Equal-is (process_cmp d e)).0 t), λ s. (Equal-is (process_cmp d e)).1 (described_alike d e s))) pips j) pips i)
     (λ (d, h, (e, k, s)).
-    let same : e ≡ d = sym (itself pips j e k) ∙ sym s ∙ itself pips i d h in (d, h, subst (Has descriptions pips j) same k))
+    let same : e ≡ d = sym (itself pips j e k) ∙ sym s ∙ itself pips i d h in (d, h, subst (PipHas descriptions pips j) same k))
     (λ (d, h, k). (d, h, (d, k, refl)))) i
 
 abbrev pub limit_test : List Pip → ℕ → Bool

@@ -9,7 +9,7 @@ use Rattle.bx_tree.specs.Trees.{Files}
 use Rattle.pip_types.specs.declared.pip.Pip.{Pip}
 use Rattle.graph_check.specs.declared.fault.GraphKind.{GraphKind}
 use Rattle.graph_check.specs.declared.fault.GraphKind.TheVariants.{DoubleProducer, Overlap, NoSuchSource, OutsideOut, Twin, Limit}
-use Rattle.graph_check.specs.Rules.{FailsAt, HasAnswer, Holds, IsFirstFault, KeepsRules, rank}
+use Rattle.graph_check.specs.Rules.{FailsAt, HasAnswer, IsFirstBrokenRule, KeepsRules, RuleHolds, rank}
 use Rattle.graph_check.proofs.Answering.{all_hold, by_rank, fails_within}
 use Rattle.graph_check.proofs.Deciding.{Decides-fails, fails_test}
 
@@ -60,11 +60,11 @@ verdict pips tree =
 -- what a verdict says of the pips
 abbrev pub IsRight : List Pip → Files → Option (GraphKind × ℕ) → Type 0
 IsRight pips tree None = KeepsRules pips tree
-IsRight pips tree (Some (rule, i)) = (file : Atoms) × IsFirstFault pips tree rule i file
+IsRight pips tree (Some (rule, i)) = (file : Atoms) × IsFirstBrokenRule pips tree rule i file
 
 -- the first failure of a rule is a first fault where all rules before it hold
 right_by : (rule : GraphKind) (pips : List Pip) (tree : Files) (later : Option (GraphKind × ℕ))
-    → ((other : GraphKind) → rank other < rank rule → Holds other pips tree) → (Holds rule pips tree → IsRight pips tree later)
+    → ((other : GraphKind) → rank other < rank rule → RuleHolds other pips tree) → (RuleHolds rule pips tree → IsRight pips tree later)
     → (o : Option ℕ) → IsFirstBelow (FailsAt rule pips tree) (length pips) o → IsRight pips tree (fault_or rule o later)
 right_by rule pips tree later earlier right None h = right (λ i fails. h i (fails_within rule pips tree i fails) fails)
 right_by rule pips tree later earlier right (Some i) h = elim (slice_get_cases pips i).1 [

@@ -10,7 +10,7 @@ use Rattle.pip_types.specs.declared.dir_inputs.SealForm.TheVariants.{Full, Parti
 use Rattle.pip_types.specs.declared.pip.Pip.{Pip}
 use Rattle.pip_types.specs.declared.pip.PipKind.{PipKind}
 use Rattle.pip_types.specs.declared.pip.PipKind.TheVariants.{Process, Copy, Write, Seal}
-use Rattle.graph_outputs.specs.Outputs.{Has}
+use Rattle.graph_outputs.specs.Outputs.{PipHas}
 
 -- the file, if it is a source file
 abbrev pub if_source : FileInput → List Atoms
@@ -39,4 +39,4 @@ named_sources (Seal d) = listed_sources d.form d.files
 -- pip i names a source file that is not in the tree
 abbrev pub NoSuchSourceAt : List Pip → Files → ℕ → Type 0
 NoSuchSourceAt pips tree i =
-    (path : Atoms) × Has named_sources pips i path × (Contains (paths_of tree) path → ⊥)
+    (path : Atoms) × PipHas named_sources pips i path × (Contains (paths_of tree) path → ⊥)

@@ -34,28 +34,28 @@ rank Twin = 5
 rank Limit = 6
 
 -- the rule fails at no pip
-abbrev pub Holds : GraphKind → List Pip → Files → Type 0
-Holds rule pips tree = (i : ℕ) → FailsAt rule pips tree i → ⊥
+abbrev pub RuleHolds : GraphKind → List Pip → Files → Type 0
+RuleHolds rule pips tree = (i : ℕ) → FailsAt rule pips tree i → ⊥
 
 -- all rules hold
 abbrev pub KeepsRules : List Pip → Files → Type 0
-KeepsRules pips tree = (rule : GraphKind) → Holds rule pips tree
+KeepsRules pips tree = (rule : GraphKind) → RuleHolds rule pips tree
 
 -- The rules before this one hold, this one fails first at this pip, and the pip has this specification file.
-pub record IsFirstFault (pips : List Pip) (tree : Files) (rule : GraphKind) (pip : ℕ) (file : Atoms)
+pub record IsFirstBrokenRule (pips : List Pip) (tree : Files) (rule : GraphKind) (pip : ℕ) (file : Atoms)
     : Type 0 where
-  pub earlier_rules : (earlier : GraphKind) → rank earlier < rank rule → Holds earlier pips tree
+  pub earlier_rules : (earlier : GraphKind) → rank earlier < rank rule → RuleHolds earlier pips tree
   pub earlier_pips : (earlier : ℕ) → earlier < pip → FailsAt rule pips tree earlier → ⊥
   pub fails : FailsAt rule pips tree pip
   pub spec : IsSomeAnd (slice_get pips pip) (λ (p : Pip). p.spec ≡ file)
 
 -- what a refusal says of the pips
 abbrev pub IsRefusal : List Pip → Files → GraphFault → Type 0
-IsRefusal pips tree (Fault rule pip file) = IsFirstFault pips tree rule pip file
+IsRefusal pips tree (Fault rule pip file) = IsFirstBrokenRule pips tree rule pip file
 IsRefusal pips tree Memory = Unit {0}
 
 -- the pips keep the rules, or have a first fault
 abbrev pub HasAnswer : List Pip → Files → Type 0
 HasAnswer pips tree =
     KeepsRules pips tree
-    ⊎ ((rule : GraphKind) × (pip : ℕ) × (file : Atoms) × IsFirstFault pips tree rule pip file)
+    ⊎ ((rule : GraphKind) × (pip : ℕ) × (file : Atoms) × IsFirstBrokenRule pips tree rule pip file)

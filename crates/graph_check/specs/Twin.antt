@@ -5,7 +5,7 @@ use Rattle.pip_types.specs.declared.pip.PipKind.{PipKind}
 use Rattle.pip_types.specs.declared.pip.PipKind.TheVariants.{Process, Copy, Write, Seal}
 use Rattle.pip_types.specs.declared.pip.ProcessDesc.{ProcessDesc}
 use Rattle.pip_order.specs.Descriptions.{description}
-use Rattle.graph_outputs.specs.Outputs.{Has}
+use Rattle.graph_outputs.specs.Outputs.{PipHas}
 
 -- the description of a process; other pips have none
 abbrev pub descriptions : PipKind → List ProcessDesc
@@ -17,4 +17,4 @@ descriptions (Seal d) = []
 -- pip i is a process with the description of an earlier process
 abbrev pub TwinAt : List Pip → ℕ → Type 0
 TwinAt pips i =
-    (j : ℕ) × (j < i) × ((d : ProcessDesc) × Has descriptions pips i d × Has descriptions pips j d)
+    (j : ℕ) × (j < i) × ((d : ProcessDesc) × PipHas descriptions pips i d × PipHas descriptions pips j d)

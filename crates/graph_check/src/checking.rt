@@ -1,7 +1,7 @@
 //! All rules, one after the other.
 ghost use Rattle.std.specs.Prelude.{◌≡◌, ◌<◌, ◌≤◌, IfOk, MatchResult, length};
 ghost use Rattle.graph_outputs.specs.Firsts.{IsFirst};
-ghost use Rattle.graph_check.specs.Rules.{FailsAt, Holds, IsRefusal, KeepsRules, rank};
+ghost use Rattle.graph_check.specs.Rules.{FailsAt, IsRefusal, KeepsRules, RuleHolds, rank};
 ghost use Rattle.graph_check.specs.declared.fault.GraphKind.{GraphKind as AnyRule};
 
 use crate::fault::{GraphFault, GraphKind};
@@ -39,9 +39,9 @@ fn keep_rule(
     sources: &Sources,
 ) -> Result<(), GraphFault>
     requires few { length pips.now ≤ u32.MAX }
-    requires earlier { (other : AnyRule) → rank other < rank rule → Holds other pips.now sources.now }
+    requires earlier { (other : AnyRule) → rank other < rank rule → RuleHolds other pips.now sources.now }
     ensures { MatchResult result
-        (λ _. Holds rule pips.now sources.now)
+        (λ _. RuleHolds rule pips.now sources.now)
         (λ fault. IsRefusal pips.now sources.now fault) }
 {
     let Some(number) = first_failure(alloc, rule, pips, sources)? else {

@@ -21,8 +21,8 @@ use Rattle.graph_outputs.specs.declared.gathered.Wanted.{Wanted}
 use Rattle.graph_outputs.specs.declared.gathered.Wanted.TheVariants.{Files, Dirs, Outputs, Roots}
 use Rattle.graph_outputs.specs.Claims.{AreClaims, IsInClaimOrder, claim_of, claims_of, if_wanted, in_role, paths_among, wanted_items, wants}
 use Rattle.graph_outputs.specs.Gathered.{IsListOf}
-use Rattle.graph_outputs.specs.Outputs.{Has, declared_files}
-use Rattle.graph_outputs.specs.Sharing.{dir_paths, full_roots}
+use Rattle.graph_outputs.specs.Outputs.{PipHas, declared_files}
+use Rattle.graph_outputs.specs.Sharing.{declared_dir_paths, full_roots}
 use Rattle.graph_outputs.specs.TreeOrder.{IsInTreeOrder, tree_cmp}
 use Rattle.graph_outputs.proofs.Among.{from_flat, from_map, to_flat, to_map}
 use Rattle.graph_outputs.proofs.Has.{has_there, has_within, there_has}
@@ -43,12 +43,12 @@ from_claims role pip xs c h =
 claims_from : (pip : ℕ) (kind : PipKind) (c : Claim) → Contains (claims_of pip kind) c → (c.pip ≡ pip) × Contains (in_role c.role kind) c.path
 claims_from pip kind c h =
     let files = map (claim_of File pip) (declared_files kind) in
-    let dirs = map (claim_of Dir pip) (dir_paths kind) in
+    let dirs = map (claim_of Dir pip) (declared_dir_paths kind) in
     let roots = map (claim_of Root pip) (full_roots kind) in
     elim (Contains-append_cases (files ++ dirs) roots c h) [
       | inl prefix ↦ elim (Contains-append_cases files dirs c prefix) [
         | inl file ↦ at File (from_claims File pip (declared_files kind) c file)
-        | inr dir ↦ at Dir (from_claims Dir pip (dir_paths kind) c dir)
+        | inr dir ↦ at Dir (from_claims Dir pip (declared_dir_paths kind) c dir)
       ]
       | inr root ↦ at Root (from_claims Root pip (full_roots kind) c root)
     ]
@@ -59,16 +59,16 @@ claims_from pip kind c h =
 by_role : (pip : ℕ) (kind : PipKind) (role : Role) (path : Atoms) → Contains (in_role role kind) path → Contains (claims_of pip kind) (claim_of role pip path)
 by_role pip kind File path h =
     let files = map (claim_of File pip) (declared_files kind) in
-    let dirs = map (claim_of Dir pip) (dir_paths kind) in
+    let dirs = map (claim_of Dir pip) (declared_dir_paths kind) in
     Contains-append_left (files ++ dirs) (map (claim_of Root pip) (full_roots kind)) (claim_of File pip path)
     (Contains-append_left files dirs (claim_of File pip path) (to_map (claim_of File pip) (declared_files kind) path h))
 by_role pip kind Dir path h =
     let files = map (claim_of File pip) (declared_files kind) in
-    let dirs = map (claim_of Dir pip) (dir_paths kind) in
+    let dirs = map (claim_of Dir pip) (declared_dir_paths kind) in
     Contains-append_left (files ++ dirs) (map (claim_of Root pip) (full_roots kind)) (claim_of Dir pip path)
-    (Contains-append_right files dirs (claim_of Dir pip path) (to_map (claim_of Dir pip) (dir_paths kind) path h))
+    (Contains-append_right files dirs (claim_of Dir pip path) (to_map (claim_of Dir pip) (declared_dir_paths kind) path h))
 by_role pip kind Root path h =
-    Contains-append_right (map (claim_of File pip) (declared_files kind) ++ map (claim_of Dir pip) (dir_paths kind)) (map (claim_of Root pip) (full_roots kind))
+    Contains-append_right (map (claim_of File pip) (declared_files kind) ++ map (claim_of Dir pip) (declared_dir_paths kind)) (map (claim_of Root pip) (full_roots kind))
     (claim_of Root pip path) (to_map (claim_of Root pip) (full_roots kind) path h)
 
 claims_to : (pip : ℕ) (kind : PipKind) (c : Claim) → c.pip ≡ pip → Contains (in_role c.role kind) c.path → Contains (claims_of pip kind) c
@@ -78,7 +78,7 @@ claims_to pip kind c e h = subst (λ n. Contains (claims_of pip kind) (claim_of 
 
 -- the claims are those of the first n pips
 abbrev pub AreFirstClaims : List Pip → ℕ → List Claim → Type 0
-AreFirstClaims pips n claims = (c : Claim) → Contains claims c ↔ ((c.pip < n) × Has (in_role c.role) pips c.pip c.path)
+AreFirstClaims pips n claims = (c : Claim) → Contains claims c ↔ ((c.pip < n) × PipHas (in_role c.role) pips c.pip c.path)
 
 pub no_claims : (pips : List Pip) (claims : List Claim) → length claims ≡ 0 → AreFirstClaims pips 0 claims
 no_claims pips claims e c = (λ (k, l, is). absurd (omega (arith, l, e)), λ (l, has). absurd (omega (arith, l)))
@@ -90,14 +90,14 @@ more_claims pips n pip now next there e before c = (
     | inl old ↦ let b = (before c).0 old in (omega (arith, b.0), b.1)
     | inr new ↦
         let b = claims_from n pip.kind c new in
-        (omega (arith, b.0), subst (λ m. Has (in_role c.role) pips m c.path) (sym b.0) (has_there (in_role c.role) pips n pip c.path there b.1))
+        (omega (arith, b.0), subst (λ m. PipHas (in_role c.role) pips m c.path) (sym b.0) (has_there (in_role c.role) pips n pip c.path there b.1))
   ],
   λ (l, has). subst (λ cs. Contains cs c) (sym e) (elim (cases_lt c.pip n) [
     | inl below ↦ Contains-append_left now (claims_of n pip.kind) c ((before c).1 (below, has))
     | inr above ↦
         let here : c.pip ≡ n = omega (arith, l, above) in
         Contains-append_right now (claims_of n pip.kind) c
-        (claims_to n pip.kind c here (there_has (in_role c.role) pips n pip c.path there (subst (λ m. Has (in_role c.role) pips m c.path) here has)))
+        (claims_to n pip.kind c here (there_has (in_role c.role) pips n pip c.path there (subst (λ m. PipHas (in_role c.role) pips m c.path) here has)))
   ]),
 )
 
@@ -176,8 +176,8 @@ wanted_from Files Root kind p e h = cc
 wanted_from Dirs File kind p e h = cc
 wanted_from Dirs Dir kind p e h = h
 wanted_from Dirs Root kind p e h = cc
-wanted_from Outputs File kind p e h = Contains-append_left (declared_files kind) (dir_paths kind) p h
-wanted_from Outputs Dir kind p e h = Contains-append_right (declared_files kind) (dir_paths kind) p h
+wanted_from Outputs File kind p e h = Contains-append_left (declared_files kind) (declared_dir_paths kind) p h
+wanted_from Outputs Dir kind p e h = Contains-append_right (declared_files kind) (declared_dir_paths kind) p h
 wanted_from Outputs Root kind p e h = cc
 wanted_from Roots File kind p e h = cc
 wanted_from Roots Dir kind p e h = cc
@@ -187,22 +187,22 @@ wanted_to : (wanted : Wanted) (kind : PipKind) (p : Atoms) → Contains (wanted_
     → (role : Role) × (wants wanted role ≡ true) × Contains (in_role role kind) p
 wanted_to Files kind p h = (File, refl, h)
 wanted_to Dirs kind p h = (Dir, refl, h)
-wanted_to Outputs kind p h = elim (Contains-append_cases (declared_files kind) (dir_paths kind) p h) [
+wanted_to Outputs kind p h = elim (Contains-append_cases (declared_files kind) (declared_dir_paths kind) p h) [
   | inl file ↦ (File, refl, file)
   | inr dir ↦ (Dir, refl, dir)
 ]
 wanted_to Roots kind p h = (Root, refl, h)
 
-has_wanted : (wanted : Wanted) (role : Role) (pips : List Pip) (i : ℕ) (p : Atoms) → wants wanted role ≡ true → Has (in_role role) pips i p
-    → Has (wanted_items wanted) pips i p
+has_wanted : (wanted : Wanted) (role : Role) (pips : List Pip) (i : ℕ) (p : Atoms) → wants wanted role ≡ true → PipHas (in_role role) pips i p
+    → PipHas (wanted_items wanted) pips i p
 has_wanted wanted role pips i p e h = at (slice_get pips i) h
   where
     at : (o : Option Pip) → IsSomeAnd o (λ (q : Pip). Contains (in_role role q.kind) p) → IsSomeAnd o (λ (q : Pip). Contains (wanted_items wanted q.kind) p)
     at None h = absurd h
     at (Some pip) h = wanted_from wanted role pip.kind p e h
 
-has_in_role : (wanted : Wanted) (pips : List Pip) (i : ℕ) (p : Atoms) → Has (wanted_items wanted) pips i p
-    → (role : Role) × (wants wanted role ≡ true) × Has (in_role role) pips i p
+has_in_role : (wanted : Wanted) (pips : List Pip) (i : ℕ) (p : Atoms) → PipHas (wanted_items wanted) pips i p
+    → (role : Role) × (wants wanted role ≡ true) × PipHas (in_role role) pips i p
 has_in_role wanted pips i p h = at (slice_get pips i) h
   where
     at : (o : Option Pip) → IsSomeAnd o (λ (q : Pip). Contains (wanted_items wanted q.kind) p)
@@ -221,7 +221,7 @@ list_of_claims wanted pips claims are = record {
         let kept = from_kept (is_asked wanted (length pips) c) c.path p found.2 in
         let asked = (asked_decides wanted (length pips) c).0 kept.0 in
         let has = (are.members c asked.0).0 found.1 in
-        (c.pip, subst (Has (wanted_items wanted) pips c.pip) kept.1 (has_wanted wanted c.role pips c.pip c.path asked.1 has)),
+        (c.pip, subst (PipHas (wanted_items wanted) pips c.pip) kept.1 (has_wanted wanted c.role pips c.pip c.path asked.1 has)),
     λ (i, has).
         let role = has_in_role wanted pips i p has in
         let within = has_within (wanted_items wanted) pips i p has in

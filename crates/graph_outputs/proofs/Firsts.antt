@@ -5,7 +5,7 @@ use Rattle.std.proofs.lemmas.Bool.{cases_lt}
 use Rattle.std.proofs.lemmas.Option.{slice_get_read}
 use Rattle.pip_types.specs.declared.pip.Pip.{Pip}
 use Rattle.pip_types.specs.declared.pip.PipKind.{PipKind}
-use Rattle.graph_outputs.specs.Outputs.{Has}
+use Rattle.graph_outputs.specs.Outputs.{PipHas}
 use Rattle.graph_outputs.specs.Firsts.{IsFirst}
 use Rattle.graph_outputs.proofs.Has.{any_from_some, has_within, some_from_any}
 
@@ -22,7 +22,7 @@ none_at_all P n i l within none j p = let below = within j p in none j (omega (a
 
 -- pip i has an item of which P holds
 abbrev pub HasSome : {X : Type 0} → (PipKind → List X) → (X → Type 0) → List Pip → ℕ → Type 0
-HasSome {X} items P pips i = (x : X) × Has items pips i x × P x
+HasSome {X} items P pips i = (x : X) × PipHas items pips i x × P x
 
 pub found_first : {X : Type 0} (items : PipKind → List X) (P : X → Type 0) (pips : List Pip) (i : ℕ) (pip : Pip) → i < length pips
     → pip ≡ get_or pips i pip → Any P (items pip.kind) → ((j : ℕ) → j < i → HasSome items P pips j → ⊥) → IsFirst (HasSome items P pips) (Some i)

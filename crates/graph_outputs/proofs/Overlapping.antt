@@ -8,10 +8,10 @@ use Rattle.bx_tree.specs.Paths.{Atoms, IsBelow}
 use Rattle.pip_types.specs.declared.pip.Pip.{Pip}
 use Rattle.pip_types.specs.declared.pip.SealDesc.{SealDesc}
 use Rattle.graph_outputs.specs.Gathered.{IsListOf}
-use Rattle.graph_outputs.specs.Outputs.{Has, IsWithin, declared_files, outputs}
+use Rattle.graph_outputs.specs.Outputs.{IsWithin, PipHas, declared_files, outputs}
 use Rattle.graph_outputs.specs.Overlap.{IsUnlisted, full_seals}
 use Rattle.graph_outputs.specs.Overlap.Overlaps.{Nested, OnePath, Unshared, Unlisted, Meets}
-use Rattle.graph_outputs.specs.Sharing.{HasFileDir, HasNested, HasOverlap, HasSealedDir, HasUnlisted, HasUnshared, dir_paths, full_roots}
+use Rattle.graph_outputs.specs.Sharing.{HasFileDir, HasNested, HasOverlap, HasSealedDir, HasUnlisted, HasUnshared, declared_dir_paths, full_roots}
 use Rattle.graph_outputs.proofs.Among.{from_map, to_map}
 use Rattle.graph_outputs.proofs.Has.{has_there}
 use Rattle.graph_outputs.proofs.Unsharing.{dir_path_of, has_along, path_dir}
@@ -28,28 +28,28 @@ pub pair_to : (R : Atoms → Atoms → Type 0) (paths dirs : List Atoms) (path d
     → SomePair R paths dirs
 pair_to R paths dirs path dir c d r = (d.0, dir, d.1, d.2, (c.0, path, c.1, c.2, r))
 
-file_output : (pips : List Pip) (i : ℕ) (p : Atoms) → Has declared_files pips i p → Has outputs pips i p
+file_output : (pips : List Pip) (i : ℕ) (p : Atoms) → PipHas declared_files pips i p → PipHas outputs pips i p
 file_output pips i p h =
     let y = has_along declared_files outputs p (λ q. q ≡ p)
-    (λ kind c. (p, Contains-append_left (declared_files kind) (dir_paths kind) p c, refl)) pips i h in
-    subst (Has outputs pips i) y.2 y.1
+    (λ kind c. (p, Contains-append_left (declared_files kind) (declared_dir_paths kind) p c, refl)) pips i h in
+    subst (PipHas outputs pips i) y.2 y.1
 
-dir_output : (pips : List Pip) (i : ℕ) (p : Atoms) → Has dir_paths pips i p → Has outputs pips i p
+dir_output : (pips : List Pip) (i : ℕ) (p : Atoms) → PipHas declared_dir_paths pips i p → PipHas outputs pips i p
 dir_output pips i p h =
-    let y = has_along dir_paths outputs p (λ q. q ≡ p)
-    (λ kind c. (p, Contains-append_right (declared_files kind) (dir_paths kind) p c, refl)) pips i h in
-    subst (Has outputs pips i) y.2 y.1
+    let y = has_along declared_dir_paths outputs p (λ q. q ≡ p)
+    (λ kind c. (p, Contains-append_right (declared_files kind) (declared_dir_paths kind) p c, refl)) pips i h in
+    subst (PipHas outputs pips i) y.2 y.1
 
-pub root_seal : (pips : List Pip) (i : ℕ) (p : Atoms) → Has full_roots pips i p → (seal : SealDesc) × Has full_seals pips i seal × (seal.root ≡ p)
+pub root_seal : (pips : List Pip) (i : ℕ) (p : Atoms) → PipHas full_roots pips i p → (seal : SealDesc) × PipHas full_seals pips i seal × (seal.root ≡ p)
 root_seal pips i p h =
     has_along full_roots full_seals p (λ (seal : SealDesc). seal.root ≡ p)
     (λ kind c. from_map (λ (seal : SealDesc). seal.root) (full_seals kind) p c) pips i h
 
-root_of : (pips : List Pip) (i : ℕ) (seal : SealDesc) → Has full_seals pips i seal → Has full_roots pips i seal.root
+root_of : (pips : List Pip) (i : ℕ) (seal : SealDesc) → PipHas full_seals pips i seal → PipHas full_roots pips i seal.root
 root_of pips i seal h =
     let y = has_along full_seals full_roots seal (λ p. p ≡ seal.root)
     (λ kind c. (seal.root, to_map (λ (s : SealDesc). s.root) (full_seals kind) seal c, refl)) pips i h in
-    subst (Has full_roots pips i) y.2 y.1
+    subst (PipHas full_roots pips i) y.2 y.1
 
 -- ## Outputs
 
@@ -64,7 +64,7 @@ pub nested_to : (pips : List Pip) (xs : List Atoms) → IsListOf outputs pips xs
 nested_to pips xs all (i, j, (path, dir, h, k, below)) =
     pair_to IsBelow xs xs path dir ((all.members path).1 (i, h)) ((all.members dir).1 (j, k)) below
 
-pub file_dir_from : (pips : List Pip) (files dirs : List Atoms) → IsListOf declared_files pips files → IsListOf dir_paths pips dirs
+pub file_dir_from : (pips : List Pip) (files dirs : List Atoms) → IsListOf declared_files pips files → IsListOf declared_dir_paths pips dirs
     → SomePair IsWithin files dirs → HasNested pips ⊎ HasFileDir pips
 file_dir_from pips files dirs fs ds some =
     let pair = pair_from IsWithin files dirs some in
@@ -76,19 +76,19 @@ file_dir_from pips files dirs fs ds some =
       | inr below ↦ inl (file.0, path.0, (pair.0, pair.1, file_output pips file.0 pair.0 file.1, dir_output pips path.0 pair.1 path.1, below))
     ]
 
-pub file_dir_to : (pips : List Pip) (files dirs : List Atoms) → IsListOf declared_files pips files → IsListOf dir_paths pips dirs
+pub file_dir_to : (pips : List Pip) (files dirs : List Atoms) → IsListOf declared_files pips files → IsListOf declared_dir_paths pips dirs
     → HasFileDir pips → SomePair IsWithin files dirs
 file_dir_to pips files dirs fs ds (i, j, (file, dir, h, k, same)) =
     pair_to IsWithin files dirs file dir.path ((fs.members file).1 (i, h)) ((ds.members dir.path).1 (j, dir_path_of pips j dir k)) (inl same)
 
 -- where there are no directories, no file is one
-pub no_file_dir : (pips : List Pip) (dirs : List Atoms) → IsListOf dir_paths pips dirs → length dirs ≡ 0 → HasFileDir pips → ⊥
+pub no_file_dir : (pips : List Pip) (dirs : List Atoms) → IsListOf declared_dir_paths pips dirs → length dirs ≡ 0 → HasFileDir pips → ⊥
 no_file_dir pips dirs ds e (i, j, (file, dir, h, k, same)) =
     let there = (ds.members dir.path).1 (j, dir_path_of pips j dir k) in omega (arith, there.1, e)
 
 -- ## Seals
 
-pub sealed_from_below : (pips : List Pip) (dirs roots : List Atoms) → IsListOf dir_paths pips dirs → IsListOf full_roots pips roots
+pub sealed_from_below : (pips : List Pip) (dirs roots : List Atoms) → IsListOf declared_dir_paths pips dirs → IsListOf full_roots pips roots
     → SomePair IsWithin dirs roots → HasSealedDir pips
 sealed_from_below pips dirs roots ds rs some =
     let pair = pair_from IsWithin dirs roots some in
@@ -110,7 +110,7 @@ sealed_from_below pips dirs roots ds rs some =
       ),
     )
 
-pub sealed_from_above : (pips : List Pip) (dirs roots : List Atoms) → IsListOf dir_paths pips dirs → IsListOf full_roots pips roots
+pub sealed_from_above : (pips : List Pip) (dirs roots : List Atoms) → IsListOf declared_dir_paths pips dirs → IsListOf full_roots pips roots
     → SomePair IsWithin roots dirs → HasSealedDir pips
 sealed_from_above pips dirs roots ds rs some =
     let pair = pair_from IsWithin roots dirs some in
@@ -129,7 +129,7 @@ sealed_from_above pips dirs roots ds rs some =
       ),
     )
 
-pub sealed_to : (pips : List Pip) (dirs roots : List Atoms) → IsListOf dir_paths pips dirs → IsListOf full_roots pips roots
+pub sealed_to : (pips : List Pip) (dirs roots : List Atoms) → IsListOf declared_dir_paths pips dirs → IsListOf full_roots pips roots
     → HasSealedDir pips → SomePair IsWithin dirs roots ⊎ SomePair IsWithin roots dirs
 sealed_to pips dirs roots ds rs (i, j, (seal, dir, h, k, meets)) =
     let root = (rs.members seal.root).1 (i, root_of pips i seal h) in

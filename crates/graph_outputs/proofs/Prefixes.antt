@@ -6,7 +6,7 @@ use Rattle.std.proofs.lemmas.Bool.{cases_lt}
 use Rattle.pip_types.specs.declared.pip.Pip.{Pip}
 use Rattle.pip_types.specs.declared.pip.PipKind.{PipKind}
 use Rattle.graph_outputs.specs.Firsts.{IsFirst}
-use Rattle.graph_outputs.specs.Outputs.{Has, declared_dirs, declared_files, outputs}
+use Rattle.graph_outputs.specs.Outputs.{PipHas, declared_dirs, declared_files, outputs}
 use Rattle.graph_outputs.specs.Overlap.{OverlapAt, Overlaps, full_seals}
 use Rattle.graph_outputs.specs.Overlap.Overlaps.{Nested, OnePath, Unshared, Unlisted, Meets}
 use Rattle.graph_outputs.specs.Sharing.{HasOverlap}
@@ -19,10 +19,10 @@ slice_get-take (x ∷ xs) zero i l = absurd (omega (arith, l))
 slice_get-take (x ∷ xs) (suc m) zero l = refl
 slice_get-take (x ∷ xs) (suc m) (suc i) l = slice_get-take xs m i (omega (arith, l))
 
-pub into : {X : Type 0} (items : PipKind → List X) (pips : List Pip) (m i : ℕ) (x : X) → i < m → Has items pips i x → Has items (take m pips) i x
+pub into : {X : Type 0} (items : PipKind → List X) (pips : List Pip) (m i : ℕ) (x : X) → i < m → PipHas items pips i x → PipHas items (take m pips) i x
 into items pips m i x l h = subst (λ o. IsSomeAnd o (λ (p : Pip). Contains (items p.kind) x)) (sym (slice_get-take pips m i l)) h
 
-pub out_of : {X : Type 0} (items : PipKind → List X) (pips : List Pip) (m i : ℕ) (x : X) → i < m → Has items (take m pips) i x → Has items pips i x
+pub out_of : {X : Type 0} (items : PipKind → List X) (pips : List Pip) (m i : ℕ) (x : X) → i < m → PipHas items (take m pips) i x → PipHas items pips i x
 out_of items pips m i x l h = subst (λ o. IsSomeAnd o (λ (p : Pip). Contains (items p.kind) x)) (slice_get-take pips m i l) h
 
 pub overlaps_within : (pips : List Pip) (i j : ℕ) → Overlaps pips i j → (i < length pips) × (j < length pips)

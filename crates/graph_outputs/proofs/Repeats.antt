@@ -5,16 +5,16 @@ use Rattle.std.specs.List.{Any, Contains}
 use Rattle.std.proofs.lemmas.Bool.{cases_lt}
 use Rattle.pip_types.specs.declared.pip.Pip.{Pip}
 use Rattle.pip_types.specs.declared.pip.PipKind.{PipKind}
-use Rattle.graph_outputs.specs.Outputs.{Has}
+use Rattle.graph_outputs.specs.Outputs.{PipHas}
 use Rattle.graph_outputs.proofs.Has.{has_there, has_within, there_has}
 
 -- a pip before pip i has x among its items
 abbrev pub IsBefore : {X : Type 0} → (PipKind → List X) → List Pip → ℕ → X → Type 0
-IsBefore items pips i x = (j : ℕ) × (j < i) × Has items pips j x
+IsBefore items pips i x = (j : ℕ) × (j < i) × PipHas items pips j x
 
 -- pip i has an item that an earlier pip has
 abbrev pub RepeatsAt : {X : Type 0} → (PipKind → List X) → List Pip → ℕ → Type 0
-RepeatsAt {X} items pips i = (j : ℕ) × (j < i) × ((x : X) × Has items pips i x × Has items pips j x)
+RepeatsAt {X} items pips i = (j : ℕ) × (j < i) × ((x : X) × PipHas items pips i x × PipHas items pips j x)
 
 pub repeats : {X : Type 0} (items : PipKind → List X) (pips : List Pip) (i : ℕ) (pip : Pip) → slice_get pips i ≡ Some pip
     → Any (IsBefore items pips i) (items pip.kind) → RepeatsAt items pips i
@@ -34,7 +34,7 @@ pub before_more : {X : Type 0} (items : PipKind → List X) (pips : List Pip) (i
 before_more {X} items pips i pip x e = (
   λ (j, below, has). elim (cases_lt j i) [
     | inl old ↦ inl (j, old, has)
-    | inr last ↦ let same : j ≡ i = omega arith in inr (there_has items pips i pip x e (subst (λ n. Has items pips n x) same has))
+    | inr last ↦ let same : j ≡ i = omega arith in inr (there_has items pips i pip x e (subst (λ n. PipHas items pips n x) same has))
   ],
   λ h. elim h [
     | inl (j, below, has) ↦ (j, omega (arith, below), has)

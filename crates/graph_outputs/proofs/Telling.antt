@@ -4,7 +4,7 @@ use Rattle.std.specs.Prelude.{◌↔◌}
 use Rattle.std.proofs.lemmas.Bool.{cases_lt}
 use Rattle.std.proofs.lemmas.List.{take_all, take-take}
 use Rattle.pip_types.specs.declared.pip.Pip.{Pip}
-use Rattle.graph_outputs.specs.Sharing.{HasUnshared, TellsUnshared, dir_paths, lone_paths}
+use Rattle.graph_outputs.specs.Sharing.{HasUnshared, TellsUnshared, declared_dir_paths, lone_paths}
 use Rattle.graph_outputs.proofs.Prefixes.{into, out_of}
 use Rattle.graph_outputs.proofs.Unsharing.{ClashAt, clash_from_unshared, clash_within, unshared_from_clash}
 
@@ -16,8 +16,8 @@ clash_into pips m i l (j, below, (p, h)) =
       (
         p,
         elim h [
-          | inl x ↦ inl (into lone_paths pips m i p l x.0, into dir_paths pips m j p first x.1)
-          | inr x ↦ inr (into dir_paths pips m i p l x.0, into lone_paths pips m j p first x.1)
+          | inl x ↦ inl (into lone_paths pips m i p l x.0, into declared_dir_paths pips m j p first x.1)
+          | inr x ↦ inr (into declared_dir_paths pips m i p l x.0, into lone_paths pips m j p first x.1)
         ],
       ),
     )
@@ -30,8 +30,8 @@ clash_out pips m i l (j, below, (p, h)) =
       (
         p,
         elim h [
-          | inl x ↦ inl (out_of lone_paths pips m i p l x.0, out_of dir_paths pips m j p first x.1)
-          | inr x ↦ inr (out_of dir_paths pips m i p l x.0, out_of lone_paths pips m j p first x.1)
+          | inl x ↦ inl (out_of lone_paths pips m i p l x.0, out_of declared_dir_paths pips m j p first x.1)
+          | inr x ↦ inr (out_of declared_dir_paths pips m i p l x.0, out_of lone_paths pips m j p first x.1)
         ],
       ),
     )

@@ -7,8 +7,8 @@ use Rattle.bx_tree.specs.Paths.{Atoms}
 use Rattle.pip_types.specs.declared.outputs.OutDir.{OutDir}
 use Rattle.pip_types.specs.declared.pip.Pip.{Pip}
 use Rattle.pip_types.specs.declared.pip.PipKind.{PipKind}
-use Rattle.graph_outputs.specs.Outputs.{Has, declared_dirs}
-use Rattle.graph_outputs.specs.Sharing.{HasUnshared, dir_paths, lone_paths, unless_shared}
+use Rattle.graph_outputs.specs.Outputs.{PipHas, declared_dirs}
+use Rattle.graph_outputs.specs.Sharing.{HasUnshared, declared_dir_paths, lone_paths, unless_shared}
 use Rattle.graph_outputs.proofs.Among.{from_flat, from_map, to_flat, to_map}
 use Rattle.graph_outputs.proofs.Firsts.{none_at_all}
 use Rattle.graph_outputs.proofs.Has.{has_there, has_within, there_has}
@@ -16,11 +16,11 @@ use Rattle.graph_outputs.proofs.Repeats.{IsSoFar}
 
 -- what a pip has among some items it has, in another way, among others
 pub has_along : {X Y : Type 0} (as' : PipKind → List X) (bs : PipKind → List Y) (x : X) (P : Y → Type 0)
-    → ((kind : PipKind) → Contains (as' kind) x → (y : Y) × Contains (bs kind) y × P y) → (pips : List Pip) (i : ℕ) → Has as' pips i x
-    → (y : Y) × Has bs pips i y × P y
+    → ((kind : PipKind) → Contains (as' kind) x → (y : Y) × Contains (bs kind) y × P y) → (pips : List Pip) (i : ℕ) → PipHas as' pips i x
+    → (y : Y) × PipHas bs pips i y × P y
 has_along as' bs x P into pips i h = at (slice_get pips i) refl h
   where
-    at : (o : Option Pip) → slice_get pips i ≡ o → IsSomeAnd o (λ (p : Pip). Contains (as' p.kind) x) → (y : _) × Has bs pips i y × P y
+    at : (o : Option Pip) → slice_get pips i ≡ o → IsSomeAnd o (λ (p : Pip). Contains (as' p.kind) x) → (y : _) × PipHas bs pips i y × P y
     at None e h = absurd h
     at (Some pip) e h =
         let y = into pip.kind h in
@@ -35,8 +35,8 @@ to_unless true path e = cc
 to_unless false path e = (0, omega arith, refl)
 
 -- a lone path is that of a directory that is not shared
-pub lone_dir : (pips : List Pip) (i : ℕ) (p : Atoms) → Has lone_paths pips i p
-    → (dir : OutDir) × Has declared_dirs pips i dir × ((dir.path ≡ p) × (dir.shared ≡ false))
+pub lone_dir : (pips : List Pip) (i : ℕ) (p : Atoms) → PipHas lone_paths pips i p
+    → (dir : OutDir) × PipHas declared_dirs pips i dir × ((dir.path ≡ p) × (dir.shared ≡ false))
 lone_dir pips i p h =
     has_along lone_paths declared_dirs p (λ (dir : OutDir). (dir.path ≡ p) × (dir.shared ≡ false))
     (λ kind c.
@@ -44,18 +44,18 @@ lone_dir pips i p h =
     let parts = from_unless found.0.shared found.0.path p found.2 in
     (found.0, found.1, (parts.1, parts.0))) pips i h
 
-pub path_dir : (pips : List Pip) (i : ℕ) (p : Atoms) → Has dir_paths pips i p → (dir : OutDir) × Has declared_dirs pips i dir × (dir.path ≡ p)
+pub path_dir : (pips : List Pip) (i : ℕ) (p : Atoms) → PipHas declared_dir_paths pips i p → (dir : OutDir) × PipHas declared_dirs pips i dir × (dir.path ≡ p)
 path_dir pips i p h =
-    has_along dir_paths declared_dirs p (λ (dir : OutDir). dir.path ≡ p)
+    has_along declared_dir_paths declared_dirs p (λ (dir : OutDir). dir.path ≡ p)
     (λ kind c. from_map (λ (dir : OutDir). dir.path) (declared_dirs kind) p c) pips i h
 
-pub dir_path_of : (pips : List Pip) (i : ℕ) (dir : OutDir) → Has declared_dirs pips i dir → Has dir_paths pips i dir.path
+pub dir_path_of : (pips : List Pip) (i : ℕ) (dir : OutDir) → PipHas declared_dirs pips i dir → PipHas declared_dir_paths pips i dir.path
 dir_path_of pips i dir h =
-    let y = has_along declared_dirs dir_paths dir (λ p. p ≡ dir.path)
+    let y = has_along declared_dirs declared_dir_paths dir (λ p. p ≡ dir.path)
     (λ kind c. (dir.path, to_map (λ (d : OutDir). d.path) (declared_dirs kind) dir c, refl)) pips i h in
-    subst (Has dir_paths pips i) y.2 y.1
+    subst (PipHas declared_dir_paths pips i) y.2 y.1
 
-pub lone_path_of : (pips : List Pip) (i : ℕ) (dir : OutDir) → dir.shared ≡ false → Has declared_dirs pips i dir → Has lone_paths pips i dir.path
+pub lone_path_of : (pips : List Pip) (i : ℕ) (dir : OutDir) → dir.shared ≡ false → PipHas declared_dirs pips i dir → PipHas lone_paths pips i dir.path
 lone_path_of pips i dir alone h =
     let y = has_along declared_dirs lone_paths dir (λ p. p ≡ dir.path)
     (λ kind c. (
@@ -63,21 +63,21 @@ lone_path_of pips i dir alone h =
       to_flat (λ (d : OutDir). unless_shared d.shared d.path) (declared_dirs kind) dir dir.path c (to_unless dir.shared dir.path alone),
       refl,
     )) pips i h in
-    subst (Has lone_paths pips i) y.2 y.1
+    subst (PipHas lone_paths pips i) y.2 y.1
 
 -- pip i has a directory of an earlier pip, and not both share it
 abbrev pub ClashAt : List Pip → ℕ → Type 0
 ClashAt pips i =
     (j : ℕ) × (j < i)
-    × ((p : Atoms) × ((Has lone_paths pips i p × Has dir_paths pips j p) ⊎ (Has dir_paths pips i p × Has lone_paths pips j p)))
+    × ((p : Atoms) × ((PipHas lone_paths pips i p × PipHas declared_dir_paths pips j p) ⊎ (PipHas declared_dir_paths pips i p × PipHas lone_paths pips j p)))
 
 pub clash_within : (pips : List Pip) (i : ℕ) → ClashAt pips i → i < length pips
 clash_within pips i (j, l, (p, h)) = elim h [
   | inl x ↦ has_within lone_paths pips i p x.0
-  | inr x ↦ has_within dir_paths pips i p x.0
+  | inr x ↦ has_within declared_dir_paths pips i p x.0
 ]
 
-lone_clash : (pips : List Pip) (i j : ℕ) (p : Atoms) → i ≢ j → Has lone_paths pips i p → Has dir_paths pips j p → HasUnshared pips
+lone_clash : (pips : List Pip) (i j : ℕ) (p : Atoms) → i ≢ j → PipHas lone_paths pips i p → PipHas declared_dir_paths pips j p → HasUnshared pips
 lone_clash pips i j p apart h k =
     let dir = lone_dir pips i p h in
     let other = path_dir pips j p k in
@@ -94,31 +94,31 @@ unshared_from_clash pips i (j, l, (p, h)) = elim h [
 pub clash_from_unshared : (pips : List Pip) → HasUnshared pips → (i : ℕ) × ClashAt pips i
 clash_from_unshared pips (i, j, (apart, (dir, other, h, k, same, not_both))) = by_sharing dir.shared other.shared refl refl
   where
-    at_pips : (m n : ℕ) → m ≢ n → Has lone_paths pips m dir.path → Has dir_paths pips n dir.path → (i : ℕ) × ClashAt pips i
+    at_pips : (m n : ℕ) → m ≢ n → PipHas lone_paths pips m dir.path → PipHas declared_dir_paths pips n dir.path → (i : ℕ) × ClashAt pips i
     at_pips m n apart a b = elim (cases_lt n m) [
       | inl l ↦ (m, (n, l, (dir.path, inl (a, b))))
       | inr l ↦ (n, (m, omega (arith, l, apart), (dir.path, inr (b, a))))
     ]
 
     by_sharing : (a b : Bool) → dir.shared ≡ a → other.shared ≡ b → (i : ℕ) × ClashAt pips i
-    by_sharing false b e f = at_pips i j apart (lone_path_of pips i dir e h) (subst (Has dir_paths pips j) (sym same) (dir_path_of pips j other k))
+    by_sharing false b e f = at_pips i j apart (lone_path_of pips i dir e h) (subst (PipHas declared_dir_paths pips j) (sym same) (dir_path_of pips j other k))
     by_sharing true false e f =
-        at_pips j i (λ x. apart (sym x)) (subst (Has lone_paths pips j) (sym same) (lone_path_of pips j other f k)) (dir_path_of pips i dir h)
+        at_pips j i (λ x. apart (sym x)) (subst (PipHas lone_paths pips j) (sym same) (lone_path_of pips j other f k)) (dir_path_of pips i dir h)
     by_sharing true true e f = absurd (not_both e f)
 
 -- what is found of a pip among the directories of the pips before is a clash, and where nothing is found it has none
-pub clash_here : (pips : List Pip) (i : ℕ) (pip : Pip) (A L : Atoms → Type 0) → slice_get pips i ≡ Some pip → IsSoFar dir_paths pips i A
-    → IsSoFar lone_paths pips i L → Any A (lone_paths pip.kind) ⊎ Any L (dir_paths pip.kind) → ClashAt pips i
+pub clash_here : (pips : List Pip) (i : ℕ) (pip : Pip) (A L : Atoms → Type 0) → slice_get pips i ≡ Some pip → IsSoFar declared_dir_paths pips i A
+    → IsSoFar lone_paths pips i L → Any A (lone_paths pip.kind) ⊎ Any L (declared_dir_paths pip.kind) → ClashAt pips i
 clash_here pips i pip A L e all lone h = elim h [
   | inl (k, x, l, is, a) ↦ let b = (all x).0 a in (b.0, b.1, (x, inl (has_there lone_paths pips i pip x e (k, l, is), b.2)))
-  | inr (k, x, l, is, a) ↦ let b = (lone x).0 a in (b.0, b.1, (x, inr (has_there dir_paths pips i pip x e (k, l, is), b.2)))
+  | inr (k, x, l, is, a) ↦ let b = (lone x).0 a in (b.0, b.1, (x, inr (has_there declared_dir_paths pips i pip x e (k, l, is), b.2)))
 ]
 
-pub no_clash_here : (pips : List Pip) (i : ℕ) (pip : Pip) (A L : Atoms → Type 0) → slice_get pips i ≡ Some pip → IsSoFar dir_paths pips i A
-    → IsSoFar lone_paths pips i L → (Any A (lone_paths pip.kind) ⊎ Any L (dir_paths pip.kind) → ⊥) → ClashAt pips i → ⊥
+pub no_clash_here : (pips : List Pip) (i : ℕ) (pip : Pip) (A L : Atoms → Type 0) → slice_get pips i ≡ Some pip → IsSoFar declared_dir_paths pips i A
+    → IsSoFar lone_paths pips i L → (Any A (lone_paths pip.kind) ⊎ Any L (declared_dir_paths pip.kind) → ⊥) → ClashAt pips i → ⊥
 no_clash_here pips i pip A L e all lone none (j, below, (p, h)) = elim h [
   | inl x ↦ let c = there_has lone_paths pips i pip p e x.0 in none (inl (c.0, p, c.1, c.2, (all p).1 (j, below, x.1)))
-  | inr x ↦ let c = there_has dir_paths pips i pip p e x.0 in none (inr (c.0, p, c.1, c.2, (lone p).1 (j, below, x.1)))
+  | inr x ↦ let c = there_has declared_dir_paths pips i pip p e x.0 in none (inr (c.0, p, c.1, c.2, (lone p).1 (j, below, x.1)))
 ]
 
 -- pips of which none clashes with an earlier one share their directories

@@ -8,8 +8,8 @@ use Rattle.pip_types.specs.declared.pip.PipKind.{PipKind}
 use Rattle.pip_types.specs.declared.pip.PipKind.TheVariants.{Process, Copy, Write, Seal}
 
 -- pip i has x among these items of it
-abbrev pub Has : {X : Type 0} → (PipKind → List X) → List Pip → ℕ → X → Type 0
-Has items pips i x = IsSomeAnd (slice_get pips i) (λ (pip : Pip). Contains (items pip.kind) x)
+abbrev pub PipHas : {X : Type 0} → (PipKind → List X) → List Pip → ℕ → X → Type 0
+PipHas items pips i x = IsSomeAnd (slice_get pips i) (λ (pip : Pip). Contains (items pip.kind) x)
 
 -- the files that a pip declares: the output files and the console file of a process, and the file of a copy
 -- or write pip

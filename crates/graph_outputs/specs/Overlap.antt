@@ -9,7 +9,7 @@ use Rattle.pip_types.specs.declared.pip.Pip.{Pip}
 use Rattle.pip_types.specs.declared.pip.PipKind.{PipKind}
 use Rattle.pip_types.specs.declared.pip.PipKind.TheVariants.{Process, Copy, Write, Seal}
 use Rattle.pip_types.specs.declared.pip.SealDesc.{SealDesc}
-use Rattle.graph_outputs.specs.Outputs.{Has, IsWithin, declared_dirs, declared_files, outputs}
+use Rattle.graph_outputs.specs.Outputs.{IsWithin, PipHas, declared_dirs, declared_files, outputs}
 
 -- the seal, if its form is full
 abbrev pub if_full : SealForm → SealDesc → List SealDesc
@@ -28,18 +28,18 @@ full_seals (Seal d) = if_full d.form d
 -- an output of pip i lies strictly below an output of pip j
 abbrev pub NestedOutputs : List Pip → ℕ → ℕ → Type 0
 NestedOutputs pips i j =
-    (path dir : Atoms) × Has outputs pips i path × Has outputs pips j dir × IsBelow path dir
+    (path dir : Atoms) × PipHas outputs pips i path × PipHas outputs pips j dir × IsBelow path dir
 
 -- an output file of pip i is an output directory of pip j
 abbrev pub FileIsDir : List Pip → ℕ → ℕ → Type 0
 FileIsDir pips i j =
-    (file : Atoms) × (dir : OutDir) × Has declared_files pips i file × Has declared_dirs pips j dir
+    (file : Atoms) × (dir : OutDir) × PipHas declared_files pips i file × PipHas declared_dirs pips j dir
     × (file ≡ dir.path)
 
 -- two pips have one output directory, and not both call it shared
 abbrev pub UnsharedDir : List Pip → ℕ → ℕ → Type 0
 UnsharedDir pips i j =
-    (i ≢ j) × ((dir other : OutDir) × Has declared_dirs pips i dir × Has declared_dirs pips j other
+    (i ≢ j) × ((dir other : OutDir) × PipHas declared_dirs pips i dir × PipHas declared_dirs pips j other
     × (dir.path ≡ other.path) × (IsTrue dir.shared → IsTrue other.shared → ⊥))
 
 -- the file lies at or below the root of the seal and is no member of it
@@ -49,13 +49,13 @@ IsUnlisted seal file = IsWithin file seal.root × (Contains (map input_path seal
 -- an output file of pip i lies at or below the root of the full seal j and is no member of it
 abbrev pub UnlistedFile : List Pip → ℕ → ℕ → Type 0
 UnlistedFile pips i j =
-    (file : Atoms) × (seal : SealDesc) × Has declared_files pips i file × Has full_seals pips j seal
+    (file : Atoms) × (seal : SealDesc) × PipHas declared_files pips i file × PipHas full_seals pips j seal
     × IsUnlisted seal file
 
 -- the root of the full seal i equals, contains or lies in an output directory of pip j
 abbrev pub SealMeetsDir : List Pip → ℕ → ℕ → Type 0
 SealMeetsDir pips i j =
-    (seal : SealDesc) × (dir : OutDir) × Has full_seals pips i seal × Has declared_dirs pips j dir
+    (seal : SealDesc) × (dir : OutDir) × PipHas full_seals pips i seal × PipHas declared_dirs pips j dir
     × (IsWithin seal.root dir.path ⊎ IsBelow dir.path seal.root)
 
 -- pips i and j, which may be one pip, overlap in one of these ways

@@ -18,8 +18,8 @@ unless_shared false path = path ∷ []
 abbrev pub lone_among : List OutDir → List Atoms
 lone_among = flat_map (λ (dir : OutDir). unless_shared dir.shared dir.path)
 
-abbrev pub dir_paths : PipKind → List Atoms
-dir_paths kind = map (λ (dir : OutDir). dir.path) (declared_dirs kind)
+abbrev pub declared_dir_paths : PipKind → List Atoms
+declared_dir_paths kind = map (λ (dir : OutDir). dir.path) (declared_dirs kind)
 
 abbrev pub lone_paths : PipKind → List Atoms
 lone_paths kind = lone_among (declared_dirs kind)

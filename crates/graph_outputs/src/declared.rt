@@ -2,7 +2,7 @@
 ghost use Rattle.std.specs.Prelude.{◌≡◌, ◌++◌, ◌∷◌, [], map, IfOk, OnOk};
 ghost use Rattle.pip_types.specs.declared.outputs.OutDir.{OutDir as AnyOutDir};
 ghost use Rattle.graph_outputs.specs.Outputs.{declared_files, outputs};
-ghost use Rattle.graph_outputs.specs.Sharing.{dir_paths, full_roots, lone_among, lone_paths, unless_shared};
+ghost use Rattle.graph_outputs.specs.Sharing.{declared_dir_paths, full_roots, lone_among, lone_paths, unless_shared};
 
 use bx_tree::Path;
 use pip_types::{OutDir, PipKind, SealForm};
@@ -96,7 +96,7 @@ pub(crate) fn add_outputs(paths: &mut Vec<Path>, kind: &PipKind) -> Result<(), A
 
 // Adds the output directories of a pip.
 fn add_dir_paths(paths: &mut Vec<Path>, kind: &PipKind) -> Result<(), AllocError>
-    ensures { OnOk result (paths.new.items ≡ paths.old.items ++ dir_paths kind.now) }
+    ensures { OnOk result (paths.new.items ≡ paths.old.items ++ declared_dir_paths kind.now) }
 {
     match kind {
         PipKind::Process(process) => add_dirs(paths, process.outdirs.dirs()),
@@ -106,7 +106,7 @@ fn add_dir_paths(paths: &mut Vec<Path>, kind: &PipKind) -> Result<(), AllocError
 
 // The output directories of a pip.
 pub(crate) fn dirs_of(alloc: Global, kind: &PipKind) -> Result<Vec<Path>, AllocError>
-    ensures { IfOk result (λ dirs. dirs.items ≡ dir_paths kind.now) }
+    ensures { IfOk result (λ dirs. dirs.items ≡ declared_dir_paths kind.now) }
 {
     let mut dirs = Vec::new(alloc);
     add_dir_paths(&mut dirs, kind)?;

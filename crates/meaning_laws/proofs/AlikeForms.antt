@@ -27,7 +27,7 @@ use Rattle.dscript_operators.specs.CallbackArguments.{Function}
 use Rattle.dscript_operators.specs.Indexing.{indexed}
 use Rattle.dscript_meaning.specs.Acts.{Act, Acts, Call, Demand}
 use Rattle.dscript_meaning.specs.Callbacks.{callbacks, filtered, joined, mapped, reduced}
-use Rattle.dscript_meaning.specs.Calls.{Subject, Named, Whole, applied, called, held_method, items_of}
+use Rattle.dscript_meaning.specs.Calls.{Subject, Named, Whole, applied, call_of_function, held_method, items_of}
 use Rattle.dscript_meaning.specs.Calls.{member, method, subject_call, whole}
 use Rattle.dscript_meaning.specs.Constants.{by_status, constant, status_in}
 use Rattle.dscript_meaning.specs.Evaluating.{Gives, answered, gives, spend, step, ◌>>=◌, ◌>>◌}
@@ -102,7 +102,7 @@ module _ (act act' : Acts) (opens : (a : Act) → Alike Plain (act a) (act' a)) 
 
   called_alike
       : (p : ProgramData) (callee : Callee) (held args : List Plain)
-      → Alike Plain (called p act callee held args) (called p act' callee held args)
+      → Alike Plain (call_of_function p act callee held args) (call_of_function p act' callee held args)
   called_alike p (callees.Place number) held args = opens (Call (callees.Place number) held args)
   called_alike p (callees.Ambient name) held args = same _ _
   called_alike p (callees.Member name) held args = held_method_alike held name args

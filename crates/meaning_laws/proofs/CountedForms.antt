@@ -34,7 +34,7 @@ use Rattle.dscript_operators.specs.Spreads.{with_items_of}
 use Rattle.dscript_meaning.specs.declared.fault.EvalKind.TheVariants as faults
 use Rattle.dscript_meaning.specs.Acts.{Act, Acts, Call, Demand}
 use Rattle.dscript_meaning.specs.Callbacks.{callbacks, filtered, joined, mapped, reduced}
-use Rattle.dscript_meaning.specs.Calls.{Subject, Named, Whole, ambient, applied, called, held_method}
+use Rattle.dscript_meaning.specs.Calls.{Subject, Named, Whole, ambient, applied, call_of_function, held_method}
 use Rattle.dscript_meaning.specs.Calls.{items_of}
 use Rattle.dscript_meaning.specs.Calls.{member, method, plain_method, subject_call, whole}
 use Rattle.dscript_meaning.specs.Constants.{by_status, constant, status_in}
@@ -152,7 +152,7 @@ module _ (act : Acts) (opens : (a : Act) → Counted Plain (act a)) where
 
   called_counted
       : (p : ProgramData) (callee : Callee) (held args : List Plain)
-      → Counted Plain (called p act callee held args)
+      → Counted Plain (call_of_function p act callee held args)
   called_counted p (callees.Place number) held args = opens (Call (callees.Place number) held args)
   called_counted p (callees.Ambient name) held args = ambient_counted p name args
   called_counted p (callees.Member name) held args = held_method_counted held name args

@@ -14,7 +14,7 @@ use Rattle.stored_lines.proofs.Rising.{rising_sorted, sorted_rising}
 use Rattle.memo_format.specs.declared.entry.Entry.{Entry}
 use Rattle.memo_format.specs.declared.entry.OutputLine.{OutputLine}
 use Rattle.memo_format.specs.declared.selector.Selector.{Selector}
-use Rattle.memo_format.specs.Entries.{IsEntry, IsOutput, body_entry, entry_at, entry_body, entry_of, entry_text, output_before, output_line, outputs_at, read_entry_text}
+use Rattle.memo_format.specs.Entries.{IsEntry, IsOutput, body_entry, entry_at, entry_body, entry_from_parts, entry_text, output_before, output_line, outputs_at, read_entry_text}
 use Rattle.memo_format.specs.Seals.{sealed, unsealed}
 use Rattle.memo_format.specs.Selectors.{AreSelectors, body_selectors, read_selectors_text, selectors_at, selectors_body, selectors_text}
 use Rattle.memo_format.proofs.SealTexts.{unsealed_again, unsealed_sound}
@@ -55,7 +55,7 @@ outputs_form = only_form (rises output_before) (lines_form (begins (codes "outpu
 
 entry_form : IsForm IsEntry (NoMore (codes "output ")) entry_body entry_at
 entry_form =
-    as_form IsEntry entry_of (λ (e : Entry). (e.weak, (e.paths, (e.strong, e.outputs))))
+    as_form IsEntry entry_from_parts (λ (e : Entry). (e.weak, (e.paths, (e.strong, e.outputs))))
     (λ p g. (
       record {
         weak = g.0;

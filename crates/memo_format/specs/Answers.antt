@@ -5,10 +5,10 @@ use Rattle.memo_format.specs.declared.fault.FormatFault.{FormatFault}
 use Rattle.memo_format.specs.declared.fault.FormatFault.TheVariants as faults
 
 -- A function of the program gives what the function on lists gives, unless memory runs out.
-abbrev pub Reads : {X : Type 0} → Result X FormatFault → Option X → Type 0
-Reads (Ok x) read = read ≡ Some x
-Reads (Err faults.BadForm) read = read ≡ None
-Reads (Err faults.Memory) read = Unit {0}
+abbrev pub ReadsForm : {X : Type 0} → Result X FormatFault → Option X → Type 0
+ReadsForm (Ok x) read = read ≡ Some x
+ReadsForm (Err faults.BadForm) read = read ≡ None
+ReadsForm (Err faults.Memory) read = Unit {0}
 
 -- the items of a vector are what the function on lists gives, unless memory runs out
 abbrev pub ReadsItems : {X : Type 0} → Result (Vec X Global) FormatFault → Option (List X) → Type 0

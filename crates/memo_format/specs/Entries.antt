@@ -67,12 +67,12 @@ output_before a b = is_lt (path_cmp a.path b.path)
 unfoldable pub outputs_at : List ℕ → Taken (List OutputLine)
 outputs_at = only_at (rises output_before) (lines_at (begins (codes "output ")) output_at)
 
-abbrev pub entry_of : List ℕ × (List ℕ × (List ℕ × List OutputLine)) → Entry
-entry_of p = record { weak = p.0; paths = p.1.0; strong = p.1.1.0; outputs = p.1.1.1 }
+abbrev pub entry_from_parts : List ℕ × (List ℕ × (List ℕ × List OutputLine)) → Entry
+entry_from_parts p = record { weak = p.0; paths = p.1.0; strong = p.1.1.0; outputs = p.1.1.1 }
 
 abbrev pub entry_at : List ℕ → Taken Entry
 entry_at =
-    as_at entry_of (after_word (codes "entry 1\n") (both_at (after_word (codes "weak ") (digest_at 10))
+    as_at entry_from_parts (after_word (codes "entry 1\n") (both_at (after_word (codes "weak ") (digest_at 10))
     (both_at (after_word (codes "paths ") (digest_at 10))
     (both_at (after_word (codes "strong ") (digest_at 10)) outputs_at))))
 

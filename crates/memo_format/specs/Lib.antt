@@ -3,5 +3,5 @@ pub mod Seals
 pub mod Selectors
 pub mod Entries
 pub mod Found
-pub mod Well
+pub mod StoreNames
 pub mod StoredForms

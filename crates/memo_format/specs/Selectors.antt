@@ -31,11 +31,11 @@ selectors_text list = sealed (selectors_body list)
 
 -- ## What a text is read as
 
-abbrev pub selector_of : List ℕ × List ℕ → Selector
-selector_of p = record { paths = p.0; strong = p.1 }
+abbrev pub selector_from_parts : List ℕ × List ℕ → Selector
+selector_from_parts p = record { paths = p.0; strong = p.1 }
 
 abbrev pub select_at : List ℕ → Taken Selector
-select_at = as_at selector_of (after_word (codes "select ") (both_at (digest_at 32) (digest_at 10)))
+select_at = as_at selector_from_parts (after_word (codes "select ") (both_at (digest_at 32) (digest_at 10)))
 
 abbrev pub selectors_at : List ℕ → Taken (List Selector)
 selectors_at =

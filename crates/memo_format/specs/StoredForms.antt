@@ -5,13 +5,13 @@ use Rattle.stored_lines.specs.Forms.{Anything, IsForm}
 use Rattle.stored_lines.proofs.Combining.{after_form, as_form, pair_form}
 use Rattle.stored_lines.proofs.PartForms.{digest_form, newline, path_form, space}
 use Rattle.memo_format.specs.Entries.{IsOutput, output_at, output_line, output_of}
-use Rattle.memo_format.specs.Selectors.{IsSelector, select_at, select_line, selector_of}
+use Rattle.memo_format.specs.Selectors.{IsSelector, select_at, select_line, selector_from_parts}
 use Rattle.memo_format.specs.declared.entry.OutputLine.{OutputLine}
 use Rattle.memo_format.specs.declared.selector.Selector.{Selector}
 
 pub select_form : IsForm IsSelector Anything select_line select_at
 select_form =
-    as_form IsSelector selector_of (λ (s : Selector). (s.paths, s.strong)) (λ p g. (g, refl))
+    as_form IsSelector selector_from_parts (λ (s : Selector). (s.paths, s.strong)) (λ p g. (g, refl))
     (λ s h. (h, refl))
     (after_form (codes "select ") (pair_form (digest_form 32 space) (digest_form 10 newline)))
 

@@ -3,7 +3,7 @@ ghost use Rattle.std.specs.Prelude.{◌≡◌, ◌++◌, Err, IfOk, OnOk, Some, 
 ghost use Rattle.stored_lines.specs.Lines.{begins, rises};
 ghost use Rattle.std.proofs.Common.{refl};
 ghost use Rattle.stored_lines.specs.Reading.{Gives, Takes};
-ghost use Rattle.memo_format.specs.Answers.{Reads};
+ghost use Rattle.memo_format.specs.Answers.{ReadsForm};
 ghost use Rattle.memo_format.specs.declared.entry.Entry.{Entry as AnyEntry};
 ghost use Rattle.memo_format.specs.Entries.{IsEntry, IsOutput, OutputsRise, body_entry, entry_text};
 ghost use Rattle.memo_format.specs.Entries.{output_at};
@@ -16,7 +16,7 @@ use bx_digest::Digest;
 use bx_tree::Path;
 use std::alloc::{AllocError, Global};
 use std::marker::Model;
-use stored_lines::{Line, Rest, TextFault, append_digest, append_lines, append_path, read_lines};
+use stored_lines::{Cursor, Line, TextFault, append_digest, append_lines, append_path, read_lines};
 
 /// A file that a run made, with the digest of its bytes.
 #[derive(Drop)]
@@ -91,14 +91,14 @@ impl Line<OutputLine, OutputLine> for OutputKind {
         append_digest(alloc, text, &value.digest, b'\n')
     }
 
-    fn is_next(rest: &Rest) -> bool {
-        rest.begins(b"output ")
+    fn is_next(cursor: &Cursor) -> bool {
+        cursor.begins(b"output ")
     }
 
-    fn read(alloc: Global, rest: &mut Rest) -> Result<OutputLine, TextFault> {
-        rest.word(b"output ")?;
-        let path = rest.path(alloc, b' ')?;
-        let digest = rest.digest(b'\n')?;
+    fn read(alloc: Global, cursor: &mut Cursor) -> Result<OutputLine, TextFault> {
+        cursor.word(b"output ")?;
+        let path = cursor.path(alloc, b' ')?;
+        let digest = cursor.digest(b'\n')?;
         Ok(OutputLine { path, digest })
     }
 }
@@ -129,10 +129,10 @@ pub fn write_entry(alloc: Global, entry: &Entry) -> Result<Vec<u8>, AllocError>
 
 // The outputs, which rise by path.
 #[tactic(auto, unfolding(crate::specs::Entries::outputs_at))]
-fn outputs(alloc: Global, rest: &mut Rest) -> Result<OutputLines, TextFault>
-    ensures { Takes result rest.new (outputs_at rest.old) }
+fn outputs(alloc: Global, cursor: &mut Cursor) -> Result<OutputLines, TextFault>
+    ensures { Takes result cursor.new (outputs_at cursor.old) }
 {
-    let lines = read_lines::<OutputLine, OutputLine, OutputKind>(alloc, rest)?;
+    let lines = read_lines::<OutputLine, OutputLine, OutputKind>(alloc, cursor)?;
     if !is_rising(lines.as_slice()) {
         return Err(TextFault::Bad);
     }
@@ -144,16 +144,16 @@ fn outputs(alloc: Global, rest: &mut Rest) -> Result<OutputLines, TextFault>
 fn in_body(alloc: Global, body: &[u8]) -> Result<Entry, TextFault>
     ensures { Gives result (body_entry body.now) }
 {
-    let mut rest = Rest::of(body);
-    rest.word(b"entry 1\n")?;
-    rest.word(b"weak ")?;
-    let weak = rest.digest(b'\n')?;
-    rest.word(b"paths ")?;
-    let paths = rest.digest(b'\n')?;
-    rest.word(b"strong ")?;
-    let strong = rest.digest(b'\n')?;
-    let outputs = outputs(alloc, &mut rest)?;
-    rest.end()?;
+    let mut cursor = Cursor::of(body);
+    cursor.word(b"entry 1\n")?;
+    cursor.word(b"weak ")?;
+    let weak = cursor.digest(b'\n')?;
+    cursor.word(b"paths ")?;
+    let paths = cursor.digest(b'\n')?;
+    cursor.word(b"strong ")?;
+    let strong = cursor.digest(b'\n')?;
+    let outputs = outputs(alloc, &mut cursor)?;
+    cursor.end()?;
     Ok(Entry {
         weak,
         paths,
@@ -176,7 +176,7 @@ pub fn read_entry(alloc: Global, bytes: &[u8]) -> Result<Entry, FormatFault>
     ensures found { IfOk result (λ entry. IsEntry entry × (bytes.now ≡ entry_text entry)) }
     ensures none { result ≡ Err FormatFault.BadForm → (entry : AnyEntry) →
         IsEntry entry → bytes.now ≡ entry_text entry → ⊥ }
-    ensures read { Reads result (read_entry_text bytes.now) }
+    ensures read { ReadsForm result (read_entry_text bytes.now) }
 {
     match entry_in(alloc, bytes) {
         Ok(entry) => Ok(entry),

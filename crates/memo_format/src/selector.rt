@@ -13,7 +13,7 @@ use crate::fault::FormatFault;
 use crate::seal::{seal, unseal};
 use bx_digest::Digest;
 use std::alloc::{AllocError, Global};
-use stored_lines::{Line, Rest, TextFault, append_digest, append_lines, read_lines};
+use stored_lines::{Cursor, Line, TextFault, append_digest, append_lines, read_lines};
 
 /// The greatest number of selectors in a list.
 pub const MAX_SELECTORS: usize = 64;
@@ -51,14 +51,14 @@ impl Line<Selector, Selector> for SelectorLine {
         append_digest(alloc, text, &value.strong, b'\n')
     }
 
-    fn is_next(rest: &Rest) -> bool {
-        rest.begins(b"select ")
+    fn is_next(cursor: &Cursor) -> bool {
+        cursor.begins(b"select ")
     }
 
-    fn read(_alloc: Global, rest: &mut Rest) -> Result<Selector, TextFault> {
-        rest.word(b"select ")?;
-        let paths = rest.digest(b' ')?;
-        let strong = rest.digest(b'\n')?;
+    fn read(_alloc: Global, cursor: &mut Cursor) -> Result<Selector, TextFault> {
+        cursor.word(b"select ")?;
+        let paths = cursor.digest(b' ')?;
+        let strong = cursor.digest(b'\n')?;
         Ok(Selector { paths, strong })
     }
 }
@@ -80,13 +80,13 @@ pub fn write_selectors(alloc: Global, list: &[Selector]) -> Result<Vec<u8>, Allo
 fn in_body(alloc: Global, body: &[u8]) -> Result<Vec<Selector>, TextFault>
     ensures { GivesItems result (body_selectors body.now) }
 {
-    let mut rest = Rest::of(body);
-    rest.word(b"selectors 1\n")?;
-    let list = read_lines::<Selector, Selector, SelectorLine>(alloc, &mut rest)?;
+    let mut cursor = Cursor::of(body);
+    cursor.word(b"selectors 1\n")?;
+    let list = read_lines::<Selector, Selector, SelectorLine>(alloc, &mut cursor)?;
     if list.len() > MAX_SELECTORS {
         return Err(TextFault::Bad);
     }
-    rest.end()?;
+    cursor.end()?;
     Ok(list)
 }
 

@@ -13,7 +13,7 @@ use Rattle.observed.specs.declared.ask.Ask.{Ask}
 use Rattle.observed.specs.Asks.{ask_cmp}
 use Rattle.observed.specs.Members.{Has}
 use Rattle.observed.specs.Orders.{ask_cmp_total, equal_asks}
-use Rattle.observed.specs.PathSets.{IsSetOf, set_of}
+use Rattle.observed.specs.PathSets.{IsPathSetOf, set_of}
 
 -- ## Members
 
@@ -138,7 +138,7 @@ has_set [] q h = h
 has_set (a ∷ as') q h =
     elim (has_insert ask_cmp equal_asks (set_of as') a q h) [ inl e ↦ inl e | inr k ↦ inr (has_set as' q k) ]
 
-pub is_set_of : (asks : List Ask) → IsSetOf asks (set_of asks)
+pub is_set_of : (asks : List Ask) → IsPathSetOf asks (set_of asks)
 is_set_of asks = record { order = set_sorted asks; members = λ q. (set_has asks q, has_set asks q) }
 
 never_both : (a b : Ask) → ask_cmp a b ≡ Less → ask_cmp b a ≡ Less → ⊥
@@ -149,6 +149,6 @@ never_both a b e f = turned (ask_cmp a b) (ask_cmp b a) (ask_cmp_total.antisymm 
     turned o Equal h e f = cc
     turned o Greater h e f = cc
 
-pub only_set : (asks set : List Ask) → IsSetOf asks set → set ≡ set_of asks
+pub only_set : (asks set : List Ask) → IsPathSetOf asks set → set ≡ set_of asks
 only_set asks set h = unique ask_cmp never_both set (set_of asks) h.order (set_sorted asks)
     (λ q k. set_has asks q ((h.members q).1 k)) (λ q k. (h.members q).0 (has_set asks q k))

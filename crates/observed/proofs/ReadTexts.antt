@@ -30,7 +30,7 @@ use Rattle.observed.specs.declared.path_set.SetFault.TheVariants.{BadSet, Memory
 use Rattle.observed.specs.Asks.{ask_cmp}
 use Rattle.observed.specs.Orders.{ask_cmp_total}
 use Rattle.observed.specs.PathSets.{IsPathSet}
-use Rattle.observed.specs.Texts.{Reads, ReadsAsks, texts_now, all_asks, after_asks, after_prefix, ask_after, ask_at, ask_line, first_line, if_rising, is_rising, kind_text, named_ask, named_asks, named_path, paths_text, read_lines, read_paths_text, with_ask}
+use Rattle.observed.specs.Texts.{ReadsPathSet, ReadsAsks, texts_now, all_asks, after_asks, after_prefix, ask_after, ask_at, ask_line, first_line, if_rising, is_rising, kind_text, named_ask, named_asks, named_path, paths_text, read_lines, read_paths_text, with_ask}
 
 -- ## Options
 
@@ -359,7 +359,7 @@ all_read lines i earlier all l so_far =
     sym so_far ∙ ap (λ ls. after_asks earlier (all_asks (texts_now ls))) (drop_whole lines i l) ∙ ap Some (append-nil earlier)
 
 -- what a fault of a part says of the whole
-pub err_again : {X : Type 0} (e : SetFault) (part : Option X) (all : Option (List Ask)) → Reads (Err e) part → (part ≡ None → all ≡ None) → ReadsAsks (Err e) all
+pub err_again : {X : Type 0} (e : SetFault) (part : Option X) (all : Option (List Ask)) → ReadsPathSet (Err e) part → (part ≡ None → all ≡ None) → ReadsAsks (Err e) all
 err_again BadSet part all h f = f h
 err_again Memory part all h f = tt
 

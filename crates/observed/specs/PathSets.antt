@@ -14,7 +14,7 @@ pub record IsPathSet (asks : List Ask) : Type 0 where
   pub paths : AllByRecursion (λ (a : Ask). IsPath a.path) asks
 
 -- the asks of the set are those of the list
-pub record IsSetOf (asks set : List Ask) : Type 0 where
+pub record IsPathSetOf (asks set : List Ask) : Type 0 where
   pub order : IsStrictlySortedBy ask_cmp set
   pub members : (q : Ask) → Has asks q ↔ Has set q
 

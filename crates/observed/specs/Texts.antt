@@ -38,10 +38,10 @@ paths_text asks = first_line ++ codes "\n" ++ flat_map ask_line asks
 -- ## What a text is read as
 
 -- A reader gives what the function on lists gives, unless memory ran out.
-abbrev pub Reads : {X : Type 0} → Result X SetFault → Option X → Type 0
-Reads (Ok x) read = read ≡ Some x
-Reads (Err set_faults.BadSet) read = read ≡ None
-Reads (Err set_faults.Memory) read = Unit {0}
+abbrev pub ReadsPathSet : {X : Type 0} → Result X SetFault → Option X → Type 0
+ReadsPathSet (Ok x) read = read ≡ Some x
+ReadsPathSet (Err set_faults.BadSet) read = read ≡ None
+ReadsPathSet (Err set_faults.Memory) read = Unit {0}
 
 -- whether asks in a vector are what a text reads as, or the text is refused where it reads as nothing
 abbrev pub ReadsAsks : Result (Vec Ask Global) SetFault → Option (List Ask) → Type 0

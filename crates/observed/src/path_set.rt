@@ -1,7 +1,7 @@
 //! Path sets and their text.
 ghost use Rattle.std.specs.Prelude.{◌≡◌, List, Some, IfOk};
 ghost use Rattle.observed.specs.PathSets.{IsPathSet, set_of};
-ghost use Rattle.observed.specs.Texts.{Reads, paths_text, read_paths_text};
+ghost use Rattle.observed.specs.Texts.{ReadsPathSet, paths_text, read_paths_text};
 ghost use Rattle.observed.specs.declared.ask.Ask.{Ask as AnyAsk};
 ghost use Rattle.std.specs.List.Sorted.{IsStrictlySortedBy};
 ghost use Rattle.observed.specs.Asks.{ask_cmp};
@@ -93,7 +93,7 @@ impl PathSet {
         ensures found { IfOk result (λ set. IsPathSet set × (bytes.now ≡ paths_text set)) }
         ensures none { result ≡ Err SetFault.BadSet → (set : List AnyAsk) →
             IsPathSet set → bytes.now ≡ paths_text set → ⊥ }
-        ensures read { Reads result (read_paths_text bytes.now) }
+        ensures read { ReadsPathSet result (read_paths_text bytes.now) }
     {
         let asks = asks_in(alloc, bytes)?;
         Ok(PathSet { asks })

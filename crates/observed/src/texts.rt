@@ -6,7 +6,7 @@ ghost use Rattle.std.specs.Ordering.{is_lt};
 ghost use Rattle.observed.specs.Asks.{ask_cmp};
 ghost use Rattle.bx_tree.specs.Paths.{IsPath};
 ghost use Rattle.observed.specs.declared.ask.Ask.{Ask as AnyAsk};
-ghost use Rattle.observed.specs.Texts.{Reads, ReadsAsks, after_prefix, all_asks as all_named};
+ghost use Rattle.observed.specs.Texts.{ReadsAsks, ReadsPathSet, after_prefix, all_asks as all_named};
 ghost use Rattle.observed.specs.Texts.{ask_at as ask_of_kind, ask_line, is_rising as rises, kind_text};
 ghost use Rattle.observed.specs.Texts.{named_ask, named_asks, named_path, paths_text, read_lines};
 ghost use Rattle.observed.specs.Texts.{read_paths_text, texts_now};
@@ -54,7 +54,7 @@ pub(crate) fn text_of(alloc: Global, asks: &[Ask]) -> Result<Vec<u8>, AllocError
 
 // The path that a text stands for, the root for `.`.
 fn path_of(alloc: Global, text: &[u8]) -> Result<Path, SetFault>
-    ensures { Reads result (named_path text.now) }
+    ensures { ReadsPathSet result (named_path text.now) }
 {
     if text == b".".as_slice() {
         return Ok(Path::root(alloc)?);
@@ -67,7 +67,7 @@ fn path_of(alloc: Global, text: &[u8]) -> Result<Path, SetFault>
 }
 
 fn ask_at(alloc: Global, kind: AskKind, text: &[u8]) -> Result<Ask, SetFault>
-    ensures { Reads result (ask_of_kind kind (named_path text.now)) }
+    ensures { ReadsPathSet result (ask_of_kind kind (named_path text.now)) }
 {
     let path = path_of(alloc, text)?;
     Ok(Ask { kind, path })
@@ -82,7 +82,7 @@ fn after<'a>(prefix: &[u8], line: &'a [u8]) -> Option<&'a [u8]>
 
 // The ask of a line.
 fn ask_of(alloc: Global, line: &[u8]) -> Result<Ask, SetFault>
-    ensures { Reads result (named_ask line.now) }
+    ensures { ReadsPathSet result (named_ask line.now) }
 {
     if let Some(path) = after(b"read ", line) {
         return ask_at(alloc, AskKind::Read, path);

@@ -21,7 +21,7 @@ use Rattle.run_record.specs.declared.outcome.Outcome.{Outcome}
 use Rattle.run_record.specs.declared.outcome.Outcome.TheVariants.{Good, Failed}
 use Rattle.verdicts.specs.declared.verdict.Verdict.TheVariants as verdicts
 use Rattle.violations.specs.DoubleWrites.{clash_at, first_clash, has_clash, least_clash, or_next, outdirs_in, shared_paths}
-use Rattle.one_thread.specs.OneThread.{Result, by_outcome, failed, inputs_are_good, is_good, made_by, on_from, one_thread, outcome_at, result_of, unless_clash, worked}
+use Rattle.one_thread.specs.OneThread.{Result, by_outcome, failed, inputs_are_good, is_good, made_by, on_from, one_thread, process_outcome, result_of, unless_clash, worked}
 
 -- ## Places in lists
 
@@ -112,7 +112,7 @@ module _ (pips : List Pip) (list : IsPipList pips) (tree : Files) (budget i : �
   outcome (Failed cause) = refl
 
   work : (ms : ByPip) (kind : PipKind) → worked pips tree budget (made_by (first ++ more)) ms i kind ≡ worked pips tree budget (made_by first) ms i kind
-  work ms (Process d) = outcome (outcome_at pips tree budget ms i d)
+  work ms (Process d) = outcome (process_outcome pips tree budget ms i d)
   work ms (Copy d) = refl
   work ms (Write d) = refl
   work ms (Seal d) = refl

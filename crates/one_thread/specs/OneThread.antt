@@ -84,15 +84,15 @@ abbrev pub ran : Desc → (Ask → Answer) → Outcome
 ran d see = outcome_of (described d) (run_for d see)
 
 -- the outcome of process i, where its inputs made these files
-abbrev pub outcome_at : List Pip → Files → ℕ → ByPip → ℕ → ProcessDesc → Outcome
-outcome_at pips tree budget inputs i d = ran (desc_of tree inputs budget d) (sees pips tree inputs i)
+abbrev pub process_outcome : List Pip → Files → ℕ → ByPip → ℕ → ProcessDesc → Outcome
+process_outcome pips tree budget inputs i d = ran (desc_of tree inputs budget d) (sees pips tree inputs i)
 
 -- ## The build
 
 -- what pip i comes to whose inputs succeeded and made these files, where the first pips made those
 abbrev pub worked : List Pip → Files → ℕ → List Files → ByPip → ℕ → PipKind → Result
 worked pips tree budget made inputs i (Process d) =
-    by_outcome pips tree made i (outcome_at pips tree budget inputs i d)
+    by_outcome pips tree made i (process_outcome pips tree budget inputs i d)
 worked pips tree budget made inputs i (Copy d) = succeeded (plain_of tree inputs (Copy d))
 worked pips tree budget made inputs i (Write d) = succeeded (plain_of tree inputs (Write d))
 worked pips tree budget made inputs i (Seal d) = succeeded (plain_of tree inputs (Seal d))

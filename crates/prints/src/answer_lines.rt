@@ -12,7 +12,7 @@ ghost use Rattle.prints.specs.AnswerForms.{answer_form, answer_seen};
 use crate::strong_parts::AnswerLine;
 use observed::Answer;
 use std::alloc::{AllocError, Global};
-use stored_lines::{Line, Rest, TextFault, after_word, append_digest, digest_of};
+use stored_lines::{Cursor, Line, TextFault, after_word, append_digest, digest_of};
 
 // The answer that a line says.
 fn answer_of(line: &[u8]) -> Result<AnswerLine, TextFault>
@@ -84,12 +84,12 @@ impl Line<Answer, AnswerLine> for AnswerKind {
         }
     }
 
-    fn is_next(rest: &Rest) -> bool {
-        !rest.is_empty()
+    fn is_next(cursor: &Cursor) -> bool {
+        !cursor.is_empty()
     }
 
-    fn read(_alloc: Global, rest: &mut Rest) -> Result<AnswerLine, TextFault> {
-        let line = rest.part(b'\n')?;
+    fn read(_alloc: Global, cursor: &mut Cursor) -> Result<AnswerLine, TextFault> {
+        let line = cursor.part(b'\n')?;
         answer_of(line)
     }
 }

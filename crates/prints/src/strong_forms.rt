@@ -2,7 +2,7 @@
 ghost use Rattle.std.specs.Prelude.{◌≡◌, ◌++◌, Err, IfOk, OnOk, Some, map};
 ghost use Rattle.sha2.specs.Sha256.{sha256};
 ghost use Rattle.stored_lines.specs.Reading.{Gives};
-ghost use Rattle.prints.specs.Answers.{Reads};
+ghost use Rattle.prints.specs.Answers.{ReadsPrint};
 ghost use Rattle.prints.specs.Strong.{IsStrong, asked_parts, read_strong_text, strong_parts, strong_text};
 ghost use Rattle.prints.specs.declared.strong_parts.StrongParts.{StrongParts as AnyParts};
 
@@ -13,7 +13,7 @@ use crate::strong_parts::{AnswerLine, AnswerLines, StrongParts};
 use bx_digest::{Digest, digest_of};
 use observed::{Answer, PathSet, View};
 use std::alloc::{AllocError, Global};
-use stored_lines::{Rest, TextFault, append_digest, append_lines, read_lines};
+use stored_lines::{Cursor, TextFault, append_digest, append_lines, read_lines};
 
 /// The strong text of the answers to the asks of a path set, by the digests of the weak text and of the path
 /// set's text, with its digest.
@@ -80,14 +80,14 @@ pub fn strong<V: View>(
 fn parts_in(alloc: Global, bytes: &[u8]) -> Result<StrongParts, TextFault>
     ensures { Gives result (read_strong_text bytes.now) }
 {
-    let mut rest = Rest::of(bytes);
-    rest.word(b"strong 1\n")?;
-    rest.word(b"weak ")?;
-    let weak = rest.digest(b'\n')?;
-    rest.word(b"paths ")?;
-    let paths = rest.digest(b'\n')?;
-    let lines = read_lines::<Answer, AnswerLine, AnswerKind>(alloc, &mut rest)?;
-    rest.end()?;
+    let mut cursor = Cursor::of(bytes);
+    cursor.word(b"strong 1\n")?;
+    cursor.word(b"weak ")?;
+    let weak = cursor.digest(b'\n')?;
+    cursor.word(b"paths ")?;
+    let paths = cursor.digest(b'\n')?;
+    let lines = read_lines::<Answer, AnswerLine, AnswerKind>(alloc, &mut cursor)?;
+    cursor.end()?;
     Ok(StrongParts {
         weak,
         paths,
@@ -100,7 +100,7 @@ pub fn read_strong(alloc: Global, bytes: &[u8]) -> Result<StrongParts, PrintFaul
     ensures found { IfOk result (λ parts. IsStrong parts × (bytes.now ≡ strong_text parts)) }
     ensures none { result ≡ Err PrintFault.BadPrint → (parts : AnyParts) →
         IsStrong parts → bytes.now ≡ strong_text parts → ⊥ }
-    ensures read { Reads result (read_strong_text bytes.now) }
+    ensures read { ReadsPrint result (read_strong_text bytes.now) }
 {
     match parts_in(alloc, bytes) {
         Ok(parts) => Ok(parts),

@@ -15,7 +15,7 @@ use bx_digest::Digest;
 use bx_tree::{Path, Text};
 use pip_types::{DirInput, EnvPair, MadeFile, OutDir, SealForm};
 use std::alloc::{AllocError, Global};
-use stored_lines::{Line, Rest, TextFault, append_counted, append_digest, append_path};
+use stored_lines::{Cursor, Line, TextFault, append_counted, append_digest, append_path};
 
 /// A declared file, with its digest.
 #[derive(Drop)]
@@ -56,13 +56,13 @@ impl Line<Text, Text> for ArgKind {
         append_counted(alloc, text, value.bytes(), b'\n')
     }
 
-    fn is_next(rest: &Rest) -> bool {
-        rest.begins(b"arg ")
+    fn is_next(cursor: &Cursor) -> bool {
+        cursor.begins(b"arg ")
     }
 
-    fn read(alloc: Global, rest: &mut Rest) -> Result<Text, TextFault> {
-        rest.word(b"arg ")?;
-        rest.counted(alloc, b'\n')
+    fn read(alloc: Global, cursor: &mut Cursor) -> Result<Text, TextFault> {
+        cursor.word(b"arg ")?;
+        cursor.counted(alloc, b'\n')
     }
 }
 
@@ -92,14 +92,14 @@ impl Line<EnvPair, EnvPair> for EnvKind {
         append_counted(alloc, text, value.value.bytes(), b'\n')
     }
 
-    fn is_next(rest: &Rest) -> bool {
-        rest.begins(b"env ")
+    fn is_next(cursor: &Cursor) -> bool {
+        cursor.begins(b"env ")
     }
 
-    fn read(alloc: Global, rest: &mut Rest) -> Result<EnvPair, TextFault> {
-        rest.word(b"env ")?;
-        let name = rest.counted(alloc, b' ')?;
-        let value = rest.counted(alloc, b'\n')?;
+    fn read(alloc: Global, cursor: &mut Cursor) -> Result<EnvPair, TextFault> {
+        cursor.word(b"env ")?;
+        let name = cursor.counted(alloc, b' ')?;
+        let value = cursor.counted(alloc, b'\n')?;
         Ok(EnvPair { name, value })
     }
 }
@@ -130,14 +130,14 @@ impl Line<MadeFile, FileLine> for InKind {
         append_digest(alloc, text, &value.blob.digest(), b'\n')
     }
 
-    fn is_next(rest: &Rest) -> bool {
-        rest.begins(b"in ")
+    fn is_next(cursor: &Cursor) -> bool {
+        cursor.begins(b"in ")
     }
 
-    fn read(alloc: Global, rest: &mut Rest) -> Result<FileLine, TextFault> {
-        rest.word(b"in ")?;
-        let path = rest.path(alloc, b' ')?;
-        let digest = rest.digest(b'\n')?;
+    fn read(alloc: Global, cursor: &mut Cursor) -> Result<FileLine, TextFault> {
+        cursor.word(b"in ")?;
+        let path = cursor.path(alloc, b' ')?;
+        let digest = cursor.digest(b'\n')?;
         Ok(FileLine { path, digest })
     }
 }
@@ -177,10 +177,10 @@ fn form_of(word: &[u8]) -> Result<Option<SealForm>, TextFault>
     Err(TextFault::Bad)
 }
 
-fn read_form(rest: &mut Rest) -> Result<Option<SealForm>, TextFault>
-    ensures { Takes result rest.new (form_at rest.old) }
+fn read_form(cursor: &mut Cursor) -> Result<Option<SealForm>, TextFault>
+    ensures { Takes result cursor.new (form_at cursor.old) }
 {
-    let word = rest.part(b' ')?;
+    let word = cursor.part(b' ')?;
     form_of(word)
 }
 
@@ -222,14 +222,14 @@ impl Line<DirInput, DirLine> for IndirKind {
         }
     }
 
-    fn is_next(rest: &Rest) -> bool {
-        rest.begins(b"indir ")
+    fn is_next(cursor: &Cursor) -> bool {
+        cursor.begins(b"indir ")
     }
 
-    fn read(alloc: Global, rest: &mut Rest) -> Result<DirLine, TextFault> {
-        rest.word(b"indir ")?;
-        let form = read_form(rest)?;
-        let path = rest.path(alloc, b'\n')?;
+    fn read(alloc: Global, cursor: &mut Cursor) -> Result<DirLine, TextFault> {
+        cursor.word(b"indir ")?;
+        let form = read_form(cursor)?;
+        let path = cursor.path(alloc, b'\n')?;
         Ok(DirLine { form, path })
     }
 }
@@ -259,13 +259,13 @@ impl Line<Path, Path> for OutKind {
         append_path(text, value, b'\n')
     }
 
-    fn is_next(rest: &Rest) -> bool {
-        rest.begins(b"out ")
+    fn is_next(cursor: &Cursor) -> bool {
+        cursor.begins(b"out ")
     }
 
-    fn read(alloc: Global, rest: &mut Rest) -> Result<Path, TextFault> {
-        rest.word(b"out ")?;
-        rest.path(alloc, b'\n')
+    fn read(alloc: Global, cursor: &mut Cursor) -> Result<Path, TextFault> {
+        cursor.word(b"out ")?;
+        cursor.path(alloc, b'\n')
     }
 }
 
@@ -288,10 +288,10 @@ fn is_shared(word: &[u8]) -> Result<bool, TextFault>
     Err(TextFault::Bad)
 }
 
-fn read_sharing(rest: &mut Rest) -> Result<bool, TextFault>
-    ensures { Takes result rest.new (sharing_at rest.old) }
+fn read_sharing(cursor: &mut Cursor) -> Result<bool, TextFault>
+    ensures { Takes result cursor.new (sharing_at cursor.old) }
 {
-    let word = rest.part(b' ')?;
+    let word = cursor.part(b' ')?;
     is_shared(word)
 }
 
@@ -322,14 +322,14 @@ impl Line<OutDir, OutDir> for OutdirKind {
         append_path(text, &value.path, b'\n')
     }
 
-    fn is_next(rest: &Rest) -> bool {
-        rest.begins(b"outdir ")
+    fn is_next(cursor: &Cursor) -> bool {
+        cursor.begins(b"outdir ")
     }
 
-    fn read(alloc: Global, rest: &mut Rest) -> Result<OutDir, TextFault> {
-        rest.word(b"outdir ")?;
-        let shared = read_sharing(rest)?;
-        let path = rest.path(alloc, b'\n')?;
+    fn read(alloc: Global, cursor: &mut Cursor) -> Result<OutDir, TextFault> {
+        cursor.word(b"outdir ")?;
+        let shared = read_sharing(cursor)?;
+        let path = cursor.path(alloc, b'\n')?;
         Ok(OutDir { path, shared })
     }
 }

@@ -2,7 +2,7 @@
 ghost use Rattle.std.specs.Prelude.{◌≡◌, true, Err, IfOk, OnOk, Some};
 ghost use Rattle.stored_lines.specs.Lines.{rises};
 ghost use Rattle.stored_lines.specs.Reading.{Gives, GivesItems, Takes, TakesItems};
-ghost use Rattle.prints.specs.Answers.{Reads};
+ghost use Rattle.prints.specs.Answers.{ReadsPrint};
 ghost use Rattle.prints.specs.Processes.{IsWeak, without_pips};
 ghost use Rattle.prints.specs.ReadWeak.{args_at, console_at, dir_of as any_dir, digests_of, dir_before};
 ghost use Rattle.prints.specs.ReadWeak.{dirs_from, envs_at, file_before};
@@ -26,7 +26,7 @@ use pip_types::{
     ProcessDesc, SealForm, Variables,
 };
 use std::alloc::{AllocError, Global};
-use stored_lines::{Rest, TextFault, after_word, path_of, read_lines};
+use stored_lines::{Cursor, TextFault, after_word, path_of, read_lines};
 
 // The lines that are there once.
 #[derive(Drop)]
@@ -63,25 +63,25 @@ fn named(alloc: Global, line: &[u8]) -> Result<Option<Path>, TextFault>
     }
 }
 
-fn console(alloc: Global, rest: &mut Rest) -> Result<Option<Path>, TextFault>
-    ensures { Takes result rest.new (console_at rest.old) }
+fn console(alloc: Global, cursor: &mut Cursor) -> Result<Option<Path>, TextFault>
+    ensures { Takes result cursor.new (console_at cursor.old) }
 {
-    let line = rest.part(b'\n')?;
+    let line = cursor.part(b'\n')?;
     named(alloc, line)
 }
 
 #[tactic(auto, unfolding(crate::specs::ReadWeak::head_at))]
-fn read_head(alloc: Global, rest: &mut Rest) -> Result<Head, TextFault>
-    ensures { Takes result rest.new (head_at rest.old) }
+fn read_head(alloc: Global, cursor: &mut Cursor) -> Result<Head, TextFault>
+    ensures { Takes result cursor.new (head_at cursor.old) }
 {
-    rest.word(b"exe ")?;
-    let exe = rest.path(alloc, b' ')?;
-    let digest = rest.digest(b'\n')?;
-    rest.word(b"cwd ")?;
-    let dir = rest.path(alloc, b'\n')?;
-    rest.word(b"budget ")?;
-    let budget = rest.number(b'\n')?;
-    let console = console(alloc, rest)?;
+    cursor.word(b"exe ")?;
+    let exe = cursor.path(alloc, b' ')?;
+    let digest = cursor.digest(b'\n')?;
+    cursor.word(b"cwd ")?;
+    let dir = cursor.path(alloc, b'\n')?;
+    cursor.word(b"budget ")?;
+    let budget = cursor.number(b'\n')?;
+    let console = console(alloc, cursor)?;
     Ok(Head {
         exe,
         digest,
@@ -92,18 +92,18 @@ fn read_head(alloc: Global, rest: &mut Rest) -> Result<Head, TextFault>
 }
 
 #[tactic(auto, unfolding(crate::specs::ReadWeak::args_at))]
-fn args(alloc: Global, rest: &mut Rest) -> Result<Arguments, TextFault>
-    ensures { Takes result rest.new (args_at rest.old) }
+fn args(alloc: Global, cursor: &mut Cursor) -> Result<Arguments, TextFault>
+    ensures { Takes result cursor.new (args_at cursor.old) }
 {
-    let texts = read_lines::<Text, Text, ArgKind>(alloc, rest)?;
+    let texts = read_lines::<Text, Text, ArgKind>(alloc, cursor)?;
     Ok(Arguments::of(texts))
 }
 
 #[tactic(auto, unfolding(crate::specs::ReadWeak::envs_at))]
-fn env(alloc: Global, rest: &mut Rest) -> Result<Variables, TextFault>
-    ensures { Takes result rest.new (envs_at rest.old) }
+fn env(alloc: Global, cursor: &mut Cursor) -> Result<Variables, TextFault>
+    ensures { Takes result cursor.new (envs_at cursor.old) }
 {
-    let pairs = read_lines::<EnvPair, EnvPair, EnvKind>(alloc, rest)?;
+    let pairs = read_lines::<EnvPair, EnvPair, EnvKind>(alloc, cursor)?;
     if !are_variables_sorted(pairs.as_slice()) {
         return Err(TextFault::Bad);
     }
@@ -142,11 +142,11 @@ fn digests(alloc: Global, lines: &[FileLine]) -> Result<Digests, AllocError>
 
 // The lines of declared files, which rise by path.
 #[tactic(auto, unfolding(crate::specs::ReadWeak::ins_at))]
-fn files(alloc: Global, rest: &mut Rest) -> Result<Vec<FileLine>, TextFault>
-    ensures lines { TakesItems result rest.new (ins_at rest.old) }
+fn files(alloc: Global, cursor: &mut Cursor) -> Result<Vec<FileLine>, TextFault>
+    ensures lines { TakesItems result cursor.new (ins_at cursor.old) }
     ensures order { IfOk result (λ lines. rises file_before lines.items ≡ true) }
 {
-    let lines = read_lines::<MadeFile, FileLine, InKind>(alloc, rest)?;
+    let lines = read_lines::<MadeFile, FileLine, InKind>(alloc, cursor)?;
     if !are_files_rising(lines.as_slice()) {
         return Err(TextFault::Bad);
     }
@@ -201,10 +201,10 @@ fn out_dirs(dirs: Vec<OutDir>) -> OutDirs
 }
 
 #[tactic(auto, unfolding(crate::specs::ReadWeak::indirs_at))]
-fn dirs(alloc: Global, rest: &mut Rest) -> Result<DirInputs, TextFault>
-    ensures { Takes result rest.new (indirs_at rest.old) }
+fn dirs(alloc: Global, cursor: &mut Cursor) -> Result<DirInputs, TextFault>
+    ensures { Takes result cursor.new (indirs_at cursor.old) }
 {
-    let lines = read_lines::<DirInput, DirLine, IndirKind>(alloc, rest)?;
+    let lines = read_lines::<DirInput, DirLine, IndirKind>(alloc, cursor)?;
     let dirs = numbered(alloc, lines.as_slice())?;
     if !are_dirs_rising(dirs.as_slice()) {
         return Err(TextFault::Bad);
@@ -213,10 +213,10 @@ fn dirs(alloc: Global, rest: &mut Rest) -> Result<DirInputs, TextFault>
 }
 
 #[tactic(auto, unfolding(crate::specs::ReadWeak::outs_at))]
-fn outs(alloc: Global, rest: &mut Rest) -> Result<Outputs, TextFault>
-    ensures { Takes result rest.new (outs_at rest.old) }
+fn outs(alloc: Global, cursor: &mut Cursor) -> Result<Outputs, TextFault>
+    ensures { Takes result cursor.new (outs_at cursor.old) }
 {
-    let paths = read_lines::<Path, Path, OutKind>(alloc, rest)?;
+    let paths = read_lines::<Path, Path, OutKind>(alloc, cursor)?;
     if !are_paths_rising(paths.as_slice()) {
         return Err(TextFault::Bad);
     }
@@ -224,10 +224,10 @@ fn outs(alloc: Global, rest: &mut Rest) -> Result<Outputs, TextFault>
 }
 
 #[tactic(auto, unfolding(crate::specs::ReadWeak::outdirs_at))]
-fn outdirs(alloc: Global, rest: &mut Rest) -> Result<OutDirs, TextFault>
-    ensures { Takes result rest.new (outdirs_at rest.old) }
+fn outdirs(alloc: Global, cursor: &mut Cursor) -> Result<OutDirs, TextFault>
+    ensures { Takes result cursor.new (outdirs_at cursor.old) }
 {
-    let dirs = read_lines::<OutDir, OutDir, OutdirKind>(alloc, rest)?;
+    let dirs = read_lines::<OutDir, OutDir, OutdirKind>(alloc, cursor)?;
     if !are_outdirs_rising(dirs.as_slice()) {
         return Err(TextFault::Bad);
     }
@@ -235,15 +235,15 @@ fn outdirs(alloc: Global, rest: &mut Rest) -> Result<OutDirs, TextFault>
 }
 
 #[tactic(auto, unfolding(crate::specs::ReadWeak::lists_from))]
-fn read_lists_of(alloc: Global, rest: &mut Rest) -> Result<Lists, TextFault>
-    ensures { Takes result rest.new (lists_from rest.old) }
+fn read_lists_of(alloc: Global, cursor: &mut Cursor) -> Result<Lists, TextFault>
+    ensures { Takes result cursor.new (lists_from cursor.old) }
 {
-    let args = args(alloc, rest)?;
-    let env = env(alloc, rest)?;
-    let lines = files(alloc, rest)?;
-    let dirs = dirs(alloc, rest)?;
-    let outs = outs(alloc, rest)?;
-    let outdirs = outdirs(alloc, rest)?;
+    let args = args(alloc, cursor)?;
+    let env = env(alloc, cursor)?;
+    let lines = files(alloc, cursor)?;
+    let dirs = dirs(alloc, cursor)?;
+    let outs = outs(alloc, cursor)?;
+    let outdirs = outdirs(alloc, cursor)?;
     let digests = digests(alloc, lines.as_slice())?;
     Ok(Lists {
         args,
@@ -261,11 +261,11 @@ fn read_lists_of(alloc: Global, rest: &mut Rest) -> Result<Lists, TextFault>
 fn parts_in(alloc: Global, bytes: &[u8]) -> Result<WeakParts, TextFault>
     ensures { Gives result (read_weak_text bytes.now) }
 {
-    let mut rest = Rest::of(bytes);
-    rest.word(b"bxl 1\n")?;
-    let head = read_head(alloc, &mut rest)?;
-    let lists = read_lists_of(alloc, &mut rest)?;
-    rest.end()?;
+    let mut cursor = Cursor::of(bytes);
+    cursor.word(b"bxl 1\n")?;
+    let head = read_head(alloc, &mut cursor)?;
+    let lists = read_lists_of(alloc, &mut cursor)?;
+    cursor.end()?;
     let process = ProcessDesc {
         exe: head.exe,
         args: lists.args,
@@ -291,7 +291,7 @@ pub fn read_weak(alloc: Global, bytes: &[u8]) -> Result<WeakParts, PrintFault>
     ensures no_pips { IfOk result (λ parts. without_pips parts ≡ parts) }
     ensures none { result ≡ Err PrintFault.BadPrint → (parts : AnyParts) →
         IsWeak parts → bytes.now ≡ weak_text parts → ⊥ }
-    ensures read { Reads result (read_weak_text bytes.now) }
+    ensures read { ReadsPrint result (read_weak_text bytes.now) }
 {
     match parts_in(alloc, bytes) {
         Ok(parts) => Ok(parts),

@@ -8,7 +8,7 @@ use Rattle.stored_lines.proofs.Combining.{some_same}
 use Rattle.prints.specs.AnswerForms.{answer_form}
 use Rattle.prints.specs.Strong.{IsAnswerLine, answer_at, answer_line, line_of}
 use Rattle.prints.specs.declared.strong_parts.AnswerLine.{AnswerLine}
-use Rattle.record_match.specs.Apart.{Apart, AreOfAnswers, IsIn, IsOfAnswer}
+use Rattle.record_match.specs.Collisions.{AreOfAnswers, IsIn, IsOfAnswer, NoCollision}
 use Rattle.record_match.specs.Digests.{digest_asked, digest_of_line}
 use Rattle.record_match.proofs.Digest.{is_digest}
 
@@ -34,7 +34,7 @@ one_line a b is_a is_b e =
 
 -- ## Answers
 
-same_answer : (M : List ℕ → Type 0) → Apart M → (a b : Answer) → ((x : List ℕ) → IsIn a x → M x) → ((x : List ℕ) → IsIn b x → M x) → line_of a ≡ line_of b
+same_answer : (M : List ℕ → Type 0) → NoCollision M → (a b : Answer) → ((x : List ℕ) → IsIn a x → M x) → ((x : List ℕ) → IsIn b x → M x) → line_of a ≡ line_of b
     → a ≡ b
 same_answer M apart answers.Absent answers.Absent in_a in_b e = refl
 same_answer M apart (answers.Content x) (answers.Content y) in_a in_b e =
@@ -46,7 +46,7 @@ same_answer M apart (answers.Names x) (answers.Names y) in_a in_b e =
 same_answer M apart answers.Denied answers.Denied in_a in_b e = refl
 same_answer M apart a b in_a in_b e = absurd cc
 
-same_digest : (M : List ℕ → Type 0) → Apart M → (a b : Answer) → ((x : List ℕ) → IsOfAnswer a x → M x) → ((x : List ℕ) → IsOfAnswer b x → M x)
+same_digest : (M : List ℕ → Type 0) → NoCollision M → (a b : Answer) → ((x : List ℕ) → IsOfAnswer a x → M x) → ((x : List ℕ) → IsOfAnswer b x → M x)
     → digest_of_line a ≡ digest_of_line b → a ≡ b
 same_digest M apart a b of_a of_b e =
     let line = apart (answer_line (line_of a)) (answer_line (line_of b)) (of_a _ (inl refl)) (of_b _ (inl refl)) e in
@@ -57,7 +57,7 @@ joined : (a b : Answer) (xs ys : List Answer) → a ≡ b → xs ≡ ys → a �
 joined a b xs ys first rest = ap (λ x. x ∷ xs) first ∙ ap (λ zs. b ∷ zs) rest
 
 -- stored answers are those of now, where the digests of their lines are
-pub same_answers : (M : List ℕ → Type 0) → Apart M → (see : Ask → Answer) (stored : List Answer) (asks : List Ask)
+pub same_answers : (M : List ℕ → Type 0) → NoCollision M → (see : Ask → Answer) (stored : List Answer) (asks : List Ask)
     → ((x : List ℕ) → AreOfAnswers stored x → M x) → ((x : List ℕ) → AreOfAnswers (map see asks) x → M x)
     → map digest_of_line stored ≡ map (digest_asked see) asks → stored ≡ map see asks
 same_answers M apart see [] [] of_stored of_now e = refl

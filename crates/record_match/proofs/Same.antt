@@ -21,7 +21,7 @@ use Rattle.tool_run.specs.Laws.{DependsOnPathSet}
 use Rattle.run_record.specs.Answered.{answered}
 use Rattle.run_record.specs.Facts.{AreOf, Facts, Sound, run_for}
 use Rattle.run_record.proofs.Stored.{stored_all}
-use Rattle.record_match.specs.Apart.{Apart, IsMet, IsOfDesc, contents_of}
+use Rattle.record_match.specs.Collisions.{IsCompared, IsOfDesc, NoCollision, contents_of}
 use Rattle.record_match.specs.Digests.{IsReadBack, weak_of}
 use Rattle.record_match.specs.Matches.{IsSameDesc, Repeats, held_lines, lines_now}
 use Rattle.record_match.proofs.AnswerLines.{same_answers}
@@ -43,7 +43,7 @@ one_file f g path bytes = ap (λ (p : Atoms). (p, f.1)) path ∙ ap (λ (b : Lis
 abbrev content_digests : Files → List (List ℕ)
 content_digests = map (λ (f : Atoms × List ℕ). sha256 f.1)
 
-same_files : (M : List ℕ → Type 0) → Apart M → (fs gs : Files) → ((x : List ℕ) → Has (contents_of fs) x → M x) → ((x : List ℕ) → Has (contents_of gs) x → M x)
+same_files : (M : List ℕ → Type 0) → NoCollision M → (fs gs : Files) → ((x : List ℕ) → Has (contents_of fs) x → M x) → ((x : List ℕ) → Has (contents_of gs) x → M x)
     → paths_of fs ≡ paths_of gs → content_digests fs ≡ content_digests gs → fs ≡ gs
 same_files M apart [] [] in_fs in_gs paths digests = refl
 same_files M apart [] (g ∷ gs) in_fs in_gs paths digests = absurd cc
@@ -72,7 +72,7 @@ with_contents w exe files = record {
   budget = w.budget;
 }
 
-same_parts : (M : List ℕ → Type 0) → Apart M → (d e : Desc) → ((x : List ℕ) → IsOfDesc d x → M x) → ((x : List ℕ) → IsOfDesc e x → M x)
+same_parts : (M : List ℕ → Type 0) → NoCollision M → (d e : Desc) → ((x : List ℕ) → IsOfDesc d x → M x) → ((x : List ℕ) → IsOfDesc e x → M x)
     → weak_parts d ≡ weak_parts e → described d ≡ described e
 same_parts M apart d e of_d of_e parts =
     let exe = apart d.exe e.exe (of_d d.exe (inr (inl refl))) (of_e e.exe (inr (inl refl))) (ap (λ (w : WeakParts). w.exe) parts) in
@@ -85,7 +85,7 @@ same_parts M apart d e of_d of_e parts =
     ∙ ap (λ (fs : Files). with_contents (weak_parts e) e.exe fs) files
 
 -- processes whose weak texts share a digest are one to a run
-pub same_desc : (M : List ℕ → Type 0) → Apart M → (d e : Desc) → ((x : List ℕ) → IsOfDesc d x → M x) → ((x : List ℕ) → IsOfDesc e x → M x)
+pub same_desc : (M : List ℕ → Type 0) → NoCollision M → (d e : Desc) → ((x : List ℕ) → IsOfDesc d x → M x) → ((x : List ℕ) → IsOfDesc e x → M x)
     → IsReadBack d → IsReadBack e → weak_of d ≡ weak_of e → described d ≡ described e
 same_desc M apart d e of_d of_e read_d read_e digests =
     let text = apart (weak_text (weak_parts d)) (weak_text (weak_parts e)) (of_d _ (inl refl)) (of_e _ (inl refl)) digests in
@@ -105,9 +105,9 @@ same_view f see depends sound same =
     record { accesses = run.accesses; paths = run.paths; outcome = run.outcome }
 
 pub same_run : (d : Desc) (f : Facts) (see : Ask → Answer) → DependsOnPathSet (described f.desc) → Sound f → IsReadBack d → IsReadBack f.desc
-    → IsSameDesc d f → held_lines f ≡ lines_now f see → Apart (IsMet d f see) → Repeats f (described d) see
+    → IsSameDesc d f → held_lines f ≡ lines_now f see → NoCollision (IsCompared d f see) → Repeats f (described d) see
 same_run d f see depends sound read read_held desc lines apart =
-    let M = IsMet d f see in
+    let M = IsCompared d f see in
     let one = same_desc M apart f.desc d (λ x h. inl (inr h)) (λ x h. inl (inl h)) read_held read desc in
     let answers = same_answers M apart see f.answers f.paths (λ x h. inr (inl h)) (λ x h. inr (inr h)) lines in
     subst (λ (r : Description). Repeats f r see) one (same_view f see depends sound answers)

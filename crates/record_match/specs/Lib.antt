@@ -1,3 +1,3 @@
-pub mod Apart
+pub mod Collisions
 pub mod Digests
 pub mod Matches

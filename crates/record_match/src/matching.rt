@@ -1,7 +1,7 @@
 //! Comparing a record with a process and a view.
 ghost use Rattle.std.specs.Prelude.{◌≡◌, IfOk, MatchOption, length, map};
 ghost use Rattle.tool_run.specs.Described.{described};
-ghost use Rattle.record_match.specs.Apart.{Apart, IsMet};
+ghost use Rattle.record_match.specs.Collisions.{IsCompared, NoCollision};
 ghost use Rattle.record_match.specs.Digests.{IsReadBack, digest_asked, digest_of_line, weak_of};
 ghost use Rattle.record_match.specs.Matches.{Compares, FirstDiffer, Repeats};
 
@@ -134,7 +134,7 @@ fn compare<V: View>(
 /// outcome of the record.
 pub fn matches<V: View>(alloc: Global, desc: &Desc, ran: &Record, view: &mut V) -> Match
     ensures compared { Compares desc.now ran.now (V.answers view.old) result }
-    ensures same_run { result ≡ Match.Same → Apart (IsMet desc.now ran.now (V.answers view.old)) →
+    ensures same_run { result ≡ Match.Same → NoCollision (IsCompared desc.now ran.now (V.answers view.old)) →
         Repeats ran.now (described desc.now) (V.answers view.old) }
     ensures meaning { V.answers view.new ≡ V.answers view.old }
 {

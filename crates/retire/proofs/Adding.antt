@@ -18,7 +18,7 @@ use Rattle.run_record.specs.declared.outcome.Outcome.TheVariants.{Good, Failed}
 use Rattle.run_record.specs.declared.outcome.Cause.{Cause}
 use Rattle.run_record.specs.declared.outcome.Cause.TheVariants as causes
 use Rattle.record_match.specs.Digests.{IsReadBack}
-use Rattle.store_meaning.specs.Keeping.{made_of}
+use Rattle.store_meaning.specs.Keeping.{outcome_files}
 use Rattle.store_meaning.specs.Usable.{Usable}
 use Rattle.pip_inputs.specs.Plain.{desc_of, kind_process, process_in}
 use Rattle.pip_inputs.specs.Results.{inputs_of}
@@ -31,7 +31,7 @@ use Rattle.violations.specs.Classes.{class_of}
 use Rattle.one_thread.specs.OneThread.{Result, by_cause, by_outcome, inputs_are_good, one_thread, verdicts_of, violated}
 use Rattle.one_thread.specs.Views.{ended_result, slots_are_good}
 use Rattle.one_thread.proofs.GoingThrough.{IsSoFar, all_good, made_is}
-use Rattle.store_builds.specs.Met.{desc_after, view_after}
+use Rattle.store_builds.specs.Compared.{desc_after, view_after}
 use Rattle.store_builds.specs.Runs.{IsOfSuccess, RunsAs, SucceedsAt}
 use Rattle.store_builds.proofs.SoFar.{process_there}
 use Rattle.retire.specs.Deciding as deciding
@@ -86,13 +86,13 @@ cause_fails pips tree i (causes.MissingOutput path) e = cc
 cause_fails pips tree i (causes.Denied access) e = violated_fails (class_of pips tree i access) e
 
 outcome_good : (pips : List Pip) (tree : Files) (made : List Files) (i : ℕ) (o : Outcome) → is_success (by_outcome pips tree made i o).verdict ≡ true
-    → o ≡ Good (made_of o)
+    → o ≡ Good (outcome_files o)
 outcome_good pips tree made i (Good files) e = refl
 outcome_good pips tree made i (Failed cause) e = absurd (cause_fails pips tree i cause e)
 
 -- the outcome by which a process came to a success is one
 pub success_good : (pips : List Pip) (tree : Files) (made : List Files) (i : ℕ) (o : Outcome) (r : Result) → r ≡ by_outcome pips tree made i o
-    → is_success r.verdict ≡ true → o ≡ Good (made_of o)
+    → is_success r.verdict ≡ true → o ≡ Good (outcome_files o)
 success_good pips tree made i o r is good =
     outcome_good pips tree made i o (ap (λ (x : Result). is_success x.verdict) (sym is) ∙ good)
 

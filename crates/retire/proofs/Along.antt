@@ -18,9 +18,9 @@ use Rattle.run_record.specs.Outcomes.{outcome_of}
 use Rattle.run_record.specs.declared.outcome.Outcome.TheVariants.{Good}
 use Rattle.memo_format.specs.Found.{FoundParts}
 use Rattle.memo_format.specs.declared.selector.Selector.{Selector}
-use Rattle.record_match.specs.Apart.{Apart}
+use Rattle.record_match.specs.Collisions.{NoCollision}
 use Rattle.store_meaning.specs.Honest.{Honest, IsGoodRun}
-use Rattle.store_meaning.specs.Met.{RunMet}
+use Rattle.store_meaning.specs.Compared.{ComparedInRun}
 use Rattle.store_meaning.proofs.Found.{found}
 use Rattle.pip_inputs.specs.Plain.{desc_of, kind_process, process_in}
 use Rattle.pip_inputs.specs.Results.{inputs_of}
@@ -31,8 +31,8 @@ use Rattle.verdicts.specs.declared.verdict.Verdict.TheVariants as verdicts
 use Rattle.one_thread.specs.OneThread.{Result, by_outcome, failed, inputs_are_good, ran, worked}
 use Rattle.one_thread.specs.Views.{ended_result, kind_ended, results_of, slots_are_good}
 use Rattle.one_thread.proofs.GoingThrough.{IsSoFar, all_good, made_is}
-use Rattle.two_phase.specs.Seeking.{FirstLeadsTo, LeadsTo}
-use Rattle.store_builds.specs.Met.{desc_after, view_after}
+use Rattle.two_phase.specs.Lookups.{FirstLeadsTo, LeadsTo}
+use Rattle.store_builds.specs.Compared.{desc_after, view_after}
 use Rattle.store_builds.specs.Runs.{RunsAs, results_before}
 use Rattle.store_builds.proofs.SoFar.{run_met, taken}
 use Rattle.retire.specs.Builds.{IsFair}
@@ -54,7 +54,7 @@ pub ran_is : (f : Facts) (d : Desc) (see : Ask → Answer) → IsRun f d see →
 ran_is f d see run = sym run.run.outcome ∙ ap (λ (x : Desc). outcome_of (described x) (run_for d see)) run.desc
 
 -- over an honest store it is what its run gives
-pub takes_outcome : (S : Holdings) (d : Desc) (see : Ask → Answer) (t : Taken) → Honest S → Apart (RunMet S d see) → TakesFrom S d see t
+pub takes_outcome : (S : Holdings) (d : Desc) (see : Ask → Answer) (t : Taken) → Honest S → NoCollision (ComparedInRun S d see) → TakesFrom S d see t
     → outcome_in t ≡ ran d see
 takes_outcome S d see (takings.Hit f) honest apart h =
     let lead = leads_to S d see h.0.list f h.0.first in
@@ -97,7 +97,7 @@ module _ (pips : List Pip) (tree : Files) (budget : ℕ) (n : ℕ) (vs : List Ve
   }
 
   module _ (S : Holdings) (fair : IsFair pips tree budget S) where
-    run_apart : (d : Desc) (see : Ask → Answer) → RunsAs pips tree budget n d see → Apart (RunMet S d see)
+    run_apart : (d : Desc) (see : Ask → Answer) → RunsAs pips tree budget n d see → NoCollision (ComparedInRun S d see)
     run_apart d see runs x y h k e = fair.apart x y (run_met pips tree budget S x n d see runs h) (run_met pips tree budget S y n d see runs k) e
 
     by_process : (pip : Pip) (p : ProcessDesc) (next : Next) → slice_get pips n ≡ Some pip → pip.kind ≡ Process p → slots_are_good pips (Process p) ss ≡ true

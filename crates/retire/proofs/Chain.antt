@@ -2,14 +2,14 @@
 use Rattle.std.proofs.Common.{◌≡◌, ◌⊎◌, ℕ, List, [], ◌∷◌, ◌++◌, Option, Some, refl, sym, ap, ◌∙◌, subst, inl, inr, append-nil}
 use Rattle.std.specs.List.{AllByRecursion}
 use Rattle.observed.specs.Members.{Has}
-use Rattle.bx_io.specs.Holdings.{Change, Holdings, IsPrefix, Kept, after, kept_after}
+use Rattle.bx_io.specs.Holdings.{Change, Holdings, IsPrefix, StoreState, holdings_after, state_after}
 use Rattle.bx_io.proofs.Changes.{after-append, known_after-append, known_after-nil}
 use Rattle.run_record.specs.Facts.{Facts, Sound}
-use Rattle.memo_format.specs.Well.{HoldsBlob, HoldsEntry}
+use Rattle.memo_format.specs.StoreNames.{HoldsBlob, HoldsEntry}
 use Rattle.memo_format.specs.declared.entry.Entry.{Entry}
-use Rattle.record_match.specs.Apart.{Apart}
+use Rattle.record_match.specs.Collisions.{NoCollision}
 use Rattle.store_meaning.specs.Honest.{Honest}
-use Rattle.store_meaning.specs.Keeping.{IsGood, KeepMet, blobs_of, entry_of, selector_of, with_first}
+use Rattle.store_meaning.specs.Keeping.{ComparedInSave, IsGood, blobs_of, record_entry, record_selector, with_first}
 use Rattle.store_meaning.proofs.Added.{contents_added, entries_added}
 use Rattle.two_phase.specs.Putting.{LeavesHonest, PutsUpTo}
 use Rattle.two_phase.proofs.Applied.{Made, made_of}
@@ -40,66 +40,66 @@ pub record IsReady (M : List ℕ → Type 0) (f : Facts) : Type 0 where
 
 -- an entry is that of one of the records
 abbrev pub IsOfOne : List Facts → Entry → Type 0
-IsOfOne fs e = (f : Facts) × Has fs f × (e ≡ entry_of f)
+IsOfOne fs e = (f : Facts) × Has fs f × (e ≡ record_entry f)
 
 -- What is left: it was honest before each change and after it, and the entries that were added are of the records.
-pub record Leaves (before : Kept) (fs : List Facts) (now : Option Kept) : Type 0 where
+pub record Leaves (before : StoreState) (fs : List Facts) (now : Option StoreState) : Type 0 where
   pub honest : LeavesHonest before now
-  pub adds : (kept : Kept) → now ≡ Some kept → (e : Entry) → HoldsEntry kept.held e → HoldsEntry before.held e ⊎ IsOfOne fs e
+  pub adds : (kept : StoreState) → now ≡ Some kept → (e : Entry) → HoldsEntry kept.held e → HoldsEntry before.held e ⊎ IsOfOne fs e
 
 nothing_before : (start : List Change) → IsPrefix start [] → start ≡ []
 nothing_before [] p = refl
 nothing_before (c ∷ cs) p = let joined : c ∷ (cs ++ p.rest) ≡ [] = p.joined in absurd cc
 
-module _ (M : List ℕ → Type 0) (apart : Apart M) where
-  abbrev Within : Kept → Type 0
+module _ (M : List ℕ → Type 0) (apart : NoCollision M) where
+  abbrev Within : StoreState → Type 0
   Within kept = (x : List ℕ) → HoldsBlob kept.held x → M x
 
   -- ## One record
 
-  keep_apart : (before : Kept) (f : Facts) → Within before → IsReady M f → Apart (KeepMet before.held f)
+  keep_apart : (before : StoreState) (f : Facts) → Within before → IsReady M f → NoCollision (ComparedInSave before.held f)
   keep_apart before f within ready x y h k e = apart x y (met_of x h) (met_of y k) e
     where
-      met_of : (z : List ℕ) → KeepMet before.held f z → M z
+      met_of : (z : List ℕ) → ComparedInSave before.held f z → M z
       met_of z h = elim h [ inl held ↦ within z held | inr put ↦ ready.met z put ]
 
-  step_within : (before : Kept) (f : Facts) (between : Option Kept) → Within before → IsReady M f → (p : PutsUpTo (Some before) between f)
-      → (done : Made before p.first between) → Within (kept_after before done.made)
+  step_within : (before : StoreState) (f : Facts) (between : Option StoreState) → Within before → IsReady M f → (p : PutsUpTo (Some before) between f)
+      → (done : Made before p.first between) → Within (state_after before done.made)
   step_within before f between within ready p done x h =
-      elim (contents_added before.held f (with_first (selector_of f) p.old) p.first p.is_first x (subst (λ (S : Holdings). HoldsBlob S x) done.same h)) [
+      elim (contents_added before.held f (with_first (record_selector f) p.old) p.first p.is_first x (subst (λ (S : Holdings). HoldsBlob S x) done.same h)) [
         | inl old ↦ within x old
         | inr new ↦ ready.met x new
       ]
 
-  step_entry : (before : Kept) (f : Facts) (between : Option Kept) (p : PutsUpTo (Some before) between f) (e : Entry)
-      → HoldsEntry (after before.held p.first) e → HoldsEntry before.held e ⊎ (e ≡ entry_of f)
+  step_entry : (before : StoreState) (f : Facts) (between : Option StoreState) (p : PutsUpTo (Some before) between f) (e : Entry)
+      → HoldsEntry (holdings_after before.held p.first) e → HoldsEntry before.held e ⊎ (e ≡ record_entry f)
   step_entry before f between p e h = elim p.spelled [
-    | inl none ↦ inl (subst (λ (cs : List Change). HoldsEntry (after before.held cs) e) none h)
-    | inr spelled ↦ entries_added before.held f (with_first (selector_of f) p.old) p.first spelled p.is_first e h
+    | inl none ↦ inl (subst (λ (cs : List Change). HoldsEntry (holdings_after before.held cs) e) none h)
+    | inr spelled ↦ entries_added before.held f (with_first (record_selector f) p.old) p.first spelled p.is_first e h
   ]
 
   -- ## All records
 
-  pub chain : (fs : List Facts) (before : Kept) (now : Option Kept) → AllByRecursion (IsReady M) fs → Within before → Honest before.held
+  pub chain : (fs : List Facts) (before : StoreState) (now : Option StoreState) → AllByRecursion (IsReady M) fs → Within before → Honest before.held
       → PutsEach (Some before) fs now → Leaves before fs now
   chain [] before now ready within honest p = record {
     honest = record {
       made = [];
       makes = p ∙ sym (known_after-nil (Some before));
-      along = λ start q. subst (λ (cs : List Change). Honest (after before.held cs)) (sym (nothing_before start q)) honest;
+      along = λ start q. subst (λ (cs : List Change). Honest (holdings_after before.held cs)) (sym (nothing_before start q)) honest;
     };
-    adds = λ kept is e h. inl (subst (λ (k : Kept). HoldsEntry k.held e) (same_some kept before (sym is ∙ p)) h);
+    adds = λ kept is e h. inl (subst (λ (k : StoreState). HoldsEntry k.held e) (same_some kept before (sym is ∙ p)) h);
   }
   chain (f ∷ fs) before now ready within honest p =
       let one : PutsUpTo (Some before) p.0 f = p.1 in
       let first : LeavesHonest before p.0 = leaves_honest before p.0 f ready.0.sound ready.0.good one honest (keep_apart before f within ready.0) in
       let done : Made before one.first p.0 = made_of one.first before p.0 one.applies in
-      let same : kept_after before done.made ≡ kept_after before first.made =
-      same_some (kept_after before done.made) (kept_after before first.made) (sym done.makes ∙ first.makes) in
-      let rest : Leaves (kept_after before first.made) fs now =
-      chain fs (kept_after before first.made) now ready.1 (subst Within same (step_within before f p.0 within ready.0 one done))
+      let same : state_after before done.made ≡ state_after before first.made =
+      same_some (state_after before done.made) (state_after before first.made) (sym done.makes ∙ first.makes) in
+      let rest : Leaves (state_after before first.made) fs now =
+      chain fs (state_after before first.made) now ready.1 (subst Within same (step_within before f p.0 within ready.0 one done))
       (first.along first.made (record { rest = []; joined = append-nil first.made }))
-      (subst (λ (k : Option Kept). PutsEach k fs now) first.makes p.2) in
+      (subst (λ (k : Option StoreState). PutsEach k fs now) first.makes p.2) in
       record {
         honest = record {
           made = first.made ++ rest.honest.made;
@@ -107,13 +107,13 @@ module _ (M : List ℕ → Type 0) (apart : Apart M) where
           along = λ start q. elim (prefix_cases start first.made rest.honest.made q) [
             | inl a ↦ first.along start a
             | inr b ↦
-                subst (λ (cs : List Change). Honest (after before.held cs)) (sym b.1)
+                subst (λ (cs : List Change). Honest (holdings_after before.held cs)) (sym b.1)
                 (subst Honest (sym (after-append before.held first.made b.0)) (rest.honest.along b.0 b.2))
           ];
         };
         adds = λ kept is e h. elim (rest.adds kept is e h) [
           | inl early ↦ elim (step_entry before f p.0 one e
-              (subst (λ (S : Holdings). HoldsEntry S e) done.same (subst (λ (k : Kept). HoldsEntry k.held e) (sym same) early))) [
+              (subst (λ (S : Holdings). HoldsEntry S e) done.same (subst (λ (k : StoreState). HoldsEntry k.held e) (sym same) early))) [
                 | inl old ↦ inl old
                 | inr new ↦ inr (f, inl refl, new)
               ]

@@ -22,8 +22,8 @@ use Rattle.verdicts.specs.declared.verdict.Verdict.TheVariants as verdicts
 use Rattle.one_thread.specs.OneThread.{by_outcome, failed, succeeded}
 use Rattle.one_thread.specs.Views.{ended_result, good_at}
 use Rattle.one_thread.proofs.OnePip.{plain_worked}
-use Rattle.two_phase.specs.Seeking.{HitIsNow, Seeks}
-use Rattle.two_phase.specs.declared.seeking.Sought.TheVariants as sought
+use Rattle.two_phase.specs.Lookups.{LookupGives, LookupHitIsCurrent}
+use Rattle.two_phase.specs.declared.lookups.LookupResult.TheVariants as lookup_results
 use Rattle.retire.specs.Deciding as deciding
 use Rattle.retire.specs.Deciding.{DecidedBy, DecidedPlainly, Decides, DecidesAt}
 use Rattle.retire.specs.Taking.{IsOfNow, TakesFrom, kept_if, outcome_in, record_in, way_of}
@@ -34,14 +34,14 @@ use Rattle.retire.specs.declared.taking.Way.TheVariants as ways
 
 -- ## Lookups and runs
 
-pub hit_taken : (held : Option Holdings) (S : Holdings) (d : Desc) (see : Ask → Answer) (f : FoundParts) → held ≡ Some S → Seeks held d see (sought.Hit f)
-    → HitIsNow d see (sought.Hit f) → TakesFrom S d see (takings.Hit f)
-hit_taken held S d see f is seeks now = (subst (λ (o : Option Holdings). Seeks o d see (sought.Hit f)) is seeks, now.0)
+pub hit_taken : (held : Option Holdings) (S : Holdings) (d : Desc) (see : Ask → Answer) (f : FoundParts) → held ≡ Some S → LookupGives held d see (lookup_results.Hit f)
+    → LookupHitIsCurrent d see (lookup_results.Hit f) → TakesFrom S d see (takings.Hit f)
+hit_taken held S d see f is seeks now = (subst (λ (o : Option Holdings). LookupGives o d see (lookup_results.Hit f)) is seeks, now.0)
 
-pub miss_taken : (held : Option Holdings) (S : Holdings) (d : Desc) (see view : Ask → Answer) (f : Facts) → held ≡ Some S → Seeks held d see sought.Miss
+pub miss_taken : (held : Option Holdings) (S : Holdings) (d : Desc) (see view : Ask → Answer) (f : Facts) → held ≡ Some S → LookupGives held d see lookup_results.Miss
     → view ≡ see → IsRun f d view → TakesFrom S d see (takings.Missed f)
 miss_taken held S d see view f is seeks same run = (
-  subst (λ (o : Option Holdings). Seeks o d see sought.Miss) is seeks,
+  subst (λ (o : Option Holdings). LookupGives o d see lookup_results.Miss) is seeks,
   subst (IsRun f d) same run,
 )
 

@@ -3,7 +3,7 @@ use Rattle.std.proofs.Common.{◌≡◌, ◌⊎◌, ℕ, zero, suc, ◌+◌, Lis
 use Rattle.std.specs.Prelude.{slice_get}
 use Rattle.std.specs.List.{AllByRecursion}
 use Rattle.bx_tree.specs.Trees.{Files}
-use Rattle.bx_io.specs.Holdings.{Holdings, Kept}
+use Rattle.bx_io.specs.Holdings.{Holdings, StoreState}
 use Rattle.pip_types.specs.Makers.{IsPipList}
 use Rattle.pip_types.specs.declared.desc.Desc.{Desc}
 use Rattle.pip_types.specs.declared.made.Slot.{Slot}
@@ -18,12 +18,12 @@ use Rattle.memo_format.specs.declared.selector.Selector.{Selector}
 use Rattle.prints.specs.Strong.{strong_parts, strong_text}
 use Rattle.record_match.specs.Digests.{IsReadBack, weak_of}
 use Rattle.store_meaning.specs.Contents.{HoldsPaths}
-use Rattle.store_meaning.specs.Keeping.{answers_text, paths_digest, selector_of}
-use Rattle.store_meaning.specs.Met as met
+use Rattle.store_meaning.specs.Keeping.{answers_text, paths_digest, record_selector}
+use Rattle.store_meaning.specs.Compared as met
 use Rattle.store_meaning.specs.Usable.{Usable, UsableAt, asked_text}
 use Rattle.store_meaning.proofs.Stays.{at_one, usable_at}
 use Rattle.verdicts.specs.declared.verdict.Verdict.{Verdict}
-use Rattle.store_builds.specs.Met.{Met, desc_after, view_after}
+use Rattle.store_builds.specs.Compared.{Compared, desc_after, view_after}
 use Rattle.store_builds.specs.Runs.{IsOfSuccess, NoneReserved, RunsAs, results_before}
 use Rattle.store_builds.proofs.SoFar.{process_there, run_met, success_met}
 use Rattle.store_builds.proofs.SuccessFits.{success_fits}
@@ -50,7 +50,7 @@ one_of_all P [] f h has = absurd has
 one_of_all P (g ∷ gs) f h has = elim has [ inl same ↦ subst P same h.0 | inr later ↦ one_of_all P gs f h.1 later ]
 
 are_ready : (pips : List Pip) (tree : Files) (budget : ℕ) (S : Holdings) (fs : List Facts) → AllByRecursion (IsOfSuccess pips tree budget) fs → AllByRecursion Sound fs
-    → AllByRecursion (IsReady (Met pips tree budget S)) fs
+    → AllByRecursion (IsReady (Compared pips tree budget S)) fs
 are_ready pips tree budget S [] h sounds = tt
 are_ready pips tree budget S (f ∷ fs) h sounds = (
   record { sound = sounds.0; good = h.0.good; met = success_met pips tree budget S f h.0 },
@@ -59,19 +59,19 @@ are_ready pips tree budget S (f ∷ fs) h sounds = (
 
 -- ## What a fair store is left as
 
-module _ (pips : List Pip) (tree : Files) (budget : ℕ) (before : Kept) (vs : List Verdict) (ss : List Slot) (fs : List Facts) (hits faults : ℕ)
+module _ (pips : List Pip) (tree : Files) (budget : ℕ) (before : StoreState) (vs : List Verdict) (ss : List Slot) (fs : List Facts) (hits faults : ℕ)
     (follows : FollowsAll pips tree budget before.held vs ss fs hits faults) (fair : IsFair pips tree budget before.held) where
   all_of : AllByRecursion (IsOfSuccess pips tree budget) fs
   all_of = all_successes pips tree budget 0 follows.high fs follows.successes
 
-  ready : AllByRecursion (IsReady (Met pips tree budget before.held)) fs
+  ready : AllByRecursion (IsReady (Compared pips tree budget before.held)) fs
   ready = are_ready pips tree budget before.held fs all_of follows.sounds
 
-  pub leaves_fair : (now : Option Kept) → PutsFirst (Some before) fs now → LeavesFair pips tree budget before now
+  pub leaves_fair : (now : Option StoreState) → PutsFirst (Some before) fs now → LeavesFair pips tree budget before now
   leaves_fair now puts =
       let gs = take puts.number fs in
       let left : Leaves before gs now =
-      chain (Met pips tree budget before.held) fair.apart gs before now (all_first (IsReady (Met pips tree budget before.held)) puts.number fs ready)
+      chain (Compared pips tree budget before.held) fair.apart gs before now (all_first (IsReady (Compared pips tree budget before.held)) puts.number fs ready)
       (λ x held. inl held) fair.honest puts.each in
       record {
         honest = left.honest;
@@ -118,7 +118,7 @@ module _ (pips : List Pip) (tree : Files) (budget : ℕ) (before : Kept) (vs : L
         sym a.view_is ∙ ap (view_after pips tree (results_before pips tree budget i) i) same ∙ b.view_is,
       )
 
-  module _ (list : IsPipList pips) (keeps : KeepsRules pips tree) (free : NoneReserved tree) (now : Option Kept) (puts : PutsAllEach (Some before) fs now) (kept : Kept)
+  module _ (list : IsPipList pips) (keeps : KeepsRules pips tree) (free : NoneReserved tree) (now : Option StoreState) (puts : PutsAllEach (Some before) fs now) (kept : StoreState)
       (is : now ≡ Some kept) where
     spelled : AllByRecursion (λ (f : Facts). IsReadBack f.desc) fs
     spelled = spelled_each (Some before) now fs puts
@@ -128,8 +128,8 @@ module _ (pips : List Pip) (tree : Files) (budget : ℕ) (before : Kept) (vs : L
     by_record f has s see answers =
         let text : answers_text f ≡ asked_text f.desc see (paths_digest f) f.paths =
         ap (λ (as' : List Answer). strong_text (strong_parts (weak_of f.desc) (paths_digest f) as')) answers in
-        usable_at kept.held f.desc see (selector_of f) f.paths
-        (kept_stays (Met pips tree budget before.held) fair.apart fs before now ready
+        usable_at kept.held f.desc see (record_selector f) f.paths
+        (kept_stays (Compared pips tree budget before.held) fair.apart fs before now ready
         (all_others pips tree list keeps free budget before.held fair.apart fs 0 follows.high follows.successes spelled)
         (λ x held. inl held) puts f has (success_fits pips tree budget list f s keeps (one_of_all Sound fs f follows.sounds has)) see answers
         (success_met pips tree budget before.held f s (asked_text f.desc see (paths_digest f) f.paths) (inr (inr (inl text)))) kept is)
@@ -143,10 +143,10 @@ module _ (pips : List Pip) (tree : Files) (budget : ℕ) (before : Kept) (vs : L
         let asks : List Ask = one.1.0 in
         let u : UsableAt before.held d see s asks = one.1.1 in
         let held : HoldsPaths before.held s.paths asks = subst (λ (qs : List Ask). HoldsPaths before.held s.paths qs) u.asks_are u.by.paths in
-        let asked : Met pips tree budget before.held (asked_text d see s.paths asks) =
+        let asked : Compared pips tree budget before.held (asked_text d see s.paths asks) =
         run_met pips tree budget before.held (asked_text d see s.paths asks) i d see runs (met.strong s.paths asks (inr held) refl) in
         usable_at kept.held d see s asks
-        (stay (Met pips tree budget before.held) fair.apart d see s asks asked fs before now ready
+        (stay (Compared pips tree budget before.held) fair.apart d see s asks asked fs before now ready
         (none_is pips tree list keeps free budget before.held fair.apart i d see runs read fs 0 follows.high follows.successes spelled none)
         (λ x there. inl there) puts u kept is)
 
@@ -167,6 +167,6 @@ module _ (pips : List Pip) (tree : Files) (budget : ℕ) (before : Kept) (vs : L
       ]
     ]
 
-  pub leaves_usable : IsPipList pips → KeepsRules pips tree → NoneReserved tree → (now : Option Kept) → PutsAllEach (Some before) fs now → LeavesUsable pips tree budget now
+  pub leaves_usable : IsPipList pips → KeepsRules pips tree → NoneReserved tree → (now : Option StoreState) → PutsAllEach (Some before) fs now → LeavesUsable pips tree budget now
   leaves_usable list keeps free now puts kept is i d see runs succeeds =
       there_usable list keeps free now puts kept is i d see runs (follows.all_there i d see runs succeeds)

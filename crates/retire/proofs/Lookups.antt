@@ -3,7 +3,7 @@ use Rattle.std.proofs.Common.{ℕ, ◌+◌, Option, refl, sym, ◌∙◌, subst,
 use Rattle.std.specs.Prelude.{IsSome}
 use Rattle.bx_io.specs.Holdings.{Holdings}
 use Rattle.bx_io.proofs.Changes.{rose_by_one}
-use Rattle.two_phase.specs.Calls.{Reads}
+use Rattle.two_phase.specs.Calls.{ReaderCall}
 use Rattle.retire.specs.Reading.{ReadsOn}
 
 pub on_none : (held : Option Holdings) (bound : Option ℕ) (faults : ℕ) → ReadsOn held held bound bound faults faults 0
@@ -29,7 +29,7 @@ on_then h0 h1 h2 b0 b1 b2 f0 f1 f2 k m first next = record {
 }
 
 -- a lookup that did not fail
-pub on_read : (h0 h1 : Option Holdings) (b0 b1 : Option ℕ) (f0 f1 : ℕ) (A : Type 0) → Reads h0 h1 b0 b1 f0 f1 A → ReadsOn h0 h1 b0 b1 f0 f1 0
+pub on_read : (h0 h1 : Option Holdings) (b0 b1 : Option ℕ) (f0 f1 : ℕ) (A : Type 0) → ReaderCall h0 h1 b0 b1 f0 f1 A → ReadsOn h0 h1 b0 b1 f0 f1 0
 on_read h0 h1 b0 b1 f0 f1 A r = record {
   held_is = r.held_is;
   bound_is = r.bound_is;
@@ -39,7 +39,7 @@ on_read h0 h1 b0 b1 f0 f1 A r = record {
 }
 
 -- a lookup that failed
-pub on_fault : (h0 h1 : Option Holdings) (b0 b1 : Option ℕ) (f0 f1 : ℕ) (A : Type 0) → A → Reads h0 h1 b0 b1 f0 f1 A → ReadsOn h0 h1 b0 b1 f0 f1 1
+pub on_fault : (h0 h1 : Option Holdings) (b0 b1 : Option ℕ) (f0 f1 : ℕ) (A : Type 0) → A → ReaderCall h0 h1 b0 b1 f0 f1 A → ReadsOn h0 h1 b0 b1 f0 f1 1
 on_fault h0 h1 b0 b1 f0 f1 A failed r = record {
   held_is = r.held_is;
   bound_is = r.bound_is;

@@ -2,7 +2,7 @@
 use Rattle.std.proofs.Common.{◌≡◌, ℕ, ◌+◌, ◌<◌, ◌≤◌, List, [], ◌∷◌, Option, arith}
 use Rattle.std.specs.List.{AllByRecursion}
 use Rattle.bx_tree.specs.Trees.{Files}
-use Rattle.bx_io.specs.Holdings.{Holdings, Kept}
+use Rattle.bx_io.specs.Holdings.{Holdings, StoreState}
 use Rattle.pip_types.specs.Makers.{IsPipList}
 use Rattle.pip_types.specs.declared.desc.Desc.{Desc}
 use Rattle.pip_types.specs.declared.pip.Pip.{Pip}
@@ -10,9 +10,9 @@ use Rattle.observed.specs.declared.ask.Ask.{Ask}
 use Rattle.observed.specs.declared.access.Answer.{Answer}
 use Rattle.graph_check.specs.Rules.{KeepsRules}
 use Rattle.run_record.specs.Facts.{Facts}
-use Rattle.record_match.specs.Apart.{Apart}
+use Rattle.record_match.specs.Collisions.{NoCollision}
 use Rattle.record_match.specs.Digests.{IsReadBack}
-use Rattle.store_builds.specs.Met.{Met}
+use Rattle.store_builds.specs.Compared.{Compared}
 use Rattle.store_builds.specs.Runs.{NoneReserved, RunsAs}
 use Rattle.store_builds.proofs.Twins.{one_process}
 use Rattle.retire.specs.Builds.{Between}
@@ -20,7 +20,7 @@ use Rattle.retire.specs.Keeping.{PutsAllEach}
 use Rattle.retire.proofs.Stay.{AreOthers, IsOther}
 
 -- the weak texts of records that were kept whole are read back
-pub spelled_each : (before now : Option Kept) (fs : List Facts) → PutsAllEach before fs now → AllByRecursion (λ (f : Facts). IsReadBack f.desc) fs
+pub spelled_each : (before now : Option StoreState) (fs : List Facts) → PutsAllEach before fs now → AllByRecursion (λ (f : Facts). IsReadBack f.desc) fs
 spelled_each before now [] p = tt
 spelled_each before now (f ∷ fs) p = (p.1.spelled.weak, spelled_each p.0 now fs p.2)
 
@@ -30,7 +30,7 @@ NoneAt pips tree budget i low high [] h = Unit {0}
 NoneAt pips tree budget i low high (g ∷ gs) h = (h.0.pip ≡ i → ⊥) × NoneAt pips tree budget i (h.0.pip + 1) high gs h.2
 
 module _ (pips : List Pip) (tree : Files) (list : IsPipList pips) (keeps : KeepsRules pips tree) (free : NoneReserved tree) (budget : ℕ) (S : Holdings)
-    (apart : Apart (Met pips tree budget S)) where
+    (apart : NoCollision (Compared pips tree budget S)) where
   -- records of later pips are of processes with other weak texts
   later_others : (i : ℕ) (d : Desc) (see : Ask → Answer) → RunsAs pips tree budget i d see → IsReadBack d → (fs : List Facts) (low high : ℕ) → i < low
       → Between pips tree budget low high fs → AllByRecursion (λ (f : Facts). IsReadBack f.desc) fs → AllByRecursion (IsOther d) fs

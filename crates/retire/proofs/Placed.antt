@@ -31,7 +31,7 @@ use Rattle.store_meaning.specs.Usable.{fits, has_path, may_make}
 use Rattle.violations.specs.DoubleWrites.{clash_at}
 use Rattle.one_thread.specs.OneThread.{Result, by_outcome}
 use Rattle.one_thread.specs.Views.{ended_result}
-use Rattle.build_outputs.specs.Keeping.{AreKept, Keeps, KeptAt, Makes}
+use Rattle.build_outputs.specs.Keeping.{AreKept, AreOwnOutputs, KeptAt, Makes}
 use Rattle.build_outputs.proofs.Making.{has_first, has_last}
 use Rattle.build_outputs.proofs.Meeting.{Apart}
 use Rattle.build_outputs.proofs.OneMore.{one_more_kept}
@@ -108,7 +108,7 @@ module _ (pips : List Pip) (tree : Files) (budget : ℕ) (apart : Apart pips) (h
   made = map slot_files ss
 
   of_taken : (x : Desc) (see : Ask → Answer) (t : Taken) → pip.kind ≡ Process x.process → IsOfNow x see t
-      → Keeps pips made n (Process x.process) (by_outcome pips tree made n (outcome_in t)).files
+      → AreOwnOutputs pips made n (Process x.process) (by_outcome pips tree made n (outcome_in t)).files
   of_taken x see (takings.Hit f) is now =
       of_unclashed pips apart hold tree made n pip at x.process f.made is (λ q h. fit_makes x.process (paths_of f.made) q now.fit h)
       (λ p q a b below. now.unnested q p (contains_has (paths_of f.made) q b) (contains_has (paths_of f.made) p a) below)
@@ -122,16 +122,16 @@ module _ (pips : List Pip) (tree : Files) (budget : ℕ) (apart : Apart pips) (h
   files_as next r e = ap (λ (x : Result). x.files) e
 
   placed : (held : Option Holdings) (next : Next) → Decides pips tree budget held ss n pip.kind next
-      → Keeps pips made n pip.kind (slot_files next.ended.slot)
+      → AreOwnOutputs pips made n pip.kind (slot_files next.ended.slot)
   placed held next (deciding.skipped e d) =
-      subst (λ (fs : Files). Keeps pips made n pip.kind fs) (sym (files_as next _ d.result_is)) (none_kept pips made n pip.kind)
+      subst (λ (fs : Files). AreOwnOutputs pips made n pip.kind fs) (sym (files_as next _ d.result_is)) (none_kept pips made n pip.kind)
   placed held next (deciding.plain e none d) =
-      subst (λ (fs : Files). Keeps pips made n pip.kind fs) (sym (files_as next _ d.result_is))
+      subst (λ (fs : Files). AreOwnOutputs pips made n pip.kind fs) (sym (files_as next _ d.result_is))
       (of_kind pips apart hold tree made n pip at budget (inputs_of pips pip.kind made) pip.kind refl)
   placed held next (deciding.process p e is d) =
       let inputs = inputs_of pips (Process p) made in
-      subst (λ (k : PipKind). Keeps pips made n k (slot_files next.ended.slot)) (sym is)
-      (subst (λ (fs : Files). Keeps pips made n (Process p) fs) (sym (files_as next _ d.result_is))
+      subst (λ (k : PipKind). AreOwnOutputs pips made n k (slot_files next.ended.slot)) (sym is)
+      (subst (λ (fs : Files). AreOwnOutputs pips made n (Process p) fs) (sym (files_as next _ d.result_is))
       (of_taken (desc_of tree inputs budget p) (sees pips tree inputs n) d.taken is d.now))
 
   pub placed_at : (held : Option Holdings) (next : Next) → Decides pips tree budget held ss n pip.kind next

@@ -3,31 +3,31 @@ use Rattle.std.proofs.Common.{◌≡◌, ℕ, zero, suc, ◌+◌, ◌<◌, ◌�
 use Rattle.std.specs.Prelude.{IsSome}
 use Rattle.std.specs.List.{AllByRecursion}
 use Rattle.std.proofs.lemmas.List.{take_more}
-use Rattle.bx_io.specs.Holdings.{Kept}
+use Rattle.bx_io.specs.Holdings.{StoreState}
 use Rattle.bx_io.proofs.Changes.{rose_by_one}
 use Rattle.run_record.specs.Facts.{Facts}
-use Rattle.two_phase.specs.Calls.{Keeps}
+use Rattle.two_phase.specs.Calls.{KeeperCall}
 use Rattle.two_phase.specs.Putting.{PutsAll, PutsUpTo}
 use Rattle.retire.specs.Keeping.{PutsAllEach, PutsEach, PutsFirst}
 
-each_more : (fs : List Facts) (f : Facts) (before between now : Option Kept) → PutsEach before fs between → PutsUpTo between now f → PutsEach before (fs ++ f ∷ []) now
-each_more [] f before between now same put = (now, subst (λ (k : Option Kept). PutsUpTo k now f) same put, refl)
+each_more : (fs : List Facts) (f : Facts) (before between now : Option StoreState) → PutsEach before fs between → PutsUpTo between now f → PutsEach before (fs ++ f ∷ []) now
+each_more [] f before between now same put = (now, subst (λ (k : Option StoreState). PutsUpTo k now f) same put, refl)
 each_more (g ∷ gs) f before between now each put = (each.0, each.1, each_more gs f each.0 between now each.2 put)
 
-all_more : (fs : List Facts) (f : Facts) (before between now : Option Kept) → PutsAllEach before fs between → PutsAll between now f → PutsAllEach before (fs ++ f ∷ []) now
-all_more [] f before between now same put = (now, subst (λ (k : Option Kept). PutsAll k now f) same put, refl)
+all_more : (fs : List Facts) (f : Facts) (before between now : Option StoreState) → PutsAllEach before fs between → PutsAll between now f → PutsAllEach before (fs ++ f ∷ []) now
+all_more [] f before between now same put = (now, subst (λ (k : Option StoreState). PutsAll k now f) same put, refl)
 all_more (g ∷ gs) f before between now each put = (each.0, each.1, all_more gs f each.0 between now each.2 put)
 
 next_taken : (fs : List Facts) (i : ℕ) (f : Facts) → i < length fs → f ≡ get_or fs i f → take i fs ++ f ∷ [] ≡ take (i + 1) fs
 next_taken fs i f l is = sym (take_more fs i f l ∙ ap (λ g. take i fs ++ g ∷ []) (sym is))
 
 -- one record more
-pub each_next : (fs : List Facts) (i : ℕ) (f : Facts) (before between now : Option Kept) → i < length fs → f ≡ get_or fs i f → PutsEach before (take i fs) between
+pub each_next : (fs : List Facts) (i : ℕ) (f : Facts) (before between now : Option StoreState) → i < length fs → f ≡ get_or fs i f → PutsEach before (take i fs) between
     → PutsUpTo between now f → PutsEach before (take (i + 1) fs) now
 each_next fs i f before between now l is each put =
     subst (λ (gs : List Facts). PutsEach before gs now) (next_taken fs i f l is) (each_more (take i fs) f before between now each put)
 
-pub all_next : (fs : List Facts) (i : ℕ) (f : Facts) (before between now : Option Kept) → i < length fs → f ≡ get_or fs i f → PutsAllEach before (take i fs) between
+pub all_next : (fs : List Facts) (i : ℕ) (f : Facts) (before between now : Option StoreState) → i < length fs → f ≡ get_or fs i f → PutsAllEach before (take i fs) between
     → PutsAll between now f → PutsAllEach before (take (i + 1) fs) now
 all_next fs i f before between now l is each put =
     subst (λ (gs : List Facts). PutsAllEach before gs now) (next_taken fs i f l is) (all_more (take i fs) f before between now each put)
@@ -39,16 +39,16 @@ take_past [] (suc i) l = refl
 take_past (x ∷ xs) zero l = absurd (omega (arith, l))
 take_past (x ∷ xs) (suc i) l = ap (λ ys. x ∷ ys) (take_past xs i (omega (arith, l)))
 
-pub all_at_end : (fs : List Facts) (i : ℕ) (before now : Option Kept) → length fs ≤ i → PutsAllEach before (take i fs) now → PutsAllEach before fs now
+pub all_at_end : (fs : List Facts) (i : ℕ) (before now : Option StoreState) → length fs ≤ i → PutsAllEach before (take i fs) now → PutsAllEach before fs now
 all_at_end fs i before now l each = subst (λ (gs : List Facts). PutsAllEach before gs now) (take_past fs i l) each
 
-pub first_of : (fs : List Facts) (i : ℕ) (before now : Option Kept) → PutsEach before (take i fs) now → PutsFirst before fs now
+pub first_of : (fs : List Facts) (i : ℕ) (before now : Option StoreState) → PutsEach before (take i fs) now → PutsFirst before fs now
 first_of fs i before now each = record { number = i; each = each }
 
 -- ## Counts of faults
 
 -- a keep that failed is one fault
-pub rose_once : (b0 b1 : Option ℕ) (f0 f1 : ℕ) (A : Type 0) → Keeps b0 b1 f0 f1 A → A → IsSome b0 → f0 + 1 ≤ f1
+pub rose_once : (b0 b1 : Option ℕ) (f0 f1 : ℕ) (A : Type 0) → KeeperCall b0 b1 f0 f1 A → A → IsSome b0 → f0 + 1 ≤ f1
 rose_once b0 b1 f0 f1 A keeps failed some =
     rose_by_one f0 f1 (keeps.cause.rose failed) (keeps.fault_can_rise failed (subst (λ (o : Option ℕ). IsSome o) (sym keeps.bound_is) some))
 

@@ -22,9 +22,9 @@ use Rattle.verdicts.specs.declared.verdict.Verdict.{Verdict}
 use Rattle.one_thread.specs.OneThread.{inputs_are_good}
 use Rattle.one_thread.specs.Views.{results_of, slots_are_good}
 use Rattle.one_thread.proofs.GoingThrough.{IsSoFar, all_good, made_is}
-use Rattle.two_phase.specs.Seeking.{FirstLeadsTo, Hits}
+use Rattle.two_phase.specs.Lookups.{FirstLeadsTo, LookupHits}
 use Rattle.store_builds.specs.HitSet.{PipHits, WorkHits}
-use Rattle.store_builds.specs.Met.{desc_after, view_after}
+use Rattle.store_builds.specs.Compared.{desc_after, view_after}
 use Rattle.retire.specs.Counting.{one_fault, one_hit}
 use Rattle.retire.specs.Deciding as deciding
 use Rattle.retire.specs.Deciding.{DecidedBy, Decides}
@@ -83,7 +83,7 @@ any_first : (S : Holdings) (d : Desc) (see : Ask → Answer) (list : List Select
 any_first S d see [] f h = absurd h
 any_first S d see (s ∷ rest) f h = elim h [ inl here ↦ inl here.usable | inr later ↦ inr (any_first S d see rest f later.1) ]
 
-pub hit_usable : (S : Holdings) (d : Desc) (see : Ask → Answer) (f : FoundParts) → Hits S d see f → Usable S d see
+pub hit_usable : (S : Holdings) (d : Desc) (see : Ask → Answer) (f : FoundParts) → LookupHits S d see f → Usable S d see
 hit_usable S d see f h = record { list = h.list; held = h.held; any = any_first S d see h.list f h.first }
 
 way_tells : (S : Holdings) (d : Desc) (see : Ask → Answer) (t : Taken) → TakesFrom S d see t → Tells (Usable S d see) (way_of t)

@@ -5,13 +5,13 @@ use Rattle.pip_types.specs.declared.desc.Desc.{Desc}
 use Rattle.observed.specs.Members.{Has}
 use Rattle.observed.specs.declared.ask.Ask.{Ask}
 use Rattle.observed.specs.declared.access.Answer.{Answer}
-use Rattle.bx_io.specs.Holdings.{Holdings, Kept, after, kept_after}
+use Rattle.bx_io.specs.Holdings.{Holdings, StoreState, holdings_after, state_after}
 use Rattle.run_record.specs.Facts.{Facts}
-use Rattle.memo_format.specs.Well.{HoldsBlob}
+use Rattle.memo_format.specs.StoreNames.{HoldsBlob}
 use Rattle.memo_format.specs.declared.selector.Selector.{Selector}
-use Rattle.record_match.specs.Apart.{Apart}
+use Rattle.record_match.specs.Collisions.{NoCollision}
 use Rattle.record_match.specs.Digests.{weak_of}
-use Rattle.store_meaning.specs.Keeping.{FilesFit, KeepMet, StayMet, puts_of, selector_of, with_first}
+use Rattle.store_meaning.specs.Keeping.{ComparedInSave, ComparedInStay, FilesFit, puts_of, record_selector, with_first}
 use Rattle.store_meaning.specs.Usable.{UsableAt, asked_text}
 use Rattle.store_meaning.proofs.Added.{contents_added}
 use Rattle.store_meaning.proofs.Again as again
@@ -33,78 +33,78 @@ abbrev pub AreOthers : List Facts → Type 0
 AreOthers [] = Unit {0}
 AreOthers (f ∷ fs) = AllByRecursion (IsOther f.desc) fs × AreOthers fs
 
-module _ (M : List ℕ → Type 0) (apart : Apart M) where
-  abbrev Within : Kept → Type 0
+module _ (M : List ℕ → Type 0) (apart : NoCollision M) where
+  abbrev Within : StoreState → Type 0
   Within kept = (x : List ℕ) → HoldsBlob kept.held x → M x
 
-  put_met : (before : Kept) (f : Facts) → Within before → IsReady M f → (x : List ℕ) → KeepMet before.held f x → M x
+  put_met : (before : StoreState) (f : Facts) → Within before → IsReady M f → (x : List ℕ) → ComparedInSave before.held f x → M x
   put_met before f within ready x h = elim h [ inl held ↦ within x held | inr put ↦ ready.met x put ]
 
-  abbrev next : Kept → Facts → List Selector → Kept
-  next before f old = kept_after before (planned f old)
+  abbrev next : StoreState → Facts → List Selector → StoreState
+  next before f old = state_after before (planned f old)
 
-  next_within : (before : Kept) (f : Facts) (old : List Selector) → Within before → IsReady M f → Within (next before f old)
+  next_within : (before : StoreState) (f : Facts) (old : List Selector) → Within before → IsReady M f → Within (next before f old)
   next_within before f old within ready x h =
-      elim (contents_added before.held f (with_first (selector_of f) old) (planned f old) (record { rest = []; joined = append-nil (planned f old) }) x h) [
+      elim (contents_added before.held f (with_first (record_selector f) old) (planned f old) (record { rest = []; joined = append-nil (planned f old) }) x h) [
         | inl held ↦ within x held
         | inr put ↦ ready.met x put
       ]
 
   -- what was made of all puts of a record
-  abbrev done : (before : Kept) (f : Facts) (between : Option Kept) (p : PutsAll (Some before) between f) → Made before (planned f p.old) between
+  abbrev done : (before : StoreState) (f : Facts) (between : Option StoreState) (p : PutsAll (Some before) between f) → Made before (planned f p.old) between
   done before f between p = made_of (planned f p.old) before between p.applies
 
-  done_within : (before : Kept) (f : Facts) (between : Option Kept) (p : PutsAll (Some before) between f) → Within before → IsReady M f
-      → Within (kept_after before (done before f between p).made)
+  done_within : (before : StoreState) (f : Facts) (between : Option StoreState) (p : PutsAll (Some before) between f) → Within before → IsReady M f
+      → Within (state_after before (done before f between p).made)
   done_within before f between p within ready x h =
       next_within before f p.old within ready x (subst (λ (S : Holdings). HoldsBlob S x) (done before f between p).same h)
 
   -- ## A process that is usable
 
   module _ (d : Desc) (see : Ask → Answer) (s : Selector) (asks : List Ask) (asked : M (asked_text d see s.paths asks)) where
-    stay_once : (before : Kept) (f : Facts) (old : List Selector) → Within before → IsReady M f → IsOther d f → UsableAt before.held d see s asks
+    stay_once : (before : StoreState) (f : Facts) (old : List Selector) → Within before → IsReady M f → IsOther d f → UsableAt before.held d see s asks
         → UsableAt (next before f old).held d see s asks
     stay_once before f old within ready other u =
-        stays_met before.held f d see s asks (λ x y h k e. apart x y (met_of x h) (met_of y k) e) other (with_first (selector_of f) old) u
+        stays_met before.held f d see s asks (λ x y h k e. apart x y (met_of x h) (met_of y k) e) other (with_first (record_selector f) old) u
       where
-        met_of : (z : List ℕ) → StayMet before.held f d see s.paths asks z → M z
+        met_of : (z : List ℕ) → ComparedInStay before.held f d see s.paths asks z → M z
         met_of z h = elim h [ inl put ↦ put_met before f within ready z put | inr is ↦ subst M is asked ]
 
-    pub stay : (fs : List Facts) (before : Kept) (now : Option Kept) → AllByRecursion (IsReady M) fs → AllByRecursion (IsOther d) fs → Within before
-        → PutsAllEach (Some before) fs now → UsableAt before.held d see s asks → (kept : Kept) → now ≡ Some kept → UsableAt kept.held d see s asks
+    pub stay : (fs : List Facts) (before : StoreState) (now : Option StoreState) → AllByRecursion (IsReady M) fs → AllByRecursion (IsOther d) fs → Within before
+        → PutsAllEach (Some before) fs now → UsableAt before.held d see s asks → (kept : StoreState) → now ≡ Some kept → UsableAt kept.held d see s asks
     stay [] before now ready others within p u kept is =
-        subst (λ (k : Kept). UsableAt k.held d see s asks) (same_some before kept (sym p ∙ is)) u
+        subst (λ (k : StoreState). UsableAt k.held d see s asks) (same_some before kept (sym p ∙ is)) u
     stay (f ∷ fs) before now ready others within p u kept is =
         let one : PutsAll (Some before) p.0 f = p.1 in
         let step : Made before (planned f one.old) p.0 = done before f p.0 one in
-        stay fs (kept_after before step.made) now ready.1 others.1 (done_within before f p.0 one within ready.0)
-        (subst (λ (k : Option Kept). PutsAllEach k fs now) step.makes p.2)
+        stay fs (state_after before step.made) now ready.1 others.1 (done_within before f p.0 one within ready.0)
+        (subst (λ (k : Option StoreState). PutsAllEach k fs now) step.makes p.2)
         (subst (λ (S : Holdings). UsableAt S d see s asks) (sym step.same) (stay_once before f one.old within ready.0 others.0 u)) kept is
 
   -- ## A record that was kept
 
-  own : (before : Kept) (f : Facts) (between : Option Kept) (p : PutsAll (Some before) between f) → Within before → IsReady M f → FilesFit f
-      → (see : Ask → Answer) → f.answers ≡ map see f.paths → UsableAt (next before f p.old).held f.desc see (selector_of f) f.paths
+  own : (before : StoreState) (f : Facts) (between : Option StoreState) (p : PutsAll (Some before) between f) → Within before → IsReady M f → FilesFit f
+      → (see : Ask → Answer) → f.answers ≡ map see f.paths → UsableAt (next before f p.old).held f.desc see (record_selector f) f.paths
   own before f between p within ready fit see now =
-      subst (λ (list : List Selector). UsableAt (after before.held (puts_of f (with_first (selector_of f) list))) f.desc see (selector_of f) f.paths) (sym p.old_is)
+      subst (λ (list : List Selector). UsableAt (holdings_after before.held (puts_of f (with_first (record_selector f) list))) f.desc see (record_selector f) f.paths) (sym p.old_is)
       (again.kept before.held f p.spelled (λ x y h k e. apart x y (put_met before f within ready x h) (put_met before f within ready y k) e) fit see now)
 
-  pub kept_stays : (fs : List Facts) (before : Kept) (now : Option Kept) → AllByRecursion (IsReady M) fs → AreOthers fs → Within before
+  pub kept_stays : (fs : List Facts) (before : StoreState) (now : Option StoreState) → AllByRecursion (IsReady M) fs → AreOthers fs → Within before
       → PutsAllEach (Some before) fs now → (f : Facts) → Has fs f → FilesFit f → (see : Ask → Answer) → f.answers ≡ map see f.paths
-      → M (asked_text f.desc see (selector_of f).paths f.paths) → (kept : Kept) → now ≡ Some kept
-      → UsableAt kept.held f.desc see (selector_of f) f.paths
+      → M (asked_text f.desc see (record_selector f).paths f.paths) → (kept : StoreState) → now ≡ Some kept
+      → UsableAt kept.held f.desc see (record_selector f) f.paths
   kept_stays [] before now ready others within p f h fit see as_now asked kept is = absurd h
   kept_stays (g ∷ gs) before now ready others within p f h fit see as_now asked kept is =
       let one : PutsAll (Some before) p.0 g = p.1 in
       let step : Made before (planned g one.old) p.0 = done before g p.0 one in
-      let later = subst (λ (k : Option Kept). PutsAllEach k gs now) step.makes p.2 in
-      let more : Within (kept_after before step.made) = done_within before g p.0 one within ready.0 in
+      let later = subst (λ (k : Option StoreState). PutsAllEach k gs now) step.makes p.2 in
+      let more : Within (state_after before step.made) = done_within before g p.0 one within ready.0 in
       elim h [
         | inl same ↦
-            subst (λ (x : Facts). UsableAt kept.held x.desc see (selector_of x) x.paths) same
-            (stay g.desc see (selector_of g) g.paths (subst (λ (x : Facts). M (asked_text x.desc see (selector_of x).paths x.paths)) (sym same) asked)
-            gs (kept_after before step.made) now ready.1 others.0 more later
-            (subst (λ (S : Holdings). UsableAt S g.desc see (selector_of g) g.paths) (sym step.same)
+            subst (λ (x : Facts). UsableAt kept.held x.desc see (record_selector x) x.paths) same
+            (stay g.desc see (record_selector g) g.paths (subst (λ (x : Facts). M (asked_text x.desc see (record_selector x).paths x.paths)) (sym same) asked)
+            gs (state_after before step.made) now ready.1 others.0 more later
+            (subst (λ (S : Holdings). UsableAt S g.desc see (record_selector g) g.paths) (sym step.same)
             (own before g p.0 one within ready.0 (subst FilesFit (sym same) fit) see (subst (λ (x : Facts). x.answers ≡ map see x.paths) (sym same) as_now))) kept is)
-        | inr there ↦ kept_stays gs (kept_after before step.made) now ready.1 others.1 more later f there fit see as_now asked kept is
+        | inr there ↦ kept_stays gs (state_after before step.made) now ready.1 others.1 more later f there fit see as_now asked kept is
       ]

@@ -4,14 +4,14 @@ use Rattle.std.specs.Prelude.{IsSome}
 use Rattle.std.specs.List.{AllByRecursion}
 use Rattle.bx_tree.specs.Trees.{Files}
 use Rattle.bx_io.specs.Causes.{IsWithin}
-use Rattle.bx_io.specs.Holdings.{Change, Holdings, IsPrefix, Kept, after}
+use Rattle.bx_io.specs.Holdings.{Change, Holdings, IsPrefix, StoreState, holdings_after}
 use Rattle.bx_io.proofs.Changes.{known_after-nil}
 use Rattle.pip_types.specs.Makers.{IsPipList}
 use Rattle.pip_types.specs.declared.made.Slot.{Slot}
 use Rattle.pip_types.specs.declared.pip.Pip.{Pip}
 use Rattle.graph_check.specs.Rules.{KeepsRules}
 use Rattle.run_record.specs.Facts.{Facts}
-use Rattle.memo_format.specs.Well.{HoldsEntry}
+use Rattle.memo_format.specs.StoreNames.{HoldsEntry}
 use Rattle.store_meaning.specs.Honest.{Honest}
 use Rattle.pip_outputs.specs.Slots.{slot_files}
 use Rattle.verdicts.specs.declared.verdict.Verdict.{Verdict}
@@ -70,39 +70,39 @@ nothing_before [] p = refl
 nothing_before (c ∷ cs) p = let joined : c ∷ (cs ++ p.rest) ≡ [] = p.joined in absurd cc
 
 -- where nothing was changed
-pub leaves_same : (pips : List Pip) (tree : Files) (budget : ℕ) (before : Kept) (now : Option Kept) → now ≡ Some before → IsFair pips tree budget before.held
+pub leaves_same : (pips : List Pip) (tree : Files) (budget : ℕ) (before : StoreState) (now : Option StoreState) → now ≡ Some before → IsFair pips tree budget before.held
     → LeavesFair pips tree budget before now
 leaves_same pips tree budget before now is fair = record {
   honest = record {
     made = [];
     makes = is ∙ sym (known_after-nil (Some before));
-    along = λ start p. subst (λ (cs : List Change). Honest (after before.held cs)) (sym (nothing_before start p)) fair.honest;
+    along = λ start p. subst (λ (cs : List Change). Honest (holdings_after before.held cs)) (sym (nothing_before start p)) fair.honest;
   };
-  adds = λ kept here e h. inl (subst (λ (k : Kept). HoldsEntry k.held e) (same_some kept before (sym here ∙ is)) h);
+  adds = λ kept here e h. inl (subst (λ (k : StoreState). HoldsEntry k.held e) (same_some kept before (sym here ∙ is)) h);
   puts = ([], 0, omega arith, record { number = 0; each = is });
 }
 
 -- where nothing was put
-pub none_put : (known : Option Kept) → OnlyPuts known known
+pub none_put : (known : Option StoreState) → OnlyPuts known known
 none_put known = ([], tt, record { number = 0; each = refl })
 
 -- the records that are kept are of successes
-pub only_put : (old now : Option Kept) (fs given : List Facts) → AllByRecursion IsSuccess fs → given ≡ fs → PutsFirst old given now → OnlyPuts old now
+pub only_put : (old now : Option StoreState) (fs given : List Facts) → AllByRecursion IsSuccess fs → given ≡ fs → PutsFirst old given now → OnlyPuts old now
 only_put old now fs given good same puts = (fs, good, subst (λ (gs : List Facts). PutsFirst old gs now) same puts)
 
-pub leaves_kept : (pips : List Pip) (tree : Files) (budget : ℕ) (before : Kept) (old now : Option Kept) (vs : List Verdict) (ss : List Slot) (fs given : List Facts)
+pub leaves_kept : (pips : List Pip) (tree : Files) (budget : ℕ) (before : StoreState) (old now : Option StoreState) (vs : List Verdict) (ss : List Slot) (fs given : List Facts)
     (hits faults : ℕ) → old ≡ Some before → FollowsAll pips tree budget before.held vs ss fs hits faults → IsFair pips tree budget before.held → given ≡ fs
     → PutsFirst old given now → LeavesFair pips tree budget before now
 leaves_kept pips tree budget before old now vs ss fs given hits faults is follows fair same puts =
     leaves_fair pips tree budget before vs ss fs hits faults follows fair now
-    (subst (λ (k : Option Kept). PutsFirst k fs now) is (subst (λ (gs : List Facts). PutsFirst old gs now) same puts))
+    (subst (λ (k : Option StoreState). PutsFirst k fs now) is (subst (λ (gs : List Facts). PutsFirst old gs now) same puts))
 
-pub leaves_all : (pips : List Pip) (tree : Files) (budget : ℕ) (before : Kept) (old now : Option Kept) (vs : List Verdict) (ss : List Slot) (fs given : List Facts)
+pub leaves_all : (pips : List Pip) (tree : Files) (budget : ℕ) (before : StoreState) (old now : Option StoreState) (vs : List Verdict) (ss : List Slot) (fs given : List Facts)
     (hits faults : ℕ) → old ≡ Some before → FollowsAll pips tree budget before.held vs ss fs hits faults → IsFair pips tree budget before.held → given ≡ fs
     → IsPipList pips → KeepsRules pips tree → NoneReserved tree → PutsAllEach old given now → LeavesUsable pips tree budget now
 leaves_all pips tree budget before old now vs ss fs given hits faults is follows fair same list keeps free puts =
     leaves_usable pips tree budget before vs ss fs hits faults follows fair list keeps free now
-    (subst (λ (k : Option Kept). PutsAllEach k fs now) is (subst (λ (gs : List Facts). PutsAllEach old gs now) same puts))
+    (subst (λ (k : Option StoreState). PutsAllEach k fs now) is (subst (λ (gs : List Facts). PutsAllEach old gs now) same puts))
 
 -- ## Counts of faults
 

@@ -2,16 +2,16 @@
 use Rattle.std.specs.Prelude.{◌≡◌, ℕ, ◌+◌, ◌≤◌, Bool, true, false, List, [], ◌∷◌, length, Option, Some, ⊤}
 use Rattle.std.specs.Prelude as prelude
 use Rattle.bx_tree.specs.Trees.{Files}
-use Rattle.bx_io.specs.Holdings.{Holdings, Kept}
+use Rattle.bx_io.specs.Holdings.{Holdings, StoreState}
 use Rattle.pip_types.specs.declared.pip.Pip.{Pip}
 use Rattle.run_record.specs.Facts.{Facts}
 use Rattle.verdicts.specs.declared.verdict.Verdict.{Verdict}
-use Rattle.record_match.specs.Apart.{Apart}
+use Rattle.record_match.specs.Collisions.{NoCollision}
 use Rattle.store_meaning.specs.Honest.{Honest}
 use Rattle.one_thread.specs.OneThread.{one_thread, outputs_of, run_count, verdicts_of}
 use Rattle.two_phase.specs.Putting.{LeavesHonest}
 use Rattle.store_builds.specs.HitSet.{IsHitSet}
-use Rattle.store_builds.specs.Met.{Met}
+use Rattle.store_builds.specs.Compared.{Compared}
 use Rattle.store_builds.specs.Runs.{AddsSuccesses, AllUsable, IsOfSuccess}
 use Rattle.retire.specs.Keeping.{PutsFirst}
 
@@ -26,7 +26,7 @@ pub record IsBuild (pips : List Pip) (tree : Files) (budget : ℕ) (verdicts : L
 -- The store is honest, and no two different ones of what is met in the build share a digest.
 pub record IsFair (pips : List Pip) (tree : Files) (budget : ℕ) (S : Holdings) : Type 0 where
   pub honest : Honest S
-  pub apart : Apart (Met pips tree budget S)
+  pub apart : NoCollision (Compared pips tree budget S)
 
 -- what is asked of a store: nothing where it is not used, and that it is known and fair where it is
 abbrev pub Fair : List Pip → Files → ℕ → Bool → Option Holdings → Type 0
@@ -58,13 +58,13 @@ Between pips tree budget low high (f ∷ fs) =
 
 -- A fair store is left: it was honest before each change and after it, each entry that was added is that of a
 -- process that succeeds, and nothing was done but that records of such processes were kept, by number.
-pub record LeavesFair (pips : List Pip) (tree : Files) (budget : ℕ) (before : Kept) (now : Option Kept)
+pub record LeavesFair (pips : List Pip) (tree : Files) (budget : ℕ) (before : StoreState) (now : Option StoreState)
     : Type 0 where
   pub honest : LeavesHonest before now
-  pub adds : (kept : Kept) → now ≡ Some kept → AddsSuccesses pips tree budget before.held kept.held
+  pub adds : (kept : StoreState) → now ≡ Some kept → AddsSuccesses pips tree budget before.held kept.held
   pub puts : (fs : List Facts) × (high : ℕ) × Between pips tree budget 0 high fs
       × PutsFirst (Some before) fs now
 
 -- For each process that succeeds something is usable in the store that is left.
-abbrev pub LeavesUsable : List Pip → Files → ℕ → Option Kept → Type 0
-LeavesUsable pips tree budget now = (kept : Kept) → now ≡ Some kept → AllUsable pips tree budget kept.held
+abbrev pub LeavesUsable : List Pip → Files → ℕ → Option StoreState → Type 0
+LeavesUsable pips tree budget now = (kept : StoreState) → now ≡ Some kept → AllUsable pips tree budget kept.held

@@ -10,7 +10,7 @@ use Rattle.run_record.specs.declared.outcome.Outcome.{Outcome}
 use Rattle.run_record.specs.declared.outcome.Outcome.TheVariants.{Good}
 use Rattle.record_match.specs.Digests.{IsReadBack}
 use Rattle.store_meaning.specs.Usable.{Usable}
-use Rattle.two_phase.specs.Seeking.{Hits, IsNow}
+use Rattle.two_phase.specs.Lookups.{IsCurrentHit, LookupHits}
 use Rattle.retire.specs.declared.taking.Taken.{Taken}
 use Rattle.retire.specs.declared.taking.Taken.TheVariants as taken
 use Rattle.retire.specs.declared.taking.Way.{Way}
@@ -19,14 +19,14 @@ use Rattle.retire.specs.declared.taking.Way.TheVariants as ways
 -- It is what the store has for this process on this view; or, as it has nothing usable, the run on the view;
 -- or that run, as the lookup failed.
 abbrev pub TakesFrom : Holdings → Desc → (Ask → Answer) → Taken → Type 0
-TakesFrom S d see (taken.Hit found) = Hits S d see found × IsReadBack d
+TakesFrom S d see (taken.Hit found) = LookupHits S d see found × IsReadBack d
 TakesFrom S d see (taken.Missed ran) = (Usable S d see → ⊥) × IsRun ran d see
 TakesFrom S d see (taken.Faulted ran) = IsRun ran d see
 
 -- Whatever the store holds: what was found is of this process now, and a run is that of the process on this
 -- view, in a sound record.
 abbrev pub IsOfNow : Desc → (Ask → Answer) → Taken → Type 0
-IsOfNow d see (taken.Hit found) = IsNow d see found
+IsOfNow d see (taken.Hit found) = IsCurrentHit d see found
 IsOfNow d see (taken.Missed ran) = Sound ran × IsRun ran d see
 IsOfNow d see (taken.Faulted ran) = Sound ran × IsRun ran d see
 

@@ -10,7 +10,7 @@ use crate::Memory;
 use bx_io::Keeper;
 use run_record::Record;
 use std::alloc::{AllocError, Global};
-use two_phase::{HeldContents, Kept, keep};
+use two_phase::{HeldContents, SaveResult, keep};
 
 // Keeps a record up to the first refusal; how many faults there were, one at most.
 fn keep_one<K: Keeper>(
@@ -33,9 +33,9 @@ fn keep_one<K: Keeper>(
     ensures later { K.faults keeper.old ≤ K.faults keeper.new }
 {
     match keep(alloc, keeper, held, ran) {
-        Kept::Kept => Ok(0),
-        Kept::Fault => Ok(1),
-        Kept::Memory => Err(AllocError),
+        SaveResult::Saved => Ok(0),
+        SaveResult::Fault => Ok(1),
+        SaveResult::Memory => Err(AllocError),
     }
 }
 

@@ -1,6 +1,6 @@
 //! What a whole build gives.
 ghost use Rattle.std.specs.Prelude.{◌≡◌, ℕ, ◌+◌, ◌≤◌, false, true, IfOk, Some, length};
-ghost use Rattle.bx_io.specs.Holdings.{Holdings, Kept as KeptParts, held_in};
+ghost use Rattle.bx_io.specs.Holdings.{Holdings, StoreState as KeptParts, held_in};
 ghost use Rattle.build_outputs.specs.Outputs.{AreOutputs};
 ghost use Rattle.graph_check.specs.Rules.{KeepsRules};
 ghost use Rattle.one_thread.specs.OneThread as builds;

@@ -19,7 +19,7 @@ use pip_types::Desc;
 use pip_view::{Inputs, PipView, desc};
 use run_record::{Record, execute};
 use std::alloc::AllocError;
-use two_phase::{Sought, lookup};
+use two_phase::{LookupResult, lookup};
 
 // How a pip came to its result.
 #[derive(Clone, Copy, Debug, PartialEq, Eq)]
@@ -84,15 +84,15 @@ pub(crate) fn take<R: KeepReader, G: Gate>(
     let described = desc(frame.alloc, frame.plan, frame.sources, pip, inputs)?;
     let mut view = PipView::new(frame.alloc, frame.plan, frame.sources, pip, inputs)?;
     match lookup(frame.alloc, reader, &described, &mut view) {
-        Sought::Hit(found) => Ok(Taken::Hit(found)),
-        Sought::Miss => {
+        LookupResult::Hit(found) => Ok(Taken::Hit(found)),
+        LookupResult::Miss => {
             let ran = run_on(frame, described, pip, &mut view)?;
             Ok(Taken::Missed(ran))
         }
-        Sought::Fault => {
+        LookupResult::Fault => {
             let ran = run_on(frame, described, pip, &mut view)?;
             Ok(Taken::Faulted(ran))
         }
-        Sought::Memory => Err(AllocError),
+        LookupResult::Memory => Err(AllocError),
     }
 }

@@ -10,7 +10,7 @@ use Rattle.pip_types.specs.declared.desc.Desc.{Desc}
 use Rattle.tool_run.specs.Description.{Description}
 use Rattle.tool_run.specs.Described.{described}
 use Rattle.std.specs.List.{AllByRecursion}
-use Rattle.tool_run.specs.Laws.{DependsOnPathSet, Holds, IsAnswered}
+use Rattle.tool_run.specs.Laws.{DependsOnPathSet, IsAnswered, RunInvariant}
 use Rattle.tool_run.specs.Run.{Run, path_set, run_of}
 use Rattle.run_record.specs.declared.outcome.Outcome.{Outcome}
 use Rattle.run_record.specs.Outcomes.{outcome_of}
@@ -47,7 +47,7 @@ sound f d a depends run =
 
 -- the record that is made of a run
 pub made_run : (d : Desc) (a : Ask → Answer) (r : Run) (paths : List Ask) (stored : List Answer) (outcome : Outcome)
-    → Holds (described d) a (run_for d a) → r ≡ run_for d a → paths ≡ path_set (described d) r.accesses → stored ≡ map (given_in r.accesses) paths
+    → RunInvariant (described d) a (run_for d a) → r ≡ run_for d a → paths ≡ path_set (described d) r.accesses → stored ≡ map (given_in r.accesses) paths
     → outcome ≡ outcome_of (described d) r
     → IsRun (record { desc = d; paths = paths; answers = stored; accesses = r.accesses; outcome = outcome }) d a
 made_run d a r paths stored outcome holds ran set given judged =

@@ -46,17 +46,17 @@ completed d r = complete (first_missing d.outs r.writes) (with_console d.console
 abbrev pub exited : Description → Run → ℕ → Outcome
 exited d r code = if code == 0 then completed d r else Failed (causes.Exit code)
 
-abbrev pub outcome_at : Description → Run → End → Outcome
-outcome_at d r (ends.Exit code) = exited d r code
-outcome_at d r ends.Denied = refused (last_access r.accesses)
-outcome_at d r ends.BadProgram = Failed (causes.Tool ends.BadProgram)
-outcome_at d r ends.BadPath = Failed (causes.Tool ends.BadPath)
-outcome_at d r ends.Budget = Failed (causes.Tool ends.Budget)
-outcome_at d r ends.TooLong = Failed (causes.Tool ends.TooLong)
-outcome_at d r ends.NotADirectory = Failed (causes.Tool ends.NotADirectory)
+abbrev pub outcome_by_end : Description → Run → End → Outcome
+outcome_by_end d r (ends.Exit code) = exited d r code
+outcome_by_end d r ends.Denied = refused (last_access r.accesses)
+outcome_by_end d r ends.BadProgram = Failed (causes.Tool ends.BadProgram)
+outcome_by_end d r ends.BadPath = Failed (causes.Tool ends.BadPath)
+outcome_by_end d r ends.Budget = Failed (causes.Tool ends.Budget)
+outcome_by_end d r ends.TooLong = Failed (causes.Tool ends.TooLong)
+outcome_by_end d r ends.NotADirectory = Failed (causes.Tool ends.NotADirectory)
 
 -- What a run comes to: the files that it made, where it ended with code 0 and wrote each output file; and
 -- otherwise the first cause that applies: a denied access, a fault of the tool, another code, a missing
 -- output.
 abbrev pub outcome_of : Description → Run → Outcome
-outcome_of d r = outcome_at d r r.end
+outcome_of d r = outcome_by_end d r r.end

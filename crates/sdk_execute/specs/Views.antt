@@ -11,5 +11,5 @@ taken_of t = record {
   dependencies = t.dependencies.items;
 }
 
-abbrev pub made_of : AnyMade → Made
-made_of m = record { outputs = m.outputs.items; console = m.console; variables = m.variables }
+abbrev pub made_data : AnyMade → Made
+made_data m = record { outputs = m.outputs.items; console = m.console; variables = m.variables }

@@ -9,7 +9,7 @@ ghost use Rattle.sdk_execute.specs.Execute as spec;
 ghost use Rattle.sdk_execute.specs.Execute.{dir_input, directory_output, file_output, form_of_kind};
 ghost use Rattle.sdk_execute.specs.Execute.{form_of_pip, taken_dir, taken_file};
 ghost use Rattle.sdk_execute.specs.Sets.{set_by};
-ghost use Rattle.sdk_execute.specs.Views.{made_of, taken_of};
+ghost use Rattle.sdk_execute.specs.Views.{made_data, taken_of};
 
 use crate::arguments::{with_inputs, with_outputs, written_arguments};
 use crate::dependency::Dependency;
@@ -173,7 +173,7 @@ pub(crate) fn process_of(
     made: Made,
 ) -> Result<ProcessDesc, Memory>
     ensures { IfOk result (λ process.
-        process ≡ spec.process_of file.now pips.now (taken_of taken) (made_of made)) }
+        process ≡ spec.process_of file.now pips.now (taken_of taken) (made_data made)) }
 {
     let args = written_arguments(alloc, taken.arguments.as_slice())?;
     let inputs = with_inputs(taken.dependencies, taken.arguments.as_slice())?;

@@ -5,7 +5,7 @@ ghost use Rattle.sdk_values.specs.Kinds.{directory_in};
 ghost use Rattle.sdk_values.specs.Objects.{optional_in};
 ghost use Rattle.sdk_values.specs.Outcomes.{Refuses};
 ghost use Rattle.sdk_execute.specs.ExecuteObject.{made_in, request_of, taken_in};
-ghost use Rattle.sdk_execute.specs.Views.{made_of, taken_of};
+ghost use Rattle.sdk_execute.specs.Views.{made_data, taken_of};
 
 use crate::dependency::Dependency;
 use crate::output::Output;
@@ -82,7 +82,7 @@ fn read_taken(alloc: Global, fields: &Fields) -> Result<Taken, SdkFault>
 // What an object says that a process makes.
 fn read_made(alloc: Global, fields: &Fields) -> Result<Made, SdkFault>
     ensures { MatchResult result
-        (λ made. made_in (member_list (plain_fields fields.now).members) ≡ Ok (made_of made))
+        (λ made. made_in (member_list (plain_fields fields.now).members) ≡ Ok (made_data made))
         (λ fault. Refuses fault (made_in (member_list (plain_fields fields.now).members))) }
 {
     let outputs = read_optional_list::<Output>(alloc, fields, b"outputs")?;
@@ -99,7 +99,7 @@ fn read_made(alloc: Global, fields: &Fields) -> Result<Made, SdkFault>
 #[tactic(auto, unfolding(crate::specs::ExecuteObject::request_in))]
 pub(crate) fn read_request(alloc: Global, args: &[Value]) -> Result<(Taken, Made), SdkFault>
     ensures { MatchResult result
-        (λ request. request_of (map plain_of args.now) ≡ Ok (taken_of request.0, made_of request.1))
+        (λ request. request_of (map plain_of args.now) ≡ Ok (taken_of request.0, made_data request.1))
         (λ fault. Refuses fault (request_of (map plain_of args.now))) }
 {
     let fields = read_object(first_argument(args)?, &[b"tool"], &OPTIONAL_FIELDS)?;

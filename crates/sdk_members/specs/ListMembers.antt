@@ -31,15 +31,15 @@ abbrev pub contains_item : List Plain → MemberFunction
 contains_item items args = one_of args >>= has_equal items >>= λ found. Ok (plain.Flag found)
 
 -- texts with a separator between them
-abbrev pub joined : List ℕ → List (List ℕ) → List ℕ
-joined separator texts = join_by (λ text. text) separator texts
+abbrev pub separated_texts : List ℕ → List (List ℕ) → List ℕ
+separated_texts separator texts = join_by (λ text. text) separator texts
 
 -- The items must be texts, which is looked at after the argument.
 abbrev pub join_items : List Plain → MemberFunction
 join_items items args =
     one_of args >>= text_in >>= λ separator.
     each_in text_in items >>= λ texts.
-    text_answer (joined separator texts)
+    text_answer (separated_texts separator texts)
 
 unfoldable pub list_function : Member → List Plain → Option MemberFunction
 list_function members.Concat items = Some (concat_lists items)

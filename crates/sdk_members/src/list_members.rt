@@ -5,7 +5,7 @@ ghost use Rattle.sdk_values.specs.Answers.{text_answer};
 ghost use Rattle.sdk_values.specs.Outcomes.{Refuses};
 ghost use Rattle.sdk_members.specs.Gives.{Gives, applied};
 ghost use Rattle.sdk_members.specs.ListMembers.{concat_lists, contains_item, has_equal as has_equal_item};
-ghost use Rattle.sdk_members.specs.ListMembers.{join_items, joined, list_function, list_property};
+ghost use Rattle.sdk_members.specs.ListMembers.{join_items, list_function, list_property, separated_texts};
 
 use crate::member::Member;
 use bx_tree::Text;
@@ -62,8 +62,8 @@ fn contains(alloc: Global, values: &Values, args: &[Value]) -> Result<Value, Sdk
 // Texts with a separator between them, unless they are too long together.
 fn join_texts(alloc: Global, separator: &Text, texts: &[Text]) -> Result<Value, SdkFault>
     ensures { MatchResult result
-        (λ value. text_answer (joined separator.now texts.now) ≡ Ok (plain_of value))
-        (λ fault. Refuses fault (text_answer (joined separator.now texts.now))) }
+        (λ value. text_answer (separated_texts separator.now texts.now) ≡ Ok (plain_of value))
+        (λ fault. Refuses fault (text_answer (separated_texts separator.now texts.now))) }
 {
     let Some((first, more)) = texts.split_first() else {
         return text_value(alloc, Vec::new(alloc));

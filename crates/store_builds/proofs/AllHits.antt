@@ -17,7 +17,7 @@ use Rattle.verdicts.specs.declared.verdict.Verdict.{Verdict}
 use Rattle.verdicts.specs.declared.verdict.Verdict.TheVariants as verdicts
 use Rattle.one_thread.specs.OneThread.{Result, failed, inputs_are_good, on_from, one_thread, result_of, run_count, runs, verdicts_of}
 use Rattle.store_builds.specs.HitSet.{HitsFrom, IsHitSet, PipHits}
-use Rattle.store_builds.specs.Met.{desc_after, view_after}
+use Rattle.store_builds.specs.Compared.{desc_after, view_after}
 use Rattle.store_builds.specs.Runs.{AllUsable, results_before}
 use Rattle.store_builds.proofs.SoFar.{taken}
 

@@ -7,18 +7,18 @@ use Rattle.observed.specs.declared.access.Answer.{Answer}
 use Rattle.bx_io.specs.Holdings.{Holdings}
 use Rattle.run_record.specs.Facts.{Facts, IsRun}
 use Rattle.prints.specs.Strong.{strong_parts, strong_text}
-use Rattle.record_match.specs.Apart.{contents_of}
+use Rattle.record_match.specs.Collisions.{contents_of}
 use Rattle.record_match.specs.Digests.{weak_of}
 use Rattle.store_meaning.specs.Contents.{desc_contents, given_contents}
-use Rattle.store_meaning.specs.Keeping.{IsGood, blobs_of, made_of, paths_digest}
-use Rattle.store_meaning.specs.Met as met
-use Rattle.store_meaning.specs.Met.{RunMet, own_paths}
+use Rattle.store_meaning.specs.Keeping.{IsGood, blobs_of, outcome_files, paths_digest}
+use Rattle.store_meaning.specs.Compared as met
+use Rattle.store_meaning.specs.Compared.{ComparedInRun, own_paths}
 
 has_append : {X : Type 0} (xs ys : List X) (x : X) → Has (xs ++ ys) x → Has xs x ⊎ Has ys x
 has_append [] ys x h = inr h
 has_append (y ∷ xs) ys x h = elim h [ inl e ↦ inl (inl e) | inr k ↦ elim (has_append xs ys x k) [ inl l ↦ inl (inr l) | inr r ↦ inr r ] ]
 
-pub record_met : (S : Holdings) (f : Facts) (see : Ask → Answer) → IsRun f f.desc see → IsGood f → (x : List ℕ) → Has (blobs_of f) x → RunMet S f.desc see x
+pub record_met : (S : Holdings) (f : Facts) (see : Ask → Answer) → IsRun f f.desc see → IsGood f → (x : List ℕ) → Has (blobs_of f) x → ComparedInRun S f.desc see x
 record_met S f see run good x h =
     let own : own_paths f.desc see ≡ f.paths = run.run.paths in
     elim h [
@@ -29,12 +29,12 @@ record_met S f see run good x h =
           | inl strong ↦
               met.strong (paths_digest f) f.paths (inl (own, refl))
               (ap (λ (as' : List Answer). strong_text (strong_parts (weak_of f.desc) (paths_digest f) as')) (sym run.answers) ∙ strong)
-          | inr h3 ↦ elim (has_append (desc_contents f.desc) (given_contents f.answers ++ contents_of (made_of f.outcome)) x h3) [
+          | inr h3 ↦ elim (has_append (desc_contents f.desc) (given_contents f.answers ++ contents_of (outcome_files f.outcome)) x h3) [
             | inl declared ↦ met.declared declared
-            | inr h4 ↦ elim (has_append (given_contents f.answers) (contents_of (made_of f.outcome)) x h4) [
+            | inr h4 ↦ elim (has_append (given_contents f.answers) (contents_of (outcome_files f.outcome)) x h4) [
               | inl given ↦
                   met.given (paths_digest f) f.paths (inl (own, refl)) (subst (λ (as' : List Answer). Has (given_contents as') x) run.answers given)
-              | inr made ↦ met.made (made_of f.outcome) (run.run.outcome ∙ good) made
+              | inr made ↦ met.made (outcome_files f.outcome) (run.run.outcome ∙ good) made
             ]
           ]
         ]

@@ -14,10 +14,10 @@ use Rattle.observed.specs.declared.ask.Ask.{Ask}
 use Rattle.observed.specs.declared.access.Answer.{Answer}
 use Rattle.run_record.specs.Facts.{Facts}
 use Rattle.store_meaning.specs.Keeping.{blobs_of}
-use Rattle.store_meaning.specs.Met.{RunMet}
+use Rattle.store_meaning.specs.Compared.{ComparedInRun}
 use Rattle.pip_inputs.specs.Plain.{kind_process, process_in}
 use Rattle.one_thread.specs.OneThread.{Result, on_from, result_of}
-use Rattle.store_builds.specs.Met.{Met, desc_after, met_from, pip_met, view_after}
+use Rattle.store_builds.specs.Compared.{Compared, compared_at_pip, compared_from, desc_after, view_after}
 use Rattle.store_builds.specs.HitSet.{HitsFrom}
 use Rattle.store_builds.specs.Runs.{IsOfSuccess, RunsAs, results_before}
 use Rattle.store_builds.proofs.RecordMet.{record_met}
@@ -56,31 +56,31 @@ module _ (pips : List Pip) (tree : Files) (budget : ℕ) where
 
   module _ (S : Holdings) (x : List ℕ) where
     met_at : (left : List Pip) (results : List Result) (i j n : ℕ) (pip : Pip) → length results ≡ i → n ≡ i + j → slice_get left j ≡ Some pip
-        → pip_met pips tree budget S (take n (on_from pips tree budget results i left)) n pip.kind x → met_from pips tree budget S results i left x
+        → compared_at_pip pips tree budget S (take n (on_from pips tree budget results i left)) n pip.kind x → compared_from pips tree budget S results i left x
     met_at [] results i zero n pip long e at m = absurd cc
     met_at [] results i (suc j) n pip long e at m = absurd cc
     met_at (p ∷ ps) results i zero n pip long e at m =
         let here : n ≡ i = omega (arith, e) in
-        inl (subst (λ (q : Pip). pip_met pips tree budget S results i q.kind x) (sym (same_some p pip at))
-        (subst (λ (rs : List Result). pip_met pips tree budget S rs i pip.kind x) (taken (p ∷ ps) results i long)
-        (subst (λ (k : ℕ). pip_met pips tree budget S (take k (on_from pips tree budget results i (p ∷ ps))) k pip.kind x) here m)))
+        inl (subst (λ (q : Pip). compared_at_pip pips tree budget S results i q.kind x) (sym (same_some p pip at))
+        (subst (λ (rs : List Result). compared_at_pip pips tree budget S rs i pip.kind x) (taken (p ∷ ps) results i long)
+        (subst (λ (k : ℕ). compared_at_pip pips tree budget S (take k (on_from pips tree budget results i (p ∷ ps))) k pip.kind x) here m)))
     met_at (p ∷ ps) results i (suc j) n pip long e at m =
         let next = result_of pips tree budget results i p.kind in
         inr (met_at ps (results ++ next ∷ []) (i + 1) j n pip (length-append results (next ∷ []) ∙ ap (λ k. k + 1) long) (omega (arith, e)) at m)
 
     -- what is met at a process that runs is met in the build
-    pub run_met : (i : ℕ) (d : Desc) (see : Ask → Answer) → RunsAs pips tree budget i d see → RunMet S d see x → Met pips tree budget S x
+    pub run_met : (i : ℕ) (d : Desc) (see : Ask → Answer) → RunsAs pips tree budget i d see → ComparedInRun S d see x → Compared pips tree budget S x
     run_met i d see runs m =
         let there = process_there (slice_get pips i) runs.process runs.is_process in
         let before : List Result = results_before pips tree budget i in
-        let here : RunMet S (desc_after pips tree budget before runs.process) (view_after pips tree before i runs.process) x =
-        subst (λ (e : Desc). RunMet S e (view_after pips tree before i runs.process) x) (sym runs.desc_is)
-        (subst (λ (v : Ask → Answer). RunMet S d v x) (sym runs.view_is) m) in
+        let here : ComparedInRun S (desc_after pips tree budget before runs.process) (view_after pips tree before i runs.process) x =
+        subst (λ (e : Desc). ComparedInRun S e (view_after pips tree before i runs.process) x) (sym runs.desc_is)
+        (subst (λ (v : Ask → Answer). ComparedInRun S d v x) (sym runs.view_is) m) in
         inr (met_at pips [] 0 i i there.0 refl (omega arith) there.1
-        (subst (λ (k : PipKind). pip_met pips tree budget S before i k x) (sym there.2) (runs.is_run, here)))
+        (subst (λ (k : PipKind). compared_at_pip pips tree budget S before i k x) (sym there.2) (runs.is_run, here)))
 
   -- what is put for the record of a process that succeeds is met in the build
-  pub success_met : (S : Holdings) (f : Facts) → IsOfSuccess pips tree budget f → (x : List ℕ) → Has (blobs_of f) x → Met pips tree budget S x
+  pub success_met : (S : Holdings) (f : Facts) → IsOfSuccess pips tree budget f → (x : List ℕ) → Has (blobs_of f) x → Compared pips tree budget S x
   success_met S f s x h = run_met S x s.pip f.desc s.see s.runs (record_met S f s.see s.run s.good x h)
 
   -- ## Which processes a store would spare

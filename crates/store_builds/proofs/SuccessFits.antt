@@ -20,14 +20,14 @@ use Rattle.pip_inputs.specs.Results.{inputs_of}
 use Rattle.verdicts.specs.declared.verdict.Verdict.TheVariants as verdicts
 use Rattle.verdicts.specs.declared.verdict.Violation.{Violation}
 use Rattle.violations.specs.DoubleWrites.{clash_at}
-use Rattle.one_thread.specs.OneThread.{Result, by_outcome, failed, made_by, one_thread, outcome_at, ran, result_of, unless_clash, worked}
+use Rattle.one_thread.specs.OneThread.{Result, by_outcome, failed, made_by, one_thread, process_outcome, ran, result_of, unless_clash, worked}
 use Rattle.one_thread.proofs.EachResult.{number_of_results, result_of_all, result_same}
 use Rattle.build_outputs.proofs.Meeting.{kept_apart}
-use Rattle.build_outputs.specs.Keeping.{Keeps}
+use Rattle.build_outputs.specs.Keeping.{AreOwnOutputs}
 use Rattle.build_outputs.proofs.OneResult.{kept_result}
-use Rattle.store_meaning.specs.Keeping.{FilesFit, made_of}
+use Rattle.store_meaning.specs.Keeping.{FilesFit, outcome_files}
 use Rattle.store_meaning.proofs.FilesFit.{files_fit, paths_lines}
-use Rattle.store_builds.specs.Met.{view_after}
+use Rattle.store_builds.specs.Compared.{view_after}
 use Rattle.store_builds.specs.Runs.{IsOfSuccess, results_before}
 use Rattle.store_builds.proofs.SoFar.{process_there}
 
@@ -44,12 +44,12 @@ module _ (pips : List Pip) (tree : Files) (budget : ℕ) (list : IsPipList pips)
   before = results_before pips tree budget s.pip
 
   abbrev files : Files
-  files = made_of f.outcome
+  files = outcome_files f.outcome
 
   there : (pip : Pip) × (slice_get pips s.pip ≡ Some pip) × (pip.kind ≡ Process s.runs.process)
   there = process_there (slice_get pips s.pip) s.runs.process s.runs.is_process
 
-  outcome_is : outcome_at pips tree budget (inputs_of pips (Process s.runs.process) (made_by before)) s.pip s.runs.process ≡ Good files
+  outcome_is : process_outcome pips tree budget (inputs_of pips (Process s.runs.process) (made_by before)) s.pip s.runs.process ≡ Good files
   outcome_is =
       ap (λ (e : Desc). ran e (view_after pips tree before s.pip s.runs.process)) s.runs.desc_is
       ∙ ap (λ (v : Ask → Answer). ran f.desc v) s.runs.view_is ∙ s.run.run.outcome ∙ s.good
@@ -81,7 +81,7 @@ module _ (pips : List Pip) (tree : Files) (budget : ℕ) (list : IsPipList pips)
 
   none_nested : KeepsRules pips tree → NoneNested (paths_of files)
   none_nested keeps =
-      let kept : Keeps pips (made_by all) s.pip there.0.kind (result_of pips tree budget all s.pip there.0.kind).files =
+      let kept : AreOwnOutputs pips (made_by all) s.pip there.0.kind (result_of pips tree budget all s.pip there.0.kind).files =
       kept_result pips tree budget s.pip there.0 all (kept_apart pips tree keeps) (λ d a. holds d a) there.1 in
       let same = made_is there.0 there.1 there.2 in
       subst (λ (fs : Files). NoneNested (paths_of fs)) same

@@ -37,15 +37,15 @@ use Rattle.prints.specs.Processes.{numbered_from, weak_parts, with_pip}
 use Rattle.prints.specs.ReadWeak.{read_weak_text}
 use Rattle.prints.specs.Weak.{weak_text}
 use Rattle.prints.specs.declared.weak_parts.WeakParts.{WeakParts}
-use Rattle.record_match.specs.Apart.{Apart}
+use Rattle.record_match.specs.Collisions.{NoCollision}
 use Rattle.record_match.specs.Digests.{IsReadBack, weak_of}
 use Rattle.pip_inputs.specs.Contents.{input_file}
 use Rattle.pip_inputs.specs.Plain.{desc_of}
 use Rattle.pip_inputs.specs.Results.{ByPip}
 use Rattle.build_outputs.proofs.Making.{has_first}
 use Rattle.build_outputs.proofs.Meeting.{declares, kept_below, made_below}
-use Rattle.store_meaning.specs.Met as met
-use Rattle.store_builds.specs.Met.{Met, inputs_after}
+use Rattle.store_meaning.specs.Compared as met
+use Rattle.store_builds.specs.Compared.{Compared, inputs_after}
 use Rattle.store_builds.specs.Runs.{RunsAs, results_before}
 use Rattle.store_builds.proofs.SoFar.{process_there, run_met}
 
@@ -228,7 +228,7 @@ module _ (pips : List Pip) (tree : Files) (list : IsPipList pips) (keeps : Keeps
       (sym (input_paths tree made p.files) ∙ paths ∙ input_paths tree others q.files) in
       cc
 
-  described : (i : ℕ) (a : Pip) (p : ProcessDesc) → slice_get pips i ≡ Some a → a.kind ≡ Process p → outputs.Has descriptions pips i (description p)
+  described : (i : ℕ) (a : Pip) (p : ProcessDesc) → slice_get pips i ≡ Some a → a.kind ≡ Process p → outputs.PipHas descriptions pips i (description p)
   described i a p at is =
       declares descriptions pips i a (description p) at (subst (λ (k : PipKind). Has (descriptions k) (description p)) (sym is) (inl refl))
 
@@ -236,7 +236,7 @@ module _ (pips : List Pip) (tree : Files) (list : IsPipList pips) (keeps : Keeps
       → description p ≡ description q → i ≡ j
   twins i j a b p q at_i at_j is_p is_q same =
       let one = described i a p at_i is_p in
-      let other = subst (outputs.Has descriptions pips j) (sym same) (described j b q at_j is_q) in
+      let other = subst (outputs.PipHas descriptions pips j) (sym same) (described j b q at_j is_q) in
       elim (cases_order i j) [
         | inl e ↦ e
         | inr differ ↦ elim differ [
@@ -246,7 +246,7 @@ module _ (pips : List Pip) (tree : Files) (list : IsPipList pips) (keeps : Keeps
       ]
 
   -- Two processes of the build whose weak texts have one digest are one.
-  pub one_process : (budget : ℕ) (S : Holdings) (i j : ℕ) (d e : Desc) (see view : Ask → Answer) → Apart (Met pips tree budget S)
+  pub one_process : (budget : ℕ) (S : Holdings) (i j : ℕ) (d e : Desc) (see view : Ask → Answer) → NoCollision (Compared pips tree budget S)
       → RunsAs pips tree budget i d see → RunsAs pips tree budget j e view → IsReadBack d → IsReadBack e → weak_of d ≡ weak_of e → i ≡ j
   one_process budget S i j d e see view apart runs others read_d read_e same =
       let a = process_there (slice_get pips i) runs.process runs.is_process in

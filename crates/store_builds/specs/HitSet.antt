@@ -7,7 +7,7 @@ use Rattle.pip_types.specs.declared.pip.PipKind.TheVariants.{Process, Copy, Writ
 use Rattle.bx_io.specs.Holdings.{Holdings}
 use Rattle.store_meaning.specs.Usable.{Usable}
 use Rattle.one_thread.specs.OneThread.{Result, inputs_are_good, result_of}
-use Rattle.store_builds.specs.Met.{desc_after, view_after}
+use Rattle.store_builds.specs.Compared.{desc_after, view_after}
 
 -- a process for which something is usable
 abbrev pub WorkHits : List Pip → Files → ℕ → Holdings → List Result → ℕ → PipKind → Type 0

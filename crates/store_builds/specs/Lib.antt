@@ -1,3 +1,3 @@
-pub mod Met
+pub mod Compared
 pub mod HitSet
 pub mod Runs

@@ -11,14 +11,14 @@ use Rattle.pip_types.specs.declared.pip.ProcessDesc.{ProcessDesc}
 use Rattle.observed.specs.declared.ask.Ask.{Ask}
 use Rattle.observed.specs.declared.access.Answer.{Answer}
 use Rattle.run_record.specs.Facts.{Facts, IsRun}
-use Rattle.memo_format.specs.Well.{HoldsEntry}
+use Rattle.memo_format.specs.StoreNames.{HoldsEntry}
 use Rattle.memo_format.specs.declared.entry.Entry.{Entry}
-use Rattle.store_meaning.specs.Keeping.{IsGood, entry_of}
+use Rattle.store_meaning.specs.Keeping.{IsGood, record_entry}
 use Rattle.store_meaning.specs.Usable.{Usable}
 use Rattle.pip_inputs.specs.Plain.{process_in}
 use Rattle.verdicts.specs.declared.verdict.Verdict.TheVariants as verdicts
 use Rattle.one_thread.specs.OneThread.{Result, inputs_are_good, one_thread, verdicts_of}
-use Rattle.store_builds.specs.Met.{desc_after, view_after}
+use Rattle.store_builds.specs.Compared.{desc_after, view_after}
 
 -- what the pips before pip i come to
 abbrev pub results_before : List Pip → Files → ℕ → ℕ → List Result
@@ -51,7 +51,7 @@ pub record IsOfSuccess (pips : List Pip) (tree : Files) (budget : ℕ) (f : Fact
 abbrev pub AddsSuccesses : List Pip → Files → ℕ → Holdings → Holdings → Type 0
 AddsSuccesses pips tree budget before now =
     (e : Entry) → HoldsEntry now e
-    → HoldsEntry before e ⊎ ((f : Facts) × IsOfSuccess pips tree budget f × (e ≡ entry_of f))
+    → HoldsEntry before e ⊎ ((f : Facts) × IsOfSuccess pips tree budget f × (e ≡ record_entry f))
 
 -- For each process that succeeds something is usable.
 abbrev pub AllUsable : List Pip → Files → ℕ → Holdings → Type 0

@@ -10,28 +10,28 @@ ghost use Rattle.pip_types.specs.Makers.{IsPipList};
 ghost use Rattle.pip_types.specs.declared.desc.Desc.{Desc as AnyDesc};
 ghost use Rattle.pip_types.specs.declared.pip.Pip.{Pip};
 ghost use Rattle.graph_check.specs.Rules.{KeepsRules};
-ghost use Rattle.record_match.specs.Apart.{Apart};
+ghost use Rattle.record_match.specs.Collisions.{NoCollision};
 ghost use Rattle.record_match.specs.Digests.{IsReadBack, weak_of};
 ghost use Rattle.run_record.specs.Facts.{Facts, Sound};
 ghost use Rattle.one_thread.specs.OneThread.{one_thread, run_count, verdicts_of};
 ghost use Rattle.verdicts.specs.Verdicts.{is_success};
 ghost use Rattle.store_meaning.specs.Keeping.{FilesFit, blobs_of};
-ghost use Rattle.store_meaning.specs.Met.{RunMet};
+ghost use Rattle.store_meaning.specs.Compared.{ComparedInRun};
 ghost use Rattle.store_builds.specs.HitSet.{IsHitSet};
-ghost use Rattle.store_builds.specs.Met.{Met};
+ghost use Rattle.store_builds.specs.Compared.{Compared};
 ghost use Rattle.store_builds.specs.Runs.{AllUsable, IsOfSuccess, NoneReserved, RunsAs};
 
 /// What is met at a process that runs is met in the build.
-pub fn runs_are_met()
+pub fn runs_are_compared()
     ensures { (pips : List Pip) (tree : Files) (budget i : ℕ) (S : Holdings) (d : AnyDesc)
-        (see : AnyAsk → AnyAnswer) → RunsAs pips tree budget i d see → (x : List ℕ) → RunMet S d see x
-        → Met pips tree budget S x }
+        (see : AnyAsk → AnyAnswer) → RunsAs pips tree budget i d see → (x : List ℕ) → ComparedInRun S d see x
+        → Compared pips tree budget S x }
 {}
 
 /// What is put for the record of a process that succeeds is met in the build.
-pub fn successes_are_met()
+pub fn successes_are_compared()
     ensures { (pips : List Pip) (tree : Files) (budget : ℕ) (S : Holdings) (f : Facts)
-        → IsOfSuccess pips tree budget f → (x : List ℕ) → Has (blobs_of f) x → Met pips tree budget S x }
+        → IsOfSuccess pips tree budget f → (x : List ℕ) → Has (blobs_of f) x → Compared pips tree budget S x }
 {}
 
 /// The files of a process that succeeds are those that it declares, none that it may not make, and none is
@@ -46,7 +46,7 @@ pub fn successes_fit()
 pub fn weak_texts_differ()
     ensures { (pips : List Pip) (tree : Files) (budget : ℕ) (S : Holdings) (i j : ℕ) (d e : AnyDesc)
         (see view : AnyAsk → AnyAnswer) → IsPipList pips → KeepsRules pips tree → NoneReserved tree
-        → Apart (Met pips tree budget S) → RunsAs pips tree budget i d see
+        → NoCollision (Compared pips tree budget S) → RunsAs pips tree budget i d see
         → RunsAs pips tree budget j e view → IsReadBack d → IsReadBack e → weak_of d ≡ weak_of e → i ≡ j }
 {}
 

@@ -10,5 +10,5 @@
 mod laws;
 
 pub use laws::{
-    all_are_hits, one_hit_set, runs_are_met, successes_are_met, successes_fit, weak_texts_differ,
+    all_are_hits, one_hit_set, runs_are_compared, successes_are_compared, successes_fit, weak_texts_differ,
 };

@@ -3,7 +3,7 @@ use Rattle.std.proofs.Common.{◌≡◌, ℕ, List, sym, ap, ◌∙◌, arith}
 use Rattle.hex.specs.Hex.{IsBytes, decode_of, encode_lower}
 use Rattle.hex.proofs.HexLemmas.{decode_of-encode_lower}
 use Rattle.bx_digest.specs.Digests.{IsDigest}
-use Rattle.memo_format.specs.Well.{at_blob, at_entry, at_list}
+use Rattle.memo_format.specs.StoreNames.{at_blob, at_entry, at_list}
 
 same_text : (a b : List ℕ) → IsBytes a → IsBytes b → encode_lower a ≡ encode_lower b → a ≡ b
 same_text a b h k e =

@@ -20,18 +20,18 @@ use Rattle.pip_types.specs.declared.pip.ProcessDesc.{ProcessDesc}
 use Rattle.own_writes.specs.Below.{is_below}
 use Rattle.tool_run.specs.Description.{Description, is_console, permits}
 use Rattle.tool_run.specs.Described.{described, dir_paths}
-use Rattle.tool_run.specs.Laws.{Holds}
+use Rattle.tool_run.specs.Laws.{RunInvariant}
 use Rattle.tool_run.specs.Run.{Run}
 use Rattle.tool_run.proofs.Accesses.{holds}
 use Rattle.tool_run.proofs.Permitted.{any_dirs}
 use Rattle.run_record.specs.Facts.{Facts, Sound, run_for}
 use Rattle.run_record.specs.Answered.{answered}
-use Rattle.run_record.specs.Outcomes.{complete, completed, first_missing, last_access, outcome_at, refused, with_console}
+use Rattle.run_record.specs.Outcomes.{complete, completed, first_missing, last_access, outcome_by_end, refused, with_console}
 use Rattle.run_record.specs.declared.outcome.Outcome.TheVariants.{Good, Failed}
 use Rattle.run_record.specs.declared.outcome.Cause.TheVariants as causes
 use Rattle.memo_format.specs.Entries.{output_paths}
 use Rattle.memo_format.specs.Found.{output_lines}
-use Rattle.store_meaning.specs.Keeping.{IsGood, made_of}
+use Rattle.store_meaning.specs.Keeping.{IsGood, outcome_files}
 use Rattle.store_meaning.specs.Usable.{fits, has_path, may_make}
 
 -- ## What a success comes of
@@ -51,7 +51,7 @@ not_refused : (o : Option Access) (files : Files) → refused o ≡ Good files �
 not_refused (Some access) files e = cc
 not_refused None files e = cc
 
-success : (d : Description) (r : Run) (end : End) (files : Files) → outcome_at d r end ≡ Good files → Succeeds d r files
+success : (d : Description) (r : Run) (end : End) (files : Files) → outcome_by_end d r end ≡ Good files → Succeeds d r files
 success d r (ends.Exit code) files e = by_code (code == 0) d r code files e
 success d r ends.Denied files e = absurd (not_refused (last_access r.accesses) files e)
 success d r ends.BadProgram files e = absurd cc
@@ -195,10 +195,10 @@ run_fits d r files permitted s =
     (all_true (may_make d.process) (paths_of (with_console d.process.console r.writes r.console))
     (λ q h. made_with d d.process.console r.writes r.console q refl (λ p k. permitted_at (described d) r.writes p permitted k) h)))
 
-pub files_fit : (f : Facts) → Sound f → IsGood f → fits f.desc.process (output_paths (output_lines (made_of f.outcome))) ≡ true
+pub files_fit : (f : Facts) → Sound f → IsGood f → fits f.desc.process (output_paths (output_lines (outcome_files f.outcome))) ≡ true
 files_fit f sound good =
     let a = answered f.paths f.answers in
     let r : Run = run_for f.desc a in
-    let lawful : Holds (described f.desc) a r = holds (described f.desc) a in
-    subst (λ (ps : List Atoms). fits f.desc.process ps ≡ true) (sym (paths_lines (made_of f.outcome)))
-    (run_fits f.desc r (made_of f.outcome) lawful.permitted (success (described f.desc) r r.end (made_of f.outcome) (sound.run.outcome ∙ good)))
+    let lawful : RunInvariant (described f.desc) a r = holds (described f.desc) a in
+    subst (λ (ps : List Atoms). fits f.desc.process ps ≡ true) (sym (paths_lines (outcome_files f.outcome)))
+    (run_fits f.desc r (outcome_files f.outcome) lawful.permitted (success (described f.desc) r r.end (outcome_files f.outcome) (sound.run.outcome ∙ good)))

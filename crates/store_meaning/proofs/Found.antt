@@ -22,15 +22,15 @@ use Rattle.prints.specs.Weak.{weak_text}
 use Rattle.prints.specs.declared.strong_parts.StrongParts.{StrongParts}
 use Rattle.prints.proofs.StrongTexts.{strong_again}
 use Rattle.bx_digest.specs.Digests.{IsDigest}
-use Rattle.memo_format.specs.Well.{HoldsBlob}
+use Rattle.memo_format.specs.StoreNames.{HoldsBlob}
 use Rattle.memo_format.specs.declared.selector.Selector.{Selector}
 use Rattle.record_match.proofs.Digest.{is_digest}
-use Rattle.record_match.specs.Apart.{Apart, contents_of}
+use Rattle.record_match.specs.Collisions.{NoCollision, contents_of}
 use Rattle.record_match.specs.Digests.{IsReadBack, weak_of}
 use Rattle.store_meaning.specs.Contents.{HoldsAll, desc_contents, given_contents}
 use Rattle.store_meaning.specs.Honest.{Honest, HonestEntry, IsGoodRun}
-use Rattle.store_meaning.specs.Met.{RunMet}
-use Rattle.store_meaning.specs.Met as met
+use Rattle.store_meaning.specs.Compared.{ComparedInRun}
+use Rattle.store_meaning.specs.Compared as met
 use Rattle.store_meaning.specs.Usable.{UsableBy, asked_text}
 use Rattle.store_meaning.proofs.Same.{all_has, all_map, lines_are, same_answers, same_described, same_files}
 
@@ -48,9 +48,9 @@ run_on_view d see asks files run =
       outcome = ap (outcome_of d) same ∙ run.outcome;
     }
 
-module _ (S : Holdings) (d : Desc) (see : Ask → Answer) (honest : Honest S) (spells : IsReadBack d) (apart : Apart (RunMet S d see)) where
+module _ (S : Holdings) (d : Desc) (see : Ask → Answer) (honest : Honest S) (spells : IsReadBack d) (apart : NoCollision (ComparedInRun S d see)) where
   abbrev M : List ℕ → Type 0
-  M = RunMet S d see
+  M = ComparedInRun S d see
 
   held : (xs : List (List ℕ)) → HoldsAll S xs → AllByRecursion M xs
   held xs h = all_map (HoldsBlob S) M xs (λ x k. met.stored k) h

@@ -8,7 +8,7 @@ use Rattle.std.specs.Cmp.Lexicographic.{slice_cmp, nat_list_cmp_total}
 use Rattle.std.proofs.lemmas.Cmp.{eq_by_cmp_equiv}
 use Rattle.sha2.specs.Sha256.{sha256}
 use Rattle.observed.specs.Texts.{paths_text}
-use Rattle.bx_io.specs.Holdings.{Change, Holdings, IsPrefix, after}
+use Rattle.bx_io.specs.Holdings.{Change, Holdings, IsPrefix, holdings_after}
 use Rattle.bx_io.proofs.Changes.{after-append}
 use Rattle.run_record.specs.Facts.{Facts, Sound}
 use Rattle.prints.specs.Processes.{weak_parts}
@@ -17,16 +17,16 @@ use Rattle.prints.specs.Weak.{weak_text}
 use Rattle.prints.proofs.StrongTexts.{strong_again}
 use Rattle.memo_format.specs.Entries.{entry_text, read_entry_text}
 use Rattle.memo_format.specs.Selectors.{selectors_text}
-use Rattle.memo_format.specs.Well.{HoldsBlob, HoldsEntry, at_blob, at_entry, at_list}
+use Rattle.memo_format.specs.StoreNames.{HoldsBlob, HoldsEntry, at_blob, at_entry, at_list}
 use Rattle.memo_format.specs.declared.entry.Entry.{Entry}
 use Rattle.memo_format.specs.declared.selector.Selector.{Selector}
 use Rattle.content_store.specs.Contents.{IsContent, blob_put}
 use Rattle.record_match.proofs.Digest.{is_digest}
-use Rattle.record_match.specs.Apart.{Apart, contents_of}
+use Rattle.record_match.specs.Collisions.{NoCollision, contents_of}
 use Rattle.record_match.specs.Digests.{weak_of}
 use Rattle.store_meaning.specs.Contents.{HoldsAll, desc_contents, given_contents}
 use Rattle.store_meaning.specs.Honest.{Honest, HonestEntry}
-use Rattle.store_meaning.specs.Keeping.{IsGood, KeepMet, Spelled, answers_text, blobs_of, entry_of, entry_put, list_put, made_of, paths_digest, puts_of}
+use Rattle.store_meaning.specs.Keeping.{ComparedInSave, IsGood, Spelled, answers_text, blobs_of, entry_put, list_put, outcome_files, paths_digest, puts_of, record_entry}
 use Rattle.store_meaning.proofs.Digests.{blob_no_entry, blob_no_list, entry_no_blob, entry_no_list, same_blob_name}
 use Rattle.store_meaning.proofs.Same.{all_has, all_left, all_map, all_right, lines_are}
 
@@ -98,7 +98,7 @@ still_honest S T grows e h = record {
 
 -- ## Puts of contents
 
-module _ (M : List ℕ → Type 0) (apart : Apart M) where
+module _ (M : List ℕ → Type 0) (apart : NoCollision M) where
   abbrev Within : Holdings → Type 0
   Within S = (x : List ℕ) → HoldsBlob S x → M x
 
@@ -123,21 +123,21 @@ module _ (M : List ℕ → Type 0) (apart : Apart M) where
   blob_honest S honest within x m e h =
       still_honest S (insert S (at_blob (sha256 x)) x) (blob_grows S within x m) e (honest e (no_entry_put S x e h))
 
-  pub blobs_grow : (xs : List (List ℕ)) → AllByRecursion M xs → (S : Holdings) → Within S → Grows S (after S (map blob_put xs))
+  pub blobs_grow : (xs : List (List ℕ)) → AllByRecursion M xs → (S : Holdings) → Within S → Grows S (holdings_after S (map blob_put xs))
   blobs_grow [] m S within y h = h
   blobs_grow (x ∷ xs) m S within y h =
       blobs_grow xs m.1 (insert S (at_blob (sha256 x)) x) (blob_within S within x m.0) y (blob_grows S within x m.0 y h)
 
-  pub blobs_within : (xs : List (List ℕ)) → AllByRecursion M xs → (S : Holdings) → Within S → Within (after S (map blob_put xs))
+  pub blobs_within : (xs : List (List ℕ)) → AllByRecursion M xs → (S : Holdings) → Within S → Within (holdings_after S (map blob_put xs))
   blobs_within [] m S within = within
   blobs_within (x ∷ xs) m S within = blobs_within xs m.1 (insert S (at_blob (sha256 x)) x) (blob_within S within x m.0)
 
-  pub blobs_honest : (xs : List (List ℕ)) → AllByRecursion M xs → (S : Holdings) → Honest S → Within S → Honest (after S (map blob_put xs))
+  pub blobs_honest : (xs : List (List ℕ)) → AllByRecursion M xs → (S : Holdings) → Honest S → Within S → Honest (holdings_after S (map blob_put xs))
   blobs_honest [] m S honest within = honest
   blobs_honest (x ∷ xs) m S honest within =
       blobs_honest xs m.1 (insert S (at_blob (sha256 x)) x) (blob_honest S honest within x m.0) (blob_within S within x m.0)
 
-  pub blobs_held : (xs : List (List ℕ)) → AllByRecursion M xs → (S : Holdings) → Within S → HoldsAll (after S (map blob_put xs)) xs
+  pub blobs_held : (xs : List (List ℕ)) → AllByRecursion M xs → (S : Holdings) → Within S → HoldsAll (holdings_after S (map blob_put xs)) xs
   blobs_held [] m S within = tt
   blobs_held (x ∷ xs) m S within = (
     blobs_grow xs m.1 (insert S (at_blob (sha256 x)) x) (blob_within S within x m.0) x (there_now S (at_blob (sha256 x)) x),
@@ -147,15 +147,15 @@ module _ (M : List ℕ → Type 0) (apart : Apart M) where
 -- ## The entry
 
 -- the entry of a record whose texts and contents are held is honest
-pub made_honest : (T : Holdings) (f : Facts) → Sound f → IsGood f → Spelled f → HoldsAll T (blobs_of f) → HonestEntry T (entry_of f)
+pub made_honest : (T : Holdings) (f : Facts) → Sound f → IsGood f → Spelled f → HoldsAll T (blobs_of f) → HonestEntry T (record_entry f)
 made_honest T f sound good spelled h =
     let rest = h.1.1.1 in
-    let later = all_right (HoldsBlob T) (desc_contents f.desc) (given_contents f.answers ++ contents_of (made_of f.outcome)) rest in
+    let later = all_right (HoldsBlob T) (desc_contents f.desc) (given_contents f.answers ++ contents_of (outcome_files f.outcome)) rest in
     record {
       desc = f.desc;
       asks = f.paths;
       given = f.answers;
-      files = made_of f.outcome;
+      files = outcome_files f.outcome;
       weak = (weak_text (weak_parts f.desc), record { held = h.0; digest_is = refl }, spelled.weak);
       paths = (paths_text f.paths, record { held = h.1.0; digest_is = refl }, spelled.paths);
       strong = (
@@ -168,9 +168,9 @@ made_honest T f sound good spelled h =
         }),
       );
       one_each = sound.number;
-      declared = all_left (HoldsBlob T) (desc_contents f.desc) (given_contents f.answers ++ contents_of (made_of f.outcome)) rest;
-      answers = all_left (HoldsBlob T) (given_contents f.answers) (contents_of (made_of f.outcome)) later;
-      made = all_right (HoldsBlob T) (given_contents f.answers) (contents_of (made_of f.outcome)) later;
+      declared = all_left (HoldsBlob T) (desc_contents f.desc) (given_contents f.answers ++ contents_of (outcome_files f.outcome)) rest;
+      answers = all_left (HoldsBlob T) (given_contents f.answers) (contents_of (outcome_files f.outcome)) later;
+      made = all_right (HoldsBlob T) (given_contents f.answers) (contents_of (outcome_files f.outcome)) later;
       outputs = refl;
       run = record { paths_are = sound.run.paths; outcome = sound.run.outcome ∙ good };
     }
@@ -179,17 +179,17 @@ pub entry_grows : (S : Holdings) (strong bytes : List ℕ) → Grows S (insert S
 entry_grows S strong bytes y h =
     still_there S (at_entry strong) bytes (at_blob (sha256 y)) y (λ e. absurd (blob_no_entry (sha256 y) strong e)) h
 
-pub entry_honest : (T : Holdings) (f : Facts) → Honest T → Spelled f → HonestEntry T (entry_of f)
-    → Honest (insert T (at_entry (sha256 (answers_text f))) (entry_text (entry_of f)))
-entry_honest T f honest spelled made e h = elim (put_or_old T (at_entry (sha256 (answers_text f))) (entry_text (entry_of f)) (at_entry e.strong) h.0 h.1) [
+pub entry_honest : (T : Holdings) (f : Facts) → Honest T → Spelled f → HonestEntry T (record_entry f)
+    → Honest (insert T (at_entry (sha256 (answers_text f))) (entry_text (record_entry f)))
+entry_honest T f honest spelled made e h = elim (put_or_old T (at_entry (sha256 (answers_text f))) (entry_text (record_entry f)) (at_entry e.strong) h.0 h.1) [
   | inl k ↦
-      let same : entry_of f ≡ e = same_some (entry_of f) e (sym spelled.entry ∙ ap read_entry_text k.1 ∙ h.2) in
-      subst (λ (x : Entry). HonestEntry (insert T (at_entry (sha256 (answers_text f))) (entry_text (entry_of f))) x) same
-      (still_honest T (insert T (at_entry (sha256 (answers_text f))) (entry_text (entry_of f)))
-      (entry_grows T (sha256 (answers_text f)) (entry_text (entry_of f))) (entry_of f) made)
+      let same : record_entry f ≡ e = same_some (record_entry f) e (sym spelled.entry ∙ ap read_entry_text k.1 ∙ h.2) in
+      subst (λ (x : Entry). HonestEntry (insert T (at_entry (sha256 (answers_text f))) (entry_text (record_entry f))) x) same
+      (still_honest T (insert T (at_entry (sha256 (answers_text f))) (entry_text (record_entry f)))
+      (entry_grows T (sha256 (answers_text f)) (entry_text (record_entry f))) (record_entry f) made)
   | inr k ↦
-      still_honest T (insert T (at_entry (sha256 (answers_text f))) (entry_text (entry_of f)))
-      (entry_grows T (sha256 (answers_text f)) (entry_text (entry_of f))) e (honest e (h.0, k, h.2))
+      still_honest T (insert T (at_entry (sha256 (answers_text f))) (entry_text (record_entry f)))
+      (entry_grows T (sha256 (answers_text f)) (entry_text (record_entry f))) e (honest e (h.0, k, h.2))
 ]
 
 -- ## The list
@@ -223,36 +223,36 @@ cut (x ∷ xs) tail (c ∷ made) p =
     ]
 
 -- the entry and the list are put after all contents
-after_tail : (T : Holdings) (f : Facts) (list : List Selector) → Honest T → Spelled f → HonestEntry T (entry_of f)
-    → (made : List Change) → IsPrefix made (entry_put f ∷ list_put f list ∷ []) → Honest (after T made)
+after_tail : (T : Holdings) (f : Facts) (list : List Selector) → Honest T → Spelled f → HonestEntry T (record_entry f)
+    → (made : List Change) → IsPrefix made (entry_put f ∷ list_put f list ∷ []) → Honest (holdings_after T made)
 after_tail T f list honest spelled entry [] p = honest
 after_tail T f list honest spelled entry (a ∷ []) p =
     let joined : a ∷ p.rest ≡ entry_put f ∷ list_put f list ∷ [] = p.joined in
     let here : entry_put f ≡ a = cc in
-    subst (λ (c : Change). Honest (after T (c ∷ []))) here (entry_honest T f honest spelled entry)
+    subst (λ (c : Change). Honest (holdings_after T (c ∷ []))) here (entry_honest T f honest spelled entry)
 after_tail T f list honest spelled entry (a ∷ b ∷ []) p =
     let joined : a ∷ b ∷ p.rest ≡ entry_put f ∷ list_put f list ∷ [] = p.joined in
     let here : entry_put f ≡ a = cc in
     let next : list_put f list ≡ b = cc in
-    subst (λ (c : Change). Honest (after T (c ∷ b ∷ []))) here
-    (subst (λ (c : Change). Honest (after T (entry_put f ∷ c ∷ []))) next
-    (list_honest (insert T (at_entry (sha256 (answers_text f))) (entry_text (entry_of f))) (weak_of f.desc) (selectors_text list) (entry_honest T f honest spelled entry)))
+    subst (λ (c : Change). Honest (holdings_after T (c ∷ b ∷ []))) here
+    (subst (λ (c : Change). Honest (holdings_after T (entry_put f ∷ c ∷ []))) next
+    (list_honest (insert T (at_entry (sha256 (answers_text f))) (entry_text (record_entry f))) (weak_of f.desc) (selectors_text list) (entry_honest T f honest spelled entry)))
 after_tail T f list honest spelled entry (a ∷ b ∷ c ∷ more) p =
     let joined : a ∷ b ∷ c ∷ (more ++ p.rest) ≡ entry_put f ∷ list_put f list ∷ [] = p.joined in absurd cc
 
-pub keeps : (S : Holdings) (f : Facts) → Honest S → Sound f → IsGood f → Spelled f → Apart (KeepMet S f)
-    → (list : List Selector) (made : List Change) → IsPrefix made (puts_of f list) → Honest (after S made)
+pub keeps : (S : Holdings) (f : Facts) → Honest S → Sound f → IsGood f → Spelled f → NoCollision (ComparedInSave S f)
+    → (list : List Selector) (made : List Change) → IsPrefix made (puts_of f list) → Honest (holdings_after S made)
 keeps S f honest sound good spelled apart list made p =
-    let M : List ℕ → Type 0 = KeepMet S f in
+    let M : List ℕ → Type 0 = ComparedInSave S f in
     let within : (x : List ℕ) → HoldsBlob S x → M x = λ x h. inl h in
     let met : AllByRecursion M (blobs_of f) = all_has M (blobs_of f) (λ x h. inr h) in
     elim (cut (blobs_of f) (entry_put f ∷ list_put f list ∷ []) made p) [
       | inl h ↦
-          subst (λ (cs : List Change). Honest (after S cs)) (sym h.3)
+          subst (λ (cs : List Change). Honest (holdings_after S cs)) (sym h.3)
           (blobs_honest M apart h.0 (all_left M h.0 h.1 (subst (AllByRecursion M) (sym h.2) met)) S honest within)
       | inr h ↦
-          let T : Holdings = after S (map blob_put (blobs_of f)) in
-          subst (λ (cs : List Change). Honest (after S cs)) (sym h.1)
+          let T : Holdings = holdings_after S (map blob_put (blobs_of f)) in
+          subst (λ (cs : List Change). Honest (holdings_after S cs)) (sym h.1)
           (subst Honest (sym (after-append S (map blob_put (blobs_of f)) h.0))
           (after_tail T f list (blobs_honest M apart (blobs_of f) met S honest within) spelled
           (made_honest T f sound good spelled (blobs_held M apart (blobs_of f) met S within)) h.0 h.2))

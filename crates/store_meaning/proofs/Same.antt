@@ -18,7 +18,7 @@ use Rattle.prints.specs.declared.weak_parts.WeakParts.{WeakParts}
 use Rattle.memo_format.specs.Found.{output_lines}
 use Rattle.memo_format.specs.declared.entry.OutputLine.{OutputLine}
 use Rattle.record_match.proofs.Digest.{is_digest}
-use Rattle.record_match.specs.Apart.{Apart, contents_of}
+use Rattle.record_match.specs.Collisions.{NoCollision, contents_of}
 use Rattle.store_meaning.specs.Contents.{answer_contents, desc_contents, given_contents}
 
 -- ## Lists
@@ -66,7 +66,7 @@ lines_are (a ∷ rest) = (line_is a, lines_are rest)
 
 -- ## What is met
 
-module _ (M : List ℕ → Type 0) (apart : Apart M) where
+module _ (M : List ℕ → Type 0) (apart : NoCollision M) where
   same_answer : (a b : Answer) → line_of a ≡ line_of b → AllByRecursion M (answer_contents a) → AllByRecursion M (answer_contents b) → a ≡ b
   same_answer answers.Absent answers.Absent e h k = refl
   same_answer (answers.Content x) (answers.Content y) e h k = ap answers.Content (apart x y h.0 k.0 (cc))

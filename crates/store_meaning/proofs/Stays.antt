@@ -9,7 +9,7 @@ use Rattle.observed.specs.Members.{Has}
 use Rattle.observed.specs.Texts.{paths_text}
 use Rattle.observed.specs.declared.ask.Ask.{Ask}
 use Rattle.observed.specs.declared.access.Answer.{Answer}
-use Rattle.bx_io.specs.Holdings.{Holdings, after}
+use Rattle.bx_io.specs.Holdings.{Holdings, holdings_after}
 use Rattle.bx_io.proofs.Changes.{after-append}
 use Rattle.run_record.specs.Facts.{Facts}
 use Rattle.prints.specs.Processes.{weak_parts}
@@ -19,13 +19,13 @@ use Rattle.prints.specs.declared.strong_parts.StrongParts.{StrongParts}
 use Rattle.prints.proofs.StrongTexts.{strong_again}
 use Rattle.memo_format.specs.Entries.{entry_text}
 use Rattle.memo_format.specs.Selectors.{selectors_text}
-use Rattle.memo_format.specs.Well.{HoldsBlob, HoldsList, at_blob, at_entry, at_list}
+use Rattle.memo_format.specs.StoreNames.{HoldsBlob, HoldsList, at_blob, at_entry, at_list}
 use Rattle.memo_format.specs.declared.selector.Selector.{Selector}
 use Rattle.content_store.specs.Contents.{blob_put}
 use Rattle.record_match.proofs.Digest.{is_digest}
-use Rattle.record_match.specs.Apart.{Apart, contents_of}
+use Rattle.record_match.specs.Collisions.{NoCollision, contents_of}
 use Rattle.record_match.specs.Digests.{weak_of}
-use Rattle.store_meaning.specs.Keeping.{StayMet, answers_text, blobs_of, entry_of, entry_put, list_put, paths_digest, puts_of}
+use Rattle.store_meaning.specs.Keeping.{ComparedInStay, answers_text, blobs_of, entry_put, list_put, paths_digest, puts_of, record_entry}
 use Rattle.store_meaning.specs.Usable.{AnyUsable, Usable, UsableAt, UsableBy, asked_text}
 use Rattle.store_meaning.proofs.Digests.{entry_no_blob, entry_no_list, list_no_blob, list_no_entry, same_entry_name, same_list_name}
 use Rattle.store_meaning.proofs.Puts.{Grows, blobs_grow, entry_grows, list_grows, still_there}
@@ -36,7 +36,7 @@ same_some x y e = cc
 
 -- puts of contents leave the lists and entries
 blobs_leave : (xs : List (List ℕ)) (S : Holdings) (q bytes : List ℕ) → ((digest : List ℕ) → q ≡ at_blob digest → ⊥) → get S q ≡ Some bytes
-    → get (after S (map blob_put xs)) q ≡ Some bytes
+    → get (holdings_after S (map blob_put xs)) q ≡ Some bytes
 blobs_leave [] S q bytes none h = h
 blobs_leave (x ∷ xs) S q bytes none h =
     blobs_leave xs (insert S (at_blob (sha256 x)) x) q bytes none (still_there S (at_blob (sha256 x)) x q bytes (λ e. absurd (none (sha256 x) e)) h)
@@ -55,15 +55,15 @@ one_weak d e p q as' bs hp hq same =
 
 module _ (S : Holdings) (f : Facts) (list : List Selector) where
   abbrev with_blobs : Holdings
-  with_blobs = after S (map blob_put (blobs_of f))
+  with_blobs = holdings_after S (map blob_put (blobs_of f))
 
   abbrev with_entry : Holdings
-  with_entry = insert with_blobs (at_entry (sha256 (answers_text f))) (entry_text (entry_of f))
+  with_entry = insert with_blobs (at_entry (sha256 (answers_text f))) (entry_text (record_entry f))
 
   abbrev whole : Holdings
   whole = insert with_entry (at_list (weak_of f.desc)) (selectors_text list)
 
-  is_whole : after S (puts_of f list) ≡ whole
+  is_whole : holdings_after S (puts_of f list) ≡ whole
   is_whole = after-append S (map blob_put (blobs_of f)) (entry_put f ∷ list_put f list ∷ [])
 
   -- the list of another process
@@ -72,7 +72,7 @@ module _ (S : Holdings) (f : Facts) (list : List Selector) where
   list_stays d bytes others h =
       still_there with_entry (at_list (weak_of f.desc)) (selectors_text list) (at_list (weak_of d)) bytes
       (λ e. absurd (others (sym (same_list_name (weak_of d) (weak_of f.desc) (is_digest (weak_text (weak_parts d))) (is_digest (weak_text (weak_parts f.desc))) e))))
-      (still_there with_blobs (at_entry (sha256 (answers_text f))) (entry_text (entry_of f)) (at_list (weak_of d)) bytes
+      (still_there with_blobs (at_entry (sha256 (answers_text f))) (entry_text (record_entry f)) (at_list (weak_of d)) bytes
       (λ e. absurd (list_no_entry (weak_of d) (sha256 (answers_text f)) e))
       (blobs_leave (blobs_of f) S (at_list (weak_of d)) bytes (λ digest e. list_no_blob (weak_of d) digest e) h))
 
@@ -81,23 +81,23 @@ module _ (S : Holdings) (f : Facts) (list : List Selector) where
       → get whole (at_entry strong) ≡ Some bytes
   entry_stays strong bytes other is h =
       still_there with_entry (at_list (weak_of f.desc)) (selectors_text list) (at_entry strong) bytes (λ e. absurd (entry_no_list strong (weak_of f.desc) e))
-      (still_there with_blobs (at_entry (sha256 (answers_text f))) (entry_text (entry_of f)) (at_entry strong) bytes
+      (still_there with_blobs (at_entry (sha256 (answers_text f))) (entry_text (record_entry f)) (at_entry strong) bytes
       (λ e. absurd (other (same_entry_name strong (sha256 (answers_text f)) is (is_digest (answers_text f)) e)))
       (blobs_leave (blobs_of f) S (at_entry strong) bytes (λ digest e. entry_no_blob strong digest e) h))
 
-  grows : (M : List ℕ → Type 0) → Apart M → ((x : List ℕ) → HoldsBlob S x → M x) → AllByRecursion M (blobs_of f) → Grows S whole
+  grows : (M : List ℕ → Type 0) → NoCollision M → ((x : List ℕ) → HoldsBlob S x → M x) → AllByRecursion M (blobs_of f) → Grows S whole
   grows M apart within met x h =
       list_grows with_entry (weak_of f.desc) (selectors_text list) x
-      (entry_grows with_blobs (sha256 (answers_text f)) (entry_text (entry_of f)) x (blobs_grow M apart (blobs_of f) met S within x h))
+      (entry_grows with_blobs (sha256 (answers_text f)) (entry_text (record_entry f)) x (blobs_grow M apart (blobs_of f) met S within x h))
 
 pub lists_stay : (S : Holdings) (f : Facts) (d : Desc) → (weak_of f.desc ≡ weak_of d → ⊥) → (list held : List Selector) → HoldsList S (weak_of d) held
-    → HoldsList (after S (puts_of f list)) (weak_of d) held
+    → HoldsList (holdings_after S (puts_of f list)) (weak_of d) held
 lists_stay S f d others list held h =
     subst (λ (T : Holdings). HoldsList T (weak_of d) held) (sym (is_whole S f list)) (h.0, list_stays S f list d h.0 others h.1, h.2)
 
 -- ## What is usable
 
-module _ (M : List ℕ → Type 0) (apart : Apart M) (S : Holdings) (within : (x : List ℕ) → HoldsBlob S x → M x)
+module _ (M : List ℕ → Type 0) (apart : NoCollision M) (S : Holdings) (within : (x : List ℕ) → HoldsBlob S x → M x)
     (f : Facts) (met : AllByRecursion M (blobs_of f)) (list : List Selector)
     (d : Desc) (see : Ask → Answer) (others : weak_of f.desc ≡ weak_of d → ⊥) where
   selector_stays : (s : Selector) (u : UsableBy S d see s) → M (asked_text d see s.paths u.asks)
@@ -129,7 +129,7 @@ module _ (M : List ℕ → Type 0) (apart : Apart M) (S : Holdings) (within : (x
       (now_usable, refl)
 
   pub stays : (s : Selector) (asks : List Ask) → M (asked_text d see s.paths asks) → UsableAt S d see s asks
-      → UsableAt (after S (puts_of f list)) d see s asks
+      → UsableAt (holdings_after S (puts_of f list)) d see s asks
   stays s asks now_met u =
       let kept = selector_stays s u.by (subst (λ (qs : List Ask). M (asked_text d see s.paths qs)) (sym u.asks_are) now_met) in
       subst (λ (T : Holdings). UsableAt T d see s asks) (sym (is_whole S f list)) (record {
@@ -140,10 +140,10 @@ module _ (M : List ℕ → Type 0) (apart : Apart M) (S : Holdings) (within : (x
         asks_are = kept.1 ∙ u.asks_are;
       })
 
-pub stays_met : (S : Holdings) (f : Facts) (d : Desc) (see : Ask → Answer) (s : Selector) (asks : List Ask) → Apart (StayMet S f d see s.paths asks)
-    → (weak_of f.desc ≡ weak_of d → ⊥) → (list : List Selector) → UsableAt S d see s asks → UsableAt (after S (puts_of f list)) d see s asks
+pub stays_met : (S : Holdings) (f : Facts) (d : Desc) (see : Ask → Answer) (s : Selector) (asks : List Ask) → NoCollision (ComparedInStay S f d see s.paths asks)
+    → (weak_of f.desc ≡ weak_of d → ⊥) → (list : List Selector) → UsableAt S d see s asks → UsableAt (holdings_after S (puts_of f list)) d see s asks
 stays_met S f d see s asks apart others list u =
-    let M : List ℕ → Type 0 = StayMet S f d see s.paths asks in
+    let M : List ℕ → Type 0 = ComparedInStay S f d see s.paths asks in
     stays M apart S (λ x h. inl (inl h)) f (all_has M (blobs_of f) (λ x h. inl (inr h))) list d see others s asks (inr refl) u
 
 -- ## One selector or any

@@ -11,8 +11,8 @@ use Rattle.prints.specs.ReadWeak.{read_weak_text}
 use Rattle.prints.specs.Strong.{read_strong_text}
 use Rattle.prints.specs.declared.strong_parts.StrongParts.{StrongParts}
 use Rattle.prints.specs.declared.weak_parts.WeakParts.{WeakParts}
-use Rattle.record_match.specs.Apart.{contents_of}
-use Rattle.memo_format.specs.Well.{HoldsBlob}
+use Rattle.record_match.specs.Collisions.{contents_of}
+use Rattle.memo_format.specs.StoreNames.{HoldsBlob}
 use Rattle.content_store.specs.Contents.{IsContent}
 
 -- ## Contents

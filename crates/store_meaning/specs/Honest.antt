@@ -14,10 +14,10 @@ use Rattle.run_record.specs.declared.outcome.Outcome.TheVariants.{Good}
 use Rattle.prints.specs.Processes.{weak_parts}
 use Rattle.prints.specs.Strong.{strong_parts}
 use Rattle.memo_format.specs.Found.{output_lines}
-use Rattle.memo_format.specs.Well.{HoldsEntry}
+use Rattle.memo_format.specs.StoreNames.{HoldsEntry}
 use Rattle.memo_format.specs.declared.entry.Entry.{Entry}
 use Rattle.store_meaning.specs.Contents.{HoldsAll, HoldsPaths, HoldsStrong, HoldsWeak}
-use Rattle.record_match.specs.Apart.{contents_of}
+use Rattle.record_match.specs.Collisions.{contents_of}
 use Rattle.store_meaning.specs.Contents.{desc_contents, given_contents}
 
 -- The run of a description over these answers has just this path set, and succeeds with these files.

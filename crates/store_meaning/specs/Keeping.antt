@@ -20,12 +20,12 @@ use Rattle.prints.specs.Weak.{weak_text}
 use Rattle.memo_format.specs.Entries.{entry_text, output_paths, read_entry_text}
 use Rattle.memo_format.specs.Found.{output_lines}
 use Rattle.memo_format.specs.Selectors.{read_selectors_text, selectors_text}
-use Rattle.memo_format.specs.Well.{HoldsBlob, at_entry, at_list}
+use Rattle.memo_format.specs.StoreNames.{HoldsBlob, at_entry, at_list}
 use Rattle.memo_format.specs.declared.entry.Entry.{Entry}
 use Rattle.memo_format.specs.declared.selector.Selector.{Selector}
 use Rattle.memo_format.specs.declared.selector.TheConstants.{MAX_SELECTORS}
 use Rattle.content_store.specs.Contents.{blob_put}
-use Rattle.record_match.specs.Apart.{contents_of}
+use Rattle.record_match.specs.Collisions.{contents_of}
 use Rattle.record_match.specs.Digests.{IsReadBack, weak_of}
 use Rattle.store_meaning.specs.Contents.{desc_contents, given_contents}
 use Rattle.store_meaning.specs.Usable.{asked_text, fits}
@@ -33,18 +33,18 @@ use Rattle.store_meaning.specs.Usable.{asked_text, fits}
 -- ## Records of successes
 
 -- the files that were made, none where the run failed
-abbrev pub made_of : Outcome → Files
-made_of (Good files) = files
-made_of (Failed cause) = []
+abbrev pub outcome_files : Outcome → Files
+outcome_files (Good files) = files
+outcome_files (Failed cause) = []
 
 -- the record is of a success
 abbrev pub IsGood : Facts → Type 0
-IsGood f = f.outcome ≡ Good (made_of f.outcome)
+IsGood f = f.outcome ≡ Good (outcome_files f.outcome)
 
 -- The files of the record are what its process declares to make and may make, and none is below another.
 pub record FilesFit (f : Facts) : Type 0 where
-  pub fit : IsTrue (fits f.desc.process (output_paths (output_lines (made_of f.outcome))))
-  pub unnested : NoneNested (output_paths (output_lines (made_of f.outcome)))
+  pub fit : IsTrue (fits f.desc.process (output_paths (output_lines (outcome_files f.outcome))))
+  pub unnested : NoneNested (output_paths (output_lines (outcome_files f.outcome)))
 
 -- the digest of the path set's text
 abbrev pub paths_digest : Facts → List ℕ
@@ -54,21 +54,21 @@ paths_digest f = sha256 (paths_text f.paths)
 abbrev pub answers_text : Facts → List ℕ
 answers_text f = strong_text (strong_parts (weak_of f.desc) (paths_digest f) f.answers)
 
-abbrev pub selector_of : Facts → Selector
-selector_of f = record { paths = paths_digest f; strong = sha256 (answers_text f) }
+abbrev pub record_selector : Facts → Selector
+record_selector f = record { paths = paths_digest f; strong = sha256 (answers_text f) }
 
 abbrev pub entry_with : List ℕ → List ℕ → List ℕ → Files → Entry
 entry_with weak paths strong files =
     record { weak = weak; paths = paths; strong = strong; outputs = output_lines files }
 
-abbrev pub entry_of : Facts → Entry
-entry_of f = entry_with (weak_of f.desc) (paths_digest f) (sha256 (answers_text f)) (made_of f.outcome)
+abbrev pub record_entry : Facts → Entry
+record_entry f = entry_with (weak_of f.desc) (paths_digest f) (sha256 (answers_text f)) (outcome_files f.outcome)
 
 -- the three texts, and all contents that they and the entry name
 abbrev pub blobs_of : Facts → List (List ℕ)
 blobs_of f =
     weak_text (weak_parts f.desc) ∷ paths_text f.paths ∷ answers_text f
-    ∷ (desc_contents f.desc ++ (given_contents f.answers ++ contents_of (made_of f.outcome)))
+    ∷ (desc_contents f.desc ++ (given_contents f.answers ++ contents_of (outcome_files f.outcome)))
 
 -- ## Lists of selectors
 
@@ -94,7 +94,7 @@ list_at S weak = selectors_in (get S (at_list weak))
 -- ## Puts
 
 abbrev pub entry_put : Facts → Change
-entry_put f = Put (at_entry (sha256 (answers_text f))) (entry_text (entry_of f))
+entry_put f = Put (at_entry (sha256 (answers_text f))) (entry_text (record_entry f))
 
 abbrev pub list_put : Facts → List Selector → Change
 list_put f list = Put (at_list (weak_of f.desc)) (selectors_text list)
@@ -109,13 +109,13 @@ puts_of f list = map blob_put (blobs_of f) ++ (entry_put f ∷ list_put f list �
 pub record Spelled (f : Facts) : Type 0 where
   pub weak : IsReadBack f.desc
   pub paths : read_paths_text (paths_text f.paths) ≡ Some f.paths
-  pub entry : read_entry_text (entry_text (entry_of f)) ≡ Some (entry_of f)
+  pub entry : read_entry_text (entry_text (record_entry f)) ≡ Some (record_entry f)
 
 -- what is met where a record is put into a store: what the store holds under its own digest, and what is put
-abbrev pub KeepMet : Holdings → Facts → List ℕ → Type 0
-KeepMet S f x = HoldsBlob S x ⊎ Has (blobs_of f) x
+abbrev pub ComparedInSave : Holdings → Facts → List ℕ → Type 0
+ComparedInSave S f x = HoldsBlob S x ⊎ Has (blobs_of f) x
 
 -- what is met where a record is put into a store in which a selector with this path set is usable for a
 -- process
-abbrev pub StayMet : Holdings → Facts → Desc → (Ask → Answer) → List ℕ → List Ask → List ℕ → Type 0
-StayMet S f d see digest asks x = KeepMet S f x ⊎ (asked_text d see digest asks ≡ x)
+abbrev pub ComparedInStay : Holdings → Facts → Desc → (Ask → Answer) → List ℕ → List Ask → List ℕ → Type 0
+ComparedInStay S f d see digest asks x = ComparedInSave S f x ⊎ (asked_text d see digest asks ≡ x)

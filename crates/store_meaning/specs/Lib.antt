@@ -1,5 +1,5 @@
 pub mod Contents
 pub mod Honest
 pub mod Usable
-pub mod Met
+pub mod Compared
 pub mod Keeping

@@ -17,11 +17,11 @@ use Rattle.tool_run.specs.Description.{is_console}
 use Rattle.prints.specs.Strong.{strong_parts, strong_text}
 use Rattle.memo_format.specs.Entries.{output_paths}
 use Rattle.memo_format.specs.Found.{output_lines}
-use Rattle.memo_format.specs.Well.{HoldsList}
+use Rattle.memo_format.specs.StoreNames.{HoldsList}
 use Rattle.memo_format.specs.declared.entry.Entry.{Entry}
 use Rattle.memo_format.specs.declared.selector.Selector.{Selector}
 use Rattle.content_store.specs.HeldEntries.{IsHeld}
-use Rattle.record_match.specs.Apart.{contents_of}
+use Rattle.record_match.specs.Collisions.{contents_of}
 use Rattle.record_match.specs.Digests.{weak_of}
 use Rattle.store_meaning.specs.Contents.{HoldsAll, HoldsPaths}
 

@@ -7,12 +7,12 @@
 //! of line is read back as it was written, and that what is read was written so.
 #![tactic(auto)]
 
+mod cursor;
 mod fault;
 mod line;
 mod part;
-mod rest;
 
+pub use cursor::{Cursor, after_word, digest_of, path_of};
 pub use fault::TextFault;
 pub use line::{Line, append_lines, read_lines};
 pub use part::{append_counted, append_digest, append_number, append_path};
-pub use rest::{Rest, after_word, digest_of, path_of};

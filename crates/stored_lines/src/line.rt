@@ -6,7 +6,7 @@ ghost use Rattle.stored_lines.specs.Lines.{lines_at};
 ghost use Rattle.stored_lines.specs.Reading.{Taken, Takes, TakesItems};
 
 use crate::fault::TextFault;
-use crate::rest::Rest;
+use crate::cursor::Cursor;
 use std::alloc::{AllocError, Global};
 
 /// A kind of line, which is written of a `W` and read as an `R`.
@@ -32,18 +32,18 @@ pub trait Line<W, R> {
         ensures fits { OnOk result (Fits (says value.now)) };
 
     /// Whether a line of this kind comes next.
-    fn is_next(rest: &Rest) -> bool
-        ensures { result ≡ starts rest.now };
+    fn is_next(cursor: &Cursor) -> bool
+        ensures { result ≡ starts cursor.now };
 
     /// Reads a line.
-    fn read(alloc: Global, rest: &mut Rest) -> Result<R, TextFault>
-        ensures { Takes result rest.new (line_at rest.old) };
+    fn read(alloc: Global, cursor: &mut Cursor) -> Result<R, TextFault>
+        ensures { Takes result cursor.new (line_at cursor.old) };
 
     // A line is read back as it was written, whatever follows it, and no other text is read.
     ghost form: { IsForm Fits Anything line line_at };
 
     // A line is seen as one by its first word, and an empty text is none.
-    ghost seen: { (x : R) (rest : List ℕ) → starts (line x ++ rest) ≡ true };
+    ghost seen: { (x : R) (cursor : List ℕ) → starts (line x ++ cursor) ≡ true };
 
     ghost none: { starts [] ≡ false };
 }
@@ -66,13 +66,13 @@ pub fn append_lines<W, R, L: Line<W, R>>(
 /// Reads lines of one kind, as long as one comes next.
 pub fn read_lines<W, R: Drop, L: Line<W, R>>(
     alloc: Global,
-    rest: &mut Rest,
+    cursor: &mut Cursor,
 ) -> Result<Vec<R>, TextFault>
-    ensures { TakesItems result rest.new (lines_at L.starts L.line_at rest.old) }
+    ensures { TakesItems result cursor.new (lines_at L.starts L.line_at cursor.old) }
 {
     let mut lines = Vec::new(alloc);
-    'lines: while L::is_next(rest) {
-        lines.push(L::read(alloc, rest)?)?;
+    'lines: while L::is_next(cursor) {
+        lines.push(L::read(alloc, cursor)?)?;
     }
     Ok(lines)
 }

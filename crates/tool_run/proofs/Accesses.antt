@@ -25,16 +25,16 @@ use Rattle.pip_types.specs.Made.{RisingFiles}
 use Rattle.tool_text.specs.declared.tool.Operand.{Operand}
 use Rattle.tool_text.specs.declared.tool.Instr.{Instr}
 use Rattle.tool_text.specs.declared.tool.Instr.TheVariants as instrs
-use Rattle.tool_run.specs.declared.deed.Deed.{Deed}
-use Rattle.tool_run.specs.declared.deed.Deed.TheVariants as deeds
+use Rattle.tool_run.specs.declared.effect.Effect.{Effect}
+use Rattle.tool_run.specs.declared.effect.Effect.TheVariants as effects
 use Rattle.tool_run.specs.declared.limits.TheConstants.{MAX_REGISTER, MAX_OUTPUT}
 use Rattle.tool_run.specs.Description.{Description, answer_of, permits, resolved}
-use Rattle.tool_run.specs.Machine.{Machine, at_place, deed_of, fitting, fitting_two, next, start, written}
+use Rattle.tool_run.specs.Machine.{Machine, at_place, effect_of, fitting, fitting_two, next, start, written}
 use Rattle.tool_values.specs.Values.{number_of, split_parts, variable}
 use Rattle.own_writes.specs.Writes.{clashes, own_answer, own_file, has_below}
 use Rattle.own_writes.proofs.Unnested.{none_unnested, put_rising, put_unnested}
 use Rattle.tool_run.specs.Instructions.{act, list_with, look_up, looks, or_jump, probe_with, read_with, value, with_answer, with_number, writes_at}
-use Rattle.tool_run.specs.Laws.{EndsDenied, Holds, IsAnswered, IsDenied}
+use Rattle.tool_run.specs.Laws.{EndsDenied, IsAnswered, IsDenied, RunInvariant}
 use Rattle.tool_run.specs.Run.{Run, Turn, at_end_or, ended, onward, run_from, run_of, run_tool, turn, turned}
 
 -- ## One instruction
@@ -68,16 +68,16 @@ pub record Tells (m : Machine) (ask : Ask) (answer : Answer) (t : Machine × Opt
   pub writes : t.0.writes ≡ m.writes
   pub end : TellsDenied (Asked ask answer) t.1
 
-abbrev pub DeedFair : Instr → Machine → Deed → Type 0
-DeedFair i m deeds.Goes = Unit {0}
-DeedFair i m (deeds.Asks ask) = (answer : Answer) → Tells m ask answer (with_answer m i ask answer)
-DeedFair i m (deeds.Wrote path) = Unit {0}
-DeedFair i m (deeds.Refused path) = Unit {0}
-DeedFair i m (deeds.Stops end) = end ≢ ends.Denied
+abbrev pub EffectFair : Instr → Machine → Effect → Type 0
+EffectFair i m effects.Goes = Unit {0}
+EffectFair i m (effects.Asks ask) = (answer : Answer) → Tells m ask answer (with_answer m i ask answer)
+EffectFair i m (effects.Wrote path) = Unit {0}
+EffectFair i m (effects.Refused path) = Unit {0}
+EffectFair i m (effects.Stops end) = end ≢ ends.Denied
 
-pub record Fair (d : Description) (i : Instr) (t : Machine × Deed) : Type 0 where
+pub record Fair (d : Description) (i : Instr) (t : Machine × Effect) : Type 0 where
   pub writes : Lawful d t.0.writes
-  pub deed : DeedFair i t.0 t.1
+  pub effect : EffectFair i t.0 t.1
 
 plain_if : (m m' : Machine) (t : Bool) → m'.writes ≡ m.writes → Plain m (cond t (m, Some ends.TooLong) (m', None))
 plain_if m m' true same = record { writes = refl; end = λ (e : ends.TooLong ≡ ends.Denied). cc }
@@ -89,31 +89,31 @@ fitting_plain m r bytes = plain_if m _ (nat_lt MAX_REGISTER (length bytes)) refl
 two_plain : (m : Machine) (r s : ℕ) (xs ys : List ℕ) → Plain m (fitting_two m r s xs ys)
 two_plain m r s xs ys = plain_if m _ (nat_lt MAX_REGISTER (length xs) || nat_lt MAX_REGISTER (length ys)) refl
 
-deed_plain : (d : Description) (i : Instr) (m : Machine) (t : Machine × Option End) → Lawful d m.writes → Plain m t → Fair d i (deed_of t)
-deed_plain d i m (m', None) h p = record { writes = subst (Lawful d) (sym p.writes) h; deed = tt }
-deed_plain d i m (m', Some end) h p = record { writes = subst (Lawful d) (sym p.writes) h; deed = p.end }
+effect_plain : (d : Description) (i : Instr) (m : Machine) (t : Machine × Option End) → Lawful d m.writes → Plain m t → Fair d i (effect_of t)
+effect_plain d i m (m', None) h p = record { writes = subst (Lawful d) (sym p.writes) h; effect = tt }
+effect_plain d i m (m', Some end) h p = record { writes = subst (Lawful d) (sym p.writes) h; effect = p.end }
 
-stops_fair : (d : Description) (i : Instr) (m : Machine) (end : End) → Lawful d m.writes → end ≢ ends.Denied → Fair d i (m, deeds.Stops end)
-stops_fair d i m end h other = record { writes = h; deed = other }
+stops_fair : (d : Description) (i : Instr) (m : Machine) (end : End) → Lawful d m.writes → end ≢ ends.Denied → Fair d i (m, effects.Stops end)
+stops_fair d i m end h other = record { writes = h; effect = other }
 
-number_fair : (d : Description) (i : Instr) (m : Machine) (n : Option ℕ) (f : ℕ → Machine × Deed) → Lawful d m.writes → ((k : ℕ) → Fair d i (f k))
+number_fair : (d : Description) (i : Instr) (m : Machine) (n : Option ℕ) (f : ℕ → Machine × Effect) → Lawful d m.writes → ((k : ℕ) → Fair d i (f k))
     → Fair d i (with_number m n f)
 number_fair d i m None f h all = stops_fair d i m ends.BadProgram h (λ e. cc)
 number_fair d i m (Some k) f h all = all k
 
 jump_fair : (d : Description) (i : Instr) (m : Machine) (r label : ℕ) (o : Option (List ℕ)) → Lawful d m.writes → Fair d i (or_jump m r label o)
-jump_fair d i m r label None h = record { writes = h; deed = tt }
-jump_fair d i m r label (Some bytes) h = deed_plain d i m (fitting m r bytes) h (fitting_plain m r bytes)
+jump_fair d i m r label None h = record { writes = h; effect = tt }
+jump_fair d i m r label (Some bytes) h = effect_plain d i m (fitting m r bytes) h (fitting_plain m r bytes)
 
 said_fair : (d : Description) (i : Instr) (m m' : Machine) (t : Bool) → Lawful d m.writes → m'.writes ≡ m.writes
-    → Fair d i (cond t (m, deeds.Stops ends.TooLong) (m', deeds.Goes))
-said_fair d i m m' true h same = record { writes = h; deed = λ (e : ends.TooLong ≡ ends.Denied). cc }
-said_fair d i m m' false h same = record { writes = subst (Lawful d) (sym same) h; deed = tt }
+    → Fair d i (cond t (m, effects.Stops ends.TooLong) (m', effects.Goes))
+said_fair d i m m' true h same = record { writes = h; effect = λ (e : ends.TooLong ≡ ends.Denied). cc }
+said_fair d i m m' false h same = record { writes = subst (Lawful d) (sym same) h; effect = tt }
 
 eq_fair : (d : Description) (i : Instr) (m a b : Machine) (t : Bool) → Lawful d m.writes → a.writes ≡ m.writes → b.writes ≡ m.writes
-    → Fair d i (cond t a b, deeds.Goes)
-eq_fair d i m a b true h same other = record { writes = subst (Lawful d) (sym same) h; deed = tt }
-eq_fair d i m a b false h same other = record { writes = subst (Lawful d) (sym other) h; deed = tt }
+    → Fair d i (cond t a b, effects.Goes)
+eq_fair d i m a b true h same other = record { writes = subst (Lawful d) (sym same) h; effect = tt }
+eq_fair d i m a b false h same other = record { writes = subst (Lawful d) (sym other) h; effect = tt }
 
 -- ## Looks
 
@@ -149,20 +149,20 @@ list_tells m r path answer = plain_tells m _ answer _ (fitting_plain m r _) (λ 
 -- what the run's own writes answer denies nothing
 read_fair : (d : Description) (m : Machine) (r label : ℕ) (x : Operand) (path : Atoms) (file : Option (List ℕ)) (below : Bool) → Lawful d m.writes
     → Fair d (instrs.Read r x label) (look_up m (instrs.Read r x label) (record { kind = kinds.Read; path = path }) (own_file kinds.Read file below))
-read_fair d m r label x path (Some bytes) below h = deed_plain d _ m _ h (fitting_plain m r bytes)
-read_fair d m r label x path None true h = deed_plain d _ m _ h (goes_plain m _ refl)
-read_fair d m r label x path None false h = record { writes = h; deed = read_tells m r label path }
+read_fair d m r label x path (Some bytes) below h = effect_plain d _ m _ h (fitting_plain m r bytes)
+read_fair d m r label x path None true h = effect_plain d _ m _ h (goes_plain m _ refl)
+read_fair d m r label x path None false h = record { writes = h; effect = read_tells m r label path }
 
 probe_fair : (d : Description) (m : Machine) (r : ℕ) (x : Operand) (path : Atoms) (file : Option (List ℕ)) (below : Bool) → Lawful d m.writes
     → Fair d (instrs.Probe r x) (look_up m (instrs.Probe r x) (record { kind = kinds.Probe; path = path }) (own_file kinds.Probe file below))
-probe_fair d m r x path (Some bytes) below h = deed_plain d _ m _ h (fitting_plain m r (codes "file"))
-probe_fair d m r x path None true h = deed_plain d _ m _ h (fitting_plain m r (codes "directory"))
-probe_fair d m r x path None false h = record { writes = h; deed = probe_tells m r path }
+probe_fair d m r x path (Some bytes) below h = effect_plain d _ m _ h (fitting_plain m r (codes "file"))
+probe_fair d m r x path None true h = effect_plain d _ m _ h (fitting_plain m r (codes "directory"))
+probe_fair d m r x path None false h = record { writes = h; effect = probe_tells m r path }
 
 list_fair : (d : Description) (m : Machine) (r : ℕ) (x : Operand) (path : Atoms) (file : Option (List ℕ)) (below : Bool) → Lawful d m.writes
     → Fair d (instrs.List r x) (look_up m (instrs.List r x) (record { kind = kinds.List; path = path }) (own_file kinds.List file below))
-list_fair d m r x path (Some bytes) below h = deed_plain d _ m _ h (fitting_plain m r _)
-list_fair d m r x path None below h = record { writes = h; deed = list_tells m r path }
+list_fair d m r x path (Some bytes) below h = effect_plain d _ m _ h (fitting_plain m r _)
+list_fair d m r x path None below h = record { writes = h; effect = list_tells m r path }
 
 looks_fair : (d : Description) (m : Machine) (i : Instr) (kind : AskKind) (o : Option Atoms) → Lawful d m.writes
     → ((path : Atoms) → Fair d i (look_up m i (record { kind = kind; path = path }) (own_answer m.writes (record { kind = kind; path = path }))))
@@ -195,37 +195,37 @@ write_fair : (d : Description) (i : Instr) (m : Machine) (bytes : List ℕ) (o :
 write_fair d i m bytes None h = stops_fair d i m ends.BadPath h (λ e. cc)
 write_fair d i m bytes (Some path) h = by_permit (permits d path) refl
   where
-    by_size : (t : Bool) (m' : Machine) → Lawful d m'.writes → Fair d i (cond t (m, deeds.Stops ends.TooLong) (m', deeds.Wrote path))
+    by_size : (t : Bool) (m' : Machine) → Lawful d m'.writes → Fair d i (cond t (m, effects.Stops ends.TooLong) (m', effects.Wrote path))
     by_size true m' more = stops_fair d i m ends.TooLong h (λ e. cc)
-    by_size false m' more = record { writes = more; deed = tt }
+    by_size false m' more = record { writes = more; effect = tt }
 
-    by_clash : (t : Bool) → permits d path ≡ true → clashes m.writes path ≡ t → Fair d i (cond t (m, deeds.Stops ends.NotADirectory) (written m path bytes))
+    by_clash : (t : Bool) → permits d path ≡ true → clashes m.writes path ≡ t → Fair d i (cond t (m, effects.Stops ends.NotADirectory) (written m path bytes))
     by_clash true may clash = stops_fair d i m ends.NotADirectory h (λ e. cc)
     by_clash false may apart = by_size (nat_lt MAX_OUTPUT (m.spent + length bytes)) _ (put_lawful d m.writes path bytes h may apart)
 
     by_permit : (t : Bool) → permits d path ≡ t
-        → Fair d i (cond t (cond (clashes m.writes path) (m, deeds.Stops ends.NotADirectory) (written m path bytes)) (m, deeds.Refused path))
+        → Fair d i (cond t (cond (clashes m.writes path) (m, effects.Stops ends.NotADirectory) (written m path bytes)) (m, effects.Refused path))
     by_permit true may = by_clash (clashes m.writes path) may refl
-    by_permit false may = record { writes = h; deed = tt }
+    by_permit false may = record { writes = h; effect = tt }
 
 pub act_fair : (d : Description) (m : Machine) (i : Instr) → Lawful d m.writes → Fair d i (act d m i)
-act_fair d m (instrs.Set r x) h = deed_plain d _ m _ h (fitting_plain m r (value m x))
-act_fair d m (instrs.Cat r x y) h = deed_plain d _ m _ h (fitting_plain m r (value m x ++ value m y))
-act_fair d m (instrs.Len r x) h = deed_plain d _ m _ h (fitting_plain m r (decimal (length (value m x))))
+act_fair d m (instrs.Set r x) h = effect_plain d _ m _ h (fitting_plain m r (value m x))
+act_fair d m (instrs.Cat r x y) h = effect_plain d _ m _ h (fitting_plain m r (value m x ++ value m y))
+act_fair d m (instrs.Len r x) h = effect_plain d _ m _ h (fitting_plain m r (decimal (length (value m x))))
 act_fair d m (instrs.Head r x n) h =
-    number_fair d _ m (number_of (value m n)) (λ k. deed_of (fitting m r (take k (value m x)))) h
-    (λ k. deed_plain d _ m _ h (fitting_plain m r (take k (value m x))))
+    number_fair d _ m (number_of (value m n)) (λ k. effect_of (fitting m r (take k (value m x)))) h
+    (λ k. effect_plain d _ m _ h (fitting_plain m r (take k (value m x))))
 act_fair d m (instrs.Tail r x n) h =
-    number_fair d _ m (number_of (value m n)) (λ k. deed_of (fitting m r (drop k (value m x)))) h
-    (λ k. deed_plain d _ m _ h (fitting_plain m r (drop k (value m x))))
+    number_fair d _ m (number_of (value m n)) (λ k. effect_of (fitting m r (drop k (value m x)))) h
+    (λ k. effect_plain d _ m _ h (fitting_plain m r (drop k (value m x))))
 act_fair d m (instrs.Split r s x y) h =
     let parts = split_parts (value m y) (value m x) in
-    deed_plain d _ m _ h (two_plain m r s parts.0 parts.1)
+    effect_plain d _ m _ h (two_plain m r s parts.0 parts.1)
 act_fair d m (instrs.Arg r n label) h = number_fair d _ m (number_of (value m n)) _ h (λ k. jump_fair d _ m r label (slice_get d.args k) h)
-act_fair d m (instrs.Args r) h = deed_plain d _ m _ h (fitting_plain m r (decimal (length d.args)))
+act_fair d m (instrs.Args r) h = effect_plain d _ m _ h (fitting_plain m r (decimal (length d.args)))
 act_fair d m (instrs.Env r x label) h = jump_fair d _ m r label (variable d.env (value m x)) h
 act_fair d m (instrs.Eq x y label) h = eq_fair d _ m (at_place m label) (next m) (bytes_eq (value m x) (value m y)) h refl refl
-act_fair d m (instrs.Jump label) h = record { writes = h; deed = tt }
+act_fair d m (instrs.Jump label) h = record { writes = h; effect = tt }
 act_fair d m (instrs.Exit n) h = stops_fair d _ m (ends.Exit n) h (λ e. cc)
 act_fair d m (instrs.Say x) h =
     said_fair d _ m
@@ -261,20 +261,20 @@ one_fair : (x : Access) (end : Option End) → TellsDenied x end → AreFair (x 
 one_fair x None h = (h, tt)
 one_fair x (Some end) h = (λ e. one_denied x (h.0 e), λ e. (h.1 e, tt))
 
-turned_fair : (d : Description) (a : Ask → Answer) (i : Instr) (m : Machine) (deed : Deed) → Fair d i (m, deed) → FairTurn d a (turned (answer_of d a) i (m, deed))
-turned_fair d a i m deeds.Goes h = record { answered = tt; accesses = tt; writes = h.writes }
-turned_fair d a i m (deeds.Asks ask) h =
+turned_fair : (d : Description) (a : Ask → Answer) (i : Instr) (m : Machine) (effect : Effect) → Fair d i (m, effect) → FairTurn d a (turned (answer_of d a) i (m, effect))
+turned_fair d a i m effects.Goes h = record { answered = tt; accesses = tt; writes = h.writes }
+turned_fair d a i m (effects.Asks ask) h =
     let answer = answer_of d a ask in
-    let tells = h.deed answer in
+    let tells = h.effect answer in
     record {
       answered = (refl, tt);
       accesses = one_fair (Asked ask answer) (with_answer m i ask answer).1 tells.end;
       writes = subst (Lawful d) (sym tells.writes) h.writes;
     }
-turned_fair d a i m (deeds.Wrote path) h = record { answered = (tt, tt); accesses = (λ (k : ⊥). k, tt); writes = h.writes }
-turned_fair d a i m (deeds.Refused path) h =
+turned_fair d a i m (effects.Wrote path) h = record { answered = (tt, tt); accesses = (λ (k : ⊥). k, tt); writes = h.writes }
+turned_fair d a i m (effects.Refused path) h =
     record { answered = (tt, tt); accesses = (λ e. one_denied (WriteDenied path) tt, λ e. absurd (e refl)); writes = h.writes }
-turned_fair d a i m (deeds.Stops end) h = record { answered = tt; accesses = (λ e. absurd (h.deed e), λ e. tt); writes = h.writes }
+turned_fair d a i m (effects.Stops end) h = record { answered = tt; accesses = (λ e. absurd (h.effect e), λ e. tt); writes = h.writes }
 
 turn_fair : (d : Description) (a : Ask → Answer) (m : Machine) (i : Instr) → Lawful d m.writes → FairTurn d a (turn d a m i)
 turn_fair d a m i h = turned_fair d a i (act d m i).0 (act d m i).1 (act_fair d m i h)
@@ -350,7 +350,7 @@ tool_holds : (d : Description) (a : Ask → Answer) (tool : Option (List Instr))
 tool_holds d a None = ended_holds d a d.budget start ends.BadProgram (start_lawful d) (λ e. cc)
 tool_holds d a (Some tool) = from_holds d a tool d.budget start (start_lawful d)
 
-pub holds : (d : Description) (a : Ask → Answer) → Holds d a (run_of d a)
+pub holds : (d : Description) (a : Ask → Answer) → RunInvariant d a (run_of d a)
 holds d a =
     let h = tool_holds d a d.tool in
     record {

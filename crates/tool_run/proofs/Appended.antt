@@ -6,8 +6,8 @@ use Rattle.observed.specs.declared.access.End.TheVariants as ends
 use Rattle.tool_text.specs.declared.tool.Operand.{Operand}
 use Rattle.tool_text.specs.declared.tool.Operand.TheVariants.{Register, Constant}
 use Rattle.tool_run.specs.declared.limits.TheConstants.{MAX_REGISTER}
-use Rattle.tool_run.specs.declared.deed.Deed.TheVariants as deeds
-use Rattle.tool_run.specs.Machine.{Machine, deed_of, fitting, with_register}
+use Rattle.tool_run.specs.declared.effect.Effect.TheVariants as effects
+use Rattle.tool_run.specs.Machine.{Machine, effect_of, fitting, with_register}
 use Rattle.tool_values.specs.Values.{value_of}
 
 set_twice : (xs : List (List ℕ)) (n : ℕ) (a b : List ℕ) → set (set xs n a) n b ≡ set xs n b
@@ -21,7 +21,7 @@ other_value registers r bytes (Register k) other = get_or-set_other registers r 
 other_value registers r bytes (Constant text) other = refl
 
 pub appended : (m : Machine) (r : ℕ) (bytes content empty : List ℕ) → content ≡ bytes → length bytes ≤ MAX_REGISTER
-    → (record m { place = m.place + 1; registers = set (set m.registers r empty) r content }, deeds.Goes) ≡ deed_of (fitting m r bytes)
+    → (record m { place = m.place + 1; registers = set (set m.registers r empty) r content }, effects.Goes) ≡ effect_of (fitting m r bytes)
 appended m r bytes content empty is short =
-    ap (λ rs. (record m { place = m.place + 1; registers = rs }, deeds.Goes)) (set_twice m.registers r empty content ∙ ap (set m.registers r) is)
-    ∙ ap (λ t. deed_of (cond t (m, Some ends.TooLong) (with_register m r bytes, None))) (sym (le-ltb MAX_REGISTER (length bytes) short))
+    ap (λ rs. (record m { place = m.place + 1; registers = rs }, effects.Goes)) (set_twice m.registers r empty content ∙ ap (set m.registers r) is)
+    ∙ ap (λ t. effect_of (cond t (m, Some ends.TooLong) (with_register m r bytes, None))) (sym (le-ltb MAX_REGISTER (length bytes) short))

@@ -9,13 +9,13 @@ use Rattle.observed.specs.declared.access.Answer.{Answer}
 use Rattle.observed.specs.declared.access.End.{End}
 use Rattle.observed.proofs.OneSet.{set_has}
 use Rattle.tool_text.specs.declared.tool.Instr.{Instr}
-use Rattle.tool_run.specs.declared.deed.Deed.{Deed}
-use Rattle.tool_run.specs.declared.deed.Deed.TheVariants as deeds
+use Rattle.tool_run.specs.declared.effect.Effect.{Effect}
+use Rattle.tool_run.specs.declared.effect.Effect.TheVariants as effects
 use Rattle.tool_run.specs.Description.{Description, answer_of, given, or_else}
 use Rattle.tool_run.specs.Machine.{Machine, start}
 use Rattle.tool_run.specs.Instructions.{act, with_answer}
 use Rattle.tool_run.specs.Laws.{Agree, DependsOnPathSet}
-use Rattle.tool_run.specs.Run.{Run, Turn, after, asked, asks_of, at_end_or, onward, run_from, run_of, run_tool, turn, turned, with_ask}
+use Rattle.tool_run.specs.Run.{Run, Turn, asked, asks_of, at_end_or, onward, run_after, run_from, run_of, run_tool, turn, turned, with_ask}
 
 with_more : (g : Option Answer) (a q : Ask) (bs : List Ask) → Has bs q → Has (with_ask g a bs) q
 with_more None a q bs h = inr h
@@ -43,13 +43,13 @@ answer_same : (g : Option Answer) (a b : Ask → Answer) (ask : Ask) → Agree a
 answer_same None a b ask agree = sym (agree ask (inl refl))
 answer_same (Some answer) a b ask agree = refl
 
-turned_same : (d : Description) (a b : Ask → Answer) (i : Instr) (m : Machine) (deed : Deed)
-    → Agree a b (asks_of d (turned (answer_of d a) i (m, deed)).accesses) → turned (answer_of d b) i (m, deed) ≡ turned (answer_of d a) i (m, deed)
-turned_same d a b i m deeds.Goes agree = refl
-turned_same d a b i m (deeds.Asks ask) agree = ap (λ answer. asked (with_answer m i ask answer) ask answer) (answer_same (given d ask) a b ask agree)
-turned_same d a b i m (deeds.Wrote p) agree = refl
-turned_same d a b i m (deeds.Refused p) agree = refl
-turned_same d a b i m (deeds.Stops end) agree = refl
+turned_same : (d : Description) (a b : Ask → Answer) (i : Instr) (m : Machine) (effect : Effect)
+    → Agree a b (asks_of d (turned (answer_of d a) i (m, effect)).accesses) → turned (answer_of d b) i (m, effect) ≡ turned (answer_of d a) i (m, effect)
+turned_same d a b i m effects.Goes agree = refl
+turned_same d a b i m (effects.Asks ask) agree = ap (λ answer. asked (with_answer m i ask answer) ask answer) (answer_same (given d ask) a b ask agree)
+turned_same d a b i m (effects.Wrote p) agree = refl
+turned_same d a b i m (effects.Refused p) agree = refl
+turned_same d a b i m (effects.Stops end) agree = refl
 
 turn_same : (d : Description) (a b : Ask → Answer) (m : Machine) (i : Instr)
     → Agree a b (asks_of d (turn d a m i).accesses) → turn d b m i ≡ turn d a m i
@@ -64,7 +64,7 @@ onward_agree d a b rest t (Some end) agree = λ q h. agree q (grows_left d t.acc
 onward_same : (d : Description) (a b : Ask → Answer) (rest other : Machine → Run) (t : Turn) (end : Option End)
     → ((m : Machine) → Agree a b (asks_of d (rest m).accesses) → other m ≡ rest m)
     → Agree a b (asks_of d (onward rest t end).accesses) → onward other t end ≡ onward rest t end
-onward_same d a b rest other t None same agree = ap (after t.accesses 1) (same t.machine (λ q h. agree q (grows_right d t.accesses (rest t.machine).accesses q h)))
+onward_same d a b rest other t None same agree = ap (run_after t.accesses 1) (same t.machine (λ q h. agree q (grows_right d t.accesses (rest t.machine).accesses q h)))
 onward_same d a b rest other t (Some end) same agree = refl
 
 step_same : (d : Description) (a b : Ask → Answer) (rest other : Machine → Run) (m : Machine) (i : Option Instr)

@@ -14,13 +14,13 @@ use Rattle.observed.specs.declared.access.End.TheVariants as ends
 use Rattle.tool_text.specs.declared.tool.Operand.{Operand}
 use Rattle.tool_text.specs.declared.tool.Instr.{Instr}
 use Rattle.tool_text.specs.declared.tool.Instr.TheVariants as instrs
-use Rattle.tool_run.specs.declared.deed.Deed.{Deed}
-use Rattle.tool_run.specs.declared.deed.Deed.TheVariants as deeds
+use Rattle.tool_run.specs.declared.effect.Effect.{Effect}
+use Rattle.tool_run.specs.declared.effect.Effect.TheVariants as effects
 use Rattle.tool_run.specs.Description.{Description, permits, resolved}
 use Rattle.tool_values.specs.Values.{number_of, split_parts, value_of, variable}
 use Rattle.own_writes.specs.Writes.{clashes, own_answer, own_names}
 use Rattle.tool_values.specs.Listings.{listed}
-use Rattle.tool_run.specs.Machine.{Machine, at_place, deed_of, fitting, fitting_two, next, said, written}
+use Rattle.tool_run.specs.Machine.{Machine, at_place, effect_of, fitting, fitting_two, next, said, written}
 
 abbrev pub value : Machine → Operand → List ℕ
 value m x = value_of m.registers x
@@ -28,14 +28,14 @@ value m x = value_of m.registers x
 -- ## Values
 
 -- what is done with a number, which a text may not be
-abbrev pub with_number : Machine → Option ℕ → (ℕ → Machine × Deed) → Machine × Deed
-with_number m None f = (m, deeds.Stops ends.BadProgram)
+abbrev pub with_number : Machine → Option ℕ → (ℕ → Machine × Effect) → Machine × Effect
+with_number m None f = (m, effects.Stops ends.BadProgram)
 with_number m (Some n) f = f n
 
 -- a register becomes a value that may be wanting; then the run jumps
-abbrev pub or_jump : Machine → ℕ → ℕ → Option (List ℕ) → Machine × Deed
-or_jump m r label None = (at_place m label, deeds.Goes)
-or_jump m r label (Some bytes) = deed_of (fitting m r bytes)
+abbrev pub or_jump : Machine → ℕ → ℕ → Option (List ℕ) → Machine × Effect
+or_jump m r label None = (at_place m label, effects.Goes)
+or_jump m r label (Some bytes) = effect_of (fitting m r bytes)
 
 -- ## Looking at the files
 
@@ -91,13 +91,13 @@ with_answer m (instrs.Say x) ask answer = (m, None)
 with_answer m (instrs.Write x y) ask answer = (m, None)
 
 -- the run's own writes answer, or the ask is put
-abbrev pub look_up : Machine → Instr → Ask → Option Answer → Machine × Deed
-look_up m i ask None = (m, deeds.Asks ask)
-look_up m i ask (Some answer) = deed_of (with_answer m i ask answer)
+abbrev pub look_up : Machine → Instr → Ask → Option Answer → Machine × Effect
+look_up m i ask None = (m, effects.Asks ask)
+look_up m i ask (Some answer) = effect_of (with_answer m i ask answer)
 
 -- an instruction looks at a path, which a text may not name
-abbrev pub looks : Machine → Instr → AskKind → Option Atoms → Machine × Deed
-looks m i kind None = (m, deeds.Stops ends.BadPath)
+abbrev pub looks : Machine → Instr → AskKind → Option Atoms → Machine × Effect
+looks m i kind None = (m, effects.Stops ends.BadPath)
 looks m i kind (Some path) =
     look_up m i (record { kind = kind; path = path })
     (own_answer m.writes (record { kind = kind; path = path }))
@@ -106,35 +106,35 @@ looks m i kind (Some path) =
 
 -- A write is refused where its path is none, is not permitted, or is a directory of a written file or lies
 -- below one, or where it does not fit, in this order.
-abbrev pub writes_at : Description → Machine → List ℕ → Option Atoms → Machine × Deed
-writes_at d m bytes None = (m, deeds.Stops ends.BadPath)
+abbrev pub writes_at : Description → Machine → List ℕ → Option Atoms → Machine × Effect
+writes_at d m bytes None = (m, effects.Stops ends.BadPath)
 writes_at d m bytes (Some path) =
     if permits d path
-    then (if clashes m.writes path then (m, deeds.Stops ends.NotADirectory) else written m path bytes)
-    else (m, deeds.Refused path)
+    then (if clashes m.writes path then (m, effects.Stops ends.NotADirectory) else written m path bytes)
+    else (m, effects.Refused path)
 
 -- ## All instructions
 
 -- an instruction, up to an ask
-abbrev pub act : Description → Machine → Instr → Machine × Deed
-act d m (instrs.Set r x) = deed_of (fitting m r (value m x))
-act d m (instrs.Cat r x y) = deed_of (fitting m r (value m x ++ value m y))
-act d m (instrs.Len r x) = deed_of (fitting m r (decimal (length (value m x))))
+abbrev pub act : Description → Machine → Instr → Machine × Effect
+act d m (instrs.Set r x) = effect_of (fitting m r (value m x))
+act d m (instrs.Cat r x y) = effect_of (fitting m r (value m x ++ value m y))
+act d m (instrs.Len r x) = effect_of (fitting m r (decimal (length (value m x))))
 act d m (instrs.Head r x n) =
-    with_number m (number_of (value m n)) (λ k. deed_of (fitting m r (take k (value m x))))
+    with_number m (number_of (value m n)) (λ k. effect_of (fitting m r (take k (value m x))))
 act d m (instrs.Tail r x n) =
-    with_number m (number_of (value m n)) (λ k. deed_of (fitting m r (drop k (value m x))))
+    with_number m (number_of (value m n)) (λ k. effect_of (fitting m r (drop k (value m x))))
 act d m (instrs.Split r s x y) =
-    deed_of (fitting_two m r s (split_parts (value m y) (value m x)).0
+    effect_of (fitting_two m r s (split_parts (value m y) (value m x)).0
     (split_parts (value m y) (value m x)).1)
 act d m (instrs.Arg r n label) =
     with_number m (number_of (value m n)) (λ k. or_jump m r label (slice_get d.args k))
-act d m (instrs.Args r) = deed_of (fitting m r (decimal (length d.args)))
+act d m (instrs.Args r) = effect_of (fitting m r (decimal (length d.args)))
 act d m (instrs.Env r x label) = or_jump m r label (variable d.env (value m x))
 act d m (instrs.Eq x y label) =
-    (if bytes_eq (value m x) (value m y) then at_place m label else next m, deeds.Goes)
-act d m (instrs.Jump label) = (at_place m label, deeds.Goes)
-act d m (instrs.Exit n) = (m, deeds.Stops (ends.Exit n))
+    (if bytes_eq (value m x) (value m y) then at_place m label else next m, effects.Goes)
+act d m (instrs.Jump label) = (at_place m label, effects.Goes)
+act d m (instrs.Exit n) = (m, effects.Stops (ends.Exit n))
 act d m (instrs.Say x) = said m (value m x)
 act d m (instrs.Read r x label) = looks m (instrs.Read r x label) kinds.Read (resolved d.dir (value m x))
 act d m (instrs.Probe r x) = looks m (instrs.Probe r x) kinds.Probe (resolved d.dir (value m x))

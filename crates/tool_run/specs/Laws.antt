@@ -46,7 +46,7 @@ pub record EndsDenied (accesses : List Access) : Type 0 where
 -- What holds of each run: its asks are answered; a denied access is the last and the only one, and is there
 -- exactly where the run ended so; it takes no more steps than it may; and the files that it wrote have
 -- permitted paths, which rise, and none lies below another.
-pub record Holds (d : Description) (a : Ask → Answer) (r : Run) : Type 0 where
+pub record RunInvariant (d : Description) (a : Ask → Answer) (r : Run) : Type 0 where
   pub answered : AllByRecursion (IsAnswered d a) r.accesses
   pub denied : r.end ≡ ends.Denied → EndsDenied r.accesses
   pub not_denied : r.end ≢ ends.Denied → AllByRecursion (λ x. ¬ IsDenied x) r.accesses

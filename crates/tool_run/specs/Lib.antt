@@ -6,5 +6,5 @@ pub mod Laws
 pub mod Described
 pub mod Contents
 pub mod States
-pub mod Deeds
+pub mod Effects
 pub mod Seen

@@ -7,8 +7,8 @@ use Rattle.observed.specs.declared.access.End.{End}
 use Rattle.observed.specs.declared.access.End.TheVariants as ends
 use Rattle.tool_text.specs.declared.limits.TheConstants.{REGISTERS}
 use Rattle.tool_run.specs.declared.limits.TheConstants.{MAX_REGISTER, MAX_OUTPUT}
-use Rattle.tool_run.specs.declared.deed.Deed.{Deed}
-use Rattle.tool_run.specs.declared.deed.Deed.TheVariants as deeds
+use Rattle.tool_run.specs.declared.effect.Effect.{Effect}
+use Rattle.tool_run.specs.declared.effect.Effect.TheVariants as effects
 use Rattle.own_writes.specs.Writes.{with_file}
 
 -- A machine: the place of its next instruction, its registers, the files that it wrote, in the order of
@@ -39,9 +39,9 @@ abbrev pub fitting : Machine → ℕ → List ℕ → Machine × Option End
 fitting m r bytes =
     if nat_lt MAX_REGISTER (length bytes) then (m, Some ends.TooLong) else (with_register m r bytes, None)
 
-abbrev pub deed_of : Machine × Option End → Machine × Deed
-deed_of (m, None) = (m, deeds.Goes)
-deed_of (m, Some end) = (m, deeds.Stops end)
+abbrev pub effect_of : Machine × Option End → Machine × Effect
+effect_of (m, None) = (m, effects.Goes)
+effect_of (m, Some end) = (m, effects.Stops end)
 
 -- two registers become these bytes, the second after the first, where each fits
 abbrev pub fitting_two : Machine → ℕ → ℕ → List ℕ → List ℕ → Machine × Option End
@@ -56,27 +56,27 @@ fitting_two m r s first second =
     )
 
 -- bytes and a newline are said, where they fit the limit of all output
-abbrev pub said : Machine → List ℕ → Machine × Deed
+abbrev pub said : Machine → List ℕ → Machine × Effect
 said m bytes =
-    if nat_lt MAX_OUTPUT (m.spent + length bytes + 1) then (m, deeds.Stops ends.TooLong)
+    if nat_lt MAX_OUTPUT (m.spent + length bytes + 1) then (m, effects.Stops ends.TooLong)
     else (
       record m {
         place = m.place + 1;
         console = m.console ++ bytes ++ codes "\n";
         spent = m.spent + length bytes + 1;
       },
-      deeds.Goes,
+      effects.Goes,
     )
 
 -- a file is written, where it fits the limit of all output
-abbrev pub written : Machine → Atoms → List ℕ → Machine × Deed
+abbrev pub written : Machine → Atoms → List ℕ → Machine × Effect
 written m path bytes =
-    if nat_lt MAX_OUTPUT (m.spent + length bytes) then (m, deeds.Stops ends.TooLong)
+    if nat_lt MAX_OUTPUT (m.spent + length bytes) then (m, effects.Stops ends.TooLong)
     else (
       record m {
         place = m.place + 1;
         writes = with_file m.writes path bytes;
         spent = m.spent + length bytes;
       },
-      deeds.Wrote path,
+      effects.Wrote path,
     )

@@ -9,8 +9,8 @@ use Rattle.observed.specs.declared.access.End.{End}
 use Rattle.observed.specs.declared.access.End.TheVariants as ends
 use Rattle.observed.specs.PathSets.{set_of}
 use Rattle.tool_text.specs.declared.tool.Instr.{Instr}
-use Rattle.tool_run.specs.declared.deed.Deed.{Deed}
-use Rattle.tool_run.specs.declared.deed.Deed.TheVariants as deeds
+use Rattle.tool_run.specs.declared.effect.Effect.{Effect}
+use Rattle.tool_run.specs.declared.effect.Effect.TheVariants as effects
 use Rattle.tool_run.specs.Description.{Description, answer_of, given}
 use Rattle.tool_run.specs.Machine.{Machine, start}
 use Rattle.tool_run.specs.Instructions.{act, with_answer}
@@ -26,13 +26,13 @@ pub record Turn : Type 0 where
 abbrev pub asked : Machine × Option End → Ask → Answer → Turn
 asked t ask answer = record { machine = t.0; accesses = Asked ask answer ∷ []; end = t.1 }
 
-abbrev pub turned : (Ask → Answer) → Instr → Machine × Deed → Turn
-turned see i (m, deeds.Goes) = record { machine = m; accesses = []; end = None }
-turned see i (m, deeds.Asks ask) = asked (with_answer m i ask (see ask)) ask (see ask)
-turned see i (m, deeds.Wrote path) = record { machine = m; accesses = Wrote path ∷ []; end = None }
-turned see i (m, deeds.Refused path) =
+abbrev pub turned : (Ask → Answer) → Instr → Machine × Effect → Turn
+turned see i (m, effects.Goes) = record { machine = m; accesses = []; end = None }
+turned see i (m, effects.Asks ask) = asked (with_answer m i ask (see ask)) ask (see ask)
+turned see i (m, effects.Wrote path) = record { machine = m; accesses = Wrote path ∷ []; end = None }
+turned see i (m, effects.Refused path) =
     record { machine = m; accesses = WriteDenied path ∷ []; end = Some ends.Denied }
-turned see i (m, deeds.Stops end) = record { machine = m; accesses = []; end = Some end }
+turned see i (m, effects.Stops end) = record { machine = m; accesses = []; end = Some end }
 
 abbrev pub turn : Description → (Ask → Answer) → Machine → Instr → Turn
 turn d a m i = turned (answer_of d a) i (act d m i)
@@ -51,13 +51,13 @@ abbrev pub ended : Machine → End → Run
 ended m end = record { accesses = []; writes = m.writes; console = m.console; end = end; steps = 0 }
 
 -- a run with these accesses and steps before it
-abbrev pub after : List Access → ℕ → Run → Run
-after accesses steps r = record r { accesses = accesses ++ r.accesses; steps = steps + r.steps }
+abbrev pub run_after : List Access → ℕ → Run → Run
+run_after accesses steps r = record r { accesses = accesses ++ r.accesses; steps = steps + r.steps }
 
 -- the rest of a run after a step, unless the step ended it
 abbrev pub onward : (Machine → Run) → Turn → Option End → Run
-onward rest t None = after t.accesses 1 (rest t.machine)
-onward rest t (Some end) = after t.accesses 1 (ended t.machine end)
+onward rest t None = run_after t.accesses 1 (rest t.machine)
+onward rest t (Some end) = run_after t.accesses 1 (ended t.machine end)
 
 -- past the last line the run ends, at no step
 abbrev pub at_end_or : Machine → Option Instr → (Instr → Run) → Run

@@ -2,13 +2,13 @@
 ghost use Rattle.std.specs.Prelude.{◌≡◌, ◌≢◌, ◌↔◌, ◌<◌, ◌++◌, ◌^◌, [], IfOk, IsTrue, false, take, drop};
 ghost use Rattle.std.specs.Prelude.{slice_index_or};
 ghost use Rattle.std.specs.Fmt.{decimal as decimal_text};
-ghost use Rattle.tool_run.specs.declared.deed.Deed.TheVariants as deeds;
+ghost use Rattle.tool_run.specs.declared.effect.Effect.TheVariants as effects;
 ghost use Rattle.tool_run.specs.States.{machine_of};
 
 use crate::content::Content;
-use crate::deed::Deed;
+use crate::effect::Effect;
 use crate::limits::MAX_REGISTER;
-use crate::state::{State, content_of, deed_of_end};
+use crate::state::{State, content_of, effect_of_end};
 use observed::End;
 use std::alloc::{AllocError, Global};
 use std::mem;
@@ -35,7 +35,7 @@ fn is_register(operand: &Operand, register: Register) -> bool
 }
 
 impl State {
-    ghost use Rattle.tool_run.specs.Machine.{deed_of, fitting, fitting_two};
+    ghost use Rattle.tool_run.specs.Machine.{effect_of, fitting, fitting_two};
     ghost use Rattle.tool_run.specs.Instructions.{value as value_in};
     ghost use Rattle.tool_values.specs.Values.{split_parts};
 
@@ -45,14 +45,14 @@ impl State {
         alloc: Global,
         register: Register,
         number: usize,
-    ) -> Result<Deed, AllocError>
+    ) -> Result<Effect, AllocError>
         requires { self.old.place < 2 ^ 63 }
-        ensures { IfOk result (λ deed.
-            (machine_of self.new, deed)
-            ≡ deed_of (fitting (machine_of self.old) register (decimal_text number))) }
+        ensures { IfOk result (λ effect.
+            (machine_of self.new, effect)
+            ≡ effect_of (fitting (machine_of self.old) register (decimal_text number))) }
     {
         let content = Content::of(decimal(alloc, number)?);
-        Ok(deed_of_end(self.fit(register, content)))
+        Ok(effect_of_end(self.fit(register, content)))
     }
 
     // A register becomes a value.
@@ -61,14 +61,14 @@ impl State {
         alloc: Global,
         register: Register,
         x: &Operand,
-    ) -> Result<Deed, AllocError>
+    ) -> Result<Effect, AllocError>
         requires { self.old.place < 2 ^ 63 }
-        ensures { IfOk result (λ deed.
-            (machine_of self.new, deed)
-            ≡ deed_of (fitting (machine_of self.old) register (value_in (machine_of self.old) x.now))) }
+        ensures { IfOk result (λ effect.
+            (machine_of self.new, effect)
+            ≡ effect_of (fitting (machine_of self.old) register (value_in (machine_of self.old) x.now))) }
     {
         let content = content_of(alloc, &mut self.registers, x)?;
-        Ok(deed_of_end(self.fit(register, content)))
+        Ok(effect_of_end(self.fit(register, content)))
     }
 
     // Adds bytes at a register's end, in place, if they fit.
@@ -76,8 +76,8 @@ impl State {
     fn add(&mut self, alloc: Global, register: Register, more: &[u8]) -> Result<bool, AllocError>
         requires { self.old.place < 2 ^ 63 }
         ensures added { IfOk result (λ fits. IsTrue fits →
-            (machine_of self.new, deeds.Goes)
-            ≡ deed_of (fitting (machine_of self.old) register
+            (machine_of self.new, effects.Goes)
+            ≡ effect_of (fitting (machine_of self.old) register
             (slice_index_or self.old.registers.items register [] ++ more.now))) }
         ensures stays { IfOk result (λ fits. fits ≡ false → machine_of self.new ≡ machine_of self.old) }
     {
@@ -102,8 +102,8 @@ impl State {
     ) -> Result<bool, AllocError>
         requires { self.old.place < 2 ^ 63 }
         ensures added { IfOk result (λ fits. IsTrue fits →
-            (machine_of self.new, deeds.Goes)
-            ≡ deed_of (fitting (machine_of self.old) register
+            (machine_of self.new, effects.Goes)
+            ≡ effect_of (fitting (machine_of self.old) register
             (value_in (machine_of self.old) x.now ++ value_in (machine_of self.old) y.now))) }
         ensures stays { IfOk result (λ fits. fits ≡ false → machine_of self.new ≡ machine_of self.old) }
     {
@@ -116,24 +116,24 @@ impl State {
     }
 
     // A register becomes its bytes with those of another operand after them, in place.
-    fn append(&mut self, alloc: Global, register: Register, y: &Operand) -> Result<Deed, AllocError>
+    fn append(&mut self, alloc: Global, register: Register, y: &Operand) -> Result<Effect, AllocError>
         requires place { self.old.place < 2 ^ 63 }
         requires other { y.now ≢ Operand.Register register }
-        ensures { IfOk result (λ deed.
-            (machine_of self.new, deed)
-            ≡ deed_of (fitting (machine_of self.old) register
+        ensures { IfOk result (λ effect.
+            (machine_of self.new, effect)
+            ≡ effect_of (fitting (machine_of self.old) register
             (slice_index_or self.old.registers.items register [] ++ value_in (machine_of self.old) y.now))) }
     {
         let number = register.number();
         let length = self.registers[number].bytes().len() + self.value(y).len();
         if length > MAX_REGISTER {
-            return Ok(Deed::Stops(End::TooLong));
+            return Ok(Effect::Stops(End::TooLong));
         }
         let mut content = mem::replace(&mut self.registers[number], Content::empty(alloc));
         content.add(alloc, self.value(y))?;
         self.registers[number] = content;
         self.place += 1;
-        Ok(Deed::Goes)
+        Ok(Effect::Goes)
     }
 
     // A register becomes one value after another.
@@ -143,18 +143,18 @@ impl State {
         register: Register,
         x: &Operand,
         y: &Operand,
-    ) -> Result<Deed, AllocError>
+    ) -> Result<Effect, AllocError>
         requires { self.old.place < 2 ^ 63 }
-        ensures { IfOk result (λ deed.
-            (machine_of self.new, deed)
-            ≡ deed_of (fitting (machine_of self.old) register
+        ensures { IfOk result (λ effect.
+            (machine_of self.new, effect)
+            ≡ effect_of (fitting (machine_of self.old) register
             (value_in (machine_of self.old) x.now ++ value_in (machine_of self.old) y.now))) }
     {
         if is_register(x, register) && !is_register(y, register) {
             return self.append(alloc, register, y);
         }
         let content = Content::of_both(alloc, self.value(x), self.value(y))?;
-        Ok(deed_of_end(self.fit(register, content)))
+        Ok(effect_of_end(self.fit(register, content)))
     }
 
     // A register becomes the first bytes of a value, or all.
@@ -164,15 +164,15 @@ impl State {
         register: Register,
         x: &Operand,
         count: usize,
-    ) -> Result<Deed, AllocError>
+    ) -> Result<Effect, AllocError>
         requires { self.old.place < 2 ^ 63 }
-        ensures { IfOk result (λ deed.
-            (machine_of self.new, deed)
-            ≡ deed_of (fitting (machine_of self.old) register
+        ensures { IfOk result (λ effect.
+            (machine_of self.new, effect)
+            ≡ effect_of (fitting (machine_of self.old) register
             (take count (value_in (machine_of self.old) x.now)))) }
     {
         let content = Content::of(Vec::from_slice(alloc, head(self.value(x), count))?);
-        Ok(deed_of_end(self.fit(register, content)))
+        Ok(effect_of_end(self.fit(register, content)))
     }
 
     // A register becomes a value without its first bytes.
@@ -182,16 +182,16 @@ impl State {
         register: Register,
         x: &Operand,
         count: usize,
-    ) -> Result<Deed, AllocError>
+    ) -> Result<Effect, AllocError>
         requires { self.old.place < 2 ^ 63 }
-        ensures { IfOk result (λ deed.
-            (machine_of self.new, deed)
-            ≡ deed_of (fitting (machine_of self.old) register
+        ensures { IfOk result (λ effect.
+            (machine_of self.new, effect)
+            ≡ effect_of (fitting (machine_of self.old) register
             (drop count (value_in (machine_of self.old) x.now)))) }
     {
         let content = content_of(alloc, &mut self.registers, x)?;
         let rest = content.without(alloc, count)?;
-        Ok(deed_of_end(self.fit(register, rest)))
+        Ok(effect_of_end(self.fit(register, rest)))
     }
 
     // Two registers become what precedes a value in another, and what follows it there.
@@ -202,16 +202,16 @@ impl State {
         registers: (Register, Register),
         x: &Operand,
         y: &Operand,
-    ) -> Result<Deed, AllocError>
+    ) -> Result<Effect, AllocError>
         requires { self.old.place < 2 ^ 63 }
-        ensures { IfOk result (λ deed.
-            (machine_of self.new, deed)
-            ≡ deed_of (fitting_two (machine_of self.old) registers.0 registers.1
+        ensures { IfOk result (λ effect.
+            (machine_of self.new, effect)
+            ≡ effect_of (fitting_two (machine_of self.old) registers.0 registers.1
             (split_parts (value_in (machine_of self.old) y.now) (value_in (machine_of self.old) x.now)).0
             (split_parts (value_in (machine_of self.old) y.now) (value_in (machine_of self.old) x.now)).1)) }
     {
         let whole = content_of(alloc, &mut self.registers, x)?;
         let (before, after) = whole.cut(alloc, self.value(y))?;
-        Ok(deed_of_end(self.fit_two(registers.0, registers.1, before, after)))
+        Ok(effect_of_end(self.fit_two(registers.0, registers.1, before, after)))
     }
 }

@@ -11,7 +11,7 @@ use tool_values::{split, tail};
 
 // Bytes that a register owns, or those of a text or of a file, from a place on, which it shares.
 #[derive(Drop)]
-enum Kept {
+enum Backing {
     Owned(Vec<u8>),
     Shared(Text, usize),
     File(Blob, usize),
@@ -20,7 +20,7 @@ enum Kept {
 /// The bytes in a register. Contracts see them as their list.
 #[derive(Drop)]
 pub struct Content {
-    kept: Kept,
+    kept: Backing,
 }
 
 impl Model for Content {
@@ -65,7 +65,7 @@ impl Content {
         ensures { result ≡ bytes.items }
     {
         Content {
-            kept: Kept::Owned(bytes),
+            kept: Backing::Owned(bytes),
         }
     }
 
@@ -73,7 +73,7 @@ impl Content {
         ensures { result ≡ text }
     {
         Content {
-            kept: Kept::Shared(text, 0),
+            kept: Backing::Shared(text, 0),
         }
     }
 
@@ -81,7 +81,7 @@ impl Content {
         ensures { result ≡ blob }
     {
         Content {
-            kept: Kept::File(blob, 0),
+            kept: Backing::File(blob, 0),
         }
     }
 
@@ -97,9 +97,9 @@ impl Content {
         ensures { result.now ≡ self.now }
     {
         match &self.kept {
-            Kept::Owned(bytes) => bytes.as_slice(),
-            Kept::Shared(text, start) => tail(text.bytes(), *start),
-            Kept::File(blob, start) => tail(blob.bytes(), *start),
+            Backing::Owned(bytes) => bytes.as_slice(),
+            Backing::Shared(text, start) => tail(text.bytes(), *start),
+            Backing::File(blob, start) => tail(blob.bytes(), *start),
         }
     }
 
@@ -107,9 +107,9 @@ impl Content {
     fn settle(&mut self, alloc: Global) -> Result<(), AllocError>
         ensures { OnOk result (self.new ≡ self.old) }
     {
-        if let Kept::Owned(bytes) = &mut self.kept {
+        if let Backing::Owned(bytes) = &mut self.kept {
             let bytes = mem::replace(bytes, Vec::new(alloc));
-            self.kept = Kept::Shared(Text::new(alloc, bytes)?, 0);
+            self.kept = Backing::Shared(Text::new(alloc, bytes)?, 0);
         }
         Ok(())
     }
@@ -119,9 +119,9 @@ impl Content {
         ensures { IfOk result (λ content. content ≡ self.now) }
     {
         let kept = match &self.kept {
-            Kept::Owned(bytes) => Kept::Owned(Vec::from_slice(alloc, bytes.as_slice())?),
-            Kept::Shared(text, start) => Kept::Shared(text.share()?, *start),
-            Kept::File(blob, start) => Kept::File(blob.share()?, *start),
+            Backing::Owned(bytes) => Backing::Owned(Vec::from_slice(alloc, bytes.as_slice())?),
+            Backing::Shared(text, start) => Backing::Shared(text.share()?, *start),
+            Backing::File(blob, start) => Backing::File(blob.share()?, *start),
         };
         Ok(Content { kept })
     }
@@ -140,14 +140,14 @@ impl Content {
         ensures { IfOk result (λ content. content ≡ drop count self) }
     {
         let kept = match self.kept {
-            Kept::Owned(bytes) => Kept::Shared(Text::new(alloc, bytes)?, count),
-            Kept::Shared(text, start) => {
+            Backing::Owned(bytes) => Backing::Shared(Text::new(alloc, bytes)?, count),
+            Backing::Shared(text, start) => {
                 let start = later(text.bytes(), start, count);
-                Kept::Shared(text, start)
+                Backing::Shared(text, start)
             }
-            Kept::File(blob, start) => {
+            Backing::File(blob, start) => {
                 let start = later(blob.bytes(), start, count);
-                Kept::File(blob, start)
+                Backing::File(blob, start)
             }
         };
         Ok(Content { kept })
@@ -168,7 +168,7 @@ impl Content {
     pub(crate) fn blob(&self, alloc: Global) -> Result<Blob, AllocError>
         ensures { IfOk result (λ blob. blob ≡ self.now) }
     {
-        if let Kept::File(blob, 0) = &self.kept {
+        if let Backing::File(blob, 0) = &self.kept {
             return blob.share();
         }
         Blob::new(alloc, Vec::from_slice(alloc, self.bytes())?)
@@ -179,7 +179,7 @@ impl Content {
     pub(crate) fn add(&mut self, alloc: Global, more: &[u8]) -> Result<(), AllocError>
         ensures { OnOk result (self.new ≡ self.old ++ more.now) }
     {
-        if let Kept::Owned(bytes) = &mut self.kept {
+        if let Backing::Owned(bytes) = &mut self.kept {
             if more.len() == 1 {
                 bytes.push(more[0])?;
             } else {
@@ -187,7 +187,7 @@ impl Content {
             }
             return Ok(());
         }
-        self.kept = Kept::Owned(both(alloc, self.bytes(), more)?);
+        self.kept = Backing::Owned(both(alloc, self.bytes(), more)?);
         Ok(())
     }
 }

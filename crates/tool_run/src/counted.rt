@@ -3,11 +3,11 @@ ghost use Rattle.std.specs.Prelude.{◌≡◌, ◌<◌, ◌^◌, IfOk, length, t
 ghost use Rattle.std.specs.Option.{option_copied};
 ghost use Rattle.std.specs.Fmt.{decimal};
 ghost use Rattle.std.specs.Str.{bytes_eq};
-ghost use Rattle.tool_run.specs.declared.deed.Deed.TheVariants as deeds;
+ghost use Rattle.tool_run.specs.declared.effect.Effect.TheVariants as effects;
 ghost use Rattle.tool_values.specs.Values.{variables};
 ghost use Rattle.tool_run.specs.States.{machine_of};
 
-use crate::deed::Deed;
+use crate::effect::Effect;
 use crate::state::State;
 use bx_tree::Text;
 use observed::End;
@@ -27,7 +27,7 @@ fn argument(arguments: &[Text], number: usize) -> Option<&[u8]>
 }
 
 impl State {
-    ghost use Rattle.tool_run.specs.Machine.{at_place, deed_of, fitting, next};
+    ghost use Rattle.tool_run.specs.Machine.{at_place, effect_of, fitting, next};
     ghost use Rattle.tool_run.specs.Instructions.{or_jump as jumps_or_sets, value as value_in, with_number};
     ghost use Rattle.tool_values.specs.Values.{number_of as number_in, variable as variable_in};
 
@@ -37,17 +37,17 @@ impl State {
         register: Register,
         x: &Operand,
         n: &Operand,
-    ) -> Result<Deed, AllocError>
+    ) -> Result<Effect, AllocError>
         requires { self.old.place < 2 ^ 63 }
-        ensures { IfOk result (λ deed.
-            (machine_of self.new, deed)
+        ensures { IfOk result (λ effect.
+            (machine_of self.new, effect)
             ≡ with_number (machine_of self.old) (number_in (value_in (machine_of self.old) n.now))
-            (λ k. deed_of (fitting (machine_of self.old) register
+            (λ k. effect_of (fitting (machine_of self.old) register
             (take k (value_in (machine_of self.old) x.now))))) }
     {
         match number_of(self.value(n)) {
             Some(count) => self.set_head(alloc, register, x, count),
-            None => Ok(Deed::Stops(End::BadProgram)),
+            None => Ok(Effect::Stops(End::BadProgram)),
         }
     }
 
@@ -57,17 +57,17 @@ impl State {
         register: Register,
         x: &Operand,
         n: &Operand,
-    ) -> Result<Deed, AllocError>
+    ) -> Result<Effect, AllocError>
         requires { self.old.place < 2 ^ 63 }
-        ensures { IfOk result (λ deed.
-            (machine_of self.new, deed)
+        ensures { IfOk result (λ effect.
+            (machine_of self.new, effect)
             ≡ with_number (machine_of self.old) (number_in (value_in (machine_of self.old) n.now))
-            (λ k. deed_of (fitting (machine_of self.old) register
+            (λ k. effect_of (fitting (machine_of self.old) register
             (drop k (value_in (machine_of self.old) x.now))))) }
     {
         match number_of(self.value(n)) {
             Some(count) => self.set_tail(alloc, register, x, count),
-            None => Ok(Deed::Stops(End::BadProgram)),
+            None => Ok(Effect::Stops(End::BadProgram)),
         }
     }
 
@@ -78,17 +78,17 @@ impl State {
         register: Register,
         label: usize,
         bytes: Option<&[u8]>,
-    ) -> Result<Deed, AllocError>
+    ) -> Result<Effect, AllocError>
         requires { self.old.place < 2 ^ 63 }
-        ensures { IfOk result (λ deed.
-            (machine_of self.new, deed)
+        ensures { IfOk result (λ effect.
+            (machine_of self.new, effect)
             ≡ jumps_or_sets (machine_of self.old) register label (option_copied bytes.entry)) }
     {
         match bytes {
             Some(bytes) => self.copy(alloc, register, bytes),
             None => {
                 self.place = label;
-                Ok(Deed::Goes)
+                Ok(Effect::Goes)
             }
         }
     }
@@ -100,16 +100,16 @@ impl State {
         register: Register,
         n: &Operand,
         label: usize,
-    ) -> Result<Deed, AllocError>
+    ) -> Result<Effect, AllocError>
         requires { self.old.place < 2 ^ 63 }
-        ensures { IfOk result (λ deed.
-            (machine_of self.new, deed)
+        ensures { IfOk result (λ effect.
+            (machine_of self.new, effect)
             ≡ with_number (machine_of self.old) (number_in (value_in (machine_of self.old) n.now))
             (λ k. jumps_or_sets (machine_of self.old) register label (slice_get arguments.now k))) }
     {
         match number_of(self.value(n)) {
             Some(number) => self.set_or_jump(alloc, register, label, argument(arguments, number)),
-            None => Ok(Deed::Stops(End::BadProgram)),
+            None => Ok(Effect::Stops(End::BadProgram)),
         }
     }
 
@@ -120,10 +120,10 @@ impl State {
         register: Register,
         x: &Operand,
         label: usize,
-    ) -> Result<Deed, AllocError>
+    ) -> Result<Effect, AllocError>
         requires { self.old.place < 2 ^ 63 }
-        ensures { IfOk result (λ deed.
-            (machine_of self.new, deed)
+        ensures { IfOk result (λ effect.
+            (machine_of self.new, effect)
             ≡ jumps_or_sets (machine_of self.old) register label
             (variable_in (variables pairs.now) (value_in (machine_of self.old) x.now))) }
     {
@@ -142,27 +142,27 @@ impl State {
     }
 
     #[inline(always)]
-    pub(crate) fn jump_if_equal(&mut self, x: &Operand, y: &Operand, label: usize) -> Deed
+    pub(crate) fn jump_if_equal(&mut self, x: &Operand, y: &Operand, label: usize) -> Effect
         requires { self.old.place < 2 ^ 63 }
         ensures machine { machine_of self.new
             ≡ (if bytes_eq (value_in (machine_of self.old) x.now) (value_in (machine_of self.old) y.now)
             then at_place (machine_of self.old) label else next (machine_of self.old)) }
-        ensures goes { result ≡ deeds.Goes }
+        ensures goes { result ≡ effects.Goes }
     {
         if self.are_equal(x, y) {
             self.place = label;
         } else {
             self.place += 1;
         }
-        Deed::Goes
+        Effect::Goes
     }
 
-    pub(crate) fn jump(&mut self, label: usize) -> Deed
+    pub(crate) fn jump(&mut self, label: usize) -> Effect
         ensures machine { machine_of self.new ≡ at_place (machine_of self.old) label }
-        ensures goes { result ≡ deeds.Goes }
+        ensures goes { result ≡ effects.Goes }
     {
         self.place = label;
-        Deed::Goes
+        Effect::Goes
     }
 
     pub(crate) fn set_length(
@@ -170,11 +170,11 @@ impl State {
         alloc: Global,
         register: Register,
         x: &Operand,
-    ) -> Result<Deed, AllocError>
+    ) -> Result<Effect, AllocError>
         requires { self.old.place < 2 ^ 63 }
-        ensures { IfOk result (λ deed.
-            (machine_of self.new, deed)
-            ≡ deed_of (fitting (machine_of self.old) register
+        ensures { IfOk result (λ effect.
+            (machine_of self.new, effect)
+            ≡ effect_of (fitting (machine_of self.old) register
             (decimal (length (value_in (machine_of self.old) x.now))))) }
     {
         let length = self.value(x).len();

@@ -1,11 +1,11 @@
 //! What each instruction does, up to an ask.
 ghost use Rattle.std.specs.Prelude.{◌≡◌, ◌<◌, ◌^◌, IfOk, IsTrue, false};
-ghost use Rattle.tool_run.specs.declared.deed.Deed.TheVariants as deeds;
+ghost use Rattle.tool_run.specs.declared.effect.Effect.TheVariants as effects;
 ghost use Rattle.tool_run.specs.Described.{described};
 ghost use Rattle.tool_run.specs.Description.{Description};
 ghost use Rattle.tool_run.specs.States.{machine_of};
 
-use crate::deed::Deed;
+use crate::effect::Effect;
 use crate::state::State;
 use observed::{AskKind, End};
 use pip_types::Desc;
@@ -20,7 +20,7 @@ impl State {
     pub(crate) fn go(&mut self, alloc: Global, instr: &Instr) -> Result<bool, AllocError>
         requires { self.old.place < 2 ^ 63 }
         ensures goes { IfOk result (λ taken. IsTrue taken → (d : Description)
-            → (machine_of self.new, deeds.Goes) ≡ act_of d (machine_of self.old) instr.now) }
+            → (machine_of self.new, effects.Goes) ≡ act_of d (machine_of self.old) instr.now) }
         ensures stays { IfOk result (λ taken. taken ≡ false → machine_of self.new ≡ machine_of self.old) }
     {
         match instr {
@@ -43,10 +43,10 @@ impl State {
         alloc: Global,
         desc: &Desc,
         instr: &Instr,
-    ) -> Result<Deed, AllocError>
+    ) -> Result<Effect, AllocError>
         requires { self.old.place < 2 ^ 63 }
-        ensures { IfOk result (λ deed.
-            (machine_of self.new, deed) ≡ act_of (described desc.now) (machine_of self.old) instr.now) }
+        ensures { IfOk result (λ effect.
+            (machine_of self.new, effect) ≡ act_of (described desc.now) (machine_of self.old) instr.now) }
     {
         match instr {
             Instr::Set(r, x) => self.set(alloc, *r, x),
@@ -64,7 +64,7 @@ impl State {
             }
             Instr::Eq(x, y, label) => Ok(self.jump_if_equal(x, y, *label)),
             Instr::Jump(label) => Ok(self.jump(*label)),
-            Instr::Exit(code) => Ok(Deed::Stops(End::Exit(*code))),
+            Instr::Exit(code) => Ok(Effect::Stops(End::Exit(*code))),
             Instr::Say(x) => self.say(x),
             Instr::Read(_, x, _) => self.look(alloc, desc, instr, AskKind::Read, x),
             Instr::Probe(_, x) => self.look(alloc, desc, instr, AskKind::Probe, x),

@@ -9,7 +9,7 @@
 mod acting;
 mod content;
 mod counted;
-mod deed;
+mod effect;
 mod instructions;
 mod laws;
 mod limits;

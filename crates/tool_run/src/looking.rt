@@ -5,10 +5,10 @@ ghost use Rattle.tool_run.specs.Description.{resolved as resolved_path};
 ghost use Rattle.tool_run.specs.States.{machine_of};
 
 use crate::content::Content;
-use crate::deed::Deed;
+use crate::effect::Effect;
 use crate::listing::with_own_names;
 use crate::paths::{permits, resolved};
-use crate::state::{State, deed_of_end};
+use crate::state::{State, effect_of_end};
 use bx_digest::Blob;
 use bx_tree::Path;
 use observed::{Answer, Ask, AskKind, End};
@@ -134,22 +134,22 @@ impl State {
         instr: &Instr,
         kind: AskKind,
         x: &Operand,
-    ) -> Result<Deed, AllocError>
+    ) -> Result<Effect, AllocError>
         requires { self.old.place < 2 ^ 63 }
-        ensures { IfOk result (λ deed.
-            (machine_of self.new, deed)
+        ensures { IfOk result (λ effect.
+            (machine_of self.new, effect)
             ≡ looks (machine_of self.old) instr.now kind
             (resolved_path (described desc.now).dir (value_in (machine_of self.old) x.now))) }
     {
         let Some(path) = resolved(alloc, &desc.process.dir, self.value(x))? else {
-            return Ok(Deed::Stops(End::BadPath));
+            return Ok(Effect::Stops(End::BadPath));
         };
         let ask = Ask { kind, path };
         let Some(answer) = self.writes.answer(alloc, &ask)? else {
-            return Ok(Deed::Asks(ask));
+            return Ok(Effect::Asks(ask));
         };
         let end = self.take_answer(alloc, instr, &ask, &answer)?;
-        Ok(deed_of_end(end))
+        Ok(effect_of_end(end))
     }
 
     // A file is written, where its path and its size may be.
@@ -160,18 +160,18 @@ impl State {
         desc: &Desc,
         x: &Operand,
         y: &Operand,
-    ) -> Result<Deed, AllocError>
+    ) -> Result<Effect, AllocError>
         requires { self.old.place < 2 ^ 63 }
-        ensures { IfOk result (λ deed.
-            (machine_of self.new, deed)
+        ensures { IfOk result (λ effect.
+            (machine_of self.new, effect)
             ≡ writes_at (described desc.now) (machine_of self.old) (value_in (machine_of self.old) y.now)
             (resolved_path (described desc.now).dir (value_in (machine_of self.old) x.now))) }
     {
         let Some(path) = resolved(alloc, &desc.process.dir, self.value(x))? else {
-            return Ok(Deed::Stops(End::BadPath));
+            return Ok(Effect::Stops(End::BadPath));
         };
         if !permits(desc, &path) {
-            return Ok(Deed::Refused(path));
+            return Ok(Effect::Refused(path));
         }
         let blob = self.blob(alloc, y)?;
         self.write(alloc, path, blob)

@@ -6,11 +6,11 @@ ghost use Rattle.tool_text.specs.Reading.{tool_of};
 ghost use Rattle.tool_run.specs.Described.{described};
 ghost use Rattle.tool_run.specs.Description.{answer_of, declared_at, given as given_by};
 ghost use Rattle.tool_run.specs.Machine.{start};
-ghost use Rattle.tool_run.specs.Run.{after, ended, run_of, turn};
+ghost use Rattle.tool_run.specs.Run.{ended, run_after, run_of, turn};
 ghost use Rattle.tool_run.specs.Seen.{Turns, seen};
 ghost use Rattle.tool_run.specs.States.{machine_of};
 
-use crate::deed::Deed;
+use crate::effect::Effect;
 use crate::state::State;
 use bx_digest::Blob;
 use bx_tree::Path;
@@ -73,7 +73,7 @@ fn answer<V: View>(
 
 // Takes one instruction through what it does outside the machine, which goes to the end of the accesses.
 #[inline(never)]
-fn take_deed<V: View>(
+fn take_effect<V: View>(
     alloc: Global,
     desc: &Desc,
     view: &mut V,
@@ -88,22 +88,22 @@ fn take_deed<V: View>(
     ensures same { V.answers view.new ≡ V.answers view.old }
 {
     match state.act(alloc, desc, instr)? {
-        Deed::Goes => Ok(None),
-        Deed::Asks(ask) => {
+        Effect::Goes => Ok(None),
+        Effect::Asks(ask) => {
             let answer = answer(alloc, desc, view, &ask)?;
             let end = state.take_answer(alloc, instr, &ask, &answer)?;
             accesses.push(Access::Asked(ask, answer))?;
             Ok(end)
         }
-        Deed::Wrote(path) => {
+        Effect::Wrote(path) => {
             accesses.push(Access::Wrote(path))?;
             Ok(None)
         }
-        Deed::Refused(path) => {
+        Effect::Refused(path) => {
             accesses.push(Access::WriteDenied(path))?;
             Ok(Some(End::Denied))
         }
-        Deed::Stops(end) => Ok(Some(end)),
+        Effect::Stops(end) => Ok(Some(end)),
     }
 }
 
@@ -125,7 +125,7 @@ fn take_turn<V: View>(
     if state.go(alloc, instr)? {
         return Ok(None);
     }
-    take_deed(alloc, desc, view, state, instr, accesses)
+    take_effect(alloc, desc, view, state, instr, accesses)
 }
 
 // The instruction at a place.
@@ -145,7 +145,7 @@ fn finished(
     steps: u64,
 ) -> Result<Ran, AllocError>
     ensures { IfOk result (λ ran. seen ran
-        ≡ after accesses.items steps (ended (machine_of state) end)) }
+        ≡ run_after accesses.items steps (ended (machine_of state) end)) }
 {
     let State {
         writes,

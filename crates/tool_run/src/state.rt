@@ -3,14 +3,14 @@ ghost use Rattle.std.specs.Prelude.{◌≡◌, ◌<◌, ◌≤◌, ◌++◌, ◌
 ghost use Rattle.std.specs.Prelude.{if◌then◌else◌, replicate, vec_len};
 ghost use Rattle.observed.specs.declared.access.End.TheVariants as ends;
 ghost use Rattle.own_writes.specs.Writes.{clashes};
-ghost use Rattle.tool_run.specs.declared.deed.Deed.TheVariants as deeds;
-ghost use Rattle.tool_run.specs.Deeds.{deed_for};
+ghost use Rattle.tool_run.specs.declared.effect.Effect.TheVariants as effects;
+ghost use Rattle.tool_run.specs.Effects.{effect_for};
 ghost use Rattle.tool_values.specs.Values.{value_of};
 ghost use Rattle.tool_text.specs.declared.limits.TheConstants.{REGISTERS};
 ghost use Rattle.tool_run.specs.declared.limits.TheConstants.{MAX_OUTPUT};
 
 use crate::content::Content;
-use crate::deed::Deed;
+use crate::effect::Effect;
 use crate::limits::{MAX_OUTPUT, MAX_REGISTER};
 use bx_digest::Blob;
 use bx_tree::Path;
@@ -34,12 +34,12 @@ pub struct State {
 }
 
 // What an instruction comes to that ends the run or goes on.
-pub(crate) fn deed_of_end(end: Option<End>) -> Deed
-    ensures { (result ≡ deed_for end) }
+pub(crate) fn effect_of_end(end: Option<End>) -> Effect
+    ensures { (result ≡ effect_for end) }
 {
     match end {
-        Some(end) => Deed::Stops(end),
-        None => Deed::Goes,
+        Some(end) => Effect::Stops(end),
+        None => Effect::Goes,
     }
 }
 
@@ -92,7 +92,7 @@ pub(crate) fn content_of(
 }
 
 impl State {
-    ghost use Rattle.tool_run.specs.Machine.{deed_of, fitting, fitting_two, said, start, written};
+    ghost use Rattle.tool_run.specs.Machine.{effect_of, fitting, fitting_two, said, start, written};
     ghost use Rattle.tool_run.specs.States.{machine_of};
     ghost use Rattle.tool_run.specs.Instructions.{value as value_in};
 
@@ -166,31 +166,31 @@ impl State {
         alloc: Global,
         register: Register,
         bytes: &[u8],
-    ) -> Result<Deed, AllocError>
+    ) -> Result<Effect, AllocError>
         requires { self.old.place < 2 ^ 63 }
-        ensures { IfOk result (λ deed.
-            (machine_of self.new, deed) ≡ deed_of (fitting (machine_of self.old) register bytes.now)) }
+        ensures { IfOk result (λ effect.
+            (machine_of self.new, effect) ≡ effect_of (fitting (machine_of self.old) register bytes.now)) }
     {
         let content = Content::of(Vec::from_slice(alloc, bytes)?);
-        Ok(deed_of_end(self.fit(register, content)))
+        Ok(effect_of_end(self.fit(register, content)))
     }
 
     // A value and a newline are said, if they fit.
-    pub(crate) fn say(&mut self, x: &Operand) -> Result<Deed, AllocError>
+    pub(crate) fn say(&mut self, x: &Operand) -> Result<Effect, AllocError>
         requires { self.old.place < 2 ^ 63 }
-        ensures { IfOk result (λ deed.
-            (machine_of self.new, deed)
+        ensures { IfOk result (λ effect.
+            (machine_of self.new, effect)
             ≡ said (machine_of self.old) (value_in (machine_of self.old) x.now)) }
     {
         let bytes = value_of_operand(&self.registers, x);
         let length = bytes.len();
         if length >= MAX_OUTPUT - self.spent {
-            return Ok(Deed::Stops(End::TooLong));
+            return Ok(Effect::Stops(End::TooLong));
         }
         add_line(&mut self.console, bytes)?;
         self.spent += length + 1;
         self.place += 1;
-        Ok(Deed::Goes)
+        Ok(Effect::Goes)
     }
 
     // How a write ends that does not fit: a path that clashes with a file counts first.
@@ -210,25 +210,25 @@ impl State {
         alloc: Global,
         path: Path,
         blob: Blob,
-    ) -> Result<Deed, AllocError>
+    ) -> Result<Effect, AllocError>
         requires { self.old.place < 2 ^ 63 }
-        ensures { IfOk result (λ deed.
-            (machine_of self.new, deed)
-            ≡ (if clashes self.old.writes path then (machine_of self.old, deeds.Stops ends.NotADirectory)
+        ensures { IfOk result (λ effect.
+            (machine_of self.new, effect)
+            ≡ (if clashes self.old.writes path then (machine_of self.old, effects.Stops ends.NotADirectory)
             else written (machine_of self.old) path blob)) }
     {
         let length = blob.bytes().len();
         if length > MAX_OUTPUT - self.spent {
-            return Ok(Deed::Stops(self.end_of_excess(alloc, &path)?));
+            return Ok(Effect::Stops(self.end_of_excess(alloc, &path)?));
         }
         let writes = mem::replace(&mut self.writes, Writes::new(alloc));
         let (writes, is_written) = writes.put(alloc, path.share()?, blob)?;
         self.writes = writes;
         if !is_written {
-            return Ok(Deed::Stops(End::NotADirectory));
+            return Ok(Effect::Stops(End::NotADirectory));
         }
         self.spent += length;
         self.place += 1;
-        Ok(Deed::Wrote(path))
+        Ok(Effect::Wrote(path))
     }
 }

@@ -13,7 +13,7 @@ use Rattle.tool_text.specs.declared.tool.Instr.TheVariants as instrs
 use Rattle.tool_text.specs.declared.fault.ToolFault.{ToolFault}
 use Rattle.tool_text.specs.declared.fault.ToolFault.TheVariants.{BadTool}
 use Rattle.tool_text.specs.Grammar.{AreBlanks, AreDistinct, AreLines, AreOperands, IsInstr, IsLabel, IsLine, IsStart, IsTool, Labels, first_line, is_lower, says, word_of}
-use Rattle.tool_text.specs.Reading.{Reads, op_of, after_byte, after_label, are_distinct, before_byte, instr_in, instr_of, is_label, is_label_byte, is_labelled, label_of, line_of, lines_of, operand_texts, place_of, skip_blanks, tool_from, tool_in, tool_of, with_line}
+use Rattle.tool_text.specs.Reading.{ReadsTool, op_of, after_byte, after_label, are_distinct, before_byte, instr_in, instr_of, is_label, is_label_byte, is_labelled, label_of, line_of, lines_of, operand_texts, place_of, skip_blanks, tool_from, tool_in, tool_of, with_line}
 use Rattle.tool_text.proofs.Values.{equal_numbers, if_some, some_same}
 use Rattle.tool_text.proofs.Places.{are_labels, distinct_complete, distinct_sound, label_complete, label_sound}
 use Rattle.tool_text.proofs.Commas.{separated_complete, separated_sound}
@@ -358,12 +358,12 @@ pub only : (text : List ℕ) (s t : List Instr) → IsTool text s → IsTool tex
 only text s t h k = some_same s t (sym (tool_complete text s h) ∙ tool_complete text t k)
 
 -- what is read is a tool of the text, and where none is read there is none
-pub found : (text : List ℕ) (read : Result (List Instr) ToolFault) → Reads read (tool_of text) → IfOk read (λ tool. IsTool text tool)
+pub found : (text : List ℕ) (read : Result (List Instr) ToolFault) → ReadsTool read (tool_of text) → IfOk read (λ tool. IsTool text tool)
 found text (Ok tool) h = tool_sound text tool h
 found text (Err fault) h = tt
 
-pub none : (text : List ℕ) (read : Result (List Instr) ToolFault) → Reads read (tool_of text) → read ≡ Err BadTool → (tool : List Instr) → IsTool text tool → ⊥
-none text read h bad tool is = no_tool (tool_of text) (subst (λ (r : Result (List Instr) ToolFault). Reads r (tool_of text)) bad h) (tool_complete text tool is)
+pub none : (text : List ℕ) (read : Result (List Instr) ToolFault) → ReadsTool read (tool_of text) → read ≡ Err BadTool → (tool : List Instr) → IsTool text tool → ⊥
+none text read h bad tool is = no_tool (tool_of text) (subst (λ (r : Result (List Instr) ToolFault). ReadsTool r (tool_of text)) bad h) (tool_complete text tool is)
   where
     no_tool : (o : Option (List Instr)) → o ≡ None → o ≡ Some tool → ⊥
     no_tool o e f = cc

@@ -5,7 +5,7 @@ use Rattle.std.specs.Borrow.{Bor}
 use Rattle.tool_text.specs.declared.tool.Instr.{Instr}
 use Rattle.tool_text.specs.declared.fault.ToolFault.{ToolFault}
 use Rattle.tool_text.specs.declared.fault.ToolFault.TheVariants.{BadTool, Memory}
-use Rattle.tool_text.specs.Reading.{Places, Reads, after_lines, are_distinct, line_of, lines_of, place_of, texts_now, tool_in, with_line}
+use Rattle.tool_text.specs.Reading.{Places, ReadsTool, after_lines, are_distinct, line_of, lines_of, place_of, texts_now, tool_in, with_line}
 use Rattle.tool_text.proofs.Labelled.{labels_of}
 
 pub tool_read : (lines : List (Bor (List ℕ))) (places : Places) (read : Option (List Instr)) → are_distinct (labels_of lines) ≡ true
@@ -60,6 +60,6 @@ all_instrs lines i places prefix all l so_far =
     no_more (x ∷ xs) = ap (λ ys. x ∷ ys) (no_more xs)
 
 -- what a fault of a part says of the whole
-pub err_again : {X Y : Type 0} (e : ToolFault) (part : Option X) (all : Option Y) → Reads (Err e) part → (part ≡ None → all ≡ None) → Reads (Err e) all
+pub err_again : {X Y : Type 0} (e : ToolFault) (part : Option X) (all : Option Y) → ReadsTool (Err e) part → (part ≡ None → all ≡ None) → ReadsTool (Err e) all
 err_again BadTool part all h f = f h
 err_again Memory part all h f = tt

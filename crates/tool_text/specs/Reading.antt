@@ -20,10 +20,10 @@ use Rattle.tool_text.specs.declared.separating.Quoting.{Quoting}
 use Rattle.tool_text.specs.declared.separating.Quoting.TheVariants.{Outside, Inside, Escaped}
 
 -- A reader gives what the function on lists gives, unless memory ran out.
-abbrev pub Reads : {X : Type 0} → Result X ToolFault → Option X → Type 0
-Reads (Ok x) read = read ≡ Some x
-Reads (Err faults.BadTool) read = read ≡ None
-Reads (Err faults.Memory) read = Unit {0}
+abbrev pub ReadsTool : {X : Type 0} → Result X ToolFault → Option X → Type 0
+ReadsTool (Ok x) read = read ≡ Some x
+ReadsTool (Err faults.BadTool) read = read ≡ None
+ReadsTool (Err faults.Memory) read = Unit {0}
 
 -- texts without where they lie in memory
 abbrev pub texts_now : List (Bor (List ℕ)) → List (List ℕ)

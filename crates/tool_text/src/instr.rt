@@ -1,7 +1,7 @@
 //! Instructions with their operands.
 ghost use Rattle.std.specs.Prelude.{◌≡◌, Some, None, MatchResult};
 ghost use Rattle.tool_text.specs.Tables.{place_in};
-ghost use Rattle.tool_text.specs.Reading.{Reads, instr_in as instr_read, instr_of as instr_made};
+ghost use Rattle.tool_text.specs.Reading.{ReadsTool, instr_in as instr_read, instr_of as instr_made};
 ghost use Rattle.tool_text.specs.Reading.{line_of as line_read, lone as one_of, pair as two_of};
 ghost use Rattle.tool_text.specs.Reading.{quadruple as four_of, register_operand as register_operand_read};
 ghost use Rattle.tool_text.specs.Reading.{register_target as register_target_read};
@@ -52,21 +52,21 @@ fn triple<'a>(texts: &[&'a [u8]]) -> Result<(&'a [u8], &'a [u8], &'a [u8]), Tool
 }
 
 fn register_operand(alloc: Global, texts: &[&[u8]]) -> Result<(Register, Operand), ToolFault>
-    ensures { Reads result (register_operand_read (texts_now texts.now)) }
+    ensures { ReadsTool result (register_operand_read (texts_now texts.now)) }
 {
     let (r, x) = pair(texts)?;
     Ok((register_of(r)?, operand_of(alloc, x)?))
 }
 
 fn two_operands(alloc: Global, texts: &[&[u8]]) -> Result<(Operand, Operand), ToolFault>
-    ensures { Reads result (two_operands_read (texts_now texts.now)) }
+    ensures { ReadsTool result (two_operands_read (texts_now texts.now)) }
 {
     let (x, y) = pair(texts)?;
     Ok((operand_of(alloc, x)?, operand_of(alloc, y)?))
 }
 
 fn register_two(alloc: Global, texts: &[&[u8]]) -> Result<(Register, Operand, Operand), ToolFault>
-    ensures { Reads result (register_two_read (texts_now texts.now)) }
+    ensures { ReadsTool result (register_two_read (texts_now texts.now)) }
 {
     let (r, x, y) = triple(texts)?;
     Ok((
@@ -81,7 +81,7 @@ fn register_target(
     table: &Table,
     texts: &[&[u8]],
 ) -> Result<(Register, Operand, usize), ToolFault>
-    ensures { Reads result (register_target_read (place_in table.now) (texts_now texts.now)) }
+    ensures { ReadsTool result (register_target_read (place_in table.now) (texts_now texts.now)) }
 {
     let (r, x, label) = triple(texts)?;
     Ok((register_of(r)?, operand_of(alloc, x)?, table.find(label)?))
@@ -92,7 +92,7 @@ fn two_target(
     table: &Table,
     texts: &[&[u8]],
 ) -> Result<(Operand, Operand, usize), ToolFault>
-    ensures { Reads result (two_target_read (place_in table.now) (texts_now texts.now)) }
+    ensures { ReadsTool result (two_target_read (place_in table.now) (texts_now texts.now)) }
 {
     let (x, y, label) = triple(texts)?;
     Ok((
@@ -116,7 +116,7 @@ fn quadruple<'a>(texts: &[&'a [u8]]) -> Result<Four<'a>, ToolFault>
 }
 
 fn split(alloc: Global, texts: &[&[u8]]) -> Result<Instr, ToolFault>
-    ensures { Reads result (split_read (texts_now texts.now)) }
+    ensures { ReadsTool result (split_read (texts_now texts.now)) }
 {
     let (r, s, x, y) = quadruple(texts)?;
     let r = register_of(r)?;
@@ -127,7 +127,7 @@ fn split(alloc: Global, texts: &[&[u8]]) -> Result<Instr, ToolFault>
 }
 
 fn instr_of(alloc: Global, table: &Table, op: Op, texts: &[&[u8]]) -> Result<Instr, ToolFault>
-    ensures { Reads result (instr_made (place_in table.now) op (texts_now texts.now)) }
+    ensures { ReadsTool result (instr_made (place_in table.now) op (texts_now texts.now)) }
 {
     match op {
         Op::Set | Op::Len | Op::Probe | Op::List => {
@@ -173,7 +173,7 @@ fn instr_of(alloc: Global, table: &Table, op: Op, texts: &[&[u8]]) -> Result<Ins
 
 // The instruction that a text is, after its blanks.
 fn instr_in(alloc: Global, table: &Table, text: &[u8]) -> Result<Instr, ToolFault>
-    ensures { Reads result (instr_read (place_in table.now) text.now) }
+    ensures { ReadsTool result (instr_read (place_in table.now) text.now) }
 {
     let (word, rest) = cut(text, b' ');
     let Some(op) = op_of(word) else {
@@ -185,7 +185,7 @@ fn instr_in(alloc: Global, table: &Table, text: &[u8]) -> Result<Instr, ToolFaul
 
 // The instruction of a line.
 pub(crate) fn line_of(alloc: Global, table: &Table, line: &[u8]) -> Result<Instr, ToolFault>
-    ensures { Reads result (line_read (place_in table.now) line.now) }
+    ensures { ReadsTool result (line_read (place_in table.now) line.now) }
 {
     let (_, rest) = label_parts(line);
     instr_in(alloc, table, skip_blanks(rest))

@@ -2,7 +2,7 @@
 ghost use Rattle.std.specs.Prelude.{◌≡◌, ℕ, List, true, false, map, MatchResult, OnOk};
 ghost use Rattle.tool_text.specs.declared.fault.ToolFault.TheVariants as tool_faults;
 ghost use Rattle.tool_text.specs.Tables.{IsFree, IsTaken, place_at, place_in, with_place};
-ghost use Rattle.tool_text.specs.Reading.{Reads, are_distinct, label_of, place_of as place_read, texts_now};
+ghost use Rattle.tool_text.specs.Reading.{ReadsTool, are_distinct, label_of, place_of as place_read, texts_now};
 
 use crate::fault::ToolFault;
 use crate::lines::label_parts;
@@ -18,7 +18,7 @@ pub struct Table {
 impl Table {
     // The place of a label.
     pub(crate) fn find(&self, label: &[u8]) -> Result<usize, ToolFault>
-        ensures { Reads result (place_in self.now label.now) }
+        ensures { ReadsTool result (place_in self.now label.now) }
     {
         match self.by_label.get(label) {
             Some(place) => Ok(*place),

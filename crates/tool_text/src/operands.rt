@@ -1,6 +1,6 @@
 //! The operands of instructions.
 ghost use Rattle.std.specs.Prelude.{◌≡◌, Some};
-ghost use Rattle.tool_text.specs.Reading.{Reads, code_of as code_read, escape_of as escape};
+ghost use Rattle.tool_text.specs.Reading.{ReadsTool, code_of as code_read, escape_of as escape};
 ghost use Rattle.tool_text.specs.Reading.{numbered as number_read, operand_of as operand_read};
 ghost use Rattle.tool_text.specs.Reading.{register_of as register_read, string_rest as string_read};
 
@@ -13,7 +13,7 @@ use std::alloc::Global;
 
 // The register whose number has these digits.
 fn numbered(digits: &[u8]) -> Result<Register, ToolFault>
-    ensures { Reads result (number_read digits.now) }
+    ensures { ReadsTool result (number_read digits.now) }
 {
     if !is_number(digits) {
         return Err(ToolFault::BadTool);
@@ -25,7 +25,7 @@ fn numbered(digits: &[u8]) -> Result<Register, ToolFault>
 }
 
 pub(crate) fn register_of(text: &[u8]) -> Result<Register, ToolFault>
-    ensures { Reads result (register_read text.now) }
+    ensures { ReadsTool result (register_read text.now) }
 {
     match text.split_first() {
         Some((b'r', digits)) => numbered(digits),
@@ -47,7 +47,7 @@ fn escape_of(code: u8) -> Option<u8>
 
 // The bytes of a string, read from after its first `"` to its last, which ends the text.
 fn string_rest(alloc: Global, text: &[u8]) -> Result<Text, ToolFault>
-    ensures { Reads result (string_read text.now) }
+    ensures { ReadsTool result (string_read text.now) }
 {
     let mut bytes = Vec::new(alloc);
     let mut rest = text;
@@ -80,13 +80,13 @@ fn string_rest(alloc: Global, text: &[u8]) -> Result<Text, ToolFault>
 
 // The text of digits, which stand for themselves.
 fn digits_text(alloc: Global, text: &[u8]) -> Result<Text, ToolFault>
-    ensures { Reads result (Some text.now) }
+    ensures { ReadsTool result (Some text.now) }
 {
     Ok(Text::new(alloc, Vec::from_slice(alloc, text)?)?)
 }
 
 pub(crate) fn operand_of(alloc: Global, text: &[u8]) -> Result<Operand, ToolFault>
-    ensures { Reads result (operand_read text.now) }
+    ensures { ReadsTool result (operand_read text.now) }
 {
     let Some((first, rest)) = text.split_first() else {
         return Err(ToolFault::BadTool);
@@ -105,7 +105,7 @@ pub(crate) fn operand_of(alloc: Global, text: &[u8]) -> Result<Operand, ToolFaul
 
 // The exit code that digits write.
 pub(crate) fn code_of(text: &[u8]) -> Result<u8, ToolFault>
-    ensures { Reads result (code_read text.now) }
+    ensures { ReadsTool result (code_read text.now) }
 {
     if !is_digits(text) {
         return Err(ToolFault::BadTool);

@@ -3,7 +3,7 @@ ghost use Rattle.std.specs.Prelude.{◌≡◌, List, IfOk};
 ghost use Rattle.tool_text.specs.declared.tool.Instr.{Instr as AnyInstr};
 ghost use Rattle.tool_text.specs.declared.fault.ToolFault.TheVariants as tool_faults;
 ghost use Rattle.tool_text.specs.Grammar.{IsTool};
-ghost use Rattle.tool_text.specs.Reading.{Reads, texts_now, tool_from, tool_in as tool_read, tool_of};
+ghost use Rattle.tool_text.specs.Reading.{ReadsTool, texts_now, tool_from, tool_in as tool_read, tool_of};
 
 use crate::fault::ToolFault;
 use crate::instr::line_of;
@@ -14,7 +14,7 @@ use std::alloc::Global;
 
 // The tool of lines that say something.
 fn tool_in(alloc: Global, lines: &[&[u8]]) -> Result<Tool, ToolFault>
-    ensures { Reads result (tool_read (texts_now lines.now)) }
+    ensures { ReadsTool result (tool_read (texts_now lines.now)) }
 {
     let table = table_of(alloc, lines)?;
     let mut instrs = Vec::new(alloc);
@@ -26,7 +26,7 @@ fn tool_in(alloc: Global, lines: &[&[u8]]) -> Result<Tool, ToolFault>
 
 // The tool of all lines of a text.
 fn tool_of_lines(alloc: Global, lines: &[&[u8]]) -> Result<Tool, ToolFault>
-    ensures { Reads result (tool_from (texts_now lines.now)) }
+    ensures { ReadsTool result (tool_from (texts_now lines.now)) }
 {
     let Some((first, rest)) = lines.split_first() else {
         return Err(ToolFault::BadTool);
@@ -42,7 +42,7 @@ fn tool_of_lines(alloc: Global, lines: &[&[u8]]) -> Result<Tool, ToolFault>
 pub fn read_tool(alloc: Global, bytes: &[u8]) -> Result<Tool, ToolFault>
     ensures found { IfOk result (λ tool. IsTool bytes.now tool) }
     ensures none { result ≡ Err tool_faults.BadTool → (tool : List AnyInstr) → IsTool bytes.now tool → ⊥ }
-    ensures read { Reads result (tool_of bytes.now) }
+    ensures read { ReadsTool result (tool_of bytes.now) }
 {
     let lines = lines_of(alloc, bytes)?;
     tool_of_lines(alloc, lines.as_slice())

@@ -4,14 +4,14 @@ use Rattle.std.specs.FinMap.{get}
 use Rattle.sha2.specs.Sha256.{sha256}
 use Rattle.bx_tree.specs.Trees.{Files}
 use Rattle.bx_io.specs.Answers as held_names
-use Rattle.bx_io.specs.Holdings.{Holdings, Kept, held_in}
+use Rattle.bx_io.specs.Holdings.{Holdings, StoreState, held_in}
 use Rattle.bx_io.specs.declared.keeper.Got.TheVariants as got
 use Rattle.observed.specs.Texts.{read_paths_text}
 use Rattle.observed.specs.declared.ask.Ask.{Ask}
 use Rattle.pip_types.specs.declared.desc.Desc.{Desc}
 use Rattle.memo_format.specs.Entries.{output_paths, read_entry_text}
 use Rattle.memo_format.specs.Selectors.{read_selectors_text}
-use Rattle.memo_format.specs.Well.{HoldsList, at_blob, at_entry, at_list}
+use Rattle.memo_format.specs.StoreNames.{HoldsList, at_blob, at_entry, at_list}
 use Rattle.memo_format.specs.declared.entry.Entry.{Entry}
 use Rattle.memo_format.specs.declared.entry.OutputLine.{OutputLine}
 use Rattle.memo_format.specs.declared.selector.Selector.{Selector}
@@ -140,18 +140,18 @@ no_list (Some S) weak name named h = λ l there. none_and_some (get S name) ther
 
 -- ## Lists for a keep
 
-pub held_text : (known : Option Kept) (weak name : List ℕ) (text : Vec ℕ Global) (list : List Selector) → name ≡ at_list weak
+pub held_text : (known : Option StoreState) (weak name : List ℕ) (text : Vec ℕ Global) (list : List Selector) → name ≡ at_list weak
     → held_names.Finds (held_in known) name (got.Found text) → list ≡ or_none (read_selectors_text text.items) → IsListAt known weak list
 held_text None weak name text list named h is = tt
 held_text (Some kept) weak name text list named h is = is ∙ ap selectors_in (sym (ap (get kept.held) (sym named) ∙ h))
 
 -- as a call answers it
-pub held_given : (known : Option Kept) (weak name : List ℕ) (text : Vec ℕ Global) (bytes : List ℕ) (list : List Selector) → name ≡ at_list weak
+pub held_given : (known : Option StoreState) (weak name : List ℕ) (text : Vec ℕ Global) (bytes : List ℕ) (list : List Selector) → name ≡ at_list weak
     → held_names.Finds (held_in known) name (got.Found text) → bytes ≡ text.items → list ≡ or_none (read_selectors_text bytes) → IsListAt known weak list
 held_given known weak name text bytes list named h same is =
     held_text known weak name text list named h (is ∙ ap (λ t. or_none (read_selectors_text t)) same)
 
-pub none_listed : (known : Option Kept) (weak name : List ℕ) (list : List Selector) → name ≡ at_list weak → held_names.Finds (held_in known) name got.None
+pub none_listed : (known : Option StoreState) (weak name : List ℕ) (list : List Selector) → name ≡ at_list weak → held_names.Finds (held_in known) name got.None
     → list ≡ [] → IsListAt known weak list
 none_listed None weak name list named h is = tt
 none_listed (Some kept) weak name list named h is = is ∙ ap selectors_in (sym (ap (get kept.held) (sym named) ∙ h))

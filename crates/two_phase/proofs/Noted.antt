@@ -15,15 +15,15 @@ use Rattle.std.specs.Str.{bytes_eq}
 use Rattle.std.specs.declared.alloc.Global.{Global}
 use Rattle.std.specs.declared.vec.Vec.{Vec}
 use Rattle.sha2.specs.Sha256.{sha256}
-use Rattle.bx_io.specs.Holdings.{Holdings, Kept, Put, known_after}
+use Rattle.bx_io.specs.Holdings.{Holdings, Put, StoreState, known_after}
 use Rattle.bx_io.specs.declared.keeper.PutFault.{PutFault}
-use Rattle.memo_format.specs.Well.{HoldsBlob, at_blob, at_entry, at_list}
+use Rattle.memo_format.specs.StoreNames.{HoldsBlob, at_blob, at_entry, at_list}
 use Rattle.content_store.specs.Contents.{IsContent, blob_put}
 use Rattle.record_match.proofs.Digest.{is_digest}
 use Rattle.store_meaning.proofs.Digests.{blob_no_entry, blob_no_list, same_blob_name}
 use Rattle.store_meaning.proofs.Puts.{still_there, there_now}
 use Rattle.two_phase.specs.Applying.{Applies, IsNoOp}
-use Rattle.two_phase.specs.Held.{AreHeld, Notes, noted_at}
+use Rattle.two_phase.specs.Held.{AreHeld, Tracks, noted_at}
 use Rattle.two_phase.specs.declared.held.HeldContents.{HeldContents}
 
 -- ## The table
@@ -70,14 +70,14 @@ other_noted key old new value h q other =
 same_some : {X : Type 0} (x y : X) → Some x ≡ Some y → x ≡ y
 same_some x y e = cc
 
-pub forgotten : (digest key : List ℕ) (old new : HeldContents) → key ≡ digest → Updated key old new None → (content : List ℕ) → Notes old new digest content
+pub forgotten : (digest key : List ℕ) (old new : HeldContents) → key ≡ digest → Updated key old new None → (content : List ℕ) → Tracks old new digest content
 forgotten digest key old new is h content = record {
   here = λ other there. let none : noted_at new digest ≡ None = ap (noted_at new) (sym is) ∙ h.1 in absurd cc;
   others = λ q apart. other_noted key old new None h q (λ e. apart (sym is ∙ e));
 }
 
 pub noted : (digest key content value : List ℕ) (old new : HeldContents) → key ≡ digest → value ≡ content → Updated key old new (Some value)
-    → Notes old new digest content
+    → Tracks old new digest content
 noted digest key content value old new is same h = record {
   here = λ other there. same_some other content (sym there ∙ ap (noted_at new) (sym is) ∙ h.1 ∙ ap Some same);
   others = λ q apart. other_noted key old new (Some value) h q (λ e. apart (sym is ∙ e));
@@ -91,8 +91,8 @@ on_err P (Ok x) p = tt
 on_err P (Err e) p = p
 
 -- what is at the digest was taken out, and the content was noted there or not
-pub noted_or_none : {E : Type 0} (digest content : List ℕ) (old between new : HeldContents) (r : Result (Unit {0}) E) → Notes old between digest content
-    → OnOk r (Notes between new digest content) → OnErr r ((q : List ℕ) → noted_at new q ≡ noted_at between q) → Notes old new digest content
+pub noted_or_none : {E : Type 0} (digest content : List ℕ) (old between new : HeldContents) (r : Result (Unit {0}) E) → Tracks old between digest content
+    → OnOk r (Tracks between new digest content) → OnErr r ((q : List ℕ) → noted_at new q ≡ noted_at between q) → Tracks old new digest content
 noted_or_none digest content old between new (Ok x) first next same = record {
   here = next.here;
   others = λ q apart. next.others q apart ∙ first.others q apart;
@@ -121,25 +121,25 @@ put_again S name bytes there =
     same_holdings (insert S name bytes) S
     (λ q. get-insert nat_list_cmp_total S name bytes q ∙ held_there (eq_by_cmp (slice_cmp nat_cmp) q name) S name bytes q refl there)
 
-pub no_op : (known : Option Kept) (h : HeldContents) (digest content : List ℕ) → AreHeld known h → noted_at h digest ≡ Some content
+pub no_op : (known : Option StoreState) (h : HeldContents) (digest content : List ℕ) → AreHeld known h → noted_at h digest ≡ Some content
     → IsNoOp known (blob_put content)
 no_op None h digest content held there = tt
 no_op (Some kept) h digest content held there = put_again kept.held (at_blob (sha256 content)) content (held digest content there).held
 
-pub left_out : (known : Option Kept) (h : HeldContents) (digest content : List ℕ) → AreHeld known h → noted_at h digest ≡ Some content
+pub left_out : (known : Option StoreState) (h : HeldContents) (digest content : List ℕ) → AreHeld known h → noted_at h digest ≡ Some content
     → Applies known (blob_put content) known
 left_out known h digest content held there = inr (refl, no_op known h digest content held there)
 
 -- nothing was put
-pub held_still : (before now : Option Kept) (h : HeldContents) → now ≡ before → AreHeld before h → AreHeld now h
-held_still before now h same held = subst (λ (k : Option Kept). AreHeld k h) (sym same) held
+pub held_still : (before now : Option StoreState) (h : HeldContents) → now ≡ before → AreHeld before h → AreHeld now h
+held_still before now h same held = subst (λ (k : Option StoreState). AreHeld k h) (sym same) held
 
 -- a content was put, and noted or forgotten
-pub held_noted : (before now : Option Kept) (old new : HeldContents) (digest content : List ℕ) → digest ≡ sha256 content → AreHeld before old
-    → now ≡ known_after before (blob_put content ∷ []) → Notes old new digest content → AreHeld now new
-held_noted None now old new digest content is held put notes = subst (λ (k : Option Kept). AreHeld k new) (sym put) tt
+pub held_noted : (before now : Option StoreState) (old new : HeldContents) (digest content : List ℕ) → digest ≡ sha256 content → AreHeld before old
+    → now ≡ known_after before (blob_put content ∷ []) → Tracks old new digest content → AreHeld now new
+held_noted None now old new digest content is held put notes = subst (λ (k : Option StoreState). AreHeld k new) (sym put) tt
 held_noted (Some kept) now old new digest content is held put notes =
-    subst (λ (k : Option Kept). AreHeld k new) (sym put) (λ q x there. elim (same_or_other digest q) [
+    subst (λ (k : Option StoreState). AreHeld k new) (sym put) (λ q x there. elim (same_or_other digest q) [
       | inl same ↦
           let new_one : x ≡ content = notes.here x (ap (noted_at new) same ∙ there) in
           record {
@@ -155,11 +155,11 @@ held_noted (Some kept) now old new digest content is held put notes =
           }
     ])
 
-held_beside : (before now : Option Kept) (h : HeldContents) (name bytes : List ℕ) → ((digest : List ℕ) → at_blob digest ≡ name → ⊥) → AreHeld before h
+held_beside : (before now : Option StoreState) (h : HeldContents) (name bytes : List ℕ) → ((digest : List ℕ) → at_blob digest ≡ name → ⊥) → AreHeld before h
     → now ≡ known_after before (Put name bytes ∷ []) → AreHeld now h
-held_beside None now h name bytes none held put = subst (λ (k : Option Kept). AreHeld k h) (sym put) tt
+held_beside None now h name bytes none held put = subst (λ (k : Option StoreState). AreHeld k h) (sym put) tt
 held_beside (Some kept) now h name bytes none held put =
-    subst (λ (k : Option Kept). AreHeld k h) (sym put) (λ q x there.
+    subst (λ (k : Option StoreState). AreHeld k h) (sym put) (λ q x there.
     let old_one : IsContent kept.held q x = held q x there in
     record {
       held = still_there kept.held name bytes (at_blob (sha256 x)) x (λ e. absurd (none (sha256 x) e)) old_one.held;
@@ -167,21 +167,21 @@ held_beside (Some kept) now h name bytes none held put =
     })
 
 -- an entry or a list was put
-pub held_by_entry : (before now : Option Kept) (h : HeldContents) (strong bytes : List ℕ) → AreHeld before h
+pub held_by_entry : (before now : Option StoreState) (h : HeldContents) (strong bytes : List ℕ) → AreHeld before h
     → now ≡ known_after before (Put (at_entry strong) bytes ∷ []) → AreHeld now h
 held_by_entry before now h strong bytes held put = held_beside before now h (at_entry strong) bytes (λ digest e. blob_no_entry digest strong e) held put
 
-held_by_list : (before now : Option Kept) (h : HeldContents) (weak bytes : List ℕ) → AreHeld before h
+held_by_list : (before now : Option StoreState) (h : HeldContents) (weak bytes : List ℕ) → AreHeld before h
     → now ≡ known_after before (Put (at_list weak) bytes ∷ []) → AreHeld now h
 held_by_list before now h weak bytes held put = held_beside before now h (at_list weak) bytes (λ digest e. blob_no_list digest weak e) held put
 
-pub held_then_list : (before now : Option Kept) (h : HeldContents) (weak bytes : List ℕ) (r : Result (Unit {0}) PutFault) → AreHeld before h
+pub held_then_list : (before now : Option StoreState) (h : HeldContents) (weak bytes : List ℕ) (r : Result (Unit {0}) PutFault) → AreHeld before h
     → OnOk r (now ≡ known_after before (Put (at_list weak) bytes ∷ [])) → OnErr r (now ≡ before) → AreHeld now h
 held_then_list before now h weak bytes (Ok x) held put refused = held_by_list before now h weak bytes held put
 held_then_list before now h weak bytes (Err e) held put refused = held_still before now h refused held
 
 -- nothing is noted
-pub none_noted : (known : Option Kept) (h : HeldContents) → h.contents.entries ≡ [] → AreHeld known h
+pub none_noted : (known : Option StoreState) (h : HeldContents) → h.contents.entries ≡ [] → AreHeld known h
 none_noted None h none = tt
 none_noted (Some kept) h none =
     λ q x there. let nothing : noted_at h q ≡ None = ap (λ es. lookup (λ k. is_eq (slice_cmp nat_cmp q k.items)) es) none in absurd cc

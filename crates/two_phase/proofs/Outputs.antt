@@ -23,7 +23,7 @@ use Rattle.memo_format.specs.Entries.{OutputsRise, output_paths}
 use Rattle.memo_format.specs.Found.{output_lines}
 use Rattle.memo_format.specs.declared.entry.OutputLine.{OutputLine}
 use Rattle.content_store.specs.Contents.{IsContent}
-use Rattle.record_match.specs.Apart.{contents_of}
+use Rattle.record_match.specs.Collisions.{contents_of}
 use Rattle.store_meaning.specs.Contents.{HoldsAll}
 use Rattle.store_meaning.proofs.Same.{all_both}
 use Rattle.two_phase.specs.Finding.{AddsTo, AreOutputs, FindsOne}

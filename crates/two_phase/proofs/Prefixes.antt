@@ -3,19 +3,19 @@ use Rattle.std.proofs.Common.{◌≡◌, ℕ, zero, suc, ◌≤◌, arith, appen
 use Rattle.std.specs.Prelude.{OnOk, filter, not}
 use Rattle.sha2.specs.Sha256.{sha256}
 use Rattle.observed.specs.Texts.{paths_text}
-use Rattle.bx_io.specs.Holdings.{Change, IsPrefix, Kept, Put, after}
+use Rattle.bx_io.specs.Holdings.{Change, IsPrefix, Put, StoreState, holdings_after}
 use Rattle.bx_io.specs.declared.keeper.PutFault.{PutFault}
 use Rattle.run_record.specs.Facts.{Facts, Sound}
 use Rattle.memo_format.specs.Selectors.{selectors_text}
-use Rattle.memo_format.specs.Well.{at_entry, at_list}
+use Rattle.memo_format.specs.StoreNames.{at_entry, at_list}
 use Rattle.memo_format.specs.declared.selector.Selector.{Selector}
 use Rattle.memo_format.specs.declared.selector.TheConstants.{MAX_SELECTORS}
 use Rattle.content_store.specs.Contents.{blob_put}
 use Rattle.store_meaning.specs.Honest.{Honest}
-use Rattle.record_match.specs.Apart.{Apart}
+use Rattle.record_match.specs.Collisions.{NoCollision}
 use Rattle.record_match.specs.Digests.{weak_of}
 use Rattle.store_meaning.proofs.Puts as keeping
-use Rattle.store_meaning.specs.Keeping.{IsGood, KeepMet, list_at, same_selector, selector_of, with_first}
+use Rattle.store_meaning.specs.Keeping.{ComparedInSave, IsGood, list_at, record_selector, same_selector, with_first}
 use Rattle.two_phase.specs.Applying.{AppliesAll, AppliesPrefix}
 use Rattle.two_phase.specs.Putting.{IsListAt, IsNextList, IsWritten, LeavesHonest, PutsAll, PutsUpTo, all_puts, planned, written_selector}
 use Rattle.two_phase.specs.declared.recording.Written.{Written}
@@ -23,11 +23,11 @@ use Rattle.two_phase.proofs.Applied.{Made, made_of}
 
 -- ## Records
 
-pub some_list : (before : Option Kept) (weak : List ℕ) → (old : List Selector) × IsListAt before weak old
+pub some_list : (before : Option StoreState) (weak : List ℕ) → (old : List Selector) × IsListAt before weak old
 some_list None weak = ([], tt)
 some_list (Some kept) weak = (list_at kept.held weak, refl)
 
-pub nothing_put : (before now : Option Kept) (f : Facts) → now ≡ before → PutsUpTo before now f
+pub nothing_put : (before now : Option StoreState) (f : Facts) → now ≡ before → PutsUpTo before now f
 nothing_put before now f same =
     let old = some_list before (weak_of f.desc) in
     record {
@@ -43,8 +43,8 @@ nothing_put before now f same =
 pub plan_is : (f : Facts) (w : Written) (old : List Selector) (text : List ℕ) → IsWritten f w → text ≡ selectors_text (with_first (written_selector w) old)
     → all_puts w text ≡ planned f old
 plan_is f w old text h text_is =
-    let s : written_selector w ≡ selector_of f = selector_same (written_selector w) (selector_of f) (ap sha256 h.paths) h.strong_digest in
-    let t : text ≡ selectors_text (with_first (selector_of f) old) = text_is ∙ ap (λ (x : Selector). selectors_text (with_first x old)) s in
+    let s : written_selector w ≡ record_selector f = selector_same (written_selector w) (record_selector f) (ap sha256 h.paths) h.strong_digest in
+    let t : text ≡ selectors_text (with_first (record_selector f) old) = text_is ∙ ap (λ (x : Selector). selectors_text (with_first x old)) s in
     alike w.weak.text.items _ w.paths _ w.strong.text.items _ w.contents.items _ w.strong.digest _ w.entry.items _ w.weak.digest _ text _
     h.weak h.paths h.strong h.contents h.strong_digest h.entry h.weak_digest t
   where
@@ -64,7 +64,7 @@ plan_is f w old text h text_is =
         ∙ ap (λ x. map blob_put (a' ∷ b' ∷ c' ∷ ds') ++ (Put (at_entry s') e' ∷ Put (at_list x) l ∷ [])) h6
         ∙ ap (λ x. map blob_put (a' ∷ b' ∷ c' ∷ ds') ++ (Put (at_entry s') e' ∷ Put (at_list w') x ∷ [])) h7
 
-pub put_up_to : (before now : Option Kept) (f : Facts) (w : Written) (old : List Selector) (text : List ℕ) → IsListAt before (weak_of f.desc) old
+pub put_up_to : (before now : Option StoreState) (f : Facts) (w : Written) (old : List Selector) (text : List ℕ) → IsListAt before (weak_of f.desc) old
     → IsWritten f w → all_puts w text ≡ planned f old → AppliesPrefix before now (all_puts w text) → PutsUpTo before now f
 put_up_to before now f w old text old_is h plan made = record {
   old = old;
@@ -75,24 +75,24 @@ put_up_to before now f w old text old_is h plan made = record {
   spelled = inr h.spelled;
 }
 
-pub put_whole : (before now : Option Kept) (f : Facts) (w : Written) (old : List Selector) (text : List ℕ) → IsListAt before (weak_of f.desc) old
+pub put_whole : (before now : Option StoreState) (f : Facts) (w : Written) (old : List Selector) (text : List ℕ) → IsListAt before (weak_of f.desc) old
     → IsWritten f w → all_puts w text ≡ planned f old → AppliesAll before (all_puts w text) now → PutsAll before now f
 put_whole before now f w old text old_is h plan made =
     record { old = old; old_is = old_is; applies = subst (λ (cs : List Change). AppliesAll before cs now) plan made; spelled = h.spelled }
 
 -- as a call answers it, with the text of the next list
-pub record_made : (before between now : Option Kept) (f : Facts) (w : Written) (text : List ℕ) (r : Result (Unit {0}) PutFault) → between ≡ before
+pub record_made : (before between now : Option StoreState) (f : Facts) (w : Written) (text : List ℕ) (r : Result (Unit {0}) PutFault) → between ≡ before
     → IsWritten f w → IsNextList before w text → OnOk r (AppliesAll between (all_puts w text) now) → OnOk r (PutsAll before now f)
 record_made before between now f w text (Ok x) same h next made =
     put_whole before now f w next.old text (subst (λ d. IsListAt before d next.old) h.weak_digest next.old_is) h (plan_is f w next.old text h next.text_is)
-    (subst (λ (k : Option Kept). AppliesAll k (all_puts w text) now) same made)
+    (subst (λ (k : Option StoreState). AppliesAll k (all_puts w text) now) same made)
 record_made before between now f w text (Err e) same h next made = tt
 
-pub record_cut : (before between now : Option Kept) (f : Facts) (w : Written) (text : List ℕ) → between ≡ before → IsWritten f w → IsNextList before w text
+pub record_cut : (before between now : Option StoreState) (f : Facts) (w : Written) (text : List ℕ) → between ≡ before → IsWritten f w → IsNextList before w text
     → AppliesPrefix between now (all_puts w text) → PutsUpTo before now f
 record_cut before between now f w text same h next made =
     put_up_to before now f w next.old text (subst (λ d. IsListAt before d next.old) h.weak_digest next.old_is) h (plan_is f w next.old text h next.text_is)
-    (subst (λ (k : Option Kept). AppliesPrefix k now (all_puts w text)) same made)
+    (subst (λ (k : Option StoreState). AppliesPrefix k now (all_puts w text)) same made)
 
 few_taken : {X : Type 0} (n : ℕ) (xs : List X) → length (take n xs) ≤ n
 few_taken zero xs = omega arith
@@ -122,8 +122,8 @@ nothing_before : (start : List Change) → IsPrefix start [] → start ≡ []
 nothing_before [] p = refl
 nothing_before (c ∷ cs) p = let joined : c ∷ (cs ++ p.rest) ≡ [] = p.joined in absurd cc
 
-pub leaves_honest : (before : Kept) (now : Option Kept) (f : Facts) → Sound f → IsGood f → PutsUpTo (Some before) now f → Honest before.held
-    → Apart (KeepMet before.held f) → LeavesHonest before now
+pub leaves_honest : (before : StoreState) (now : Option StoreState) (f : Facts) → Sound f → IsGood f → PutsUpTo (Some before) now f → Honest before.held
+    → NoCollision (ComparedInSave before.held f) → LeavesHonest before now
 leaves_honest before now f sound good puts honest apart =
     let done : Made before puts.first now = made_of puts.first before now puts.applies in
     record {
@@ -132,10 +132,10 @@ leaves_honest before now f sound good puts honest apart =
       along = λ start p. let back = done.along start p in subst Honest (sym back.2) (honest_at back.0 back.1);
     }
   where
-    honest_at : (start : List Change) → IsPrefix start puts.first → Honest (after before.held start)
+    honest_at : (start : List Change) → IsPrefix start puts.first → Honest (holdings_after before.held start)
     honest_at start p = elim puts.spelled [
       | inl none ↦
-          subst (λ (cs : List Change). Honest (after before.held cs)) (sym (nothing_before start (subst (IsPrefix start) none p))) honest
+          subst (λ (cs : List Change). Honest (holdings_after before.held cs)) (sym (nothing_before start (subst (IsPrefix start) none p))) honest
       | inr spelled ↦
-          keeping.keeps before.held f honest sound good spelled apart (with_first (selector_of f) puts.old) start (prefix_of_prefix start puts.first (planned f puts.old) p puts.is_first)
+          keeping.keeps before.held f honest sound good spelled apart (with_first (record_selector f) puts.old) start (prefix_of_prefix start puts.first (planned f puts.old) p puts.is_first)
     ]

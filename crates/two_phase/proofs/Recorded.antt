@@ -16,10 +16,10 @@ use Rattle.prints.specs.Strong.{strong_parts, strong_text}
 use Rattle.prints.specs.Weak.{weak_text}
 use Rattle.memo_format.specs.Entries.{entry_text, read_entry_text}
 use Rattle.memo_format.specs.Found.{output_lines}
-use Rattle.record_match.specs.Apart.{contents_of}
+use Rattle.record_match.specs.Collisions.{contents_of}
 use Rattle.record_match.specs.Digests.{weak_of}
 use Rattle.store_meaning.specs.Contents.{answer_contents, desc_contents, given_contents}
-use Rattle.store_meaning.specs.Keeping.{answers_text, entry_of, entry_with, made_of, paths_digest}
+use Rattle.store_meaning.specs.Keeping.{answers_text, entry_with, outcome_files, paths_digest, record_entry}
 use Rattle.two_phase.specs.Putting.{IsWritten}
 use Rattle.two_phase.specs.declared.recording.Written.{Written}
 
@@ -72,7 +72,7 @@ all_joined c0 c1 c2 c3 c4 x y files given made h0 h1 hx h2 h3 h4 =
 -- ## All that is written
 
 pub written_is : (f : Facts) (w : Written) (d e : Desc) (ps : List Ask) (paths_now : List ℕ) (as' bs : List Answer) (files : Files)
-    → d ≡ f.desc → e ≡ f.desc → ps ≡ f.paths → as' ≡ f.answers → bs ≡ f.answers → files ≡ made_of f.outcome
+    → d ≡ f.desc → e ≡ f.desc → ps ≡ f.paths → as' ≡ f.answers → bs ≡ f.answers → files ≡ outcome_files f.outcome
     → w.weak.text.items ≡ weak_text (weak_parts d) → w.weak.digest ≡ sha256 w.weak.text.items → read_weak_text w.weak.text.items ≡ Some (weak_parts d)
     → w.paths ≡ paths_text ps → paths_now ≡ sha256 w.paths → read_paths_text w.paths ≡ Some ps
     → w.strong.text.items ≡ strong_text (strong_parts w.weak.digest paths_now as') → w.strong.digest ≡ sha256 w.strong.text.items
@@ -90,12 +90,12 @@ written_is f w d e ps paths_now as' bs files hd he hp ha hb hf weak weak_digest 
     ∙ ap (λ x. strong_text (strong_parts (weak_of f.desc) x as')) paths_d
     ∙ ap (λ (xs : List Answer). strong_text (strong_parts (weak_of f.desc) (paths_digest f) xs)) ha in
     let strong_d : w.strong.digest ≡ sha256 (answers_text f) = strong_digest ∙ ap sha256 strong_is in
-    let entry_same : entry_with w.weak.digest paths_now w.strong.digest files ≡ entry_of f =
+    let entry_same : entry_with w.weak.digest paths_now w.strong.digest files ≡ record_entry f =
     ap (λ x. entry_with x paths_now w.strong.digest files) weak_d
     ∙ ap (λ x. entry_with (weak_of f.desc) x w.strong.digest files) paths_d
     ∙ ap (λ x. entry_with (weak_of f.desc) (paths_digest f) x files) strong_d
     ∙ ap (λ (fs : Files). entry_with (weak_of f.desc) (paths_digest f) (sha256 (answers_text f)) fs) hf in
-    let entry_is : w.entry.items ≡ entry_text (entry_of f) = entry ∙ ap entry_text entry_same in
+    let entry_is : w.entry.items ≡ entry_text (record_entry f) = entry ∙ ap entry_text entry_same in
     record {
       weak = weak_is;
       weak_digest = weak_d;

@@ -9,16 +9,16 @@ use Rattle.observed.specs.declared.access.Answer.{Answer}
 use Rattle.pip_types.specs.declared.desc.Desc.{Desc}
 use Rattle.memo_format.specs.Entries.{output_paths}
 use Rattle.memo_format.specs.Found.{FoundParts, found_parts}
-use Rattle.memo_format.specs.Well.{HoldsList}
+use Rattle.memo_format.specs.StoreNames.{HoldsList}
 use Rattle.memo_format.specs.declared.entry.Entry.{Entry}
 use Rattle.prints.specs.Strong.{strong_parts, strong_text}
 use Rattle.memo_format.specs.declared.selector.Selector.{Selector}
 use Rattle.store_meaning.specs.Contents.{HoldsPaths}
 use Rattle.record_match.specs.Digests.{IsReadBack, weak_of}
 use Rattle.store_meaning.specs.Usable.{AnyUsable, UsableBy, asked_text, fits}
-use Rattle.two_phase.specs.Finding.{AreOutputs, FindsOne, HasParts, IsAsked, IsEntryFor, IsOf, IsOn, IsWith}
-use Rattle.two_phase.specs.Seeking.{FindsFirst, FindsUsable, IsNow, LeadsTo, Onward, Seeks}
-use Rattle.two_phase.specs.declared.seeking.Sought.TheVariants as sought
+use Rattle.two_phase.specs.Finding.{AreOutputs, FindsOne, HasParts, IsEntryFor, IsOf, IsOn, IsStrongMatch, IsWith}
+use Rattle.two_phase.specs.Lookups.{FindsFirst, FindsUsable, IsCurrentHit, LeadsTo, LookupGives, Onward}
+use Rattle.two_phase.specs.declared.lookups.LookupResult.TheVariants as lookup_results
 use Rattle.two_phase.proofs.Fetched.{one_entry, one_list, one_set}
 use Rattle.two_phase.proofs.Outputs.{drop_past, next_of, paths-lines}
 
@@ -93,36 +93,36 @@ one_digest d weak paths given written digest weak_is given_is is =
 -- answers that are those of now, and give the strong digest
 pub asked_found : (held : Option Holdings) (d : Desc) (see : Ask → Answer) (s : Selector) (asks : List Ask) (given : List Answer) (r : Option FoundParts)
     → given ≡ map see asks → sha256 (strong_text (strong_parts (weak_of d) s.paths given)) ≡ s.strong
-    → FindsOne held (λ S f. IsOn S d s asks given f) r → FindsOne held (λ S f. IsAsked S d see s asks f) r
+    → FindsOne held (λ S f. IsOn S d s asks given f) r → FindsOne held (λ S f. IsStrongMatch S d see s asks f) r
 asked_found held d see s asks given r given_is asked h =
     by_held held r (subst (λ as'. FindsOne held (λ S f. IsOn S d s asks as' f) r) given_is h)
   where
     now : sha256 (asked_text d see s.paths asks) ≡ s.strong
     now = ap (λ as'. sha256 (strong_text (strong_parts (weak_of d) s.paths as'))) (sym given_is) ∙ asked
 
-    by_held : (held : Option Holdings) (r : Option FoundParts) → FindsOne held (λ S f. IsOn S d s asks (map see asks) f) r → FindsOne held (λ S f. IsAsked S d see s asks f) r
+    by_held : (held : Option Holdings) (r : Option FoundParts) → FindsOne held (λ S f. IsOn S d s asks (map see asks) f) r → FindsOne held (λ S f. IsStrongMatch S d see s asks f) r
     by_held None r h = tt
     by_held (Some S) None h = λ f there. h f there.on
     by_held (Some S) (Some f) h = record { asked = now; on = h }
 
 pub asked_given : {E : Type 0} (held : Option Holdings) (d : Desc) (see : Ask → Answer) (s : Selector) (asks : List Ask) (given : List Answer)
     (r : Result (Option FoundParts) E) → given ≡ map see asks → sha256 (strong_text (strong_parts (weak_of d) s.paths given)) ≡ s.strong
-    → IfOk r (FindsOne held (λ S f. IsOn S d s asks given f)) → IfOk r (FindsOne held (λ S f. IsAsked S d see s asks f))
+    → IfOk r (FindsOne held (λ S f. IsOn S d s asks given f)) → IfOk r (FindsOne held (λ S f. IsStrongMatch S d see s asks f))
 asked_given held d see s asks given (Ok found) given_is asked h = asked_found held d see s asks given found given_is asked h
 asked_given held d see s asks given (Err x) given_is asked h = tt
 
 pub not_asked : (held : Option Holdings) (d : Desc) (see : Ask → Answer) (s : Selector) (asks : List Ask) (given : List Answer)
     → given ≡ map see asks → (sha256 (strong_text (strong_parts (weak_of d) s.paths given)) ≡ s.strong → ⊥)
-    → FindsOne held (λ S f. IsAsked S d see s asks f) None
+    → FindsOne held (λ S f. IsStrongMatch S d see s asks f) None
 not_asked None d see s asks given given_is other = tt
 not_asked (Some S) d see s asks given given_is other =
     λ f there. other (ap (λ as'. sha256 (strong_text (strong_parts (weak_of d) s.paths as'))) given_is ∙ there.asked)
 
 pub leads : (held now : Option Holdings) (d : Desc) (see : Ask → Answer) (s : Selector) (asks : List Ask) (r : Option FoundParts) → now ≡ held
-    → FindsOne held (λ S a. HoldsPaths S s.paths a) (Some asks) → FindsOne now (λ S f. IsAsked S d see s asks f) r → FindsOne held (λ S f. LeadsTo S d see s f) r
-leads held now d see s asks r same paths h = by_held held r paths (moved held now (λ S f. IsAsked S d see s asks f) r same h)
+    → FindsOne held (λ S a. HoldsPaths S s.paths a) (Some asks) → FindsOne now (λ S f. IsStrongMatch S d see s asks f) r → FindsOne held (λ S f. LeadsTo S d see s f) r
+leads held now d see s asks r same paths h = by_held held r paths (moved held now (λ S f. IsStrongMatch S d see s asks f) r same h)
   where
-    by_held : (held : Option Holdings) (r : Option FoundParts) → FindsOne held (λ S a. HoldsPaths S s.paths a) (Some asks) → FindsOne held (λ S f. IsAsked S d see s asks f) r
+    by_held : (held : Option Holdings) (r : Option FoundParts) → FindsOne held (λ S a. HoldsPaths S s.paths a) (Some asks) → FindsOne held (λ S f. IsStrongMatch S d see s asks f) r
         → FindsOne held (λ S f. LeadsTo S d see s f) r
     by_held None r paths h = tt
     by_held (Some S) None paths h =
@@ -159,7 +159,7 @@ leads held now d see s asks r same paths h = by_held held r paths (moved held no
     }
 
 pub leads_given : {E : Type 0} (held now : Option Holdings) (d : Desc) (see : Ask → Answer) (s : Selector) (asks : List Ask) (r : Result (Option FoundParts) E) → now ≡ held
-    → FindsOne held (λ S a. HoldsPaths S s.paths a) (Some asks) → IfOk r (FindsOne now (λ S f. IsAsked S d see s asks f)) → IfOk r (FindsOne held (λ S f. LeadsTo S d see s f))
+    → FindsOne held (λ S a. HoldsPaths S s.paths a) (Some asks) → IfOk r (FindsOne now (λ S f. IsStrongMatch S d see s asks f)) → IfOk r (FindsOne held (λ S f. LeadsTo S d see s f))
 leads_given held now d see s asks (Ok found) same paths h = leads held now d see s asks found same paths h
 leads_given held now d see s asks (Err x) same paths h = tt
 
@@ -235,26 +235,26 @@ pub no_list_for : (held : Option Holdings) (d : Desc) (see : Ask → Answer) →
 no_list_for None d see h = tt
 no_list_for (Some S) d see h = λ u. h u.list u.held
 
-pub hit : (held : Option Holdings) (d : Desc) (see : Ask → Answer) (f : FoundParts) → FindsUsable held d see (Some f) → Seeks held d see (sought.Hit f)
+pub hit : (held : Option Holdings) (d : Desc) (see : Ask → Answer) (f : FoundParts) → FindsUsable held d see (Some f) → LookupGives held d see (lookup_results.Hit f)
 hit None d see f h = tt
 hit (Some S) d see f h = h
 
-pub miss : (held : Option Holdings) (d : Desc) (see : Ask → Answer) → FindsUsable held d see None → Seeks held d see sought.Miss
+pub miss : (held : Option Holdings) (d : Desc) (see : Ask → Answer) → FindsUsable held d see None → LookupGives held d see lookup_results.Miss
 miss None d see h = tt
 miss (Some S) d see h = h
 
-pub fault : (held : Option Holdings) (d : Desc) (see : Ask → Answer) → Seeks held d see sought.Fault
+pub fault : (held : Option Holdings) (d : Desc) (see : Ask → Answer) → LookupGives held d see lookup_results.Fault
 fault None d see = tt
 fault (Some S) d see = tt
 
-pub memory : (held : Option Holdings) (d : Desc) (see : Ask → Answer) → Seeks held d see sought.Memory
+pub memory : (held : Option Holdings) (d : Desc) (see : Ask → Answer) → LookupGives held d see lookup_results.Memory
 memory None d see = tt
 memory (Some S) d see = tt
 
 -- ## Whatever is held
 
 pub of_now : {E : Type 0} (d : Desc) (see : Ask → Answer) (asks : List Ask) (given : List Answer) (r : Result (Option FoundParts) E) → given ≡ map see asks
-    → IfOk r (λ found. IfSome found (IsOf d asks given)) → IfOk r (λ found. IfSome found (IsNow d see))
+    → IfOk r (λ found. IfSome found (IsOf d asks given)) → IfOk r (λ found. IfSome found (IsCurrentHit d see))
 of_now d see asks given (Ok (Some f)) is h = record {
   weak_is = h.weak_is;
   answers_are = h.given_are ∙ is ∙ ap (map see) (sym h.asks_are);
@@ -264,8 +264,8 @@ of_now d see asks given (Ok (Some f)) is h = record {
 of_now d see asks given (Ok None) is h = tt
 of_now d see asks given (Err e) is h = tt
 
-pub now_spelled : {E : Type 0} (d : Desc) (see : Ask → Answer) (r : Result (Option FoundParts) E) → IsReadBack d → IfOk r (λ found. IfSome found (IsNow d see))
-    → IfOk r (λ found. IfSome found (λ f. IsReadBack d × IsNow d see f))
+pub now_spelled : {E : Type 0} (d : Desc) (see : Ask → Answer) (r : Result (Option FoundParts) E) → IsReadBack d → IfOk r (λ found. IfSome found (IsCurrentHit d see))
+    → IfOk r (λ found. IfSome found (λ f. IsReadBack d × IsCurrentHit d see f))
 now_spelled d see (Ok (Some f)) spells h = (spells, h)
 now_spelled d see (Ok None) spells h = tt
 now_spelled d see (Err e) spells h = tt

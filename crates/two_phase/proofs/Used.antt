@@ -2,7 +2,7 @@
 use Rattle.std.proofs.Common.{◌≡◌, ℕ, ◌≤◌, Option, Ok, Err, refl, ◌∙◌, subst, arith}
 use Rattle.bx_io.specs.Causes.{HasCause, Rose}
 use Rattle.bx_io.specs.Holdings.{Holdings}
-use Rattle.two_phase.specs.Calls.{Keeps, Reads}
+use Rattle.two_phase.specs.Calls.{KeeperCall, ReaderCall}
 
 cause_then : (f0 f1 f2 : ℕ) (A B : Type 0) → HasCause f0 f1 A → (¬ A → f1 ≡ f0) → ¬ A → HasCause f1 f2 B → HasCause f0 f2 B
 cause_then f0 f1 f2 A B first still none next =
@@ -13,7 +13,7 @@ cause_then f0 f1 f2 A B first still none next =
     }
 
 -- no call was made
-pub reads_none : (held : Option Holdings) (bound : Option ℕ) (faults : ℕ) (A : Type 0) → ¬ A → Reads held held bound bound faults faults A
+pub reads_none : (held : Option Holdings) (bound : Option ℕ) (faults : ℕ) (A : Type 0) → ¬ A → ReaderCall held held bound bound faults faults A
 reads_none held bound faults A none = record {
   held_is = refl;
   bound_is = refl;
@@ -24,7 +24,7 @@ reads_none held bound faults A none = record {
 }
 
 -- the answer to a call, said in another way
-pub reads_as : (h0 h1 : Option Holdings) (b0 b1 : Option ℕ) (f0 f1 : ℕ) (A B : Type 0) → (B → A) → (A → B) → Reads h0 h1 b0 b1 f0 f1 A → Reads h0 h1 b0 b1 f0 f1 B
+pub reads_as : (h0 h1 : Option Holdings) (b0 b1 : Option ℕ) (f0 f1 : ℕ) (A B : Type 0) → (B → A) → (A → B) → ReaderCall h0 h1 b0 b1 f0 f1 A → ReaderCall h0 h1 b0 b1 f0 f1 B
 reads_as h0 h1 b0 b1 f0 f1 A B from to r = record {
   held_is = r.held_is;
   bound_is = r.bound_is;
@@ -35,8 +35,8 @@ reads_as h0 h1 b0 b1 f0 f1 A B from to r = record {
 }
 
 -- a call that did not fail, and the next one
-pub reads_then : (h0 h1 h2 : Option Holdings) (b0 b1 b2 : Option ℕ) (f0 f1 f2 : ℕ) (A B : Type 0) → ¬ A → Reads h0 h1 b0 b1 f0 f1 A
-    → Reads h1 h2 b1 b2 f1 f2 B → Reads h0 h2 b0 b2 f0 f2 B
+pub reads_then : (h0 h1 h2 : Option Holdings) (b0 b1 b2 : Option ℕ) (f0 f1 f2 : ℕ) (A B : Type 0) → ¬ A → ReaderCall h0 h1 b0 b1 f0 f1 A
+    → ReaderCall h1 h2 b1 b2 f1 f2 B → ReaderCall h0 h2 b0 b2 f0 f2 B
 reads_then h0 h1 h2 b0 b1 b2 f0 f1 f2 A B none first next = record {
   held_is = next.held_is ∙ first.held_is;
   bound_is = next.bound_is ∙ first.bound_is;
@@ -47,15 +47,15 @@ reads_then h0 h1 h2 b0 b1 b2 f0 f1 f2 A B none first next = record {
 }
 
 -- a loop goes on after a call that did not fail
-pub reads_on : (h0 h1 h2 : Option Holdings) (b0 b1 b2 : Option ℕ) (f0 f1 f2 : ℕ) (A : Type 0) → ¬ A → Reads h0 h1 b0 b1 f0 f1 ⊥ → Reads h1 h2 b1 b2 f1 f2 A
-    → Reads h0 h2 b0 b2 f0 f2 ⊥
+pub reads_on : (h0 h1 h2 : Option Holdings) (b0 b1 b2 : Option ℕ) (f0 f1 f2 : ℕ) (A : Type 0) → ¬ A → ReaderCall h0 h1 b0 b1 f0 f1 ⊥ → ReaderCall h1 h2 b1 b2 f1 f2 A
+    → ReaderCall h0 h2 b0 b2 f0 f2 ⊥
 reads_on h0 h1 h2 b0 b1 b2 f0 f1 f2 A none first next =
     reads_as h0 h2 b0 b2 f0 f2 A ⊥ (λ e. absurd e) none (reads_then h0 h1 h2 b0 b1 b2 f0 f1 f2 ⊥ A (λ e. e) first next)
 
 pub ok_no_err : {X E : Type 0} (x : X) (e : E) → Ok x ≡ Err e → ⊥
 ok_no_err x e h = cc
 
-pub keeps_none : (bound : Option ℕ) (faults : ℕ) (A : Type 0) → ¬ A → Keeps bound bound faults faults A
+pub keeps_none : (bound : Option ℕ) (faults : ℕ) (A : Type 0) → ¬ A → KeeperCall bound bound faults faults A
 keeps_none bound faults A none = record {
   bound_is = refl;
   can_rise = λ h. h;
@@ -64,7 +64,7 @@ keeps_none bound faults A none = record {
   no_fault = λ n. refl;
 }
 
-pub keeps_as : (b0 b1 : Option ℕ) (f0 f1 : ℕ) (A B : Type 0) → (B → A) → (A → B) → Keeps b0 b1 f0 f1 A → Keeps b0 b1 f0 f1 B
+pub keeps_as : (b0 b1 : Option ℕ) (f0 f1 : ℕ) (A B : Type 0) → (B → A) → (A → B) → KeeperCall b0 b1 f0 f1 A → KeeperCall b0 b1 f0 f1 B
 keeps_as b0 b1 f0 f1 A B from to r = record {
   bound_is = r.bound_is;
   can_rise = r.can_rise;
@@ -73,7 +73,7 @@ keeps_as b0 b1 f0 f1 A B from to r = record {
   no_fault = λ n. r.no_fault (λ a. n (to a));
 }
 
-pub keeps_then : (b0 b1 b2 : Option ℕ) (f0 f1 f2 : ℕ) (A B : Type 0) → ¬ A → Keeps b0 b1 f0 f1 A → Keeps b1 b2 f1 f2 B → Keeps b0 b2 f0 f2 B
+pub keeps_then : (b0 b1 b2 : Option ℕ) (f0 f1 f2 : ℕ) (A B : Type 0) → ¬ A → KeeperCall b0 b1 f0 f1 A → KeeperCall b1 b2 f1 f2 B → KeeperCall b0 b2 f0 f2 B
 keeps_then b0 b1 b2 f0 f1 f2 A B none first next = record {
   bound_is = next.bound_is ∙ first.bound_is;
   can_rise = λ h. next.can_rise (first.can_rise h);
@@ -82,6 +82,6 @@ keeps_then b0 b1 b2 f0 f1 f2 A B none first next = record {
   no_fault = λ n. next.no_fault n ∙ first.no_fault none;
 }
 
-pub keeps_on : (b0 b1 b2 : Option ℕ) (f0 f1 f2 : ℕ) (A : Type 0) → ¬ A → Keeps b0 b1 f0 f1 ⊥ → Keeps b1 b2 f1 f2 A → Keeps b0 b2 f0 f2 ⊥
+pub keeps_on : (b0 b1 b2 : Option ℕ) (f0 f1 f2 : ℕ) (A : Type 0) → ¬ A → KeeperCall b0 b1 f0 f1 ⊥ → KeeperCall b1 b2 f1 f2 A → KeeperCall b0 b2 f0 f2 ⊥
 keeps_on b0 b1 b2 f0 f1 f2 A none first next =
     keeps_as b0 b2 f0 f2 A ⊥ (λ e. absurd e) none (keeps_then b0 b1 b2 f0 f1 f2 ⊥ A (λ e. e) first next)

@@ -5,7 +5,7 @@ use Rattle.bx_io.specs.Holdings.{Holdings}
 
 -- The reader holds what it held, its bound is as it was, its count of faults stays within it, and the count
 -- rose just where the call answered a fault.
-pub record Reads (held now_held : Option Holdings) (bound now_bound : Option ℕ) (faults now_faults : ℕ)
+pub record ReaderCall (held now_held : Option Holdings) (bound now_bound : Option ℕ) (faults now_faults : ℕ)
     (fault : Type 0) : Type 0 where
   pub held_is : now_held ≡ held
   pub bound_is : now_bound ≡ bound
@@ -16,7 +16,7 @@ pub record Reads (held now_held : Option Holdings) (bound now_bound : Option ℕ
 
 -- The keeper's bound is as it was, and its count of faults rose just where the call answered a fault; after
 -- that it can still rise.
-pub record Keeps (bound now_bound : Option ℕ) (faults now_faults : ℕ) (fault : Type 0) : Type 0 where
+pub record KeeperCall (bound now_bound : Option ℕ) (faults now_faults : ℕ) (fault : Type 0) : Type 0 where
   pub bound_is : now_bound ≡ bound
   pub can_rise : CanRise bound faults → CanRise now_bound now_faults
   pub fault_can_rise : fault → CanRise now_bound now_faults

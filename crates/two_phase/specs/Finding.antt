@@ -15,7 +15,7 @@ use Rattle.memo_format.specs.declared.entry.OutputLine.{OutputLine}
 use Rattle.memo_format.specs.declared.selector.Selector.{Selector}
 use Rattle.content_store.specs.Contents.{IsContent}
 use Rattle.content_store.specs.HeldEntries.{IsHeld}
-use Rattle.record_match.specs.Apart.{contents_of}
+use Rattle.record_match.specs.Collisions.{contents_of}
 use Rattle.record_match.specs.Digests.{weak_of}
 use Rattle.store_meaning.specs.Contents.{HoldsAll}
 use Rattle.store_meaning.specs.Usable.{asked_text, fits}
@@ -77,7 +77,7 @@ pub record IsOn (S : Holdings) (d : Desc) (s : Selector) (asks : List Ask) (give
 
 -- The path set, asked now, gives the strong digest of the selector, and this is an entry of it with its
 -- outputs.
-pub record IsAsked (S : Holdings) (d : Desc) (see : Ask → Answer) (s : Selector) (asks : List Ask)
+pub record IsStrongMatch (S : Holdings) (d : Desc) (see : Ask → Answer) (s : Selector) (asks : List Ask)
     (found : FoundParts) : Type 0 where
   pub asked : sha256 (asked_text d see s.paths asks) ≡ s.strong
   pub on : IsOn S d s asks (map see asks) found

@@ -3,7 +3,7 @@ use Rattle.std.specs.Prelude.{◌≡◌, ℕ, List, Option, Some, None, ⊤}
 use Rattle.std.specs.BTreeMap.{get_by}
 use Rattle.std.specs.Cmp.Lexicographic.{slice_cmp}
 use Rattle.std.specs.Ordering.{nat_cmp}
-use Rattle.bx_io.specs.Holdings.{Kept}
+use Rattle.bx_io.specs.Holdings.{StoreState}
 use Rattle.content_store.specs.Contents.{IsContent}
 use Rattle.two_phase.specs.declared.held.HeldContents.{HeldContents}
 
@@ -12,12 +12,12 @@ abbrev pub noted_at : HeldContents → List ℕ → Option (List ℕ)
 noted_at h digest = get_by (λ k. slice_cmp nat_cmp digest k.items) h.contents
 
 -- Each content that is noted at a digest has it, and is held under it, where what is held is known.
-abbrev pub AreHeld : Option Kept → HeldContents → Type 0
+abbrev pub AreHeld : Option StoreState → HeldContents → Type 0
 AreHeld None h = ⊤
 AreHeld (Some kept) h =
     (digest content : List ℕ) → noted_at h digest ≡ Some content → IsContent kept.held digest content
 
 -- At the digest this content is noted, or none; at all others what was noted before.
-pub record Notes (before now : HeldContents) (digest content : List ℕ) : Type 0 where
+pub record Tracks (before now : HeldContents) (digest content : List ℕ) : Type 0 where
   pub here : (other : List ℕ) → noted_at now digest ≡ Some other → other ≡ content
   pub others : (q : List ℕ) → (digest ≡ q → ⊥) → noted_at now q ≡ noted_at before q

@@ -2,5 +2,5 @@ pub mod Applying
 pub mod Calls
 pub mod Finding
 pub mod Held
-pub mod Seeking
+pub mod Lookups
 pub mod Putting

@@ -2,25 +2,25 @@
 use Rattle.std.specs.Prelude.{◌≡◌, ◌⊎◌, ℕ, List, [], ◌∷◌, ◌++◌, map, Option, Some, None, ⊤}
 use Rattle.sha2.specs.Sha256.{sha256}
 use Rattle.observed.specs.Texts.{paths_text}
-use Rattle.bx_io.specs.Holdings.{Change, IsPrefix, Kept, Put, after, kept_after}
+use Rattle.bx_io.specs.Holdings.{Change, IsPrefix, Put, StoreState, holdings_after, state_after}
 use Rattle.run_record.specs.Facts.{Facts}
 use Rattle.memo_format.specs.declared.selector.Selector.{Selector}
 use Rattle.prints.specs.Processes.{weak_parts}
 use Rattle.prints.specs.Weak.{weak_text}
 use Rattle.memo_format.specs.Entries.{entry_text}
 use Rattle.memo_format.specs.Selectors.{selectors_text}
-use Rattle.memo_format.specs.Well.{at_entry, at_list}
+use Rattle.memo_format.specs.StoreNames.{at_entry, at_list}
 use Rattle.content_store.specs.Contents.{blob_put}
-use Rattle.record_match.specs.Apart.{contents_of}
+use Rattle.record_match.specs.Collisions.{contents_of}
 use Rattle.record_match.specs.Digests.{weak_of}
 use Rattle.store_meaning.specs.Contents.{desc_contents, given_contents}
 use Rattle.store_meaning.specs.Honest.{Honest}
-use Rattle.store_meaning.specs.Keeping.{Spelled, answers_text, entry_of, list_at, made_of, puts_of, selector_of, with_first}
+use Rattle.store_meaning.specs.Keeping.{Spelled, answers_text, list_at, outcome_files, puts_of, record_entry, record_selector, with_first}
 use Rattle.two_phase.specs.Applying.{AppliesAll}
 use Rattle.two_phase.specs.declared.recording.Written.{Written}
 
 -- These selectors are held for the weak text, as far as that is known.
-abbrev pub IsListAt : Option Kept → List ℕ → List Selector → Type 0
+abbrev pub IsListAt : Option StoreState → List ℕ → List Selector → Type 0
 IsListAt None weak list = ⊤
 IsListAt (Some kept) weak list = list ≡ list_at kept.held weak
 
@@ -29,14 +29,14 @@ abbrev pub written_selector : Written → Selector
 written_selector w = record { paths = sha256 w.paths; strong = w.strong.digest }
 
 -- The text is that of the list that is held, with the selector of what was written first.
-pub record IsNextList (known : Option Kept) (w : Written) (text : List ℕ) : Type 0 where
+pub record IsNextList (known : Option StoreState) (w : Written) (text : List ℕ) : Type 0 where
   pub old : List Selector
   pub old_is : IsListAt known w.weak.digest old
   pub text_is : text ≡ selectors_text (with_first (written_selector w) old)
 
 -- what is put for a record where these selectors are held for its process
 abbrev pub planned : Facts → List Selector → List Change
-planned f old = puts_of f (with_first (selector_of f) old)
+planned f old = puts_of f (with_first (record_selector f) old)
 
 -- The texts of the record, each with its digest and all but the strong one read back, its contents, and the
 -- text of its entry.
@@ -47,8 +47,8 @@ pub record IsWritten (f : Facts) (w : Written) : Type 0 where
   pub strong : w.strong.text.items ≡ answers_text f
   pub strong_digest : w.strong.digest ≡ sha256 (answers_text f)
   pub contents : w.contents.items
-      ≡ desc_contents f.desc ++ (given_contents f.answers ++ contents_of (made_of f.outcome))
-  pub entry : w.entry.items ≡ entry_text (entry_of f)
+      ≡ desc_contents f.desc ++ (given_contents f.answers ++ contents_of (outcome_files f.outcome))
+  pub entry : w.entry.items ≡ entry_text (record_entry f)
   pub spelled : Spelled f
 
 -- the texts and contents that were written
@@ -63,7 +63,7 @@ all_puts w list =
 
 -- The puts of the record were made up to some place, but for those that would have changed nothing, and
 -- nothing else; where that is not the first place, the texts of the record are read back.
-pub record PutsUpTo (before now : Option Kept) (f : Facts) : Type 0 where
+pub record PutsUpTo (before now : Option StoreState) (f : Facts) : Type 0 where
   pub old : List Selector
   pub old_is : IsListAt before (weak_of f.desc) old
   pub first : List Change
@@ -72,14 +72,14 @@ pub record PutsUpTo (before now : Option Kept) (f : Facts) : Type 0 where
   pub spelled : (first ≡ []) ⊎ Spelled f
 
 -- All puts of the record were made, but for those that would have changed nothing, and nothing else.
-pub record PutsAll (before now : Option Kept) (f : Facts) : Type 0 where
+pub record PutsAll (before now : Option StoreState) (f : Facts) : Type 0 where
   pub old : List Selector
   pub old_is : IsListAt before (weak_of f.desc) old
   pub applies : AppliesAll before (planned f old) now
   pub spelled : Spelled f
 
 -- These changes were made, and what is held was honest before them and after each.
-pub record LeavesHonest (before : Kept) (now : Option Kept) : Type 0 where
+pub record LeavesHonest (before : StoreState) (now : Option StoreState) : Type 0 where
   pub made : List Change
-  pub makes : now ≡ Some (kept_after before made)
-  pub along : (start : List Change) → IsPrefix start made → Honest (after before.held start)
+  pub makes : now ≡ Some (state_after before made)
+  pub along : (start : List Change) → IsPrefix start made → Honest (holdings_after before.held start)

@@ -7,13 +7,13 @@ ghost use Rattle.content_store.specs.HeldEntries.{IsHeld};
 ghost use Rattle.memo_format.specs.Entries.{IsEntry, OutputsRise};
 ghost use Rattle.memo_format.specs.Found.{output_lines};
 ghost use Rattle.memo_format.specs.Selectors.{read_selectors_text};
-ghost use Rattle.memo_format.specs.Well.{HoldsList};
+ghost use Rattle.memo_format.specs.StoreNames.{HoldsList};
 ghost use Rattle.observed.specs.Texts.{read_paths_text};
 ghost use Rattle.store_meaning.specs.Contents.{HoldsPaths};
-ghost use Rattle.two_phase.specs.Calls.{Reads};
+ghost use Rattle.two_phase.specs.Calls.{ReaderCall};
 ghost use Rattle.two_phase.specs.Finding.{AddsTo, AreOutputs, FindsOne, PutsIn};
 
-use crate::trouble::Trouble;
+use crate::store_fault::StoreFault;
 use bx_digest::{Blob, Digest};
 use bx_io::{Got, KeepReader};
 use content_store::{Fetched, FetchedEntry, get_blob, get_entry, list_name};
@@ -53,29 +53,29 @@ fn content<R: KeepReader>(
     alloc: Global,
     reader: &mut R,
     digest: &Digest,
-) -> Result<Option<Blob>, Trouble>
+) -> Result<Option<Blob>, StoreFault>
     ensures found { IfOk result (FindsOne (R.held reader.old) (λ S bytes. IsContent S digest.now bytes)) }
     ensures digest { IfOk result (λ found. IfSome found (λ bytes. sha256 bytes ≡ digest.now)) }
-    ensures reader { Reads (R.held reader.old) (R.held reader.new) (R.bound reader.old) (R.bound reader.new)
-        (R.faults reader.old) (R.faults reader.new) (result ≡ Err Trouble.Fault) }
+    ensures reader { ReaderCall (R.held reader.old) (R.held reader.new) (R.bound reader.old) (R.bound reader.new)
+        (R.faults reader.old) (R.faults reader.new) (result ≡ Err StoreFault.Fault) }
 {
     match get_blob(alloc, reader, digest) {
         Fetched::Found(blob) => Ok(Some(blob)),
         Fetched::NotWell => Ok(None),
-        Fetched::Fault => Err(Trouble::Fault),
-        Fetched::Memory => Err(Trouble::Memory),
+        Fetched::Fault => Err(StoreFault::Fault),
+        Fetched::Memory => Err(StoreFault::Memory),
     }
 }
 
 // The path set of a text, if it is one.
-fn read_set(alloc: Global, text: &[u8]) -> Result<Option<PathSet>, Trouble>
+fn read_set(alloc: Global, text: &[u8]) -> Result<Option<PathSet>, StoreFault>
     ensures read { IfOk result (λ set. read_paths_text text.now ≡ set) }
-    ensures no_fault { result ≢ Err Trouble.Fault }
+    ensures no_fault { result ≢ Err StoreFault.Fault }
 {
     match PathSet::read(alloc, text) {
         Ok(set) => Ok(Some(set)),
         Err(SetFault::BadSet) => Ok(None),
-        Err(SetFault::Memory) => Err(Trouble::Memory),
+        Err(SetFault::Memory) => Err(StoreFault::Memory),
     }
 }
 
@@ -84,10 +84,10 @@ pub(crate) fn path_set<R: KeepReader>(
     alloc: Global,
     reader: &mut R,
     digest: &Digest,
-) -> Result<Option<PathSet>, Trouble>
+) -> Result<Option<PathSet>, StoreFault>
     ensures found { IfOk result (FindsOne (R.held reader.old) (λ S asks. HoldsPaths S digest.now asks)) }
-    ensures reader { Reads (R.held reader.old) (R.held reader.new) (R.bound reader.old) (R.bound reader.new)
-        (R.faults reader.old) (R.faults reader.new) (result ≡ Err Trouble.Fault) }
+    ensures reader { ReaderCall (R.held reader.old) (R.held reader.new) (R.bound reader.old) (R.bound reader.new)
+        (R.faults reader.old) (R.faults reader.new) (result ≡ Err StoreFault.Fault) }
 {
     match content(alloc, reader, digest)? {
         Some(text) => read_set(alloc, text.bytes()),
@@ -100,29 +100,29 @@ pub(crate) fn entry<R: KeepReader>(
     alloc: Global,
     reader: &mut R,
     strong: &Digest,
-) -> Result<Option<Entry>, Trouble>
+) -> Result<Option<Entry>, StoreFault>
     ensures found { IfOk result (FindsOne (R.held reader.old) (λ S e. IsHeld S strong.now e)) }
     ensures entry { IfOk result (λ found. IfSome found IsEntry) }
-    ensures reader { Reads (R.held reader.old) (R.held reader.new) (R.bound reader.old) (R.bound reader.new)
-        (R.faults reader.old) (R.faults reader.new) (result ≡ Err Trouble.Fault) }
+    ensures reader { ReaderCall (R.held reader.old) (R.held reader.new) (R.bound reader.old) (R.bound reader.new)
+        (R.faults reader.old) (R.faults reader.new) (result ≡ Err StoreFault.Fault) }
 {
     match get_entry(alloc, reader, strong) {
         FetchedEntry::Found(entry) => Ok(Some(entry)),
         FetchedEntry::NotWell => Ok(None),
-        FetchedEntry::Fault => Err(Trouble::Fault),
-        FetchedEntry::Memory => Err(Trouble::Memory),
+        FetchedEntry::Fault => Err(StoreFault::Fault),
+        FetchedEntry::Memory => Err(StoreFault::Memory),
     }
 }
 
 // The selectors of a text, if it is a list of them.
-fn read_list(alloc: Global, text: &[u8]) -> Result<Option<SelectorList>, Trouble>
+fn read_list(alloc: Global, text: &[u8]) -> Result<Option<SelectorList>, StoreFault>
     ensures read { IfOk result (λ list. read_selectors_text text.now ≡ list) }
-    ensures no_fault { result ≢ Err Trouble.Fault }
+    ensures no_fault { result ≢ Err StoreFault.Fault }
 {
     match read_selectors(alloc, text) {
         Ok(list) => Ok(Some(SelectorList { list })),
         Err(FormatFault::BadForm) => Ok(None),
-        Err(FormatFault::Memory) => Err(Trouble::Memory),
+        Err(FormatFault::Memory) => Err(StoreFault::Memory),
     }
 }
 
@@ -131,17 +131,17 @@ pub(crate) fn selectors<R: KeepReader>(
     alloc: Global,
     reader: &mut R,
     weak: &Digest,
-) -> Result<Option<SelectorList>, Trouble>
+) -> Result<Option<SelectorList>, StoreFault>
     ensures found { IfOk result (FindsOne (R.held reader.old) (λ S list. HoldsList S weak.now list)) }
-    ensures reader { Reads (R.held reader.old) (R.held reader.new) (R.bound reader.old) (R.bound reader.new)
-        (R.faults reader.old) (R.faults reader.new) (result ≡ Err Trouble.Fault) }
+    ensures reader { ReaderCall (R.held reader.old) (R.held reader.new) (R.bound reader.old) (R.bound reader.new)
+        (R.faults reader.old) (R.faults reader.new) (result ≡ Err StoreFault.Fault) }
 {
     let name = list_name(alloc, weak)?;
     match reader.get(alloc, name.as_str()) {
         Got::Found(text) => read_list(alloc, text.as_slice()),
         Got::None => Ok(None),
-        Got::Failed => Err(Trouble::Fault),
-        Got::Memory => Err(Trouble::Memory),
+        Got::Failed => Err(StoreFault::Fault),
+        Got::Memory => Err(StoreFault::Memory),
     }
 }
 
@@ -151,9 +151,9 @@ fn put_output(
     writes: Writes,
     output: &OutputLine,
     blob: Blob,
-) -> Result<Option<Writes>, Trouble>
+) -> Result<Option<Writes>, StoreFault>
     ensures put { IfOk result (PutsIn writes output.now.path blob) }
-    ensures no_fault { result ≢ Err Trouble.Fault }
+    ensures no_fault { result ≢ Err StoreFault.Fault }
 {
     let path = output.path.share()?;
     let (now, is_put) = writes.put(alloc, path, blob)?;
@@ -166,10 +166,10 @@ fn add_output<R: KeepReader>(
     reader: &mut R,
     writes: Writes,
     output: &OutputLine,
-) -> Result<Option<Writes>, Trouble>
+) -> Result<Option<Writes>, StoreFault>
     ensures added { IfOk result (AddsTo (R.held reader.old) writes output.now) }
-    ensures reader { Reads (R.held reader.old) (R.held reader.new) (R.bound reader.old) (R.bound reader.new)
-        (R.faults reader.old) (R.faults reader.new) (result ≡ Err Trouble.Fault) }
+    ensures reader { ReaderCall (R.held reader.old) (R.held reader.new) (R.bound reader.old) (R.bound reader.new)
+        (R.faults reader.old) (R.faults reader.new) (result ≡ Err StoreFault.Fault) }
 {
     match content(alloc, reader, &output.digest)? {
         Some(blob) => put_output(alloc, writes, output, blob),
@@ -182,13 +182,13 @@ pub(crate) fn outputs<R: KeepReader>(
     alloc: Global,
     reader: &mut R,
     outputs: &[OutputLine],
-) -> Result<Option<Made>, Trouble>
+) -> Result<Option<Made>, StoreFault>
     requires { OutputsRise outputs.now }
     ensures found { IfOk result (FindsOne (R.held reader.old) (λ S files. AreOutputs S outputs.now files)) }
     ensures made { IfOk result (λ found. IfSome found (λ files. output_lines files ≡ outputs.now)) }
     ensures unnested { IfOk result (λ found. IfSome found (λ files. NoneNested (paths_of files))) }
-    ensures reader { Reads (R.held reader.old) (R.held reader.new) (R.bound reader.old) (R.bound reader.new)
-        (R.faults reader.old) (R.faults reader.new) (result ≡ Err Trouble.Fault) }
+    ensures reader { ReaderCall (R.held reader.old) (R.held reader.new) (R.bound reader.old) (R.bound reader.new)
+        (R.faults reader.old) (R.faults reader.new) (result ≡ Err StoreFault.Fault) }
 {
     let mut writes = Writes::new(alloc);
     'outputs: for output in outputs {

@@ -1,7 +1,7 @@
 //! Contents that a keeper is known to hold.
 ghost use Rattle.std.specs.Prelude.{◌≡◌, ℕ, IsTrue, List, OnErr, OnOk, Option, Some};
-ghost use Rattle.bx_io.specs.Holdings.{Kept as KeptParts};
-ghost use Rattle.two_phase.specs.Held.{AreHeld, Notes, noted_at};
+ghost use Rattle.bx_io.specs.Holdings.{StoreState as KeptParts};
+ghost use Rattle.two_phase.specs.Held.{AreHeld, Tracks, noted_at};
 
 use bx_digest::{Blob, Digest};
 use std::alloc::{AllocError, Global};
@@ -36,13 +36,13 @@ impl HeldContents {
 
     // Takes out what is noted at a digest.
     pub(crate) fn forget(&mut self, digest: &Digest)
-        ensures { (content : List ℕ) → Notes self.old self.new digest.now content }
+        ensures { (content : List ℕ) → Tracks self.old self.new digest.now content }
     {
         self.contents.remove(digest.bytes());
     }
 
     fn add(&mut self, alloc: Global, digest: &Digest, content: &Blob) -> Result<(), AllocError>
-        ensures added { OnOk result (Notes self.old self.new digest.now content.now) }
+        ensures added { OnOk result (Tracks self.old self.new digest.now content.now) }
         ensures refused { OnErr result ((q : List ℕ) → noted_at self.new q ≡ noted_at self.old q) }
     {
         let key = Vec::from_slice(alloc, digest.bytes())?;
@@ -52,7 +52,7 @@ impl HeldContents {
 
     // Notes a content at its digest. Where there is no memory for it, nothing is noted there.
     pub(crate) fn note(&mut self, alloc: Global, digest: &Digest, content: &Blob)
-        ensures { Notes self.old self.new digest.now content.now }
+        ensures { Tracks self.old self.new digest.now content.now }
     {
         self.forget(digest);
         let _ = self.add(alloc, digest, content);

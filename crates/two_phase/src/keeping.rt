@@ -4,11 +4,11 @@ ghost use Rattle.sha2.specs.Sha256.{sha256};
 ghost use Rattle.bx_io.specs.Holdings.{Put, known_after};
 ghost use Rattle.content_store.specs.Contents.{blob_put};
 ghost use Rattle.memo_format.specs.Selectors.{read_selectors_text};
-ghost use Rattle.memo_format.specs.Well.{at_entry, at_list};
+ghost use Rattle.memo_format.specs.StoreNames.{at_entry, at_list};
 ghost use Rattle.store_meaning.specs.Keeping.{IsGood, or_none, same_selector};
 ghost use Rattle.store_meaning.specs.Keeping.{with_first as first_of};
 ghost use Rattle.two_phase.specs.Applying.{Applies, AppliesAll, AppliesPrefix};
-ghost use Rattle.two_phase.specs.Calls.{Keeps};
+ghost use Rattle.two_phase.specs.Calls.{KeeperCall};
 ghost use Rattle.two_phase.specs.Held.{AreHeld};
 ghost use Rattle.two_phase.specs.Putting.{IsListAt, IsNextList, PutsAll, PutsUpTo, all_blobs, all_puts};
 
@@ -24,9 +24,9 @@ use std::alloc::{AllocError, Global};
 
 /// The answer to a keep.
 #[derive(Clone, Copy, Debug, PartialEq, Eq)]
-pub enum Kept {
+pub enum SaveResult {
     /// All puts were made, but for those of contents that were held.
-    Kept,
+    Saved,
     /// The keeper failed, and the puts after that were not made.
     Fault,
     /// There was no memory, and the puts after that were not made.
@@ -73,7 +73,7 @@ fn held_list<K: Keeper>(
 ) -> Result<Vec<Selector>, PutFault>
     ensures list { IfOk result (λ list. IsListAt (K.known keeper.old) weak.now list.items) }
     ensures known { K.known keeper.new ≡ K.known keeper.old }
-    ensures keeper { Keeps (K.bound keeper.old) (K.bound keeper.new) (K.faults keeper.old)
+    ensures keeper { KeeperCall (K.bound keeper.old) (K.bound keeper.new) (K.faults keeper.old)
         (K.faults keeper.new) (result ≡ Err PutFault.Failed) }
 {
     let name = list_name(alloc, weak)?;
@@ -96,7 +96,7 @@ fn put_bytes<K: Keeper>(
     ensures made { OnOk result
         (K.known keeper.new ≡ known_after (K.known keeper.old) (blob_put bytes.now ∷ [])) }
     ensures refused { OnErr result (K.known keeper.new ≡ K.known keeper.old) }
-    ensures keeper { Keeps (K.bound keeper.old) (K.bound keeper.new) (K.faults keeper.old)
+    ensures keeper { KeeperCall (K.bound keeper.old) (K.bound keeper.new) (K.faults keeper.old)
         (K.faults keeper.new) (result ≡ Err PutFault.Failed) }
 {
     let name = blob_name(alloc, digest)?;
@@ -116,7 +116,7 @@ fn put_text<K: Keeper>(
         (Applies (K.known keeper.old) (blob_put printed.now.text.items) (K.known keeper.new)) }
     ensures refused { OnErr result (K.known keeper.new ≡ K.known keeper.old) }
     ensures held { AreHeld (K.known keeper.new) held.new }
-    ensures keeper { Keeps (K.bound keeper.old) (K.bound keeper.new) (K.faults keeper.old)
+    ensures keeper { KeeperCall (K.bound keeper.old) (K.bound keeper.new) (K.faults keeper.old)
         (K.faults keeper.new) (result ≡ Err PutFault.Failed) }
 {
     put_bytes(alloc, keeper, &printed.digest, printed.text.as_slice())?;
@@ -136,7 +136,7 @@ fn put_content<K: Keeper>(
         (Applies (K.known keeper.old) (blob_put content.now) (K.known keeper.new)) }
     ensures refused { OnErr result (K.known keeper.new ≡ K.known keeper.old) }
     ensures held { AreHeld (K.known keeper.new) held.new }
-    ensures keeper { Keeps (K.bound keeper.old) (K.bound keeper.new) (K.faults keeper.old)
+    ensures keeper { KeeperCall (K.bound keeper.old) (K.bound keeper.new) (K.faults keeper.old)
         (K.faults keeper.new) (result ≡ Err PutFault.Failed) }
 {
     let digest = content.digest();
@@ -160,7 +160,7 @@ fn put_contents<K: Keeper>(
         (AppliesAll (K.known keeper.old) (map blob_put contents.now) (K.known keeper.new)) }
     ensures first { AppliesPrefix (K.known keeper.old) (K.known keeper.new) (map blob_put contents.now) }
     ensures held { AreHeld (K.known keeper.new) held.new }
-    ensures keeper { Keeps (K.bound keeper.old) (K.bound keeper.new) (K.faults keeper.old)
+    ensures keeper { KeeperCall (K.bound keeper.old) (K.bound keeper.new) (K.faults keeper.old)
         (K.faults keeper.new) (result ≡ Err PutFault.Failed) }
 {
     'contents: for blob in contents {
@@ -184,7 +184,7 @@ fn put_blobs<K: Keeper>(
     ensures first { AppliesPrefix (K.known keeper.old) (K.known keeper.new)
         (map blob_put (all_blobs written.now)) }
     ensures held { AreHeld (K.known keeper.new) held.new }
-    ensures keeper { Keeps (K.bound keeper.old) (K.bound keeper.new) (K.faults keeper.old)
+    ensures keeper { KeeperCall (K.bound keeper.old) (K.bound keeper.new) (K.faults keeper.old)
         (K.faults keeper.new) (result ≡ Err PutFault.Failed) }
 {
     put_text(alloc, keeper, held, &written.weak)?;
@@ -198,7 +198,7 @@ fn put_entry<K: Keeper>(alloc: Global, keeper: &mut K, written: &Written) -> Res
     ensures made { OnOk result (K.known keeper.new ≡ known_after (K.known keeper.old)
         (Put (at_entry written.now.strong.digest) written.now.entry.items ∷ [])) }
     ensures refused { OnErr result (K.known keeper.new ≡ K.known keeper.old) }
-    ensures keeper { Keeps (K.bound keeper.old) (K.bound keeper.new) (K.faults keeper.old)
+    ensures keeper { KeeperCall (K.bound keeper.old) (K.bound keeper.new) (K.faults keeper.old)
         (K.faults keeper.new) (result ≡ Err PutFault.Failed) }
 {
     let name = entry_name(alloc, &written.strong.digest)?;
@@ -215,7 +215,7 @@ fn put_list<K: Keeper>(
     ensures made { OnOk result (K.known keeper.new
         ≡ known_after (K.known keeper.old) (Put (at_list weak.now) text.now ∷ [])) }
     ensures refused { OnErr result (K.known keeper.new ≡ K.known keeper.old) }
-    ensures keeper { Keeps (K.bound keeper.old) (K.bound keeper.new) (K.faults keeper.old)
+    ensures keeper { KeeperCall (K.bound keeper.old) (K.bound keeper.new) (K.faults keeper.old)
         (K.faults keeper.new) (result ≡ Err PutFault.Failed) }
 {
     let name = list_name(alloc, weak)?;
@@ -237,7 +237,7 @@ fn put_all<K: Keeper>(
         (AppliesAll (K.known keeper.old) (all_puts written.now list.now) (K.known keeper.new)) }
     ensures first { AppliesPrefix (K.known keeper.old) (K.known keeper.new) (all_puts written.now list.now) }
     ensures held { AreHeld (K.known keeper.new) held.new }
-    ensures keeper { Keeps (K.bound keeper.old) (K.bound keeper.new) (K.faults keeper.old)
+    ensures keeper { KeeperCall (K.bound keeper.old) (K.bound keeper.new) (K.faults keeper.old)
         (K.faults keeper.new) (result ≡ Err PutFault.Failed) }
 {
     put_blobs(alloc, keeper, held, written)?;
@@ -253,7 +253,7 @@ fn next_list<K: Keeper>(
 ) -> Result<Vec<u8>, PutFault>
     ensures list { IfOk result (λ text. IsNextList (K.known keeper.old) written.now text.items) }
     ensures known { K.known keeper.new ≡ K.known keeper.old }
-    ensures keeper { Keeps (K.bound keeper.old) (K.bound keeper.new) (K.faults keeper.old)
+    ensures keeper { KeeperCall (K.bound keeper.old) (K.bound keeper.new) (K.faults keeper.old)
         (K.faults keeper.new) (result ≡ Err PutFault.Failed) }
 {
     let old = held_list(alloc, keeper, &written.weak.digest)?;
@@ -278,7 +278,7 @@ fn put_record<K: Keeper>(
     ensures made { OnOk result (PutsAll (K.known keeper.old) (K.known keeper.new) ran.now) }
     ensures first { PutsUpTo (K.known keeper.old) (K.known keeper.new) ran.now }
     ensures held { AreHeld (K.known keeper.new) held.new }
-    ensures keeper { Keeps (K.bound keeper.old) (K.bound keeper.new) (K.faults keeper.old)
+    ensures keeper { KeeperCall (K.bound keeper.old) (K.bound keeper.new) (K.faults keeper.old)
         (K.faults keeper.new) (result ≡ Err PutFault.Failed) }
 {
     let written = write(alloc, ran)?;
@@ -289,18 +289,18 @@ fn put_record<K: Keeper>(
 /// Puts what a record of a success is: its texts and contents, then its entry, then the list of its process
 /// with its selector first. Path sets and contents of files that are noted as held are left out, and those
 /// that it puts are noted. It stops at the first refusal.
-pub fn keep<K: Keeper>(alloc: Global, keeper: &mut K, held: &mut HeldContents, ran: &Record) -> Kept
+pub fn keep<K: Keeper>(alloc: Global, keeper: &mut K, held: &mut HeldContents, ran: &Record) -> SaveResult
     requires good { IsGood ran.now }
     requires held { AreHeld (K.known keeper.old) held.old }
-    ensures kept { result ≡ Kept.Kept → PutsAll (K.known keeper.old) (K.known keeper.new) ran.now }
+    ensures kept { result ≡ SaveResult.Saved → PutsAll (K.known keeper.old) (K.known keeper.new) ran.now }
     ensures first { PutsUpTo (K.known keeper.old) (K.known keeper.new) ran.now }
     ensures held { AreHeld (K.known keeper.new) held.new }
-    ensures keeper { Keeps (K.bound keeper.old) (K.bound keeper.new) (K.faults keeper.old)
-        (K.faults keeper.new) (result ≡ Kept.Fault) }
+    ensures keeper { KeeperCall (K.bound keeper.old) (K.bound keeper.new) (K.faults keeper.old)
+        (K.faults keeper.new) (result ≡ SaveResult.Fault) }
 {
     match put_record(alloc, keeper, held, ran) {
-        Ok(()) => Kept::Kept,
-        Err(PutFault::Failed) => Kept::Fault,
-        Err(PutFault::Memory) => Kept::Memory,
+        Ok(()) => SaveResult::Saved,
+        Err(PutFault::Failed) => SaveResult::Fault,
+        Err(PutFault::Memory) => SaveResult::Memory,
     }
 }

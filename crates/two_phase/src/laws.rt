@@ -1,15 +1,15 @@
 //! What follows from what a keep leaves.
 ghost use Rattle.std.specs.Prelude.{Option, Some};
-ghost use Rattle.bx_io.specs.Holdings.{Kept as KeptParts};
+ghost use Rattle.bx_io.specs.Holdings.{StoreState as KeptParts};
 ghost use Rattle.run_record.specs.Facts.{Facts, Sound};
 ghost use Rattle.store_meaning.specs.Honest.{Honest};
-ghost use Rattle.store_meaning.specs.Keeping.{IsGood, KeepMet};
-ghost use Rattle.record_match.specs.Apart.{Apart};
+ghost use Rattle.store_meaning.specs.Keeping.{ComparedInSave, IsGood};
+ghost use Rattle.record_match.specs.Collisions.{NoCollision};
 ghost use Rattle.two_phase.specs.Putting.{LeavesHonest, PutsUpTo};
 
 /// A keep leaves an honest store honest after each of its changes.
 pub fn keeps_honest()
     ensures { (before : KeptParts) (now : Option KeptParts) (f : Facts) → Sound f → IsGood f
-        → PutsUpTo (Some before) now f → Honest before.held → Apart (KeepMet before.held f)
+        → PutsUpTo (Some before) now f → Honest before.held → NoCollision (ComparedInSave before.held f)
         → LeavesHonest before now }
 {}

@@ -13,14 +13,14 @@ mod fitting;
 mod held;
 mod keeping;
 mod laws;
+mod lookups;
 mod recording;
-mod seeking;
-mod trouble;
+mod store_fault;
 
 pub use held::HeldContents;
-pub use keeping::{Kept, keep};
+pub use keeping::{SaveResult, keep};
 pub use laws::keeps_honest;
-pub use seeking::{Sought, lookup};
+pub use lookups::{LookupResult, lookup};
 
 /// Out of memory, the one refusal that no contract ties to a cause.
 pub type Memory = std::alloc::AllocError;

@@ -1,6 +1,6 @@
 use Rattle.std.proofs.Common.{List, ℕ, ◌++◌, subst}
 use Rattle.dscript_config.specs.Configs.{resolver_at}
-use Rattle.dscript_config.specs.Lists.{joined}
+use Rattle.dscript_config.specs.Lists.{concat_if_all}
 use Rattle.dscript_config.specs.Paths.{paths_at}
 use Rattle.dscript_config.specs.Views.{ArePlaces, item_tree, item_trees}
 use Rattle.dscript_config.proofs.GatheredFiles.{gathered_next}
@@ -14,7 +14,7 @@ items-preserved c =
     let before = c.items.positions.items in
     let given = at_some c.in_ok-more.field-0 c.in-Some.more _ _ c.in-Some.is c.in_ok-more.ensures in
     gathered_next files f item_tree c.args.items.now c.items.item-index c.item-item.result
-    (joined f (item_trees c.args.items.now)) before c.in-Some.more.items c.in_ok-positions.positions.items
+    (concat_if_all f (item_trees c.args.items.now)) before c.in-Some.more.items c.in_ok-positions.positions.items
     c.items-test.true c.item-item.is c.items.invariant given
     (subst (λ (qs : List ℕ). ArePlaces files (paths_at files before ++ paths_at files qs) c.in_ok-positions.positions.items)
     c.as_slice.ensures.value c.in_ok-positions.ensures)

@@ -1,5 +1,5 @@
 use Rattle.std.proofs.Common.{List, ℕ, ◌++◌, subst}
-use Rattle.dscript_config.specs.Lists.{joined, sources_at}
+use Rattle.dscript_config.specs.Lists.{concat_if_all, sources_at}
 use Rattle.dscript_config.specs.Paths.{paths_at}
 use Rattle.dscript_config.specs.Views.{ArePlaces, item_tree, item_trees}
 use Rattle.dscript_config.proofs.GatheredFiles.{gathered_next}
@@ -15,7 +15,7 @@ items-preserved c =
     let more = c.in-Some.more.items in
     let given = at_some c.in_ok-more.field-0 c.in-Some.more _ _ c.in-Some.is c.in_ok-more.ensures in
     gathered_next files f item_tree c.args.items.now c.items.item-index c.item-item.result
-    (joined f (item_trees c.args.items.now)) before more c.in_ok-positions.positions.items c.items-test.true c.item-item.is
+    (concat_if_all f (item_trees c.args.items.now)) before more c.in_ok-positions.positions.items c.items-test.true c.item-item.is
     c.items.invariant (paths_at files more, given.0, places_at files more given.1)
     (subst (λ (qs : List ℕ). ArePlaces files (paths_at files before ++ paths_at files qs) c.in_ok-positions.positions.items)
     c.as_slice.ensures.value c.in_ok-positions.ensures)

@@ -1,7 +1,7 @@
 use Rattle.std.proofs.Common.{List, ap, map, sym, ◌∙◌}
 use Rattle.dscript_value.specs.Plain.{Plain, item_list, plain_function, plain_of}
 use Rattle.dscript_value.specs.declared.parts.Callee.{Callee}
-use Rattle.dscript_meaning.specs.Calls.{called, held_method}
+use Rattle.dscript_meaning.specs.Calls.{call_of_function, held_method}
 use Rattle.eval_machine.specs.Forms.{acts_at}
 use Rattle.eval_machine.specs.Views.{seen}
 use Rattle.eval_machine.specs.Works.{comes_by}
@@ -13,7 +13,7 @@ returns-in-Place c =
     let v = seen c.args.machine.now in
     let held = item_list (plain_function c.args.function.now).held.items in
     keeps_at _ _ _ _
-    (ap (λ (k : Callee). comes_by (called v.program (acts_at v) k held (map plain_of c.args.args.now)) v) c.in-Place.is)
+    (ap (λ (k : Callee). comes_by (call_of_function v.program (acts_at v) k held (map plain_of c.args.args.now)) v) c.in-Place.is)
     c.open_call.ensures
 
 pub returns-in-Ambient : goal.returns-in-Ambient
@@ -21,7 +21,7 @@ returns-in-Ambient c =
     let v = seen c.args.machine.now in
     let held = item_list (plain_function c.args.function.now).held.items in
     keeps_at _ _ _ _
-    (ap (λ (k : Callee). comes_by (called v.program (acts_at v) k held (map plain_of c.args.args.now)) v) c.in-Ambient.is)
+    (ap (λ (k : Callee). comes_by (call_of_function v.program (acts_at v) k held (map plain_of c.args.args.now)) v) c.in-Ambient.is)
     c.ambient.ensures
 
 pub returns-in-Member : goal.returns-in-Member
@@ -29,7 +29,7 @@ returns-in-Member c =
     let v = seen c.args.machine.now in
     let held = item_list (plain_function c.args.function.now).held.items in
     keeps_at _ _ _ _
-    (ap (λ (k : Callee). comes_by (called v.program (acts_at v) k held (map plain_of c.args.args.now)) v) c.in-Member.is
+    (ap (λ (k : Callee). comes_by (call_of_function v.program (acts_at v) k held (map plain_of c.args.args.now)) v) c.in-Member.is
     ∙ ap (λ (xs : List Plain). comes_by (held_method (acts_at v) xs c.in-Member.name (map plain_of c.args.args.now)) v)
     (sym c.held.ensures))
     c.held_method.ensures

@@ -1,12 +1,12 @@
 use Rattle.std.proofs.Common.{◌≡◌, ℕ, Bor, List, [], drop, take}
 use Rattle.dscript_modules.specs.Workspaces.{modules_data}
 use Rattle.dscript_workspace.specs.PathSets.{has_name}
-use Rattle.dscript_workspace.specs.Workspaces.{is_used, name_fault}
+use Rattle.dscript_workspace.specs.Workspaces.{is_used, repeated_module_name}
 use Rattle.dscript_workspace.proofs.module_file.name_fault.Given as goal
 
 abbrev pub invariant-modules : goal.invariant-modules
 invariant-modules l = record {
   used : (name : Bor (List ℕ)) → has_name l.used name ≡ is_used (modules_data (take l.module-index l.modules)) name.now;
-  rest : name_fault (modules_data (take l.module-index l.modules)) (modules_data (drop l.module-index l.modules))
-      ≡ name_fault [] (modules_data l.modules);
+  rest : repeated_module_name (modules_data (take l.module-index l.modules)) (modules_data (drop l.module-index l.modules))
+      ≡ repeated_module_name [] (modules_data l.modules);
 }

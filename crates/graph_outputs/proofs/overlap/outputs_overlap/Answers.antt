@@ -1,7 +1,7 @@
 use Rattle.std.proofs.Common.{inl, inr, length, refl, subst, sym}
 use Rattle.graph_outputs.specs.Outputs.{declared_files, outputs}
 use Rattle.graph_outputs.specs.Gathered.{IsListOf}
-use Rattle.graph_outputs.specs.Sharing.{dir_paths}
+use Rattle.graph_outputs.specs.Sharing.{declared_dir_paths}
 use Rattle.graph_outputs.proofs.Lists.{none_there}
 use Rattle.graph_outputs.proofs.Overlapping.{file_dir_from, file_dir_to, nested_from, nested_to, no_file_dir}
 use Rattle.graph_outputs.proofs.overlap.outputs_overlap.Goals as goal
@@ -28,7 +28,7 @@ returns c =
     let pips = c.args.pips.now in
     let all = subst (IsListOf outputs pips) (sym c.as_slice.ensures.value) c.in_ok-outputs.ensures in
     let files = subst (IsListOf declared_files pips) (sym c.as_slice-2.ensures.value) c.in_ok-files.ensures in
-    let dirs = subst (IsListOf dir_paths pips) (sym c.as_slice-3.ensures.value) c.in_ok-dirs.ensures in (
+    let dirs = subst (IsListOf declared_dir_paths pips) (sym c.as_slice-3.ensures.value) c.in_ok-dirs.ensures in (
       λ t. file_dir_from pips c.as_slice-2.result.now c.as_slice-3.result.now files dirs (c.any_within.ensures.0 t),
       λ h. elim h [
         | inl nested ↦ let t = c.any_nested.ensures.1 (nested_to pips c.as_slice.result.now all nested) in let f = c.if-any_nested.false in cc

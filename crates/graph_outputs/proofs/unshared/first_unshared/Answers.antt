@@ -3,7 +3,7 @@ use Rattle.std.specs.Prelude.{◌↔◌}
 use Rattle.std.specs.List.{Any, Contains}
 use Rattle.std.proofs.lemmas.Option.{slice_get_read}
 use Rattle.bx_tree.specs.Paths.{Atoms}
-use Rattle.graph_outputs.specs.Sharing.{dir_paths, lone_paths}
+use Rattle.graph_outputs.specs.Sharing.{declared_dir_paths, lone_paths}
 use Rattle.graph_outputs.proofs.Firsts.{none_more}
 use Rattle.graph_outputs.proofs.Repeats.{so_far_more, so_far_none}
 use Rattle.graph_outputs.proofs.Telling.{tells}
@@ -16,7 +16,7 @@ none_in xs x e (k, l, is) = absurd (omega (arith, l, e))
 pub pips-init : goal.pips-init
 pips-init c = record {
   none = λ j l. absurd (omega (arith, l));
-  all = so_far_none dir_paths c.args.pips.now (Contains c.new.result.keys) (λ x. none_in c.new.result.keys x (ap length c.new.ensures.empty));
+  all = so_far_none declared_dir_paths c.args.pips.now (Contains c.new.result.keys) (λ x. none_in c.new.result.keys x (ap length c.new.ensures.empty));
   lone = so_far_none lone_paths c.args.pips.now (Contains c.new-2.result.keys) (λ x. none_in c.new-2.result.keys x (ap length c.new-2.ensures.empty));
 }
 
@@ -48,8 +48,8 @@ pips-preserved c =
           (no_clash_here pips c.pips.number pip all lone_seen there c.pips.invariant.all c.pips.invariant.lone
           (λ found. let t = c.is_clash.ensures.1
           (subst (λ (ds : List Atoms). Any all c.as_slice-in-pips.result.now ⊎ Any lone_seen ds) (sym dirs)
-          (subst (λ (ls : List Atoms). Any all ls ⊎ Any lone_seen (dir_paths pip.kind)) (sym lone) found)) in cc));
-      all = so_far_more dir_paths pips c.pips.number pip all (Contains c.see_all.new.seen.keys) there c.pips.invariant.all
+          (subst (λ (ls : List Atoms). Any all ls ⊎ Any lone_seen (declared_dir_paths pip.kind)) (sym lone) found)) in cc));
+      all = so_far_more declared_dir_paths pips c.pips.number pip all (Contains c.see_all.new.seen.keys) there c.pips.invariant.all
           (subst (λ (ds : List Atoms). (p : Atoms) → Contains c.see_all.new.seen.keys p ↔ (all p ⊎ Contains ds p)) dirs_again c.in_ok-see_all.ensures);
       lone = so_far_more lone_paths pips c.pips.number pip lone_seen (Contains c.see_all-in-pips.new.seen.keys) there c.pips.invariant.lone
           (subst (λ (ds : List Atoms). (p : Atoms) → Contains c.see_all-in-pips.new.seen.keys p ↔ (lone_seen p ⊎ Contains ds p)) lone_again

@@ -5,5 +5,5 @@ use Rattle.retire.proofs.keeping.keep_one.Goals as goal
 pub returns-in-Fault-clause-faults : goal.returns-in-Fault-clause-faults
 returns-in-Fault-clause-faults g c = λ some. rose_once _ _ _ _ _ c.in-Fault.ensures.keeper refl some
 
-pub returns-in-Kept-clause-faults : goal.returns-in-Kept-clause-faults
-returns-in-Kept-clause-faults g c = λ some. let later = c.in-Kept.ensures.keeper.cause.later in omega (arith, later)
+pub returns-in-Saved-clause-faults : goal.returns-in-Saved-clause-faults
+returns-in-Saved-clause-faults g c = λ some. let later = c.in-Saved.ensures.keeper.cause.later in omega (arith, later)

@@ -11,7 +11,7 @@ pub returns-in-Hit-clause-taken : goal.returns-in-Hit-clause-taken
 returns-in-Hit-clause-taken g c =
     takes_in (process_in (slice_get c.args.frame.now.plan.now.pips c.args.pip)) c.args.frame.now.sources.now c.args.inputs.now c.args.frame.now.plan.now.tool_budget
     c.in_ok-described.described _ _ (g.R.KeepReader.held c.args.reader.now) (takings.Hit c.in-Hit.found) c.in_ok-described.ensures c.in_ok-view.ensures
-    (λ S e. hit_taken (g.R.KeepReader.held c.args.reader.now) S c.in_ok-described.described _ c.in-Hit.found e c.in-Hit.ensures.sought c.in-Hit.ensures.now)
+    (λ S e. hit_taken (g.R.KeepReader.held c.args.reader.now) S c.in_ok-described.described _ c.in-Hit.found e c.in-Hit.ensures.answer c.in-Hit.ensures.now)
 
 pub returns-in-Hit-clause-reader : goal.returns-in-Hit-clause-reader
 returns-in-Hit-clause-reader g c = on_read _ _ _ _ _ _ _ c.in-Hit.ensures.reader
@@ -20,7 +20,7 @@ pub returns-in_ok-ran-in-Miss-clause-taken : goal.returns-in_ok-ran-in-Miss-clau
 returns-in_ok-ran-in-Miss-clause-taken g c =
     takes_in (process_in (slice_get c.args.frame.now.plan.now.pips c.args.pip)) c.args.frame.now.sources.now c.args.inputs.now c.args.frame.now.plan.now.tool_budget
     c.in_ok-described.described _ _ (g.R.KeepReader.held c.args.reader.now) (takings.Missed c.in_ok-ran-in-Miss.ran) c.in_ok-described.ensures c.in_ok-view.ensures
-    (λ S e. miss_taken (g.R.KeepReader.held c.args.reader.now) S c.in_ok-described.described _ _ c.in_ok-ran-in-Miss.ran e c.in-Miss.ensures.sought c.in-Miss.ensures.same
+    (λ S e. miss_taken (g.R.KeepReader.held c.args.reader.now) S c.in_ok-described.described _ _ c.in_ok-ran-in-Miss.ran e c.in-Miss.ensures.answer c.in-Miss.ensures.same
     c.in_ok-ran-in-Miss.ensures.ran)
 
 pub returns-in_ok-ran-in-Miss-clause-reader : goal.returns-in_ok-ran-in-Miss-clause-reader

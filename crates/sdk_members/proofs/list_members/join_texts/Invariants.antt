@@ -1,8 +1,8 @@
 use Rattle.std.proofs.Common.{◌≡◌, ◌++◌, drop}
 use Rattle.std.specs.List.{flat_map}
-use Rattle.sdk_members.specs.ListMembers.{joined}
+use Rattle.sdk_members.specs.ListMembers.{separated_texts}
 use Rattle.sdk_members.proofs.list_members.join_texts.Given as goal
 
 abbrev pub invariant-texts : goal.invariant-texts
 invariant-texts l =
-    l.bytes.items ++ flat_map (λ text. l.separator ++ text) (drop l.text-index l.more) ≡ joined l.separator l.texts
+    l.bytes.items ++ flat_map (λ text. l.separator ++ text) (drop l.text-index l.more) ≡ separated_texts l.separator l.texts

@@ -5,7 +5,7 @@ use Rattle.stored_lines.proofs.line.read_lines.Given as goal
 
 abbrev pub invariant-lines : goal.invariant-lines
 invariant-lines g l =
-    IsUnderWay g.L.Line.starts g.L.Line.line_at l.lines.items l.rest (lines_at g.L.Line.starts g.L.Line.line_at l.fn.rest)
+    IsUnderWay g.L.Line.starts g.L.Line.line_at l.lines.items l.cursor (lines_at g.L.Line.starts g.L.Line.line_at l.fn.cursor)
 
 abbrev pub decreases-lines : goal.decreases-lines
-decreases-lines g l = length l.rest
+decreases-lines g l = length l.cursor

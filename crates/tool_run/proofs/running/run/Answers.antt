@@ -2,7 +2,7 @@ use Rattle.std.proofs.Common.{◌≡◌, ◌∙◌, ◌-◌, ap, sym, subst, ari
 use Rattle.std.specs.Prelude.{slice_get}
 use Rattle.observed.specs.declared.access.End.{End}
 use Rattle.tool_run.specs.Described.{described}
-use Rattle.tool_run.specs.Run.{Run, after, run_of, turn}
+use Rattle.tool_run.specs.Run.{Run, run_after, run_of, turn}
 use Rattle.tool_run.specs.Seen.{Turns, seen}
 use Rattle.tool_run.specs.States.{machine_of}
 use Rattle.tool_run.proofs.Turns.{ends_there, goes_on, over}
@@ -47,5 +47,5 @@ returns-clause-ran g c =
     let m = machine_of c.turns.state in
     let at : slice_get c.args.tool.now m.place ≡ None = sym c.in_default.ensures.at in
     subst (λ (r : Run). IfOk c.finished-2.result (λ ran. seen ran ≡ r))
-    (ap (after c.turns.accesses.items (c.args.desc.now.budget - c.turns.left)) (sym (over d a c.args.tool.now c.turns.left m at)) ∙ c.turns.invariant.comes)
+    (ap (run_after c.turns.accesses.items (c.args.desc.now.budget - c.turns.left)) (sym (over d a c.args.tool.now c.turns.left m at)) ∙ c.turns.invariant.comes)
     c.finished-2.ensures

@@ -7,11 +7,11 @@ use Rattle.tool_run.specs.Seen.{Turns}
 use Rattle.tool_run.specs.States.{machine_of}
 use Rattle.tool_run.proofs.running.take_turn.Goals as goal
 
-pub take_deed-requires : goal.take_deed-requires
-take_deed-requires g c = subst (λ (m : Machine). m.place < 2 ^ 63) (sym (c.in_ok-go.ensures.stays c.if-branch.false)) c.requires
+pub take_effect-requires : goal.take_effect-requires
+take_effect-requires g c = subst (λ (m : Machine). m.place < 2 ^ 63) (sym (c.in_ok-go.ensures.stays c.if-branch.false)) c.requires
 
 pub returns-clause-turn : goal.returns-clause-turn
 returns-clause-turn g c =
-    subst (λ (m : Machine). IfOk c.take_deed.result (λ (end : Option End).
-    Turns (turn (described c.args.desc.now) (g.V.View.answers c.args.view.now) m c.args.instr.now) (machine_of c.take_deed.new.state) c.args.accesses.now.items c.take_deed.new.accesses.items end))
-    (c.in_ok-go.ensures.stays c.if-branch.false) c.take_deed.ensures.turn
+    subst (λ (m : Machine). IfOk c.take_effect.result (λ (end : Option End).
+    Turns (turn (described c.args.desc.now) (g.V.View.answers c.args.view.now) m c.args.instr.now) (machine_of c.take_effect.new.state) c.args.accesses.now.items c.take_effect.new.accesses.items end))
+    (c.in_ok-go.ensures.stays c.if-branch.false) c.take_effect.ensures.turn

@@ -1,5 +1,5 @@
 use Rattle.std.proofs.Common.{◌≡◌, ◌∙◌}
-use Rattle.memo_format.specs.Well.{at_list}
+use Rattle.memo_format.specs.StoreNames.{at_list}
 use Rattle.two_phase.proofs.Fetched.{list_given, no_list}
 use Rattle.two_phase.proofs.fetching.selectors.Goals as goal
 

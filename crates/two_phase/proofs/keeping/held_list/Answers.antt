@@ -1,5 +1,5 @@
 use Rattle.std.proofs.Common.{◌≡◌, ◌∙◌}
-use Rattle.memo_format.specs.Well.{at_list}
+use Rattle.memo_format.specs.StoreNames.{at_list}
 use Rattle.two_phase.proofs.Fetched.{held_given, none_listed}
 use Rattle.two_phase.proofs.keeping.held_list.Goals as goal
 

@@ -1,7 +1,7 @@
 use Rattle.std.proofs.Common.{◌∷◌, [], inl, map}
 use Rattle.bx_io.specs.Holdings.{Put}
 use Rattle.content_store.specs.Contents.{blob_put}
-use Rattle.memo_format.specs.Well.{at_entry, at_list}
+use Rattle.memo_format.specs.StoreNames.{at_entry, at_list}
 use Rattle.two_phase.specs.Putting.{all_blobs}
 use Rattle.two_phase.proofs.Applied.{all_but_next, in_first, in_next, made, made_or_not, one_applied, then}
 use Rattle.two_phase.proofs.Noted.{held_by_entry, held_still, held_then_list}

@@ -2,7 +2,7 @@ use Rattle.std.proofs.Common.{◌≡◌, ◌∙◌, ◌++◌, ◌≤◌, ◌<◌
 use Rattle.std.proofs.lemmas.List.{get_or_default}
 use Rattle.tool_run.specs.declared.limits.TheConstants.{MAX_REGISTER}
 use Rattle.tool_text.specs.declared.tool.Operand.TheVariants.{Register}
-use Rattle.tool_run.specs.Machine.{deed_of, fitting}
+use Rattle.tool_run.specs.Machine.{effect_of, fitting}
 use Rattle.tool_run.specs.States.{machine_of}
 use Rattle.tool_values.specs.Values.{value_of}
 use Rattle.tool_run.proofs.Appended.{appended, other_value}
@@ -24,4 +24,4 @@ returns c =
     let yours : length c.value.result.now ≡ length more = ap length c.value.ensures in
     let short : length (old ++ more) ≤ MAX_REGISTER = omega (arith, length-append old more, mine, yours, c.if-length-gt-MAX_REGISTER.false) in
     appended (machine_of c.args.self.now) r (old ++ more) c.add.new.self c.replace-content.new.dest is short
-    ∙ ap (λ k. deed_of (fitting (machine_of c.args.self.now) k (get_or registers k [] ++ more))) n
+    ∙ ap (λ k. effect_of (fitting (machine_of c.args.self.now) k (get_or registers k [] ++ more))) n

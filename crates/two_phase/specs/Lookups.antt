@@ -1,0 +1,80 @@
+-- What a lookup answers.
+use Rattle.std.specs.Prelude.{◌≡◌, ◌⊎◌, List, [], ◌∷◌, map, Option, Some, None, IsTrue, ⊤}
+use Rattle.bx_tree.specs.Trees.{NoneNested, paths_of}
+use Rattle.pip_types.specs.declared.desc.Desc.{Desc}
+use Rattle.observed.specs.declared.ask.Ask.{Ask}
+use Rattle.observed.specs.declared.access.Answer.{Answer}
+use Rattle.bx_io.specs.Holdings.{Holdings}
+use Rattle.memo_format.specs.Found.{FoundParts}
+use Rattle.memo_format.specs.StoreNames.{HoldsList}
+use Rattle.memo_format.specs.declared.selector.Selector.{Selector}
+use Rattle.record_match.specs.Digests.{IsReadBack, weak_of}
+use Rattle.store_meaning.specs.Usable.{AnyUsable, Usable, UsableBy, fits}
+use Rattle.two_phase.specs.declared.lookups.LookupResult.{LookupResult}
+use Rattle.two_phase.specs.declared.lookups.LookupResult.TheVariants as lookup_results
+
+-- The selector is usable, and leads to this.
+pub record LeadsTo (S : Holdings) (d : Desc) (see : Ask → Answer) (s : Selector) (found : FoundParts)
+    : Type 0 where
+  pub usable : UsableBy S d see s
+  pub entry_is : usable.entry ≡ found.entry
+  pub asks_are : usable.asks ≡ found.paths
+  pub files_are : usable.files ≡ found.made
+
+-- The first usable selector of the list leads to this.
+abbrev pub FirstLeadsTo : Holdings → Desc → (Ask → Answer) → List Selector → FoundParts → Type 0
+FirstLeadsTo S d see [] found = ⊥
+FirstLeadsTo S d see (s ∷ rest) found =
+    LeadsTo S d see s found ⊎ ((UsableBy S d see s → ⊥) × FirstLeadsTo S d see rest found)
+
+-- What is found is what the first usable selector of the list leads to, and where nothing is found, none is
+-- usable. Nothing is said where the holdings are unknown.
+abbrev pub FindsFirst : Option Holdings → Desc → (Ask → Answer) → List Selector → Option FoundParts → Type 0
+FindsFirst None d see list found = ⊤
+FindsFirst (Some S) d see list None = AnyUsable S d see list → ⊥
+FindsFirst (Some S) d see list (Some found) = FirstLeadsTo S d see list found
+
+-- Of the list that is held for the process the first usable selector leads to this.
+pub record LookupHits (S : Holdings) (d : Desc) (see : Ask → Answer) (found : FoundParts) : Type 0 where
+  pub list : List Selector
+  pub held : HoldsList S (weak_of d) list
+  pub first : FirstLeadsTo S d see list found
+
+-- What is found is a hit, and where nothing is found, nothing is usable. Nothing is said where the holdings
+-- are unknown.
+abbrev pub FindsUsable : Option Holdings → Desc → (Ask → Answer) → Option FoundParts → Type 0
+FindsUsable None d see found = ⊤
+FindsUsable (Some S) d see None = Usable S d see → ⊥
+FindsUsable (Some S) d see (Some found) = LookupHits S d see found
+
+-- A hit is what the first usable selector leads to, and a miss says that nothing is usable. Nothing is said
+-- of the other answers, nor where the holdings are unknown.
+abbrev pub LookupGives : Option Holdings → Desc → (Ask → Answer) → LookupResult → Type 0
+LookupGives None d see answer = ⊤
+LookupGives (Some S) d see (lookup_results.Hit found) = LookupHits S d see found
+LookupGives (Some S) d see lookup_results.Miss = Usable S d see → ⊥
+LookupGives (Some S) d see lookup_results.Fault = ⊤
+LookupGives (Some S) d see lookup_results.Memory = ⊤
+
+-- What was found is of this process, and has what the view answers now; its files fit the process, and none
+-- is below another.
+pub record IsCurrentHit (d : Desc) (see : Ask → Answer) (found : FoundParts) : Type 0 where
+  pub weak_is : found.entry.weak ≡ weak_of d
+  pub answers_are : found.answers ≡ map see found.paths
+  pub fit : IsTrue (fits d.process (paths_of found.made))
+  pub unnested : NoneNested (paths_of found.made)
+
+-- a hit is of now, whatever is known of the holdings, and the weak text of the process is read back
+abbrev pub LookupHitIsCurrent : Desc → (Ask → Answer) → LookupResult → Type 0
+LookupHitIsCurrent d see (lookup_results.Hit found) = IsReadBack d × IsCurrentHit d see found
+LookupHitIsCurrent d see lookup_results.Miss = ⊤
+LookupHitIsCurrent d see lookup_results.Fault = ⊤
+LookupHitIsCurrent d see lookup_results.Memory = ⊤
+
+-- What the first usable selector of the rest of a list leads to is what that of all of it leads to, and what
+-- is usable in all of it is usable in the rest. Nothing is said where the holdings are unknown.
+abbrev pub Onward : Option Holdings → Desc → (Ask → Answer) → List Selector → List Selector → Type 0
+Onward None d see all rest = ⊤
+Onward (Some S) d see all rest =
+    ((found : FoundParts) → FirstLeadsTo S d see rest found → FirstLeadsTo S d see all found)
+    × (AnyUsable S d see all → AnyUsable S d see rest)

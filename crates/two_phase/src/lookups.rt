@@ -1,0 +1,278 @@
+//! Lookups.
+ghost use Rattle.std.specs.Prelude.{◌≡◌, ◌↔◌, Err, IfOk, IfSome, IsTrue, length, map};
+ghost use Rattle.sha2.specs.Sha256.{sha256};
+ghost use Rattle.memo_format.specs.Entries.{OutputsRise, output_paths};
+ghost use Rattle.prints.specs.Strong.{strong_parts, strong_text};
+ghost use Rattle.record_match.specs.Digests.{IsReadBack, weak_of};
+ghost use Rattle.store_meaning.specs.Usable.{fits as all_fit};
+ghost use Rattle.two_phase.specs.Calls.{ReaderCall};
+ghost use Rattle.two_phase.specs.Finding.{FindsOne, HasParts, IsEntryFor, IsOf, IsOn, IsStrongMatch, IsWith};
+ghost use Rattle.two_phase.specs.Lookups.{FindsFirst, FindsUsable, IsCurrentHit, LeadsTo, LookupGives, LookupHitIsCurrent};
+
+use crate::fetching::{entry, outputs, path_set, selectors};
+use crate::fitting::fits;
+use crate::store_fault::StoreFault;
+use bx_digest::Digest;
+use bx_io::KeepReader;
+use memo_format::{Entry, Found, Selector};
+use observed::{Answer, PathSet, View};
+use pip_types::Desc;
+use prints::{strong_of, weak};
+use std::alloc::{AllocError, Global};
+
+/// The answer to a lookup.
+#[derive(Drop)]
+pub enum LookupResult {
+    /// What the first usable selector leads to.
+    Hit(Found),
+    /// No selector is usable.
+    Miss,
+    /// The reader failed.
+    Fault,
+    /// There was no memory.
+    Memory,
+}
+
+// The digest of the weak text of a process.
+fn weak_digest(alloc: Global, desc: &Desc) -> Result<Digest, AllocError>
+    ensures digest { IfOk result (λ digest. digest ≡ weak_of desc.now) }
+    ensures spells { IfOk result (λ _. IsReadBack desc.now) }
+{
+    let printed = weak(alloc, desc)?;
+    Ok(printed.digest)
+}
+
+// What a view answers to the asks of a path set, in their order.
+fn answers_to<V: View>(
+    alloc: Global,
+    paths: &PathSet,
+    view: &mut V,
+) -> Result<Vec<Answer>, AllocError>
+    ensures answers { IfOk result (λ answers. answers.items ≡ map (V.answers view.old) paths.now) }
+    ensures same { V.answers view.new ≡ V.answers view.old }
+{
+    let mut answers = Vec::new(alloc);
+    let asks = paths.asks();
+    'asks: for ask in asks {
+        answers.push(view.ask(alloc, ask)?)?;
+    }
+    Ok(answers)
+}
+
+// The digest of the strong text of answers.
+fn digest_of_answers(
+    alloc: Global,
+    weak: &Digest,
+    paths: &Digest,
+    answers: &[Answer],
+) -> Result<Digest, AllocError>
+    ensures { IfOk result (λ digest.
+        digest ≡ sha256 (strong_text (strong_parts weak.now paths.now answers.now))) }
+{
+    let printed = strong_of(alloc, weak, paths, answers)?;
+    Ok(printed.digest)
+}
+
+// Whether an entry is one of a process with this weak digest and of a path set, and its outputs fit.
+fn is_taken(entry: &Entry, desc: &Desc, weak: &Digest, paths: &Digest) -> bool
+    requires { OutputsRise entry.now.outputs }
+    ensures { IsTrue result ↔ (entry.now.weak ≡ weak.now) × ((entry.now.paths ≡ paths.now)
+        × IsTrue (all_fit desc.now.process (output_paths entry.now.outputs))) }
+{
+    entry.weak == *weak && entry.paths == *paths && fits(&desc.process, entry.outputs.lines())
+}
+
+// The entry to which a selector of a process leads, if its outputs fit.
+fn entry_for<R: KeepReader>(
+    alloc: Global,
+    reader: &mut R,
+    desc: &Desc,
+    weak: &Digest,
+    selector: &Selector,
+) -> Result<Option<Entry>, StoreFault>
+    requires { weak.now ≡ weak_of desc.now }
+    ensures found { IfOk result (FindsOne (R.held reader.old) (λ S e. IsEntryFor S desc.now selector.now e)) }
+    ensures entry { IfOk result (λ found. IfSome found (λ e.
+        (e.weak ≡ weak_of desc.now) × OutputsRise e.outputs)) }
+    ensures fit { IfOk result (λ found. IfSome found (λ e.
+        IsTrue (all_fit desc.now.process (output_paths e.outputs)))) }
+    ensures reader { ReaderCall (R.held reader.old) (R.held reader.new) (R.bound reader.old) (R.bound reader.new)
+        (R.faults reader.old) (R.faults reader.new) (result ≡ Err StoreFault.Fault) }
+{
+    match entry(alloc, reader, &selector.strong)? {
+        Some(entry) => {
+            if is_taken(&entry, desc, weak, &selector.paths) {
+                Ok(Some(entry))
+            } else {
+                Ok(None)
+            }
+        }
+        None => Ok(None),
+    }
+}
+
+// An entry with its outputs, under a path set and answers.
+fn with_outputs<R: KeepReader>(
+    alloc: Global,
+    reader: &mut R,
+    entry: Entry,
+    paths: PathSet,
+    answers: Vec<Answer>,
+) -> Result<Option<Found>, StoreFault>
+    requires rise { OutputsRise entry.outputs }
+    requires one_each { length answers.items ≡ length paths }
+    ensures found { IfOk result (FindsOne (R.held reader.old)
+        (λ S found. IsWith S entry paths answers.items found)) }
+    ensures parts { IfOk result (λ found. IfSome found (HasParts entry paths answers.items)) }
+    ensures reader { ReaderCall (R.held reader.old) (R.held reader.new) (R.bound reader.old) (R.bound reader.new)
+        (R.faults reader.old) (R.faults reader.new) (result ≡ Err StoreFault.Fault) }
+{
+    match outputs(alloc, reader, entry.outputs.lines())? {
+        Some(made) => Ok(Some(Found::new(entry, paths, answers, made))),
+        None => Ok(None),
+    }
+}
+
+// The entry to which a selector of a process leads, with its outputs, under a path set and answers.
+fn found_by<R: KeepReader>(
+    alloc: Global,
+    reader: &mut R,
+    desc: &Desc,
+    weak: &Digest,
+    selector: &Selector,
+    paths: PathSet,
+    answers: Vec<Answer>,
+) -> Result<Option<Found>, StoreFault>
+    requires weak { weak.now ≡ weak_of desc.now }
+    requires one_each { length answers.items ≡ length paths }
+    ensures found { IfOk result (FindsOne (R.held reader.old)
+        (λ S found. IsOn S desc.now selector.now paths answers.items found)) }
+    ensures of { IfOk result (λ found. IfSome found (IsOf desc.now paths answers.items)) }
+    ensures reader { ReaderCall (R.held reader.old) (R.held reader.new) (R.bound reader.old) (R.bound reader.new)
+        (R.faults reader.old) (R.faults reader.new) (result ≡ Err StoreFault.Fault) }
+{
+    match entry_for(alloc, reader, desc, weak, selector)? {
+        Some(entry) => with_outputs(alloc, reader, entry, paths, answers),
+        None => Ok(None),
+    }
+}
+
+// What a selector of a process leads to, if its path set, asked now, gives its strong digest, and it is
+// usable.
+fn asked_now<R: KeepReader, V: View>(
+    alloc: Global,
+    reader: &mut R,
+    desc: &Desc,
+    weak: &Digest,
+    selector: &Selector,
+    paths: PathSet,
+    view: &mut V,
+) -> Result<Option<Found>, StoreFault>
+    requires { weak.now ≡ weak_of desc.now }
+    ensures found { IfOk result (FindsOne (R.held reader.old)
+        (λ S found. IsStrongMatch S desc.now (V.answers view.old) selector.now paths found)) }
+    ensures now { IfOk result (λ found. IfSome found (IsCurrentHit desc.now (V.answers view.old))) }
+    ensures same { V.answers view.new ≡ V.answers view.old }
+    ensures reader { ReaderCall (R.held reader.old) (R.held reader.new) (R.bound reader.old) (R.bound reader.new)
+        (R.faults reader.old) (R.faults reader.new) (result ≡ Err StoreFault.Fault) }
+{
+    let answers = answers_to(alloc, &paths, view)?;
+    let digest = digest_of_answers(alloc, weak, &selector.paths, answers.as_slice())?;
+    if digest == selector.strong {
+        found_by(alloc, reader, desc, weak, selector, paths, answers)
+    } else {
+        Ok(None)
+    }
+}
+
+// What a selector of a process leads to, if it is usable.
+fn follow<R: KeepReader, V: View>(
+    alloc: Global,
+    reader: &mut R,
+    desc: &Desc,
+    weak: &Digest,
+    selector: &Selector,
+    view: &mut V,
+) -> Result<Option<Found>, StoreFault>
+    requires { weak.now ≡ weak_of desc.now }
+    ensures found { IfOk result (FindsOne (R.held reader.old)
+        (λ S found. LeadsTo S desc.now (V.answers view.old) selector.now found)) }
+    ensures now { IfOk result (λ found. IfSome found (IsCurrentHit desc.now (V.answers view.old))) }
+    ensures same { V.answers view.new ≡ V.answers view.old }
+    ensures reader { ReaderCall (R.held reader.old) (R.held reader.new) (R.bound reader.old) (R.bound reader.new)
+        (R.faults reader.old) (R.faults reader.new) (result ≡ Err StoreFault.Fault) }
+{
+    match path_set(alloc, reader, &selector.paths)? {
+        Some(paths) => asked_now(alloc, reader, desc, weak, selector, paths, view),
+        None => Ok(None),
+    }
+}
+
+// What the first usable selector of a list leads to.
+fn first_usable<R: KeepReader, V: View>(
+    alloc: Global,
+    reader: &mut R,
+    desc: &Desc,
+    weak: &Digest,
+    list: &[Selector],
+    view: &mut V,
+) -> Result<Option<Found>, StoreFault>
+    requires { weak.now ≡ weak_of desc.now }
+    ensures found { IfOk result
+        (FindsFirst (R.held reader.old) desc.now (V.answers view.old) list.now) }
+    ensures now { IfOk result (λ found. IfSome found (IsCurrentHit desc.now (V.answers view.old))) }
+    ensures same { V.answers view.new ≡ V.answers view.old }
+    ensures reader { ReaderCall (R.held reader.old) (R.held reader.new) (R.bound reader.old) (R.bound reader.new)
+        (R.faults reader.old) (R.faults reader.new) (result ≡ Err StoreFault.Fault) }
+{
+    'selectors: for selector in list {
+        match follow(alloc, reader, desc, weak, selector, view)? {
+            Some(found) => return Ok(Some(found)),
+            None => (),
+        }
+    }
+    Ok(None)
+}
+
+// What is usable for a process.
+fn find_usable<R: KeepReader, V: View>(
+    alloc: Global,
+    reader: &mut R,
+    desc: &Desc,
+    view: &mut V,
+) -> Result<Option<Found>, StoreFault>
+    ensures found { IfOk result (FindsUsable (R.held reader.old) desc.now (V.answers view.old)) }
+    ensures now { IfOk result (λ found. IfSome found (λ f.
+        IsReadBack desc.now × IsCurrentHit desc.now (V.answers view.old) f)) }
+    ensures same { V.answers view.new ≡ V.answers view.old }
+    ensures reader { ReaderCall (R.held reader.old) (R.held reader.new) (R.bound reader.old) (R.bound reader.new)
+        (R.faults reader.old) (R.faults reader.new) (result ≡ Err StoreFault.Fault) }
+{
+    let digest = weak_digest(alloc, desc)?;
+    match selectors(alloc, reader, &digest)? {
+        Some(held) => first_usable(alloc, reader, desc, &digest, held.list(), view),
+        None => Ok(None),
+    }
+}
+
+/// Looks up what the run of a process on this view made: what the first usable selector leads to. It stops at
+/// the first get that fails.
+pub fn lookup<R: KeepReader, V: View>(
+    alloc: Global,
+    reader: &mut R,
+    desc: &Desc,
+    view: &mut V,
+) -> LookupResult
+    ensures answer { LookupGives (R.held reader.old) desc.now (V.answers view.old) result }
+    ensures now { LookupHitIsCurrent desc.now (V.answers view.old) result }
+    ensures same { V.answers view.new ≡ V.answers view.old }
+    ensures reader { ReaderCall (R.held reader.old) (R.held reader.new) (R.bound reader.old) (R.bound reader.new)
+        (R.faults reader.old) (R.faults reader.new) (result ≡ LookupResult.Fault) }
+{
+    match find_usable(alloc, reader, desc, view) {
+        Ok(Some(found)) => LookupResult::Hit(found),
+        Ok(None) => LookupResult::Miss,
+        Err(StoreFault::Fault) => LookupResult::Fault,
+        Err(StoreFault::Memory) => LookupResult::Memory,
+    }
+}
