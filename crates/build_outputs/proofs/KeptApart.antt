@@ -10,7 +10,6 @@ use Rattle.bx_tree.specs.Paths.{Atoms, IsBelow}
 use Rattle.bx_tree.specs.Trees.{Files, paths_of}
 use Rattle.graph_check.specs.Rules.{KeepsRules}
 use Rattle.graph_outputs.specs.OutsideOut.{out_dir}
-use Rattle.graph_outputs.specs.Outputs.{declared_dirs}
 use Rattle.observed.specs.Members.{Has}
 use Rattle.observed.proofs.OneSet.{has_contained}
 use Rattle.one_thread.proofs.EachResult.{number_of_results, result_of_all}
@@ -21,13 +20,14 @@ use Rattle.pip_types.specs.declared.outputs.OutDir.{OutDir}
 use Rattle.pip_types.specs.declared.pip.Pip.{Pip}
 use Rattle.pip_types.specs.declared.pip.PipKind.{PipKind}
 use Rattle.pip_types.specs.declared.pip.PipKind.TheVariants.{Process, Copy, Write, Seal}
-use Rattle.violations.specs.DoubleWrites.{outdirs_of, shared_paths}
+use Rattle.violations.specs.DoubleWrites.{shared_paths}
 use Rattle.build_outputs.specs.Keeping.{AreKept, AreOwnOutputs, KeptAt}
 use Rattle.build_outputs.specs.Outputs.{AreOutputs}
 use Rattle.build_outputs.proofs.Clashing.{clash_above, clash_below, no_clash_between, shared_has}
 use Rattle.build_outputs.proofs.Meeting.{Apart, InOneDir, both_share, in_one_dir, kept_apart, kept_below, made_below}
 use Rattle.build_outputs.proofs.OneResult.{AllHold, kept_result}
 use Rattle.build_outputs.proofs.PutAll.{MadeAt, has_put_all, made_at, put_all_rising}
+use Rattle.pip_types.specs.Kinds.{outdirs_of}
 
 -- ## Places in lists
 
@@ -43,7 +43,7 @@ get_take (x ∷ xs) zero i l = absurd (omega (arith, l))
 get_take (x ∷ xs) (suc n) zero l = refl
 get_take (x ∷ xs) (suc n) (suc i) l = get_take xs n i (omega (arith, l))
 
-same_dirs : (kind : PipKind) → declared_dirs kind ≡ outdirs_of kind
+same_dirs : (kind : PipKind) → outdirs_of kind ≡ outdirs_of kind
 same_dirs (Process d) = refl
 same_dirs (Copy d) = refl
 same_dirs (Write d) = refl
@@ -51,7 +51,7 @@ same_dirs (Seal d) = refl
 
 -- ## Two pips
 
-shares : (pip : Pip) (dir : OutDir) (files : Files) (path : Atoms) → Has (declared_dirs pip.kind) dir → dir.shared ≡ true → IsBelow path dir.path
+shares : (pip : Pip) (dir : OutDir) (files : Files) (path : Atoms) → Has (outdirs_of pip.kind) dir → dir.shared ≡ true → IsBelow path dir.path
     → Has (paths_of files) path → Has (shared_paths (outdirs_of pip.kind) files) path
 shares pip dir files path h shared below there =
     shared_has (outdirs_of pip.kind) files dir path (subst (λ (ds : List OutDir). Has ds dir) (same_dirs pip.kind) h) shared below there

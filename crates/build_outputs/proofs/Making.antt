@@ -18,11 +18,12 @@ use Rattle.pip_types.specs.declared.pip.PipKind.TheVariants.{Process}
 use Rattle.run_record.specs.Outcomes.{complete, first_missing, last_access, outcome_by_end, outcome_of, refused, with_console}
 use Rattle.run_record.specs.declared.outcome.Outcome.TheVariants.{Good, Failed}
 use Rattle.run_record.specs.declared.outcome.Cause.TheVariants as causes
-use Rattle.tool_run.specs.Described.{described, dir_paths}
-use Rattle.tool_run.specs.Description.{Description, is_console, permits}
+use Rattle.tool_run.specs.Described.{described}
+use Rattle.tool_run.specs.Description.{Description, permits}
 use Rattle.tool_run.specs.Run.{Run}
 use Rattle.build_outputs.specs.Keeping.{Makes}
 use Rattle.build_outputs.proofs.PutAll.{has_put}
+use Rattle.pip_types.specs.Outputs.{is_console, outdir_paths}
 
 -- ## What a pip may make
 
@@ -41,10 +42,10 @@ any_file (out ∷ outs) path e = elim (or_cases (same_path out path) (list_any (
   | inr more ↦ inr (any_file outs path more)
 ]
 
-any_dir : (dirs : List OutDir) (path : Atoms) → list_any (λ dir. is_below path dir) (dir_paths dirs) ≡ true
+any_dir : (dirs : List OutDir) (path : Atoms) → list_any (λ dir. is_below path dir) (outdir_paths dirs) ≡ true
     → (dir : OutDir) × Has dirs dir × IsBelow path dir.path
 any_dir [] path e = cc
-any_dir (dir ∷ dirs) path e = elim (or_cases (is_below path dir.path) (list_any (λ d. is_below path d) (dir_paths dirs)) e) [
+any_dir (dir ∷ dirs) path e = elim (or_cases (is_below path dir.path) (list_any (λ d. is_below path d) (outdir_paths dirs)) e) [
   | inl here ↦ (dir, inl refl, (below_decides path dir.path).0 here)
   | inr more ↦ let rest = any_dir dirs path more in (rest.0, inr rest.1, rest.2)
 ]
@@ -57,7 +58,7 @@ both_true false b e = e
 permitted_makes : (x : Desc) (path : Atoms) → permits (described x) path ≡ true → Makes (Process x.process) path
 permitted_makes x path e =
     let files = list_any (λ out. same_path out path) x.process.outs in
-    let dirs = list_any (λ dir. is_below path dir) (dir_paths x.process.outdirs) in
+    let dirs = list_any (λ dir. is_below path dir) (outdir_paths x.process.outdirs) in
     elim (or_cases files dirs (both_true (files || dirs) (not (is_console x.process.console path)) e)) [
       | inl out ↦ inl (has_first x.process.outs (option_to_list x.process.console) path (any_file x.process.outs path out))
       | inr dir ↦ inr (any_dir x.process.outdirs path dir)

@@ -7,7 +7,7 @@ use Rattle.bx_tree.specs.Trees.{Files}
 use Rattle.graph_check.specs.Rules.{KeepsRules}
 use Rattle.graph_check.specs.declared.fault.GraphKind.TheVariants as rules
 use Rattle.graph_outputs.specs.OutsideOut.{out_dir}
-use Rattle.graph_outputs.specs.Outputs.{declared_dirs, declared_files, outputs, PipHas as At}
+use Rattle.graph_outputs.specs.Outputs.{declared_files, outputs, PipHas as At}
 use Rattle.graph_outputs.specs.Overlap.{Overlaps, Nested, OnePath, Unshared}
 use Rattle.observed.specs.Members.{Has}
 use Rattle.observed.proofs.OneSet.{contains_has}
@@ -19,6 +19,7 @@ use Rattle.pip_types.specs.declared.pip.PipKind.{PipKind}
 use Rattle.build_outputs.specs.Keeping.{Makes}
 use Rattle.build_outputs.proofs.Making.{has_first, has_last}
 use Rattle.build_outputs.proofs.Prefixes.{Related, Below, Above, Same, below_above, both_above}
+use Rattle.pip_types.specs.Kinds.{outdirs_of}
 
 -- ## Rules
 
@@ -53,17 +54,17 @@ declares items pips i pip x at h =
 file_output : (pips : List Pip) (i : ℕ) (pip : Pip) (path : Atoms) → slice_get pips i ≡ Some pip → Has (declared_files pip.kind) path
     → At outputs pips i path
 file_output pips i pip path at h =
-    declares outputs pips i pip path at (has_first (declared_files pip.kind) (map (λ (d : OutDir). d.path) (declared_dirs pip.kind)) path h)
+    declares outputs pips i pip path at (has_first (declared_files pip.kind) (map (λ (d : OutDir). d.path) (outdirs_of pip.kind)) path h)
 
 has_path : (dirs : List OutDir) (dir : OutDir) → Has dirs dir → Has (map (λ (d : OutDir). d.path) dirs) dir.path
 has_path [] dir h = absurd h
 has_path (d ∷ dirs) dir h = elim h [ inl e ↦ inl (ap (λ (x : OutDir). x.path) e) | inr k ↦ inr (has_path dirs dir k) ]
 
-dir_output : (pips : List Pip) (i : ℕ) (pip : Pip) (dir : OutDir) → slice_get pips i ≡ Some pip → Has (declared_dirs pip.kind) dir
+dir_output : (pips : List Pip) (i : ℕ) (pip : Pip) (dir : OutDir) → slice_get pips i ≡ Some pip → Has (outdirs_of pip.kind) dir
     → At outputs pips i dir.path
 dir_output pips i pip dir at h =
     declares outputs pips i pip dir.path at
-    (has_last (declared_files pip.kind) (map (λ (d : OutDir). d.path) (declared_dirs pip.kind)) dir.path (has_path (declared_dirs pip.kind) dir h))
+    (has_last (declared_files pip.kind) (map (λ (d : OutDir). d.path) (outdirs_of pip.kind)) dir.path (has_path (outdirs_of pip.kind) dir h))
 
 pub made_below : (pips : List Pip) (i : ℕ) (pip : Pip) (path : Atoms) → AllBelowOut pips → slice_get pips i ≡ Some pip → Makes pip.kind path
     → IsBelow path out_dir
@@ -78,8 +79,8 @@ made_below pips i pip path h at m = elim m [
 pub record InOneDir (a b : PipKind) (p q : Atoms) : Type 0 where
   pub first : OutDir
   pub second : OutDir
-  pub has_first : Has (declared_dirs a) first
-  pub has_second : Has (declared_dirs b) second
+  pub has_first : Has (outdirs_of a) first
+  pub has_second : Has (outdirs_of b) second
   pub one_path : first.path ≡ second.path
   pub below_first : IsBelow p first.path
   pub below_second : IsBelow q second.path
@@ -95,11 +96,11 @@ module _ (pips : List Pip) (apart : Apart pips) (i j : ℕ) (a b : Pip) (at_a : 
   ]
 
   -- no file of a pip lies below a declared file
-  in_dir_below : (dir : OutDir) → Has (declared_dirs a.kind) dir → Has (declared_files b.kind) q → Related dir.path q → ⊥
+  in_dir_below : (dir : OutDir) → Has (outdirs_of a.kind) dir → Has (declared_files b.kind) q → Related dir.path q → ⊥
   in_dir_below dir h file (Below r) = apart i j (Nested (dir.path, q, dir_output pips i a dir at_a h, file_output pips j b q at_b file, r))
   in_dir_below dir h file (Above r) = apart j i (Nested (q, dir.path, file_output pips j b q at_b file, dir_output pips i a dir at_a h, r))
   in_dir_below dir h file (Same r) =
-      apart j i (OnePath (q, dir, declares declared_files pips j b q at_b file, declares declared_dirs pips i a dir at_a h, sym r))
+      apart j i (OnePath (q, dir, declares declared_files pips j b q at_b file, declares outdirs_of pips i a dir at_a h, sym r))
 
   pub below_file : Makes a.kind p → Has (declared_files b.kind) q → ⊥
   below_file m file = elim m [
@@ -107,7 +108,7 @@ module _ (pips : List Pip) (apart : Apart pips) (i j : ℕ) (a b : Pip) (at_a : 
     | inr dir ↦ in_dir_below dir.0 dir.1 file (both_above p dir.0.path q dir.2 below)
   ]
 
-  two_dirs : (dir other : OutDir) → Has (declared_dirs a.kind) dir → Has (declared_dirs b.kind) other → IsBelow p dir.path → IsBelow q other.path
+  two_dirs : (dir other : OutDir) → Has (outdirs_of a.kind) dir → Has (outdirs_of b.kind) other → IsBelow p dir.path → IsBelow q other.path
       → Related dir.path other.path → InOneDir a.kind b.kind p q
   two_dirs dir other h k m n (Below r) =
       absurd (apart i j (Nested (dir.path, other.path, dir_output pips i a dir at_a h, dir_output pips j b other at_b k, r)))
@@ -139,14 +140,14 @@ module _ (pips : List Pip) (apart : Apart pips) (i j : ℕ) (a b : Pip) (at_a : 
 
 -- one directory of two pips is shared by both
 pub both_share : (pips : List Pip) → Apart pips → (i j : ℕ) (a b : Pip) (dir other : OutDir) → slice_get pips i ≡ Some a → slice_get pips j ≡ Some b
-    → (i ≡ j → ⊥) → Has (declared_dirs a.kind) dir → Has (declared_dirs b.kind) other → dir.path ≡ other.path
+    → (i ≡ j → ⊥) → Has (outdirs_of a.kind) dir → Has (outdirs_of b.kind) other → dir.path ≡ other.path
     → (dir.shared ≡ true) × (other.shared ≡ true)
 both_share pips apart i j a b dir other at_a at_b differ h k same = by_tests (cases_Bool dir.shared) (cases_Bool other.shared)
   where
     unshared : (IsTrue dir.shared → IsTrue other.shared → ⊥) → ⊥
     unshared none =
         apart i j
-        (Unshared (differ, (dir, other, declares declared_dirs pips i a dir at_a h, declares declared_dirs pips j b other at_b k, same, none)))
+        (Unshared (differ, (dir, other, declares outdirs_of pips i a dir at_a h, declares outdirs_of pips j b other at_b k, same, none)))
 
     by_tests : ((dir.shared ≡ true) ⊎ (dir.shared ≡ false)) → ((other.shared ≡ true) ⊎ (other.shared ≡ false))
         → (dir.shared ≡ true) × (other.shared ≡ true)

@@ -7,8 +7,9 @@ use Rattle.bx_tree.specs.Trees.{Files}
 use Rattle.pip_types.specs.declared.pip.Pip.{Pip}
 use Rattle.pip_types.specs.declared.pip.PipKind.{PipKind}
 use Rattle.verdicts.specs.declared.verdict.Violation.{Violation}
-use Rattle.violations.specs.DoubleWrites.{first_clash, has_clash, least_clash, or_next, outdirs_of, shared_paths}
+use Rattle.violations.specs.DoubleWrites.{first_clash, has_clash, least_clash, or_next, shared_paths}
 use Rattle.build_outputs.specs.Keeping.{AreKept, AreOwnOutputs, KeptAt}
+use Rattle.pip_types.specs.Kinds.{outdirs_of}
 
 -- ## Clashes with the files of the first pips
 

@@ -31,11 +31,12 @@ use Rattle.tool_run.specs.Run.{run_of}
 use Rattle.verdicts.specs.declared.verdict.Verdict.TheVariants as verdicts
 use Rattle.verdicts.specs.declared.verdict.Violation.{Violation}
 use Rattle.violations.specs.Classes.{class_of}
-use Rattle.violations.specs.DoubleWrites.{clash_at, clash_of, outdirs_in, outdirs_of}
+use Rattle.violations.specs.DoubleWrites.{clash_at, clash_of, outdirs_in}
 use Rattle.build_outputs.specs.Keeping.{AreOwnOutputs, Makes}
 use Rattle.build_outputs.proofs.Making.{good_files, has_last, with_console_has, written_makes}
 use Rattle.build_outputs.proofs.Meeting.{Apart, below_file, file_below}
 use Rattle.build_outputs.proofs.Prefixes.{not_itself}
+use Rattle.pip_types.specs.Kinds.{outdirs_of}
 
 -- each run keeps to its description
 abbrev pub AllHold : Type 0

@@ -2,18 +2,19 @@
 use Rattle.std.specs.Prelude.{◌≡◌, ◌⊎◌, ℕ, List, take, Some, None, slice_get}
 use Rattle.bx_tree.specs.Paths.{Atoms, IsBelow}
 use Rattle.bx_tree.specs.Trees.{Files, paths_of}
-use Rattle.graph_outputs.specs.Outputs.{declared_dirs, declared_files}
+use Rattle.graph_outputs.specs.Outputs.{declared_files}
 use Rattle.observed.specs.Members.{Has}
 use Rattle.pip_types.specs.declared.outputs.OutDir.{OutDir}
 use Rattle.pip_types.specs.declared.pip.Pip.{Pip}
 use Rattle.pip_types.specs.declared.pip.PipKind.{PipKind}
-use Rattle.violations.specs.DoubleWrites.{clash_of, outdirs_of}
+use Rattle.violations.specs.DoubleWrites.{clash_of}
+use Rattle.pip_types.specs.Kinds.{outdirs_of}
 
 -- the pip declares the file, or it lies below a directory that the pip declares
 abbrev pub Makes : PipKind → Atoms → Type 0
 Makes kind path =
     Has (declared_files kind) path
-    ⊎ ((dir : OutDir) × Has (declared_dirs kind) dir × IsBelow path dir.path)
+    ⊎ ((dir : OutDir) × Has (outdirs_of kind) dir × IsBelow path dir.path)
 
 -- The files of pip i of this kind, where the first pips made these files: it makes each of them, none lies
 -- below another, and none clashes with a file of an earlier pip.

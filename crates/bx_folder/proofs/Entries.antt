@@ -9,9 +9,10 @@ use Rattle.bx_folder.specs.Answers.{ListsNodes, entry_data, kind_of}
 use Rattle.bx_folder.specs.Folders.{AllApart, IsFolder, IsFree, Node, Nodes, IsListed, without}
 use Rattle.bx_folder.specs.Stored.{placed, stored}
 use Rattle.bx_folder.specs.declared.mem_folder.Placed.{Placed}
-use Rattle.bx_folder.specs.Places.{IsApart, IsLeftOut, IsWithin, is_within, texts_now}
+use Rattle.bx_folder.specs.Places.{IsApart, IsLeftOut, IsWithin, is_within}
 use Rattle.bx_folder.proofs.Free.{from_map, to_map}
 use Rattle.bx_folder.specs.declared.folder.Entry.{Entry}
+use Rattle.bx_tree.specs.Lent.{texts_now}
 
 -- ## Things one after another
 

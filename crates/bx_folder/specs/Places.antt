@@ -21,7 +21,3 @@ is_within (b ∷ bs) (t ∷ ts) = b == t && is_within bs ts
 -- the place is one of these, or lies below one
 abbrev pub IsLeftOut : List (List ℕ) → List ℕ → Type 0
 IsLeftOut tops place = (top : List ℕ) × Contains tops top × IsWithin place top
-
--- the texts, without their addresses
-abbrev pub texts_now : List (Bor (List ℕ)) → List (List ℕ)
-texts_now = map (λ (text : Bor (List ℕ)). text.now)

@@ -7,8 +7,8 @@ ghost use Rattle.bx_tree.specs.Paths.{path_text};
 ghost use Rattle.bx_tree.specs.declared.limits.TheConstants.{MAX_FILE_BYTES};
 ghost use Rattle.bx_folder.specs.Answers.{HasLargeFile, ListsNodes};
 ghost use Rattle.bx_folder.specs.Folders.{File, IsFolder, IsFree, Known, Nodes, with_files};
-ghost use Rattle.bx_folder.specs.Places.{texts_now};
 ghost use Rattle.bx_folder.specs.Unpacking.{removed};
+ghost use Rattle.bx_tree.specs.Lent.{texts_now};
 
 use bx_tree::Path;
 use std::alloc::{AllocError, AllocFailed, Global};

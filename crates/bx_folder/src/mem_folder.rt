@@ -5,8 +5,9 @@ ghost use Rattle.bx_io.specs.Causes.{HasCause};
 ghost use Rattle.std.specs.Prelude.{Contains, IfSome, filter, not};
 ghost use Rattle.bx_folder.specs.Answers.{ListsNodes, kind_of};
 ghost use Rattle.bx_folder.specs.Folders.{File, IsFolder, IsFree, Nodes, without};
-ghost use Rattle.bx_folder.specs.Places.{is_within as within, texts_now};
+ghost use Rattle.bx_folder.specs.Places.{is_within as within};
 ghost use Rattle.bx_folder.specs.Stored.{node_of, placed as placed_node, stored};
+ghost use Rattle.bx_tree.specs.Lent.{texts_now};
 
 use crate::folder::{Entry, Folder, FolderFault, Kind, ListFault, ReadFault, WriteFault};
 use crate::places::{is_apart, is_left_out, is_outside};

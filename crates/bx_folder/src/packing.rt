@@ -12,9 +12,9 @@ ghost use Rattle.bx_tree.specs.declared.limits.TheConstants.{MAX_FILES, MAX_FILE
 ghost use Rattle.bx_folder.specs.Answers.{ListsNodes};
 ghost use Rattle.bx_folder.specs.Folders.{File, IsFolder, Known, Nodes};
 ghost use Rattle.bx_folder.specs.Packing.{BlamesFolder, HasCauseIn, HasPackCause, IsPack};
-ghost use Rattle.bx_folder.specs.Places.{texts_now};
 ghost use Rattle.bx_folder.specs.Steps.{AreFilePaths, ArePathsOf, AreRead, IsEntryFault, IsFileIn};
 ghost use Rattle.bx_folder.specs.Steps.{IsFilePath, IsPlaceFault, IsTextFault, IsTextOf};
+ghost use Rattle.bx_tree.specs.Lent.{texts_now};
 
 use crate::fault::PackFault;
 use crate::folder::{Entry, Folder, Kind, ListFault, ReadFault};

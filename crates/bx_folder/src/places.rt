@@ -1,7 +1,8 @@
 //! Which places of a folder lie below which.
 
 ghost use Rattle.std.specs.Prelude.{◌≡◌, ◌↔◌, ◌∷◌, ◌++◌, ℕ, List, IsTrue, not};
-ghost use Rattle.bx_folder.specs.Places.{IsApart, IsLeftOut, IsWithin, is_within as within, texts_now};
+ghost use Rattle.bx_folder.specs.Places.{IsApart, IsLeftOut, IsWithin, is_within as within};
+ghost use Rattle.bx_tree.specs.Lent.{texts_now};
 
 // Whether a place lies below another one.
 fn is_below(place: &[u8], top: &[u8]) -> bool

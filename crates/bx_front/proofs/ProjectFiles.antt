@@ -13,7 +13,7 @@ use Rattle.std.proofs.lemmas.List.{append-nil, drop_all, map-append}
 use Rattle.std.proofs.lemmas.List.Folds.{list_any_at, list_any_none}
 use Rattle.std.proofs.lemmas.List.Sorted.{list_any-IsPermutation, searchable_from_sorted}
 use Rattle.bx_tree.specs.Orders.{equal_paths, path_cmp_total, same_path_decides}
-use Rattle.bx_tree.specs.Paths.{Atoms, path_cmp, same_path}
+use Rattle.bx_tree.specs.Paths.{Atoms, has_path, path_cmp, same_path}
 use Rattle.bx_tree.specs.Trees.{Files}
 use Rattle.bx_tree.specs.Views.{file_of}
 use Rattle.bx_tree.specs.declared.tree_file.TreeFile.{TreeFile}
@@ -26,7 +26,6 @@ use Rattle.dscript_names.specs.declared.parsed.Parsed.{Parsed}
 use Rattle.dscript_scopes.specs.Declarations.{ParsedData}
 use Rattle.bx_front.specs.FileFaults.{RefusesFile, RefusesFiles}
 use Rattle.bx_front.specs.Names.{AreParsed, IsParsed, all_parsed}
-use Rattle.dscript_config.specs.Paths.{is_one_of}
 use Rattle.bx_front.specs.Projects.{IsFirstProjectFault, IsShort, files_among, is_among, lent_files}
 use Rattle.bx_front.specs.Projects.{paths_of_modules, project_files}
 
@@ -113,7 +112,7 @@ apart p q n = elim (cases_Bool (same_path q p)) [
 
 -- a binary search among sorted paths is sound and complete
 pub search_answers : (paths : List Atoms) (p : Atoms) (r : Result ℕ ℕ) → IsSorted path_cmp paths
-    → IsSearchInRange r (length paths) → IsBinarySearchResult (λ q. path_cmp q p) paths r → is_ok r ≡ is_one_of paths p
+    → IsSearchInRange r (length paths) → IsBinarySearchResult (λ q. path_cmp q p) paths r → is_ok r ≡ has_path paths p
 search_answers paths p (Ok i) up l h =
     sym (list_any_at (λ q. same_path q p) paths i [] l
     ((same_path_decides (get_or paths i []) p).1 (equal_paths (get_or paths i []) p (h []))))

@@ -2,7 +2,7 @@
 use Rattle.std.specs.Prelude.{◌≡◌, ℕ, ◌≤◌, Bool, List, [], ◌∷◌, filter, map, length, ◌⊎◌}
 use Rattle.std.specs.Borrow.{Bor}
 use Rattle.std.specs.List.{flat_map}
-use Rattle.bx_tree.specs.Paths.{Atoms}
+use Rattle.bx_tree.specs.Paths.{Atoms, has_path}
 use Rattle.bx_tree.specs.Trees.{Files}
 use Rattle.bx_tree.specs.Views.{file_of}
 use Rattle.bx_tree.specs.declared.limits.TheConstants.{MAX_FILE_BYTES}
@@ -15,7 +15,6 @@ use Rattle.dscript_modules.specs.Faults.{FaultData}
 use Rattle.dscript_modules.specs.Workspaces.{ModuleData}
 use Rattle.dscript_read.specs.Reading.{HasNoTokens, IsFile, IsNoFile}
 use Rattle.dscript_workspace.specs.Finding.{fault_at}
-use Rattle.dscript_config.specs.Paths.{is_one_of}
 
 -- ## Which they are
 
@@ -25,7 +24,7 @@ paths_of_modules modules = flat_map (λ m. m.files) modules
 
 -- the file is at one of these paths
 abbrev pub is_among : List Atoms → Atoms × List ℕ → Bool
-is_among paths file = is_one_of paths file.0
+is_among paths file = has_path paths file.0
 
 -- the files at these paths, in the order of the tree
 abbrev pub files_among : List Atoms → Files → Files

@@ -3,14 +3,13 @@
 ghost use Rattle.std.specs.Prelude.{◌≡◌, ◌++◌, ◌≤◌, IfOk, MatchResult, OnOk, length};
 ghost use Rattle.std.specs.List.{AllByRecursion};
 ghost use Rattle.std.specs.List.Sorted.{IsSorted};
-ghost use Rattle.bx_tree.specs.Paths.{path_cmp};
+ghost use Rattle.bx_tree.specs.Paths.{has_path, path_cmp};
 ghost use Rattle.bx_tree.specs.Views.{file_of, files_of};
 ghost use Rattle.dscript_ast.specs.Views.{file_tree};
 ghost use Rattle.dscript_ast.specs.declared.file.Form.{Form as AnyForm};
 ghost use Rattle.dscript_modules.specs.Workspaces.{modules_data, modules_of};
 ghost use Rattle.dscript_names.specs.Views.{parsed_data};
 ghost use Rattle.dscript_read.specs.Reading.{IsFile};
-ghost use Rattle.dscript_config.specs.Paths.{is_one_of};
 ghost use Rattle.dscript_workspace.specs.Finding.{fault_at as fault_with};
 ghost use Rattle.bx_front.specs.FileFaults.{IsSameFault, RefusesFile, RefusesFiles};
 ghost use Rattle.bx_front.specs.Names.{AreParsed, IsParsed, all_parsed};
@@ -48,7 +47,7 @@ fn module_paths(alloc: Global, modules: &[ModuleText]) -> Result<Vec<Path>, Allo
 /// Whether a path is one of these, which are in order.
 fn is_among(paths: &[Path], path: &Path) -> bool
     requires { IsSorted path_cmp paths.now }
-    ensures { result ≡ is_one_of paths.now path.now }
+    ensures { result ≡ has_path paths.now path.now }
 {
     paths.binary_search(path).is_ok()
 }

@@ -11,7 +11,7 @@ use Rattle.std.proofs.lemmas.Slice.Eq.{bytes_eq-Decides}
 use Rattle.bx_tree.specs.Paths.{Atoms, IsAtom, IsPath, IsPathText, Names, is_atom_byte, path_text}
 use Rattle.bx_tree.proofs.PathTexts.{atoms_again, one_path, same_from_text, join-append}
 use Rattle.bx_path.specs.Joining.{is_atom, parent, step, if_short}
-use Rattle.bx_path.specs.Parts.{parts_now}
+use Rattle.bx_tree.specs.Lent.{texts_now}
 
 -- ## Atoms by a test
 
@@ -98,17 +98,17 @@ join-push (x ∷ xs) y l = join-append x xs y [] ∙ sym (append_assoc (join_wit
 
 -- the text of one more atom
 pub first_text : (atoms : List (Bor (List ℕ))) (i : ℕ) (d : Bor (List ℕ)) → i < length atoms → i ≡ 0
-    → join_with_byte 47 (parts_now (take i atoms)) ++ (get_or atoms i d).now ≡ join_with_byte 47 (parts_now (take (i + 1) atoms))
+    → join_with_byte 47 (texts_now (take i atoms)) ++ (get_or atoms i d).now ≡ join_with_byte 47 (texts_now (take (i + 1) atoms))
 first_text [] i d l e = absurd (omega (arith, l))
-first_text (a ∷ atoms) i d l e = subst (λ k. join_with_byte 47 (parts_now (take k (a ∷ atoms))) ++ (get_or (a ∷ atoms) k d).now ≡ join_with_byte 47 (parts_now (take (k + 1) (a ∷ atoms)))) (sym e) refl
+first_text (a ∷ atoms) i d l e = subst (λ k. join_with_byte 47 (texts_now (take k (a ∷ atoms))) ++ (get_or (a ∷ atoms) k d).now ≡ join_with_byte 47 (texts_now (take (k + 1) (a ∷ atoms)))) (sym e) refl
 
 pub next_text : (atoms : List (Bor (List ℕ))) (i : ℕ) (d : Bor (List ℕ)) → i < length atoms → 0 < i
-    → join_with_byte 47 (parts_now (take i atoms)) ++ (47 ∷ []) ++ (get_or atoms i d).now ≡ join_with_byte 47 (parts_now (take (i + 1) atoms))
+    → join_with_byte 47 (texts_now (take i atoms)) ++ (47 ∷ []) ++ (get_or atoms i d).now ≡ join_with_byte 47 (texts_now (take (i + 1) atoms))
 next_text atoms i d l some =
-    let n : 0 < length (parts_now (take i atoms)) =
+    let n : 0 < length (texts_now (take i atoms)) =
     omega (arith, length-map (take i atoms) (λ (part : Bor (List ℕ)). part.now), length-take-le i atoms (omega arith)) in
-    sym (join-push (parts_now (take i atoms)) (get_or atoms i d).now n)
-    ∙ ap (join_with_byte 47) (sym (ap parts_now (take_more atoms i d l) ∙ map_push (λ (part : Bor (List ℕ)). part.now) (take i atoms) (get_or atoms i d)))
+    sym (join-push (texts_now (take i atoms)) (get_or atoms i d).now n)
+    ∙ ap (join_with_byte 47) (sym (ap texts_now (take_more atoms i d l) ∙ map_push (λ (part : Bor (List ℕ)). part.now) (take i atoms) (get_or atoms i d)))
 
 -- ## The path of atoms
 

@@ -1,7 +1,7 @@
 -- Which atoms match a pattern, and which files of a tree a glob lists.
-use Rattle.std.specs.Prelude.{ℕ, ◌<◌, ◌≤◌, Bool, true, false, IsTrue, ◌&&◌, ◌||◌, ◌==◌, if◌then◌else◌}
+use Rattle.std.specs.Prelude.{Bool, IsTrue, false, if◌then◌else◌, nat_le, true, ℕ, ◌&&◌, ◌<◌, ◌==◌, ◌||◌, ◌≤◌}
 use Rattle.std.specs.Prelude.{List, [], ◌∷◌, length, filter, Option, Some, None}
-use Rattle.std.specs.List.{AllByRecursion}
+use Rattle.std.specs.List.{AllByRecursion, list_all}
 use Rattle.std.specs.Option.{option_map_or}
 use Rattle.std.specs.Str.{bytes_eq}
 use Rattle.bx_tree.specs.Paths.{Atoms, is_atom_byte}
@@ -53,3 +53,8 @@ is_hit dir pattern deep path = option_map_or (last_is_match pattern deep) (strip
 -- the paths of these files, in their order
 abbrev pub glob_of : Files → Atoms → List ℕ → Bool → List Atoms
 glob_of files dir pattern deep = filter (is_hit dir pattern deep) (paths_of files)
+
+-- whether a text is a pattern of a glob
+abbrev pub is_pattern : List ℕ → Bool
+is_pattern text =
+    nat_le 1 (length text) && nat_le (length text) MAX_PATTERN_BYTES && list_all is_pattern_byte text

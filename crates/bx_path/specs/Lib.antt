@@ -1,4 +1,3 @@
 pub mod Joining
 pub mod Globbing
-pub mod Parts
 pub mod Rows

@@ -4,22 +4,22 @@ ghost use Rattle.std.specs.Prelude.{◌≡◌, ◌==◌, None, Some, IfOk, OnOk,
 ghost use Rattle.std.specs.List.{AllByRecursion, join_with_byte, slice_split};
 ghost use Rattle.bx_tree.specs.Paths.{IsAtom};
 ghost use Rattle.bx_path.specs.Joining.{if_short, join_of, step};
-ghost use Rattle.bx_path.specs.Parts.{parts_now};
+ghost use Rattle.bx_tree.specs.Lent.{texts_now};
 
 use bx_tree::{Memory, Path, PathFault, is_atom};
 use std::alloc::Global;
 
 // The parts of a text between its `/`.
 fn parts_of(alloc: Global, text: &[u8]) -> Result<Vec<&[u8]>, Memory>
-    ensures { IfOk result (λ parts. parts_now parts.items ≡ slice_split (λ b. b == 47) text.entry.now) }
+    ensures { IfOk result (λ parts. texts_now parts.items ≡ slice_split (λ b. b == 47) text.entry.now) }
 {
     text.split(|byte| *byte == b'/').collect(alloc)
 }
 
 // The atoms of a path.
 fn atoms_of(alloc: Global, path: &Path) -> Result<Vec<&[u8]>, Memory>
-    ensures atoms { IfOk result (λ atoms. parts_now atoms.items ≡ path.entry.now) }
-    ensures valid { IfOk result (λ atoms. AllByRecursion IsAtom (parts_now atoms.items)) }
+    ensures atoms { IfOk result (λ atoms. texts_now atoms.items ≡ path.entry.now) }
+    ensures valid { IfOk result (λ atoms. AllByRecursion IsAtom (texts_now atoms.items)) }
 {
     let text = path.text().as_bytes();
     if text == b".".as_slice() {
@@ -30,11 +30,11 @@ fn atoms_of(alloc: Global, path: &Path) -> Result<Vec<&[u8]>, Memory>
 
 // Takes one step: `.` stays, `..` goes up, an atom goes down.
 fn take_step<'a>(atoms: &mut Vec<&'a [u8]>, part: &'a [u8]) -> Result<(), PathFault>
-    requires { AllByRecursion IsAtom (parts_now atoms.old.items) }
-    ensures ok { OnOk result (step (parts_now atoms.old.items) part.entry.now
-        ≡ Some (parts_now atoms.new.items)) }
-    ensures valid { OnOk result (AllByRecursion IsAtom (parts_now atoms.new.items)) }
-    ensures bad { result ≡ Err PathFault.BadPath → step (parts_now atoms.old.items) part.entry.now ≡ None }
+    requires { AllByRecursion IsAtom (texts_now atoms.old.items) }
+    ensures ok { OnOk result (step (texts_now atoms.old.items) part.entry.now
+        ≡ Some (texts_now atoms.new.items)) }
+    ensures valid { OnOk result (AllByRecursion IsAtom (texts_now atoms.new.items)) }
+    ensures bad { result ≡ Err PathFault.BadPath → step (texts_now atoms.old.items) part.entry.now ≡ None }
 {
     if part == b".".as_slice() {
         return Ok(());
@@ -54,7 +54,7 @@ fn take_step<'a>(atoms: &mut Vec<&'a [u8]>, part: &'a [u8]) -> Result<(), PathFa
 
 // The text of atoms, joined by `/`.
 fn text_of(alloc: Global, atoms: &[&[u8]]) -> Result<Vec<u8>, Memory>
-    ensures { IfOk result (λ text. text.items ≡ join_with_byte 47 (parts_now atoms.now)) }
+    ensures { IfOk result (λ text. text.items ≡ join_with_byte 47 (texts_now atoms.now)) }
 {
     let mut text = Vec::new(alloc);
     for (i, atom) in atoms.iter().enumerate() {
@@ -68,10 +68,10 @@ fn text_of(alloc: Global, atoms: &[&[u8]]) -> Result<Vec<u8>, Memory>
 
 // The path of atoms, if its text is short enough.
 fn path_of(alloc: Global, atoms: &[&[u8]]) -> Result<Path, PathFault>
-    requires { AllByRecursion IsAtom (parts_now atoms.now) }
+    requires { AllByRecursion IsAtom (texts_now atoms.now) }
     ensures { MatchResult result
-        (λ path. if_short (parts_now atoms.now) ≡ Some path)
-        (λ fault. fault ≡ PathFault.BadPath → if_short (parts_now atoms.now) ≡ None) }
+        (λ path. if_short (texts_now atoms.now) ≡ Some path)
+        (λ fault. fault ≡ PathFault.BadPath → if_short (texts_now atoms.now) ≡ None) }
 {
     if atoms.is_empty() {
         return Ok(Path::root(alloc)?);

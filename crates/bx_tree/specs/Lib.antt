@@ -6,3 +6,7 @@ pub mod Headers
 pub mod Reading
 pub mod Orders
 pub mod IsPathProp
+pub mod Lent
+pub mod FileInputs
+pub mod Ranges
+pub mod TextTables

@@ -1,7 +1,7 @@
 -- Paths: lists of atoms, their texts, which path is below which, and their order.
 use Rattle.std.specs.Prelude.{◌≡◌, ◌≢◌, ℕ, ◌<◌, ◌≤◌, Bool, IsTrue, ◌&&◌, ◌||◌, ◌==◌, nat_le, nat_eq, cond}
 use Rattle.std.specs.Prelude.{List, [], ◌∷◌, ◌++◌, length, codes, ◌⊎◌}
-use Rattle.std.specs.List.{AllByRecursion, join_with_byte, slice_split}
+use Rattle.std.specs.List.{AllByRecursion, join_with_byte, list_any, slice_split}
 use Rattle.std.specs.Cmp.Lexicographic.{slice_cmp, pointwise}
 use Rattle.std.specs.Ordering.{nat_cmp, on, then_cmp}
 use Rattle.std.specs.declared.cmp.Ordering.{Ordering}
@@ -73,3 +73,7 @@ path_of text = cond (pointwise nat_eq text (codes ".")) [] (slice_split (λ b. b
 pub record IsKept (text : List ℕ) : Type 0 where
   pub is_path : IsPath (path_of text)
   pub text_is : path_text (path_of text) ≡ text
+
+-- whether the path is one of these
+abbrev pub has_path : List Atoms → Atoms → Bool
+has_path paths path = list_any (λ other. same_path other path) paths

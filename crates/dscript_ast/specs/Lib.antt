@@ -3,3 +3,4 @@ pub mod TypeTree
 pub mod ExprTree
 pub mod FileTree
 pub mod Views
+pub mod Literals

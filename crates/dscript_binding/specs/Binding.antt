@@ -25,6 +25,7 @@ use Rattle.dscript_scopes.specs.declared.local.Local.{Local}
 use Rattle.dscript_scopes.specs.Lookup.{Site, found_at, assigned, import_fault, unknown_module_fault}
 use Rattle.dscript_binding.specs.Walk.{Binds, ◌>>=◌, gives, in_turn, or_fault, no_fault, next_local, declare}
 use Rattle.dscript_binding.specs.Walk.{within, function_in, declaration}
+use Rattle.dscript_ast.specs.Literals.{name_of}
 
 -- ## What a block declares
 
@@ -73,10 +74,6 @@ assigns x here = or_fault (assigned here.blocks x) here
 abbrev pub with_parts : ExprData → List PartData → ExprData
 with_parts e [] = e
 with_parts e (part ∷ parts) = bound.Postfix e (to_parts (part ∷ parts))
-
-abbrev pub name_of : ExprTree → Option (List ℕ)
-name_of (tree.Name x) = Some x
-name_of _ = None
 
 -- A name, or another expression, with its parts. Those that belong to a dotted name are left out.
 abbrev pub postfix : World → Site → Option (List ℕ) → Binds ExprData → PartTrees → List (Binds PartData)

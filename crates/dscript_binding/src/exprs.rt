@@ -9,10 +9,11 @@ ghost use Rattle.dscript_program.specs.Views.{part_data, prop_data};
 ghost use Rattle.dscript_binding.specs.Binding.{bind_element, bind_expr, bind_exprs, bind_elements};
 ghost use Rattle.dscript_binding.specs.Binding.{bind_hole, bind_holes, bind_operand};
 ghost use Rattle.dscript_binding.specs.Binding.{bind_operands, bind_part, bind_parts, bind_prop, bind_props};
-ghost use Rattle.dscript_binding.specs.Binding.{name_of, with_parts};
+ghost use Rattle.dscript_binding.specs.Binding.{with_parts};
 ghost use Rattle.dscript_binding.specs.Scenes.{chain_after, dotted_parts, parts_after, site_at, world_at};
 ghost use Rattle.dscript_binding.specs.Walk.{in_turn};
 ghost use Rattle.dscript_binding.specs.Walked.{Walks};
+ghost use Rattle.dscript_ast.specs.Literals.{name_of};
 
 use crate::locals::params_of;
 use crate::scene::Scene;

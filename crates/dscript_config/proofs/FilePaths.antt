@@ -7,7 +7,7 @@ use Rattle.std.specs.Option.{IfNone, IfSome, option_map_or}
 use Rattle.std.proofs.lemmas.Bool.{cases_Bool, false≢true}
 use Rattle.std.proofs.lemmas.List.{length-map}
 use Rattle.std.proofs.lemmas.Slice.Eq.{bytes_eq-Decides}
-use Rattle.bx_tree.specs.Paths.{Atoms, IsBelow, IsPath, path_text, same_path}
+use Rattle.bx_tree.specs.Paths.{Atoms, IsBelow, IsPath, has_path, path_text, same_path}
 use Rattle.bx_tree.specs.Trees.{paths_of}
 use Rattle.bx_tree.specs.Views.{IsPositionOf, files_of}
 use Rattle.bx_tree.specs.Orders.{same_path_decides}
@@ -16,7 +16,7 @@ use Rattle.bx_tree.proofs.FileSearch as search_files
 use Rattle.bx_tree.proofs.PathTexts.{same_from_text}
 use Rattle.bx_path.specs.Globbing.{strip_dir}
 use Rattle.bx_path.proofs.LastAtoms.{strip_dir_is}
-use Rattle.dscript_config.specs.Paths.{IsAt, is_below, is_empty, is_one_of, is_source}
+use Rattle.dscript_config.specs.Paths.{IsAt, is_below, is_empty, is_source}
 
 -- ## Below a directory
 
@@ -49,14 +49,14 @@ pub length-tree : (files : List TreeFile) → length (files_of files) ≡ length
 length-tree files = length-map files (λ (f : TreeFile). (f.path, f.bytes.items))
 
 not_among : (path : Atoms) (files : List TreeFile) → All (λ (f : TreeFile). path_text f.path ≢ path_text path) files
-    → is_one_of (paths_of (files_of files)) path ≡ false
+    → has_path (paths_of (files_of files)) path ≡ false
 not_among path [] h = refl
 not_among path (f ∷ fs) h =
     let other : same_path f.path path ≡ false = elim (cases_Bool (same_path f.path path)) [
       | inl same ↦ absurd (h 0 f (omega arith) (ap path_text ((same_path_decides f.path path).0 same)))
       | inr differ ↦ differ
     ] in
-    ap (λ b. b || is_one_of (paths_of (files_of fs)) path) other
+    ap (λ b. b || has_path (paths_of (files_of fs)) path) other
     ∙ not_among path fs (λ k d l. h (suc k) d (omega arith))
 
 -- a search by the text of a path finds its position

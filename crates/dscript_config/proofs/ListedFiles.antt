@@ -14,10 +14,10 @@ use Rattle.std.proofs.lemmas.List.Elements.{filter_agree}
 use Rattle.std.proofs.lemmas.List.Folds.{list_any-append}
 use Rattle.std.proofs.lemmas.List.Kept.{IsStrictlySortedBy-filter}
 use Rattle.std.proofs.lemmas.Map.Keys.{Less-from_sorted, sorted_from_strictly_increasing}
-use Rattle.bx_tree.specs.Paths.{Atoms, path_cmp, same_path}
+use Rattle.bx_tree.specs.Paths.{Atoms, has_path, path_cmp, same_path}
 use Rattle.bx_tree.specs.Orders.{path_cmp_total, same_path_decides}
 use Rattle.bx_tree.specs.Trees.{Files, IsTree, paths_of}
-use Rattle.dscript_config.specs.Paths.{AreWithin, in_tree, is_one_of, paths_at}
+use Rattle.dscript_config.specs.Paths.{AreWithin, in_tree, paths_at}
 use Rattle.dscript_config.specs.Views.{ArePlaces}
 
 -- ## Members
@@ -66,10 +66,10 @@ in_at [] i d l = absurd (omega (arith, l))
 in_at (x ∷ xs) zero d l = inl refl
 in_at (x ∷ xs) (suc i) d l = inr (in_at xs i d (omega (arith, l)))
 
-in_one_of : (paths : List Atoms) (q : Atoms) → In paths q → is_one_of paths q ≡ true
+in_one_of : (paths : List Atoms) (q : Atoms) → In paths q → has_path paths q ≡ true
 in_one_of [] q h = absurd h
 in_one_of (p ∷ ps) q h = elim h [
-  | inl e ↦ ap (λ b. b || is_one_of ps q) ((same_path_decides p q).1 e)
+  | inl e ↦ ap (λ b. b || has_path ps q) ((same_path_decides p q).1 e)
   | inr k ↦ ap (λ b. same_path p q || b) (in_one_of ps q k) ∙ or_true (same_path p q)
 ]
   where
@@ -77,11 +77,11 @@ in_one_of (p ∷ ps) q h = elim h [
     or_true true = refl
     or_true false = refl
 
-one_of_in : (paths : List Atoms) (q : Atoms) → is_one_of paths q ≡ true → In paths q
+one_of_in : (paths : List Atoms) (q : Atoms) → has_path paths q ≡ true → In paths q
 one_of_in [] q h = absurd (false≢true h)
 one_of_in (p ∷ ps) q h = elim (cases_Bool (same_path p q)) [
   | inl same ↦ inl ((same_path_decides p q).0 same)
-  | inr differ ↦ inr (one_of_in ps q (sym (ap (λ b. b || is_one_of ps q) differ) ∙ h))
+  | inr differ ↦ inr (one_of_in ps q (sym (ap (λ b. b || has_path ps q) differ) ∙ h))
 ]
 
 -- ## Lists that rise
@@ -157,17 +157,17 @@ in_tree_at files ps qs tree w rises into back =
     let at = λ (q : ℕ). get_or (paths_of files) q [] in
     one_rising path_cmp path_cmp_total (paths_at files qs) (in_tree files (paths_at files ps))
     (rising_at (paths_of files) qs tree.rising rises (within_paths files qs w))
-    (IsStrictlySortedBy-filter path_cmp (is_one_of (paths_at files ps)) (paths_of files) tree.rising)
+    (IsStrictlySortedBy-filter path_cmp (has_path (paths_at files ps)) (paths_of files) tree.rising)
     (λ path h.
     let found = from_map at qs path h in
     let here = in_at (paths_of files) found.0 []
     (subst (λ n. found.0 < n) (sym (length-map files (λ f. f.0))) (in_within files qs found.0 w found.1)) in
-    in_filter (is_one_of (paths_at files ps)) (paths_of files) path
+    in_filter (has_path (paths_at files ps)) (paths_of files) path
     (subst (In (paths_of files)) found.2 here)
     (in_one_of (paths_at files ps) path (subst (In (paths_at files ps)) found.2 (in_map at ps found.0 (back found.0 found.1)))))
     (λ path h.
     let found = from_map at ps path (one_of_in (paths_at files ps) path
-    (filter_passes (is_one_of (paths_at files ps)) (paths_of files) path h)) in
+    (filter_passes (has_path (paths_at files ps)) (paths_of files) path h)) in
     subst (In (paths_at files qs)) found.2 (in_map at qs found.0 (into found.0 found.1)))
 
 contains_in : {X : Type 0} (xs : List X) (q : X) → In xs q → Contains xs q
@@ -205,7 +205,7 @@ in_tree_rising files ps qs tree w rises same =
 -- ## Places of files
 
 members : (files : Files) (ps qs : List ℕ) → ((q : ℕ) → Contains ps q → Contains qs q) → (path : Atoms)
-    → is_one_of (paths_at files ps) path ≡ true → is_one_of (paths_at files qs) path ≡ true
+    → has_path (paths_at files ps) path ≡ true → has_path (paths_at files qs) path ≡ true
 members files ps qs into path h =
     let at = λ (q : ℕ). get_or (paths_of files) q [] in
     let found = from_map at ps path (one_of_in (paths_at files ps) path h) in
@@ -218,7 +218,7 @@ pub places_same : (files : Files) (ps qs : List ℕ) → AreWithin files ps → 
     → ArePlaces files (paths_at files ps) qs
 places_same files ps qs w same = record {
   within = within_same files ps qs w same;
-  same = λ path. both_ways (is_one_of (paths_at files qs) path) (is_one_of (paths_at files ps) path)
+  same = λ path. both_ways (has_path (paths_at files qs) path) (has_path (paths_at files ps) path)
       (members files qs ps (λ q. (same q).1) path) (members files ps qs (λ q. (same q).0) path);
 }
 
@@ -236,8 +236,8 @@ places_joined files xs ys ps qs rs h k l = record {
   within = l.within;
   same = λ path.
       l.same path ∙ list_any-append (λ other. same_path other path) (paths_at files ps) (paths_at files qs)
-      ∙ ap (λ b. b || is_one_of (paths_at files qs) path) (h.same path)
-      ∙ ap (λ b. is_one_of xs path || b) (k.same path)
+      ∙ ap (λ b. b || has_path (paths_at files qs) path) (h.same path)
+      ∙ ap (λ b. has_path xs path || b) (k.same path)
       ∙ sym (list_any-append (λ other. same_path other path) xs ys);
 }
 
@@ -245,7 +245,7 @@ places_joined files xs ys ps qs rs h k l = record {
 pub in_tree_of : (files : Files) (paths : List Atoms) (ps qs : List ℕ) → ArePlaces files paths ps
     → paths_at files qs ≡ in_tree files (paths_at files ps) → in_tree files paths ≡ paths_at files qs
 in_tree_of files paths ps qs h e =
-    filter_agree (is_one_of paths) (is_one_of (paths_at files ps)) (λ path. sym (h.same path)) (paths_of files) ∙ sym e
+    filter_agree (has_path paths) (has_path (paths_at files ps)) (λ path. sym (h.same path)) (paths_of files) ∙ sym e
 
 all_at : (test : Atoms → Bool) (xs ys : List Atoms) → ((path : Atoms) → In ys path → In xs path) → list_all test xs ≡ true
     → list_all test ys ≡ true

@@ -12,7 +12,8 @@ use Rattle.dscript_ast.specs.declared.expr.PostfixPart.{PostfixPart}
 use Rattle.dscript_ast.proofs.NodeViews.{expr_tree-Postfix}
 use Rattle.dscript_ast.proofs.TreeLists.{parts_of-to}
 use Rattle.dscript_config.specs.Lists.{only_of}
-use Rattle.dscript_config.specs.Modules.{is_semantics, is_text, member_of, name_of}
+use Rattle.dscript_config.specs.Modules.{is_semantics, is_text, member_of}
+use Rattle.dscript_ast.specs.Literals.{name_of}
 
 abbrev pub member_is : List PartTree → Bool
 member_is parts = is_text (codes "implicitProjectReferences") (option_and_then member_of (only_of parts))

@@ -7,9 +7,9 @@ use Rattle.std.proofs.lemmas.Bool.Decides.{nat_tests}
 use Rattle.bx_tree.specs.Paths.{Atoms}
 use Rattle.bx_tree.specs.Trees.{Files}
 use Rattle.bx_path.specs.Joining.{join_of}
-use Rattle.bx_path.specs.Globbing.{IsPattern, glob_of, is_pattern_byte}
+use Rattle.bx_path.specs.Globbing.{IsPattern, glob_of, is_pattern, is_pattern_byte}
 use Rattle.bx_path.specs.declared.globbing.TheConstants.{MAX_PATTERN_BYTES}
-use Rattle.dscript_config.specs.Lists.{GlobData, glob_in, is_pattern}
+use Rattle.dscript_config.specs.Lists.{GlobData, glob_in}
 
 all_true : (p : ℕ → Bool) (bs : List ℕ) → AllByRecursion (λ b. IsTrue (p b)) bs → list_all p bs ≡ true
 all_true p [] h = refl

@@ -4,10 +4,10 @@ use Rattle.std.specs.Prelude.{◌&&◌, ◌||◌, MatchOption}
 use Rattle.std.specs.List.{list_all}
 use Rattle.std.proofs.Math.Seq.{drop-cons, take-suc}
 use Rattle.std.proofs.lemmas.List.{length-map}
-use Rattle.bx_tree.specs.Paths.{Atoms, same_path}
+use Rattle.bx_tree.specs.Paths.{Atoms, has_path, same_path}
 use Rattle.bx_tree.specs.Orders.{same_path_decides}
 use Rattle.bx_tree.specs.Trees.{Files, paths_of}
-use Rattle.dscript_config.specs.Paths.{AreWithin, IsAt, is_one_of, is_source, paths_at}
+use Rattle.dscript_config.specs.Paths.{AreWithin, IsAt, is_source, paths_at}
 
 pub paths_at-append : (files : Files) (ps qs : List ℕ) → paths_at files (ps ++ qs) ≡ paths_at files ps ++ paths_at files qs
 paths_at-append files [] qs = refl
@@ -18,10 +18,10 @@ within-append files [] qs h k = k
 within-append files (p ∷ ps) qs h k = (h.0, within-append files ps qs h.1 k)
 
 among-at : (paths : List Atoms) (i : ℕ) (path : Atoms) → i < length paths → get_or paths i [] ≡ path
-    → is_one_of paths path ≡ true
+    → has_path paths path ≡ true
 among-at [] i path l e = absurd (omega (arith, l))
 among-at (p ∷ ps) zero path l e =
-    ap (λ b. b || is_one_of ps path) ((same_path_decides p path).1 e)
+    ap (λ b. b || has_path ps path) ((same_path_decides p path).1 e)
 among-at (p ∷ ps) (suc i) path l e =
     ap (λ b. same_path p path || b) (among-at ps i path (omega arith) e) ∙ or_true (same_path p path)
   where

@@ -8,9 +8,10 @@ use Rattle.bx_tree.specs.Paths.{Atoms}
 use Rattle.bx_tree.specs.Trees.{Files}
 use Rattle.dscript_ast.specs.ExprTree.{ExprTree}
 use Rattle.dscript_config.specs.Paths.{in_tree, is_empty, is_module_file}
-use Rattle.dscript_config.specs.Lists.{ItemTree, One, Many, concat_if_all, string_of, items_of}
+use Rattle.dscript_config.specs.Lists.{ItemTree, One, Many, concat_if_all, items_of}
 use Rattle.dscript_config.specs.Lists.{listed_by, files_listed}
 use Rattle.dscript_config.specs.Objects.{object_with, field_named}
+use Rattle.dscript_ast.specs.Literals.{string_of}
 
 -- `"DScript"`, the one kind of resolvers
 abbrev pub is_kind : ExprTree → Bool

@@ -7,12 +7,13 @@ use Rattle.std.specs.Str.{bytes_eq}
 use Rattle.bx_tree.specs.Paths.{Atoms}
 use Rattle.bx_tree.specs.Trees.{Files}
 use Rattle.bx_path.specs.Joining.{join_of}
-use Rattle.bx_path.specs.Globbing.{glob_of, is_pattern_byte}
+use Rattle.bx_path.specs.Globbing.{glob_of, is_pattern, is_pattern_byte}
 use Rattle.bx_path.specs.declared.globbing.TheConstants.{MAX_PATTERN_BYTES}
 use Rattle.dscript_ast.specs.ExprTree as tree
 use Rattle.dscript_ast.specs.ExprTree.{ExprTree, PartTree, ElementTree, ElementTrees, exprs_of, parts_of}
 use Rattle.dscript_ast.specs.declared.expr.PathKind.TheVariants as letters
 use Rattle.dscript_config.specs.Paths.{is_source}
+use Rattle.dscript_ast.specs.Literals.{string_of}
 
 -- ## Items
 
@@ -38,11 +39,6 @@ abbrev mutual
 
 -- ## Strings and literals
 
--- the value of a string
-abbrev pub string_of : ExprTree → Option (List ℕ)
-string_of (tree.Str text) = Some text
-string_of _ = None
-
 -- the text of a literal of a file without holes
 abbrev pub file_text : ExprTree → Option (List ℕ)
 file_text (tree.Path letters.File text tree.no_holes) = Some text
@@ -54,11 +50,6 @@ directory_text (tree.Path letters.Directory text tree.no_holes) = Some text
 directory_text _ = None
 
 -- ## Globs
-
--- whether a text is a pattern of a glob
-abbrev pub is_pattern : List ℕ → Bool
-is_pattern text =
-    nat_le 1 (length text) && nat_le (length text) MAX_PATTERN_BYTES && list_all is_pattern_byte text
 
 -- whether a callee is `globR`, which lists all files below a directory, or `glob`, which lists those directly
 -- in it; none for another callee

@@ -9,8 +9,9 @@ use Rattle.bx_tree.specs.Trees.{Files}
 use Rattle.dscript_ast.specs.ExprTree as tree
 use Rattle.dscript_ast.specs.ExprTree.{ExprTree, PartTree, PropTree, parts_of}
 use Rattle.dscript_config.specs.Paths.{in_tree, is_below, is_empty, is_specification}
-use Rattle.dscript_config.specs.Lists.{string_of, files_listed, only_of}
+use Rattle.dscript_config.specs.Lists.{files_listed, only_of}
 use Rattle.dscript_config.specs.Objects.{object_with, field_named}
+use Rattle.dscript_ast.specs.Literals.{name_of, string_of}
 
 -- a module: its name, and the files that it lists, in the order of the tree and each once
 pub record DescriptionData : Type 0 where
@@ -44,11 +45,6 @@ projects_of files dir fields = optional_projects files dir (field_named (codes "
 abbrev pub member_of : PartTree → Option (List ℕ)
 member_of (tree.Member name) = Some name
 member_of _ = None
-
--- the word of a name
-abbrev pub name_of : ExprTree → Option (List ℕ)
-name_of (tree.Name name) = Some name
-name_of _ = None
 
 -- whether this is the text, if there is one
 abbrev pub is_text : List ℕ → Option (List ℕ) → Bool

@@ -4,21 +4,17 @@ use Rattle.std.specs.Prelude.{List, [], ◌∷◌, map, filter, length, codes, s
 use Rattle.std.specs.List.{AllByRecursion, ends_with, list_any}
 use Rattle.std.specs.Option.{option_map_or}
 use Rattle.std.specs.Str.{bytes_eq}
-use Rattle.bx_tree.specs.Paths.{Atoms, path_text, same_path}
+use Rattle.bx_tree.specs.Paths.{Atoms, has_path, path_text, same_path}
 use Rattle.bx_tree.specs.Trees.{Files, paths_of}
 use Rattle.bx_path.specs.Globbing.{strip_dir}
 
--- the path is one of these
-abbrev pub is_one_of : List Atoms → Atoms → Bool
-is_one_of paths path = list_any (λ other. same_path other path) paths
-
 -- the path is that of a source file
 abbrev pub is_source : Files → Atoms → Bool
-is_source files path = is_one_of (paths_of files) path
+is_source files path = has_path (paths_of files) path
 
 -- these paths, so far as files are there, in the order of the tree and each once
 abbrev pub in_tree : Files → List Atoms → List Atoms
-in_tree files paths = filter (is_one_of paths) (paths_of files)
+in_tree files paths = filter (has_path paths) (paths_of files)
 
 -- the list has no elements
 abbrev pub is_empty : {X : Type 0} → List X → Bool

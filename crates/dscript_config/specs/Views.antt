@@ -3,13 +3,13 @@ use Rattle.std.specs.Prelude.{◌≡◌, ℕ, List, map, Option, Some, None, opt
 use Rattle.std.specs.declared.alloc.Global.{Global}
 use Rattle.std.specs.declared.vec.Vec.{Vec}
 use Rattle.std.specs.Option.{IfSome}
-use Rattle.bx_tree.specs.Paths.{Atoms}
+use Rattle.bx_tree.specs.Paths.{Atoms, has_path}
 use Rattle.bx_tree.specs.Trees.{Files}
 use Rattle.dscript_ast.specs.Views.{expr_tree}
 use Rattle.dscript_config.specs.Lists.{ItemTree, One, Many, GlobData}
 use Rattle.dscript_config.specs.declared.glob_call.GlobCall.{GlobCall}
 use Rattle.dscript_config.specs.Modules.{DescriptionData}
-use Rattle.dscript_config.specs.Paths.{AreWithin, is_one_of, paths_at}
+use Rattle.dscript_config.specs.Paths.{AreWithin, paths_at}
 use Rattle.dscript_config.specs.declared.module.Description.{Description}
 use Rattle.dscript_config.specs.declared.list.ListItem.{ListItem}
 use Rattle.dscript_config.specs.declared.list.ListItem.TheVariants as items
@@ -39,7 +39,7 @@ FindsPositions files meant found = MatchOption found (meant ≡ None) (ArePositi
 -- the positions are those of these files, in any order and with any repetitions
 pub record ArePlaces (files : Files) (paths : List Atoms) (positions : List ℕ) : Type 0 where
   pub within : AreWithin files positions
-  pub same : (path : Atoms) → is_one_of (paths_at files positions) path ≡ is_one_of paths path
+  pub same : (path : Atoms) → has_path (paths_at files positions) path ≡ has_path paths path
 
 -- the files that are meant are those at these positions, in any order and with any repetitions
 abbrev pub HasPlaces : Files → Option (List Atoms) → Vec ℕ Global → Type 0

@@ -3,7 +3,8 @@
 ghost use Rattle.std.specs.Prelude.{◌≡◌, None, Some, MatchOption, map};
 ghost use Rattle.dscript_ast.specs.Views.{expr_tree, part_tree};
 ghost use Rattle.dscript_config.specs.Lists.{directory_text as text_of_directory, file_text as text_of_file};
-ghost use Rattle.dscript_config.specs.Lists.{only_of, pair_of, string_of};
+ghost use Rattle.dscript_config.specs.Lists.{only_of, pair_of};
+ghost use Rattle.dscript_ast.specs.Literals.{string_of};
 
 use bx_tree::Text;
 use dscript_ast::{Expr, PathKind, PostfixPart};

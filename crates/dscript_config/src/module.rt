@@ -6,10 +6,11 @@ ghost use Rattle.dscript_config.specs.Lists.{only_of};
 ghost use Rattle.dscript_config.specs.Modules.{are_projects as projects_are, described as module_described};
 ghost use Rattle.dscript_config.specs.Modules.{described_by as module_of, is_semantics as semantics_are};
 ghost use Rattle.dscript_config.specs.Modules.{is_text};
-ghost use Rattle.dscript_config.specs.Modules.{member_of, name_in as name_of_module, name_of};
+ghost use Rattle.dscript_config.specs.Modules.{member_of, name_in as name_of_module};
 ghost use Rattle.dscript_config.specs.Modules.{projects_in as projects_listed, projects_of as projects_meant};
 ghost use Rattle.dscript_config.specs.Paths.{AreWithin, paths_at};
 ghost use Rattle.dscript_config.specs.Views.{FindsPositions, Describes, IsProjects};
+ghost use Rattle.dscript_ast.specs.Literals.{name_of};
 
 use crate::files::files_listed;
 use crate::gathering::in_order;

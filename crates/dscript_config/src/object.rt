@@ -2,12 +2,12 @@
 
 ghost use Rattle.std.specs.Prelude.{◌≡◌, None, Some, MatchOption, map, nat_le, count_by};
 ghost use Rattle.std.specs.List.{list_any};
-ghost use Rattle.bx_path.specs.Parts.{parts_now};
 ghost use Rattle.dscript_ast.specs.Views.{expr_tree, prop_tree};
 ghost use Rattle.dscript_config.specs.Objects.{are_fields as fields_are, are_known as known_fields};
 ghost use Rattle.dscript_config.specs.Objects.{are_once as given_once, field_named as named_field};
 ghost use Rattle.dscript_config.specs.Objects.{has_name as name_is};
 ghost use Rattle.dscript_config.specs.Objects.{object_with as object_of, value_named as named_value};
+ghost use Rattle.bx_tree.specs.Lent.{texts_now};
 
 use dscript_ast::{Expr, Prop};
 
@@ -46,7 +46,7 @@ pub(crate) fn field_named<'a>(props: &'a [Prop], name: &[u8]) -> Option<&'a Expr
 
 /// Whether a property has one of these names.
 fn is_known(prop: &Prop, names: &[&[u8]]) -> bool
-    ensures { result ≡ list_any (λ name. name_is name (prop_tree prop.now)) (parts_now names.now) }
+    ensures { result ≡ list_any (λ name. name_is name (prop_tree prop.now)) (texts_now names.now) }
 {
     'names: for name in names {
         if has_name(prop, name) {
@@ -57,7 +57,7 @@ fn is_known(prop: &Prop, names: &[&[u8]]) -> bool
 }
 
 fn are_known(props: &[Prop], names: &[&[u8]]) -> bool
-    ensures { result ≡ known_fields (parts_now names.now) (map prop_tree props.now) }
+    ensures { result ≡ known_fields (texts_now names.now) (map prop_tree props.now) }
 {
     'props: for prop in props {
         if !is_known(prop, names) {
@@ -75,7 +75,7 @@ fn is_once(props: &[Prop], name: &[u8]) -> bool
 }
 
 fn are_once(props: &[Prop], names: &[&[u8]]) -> bool
-    ensures { result ≡ given_once (parts_now names.now) (map prop_tree props.now) }
+    ensures { result ≡ given_once (texts_now names.now) (map prop_tree props.now) }
 {
     'names: for name in names {
         if !is_once(props, name) {
@@ -87,7 +87,7 @@ fn are_once(props: &[Prop], names: &[&[u8]]) -> bool
 
 /// Whether each property has one of these names, and none of the names is given twice.
 fn are_fields(props: &[Prop], names: &[&[u8]]) -> bool
-    ensures { result ≡ fields_are (parts_now names.now) (map prop_tree props.now) }
+    ensures { result ≡ fields_are (texts_now names.now) (map prop_tree props.now) }
 {
     are_known(props, names) && are_once(props, names)
 }
@@ -95,8 +95,8 @@ fn are_fields(props: &[Prop], names: &[&[u8]]) -> bool
 /// The properties of an object that has no other fields than these.
 pub(crate) fn object_with<'a>(value: &'a Expr, names: &[&[u8]]) -> Option<&'a [Prop]>
     ensures { MatchOption result
-        (object_of (parts_now names.now) (expr_tree value.entry.now) ≡ None)
-        (λ props. object_of (parts_now names.now) (expr_tree value.entry.now)
+        (object_of (texts_now names.now) (expr_tree value.entry.now) ≡ None)
+        (λ props. object_of (texts_now names.now) (expr_tree value.entry.now)
         ≡ Some (map prop_tree props.now)) }
 {
     let Expr::Object(props) = value else {

@@ -5,6 +5,3 @@ use Rattle.dscript_program.specs.ProgramData.{Dotted}
 
 abbrev pub names_lent : List (Bor Dotted) → List Dotted
 names_lent = map (λ (name : Bor Dotted). name.now)
-
-abbrev pub texts_lent : List (Bor (List ℕ)) → List (List ℕ)
-texts_lent = map (λ (text : Bor (List ℕ)). text.now)

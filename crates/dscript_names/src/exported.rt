@@ -6,7 +6,8 @@ ghost use Rattle.bx_tree.specs.Paths.{same_path};
 ghost use Rattle.dscript_program.specs.ProgramData.{Dotted};
 ghost use Rattle.dscript_scopes.specs.Declarations.{is_exported};
 ghost use Rattle.dscript_names.specs.Exports.{exported_at, seen_in};
-ghost use Rattle.dscript_names.specs.Lent.{names_lent, texts_lent};
+ghost use Rattle.dscript_names.specs.Lent.{names_lent};
+ghost use Rattle.bx_tree.specs.Lent.{texts_now};
 
 use crate::collecting::joined;
 use crate::seen::see;
@@ -55,7 +56,7 @@ pub(crate) fn import_names<'a>(
     alloc: Global,
     imports: &'a [Imported],
 ) -> Result<Vec<&'a [u8]>, Memory>
-    ensures { IfOk result (λ names. texts_lent names.items ≡ map (λ i. i.name) imports.entry.now) }
+    ensures { IfOk result (λ names. texts_now names.items ≡ map (λ i. i.name) imports.entry.now) }
 {
     let mut names = Vec::with_capacity(alloc, imports.len())?;
     'imports: for import in imports {

@@ -5,12 +5,12 @@ use Rattle.std.specs.Str.{bytes_eq}
 use Rattle.std.proofs.lemmas.Bool.{cases_Bool}
 use Rattle.bx_tree.specs.Paths.{IsAtom}
 use Rattle.bx_path.specs.Joining.{is_atom}
-use Rattle.bx_path.specs.Parts.{parts_now}
 use Rattle.bx_path.proofs.StepsOfTexts.{is_atom_true, is_atom_false}
 use Rattle.sdk_values.specs.declared.fault.SdkFault.{SdkFault}
 use Rattle.sdk_values.specs.declared.fault.SdkFault.TheVariants.{BadPath}
 use Rattle.sdk_values.specs.Outcomes.{Outcome, ◌>>=◌}
 use Rattle.dscript_operators.specs.RelativeLiterals.{atoms_of, part_before}
+use Rattle.bx_tree.specs.Lent.{texts_now}
 
 -- these atoms before those of an answer
 abbrev pub before : List (List ℕ) → Outcome (List (List ℕ)) → Outcome (List (List ℕ))
@@ -82,7 +82,7 @@ other_is_bad done part parts other n = bad_at done part (atoms_of parts) (refuse
 -- the parts from a place on
 pub next_part
     : (parts : List (Bor (List ℕ))) (i : ℕ) (none : Bor (List ℕ)) → i < length parts
-    → parts_now (drop i parts) ≡ (get_or parts i none).now ∷ parts_now (drop (i + 1) parts)
+    → texts_now (drop i parts) ≡ (get_or parts i none).now ∷ texts_now (drop (i + 1) parts)
 next_part parts i none less =
-    ap parts_now (drop-cons parts i none less)
-    ∙ ap (λ k. (get_or parts i none).now ∷ parts_now (drop k parts)) (sym (add-one i))
+    ap texts_now (drop-cons parts i none less)
+    ∙ ap (λ k. (get_or parts i none).now ∷ texts_now (drop k parts)) (sym (add-one i))

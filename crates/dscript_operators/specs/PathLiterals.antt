@@ -6,17 +6,17 @@ use Rattle.bx_tree.specs.declared.file_input.FileInput.TheVariants.{Source}
 use Rattle.bx_path.specs.Joining.{join_of}
 use Rattle.dscript_ast.specs.declared.expr.PathKind.{PathKind}
 use Rattle.dscript_ast.specs.declared.expr.PathKind.TheVariants as letters
-use Rattle.dscript_value.specs.Equality.{file_path}
 use Rattle.dscript_value.specs.Plain as plain
 use Rattle.dscript_value.specs.Plain.{Plain}
 use Rattle.sdk_values.specs.declared.fault.SdkFault.TheVariants.{BadPath, Kind}
 use Rattle.sdk_values.specs.Outcomes.{Outcome, ◌>>=◌, unless_none}
 use Rattle.dscript_operators.specs.Texts.{literal_hole}
+use Rattle.bx_tree.specs.FileInputs.{input_path}
 
 -- the base that a value gives: the path of a path, a file or a directory
 abbrev pub base_of : Plain → Option Atoms
 base_of (plain.Path path) = Some path
-base_of (plain.File file) = Some (file_path file)
+base_of (plain.File file) = Some (input_path file)
 base_of (plain.Directory path) = Some path
 base_of _ = None
 

@@ -3,15 +3,12 @@ use Rattle.std.specs.Prelude.{ℕ, true, false, List, ◌++◌, codes, Ok, Err}
 use Rattle.std.specs.Fmt.{signed_decimal}
 use Rattle.std.specs.List.{join_by}
 use Rattle.bx_tree.specs.Paths.{Atoms, path_text}
-use Rattle.dscript_value.specs.Equality.{file_path}
 use Rattle.dscript_value.specs.Plain as plain
 use Rattle.dscript_value.specs.Plain.{Plain}
 use Rattle.sdk_values.specs.declared.fault.SdkFault.TheVariants.{Kind}
 use Rattle.sdk_values.specs.Outcomes.{Outcome}
-
--- a path as it is written in texts; the root is `/.`
-abbrev pub written_path : Atoms → List ℕ
-written_path path = codes "/" ++ path_text path
+use Rattle.bx_tree.specs.FileInputs.{input_path}
+use Rattle.sdk_values.specs.PathTexts.{path_argument}
 
 -- the atoms of a relative path with `/` between them; without atoms it is empty
 abbrev pub written_relative : List (List ℕ) → List ℕ
@@ -29,9 +26,9 @@ literal_hole _ = Err Kind
 unfoldable pub template_hole : Plain → Outcome (List ℕ)
 template_hole (plain.Flag true) = Ok (codes "true")
 template_hole (plain.Flag false) = Ok (codes "false")
-template_hole (plain.Path path) = Ok (written_path path)
-template_hole (plain.File file) = Ok (written_path (file_path file))
-template_hole (plain.Directory path) = Ok (written_path path)
+template_hole (plain.Path path) = Ok (path_argument path)
+template_hole (plain.File file) = Ok (path_argument (input_path file))
+template_hole (plain.Directory path) = Ok (path_argument path)
 template_hole v = literal_hole v
 
 -- a text, and what a hole adds to it

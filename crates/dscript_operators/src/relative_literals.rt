@@ -5,7 +5,7 @@ ghost use Rattle.dscript_value.specs.Plain as plain;
 ghost use Rattle.dscript_value.specs.Plain.{plain_of};
 ghost use Rattle.sdk_values.specs.Outcomes.{Refuses};
 ghost use Rattle.dscript_operators.specs.RelativeLiterals as spec;
-ghost use Rattle.bx_path.specs.Parts.{parts_now};
+ghost use Rattle.bx_tree.specs.Lent.{texts_now};
 
 use crate::Memory;
 use bx_tree::{Text, is_atom};
@@ -15,7 +15,7 @@ use std::alloc::Global;
 
 // The parts of a text between its `/`.
 fn parts_of(alloc: Global, text: &[u8]) -> Result<Vec<&[u8]>, Memory>
-    ensures { IfOk result (λ parts. parts_now parts.items ≡ slice_split (λ b. b == 47) text.entry.now) }
+    ensures { IfOk result (λ parts. texts_now parts.items ≡ slice_split (λ b. b == 47) text.entry.now) }
 {
     text.split(|byte| *byte == b'/').collect(alloc)
 }
@@ -23,8 +23,8 @@ fn parts_of(alloc: Global, text: &[u8]) -> Result<Vec<&[u8]>, Memory>
 // The atoms among these parts, of which each is an atom or `.`.
 fn atoms_of(alloc: Global, parts: &[&[u8]]) -> Result<Vec<Text>, SdkFault>
     ensures { MatchResult result
-        (λ atoms. spec.atoms_of (parts_now parts.now) ≡ Ok atoms.items)
-        (λ fault. Refuses fault (spec.atoms_of (parts_now parts.now))) }
+        (λ atoms. spec.atoms_of (texts_now parts.now) ≡ Ok atoms.items)
+        (λ fault. Refuses fault (spec.atoms_of (texts_now parts.now))) }
 {
     let mut atoms = Vec::new(alloc);
     'parts: for part in parts {

@@ -1,11 +1,12 @@
 //! Values as parts of texts.
 ghost use Rattle.std.specs.Prelude.{◌≡◌, ◌++◌, Ok, IfOk, MatchResult};
 ghost use Rattle.std.specs.Fmt.{signed_decimal};
-ghost use Rattle.dscript_value.specs.Equality.{file_path as path_in_file};
 ghost use Rattle.dscript_value.specs.Plain.{plain_of};
 ghost use Rattle.sdk_values.specs.Outcomes.{Refuses};
-ghost use Rattle.dscript_operators.specs.Texts.{appended_hole, literal_hole, template_hole, written_path};
+ghost use Rattle.dscript_operators.specs.Texts.{appended_hole, literal_hole, template_hole};
 ghost use Rattle.dscript_operators.specs.Texts.{written_relative};
+ghost use Rattle.bx_tree.specs.FileInputs.{input_path as path_in_file};
+ghost use Rattle.sdk_values.specs.PathTexts.{path_argument};
 
 use crate::Memory;
 use bx_tree::{FileInput, Path, Text};
@@ -30,7 +31,7 @@ pub(crate) fn file_path(file: &FileInput) -> &Path
 }
 
 fn add_path(text: &mut Vec<u8>, path: &Path) -> Result<(), Memory>
-    ensures { IfOk result (λ _. text.new.items ≡ text.old.items ++ written_path path.now) }
+    ensures { IfOk result (λ _. text.new.items ≡ text.old.items ++ path_argument path.now) }
 {
     text.push(b'/')?;
     text.extend_from_slice(path.text().as_bytes())

@@ -3,7 +3,8 @@ use Rattle.std.proofs.Common.{◌≡◌, List, [], ◌∷◌, map, length, None,
 use Rattle.dscript_ast.specs.declared.expr.Expr.{Expr}
 use Rattle.dscript_ast.specs.ExprTree.{PartTree, Call, to_exprs}
 use Rattle.dscript_ast.specs.Views.{expr_tree}
-use Rattle.dscript_scopes.specs.Lookup.{one_string, string_of}
+use Rattle.dscript_scopes.specs.Lookup.{one_string}
+use Rattle.dscript_ast.specs.Literals.{string_of}
 
 pub string_alone : (part : PartTree) (es others : List Expr) (e : Expr)
     → part ≡ Call (to_exprs (map expr_tree es)) → es ≡ e ∷ others → length others ≡ 0

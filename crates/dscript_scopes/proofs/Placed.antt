@@ -18,8 +18,8 @@ use Rattle.std.specs.Ordering.{is_eq, nat_cmp}
 use Rattle.std.specs.Str.{bytes_eq}
 use Rattle.std.specs.declared.alloc.Global.{Global}
 use Rattle.std.specs.declared.vec.Vec.{Vec}
-use Rattle.dscript_scopes.specs.Tables.{at_text}
 use Rattle.dscript_scopes.proofs.FirstValues.{number_before}
+use Rattle.bx_tree.specs.TextTables.{at_text}
 
 -- ## The first element that passes a test, by its place
 

@@ -23,6 +23,7 @@ use Rattle.dscript_scopes.specs.declared.local.Local.{Local}
 use Rattle.dscript_scopes.specs.Blocks.{Block}
 use Rattle.dscript_scopes.specs.Names.{FileNames, World}
 use Rattle.dscript_scopes.specs.Declarations.{is_any, is_exported, is_public}
+use Rattle.dscript_ast.specs.Literals.{string_of}
 
 -- what a level of names has: nothing, so that the next level outwards is asked, or a target or a fault
 abbrev pub Level : Type 0
@@ -215,10 +216,6 @@ import_fault world module_name x =
     if has_namespace world module_name x then None else lookup_fault (in_module world module_name 0 (x ∷ []))
 
 -- ## `importFrom`
-
-abbrev pub string_of : ExprTree → Option (List ℕ)
-string_of (tree.Str s) = Some s
-string_of _ = None
 
 -- the one argument of a call, if that is a string
 abbrev pub one_string : PartTree → Option (List ℕ)

@@ -16,6 +16,7 @@ use Rattle.dscript_scopes.specs.declared.names.Declared.{Declared}
 use Rattle.dscript_scopes.specs.declared.places.Places.{Places}
 use Rattle.dscript_scopes.specs.Names.{FileNames}
 use Rattle.dscript_scopes.specs.Orders.{name_cmp}
+use Rattle.bx_tree.specs.TextTables.{at_text}
 
 -- what the table has at this name
 abbrev pub at_name : {X : Type 0} → BTreeMap Dotted X → Dotted → Option X
@@ -42,10 +43,6 @@ HasValuesOf decls table =
 abbrev pub HasModulesOf : (Mark → Bool) → List FileNames → ByModule → Type 0
 HasModulesOf sees files tables =
     (m : ℕ) (name : Dotted) → at_module tables m name ≡ value_of_module sees m 0 files name
-
--- what a table by text has at this text
-abbrev pub at_text : BTreeMap (Vec ℕ Global) ℕ → List ℕ → Option ℕ
-at_text table x = get_by (λ k. slice_cmp nat_cmp x k.items) table
 
 -- what such a table that there may be has at this text
 abbrev pub place_in : Option Places → List ℕ → Option ℕ

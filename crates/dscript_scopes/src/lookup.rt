@@ -10,10 +10,11 @@ ghost use Rattle.dscript_scopes.specs.Lookup.{import_fault};
 ghost use Rattle.dscript_scopes.specs.Lookup.{in_import_call, in_imports, in_module, in_namespaces};
 ghost use Rattle.dscript_scopes.specs.Lookup.{in_own_module};
 ghost use Rattle.dscript_scopes.specs.Lookup.{in_other_module, is_module, members_at, unknown_module_fault};
-ghost use Rattle.dscript_scopes.specs.Lookup.{one_string, sdk_found, string_of, through_import};
+ghost use Rattle.dscript_scopes.specs.Lookup.{one_string, sdk_found, through_import};
 ghost use Rattle.dscript_scopes.specs.Declarations.{is_any};
 ghost use Rattle.dscript_scopes.specs.Lookup.{shortest, value_of_module};
 ghost use Rattle.dscript_scopes.specs.Spaces.{kind_hidden, site_data};
+ghost use Rattle.dscript_ast.specs.Literals.{string_of};
 
 use crate::found::Found;
 use crate::names::{FileNames, Imported, Viewer, World};

@@ -4,7 +4,8 @@ ghost use Rattle.std.specs.Prelude.{◌≡◌, ℕ, List, Some, IfOk, OnOk, if�
 ghost use Rattle.std.specs.BTreeMap.{IsEmpty};
 ghost use Rattle.std.specs.List.{list_any};
 ghost use Rattle.std.specs.Str.{bytes_eq};
-ghost use Rattle.dscript_scopes.specs.Tables.{HasPlacesOf, at_text};
+ghost use Rattle.dscript_scopes.specs.Tables.{HasPlacesOf};
+ghost use Rattle.bx_tree.specs.TextTables.{at_text};
 
 use crate::local::Local;
 use crate::names::Imported;

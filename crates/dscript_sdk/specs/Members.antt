@@ -3,7 +3,6 @@ use Rattle.std.specs.Prelude.{ℕ, Bool, false, List, [], ◌∷◌, is_some, un
 use Rattle.std.specs.Prelude.{if◌then◌else◌, Option, Some, None, Ok, Err}
 use Rattle.dscript_value.specs.declared.parts.Callee.TheVariants as callees
 use Rattle.dscript_value.specs.Depths.{field_at}
-use Rattle.dscript_value.specs.Equality.{file_path}
 use Rattle.dscript_value.specs.Plain as plain
 use Rattle.dscript_value.specs.Plain.{Plain, item_list, member_list}
 use Rattle.sdk_values.specs.declared.fault.SdkFault.TheVariants.{Kind, Missing}
@@ -18,13 +17,14 @@ use Rattle.sdk_members.specs.declared.member.Member.{Member}
 use Rattle.dscript_sdk.specs.ProcessMembers.{process_function}
 use Rattle.dscript_sdk.specs.StaticMembers.{static_function, static_property}
 use Rattle.sdk_pips.specs.States.{State}
+use Rattle.bx_tree.specs.FileInputs.{input_path}
 
 -- the member function of a value, without those that call functions
 abbrev pub function_at : State → Member → Plain → Option MemberFunction
 function_at s m (plain.Text text) = text_function m text
 function_at s m (plain.Listed depth items) = list_function m (item_list items)
 function_at s m (plain.Path path) = path_function m path
-function_at s m (plain.File file) = path_function m (file_path file)
+function_at s m (plain.File file) = path_function m (input_path file)
 function_at s m (plain.Directory path) = directory_function m path
 function_at s m (plain.Static dir) = static_function s m dir
 function_at s m (plain.Process number) = process_function s m number
@@ -35,7 +35,7 @@ abbrev pub property_at : Member → Plain → Option (Outcome Plain)
 property_at m (plain.Text text) = text_property m text
 property_at m (plain.Listed depth items) = list_property m (item_list items)
 property_at m (plain.Path path) = any_path_property m path
-property_at m (plain.File file) = file_property m (file_path file)
+property_at m (plain.File file) = file_property m (input_path file)
 property_at m (plain.Directory path) = any_path_property m path
 property_at m (plain.Static dir) = static_property m dir
 property_at m _ = None

@@ -2,7 +2,6 @@
 use Rattle.std.specs.Prelude.{ℕ, List, find, map, Option, Some, None, Ok}
 use Rattle.bx_tree.specs.Paths.{Atoms, same_path}
 use Rattle.bx_tree.specs.declared.file_input.FileInput.{FileInput}
-use Rattle.pip_types.specs.Inputs.{input_path}
 use Rattle.dscript_value.specs.Equality.{static_path}
 use Rattle.dscript_value.specs.declared.parts.StaticDir.{StaticDir}
 use Rattle.dscript_value.specs.declared.parts.StaticDir.TheVariants.{Seal, Opaque}
@@ -18,6 +17,7 @@ use Rattle.sdk_members.specs.declared.member.Member.{Member}
 use Rattle.sdk_members.specs.declared.member.Member.TheVariants as members
 use Rattle.dscript_sdk.specs.SealMembers.{seal_members}
 use Rattle.sdk_pips.specs.States.{State}
+use Rattle.bx_tree.specs.FileInputs.{input_path}
 
 -- the first of some files that has this path
 abbrev pub file_with : Atoms → List FileInput → Option FileInput

@@ -3,7 +3,6 @@ ghost use Rattle.std.specs.Prelude.{◌≡◌, ◌++◌, Ok, Some, None, find, m
 ghost use Rattle.std.specs.Prelude.{IfOk, MatchOption, MatchResult};
 ghost use Rattle.bx_tree.specs.Paths.{same_path};
 ghost use Rattle.bx_tree.specs.declared.file_input.FileInput.TheVariants as inputs;
-ghost use Rattle.pip_types.specs.Inputs.{input_path};
 ghost use Rattle.sdk_members.specs.Gives.{Gives, applied};
 ghost use Rattle.sdk_values.specs.Answers.{list_answer};
 ghost use Rattle.sdk_values.specs.Outcomes.{Refuses};
@@ -12,6 +11,7 @@ ghost use Rattle.dscript_sdk.specs.StaticMembers.{file_with, member_file};
 ghost use Rattle.dscript_sdk.specs.StaticMembers.{seal_function, static_function, static_property};
 ghost use Rattle.dscript_value.specs.Plain as plain;
 ghost use Rattle.dscript_value.specs.Plain.{plain_of};
+ghost use Rattle.bx_tree.specs.FileInputs.{input_path};
 
 use crate::process_members::pip_at;
 use bx_tree::{FileInput, Memory, Path, Tree};

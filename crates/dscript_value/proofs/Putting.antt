@@ -11,7 +11,8 @@ use Rattle.std.specs.declared.vec.Vec.{Vec}
 use Rattle.std.specs.declared.alloc.Global.{Global}
 use Rattle.dscript_value.specs.Data.{PlainField}
 use Rattle.dscript_value.specs.Depths.{put_field}
-use Rattle.dscript_value.specs.Places.{KeepPlaces, KeepsToo, first_place, kept_place}
+use Rattle.dscript_value.specs.Places.{KeepPlaces, KeepsToo, first_place}
+use Rattle.bx_tree.specs.TextTables.{at_text}
 
 -- whether a field has a name
 abbrev pub has : List ℕ → PlainField → Bool
@@ -126,7 +127,7 @@ kept_with pf xs x before after name e h changed kept other =
     let new = places_last (map pf xs) 0 (pf x) (ap (first_place (map pf xs)) (sym e) ∙ h) other in
     let n : length xs ≡ 0 + length (map pf xs) = omega (arith, length-map xs pf) in
     changed other
-    ∙ ap (λ m. cond (bytes_eq m other) (Some (length xs)) (kept_place before other)) e
-    ∙ ap (λ k. cond (bytes_eq (pf x).0 other) (Some k) (kept_place before other)) n
+    ∙ ap (λ m. cond (bytes_eq m other) (Some (length xs)) (at_text before other)) e
+    ∙ ap (λ k. cond (bytes_eq (pf x).0 other) (Some k) (at_text before other)) n
     ∙ ap (λ o. cond (bytes_eq (pf x).0 other) (Some (0 + length (map pf xs))) o) (kept other)
     ∙ sym new ∙ ap (λ fs. first_place fs other) (sym (map-append pf xs (x ∷ [])))

@@ -11,7 +11,7 @@ use Rattle.std.specs.Ordering.{is_eq, nat_cmp}
 use Rattle.std.specs.Str.{bytes_eq}
 use Rattle.std.specs.declared.alloc.Global.{Global}
 use Rattle.std.specs.declared.vec.Vec.{Vec}
-use Rattle.dscript_value.specs.Places.{kept_place}
+use Rattle.bx_tree.specs.TextTables.{at_text}
 
 other_entries : {K X : Type 0} (eq : K → K → Bool) (test : K → Bool) (old new : List (K × X))
     → KeepsOthers eq test old new → (other : K → Bool) → IsKeyTest eq other → AreApart test other
@@ -34,15 +34,15 @@ apart key x k n y =
 
 pub place_kept : (key : Vec ℕ Global) (old new : BTreeMap (Vec ℕ Global) ℕ) (value : Option ℕ)
     → UpdatesBy (λ a b. slice_cmp nat_cmp a.items b.items) (λ k. slice_cmp nat_cmp key.items k.items) old new value
-    → (x : List ℕ) → kept_place new x ≡ cond (bytes_eq key.items x) value (kept_place old x)
+    → (x : List ℕ) → at_text new x ≡ cond (bytes_eq key.items x) value (at_text old x)
 place_kept key old new value h x =
     elim (cases_Bool (bytes_eq key.items x)) [
       | inl t ↦
-          ap (kept_place new) (sym ((bytes_eq-Decides key.items x).0 t)) ∙ h.1
-          ∙ sym (cond-true (bytes_eq key.items x) value (kept_place old x) t)
+          ap (at_text new) (sym ((bytes_eq-Decides key.items x).0 t)) ∙ h.1
+          ∙ sym (cond-true (bytes_eq key.items x) value (at_text old x) t)
       | inr f ↦
           other_entries _ _ old.entries new.entries h.3 _
           (λ a b. (eq_by_cmp_equiv nat_list_cmp_total).congr x a.items b.items)
           (λ k. apart key.items x k.items f)
-          ∙ sym (cond-false (bytes_eq key.items x) value (kept_place old x) f)
+          ∙ sym (cond-false (bytes_eq key.items x) value (at_text old x) f)
     ]

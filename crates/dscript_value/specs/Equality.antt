@@ -13,14 +13,10 @@ use Rattle.dscript_value.specs.declared.parts.Artifact.TheVariants as artifacts
 use Rattle.dscript_value.specs.declared.parts.ArgumentParts.{ArgumentParts as AnyArgument}
 use Rattle.dscript_value.specs.Plain as plain
 use Rattle.dscript_value.specs.Plain.{Plain}
-
--- files are equal by path
-abbrev pub file_path : FileInput → Atoms
-file_path (files.Source path) = path
-file_path (files.Made path maker) = path
+use Rattle.bx_tree.specs.FileInputs.{input_path}
 
 abbrev pub same_file : FileInput → FileInput → Bool
-same_file a b = same_path (file_path a) (file_path b)
+same_file a b = same_path (input_path a) (input_path b)
 
 -- static directories are equal by kind, pip and path
 abbrev pub static_kind : StaticDir → ℕ
@@ -58,7 +54,7 @@ artifact_pip (artifacts.OutputDir path) = 0
 artifact_pip (artifacts.Plain path) = 0
 
 abbrev pub artifact_path : AnyArtifact → Atoms
-artifact_path (artifacts.Input file) = file_path file
+artifact_path (artifacts.Input file) = input_path file
 artifact_path (artifacts.InputDir dir) = static_path dir
 artifact_path (artifacts.Output path) = path
 artifact_path (artifacts.OutputDir path) = path

@@ -5,10 +5,11 @@ ghost use Rattle.bx_tree.specs.Paths.{same_path};
 ghost use Rattle.dscript_value.specs.Equality as spec;
 ghost use Rattle.dscript_value.specs.Equality.{artifact_kind, artifact_path, artifact_pip, both_or_neither};
 ghost use Rattle.dscript_value.specs.Equality.{equal_of};
-ghost use Rattle.dscript_value.specs.Equality.{file_path, same_argument, same_artifact, same_file};
+ghost use Rattle.dscript_value.specs.Equality.{same_argument, same_artifact, same_file};
 ghost use Rattle.dscript_value.specs.Equality.{same_static};
 ghost use Rattle.dscript_value.specs.Equality.{static_kind, static_path, static_pip, unanswered};
 ghost use Rattle.dscript_value.specs.Plain.{plain_of};
+ghost use Rattle.bx_tree.specs.FileInputs.{input_path};
 
 use crate::parts::{Argument, Artifact, RelativePath, StaticDir};
 use crate::value::Value;
@@ -20,7 +21,7 @@ pub struct NoOrder;
 
 // The path of a file.
 fn path_of(file: &FileInput) -> &Path
-    ensures { result.now ≡ file_path file.now }
+    ensures { result.now ≡ input_path file.now }
 {
     match file {
         FileInput::Source(path) | FileInput::Made(path, _) => path,

@@ -6,8 +6,8 @@ ghost use Rattle.std.specs.Rc.{rc_value};
 ghost use Rattle.dscript_value.specs.Depths.{field_at, fields_value, greatest_depth, object_value};
 ghost use Rattle.dscript_value.specs.Depths.{put_field, put_fields, values_of};
 ghost use Rattle.dscript_value.specs.Places.{KeepPlaces, KeepsToo, MayKeepPlaces, first_place};
-ghost use Rattle.dscript_value.specs.Places.{kept_place};
 ghost use Rattle.dscript_value.specs.Plain.{Object, plain_field, plain_of};
+ghost use Rattle.bx_tree.specs.TextTables.{at_text};
 
 use crate::makers::{DepthFault, MAX_DEPTH, larger};
 use crate::value::{Field, Fields, Value, has_name, name_of, value_of};
@@ -41,7 +41,7 @@ fn copy_name(alloc: Global, field: &Field) -> Result<Vec<u8>, AllocError>
 
 // The place that is kept for a name.
 fn place_of(places: &Places, name: &[u8]) -> Option<usize>
-    ensures { result ≡ kept_place places.now name.now }
+    ensures { result ≡ at_text places.now name.now }
 {
     places.get(name).copied()
 }

@@ -3,12 +3,12 @@ use Rattle.std.proofs.Common.{◌≡◌, ◌⊎◌, ◌≤◌, ◌+◌, ℕ, Boo
 use Rattle.std.specs.Prelude.{option_and_then, option_map}
 use Rattle.std.specs.List.{AllZip, cons_option, filter_map}
 use Rattle.std.proofs.lemmas.List.{length-map}
-use Rattle.bx_tree.specs.Paths.{Atoms, same_path}
+use Rattle.bx_tree.specs.Paths.{Atoms, has_path, same_path}
 use Rattle.bx_tree.specs.Trees.{Files, file_at, paths_of}
 use Rattle.dscript_ast.specs.ExprTree.{ExprTree}
 use Rattle.dscript_ast.specs.FileTree as trees
 use Rattle.dscript_config.specs.Configs.{resolvers, resolvers_list}
-use Rattle.dscript_config.specs.Paths.{in_tree, is_one_of}
+use Rattle.dscript_config.specs.Paths.{in_tree}
 use Rattle.dscript_modules.specs.Faults.{FaultData}
 use Rattle.dscript_modules.specs.Workspaces.{ModuleData}
 use Rattle.dscript_read.specs.Reading.{Reading, Read, NoTokens, NoFile, ReadsAs}
@@ -118,7 +118,7 @@ within_files files ms h = elim (found_from files ms h) [
       let a = ap length listed.are in
       let b = shorter module_in listed.module_files in
       let c = zip_length (IsModuleFile files (map dir_of (in_tree files listed.said))) (in_tree files listed.said) listed.module_files listed.read in
-      let d = filter_length (is_one_of listed.said) (paths_of files) in
+      let d = filter_length (has_path listed.said) (paths_of files) in
       let e = length-map files (λ f. f.0) in
       omega (arith, a, b, c, d, e)
 ]

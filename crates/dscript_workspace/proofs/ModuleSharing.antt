@@ -9,7 +9,7 @@ use Rattle.std.specs.declared.cmp.Ordering.TheVariants.{Less, Equal}
 use Rattle.std.proofs.lemmas.Bool.{cases_Bool, false≢true}
 use Rattle.std.proofs.lemmas.Cmp.{tied_itself}
 use Rattle.std.proofs.lemmas.List.Kept.{IsStrictlySortedBy-filter}
-use Rattle.bx_tree.specs.Paths.{Atoms, IsPath, path_cmp, same_path}
+use Rattle.bx_tree.specs.Paths.{Atoms, IsPath, has_path, path_cmp, same_path}
 use Rattle.bx_tree.specs.Orders.{path_cmp_total, same_path_decides}
 use Rattle.bx_tree.specs.Trees.{Files, IsTree, paths_of}
 use Rattle.dscript_ast.specs.ExprTree.{ExprTree}
@@ -17,7 +17,7 @@ use Rattle.dscript_ast.specs.FileTree as trees
 use Rattle.dscript_config.specs.Configs.{module_files, modules_list, resolver_at, resolvers, resolvers_list}
 use Rattle.dscript_config.specs.Lists.{ItemTree, One, Many, files_listed, items_of, concat_if_all, listed_by}
 use Rattle.dscript_config.specs.Modules.{DescriptionData, described}
-use Rattle.dscript_config.specs.Paths.{in_tree, is_below, is_empty, is_module_file, is_one_of, is_specification}
+use Rattle.dscript_config.specs.Paths.{in_tree, is_below, is_empty, is_module_file, is_specification}
 use Rattle.dscript_config.proofs.FilePaths.{below_decides}
 use Rattle.dscript_modules.specs.Faults.{FaultData}
 use Rattle.dscript_modules.specs.Workspaces.{ModuleData}
@@ -63,21 +63,21 @@ none_here test (x ∷ xs) q e h = elim h [
 ]
 
 none_of : (test : Atoms → Bool) (paths : List Atoms) (path : Atoms) → list_any test paths ≡ false
-    → is_one_of paths path ≡ true → test path ≡ false
+    → has_path paths path ≡ true → test path ≡ false
 none_of test [] path e h = absurd (false≢true h)
 none_of test (p ∷ ps) path e h = elim (cases_Bool (same_path p path)) [
   | inl same ↦ ap test (sym ((same_path_decides p path).0 same)) ∙ or_left (test p) (list_any test ps) e
   | inr differ ↦
-      none_of test ps path (or_right (test p) (list_any test ps) e) (sym (ap (λ b. b || is_one_of ps path) differ) ∙ h)
+      none_of test ps path (or_right (test p) (list_any test ps) e) (sym (ap (λ b. b || has_path ps path) differ) ∙ h)
 ]
 
-some_of : (test : Atoms → Bool) (paths : List Atoms) (path : Atoms) → is_one_of paths path ≡ true → test path ≡ true
+some_of : (test : Atoms → Bool) (paths : List Atoms) (path : Atoms) → has_path paths path ≡ true → test path ≡ true
     → list_any test paths ≡ true
 some_of test [] path h t = absurd (false≢true h)
 some_of test (p ∷ ps) path h t = elim (cases_Bool (same_path p path)) [
   | inl same ↦ ap (λ b. b || list_any test ps) (ap test ((same_path_decides p path).0 same) ∙ t)
   | inr differ ↦
-      ap (λ b. test p || b) (some_of test ps path (sym (ap (λ b. b || is_one_of ps path) differ) ∙ h) t) ∙ or_true (test p)
+      ap (λ b. test p || b) (some_of test ps path (sym (ap (λ b. b || has_path ps path) differ) ∙ h) t) ∙ or_true (test p)
 ]
   where
     or_true : (b : Bool) → (b || true) ≡ true
@@ -150,7 +150,7 @@ both_are true true e f = refl
 both_are true false e f = cc
 both_are false b e f = cc
 
-not_both : (dirs : List Atoms) (d e path : Atoms) → is_one_of dirs d ≡ true → is_one_of dirs e ≡ true → (d ≡ e → ⊥)
+not_both : (dirs : List Atoms) (d e path : Atoms) → has_path dirs d ≡ true → has_path dirs e ≡ true → (d ≡ e → ⊥)
     → is_implied dirs d path ≡ true → is_implied dirs e path ≡ true → ⊥
 not_both dirs d e path h k apart i j =
     let a = below_first (is_below d path) (is_specification path) (not (is_config path)) (not (is_module_file path)) (is_deeper dirs d path) i in
@@ -177,18 +177,18 @@ Apart (Described m lists) (Faulty fault) = Unit {0}
 Apart (Faulty fault) other = Unit {0}
 
 implied_at : (files : Files) (dirs : List Atoms) (path file : Atoms) (m : ModuleData) → m.files ≡ implied_files files dirs (dir_of path)
-    → is_one_of m.files file ≡ true → is_implied dirs (dir_of path) file ≡ true
+    → has_path m.files file ≡ true → is_implied dirs (dir_of path) file ≡ true
 implied_at files dirs path file m e h =
-    kept_is (is_implied dirs (dir_of path)) (paths_of files) file (ap (λ ps. is_one_of ps file) (sym e) ∙ h)
+    kept_is (is_implied dirs (dir_of path)) (paths_of files) file (ap (λ ps. has_path ps file) (sym e) ∙ h)
 
 two_apart : (files : Files) (dirs : List Atoms) (all prefix before : List ModuleFile) (p q : Atoms) (m n : ModuleFile)
     → IsFree (is_taken all prefix) m → IsFree (is_taken all before) n → In before m → In all n
-    → IsImplied files dirs p m → IsImplied files dirs q n → is_one_of dirs (dir_of p) ≡ true
-    → is_one_of dirs (dir_of q) ≡ true → (dir_of p ≡ dir_of q → ⊥) → Apart m n
+    → IsImplied files dirs p m → IsImplied files dirs q n → has_path dirs (dir_of p) ≡ true
+    → has_path dirs (dir_of q) ≡ true → (dir_of p ≡ dir_of q → ⊥) → Apart m n
 two_apart files dirs all prefix before p q (Faulty fault) n f g i j a b h k d = tt
 two_apart files dirs all prefix before p q (Described m lists) (Faulty fault) f g i j a b h k d = tt
 two_apart files dirs all prefix before p q (Described m lists) (Described n true) f g i j a b h k d = λ file t.
-    elim (cases_Bool (is_one_of n.files file)) [
+    elim (cases_Bool (has_path n.files file)) [
       | inl yes' ↦
           let free = none_of (is_taken all before) n.files file g yes' in
           let own = none_here (has_file file) before (Described m lists)
@@ -200,7 +200,7 @@ two_apart files dirs all prefix before p q (Described m true) (Described n false
     none_here (implies_file file) all (Described n false)
     (or_right (list_any (has_file file) prefix) (list_any (implies_file file) all) (none_of (is_taken all prefix) m.files file f t)) j
 two_apart files dirs all prefix before p q (Described m false) (Described n false) f g i j a b h k d = λ file t.
-    elim (cases_Bool (is_one_of n.files file)) [
+    elim (cases_Bool (has_path n.files file)) [
       | inl yes' ↦
           absurd (not_both dirs (dir_of p) (dir_of q) file h k d (implied_at files dirs p file m a t)
           (implied_at files dirs q file n b yes'))
@@ -220,8 +220,8 @@ AllApart (m ∷ ms) = AllByRecursion (Apart m) ms × AllApart ms
 
 later_apart : (files : Files) (dirs : List Atoms) (all prefix before : List ModuleFile) (p : Atoms) (m : ModuleFile)
     (paths : List Atoms) (rest : List ModuleFile) → IsFree (is_taken all prefix) m → In before m → IsImplied files dirs p m
-    → is_one_of dirs (dir_of p) ≡ true → AllByRecursion (λ q. dir_of p ≡ dir_of q → ⊥) paths
-    → AllByRecursion (λ q. is_one_of dirs (dir_of q) ≡ true) paths → AllZip (IsImplied files dirs) paths rest
+    → has_path dirs (dir_of p) ≡ true → AllByRecursion (λ q. dir_of p ≡ dir_of q → ⊥) paths
+    → AllByRecursion (λ q. has_path dirs (dir_of q) ≡ true) paths → AllZip (IsImplied files dirs) paths rest
     → file_fault all before rest ≡ None → ((n : ModuleFile) → In rest n → In all n) → AllByRecursion (Apart m) rest
 later_apart files dirs all prefix before p m [] [] f i a h d w z e into = tt
 later_apart files dirs all prefix before p m [] (n ∷ ns) f i a h d w z e into = absurd z
@@ -234,7 +234,7 @@ later_apart files dirs all prefix before p m (q ∷ qs) (n ∷ ns) f i a h d w z
     )
 
 all_apart : (files : Files) (dirs : List Atoms) (all before : List ModuleFile) (paths : List Atoms) (rest : List ModuleFile)
-    → HaveOwnDirs paths → AllByRecursion (λ q. is_one_of dirs (dir_of q) ≡ true) paths
+    → HaveOwnDirs paths → AllByRecursion (λ q. has_path dirs (dir_of q) ≡ true) paths
     → AllZip (IsImplied files dirs) paths rest → file_fault all before rest ≡ None
     → ((n : ModuleFile) → In rest n → In all n) → AllApart rest
 all_apart files dirs all before [] [] d w z e into = tt
@@ -275,11 +275,11 @@ zipped files dirs (p ∷ ps) (m ∷ ms) h = (file_implied files dirs p m h.0, zi
 
 -- ## The directories of listed module files
 
-dir_among : (paths others : List Atoms) → ((path : Atoms) → is_one_of paths path ≡ true → is_one_of others path ≡ true)
-    → AllByRecursion (λ q. is_one_of (map dir_of others) (dir_of q) ≡ true) paths
+dir_among : (paths others : List Atoms) → ((path : Atoms) → has_path paths path ≡ true → has_path others path ≡ true)
+    → AllByRecursion (λ q. has_path (map dir_of others) (dir_of q) ≡ true) paths
 dir_among [] others f = tt
 dir_among (p ∷ ps) others f = (
-  mapped others p (f p (ap (λ b. b || is_one_of ps p) ((same_path_decides p p).1 refl))),
+  mapped others p (f p (ap (λ b. b || has_path ps p) ((same_path_decides p p).1 refl))),
   dir_among ps others (λ path h. f path (ap (λ b. same_path p path || b) h ∙ or_true (same_path p path))),
 )
   where
@@ -287,14 +287,14 @@ dir_among (p ∷ ps) others f = (
     or_true true = refl
     or_true false = refl
 
-    mapped : (paths : List Atoms) (path : Atoms) → is_one_of paths path ≡ true → is_one_of (map dir_of paths) (dir_of path) ≡ true
+    mapped : (paths : List Atoms) (path : Atoms) → has_path paths path ≡ true → has_path (map dir_of paths) (dir_of path) ≡ true
     mapped [] path h = absurd (false≢true h)
     mapped (p ∷ ps) path h = elim (cases_Bool (same_path p path)) [
       | inl same ↦
-          ap (λ b. b || is_one_of (map dir_of ps) (dir_of path))
+          ap (λ b. b || has_path (map dir_of ps) (dir_of path))
           ((same_path_decides (dir_of p) (dir_of path)).1 (ap dir_of ((same_path_decides p path).0 same)))
       | inr differ ↦
-          ap (λ b. same_path (dir_of p) (dir_of path) || b) (mapped ps path (sym (ap (λ b. b || is_one_of ps path) differ) ∙ h))
+          ap (λ b. same_path (dir_of p) (dir_of path) || b) (mapped ps path (sym (ap (λ b. b || has_path ps path) differ) ∙ h))
           ∙ or_true (same_path (dir_of p) (dir_of path))
     ]
 
@@ -371,25 +371,25 @@ named_config : (files : Files) (o : Option ExprTree) → Named (option_and_then 
 named_config files None = tt
 named_config files (Some list) = named_joined (resolver_at files) (named_item files) (items_of list)
 
-one_all : (t : Atoms → Bool) (paths : List Atoms) (path : Atoms) → list_all t paths ≡ true → is_one_of paths path ≡ true → t path ≡ true
+one_all : (t : Atoms → Bool) (paths : List Atoms) (path : Atoms) → list_all t paths ≡ true → has_path paths path ≡ true → t path ≡ true
 one_all t [] path h k = absurd (false≢true k)
 one_all t (p ∷ ps) path h k = elim (cases_Bool (t p)) [
   | inl yes' ↦ elim (cases_Bool (same_path p path)) [
     | inl same ↦ ap t (sym ((same_path_decides p path).0 same)) ∙ yes'
     | inr differ ↦
-        one_all t ps path (sym (ap (λ b. b && list_all t ps) yes') ∙ h) (sym (ap (λ b. b || is_one_of ps path) differ) ∙ k)
+        one_all t ps path (sym (ap (λ b. b && list_all t ps) yes') ∙ h) (sym (ap (λ b. b || has_path ps path) differ) ∙ k)
   ]
   | inr none ↦ absurd (false≢true (sym (ap (λ b. b && list_all t ps) none) ∙ h))
 ]
 
 listed_named : (said paths : List Atoms) → list_all is_module_file said ≡ true → AllByRecursion IsPath paths
-    → AreModuleFiles (filter (is_one_of said) paths)
+    → AreModuleFiles (filter (has_path said) paths)
 listed_named said [] t h = tt
-listed_named said (p ∷ ps) t h = step said (is_one_of said p) p ps refl t h.0 (listed_named said ps t h.1)
+listed_named said (p ∷ ps) t h = step said (has_path said p) p ps refl t h.0 (listed_named said ps t h.1)
   where
-    step : (said : List Atoms) (b : Bool) (p : Atoms) (ps : List Atoms) → is_one_of said p ≡ b
-        → list_all is_module_file said ≡ true → IsPath p → AreModuleFiles (filter (is_one_of said) ps)
-        → AreModuleFiles (cond b (p ∷ filter (is_one_of said) ps) (filter (is_one_of said) ps))
+    step : (said : List Atoms) (b : Bool) (p : Atoms) (ps : List Atoms) → has_path said p ≡ b
+        → list_all is_module_file said ≡ true → IsPath p → AreModuleFiles (filter (has_path said) ps)
+        → AreModuleFiles (cond b (p ∷ filter (has_path said) ps) (filter (has_path said) ps))
     step said true p ps e t h k = ((h, one_all is_module_file said p t e), k)
     step said false p ps e t h k = k
 
@@ -400,7 +400,7 @@ listed_share files ms tree h =
     subst ShareNone (sym h.are) (share_none h.module_files
     (all_apart files (map dir_of listed) h.module_files [] listed h.module_files
     (own_dirs listed (listed_named h.said (paths_of files) named tree.paths)
-    (IsStrictlySortedBy-filter path_cmp (is_one_of h.said) (paths_of files) tree.rising))
+    (IsStrictlySortedBy-filter path_cmp (has_path h.said) (paths_of files) tree.rising))
     (dir_among listed listed (λ path k. k)) (zipped files (map dir_of listed) listed h.module_files h.read)
     h.no_file_fault (λ n k. k)))
 

@@ -6,7 +6,7 @@ use Rattle.std.specs.Ordering.{eq_by_cmp}
 use Rattle.std.proofs.lemmas.Map.Keys.{IsDistinct-from_sorted}
 use Rattle.std.specs.Option.{option_map_or}
 use Rattle.std.proofs.lemmas.Bool.{cases_Bool, false≢true}
-use Rattle.bx_tree.specs.Paths.{Atoms, path_cmp, same_path}
+use Rattle.bx_tree.specs.Paths.{Atoms, has_path, path_cmp, same_path}
 use Rattle.bx_tree.specs.Orders.{path_cmp_matches, same_path_decides}
 use Rattle.bx_tree.specs.Trees.{Files, IsTree, file_at, paths_of}
 use Rattle.dscript_ast.specs.ExprTree.{ExprTree, PropTree}
@@ -15,7 +15,7 @@ use Rattle.dscript_config.specs.Lists.{files_listed}
 use Rattle.dscript_config.specs.Modules.{DescriptionData, are_projects, described, described_by, is_semantics, name_in, optional_projects}
 use Rattle.dscript_config.specs.Modules.{projects_in, projects_of}
 use Rattle.dscript_config.specs.Objects.{field_named, object_with}
-use Rattle.dscript_config.specs.Paths.{in_tree, is_below, is_module_file, is_one_of, is_specification}
+use Rattle.dscript_config.specs.Paths.{in_tree, is_below, is_module_file, is_specification}
 use Rattle.dscript_modules.specs.Workspaces.{ModuleData}
 use Rattle.dscript_read.specs.Reading.{Reading, Read, NoTokens, NoFile}
 use Rattle.dscript_workspace.specs.Membership.{dir_of, files_of_module, implied_files, is_config, is_deeper, is_implied}
@@ -26,46 +26,46 @@ use Rattle.dscript_workspace.proofs.FoundModules.{found_from}
 
 -- ## Files that pass a test, in the order of the tree
 
-is_here : (paths : List Atoms) (path : Atoms) → is_one_of (path ∷ paths) path ≡ true
-is_here paths path = ap (λ b. b || is_one_of paths path) ((same_path_decides path path).1 refl)
+is_here : (paths : List Atoms) (path : Atoms) → has_path (path ∷ paths) path ≡ true
+is_here paths path = ap (λ b. b || has_path paths path) ((same_path_decides path path).1 refl)
 
 same_tests : {X : Type 0} (p q : X → Bool) (xs : List X) → AllByRecursion (λ x. p x ≡ q x) xs → filter p xs ≡ filter q xs
 same_tests p q [] h = refl
 same_tests p q (x ∷ xs) h =
     ap (λ b. cond b (x ∷ filter p xs) (filter p xs)) h.0 ∙ ap (λ ys. cond (q x) (x ∷ ys) ys) (same_tests p q xs h.1)
 
-pub kept_is : (test : Atoms → Bool) (paths : List Atoms) (path : Atoms) → is_one_of (filter test paths) path ≡ true
+pub kept_is : (test : Atoms → Bool) (paths : List Atoms) (path : Atoms) → has_path (filter test paths) path ≡ true
     → test path ≡ true
 kept_is test [] path h = absurd (false≢true h)
 kept_is test (p ∷ ps) path h = step test (test p) p ps path refl (kept_is test ps path) h
   where
     step : (test : Atoms → Bool) (b : Bool) (p : Atoms) (ps : List Atoms) (path : Atoms) → test p ≡ b
-        → (is_one_of (filter test ps) path ≡ true → test path ≡ true)
-        → is_one_of (cond b (p ∷ filter test ps) (filter test ps)) path ≡ true → test path ≡ true
+        → (has_path (filter test ps) path ≡ true → test path ≡ true)
+        → has_path (cond b (p ∷ filter test ps) (filter test ps)) path ≡ true → test path ≡ true
     step test false p ps path e k h = k h
     step test true p ps path e k h = elim (cases_Bool (same_path p path)) [
       | inl same ↦ ap test (sym ((same_path_decides p path).0 same)) ∙ e
-      | inr differ ↦ k (sym (ap (λ b. b || is_one_of (filter test ps) path) differ) ∙ h)
+      | inr differ ↦ k (sym (ap (λ b. b || has_path (filter test ps) path) differ) ∙ h)
     ]
 
-kept_in : (test : Atoms → Bool) (paths : List Atoms) (path : Atoms) → is_one_of paths path ≡ true → test path ≡ true
-    → is_one_of (filter test paths) path ≡ true
+kept_in : (test : Atoms → Bool) (paths : List Atoms) (path : Atoms) → has_path paths path ≡ true → test path ≡ true
+    → has_path (filter test paths) path ≡ true
 kept_in test [] path h t = h
 kept_in test (p ∷ ps) path h t = elim (cases_Bool (same_path p path)) [
   | inl same ↦
       let is = (same_path_decides p path).0 same in
-      ap (λ b. is_one_of (cond b (p ∷ filter test ps) (filter test ps)) path) (ap test is ∙ t)
-      ∙ ap (λ b. b || is_one_of (filter test ps) path) same
+      ap (λ b. has_path (cond b (p ∷ filter test ps) (filter test ps)) path) (ap test is ∙ t)
+      ∙ ap (λ b. b || has_path (filter test ps) path) same
   | inr differ ↦
-      more (test p) p (filter test ps) path (kept_in test ps path (sym (ap (λ b. b || is_one_of ps path) differ) ∙ h) t)
+      more (test p) p (filter test ps) path (kept_in test ps path (sym (ap (λ b. b || has_path ps path) differ) ∙ h) t)
 ]
   where
     or_true : (b : Bool) → (b || true) ≡ true
     or_true true = refl
     or_true false = refl
 
-    more : (b : Bool) (p : Atoms) (ps : List Atoms) (path : Atoms) → is_one_of ps path ≡ true
-        → is_one_of (cond b (p ∷ ps) ps) path ≡ true
+    more : (b : Bool) (p : Atoms) (ps : List Atoms) (path : Atoms) → has_path ps path ≡ true
+        → has_path (cond b (p ∷ ps) ps) path ≡ true
     more true p ps path h = ap (λ b. same_path p path || b) h ∙ or_true (same_path p path)
     more false p ps path h = h
 
@@ -75,11 +75,11 @@ both_true true false f g = sym (f refl)
 both_true false true f g = g refl
 both_true false false f g = refl
 
-each_kept : (test : Atoms → Bool) (all paths : List Atoms) → ((path : Atoms) → is_one_of paths path ≡ true → is_one_of all path ≡ true)
-    → AllByRecursion (λ path. is_one_of (filter test all) path ≡ test path) paths
+each_kept : (test : Atoms → Bool) (all paths : List Atoms) → ((path : Atoms) → has_path paths path ≡ true → has_path all path ≡ true)
+    → AllByRecursion (λ path. has_path (filter test all) path ≡ test path) paths
 each_kept test all [] into = tt
 each_kept test all (p ∷ ps) into = (
-  both_true (is_one_of (filter test all) p) (test p) (kept_is test all p) (kept_in test all p (into p (is_here ps p))),
+  both_true (has_path (filter test all) p) (test p) (kept_is test all p) (kept_in test all p (into p (is_here ps p))),
   each_kept test all ps (λ path h. into path (ap (λ b. same_path p path || b) h ∙ or_true (same_path p path))),
 )
   where
@@ -90,7 +90,7 @@ each_kept test all (p ∷ ps) into = (
 -- files of the tree that pass a test are in its order
 in_order_kept : (files : Files) (test : Atoms → Bool) → in_tree files (filter test (paths_of files)) ≡ filter test (paths_of files)
 in_order_kept files test =
-    same_tests (is_one_of (filter test (paths_of files))) test (paths_of files)
+    same_tests (has_path (filter test (paths_of files))) test (paths_of files)
     (each_kept test (paths_of files) (paths_of files) (λ path h. h))
 
 each_passes : (test other : Atoms → Bool) (paths : List Atoms) → ((path : Atoms) → test path ≡ true → other path ≡ true)
@@ -123,7 +123,7 @@ projects_named : (below spec : Bool) → (below && spec) ≡ true → spec ≡ t
 projects_named true spec e = e
 projects_named false spec e = cc
 
-one_named : (dir : Atoms) (paths : List Atoms) (path : Atoms) → are_projects dir paths ≡ true → is_one_of paths path ≡ true
+one_named : (dir : Atoms) (paths : List Atoms) (path : Atoms) → are_projects dir paths ≡ true → has_path paths path ≡ true
     → is_specification path ≡ true
 one_named dir [] path h k = absurd (false≢true k)
 one_named dir (p ∷ ps) path h k = elim (cases_Bool (same_path p path)) [
@@ -132,7 +132,7 @@ one_named dir (p ∷ ps) path h k = elim (cases_Bool (same_path p path)) [
       ∙ projects_named (is_below dir p) (is_specification p) (first (is_below dir p && is_specification p) (are_projects dir ps) h)
   | inr differ ↦
       one_named dir ps path (rest (is_below dir p && is_specification p) (are_projects dir ps) h)
-      (sym (ap (λ b. b || is_one_of ps path) differ) ∙ k)
+      (sym (ap (λ b. b || has_path ps path) differ) ∙ k)
 ]
   where
     first : (a b : Bool) → (a && b) ≡ true → a ≡ true
@@ -153,7 +153,7 @@ tested files dir false xs paths t e = cc
 tested files dir true xs paths t e =
     let is : in_tree files xs ≡ paths = cc in
     subst (AreSpecifications files) is
-    (specifications_kept files (is_one_of xs) (λ path k. one_named dir xs path t k))
+    (specifications_kept files (has_path xs) (λ path k. one_named dir xs path t k))
 
 projects_are : (files : Files) (dir : Atoms) (o : Option (List Atoms)) (paths : List Atoms)
     → option_and_then (λ xs. cond (are_projects dir xs) (Some (in_tree files xs)) None) o ≡ Some paths
@@ -263,46 +263,46 @@ all_own files dirs (p ∷ ps) (m ∷ ms) h =
 build_named : is_specification build_path ≡ true
 build_named = refl
 
-build_there : (files : Files) (text : List ℕ) → file_at files build_path ≡ Some text → is_one_of (paths_of files) build_path ≡ true
+build_there : (files : Files) (text : List ℕ) → file_at files build_path ≡ Some text → has_path (paths_of files) build_path ≡ true
 build_there [] text e = cc
 build_there (f ∷ fs) text e = elim (cases_Bool (same_path f.0 build_path)) [
-  | inl same ↦ ap (λ b. b || is_one_of (paths_of fs) build_path) same
+  | inl same ↦ ap (λ b. b || has_path (paths_of fs) build_path) same
   | inr differ ↦
-      ap (λ b. b || is_one_of (paths_of fs) build_path) differ
+      ap (λ b. b || has_path (paths_of fs) build_path) differ
       ∙ build_there fs text (sym (ap (λ b. cond b (Some f.1) (file_at fs build_path)) differ) ∙ e)
 ]
 
-one_is : (path q : Atoms) → eq_by_cmp path_cmp path q ≡ false → is_one_of (path ∷ []) q ≡ false
+one_is : (path q : Atoms) → eq_by_cmp path_cmp path q ≡ false → has_path (path ∷ []) q ≡ false
 one_is path q e = ap (λ b. b || false) (path_cmp_matches path q ∙ e)
 
 none_left : (path x : Atoms) (xs : List Atoms) → x ≡ path → AllByRecursion (λ y. eq_by_cmp path_cmp x y ≡ false) xs
-    → filter (is_one_of (path ∷ [])) xs ≡ []
+    → filter (has_path (path ∷ [])) xs ≡ []
 none_left path x [] e h = refl
 none_left path x (y ∷ ys) e h =
-    ap (λ b. cond b (y ∷ filter (is_one_of (path ∷ [])) ys) (filter (is_one_of (path ∷ [])) ys))
+    ap (λ b. cond b (y ∷ filter (has_path (path ∷ [])) ys) (filter (has_path (path ∷ [])) ys))
     (one_is path y (ap (λ p. eq_by_cmp path_cmp p y) (sym e) ∙ h.0))
     ∙ none_left path x ys e h.1
 
-apart : (path x : Atoms) → same_path x path ≡ false → is_one_of (path ∷ []) x ≡ false
+apart : (path x : Atoms) → same_path x path ≡ false → has_path (path ∷ []) x ≡ false
 apart path x e = elim (cases_Bool (same_path path x)) [
   | inl same ↦ absurd (false≢true (sym e ∙ (same_path_decides x path).1 (sym ((same_path_decides path x).0 same))))
   | inr differ ↦ ap (λ b. b || false) differ
 ]
 
 -- a file of the tree alone is in its order
-single : (paths : List Atoms) (path : Atoms) → IsDistinct (eq_by_cmp path_cmp) paths → is_one_of paths path ≡ true
-    → filter (is_one_of (path ∷ [])) paths ≡ path ∷ []
+single : (paths : List Atoms) (path : Atoms) → IsDistinct (eq_by_cmp path_cmp) paths → has_path paths path ≡ true
+    → filter (has_path (path ∷ [])) paths ≡ path ∷ []
 unfolding IsDistinct
 single [] path d h = absurd (false≢true h)
 single (x ∷ xs) path d h = elim (cases_Bool (same_path x path)) [
   | inl same ↦
       let is = (same_path_decides x path).0 same in
-      ap (λ b. cond b (x ∷ filter (is_one_of (path ∷ [])) xs) (filter (is_one_of (path ∷ [])) xs))
+      ap (λ b. cond b (x ∷ filter (has_path (path ∷ [])) xs) (filter (has_path (path ∷ [])) xs))
       (ap (λ b. b || false) ((same_path_decides path x).1 (sym is)))
       ∙ ap (λ ys. x ∷ ys) (none_left path x xs is d.0) ∙ ap (λ p. p ∷ []) is
   | inr differ ↦
-      ap (λ b. cond b (x ∷ filter (is_one_of (path ∷ [])) xs) (filter (is_one_of (path ∷ [])) xs)) (apart path x differ)
-      ∙ single xs path d.1 (sym (ap (λ b. b || is_one_of xs path) differ) ∙ h)
+      ap (λ b. cond b (x ∷ filter (has_path (path ∷ [])) xs) (filter (has_path (path ∷ [])) xs)) (apart path x differ)
+      ∙ single xs path d.1 (sym (ap (λ b. b || has_path xs path) differ) ∙ h)
 ]
 
 main_own : (files : Files) (text : List ℕ) → IsTree files → file_at files build_path ≡ Some text

@@ -8,38 +8,37 @@ use Rattle.std.proofs.lemmas.Bool.{cases_Bool, false≢true}
 use Rattle.std.proofs.Math.Seq.{take-suc}
 use Rattle.std.proofs.lemmas.List.{map-append}
 use Rattle.std.proofs.lemmas.List.Elements.{filter-append}
-use Rattle.bx_tree.specs.Paths.{Atoms, same_path}
+use Rattle.bx_tree.specs.Paths.{Atoms, has_path, same_path}
 use Rattle.bx_tree.specs.Orders.{same_path_decides}
 use Rattle.bx_tree.specs.Trees.{paths_of}
 use Rattle.bx_tree.specs.Views.{files_of}
 use Rattle.bx_tree.specs.declared.tree_file.TreeFile.{TreeFile}
 use Rattle.dscript_config.specs.Paths.{is_below, is_module_file, is_specification}
 use Rattle.dscript_config.proofs.FilePaths.{below_decides}
-use Rattle.dscript_config.specs.Paths.{is_one_of}
 use Rattle.dscript_workspace.specs.Membership.{is_between, is_config, is_deeper, is_implied}
 use Rattle.dscript_workspace.specs.PathSets.{IsDeepest, IsOwner, is_owner, may_belong}
 use Rattle.dscript_workspace.proofs.Deepest.{comparable}
 
 -- ## One of a list
 
-none_of : (dirs : List Atoms) (test : Atoms → Bool) → ((q : Atoms) → is_one_of dirs q ≡ true → test q ≡ false)
+none_of : (dirs : List Atoms) (test : Atoms → Bool) → ((q : Atoms) → has_path dirs q ≡ true → test q ≡ false)
     → list_any test dirs ≡ false
 none_of [] test h = refl
 none_of (d ∷ ds) test h =
-    ap (λ b. b || list_any test ds) (h d (ap (λ b. b || is_one_of ds d) ((same_path_decides d d).1 refl)))
+    ap (λ b. b || list_any test ds) (h d (ap (λ b. b || has_path ds d) ((same_path_decides d d).1 refl)))
     ∙ none_of ds test (λ q m. h q (ap (λ b. same_path d q || b) m ∙ or_true (same_path d q)))
   where
     or_true : (b : Bool) → (b || true) ≡ true
     or_true true = refl
     or_true false = refl
 
-some_of : (dirs : List Atoms) (test : Atoms → Bool) (q : Atoms) → is_one_of dirs q ≡ true → test q ≡ true
+some_of : (dirs : List Atoms) (test : Atoms → Bool) (q : Atoms) → has_path dirs q ≡ true → test q ≡ true
     → list_any test dirs ≡ true
 some_of [] test q m t = absurd (false≢true m)
 some_of (d ∷ ds) test q m t = elim (cases_Bool (same_path d q)) [
   | inl same ↦ ap (λ b. b || list_any test ds) (ap test ((same_path_decides d q).0 same) ∙ t)
   | inr differ ↦
-      ap (λ b. test d || b) (some_of ds test q (sym (ap (λ b. b || is_one_of ds q) differ) ∙ m) t) ∙ or_true (test d)
+      ap (λ b. test d || b) (some_of ds test q (sym (ap (λ b. b || has_path ds q) differ) ∙ m) t) ∙ or_true (test d)
 ]
   where
     or_true : (b : Bool) → (b || true) ≡ true
@@ -67,7 +66,7 @@ both true true e f = refl
 both true false e f = cc
 both false b e f = cc
 
-other_dir : (dirs : List Atoms) (path own dir : Atoms) → is_one_of dirs own ≡ true → is_one_of dirs dir ≡ true
+other_dir : (dirs : List Atoms) (path own dir : Atoms) → has_path dirs own ≡ true → has_path dirs dir ≡ true
     → is_below own path ≡ true → is_below dir path ≡ true → same_path own dir ≡ false
     → (is_below own dir && is_below dir path) ≡ false → is_deeper dirs dir path ≡ true
 other_dir dirs path own dir m n b c differ last =
@@ -84,8 +83,8 @@ other_dir dirs path own dir m n b c differ last =
       ]
     ]
 
-at_owner : (dirs : List Atoms) (path own dir : Atoms) → is_one_of dirs own ≡ true → is_one_of dirs dir ≡ true
-    → is_below own path ≡ true → ((q : Atoms) → is_one_of dirs q ≡ true → (is_below own q && is_below q path) ≡ false)
+at_owner : (dirs : List Atoms) (path own dir : Atoms) → has_path dirs own ≡ true → has_path dirs dir ≡ true
+    → is_below own path ≡ true → ((q : Atoms) → has_path dirs q ≡ true → (is_below own q && is_below q path) ≡ false)
     → (is_below dir path && not (is_deeper dirs dir path)) ≡ same_path own dir
 at_owner dirs path own dir m n b last = elim (cases_Bool (same_path own dir)) [
   | inl same ↦
@@ -100,8 +99,8 @@ at_owner dirs path own dir m n b last = elim (cases_Bool (same_path own dir)) [
   ]
 ]
 
-at_deepest : (dirs : List Atoms) (path : Atoms) (owner : Option Atoms) (dir : Atoms) → IsDeepest (is_one_of dirs) path owner
-    → is_one_of dirs dir ≡ true → (is_below dir path && not (is_deeper dirs dir path)) ≡ is_owner owner dir
+at_deepest : (dirs : List Atoms) (path : Atoms) (owner : Option Atoms) (dir : Atoms) → IsDeepest (has_path dirs) path owner
+    → has_path dirs dir ≡ true → (is_below dir path && not (is_deeper dirs dir path)) ≡ is_owner owner dir
 at_deepest dirs path None dir h n = and_none (is_below dir path) (not (is_deeper dirs dir path)) (h dir n)
 at_deepest dirs path (Some own) dir h n = at_owner dirs path own dir h.0 n h.1 h.2
 
@@ -116,13 +115,13 @@ reordered false true false d e = refl
 reordered false false c d e = refl
 
 implied_by_owner : (b : Bool) (dirs : List Atoms) (path : Atoms) (owner : Option Atoms) (dir : Atoms)
-    → MatchBool b (IsDeepest (is_one_of dirs) path owner) (owner ≡ None) → is_one_of dirs dir ≡ true
+    → MatchBool b (IsDeepest (has_path dirs) path owner) (owner ≡ None) → has_path dirs dir ≡ true
     → (b && (is_below dir path && not (is_deeper dirs dir path))) ≡ is_owner owner dir
 implied_by_owner true dirs path owner dir h n = at_deepest dirs path owner dir h n
 implied_by_owner false dirs path owner dir h n = ap (λ o. is_owner o dir) (sym h)
 
-pub is_implied_at : (dirs : List Atoms) (path : Atoms) (owner : Option Atoms) (dir : Atoms) → IsOwner (is_one_of dirs) path owner
-    → is_one_of dirs dir ≡ true → is_implied dirs dir path ≡ is_owner owner dir
+pub is_implied_at : (dirs : List Atoms) (path : Atoms) (owner : Option Atoms) (dir : Atoms) → IsOwner (has_path dirs) path owner
+    → has_path dirs dir ≡ true → is_implied dirs dir path ≡ is_owner owner dir
 is_implied_at dirs path owner dir h n =
     reordered (is_below dir path) (is_specification path) (not (is_config path)) (not (is_module_file path))
     (not (is_deeper dirs dir path))
@@ -140,7 +139,7 @@ paths-more files i file l is =
 -- the implied files among one file more
 pub implied_more : (files : List TreeFile) (i : ℕ) (file : TreeFile) (dirs : List Atoms) (test : Atoms → Bool)
     (owner : Option Atoms) (dir : Atoms) (before after : List Atoms) → i < length files → file ≡ get_or files i file
-    → ((q : Atoms) → test q ≡ is_one_of dirs q) → IsOwner test file.path owner → is_one_of dirs dir ≡ true
+    → ((q : Atoms) → test q ≡ has_path dirs q) → IsOwner test file.path owner → has_path dirs dir ≡ true
     → before ≡ filter (is_implied dirs dir) (paths_of (files_of (take i files)))
     → after ≡ before ++ cond (is_owner owner dir) (file.path ∷ []) []
     → after ≡ filter (is_implied dirs dir) (paths_of (files_of (take (i + 1) files)))

@@ -6,9 +6,8 @@ use Rattle.std.specs.declared.vec.Vec.{Vec}
 use Rattle.std.specs.BTreeMap.{BTreeMap, get, is_at}
 use Rattle.std.specs.Option.{option_map_or}
 use Rattle.std.proofs.lemmas.List.Folds.{list_any_more}
-use Rattle.bx_tree.specs.Paths.{Atoms, path_cmp, same_path}
+use Rattle.bx_tree.specs.Paths.{Atoms, has_path, path_cmp, same_path}
 use Rattle.bx_tree.specs.Orders.{path_cmp_matches, same_path_decides}
-use Rattle.dscript_config.specs.Paths.{is_one_of}
 use Rattle.dscript_workspace.specs.PathSets.{files_in}
 
 either : (b s t : Bool) → cond b true (s || t) ≡ (s || (t || b))
@@ -22,11 +21,11 @@ either false false false = refl
 -- one more path of a list in a set
 pub one_more : (paths : List Atoms) (i : ℕ) (path q : Atoms) (start before now : Bool) → i < length paths
     → path ≡ get_or paths i path → now ≡ cond (is_at (path_cmp path) q) true before
-    → before ≡ (start || is_one_of (take i paths) q) → now ≡ (start || is_one_of (take (i + 1) paths) q)
+    → before ≡ (start || has_path (take i paths) q) → now ≡ (start || has_path (take (i + 1) paths) q)
 one_more paths i path q start before now l is e h =
     e ∙ ap (cond (is_at (path_cmp path) q) true) h
-    ∙ either (is_at (path_cmp path) q) start (is_one_of (take i paths) q)
-    ∙ ap (λ b. start || (is_one_of (take i paths) q || b)) (sym (path_cmp_matches path q) ∙ ap (λ p. same_path p q) is)
+    ∙ either (is_at (path_cmp path) q) start (has_path (take i paths) q)
+    ∙ ap (λ b. start || (has_path (take i paths) q || b)) (sym (path_cmp_matches path q) ∙ ap (λ p. same_path p q) is)
     ∙ ap (λ b. start || b) (sym (list_any_more (λ other. same_path other q) paths i path l))
 
 abbrev items_of : Option (Vec Atoms Global) → List Atoms

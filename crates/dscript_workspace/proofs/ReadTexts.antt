@@ -7,12 +7,12 @@ use Rattle.std.proofs.lemmas.Bool.{cases_Bool}
 use Rattle.std.proofs.lemmas.List.{length-map}
 use Rattle.std.proofs.lemmas.List.Elements.{All-from_recursion, Contains-get_or}
 use Rattle.bx_tree.specs.Bundle.{IsInSize}
-use Rattle.bx_tree.specs.Paths.{Atoms, same_path}
+use Rattle.bx_tree.specs.Paths.{Atoms, has_path, same_path}
 use Rattle.bx_tree.specs.Orders.{same_path_decides}
 use Rattle.bx_tree.specs.Trees.{Files, file_at, paths_of}
 use Rattle.bx_tree.specs.declared.limits.TheConstants.{MAX_FILE_BYTES}
 use Rattle.dscript_workspace.specs.Finding.{IsModuleFile, IsReadAt}
-use Rattle.dscript_config.specs.Paths.{AreWithin, is_one_of, paths_at}
+use Rattle.dscript_config.specs.Paths.{AreWithin, paths_at}
 use Rattle.dscript_workspace.specs.Membership.{dir_of, implied_files}
 use Rattle.dscript_workspace.specs.Workspaces.{ModuleFile}
 
@@ -55,10 +55,10 @@ zip_push R (a ∷ as') [] x y h r = absurd h
 zip_push R (a ∷ as') (b ∷ bs) x y h r = (h.0, zip_push R as' bs x y h.1 r)
 
 member : (paths : List Atoms) (i : ℕ) (path : Atoms) → i < length paths → path ≡ get_or paths i path
-    → is_one_of (map dir_of paths) (dir_of path) ≡ true
+    → has_path (map dir_of paths) (dir_of path) ≡ true
 member [] i path l is = absurd (omega (arith, l))
 member (p ∷ ps) zero path l is =
-    ap (λ b. b || is_one_of (map dir_of ps) (dir_of path)) ((same_path_decides (dir_of p) (dir_of path)).1 (ap dir_of (sym is)))
+    ap (λ b. b || has_path (map dir_of ps) (dir_of path)) ((same_path_decides (dir_of p) (dir_of path)).1 (ap dir_of (sym is)))
 member (p ∷ ps) (suc i) path l is =
     ap (λ b. same_path (dir_of p) (dir_of path) || b) (member ps i path (omega (arith, l)) is)
     ∙ or_true (same_path (dir_of p) (dir_of path))
@@ -70,7 +70,7 @@ member (p ∷ ps) (suc i) path l is =
 -- one more module file is read
 pub read_more : (files : Files) (listed : List Atoms) (i : ℕ) (path : Atoms) (found : List ModuleFile) (m : ModuleFile)
     (own : Atoms → List Atoms) → i < length listed → path ≡ get_or listed i path
-    → ((dir : Atoms) → is_one_of (map dir_of listed) dir ≡ true → own dir ≡ implied_files files (map dir_of listed) dir)
+    → ((dir : Atoms) → has_path (map dir_of listed) dir ≡ true → own dir ≡ implied_files files (map dir_of listed) dir)
     → AllZip (IsModuleFile files (map dir_of listed)) (take i listed) found → IsReadAt files (own (dir_of path)) path m
     → AllZip (IsModuleFile files (map dir_of listed)) (take (i + 1) listed) (found ++ m ∷ [])
 read_more files listed i path found m own l is same h r =

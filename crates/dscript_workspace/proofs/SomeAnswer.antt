@@ -3,7 +3,7 @@ use Rattle.std.proofs.Common.{◌≡◌, ℕ, Bool, true, false, List, [], ◌�
 use Rattle.std.specs.List.{AllByRecursion, AllZip}
 use Rattle.std.proofs.lemmas.Bool.{cases_Bool}
 use Rattle.bx_tree.specs.Orders.{same_path_decides}
-use Rattle.bx_tree.specs.Paths.{Atoms, same_path}
+use Rattle.bx_tree.specs.Paths.{Atoms, has_path, same_path}
 use Rattle.bx_tree.specs.Trees.{Files, file_at, paths_of}
 use Rattle.dscript_ast.specs.FileTree as trees
 use Rattle.dscript_ast.specs.declared.file.Form.TheVariants as forms
@@ -12,7 +12,7 @@ use Rattle.dscript_config.specs.Configs.{resolvers, resolvers_list}
 use Rattle.dscript_read.specs.Reading.{Reading, Read, NoTokens, NoFile}
 use Rattle.dscript_read.proofs.SomeReading.{some_reading}
 use Rattle.dscript_modules.specs.declared.fault.SpecKind.TheVariants as kinds
-use Rattle.dscript_config.specs.Paths.{in_tree, is_one_of}
+use Rattle.dscript_config.specs.Paths.{in_tree}
 use Rattle.dscript_workspace.specs.Membership.{config_path, dir_of, implied_files}
 use Rattle.dscript_workspace.specs.Workspaces.{Answer, ModuleFile, Refused, answer_of, configuration_fault}
 use Rattle.dscript_workspace.specs.Finding.{ComesTo, Finds, IsModuleFile, LeadsTo, Lists, Starts, build_path, fault_at}
@@ -75,7 +75,7 @@ lists_some : (files : Files) (said : Option (List Atoms))
     → (answer : Answer) × Lists files (option_map (in_tree files) said) answer
 lists_some files None = (Refused (configuration_fault config_path), refl)
 lists_some files (Some paths) =
-    comes_to_some files (in_tree files paths) (kept (HasText files) (is_one_of paths) (paths_of files) (all_have files))
+    comes_to_some files (in_tree files paths) (kept (HasText files) (has_path paths) (paths_of files) (all_have files))
 
 leads_to_some : (files : Files) (reading : Reading) → (answer : Answer) × LeadsTo files reading answer
 leads_to_some files (NoTokens place) = (Refused (fault_at kinds.Lex config_path place), refl)

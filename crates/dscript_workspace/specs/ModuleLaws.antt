@@ -2,9 +2,9 @@
 use Rattle.std.specs.Prelude.{◌≡◌, true, false, List, [], ◌∷◌, map, ⊤}
 use Rattle.std.specs.List.{AllByRecursion, IsDistinct}
 use Rattle.std.specs.Str.{bytes_eq}
-use Rattle.bx_tree.specs.Paths.{Atoms}
+use Rattle.bx_tree.specs.Paths.{Atoms, has_path}
 use Rattle.bx_tree.specs.Trees.{Files}
-use Rattle.dscript_config.specs.Paths.{in_tree, is_one_of, is_specification}
+use Rattle.dscript_config.specs.Paths.{in_tree, is_specification}
 use Rattle.dscript_modules.specs.Workspaces.{ModuleData, sdk_name}
 
 -- names differ, and none is that of the module that is always there
@@ -19,7 +19,7 @@ pub record AreSpecifications (files : Files) (paths : List Atoms) : Type 0 where
 
 -- no file of the one module is a file of the other
 abbrev pub ShareNoFile : ModuleData → ModuleData → Type 0
-ShareNoFile m n = (path : Atoms) → is_one_of m.files path ≡ true → is_one_of n.files path ≡ false
+ShareNoFile m n = (path : Atoms) → has_path m.files path ≡ true → has_path n.files path ≡ false
 
 -- no file is in two of the modules
 abbrev pub ShareNone : List ModuleData → Type 0

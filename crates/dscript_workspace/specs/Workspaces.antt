@@ -3,12 +3,11 @@ use Rattle.std.specs.Prelude.{ℕ, Bool, true, false, ◌&&◌, ◌||◌, if◌t
 use Rattle.std.specs.Prelude.{Option, Some, None}
 use Rattle.std.specs.List.{list_any, filter_map}
 use Rattle.std.specs.Str.{bytes_eq}
-use Rattle.bx_tree.specs.Paths.{Atoms}
+use Rattle.bx_tree.specs.Paths.{Atoms, has_path}
 use Rattle.dscript_modules.specs.declared.fault.SpecKind.{SpecKind}
 use Rattle.dscript_modules.specs.declared.fault.SpecKind.TheVariants as kinds
 use Rattle.dscript_modules.specs.Faults.{FaultData}
 use Rattle.dscript_modules.specs.Workspaces.{ModuleData, sdk_name}
-use Rattle.dscript_config.specs.Paths.{is_one_of}
 
 -- what looking for a workspace comes to
 pub data Answer : Type 0 where
@@ -25,13 +24,13 @@ pub data ModuleFile : Type 0 where
 
 -- the file is one of the module's
 abbrev pub has_file : Atoms → ModuleFile → Bool
-has_file path (Described m lists) = is_one_of m.files path
+has_file path (Described m lists) = has_path m.files path
 has_file path (Faulty fault) = false
 
 -- the module lists no files itself, and the file is one of the module's
 abbrev pub implies_file : Atoms → ModuleFile → Bool
 implies_file path (Described m true) = false
-implies_file path (Described m false) = is_one_of m.files path
+implies_file path (Described m false) = has_path m.files path
 implies_file path (Faulty fault) = false
 
 -- the file is one of an earlier module's, or implied by any

@@ -2,9 +2,8 @@
 
 ghost use Rattle.std.specs.Prelude.{◌≡◌, ◌++◌, ◌∷◌, [], true, IfOk, OnOk, if◌then◌else◌};
 ghost use Rattle.bx_path.specs.Joining.{parent as parent_of};
-ghost use Rattle.bx_tree.specs.Paths.{Atoms, same_path};
+ghost use Rattle.bx_tree.specs.Paths.{Atoms, has_path, same_path};
 ghost use Rattle.dscript_workspace.specs.Membership.{dir_of as directory_of, implied_files as files_implied};
-ghost use Rattle.dscript_config.specs.Paths.{is_one_of};
 ghost use Rattle.dscript_workspace.specs.Membership.{is_config as names_config};
 ghost use Rattle.dscript_workspace.specs.PathSets.{AddsToOwner, IsDeepest, files_in, has};
 ghost use Rattle.dscript_workspace.specs.PathSets.{may_belong as is_open};
@@ -112,7 +111,7 @@ pub(crate) fn implied_files(
     tree: &Tree,
     dirs: &[Path],
 ) -> Result<BTreeMap<Path, Vec<Path>>, AllocError>
-    ensures { IfOk result (λ implied. (dir : Atoms) → is_one_of dirs.now dir ≡ true →
+    ensures { IfOk result (λ implied. (dir : Atoms) → has_path dirs.now dir ≡ true →
         files_in implied dir ≡ files_implied tree.now dirs.now dir) }
 {
     let set = set_of(alloc, dirs)?;

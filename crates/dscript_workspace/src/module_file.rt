@@ -2,10 +2,9 @@
 
 ghost use Rattle.std.specs.Prelude.{◌≡◌, ◌||◌, ◌∷◌, ◌++◌, [], IfOk, OnOk, option_map};
 ghost use Rattle.std.specs.List.{list_any, filter_map};
-ghost use Rattle.bx_tree.specs.Paths.{Atoms};
+ghost use Rattle.bx_tree.specs.Paths.{Atoms, has_path};
 ghost use Rattle.dscript_modules.specs.Faults.{fault_data};
 ghost use Rattle.dscript_modules.specs.Workspaces.{modules_data};
-ghost use Rattle.dscript_config.specs.Paths.{is_one_of};
 ghost use Rattle.dscript_workspace.specs.ModuleFiles.{file_data, files_data};
 ghost use Rattle.dscript_workspace.specs.PathSets.{has};
 ghost use Rattle.dscript_workspace.specs.Workspaces.{file_fault as first_file_fault, module_file_fault as fault_among};

@@ -14,7 +14,6 @@ use Rattle.std.proofs.lemmas.Slice.Eq.{bytes_eq-Decides}
 use Rattle.bx_tree.specs.Paths.{Atoms, IsBelow, same_path}
 use Rattle.bx_tree.specs.Orders.{same_path_decides}
 use Rattle.bx_tree.specs.Trees.{Files, paths_of}
-use Rattle.pip_types.specs.Inputs.{input_path}
 use Rattle.pip_types.specs.declared.dir_inputs.DirInput.{DirInput}
 use Rattle.pip_types.specs.declared.dir_inputs.DirInput.TheVariants.{Sealed, Opaque}
 use Rattle.pip_types.specs.declared.outputs.OutDir.{OutDir}
@@ -29,7 +28,7 @@ use Rattle.graph_check.specs.declared.fault.GraphKind.TheVariants as rules
 use Rattle.graph_outputs.specs.DoubleProducer.{DoubleProducerAt}
 use Rattle.graph_check.specs.NoSuchSource.{NoSuchSourceAt, named_sources}
 use Rattle.pip_order.specs.Orders.{described_alike, tied_processes}
-use Rattle.graph_outputs.specs.Outputs.{IsWithin, PipHas, declared_dirs, declared_files, outputs}
+use Rattle.graph_outputs.specs.Outputs.{IsWithin, PipHas, declared_files, outputs}
 use Rattle.graph_outputs.specs.OutsideOut.{OutsideOutAt, out_dir}
 use Rattle.graph_outputs.specs.Overlap.{FileIsDir, IsUnlisted, NestedOutputs, OverlapAt, Overlaps, SealMeetsDir, UnlistedFile, UnsharedDir, full_seals}
 use Rattle.graph_outputs.specs.Overlap.Overlaps.{Nested, OnePath, Unshared, Unlisted, Meets}
@@ -38,6 +37,8 @@ use Rattle.graph_check.specs.Twin.{TwinAt, descriptions}
 use Rattle.pip_order.specs.Descriptions.{description, without_pip}
 use Rattle.pip_order.specs.ProcessOrder.{process_cmp}
 use Rattle.graph_outputs.proofs.Unsharing.{has_along}
+use Rattle.pip_types.specs.Kinds.{outdirs_of}
+use Rattle.bx_tree.specs.FileInputs.{input_path}
 
 -- ## Tests of what pips have
 
@@ -131,14 +132,14 @@ Decides-nested pips i j =
     (λ (path, h, (dir, k, b)). (path, dir, h, k, b)) (λ (path, dir, h, k, b). (path, h, (dir, k, b)))
 
 abbrev pub file_dir_test : List Pip → ℕ → ℕ → Bool
-file_dir_test pips i j = any_item declared_files (λ file. any_item declared_dirs (λ (dir : OutDir). same_path file dir.path) pips j) pips i
+file_dir_test pips i j = any_item declared_files (λ file. any_item outdirs_of (λ (dir : OutDir). same_path file dir.path) pips j) pips i
 
 Decides-file_dir : (pips : List Pip) (i j : ℕ) → Decides (file_dir_test pips i j) (FileIsDir pips i j)
 Decides-file_dir pips i j =
     along (file_dir_test pips i j)
-    (Decides-any_item declared_files (λ file. any_item declared_dirs (λ (dir : OutDir). same_path file dir.path) pips j)
-    (λ file. (dir : OutDir) × PipHas declared_dirs pips j dir × (file ≡ dir.path))
-    (λ file. Decides-any_item declared_dirs (λ (dir : OutDir). same_path file dir.path) (λ (dir : OutDir). file ≡ dir.path)
+    (Decides-any_item declared_files (λ file. any_item outdirs_of (λ (dir : OutDir). same_path file dir.path) pips j)
+    (λ file. (dir : OutDir) × PipHas outdirs_of pips j dir × (file ≡ dir.path))
+    (λ file. Decides-any_item outdirs_of (λ (dir : OutDir). same_path file dir.path) (λ (dir : OutDir). file ≡ dir.path)
     (λ (dir : OutDir). same_path_decides file dir.path) pips j) pips i)
     (λ (file, h, (dir, k, e)). (file, dir, h, k, e)) (λ (file, dir, h, k, e). (file, h, (dir, k, e)))
 
@@ -157,17 +158,17 @@ Decides-apart dir other =
     not_both false b = (λ e t u. false≢true t, λ h. refl)
 
 abbrev pub unshared_test : List Pip → ℕ → ℕ → Bool
-unshared_test pips i j = not (nat_eq i j) && any_item declared_dirs (λ dir. any_item declared_dirs (λ other. apart_test dir other) pips j) pips i
+unshared_test pips i j = not (nat_eq i j) && any_item outdirs_of (λ dir. any_item outdirs_of (λ other. apart_test dir other) pips j) pips i
 
 Decides-unshared : (pips : List Pip) (i j : ℕ) → Decides (unshared_test pips i j) (UnsharedDir pips i j)
 Decides-unshared pips i j =
-    Decides-and (not (nat_eq i j)) (any_item declared_dirs (λ dir. any_item declared_dirs (λ other. apart_test dir other) pips j) pips i)
+    Decides-and (not (nat_eq i j)) (any_item outdirs_of (λ dir. any_item outdirs_of (λ other. apart_test dir other) pips j) pips i)
     (Decides-not (nat_eq i j) (Decides-eqb i j))
-    (along (any_item declared_dirs (λ dir. any_item declared_dirs (λ other. apart_test dir other) pips j) pips i)
-    (Decides-any_item declared_dirs (λ dir. any_item declared_dirs (λ other. apart_test dir other) pips j)
-    (λ (dir : OutDir). (other : OutDir) × PipHas declared_dirs pips j other
+    (along (any_item outdirs_of (λ dir. any_item outdirs_of (λ other. apart_test dir other) pips j) pips i)
+    (Decides-any_item outdirs_of (λ dir. any_item outdirs_of (λ other. apart_test dir other) pips j)
+    (λ (dir : OutDir). (other : OutDir) × PipHas outdirs_of pips j other
     × ((dir.path ≡ other.path) × (IsTrue dir.shared → IsTrue other.shared → ⊥)))
-    (λ dir. Decides-any_item declared_dirs (λ other. apart_test dir other)
+    (λ dir. Decides-any_item outdirs_of (λ other. apart_test dir other)
     (λ (other : OutDir). (dir.path ≡ other.path) × (IsTrue dir.shared → IsTrue other.shared → ⊥)) (λ other. Decides-apart dir other) pips j) pips i)
     (λ (dir, h, (other, k, (e, s))). (dir, other, h, k, e, s)) (λ (dir, other, h, k, e, s). (dir, h, (other, k, (e, s)))))
 
@@ -191,15 +192,15 @@ Decides-unlisted pips i j =
 abbrev pub seal_test : List Pip → ℕ → ℕ → Bool
 seal_test pips i j =
     any_item full_seals
-    (λ (seal : SealDesc). any_item declared_dirs (λ (dir : OutDir). within_test seal.root dir.path || below_test dir.path seal.root) pips j) pips i
+    (λ (seal : SealDesc). any_item outdirs_of (λ (dir : OutDir). within_test seal.root dir.path || below_test dir.path seal.root) pips j) pips i
 
 Decides-seal : (pips : List Pip) (i j : ℕ) → Decides (seal_test pips i j) (SealMeetsDir pips i j)
 Decides-seal pips i j =
     along (seal_test pips i j)
     (Decides-any_item full_seals
-    (λ (seal : SealDesc). any_item declared_dirs (λ (dir : OutDir). within_test seal.root dir.path || below_test dir.path seal.root) pips j)
-    (λ (seal : SealDesc). (dir : OutDir) × PipHas declared_dirs pips j dir × (IsWithin seal.root dir.path ⊎ IsBelow dir.path seal.root))
-    (λ (seal : SealDesc). Decides-any_item declared_dirs (λ (dir : OutDir). within_test seal.root dir.path || below_test dir.path seal.root)
+    (λ (seal : SealDesc). any_item outdirs_of (λ (dir : OutDir). within_test seal.root dir.path || below_test dir.path seal.root) pips j)
+    (λ (seal : SealDesc). (dir : OutDir) × PipHas outdirs_of pips j dir × (IsWithin seal.root dir.path ⊎ IsBelow dir.path seal.root))
+    (λ (seal : SealDesc). Decides-any_item outdirs_of (λ (dir : OutDir). within_test seal.root dir.path || below_test dir.path seal.root)
     (λ (dir : OutDir). IsWithin seal.root dir.path ⊎ IsBelow dir.path seal.root)
     (λ (dir : OutDir). Decides-or (within_test seal.root dir.path) (below_test dir.path seal.root) (Decides-within seal.root dir.path)
     (Decides-below dir.path seal.root)) pips j) pips i)

@@ -8,12 +8,12 @@ use Rattle.std.proofs.lemmas.Cmp.{nat_list_cmp_total, tied_itself}
 use Rattle.std.proofs.lemmas.List.{get_or_default, get_or-drop}
 use Rattle.std.proofs.lemmas.List.Sorted.{ranks_by, sorted_far}
 use Rattle.bx_tree.specs.Paths.{Atoms, IsBelow}
-use Rattle.pip_types.specs.Inputs.{input_path}
 use Rattle.pip_types.specs.declared.pip.SealDesc.{SealDesc}
 use Rattle.graph_outputs.specs.Outputs.{IsWithin}
 use Rattle.graph_outputs.specs.Overlap.{IsUnlisted}
 use Rattle.graph_outputs.specs.TreeOrder.{IsInTreeOrder, tree_cmp}
 use Rattle.graph_outputs.proofs.TreeOrders.{tree_cmp_total, true≢false, within_between, within_not_before}
+use Rattle.bx_tree.specs.FileInputs.{input_path}
 
 -- an element of the list is there whatever stands for others
 pub at_default : (xs : List Atoms) (k : ℕ) (d x : Atoms) → k < length xs → get_or xs k x ≡ x → get_or xs k d ≡ x

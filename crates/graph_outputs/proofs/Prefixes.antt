@@ -6,11 +6,12 @@ use Rattle.std.proofs.lemmas.Bool.{cases_lt}
 use Rattle.pip_types.specs.declared.pip.Pip.{Pip}
 use Rattle.pip_types.specs.declared.pip.PipKind.{PipKind}
 use Rattle.graph_outputs.specs.Firsts.{IsFirst}
-use Rattle.graph_outputs.specs.Outputs.{PipHas, declared_dirs, declared_files, outputs}
+use Rattle.graph_outputs.specs.Outputs.{PipHas, declared_files, outputs}
 use Rattle.graph_outputs.specs.Overlap.{OverlapAt, Overlaps, full_seals}
 use Rattle.graph_outputs.specs.Overlap.Overlaps.{Nested, OnePath, Unshared, Unlisted, Meets}
 use Rattle.graph_outputs.specs.Sharing.{HasOverlap}
 use Rattle.graph_outputs.proofs.Has.{has_within}
+use Rattle.pip_types.specs.Kinds.{outdirs_of}
 
 slice_get-take : {X : Type 0} (xs : List X) (m i : ℕ) → i < m → slice_get (take m xs) i ≡ slice_get xs i
 slice_get-take [] zero i l = absurd (omega (arith, l))
@@ -27,30 +28,30 @@ out_of items pips m i x l h = subst (λ o. IsSomeAnd o (λ (p : Pip). Contains (
 
 pub overlaps_within : (pips : List Pip) (i j : ℕ) → Overlaps pips i j → (i < length pips) × (j < length pips)
 overlaps_within pips i j (Nested (path, dir, h, k, b)) = (has_within outputs pips i path h, has_within outputs pips j dir k)
-overlaps_within pips i j (OnePath (file, dir, h, k, e)) = (has_within declared_files pips i file h, has_within declared_dirs pips j dir k)
-overlaps_within pips i j (Unshared (n, (dir, other, h, k, e, s))) = (has_within declared_dirs pips i dir h, has_within declared_dirs pips j other k)
+overlaps_within pips i j (OnePath (file, dir, h, k, e)) = (has_within declared_files pips i file h, has_within outdirs_of pips j dir k)
+overlaps_within pips i j (Unshared (n, (dir, other, h, k, e, s))) = (has_within outdirs_of pips i dir h, has_within outdirs_of pips j other k)
 overlaps_within pips i j (Unlisted (file, seal, h, k, u)) = (has_within declared_files pips i file h, has_within full_seals pips j seal k)
-overlaps_within pips i j (Meets (seal, dir, h, k, w)) = (has_within full_seals pips i seal h, has_within declared_dirs pips j dir k)
+overlaps_within pips i j (Meets (seal, dir, h, k, w)) = (has_within full_seals pips i seal h, has_within outdirs_of pips j dir k)
 
 overlaps_into : (pips : List Pip) (m i j : ℕ) → i < m → j < m → Overlaps pips i j → Overlaps (take m pips) i j
 overlaps_into pips m i j l n (Nested (path, dir, h, k, b)) = Nested (path, dir, into outputs pips m i path l h, into outputs pips m j dir n k, b)
 overlaps_into pips m i j l n (OnePath (file, dir, h, k, e)) =
-    OnePath (file, dir, into declared_files pips m i file l h, into declared_dirs pips m j dir n k, e)
+    OnePath (file, dir, into declared_files pips m i file l h, into outdirs_of pips m j dir n k, e)
 overlaps_into pips m i j l n (Unshared (a, (dir, other, h, k, e, s))) =
-    Unshared (a, (dir, other, into declared_dirs pips m i dir l h, into declared_dirs pips m j other n k, e, s))
+    Unshared (a, (dir, other, into outdirs_of pips m i dir l h, into outdirs_of pips m j other n k, e, s))
 overlaps_into pips m i j l n (Unlisted (file, seal, h, k, u)) =
     Unlisted (file, seal, into declared_files pips m i file l h, into full_seals pips m j seal n k, u)
-overlaps_into pips m i j l n (Meets (seal, dir, h, k, w)) = Meets (seal, dir, into full_seals pips m i seal l h, into declared_dirs pips m j dir n k, w)
+overlaps_into pips m i j l n (Meets (seal, dir, h, k, w)) = Meets (seal, dir, into full_seals pips m i seal l h, into outdirs_of pips m j dir n k, w)
 
 overlaps_out : (pips : List Pip) (m i j : ℕ) → i < m → j < m → Overlaps (take m pips) i j → Overlaps pips i j
 overlaps_out pips m i j l n (Nested (path, dir, h, k, b)) = Nested (path, dir, out_of outputs pips m i path l h, out_of outputs pips m j dir n k, b)
 overlaps_out pips m i j l n (OnePath (file, dir, h, k, e)) =
-    OnePath (file, dir, out_of declared_files pips m i file l h, out_of declared_dirs pips m j dir n k, e)
+    OnePath (file, dir, out_of declared_files pips m i file l h, out_of outdirs_of pips m j dir n k, e)
 overlaps_out pips m i j l n (Unshared (a, (dir, other, h, k, e, s))) =
-    Unshared (a, (dir, other, out_of declared_dirs pips m i dir l h, out_of declared_dirs pips m j other n k, e, s))
+    Unshared (a, (dir, other, out_of outdirs_of pips m i dir l h, out_of outdirs_of pips m j other n k, e, s))
 overlaps_out pips m i j l n (Unlisted (file, seal, h, k, u)) =
     Unlisted (file, seal, out_of declared_files pips m i file l h, out_of full_seals pips m j seal n k, u)
-overlaps_out pips m i j l n (Meets (seal, dir, h, k, w)) = Meets (seal, dir, out_of full_seals pips m i seal l h, out_of declared_dirs pips m j dir n k, w)
+overlaps_out pips m i j l n (Meets (seal, dir, h, k, w)) = Meets (seal, dir, out_of full_seals pips m i seal l h, out_of outdirs_of pips m j dir n k, w)
 
 -- no pips have no overlap
 pub none_of_none : (pips : List Pip) → HasOverlap (take 0 pips) → ⊥

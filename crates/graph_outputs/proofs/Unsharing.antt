@@ -7,12 +7,13 @@ use Rattle.bx_tree.specs.Paths.{Atoms}
 use Rattle.pip_types.specs.declared.outputs.OutDir.{OutDir}
 use Rattle.pip_types.specs.declared.pip.Pip.{Pip}
 use Rattle.pip_types.specs.declared.pip.PipKind.{PipKind}
-use Rattle.graph_outputs.specs.Outputs.{PipHas, declared_dirs}
+use Rattle.graph_outputs.specs.Outputs.{PipHas}
 use Rattle.graph_outputs.specs.Sharing.{HasUnshared, declared_dir_paths, lone_paths, unless_shared}
 use Rattle.graph_outputs.proofs.Among.{from_flat, from_map, to_flat, to_map}
 use Rattle.graph_outputs.proofs.Firsts.{none_at_all}
 use Rattle.graph_outputs.proofs.Has.{has_there, has_within, there_has}
 use Rattle.graph_outputs.proofs.Repeats.{IsSoFar}
+use Rattle.pip_types.specs.Kinds.{outdirs_of}
 
 -- what a pip has among some items it has, in another way, among others
 pub has_along : {X Y : Type 0} (as' : PipKind → List X) (bs : PipKind → List Y) (x : X) (P : Y → Type 0)
@@ -36,31 +37,31 @@ to_unless false path e = (0, omega arith, refl)
 
 -- a lone path is that of a directory that is not shared
 pub lone_dir : (pips : List Pip) (i : ℕ) (p : Atoms) → PipHas lone_paths pips i p
-    → (dir : OutDir) × PipHas declared_dirs pips i dir × ((dir.path ≡ p) × (dir.shared ≡ false))
+    → (dir : OutDir) × PipHas outdirs_of pips i dir × ((dir.path ≡ p) × (dir.shared ≡ false))
 lone_dir pips i p h =
-    has_along lone_paths declared_dirs p (λ (dir : OutDir). (dir.path ≡ p) × (dir.shared ≡ false))
+    has_along lone_paths outdirs_of p (λ (dir : OutDir). (dir.path ≡ p) × (dir.shared ≡ false))
     (λ kind c.
-    let found = from_flat (λ (dir : OutDir). unless_shared dir.shared dir.path) (declared_dirs kind) p c in
+    let found = from_flat (λ (dir : OutDir). unless_shared dir.shared dir.path) (outdirs_of kind) p c in
     let parts = from_unless found.0.shared found.0.path p found.2 in
     (found.0, found.1, (parts.1, parts.0))) pips i h
 
-pub path_dir : (pips : List Pip) (i : ℕ) (p : Atoms) → PipHas declared_dir_paths pips i p → (dir : OutDir) × PipHas declared_dirs pips i dir × (dir.path ≡ p)
+pub path_dir : (pips : List Pip) (i : ℕ) (p : Atoms) → PipHas declared_dir_paths pips i p → (dir : OutDir) × PipHas outdirs_of pips i dir × (dir.path ≡ p)
 path_dir pips i p h =
-    has_along declared_dir_paths declared_dirs p (λ (dir : OutDir). dir.path ≡ p)
-    (λ kind c. from_map (λ (dir : OutDir). dir.path) (declared_dirs kind) p c) pips i h
+    has_along declared_dir_paths outdirs_of p (λ (dir : OutDir). dir.path ≡ p)
+    (λ kind c. from_map (λ (dir : OutDir). dir.path) (outdirs_of kind) p c) pips i h
 
-pub dir_path_of : (pips : List Pip) (i : ℕ) (dir : OutDir) → PipHas declared_dirs pips i dir → PipHas declared_dir_paths pips i dir.path
+pub dir_path_of : (pips : List Pip) (i : ℕ) (dir : OutDir) → PipHas outdirs_of pips i dir → PipHas declared_dir_paths pips i dir.path
 dir_path_of pips i dir h =
-    let y = has_along declared_dirs declared_dir_paths dir (λ p. p ≡ dir.path)
-    (λ kind c. (dir.path, to_map (λ (d : OutDir). d.path) (declared_dirs kind) dir c, refl)) pips i h in
+    let y = has_along outdirs_of declared_dir_paths dir (λ p. p ≡ dir.path)
+    (λ kind c. (dir.path, to_map (λ (d : OutDir). d.path) (outdirs_of kind) dir c, refl)) pips i h in
     subst (PipHas declared_dir_paths pips i) y.2 y.1
 
-pub lone_path_of : (pips : List Pip) (i : ℕ) (dir : OutDir) → dir.shared ≡ false → PipHas declared_dirs pips i dir → PipHas lone_paths pips i dir.path
+pub lone_path_of : (pips : List Pip) (i : ℕ) (dir : OutDir) → dir.shared ≡ false → PipHas outdirs_of pips i dir → PipHas lone_paths pips i dir.path
 lone_path_of pips i dir alone h =
-    let y = has_along declared_dirs lone_paths dir (λ p. p ≡ dir.path)
+    let y = has_along outdirs_of lone_paths dir (λ p. p ≡ dir.path)
     (λ kind c. (
       dir.path,
-      to_flat (λ (d : OutDir). unless_shared d.shared d.path) (declared_dirs kind) dir dir.path c (to_unless dir.shared dir.path alone),
+      to_flat (λ (d : OutDir). unless_shared d.shared d.path) (outdirs_of kind) dir dir.path c (to_unless dir.shared dir.path alone),
       refl,
     )) pips i h in
     subst (PipHas lone_paths pips i) y.2 y.1

@@ -6,6 +6,7 @@ use Rattle.pip_types.specs.declared.outputs.OutDir.{OutDir}
 use Rattle.pip_types.specs.declared.pip.Pip.{Pip}
 use Rattle.pip_types.specs.declared.pip.PipKind.{PipKind}
 use Rattle.pip_types.specs.declared.pip.PipKind.TheVariants.{Process, Copy, Write, Seal}
+use Rattle.pip_types.specs.Kinds.{outdirs_of}
 
 -- pip i has x among these items of it
 abbrev pub PipHas : {X : Type 0} → (PipKind → List X) → List Pip → ℕ → X → Type 0
@@ -19,16 +20,9 @@ declared_files (Copy d) = d.to ∷ []
 declared_files (Write d) = d.to ∷ []
 declared_files (Seal d) = []
 
--- the output directories of a process
-abbrev pub declared_dirs : PipKind → List OutDir
-declared_dirs (Process d) = d.outdirs
-declared_dirs (Copy d) = []
-declared_dirs (Write d) = []
-declared_dirs (Seal d) = []
-
 -- the outputs of a pip: the files and directories that it declares
 abbrev pub outputs : PipKind → List Atoms
-outputs kind = declared_files kind ++ map (λ (dir : OutDir). dir.path) (declared_dirs kind)
+outputs kind = declared_files kind ++ map (λ (dir : OutDir). dir.path) (outdirs_of kind)
 
 -- the path is the directory or lies below it
 abbrev pub IsWithin : Atoms → Atoms → Type 0

@@ -1,7 +1,6 @@
 -- The rule that files, output directories and full seals keep apart.
 use Rattle.std.specs.Prelude.{◌≡◌, ◌≢◌, ℕ, ◌≤◌, List, [], ◌∷◌, map, Contains, IsTrue, ◌⊎◌}
 use Rattle.bx_tree.specs.Paths.{Atoms, IsBelow}
-use Rattle.pip_types.specs.Inputs.{input_path}
 use Rattle.pip_types.specs.declared.dir_inputs.SealForm.{SealForm}
 use Rattle.pip_types.specs.declared.dir_inputs.SealForm.TheVariants.{Full, Partial, SourceTop, SourceAll}
 use Rattle.pip_types.specs.declared.outputs.OutDir.{OutDir}
@@ -9,7 +8,9 @@ use Rattle.pip_types.specs.declared.pip.Pip.{Pip}
 use Rattle.pip_types.specs.declared.pip.PipKind.{PipKind}
 use Rattle.pip_types.specs.declared.pip.PipKind.TheVariants.{Process, Copy, Write, Seal}
 use Rattle.pip_types.specs.declared.pip.SealDesc.{SealDesc}
-use Rattle.graph_outputs.specs.Outputs.{IsWithin, PipHas, declared_dirs, declared_files, outputs}
+use Rattle.graph_outputs.specs.Outputs.{IsWithin, PipHas, declared_files, outputs}
+use Rattle.pip_types.specs.Kinds.{outdirs_of}
+use Rattle.bx_tree.specs.FileInputs.{input_path}
 
 -- the seal, if its form is full
 abbrev pub if_full : SealForm → SealDesc → List SealDesc
@@ -33,13 +34,13 @@ NestedOutputs pips i j =
 -- an output file of pip i is an output directory of pip j
 abbrev pub FileIsDir : List Pip → ℕ → ℕ → Type 0
 FileIsDir pips i j =
-    (file : Atoms) × (dir : OutDir) × PipHas declared_files pips i file × PipHas declared_dirs pips j dir
+    (file : Atoms) × (dir : OutDir) × PipHas declared_files pips i file × PipHas outdirs_of pips j dir
     × (file ≡ dir.path)
 
 -- two pips have one output directory, and not both call it shared
 abbrev pub UnsharedDir : List Pip → ℕ → ℕ → Type 0
 UnsharedDir pips i j =
-    (i ≢ j) × ((dir other : OutDir) × PipHas declared_dirs pips i dir × PipHas declared_dirs pips j other
+    (i ≢ j) × ((dir other : OutDir) × PipHas outdirs_of pips i dir × PipHas outdirs_of pips j other
     × (dir.path ≡ other.path) × (IsTrue dir.shared → IsTrue other.shared → ⊥))
 
 -- the file lies at or below the root of the seal and is no member of it
@@ -55,7 +56,7 @@ UnlistedFile pips i j =
 -- the root of the full seal i equals, contains or lies in an output directory of pip j
 abbrev pub SealMeetsDir : List Pip → ℕ → ℕ → Type 0
 SealMeetsDir pips i j =
-    (seal : SealDesc) × (dir : OutDir) × PipHas full_seals pips i seal × PipHas declared_dirs pips j dir
+    (seal : SealDesc) × (dir : OutDir) × PipHas full_seals pips i seal × PipHas outdirs_of pips j dir
     × (IsWithin seal.root dir.path ⊎ IsBelow dir.path seal.root)
 
 -- pips i and j, which may be one pip, overlap in one of these ways

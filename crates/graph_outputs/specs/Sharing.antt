@@ -6,9 +6,9 @@ use Rattle.pip_types.specs.declared.outputs.OutDir.{OutDir}
 use Rattle.pip_types.specs.declared.pip.Pip.{Pip}
 use Rattle.pip_types.specs.declared.pip.PipKind.{PipKind}
 use Rattle.pip_types.specs.declared.pip.SealDesc.{SealDesc}
-use Rattle.graph_outputs.specs.Outputs.{declared_dirs}
 use Rattle.graph_outputs.specs.Overlap.{FileIsDir, NestedOutputs, Overlaps, SealMeetsDir, UnlistedFile}
 use Rattle.graph_outputs.specs.Overlap.{UnsharedDir, full_seals}
+use Rattle.pip_types.specs.Kinds.{outdirs_of}
 
 abbrev pub unless_shared : Bool → Atoms → List Atoms
 unless_shared true path = []
@@ -19,10 +19,10 @@ abbrev pub lone_among : List OutDir → List Atoms
 lone_among = flat_map (λ (dir : OutDir). unless_shared dir.shared dir.path)
 
 abbrev pub declared_dir_paths : PipKind → List Atoms
-declared_dir_paths kind = map (λ (dir : OutDir). dir.path) (declared_dirs kind)
+declared_dir_paths kind = map (λ (dir : OutDir). dir.path) (outdirs_of kind)
 
 abbrev pub lone_paths : PipKind → List Atoms
-lone_paths kind = lone_among (declared_dirs kind)
+lone_paths kind = lone_among (outdirs_of kind)
 
 -- the root of a full seal
 abbrev pub full_roots : PipKind → List Atoms

@@ -1,9 +1,10 @@
 //! Which files lie in sealed directories without being members of them.
 ghost use Rattle.std.specs.Prelude.{◌≡◌, ◌↔◌, All, Any, Contains, IsTrue, false, map};
 ghost use Rattle.std.specs.Ordering.{is_lt};
-ghost use Rattle.pip_types.specs.Inputs.{RiseByPath, input_path};
+ghost use Rattle.pip_types.specs.Inputs.{RiseByPath};
 ghost use Rattle.graph_outputs.specs.Overlap.{IsUnlisted};
 ghost use Rattle.graph_outputs.specs.TreeOrder.{IsInTreeOrder, tree_cmp};
+ghost use Rattle.bx_tree.specs.FileInputs.{input_path};
 
 use crate::tree_order::{count_before, is_within};
 use bx_tree::{FileInput, Path};

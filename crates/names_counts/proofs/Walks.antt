@@ -2,7 +2,7 @@
 use Rattle.std.proofs.Common.{◌≡◌, ℕ, zero, suc, ◌+◌, List, [], ◌∷◌, length, drop, Some, None, Option, refl, arith}
 use Rattle.dscript_ast.specs.ExprTree as tree
 use Rattle.dscript_ast.specs.ExprTree.{HeadTree, ExprTree, OperandTree, PartTree, ElementTree, PropTree, HoleTree, StmtTree, MaybeExpr, MaybeStmt, ExprTrees, OperandTrees, PartTrees, ElementTrees, PropTrees, HoleTrees, StmtTrees}
-use Rattle.dscript_binding.specs.Binding.{bind_expr, bind_exprs, bind_operand, bind_operands, bind_part, bind_parts, bind_element, bind_elements, bind_prop, bind_props, bind_hole, bind_holes, bind_stmt, bind_maybe, bind_else, bind_stmts, arrow, postfix, name_of, with_parts, block_locals, stmt_locals, loop_local, params_of}
+use Rattle.dscript_binding.specs.Binding.{bind_expr, bind_exprs, bind_operand, bind_operands, bind_part, bind_parts, bind_element, bind_elements, bind_prop, bind_props, bind_hole, bind_holes, bind_stmt, bind_maybe, bind_else, bind_stmts, arrow, postfix, with_parts, block_locals, stmt_locals, loop_local, params_of}
 use Rattle.dscript_binding.specs.Walk.{Binds, ◌>>=◌, gives, in_turn, declare, within}
 use Rattle.dscript_program.specs.BoundTree as bound
 use Rattle.dscript_program.specs.BoundTree.{BodyData, ExprData, PartData, StmtData, to_elements, to_exprs, to_holes, to_operands, to_parts, to_props, to_stmts}
@@ -11,6 +11,7 @@ use Rattle.dscript_scopes.specs.Names.{World}
 use Rattle.dscript_scopes.specs.declared.local.Local.{Local}
 use Rattle.names_counts.specs.Sizes.{expr_size, operand_size, operands_size, part_size, parts_size, exprs_size, element_size, elements_size, prop_size, props_size, hole_size, holes_size, stmt_size, maybe_size, else_size, stmts_size, head_size}
 use Rattle.names_counts.proofs.Steps.{Counts, more, step, done, last, next_counts, declare_counts, name_counts, assigns_counts, within_counts, function_counts}
+use Rattle.dscript_ast.specs.Literals.{name_of}
 
 -- one, and then the others
 turn : {A : Type 0} {n k : ℕ} {m : Binds A} (ms : List (Binds A)) → Counts n m → Counts k (in_turn ms)

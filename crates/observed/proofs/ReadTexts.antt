@@ -30,7 +30,8 @@ use Rattle.observed.specs.declared.path_set.SetFault.TheVariants.{BadSet, Memory
 use Rattle.observed.specs.Asks.{ask_cmp}
 use Rattle.observed.specs.Orders.{ask_cmp_total}
 use Rattle.observed.specs.PathSets.{IsPathSet}
-use Rattle.observed.specs.Texts.{ReadsPathSet, ReadsAsks, texts_now, all_asks, after_asks, after_prefix, ask_after, ask_at, ask_line, first_line, if_rising, is_rising, kind_text, named_ask, named_asks, named_path, paths_text, read_lines, read_paths_text, with_ask}
+use Rattle.observed.specs.Texts.{ReadsPathSet, ReadsAsks, all_asks, after_asks, after_prefix, ask_after, ask_at, ask_line, first_line, if_rising, is_rising, kind_text, named_ask, named_asks, named_path, paths_text, read_lines, read_paths_text, with_ask}
+use Rattle.bx_tree.specs.Lent.{texts_now}
 
 -- ## Options
 

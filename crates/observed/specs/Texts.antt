@@ -49,10 +49,6 @@ ReadsAsks (Ok asks) read = read ≡ Some asks.items
 ReadsAsks (Err set_faults.BadSet) read = read ≡ None
 ReadsAsks (Err set_faults.Memory) read = Unit {0}
 
--- texts without where they lie in memory
-abbrev pub texts_now : List (Bor (List ℕ)) → List (List ℕ)
-texts_now = map (λ (text : Bor (List ℕ)). text.now)
-
 -- what follows a prefix of a text, if the text begins with it
 abbrev pub after_prefix : List ℕ → List ℕ → Option (List ℕ)
 after_prefix [] text = Some text

@@ -9,7 +9,8 @@ ghost use Rattle.observed.specs.declared.ask.Ask.{Ask as AnyAsk};
 ghost use Rattle.observed.specs.Texts.{ReadsAsks, ReadsPathSet, after_prefix, all_asks as all_named};
 ghost use Rattle.observed.specs.Texts.{ask_at as ask_of_kind, ask_line, is_rising as rises, kind_text};
 ghost use Rattle.observed.specs.Texts.{named_ask, named_asks, named_path, paths_text, read_lines};
-ghost use Rattle.observed.specs.Texts.{read_paths_text, texts_now};
+ghost use Rattle.observed.specs.Texts.{read_paths_text};
+ghost use Rattle.bx_tree.specs.Lent.{texts_now};
 
 use crate::ask::{Ask, AskKind};
 use crate::path_set::SetFault;

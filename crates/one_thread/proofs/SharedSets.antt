@@ -19,8 +19,9 @@ use Rattle.pip_types.specs.declared.made.Slot.{Slot}
 use Rattle.pip_types.specs.declared.outputs.OutDir.{OutDir}
 use Rattle.pip_types.specs.declared.pip.Pip.{Pip}
 use Rattle.verdicts.specs.declared.verdict.Violation.{Violation}
-use Rattle.violations.specs.DoubleWrites.{clash_at, first_clash, has_clash, is_clash, is_shared, least_clash, or_next, outdirs_in, outdirs_of, shared_paths}
+use Rattle.violations.specs.DoubleWrites.{clash_at, first_clash, has_clash, is_clash, is_shared, least_clash, or_next, outdirs_in, shared_paths}
 use Rattle.one_thread.specs.Shared.{KeepsShared, all_shared, any_clash}
+use Rattle.pip_types.specs.Kinds.{outdirs_of}
 
 -- ## Tests of lists
 

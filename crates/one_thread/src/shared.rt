@@ -9,6 +9,7 @@ ghost use Rattle.pip_types.specs.Made.{made_files};
 ghost use Rattle.violations.specs.DoubleWrites as double_writes;
 ghost use Rattle.violations.specs.DoubleWrites.{outdirs_in, shared_paths};
 ghost use Rattle.one_thread.specs.Shared.{KeepsShared, any_clash};
+ghost use Rattle.pip_types.specs.Kinds.{outdirs_of};
 
 use crate::Memory;
 use crate::above::{add_directories, directories};
@@ -19,7 +20,7 @@ use std::collections::BTreeSet;
 
 // The output directories of a pip.
 fn outdirs_of(kind: &PipKind) -> &[OutDir]
-    ensures { result.now ≡ double_writes.outdirs_of kind.entry.now }
+    ensures { result.now ≡ outdirs_of kind.entry.now }
 {
     match kind {
         PipKind::Process(process) => process.outdirs.dirs(),

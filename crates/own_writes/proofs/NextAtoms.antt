@@ -3,7 +3,6 @@ use Rattle.std.proofs.Common.{◌≡◌, ◌≢◌, ◌==◌, ℕ, ◌<◌, ◌+
 use Rattle.std.specs.List.{AllByRecursion, cons_option, slice_split, filter_map}
 use Rattle.std.specs.Borrow.{Bor}
 use Rattle.std.specs.Option.{option_and_then, option_map_or}
-use Rattle.observed.specs.Texts.{texts_now}
 use Rattle.std.proofs.lemmas.List.Elements.{filter_map-append}
 use Rattle.std.proofs.lemmas.List.{append-nil, drop_more, map_push, take-append-drop, take_all}
 use Rattle.bx_tree.specs.Paths.{Atoms}
@@ -12,6 +11,7 @@ use Rattle.bx_path.specs.Globbing.{strip_dir}
 use Rattle.bx_path.proofs.LastAtoms.{split_first, split_whole}
 use Rattle.own_writes.specs.Below.{first_atom, is_below, next_atom}
 use Rattle.own_writes.specs.Writes.{has_below, own_names}
+use Rattle.bx_tree.specs.Lent.{texts_now}
 
 none_before : (text : List ℕ) (i : ℕ) → ((k : ℕ) → k < i → get_or text k 0 ≡ 47 → ⊥) → AllByRecursion (λ b. b ≢ 47) (take i text)
 none_before [] zero h = tt

@@ -6,11 +6,11 @@ ghost use Rattle.std.specs.List.{list_any};
 ghost use Rattle.std.specs.Option.{option_copied};
 ghost use Rattle.bx_tree.specs.Paths.{Atoms, path_cmp};
 ghost use Rattle.bx_tree.specs.Trees.{NoneNested, file_at, paths_of};
-ghost use Rattle.observed.specs.Texts.{texts_now};
 ghost use Rattle.pip_types.specs.Made.{RisingFiles, made_files};
 ghost use Rattle.own_writes.specs.Below.{is_below as lies_below};
 ghost use Rattle.own_writes.specs.Writes.{clashes as some_clash, has_below as some_below, own_names};
 ghost use Rattle.own_writes.specs.Writes.{AreDirectories, own_answer, put_file, with_file as and_file};
+ghost use Rattle.bx_tree.specs.Lent.{texts_now};
 
 use crate::below::{bounds_below, next_atom};
 use crate::directories::{add_directories, directories};

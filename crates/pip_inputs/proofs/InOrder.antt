@@ -11,8 +11,9 @@ use Rattle.bx_tree.specs.Paths.{Atoms, path_cmp, same_path}
 use Rattle.bx_tree.specs.Orders.{path_cmp_total, path_cmp_matches}
 use Rattle.bx_tree.specs.declared.file_input.FileInput.{FileInput}
 use Rattle.observed.proofs.OneSet.{contains_has, has_contained, unique}
-use Rattle.pip_types.specs.Inputs.{RiseByPath, input_path}
+use Rattle.pip_types.specs.Inputs.{RiseByPath}
 use Rattle.pip_types.specs.Sets.{IsSetOf}
+use Rattle.bx_tree.specs.FileInputs.{input_path}
 
 pub never_both : {K : Type 0} {R : K → K → Ordering} → IsTotalOrder R → (a b : K) → R a b ≡ Less → R b a ≡ Less → ⊥
 never_both {R = R} order a b e f = turned (R a b) (R b a) (order.antisymm a b) e f

@@ -7,11 +7,12 @@ use Rattle.bx_tree.specs.Paths.{path_cmp, same_path}
 use Rattle.bx_tree.specs.Trees.{Files, paths_of}
 use Rattle.bx_tree.specs.declared.file_input.FileInput.{FileInput}
 use Rattle.own_writes.proofs.SameFiles.{distinct_paths}
-use Rattle.pip_types.specs.Inputs.{RiseByPath, input_path}
+use Rattle.pip_types.specs.Inputs.{RiseByPath}
 use Rattle.pip_types.specs.Made.{RisingFiles, made_files}
 use Rattle.pip_types.specs.declared.made.MadeFile.{MadeFile}
 use Rattle.pip_inputs.specs.Contents.{input_file}
 use Rattle.pip_inputs.specs.Results.{ByPip}
+use Rattle.bx_tree.specs.FileInputs.{input_path}
 
 -- one file more
 pub one_more : (tree : Files) (made : ByPip) (files : List FileInput) (n : ℕ) (file : FileInput) (items new : List MadeFile) (f : MadeFile)

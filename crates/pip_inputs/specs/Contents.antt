@@ -5,8 +5,8 @@ use Rattle.bx_tree.specs.Paths.{Atoms}
 use Rattle.bx_tree.specs.Trees.{Files, file_at}
 use Rattle.bx_tree.specs.declared.file_input.FileInput.{FileInput}
 use Rattle.bx_tree.specs.declared.file_input.FileInput.TheVariants.{Source, Made}
-use Rattle.pip_types.specs.Inputs.{input_path}
 use Rattle.pip_inputs.specs.Results.{ByPip, files_by}
+use Rattle.bx_tree.specs.FileInputs.{input_path}
 
 -- the bytes of the file at a path, none where there is no such file
 abbrev pub bytes_at : Files → Atoms → List ℕ

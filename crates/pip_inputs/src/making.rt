@@ -2,12 +2,12 @@
 ghost use Rattle.std.specs.Prelude.{◌≡◌, ◌∷◌, [], IfOk, IsSome, IsSomeAnd, map, slice_get};
 ghost use Rattle.std.specs.Option.{option_copied, option_map_or};
 ghost use Rattle.bx_tree.specs.Trees.{file_at};
-ghost use Rattle.pip_types.specs.Inputs.{input_path};
 ghost use Rattle.pip_types.specs.Made.{made_files};
 ghost use Rattle.pip_types.specs.declared.pip.ProcessDesc.{ProcessDesc as AnyProcess};
 ghost use Rattle.pip_inputs.specs.Results.{files_by};
 ghost use Rattle.pip_inputs.specs.Contents.{bytes_at, input_bytes, input_file as file_of_input};
 ghost use Rattle.pip_inputs.specs.Plain.{desc_of, kind_process, plain_at, plain_of, process_in};
+ghost use Rattle.bx_tree.specs.FileInputs.{input_path};
 
 use crate::Memory;
 use crate::inputs::Inputs;

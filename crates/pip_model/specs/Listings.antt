@@ -4,13 +4,14 @@ use Rattle.std.specs.Prelude.{length, nat_lt, slice_get}
 use Rattle.std.specs.List.{list_any}
 use Rattle.bx_tree.specs.Paths.{path_text}
 use Rattle.bx_tree.specs.declared.file_input.FileInput.{FileInput}
-use Rattle.pip_types.specs.Inputs.{input_path}
 use Rattle.pip_types.specs.declared.dir_inputs.DirInput.{DirInput}
 use Rattle.pip_types.specs.declared.pip.Pip.{Pip}
 use Rattle.pip_types.specs.declared.pip.PipKind.{PipKind}
 use Rattle.pip_types.specs.declared.pip.PipKind.TheVariants.{Process, Copy, Write, Seal}
 use Rattle.pip_model.specs.declared.listings.TheConstants.{FEW_DIRS}
 use Rattle.pip_model.specs.Outputs.{Table, found_in}
+use Rattle.pip_types.specs.Kinds.{taken_dirs}
+use Rattle.bx_tree.specs.FileInputs.{input_path}
 
 -- the files that a pip lists, none but of a seal
 abbrev pub listed_files : PipKind → List FileInput
@@ -18,13 +19,6 @@ listed_files (Process d) = []
 listed_files (Copy d) = []
 listed_files (Write d) = []
 listed_files (Seal d) = d.files
-
--- the directories that a pip takes, none but of a process
-abbrev pub taken_dirs : PipKind → List DirInput
-taken_dirs (Process d) = d.dirs
-taken_dirs (Copy d) = []
-taken_dirs (Write d) = []
-taken_dirs (Seal d) = []
 
 -- whether a pip takes more than a few directories
 abbrev pub is_wide : PipKind → Bool

@@ -13,13 +13,11 @@ use Rattle.pip_types.specs.declared.outputs.OutDir.{OutDir}
 use Rattle.pip_types.specs.declared.pip.Pip.{Pip}
 use Rattle.pip_types.specs.declared.pip.PipKind.{PipKind}
 use Rattle.pip_types.specs.declared.pip.PipKind.TheVariants.{Process, Copy, Write, Seal}
-
-abbrev pub dir_paths : List OutDir → List Atoms
-dir_paths = map (λ (dir : OutDir). dir.path)
+use Rattle.pip_types.specs.Outputs.{outdir_paths}
 
 -- the paths of a pip's outputs: of its declared output files, its console file and its output directories
 abbrev pub output_paths : PipKind → List Atoms
-output_paths (Process d) = d.outs ++ option_to_list d.console ++ dir_paths d.outdirs
+output_paths (Process d) = d.outs ++ option_to_list d.console ++ outdir_paths d.outdirs
 output_paths (Copy d) = d.to ∷ []
 output_paths (Write d) = d.to ∷ []
 output_paths (Seal d) = []

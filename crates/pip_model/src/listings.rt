@@ -4,7 +4,7 @@ ghost use Rattle.std.specs.Prelude.{◌≡◌, ◌++◌, ◌∷◌, [], ◌≤�
 ghost use Rattle.pip_model.specs.Listings.{HasListingsOf, HasNear, KeepsFound, ListsNear, has_wide as any_wide};
 ghost use Rattle.pip_model.specs.Listings.{is_wide as kind_wide, listed_files};
 ghost use Rattle.pip_model.specs.Outputs.{found_in};
-ghost use Rattle.pip_types.specs.Inputs.{input_path};
+ghost use Rattle.bx_tree.specs.FileInputs.{input_path};
 
 use crate::outputs::ByText;
 use bx_tree::{FileInput, Path};

@@ -5,8 +5,9 @@ ghost use Rattle.std.specs.BTreeMap.{IsEmpty};
 ghost use Rattle.std.specs.Option.{option_to_list};
 ghost use Rattle.std.specs.Str.{bytes_eq};
 ghost use Rattle.pip_model.specs.Listings.{KeepsFound};
-ghost use Rattle.pip_model.specs.Outputs.{HasOutputsOf, dir_paths, found_in, number_at};
+ghost use Rattle.pip_model.specs.Outputs.{HasOutputsOf, found_in, number_at};
 ghost use Rattle.pip_model.specs.Outputs.{numbers_at, output_paths};
+ghost use Rattle.pip_types.specs.Outputs.{outdir_paths};
 
 use bx_tree::Path;
 use pip_types::{OutDir, Pip, PipKind};
@@ -84,7 +85,7 @@ impl ByText {
     // Adds a pip at each of its output directories.
     fn add_dirs(&mut self, alloc: Global, number: u32, dirs: &[OutDir]) -> Result<(), AllocError>
         ensures { OnOk result ((text : List ℕ) → found_in self.new.table text
-            ≡ found_in self.old.table text ++ numbers_at number text (dir_paths dirs.now)) }
+            ≡ found_in self.old.table text ++ numbers_at number text (outdir_paths dirs.now)) }
     {
         'dirs: for dir in dirs {
             self.add(alloc, number, &dir.path)?;

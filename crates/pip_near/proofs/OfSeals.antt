@@ -12,7 +12,6 @@ use Rattle.bx_tree.specs.Paths.{Atoms, IsBelow, IsPath, path_text}
 use Rattle.bx_tree.specs.declared.file_input.FileInput.{FileInput}
 use Rattle.bx_tree.proofs.PathTexts.{prefix_from_below}
 use Rattle.pip_types.specs.Dirs.{dir_cmp, dir_pip}
-use Rattle.pip_types.specs.Inputs.{input_path}
 use Rattle.pip_types.specs.Makers.{HasOutDir, IsDirAmong, IsSealOf}
 use Rattle.pip_types.specs.Sets.{IsSetOf}
 use Rattle.pip_types.specs.declared.dir_inputs.DirInput.{DirInput}
@@ -23,6 +22,7 @@ use Rattle.pip_types.specs.declared.pip.PipKind.{PipKind}
 use Rattle.pip_types.specs.declared.pip.PipKind.TheVariants.{Process, Copy, Write, Seal}
 use Rattle.pip_model.specs.Listings.{IsNear, ListsNear, listed_files}
 use Rattle.pip_near.specs.Near.{AddsDir, AreNear, AreOfSeals, ListsAt, dir_in, kind_dir}
+use Rattle.bx_tree.specs.FileInputs.{input_path}
 
 -- ## The root
 

@@ -4,7 +4,6 @@ use Rattle.std.specs.Prelude.{Option, Some, None, length, slice_get}
 use Rattle.bx_tree.specs.Paths.{Atoms, IsBelow}
 use Rattle.bx_tree.specs.declared.file_input.FileInput.{FileInput}
 use Rattle.pip_types.specs.Dirs.{RiseByForm, dir_pip}
-use Rattle.pip_types.specs.Inputs.{input_path}
 use Rattle.pip_types.specs.Makers.{IsDirAmong}
 use Rattle.pip_types.specs.declared.dir_inputs.DirInput.{DirInput}
 use Rattle.pip_types.specs.declared.dir_inputs.DirInput.TheVariants.{Sealed}
@@ -13,6 +12,7 @@ use Rattle.pip_types.specs.declared.pip.PipKind.{PipKind}
 use Rattle.pip_types.specs.declared.pip.PipKind.TheVariants.{Process, Copy, Write, Seal}
 use Rattle.pip_model.specs.Listings.{has_wide, listed_files}
 use Rattle.pip_model.specs.declared.listings.TheConstants.{FEW_DIRS}
+use Rattle.bx_tree.specs.FileInputs.{input_path}
 
 -- the directory of pip j, if it is a seal
 abbrev pub kind_dir : ℕ → PipKind → Option DirInput

@@ -3,22 +3,15 @@ use Rattle.std.specs.Prelude.{◌≡◌, ◌↔◌, ◌⊎◌, Bool, true, false
 use Rattle.std.specs.Cmp.Lexicographic.{slice_cmp}
 use Rattle.std.specs.Ordering.{is_lt, nat_cmp}
 use Rattle.bx_tree.specs.Paths.{path_text}
-use Rattle.pip_types.specs.Dirs.{RiseByForm, dir_path}
+use Rattle.pip_types.specs.Dirs.{RiseByForm, dir_path, is_source_form}
 use Rattle.pip_types.specs.declared.dir_inputs.DirInput.{DirInput}
 use Rattle.pip_types.specs.declared.dir_inputs.DirInput.TheVariants.{Sealed, Opaque}
 use Rattle.pip_types.specs.declared.dir_inputs.SealForm.{SealForm}
 use Rattle.pip_types.specs.declared.dir_inputs.SealForm.TheVariants.{Full, Partial, SourceTop, SourceAll}
 
--- whether a seal of this form does not list its files
-abbrev pub is_unlisted : SealForm → Bool
-is_unlisted Full = false
-is_unlisted Partial = false
-is_unlisted SourceTop = true
-is_unlisted SourceAll = true
-
 -- whether a directory does not list its files
 abbrev pub is_other : DirInput → Bool
-is_other (Sealed pip form root) = is_unlisted form
+is_other (Sealed pip form root) = is_source_form form
 is_other (Opaque pip path) = true
 
 -- just those of the directories that do not list their files, in order

@@ -2,10 +2,10 @@
 ghost use Rattle.std.specs.Prelude.{◌≡◌, ◌≤◌, ◌++◌, true, false, Contains, IfOk, OnOk, filter, length};
 ghost use Rattle.std.specs.Prelude.{◌∷◌, []};
 ghost use Rattle.std.specs.List.Sorted.{IsPartitionPoint};
-ghost use Rattle.pip_types.specs.Dirs.{RiseByForm, dir_path};
+ghost use Rattle.pip_types.specs.Dirs.{RiseByForm, dir_path, is_source_form as unlisted};
 ghost use Rattle.pip_types.specs.declared.dir_inputs.DirInput.{DirInput as AnyDir};
 ghost use Rattle.pip_near.specs.Ranges.{AddsAll, AreOthers, IsBetween, comes_before as before_text};
-ghost use Rattle.pip_near.specs.Ranges.{is_other as other, is_unlisted as unlisted};
+ghost use Rattle.pip_near.specs.Ranges.{is_other as other};
 
 use crate::Memory;
 use bx_tree::Path;

@@ -15,7 +15,6 @@ use Rattle.bx_tree.specs.Paths.{Atoms, path_cmp}
 use Rattle.bx_tree.specs.declared.file_input.FileInput.{FileInput}
 use Rattle.bx_tree.specs.declared.file_input.FileInput.TheVariants.{Source, Made}
 use Rattle.pip_types.specs.Dirs.{dir_path, form_rank}
-use Rattle.pip_types.specs.Inputs.{input_path}
 use Rattle.pip_types.specs.Orders.{outdir_cmp_total}
 use Rattle.pip_types.specs.Outputs.{outdir_cmp, sharing_rank}
 use Rattle.pip_types.specs.declared.args.EnvPair.{EnvPair}
@@ -27,6 +26,7 @@ use Rattle.pip_types.specs.declared.pip.ProcessDesc.{ProcessDesc}
 use Rattle.pip_order.specs.Descriptions.{description, without_pip}
 use Rattle.pip_order.specs.ProcessOrder.{call_cmp, env_cmp, file_cmp, form_cmp, inputs_cmp, maker_rank}
 use Rattle.pip_order.specs.ProcessOrder.{outputs_cmp, process_cmp, text_cmp}
+use Rattle.bx_tree.specs.FileInputs.{input_path}
 
 inputs_cmp_total : IsTotalOrder inputs_cmp
 inputs_cmp_total =

@@ -8,11 +8,11 @@ use Rattle.bx_tree.specs.Paths.{path_cmp}
 use Rattle.bx_tree.specs.declared.file_input.FileInput.{FileInput}
 use Rattle.bx_tree.specs.declared.file_input.FileInput.TheVariants.{Source, Made}
 use Rattle.pip_types.specs.Dirs.{dir_path, form_rank}
-use Rattle.pip_types.specs.Inputs.{input_path}
 use Rattle.pip_types.specs.Outputs.{outdir_cmp}
 use Rattle.pip_types.specs.declared.args.EnvPair.{EnvPair}
 use Rattle.pip_types.specs.declared.dir_inputs.DirInput.{DirInput}
 use Rattle.pip_types.specs.declared.pip.ProcessDesc.{ProcessDesc}
+use Rattle.bx_tree.specs.FileInputs.{input_path}
 
 -- texts, by their bytes
 abbrev pub text_cmp : List ℕ → List ℕ → Ordering

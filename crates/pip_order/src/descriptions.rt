@@ -5,10 +5,10 @@ ghost use Rattle.std.specs.Cmp.Lexicographic.{slice_cmp};
 ghost use Rattle.std.specs.Option.{option_to_list};
 ghost use Rattle.bx_tree.specs.Paths.{path_cmp};
 ghost use Rattle.pip_types.specs.Dirs.{dir_path, form_rank};
-ghost use Rattle.pip_types.specs.Inputs.{input_path};
 ghost use Rattle.pip_order.specs.Descriptions.{description};
 ghost use Rattle.pip_order.specs.ProcessOrder.{call_cmp, env_cmp, file_cmp, form_cmp, inputs_cmp};
 ghost use Rattle.pip_order.specs.ProcessOrder.{maker_rank, outputs_cmp, process_cmp, text_cmp};
+ghost use Rattle.bx_tree.specs.FileInputs.{input_path};
 
 use bx_tree::{FileInput, Path, Text};
 use pip_types::{DirInput, EnvPair, ProcessDesc, SealForm};

@@ -14,7 +14,8 @@ use Rattle.pip_types.specs.declared.pip.PipKind.TheVariants.{Process, Copy, Writ
 use Rattle.pip_model.specs.Edges.{Produces}
 use Rattle.own_writes.proofs.BelowByAtoms.{below_decides}
 use Rattle.own_writes.specs.Below.{is_below}
-use Rattle.pip_outputs.specs.Producing.{is_console, is_unseen_in, produces_unseen}
+use Rattle.pip_outputs.specs.Producing.{is_unseen_in, produces_unseen}
+use Rattle.pip_types.specs.Outputs.{is_console}
 
 pub output_decides : (path : Atoms) (outs : List Atoms) → Decides (list_any (same_path path) outs) (Contains outs path)
 output_decides path outs = (

@@ -17,10 +17,11 @@ use Rattle.pip_types.specs.declared.outputs.OutDir.{OutDir}
 use Rattle.pip_types.specs.declared.pip.Pip.{Pip}
 use Rattle.pip_types.specs.declared.pip.PipKind.{PipKind}
 use Rattle.pip_types.specs.declared.pip.PipKind.TheVariants.{Process, Copy, Write, Seal}
-use Rattle.pip_model.specs.Outputs.{dir_paths, number_at, numbers_at, numbers_from, output_paths}
+use Rattle.pip_model.specs.Outputs.{number_at, numbers_at, numbers_from, output_paths}
 use Rattle.own_writes.proofs.BelowByAtoms.{below_decides}
 use Rattle.pip_outputs.specs.Least.{Covers, CoversAbove, IsAtMost, is_producer}
-use Rattle.pip_outputs.specs.Producing.{is_console, is_unseen_in, produces_unseen}
+use Rattle.pip_outputs.specs.Producing.{is_unseen_in, produces_unseen}
+use Rattle.pip_types.specs.Outputs.{is_console, outdir_paths}
 
 none_contained : {X : Type 0} (x : X) → Contains [] x → ⊥
 none_contained x c = let (k, l, at) = at_from_Contains [] x c in absurd (omega (arith, l))
@@ -87,14 +88,14 @@ right_true true b e = e
 right_true false b e = absurd (cc)
 
 dir_at : (dirs : List DirInput) (j : ℕ) (path : Atoms) (outs : List OutDir) → list_any (is_unseen_in dirs j path) outs ≡ true
-    → At (dir_paths outs) path
+    → At (outdir_paths outs) path
 dir_at dirs j path [] e = absurd (cc)
 dir_at dirs j path (out ∷ outs) e = elim (cases_Bool (is_unseen_in dirs j path out)) [
-  | inl t ↦ (out.path, first_contained out.path (dir_paths outs), inr ((below_decides path out.path).0 (left_true _ _ t)))
+  | inl t ↦ (out.path, first_contained out.path (outdir_paths outs), inr ((below_decides path out.path).0 (left_true _ _ t)))
   | inr f ↦
       let rest : list_any (is_unseen_in dirs j path) outs ≡ true = sym (ap (λ b. b || list_any (is_unseen_in dirs j path) outs) f) ∙ e in
       let (q, c, at) = dir_at dirs j path outs rest in
-      (q, later_contained out.path (dir_paths outs) q c, at)
+      (q, later_contained out.path (outdir_paths outs) q c, at)
 ]
 
 console_at : (console : Option Atoms) (path : Atoms) → is_console console path ≡ true → At (option_to_list console) path
@@ -116,7 +117,7 @@ output_at : (dirs : List DirInput) (j : ℕ) (path : Atoms) (kind : PipKind) →
 output_at dirs j path (Process d) e =
     let files = d.outs ++ option_to_list d.console in
     elim (or_cases (list_any (same_path path) d.outs || is_console d.console path) (list_any (is_unseen_in dirs j path) d.outdirs) e) [
-      | inl file ↦ among_left files (dir_paths d.outdirs) path
+      | inl file ↦ among_left files (outdir_paths d.outdirs) path
           (elim (or_cases (list_any (same_path path) d.outs) (is_console d.console path) file) [
             | inl out ↦ among_left d.outs (option_to_list d.console) path (
               path,
@@ -125,7 +126,7 @@ output_at dirs j path (Process d) e =
             )
             | inr said ↦ among_right d.outs (option_to_list d.console) path (console_at d.console path said)
           ])
-      | inr below ↦ among_right files (dir_paths d.outdirs) path (dir_at dirs j path d.outdirs below)
+      | inr below ↦ among_right files (outdir_paths d.outdirs) path (dir_at dirs j path d.outdirs below)
     ]
 output_at dirs j path (Copy d) e = (d.to, first_contained d.to [], inl ((same_path_decides d.to path).0 e))
 output_at dirs j path (Write d) e = (d.to, first_contained d.to [], inl ((same_path_decides d.to path).0 e))

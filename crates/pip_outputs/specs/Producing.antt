@@ -11,17 +11,12 @@ use Rattle.pip_types.specs.declared.pip.Pip.{Pip}
 use Rattle.pip_types.specs.declared.pip.PipKind.{PipKind}
 use Rattle.pip_types.specs.declared.pip.PipKind.TheVariants.{Process, Copy, Write, Seal}
 use Rattle.own_writes.specs.Below.{is_below}
-
--- the directories that a pip takes
-abbrev pub dirs_of : PipKind → List DirInput
-dirs_of (Process d) = d.dirs
-dirs_of (Copy d) = []
-dirs_of (Write d) = []
-dirs_of (Seal d) = []
+use Rattle.pip_types.specs.Kinds.{taken_dirs}
+use Rattle.pip_types.specs.Outputs.{is_console}
 
 abbrev pub dirs_at : Option Pip → List DirInput
 dirs_at None = []
-dirs_at (Some pip) = dirs_of pip.kind
+dirs_at (Some pip) = taken_dirs pip.kind
 
 -- whether this is that output directory of that pip
 abbrev pub is_dir_of : ℕ → Atoms → DirInput → Bool
@@ -35,9 +30,6 @@ takes_dir dirs pip path = list_any (is_dir_of pip path) dirs
 -- whether the path lies in an output directory of that pip that is not among those that are taken
 abbrev pub is_unseen_in : List DirInput → ℕ → Atoms → OutDir → Bool
 is_unseen_in dirs j path out = is_below path out.path && not (takes_dir dirs j out.path)
-
-abbrev pub is_console : Option Atoms → Atoms → Bool
-is_console console path = option_map_or (λ file. same_path file path) console false
 
 -- Whether pip j can produce the path by an output other than those directories: by a declared output file,
 -- by its console file, or by an output directory that is not among them.

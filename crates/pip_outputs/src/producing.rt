@@ -7,6 +7,8 @@ ghost use Rattle.pip_model.specs.Outputs.{numbers_from};
 ghost use Rattle.pip_outputs.specs.Least as least;
 ghost use Rattle.pip_outputs.specs.Least.{Covers, CoversAbove, Passes, Stays};
 ghost use Rattle.pip_outputs.specs.Producing as producing;
+ghost use Rattle.pip_types.specs.Kinds.{taken_dirs};
+ghost use Rattle.pip_types.specs.Outputs.{is_console};
 
 use bx_tree::Path;
 use pip_model::{DirInput, OutDir, Outputs, Pip, PipKind, Plan};
@@ -52,7 +54,7 @@ fn is_output(outs: &Outputs, path: &Path) -> bool
 }
 
 fn is_console(console: &Option<Path>, path: &Path) -> bool
-    ensures { result ≡ producing.is_console console.now path.now }
+    ensures { result ≡ is_console console.now path.now }
 {
     match console {
         Some(console) => *console == *path,
@@ -86,7 +88,7 @@ fn is_producer(dirs: &[DirInput], pip: u32, path: &Path, number: u32, kind: &Pip
 
 // The directories that a pip of this kind takes.
 fn dirs_of(kind: &PipKind) -> &[DirInput]
-    ensures { result.now ≡ producing.dirs_of kind.entry.now }
+    ensures { result.now ≡ taken_dirs kind.entry.now }
 {
     match kind {
         PipKind::Process(process) => process.dirs.dirs(),

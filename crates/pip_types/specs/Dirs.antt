@@ -1,5 +1,5 @@
 -- Directories that processes take, and the order of lists of them.
-use Rattle.std.specs.Prelude.{◌==◌, ℕ, Bool, List}
+use Rattle.std.specs.Prelude.{Bool, List, false, true, ℕ, ◌==◌}
 use Rattle.std.specs.List.Sorted.{IsStrictlySortedBy}
 use Rattle.std.specs.Ordering.{nat_cmp, on, then_cmp, eq_of_both}
 use Rattle.std.specs.declared.cmp.Ordering.{Ordering}
@@ -38,3 +38,10 @@ same_dir = eq_of_both (on dir_path same_path) (eq_of_both (on form_rank ◌==◌
 
 abbrev pub RiseByForm : List DirInput → Type 0
 RiseByForm = IsStrictlySortedBy dir_cmp
+
+-- whether the members of a seal of this form are source files
+abbrev pub is_source_form : SealForm → Bool
+is_source_form Full = false
+is_source_form Partial = false
+is_source_form SourceTop = true
+is_source_form SourceAll = true

@@ -4,10 +4,7 @@ use Rattle.std.specs.List.Sorted.{IsStrictlySortedBy}
 use Rattle.bx_tree.specs.Paths.{Atoms, path_cmp}
 use Rattle.bx_tree.specs.declared.file_input.FileInput.{FileInput}
 use Rattle.bx_tree.specs.declared.file_input.FileInput.TheVariants.{Source, Made}
-
-abbrev pub input_path : FileInput → Atoms
-input_path (Source path) = path
-input_path (Made path maker) = path
+use Rattle.bx_tree.specs.FileInputs.{input_path}
 
 -- the files are sorted by path, and no two have one path
 abbrev pub RiseByPath : List FileInput → Type 0

@@ -7,3 +7,4 @@ pub mod Orders
 pub mod Makers
 pub mod Made
 pub mod SourceFiles
+pub mod Kinds

@@ -3,7 +3,8 @@ ghost use Rattle.std.specs.Prelude.{◌≡◌, map};
 ghost use Rattle.std.specs.List.{IsDistinct};
 ghost use Rattle.std.specs.List.Sorted.{IsPermutation};
 ghost use Rattle.bx_tree.specs.Paths.{same_path};
-ghost use Rattle.pip_types.specs.Inputs.{RiseByPath, input_path};
+ghost use Rattle.pip_types.specs.Inputs.{RiseByPath};
+ghost use Rattle.bx_tree.specs.FileInputs.{input_path};
 
 use bx_tree::{FileInput, Path};
 use std::marker::Model;

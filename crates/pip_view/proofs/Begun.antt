@@ -20,11 +20,12 @@ use Rattle.bx_tree.specs.declared.file_input.FileInput.{FileInput}
 use Rattle.own_writes.specs.Below.{is_below, next_atom}
 use Rattle.own_writes.proofs.BelowByAtoms.{below_decides}
 use Rattle.own_writes.proofs.NextAtoms.{none_next}
-use Rattle.pip_types.specs.Inputs.{RiseByPath, input_path}
-use Rattle.pip_view.specs.Ranges.{comes_before, prefix_below}
+use Rattle.pip_types.specs.Inputs.{RiseByPath}
 use Rattle.pip_view.specs.Taken.{any_below, begins, first_at, taken_names, while_begins}
 use Rattle.pip_view.proofs.TakenFiles.{names_after}
 use Rattle.pip_view.proofs.Together.{before_not_below, between, earlier_before, not_greater, starts_below}
+use Rattle.bx_tree.specs.FileInputs.{input_path}
+use Rattle.bx_tree.specs.Ranges.{comes_before, prefix_below}
 
 begins_with_it : (text prefix more : List ℕ) → text ≡ prefix ++ more → starts_with nat_eq text prefix ≡ true
 begins_with_it text prefix more e = (starts_is Decides-eqb text prefix (starts_with nat_eq text prefix) refl).1 more e

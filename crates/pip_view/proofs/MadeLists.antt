@@ -8,14 +8,15 @@ use Rattle.bx_tree.specs.Trees.{paths_of}
 use Rattle.bx_tree.specs.declared.file_input.FileInput.{FileInput}
 use Rattle.own_writes.specs.Below.{is_below, next_atom}
 use Rattle.own_writes.specs.Writes.{has_below, own_names}
-use Rattle.pip_types.specs.Inputs.{RiseByPath, input_path}
+use Rattle.pip_types.specs.Inputs.{RiseByPath}
 use Rattle.pip_types.specs.Made.{RisingFiles, made_files}
 use Rattle.pip_types.specs.declared.made.MadeFile.{MadeFile}
 use Rattle.pip_view.specs.Gathered.{all_taken, as_taken, below_of, names_within}
-use Rattle.pip_view.specs.Ranges.{comes_before, prefix_below}
 use Rattle.pip_view.specs.Taken.{any_below, begins, taken_names, while_begins}
 use Rattle.pip_view.proofs.Begun.{begun_have_all, begun_next, partitioned_files}
 use Rattle.pip_view.proofs.TakenFiles.{put_after}
+use Rattle.bx_tree.specs.FileInputs.{input_path}
+use Rattle.bx_tree.specs.Ranges.{comes_before, prefix_below}
 
 abbrev below_in : Atoms → List FileInput → List FileInput
 below_in dir files = filter (λ (f : FileInput). is_below (input_path f) dir) files

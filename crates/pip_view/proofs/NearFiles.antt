@@ -12,7 +12,6 @@ use Rattle.own_writes.specs.Below.{is_below, next_atom}
 use Rattle.own_writes.proofs.BelowByAtoms.{below_decides}
 use Rattle.own_writes.proofs.NextAtoms.{none_next}
 use Rattle.pip_types.specs.Dirs.{RiseByForm, dir_pip}
-use Rattle.pip_types.specs.Inputs.{input_path}
 use Rattle.pip_types.specs.declared.dir_inputs.DirInput.{DirInput}
 use Rattle.pip_types.specs.declared.dir_inputs.DirInput.TheVariants.{Sealed, Opaque}
 use Rattle.pip_types.specs.declared.dir_inputs.SealForm.TheVariants.{Full, Partial, SourceTop, SourceAll}
@@ -25,6 +24,7 @@ use Rattle.pip_near.proofs.Rising.{at_head, in_decides, in_rest, is_in, none_the
 use Rattle.pip_view.specs.InputFiles.{listed_by, listed_in}
 use Rattle.pip_view.specs.Taken.{any_below, dir_files, dirs_files, first_at, taken_names}
 use Rattle.pip_view.proofs.TakenFiles.{below_after, first_after, names_after, or_first}
+use Rattle.bx_tree.specs.FileInputs.{input_path}
 
 -- ## Files at a path or below it
 

@@ -14,7 +14,7 @@ use Rattle.own_writes.proofs.BelowByAtoms.{below_decides}
 use Rattle.own_writes.proofs.NextAtoms.{none_next}
 use Rattle.pip_inputs.specs.Plain.{kind_process, process_in}
 use Rattle.pip_inputs.specs.Results.{ByPip}
-use Rattle.pip_outputs.specs.Producing.{dirs_at, dirs_of}
+use Rattle.pip_outputs.specs.Producing.{dirs_at}
 use Rattle.pip_types.specs.declared.dir_inputs.DirInput.{DirInput}
 use Rattle.pip_types.specs.declared.pip.Pip.{Pip}
 use Rattle.pip_types.specs.declared.pip.PipKind.{PipKind}
@@ -23,6 +23,7 @@ use Rattle.pip_view.specs.Gathered.{below_of, deeper, dirs_now, members_of, opaq
 use Rattle.pip_view.specs.InputFiles.{by_pip, is_opaque}
 use Rattle.pip_view.specs.Seen.{KeepsView, ViewData, opaque_by, opaque_in}
 use Rattle.pip_view.proofs.SourceMembers.{at_both, below_both, names_both, or_else}
+use Rattle.pip_types.specs.Kinds.{taken_dirs}
 
 -- ## Two directories
 
@@ -234,7 +235,7 @@ no_member_names_left made path dirs i names whole l so_far =
 
 -- ## What a view keeps
 
-of_kind : (v : ViewData) (kind : PipKind) → members_of v.inputs (by_pip (filter is_opaque (dirs_of kind))) ≡ opaque_by v (kind_process kind)
+of_kind : (v : ViewData) (kind : PipKind) → members_of v.inputs (by_pip (filter is_opaque (taken_dirs kind))) ≡ opaque_by v (kind_process kind)
 of_kind v (Process d) = refl
 of_kind v (Copy d) = refl
 of_kind v (Write d) = refl

@@ -15,7 +15,7 @@ use Rattle.observed.specs.declared.ask.AskKind.{AskKind}
 use Rattle.observed.specs.declared.ask.AskKind.TheVariants as kinds
 use Rattle.own_writes.specs.Below.{is_below, next_atom}
 use Rattle.own_writes.specs.Writes.{has_below, own_names}
-use Rattle.pip_outputs.specs.Producing.{dirs_at, dirs_of, least_unseen}
+use Rattle.pip_outputs.specs.Producing.{dirs_at, least_unseen}
 use Rattle.pip_types.specs.declared.pip.Pip.{Pip}
 use Rattle.pip_types.specs.declared.pip.PipKind.{PipKind}
 use Rattle.pip_types.specs.declared.pip.ProcessDesc.{ProcessDesc}
@@ -29,9 +29,10 @@ use Rattle.pip_view.proofs.ByPip.{named_split}
 use Rattle.pip_view.proofs.NameSets.{IsNameSet, added_after, one_addition, set_has, set_kept}
 use Rattle.pip_view.proofs.Together.{below_sources, names_sources}
 use Rattle.pip_view.proofs.SourceMembers.{at_both, below_both, has_both, names_both, or_else, sealed_at, sealed_below, sealed_names, sealed_sources}
+use Rattle.pip_types.specs.Kinds.{taken_dirs}
 
 -- the input files are the named ones, and the members of seals of source files
-all_inputs : (v : ViewData) (kind : PipKind) → input_files v.pips v.tree v.inputs kind ≡ named_by v (kind_process kind) ++ sealed_sources v.pips v.tree v.inputs (dirs_of kind)
+all_inputs : (v : ViewData) (kind : PipKind) → input_files v.pips v.tree v.inputs kind ≡ named_by v (kind_process kind) ++ sealed_sources v.pips v.tree v.inputs (taken_dirs kind)
 all_inputs v (Process d) = refl
 all_inputs v (Copy d) = refl
 all_inputs v (Write d) = refl
@@ -112,9 +113,9 @@ module _ (v : ViewData) (files : Files) (pip : Pip) (h : Keeps v files pip) (pat
   inputs = input_files v.pips v.tree v.inputs pip.kind
 
   abbrev sealed : Files
-  sealed = sealed_sources v.pips v.tree v.inputs (dirs_of pip.kind)
+  sealed = sealed_sources v.pips v.tree v.inputs (taken_dirs pip.kind)
 
-  dirs : dirs_of pip.kind ≡ dirs_at (slice_get v.pips v.pip)
+  dirs : taken_dirs pip.kind ≡ dirs_at (slice_get v.pips v.pip)
   dirs = ap dirs_at (sym h.is)
 
   at_path : file_at inputs path ≡ or_else (file_at files path) (cond (is_sealed_at v path) (file_at v.tree path) None)
@@ -122,7 +123,7 @@ module _ (v : ViewData) (files : Files) (pip : Pip) (h : Keeps v files pip) (pat
       ap (λ (fs : Files). file_at fs path) (all_inputs v pip.kind)
       ∙ at_both (named_by v (kind_process pip.kind)) sealed path
       ∙ ap (λ o. or_else o (file_at sealed path)) (sym (h.answer.contents path))
-      ∙ ap (or_else (file_at files path)) (sealed_at v.pips v.tree v.inputs (dirs_of pip.kind) path
+      ∙ ap (or_else (file_at files path)) (sealed_at v.pips v.tree v.inputs (taken_dirs pip.kind) path
       ∙ ap (λ ds. cond (list_any (is_source_of path) ds) (file_at v.tree path) None) dirs)
 
   below_path : (has_below v.tree path || has_below inputs path || is_root path) ≡ (has_below files path || is_root path || has_below v.tree path)
@@ -132,17 +133,17 @@ module _ (v : ViewData) (files : Files) (pip : Pip) (h : Keeps v files pip) (pat
       ∙ below_both (named_by v (kind_process pip.kind)) sealed path
       ∙ ap (λ t. t || has_below sealed path) (sym (h.answer.directories path)))
       ∙ lies_somewhere (has_below v.tree path) (has_below files path) (has_below sealed path) (is_root path)
-      (sealed_below v.pips v.tree v.inputs (dirs_of pip.kind) path)
+      (sealed_below v.pips v.tree v.inputs (taken_dirs pip.kind) path)
 
-  unseen_path : is_some (least_unseen (dirs_of pip.kind) v.pip path 0 v.pips) ≡ is_unseen_at v path
+  unseen_path : is_some (least_unseen (taken_dirs pip.kind) v.pip path 0 v.pips) ≡ is_unseen_at v path
   unseen_path = ap (λ ds. is_some (least_unseen ds v.pip path 0 v.pips)) dirs
 
   look : (kind : AskKind)
-      → looked kind (file_at inputs path) (is_some (file_at v.tree path)) (is_some (least_unseen (dirs_of pip.kind) v.pip path 0 v.pips))
+      → looked kind (file_at inputs path) (is_some (file_at v.tree path)) (is_some (least_unseen (taken_dirs pip.kind) v.pip path 0 v.pips))
       (has_below v.tree path || has_below inputs path || is_root path)
       ≡ by_file v kind path (has_below files path) (file_at files path)
   look kind =
-      ap (λ o. looked kind o (is_some (file_at v.tree path)) (is_some (least_unseen (dirs_of pip.kind) v.pip path 0 v.pips))
+      ap (λ o. looked kind o (is_some (file_at v.tree path)) (is_some (least_unseen (taken_dirs pip.kind) v.pip path 0 v.pips))
       (has_below v.tree path || has_below inputs path || is_root path)) at_path
       ∙ ap (λ u. looked kind (or_else (file_at files path) (cond (is_sealed_at v path) (file_at v.tree path) None)) (is_some (file_at v.tree path)) u
       (has_below v.tree path || has_below inputs path || is_root path)) unseen_path
@@ -160,7 +161,7 @@ module _ (v : ViewData) (files : Files) (pip : Pip) (h : Keeps v files pip) (pat
   into n m = elim (has_both (own_names (named_by v (kind_process pip.kind)) path) (own_names sealed path) n
       (subst (λ (ns : List (List ℕ)). Has ns n) (ap (λ (fs : Files). own_names fs path) (all_inputs v pip.kind) ∙ names_both (named_by v (kind_process pip.kind)) sealed path) m)) [
         | inl a ↦ inr (has_contained (own_names files path) n ((h.answer.names path n).1 (contains_has (own_names (named_by v (kind_process pip.kind)) path) n a)))
-        | inr b ↦ inl (set_has (own_names v.tree path) n (sealed_names v.pips v.tree v.inputs (dirs_of pip.kind) path n b))
+        | inr b ↦ inl (set_has (own_names v.tree path) n (sealed_names v.pips v.tree v.inputs (taken_dirs pip.kind) path n b))
       ]
 
   back : (n : List ℕ) → Has (own_names files path) n → Has (add_names [] (own_names v.tree path)) n ⊎ Has (own_names inputs path) n

@@ -4,7 +4,7 @@ use Rattle.std.specs.Borrow.{Bor}
 use Rattle.std.specs.List.Sorted.{IsStrictlySortedBy}
 use Rattle.std.specs.Option.{option_copied}
 use Rattle.std.specs.Prelude.{IfSome, IsSomeAnd, slice_get}
-use Rattle.pip_outputs.specs.Producing.{dirs_at, dirs_of}
+use Rattle.pip_outputs.specs.Producing.{dirs_at}
 use Rattle.pip_types.specs.Dirs.{RiseByForm}
 use Rattle.std.specs.List.{All}
 use Rattle.std.proofs.lemmas.Bool.{lt-ltb}
@@ -21,6 +21,7 @@ use Rattle.pip_inputs.specs.Plain.{kind_process, process_in}
 use Rattle.pip_model.specs.Listings.{is_wide}
 use Rattle.pip_model.specs.declared.listings.TheConstants.{FEW_DIRS}
 use Rattle.pip_near.specs.Near.{AreTaken}
+use Rattle.pip_types.specs.Kinds.{taken_dirs}
 
 kind_is : (kind : PipKind) (d : ProcessDesc) → kind_process kind ≡ Some d → kind ≡ Process d
 kind_is (Process e) d h = let same : e ≡ d = cc in ap Process same
@@ -77,7 +78,7 @@ abbrev pub process_dirs : Option ProcessDesc → List DirInput
 process_dirs None = []
 process_dirs (Some d) = d.dirs
 
-kind_dirs : (kind : PipKind) → process_dirs (kind_process kind) ≡ dirs_of kind
+kind_dirs : (kind : PipKind) → process_dirs (kind_process kind) ≡ taken_dirs kind
 kind_dirs (Process d) = refl
 kind_dirs (Copy d) = refl
 kind_dirs (Write d) = refl

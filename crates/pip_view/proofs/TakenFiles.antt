@@ -11,11 +11,11 @@ use Rattle.own_writes.specs.Below.{is_below, next_atom}
 use Rattle.own_writes.specs.Writes.{has_below, own_names}
 use Rattle.pip_inputs.specs.Contents.{bytes_at, input_bytes}
 use Rattle.pip_inputs.specs.Results.{ByPip}
-use Rattle.pip_types.specs.Inputs.{input_path}
 use Rattle.pip_types.specs.declared.dir_inputs.DirInput.{DirInput}
 use Rattle.pip_types.specs.declared.pip.Pip.{Pip}
 use Rattle.pip_types.specs.declared.pip.ProcessDesc.{ProcessDesc}
 use Rattle.pip_view.specs.Taken.{any_below, dir_files, dirs_files, executable, first_at, taken_bytes, taken_names}
+use Rattle.bx_tree.specs.FileInputs.{input_path}
 
 -- ## Files with their bytes
 

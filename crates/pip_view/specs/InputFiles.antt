@@ -8,7 +8,7 @@ use Rattle.bx_tree.specs.Paths.{Atoms}
 use Rattle.bx_tree.specs.Trees.{Files}
 use Rattle.bx_tree.specs.declared.file_input.FileInput.{FileInput}
 use Rattle.bx_path.specs.Globbing.{strip_dir}
-use Rattle.pip_types.specs.Dirs.{dir_pip}
+use Rattle.pip_types.specs.Dirs.{dir_pip, is_source_form}
 use Rattle.pip_types.specs.declared.dir_inputs.SealForm.{SealForm}
 use Rattle.pip_types.specs.declared.dir_inputs.SealForm.TheVariants.{Full, Partial, SourceTop, SourceAll}
 use Rattle.pip_types.specs.declared.dir_inputs.DirInput.{DirInput}
@@ -62,13 +62,6 @@ dir_members pips tree made (Opaque pip path) = filter (λ f. is_below f.0 path) 
 abbrev pub is_opaque : DirInput → Bool
 is_opaque (Sealed pip form root) = false
 is_opaque (Opaque pip path) = true
-
--- whether the members of a seal of this form are source files
-abbrev pub is_source_form : SealForm → Bool
-is_source_form Full = false
-is_source_form Partial = false
-is_source_form SourceTop = true
-is_source_form SourceAll = true
 
 abbrev pub is_source : DirInput → Bool
 is_source (Sealed pip form root) = is_source_form form

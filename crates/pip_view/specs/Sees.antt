@@ -14,7 +14,8 @@ use Rattle.observed.specs.declared.access.Answer.TheVariants as answers
 use Rattle.own_writes.specs.Writes.{has_below, own_names}
 use Rattle.tool_values.specs.Listings.{add_names, names_text}
 use Rattle.pip_view.specs.InputFiles.{input_files}
-use Rattle.pip_outputs.specs.Producing.{dirs_of, least_unseen}
+use Rattle.pip_outputs.specs.Producing.{least_unseen}
+use Rattle.pip_types.specs.Kinds.{taken_dirs}
 
 -- whether the path is the root, which has no atoms
 abbrev pub is_root : Atoms → Bool
@@ -58,7 +59,7 @@ answer_at tree inputs unseen kinds.Probe path =
 
 abbrev pub kind_sees : List Pip → Files → ByPip → ℕ → PipKind → Ask → Answer
 kind_sees pips tree made i kind ask =
-    answer_at tree (input_files pips tree made kind) (is_some (least_unseen (dirs_of kind) i ask.path 0 pips))
+    answer_at tree (input_files pips tree made kind) (is_some (least_unseen (taken_dirs kind) i ask.path 0 pips))
     ask.kind ask.path
 
 abbrev pub pip_sees : List Pip → Files → ByPip → ℕ → Option Pip → Ask → Answer

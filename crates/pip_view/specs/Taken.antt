@@ -6,7 +6,6 @@ use Rattle.bx_tree.specs.Paths.{Atoms, path_text, same_path}
 use Rattle.bx_tree.specs.declared.file_input.FileInput.{FileInput}
 use Rattle.bx_tree.specs.declared.file_input.FileInput.TheVariants.{Source}
 use Rattle.own_writes.specs.Below.{is_below, next_atom}
-use Rattle.pip_types.specs.Inputs.{input_path}
 use Rattle.pip_types.specs.declared.dir_inputs.DirInput.{DirInput}
 use Rattle.pip_types.specs.declared.dir_inputs.DirInput.TheVariants.{Sealed, Opaque}
 use Rattle.pip_types.specs.declared.dir_inputs.SealForm.{SealForm}
@@ -17,6 +16,7 @@ use Rattle.bx_tree.specs.Trees.{Files}
 use Rattle.pip_inputs.specs.Contents.{input_file}
 use Rattle.pip_inputs.specs.Results.{ByPip}
 use Rattle.pip_view.specs.InputFiles.{listed_in}
+use Rattle.bx_tree.specs.FileInputs.{input_path}
 
 -- the files that a seal of this form lists
 abbrev pub form_files : SealForm → List FileInput → List FileInput

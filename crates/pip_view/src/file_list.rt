@@ -5,11 +5,12 @@ ghost use Rattle.std.specs.List.{HoldsAt};
 ghost use Rattle.std.specs.List.Sorted.{IsPartitionPoint};
 ghost use Rattle.std.specs.Option.{option_copied};
 ghost use Rattle.bx_tree.specs.declared.file_input.FileInput.{FileInput as AnyFile};
-ghost use Rattle.observed.specs.Texts.{texts_now};
 ghost use Rattle.own_writes.specs.Below.{is_below as lies_below};
-ghost use Rattle.pip_types.specs.Inputs.{RiseByPath, input_path};
-ghost use Rattle.pip_view.specs.Ranges.{comes_before as path_before, prefix_below};
+ghost use Rattle.pip_types.specs.Inputs.{RiseByPath};
 ghost use Rattle.pip_view.specs.Taken.{any_below, begins as begins_with, first_at, taken_names, while_begins};
+ghost use Rattle.bx_tree.specs.Lent.{texts_now};
+ghost use Rattle.bx_tree.specs.FileInputs.{input_path};
+ghost use Rattle.bx_tree.specs.Ranges.{comes_before as path_before, prefix_below};
 
 use crate::Memory;
 use crate::below::{comes_before, is_below, next_atom};

@@ -5,7 +5,6 @@ ghost use Rattle.std.specs.List.{position_or_len};
 ghost use Rattle.std.specs.Option.{option_copied};
 ghost use Rattle.bx_tree.specs.Paths.{same_path};
 ghost use Rattle.bx_tree.specs.Trees.{file_at};
-ghost use Rattle.observed.specs.Texts.{texts_now};
 ghost use Rattle.own_writes.specs.Below.{is_below as lies_below};
 ghost use Rattle.own_writes.specs.Writes.{has_below as file_below, own_names};
 ghost use Rattle.pip_inputs.specs.Results.{files_by};
@@ -17,6 +16,7 @@ ghost use Rattle.pip_view.specs.Gathered.{opaque_members, opaque_of, with_opaque
 ghost use Rattle.pip_view.specs.InputFiles.{by_pip, insert_by_pip as with_dir, is_opaque as opaque};
 ghost use Rattle.tool_values.specs.Listings.{add_names as with_names};
 ghost use Rattle.tool_values.specs.NameSets.{names_now};
+ghost use Rattle.bx_tree.specs.Lent.{texts_now};
 
 use crate::below::{is_below, prefix_of};
 use crate::made_list::{add_below, has_below};

@@ -2,16 +2,16 @@
 ghost use Rattle.std.specs.Prelude.{◌≡◌, ◌++◌, ◌∷◌, [], IfOk, OnOk, slice_get};
 ghost use Rattle.std.specs.Option.{option_copied, option_map_or};
 ghost use Rattle.bx_tree.specs.Trees.{file_at as found_at};
-ghost use Rattle.observed.specs.Texts.{texts_now};
 ghost use Rattle.tool_values.specs.Listings.{add_names as with_names};
 ghost use Rattle.tool_values.specs.NameSets.{names_now};
 ghost use Rattle.pip_inputs.specs.Contents.{input_bytes};
 ghost use Rattle.pip_near.specs.Near.{AreTaken};
 ghost use Rattle.pip_types.specs.Inputs.{RiseByPath};
 ghost use Rattle.pip_view.specs.InputFiles.{listed_in};
-ghost use Rattle.pip_view.specs.Ranges.{prefix_below};
 ghost use Rattle.pip_view.specs.Taken.{any_below, dir_files, dirs_files, executable, first_at};
 ghost use Rattle.pip_view.specs.Taken.{taken_bytes, taken_files, taken_names};
+ghost use Rattle.bx_tree.specs.Lent.{texts_now};
+ghost use Rattle.bx_tree.specs.Ranges.{prefix_below};
 
 use crate::below::{is_below, next_atom, prefix_of};
 use crate::file_list::{add_below, file_at, has_below};

@@ -9,7 +9,6 @@ use Rattle.bx_tree.specs.declared.file_input.FileInput.{FileInput}
 use Rattle.bx_tree.specs.declared.file_input.FileInput.TheVariants.{Source}
 use Rattle.pip_types.specs.Args.{IsSortedByName}
 use Rattle.pip_types.specs.Dirs.{RiseByForm}
-use Rattle.pip_types.specs.Inputs.{input_path}
 use Rattle.pip_types.specs.Made.{RisingFiles, made_files}
 use Rattle.pip_types.specs.Orders.{dir_cmp_total}
 use Rattle.pip_types.specs.Outputs.{outdir_cmp}
@@ -26,6 +25,7 @@ use Rattle.prints.specs.Processes.{AreListsWeak, IsCountable, IsDirLine, IsFileL
 use Rattle.prints.specs.ReadWeak.{read_weak_text}
 use Rattle.prints.specs.Weak.{arg_line, dir_line, env_line, file_lines, in_line, indir_line, line_of_file, lists_text, out_line, outdir_line, weak_text}
 use Rattle.prints.proofs.WeakTexts.{dir_paths, lines_of_numbered, map_length, numbered_again, numbered_rise, rising_itself, weak_again}
+use Rattle.bx_tree.specs.FileInputs.{input_path}
 
 -- ## Declared files
 

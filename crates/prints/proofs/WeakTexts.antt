@@ -15,7 +15,7 @@ use Rattle.bx_tree.specs.Orders.{path_cmp_total}
 use Rattle.bx_tree.specs.declared.file_input.FileInput.{FileInput}
 use Rattle.bx_tree.specs.declared.file_input.FileInput.TheVariants.{Source}
 use Rattle.pip_types.specs.Dirs.{RiseByForm, dir_cmp, dir_path, form_rank}
-use Rattle.pip_types.specs.Inputs.{RiseByPath, input_path}
+use Rattle.pip_types.specs.Inputs.{RiseByPath}
 use Rattle.pip_types.specs.Orders.{dir_cmp_total, outdir_cmp_total}
 use Rattle.pip_types.specs.declared.args.EnvPair.{EnvPair}
 use Rattle.pip_types.specs.declared.dir_inputs.SealForm.{SealForm}
@@ -38,6 +38,7 @@ use Rattle.prints.specs.ReadWeak.{args_at, digests_of, dir_before, dir_of, dirs_
 use Rattle.prints.specs.Weak.{arg_line, dir_line, env_line, file_lines, head_text, in_line, indir_line, out_line, outdir_line, weak_text}
 use Rattle.prints.proofs.InOrder.{sources_rise}
 use Rattle.prints.specs.LineForms.{IsHead, arg_form, env_form, head_form, head_tuple, in_form, indir_form, out_form, outdir_form}
+use Rattle.bx_tree.specs.FileInputs.{input_path}
 
 -- ## The lists
 

@@ -9,7 +9,7 @@ use Rattle.bx_tree.specs.declared.file_input.FileInput.TheVariants.{Source}
 use Rattle.bx_digest.specs.Digests.{IsDigest}
 use Rattle.pip_types.specs.Args.{IsSortedByName}
 use Rattle.pip_types.specs.Dirs.{RiseByForm, dir_path}
-use Rattle.pip_types.specs.Inputs.{RiseByPath, input_path}
+use Rattle.pip_types.specs.Inputs.{RiseByPath}
 use Rattle.pip_types.specs.Outputs.{outdir_cmp}
 use Rattle.pip_types.specs.declared.args.EnvPair.{EnvPair}
 use Rattle.pip_types.specs.declared.desc.Desc.{Desc}
@@ -21,6 +21,7 @@ use Rattle.prints.specs.declared.weak_lines.DirLine.{DirLine}
 use Rattle.prints.specs.declared.weak_lines.FileLine.{FileLine}
 use Rattle.prints.specs.declared.weak_parts.WeakParts.{WeakParts}
 use Rattle.prints.specs.Weak.{file_lines}
+use Rattle.bx_tree.specs.FileInputs.{input_path}
 
 -- bytes whose number fits 64 bits
 abbrev pub IsCountable : List ℕ → Type 0

@@ -3,7 +3,6 @@ use Rattle.std.specs.Prelude.{ℕ, Bool, true, false, List, [], ◌∷◌, ◌++
 use Rattle.std.specs.List.{flat_map}
 use Rattle.sha2.specs.Sha256.{sha256}
 use Rattle.bx_tree.specs.Paths.{Atoms, path_text}
-use Rattle.pip_types.specs.Inputs.{input_path}
 use Rattle.pip_types.specs.declared.args.EnvPair.{EnvPair}
 use Rattle.pip_types.specs.declared.dir_inputs.SealForm.{SealForm}
 use Rattle.pip_types.specs.declared.dir_inputs.SealForm.TheVariants.{Full, Partial, SourceTop, SourceAll}
@@ -15,6 +14,7 @@ use Rattle.stored_lines.specs.Parts.{counted_part, digest_part, number_part, pat
 use Rattle.prints.specs.declared.weak_parts.WeakParts.{WeakParts}
 use Rattle.prints.specs.declared.weak_lines.DirLine.{DirLine}
 use Rattle.prints.specs.declared.weak_lines.FileLine.{FileLine}
+use Rattle.bx_tree.specs.FileInputs.{input_path}
 
 -- ## Lines
 

@@ -16,7 +16,7 @@ use Rattle.prints.specs.Processes.{weak_parts}
 use Rattle.prints.specs.ReadWeak.{read_weak_text}
 use Rattle.prints.specs.Weak.{weak_text}
 use Rattle.tool_run.specs.Description.{Description}
-use Rattle.tool_run.specs.Described.{described, dir_paths}
+use Rattle.tool_run.specs.Described.{described}
 use Rattle.tool_run.specs.Laws.{DependsOnPathSet}
 use Rattle.run_record.specs.Answered.{answered}
 use Rattle.run_record.specs.Facts.{AreOf, Facts, Sound, run_for}
@@ -25,6 +25,7 @@ use Rattle.record_match.specs.Collisions.{IsCompared, IsOfDesc, NoCollision, con
 use Rattle.record_match.specs.Digests.{IsReadBack, weak_of}
 use Rattle.record_match.specs.Matches.{IsSameDesc, Repeats, held_lines, lines_now}
 use Rattle.record_match.proofs.AnswerLines.{same_answers}
+use Rattle.pip_types.specs.Outputs.{outdir_paths}
 
 -- ## Processes
 
@@ -67,7 +68,7 @@ with_contents w exe files = record {
   args = w.process.args;
   env = variables w.process.env;
   outs = w.process.outs;
-  outdirs = dir_paths w.process.outdirs;
+  outdirs = outdir_paths w.process.outdirs;
   console = w.process.console;
   budget = w.budget;
 }

@@ -6,7 +6,7 @@ use Rattle.std.specs.Option.{option_map_or, option_to_list}
 use Rattle.std.proofs.lemmas.Bool.{or_cases}
 use Rattle.std.proofs.lemmas.List.{length-map, map-append}
 use Rattle.bx_tree.specs.Orders.{same_path_decides}
-use Rattle.bx_tree.specs.Paths.{Atoms, IsBelow, same_path}
+use Rattle.bx_tree.specs.Paths.{Atoms, IsBelow, has_path, same_path}
 use Rattle.bx_tree.specs.Trees.{Files, paths_of}
 use Rattle.bx_io.specs.Holdings.{Holdings}
 use Rattle.observed.specs.Members.{Has}
@@ -26,8 +26,7 @@ use Rattle.pip_inputs.specs.Plain.{desc_of}
 use Rattle.pip_inputs.specs.Results.{inputs_of}
 use Rattle.pip_outputs.specs.Slots.{slot_files}
 use Rattle.pip_view.specs.Sees.{sees}
-use Rattle.tool_run.specs.Description.{is_console}
-use Rattle.store_meaning.specs.Usable.{fits, has_path, may_make}
+use Rattle.store_meaning.specs.Usable.{fits, may_make}
 use Rattle.violations.specs.DoubleWrites.{clash_at}
 use Rattle.one_thread.specs.OneThread.{Result, by_outcome}
 use Rattle.one_thread.specs.Views.{ended_result}
@@ -43,6 +42,7 @@ use Rattle.retire.specs.declared.deciding.Next.{Next}
 use Rattle.retire.specs.declared.taking.Taken.{Taken}
 use Rattle.retire.specs.declared.taking.Taken.TheVariants as takings
 use Rattle.retire.proofs.Along.{ran_is}
+use Rattle.pip_types.specs.Outputs.{is_console}
 
 -- ## What fits a process, it makes
 

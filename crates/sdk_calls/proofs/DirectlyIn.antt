@@ -6,10 +6,10 @@ use Rattle.std.proofs.lemmas.Bool.{cases_eq, false≢true, ne_eqb}
 use Rattle.bx_tree.specs.Paths.{Atoms, IsAtom, IsPath, is_atom_byte, path_text}
 use Rattle.bx_tree.proofs.PathTexts.{join-append}
 use Rattle.bx_path.specs.Globbing.{strip_dir}
-use Rattle.sdk_calls.specs.Ranges.{prefix_below}
 use Rattle.sdk_calls.specs.Sources.{is_one_further, lies_below, lies_directly_in}
 use Rattle.sdk_calls.proofs.Below.{strip_dir-append}
 use Rattle.sdk_calls.proofs.Together.{is_below}
+use Rattle.bx_tree.specs.Ranges.{prefix_below}
 
 text_after : (dir : Atoms) (atom : List ℕ) (more : Atoms) → path_text (dir ++ atom ∷ more) ≡ prefix_below dir ++ join_with_byte 47 (atom ∷ more)
 text_after [] atom more = refl

@@ -2,9 +2,8 @@
 use Rattle.std.proofs.Common.{◌≡◌, ℕ, true, false, ◌&&◌, nat_le, IsTrue, List, [], ◌∷◌, length, refl, inl, inr}
 use Rattle.std.specs.List.{AllByRecursion, list_all}
 use Rattle.std.proofs.lemmas.Bool.{and_from, and_parts, cases_Bool, le-leb, leb-true}
-use Rattle.bx_path.specs.Globbing.{IsPattern, is_pattern_byte}
+use Rattle.bx_path.specs.Globbing.{IsPattern, is_pattern, is_pattern_byte}
 use Rattle.bx_path.specs.declared.globbing.TheConstants.{MAX_PATTERN_BYTES}
-use Rattle.sdk_calls.specs.Globs.{is_pattern}
 
 all_bytes : (bs : List ℕ) → AllByRecursion (λ b. IsTrue (is_pattern_byte b)) bs → list_all is_pattern_byte bs ≡ true
 all_bytes [] h = refl

@@ -18,9 +18,10 @@ use Rattle.bx_tree.proofs.FileSearch.{length-paths, path_at}
 use Rattle.bx_tree.proofs.PathTexts.{below_from_prefix, prefix_from_below}
 use Rattle.bx_path.proofs.LastAtoms.{strip_dir_is}
 use Rattle.bx_path.specs.Globbing.{strip_dir}
-use Rattle.sdk_calls.specs.Ranges.{comes_before, first_below, prefix_below}
+use Rattle.sdk_calls.specs.Ranges.{first_below}
 use Rattle.sdk_calls.specs.Sources.{files_below, is_further, lies_below}
 use Rattle.sdk_calls.proofs.Below.{below_true}
+use Rattle.bx_tree.specs.Ranges.{comes_before, prefix_below}
 
 -- ## Texts that begin with a prefix
 

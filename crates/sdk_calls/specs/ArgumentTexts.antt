@@ -3,21 +3,19 @@ use Rattle.std.specs.Prelude.{ℕ, nat_le, if◌then◌else◌, List, ◌++◌, 
 use Rattle.std.specs.Prelude.{Some, None, Ok, Err}
 use Rattle.std.specs.Fmt.{signed_decimal}
 use Rattle.bx_tree.specs.Paths.{Atoms, path_text}
-use Rattle.dscript_value.specs.Equality.{artifact_path, file_path}
+use Rattle.dscript_value.specs.Equality.{artifact_path}
 use Rattle.dscript_value.specs.declared.parts.Artifact.{Artifact as AnyArtifact}
 use Rattle.dscript_value.specs.Plain as plain
 use Rattle.dscript_value.specs.Plain.{Plain}
 use Rattle.sdk_values.specs.declared.fault.SdkFault.TheVariants.{Kind, Range}
 use Rattle.sdk_values.specs.declared.limits.TheConstants.{MAX_TEXT_BYTES}
 use Rattle.sdk_values.specs.Outcomes.{Outcome}
+use Rattle.bx_tree.specs.FileInputs.{input_path}
+use Rattle.sdk_values.specs.PathTexts.{path_argument}
 
 -- no argument
 abbrev pub no_argument : Plain
 no_argument = plain.Argument (record { text = None; artifact = None })
-
--- a path as an argument
-abbrev pub path_argument : Atoms → List ℕ
-path_argument path = codes "/" ++ path_text path
 
 -- a text with the one that follows it, if both together are short enough
 abbrev pub text_argument : List ℕ → List ℕ → Outcome Plain
@@ -37,7 +35,7 @@ argument_after before plain.Undefined = Ok no_argument
 argument_after before (plain.Text text) = text_argument before text
 argument_after before (plain.Number number) = text_argument before (signed_decimal number)
 argument_after before (plain.Path path) = text_argument before (path_argument path)
-argument_after before (plain.File file) = text_argument before (path_argument (file_path file))
+argument_after before (plain.File file) = text_argument before (path_argument (input_path file))
 argument_after before (plain.Directory path) = text_argument before (path_argument path)
 argument_after before (plain.Atom atom) = text_argument before atom
 argument_after before (plain.Artifact artifact) = artifact_argument before artifact

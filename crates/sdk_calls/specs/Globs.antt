@@ -3,7 +3,7 @@ use Rattle.std.specs.Prelude.{ℕ, Bool, ◌&&◌, nat_le, if◌then◌else◌, 
 use Rattle.std.specs.List.{list_all}
 use Rattle.bx_tree.specs.Trees.{Files}
 use Rattle.bx_tree.specs.declared.file_input.FileInput.TheVariants.{Source}
-use Rattle.bx_path.specs.Globbing.{is_pattern_byte}
+use Rattle.bx_path.specs.Globbing.{is_pattern, is_pattern_byte}
 use Rattle.bx_path.specs.declared.globbing.TheConstants.{MAX_PATTERN_BYTES}
 use Rattle.dscript_value.specs.Plain as plain
 use Rattle.dscript_value.specs.Plain.{Plain}
@@ -13,11 +13,6 @@ use Rattle.sdk_values.specs.Arguments.{two_of}
 use Rattle.sdk_values.specs.Kinds.{directory_in, text_in}
 use Rattle.sdk_values.specs.Outcomes.{Outcome, ◌>>=◌}
 use Rattle.sdk_calls.specs.Sources.{files_found}
-
--- whether a text is a pattern of a glob
-abbrev pub is_pattern : List ℕ → Bool
-is_pattern text =
-    nat_le 1 (length text) && nat_le (length text) MAX_PATTERN_BYTES && list_all is_pattern_byte text
 
 abbrev pub pattern_in : Plain → Outcome (List ℕ)
 pattern_in v = text_in v >>= λ text. if is_pattern text then Ok text else Err BadArgument

@@ -5,15 +5,6 @@ use Rattle.std.specs.Ordering.{is_lt, nat_cmp}
 use Rattle.bx_tree.specs.Paths.{Atoms, path_text}
 use Rattle.sdk_calls.specs.Sources.{lies_below, lies_directly_in}
 
--- the bytes with which the text of each path below a directory begins
-abbrev pub prefix_below : Atoms → List ℕ
-prefix_below [] = []
-prefix_below (atom ∷ rest) = path_text (atom ∷ rest) ++ codes "/"
-
--- whether a path comes before all paths whose texts begin with these bytes
-abbrev pub comes_before : List ℕ → Atoms → Bool
-comes_before prefix path = is_lt (slice_cmp nat_cmp (path_text path) prefix)
-
 -- the first paths of a list, up to one that does not lie below the directory
 abbrev pub first_below : Atoms → List Atoms → List Atoms
 first_below dir [] = []

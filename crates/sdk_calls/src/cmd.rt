@@ -3,13 +3,14 @@ ghost use Rattle.std.specs.Prelude.{◌≡◌, Ok, map, IfOk, MatchResult};
 ghost use Rattle.std.specs.Fmt.{signed_decimal};
 ghost use Rattle.sdk_values.specs.Outcomes.{Refuses};
 ghost use Rattle.sdk_calls.specs.ArgumentTexts as texts;
-ghost use Rattle.sdk_calls.specs.ArgumentTexts.{argument_after, artifact_argument, path_argument};
+ghost use Rattle.sdk_calls.specs.ArgumentTexts.{argument_after, artifact_argument};
 ghost use Rattle.sdk_calls.specs.ArgumentTexts.{text_argument};
 ghost use Rattle.sdk_calls.specs.CmdArgument as arguments;
 ghost use Rattle.sdk_calls.specs.CmdFlag as flags;
 ghost use Rattle.sdk_calls.specs.CmdFlag.{flagged};
 ghost use Rattle.sdk_calls.specs.CmdOption as options;
 ghost use Rattle.dscript_value.specs.Plain.{plain_of};
+ghost use Rattle.sdk_values.specs.PathTexts.{path_argument};
 
 use crate::paths::{artifact_path, file_path, path_bytes};
 use bx_tree::{Memory, Path, Text};

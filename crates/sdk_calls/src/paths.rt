@@ -1,8 +1,9 @@
 //! The paths of files, static directories and artifacts, and a path as an argument.
 ghost use Rattle.std.specs.Prelude.{◌≡◌, IfOk};
-ghost use Rattle.sdk_calls.specs.ArgumentTexts.{path_argument};
-ghost use Rattle.dscript_value.specs.Equality.{artifact_path as path_of_artifact, file_path as path_of_file};
+ghost use Rattle.dscript_value.specs.Equality.{artifact_path as path_of_artifact};
 ghost use Rattle.dscript_value.specs.Equality.{static_path as path_of_static};
+ghost use Rattle.bx_tree.specs.FileInputs.{input_path as path_of_file};
+ghost use Rattle.sdk_values.specs.PathTexts.{path_argument};
 
 use bx_tree::{FileInput, Memory, Path};
 use dscript_value::{Artifact, StaticDir};

@@ -4,11 +4,11 @@ ghost use Rattle.std.specs.List.Sorted.{IsPartitionPoint};
 ghost use Rattle.bx_tree.specs.Paths.{IsPath};
 ghost use Rattle.bx_tree.specs.Trees.{IsTree, paths_of};
 ghost use Rattle.bx_tree.specs.Views.{files_of};
-ghost use Rattle.sdk_calls.specs.Globs.{is_pattern};
-ghost use Rattle.sdk_calls.specs.Ranges.{first_below, first_directly_in, prefix_below};
-ghost use Rattle.sdk_calls.specs.Ranges.{comes_before as path_before};
+ghost use Rattle.sdk_calls.specs.Ranges.{first_below, first_directly_in};
 ghost use Rattle.sdk_calls.specs.Sources.{files_below, files_directly_in, files_found, lies_directly_in};
 ghost use Rattle.sdk_calls.specs.Sources.{lies_below as below};
+ghost use Rattle.bx_path.specs.Globbing.{is_pattern};
+ghost use Rattle.bx_tree.specs.Ranges.{comes_before as path_before, prefix_below};
 
 use bx_path::{GlobFault, glob};
 use bx_tree::{Memory, Path, Tree, TreeFile};

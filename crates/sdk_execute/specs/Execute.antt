@@ -26,7 +26,6 @@ use Rattle.dscript_value.specs.Plain as plain
 use Rattle.dscript_value.specs.Plain.{Plain}
 use Rattle.sdk_values.specs.declared.fault.SdkFault.TheVariants.{BadArgument}
 use Rattle.sdk_values.specs.Outcomes.{Outcome, ◌>>=◌}
-use Rattle.sdk_calls.specs.ArgumentTexts.{path_argument}
 use Rattle.sdk_execute.specs.declared.dependency.Dependency.{Dependency}
 use Rattle.sdk_execute.specs.declared.dependency.Dependency.TheVariants as dependencies
 use Rattle.sdk_execute.specs.declared.output.Output.{Output}
@@ -35,6 +34,7 @@ use Rattle.sdk_execute.specs.ExecuteObject.{Made, Taken, request_of}
 use Rattle.sdk_pips.specs.FileSets.{files_by_path}
 use Rattle.sdk_execute.specs.Sets.{set_by}
 use Rattle.sdk_pips.specs.States.{Change, State, with_pip}
+use Rattle.sdk_values.specs.PathTexts.{path_argument}
 
 -- ## What the arguments say
 

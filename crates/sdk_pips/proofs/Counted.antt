@@ -14,11 +14,11 @@ use Rattle.bx_tree.specs.Orders.{equal_paths, path_cmp_total}
 use Rattle.bx_tree.specs.Paths.{Atoms, path_cmp}
 use Rattle.bx_tree.specs.declared.file_input.FileInput.{FileInput}
 use Rattle.bx_tree.specs.declared.file_input.FileInput.TheVariants.{Source, Made}
-use Rattle.pip_types.specs.Inputs.{input_path}
 use Rattle.sdk_pips.specs.FileSets.{AreCounted, FileMap, MayCount, counted, counting, file_for, files_by_path, put_file}
 use Rattle.sdk_pips.proofs.FilesKept.{Own, files_rise, keys, own_from, rising_from, values}
 use Rattle.sdk_pips.proofs.Listed.{path_kept}
 use Rattle.sdk_pips.proofs.OneSet.{Has, contains_has, has_contained}
+use Rattle.bx_tree.specs.FileInputs.{input_path}
 
 -- ## Which of two files counts
 

@@ -15,9 +15,10 @@ use Rattle.bx_tree.specs.Orders.{equal_paths, path_cmp_matches, path_cmp_total}
 use Rattle.bx_tree.specs.Paths.{Atoms, path_cmp, same_path}
 use Rattle.bx_tree.specs.declared.file_input.FileInput.{FileInput}
 use Rattle.bx_tree.specs.declared.file_input.FileInput.TheVariants.{Source, Made}
-use Rattle.pip_types.specs.Inputs.{RiseByPath, input_path}
+use Rattle.pip_types.specs.Inputs.{RiseByPath}
 use Rattle.sdk_pips.specs.FileSets.{FileMap, counted, counting, file_for, files_by_path, put_file}
 use Rattle.sdk_pips.proofs.OneSet.{contains_has, has_contained, insert_sorted, unique}
+use Rattle.bx_tree.specs.FileInputs.{input_path}
 
 abbrev pub keys : FileMap → List Atoms
 keys es = map (λ (e : Atoms × FileInput). e.0) es

@@ -11,12 +11,12 @@ use Rattle.bx_tree.specs.Paths.{Atoms, path_cmp, same_path}
 use Rattle.bx_tree.specs.Trees.{Files}
 use Rattle.bx_tree.specs.declared.file_input.FileInput.{FileInput}
 use Rattle.bx_tree.specs.declared.file_input.FileInput.TheVariants.{Source}
-use Rattle.pip_types.specs.Inputs.{input_path}
 use Rattle.sdk_calls.specs.Sources.{files_below}
 use Rattle.sdk_pips.specs.FileSets.{FileMap, counted, file_for, files_by_path, put_file}
 use Rattle.sdk_pips.specs.Seals.{is_listed, lists_sources}
 use Rattle.sdk_pips.proofs.FilesKept.{keys, keys_put, own_from, own_paths}
 use Rattle.sdk_pips.proofs.OneSet.{Has, contains_has, has_contained, has_insert, insert_has}
+use Rattle.bx_tree.specs.FileInputs.{input_path}
 
 -- ## Listed by a test, and among the paths
 

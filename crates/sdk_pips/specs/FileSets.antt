@@ -6,7 +6,8 @@ use Rattle.std.specs.Map.{lookup}
 use Rattle.bx_tree.specs.Paths.{Atoms, path_cmp}
 use Rattle.bx_tree.specs.declared.file_input.FileInput.{FileInput}
 use Rattle.bx_tree.specs.declared.file_input.FileInput.TheVariants.{Source, Made}
-use Rattle.pip_types.specs.Inputs.{RiseByPath, input_path}
+use Rattle.pip_types.specs.Inputs.{RiseByPath}
+use Rattle.bx_tree.specs.FileInputs.{input_path}
 
 -- Of two files of one path the source file counts, and otherwise that of the lesser maker.
 abbrev pub counting : FileInput → FileInput → FileInput

@@ -6,7 +6,6 @@ use Rattle.bx_tree.specs.Trees.{Files}
 use Rattle.bx_tree.specs.declared.file_input.FileInput.{FileInput}
 use Rattle.pip_types.specs.declared.pip.PipKind.TheVariants as kinds
 use Rattle.pip_types.specs.declared.pip.SealDesc.{SealDesc}
-use Rattle.pip_types.specs.Inputs.{input_path}
 use Rattle.dscript_value.specs.declared.parts.StaticDir.TheVariants as static_dirs
 use Rattle.dscript_value.specs.Plain as plain
 use Rattle.dscript_value.specs.Plain.{Plain}
@@ -15,6 +14,7 @@ use Rattle.sdk_values.specs.Kinds.{directory_in, file_in, list_in}
 use Rattle.sdk_values.specs.Outcomes.{Outcome, ◌>>=◌}
 use Rattle.sdk_calls.specs.Sources.{files_below, lies_below}
 use Rattle.sdk_pips.specs.States.{Change, State, with_pip}
+use Rattle.bx_tree.specs.FileInputs.{input_path}
 
 -- a directory, and the files that are to be sealed in it
 abbrev pub sealed_in : List Plain → Outcome (Atoms × List FileInput)

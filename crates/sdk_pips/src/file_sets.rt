@@ -1,9 +1,9 @@
 //! Files by path, of which only one counts at each path.
 ghost use Rattle.std.specs.Prelude.{◌≡◌, [], fold, IfOk, OnOk};
 ghost use Rattle.std.specs.BTreeMap.{values};
-ghost use Rattle.pip_types.specs.Inputs.{input_path};
 ghost use Rattle.sdk_pips.specs.FileSets as spec;
 ghost use Rattle.sdk_pips.specs.FileSets.{AreCounted, counted, counting, file_for};
+ghost use Rattle.bx_tree.specs.FileInputs.{input_path};
 
 use bx_tree::{FileInput, Memory, Path};
 use pip_types::FileInputs;

@@ -3,7 +3,7 @@ ghost use Rattle.std.specs.Prelude.{◌≡◌, ◌↔◌, [], IsTrue, Contains, 
 ghost use Rattle.std.specs.Prelude.{IfOk, IfErr, OnErr, MatchResult};
 ghost use Rattle.std.specs.List.{list_all};
 ghost use Rattle.sdk_values.specs.Outcomes.{Refuses};
-ghost use Rattle.pip_types.specs.Inputs.{RiseByPath, input_path};
+ghost use Rattle.pip_types.specs.Inputs.{RiseByPath};
 ghost use Rattle.sdk_pips.specs.FileSets.{files_by_path as files_that_count};
 ghost use Rattle.sdk_pips.specs.SealDirectory as full;
 ghost use Rattle.sdk_pips.specs.SealDirectory.{full_seal as full_seal_of};
@@ -15,6 +15,7 @@ ghost use Rattle.sdk_pips.specs.Seals as seals;
 ghost use Rattle.sdk_pips.specs.Seals.{sealed_in, with_sealed};
 ghost use Rattle.sdk_calls.specs.Sources.{files_below};
 ghost use Rattle.dscript_value.specs.Plain.{plain_of};
+ghost use Rattle.bx_tree.specs.FileInputs.{input_path};
 
 use crate::file_sets::{files_by_path, path_of};
 use crate::site::Site;

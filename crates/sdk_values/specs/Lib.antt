@@ -1,6 +1,6 @@
 pub mod Outcomes
 pub mod Kinds
 pub mod Objects
-pub mod FieldNames
 pub mod Arguments
 pub mod Answers
+pub mod PathTexts

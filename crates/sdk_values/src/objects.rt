@@ -3,9 +3,9 @@ ghost use Rattle.std.specs.Prelude.{◌≡◌, Ok, Err, Some, None, is_some, map
 ghost use Rattle.std.specs.Str.{bytes_eq};
 ghost use Rattle.dscript_value.specs.Depths.{field_at};
 ghost use Rattle.dscript_value.specs.Plain.{member_list, plain_field, plain_fields, plain_of};
-ghost use Rattle.sdk_values.specs.FieldNames.{names_now};
 ghost use Rattle.sdk_values.specs.Kinds.{object_in};
 ghost use Rattle.sdk_values.specs.Objects.{fields_in, has_all as has_names, has_only as has_known, is_among};
+ghost use Rattle.bx_tree.specs.Lent.{texts_now};
 
 use crate::fault::SdkFault;
 use dscript_value::{Field, Fields, Value};
@@ -18,7 +18,7 @@ fn name_of(field: &Field) -> &[u8]
 }
 
 fn is_name(names: &[&[u8]], name: &[u8]) -> bool
-    ensures { result ≡ is_among (names_now names.now) name.now }
+    ensures { result ≡ is_among (texts_now names.now) name.now }
 {
     'names: for other in names {
         if name == *other {
@@ -29,8 +29,8 @@ fn is_name(names: &[&[u8]], name: &[u8]) -> bool
 }
 
 fn is_known(field: &Field, required: &[&[u8]], optional: &[&[u8]]) -> bool
-    ensures { result ≡ (is_among (names_now required.now) (plain_field field.now).0
-        || is_among (names_now optional.now) (plain_field field.now).0) }
+    ensures { result ≡ (is_among (texts_now required.now) (plain_field field.now).0
+        || is_among (texts_now optional.now) (plain_field field.now).0) }
 {
     let name = name_of(field);
     is_name(required, name) || is_name(optional, name)
@@ -39,7 +39,7 @@ fn is_known(field: &Field, required: &[&[u8]], optional: &[&[u8]]) -> bool
 // Whether each field is known.
 fn has_only(fields: &[Field], required: &[&[u8]], optional: &[&[u8]]) -> bool
     ensures { result
-        ≡ has_known (names_now required.now) (names_now optional.now) (map plain_field fields.now) }
+        ≡ has_known (texts_now required.now) (texts_now optional.now) (map plain_field fields.now) }
 {
     'fields: for field in fields {
         if !is_known(field, required, optional) {
@@ -58,7 +58,7 @@ fn has_field(fields: &Fields, name: &[u8]) -> bool
 
 // Whether there is a field with each of these names.
 fn has_all(fields: &Fields, required: &[&[u8]]) -> bool
-    ensures { result ≡ has_names (names_now required.now) (member_list (plain_fields fields.now).members) }
+    ensures { result ≡ has_names (texts_now required.now) (member_list (plain_fields fields.now).members) }
 {
     'names: for name in required {
         if !has_field(fields, name) {
@@ -88,9 +88,9 @@ pub fn read_object<'a>(
     optional: &[&[u8]],
 ) -> Result<&'a Fields, SdkFault>
     ensures { MatchResult result
-        (λ fields. fields_in (names_now required.now) (names_now optional.now) (plain_of value.now)
+        (λ fields. fields_in (texts_now required.now) (texts_now optional.now) (plain_of value.now)
         ≡ Ok (member_list (plain_fields fields.now).members))
-        (λ fault. fields_in (names_now required.now) (names_now optional.now) (plain_of value.now)
+        (λ fault. fields_in (texts_now required.now) (texts_now optional.now) (plain_of value.now)
         ≡ Err fault) }
 {
     let fields = as_object(value)?;

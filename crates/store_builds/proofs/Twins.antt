@@ -11,7 +11,6 @@ use Rattle.bx_tree.specs.Trees.{Files, IsReserved, paths_of}
 use Rattle.bx_tree.specs.declared.file_input.FileInput.{FileInput}
 use Rattle.bx_tree.specs.declared.file_input.FileInput.TheVariants.{Source, Made}
 use Rattle.bx_io.specs.Holdings.{Holdings}
-use Rattle.pip_types.specs.Inputs.{input_path}
 use Rattle.pip_types.specs.Makers.{IsFileAmong, IsPipList, MakesFile, NamesAmong}
 use Rattle.pip_types.specs.declared.desc.Desc.{Desc}
 use Rattle.pip_types.specs.declared.dir_inputs.DirInput.{DirInput}
@@ -48,6 +47,7 @@ use Rattle.store_meaning.specs.Compared as met
 use Rattle.store_builds.specs.Compared.{Compared, inputs_after}
 use Rattle.store_builds.specs.Runs.{RunsAs, results_before}
 use Rattle.store_builds.proofs.SoFar.{process_there, run_met}
+use Rattle.bx_tree.specs.FileInputs.{input_path}
 
 same_some : {X : Type 0} (x y : X) → Some x ≡ Some y → x ≡ y
 same_some x y e = cc

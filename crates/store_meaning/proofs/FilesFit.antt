@@ -7,7 +7,7 @@ use Rattle.std.specs.Option.{option_map_or}
 use Rattle.std.specs.Ordering.{match_ordering}
 use Rattle.std.specs.declared.cmp.Ordering.{Ordering}
 use Rattle.std.specs.declared.cmp.Ordering.TheVariants.{Less, Equal, Greater}
-use Rattle.bx_tree.specs.Paths.{Atoms, path_cmp, same_path}
+use Rattle.bx_tree.specs.Paths.{Atoms, has_path, path_cmp, same_path}
 use Rattle.bx_tree.specs.Trees.{Files, file_at, paths_of}
 use Rattle.bx_tree.specs.Orders.{equal_paths, same_path_decides}
 use Rattle.observed.specs.Members.{Has}
@@ -18,8 +18,8 @@ use Rattle.pip_types.specs.declared.desc.Desc.{Desc}
 use Rattle.pip_types.specs.declared.outputs.OutDir.{OutDir}
 use Rattle.pip_types.specs.declared.pip.ProcessDesc.{ProcessDesc}
 use Rattle.own_writes.specs.Below.{is_below}
-use Rattle.tool_run.specs.Description.{Description, is_console, permits}
-use Rattle.tool_run.specs.Described.{described, dir_paths}
+use Rattle.tool_run.specs.Description.{Description, permits}
+use Rattle.tool_run.specs.Described.{described}
 use Rattle.tool_run.specs.Laws.{RunInvariant}
 use Rattle.tool_run.specs.Run.{Run}
 use Rattle.tool_run.proofs.Accesses.{holds}
@@ -32,7 +32,8 @@ use Rattle.run_record.specs.declared.outcome.Cause.TheVariants as causes
 use Rattle.memo_format.specs.Entries.{output_paths}
 use Rattle.memo_format.specs.Found.{output_lines}
 use Rattle.store_meaning.specs.Keeping.{IsGood, outcome_files}
-use Rattle.store_meaning.specs.Usable.{fits, has_path, may_make}
+use Rattle.store_meaning.specs.Usable.{fits, may_make}
+use Rattle.pip_types.specs.Outputs.{is_console, outdir_paths}
 
 -- ## What a success comes of
 
@@ -151,7 +152,7 @@ made_by false b false c e h = absurd cc
 permitted_made : (d : Desc) (q : Atoms) → permits (described d) q ≡ true → may_make d.process q ≡ true
 permitted_made d q h =
     made_by (has_path d.process.outs q) (list_any (λ (dir : OutDir). is_below q dir.path) d.process.outdirs)
-    (list_any (λ dir. is_below q dir) (dir_paths d.process.outdirs)) (is_console d.process.console q) (any_dirs q d.process.outdirs) h
+    (list_any (λ dir. is_below q dir) (outdir_paths d.process.outdirs)) (is_console d.process.console q) (any_dirs q d.process.outdirs) h
 
 permitted_at : (d : Description) (files : Files) (q : Atoms) → AllByRecursion (λ (f : Atoms × List ℕ). IsTrue (permits d f.0)) files → Has (paths_of files) q
     → permits d q ≡ true

@@ -11,7 +11,7 @@ use Rattle.observed.specs.declared.access.Answer.{Answer}
 use Rattle.observed.specs.declared.access.Answer.TheVariants as answers
 use Rattle.tool_text.specs.Reading.{tool_of}
 use Rattle.tool_values.specs.Values.{variables}
-use Rattle.tool_run.specs.Described.{described, dir_paths}
+use Rattle.tool_run.specs.Described.{described}
 use Rattle.prints.specs.Processes.{weak_parts}
 use Rattle.prints.specs.Strong.{IsAnswerLine, line_of}
 use Rattle.prints.specs.declared.weak_parts.WeakParts.{WeakParts}
@@ -20,6 +20,7 @@ use Rattle.memo_format.specs.declared.entry.OutputLine.{OutputLine}
 use Rattle.record_match.proofs.Digest.{is_digest}
 use Rattle.record_match.specs.Collisions.{NoCollision, contents_of}
 use Rattle.store_meaning.specs.Contents.{answer_contents, desc_contents, given_contents}
+use Rattle.pip_types.specs.Outputs.{outdir_paths}
 
 -- ## Lists
 
@@ -130,5 +131,5 @@ module _ (M : List ℕ → Type 0) (apart : NoCollision M) where
       let budget : d.budget ≡ e.budget = ap (λ (x : WeakParts). x.budget) w in
       let tool : tool_of d.exe ≡ tool_of e.exe = ap tool_of bytes in
       let pairs : variables d.process.env ≡ variables e.process.env = ap variables env in
-      let dirs : dir_paths d.process.outdirs ≡ dir_paths e.process.outdirs = ap dir_paths outdirs in
+      let dirs : outdir_paths d.process.outdirs ≡ outdir_paths e.process.outdirs = ap outdir_paths outdirs in
       cc

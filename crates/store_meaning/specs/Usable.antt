@@ -3,7 +3,7 @@ use Rattle.std.specs.Prelude.{◌≡◌, ◌⊎◌, ℕ, Bool, true, ◌||◌, �
 use Rattle.std.specs.List.{list_all, list_any}
 use Rattle.std.specs.Option.{option_map_or}
 use Rattle.sha2.specs.Sha256.{sha256}
-use Rattle.bx_tree.specs.Paths.{Atoms, same_path}
+use Rattle.bx_tree.specs.Paths.{Atoms, has_path, same_path}
 use Rattle.bx_tree.specs.Trees.{Files, NoneNested}
 use Rattle.pip_types.specs.declared.desc.Desc.{Desc}
 use Rattle.pip_types.specs.declared.outputs.OutDir.{OutDir}
@@ -13,7 +13,6 @@ use Rattle.observed.specs.declared.ask.Ask.{Ask}
 use Rattle.observed.specs.declared.access.Answer.{Answer}
 use Rattle.bx_io.specs.Holdings.{Holdings}
 use Rattle.own_writes.specs.Below.{is_below}
-use Rattle.tool_run.specs.Description.{is_console}
 use Rattle.prints.specs.Strong.{strong_parts, strong_text}
 use Rattle.memo_format.specs.Entries.{output_paths}
 use Rattle.memo_format.specs.Found.{output_lines}
@@ -24,12 +23,9 @@ use Rattle.content_store.specs.HeldEntries.{IsHeld}
 use Rattle.record_match.specs.Collisions.{contents_of}
 use Rattle.record_match.specs.Digests.{weak_of}
 use Rattle.store_meaning.specs.Contents.{HoldsAll, HoldsPaths}
+use Rattle.pip_types.specs.Outputs.{is_console}
 
 -- ## Outputs
-
--- whether the path is one of these
-abbrev pub has_path : List Atoms → Atoms → Bool
-has_path paths path = list_any (λ other. same_path other path) paths
 
 -- whether a process may make a file at the path: it is a declared output file or the console file, or lies
 -- strictly below an output directory

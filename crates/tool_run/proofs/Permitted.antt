@@ -9,9 +9,9 @@ use Rattle.observed.specs.Members.{Has}
 use Rattle.observed.proofs.OneSet.{contains_has, has_contained}
 use Rattle.pip_types.specs.declared.outputs.OutDir.{OutDir}
 use Rattle.own_writes.specs.Below.{is_below}
-use Rattle.tool_run.specs.Described.{dir_paths}
+use Rattle.pip_types.specs.Outputs.{outdir_paths}
 
-pub any_dirs : (path : Atoms) (dirs : List OutDir) → list_any (λ (d : OutDir). is_below path d.path) dirs ≡ list_any (λ dir. is_below path dir) (dir_paths dirs)
+pub any_dirs : (path : Atoms) (dirs : List OutDir) → list_any (λ (d : OutDir). is_below path d.path) dirs ≡ list_any (λ dir. is_below path dir) (outdir_paths dirs)
 any_dirs path [] = refl
 any_dirs path (d ∷ ds) = ap (λ t. is_below path d.path || t) (any_dirs path ds)
 

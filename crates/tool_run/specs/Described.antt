@@ -6,10 +6,7 @@ use Rattle.pip_types.specs.declared.desc.Desc.{Desc}
 use Rattle.tool_text.specs.Reading.{tool_of}
 use Rattle.tool_values.specs.Values.{variables}
 use Rattle.tool_run.specs.Description.{Description}
-
--- the paths of output directories
-abbrev pub dir_paths : List OutDir → List Atoms
-dir_paths = map (λ (d : OutDir). d.path)
+use Rattle.pip_types.specs.Outputs.{outdir_paths}
 
 -- The description of a process; its tool is the one whose text the executable has, if there is one.
 abbrev pub described : Desc → Description
@@ -21,7 +18,7 @@ described d = record {
   args = d.process.args;
   env = variables d.process.env;
   outs = d.process.outs;
-  outdirs = dir_paths d.process.outdirs;
+  outdirs = outdir_paths d.process.outdirs;
   console = d.process.console;
   budget = d.budget;
 }

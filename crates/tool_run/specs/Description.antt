@@ -13,6 +13,7 @@ use Rattle.observed.specs.declared.access.Answer.{Answer}
 use Rattle.observed.specs.declared.access.Answer.TheVariants as answers
 use Rattle.tool_text.specs.declared.tool.Instr.{Instr}
 use Rattle.own_writes.specs.Below.{is_below}
+use Rattle.pip_types.specs.Outputs.{is_console}
 
 -- What a run uses of a process: its tool, if the executable is one; the executable and the declared
 -- files, each as its path and its bytes; the working directory, arguments and variables; the output
@@ -51,10 +52,6 @@ or_else (Some answer) other = answer
 -- what an ask is answered: by the declared files first, and else by the view
 abbrev pub answer_of : Description → (Ask → Answer) → Ask → Answer
 answer_of d a ask = or_else (given d ask) (a ask)
-
--- whether the path is that of the console file
-abbrev pub is_console : Option Atoms → Atoms → Bool
-is_console console path = option_map_or (λ p. same_path p path) console false
 
 -- whether a run may write the path: it is an output file or lies strictly below an output directory,
 -- and is not the console file

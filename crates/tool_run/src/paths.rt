@@ -4,10 +4,11 @@ ghost use Rattle.std.specs.List.{list_any};
 ghost use Rattle.std.specs.Option.{option_copied};
 ghost use Rattle.bx_tree.specs.Paths.{same_path};
 ghost use Rattle.bx_path.specs.Joining.{join_of};
-ghost use Rattle.tool_run.specs.Described.{described, dir_paths};
+ghost use Rattle.tool_run.specs.Described.{described};
 ghost use Rattle.own_writes.specs.Below.{is_below as lies_below};
-ghost use Rattle.tool_run.specs.Description.{is_console as console_at, permits as permitted};
+ghost use Rattle.tool_run.specs.Description.{permits as permitted};
 ghost use Rattle.tool_run.specs.Description.{resolved as path_of_text};
+ghost use Rattle.pip_types.specs.Outputs.{is_console as console_at, outdir_paths};
 
 use bx_path::join;
 use bx_tree::{Path, PathFault};
@@ -88,7 +89,7 @@ fn is_below_any(dirs: &[OutDir], path: &Path) -> bool
 fn is_declared(outputs: &Outputs, dirs: &[OutDir], path: &Path) -> bool
     ensures { result
         ≡ (list_any (λ out. same_path out path.now) outputs.now
-        || list_any (λ dir. lies_below path.now dir) (dir_paths dirs.now)) }
+        || list_any (λ dir. lies_below path.now dir) (outdir_paths dirs.now)) }
 {
     let inside = is_below_any(dirs, path);
     inside || is_output(outputs, path)

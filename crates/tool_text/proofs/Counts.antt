@@ -1,7 +1,8 @@
 -- Texts in a number other than the one that is wanted.
 use Rattle.std.proofs.Common.{◌≡◌, ◌≢◌, ℕ, List, [], ◌∷◌, length, None, refl}
 use Rattle.std.specs.Borrow.{Bor}
-use Rattle.tool_text.specs.Reading.{lone, pair, quadruple, texts_now, triple}
+use Rattle.tool_text.specs.Reading.{lone, pair, quadruple, triple}
+use Rattle.bx_tree.specs.Lent.{texts_now}
 
 pub not_one : (ts : List (Bor (List ℕ))) → length ts ≢ 1 → lone (texts_now ts) ≡ None
 not_one [] n = refl

@@ -15,8 +15,9 @@ use Rattle.std.proofs.lemmas.List.{take_more, length-take-le}
 use Rattle.std.proofs.lemmas.Slice.Eq.{bytes_eq-Decides}
 use Rattle.bx_tree.specs.Orders.{equal_texts}
 use Rattle.tool_text.specs.Grammar.{Labels}
-use Rattle.tool_text.specs.Reading.{Places, are_distinct, has_label, label_of, place_from, place_of, texts_now}
+use Rattle.tool_text.specs.Reading.{Places, are_distinct, has_label, label_of, place_from, place_of}
 use Rattle.tool_text.specs.Tables.{IsFree, IsTaken, with_place}
+use Rattle.bx_tree.specs.Lent.{texts_now}
 
 -- ## A map with one more key
 

@@ -5,7 +5,8 @@ use Rattle.std.specs.List.{onto_first}
 use Rattle.std.proofs.lemmas.List.{map_push}
 use Rattle.tool_text.specs.declared.separating.Quoting.{Quoting}
 use Rattle.tool_text.specs.declared.separating.Quoting.TheVariants.{Outside}
-use Rattle.tool_text.specs.Reading.{is_cut, operand_texts, part_len, quoting_after, separated, texts_now, trimmed}
+use Rattle.tool_text.specs.Reading.{is_cut, operand_texts, part_len, quoting_after, separated, trimmed}
+use Rattle.bx_tree.specs.Lent.{texts_now}
 
 -- what follows the first part, by whether a byte ends it
 after_part : (t : Bool) (n : ℕ) (b : ℕ) (bs rest : List ℕ) → drop (cond t 0 (suc n)) (b ∷ bs) ≡ rest → cond t (b ∷ bs) (drop n bs) ≡ rest

@@ -5,8 +5,9 @@ use Rattle.std.specs.Borrow.{Bor}
 use Rattle.tool_text.specs.declared.tool.Instr.{Instr}
 use Rattle.tool_text.specs.declared.fault.ToolFault.{ToolFault}
 use Rattle.tool_text.specs.declared.fault.ToolFault.TheVariants.{BadTool, Memory}
-use Rattle.tool_text.specs.Reading.{Places, ReadsTool, after_lines, are_distinct, line_of, lines_of, place_of, texts_now, tool_in, with_line}
+use Rattle.tool_text.specs.Reading.{Places, ReadsTool, after_lines, are_distinct, line_of, lines_of, place_of, tool_in, with_line}
 use Rattle.tool_text.proofs.Labelled.{labels_of}
+use Rattle.bx_tree.specs.Lent.{texts_now}
 
 pub tool_read : (lines : List (Bor (List ℕ))) (places : Places) (read : Option (List Instr)) → are_distinct (labels_of lines) ≡ true
     → ((q : List ℕ) → places q ≡ place_of (labels_of lines) q) → lines_of places (texts_now lines) ≡ read → tool_in (texts_now lines) ≡ read

@@ -25,10 +25,6 @@ ReadsTool (Ok x) read = read ≡ Some x
 ReadsTool (Err faults.BadTool) read = read ≡ None
 ReadsTool (Err faults.Memory) read = Unit {0}
 
--- texts without where they lie in memory
-abbrev pub texts_now : List (Bor (List ℕ)) → List (List ℕ)
-texts_now = map (λ (text : Bor (List ℕ)). text.now)
-
 -- ## Operands
 
 abbrev pub is_digits : List ℕ → Bool

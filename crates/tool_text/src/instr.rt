@@ -6,8 +6,9 @@ ghost use Rattle.tool_text.specs.Reading.{line_of as line_read, lone as one_of, 
 ghost use Rattle.tool_text.specs.Reading.{quadruple as four_of, register_operand as register_operand_read};
 ghost use Rattle.tool_text.specs.Reading.{register_target as register_target_read};
 ghost use Rattle.tool_text.specs.Reading.{register_two as register_two_read, split_of as split_read};
-ghost use Rattle.tool_text.specs.Reading.{texts_now, triple as three_of, two_operands as two_operands_read};
+ghost use Rattle.tool_text.specs.Reading.{triple as three_of, two_operands as two_operands_read};
 ghost use Rattle.tool_text.specs.Reading.{two_target as two_target_read};
+ghost use Rattle.bx_tree.specs.Lent.{texts_now};
 
 use crate::fault::ToolFault;
 use crate::labels::Table;

@@ -2,7 +2,8 @@
 ghost use Rattle.std.specs.Prelude.{◌≡◌, ℕ, List, true, false, map, MatchResult, OnOk};
 ghost use Rattle.tool_text.specs.declared.fault.ToolFault.TheVariants as tool_faults;
 ghost use Rattle.tool_text.specs.Tables.{IsFree, IsTaken, place_at, place_in, with_place};
-ghost use Rattle.tool_text.specs.Reading.{ReadsTool, are_distinct, label_of, place_of as place_read, texts_now};
+ghost use Rattle.tool_text.specs.Reading.{ReadsTool, are_distinct, label_of, place_of as place_read};
+ghost use Rattle.bx_tree.specs.Lent.{texts_now};
 
 use crate::fault::ToolFault;
 use crate::lines::label_parts;

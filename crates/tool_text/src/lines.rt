@@ -4,7 +4,8 @@ ghost use Rattle.std.specs.List.{position_or_len, slice_split};
 ghost use Rattle.std.specs.Option.{option_copied};
 ghost use Rattle.tool_text.specs.Grammar.{says as says_something};
 ghost use Rattle.tool_text.specs.Reading.{after_byte, after_label as rest_of, before_byte};
-ghost use Rattle.tool_text.specs.Reading.{label_of as label_read, skip_blanks as without_blanks, texts_now};
+ghost use Rattle.tool_text.specs.Reading.{label_of as label_read, skip_blanks as without_blanks};
+ghost use Rattle.bx_tree.specs.Lent.{texts_now};
 
 use crate::bytes::is_label;
 use std::alloc::{AllocError, Global};

@@ -3,7 +3,8 @@ ghost use Rattle.std.specs.Prelude.{◌≡◌, List, IfOk};
 ghost use Rattle.tool_text.specs.declared.tool.Instr.{Instr as AnyInstr};
 ghost use Rattle.tool_text.specs.declared.fault.ToolFault.TheVariants as tool_faults;
 ghost use Rattle.tool_text.specs.Grammar.{IsTool};
-ghost use Rattle.tool_text.specs.Reading.{ReadsTool, texts_now, tool_from, tool_in as tool_read, tool_of};
+ghost use Rattle.tool_text.specs.Reading.{ReadsTool, tool_from, tool_in as tool_read, tool_of};
+ghost use Rattle.bx_tree.specs.Lent.{texts_now};
 
 use crate::fault::ToolFault;
 use crate::instr::line_of;

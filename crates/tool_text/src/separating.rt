@@ -1,7 +1,8 @@
 //! The texts of operands, between commas.
 ghost use Rattle.std.specs.Prelude.{◌≡◌, ◌≤◌, length, IfOk};
 ghost use Rattle.tool_text.specs.Reading.{is_cut as cuts_at, operand_texts, part_len as len_of_part};
-ghost use Rattle.tool_text.specs.Reading.{quoting_after, texts_now, trimmed as trim};
+ghost use Rattle.tool_text.specs.Reading.{quoting_after, trimmed as trim};
+ghost use Rattle.bx_tree.specs.Lent.{texts_now};
 
 use std::alloc::{AllocError, Global};
 

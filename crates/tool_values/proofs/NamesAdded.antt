@@ -7,9 +7,9 @@ use Rattle.std.specs.declared.cmp.Ordering.{Ordering}
 use Rattle.std.specs.declared.cmp.Ordering.TheVariants.{Less, Equal, Greater}
 use Rattle.std.proofs.lemmas.Bool.{ne_eqb}
 use Rattle.std.proofs.lemmas.List.{drop_more}
-use Rattle.observed.specs.Texts.{texts_now}
 use Rattle.tool_values.specs.Listings.{add_names, is_some_name}
 use Rattle.tool_values.specs.NameSets.{names_now}
+use Rattle.bx_tree.specs.Lent.{texts_now}
 
 pub insert_now : (names : List (Vec ℕ Global)) (name : Vec ℕ Global)
     → names_now (insert_key (λ (x y : Vec ℕ Global). slice_cmp nat_cmp x.items y.items) names name) ≡ insert_key (slice_cmp nat_cmp) (names_now names) name.items

@@ -1,8 +1,8 @@
 //! Names: the lines of a text, in order and each once.
 ghost use Rattle.std.specs.Prelude.{◌≡◌, IfOk, OnOk};
-ghost use Rattle.observed.specs.Texts.{texts_now};
 ghost use Rattle.tool_values.specs.Listings.{add_names as with_names, names_in, names_text};
 ghost use Rattle.tool_values.specs.NameSets.{names_now};
+ghost use Rattle.bx_tree.specs.Lent.{texts_now};
 
 use std::alloc::{AllocError, Global};
 use std::collections::BTreeSet;

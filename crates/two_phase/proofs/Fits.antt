@@ -5,11 +5,10 @@ use Rattle.std.specs.List.{All, Contains, HoldsAt}
 use Rattle.std.proofs.lemmas.Bool.{false≢true}
 use Rattle.std.proofs.lemmas.List.{length-map, get_or-map}
 use Rattle.std.proofs.lemmas.List.Elements.{All-contains, All-map}
-use Rattle.bx_tree.specs.Paths.{Atoms}
+use Rattle.bx_tree.specs.Paths.{Atoms, has_path}
 use Rattle.memo_format.specs.Entries.{output_paths}
 use Rattle.memo_format.specs.declared.entry.OutputLine.{OutputLine}
 use Rattle.tool_run.proofs.Permitted.{any_contained}
-use Rattle.store_meaning.specs.Usable.{has_path}
 
 contains : (outputs : List OutputLine) (p : Atoms) (r : Result ℕ ℕ)
     → MatchResult r (λ i. (i < length outputs) × HoldsAt (λ (o : OutputLine). o.path ≡ p) outputs i) (λ i. All (λ (o : OutputLine). o.path ≢ p) outputs)

@@ -14,7 +14,8 @@ use Rattle.pip_types.specs.declared.made.MadeFile.{MadeFile}
 use Rattle.pip_types.specs.declared.made.Slot.{Slot}
 use Rattle.pip_types.specs.declared.outputs.OutDir.{OutDir}
 use Rattle.pip_types.specs.declared.pip.Pip.{Pip}
-use Rattle.violations.specs.DoubleWrites.{clash_of, first_clash, has_clash, is_clash, is_shared, least_clash, or_next, outdirs_of, shared_paths}
+use Rattle.violations.specs.DoubleWrites.{clash_of, first_clash, has_clash, is_clash, is_shared, least_clash, or_next, shared_paths}
+use Rattle.pip_types.specs.Kinds.{outdirs_of}
 
 -- ## Files in shared directories
 

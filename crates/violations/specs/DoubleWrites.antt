@@ -13,12 +13,7 @@ use Rattle.verdicts.specs.Verdicts.{with_pip}
 use Rattle.verdicts.specs.declared.verdict.Violation.{Violation}
 use Rattle.verdicts.specs.declared.verdict.ViolationKind.TheVariants as violations
 use Rattle.verdicts.specs.declared.verdict.DeedKind.TheVariants as deeds
-
-abbrev pub outdirs_of : PipKind → List OutDir
-outdirs_of (Process d) = d.outdirs
-outdirs_of (Copy d) = []
-outdirs_of (Write d) = []
-outdirs_of (Seal d) = []
+use Rattle.pip_types.specs.Kinds.{outdirs_of}
 
 -- whether the path lies strictly below a directory that the pip shares
 abbrev pub is_shared : List OutDir → Atoms → Bool

@@ -8,6 +8,7 @@ ghost use Rattle.pip_types.specs.declared.made.MadeFile.{MadeFile as AnyFile};
 ghost use Rattle.pip_types.specs.declared.outputs.OutDir.{OutDir as AnyDir};
 ghost use Rattle.verdicts.specs.Verdicts.{with_pip};
 ghost use Rattle.violations.specs.DoubleWrites as double_writes;
+ghost use Rattle.pip_types.specs.Kinds.{outdirs_of};
 
 use crate::Memory;
 use crate::classes::with_other;
@@ -16,7 +17,7 @@ use pip_model::{Made, MadeFile, OutDir, Pip, PipKind, Plan, Slot};
 use verdicts::{DeedKind, Violation, ViolationKind};
 
 fn outdirs_of(kind: &PipKind) -> &[OutDir]
-    ensures { result.now ≡ double_writes.outdirs_of kind.entry.now }
+    ensures { result.now ≡ outdirs_of kind.entry.now }
 {
     match kind {
         PipKind::Process(process) => process.outdirs.dirs(),

@@ -1,10 +1,11 @@
 use Rattle.std.proofs.Common.{◌++◌, ◌∷◌, [], subst, sym, ◌∙◌}
 use Rattle.std.proofs.lemmas.Bool.{false≢true}
 use Rattle.bx_folder.specs.Answers.{ListsNodes}
-use Rattle.bx_folder.specs.Places.{IsLeftOut, texts_now}
+use Rattle.bx_folder.specs.Places.{IsLeftOut}
 use Rattle.bx_folder.specs.Stored.{placed}
 use Rattle.bx_folder.proofs.Entries.{entries_more, left_out_more}
 use Rattle.bx_folder.proofs.mem_folder.add_entry.Goals as goal
+use Rattle.bx_tree.specs.Lent.{texts_now}
 
 pub returns-then-is_left_out : goal.returns-then-is_left_out
 returns-then-is_left_out c nodes lists =

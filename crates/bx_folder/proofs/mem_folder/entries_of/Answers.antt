@@ -1,12 +1,12 @@
 use Rattle.std.proofs.Common.{List, [], subst, sym, take}
 use Rattle.std.proofs.lemmas.List.{take_all}
 use Rattle.bx_folder.specs.Answers.{ListsNodes}
-use Rattle.bx_folder.specs.Places.{texts_now}
 use Rattle.bx_folder.specs.Stored.{stored}
 use Rattle.bx_folder.specs.declared.folder.Entry.{Entry}
 use Rattle.bx_folder.specs.declared.mem_folder.Placed.{Placed}
 use Rattle.bx_folder.proofs.Entries.{no_entries, stored_more}
 use Rattle.bx_folder.proofs.mem_folder.entries_of.Goals as goal
+use Rattle.bx_tree.specs.Lent.{texts_now}
 
 pub things-init : goal.things-init
 things-init c =

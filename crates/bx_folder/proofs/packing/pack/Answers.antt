@@ -2,12 +2,12 @@ use Rattle.std.proofs.Common.{◌∙◌, List, subst, sym}
 use Rattle.std.proofs.lemmas.Result.{MatchResult-weaker, err_from_is_err_and}
 use Rattle.bx_folder.specs.Answers.{ListsNodes}
 use Rattle.bx_folder.specs.Folders.{Known}
-use Rattle.bx_folder.specs.Places.{texts_now}
 use Rattle.bx_folder.specs.Steps.{ArePathsOf, AreRead}
 use Rattle.bx_folder.specs.declared.folder.Entry.{Entry}
 use Rattle.bx_tree.specs.Paths.{Atoms}
 use Rattle.bx_folder.proofs.Held.{has_no_text, in_size_read, is_pack}
 use Rattle.bx_folder.proofs.packing.pack.Goals as goal
+use Rattle.bx_tree.specs.Lent.{texts_now}
 
 pub returns-in_err-files-clause-packed : goal.returns-in_err-files-clause-packed
 returns-in_err-files-clause-packed g c =

@@ -4,15 +4,15 @@ use Rattle.std.proofs.lemmas.Bool.{false≢true}
 use Rattle.std.proofs.lemmas.Result.{IfOk-weaker}
 use Rattle.std.proofs.lemmas.Slice.Eq.{bytes_eq-Decides}
 use Rattle.bx_tree.specs.Paths.{IsAtom, path_text}
-use Rattle.bx_path.specs.Parts.{parts_now}
 use Rattle.bx_path.proofs.StepsOfTexts.{root_from_text, atoms_from_text}
 use Rattle.bx_path.proofs.joining.atoms_of.Goals as goal
+use Rattle.bx_tree.specs.Lent.{texts_now}
 
 pub returns-then-eq-clause-atoms : goal.returns-then-eq-clause-atoms
 returns-then-eq-clause-atoms c =
     let same : c.as_bytes-text.result.now ≡ c.as_slice.result.now = (bytes_eq-Decides c.as_bytes-text.result.now c.as_slice.result.now).0 (sym c.if-eq.ensures) in
     let text : path_text c.args.path.now ≡ codes "." = sym (c.as_bytes-text.ensures.value ∙ c.text.ensures.text) ∙ same ∙ c.as_slice.ensures in
-    ap parts_now c.new.ensures.items ∙ sym (root_from_text c.args.path.now c.text.ensures.is_path text)
+    ap texts_now c.new.ensures.items ∙ sym (root_from_text c.args.path.now c.text.ensures.is_path text)
 
 pub returns-clause-atoms : goal.returns-clause-atoms
 returns-clause-atoms c =

@@ -2,10 +2,10 @@ use Rattle.std.proofs.Common.{◌≡◌, drop}
 use Rattle.std.specs.List.{AllByRecursion}
 use Rattle.bx_tree.specs.Paths.{IsAtom}
 use Rattle.bx_path.specs.Joining.{walk}
-use Rattle.bx_path.specs.Parts.{parts_now}
 use Rattle.bx_path.proofs.joining.join.Given as goal
+use Rattle.bx_tree.specs.Lent.{texts_now}
 
 abbrev pub invariant-loop-part : goal.invariant-loop-part
 invariant-loop-part l =
-    AllByRecursion IsAtom (parts_now l.atoms.items)
-    × (walk (parts_now l.atoms.items) (parts_now (drop l.part-index l.part-items)) ≡ walk (parts_now l.initial.atoms.items) (parts_now l.part-items))
+    AllByRecursion IsAtom (texts_now l.atoms.items)
+    × (walk (texts_now l.atoms.items) (texts_now (drop l.part-index l.part-items)) ≡ walk (texts_now l.initial.atoms.items) (texts_now l.part-items))

@@ -1,8 +1,9 @@
 use Rattle.std.proofs.Common.{codes, map, ap, sym, ◌∙◌}
 use Rattle.dscript_ast.specs.Views.{expr_tree, part_tree}
-use Rattle.dscript_config.specs.Modules.{is_text, name_of}
+use Rattle.dscript_config.specs.Modules.{is_text}
 use Rattle.dscript_config.proofs.Members.{member_is, semantics_by_member}
 use Rattle.dscript_config.proofs.module.is_semantics.Goals as goal
+use Rattle.dscript_ast.specs.Literals.{name_of}
 
 pub returns-then-is_name : goal.returns-then-is_name
 returns-then-is_name c =

@@ -1,10 +1,10 @@
 use Rattle.std.proofs.Common.{◌≡◌, drop, map}
-use Rattle.bx_path.specs.Parts.{parts_now}
 use Rattle.dscript_ast.specs.Views.{prop_tree}
 use Rattle.dscript_config.specs.Objects.{are_known}
 use Rattle.dscript_config.proofs.object.are_known.Given as goal
+use Rattle.bx_tree.specs.Lent.{texts_now}
 
 abbrev pub invariant-props : goal.invariant-props
 invariant-props l =
-    are_known (parts_now l.names) (map prop_tree (drop l.prop-index l.props))
-    ≡ are_known (parts_now l.names) (map prop_tree l.props)
+    are_known (texts_now l.names) (map prop_tree (drop l.prop-index l.props))
+    ≡ are_known (texts_now l.names) (map prop_tree l.props)

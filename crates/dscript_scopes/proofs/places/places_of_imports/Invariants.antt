@@ -2,8 +2,8 @@ use Rattle.std.proofs.Common.{◌≡◌, ℕ, List, length}
 use Rattle.std.specs.List.{position_from}
 use Rattle.std.specs.Option.{option_or}
 use Rattle.std.specs.Str.{bytes_eq}
-use Rattle.dscript_scopes.specs.Tables.{at_text}
 use Rattle.dscript_scopes.proofs.places.places_of_imports.Given as goal
+use Rattle.bx_tree.specs.TextTables.{at_text}
 
 abbrev pub invariant-last : goal.invariant-last
 invariant-last l = (x : List ℕ) →

@@ -3,10 +3,9 @@ use Rattle.std.specs.Prelude.{Contains}
 use Rattle.std.specs.List.{AllZip}
 use Rattle.std.proofs.lemmas.List.{map-append}
 use Rattle.std.proofs.lemmas.List.Elements.{All-get_or}
-use Rattle.bx_tree.specs.Paths.{Atoms}
+use Rattle.bx_tree.specs.Paths.{Atoms, has_path}
 use Rattle.bx_tree.specs.Trees.{paths_of}
 use Rattle.dscript_workspace.specs.Finding.{IsModuleFile}
-use Rattle.dscript_config.specs.Paths.{is_one_of}
 use Rattle.dscript_workspace.specs.Membership.{dir_of, implied_files}
 use Rattle.dscript_workspace.specs.ModuleFiles.{file_data, files_data}
 use Rattle.dscript_workspace.specs.PathSets.{files_in}
@@ -30,5 +29,5 @@ files-preserved c =
     subst (AllZip (IsModuleFile files (map dir_of listed)) (take _ listed)) (sym pushed)
     (read_more files listed c.files.path-index c.path-item.result (files_data c.files.found.items) (file_data m)
     (files_in c.in_ok-implied.implied) c.files-test.true c.path-item.is
-    (subst (λ (ds : List Atoms). (dir : Atoms) → is_one_of ds dir ≡ true → files_in c.in_ok-implied.implied dir ≡ implied_files files ds dir)
+    (subst (λ (ds : List Atoms). (dir : Atoms) → has_path ds dir ≡ true → files_in c.in_ok-implied.implied dir ≡ implied_files files ds dir)
     dirs c.in_ok-implied.ensures) c.files.invariant c.in_ok-module_file.ensures)

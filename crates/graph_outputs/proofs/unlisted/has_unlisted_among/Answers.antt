@@ -1,10 +1,10 @@
 use Rattle.std.proofs.Common.{inl, inr, ◌≡◌, get_or, map, arith, sym, subst}
 use Rattle.std.specs.List.{Contains}
 use Rattle.std.proofs.lemmas.Bool.{cases_lt}
-use Rattle.pip_types.specs.Inputs.{input_path}
 use Rattle.graph_outputs.specs.Outputs.{IsWithin}
 use Rattle.graph_outputs.proofs.InTree.{at_default, none_unlisted}
 use Rattle.graph_outputs.proofs.unlisted.has_unlisted_among.Goals as goal
+use Rattle.bx_tree.specs.FileInputs.{input_path}
 
 pub returns-then-not-is_within : goal.returns-then-not-is_within
 returns-then-not-is_within c = (

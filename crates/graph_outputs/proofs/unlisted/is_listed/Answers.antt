@@ -9,9 +9,9 @@ use Rattle.std.proofs.lemmas.List.Elements.{All-contains, All-map}
 use Rattle.bx_tree.specs.Paths.{Atoms, path_cmp}
 use Rattle.bx_tree.specs.declared.file_input.FileInput.{FileInput}
 use Rattle.bx_tree.specs.declared.file_input.FileInput.TheVariants.{Source}
-use Rattle.pip_types.specs.Inputs.{input_path}
 use Rattle.pip_types.proofs.Placed.{place_from_search}
 use Rattle.graph_outputs.proofs.unlisted.is_listed.Goals as goal
+use Rattle.bx_tree.specs.FileInputs.{input_path}
 
 among : (files : List FileInput) (p : Atoms) (r : Result ℕ ℕ)
     → MatchResult r (λ i. (i < length files) × HoldsAt (λ f. input_path f ≡ p) files i) (λ i. All (λ f. input_path f ≢ p) files)

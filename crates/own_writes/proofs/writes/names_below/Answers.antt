@@ -6,11 +6,11 @@ use Rattle.std.specs.Option.{option_copied}
 use Rattle.std.specs.BTreeMap.Range.{range_contains}
 use Rattle.std.proofs.lemmas.Iterator.Consumers.{YieldsList-from_rest, YieldsList-end}
 use Rattle.bx_tree.specs.Paths.{Atoms, path_cmp}
-use Rattle.observed.specs.Texts.{texts_now}
 use Rattle.own_writes.specs.Below.{next_atom}
 use Rattle.own_writes.proofs.Bounds.{names_within}
 use Rattle.own_writes.proofs.NextAtoms.{name_added, name_skipped, path_seen}
 use Rattle.own_writes.proofs.writes.names_below.Goals as goal
+use Rattle.bx_tree.specs.Lent.{texts_now}
 
 paths_of_pairs : (files : List (Bor Atoms × Bor (List ℕ))) → map path_seen files ≡ map (λ (f : Atoms × List ℕ). f.0) (map deref_pair files)
 paths_of_pairs [] = refl

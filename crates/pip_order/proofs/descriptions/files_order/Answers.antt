@@ -5,10 +5,10 @@ use Rattle.std.specs.declared.cmp.Ordering.{Ordering}
 use Rattle.std.specs.Ordering.{nat_cmp, ordering_then}
 use Rattle.bx_tree.specs.Paths.{Atoms, path_cmp}
 use Rattle.bx_tree.specs.declared.file_input.FileInput.{FileInput}
-use Rattle.pip_types.specs.Inputs.{input_path}
 use Rattle.pip_order.specs.ProcessOrder.{maker_rank}
 use Rattle.pip_order.proofs.Lists.{slice_cmp-map}
 use Rattle.pip_order.proofs.descriptions.files_order.Goals as goal
+use Rattle.bx_tree.specs.FileInputs.{input_path}
 
 abbrev key : FileInput → Atoms × ℕ
 key file = (input_path file, maker_rank file)

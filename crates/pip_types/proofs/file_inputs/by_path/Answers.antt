@@ -4,9 +4,9 @@ use Rattle.std.proofs.lemmas.List.Sorted.{answers_always, ranks_by}
 use Rattle.bx_tree.specs.Orders.{path_cmp_total}
 use Rattle.bx_tree.specs.Paths.{path_cmp}
 use Rattle.bx_tree.specs.declared.file_input.FileInput.{FileInput}
-use Rattle.pip_types.specs.Inputs.{input_path}
 use Rattle.pip_types.proofs.Placed.{rising_from_sorted}
 use Rattle.pip_types.proofs.file_inputs.by_path.Goals as goal
+use Rattle.bx_tree.specs.FileInputs.{input_path}
 
 pub returns-clause-rising : goal.returns-clause-rising
 returns-clause-rising c =

@@ -1,8 +1,8 @@
 use Rattle.std.proofs.Common.{rules}
 use Rattle.std.proofs.lemmas.List.Sorted.{IsPartitionPoint-from_clause}
-use Rattle.pip_view.specs.Ranges.{comes_before}
 use Rattle.pip_view.proofs.Together.{partitioned}
 use Rattle.pip_view.proofs.below.count_before.Goals as goal
+use Rattle.bx_tree.specs.Ranges.{comes_before}
 
 pub returns-clause-before : goal.returns-clause-before
 returns-clause-before c =

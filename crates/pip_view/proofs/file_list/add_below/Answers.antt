@@ -1,8 +1,8 @@
 use Rattle.std.proofs.Common.{◌≡◌, ◌++◌, List, ℕ, OnOk, subst}
-use Rattle.observed.specs.Texts.{texts_now}
 use Rattle.pip_view.specs.Taken.{while_begins}
 use Rattle.pip_view.proofs.Begun.{names_by_filter}
 use Rattle.pip_view.proofs.file_list.add_below.Goals as goal
+use Rattle.bx_tree.specs.Lent.{texts_now}
 
 pub returns : goal.returns
 returns c =

@@ -1,7 +1,7 @@
 use Rattle.std.proofs.Common.{sym, ◌∙◌}
-use Rattle.observed.specs.Texts.{texts_now}
 use Rattle.pip_view.proofs.Begun.{names_all, names_end, names_more}
 use Rattle.pip_view.proofs.file_list.add_first.Goals as goal
+use Rattle.bx_tree.specs.Lent.{texts_now}
 
 pub returns-then-not-begins : goal.returns-then-not-begins
 returns-then-not-begins c =

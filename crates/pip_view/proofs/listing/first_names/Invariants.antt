@@ -1,9 +1,9 @@
 use Rattle.std.proofs.Common.{◌≡◌, ◌++◌, drop}
 use Rattle.std.specs.List.{filter_map}
-use Rattle.observed.specs.Texts.{texts_now}
 use Rattle.own_writes.specs.Below.{next_atom}
 use Rattle.pip_view.specs.Ranges.{first_below}
 use Rattle.pip_view.proofs.listing.first_names.Given as goal
+use Rattle.bx_tree.specs.Lent.{texts_now}
 
 abbrev pub invariant-paths : goal.invariant-paths
 invariant-paths l =

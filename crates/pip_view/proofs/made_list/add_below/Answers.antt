@@ -1,8 +1,8 @@
 use Rattle.std.proofs.Common.{◌≡◌, ◌++◌, List, ℕ, OnOk, ap, subst, ◌∙◌}
-use Rattle.observed.specs.Texts.{texts_now}
 use Rattle.pip_view.specs.Taken.{taken_names}
 use Rattle.pip_view.proofs.MadeLists.{within_made}
 use Rattle.pip_view.proofs.made_list.add_below.Goals as goal
+use Rattle.bx_tree.specs.Lent.{texts_now}
 
 pub returns : goal.returns
 returns c =

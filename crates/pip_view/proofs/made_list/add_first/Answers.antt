@@ -1,8 +1,8 @@
 use Rattle.std.proofs.Common.{sym, ◌∙◌}
-use Rattle.observed.specs.Texts.{texts_now}
 use Rattle.pip_view.specs.Gathered.{all_taken, as_taken}
 use Rattle.pip_view.proofs.MadeLists.{at_taken, in_taken, out_taken, within_all, within_end, within_more}
 use Rattle.pip_view.proofs.made_list.add_first.Goals as goal
+use Rattle.bx_tree.specs.Lent.{texts_now}
 
 pub returns-then-not-begins : goal.returns-then-not-begins
 returns-then-not-begins c =

@@ -1,8 +1,8 @@
 use Rattle.std.proofs.Common.{◌≡◌, ◌++◌, drop}
-use Rattle.observed.specs.Texts.{texts_now}
 use Rattle.pip_view.specs.Gathered.{all_taken, names_within}
 use Rattle.pip_view.specs.Taken.{while_begins}
 use Rattle.pip_view.proofs.made_list.add_first.Given as goal
+use Rattle.bx_tree.specs.Lent.{texts_now}
 
 abbrev pub invariant-files : goal.invariant-files
 invariant-files l =

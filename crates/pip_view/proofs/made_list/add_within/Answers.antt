@@ -1,8 +1,8 @@
 use Rattle.std.proofs.Common.{◌≡◌, ◌++◌, List, ℕ, OnOk, subst, sym, ◌∙◌}
-use Rattle.observed.specs.Texts.{texts_now}
 use Rattle.pip_view.specs.Gathered.{as_taken}
 use Rattle.pip_view.proofs.MadeLists.{name_within, none_within}
 use Rattle.pip_view.proofs.made_list.add_within.Goals as goal
+use Rattle.bx_tree.specs.Lent.{texts_now}
 
 pub returns-then-is_below : goal.returns-then-is_below
 returns-then-is_below c =

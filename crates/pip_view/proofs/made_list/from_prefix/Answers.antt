@@ -3,13 +3,13 @@ use Rattle.std.proofs.lemmas.List.{length-drop, take_all}
 use Rattle.std.specs.List.Sorted.{IsPartitionPoint}
 use Rattle.bx_tree.specs.declared.file_input.FileInput.{FileInput}
 use Rattle.own_writes.specs.Below.{is_below}
-use Rattle.pip_types.specs.Inputs.{input_path}
 use Rattle.pip_types.specs.declared.made.MadeFile.{MadeFile}
 use Rattle.pip_view.specs.Gathered.{all_taken}
-use Rattle.pip_view.specs.Ranges.{comes_before}
 use Rattle.pip_view.specs.Taken.{while_begins}
 use Rattle.pip_view.proofs.MadeLists.{made_have_all}
 use Rattle.pip_view.proofs.made_list.from_prefix.Goals as goal
+use Rattle.bx_tree.specs.FileInputs.{input_path}
+use Rattle.bx_tree.specs.Ranges.{comes_before}
 
 pub returns : goal.returns
 returns c =

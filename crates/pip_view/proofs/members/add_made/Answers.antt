@@ -1,11 +1,11 @@
 use Rattle.std.proofs.Common.{◌≡◌, ◌++◌, List, ℕ, OnOk, ap, append-nil, subst, sym, ◌∙◌}
-use Rattle.observed.specs.Texts.{texts_now}
 use Rattle.bx_tree.specs.Trees.{Files}
 use Rattle.own_writes.specs.Writes.{own_names}
 use Rattle.pip_inputs.specs.Results.{files_by}
 use Rattle.pip_view.specs.Gathered.{below_of}
 use Rattle.pip_view.proofs.OpaqueMembers.{names_at, names_deeper}
 use Rattle.pip_view.proofs.members.add_made.Goals as goal
+use Rattle.bx_tree.specs.Lent.{texts_now}
 
 pub returns-in_default : goal.returns-in_default
 returns-in_default c =

@@ -1,9 +1,9 @@
 use Rattle.std.proofs.Common.{◌++◌, ap}
-use Rattle.observed.specs.Texts.{texts_now}
 use Rattle.own_writes.specs.Writes.{own_names}
 use Rattle.pip_view.specs.Gathered.{dirs_now, members_of}
 use Rattle.pip_view.proofs.OpaqueMembers.{names_member, no_member_names_left}
 use Rattle.pip_view.proofs.members.names_of.Goals as goal
+use Rattle.bx_tree.specs.Lent.{texts_now}
 
 pub dirs-init : goal.dirs-init
 dirs-init c =

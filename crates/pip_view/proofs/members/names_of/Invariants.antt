@@ -1,8 +1,8 @@
 use Rattle.std.proofs.Common.{◌≡◌, ◌++◌, drop}
-use Rattle.observed.specs.Texts.{texts_now}
 use Rattle.own_writes.specs.Writes.{own_names}
 use Rattle.pip_view.specs.Gathered.{dirs_now, members_of}
 use Rattle.pip_view.proofs.members.names_of.Given as goal
+use Rattle.bx_tree.specs.Lent.{texts_now}
 
 abbrev pub invariant-dirs : goal.invariant-dirs
 invariant-dirs l =

@@ -1,8 +1,8 @@
 use Rattle.std.proofs.Common.{◌++◌, ap, ◌∙◌}
-use Rattle.observed.specs.Texts.{texts_now}
 use Rattle.pip_view.specs.Taken.{taken_names}
 use Rattle.pip_view.proofs.TakenFiles.{names_next, no_names_left}
 use Rattle.pip_view.proofs.taken.add_listed.Goals as goal
+use Rattle.bx_tree.specs.Lent.{texts_now}
 
 pub dirs-preserved : goal.dirs-preserved
 dirs-preserved c =

@@ -1,7 +1,7 @@
 use Rattle.std.proofs.Common.{◌≡◌, ◌++◌, drop}
-use Rattle.observed.specs.Texts.{texts_now}
 use Rattle.pip_view.specs.Taken.{dirs_files, taken_names}
 use Rattle.pip_view.proofs.taken.add_listed.Given as goal
+use Rattle.bx_tree.specs.Lent.{texts_now}
 
 abbrev pub invariant-dirs : goal.invariant-dirs
 invariant-dirs l =

@@ -1,11 +1,11 @@
 use Rattle.std.proofs.Common.{◌≡◌, ◌∷◌, List, ℕ, OnOk, ap, subst, ◌∙◌}
-use Rattle.observed.specs.Texts.{texts_now}
 use Rattle.tool_values.specs.Listings.{add_names}
 use Rattle.tool_values.specs.NameSets.{names_now}
 use Rattle.std.specs.Option.{unwrap_or}
 use Rattle.pip_view.specs.Taken.{executable}
 use Rattle.pip_view.proofs.NearFiles.{names_searched}
 use Rattle.pip_view.proofs.taken.add_taken.Goals as goal
+use Rattle.bx_tree.specs.Lent.{texts_now}
 
 pub returns : goal.returns
 returns c =

@@ -1,8 +1,8 @@
 use Rattle.std.proofs.Common.{◌++◌, ◌∷◌, ap, ◌∙◌}
-use Rattle.observed.specs.Texts.{texts_now}
 use Rattle.pip_view.specs.Taken.{dirs_files, executable, taken_names}
 use Rattle.pip_view.proofs.TakenFiles.{three_names}
 use Rattle.pip_view.proofs.taken.names_among.Goals as goal
+use Rattle.bx_tree.specs.Lent.{texts_now}
 
 pub returns : goal.returns
 returns c =

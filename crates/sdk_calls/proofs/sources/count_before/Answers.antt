@@ -1,9 +1,9 @@
 use Rattle.std.proofs.Common.{rules}
 use Rattle.std.proofs.lemmas.List.Sorted.{IsPartitionPoint-from_clause}
 use Rattle.bx_tree.specs.declared.tree_file.TreeFile.{TreeFile}
-use Rattle.sdk_calls.specs.Ranges.{comes_before}
 use Rattle.sdk_calls.proofs.Together.{partitioned}
 use Rattle.sdk_calls.proofs.sources.count_before.Goals as goal
+use Rattle.bx_tree.specs.Ranges.{comes_before}
 
 pub returns-clause-before : goal.returns-clause-before
 returns-clause-before c =

@@ -4,10 +4,11 @@ use Rattle.std.specs.List.Sorted.{IsPartitionPoint}
 use Rattle.bx_tree.specs.Trees.{IsTree}
 use Rattle.bx_tree.specs.Trees.{paths_of}
 use Rattle.bx_tree.specs.Views.{files_of}
-use Rattle.sdk_calls.specs.Ranges.{comes_before, first_below}
+use Rattle.sdk_calls.specs.Ranges.{first_below}
 use Rattle.sdk_calls.specs.Sources.{files_below}
 use Rattle.sdk_calls.proofs.Together.{all_below}
 use Rattle.sdk_calls.proofs.sources.find_below.Goals as goal
+use Rattle.bx_tree.specs.Ranges.{comes_before}
 
 pub returns : goal.returns
 returns c =

@@ -4,10 +4,11 @@ use Rattle.std.specs.List.Sorted.{IsPartitionPoint}
 use Rattle.bx_tree.specs.Trees.{IsTree}
 use Rattle.bx_tree.specs.Trees.{paths_of}
 use Rattle.bx_tree.specs.Views.{files_of}
-use Rattle.sdk_calls.specs.Ranges.{comes_before, first_directly_in}
+use Rattle.sdk_calls.specs.Ranges.{first_directly_in}
 use Rattle.sdk_calls.specs.Sources.{files_directly_in, lies_directly_in}
 use Rattle.sdk_calls.proofs.Together.{all_below}
 use Rattle.sdk_calls.proofs.sources.find_directly_in.Goals as goal
+use Rattle.bx_tree.specs.Ranges.{comes_before}
 
 pub returns : goal.returns
 returns c =

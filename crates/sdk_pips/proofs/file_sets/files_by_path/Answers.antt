@@ -2,11 +2,11 @@ use Rattle.std.proofs.Common.{map, ap, sym, ◌∙◌, subst}
 use Rattle.std.specs.List.{IsDistinct}
 use Rattle.std.specs.List.Sorted.{IsPermutation}
 use Rattle.bx_tree.specs.Paths.{same_path}
-use Rattle.pip_types.specs.Inputs.{input_path}
 use Rattle.sdk_pips.specs.FileSets.{AreCounted, files_by_path}
 use Rattle.sdk_pips.proofs.Counted.{are_counted}
 use Rattle.sdk_pips.proofs.FilesKept.{distinct_paths, files_rise, one_order, values}
 use Rattle.sdk_pips.proofs.file_sets.files_by_path.Goals as goal
+use Rattle.bx_tree.specs.FileInputs.{input_path}
 
 pub of-requires : goal.of-requires
 of-requires c =

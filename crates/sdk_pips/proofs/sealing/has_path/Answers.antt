@@ -2,10 +2,10 @@ use Rattle.std.proofs.Common.{rules, sym, ◌∙◌}
 use Rattle.std.proofs.lemmas.Fn.{always_returns_same}
 use Rattle.bx_tree.specs.Paths.{path_cmp}
 use Rattle.bx_tree.specs.declared.file_input.FileInput.{FileInput}
-use Rattle.pip_types.specs.Inputs.{input_path}
 use Rattle.pip_types.proofs.Placed.{place_from_search}
 use Rattle.sdk_pips.proofs.Listed.{has_if_found}
 use Rattle.sdk_pips.proofs.sealing.has_path.Goals as goal
+use Rattle.bx_tree.specs.FileInputs.{input_path}
 
 pub returns : goal.returns
 returns c =

@@ -1,8 +1,8 @@
 use Rattle.std.proofs.Common.{◌↔◌, IsTrue, map, subst}
 use Rattle.std.specs.Prelude.{Contains}
-use Rattle.pip_types.specs.Inputs.{input_path}
 use Rattle.sdk_pips.proofs.Listed.{listed_from_answer}
 use Rattle.sdk_pips.proofs.sealing.is_listed.Goals as goal
+use Rattle.bx_tree.specs.FileInputs.{input_path}
 
 pub returns : goal.returns
 returns c =

@@ -2,8 +2,8 @@ use Rattle.std.proofs.Common.{◌≡◌, List, [], ◌∷◌, length, map, arith
 use Rattle.std.specs.List.{IsDistinct}
 use Rattle.std.proofs.lemmas.List.Sorted.{length_permutation}
 use Rattle.bx_tree.specs.Paths.{same_path}
-use Rattle.pip_types.specs.Inputs.{input_path}
 use Rattle.sdk_pips.proofs.sealing.no_files.Goals as goal
+use Rattle.bx_tree.specs.FileInputs.{input_path}
 
 no_element : {X : Type 0} (xs : List X) → length xs ≡ 0 → xs ≡ []
 no_element [] e = refl

@@ -1,7 +1,8 @@
 use Rattle.std.proofs.Common.{◌≡◌, ℕ, List, true, map, take}
-use Rattle.tool_text.specs.Reading.{are_distinct, label_of, place_of, texts_now}
+use Rattle.tool_text.specs.Reading.{are_distinct, label_of, place_of}
 use Rattle.tool_text.specs.Tables.{place_at}
 use Rattle.tool_text.proofs.labels.table_of.Given as goal
+use Rattle.bx_tree.specs.Lent.{texts_now}
 
 abbrev pub invariant-lines : goal.invariant-lines
 invariant-lines l = record {

@@ -1,7 +1,8 @@
 use Rattle.std.proofs.Common.{◌∙◌, ap, subst, List, ℕ}
-use Rattle.tool_text.specs.Reading.{ReadsTool, texts_now, tool_from, tool_of}
+use Rattle.tool_text.specs.Reading.{ReadsTool, tool_from, tool_of}
 use Rattle.tool_text.proofs.OneTool.{found, none}
 use Rattle.tool_text.proofs.reading.read_tool.Goals as goal
+use Rattle.bx_tree.specs.Lent.{texts_now}
 
 read_as : (c : goal.After-drop-lines) → ReadsTool c.tool_of_lines.result (tool_of c.args.bytes.now)
 read_as c =

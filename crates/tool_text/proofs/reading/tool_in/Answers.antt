@@ -1,9 +1,10 @@
 use Rattle.std.proofs.Common.{◌∙◌, ap, sym, ℕ, List, [], Bor, Some, None, get_or, arith}
 use Rattle.std.proofs.lemmas.Result.{err_from_is_err_and}
-use Rattle.tool_text.specs.Reading.{line_of, tool_in, texts_now}
+use Rattle.tool_text.specs.Reading.{line_of, tool_in}
 use Rattle.tool_text.specs.Tables.{place_in}
 use Rattle.tool_text.proofs.ToolLines.{tool_read, bad_line, all_instrs, err_again}
 use Rattle.tool_text.proofs.reading.tool_in.Goals as goal
+use Rattle.bx_tree.specs.Lent.{texts_now}
 
 abbrev no_text : Bor (List ℕ)
 no_text = record { ref_ptr = (0, 0); now = [] }

@@ -1,7 +1,8 @@
 use Rattle.std.proofs.Common.{◌≡◌, drop}
-use Rattle.tool_text.specs.Reading.{after_lines, lines_of, texts_now}
+use Rattle.tool_text.specs.Reading.{after_lines, lines_of}
 use Rattle.tool_text.specs.Tables.{place_in}
 use Rattle.tool_text.proofs.reading.tool_in.Given as goal
+use Rattle.bx_tree.specs.Lent.{texts_now}
 
 abbrev pub invariant-lines : goal.invariant-lines
 invariant-lines l =

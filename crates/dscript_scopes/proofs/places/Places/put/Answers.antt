@@ -1,8 +1,8 @@
 use Rattle.std.proofs.Common.{Some, ap, cond, ◌∙◌}
 use Rattle.std.specs.Str.{bytes_eq}
-use Rattle.dscript_scopes.specs.Tables.{at_text}
 use Rattle.dscript_scopes.proofs.Placed.{text_put}
 use Rattle.dscript_scopes.proofs.places.Places.put.Goals as goal
+use Rattle.bx_tree.specs.TextTables.{at_text}
 
 pub returns : goal.returns
 returns c = λ x.

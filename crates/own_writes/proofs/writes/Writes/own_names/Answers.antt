@@ -1,7 +1,7 @@
 use Rattle.std.proofs.Common.{◌∙◌, ap, sym}
-use Rattle.observed.specs.Texts.{texts_now}
 use Rattle.own_writes.proofs.NextAtoms.{no_names}
 use Rattle.own_writes.proofs.writes.Writes.own_names.Goals as goal
+use Rattle.bx_tree.specs.Lent.{texts_now}
 
 pub returns-then-not-has_below : goal.returns-then-not-has_below
 returns-then-not-has_below c =
