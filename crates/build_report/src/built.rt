@@ -21,7 +21,6 @@ fn add_other(alloc: Global, text: &mut Vec<u8>, other: Option<u32>) -> Result<()
     text.extend_from_slice(added.as_bytes())
 }
 
-// Adds a violation.
 fn add_violation(alloc: Global, text: &mut Vec<u8>, violation: &Violation) -> Result<(), Memory>
     ensures { OnOk result (text.new.items ≡ text.old.items ++ texts.violation_text violation.now) }
 {
@@ -56,7 +55,6 @@ fn add_end(alloc: Global, text: &mut Vec<u8>, verdict: &Verdict) -> Result<(), M
     }
 }
 
-// Adds the line of a pip.
 fn add_pip(
     alloc: Global,
     text: &mut Vec<u8>,
@@ -91,7 +89,6 @@ fn head(verdicts: &[Verdict]) -> &'static str
     }
 }
 
-// The report of these pips.
 fn report_of(alloc: Global, pips: &[Pip], verdicts: &[Verdict]) -> Result<Vec<u8>, Memory>
     requires { length verdicts.now ≤ length pips.now }
     ensures { IfOk result (λ text. text.items ≡ texts.report_text pips.now verdicts.now) }

@@ -20,7 +20,6 @@ pub struct Counts {
     pub starved: u64,
 }
 
-// Adds the line of a count.
 fn add_count(alloc: Global, text: &mut Vec<u8>, name: &str, count: u64) -> Result<(), Memory>
     ensures { OnOk result (text.new.items ≡ text.old.items ++ count_line name.now count) }
 {

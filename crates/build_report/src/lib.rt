@@ -1,4 +1,4 @@
-//! The texts that a build is reported by: the report of all pips, the report of a refusal, and the notes.
+//! The text of the build report, of a refused build's report, and of the notes.
 //!
 //! This crate depends on `verdicts` for how pips ended, on `pip_model` for the plan, and on
 //! `dscript_modules` for places. It carries the promise that a report is the one text of what it says.

@@ -26,7 +26,6 @@ pub enum Refusal {
     },
 }
 
-// A byte as it is shown.
 fn shown_byte(byte: u8) -> u8
     ensures { result ≡ texts.shown_byte byte }
 {
@@ -46,7 +45,6 @@ fn shown_part(message: &[u8]) -> &[u8]
     &message[..MAX_SHOWN_BYTES]
 }
 
-// Adds the bytes as they are shown.
 fn add_shown(text: &mut Vec<u8>, bytes: &[u8]) -> Result<(), Memory>
     ensures { OnOk result (text.new.items ≡ text.old.items ++ texts.shown_bytes bytes.now) }
 {

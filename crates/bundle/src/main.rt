@@ -1,4 +1,4 @@
-//! The program `bundle`: the text of a folder, and a folder of a text.
+//! The program `bundle`: packs a folder as a bundle, unpacks a bundle, and lists its files.
 //!
 //! `bundle pack FOLDER` writes the bundle of the files of a folder, `bundle unpack [--replace] FOLDER` makes
 //! the files of a bundle in a folder, and `bundle list` names the files of a bundle. It depends on

@@ -1,4 +1,4 @@
-//! What the program `bundle` is made of: its words, its messages, and its folder of the system.
+//! Command line, messages and system folder of the program `bundle`.
 //!
 //! It depends on `bx_folder`, whose trait the folder of the system implements, and on `bx_tree` for paths. It
 //! carries no promise but that the folder counts a fault where it reports one; `cases/folders` shows

@@ -37,7 +37,6 @@ fn read_unpack(words: &[String]) -> Option<Command<'_>> {
     Some(Command::Unpack(Replace::Nothing, only_folder(words)?))
 }
 
-// The folder that is the only word.
 fn only_folder(words: &[String]) -> Option<&str> {
     let word = words.first()?.as_str();
     if words.len() != 1 || !is_folder(word) {

@@ -1,4 +1,4 @@
-//! SHA-256 digests, and bytes that are shared with their digest.
+//! SHA-256 digests, and content blobs that cache their digest.
 //!
 //! Whatever the engine stores or compares by name is named by its digest, and whatever it hands from step
 //! to step is a blob, which is hashed where its digest is asked for. This crate depends on `sha2` and `hex`.

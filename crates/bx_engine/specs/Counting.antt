@@ -22,7 +22,7 @@ use Rattle.bx_engine.specs.Stores.{AsksFor, uses_store}
 use Rattle.bx_engine.specs.declared.status.Status.{Status}
 use Rattle.bx_engine.specs.declared.status.Status.TheVariants as statuses
 
--- what is known of a keeper before a call and after it
+-- what is known of a store before a call and after it
 pub record StoreChange : Type 0 where
   pub before : Option StoreState
   pub now : Option StoreState
@@ -43,7 +43,7 @@ change_of before now bound faults_before faults_now = record {
 
 -- Each process that runs is run by the thread that goes through the pips, and that is the only one. Where the
 -- keeper has a bound, at most as many faults are counted as its count rose by and its reader may count; where
--- no fault is counted, the keeper's count did not rise; and where the store is not used, no hit and no fault
+-- no fault is counted, the store's count did not rise; and where the store is not used, no hit and no fault
 -- is counted.
 pub record AreCounts (cached : Bool) (change : StoreChange) (counts : Counts) : Type 0 where
   pub all_late : counts.late ≡ counts.ran

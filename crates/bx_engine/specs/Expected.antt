@@ -11,7 +11,7 @@ use Rattle.bx_engine.specs.Ending.{Ending, status_of, output_of}
 use Rattle.bx_engine.specs.Ends.{Ends}
 use Rattle.bx_engine.specs.Known.{AppendsPrefix}
 
--- A build of this input has this status and writes these bytes to `out`. That is what the build on one thread
+-- A build of this input has this status and writes these bytes to `out`. That is what the sequential build
 -- without a cache does.
 pub record IsExpected (limits : Limits) (input : List ℕ) (status : Status) (bytes : List ℕ) : Type 0 where
   pub ending : Ending

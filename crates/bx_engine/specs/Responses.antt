@@ -89,7 +89,7 @@ pub record IsGoneResponse (cached : Bool) (change : StoreChange) (response : Res
   pub notes_are : response.notes.items ≡ notes_text gone.counts
 
 -- The response of a build of these pips. Whatever the store, its bytes are an output; over a fair store it is
--- that of the build on one thread, with its counts.
+-- that of the sequential build, with its counts.
 pub record IsBuildResponse (pips : List Pip) (tree : Files) (budget : ℕ) (cached : Bool)
     (change : StoreChange) (response : Response) : Type 0 where
   pub went : IsGoneResponse cached change response

@@ -1,5 +1,4 @@
-//! The whole engine as one call: from the words of the command line and the bytes of an input to a status,
-//! the bytes of the output, and the notes.
+//! The engine's entry point: runs a command from its arguments and input to its status, output and notes.
 //!
 //! This crate depends on `bx_words` for the words, on `bx_io` for the outside, on `bx_tree` for bundles, on
 //! `bx_front` for the plan of a build, on `retire` for the build over a store, and on `build_report` for its

@@ -13,7 +13,6 @@ use bx_tree::{Path, PathFault, append_file};
 use pip_model::MadeFile;
 use std::alloc::{AllocError, Global};
 
-// The path of the report.
 fn report_path(alloc: Global) -> Result<Path, Memory>
     ensures { IfOk result (λ path. path ≡ path_of_report) }
 {
@@ -24,7 +23,6 @@ fn report_path(alloc: Global) -> Result<Path, Memory>
     }
 }
 
-// Appends the text of a file that was made.
 fn append_made(alloc: Global, text: &mut Vec<u8>, file: &MadeFile) -> Result<(), Memory>
     ensures text { OnOk result (text.new.items
         ≡ text.old.items ++ file_text (file.now.path, file.now.blob)) }

@@ -44,7 +44,6 @@ pub(crate) struct Response {
     pub notes: Vec<u8>,
 }
 
-// The response with a status and the report of a refusal.
 fn refused(alloc: Global, status: Status, refusal: &Refusal) -> Result<Response, Memory>
     ensures { IfOk result (IsReportOf status refusal.now) }
 {
@@ -57,7 +56,6 @@ fn refused(alloc: Global, status: Status, refusal: &Refusal) -> Result<Response,
     })
 }
 
-// The response to an input that is refused.
 fn refuse_input(alloc: Global, fault: InputFault) -> Result<Response, Memory>
     ensures { IfOk result (IsResponseTo (endings.InputRefused fault) []) }
 {
@@ -67,7 +65,6 @@ fn refuse_input(alloc: Global, fault: InputFault) -> Result<Response, Memory>
     refused(alloc, Status::InputRefused, &refusal)
 }
 
-// The response to a specification that is refused.
 fn refuse_specification(alloc: Global, refusal: &Refusal) -> Result<Response, Memory>
     ensures { IfOk result (IsResponseTo (endings.SpecificationRefused refusal.now) []) }
 {
@@ -140,7 +137,6 @@ fn show(alloc: Global, plan: &Plan, retired: &Retired) -> Result<Response, Memor
     })
 }
 
-// The response of the build of a plan.
 fn build_plan<K: Keeper, G: Gate>(
     alloc: Global,
     plan: &Plan,

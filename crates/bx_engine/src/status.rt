@@ -22,7 +22,7 @@ pub enum Status {
     OutFailed = 6,
     /// 7: out of memory.
     OutOfMemory = 7,
-    /// 8: the keeper failed in this call. A build never gives this.
+    /// 8: the store failed in this call. A build never gives this.
     KeeperFailed = 8,
 }
 

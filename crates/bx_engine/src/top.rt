@@ -89,7 +89,7 @@ pub fn command<H: Threads + Wait + Sync, S: Source, O: Sink, N: Sink, K: Keeper,
         → (IsWhole result ⊎ (result ≡ Status.OutFailed)) → S.left source.new ≡ Some (drop READ_LIMIT input) }
 
     // Notes are written of a build that is not refused, and of words that are no command. Over a fair store
-    // they have the counts of the build on one thread.
+    // they have the counts of the sequential build.
     ensures usage { result ≡ Status.NoCommand
         → AppendsOrFails usage_text (N.taken notes.old) (N.taken notes.new)
         (N.faults notes.old) (N.faults notes.new) }
@@ -102,7 +102,7 @@ pub fn command<H: Threads + Wait + Sync, S: Source, O: Sink, N: Sink, K: Keeper,
     ensures no_notes { HasNoNotes result → notes.new ≡ notes.old }
 
     // An honest store is left honest, with any status: it was honest before each change and after it, and is
-    // as it was or as the build on one thread leaves it. Whatever the store, a build only puts. It is
+    // as it was or as the sequential build leaves it. Whatever the store, a build only puts. It is
     // untouched where the words say `--no-cache`, and where no build is begun.
     ensures left { (order : TheOrder) (input : List ℕ) (before : KeptParts)
         → Orders (map string_bytes words.now) order → S.left source.old ≡ Some input

@@ -40,7 +40,6 @@ pub record IsListed (left_out : List (List ℕ)) (nodes : Nodes) (place : List �
   pub there : Contains nodes (place, node)
   pub counts : ¬ IsLeftOut left_out place
 
--- files as nodes
 abbrev pub nodes_of : Files → Nodes
 nodes_of files = map (λ (f : Atoms × List ℕ). (path_text f.0, File f.1)) files
 

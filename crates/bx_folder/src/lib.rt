@@ -1,4 +1,4 @@
-//! Folders of files, and the one text of what a folder holds.
+//! Packing a folder as a bundle, and unpacking a bundle to a folder.
 //!
 //! A folder is a trait with a count of faults, whose contract holds for a folder of the system and for one in
 //! memory alike. What a folder holds is packed as the bundle of its files, and a bundle is unpacked as files

@@ -132,7 +132,6 @@ impl MemFolder {
         self.faults
     }
 
-    // The entries of all that is not left out.
     fn entries(&self, alloc: Global, left_out: &[&str]) -> Result<Vec<Entry>, Memory>
         ensures folder { IsFolder self.now.nodes }
         ensures listed { IfOk result
@@ -195,7 +194,6 @@ fn add_entry(
     Ok(())
 }
 
-// The entries of things that are not left out.
 fn entries_of(alloc: Global, things: &[Placed], left_out: &[&str]) -> Result<Vec<Entry>, Memory>
     ensures { IfOk result
         (λ entries. ListsNodes (texts_now left_out.now) (stored things.now) entries.items) }

@@ -58,7 +58,6 @@ fn bad_place(place: &String) -> Result<PackFault, Memory>
     Ok(PackFault::BadName(place))
 }
 
-// The path of an entry that is a file.
 fn path_of(alloc: Global, entry: &Entry) -> Result<Path, PackFault>
     ensures { MatchResult result (IsFilePath entry.now) (IsEntryFault entry.now) }
 {
@@ -112,7 +111,6 @@ fn file_paths(alloc: Global, entries: &[Entry]) -> Result<Vec<Path>, PackFault>
     Ok(paths)
 }
 
-// The file at a path.
 fn read_file<F: Folder>(alloc: Global, folder: &mut F, path: &Path) -> Result<TreeFile, PackFault>
     ensures path { IfOk result (λ file. file.path ≡ path.now) }
     ensures size { IfOk result (λ file. length file.bytes.items ≤ MAX_FILE_BYTES) }

@@ -1,4 +1,5 @@
-//! The passes from a tree of source files to the plan of its build.
+//! The front end: from a source tree through modules, parsing, name resolution and evaluation to a checked
+//! pip graph.
 //!
 //! A tree is searched for its modules, their files are read, the names in them are resolved, the program is
 //! evaluated to its pips, and the pips are tried by the rules of the graph; the first pass that refuses

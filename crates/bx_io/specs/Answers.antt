@@ -1,4 +1,4 @@
--- What the answers of a keeper say of what it holds, where that is known.
+-- What the answers of a store say of what it holds, where that is known.
 use Rattle.std.specs.Prelude.{◌≡◌, ℕ, List, map, All, IsSome, Option, Some, string_bytes, ⊤}
 use Rattle.std.specs.Prelude as prelude
 use Rattle.std.specs.Ordering.{nat_cmp}

@@ -1,4 +1,4 @@
--- What each call of a keeper in memory does, exactly.
+-- What each call of an in-memory store does, exactly.
 use Rattle.std.specs.Prelude.{◌≡◌, ◌+◌, ◌-◌, ◌<◌, ◌≤◌, ℕ, List, [], ◌∷◌, Some, Result, Err, OnOk, OnErr}
 use Rattle.bx_io.specs.Answers.{Finds, Lists, ListsNames, MayBeHeld}
 use Rattle.bx_io.specs.Causes.{last_count}
@@ -33,7 +33,7 @@ pub record ListsAll (before now : Scripted) (answer : Listed) : Type 0 where
   pub names : ListsNames answer
   pub kept : now.kept ≡ before.kept
 
--- A call of a keeper that stops. While it has calls left the call goes to the inner keeper, of which then
+-- A call of a store that stops. While it has calls left the call goes to the inner keeper, of which then
 -- holds what is said of its call. After that the call fails and is counted, or, where the count would reach
 -- its last value, answers that there is no memory.
 pub record Stops (before now : Stopping) (inner_call failed memory : Type 0) : Type 0 where

@@ -1,4 +1,4 @@
--- What a keeper holds, and the changes that led there.
+-- What a store holds, and the changes that led there.
 use Rattle.std.specs.Prelude.{◌≡◌, ℕ, List, [], ◌∷◌, ◌++◌, Option, Some, option_map}
 use Rattle.std.specs.Ordering.{nat_cmp}
 use Rattle.std.specs.Cmp.Lexicographic.{slice_cmp}
@@ -13,7 +13,7 @@ Holdings = FinMap (slice_cmp nat_cmp) (List ℕ)
 pub record AreNames (held : Holdings) : Type 0 where
   pub each : (name bytes : List ℕ) → get held name ≡ Some bytes → IsName name
 
--- one change of a keeper: a put of bytes under a name, or a drop of a name
+-- one change of a store: a put of bytes under a name, or a drop of a name
 pub data Change : Type 0 where
   Put : (name : List ℕ) → (bytes : List ℕ) → Change
   Drop : (name : List ℕ) → Change
@@ -33,16 +33,16 @@ abbrev pub holdings_after : Holdings → List Change → Holdings
 holdings_after held [] = held
 holdings_after held (change ∷ changes) = holdings_after (changed held change) changes
 
--- what a keeper holds, and all changes that led there, in order
+-- what a store holds, and all changes that led there, in order
 pub record StoreState : Type 0 where
   pub held : Holdings
   pub changes : List Change
 
--- a keeper after a list of changes
+-- a store after a list of changes
 abbrev pub state_after : StoreState → List Change → StoreState
 state_after kept made = record { held = holdings_after kept.held made; changes = kept.changes ++ made }
 
--- a keeper of which this may be unknown, after a list of changes
+-- a store of which this may be unknown, after a list of changes
 abbrev pub known_after : Option StoreState → List Change → Option StoreState
 known_after known made = option_map (λ kept. state_after kept made) known
 

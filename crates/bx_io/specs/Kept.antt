@@ -1,4 +1,4 @@
--- How what contracts see of a keeper in memory is stored.
+-- How what contracts see of an in-memory store is stored.
 use Rattle.std.specs.Prelude.{◌≡◌, ℕ, List, Option, Some, None, refl}
 use Rattle.std.specs.Coded.{Coded, code_by, coded×, coded_ℕ, coded_list, coded_option}
 use Rattle.std.specs.FinMap as map

@@ -18,7 +18,7 @@ pub record Store : Type 0 where
   pub chunk : ℕ
   pub script : Script
 
--- a keeper whose calls fail as its script says
+-- a store whose calls fail as its script says
 pub record Scripted : Type 0 where
   pub kept : StoreState
   pub script : Script
@@ -28,18 +28,18 @@ pub record ScriptedReader : Type 0 where
   pub held : Holdings
   pub script : Script
 
--- a keeper whose readers fail at the calls with these numbers
+-- a store whose readers fail at the calls with these numbers
 pub record Failing : Type 0 where
   pub inner : Scripted
   pub failing : List ℕ
 
--- a keeper with the number of calls left before it stops, and the number of those that it has refused since
+-- a store with the number of calls left before it stops, and the number of those that it has refused since
 pub record Stopping : Type 0 where
   pub inner : Scripted
   pub left : ℕ
   pub refused : ℕ
 
--- how often a keeper that stops has failed: as its inner keeper, and in the calls that it refused
+-- how often a store that stops has failed: as its inner keeper, and in the calls that it refused
 abbrev pub faults_in : Stopping → ℕ
 faults_in keeper = keeper.inner.script.faults + keeper.refused
 

@@ -1,4 +1,4 @@
--- The names under which a keeper holds bytes.
+-- The names under which a store holds bytes.
 use Rattle.std.specs.Prelude.{◌≡◌, ◌≤◌, ◌⊎◌, ℕ, List, length, slice_index, drop, All}
 use Rattle.bx_io.specs.declared.name.TheConstants.{NAME_LENGTH}
 

@@ -1,4 +1,4 @@
--- What the data of a keeper in memory means.
+-- What the data of an in-memory store means.
 use Rattle.std.specs.Prelude.{ℕ, List, map, string_bytes, All, String, Vec}
 use Rattle.std.specs.declared.alloc.Global.{Global}
 use Rattle.std.specs.BTreeMap.{BTreeMap, keys}

@@ -1,4 +1,4 @@
-//! What every keeper in memory is made of: its holdings, and the changes that led there.
+//! What every store in memory is made of: its holdings, and the changes that led there.
 
 ghost use Rattle.std.specs.Prelude.{◌≡◌, ◌≢◌, [], ◌∷◌, Some, IfOk, OnOk, OnErr};
 ghost use Rattle.std.specs.FinMap.{empty, get};

@@ -1,4 +1,4 @@
-//! A keeper in memory whose readers fail as its maker asked.
+//! An in-memory store whose readers fail as its maker asked.
 
 ghost use Rattle.std.specs.Prelude.{◌≡◌, ◌<◌, Some, Err, IfOk, length};
 ghost use Rattle.bx_io.specs.Calls.{ListsAll, Looks, Tries};
@@ -13,8 +13,8 @@ use crate::mem_reader::FailReader;
 use std::alloc::Global;
 use std::marker::Model;
 
-/// A keeper over another one. Its own calls are calls of that keeper; each of its readers numbers its calls
-/// from 1, and fails as the maker of the keeper asked.
+/// A store over another one. Its own calls are calls of that store; each of its readers numbers its calls
+/// from 1, and fails as the maker of the store asked.
 #[derive(Drop)]
 pub struct FailKeeper {
     inner: MemKeeper,

@@ -1,4 +1,4 @@
-//! Numbered calls that fail as planned, for keepers and readers, whose faults are bounded.
+//! Numbered calls that fail as planned, for stores and readers, whose faults are bounded.
 
 ghost use Rattle.std.specs.Prelude.{◌≡◌, ◌<◌, ◌≤◌, length, IsTrue};
 ghost use Rattle.bx_io.specs.Causes.{HasCause, last_count};

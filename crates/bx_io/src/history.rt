@@ -1,4 +1,4 @@
-//! The changes of a keeper in memory, as data.
+//! The changes of an in-memory store, as data.
 
 ghost use Rattle.std.specs.Prelude.{◌≡◌, ◌-◌, [], ◌∷◌, ◌++◌, length, take, OnOk, OnErr};
 ghost use Rattle.bx_io.specs.Stored.{change_of};
@@ -7,7 +7,7 @@ use crate::fault::Memory;
 use std::alloc::Global;
 use std::marker::Model;
 
-/// A change of a keeper in memory.
+/// A change of an in-memory store.
 #[derive(Drop)]
 pub enum Change {
     /// These bytes were put under this name.
@@ -16,7 +16,7 @@ pub enum Change {
     Drop(String),
 }
 
-/// The changes of a keeper in memory, in order.
+/// The changes of an in-memory store, in order.
 #[derive(Drop)]
 pub struct History {
     changes: Vec<Change>,

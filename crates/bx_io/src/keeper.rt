@@ -17,7 +17,7 @@ pub enum Got {
     Found(Vec<u8>),
     /// Nothing is held under it.
     None,
-    /// The keeper or reader failed.
+    /// The store or reader failed.
     Failed,
     /// Out of memory for the bytes.
     Memory,
@@ -26,7 +26,7 @@ pub enum Got {
 /// Why a change was not made.
 #[derive(Debug, Drop)]
 pub enum PutFault {
-    /// The keeper failed.
+    /// The store failed.
     Failed,
     /// Out of memory for the change.
     Memory,
@@ -37,13 +37,13 @@ pub enum PutFault {
 pub enum Listed {
     /// The held names, each once, rising by bytes.
     Names(Vec<String>),
-    /// The keeper failed.
+    /// The store failed.
     Failed,
     /// Out of memory for the names.
     Memory,
 }
 
-/// Reads what a keeper held when the reader was made. It may go to another thread.
+/// Reads what a store held when the reader was made. It may go to another thread.
 pub trait KeepReader: Send + Drop {
     // The held bytes by name, where they are known.
     ghost held: { Self → Option Holdings };
@@ -67,23 +67,23 @@ pub trait KeepReader: Send + Drop {
         ensures no_fault { result ≢ Got.Failed → faults self.new ≡ faults self.old };
 }
 
-/// Holds bytes under names, from one build to the next. What a keeper holds and the changes that led there
-/// are known, as of a keeper in memory, or not, as of a folder; what is said of them is said where they are
+/// Holds bytes under names, from one build to the next. What a store holds and the changes that led there
+/// are known, as of an in-memory store, or not, as of a folder; what is said of them is said where they are
 /// known.
 pub trait Keeper {
-    /// Reads what the keeper held at one moment.
+    /// Reads what the store held at one moment.
     type Reader: KeepReader;
 
     // The held bytes by name and all changes so far, where they are known.
     ghost known: { Self → Option StoreState };
 
-    // How often the keeper has failed.
+    // How often the store has failed.
     ghost faults: { Self → ℕ };
 
     // How often each of its readers may fail, where that is bounded.
     ghost bound: { Self → Option ℕ };
 
-    /// A reader of what the keeper holds now. Only running out of memory is an error.
+    /// A reader of what the store holds now. Only running out of memory is an error.
     fn reader(&self, alloc: Global) -> Result<Self::Reader, Memory>
         ensures held { IfOk result (λ reader. Self.Reader.held reader ≡ held_in (known self.now)) }
         ensures names { IfSome (held_in (known self.now)) AreNames }

@@ -1,4 +1,5 @@
-//! The outside of the engine: where its input comes from, where its output goes, and what keeps results.
+//! The engine's interface to the outside: sources, sinks and stores as traits with counted faults, and
+//! in-memory implementations for tests.
 //!
 //! Each of these is a trait whose contract holds for streams, folders and memory alike. It counts its faults,
 //! and the count rises in every call that fails and in no other, so that no layer above can report a fault

@@ -1,4 +1,4 @@
-//! A keeper in memory whose calls fail as its maker asked.
+//! An in-memory store whose calls fail as its maker asked.
 
 ghost use Rattle.std.specs.Prelude.{◌≡◌, ◌<◌, [], ◌∷◌, Some, Err, OnOk, OnErr, option_map};
 ghost use Rattle.std.specs.FinMap.{empty, get};
@@ -15,7 +15,7 @@ use crate::mem_reader::MemReader;
 use std::alloc::Global;
 use std::marker::Model;
 
-/// A keeper in memory. Its calls `get`, `put`, `drop_name` and `names` are numbered together, and fail as its
+/// An in-memory store. Its calls `get`, `put`, `drop_name` and `names` are numbered together, and fail as its
 /// maker asked; its readers never fail.
 #[derive(Drop)]
 pub struct MemKeeper {
@@ -34,7 +34,7 @@ impl Model for MemKeeper {
 }
 
 impl MemKeeper {
-    /// A keeper that holds nothing. The calls whose numbers, from 1, are in `failing` fail.
+    /// A store that holds nothing. The calls whose numbers, from 1, are in `failing` fail.
     pub fn new(alloc: Global, failing: Vec<u64>) -> MemKeeper
         ensures whole { result ≡ record {
           kept = record { held = empty; changes = [] };

@@ -12,7 +12,7 @@ use crate::keeper::{Got, KeepReader};
 use std::alloc::Global;
 use std::marker::Model;
 
-/// A reader of what a keeper in memory held when the reader was made. It never fails.
+/// A reader of what an in-memory store held when the reader was made. It never fails.
 #[derive(Drop)]
 pub struct MemReader {
     held: Holdings,

@@ -1,4 +1,4 @@
-//! The names under which a keeper holds bytes.
+//! The names under which a store holds bytes.
 
 ghost use Rattle.std.specs.Prelude.{◌↔◌, IsTrue};
 ghost use Rattle.bx_io.specs.Names.{IsKindLetter, IsLowerHexDigit, IsName};
@@ -18,7 +18,7 @@ fn is_lower_hex_digit(c: u8) -> bool
     c.is_ascii_digit() || (b'a'..=b'f').contains(&c)
 }
 
-/// Whether the text is a name under which a keeper may hold bytes: `b/`, `w/` or `e/`, and 64 lower-case
+/// Whether the text is a name under which a store may hold bytes: `b/`, `w/` or `e/`, and 64 lower-case
 /// hexadecimal digits.
 pub fn is_name(text: &[u8]) -> bool
     ensures { IsTrue result ↔ IsName text.now }

@@ -1,4 +1,4 @@
-//! A keeper in memory that never fails.
+//! An in-memory store that never fails.
 
 ghost use Rattle.std.specs.Prelude.{◌≡◌, [], Some};
 ghost use Rattle.std.specs.FinMap.{empty};
@@ -10,7 +10,7 @@ use crate::mem_reader::MemReader;
 use std::alloc::Global;
 use std::marker::Model;
 
-/// A keeper in memory that never fails.
+/// An in-memory store that never fails.
 #[derive(Drop)]
 pub struct NoFaultKeeper {
     archive: Archive,
@@ -28,7 +28,7 @@ impl Model for NoFaultKeeper {
 }
 
 impl NoFaultKeeper {
-    /// A keeper that holds nothing.
+    /// A store that holds nothing.
     pub fn new(alloc: Global) -> NoFaultKeeper
         ensures known { ⟦<NoFaultKeeper as Keeper>⟧.known result
             ≡ Some (record { held = empty; changes = [] }) }

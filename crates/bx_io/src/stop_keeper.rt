@@ -1,4 +1,4 @@
-//! A keeper in memory that stops after a number of calls, as a machine that is switched off.
+//! An in-memory store that stops after a number of calls, as a machine that is switched off.
 
 ghost use Rattle.std.specs.Prelude.{◌≡◌, ◌≢◌, ◌+◌, ◌-◌, ◌<◌, ◌≤◌, ◌↔◌, [], ◌∷◌, Some, Err, OnOk, OnErr};
 ghost use Rattle.bx_io.specs.Answers.{Finds, Lists, ListsNames};
@@ -25,7 +25,7 @@ enum Turn {
     Full,
 }
 
-/// A keeper over another one, to which its first calls go. The calls `get`, `put`, `drop_name` and `names`
+/// A store over another one, to which its first calls go. The calls `get`, `put`, `drop_name` and `names`
 /// are counted together; after the last that goes on each fails and changes nothing. Its readers are the
 /// inner keeper's.
 #[derive(Drop)]

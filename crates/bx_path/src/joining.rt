@@ -16,7 +16,6 @@ fn parts_of(alloc: Global, text: &[u8]) -> Result<Vec<&[u8]>, Memory>
     text.split(|byte| *byte == b'/').collect(alloc)
 }
 
-// The atoms of a path.
 fn atoms_of(alloc: Global, path: &Path) -> Result<Vec<&[u8]>, Memory>
     ensures atoms { IfOk result (λ atoms. texts_now atoms.items ≡ path.entry.now) }
     ensures valid { IfOk result (λ atoms. AllByRecursion IsAtom (texts_now atoms.items)) }

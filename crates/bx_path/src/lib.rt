@@ -1,4 +1,4 @@
-//! Relative paths and globs.
+//! Path joining and glob matching.
 //!
 //! A text joined to a path leads from it to another path, and a glob lists the files of a tree whose
 //! last atom matches a pattern. This crate depends on `bx_tree` for paths and trees. It carries the

@@ -1,4 +1,4 @@
-//! The keeper of the program: a folder of files.
+//! The store of the program: a folder of files.
 
 ghost use Rattle.std.specs.Prelude.{◌≡◌, IfOk};
 ghost use Rattle.bx_io.specs.Answers.{ListsNames};
@@ -52,7 +52,6 @@ fn outcome_of<T: Drop>(done: io::Result<T>) -> Outcome<T>
     }
 }
 
-// The path of a name.
 fn path_of(alloc: Global, folder: &str, name: &str) -> Result<String, AllocError> {
     format!(in alloc; "{folder}/{name}")
 }
@@ -173,7 +172,6 @@ fn add_entry<R: Files + Drop>(
     add_name(names, format!(in alloc; "{kind}/{file}")?)
 }
 
-// Adds the names of one kind.
 fn add_names<R: Files + AllocGlobal + Clone + Drop>(
     rt: &R,
     alloc: Global,
@@ -227,7 +225,7 @@ fn one_more(faults: u64) -> u64
 }
 
 impl<R> FolderKeeper<R> {
-    /// The keeper over this folder, which need not be there.
+    /// The store over this folder, which need not be there.
     pub fn new(rt: R, folder: String) -> FolderKeeper<R> {
         FolderKeeper {
             rt,

@@ -1,4 +1,4 @@
-//! The system's streams and folders, as sources, sinks and a keeper.
+//! Implementations of the traits of `bx_io` over system streams and a folder on disk.
 //!
 //! The adapters are the trusted edge: the bytes that a stream or a folder gives or takes are not known to a
 //! proof, so it is proved only that an adapter counts each fault that it reports. This crate depends on `bx_io`,

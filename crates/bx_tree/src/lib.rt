@@ -1,4 +1,4 @@
-//! Paths, shared texts, source trees, and the one text of a tree: its bundle.
+//! Paths, shared strings, source trees, and the bundle format that writes a tree as one text.
 //!
 //! Everything that the engine reads or makes is a tree of files, and a tree goes in and out as a
 //! bundle. This crate depends on nothing but std. It carries the promise of the round trip: each text

@@ -124,7 +124,6 @@ fn is_first_atom(text: &[u8], atom: &[u8]) -> bool
     text == atom || has_dir_prefix(text, atom)
 }
 
-// Whether the first atom of a path is this one.
 fn has_first_atom(path: &Path, atom: &[u8]) -> bool
     requires { IsAtom atom.now }
     ensures { IsTrue result ↔ ((rest : List (List ℕ)) × (path.now ≡ atom.now ∷ rest)) }

@@ -1,4 +1,4 @@
-//! The words of the command line: which order they are, or that they are no command.
+//! The command line parser.
 //!
 //! `specs/Words.antt` has the words of each command as a grammar: a build is the word `build` with settings,
 //! each of one word or two, in any order. This crate depends on `std` alone. It carries the promise that

@@ -1,4 +1,4 @@
-//! The program `bxl`: the engine over standard input, output and error, and a folder that holds results.
+//! The program `bxl`: the engine over standard input, output and error, and a cache folder.
 //!
 //! This crate makes the real outside and gives it to the engine. It depends on `bx_system` for the streams
 //! and the folder, on `bx_io`, whose traits they implement, and on `bx_engine`.
@@ -16,7 +16,7 @@ use std::rt::Env;
 /// The folder of the working directory that holds results from one build to the next.
 const FOLDER: &str = ".bxl-cache";
 
-/// The keeper over that folder.
+/// The store over that folder.
 fn keeper(rt: &HostRuntime, alloc: Global) -> Result<FolderKeeper<HostRuntime>, AllocError> {
     Ok(FolderKeeper::new(rt.clone()?, String::from_str(alloc, FOLDER)?))
 }

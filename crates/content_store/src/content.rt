@@ -38,7 +38,7 @@ fn checked(alloc: Global, bytes: Vec<u8>, digest: &Digest) -> Fetched
     }
 }
 
-/// The content of a digest, hashed anew: what was damaged is not well.
+/// The content of a digest, hashed anew: a damaged one is not well-formed.
 pub fn get_blob<R: KeepReader>(alloc: Global, reader: &mut R, digest: &Digest) -> Fetched
     ensures fetched { Fetches (R.held reader.old) digest.now result }
     ensures digest { HasDigest digest.now result }

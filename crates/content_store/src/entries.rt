@@ -40,7 +40,7 @@ fn checked(alloc: Global, bytes: Vec<u8>, strong: &Digest) -> FetchedEntry
     }
 }
 
-/// The entry of a strong text's digest: one that is held under another name is not well.
+/// The cache entry of a strong fingerprint: one that is stored under another name is not well-formed.
 #[tactic(auto, using(crate::proofs::HeldEntries::held_entry, crate::proofs::HeldEntries::none_held))]
 pub fn get_entry<R: KeepReader>(alloc: Global, reader: &mut R, strong: &Digest) -> FetchedEntry
     ensures fetched { FetchesEntry (R.held reader.old) strong.now result }

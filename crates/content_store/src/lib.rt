@@ -1,8 +1,8 @@
-//! Contents and entries in a keeper, under their digests.
+//! The content-addressable store: contents by digest and cache entries by strong fingerprint.
 //!
 //! A content is held under the name that its digest gives, and an entry under that of its strong digest. This
 //! crate has those names, the calls that get a content and put one, and the call that gets an entry. It
-//! depends on `bx_io` for keepers, on `bx_digest` for contents and on `memo_format` for entries and for which
+//! depends on `bx_io` for stores, on `bx_digest` for contents and on `memo_format` for entries and for which
 //! names are well. It carries the promise that what is found has the digest that was asked for.
 #![tactic(auto)]
 

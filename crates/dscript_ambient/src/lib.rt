@@ -1,4 +1,4 @@
-//! The ambient calls of DScript, by name.
+//! The names of DScript's ambient functions.
 //!
 //! These are the calls that each specification may make without declaring or importing them. Names,
 //! values and the calls themselves use this one enum. This crate depends on nothing but std, and

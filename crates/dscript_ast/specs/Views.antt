@@ -78,7 +78,6 @@ field_tree = fold-Field MemberTree TypeTree FieldTree member_step type_step fiel
 abbrev pub note_tree : Option (Box TypeNode Global) → Option TypeTree
 note_tree = option_map (λ t. type_tree t.value)
 
--- parameters
 abbrev pub param_tree : Param → ParamTree
 param_tree p = record { name = p.name; optional = p.optional; type_node = note_tree p.type_node }
 
@@ -179,7 +178,6 @@ operand_tree =
     fold-Operand ExprTree PartTree PropTree StmtTree ElementTree HoleTree OperandTree
     expr_step part_step prop_step stmt_step element_step hole_step operand_step
 
--- declarations
 abbrev pub decl_step : Decl-F DeclTree MarkedTree → DeclTree
 decl_step (decl.Const x t e) = files.Const x (note_tree t) (expr_tree e)
 decl_step (decl.Function x ts ps t ss) =

@@ -55,7 +55,6 @@ params_of (tree.Params ps) = ps
 
 -- ## Names
 
--- a local is named
 abbrev pub local_named : Target → List ℕ
 local_named (targets.Local n) = n ∷ []
 local_named _ = []

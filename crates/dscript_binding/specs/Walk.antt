@@ -67,7 +67,6 @@ abbrev pub or_fault : {A : Type 0} → Result A SpecKind → Binds A
 or_fault (Ok x) here = gives x here
 or_fault (Err kind) here = Err kind
 
--- each in turn
 abbrev pub in_turn : {A : Type 0} → List (Binds A) → Binds (List A)
 in_turn [] = gives []
 in_turn (m ∷ ms) = m >>= λ x. in_turn ms >>= λ xs. gives (x ∷ xs)

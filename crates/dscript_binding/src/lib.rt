@@ -1,4 +1,4 @@
-//! Binding: from the syntax tree of a file to its declarations and functions, in which each name is resolved.
+//! Name resolution of one file: from its syntax tree to bound trees.
 //!
 //! `specs/Binding.antt` says what each part of a tree comes to, in the steps of `specs/Walk.antt`: a walk
 //! from left to right that counts locals and functions and ends at the first fault. The code is that walk; it

@@ -1,4 +1,4 @@
-//! What the configuration of a workspace and the file of a module say, from their expressions.
+//! Evaluation of `config.dsc` and of module configuration files.
 //!
 //! Both are objects whose fields are strings, lists and one fixed name, and a listed file is known by its
 //! position in the tree. This crate depends on `bx_tree` and `bx_path` for files, and on `dscript_ast` for

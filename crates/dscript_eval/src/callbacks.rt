@@ -84,7 +84,6 @@ fn reduction_args(
     Ok(args)
 }
 
-// An item and its number.
 fn item_args(alloc: Global, item: &Value, number: usize) -> Result<Vec<Value>, Memory>
     ensures { IfOk result (λ args. map plain_of args.items
         ≡ plain_of item.now ∷ plain.Number (pos number) ∷ []) }
@@ -130,7 +129,6 @@ fn next_args(
     }
 }
 
-// What kind of callbacks a member has.
 fn kind_of(member: Option<Member>) -> Option<Callback>
     ensures { result ≡ kind_named member }
 {
@@ -390,7 +388,6 @@ fn call_back(machine: &mut Machine<'_>, function: &FunctionRef, args: &[Value]) 
     }
 }
 
-// A callback that is an ambient call.
 fn call_ambient_back(
     machine: &mut Machine<'_>,
     name: Ambient,

@@ -108,7 +108,6 @@ pub fn argument<'a>(
     }
 }
 
-// The call for which there are these arguments.
 fn use_arguments(machine: &mut Machine<'_>, for_call: &Use, args: &[Value]) -> Result<(), Stop>
     ensures { Comes result machine.old machine.new (λ v. used v.program (acts_at v) for_call.now (map plain_of
         args.now)) }
@@ -130,7 +129,6 @@ fn apply(machine: &mut Machine<'_>, f: &Value, args: &[Value]) -> Result<(), Sto
     }
 }
 
-// The call of a function.
 fn call_function(
     machine: &mut Machine<'_>,
     function: &FunctionRef,

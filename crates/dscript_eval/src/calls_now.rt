@@ -13,7 +13,6 @@ use dscript_value::{Callee, Value};
 use eval_machine::{Callback, Callbacks, Machine, item_ref};
 use eval_now::{MAX_NESTING, value_now};
 
-// The first of these values.
 fn first_of(values: &[Value], count: usize) -> &[Value]
     ensures { map plain_of result.now ≡ take count (map plain_of values.now) }
 {
@@ -101,7 +100,6 @@ fn reduction_at_once(
     body_at_once(machine, code, e, &args)
 }
 
-// The body of a function that is a callback with an item and its number.
 fn callback_at_once(
     machine: &mut Machine<'_>,
     kind: Callback,

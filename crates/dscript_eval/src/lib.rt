@@ -1,4 +1,4 @@
-//! Evaluation of programs.
+//! The evaluator: runs a program to its pips or its first fault.
 //!
 //! A program is evaluated to its list of pips, or refused with its first fault. Here are the moves of calls,
 //! members, callbacks and statements, and the loop over all works; those of expressions are in `eval_exprs`.

@@ -1,4 +1,4 @@
-//! DScript texts laid out anew.
+//! The formatter: lexes, parses and pretty-prints a text.
 //!
 //! A text is lexed, parsed and printed: here the two ways between texts and trees meet. This crate depends on
 //! `dscript_lex`, `dscript_parse` and `dscript_print`. It carries the promise of the round trip: what is laid

@@ -1,4 +1,4 @@
-//! The grammar of DScript: which list of tokens is which file.
+//! The grammar of DScript as a relation between tokens and syntax trees, with its reader and its laws.
 //!
 //! `specs/` has the rules as a relation between trees and lists of tokens, and once more as a reader, which
 //! finds the one tree. docs/FORMATS.md has the rules in prose. This crate depends on

@@ -1,4 +1,4 @@
-//! The tokens of DScript texts.
+//! The lexer of DScript.
 //!
 //! A text is cut into lexemes: blanks, comments and the spellings of tokens. This crate depends on
 //! `bx_tree` for its shared texts. It carries the promise that `lex` finds exactly the tokens that the

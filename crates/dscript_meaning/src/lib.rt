@@ -1,4 +1,4 @@
-//! What evaluation means.
+//! The semantics of evaluation, form by form, with exact step counts.
 //!
 //! Evaluating a program gives its list of pips, or the first fault. `specs/` says which, form by form, with
 //! the exact number of steps, as a definition; `evaluate` of `dscript_eval` keeps it. The sources here have

@@ -1,5 +1,4 @@
-//! What evaluation of a workspace begins from, as data: its modules with their files, and the first fault of a
-//! specification with its file and place.
+//! The data model of a workspace: modules with their files, and the faults of specifications.
 //!
 //! Types alone, on which reading, workspaces, names and evaluation depend. It depends on `bx_tree` for paths and
 //! texts. Which tree has which workspace is defined in `dscript_workspace`.

@@ -1,4 +1,4 @@
-//! The meaning of names: from the parsed files of a workspace to a program in which each name is resolved.
+//! Name resolution of a whole workspace: duplicate declarations, and each file bound with the names of all.
 //!
 //! `specs/Named.antt` says what each name stands for, by scanning lists of declarations outwards, and which
 //! fault of names comes first. The code looks for names that are declared twice, gathers the names of all

@@ -15,7 +15,6 @@ abbrev pub function_in : Plain → Outcome Function
 function_in (plain.Function callee depth held) = Ok (callee, item_list held)
 function_in _ = Err Kind
 
--- a callback
 unfoldable pub callback_in : List Plain → Outcome Function
 callback_in args = one_of args >>= function_in
 

@@ -11,7 +11,6 @@ use bx_tree::Text;
 use dscript_value::{Fields, Value, Values};
 use sdk_values::SdkFault;
 
-// The item with this number.
 fn item(items: &Values, number: i32) -> Result<Value, SdkFault>
     ensures { MatchResult result
         (λ value. item_at (item_list (plain_values items.now).items) number ≡ Ok (plain_of value))

@@ -1,4 +1,4 @@
-//! What operators, indices, spreads, texts and path literals of DScript answer at values.
+//! Evaluation of operators, interpolation, indexing and spreads.
 //!
 //! Evaluation takes an expression apart, and these functions make its value of those of its parts. This
 //! crate depends on `dscript_value` and `dscript_ast`, on `sdk_values` for faults and limits, and on

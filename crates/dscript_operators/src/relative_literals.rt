@@ -51,7 +51,6 @@ pub fn relative_literal(alloc: Global, text: &[u8]) -> Result<Value, SdkFault>
     Ok(Value::Relative(RelativePath::of(alloc, atoms)?))
 }
 
-// A text as an atom.
 fn atom_value(alloc: Global, text: Vec<u8>) -> Result<Value, Memory>
     ensures { IfOk result (λ value. plain_of value ≡ plain.Atom text.items) }
 {

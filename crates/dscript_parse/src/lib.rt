@@ -1,4 +1,4 @@
-//! The parser of DScript: declarations, items and whole files.
+//! The parser of declarations and files.
 //!
 //! This is the layer above `dscript_parse_types` and `dscript_parse_exprs`. It carries the promise that a
 //! list of tokens is parsed as exactly the file that the grammar of `dscript_grammar` derives, and is refused

@@ -1,4 +1,4 @@
-//! The layer of the parser of DScript that reads expressions and statements.
+//! The parser of expressions and statements.
 //!
 //! Expressions and statements contain each other, and so one cycle of functions reads them; the levels of nesting
 //! that are left bound its depth.

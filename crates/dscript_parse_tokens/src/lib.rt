@@ -1,4 +1,4 @@
-//! The lowest layer of the parser of DScript: single tokens, lists, and what a function of the parser gives.
+//! Parser combinators over tokens: the lowest layer of the parser.
 //!
 //! A function of the parser reads from the start of a list of tokens, with as many levels of nesting
 //! as are left. It gives what the reader of the grammar that has its name gives, and refuses exactly

@@ -1,4 +1,4 @@
-//! The layer of the parser of DScript that reads types.
+//! The parser of types.
 #![tactic(auto)]
 
 mod laws;

@@ -1,4 +1,4 @@
-//! The printer of DScript: a text for each file that some text is parsed to.
+//! The pretty-printer: a text for each syntax tree.
 //!
 //! A writer goes through the tree once and collects tokens, with the blanks before each; then they are
 //! spelled. This crate depends on `dscript_ast` for trees, on `dscript_grammar` for what they are derived

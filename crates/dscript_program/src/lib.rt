@@ -1,4 +1,4 @@
-//! Programs: syntax trees in which each name is resolved.
+//! The program representation after name resolution: bound trees and the function table.
 //!
 //! A program has its files by path, each with its declarations, and one table of all its functions. A bound
 //! tree is a syntax tree in which a dotted name is its target, a local is its number and a function its

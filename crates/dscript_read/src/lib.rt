@@ -1,4 +1,4 @@
-//! Texts read as files, with the place of a fault.
+//! Lexing and parsing a text in one call, with the line and column of a syntax error.
 //!
 //! A text is lexed and parsed in one call, and a fault names a line and a column. This crate depends on
 //! `dscript_lex` and `dscript_parse`, and on `dscript_modules` for places. It carries the promise that each

@@ -23,7 +23,6 @@ has_repeat same (x ∷ xs) = list_any (same x) xs || has_repeat same xs
 
 -- ## Blocks
 
--- the names of parameters
 abbrev pub param_names : List ParamTree → List (List ℕ)
 param_names ps = map (λ p. p.name) ps
 

@@ -1,4 +1,4 @@
-//! What names stand for: in blocks, namespaces, imports and modules, and among the ambient calls.
+//! Name lookup: blocks, namespaces, imports, modules and ambient names.
 //!
 //! `specs/Lookup.antt` says what a dotted name stands for, level by level, and which fault it has, by lists that
 //! it scans; `specs/Tables.antt` has the tables that the code searches in their place. Which names a tree

@@ -1,4 +1,4 @@
-//! The ambient calls of DScript and the members of its values.
+//! Dispatch of all ambient functions, methods and properties.
 //!
 //! Evaluation calls them in order, and what they make is the list of pips. This crate joins `sdk_calls`,
 //! `sdk_pips` and `sdk_execute`, which have the calls, and `sdk_members`, which has the members of texts,

@@ -33,7 +33,6 @@ use sdk_pips::SdkState;
 use sdk_values::SdkFault;
 use std::alloc::Global;
 
-// The call of a member function that calls no functions.
 fn call_function(
     alloc: Global,
     state: &SdkState,
@@ -156,7 +155,6 @@ fn is_process_function(member: Member) -> bool
     matches!(member, Member::GetOutputFile | Member::GetOutputDirectory)
 }
 
-// A member of a value that has a name of a member.
 fn named_member(
     alloc: Global,
     value: &Value,

@@ -20,7 +20,6 @@ use sdk_members::Member;
 use sdk_pips::SdkState;
 use sdk_values::{SdkFault, first_argument, read_directory, read_path};
 
-// Whether a path is one of some outputs.
 fn has_output(outs: &Outputs, path: &Path) -> bool
     ensures { result ≡ list_any (same_path path.now) outs.now }
 {

@@ -150,7 +150,6 @@ fn member_of_kind(
     }
 }
 
-// The member of the seal with a number that has a path.
 fn find_member(
     alloc: Global,
     state: &SdkState,

@@ -31,7 +31,6 @@ abbrev pub in_part : List ℕ → List ℕ
 in_part [] = []
 in_part (b ∷ bs) = part_byte b bs ++ in_part bs
 
--- the spelling
 unfoldable pub spelling : TokenKind → List ℕ
 spelling (Word word) = word
 spelling (Number n) = signed_decimal n

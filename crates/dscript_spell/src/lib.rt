@@ -1,4 +1,4 @@
-//! Texts that have exactly given tokens.
+//! Spelling a list of tokens as a text that lexes to just these tokens.
 //!
 //! Each token gets a spelling of its own, with the blanks between them that are asked for, and one where
 //! two would run together. This crate depends on `dscript_lex`, whose tokens these are, and on

@@ -19,7 +19,6 @@ use bx_tree::{FileInput, Path, Text};
 #[derive(Clone, Copy, Debug, PartialEq, Eq)]
 pub struct NoOrder;
 
-// The path of a file.
 fn path_of(file: &FileInput) -> &Path
     ensures { result.now ≡ input_path file.now }
 {

@@ -1,4 +1,4 @@
-//! The values of DScript.
+//! The run-time values of DScript.
 //!
 //! Evaluation takes values apart and makes new ones, and the ambient calls get and give them. This crate
 //! depends on `bx_tree` and `dscript_ambient`. Contracts see a value as plain data, without pointers. It

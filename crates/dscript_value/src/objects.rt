@@ -21,7 +21,6 @@ pub(crate) type Places = BTreeMap<Vec<u8>, usize>;
 /// An object that is written with more fields than this keeps the place of each name.
 const MAX_FEW: usize = 8;
 
-// The greatest depth of the values of some fields.
 fn deepest_field(fields: &[Field]) -> u32
     ensures { result ≡ greatest_depth (values_of (map plain_field fields.now)) }
 {
@@ -32,21 +31,18 @@ fn deepest_field(fields: &[Field]) -> u32
     depth
 }
 
-// The name of a field.
 fn copy_name(alloc: Global, field: &Field) -> Result<Vec<u8>, AllocError>
     ensures { IfOk result (λ name. name.items ≡ (plain_field field.now).0) }
 {
     name_of(field).to_vec(alloc)
 }
 
-// The place that is kept for a name.
 fn place_of(places: &Places, name: &[u8]) -> Option<usize>
     ensures { result ≡ at_text places.now name.now }
 {
     places.get(name).copied()
 }
 
-// Keeps the place of a name.
 fn keep(places: &mut Places, name: Vec<u8>, place: usize) -> Result<(), AllocError>
     ensures { OnOk result (KeepsToo places.old places.new name.items place) }
 {
@@ -54,7 +50,6 @@ fn keep(places: &mut Places, name: Vec<u8>, place: usize) -> Result<(), AllocErr
     Ok(())
 }
 
-// Puts a field in a place.
 fn put_at(fields: &mut Vec<Field>, place: usize, field: Field)
     requires { place < length fields.old.items }
     ensures { fields.new.items ≡ slice_set fields.old.items place field }
@@ -84,7 +79,6 @@ fn put(
     Ok(())
 }
 
-// The place of the first field with a name.
 fn place_in(fields: &[Field], name: &[u8]) -> Option<usize>
     ensures { result ≡ first_place (map plain_field fields.now) name.now }
 {

@@ -1,4 +1,4 @@
-//! The workspace of a tree: its modules with their files, or the first fault of its configurations.
+//! Discovery of the modules of a source tree and their files.
 //!
 //! `config.dsc` lists module files, and a module file names its module and perhaps lists its files. This
 //! crate depends on `dscript_read` and `dscript_config` for texts and what they say. It carries the promise

@@ -36,7 +36,6 @@ fn decl_in(decls: &[BoundDecl], decl: u32) -> Option<&BoundDecl>
     decls.get(decl as usize)
 }
 
-// Whether a declaration is a constant.
 fn is_const(decl: &BoundDecl) -> bool
     ensures { result ≡ is_some (const_of (Some (decl_data decl.now).kind)) }
 {

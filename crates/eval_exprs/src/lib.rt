@@ -1,4 +1,4 @@
-//! The moves of evaluation at expressions and constants.
+//! The evaluator's transitions for expressions and constants.
 //!
 //! Each call here does one work of the machine, or begins an expression. This crate depends on
 //! `eval_machine`, and carries the promise that what was to come of an expression still comes.

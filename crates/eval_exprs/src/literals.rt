@@ -30,7 +30,6 @@ use eval_machine::{ExprWork, Literal, Machine, Stop, Work, stop_of};
 use sdk_values::{SdkFault, text_value};
 use std::alloc::Global;
 
-// Adds a hole to the text of a literal.
 fn add_hole(
     alloc: Global,
     text: &mut Vec<u8>,
@@ -54,7 +53,6 @@ fn bytes_of(alloc: Global, text: &Text) -> Result<Vec<u8>, Memory>
     text.bytes().to_vec(alloc)
 }
 
-// Adds a text to some bytes.
 fn add_text(bytes: &mut Vec<u8>, text: &Text) -> Result<(), Memory>
     ensures { IfOk result (λ _. bytes.new.items ≡ bytes.old.items ++ text.now) }
 {

@@ -81,7 +81,7 @@ upwards ns up i j le less =
     (λ below. let strict = rises_by ns 0 i j 0 up below less in omega (arith, strict))
     (eq-or-lt_of_le le)
 
--- ## What is found by halving
+-- ## What is found by binary search
 
 -- locals that are others are passed over
 passed

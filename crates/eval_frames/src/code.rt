@@ -16,11 +16,11 @@ use std::alloc::Global;
 /// How the captured locals of a function are found.
 #[derive(Drop)]
 pub enum Search {
-    /// One after another, where there are few.
+    /// Linear search, where there are few.
     Linear,
-    /// By halving, where each is greater than the one before it.
+    /// Binary search, where they are sorted.
     Binary,
-    /// By the place of each.
+    /// By a map from locals to places.
     Placed(Places),
 }
 
@@ -38,7 +38,7 @@ pub struct Code<'a> {
 const MANY: usize = 128;
 
 impl<'a> Code<'a> {
-    // A function. Where it captures many locals that do not ascend, the place of each is kept.
+    // Where a function captures many locals that are not sorted, a map of their places is made.
     pub(crate) fn of(alloc: Global, function: &'a Function) -> Result<Code<'a>, Memory>
         ensures { IfOk result (λ code. code.function.now ≡ function.now) }
     {

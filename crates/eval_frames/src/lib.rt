@@ -1,4 +1,4 @@
-//! What evaluation keeps of running bodies and constants, and what it reads from programs.
+//! Stack frames of the evaluator, and its precomputed tables of functions and constants.
 //!
 //! The frame of a body with its locals, functions with how the locals that they captured are found, the table of
 //! constants, what a program has at a number, the steps and parts of bound nodes, and values that evaluation makes.

@@ -54,7 +54,6 @@ pub(crate) fn value_in(
     }
 }
 
-// The first of these values.
 fn first_of(values: &[Value], count: usize) -> &[Value]
     ensures { map plain_of result.now ≡ take count (map plain_of values.now) }
 {

@@ -65,7 +65,6 @@ pub fn add_value(values: &mut Vec<Value>, value: Value) -> Result<(), Memory>
     Ok(())
 }
 
-// A field with this name and value.
 fn field_of(name: Text, value: Value) -> Field
     ensures { plain_field result ≡ (name, plain_of value) }
 {

@@ -1,4 +1,4 @@
-//! The machine of evaluation.
+//! The abstract machine of the evaluator: its continuation stack and transitions.
 //!
 //! What is still to be done is a list in memory, so that deep calls take no stack. `specs/` says what each
 //! work comes to, by what the works after it do, and what a move of the machine keeps. This crate depends on

@@ -1,4 +1,4 @@
-//! Expressions that need no work of the machine.
+//! The evaluator's fast path for expressions that need no call.
 //!
 //! The value of a literal, of a local, of operators and of conditions is found at once, from the locals that are
 //! known. Where nothing is found, nothing is said: evaluation then goes its usual way. This crate depends on

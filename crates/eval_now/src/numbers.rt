@@ -68,7 +68,6 @@ fn begins_arithmetic(more: &[BoundOperand]) -> bool {
     }
 }
 
-// The number that a value is.
 fn number_in(value: &Value) -> Option<i32>
     ensures { IfSome result (λ n. plain_of value.now ≡ plain.Number n) }
 {

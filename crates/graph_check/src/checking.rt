@@ -12,7 +12,6 @@ use graph_outputs::{first_double_producer, first_outside, first_overlap};
 use pip_model::{Memory, Pip, PipList, Plan, Sources};
 use std::alloc::Global;
 
-// The first pip at which a rule fails.
 fn first_failure(
     alloc: Global,
     rule: GraphKind,

@@ -1,4 +1,4 @@
-//! The rules of the graph: whether the pips of a build can be planned.
+//! Graph validation: all rules, in their order, and the first violation of one.
 //!
 //! Six rules are tried in an order, each over the pips by number. [`check`] gives the plan of the pips, or
 //! the first rule that fails, with its pip and that pip's specification file. The rules on what pips declare

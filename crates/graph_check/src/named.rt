@@ -6,7 +6,6 @@ use bx_tree::{FileInput, Path};
 use pip_model::{PipKind, SealDesc, SealForm};
 use std::alloc::AllocError;
 
-// Adds a path.
 fn add(paths: &mut Vec<Path>, path: &Path) -> Result<(), AllocError>
     ensures { OnOk result (paths.new.items ≡ paths.old.items ++ path.now ∷ []) }
 {
@@ -24,7 +23,6 @@ fn add_source(paths: &mut Vec<Path>, file: &FileInput) -> Result<(), AllocError>
     }
 }
 
-// Adds the source files among these files.
 fn add_sources(paths: &mut Vec<Path>, files: &[FileInput]) -> Result<(), AllocError>
     ensures { OnOk result (paths.new.items ≡ paths.old.items ++ sources_among files.now) }
 {

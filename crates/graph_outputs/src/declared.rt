@@ -16,7 +16,6 @@ pub(crate) fn add(paths: &mut Vec<Path>, path: &Path) -> Result<(), AllocError>
     Ok(())
 }
 
-// Adds some paths.
 fn add_all(paths: &mut Vec<Path>, more: &[Path]) -> Result<(), AllocError>
     ensures { OnOk result (paths.new.items ≡ paths.old.items ++ more.now) }
 {
@@ -59,7 +58,6 @@ fn add_lone(paths: &mut Vec<Path>, dirs: &[OutDir]) -> Result<(), AllocError>
     Ok(())
 }
 
-// Adds the files that a pip declares.
 fn add_files(paths: &mut Vec<Path>, kind: &PipKind) -> Result<(), AllocError>
     ensures { OnOk result (paths.new.items ≡ paths.old.items ++ declared_files kind.now) }
 {

@@ -37,7 +37,6 @@ pub(crate) struct Claim {
     pub(crate) path: Path,
 }
 
-// Adds claims of a pip.
 fn add_claims(
     claims: &mut Vec<Claim>,
     role: Role,
@@ -53,7 +52,6 @@ fn add_claims(
     Ok(())
 }
 
-// Adds all claims of a pip.
 fn add_pip(
     alloc: Global,
     claims: &mut Vec<Claim>,

@@ -1,4 +1,4 @@
-//! The rules of the graph on what pips declare to make.
+//! Graph validation: the rules on declared outputs.
 //!
 //! No two pips declare one file; files, output directories and full seals keep apart; all outputs lie below
 //! `out`. Each call gives the first pip at which its rule fails. This crate depends on `pip_types`, `bx_tree`

@@ -106,7 +106,7 @@ fn has_overlap(
 }
 
 // The first pip of these that overlaps with itself or an earlier pip. Some first pips overlap if fewer of them
-// do, so it is found by halving. Each half takes a pass over the claims, which are sorted once.
+// do, so it is found by binary search. Each half takes a pass over the claims, which are sorted once.
 fn least_overlap(
     alloc: Global,
     claims: &[Claim],

@@ -10,7 +10,6 @@ use crate::tree_order::{count_before, is_within};
 use bx_tree::{FileInput, Path};
 use pip_types::SealDesc;
 
-// The path of a file.
 fn file_path(file: &FileInput) -> &Path
     ensures { result.now ≡ input_path file.now }
 {
@@ -29,7 +28,6 @@ fn is_listed(files: &[FileInput], path: &Path) -> bool
         .is_ok()
 }
 
-// Whether a path is that of a member of a seal.
 fn is_member(seal: &SealDesc, path: &Path) -> bool
     ensures { IsTrue result ↔ Contains (map input_path seal.now.files) path.now }
 {

@@ -1,4 +1,4 @@
-//! Laws of what evaluation means.
+//! Laws of the semantics of evaluation.
 //!
 //! The meaning of a program takes a budget of steps and a limit on open calls. These laws say what both do. A
 //! program takes a number of steps: within a budget of as many steps it has its answer, and within a smaller

@@ -9,7 +9,6 @@ use stored_lines::{TextFault, append_digest};
 /// The bytes of the line of a seal: its word, a space, 64 digits and a newline.
 pub const SEAL_BYTES: usize = 70;
 
-// The line of the seal of a body.
 fn seal_line(alloc: Global, body: &[u8]) -> Result<Vec<u8>, AllocError>
     ensures { IfOk result (λ line. line.items ≡ line_of body.now) }
 {

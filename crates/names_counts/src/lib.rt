@@ -1,4 +1,4 @@
-//! How many declarations, functions and locals a file can have: at most as many as it has tokens.
+//! Laws that bound the numbers of declarations, functions and locals by the number of tokens.
 //!
 //! `specs/Sizes.antt` gives each tree a size, which is at least what a walk through it counts and at most the
 //! number of its tokens. This crate depends on `dscript_grammar` for what tokens derive, on `dscript_binding`

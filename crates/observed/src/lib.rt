@@ -1,4 +1,4 @@
-//! What a run asks of the files around it, and what it is answered.
+//! File accesses of a process: asks, answers, and path sets with their text.
 //!
 //! A run of a tool reads, probes and lists paths. This crate has those asks, their answers, the trait
 //! of a view that answers them, and path sets: the asks that the outcome of a run depends on, in order

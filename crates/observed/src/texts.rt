@@ -17,7 +17,6 @@ use crate::path_set::SetFault;
 use bx_tree::{Path, PathFault};
 use std::alloc::{AllocError, Global};
 
-// The word of a kind.
 fn word_of(kind: AskKind) -> &'static str
     ensures { result.now ≡ kind_text kind }
 {
@@ -81,7 +80,6 @@ fn after<'a>(prefix: &[u8], line: &'a [u8]) -> Option<&'a [u8]>
     line.strip_prefix(prefix)
 }
 
-// The ask of a line.
 fn ask_of(alloc: Global, line: &[u8]) -> Result<Ask, SetFault>
     ensures { ReadsPathSet result (named_ask line.now) }
 {
@@ -97,7 +95,6 @@ fn ask_of(alloc: Global, line: &[u8]) -> Result<Ask, SetFault>
     Err(SetFault::BadSet)
 }
 
-// The asks of lines.
 fn all_asks(alloc: Global, lines: &[&[u8]]) -> Result<Vec<Ask>, SetFault>
     ensures { ReadsAsks result (all_named (texts_now lines.now)) }
 {
@@ -145,7 +142,6 @@ fn is_rising(asks: &[Ask]) -> bool
     true
 }
 
-// The asks of all lines of a text.
 fn rising_asks(alloc: Global, lines: &[&[u8]]) -> Result<Vec<Ask>, SetFault>
     ensures { ReadsAsks result (read_lines (texts_now lines.now)) }
 {
@@ -162,7 +158,6 @@ fn rising_asks(alloc: Global, lines: &[&[u8]]) -> Result<Vec<Ask>, SetFault>
     Ok(asks)
 }
 
-// The lines of a text.
 fn lines_of(alloc: Global, text: &[u8]) -> Result<Vec<&[u8]>, AllocError>
     ensures { IfOk result (λ lines. texts_now lines.items ≡ slice_split (λ b. b == 10) text.entry.now) }
 {

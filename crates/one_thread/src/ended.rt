@@ -218,7 +218,6 @@ fn after_work<G: Gate>(
     }
 }
 
-// Runs a process.
 fn run<G: Gate>(
     frame: &Frame<'_, G>,
     pip: u32,

@@ -1,4 +1,5 @@
-//! The build of all pips on one thread, without a cache: what every other build is compared with.
+//! The reference build: executes all pips sequentially, without a cache; every other way to build is proved
+//! equal to it.
 //!
 //! Pip by pip, what each comes to is read off its inputs, what it sees, and the run of its tool. This crate
 //! depends on `pip_view`, `run_record` and `violations`. It carries the promise that the build is the

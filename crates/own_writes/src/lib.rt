@@ -1,4 +1,4 @@
-//! The files that a run has written.
+//! The file system overlay of a running process: the files that it has written.
 //!
 //! A run sees its own writes before all else: they answer reads and probes, add names to listings, and
 //! forbid a write below a file or above one. All of these are found by search, in the files and in the

@@ -81,7 +81,6 @@ pub fn with_file(alloc: Global, files: &Made, path: Path, blob: Blob) -> Result<
     made_of(alloc, map)
 }
 
-// Whether one of these paths is that of a file.
 fn is_any_file(files: &BTreeMap<Path, Blob>, paths: &[Path]) -> bool
     ensures { result ≡ list_any (λ path. is_some (get path_cmp files.now path)) paths.now }
 {

@@ -1,4 +1,4 @@
-//! What the pips made for which a pip waits, and what pips come to by these files alone.
+//! The results of a pip's dependencies, and the execution of copy, write and seal pips.
 //!
 //! A pip that is no process makes a copy, a text or nothing, and a process is described by its declarations
 //! and the contents of its files. This crate depends on `pip_model` for pips and plans and on `pip_outputs`

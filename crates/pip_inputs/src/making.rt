@@ -28,7 +28,6 @@ fn share_or_empty(alloc: Global, found: Option<&Blob>) -> Result<Blob, Memory>
     }
 }
 
-// The file that a pip made at a path.
 fn made_at<'a>(inputs: &'a Inputs, pip: u32, path: &Path) -> Option<&'a Blob>
     ensures { option_copied result ≡ file_at (files_by inputs.entry.now pip) path.now }
 {
@@ -142,7 +141,6 @@ pub fn no_files(alloc: Global) -> Result<Made, Memory>
     Writes::new(alloc).into_made(alloc)
 }
 
-// One file.
 fn one_file(alloc: Global, path: &Path, blob: Blob) -> Result<Made, Memory>
     ensures { IfOk result (λ made. made ≡ (path.now, blob) ∷ []) }
 {

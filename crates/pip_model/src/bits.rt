@@ -33,7 +33,6 @@ fn join_words(row: &mut [u64], other: &[u64])
     }
 }
 
-// Adds a number.
 fn add_bit(row: &mut [u64], number: usize)
     requires { number < length row.old * WORD_BITS }
     ensures { (k : ℕ) → HasBit row.new k ↔ (HasBit row.old k ⊎ (k ≡ number)) }

@@ -1,4 +1,5 @@
-//! The plan of a build: its pips, which of them each one waits for, and what each can produce.
+//! The pip graph: the pips of a build with their dependency edges, reachability, and indexes of outputs and
+//! seals.
 //!
 //! This crate depends on `pip_types`, which it re-exports, on `bx_tree` and on `bx_digest`. Its invariant: the
 //! inputs, the outputs and the reachability that a `Plan` keeps are those of its list of pips, and each seal is

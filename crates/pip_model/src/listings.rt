@@ -31,7 +31,6 @@ fn has_wide(pips: &[Pip]) -> bool
     pips.iter().any(|pip| is_wide(&pip.kind))
 }
 
-// The path of a file.
 fn path_of(file: &FileInput) -> &Path
     ensures { result.now ≡ input_path file.entry.now }
 {

@@ -40,7 +40,6 @@ impl ByText {
         }
     }
 
-    // Adds a number at a text.
     fn add_at(&mut self, alloc: Global, number: u32, text: &[u8]) -> Result<(), AllocError>
         ensures { OnOk result ((other : List ℕ) → found_in self.new.table other
             ≡ found_in self.old.table other ++ (if bytes_eq text.now other then number ∷ [] else [])) }

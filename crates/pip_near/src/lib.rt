@@ -1,4 +1,4 @@
-//! Which of the directories that a process takes matter at a path.
+//! Lookup of the directory dependencies of a process that can affect a path.
 //!
 //! Of a process that takes many directories not each is searched at each path: the seals that list a file at a
 //! path or below it are found in the plan, and opaque directories and seals of source files in the order of

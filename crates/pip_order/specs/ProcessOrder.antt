@@ -35,13 +35,11 @@ file_cmp = then_cmp (on input_path path_cmp) (on maker_rank nat_cmp)
 abbrev pub form_cmp : DirInput → DirInput → Ordering
 form_cmp = then_cmp (on dir_path path_cmp) (on form_rank nat_cmp)
 
--- the inputs of processes
 abbrev pub inputs_cmp : ProcessDesc → ProcessDesc → Ordering
 inputs_cmp =
     then_cmp (on (λ (d : ProcessDesc). d.files) (slice_cmp file_cmp))
     (on (λ (d : ProcessDesc). d.dirs) (slice_cmp form_cmp))
 
--- the outputs of processes
 abbrev pub outputs_cmp : ProcessDesc → ProcessDesc → Ordering
 outputs_cmp =
     then_cmp (on (λ (d : ProcessDesc). d.outs) (slice_cmp path_cmp))

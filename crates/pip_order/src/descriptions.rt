@@ -14,7 +14,6 @@ use bx_tree::{FileInput, Path, Text};
 use pip_types::{DirInput, EnvPair, ProcessDesc, SealForm};
 use std::cmp::Ordering;
 
-// The path of a file.
 fn file_path(file: &FileInput) -> &Path
     ensures { result.now ≡ input_path file.now }
 {

@@ -1,4 +1,4 @@
-//! What pips have made, and what they can produce that a process does not take.
+//! Lookup of the pip that can produce a path through an output that a process does not declare as its input.
 //!
 //! This crate depends on `pip_model` for pips and on `own_writes` for what lies below a directory. It carries
 //! the promise that the least pip is found that can produce a path by an output that is no input.

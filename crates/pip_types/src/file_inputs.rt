@@ -27,7 +27,6 @@ impl Model for FileInputs {
     ghost invariant = { λ f. RiseByPath f.files.items };
 }
 
-// The path of a file.
 fn path_of(file: &FileInput) -> &Path
     ensures { result.now ≡ input_path file.now }
 {

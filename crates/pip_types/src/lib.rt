@@ -1,4 +1,4 @@
-//! Pips as data, and what they read and make.
+//! The data model of pips: processes, copies, writes and seals, with their inputs and outputs.
 //!
 //! A pip is one step of a build: a process, a copied file, a written file or a sealed directory. This
 //! crate has the types of pips, the list of all pips in the order in which they were made, the source

@@ -80,7 +80,6 @@ impl Made {
     }
 }
 
-// The place of the file at a path.
 fn place_of(files: &[MadeFile], path: &Path) -> Option<usize>
     requires { RisingFiles (made_files files.now) }
     ensures { MatchOption result

@@ -31,7 +31,6 @@ impl Model for Sources {
     ghost invariant = { λ s. AreSources s.paths.items s.blobs.items };
 }
 
-// The place of a path.
 fn place_of(paths: &[Path], path: &Path) -> Option<usize>
     requires { IsStrictlySortedBy path_cmp paths.now }
     ensures { MatchOption result

@@ -24,7 +24,6 @@ pub(crate) fn path_of(file: &FileInput) -> &Path
     }
 }
 
-// The place of the file at a path.
 fn place_of(files: &[FileInput], path: &Path) -> Option<usize>
     requires { RiseByPath files.now }
     ensures { MatchOption result

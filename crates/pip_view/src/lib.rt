@@ -1,4 +1,5 @@
-//! What a pip sees of the files around it.
+//! The file system as a process sees it: declared inputs, other sources, and outputs of other pips that are
+//! hidden from it.
 //!
 //! The view of a process is the rule of its input files, of other source files, and of what other pips can
 //! produce. This crate depends on `pip_inputs` for the results of its inputs, on `pip_outputs` for what pips

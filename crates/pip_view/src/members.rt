@@ -144,7 +144,6 @@ fn deeper<'a>(dir: &'a Path, other: &'a Path) -> Option<&'a Path>
     None
 }
 
-// The file that a pip made at a path.
 fn made_at<'a>(inputs: &'a Inputs, pip: u32, path: &Path) -> Option<&'a Blob>
     ensures { option_copied result ≡ file_at (files_by inputs.entry.now pip) path.now }
 {

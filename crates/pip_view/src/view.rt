@@ -88,7 +88,6 @@ fn is_directly_in(path: &Path, dir: &Path) -> bool
     !text_below(dir, path).contains(&b'/')
 }
 
-// Whether a path is the root.
 fn is_root(path: &Path) -> bool
     ensures { result ≡ seen.is_root path.now }
 {

@@ -33,7 +33,6 @@ fn answer_of(line: &[u8]) -> Result<AnswerLine, TextFault>
     digest_line(line)
 }
 
-// The answer of a line that has a digest.
 fn digest_line(line: &[u8]) -> Result<AnswerLine, TextFault>
     ensures { Gives result
         (with_digest (after_prefix (codes "content ") line.now) (after_prefix (codes "names ") line.now)) }

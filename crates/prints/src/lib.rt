@@ -1,4 +1,4 @@
-//! Fingerprints: the weak text of a process and the strong text of what its asks are answered, with digests.
+//! Weak and strong fingerprints of processes: their texts, written and parsed.
 //!
 //! The weak text says all of a process that its run depends on, its contents named by digest; the strong text
 //! says what the asks of a path set are answered. This crate writes both and reads both. It depends on

@@ -129,7 +129,6 @@ fn inputs(alloc: Global, lines: &[FileLine]) -> Result<FileInputs, AllocError>
     Ok(FileInputs::of(sources(alloc, lines)?))
 }
 
-// The digests of lines.
 fn digests(alloc: Global, lines: &[FileLine]) -> Result<Digests, AllocError>
     ensures { IfOk result (λ digests. digests ≡ digests_of lines.now) }
 {

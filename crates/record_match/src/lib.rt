@@ -1,4 +1,4 @@
-//! Whether a record's answers are still those of a view.
+//! Comparison of an execution record with the present inputs, by digests.
 //!
 //! A record is compared with a process and a view by digests: those of the weak texts of both processes, and
 //! then, ask by ask, those of the lines that say what was answered and what is answered now. It depends on

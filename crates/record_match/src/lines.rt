@@ -9,7 +9,6 @@ use observed::Answer;
 use std::alloc::{AllocError, Global};
 use stored_lines::append_digest;
 
-// A line of a word and a digest.
 fn digest_line(alloc: Global, word: &[u8], digest: &Digest) -> Result<Vec<u8>, AllocError>
     ensures { IfOk result (λ line. line.items ≡ (word.now ++ encode_lower digest.now) ++ codes "\n") }
 {

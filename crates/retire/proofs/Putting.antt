@@ -47,7 +47,7 @@ first_of fs i before now each = record { number = i; each = each }
 
 -- ## Counts of faults
 
--- a keep that failed is one fault
+-- a save that failed is one fault
 pub rose_once : (b0 b1 : Option ℕ) (f0 f1 : ℕ) (A : Type 0) → KeeperCall b0 b1 f0 f1 A → A → IsSome b0 → f0 + 1 ≤ f1
 rose_once b0 b1 f0 f1 A keeps failed some =
     rose_by_one f0 f1 (keeps.cause.rose failed) (keeps.fault_can_rise failed (subst (λ (o : Option ℕ). IsSome o) (sym keeps.bound_is) some))

@@ -15,7 +15,7 @@ use Rattle.store_builds.specs.Compared.{Compared}
 use Rattle.store_builds.specs.Runs.{AddsSuccesses, AllUsable, IsOfSuccess}
 use Rattle.retire.specs.Keeping.{PutsFirst}
 
--- These are the verdicts and the files of the build on one thread, and all processes that are not skipped
+-- These are the verdicts and the files of the sequential build, and all processes that are not skipped
 -- there hit or ran.
 pub record IsBuild (pips : List Pip) (tree : Files) (budget : ℕ) (verdicts : List Verdict) (outputs : Files)
     (hits ran : ℕ) : Type 0 where
@@ -23,7 +23,7 @@ pub record IsBuild (pips : List Pip) (tree : Files) (budget : ℕ) (verdicts : L
   pub outputs_are : outputs ≡ outputs_of (one_thread pips tree budget)
   pub all_counted : hits + ran ≡ run_count pips verdicts
 
--- The store is honest, and no two different ones of what is met in the build share a digest.
+-- The store is honest, and there is no hash collision among the contents compared.
 pub record IsFair (pips : List Pip) (tree : Files) (budget : ℕ) (S : Holdings) : Type 0 where
   pub honest : Honest S
   pub apart : NoCollision (Compared pips tree budget S)

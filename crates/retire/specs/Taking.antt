@@ -30,7 +30,6 @@ IsOfNow d see (taken.Hit found) = IsCurrentHit d see found
 IsOfNow d see (taken.Missed ran) = Sound ran × IsRun ran d see
 IsOfNow d see (taken.Faulted ran) = Sound ran × IsRun ran d see
 
--- the outcome
 abbrev pub outcome_in : Taken → Outcome
 outcome_in (taken.Hit found) = Good found.made
 outcome_in (taken.Missed ran) = ran.outcome

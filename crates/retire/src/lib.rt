@@ -1,8 +1,8 @@
-//! Retirement: what every pip of a build comes to, over a store of results.
+//! The cached build: reuses cached results where it can, executes the other pips, and saves their records.
 //!
 //! The pips are decided one after another. Where the store is used, what is usable for a process is taken in
 //! place of its run; after all are decided, the records of the runs that succeeded are kept. This crate
-//! depends on `one_thread` for what pips come to, on `two_phase` for lookups and keeps, and on `store_builds`
+//! depends on `one_thread` for what pips come to, on `two_phase` for lookups and saves, and on `store_builds`
 //! for what a store means for a build. It carries the promise that over an honest store the build is that on
 //! one thread, and that it leaves an honest store.
 #![tactic(auto)]

@@ -29,7 +29,7 @@ pub struct RetireTally {
     pub ran: u64,
     /// Those whose tool ran here.
     pub late: u64,
-    /// The lookups and keeps that failed.
+    /// The lookups and saves that failed.
     pub faults: u64,
 }
 
@@ -41,7 +41,7 @@ pub struct Retired {
     pub tally: RetireTally,
 }
 
-/// Decides all pips, one after another, as the build on one thread does. Where the store is used, what is
+/// Decides all pips, one after another, as the sequential build does. Where the store is used, what is
 /// usable for a process is taken in place of its run, and after all pips are decided the records of the runs
 /// that succeeded are kept, by number.
 pub fn retire_empty<K: Keeper, G: Gate>(

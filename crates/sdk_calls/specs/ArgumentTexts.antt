@@ -13,7 +13,6 @@ use Rattle.sdk_values.specs.Outcomes.{Outcome}
 use Rattle.bx_tree.specs.FileInputs.{input_path}
 use Rattle.sdk_values.specs.PathTexts.{path_argument}
 
--- no argument
 abbrev pub no_argument : Plain
 no_argument = plain.Argument (record { text = None; artifact = None })
 

@@ -1,4 +1,4 @@
-//! The ambient calls that change nothing.
+//! Ambient functions without side effects: `Cmd`, `Artifact`, `Contract` and globs.
 //!
 //! Arguments of processes, artifacts, assertions and globs. This crate depends on `sdk_values` and
 //! `bx_path`, and asks the source tree in one file, sources.rt. It carries the promise that each of these

@@ -46,7 +46,6 @@ pub(crate) fn written_arguments(alloc: Global, arguments: &[Argument]) -> Result
     Ok(texts)
 }
 
-// An artifact as an input.
 fn input_of(artifact: &Artifact) -> Result<Option<Dependency>, Memory>
     ensures { IfOk result (λ input. input ≡ input_of_artifact artifact.now) }
 {
@@ -84,7 +83,6 @@ pub(crate) fn with_inputs(
     Ok(inputs)
 }
 
-// An artifact as an output.
 fn output_of(artifact: &Artifact) -> Result<Option<Output>, Memory>
     ensures { IfOk result (λ output. output ≡ made_output artifact.now) }
 {

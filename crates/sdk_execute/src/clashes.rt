@@ -66,7 +66,6 @@ fn has_path(dirs: &[OutDir], path: &Path) -> bool
     false
 }
 
-// Whether a path is one of some outputs.
 fn has_output(outs: &Outputs, path: &Path) -> bool
     ensures { result ≡ list_any (same_path path.now) outs.now }
 {

@@ -1,4 +1,4 @@
-//! The ambient call `Transformer.execute`.
+//! The ambient function `Transformer.execute`.
 //!
 //! What the object of the call says is read field by field, and then becomes a process pip: its arguments,
 //! what it takes and makes, each once, and no two outputs that clash. This crate depends on `sdk_pips`, whose

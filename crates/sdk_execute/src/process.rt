@@ -25,7 +25,6 @@ use sdk_pips::files_by_path;
 use sdk_values::share_file;
 use std::alloc::{AllocError, Global};
 
-// The files among some inputs.
 fn files_among(alloc: Global, inputs: &[Dependency]) -> Result<Vec<FileInput>, Memory>
     ensures { IfOk result (λ files. files.items ≡ filter_map taken_file inputs.now) }
 {
@@ -38,7 +37,6 @@ fn files_among(alloc: Global, inputs: &[Dependency]) -> Result<Vec<FileInput>, M
     Ok(files)
 }
 
-// The form of a seal.
 fn form_of(kind: &PipKind) -> SealForm
     ensures { result ≡ form_of_kind kind.now }
 {
@@ -57,7 +55,6 @@ fn form_at(pips: &[Pip], number: u32) -> SealForm
     }
 }
 
-// A static directory as an input.
 fn directory_input(pips: &[Pip], dir: &StaticDir) -> Result<DirInput, Memory>
     ensures { IfOk result (λ input. input ≡ dir_input pips.now dir.now) }
 {
@@ -71,7 +68,6 @@ fn directory_input(pips: &[Pip], dir: &StaticDir) -> Result<DirInput, Memory>
     }
 }
 
-// The directories among some inputs.
 fn directories_among(
     alloc: Global,
     pips: &[Pip],

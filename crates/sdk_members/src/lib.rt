@@ -1,4 +1,4 @@
-//! The members of texts, lists and paths, and the names of all members.
+//! Methods and properties of strings, arrays and paths.
 //!
 //! What `x.name` and `x.name(..)` come to where `x` is a text, a list, a path, a file or a directory. Members
 //! of processes and static directories, which need the list of pips, are in `dscript_sdk`. This crate depends

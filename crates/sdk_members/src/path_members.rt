@@ -61,7 +61,6 @@ fn last_atom(path: &Path) -> Option<&[u8]>
     Some(last_part(text))
 }
 
-// The place of the last dot.
 fn last_dot(bytes: &[u8]) -> Option<usize>
     ensures before { before_dot bytes.now ≡ option_map (λ place. take place bytes.now) result }
     ensures within { IfSome result (λ place. place < length bytes.now) }

@@ -11,7 +11,6 @@ use Rattle.sdk_values.specs.Kinds.{text_in}
 use Rattle.sdk_values.specs.Outcomes.{Outcome, ◌>>=◌, unless_none}
 use Rattle.sdk_pips.specs.States.{Change, State, count_in, one_more}
 
--- an atom
 abbrev pub atom_in : Plain → Outcome (List ℕ)
 atom_in v = text_in v >>= λ text. if is_atom text then Ok text else Err BadArgument
 

@@ -1,4 +1,4 @@
-//! The ambient calls that make pips and output directories, and the state that they leave.
+//! Ambient functions that add pips: writes, copies, seals and output directories.
 //!
 //! Written and copied files, sealed directories and numbered output directories. Processes are in
 //! `sdk_execute`. This crate depends on `pip_types`, `sdk_values`, `sdk_members` and `sdk_calls`. It carries

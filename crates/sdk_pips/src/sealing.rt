@@ -162,7 +162,6 @@ fn is_listed(files: &FileInputs, path: &Path) -> bool
     has_path(files.files(), path)
 }
 
-// Whether all these paths are listed.
 fn are_listed(files: &FileInputs, paths: &[Path]) -> bool
     ensures { result ≡ list_all (seals.is_listed files.now) paths.now }
 {

@@ -1,4 +1,4 @@
-//! What ambient calls and members take from values, and the values that they answer.
+//! Conversion between run-time values and the arguments and results of ambient functions.
 //!
 //! The faults of a call, the kinds that its arguments must have, objects with known fields, and texts,
 //! numbers and lists within the limits. This crate depends on `dscript_value`. It carries the promise that a

@@ -10,7 +10,6 @@ ghost use Rattle.bx_tree.specs.Lent.{texts_now};
 use crate::fault::SdkFault;
 use dscript_value::{Field, Fields, Value};
 
-// The name of a field.
 fn name_of(field: &Field) -> &[u8]
     ensures { result.now ≡ (plain_field field.now).0 }
 {
@@ -49,7 +48,6 @@ fn has_only(fields: &[Field], required: &[&[u8]], optional: &[&[u8]]) -> bool
     true
 }
 
-// Whether there is a field with this name.
 fn has_field(fields: &Fields, name: &[u8]) -> bool
     ensures { result ≡ is_some (field_at (member_list (plain_fields fields.now).members) name.now) }
 {
@@ -68,7 +66,6 @@ fn has_all(fields: &Fields, required: &[&[u8]]) -> bool
     true
 }
 
-// The fields of the object that a value is.
 fn as_object(value: &Value) -> Result<&Fields, SdkFault>
     ensures { MatchResult result
         (λ fields. object_in (plain_of value.now) ≡ Ok (member_list (plain_fields fields.now).members))

@@ -35,7 +35,7 @@ HitsFrom pips tree budget S results i (pip ∷ left) numbers =
     left numbers)
 
 -- These are the numbers of the processes that are not skipped and for which the store has something usable,
--- with what they are and see in the build on one thread. Whether something is usable is not decided here, so
+-- with what they are and see in the sequential build. Whether something is usable is not decided here, so
 -- they are given as a list that a build may turn out to have.
 abbrev pub IsHitSet : List Pip → Files → ℕ → Holdings → List ℕ → Type 0
 IsHitSet pips tree budget S numbers = HitsFrom pips tree budget S [] 0 pips numbers

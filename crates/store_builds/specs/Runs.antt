@@ -1,4 +1,4 @@
--- The processes that run in the build on one thread, and what a store is to have of them.
+-- The processes that run in the sequential build, and what a store is to have of them.
 use Rattle.std.specs.Prelude.{◌≡◌, ◌⊎◌, ℕ, true, List, take, Some, slice_get}
 use Rattle.std.specs.List.{Contains}
 use Rattle.bx_tree.specs.Paths.{Atoms}
@@ -33,7 +33,6 @@ pub record RunsAs (pips : List Pip) (tree : Files) (budget i : ℕ) (d : Desc) (
   pub desc_is : desc_after pips tree budget (results_before pips tree budget i) process ≡ d
   pub view_is : view_after pips tree (results_before pips tree budget i) i process ≡ see
 
--- pip i succeeds
 abbrev pub SucceedsAt : List Pip → Files → ℕ → ℕ → Type 0
 SucceedsAt pips tree budget i =
     slice_get (verdicts_of (one_thread pips tree budget)) i ≡ Some verdicts.Succeeded

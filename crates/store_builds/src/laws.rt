@@ -42,7 +42,7 @@ pub fn successes_fit()
 {}
 
 /// Two processes of a build whose weak texts have one digest are one, where the pips keep the rules of the
-/// graph, no file of the tree has a reserved path, and no two different contents that are met share a digest.
+/// graph, no file of the tree has a reserved path, and there is no hash collision among the contents compared.
 pub fn weak_texts_differ()
     ensures { (pips : List Pip) (tree : Files) (budget : ℕ) (S : Holdings) (i j : ℕ) (d e : AnyDesc)
         (see view : AnyAsk → AnyAnswer) → IsPipList pips → KeepsRules pips tree → NoneReserved tree

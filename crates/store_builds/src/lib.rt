@@ -1,4 +1,5 @@
-//! What a store of results means for a whole build.
+//! The semantics of the cache for a whole build: which contents are compared by digest, and which processes
+//! are cache hits.
 //!
 //! This crate has what is met in a build over a store, the processes that the store would spare, and which
 //! records are those of processes that succeed. It depends on `one_thread` for the build, on `build_outputs`

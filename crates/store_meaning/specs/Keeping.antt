@@ -87,7 +87,7 @@ abbrev pub selectors_in : Option (List ℕ) → List Selector
 selectors_in None = []
 selectors_in (Some text) = or_none (read_selectors_text text)
 
--- the selectors that are held for a weak text with this digest, none where their list is not well
+-- the selectors that are held for a weak text with this digest, none where their list is not well-formed
 abbrev pub list_at : Holdings → List ℕ → List Selector
 list_at S weak = selectors_in (get S (at_list weak))
 

@@ -1,4 +1,4 @@
-//! What a store of results means.
+//! The semantics of the cache: honest stores, usable entries, and what a saved record puts.
 //!
 //! A store is honest where each of its entries says what a run on the contents that it names gives, and a
 //! process may take what a usable selector leads to. This crate has both definitions, what is put for a

@@ -1,4 +1,4 @@
-//! What is left of a text that is being read.
+//! A cursor over a text that is being parsed.
 ghost use Rattle.std.specs.Prelude.{◌≡◌, ◌↔◌, [], None, Some, MatchOption, IsTrue};
 ghost use Rattle.std.specs.Option.{option_copied};
 ghost use Rattle.observed.specs.Texts.{after_prefix, named_path};
@@ -14,7 +14,7 @@ use std::alloc::Global;
 use std::marker::Model;
 use std::str;
 
-/// What is left of a text that is being read. Contracts see it as the list of its bytes.
+/// A cursor over a text that is being parsed. Contracts see it as the bytes that are left.
 #[derive(Drop)]
 pub struct Cursor<'a> {
     bytes: &'a [u8],

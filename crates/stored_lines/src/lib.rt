@@ -1,4 +1,4 @@
-//! The lines of stored texts, written and read.
+//! Reading and writing the line-based formats of the cache.
 //!
 //! Fingerprints, lists of selectors and entries are texts of lines: a word, and then paths, digests, numbers
 //! and counted bytes, each ended by a space or a newline. This crate has the reader of such parts and the

@@ -115,13 +115,13 @@ const ONE_RAN_WITH_A_FAULT: &str =
 
 const ALL_HIT: &str = "notes hits 3\nran 0\nlate 0\nstore-faults 0\nstarved 0\nstatus 0";
 
-/// How many calls of a keeper its first build makes. The first record is kept by ten: the list is read, and then
+/// How many calls of a store its first build makes. The first record is kept by ten: the list is read, and then
 /// put are the weak text, the path set, the strong text, the executable, the source file, the header, the object, the
 /// entry and the list. The second has another path set, the executable of the first and an object like its source
 /// file: seven. The third has the path set of the second, and reads the objects: seven.
 const FIRST_CALLS: u64 = 24;
 
-/// Whether a build over a keeper gives its files, and these notes if any are wanted.
+/// Whether a build over a store gives its files, and these notes if any are wanted.
 fn is_built<H: Threads + Wait + Sync, K: Keeper>(
     rt: &H,
     alloc: Global,

@@ -30,7 +30,7 @@ fn start(text: &str, count: usize) -> &[u8] {
 }
 
 /// Whether a build with these streams writes so many bytes of the output and of the notes, and ends so. Nothing runs in
-/// it, so the keeper, whose first call would fail, is not called.
+/// it, so the store, whose first call would fail, is not called.
 fn comes_to<H: Threads + Wait + Sync>(
     rt: &H,
     alloc: Global,

@@ -70,7 +70,7 @@ fn sink_of(alloc: Global, streams: Streams, fails: u64) -> Result<MemSink, Alloc
     MemSink::new(alloc, 10_000, streams.chunk.max(1), failing)
 }
 
-/// A keeper that holds nothing, and whose call with this number fails, if it is not 0.
+/// A store that holds nothing, and whose call with this number fails, if it is not 0.
 pub fn empty_keeper(alloc: Global, fails: u64) -> Result<MemKeeper, AllocError> {
     Ok(MemKeeper::new(alloc, [fails].to_vec(alloc)?))
 }

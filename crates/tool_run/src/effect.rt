@@ -1,4 +1,4 @@
-//! What one instruction does to the world outside the machine.
+//! The effect of one instruction outside of the machine.
 
 use bx_tree::Path;
 use observed::{Ask, End};

@@ -1,4 +1,5 @@
-//! Runs of tools.
+//! The interpreter of the tool language, and the definition of a run as a function of the answers to its file
+//! accesses.
 //!
 //! A run goes through the instructions of a tool. It sees its executable, the files that it declares and its
 //! own writes, and all others through a view; what it did is a list of accesses, the files that it wrote, what it

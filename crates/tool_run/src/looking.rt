@@ -48,7 +48,6 @@ impl State {
         }
     }
 
-    // A probe is answered.
     fn take_probe(
         &mut self,
         alloc: Global,
@@ -69,7 +68,6 @@ impl State {
         Ok(self.fit(register, content))
     }
 
-    // A listing is answered.
     fn take_list(
         &mut self,
         alloc: Global,

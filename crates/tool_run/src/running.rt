@@ -128,7 +128,6 @@ fn take_turn<V: View>(
     take_effect(alloc, desc, view, state, instr, accesses)
 }
 
-// The instruction at a place.
 fn instr_at(tool: &Tool, place: usize) -> Option<&Instr>
     ensures at { option_copied result ≡ slice_get tool.entry.now place }
     ensures small { OnSome result (place < 2 ^ 63) }

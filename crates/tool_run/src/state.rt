@@ -66,7 +66,6 @@ fn value_of_operand<'a>(registers: &'a [Content], operand: &'a Operand) -> &'a [
     }
 }
 
-// Adds a line to a text.
 fn add_line(text: &mut Vec<u8>, line: &[u8]) -> Result<(), AllocError>
     ensures { OnOk result (text.new.items ≡ text.old.items ++ line.now ++ codes "\n") }
 {

@@ -1,4 +1,4 @@
-//! The text of a tool.
+//! The parser of the tool language.
 //!
 //! A tool is a small program in a file. This crate reads its text, after a grammar, into
 //! a list of instructions whose jumps are places in that list. It depends on `bx_tree` for shared

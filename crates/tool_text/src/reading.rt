@@ -25,7 +25,6 @@ fn tool_in(alloc: Global, lines: &[&[u8]]) -> Result<Tool, ToolFault>
     Ok(Tool::new(instrs))
 }
 
-// The tool of all lines of a text.
 fn tool_of_lines(alloc: Global, lines: &[&[u8]]) -> Result<Tool, ToolFault>
     ensures { ReadsTool result (tool_from (texts_now lines.now)) }
 {

@@ -1,4 +1,4 @@
-//! What the instructions on values compute.
+//! String and list operations of the tool language.
 //!
 //! Numbers of texts, the first bytes of a text and the others, what precedes and follows some bytes, variables
 //! by name, and names in order. The crate depends on `tool_text` and `pip_types`. It carries the promise that each

@@ -138,7 +138,7 @@ pub no_list : (held : Option Holdings) (weak name : List ℕ) → name ≡ at_li
 no_list None weak name named h = tt
 no_list (Some S) weak name named h = λ l there. none_and_some (get S name) there.0 h (ap (get S) named ∙ there.1)
 
--- ## Lists for a keep
+-- ## Lists for a save
 
 pub held_text : (known : Option StoreState) (weak name : List ℕ) (text : Vec ℕ Global) (list : List Selector) → name ≡ at_list weak
     → held_names.Finds (held_in known) name (got.Found text) → list ≡ or_none (read_selectors_text text.items) → IsListAt known weak list

@@ -1,4 +1,4 @@
--- Calls of a reader or a keeper, one after another.
+-- Calls of a reader or a store, one after another.
 use Rattle.std.proofs.Common.{◌≡◌, ℕ, ◌≤◌, Option, Ok, Err, refl, ◌∙◌, subst, arith}
 use Rattle.bx_io.specs.Causes.{HasCause, Rose}
 use Rattle.bx_io.specs.Holdings.{Holdings}

@@ -1,4 +1,4 @@
--- What calls leave of a reader and of a keeper.
+-- What calls leave of a reader and of a store.
 use Rattle.std.specs.Prelude.{◌≡◌, ℕ, Option}
 use Rattle.bx_io.specs.Causes.{CanRise, HasCause, IsWithin}
 use Rattle.bx_io.specs.Holdings.{Holdings}
@@ -14,7 +14,7 @@ pub record ReaderCall (held now_held : Option Holdings) (bound now_bound : Optio
   pub cause : HasCause faults now_faults fault
   pub no_fault : ¬ fault → now_faults ≡ faults
 
--- The keeper's bound is as it was, and its count of faults rose just where the call answered a fault; after
+-- The store's bound is as it was, and its count of faults rose just where the call answered a fault; after
 -- that it can still rise.
 pub record KeeperCall (bound now_bound : Option ℕ) (faults now_faults : ℕ) (fault : Type 0) : Type 0 where
   pub bound_is : now_bound ≡ bound

@@ -1,4 +1,4 @@
--- Contents that a keeper is known to hold.
+-- Contents that a store is known to hold.
 use Rattle.std.specs.Prelude.{◌≡◌, ℕ, List, Option, Some, None, ⊤}
 use Rattle.std.specs.BTreeMap.{get_by}
 use Rattle.std.specs.Cmp.Lexicographic.{slice_cmp}

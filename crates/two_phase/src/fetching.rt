@@ -48,7 +48,6 @@ impl SelectorList {
     }
 }
 
-// The content of a digest.
 fn content<R: KeepReader>(
     alloc: Global,
     reader: &mut R,

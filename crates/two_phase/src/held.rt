@@ -1,4 +1,4 @@
-//! Contents that a keeper is known to hold.
+//! Contents that a store is known to hold.
 ghost use Rattle.std.specs.Prelude.{◌≡◌, ℕ, IsTrue, List, OnErr, OnOk, Option, Some};
 ghost use Rattle.bx_io.specs.Holdings.{StoreState as KeptParts};
 ghost use Rattle.two_phase.specs.Held.{AreHeld, Tracks, noted_at};
@@ -7,7 +7,7 @@ use bx_digest::{Blob, Digest};
 use std::alloc::{AllocError, Global};
 use std::collections::BTreeMap;
 
-/// Contents that were put into a keeper, shared, by their digests: they are not put again. A keeper of which a
+/// Contents that were put into a store, shared, by their digests: they are not put again. A store of which a
 /// name was dropped needs a new table.
 #[derive(Drop)]
 pub struct HeldContents {

@@ -1,4 +1,4 @@
-//! Keeps.
+//! Saving execution records to the store.
 ghost use Rattle.std.specs.Prelude.{◌≡◌, ◌∷◌, [], Err, IfOk, OnErr, OnOk, map};
 ghost use Rattle.sha2.specs.Sha256.{sha256};
 ghost use Rattle.bx_io.specs.Holdings.{Put, known_after};
@@ -22,12 +22,12 @@ use prints::Printed;
 use run_record::Record;
 use std::alloc::{AllocError, Global};
 
-/// The answer to a keep.
+/// The result of a save.
 #[derive(Clone, Copy, Debug, PartialEq, Eq)]
 pub enum SaveResult {
     /// All puts were made, but for those of contents that were held.
     Saved,
-    /// The keeper failed, and the puts after that were not made.
+    /// The store failed, and the puts after that were not made.
     Fault,
     /// There was no memory, and the puts after that were not made.
     Memory,
@@ -65,7 +65,7 @@ fn selectors_in(alloc: Global, text: &[u8]) -> Result<Vec<Selector>, AllocError>
     }
 }
 
-// The selectors that are held for a weak text, none where their list is not well.
+// The selectors that are held for a weak text, none where their list is not well-formed.
 fn held_list<K: Keeper>(
     alloc: Global,
     keeper: &mut K,
@@ -266,7 +266,6 @@ fn next_list<K: Keeper>(
     Ok(text)
 }
 
-// Puts a record.
 fn put_record<K: Keeper>(
     alloc: Global,
     keeper: &mut K,

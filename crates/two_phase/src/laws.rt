@@ -1,4 +1,4 @@
-//! What follows from what a keep leaves.
+//! What follows from what a save leaves.
 ghost use Rattle.std.specs.Prelude.{Option, Some};
 ghost use Rattle.bx_io.specs.Holdings.{StoreState as KeptParts};
 ghost use Rattle.run_record.specs.Facts.{Facts, Sound};
@@ -7,7 +7,7 @@ ghost use Rattle.store_meaning.specs.Keeping.{ComparedInSave, IsGood};
 ghost use Rattle.record_match.specs.Collisions.{NoCollision};
 ghost use Rattle.two_phase.specs.Putting.{LeavesHonest, PutsUpTo};
 
-/// A keep leaves an honest store honest after each of its changes.
+/// A save leaves an honest store honest after each of its changes.
 pub fn keeps_honest()
     ensures { (before : KeptParts) (now : Option KeptParts) (f : Facts) → Sound f → IsGood f
         → PutsUpTo (Some before) now f → Honest before.held → NoCollision (ComparedInSave before.held f)

@@ -95,7 +95,6 @@ fn all_contents(
     Ok(contents)
 }
 
-// The outputs of made files.
 fn outputs_of(alloc: Global, made: &[MadeFile]) -> Result<Vec<OutputLine>, AllocError>
     ensures { IfOk result (λ outputs. outputs.items ≡ output_lines (made_files made.now)) }
 {

@@ -98,7 +98,6 @@ fn slot_clashes(path: &Path, kind: &PipKind, slot: &Slot) -> bool
     }
 }
 
-// The least of the pips that clashes with a path.
 fn least_clash(path: &Path, pips: &[Pip], slots: &[Slot]) -> Option<u32>
     requires long { length pips.now ≤ length slots.now }
     requires few { length pips.now ≤ u32.MAX }
@@ -134,7 +133,6 @@ fn clash(path: &Path, other: u32) -> Result<Violation, Memory>
     with_other(ViolationKind::DoubleWrite, DeedKind::Write, path, other)
 }
 
-// The violation of the first of the files that clashes.
 fn first_clash(
     dirs: &[OutDir],
     files: &[MadeFile],

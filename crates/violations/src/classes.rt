@@ -90,7 +90,6 @@ fn looked(plan: &Plan, pip: u32, deed: DeedKind, path: &Path) -> Result<Violatio
     }
 }
 
-// Whether there is a source file at a path.
 fn is_source(sources: &Sources, path: &Path) -> bool
     ensures { result ≡ is_some (file_at sources.now path.now) }
 {
@@ -109,7 +108,6 @@ fn read(plan: &Plan, sources: &Sources, pip: u32, path: &Path) -> Result<Violati
     looked(plan, pip, DeedKind::Read, path)
 }
 
-// What violation a denied ask is.
 fn denied(plan: &Plan, sources: &Sources, pip: u32, ask: &Ask) -> Result<Option<Violation>, Memory>
     requires { pip < length plan.now.pips }
     ensures { IfOk result (λ violation. violation
@@ -122,7 +120,6 @@ fn denied(plan: &Plan, sources: &Sources, pip: u32, ask: &Ask) -> Result<Option<
     }
 }
 
-// What violation an ask with this answer is.
 fn asked(
     plan: &Plan,
     sources: &Sources,

@@ -1,4 +1,4 @@
-//! What violation a denied access is, and which writes of two processes clash.
+//! Classification of denied file accesses, and detection of double writes.
 //!
 //! Which violation it is, walks along the edges of the graph decide. This crate depends on `pip_model` for the
 //! plan, on `pip_outputs` for what pips can produce, and on `verdicts`, which it re-exports. It carries the

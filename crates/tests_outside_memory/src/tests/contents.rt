@@ -1,4 +1,4 @@
-//! A content that is put and got by its digest, where calls of the keeper fail.
+//! A content that is put and got by its digest, where calls of the store fail.
 
 use bx_digest::{Blob, digest_of};
 use bx_io::{FailKeeper, KeepReader, Keeper, MemKeeper, PutFault};

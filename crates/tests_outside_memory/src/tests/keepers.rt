@@ -70,7 +70,7 @@ fn say_listed(said: &mut Vec<u8>, listed: Listed) -> Result<(), AllocError> {
     }
 }
 
-/// A call of a keeper.
+/// A call of a store.
 #[derive(Clone, Copy)]
 enum Call {
     Put,
@@ -79,7 +79,7 @@ enum Call {
     Names,
 }
 
-/// Says what a call of a keeper answers.
+/// Says what a call of a store answers.
 fn say_call<K: Keeper>(
     alloc: Global,
     said: &mut Vec<u8>,
@@ -110,7 +110,7 @@ const CALLS: &[(Call, &str, &str)] = &[
     (Call::Get, BLOB, ""),
 ];
 
-/// Says what six calls of a keeper answer.
+/// Says what six calls of a store answer.
 fn six_calls<K: Keeper>(
     alloc: Global,
     said: &mut Vec<u8>,
@@ -139,7 +139,7 @@ fn two_looks<K: Keeper>(
     Ok(())
 }
 
-/// Says what a keeper that never fails answers.
+/// Says what a store that never fails answers.
 fn say_never_failing(alloc: Global, said: &mut Vec<u8>) -> Result<(), AllocError> {
     let mut keeper = NoFaultKeeper::new(alloc);
     six_calls(alloc, said, &mut keeper)?;
@@ -223,7 +223,7 @@ fn keepers_in_memory_fail_and_stop_where_they_are_asked_to(rt: HostRuntime) -> R
     Ok(())
 }
 
-/// Says what a keeper answers that holds an entry, and whose readers fail at the first call.
+/// Says what a store answers that holds an entry, and whose readers fail at the first call.
 fn say_failing(alloc: Global, said: &mut Vec<u8>) -> Result<(), AllocError> {
     let mut inner = MemKeeper::new(alloc, Vec::new(alloc));
     if is_name(ENTRY.as_bytes()) {
