@@ -124,8 +124,8 @@ value_of_module sees m n (file ∷ files) name =
     (if file.module_number == m then option_map (targets.Declared n) (value_in sees file name) else None)
     (value_of_module sees m (n + 1) files name)
 
--- Outside of a module its public values are seen. A name is not public where a prefix of it is a value of the
--- module, and no prefix is a public one.
+-- Through an import the public values of a module are seen, also where a module imports itself. A name is not
+-- public where a prefix of it is a value of the module, and no prefix is a public one.
 abbrev pub in_other_module : World → ℕ → ℕ → Dotted → Result Found SpecKind
 in_other_module world m parts names =
     elim (shortest (value_of_module is_public m 0 world.files) parts [] names) [

@@ -70,7 +70,8 @@ fn hidden(
     }
 }
 
-/// What the names stand for in a module that is not their own.
+/// What the names stand for in the module with this number, as it is seen through an import: its public values
+/// alone. That may be the module in which the names are written, where it imports itself.
 #[tactic(auto, using(crate::proofs::TableValues::same_shortest))]
 fn in_other_module(
     alloc: Global,

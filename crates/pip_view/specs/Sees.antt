@@ -35,8 +35,8 @@ as_source kinds.Probe = answers.File
 as_source kinds.List = answers.Absent
 
 -- A read or a probe, of which the first line that applies decides: of an input file; of another source
--- file; of a path that another pip can produce by an output that is no input; of a path below which a file
--- lies, or the root; of any other path.
+-- file; of a path that another pip can produce, by an output file or by a directory that is no input; of a path
+-- below which a file lies, or the root; of any other path.
 abbrev pub looked : AskKind → Option (List ℕ) → Bool → Bool → Bool → Answer
 looked kind (Some bytes) source unseen dir = as_input kind bytes
 looked kind None source unseen dir =
