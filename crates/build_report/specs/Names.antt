@@ -1,13 +1,13 @@
 -- The words of a report.
 use Rattle.std.specs.Prelude.{ℕ, List, codes}
-use Rattle.pip_types.specs.declared.pip.PipKind.{PipKind}
-use Rattle.pip_types.specs.declared.pip.PipKind.TheVariants.{Process, Copy, Write, Seal}
+use Rattle.pip_model_types.specs.declared.pip.PipKind.{PipKind}
+use Rattle.pip_model_types.specs.declared.pip.PipKind.TheVariants.{Process, Copy, Write, Seal}
 use Rattle.observed.specs.declared.access.End.{End}
 use Rattle.observed.specs.declared.access.End.TheVariants as ends
-use Rattle.verdicts.specs.declared.verdict.ViolationKind.{ViolationKind}
-use Rattle.verdicts.specs.declared.verdict.ViolationKind.TheVariants as violations
-use Rattle.verdicts.specs.declared.verdict.DeedKind.{DeedKind}
-use Rattle.verdicts.specs.declared.verdict.DeedKind.TheVariants as deeds
+use Rattle.violations.specs.declared.verdict.ViolationKind.{ViolationKind}
+use Rattle.violations.specs.declared.verdict.ViolationKind.TheVariants as violations
+use Rattle.violations.specs.declared.verdict.DeedKind.{DeedKind}
+use Rattle.violations.specs.declared.verdict.DeedKind.TheVariants as deeds
 
 abbrev pub pip_name : PipKind → List ℕ
 pip_name (Process d) = codes "process"

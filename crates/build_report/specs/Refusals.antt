@@ -3,7 +3,7 @@ use Rattle.std.specs.Prelude.{ℕ, nat_le, ◌&&◌, if◌then◌else◌, List, 
 use Rattle.std.specs.Fmt.{decimal}
 use Rattle.std.specs.Option.{option_map_or}
 use Rattle.bx_tree.specs.Paths.{Atoms, path_text}
-use Rattle.dscript_modules.specs.declared.place.Place.{Place}
+use Rattle.dscript_program.specs.declared.place.Place.{Place}
 use Rattle.build_report.specs.declared.refusal.Refusal.{Refusal}
 use Rattle.build_report.specs.declared.refusal.Refusal.TheVariants.{Input, Specification}
 use Rattle.build_report.specs.declared.refusal.TheConstants.{MAX_SHOWN_BYTES}

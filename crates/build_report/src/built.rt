@@ -2,13 +2,13 @@
 ghost use Rattle.std.specs.Prelude.{◌≡◌, ◌++◌, ◌≤◌, IfOk, OnOk, length};
 ghost use Rattle.std.specs.List.{list_all};
 ghost use Rattle.build_report.specs.Reports as texts;
-ghost use Rattle.verdicts.specs.Verdicts as ends;
+ghost use Rattle.violations.specs.Verdicts as ends;
 
 use crate::Memory;
 use crate::names::{deed_name, end_name, pip_name, violation_name};
 use pip_model::{Pip, PipKind, Plan};
 use std::alloc::Global;
-use verdicts::{Verdict, Violation};
+use violations::{Verdict, Violation};
 
 // Adds the pip that a violation names beside its own, if it names one.
 fn add_other(alloc: Global, text: &mut Vec<u8>, other: Option<u32>) -> Result<(), Memory>

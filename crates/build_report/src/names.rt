@@ -4,7 +4,7 @@ ghost use Rattle.build_report.specs.Names as names;
 
 use observed::End;
 use pip_model::PipKind;
-use verdicts::{DeedKind, ViolationKind};
+use violations::{DeedKind, ViolationKind};
 
 pub(crate) fn pip_name(kind: &PipKind) -> &'static str
     ensures { result.now ≡ names.pip_name kind.now }

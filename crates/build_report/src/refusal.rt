@@ -5,7 +5,7 @@ ghost use Rattle.build_report.specs.Refusals as texts;
 
 use crate::Memory;
 use bx_tree::{Path, Text};
-use dscript_modules::Place;
+use dscript_program::Place;
 use std::alloc::Global;
 
 /// How many bytes of a message are shown.

@@ -2,11 +2,11 @@
 //!
 //! `bundle pack FOLDER` writes the bundle of the files of a folder, `bundle unpack [--replace] FOLDER` makes
 //! the files of a bundle in a folder, and `bundle list` names the files of a bundle. It depends on
-//! `bx_bundle` for its words, its messages and its folder of the system, on `bx_folder` and on `bx_tree`.
+//! `bundle_system` for its words, its messages and its folder of the system, on `bundle_folder` and on `bx_tree`.
 #![tactic(auto)]
 
-use bx_bundle::{Command, SystemFolder, bundle_message, pack_message, read_words, unpack_message};
-use bx_folder::{Replace, pack, unpack};
+use bundle_system::{Command, SystemFolder, bundle_message, pack_message, read_words, unpack_message};
+use bundle_folder::{Replace, pack, unpack};
 use bx_tree::{MAX_BUNDLE_BYTES, Tree, read_bundle};
 use std::alloc::{AllocError, Global};
 use std::env;

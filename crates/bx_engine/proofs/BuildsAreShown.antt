@@ -5,12 +5,12 @@ use Rattle.std.specs.List.{AllByRecursion}
 use Rattle.bx_tree.specs.Paths.{IsPath}
 use Rattle.bx_tree.specs.Trees.{Files, paths_of}
 use Rattle.bx_io.specs.Holdings.{Holdings, StoreState, held_in}
-use Rattle.build_outputs.specs.Outputs.{AreOutputs}
+use Rattle.one_thread.specs.Outputs.{AreOutputs}
 use Rattle.build_report.specs.Notes.{notes_text}
-use Rattle.pip_types.specs.declared.pip.Pip.{Pip}
+use Rattle.pip_model_types.specs.declared.pip.Pip.{Pip}
 use Rattle.one_thread.specs.OneThread.{one_thread, outputs_of, run_count, verdicts_of}
-use Rattle.verdicts.specs.declared.verdict.Verdict.{Verdict}
-use Rattle.store_builds.specs.Runs.{NoneReserved}
+use Rattle.violations.specs.declared.verdict.Verdict.{Verdict}
+use Rattle.retire.specs.Runs.{NoneReserved}
 use Rattle.retire.specs.Builds.{Fair, IsBuild, IsFair, LeavesUsable, RunsLate, Spares}
 use Rattle.retire.specs.declared.retiring.Retired.{Retired}
 use Rattle.bx_engine.specs.Counting.{AreCounts, CountsOf, StoreChange, given_files, gone_output, gone_status}

@@ -2,10 +2,10 @@
 use Rattle.std.proofs.Common.{◌≡◌, ◌⊎◌, inl, inr, ℕ, List, Bool, true, false, cond, Some, refl, sym, subst, ◌∙◌}
 use Rattle.std.specs.declared.option.Option.{Option}
 use Rattle.std.specs.Io.KnownBytes.{Appends}
-use Rattle.bx_front.specs.declared.limits.Limits.{Limits}
-use Rattle.bx_words.specs.declared.order.Order.{Order}
+use Rattle.bx_engine_front.specs.declared.limits.Limits.{Limits}
+use Rattle.bx_engine_words.specs.declared.order.Order.{Order}
 use Rattle.bx_io.specs.Holdings.{StoreState}
-use Rattle.pip_types.specs.declared.pip.Pip.{Pip}
+use Rattle.pip_model_types.specs.declared.pip.Pip.{Pip}
 use Rattle.bx_engine.specs.Counting.{AppendsNotes, IsNoted, IsShown, StoreChange}
 use Rattle.bx_engine.specs.Ending.{Ending, InputRefused, SpecificationRefused, Built, all_succeeded, status_of}
 use Rattle.bx_engine.specs.Expected.{Answers, AppendsOrFails, Begins, Expected, IsExpected, limits_of}

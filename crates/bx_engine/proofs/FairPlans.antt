@@ -5,11 +5,11 @@ use Rattle.std.proofs.lemmas.List.{get_or-map, get_or_default, length-map}
 use Rattle.bx_tree.specs.Paths.{Atoms}
 use Rattle.bx_tree.specs.Trees.{Files, IsReserved, paths_of}
 use Rattle.bx_io.specs.Holdings.{Holdings}
-use Rattle.bx_front.specs.Specifications.{Plans}
-use Rattle.bx_front.specs.declared.limits.Limits.{Limits}
-use Rattle.bx_words.specs.declared.order.Order.{Order}
-use Rattle.pip_types.specs.declared.pip.Pip.{Pip}
-use Rattle.store_builds.specs.Runs.{NoneReserved}
+use Rattle.bx_engine_front.specs.Specifications.{Plans}
+use Rattle.bx_engine_front.specs.declared.limits.Limits.{Limits}
+use Rattle.bx_engine_words.specs.declared.order.Order.{Order}
+use Rattle.pip_model_types.specs.declared.pip.Pip.{Pip}
+use Rattle.retire.specs.Runs.{NoneReserved}
 use Rattle.retire.specs.Builds.{Fair, IsFair}
 use Rattle.bx_engine.specs.Ends.{AreSources, HasReserved}
 use Rattle.bx_engine.specs.Stores.{FairStore, FairWhere}

@@ -5,15 +5,15 @@ use Rattle.bx_tree.specs.Bundle.{Faults, IsBundle}
 use Rattle.bx_tree.specs.declared.bundle.BundleFault.{BundleFault}
 use Rattle.bx_tree.specs.declared.bundle.BundleFault.TheVariants as bundle_faults
 use Rattle.bx_tree.proofs.OneReading.{one_tree, one_fault, no_fault}
-use Rattle.bx_front.proofs.OnePlan.{OneFailure, many_or_fault, many_or_plan, one_fault as one_specification_fault, one_plan_lem, plan_or_fault}
-use Rattle.bx_front.specs.Refusals.{Refuses, refusal_of}
-use Rattle.bx_front.specs.declared.limits.Limits.{Limits}
+use Rattle.bx_engine_front.proofs.OnePlan.{OneFailure, many_or_fault, many_or_plan, one_fault as one_specification_fault, one_plan_lem, plan_or_fault}
+use Rattle.bx_engine_front.specs.Refusals.{Refuses, refusal_of}
+use Rattle.bx_engine_front.specs.declared.limits.Limits.{Limits}
 use Rattle.build_report.specs.declared.refusal.Refusal.{Refusal}
-use Rattle.bx_words.specs.declared.order.Order.{Order}
+use Rattle.bx_engine_words.specs.declared.order.Order.{Order}
 use Rattle.build_report.specs.Notes.{notes_text}
 use Rattle.build_report.specs.declared.counts.Counts.{Counts}
 use Rattle.one_thread.specs.OneThread.{Result, one_thread, run_count, verdicts_of}
-use Rattle.pip_types.specs.declared.pip.Pip.{Pip}
+use Rattle.pip_model_types.specs.declared.pip.Pip.{Pip}
 use Rattle.bx_engine.specs.declared.fault.InputFault.{InputFault}
 use Rattle.bx_engine.specs.declared.fault.InputFault.TheVariants as input_faults
 use Rattle.bx_engine.specs.Ending.{Ending, InputRefused, SpecificationRefused, Built}

@@ -7,13 +7,13 @@ use Rattle.std.proofs.lemmas.List.{map-append}
 use Rattle.std.proofs.lemmas.List.Elements.{All-contains, All-from_recursion, Contains-push_cases}
 use Rattle.bx_tree.specs.Paths.{Atoms, IsPath, IsBelow, path_cmp}
 use Rattle.bx_tree.specs.Trees.{Files, NoneNested, paths_of}
-use Rattle.build_outputs.specs.Outputs.{AreOutputs}
+use Rattle.one_thread.specs.Outputs.{AreOutputs}
 use Rattle.build_report.specs.declared.refusal.Refusal.{Refusal}
-use Rattle.graph_outputs.specs.OutsideOut.{out_dir}
+use Rattle.graph_check_outputs.specs.OutsideOut.{out_dir}
 use Rattle.build_report.specs.Reports.{report_text}
-use Rattle.pip_types.specs.declared.pip.Pip.{Pip}
-use Rattle.verdicts.specs.Verdicts.{is_success}
-use Rattle.verdicts.specs.declared.verdict.Verdict.{Verdict}
+use Rattle.pip_model_types.specs.declared.pip.Pip.{Pip}
+use Rattle.violations.specs.Verdicts.{is_success}
+use Rattle.violations.specs.declared.verdict.Verdict.{Verdict}
 use Rattle.bx_engine.specs.Counting.{given_files, gone_output}
 use Rattle.bx_engine.specs.Ending.{Ending, InputRefused, SpecificationRefused, ending_files, report_of, report_path}
 use Rattle.bx_engine.specs.OutputTrees.{IsOutputPath, IsOutputText, IsOutputTree}

@@ -10,7 +10,7 @@ use Rattle.bx_tree.specs.Bundle.{Faults}
 use Rattle.bx_tree.specs.declared.bundle.BundleFault.{BundleFault}
 use Rattle.bx_tree.specs.declared.bundle.BundleFault.TheVariants as bundle_faults
 use Rattle.bx_engine.specs.declared.fault.InputFault.TheVariants as input_faults
-use Rattle.bx_words.specs.declared.order.Order.{Order}
+use Rattle.bx_engine_words.specs.declared.order.Order.{Order}
 use Rattle.bx_engine.specs.declared.status.Status.{Status}
 use Rattle.bx_engine.specs.declared.limits.TheConstants.{READ_LIMIT}
 use Rattle.bx_tree.specs.declared.limits.TheConstants.{MAX_BUNDLE_BYTES}
@@ -20,8 +20,8 @@ use Rattle.bx_engine.specs.Counting.{AppendsNotes, IsNoted, IsShown, NotesOf, St
 use Rattle.bx_engine.specs.Expected.{IsExpected, Answers, Begins, limits_of}
 use Rattle.bx_engine.specs.Stores.{AsksFor, FairWhere, LeftOfBuild, StoreLeft}
 use Rattle.bx_engine.specs.Ending.{Ending, InputRefused, SpecificationRefused, Built}
-use Rattle.bx_front.specs.declared.limits.Limits.{Limits}
-use Rattle.pip_types.specs.declared.pip.Pip.{Pip}
+use Rattle.bx_engine_front.specs.declared.limits.Limits.{Limits}
+use Rattle.pip_model_types.specs.declared.pip.Pip.{Pip}
 
 -- the input is longer than an input may be
 abbrev pub IsLong : List ℕ → Type 0

@@ -3,20 +3,20 @@ use Rattle.std.proofs.Common.{◌≡◌, ◌≢◌, ℕ, inl, inr, Bool, List, [
 use Rattle.bx_tree.specs.Bundle.{Faults, IsBundle, bundle}
 use Rattle.bx_tree.specs.declared.bundle.BundleFault.{BundleFault}
 use Rattle.bx_tree.specs.declared.bundle.BundleFault.TheVariants as bundle_faults
-use Rattle.bx_front.specs.Faults.{IsRefused}
-use Rattle.bx_front.specs.declared.fault.FrontFault.{FrontFault}
-use Rattle.bx_front.specs.declared.fault.FrontFault.TheVariants as front_faults
+use Rattle.bx_engine_front.specs.Faults.{IsRefused}
+use Rattle.bx_engine_front.specs.declared.fault.FrontFault.{FrontFault}
+use Rattle.bx_engine_front.specs.declared.fault.FrontFault.TheVariants as front_faults
 use Rattle.bx_io.specs.Holdings.{held_in}
 use Rattle.bx_tree.specs.Trees.{Files}
-use Rattle.bx_words.specs.declared.order.Order.{Order}
+use Rattle.bx_engine_words.specs.declared.order.Order.{Order}
 use Rattle.build_report.specs.Notes.{notes_text}
 use Rattle.build_report.specs.declared.refusal.Refusal.{Refusal}
 use Rattle.build_report.specs.declared.refusal.Refusal.TheVariants.{Input}
-use Rattle.bx_front.specs.Refusals as front
-use Rattle.bx_front.specs.Specifications.{Plans}
-use Rattle.bx_front.specs.declared.limits.Limits.{Limits}
+use Rattle.bx_engine_front.specs.Refusals as front
+use Rattle.bx_engine_front.specs.Specifications.{Plans}
+use Rattle.bx_engine_front.specs.declared.limits.Limits.{Limits}
 use Rattle.one_thread.specs.OneThread.{one_thread}
-use Rattle.pip_types.specs.declared.pip.Pip.{Pip}
+use Rattle.pip_model_types.specs.declared.pip.Pip.{Pip}
 use Rattle.retire.specs.Builds.{Fair}
 use Rattle.bx_engine.specs.Counting.{StoreChange}
 use Rattle.bx_engine.specs.Ending as endings

@@ -5,9 +5,9 @@ use Rattle.bx_tree.specs.Bundle.{Faults, IsBundle}
 use Rattle.bx_tree.specs.declared.bundle.BundleFault.{BundleFault}
 use Rattle.bx_tree.specs.declared.bundle.BundleFault.TheVariants as bundle_faults
 use Rattle.bx_tree.proofs.SomeReading.{some_reading}
-use Rattle.bx_front.proofs.SomePlan.{some_plan_lem}
-use Rattle.bx_front.specs.Refusals.{refusal_of}
-use Rattle.bx_front.specs.declared.limits.Limits.{Limits}
+use Rattle.bx_engine_front.proofs.SomePlan.{some_plan_lem}
+use Rattle.bx_engine_front.specs.Refusals.{refusal_of}
+use Rattle.bx_engine_front.specs.declared.limits.Limits.{Limits}
 use Rattle.one_thread.specs.OneThread.{one_thread}
 use Rattle.bx_engine.specs.declared.fault.InputFault.TheVariants as input_faults
 use Rattle.bx_engine.specs.Ending.{Ending, InputRefused, SpecificationRefused, Built}

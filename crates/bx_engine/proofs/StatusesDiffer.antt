@@ -1,8 +1,8 @@
 -- Kinds of statuses exclude one another.
 use Rattle.std.proofs.Common.{◌≡◌, ◌⊎◌, inl, inr, Bool, true, false, cond, List, refl, sym, subst}
 use Rattle.std.specs.List.{list_all}
-use Rattle.verdicts.specs.Verdicts.{is_success}
-use Rattle.verdicts.specs.declared.verdict.Verdict.{Verdict}
+use Rattle.violations.specs.Verdicts.{is_success}
+use Rattle.violations.specs.declared.verdict.Verdict.{Verdict}
 use Rattle.bx_engine.specs.Counting.{gone_status}
 use Rattle.bx_engine.specs.declared.status.Status.{Status}
 use Rattle.bx_engine.specs.declared.status.Status.TheVariants as statuses

@@ -3,10 +3,10 @@ use Rattle.std.proofs.Common.{◌≡◌, ℕ, inl, inr, Bool, true, false, List,
 use Rattle.bx_tree.specs.Trees.{Files}
 use Rattle.bx_io.specs.Holdings.{Change, IsPrefix, StoreState, holdings_after}
 use Rattle.bx_io.proofs.Changes.{known_after-nil}
-use Rattle.bx_front.specs.Specifications.{Plans}
-use Rattle.bx_front.specs.declared.limits.Limits.{Limits}
-use Rattle.pip_types.specs.declared.pip.Pip.{Pip}
-use Rattle.store_meaning.specs.Honest.{Honest}
+use Rattle.bx_engine_front.specs.Specifications.{Plans}
+use Rattle.bx_engine_front.specs.declared.limits.Limits.{Limits}
+use Rattle.pip_model_types.specs.declared.pip.Pip.{Pip}
+use Rattle.two_phase_meaning.specs.Honest.{Honest}
 use Rattle.retire.specs.Builds.{IsFair, LeavesFair}
 use Rattle.retire.specs.Keeping.{OnlyPuts}
 use Rattle.bx_engine.specs.Ends.{AreSources}

@@ -6,15 +6,15 @@ use Rattle.std.specs.List.{list_all}
 use Rattle.bx_tree.specs.Bundle.{bundle}
 use Rattle.bx_tree.specs.Trees.{Files}
 use Rattle.bx_io.specs.Holdings.{Holdings, StoreState, held_in}
-use Rattle.bx_words.specs.declared.order.Order.{Order}
+use Rattle.bx_engine_words.specs.declared.order.Order.{Order}
 use Rattle.build_report.specs.Notes.{notes_text}
 use Rattle.build_report.specs.Reports.{report_text}
 use Rattle.build_report.specs.declared.counts.Counts.{Counts}
-use Rattle.pip_types.specs.declared.pip.Pip.{Pip}
+use Rattle.pip_model_types.specs.declared.pip.Pip.{Pip}
 use Rattle.one_thread.specs.OneThread.{Result, run_count, verdicts_of}
 use Rattle.retire.specs.Builds.{LeavesUsable, RunsLate, Spares}
-use Rattle.verdicts.specs.Verdicts.{is_success}
-use Rattle.verdicts.specs.declared.verdict.Verdict.{Verdict}
+use Rattle.violations.specs.Verdicts.{is_success}
+use Rattle.violations.specs.declared.verdict.Verdict.{Verdict}
 use Rattle.bx_engine.specs.Ending.{Ending, InputRefused, SpecificationRefused, Built, report_path, status_of}
 use Rattle.bx_engine.specs.Ends.{AreSources, Ends}
 use Rattle.bx_engine.specs.Expected.{AppendsOrFails, limits_of}

@@ -9,8 +9,8 @@ use Rattle.build_report.specs.Reports.{report_text}
 use Rattle.build_report.specs.declared.refusal.Refusal.{Refusal}
 use Rattle.build_report.specs.declared.refusal.Refusal.TheVariants.{Input}
 use Rattle.one_thread.specs.OneThread.{Result, outputs_of, verdicts_of}
-use Rattle.pip_types.specs.declared.pip.Pip.{Pip}
-use Rattle.verdicts.specs.Verdicts.{is_success}
+use Rattle.pip_model_types.specs.declared.pip.Pip.{Pip}
+use Rattle.violations.specs.Verdicts.{is_success}
 use Rattle.bx_engine.specs.declared.status.Status.{Status}
 use Rattle.bx_engine.specs.declared.status.Status.TheVariants as statuses
 use Rattle.bx_engine.specs.declared.fault.InputFault.{InputFault}

@@ -3,11 +3,11 @@ use Rattle.std.specs.Prelude.{◌≡◌, ℕ, List, Any}
 use Rattle.bx_tree.specs.Trees.{Files, IsReserved}
 use Rattle.bx_tree.specs.Bundle.{IsBundle, Faults}
 use Rattle.bx_tree.specs.declared.bundle.BundleFault.TheVariants as bundle_faults
-use Rattle.bx_front.specs.Refusals.{Refuses}
-use Rattle.bx_front.specs.Specifications.{AsksForTooMany, Plans}
-use Rattle.bx_front.specs.declared.limits.Limits.{Limits}
+use Rattle.bx_engine_front.specs.Refusals.{Refuses}
+use Rattle.bx_engine_front.specs.Specifications.{AsksForTooMany, Plans}
+use Rattle.bx_engine_front.specs.declared.limits.Limits.{Limits}
 use Rattle.one_thread.specs.OneThread.{Result, one_thread}
-use Rattle.pip_types.specs.declared.pip.Pip.{Pip}
+use Rattle.pip_model_types.specs.declared.pip.Pip.{Pip}
 use Rattle.bx_engine.specs.Ending.{Ending, InputRefused, SpecificationRefused, Built}
 use Rattle.bx_engine.specs.declared.fault.InputFault.{InputFault}
 use Rattle.bx_engine.specs.declared.fault.InputFault.TheVariants as input_faults

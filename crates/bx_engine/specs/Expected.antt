@@ -2,10 +2,10 @@
 use Rattle.std.specs.Prelude.{◌≡◌, ℕ, List, ◌⊎◌}
 use Rattle.std.specs.declared.option.Option.{Option}
 use Rattle.std.specs.Io.KnownBytes.{Appends}
-use Rattle.bx_front.specs.declared.limits.Limits.{Limits}
+use Rattle.bx_engine_front.specs.declared.limits.Limits.{Limits}
 use Rattle.bx_io.specs.Causes.{Rose}
-use Rattle.bx_words.specs.declared.order.Order.{Order}
-use Rattle.bx_words.specs.declared.order.Order.TheVariants.{Build}
+use Rattle.bx_engine_words.specs.declared.order.Order.{Order}
+use Rattle.bx_engine_words.specs.declared.order.Order.TheVariants.{Build}
 use Rattle.bx_engine.specs.declared.status.Status.{Status}
 use Rattle.bx_engine.specs.Ending.{Ending, status_of, output_of}
 use Rattle.bx_engine.specs.Ends.{Ends}

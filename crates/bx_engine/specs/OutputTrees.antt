@@ -6,7 +6,7 @@ use Rattle.std.specs.List.{AllByRecursion}
 use Rattle.bx_tree.specs.Bundle.{bundle}
 use Rattle.bx_tree.specs.Paths.{Atoms, IsBelow}
 use Rattle.bx_tree.specs.Trees.{Files, IsTree, paths_of}
-use Rattle.graph_outputs.specs.OutsideOut.{out_dir}
+use Rattle.graph_check_outputs.specs.OutsideOut.{out_dir}
 use Rattle.bx_engine.specs.Ending.{report_path}
 use Rattle.bx_engine.specs.Known.{AppendsPrefix}
 

@@ -6,16 +6,16 @@ use Rattle.build_report.specs.declared.refusal.Refusal.{Refusal}
 use Rattle.bx_io.specs.Holdings.{held_in}
 use Rattle.bx_tree.specs.Trees.{Files}
 use Rattle.one_thread.specs.OneThread.{one_thread}
-use Rattle.pip_types.specs.declared.pip.Pip.{Pip}
+use Rattle.pip_model_types.specs.declared.pip.Pip.{Pip}
 use Rattle.retire.specs.Builds.{Fair}
 use Rattle.retire.specs.declared.retiring.RetireTally.{RetireTally}
 use Rattle.retire.specs.declared.retiring.Retired.{Retired}
-use Rattle.store_builds.specs.Runs.{NoneReserved}
-use Rattle.bx_front.specs.declared.fault.FrontFault.{FrontFault}
-use Rattle.bx_front.specs.declared.fault.FrontFault.TheVariants as front_faults
+use Rattle.retire.specs.Runs.{NoneReserved}
+use Rattle.bx_engine_front.specs.declared.fault.FrontFault.{FrontFault}
+use Rattle.bx_engine_front.specs.declared.fault.FrontFault.TheVariants as front_faults
 use Rattle.bx_tree.specs.declared.bundle.BundleFault.{BundleFault}
 use Rattle.bx_tree.specs.declared.bundle.BundleFault.TheVariants as bundle_faults
-use Rattle.bx_words.specs.declared.order.Order.{Order}
+use Rattle.bx_engine_words.specs.declared.order.Order.{Order}
 use Rattle.bx_engine.specs.Counting.{CountsOf, Gone, IsNoted, StoreChange, gone_output, gone_status}
 use Rattle.bx_engine.specs.Ending.{Ending, InputRefused, SpecificationRefused, Built}
 use Rattle.bx_engine.specs.Ending.{output_of, refusal_output, status_of}

@@ -2,11 +2,11 @@
 use Rattle.std.specs.Prelude.{◌≡◌, ◌⊎◌, ℕ, Bool, true, false, List, Option, Some, ⊤}
 use Rattle.bx_tree.specs.Trees.{Files}
 use Rattle.bx_io.specs.Holdings.{Holdings, StoreState}
-use Rattle.bx_front.specs.Specifications.{Plans}
-use Rattle.bx_front.specs.declared.limits.Limits.{Limits}
-use Rattle.bx_words.specs.declared.order.Order.{Order}
-use Rattle.bx_words.specs.declared.order.Order.TheVariants.{Build}
-use Rattle.pip_types.specs.declared.pip.Pip.{Pip}
+use Rattle.bx_engine_front.specs.Specifications.{Plans}
+use Rattle.bx_engine_front.specs.declared.limits.Limits.{Limits}
+use Rattle.bx_engine_words.specs.declared.order.Order.{Order}
+use Rattle.bx_engine_words.specs.declared.order.Order.TheVariants.{Build}
+use Rattle.pip_model_types.specs.declared.pip.Pip.{Pip}
 use Rattle.two_phase.specs.Putting.{LeavesHonest}
 use Rattle.retire.specs.Builds.{Fair, LeavesFair}
 use Rattle.bx_engine.specs.Ends.{AreSources}

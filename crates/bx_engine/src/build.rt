@@ -4,7 +4,7 @@ ghost use Rattle.std.specs.Prelude.{◌≡◌, ◌≢◌, ◌⊎◌, ◌≤◌, 
 ghost use Rattle.std.specs.Io.KnownBytes.{Appends};
 ghost use Rattle.bx_io.specs.Causes.{HasCause};
 ghost use Rattle.bx_io.specs.Holdings.{StoreState as KeptParts, held_in};
-ghost use Rattle.store_meaning.specs.Honest.{Honest};
+ghost use Rattle.two_phase_meaning.specs.Honest.{Honest};
 ghost use Rattle.retire.specs.Keeping.{OnlyPuts};
 ghost use Rattle.bx_engine.specs.Counting.{AppendsNotes, IsShown, change_of};
 ghost use Rattle.bx_engine.specs.Expected.{Answers, AppendsOrFails, Begins, limits_of};
@@ -19,7 +19,7 @@ use crate::response::{Response, respond};
 use crate::status::Status;
 use crate::writing::write_all;
 use bx_io::{Gate, Keeper, Sink, Source};
-use bx_words::Order;
+use bx_engine_words::Order;
 use std::alloc::Global;
 
 /// Writes the output, and then the notes.

@@ -1,8 +1,8 @@
 //! Laws of what a build comes to.
 
 ghost use Rattle.std.specs.Prelude.{◌≡◌, ℕ, List, false};
-ghost use Rattle.bx_front.specs.declared.limits.Limits.{Limits as AnyLimits};
-ghost use Rattle.bx_words.specs.declared.order.Order.{Order as AnyOrder};
+ghost use Rattle.bx_engine_front.specs.declared.limits.Limits.{Limits as AnyLimits};
+ghost use Rattle.bx_engine_words.specs.declared.order.Order.{Order as AnyOrder};
 ghost use Rattle.bx_engine.specs.Counting.{IsNoted, StoreChange};
 ghost use Rattle.bx_engine.specs.Ending.{Ending};
 ghost use Rattle.bx_engine.specs.Ends.{Ends, IsEndless};

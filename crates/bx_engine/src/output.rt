@@ -5,7 +5,7 @@ ghost use Rattle.std.specs.List.{AllByRecursion};
 ghost use Rattle.bx_tree.specs.Bundle.{bundle, file_text};
 ghost use Rattle.bx_tree.specs.Paths.{IsPath};
 ghost use Rattle.bx_tree.specs.Trees.{paths_of};
-ghost use Rattle.pip_types.specs.Made.{made_files};
+ghost use Rattle.pip_model_types.specs.Made.{made_files};
 ghost use Rattle.bx_engine.specs.Ending.{report_path as path_of_report};
 
 use crate::Memory;

@@ -1,16 +1,16 @@
 //! The plan that an order asks for.
 
 ghost use Rattle.std.specs.Prelude.{◌≡◌, IfOk, MatchResult};
-ghost use Rattle.bx_front.specs.Faults.{IsRefused};
-ghost use Rattle.bx_front.specs.Specifications.{Plans};
+ghost use Rattle.bx_engine_front.specs.Faults.{IsRefused};
+ghost use Rattle.bx_engine_front.specs.Specifications.{Plans};
 ghost use Rattle.bx_tree.specs.Bundle.{IsInSize};
 ghost use Rattle.graph_check.specs.Rules.{KeepsRules};
 ghost use Rattle.bx_engine.specs.Expected.{limits_of as limits_of_order};
 
 use crate::limits::limits_of;
-use bx_front::{FrontEnd, FrontFault, plan_of};
+use bx_engine_front::{FrontEnd, FrontFault, plan_of};
 use bx_tree::Tree;
-use bx_words::Order;
+use bx_engine_words::Order;
 use std::alloc::Global;
 
 /// The plan that an order asks for of a tree of source files, or the first refusal. The pips of the plan keep

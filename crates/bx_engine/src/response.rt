@@ -7,11 +7,11 @@ ghost use Rattle.bx_tree.specs.Bundle.{IsBundle, IsInSize};
 ghost use Rattle.bx_tree.specs.Paths.{IsPath};
 ghost use Rattle.bx_tree.specs.Trees.{paths_of};
 ghost use Rattle.graph_check.specs.Rules.{KeepsRules};
-ghost use Rattle.pip_types.specs.Made.{made_files};
-ghost use Rattle.store_meaning.specs.Honest.{Honest};
+ghost use Rattle.pip_model_types.specs.Made.{made_files};
+ghost use Rattle.two_phase_meaning.specs.Honest.{Honest};
 ghost use Rattle.retire.specs.Builds.{IsFair, LeavesFair};
 ghost use Rattle.retire.specs.Keeping.{OnlyPuts};
-ghost use Rattle.verdicts.specs.Verdicts as ends;
+ghost use Rattle.violations.specs.Verdicts as ends;
 ghost use Rattle.bx_engine.specs.Counting.{change_of, given_files};
 ghost use Rattle.bx_engine.specs.Ending as endings;
 ghost use Rattle.bx_engine.specs.Expected.{limits_of};
@@ -27,14 +27,14 @@ use crate::output::output;
 use crate::planning::front;
 use crate::status::Status;
 use build_report::{Counts, notes, refused_report, report};
-use bx_front::{FrontFault, Refusal};
+use bx_engine_front::{FrontFault, Refusal};
 use bx_io::{Gate, Keeper};
 use bx_tree::{BundleFault, Text, Tree, read_bundle, reserved};
-use bx_words::Order;
+use bx_engine_words::Order;
 use pip_model::{Made, MadeFile, Plan, Sources};
 use retire::{RetireTally, Retired, retire_empty};
 use std::alloc::{AllocError, Global};
-use verdicts::Verdict;
+use violations::Verdict;
 
 /// What a build comes to: its status, all bytes of its output, and its notes.
 #[derive(Drop)]

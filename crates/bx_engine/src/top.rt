@@ -3,7 +3,7 @@
 ghost use Rattle.std.specs.Prelude.{◌≡◌, ◌≢◌, ◌⊎◌, ◌≤◌, ℕ, List, Some, drop, false, map, string_bytes};
 ghost use Rattle.bx_io.specs.Causes.{HasCause};
 ghost use Rattle.bx_io.specs.Holdings.{StoreState as KeptParts, held_in};
-ghost use Rattle.store_meaning.specs.Honest.{Honest};
+ghost use Rattle.two_phase_meaning.specs.Honest.{Honest};
 ghost use Rattle.retire.specs.Keeping.{OnlyPuts};
 ghost use Rattle.bx_engine.specs.Counting.{AppendsNotes, IsShown, change_of};
 ghost use Rattle.bx_engine.specs.Ending.{usage_text};
@@ -11,15 +11,15 @@ ghost use Rattle.bx_engine.specs.Expected.{Answers, AppendsOrFails, Begins, limi
 ghost use Rattle.bx_engine.specs.OutputTrees.{IsTreeBegun, IsTreeWritten};
 ghost use Rattle.bx_engine.specs.Statuses.{HasNoBuild, HasNoNotes, IsGone, IsRefusal, IsSilent, IsWhole};
 ghost use Rattle.bx_engine.specs.Stores.{FairStore, StoreLeft, uses_store};
-ghost use Rattle.bx_words.specs.Words.{Orders};
-ghost use Rattle.bx_words.specs.declared.order.Order.{Order as TheOrder};
+ghost use Rattle.bx_engine_words.specs.Words.{Orders};
+ghost use Rattle.bx_engine_words.specs.declared.order.Order.{Order as TheOrder};
 
 use crate::build::build;
 use crate::limits::READ_LIMIT;
 use crate::status::Status;
 use crate::writing::write_all;
 use bx_io::{Gate, Keeper, Sink, Source};
-use bx_words::{WordFault, one_order, read_words};
+use bx_engine_words::{WordFault, one_order, read_words};
 use std::alloc::Global;
 use std::sync::Wait;
 use std::thread::Threads;

@@ -1,12 +1,12 @@
 //! The program `bxl`: the engine over standard input, output and error, and a cache folder.
 //!
-//! This crate makes the real outside and gives it to the engine. It depends on `bx_system` for the streams
+//! This crate makes the real outside and gives it to the engine. It depends on `bx_io_system` for the streams
 //! and the folder, on `bx_io`, whose traits they implement, and on `bx_engine`.
 #![tactic(auto)]
 
 use bx_engine::{Status, command};
 use bx_io::OpenGate;
-use bx_system::{FolderKeeper, StdSink, StdSource};
+use bx_io_system::{FolderKeeper, StdSink, StdSource};
 use std::alloc::{AllocError, Global};
 use std::env;
 use std::io::ErrorKind;

@@ -14,46 +14,46 @@ use Rattle.dscript_value.specs.Plain as plain
 use Rattle.dscript_value.specs.Plain.{Plain, item_list, plain_of}
 use Rattle.dscript_value.specs.declared.value.Value.{Value}
 use Rattle.dscript_value.specs.declared.parts.Callee.TheVariants as callees
-use Rattle.dscript_ambient.specs.declared.ambient.Ambient.{Ambient}
+use Rattle.dscript_program.specs.declared.ambient.Ambient.{Ambient}
 use Rattle.bx_tree.specs.Paths.{Atoms}
-use Rattle.sdk_members.specs.Names.{member_named}
-use Rattle.sdk_pips.specs.States.{State as Calls}
+use Rattle.dscript_sdk_members.specs.Names.{member_named}
+use Rattle.dscript_sdk_pips.specs.States.{State as Calls}
 use Rattle.dscript_sdk.specs.Calls.{call_of}
 use Rattle.dscript_sdk.specs.Members.{is_callback_named, method_of}
-use Rattle.dscript_operators.specs.CallbackArguments.{Function}
-use Rattle.sdk_values.specs.Outcomes.{Outcome, Refuses}
-use Rattle.sdk_values.specs.declared.fault.SdkFault.{SdkFault}
-use Rattle.sdk_values.specs.declared.fault.SdkFault.TheVariants as sdk_faults
-use Rattle.eval_machine.specs.Faults.{stop_in}
-use Rattle.eval_machine.specs.Keeps.{StopsWith}
-use Rattle.eval_machine.specs.declared.stop.Stop.{Stop}
-use Rattle.dscript_meaning.specs.declared.fault.EvalKind.TheVariants as kinds
-use Rattle.dscript_meaning.specs.Acts.{Act, Acts, Call, Demand}
-use Rattle.dscript_meaning.specs.Callbacks.{callbacks}
-use Rattle.dscript_meaning.specs.Calls.{ambient, applied, call_of_function, items_of, method, plain_method, with_calls}
-use Rattle.dscript_meaning.specs.Evaluating.{Fault, Gives, answered, fails, followed, gives, ◌>>=◌}
-use Rattle.dscript_meaning.specs.Expressions.{arguments, value}
-use Rattle.dscript_meaning.specs.Frames.{function_frame, within}
-use Rattle.dscript_meaning.specs.Lookups.{function_at, path_at}
-use Rattle.dscript_meaning.specs.Meaning.{acts, function_call, opened}
-use Rattle.dscript_meaning.specs.States as meaning
-use Rattle.dscript_meaning.specs.States.{State}
-use Rattle.dscript_meaning.specs.Statements.{Way, Back, On, all, body_value, returned}
-use Rattle.eval_machine.specs.Forms.{acts_at, value_at}
-use Rattle.eval_machine.specs.Views.{View}
-use Rattle.eval_frames.specs.Frames.{frame_of}
+use Rattle.dscript_eval_operators.specs.CallbackArguments.{Function}
+use Rattle.dscript_sdk_values.specs.Outcomes.{Outcome, Refuses}
+use Rattle.dscript_sdk_values.specs.declared.fault.SdkFault.{SdkFault}
+use Rattle.dscript_sdk_values.specs.declared.fault.SdkFault.TheVariants as sdk_faults
+use Rattle.dscript_eval_frames.specs.Faults.{stop_in}
+use Rattle.dscript_eval_frames.specs.Keeps.{StopsWith}
+use Rattle.dscript_eval_frames.specs.declared.stop.Stop.{Stop}
+use Rattle.dscript_eval_meaning.specs.declared.fault.EvalKind.TheVariants as kinds
+use Rattle.dscript_eval_meaning.specs.Acts.{Act, Acts, Call, Demand}
+use Rattle.dscript_eval_meaning.specs.Callbacks.{callbacks}
+use Rattle.dscript_eval_meaning.specs.Calls.{ambient, applied, call_of_function, items_of, method, plain_method, with_calls}
+use Rattle.dscript_eval_meaning.specs.Evaluating.{Fault, Gives, answered, fails, followed, gives, ◌>>=◌}
+use Rattle.dscript_eval_meaning.specs.Expressions.{arguments, value}
+use Rattle.dscript_eval_meaning.specs.Frames.{function_frame, within}
+use Rattle.dscript_eval_meaning.specs.Lookups.{function_at, path_at}
+use Rattle.dscript_eval_meaning.specs.Meaning.{acts, function_call, opened}
+use Rattle.dscript_eval_meaning.specs.States as meaning
+use Rattle.dscript_eval_meaning.specs.States.{State}
+use Rattle.dscript_eval_meaning.specs.Statements.{Way, Back, On, all, body_value, returned}
+use Rattle.dscript_eval_frames.specs.Forms.{acts_at, value_at}
+use Rattle.dscript_eval_frames.specs.Views.{View}
+use Rattle.dscript_eval_frames.specs.Frames.{frame_of}
 use Rattle.dscript_eval.specs.Bodies.{body_comes}
-use Rattle.eval_machine.specs.Works.{callee_in, comes, comes_by, comes_with, run, used}
-use Rattle.eval_frames.specs.declared.frame.Frame.{Frame}
-use Rattle.eval_machine.specs.declared.work.CallWork.TheVariants as call
-use Rattle.eval_machine.specs.declared.work.ExprWork.TheVariants as expr
-use Rattle.eval_machine.specs.declared.work.StmtWork.TheVariants as stmt
-use Rattle.eval_machine.specs.declared.work.Use.{Use}
-use Rattle.eval_machine.specs.declared.work.Work.{Work}
-use Rattle.eval_machine.specs.declared.work.Work.TheVariants as works
-use Rattle.eval_machine.proofs.Opening.{acts_open}
-use Rattle.eval_exprs.proofs.Equations.{arguments-are, no_arguments-is}
-use Rattle.eval_machine.proofs.Followed.{empty_list, followed-followed, followed-same}
+use Rattle.dscript_eval_frames.specs.Works.{callee_in, comes, comes_by, comes_with, run, used}
+use Rattle.dscript_eval_frames.specs.declared.frame.Frame.{Frame}
+use Rattle.dscript_eval_frames.specs.declared.work.CallWork.TheVariants as call
+use Rattle.dscript_eval_frames.specs.declared.work.ExprWork.TheVariants as expr
+use Rattle.dscript_eval_frames.specs.declared.work.StmtWork.TheVariants as stmt
+use Rattle.dscript_eval_frames.specs.declared.work.Use.{Use}
+use Rattle.dscript_eval_frames.specs.declared.work.Work.{Work}
+use Rattle.dscript_eval_frames.specs.declared.work.Work.TheVariants as works
+use Rattle.dscript_eval_frames.proofs.Opening.{acts_open}
+use Rattle.dscript_eval_exprs.proofs.Equations.{arguments-are, no_arguments-is}
+use Rattle.dscript_eval_frames.proofs.Followed.{empty_list, followed-followed, followed-same}
 
 -- ## Bodies
 

@@ -6,46 +6,46 @@ use Rattle.dscript_value.specs.Grown.{grown_items}
 use Rattle.dscript_value.specs.Plain as plain
 use Rattle.dscript_value.specs.Plain.{Plain}
 use Rattle.dscript_value.specs.declared.growing.GrowingList.{GrowingList}
-use Rattle.sdk_values.specs.Answers.{list_answer}
-use Rattle.sdk_values.specs.declared.fault.SdkFault.{SdkFault}
-use Rattle.sdk_values.specs.Outcomes.{Refuses}
-use Rattle.dscript_ambient.specs.declared.ambient.Ambient.{Ambient as AmbientCall}
+use Rattle.dscript_sdk_values.specs.Answers.{list_answer}
+use Rattle.dscript_sdk_values.specs.declared.fault.SdkFault.{SdkFault}
+use Rattle.dscript_sdk_values.specs.Outcomes.{Refuses}
+use Rattle.dscript_program.specs.declared.ambient.Ambient.{Ambient as AmbientCall}
 use Rattle.dscript_value.specs.Plain.{item_list, plain_values}
 use Rattle.dscript_value.specs.declared.parts.Callee.{Callee}
 use Rattle.dscript_value.specs.declared.parts.Callee.TheVariants as callees
-use Rattle.dscript_operators.specs.CallbackArguments.{Function, callback_in, reduction_in}
-use Rattle.dscript_operators.specs.Spreads.{with_items_of}
-use Rattle.dscript_operators.specs.Truth.{is_true}
-use Rattle.dscript_meaning.specs.Acts.{Acts, Call}
-use Rattle.dscript_meaning.specs.Callbacks.{called_back, callbacks, filtered, joined, mapped, reduced}
-use Rattle.dscript_meaning.specs.Calls.{ambient, held_method, items_of}
+use Rattle.dscript_eval_operators.specs.CallbackArguments.{Function, callback_in, reduction_in}
+use Rattle.dscript_eval_operators.specs.Spreads.{with_items_of}
+use Rattle.dscript_eval_operators.specs.Truth.{is_true}
+use Rattle.dscript_eval_meaning.specs.Acts.{Acts, Call}
+use Rattle.dscript_eval_meaning.specs.Callbacks.{called_back, callbacks, filtered, joined, mapped, reduced}
+use Rattle.dscript_eval_meaning.specs.Calls.{ambient, held_method, items_of}
 use Rattle.dscript_sdk.specs.Members.{is_callback_found, is_callback_named}
-use Rattle.sdk_members.specs.Names.{member_named}
-use Rattle.sdk_values.specs.Kinds.{items_in}
-use Rattle.sdk_values.specs.declared.fault.SdkFault.TheVariants as sdk_faults
-use Rattle.dscript_meaning.specs.Meaning.{acts}
-use Rattle.dscript_meaning.specs.Evaluating.{Gives, answered, fails, followed, ◌>>=◌}
-use Rattle.dscript_meaning.specs.States.{State}
-use Rattle.dscript_meaning.specs.Statements.{On}
-use Rattle.sdk_members.specs.declared.member.Member.{Member}
-use Rattle.sdk_members.specs.declared.member.Member.TheVariants as members
-use Rattle.dscript_meaning.specs.declared.fault.EvalKind.TheVariants as eval_kinds
+use Rattle.dscript_sdk_members.specs.Names.{member_named}
+use Rattle.dscript_sdk_values.specs.Kinds.{items_in}
+use Rattle.dscript_sdk_values.specs.declared.fault.SdkFault.TheVariants as sdk_faults
+use Rattle.dscript_eval_meaning.specs.Meaning.{acts}
+use Rattle.dscript_eval_meaning.specs.Evaluating.{Gives, answered, fails, followed, ◌>>=◌}
+use Rattle.dscript_eval_meaning.specs.States.{State}
+use Rattle.dscript_eval_meaning.specs.Statements.{On}
+use Rattle.dscript_sdk_members.specs.declared.member.Member.{Member}
+use Rattle.dscript_sdk_members.specs.declared.member.Member.TheVariants as members
+use Rattle.dscript_eval_meaning.specs.declared.fault.EvalKind.TheVariants as eval_kinds
 use Rattle.dscript_eval.specs.CallbackArgs.{args_of, kind_named, loop_form}
-use Rattle.eval_machine.specs.Forms.{acts_at, each_form}
-use Rattle.eval_machine.specs.Keeps.{StopsWith}
-use Rattle.eval_machine.specs.Faults.{stop_in}
-use Rattle.eval_machine.specs.declared.stop.Stop.{Stop}
-use Rattle.eval_machine.specs.Views.{View}
-use Rattle.eval_machine.specs.Works.{Answer, came, comes, comes_by, comes_with, done_of, function_of, item_of, items_from, loops, run}
-use Rattle.eval_machine.specs.declared.work.Callback.{Callback}
-use Rattle.eval_machine.specs.declared.work.Callback.TheVariants as kinds
-use Rattle.eval_machine.specs.declared.work.Callbacks.{Callbacks}
-use Rattle.eval_machine.specs.declared.work.CallWork.TheVariants as call
-use Rattle.eval_machine.specs.declared.work.Work.TheVariants as works
-use Rattle.eval_machine.proofs.Opening.{acts_open}
-use Rattle.eval_machine.proofs.Followed.{followed-followed, followed-same}
-use Rattle.eval_machine.proofs.ItemLists.{item_there}
-use Rattle.eval_machine.proofs.Refused.{stops_first}
+use Rattle.dscript_eval_frames.specs.Forms.{acts_at, each_form}
+use Rattle.dscript_eval_frames.specs.Keeps.{StopsWith}
+use Rattle.dscript_eval_frames.specs.Faults.{stop_in}
+use Rattle.dscript_eval_frames.specs.declared.stop.Stop.{Stop}
+use Rattle.dscript_eval_frames.specs.Views.{View}
+use Rattle.dscript_eval_frames.specs.Works.{Answer, came, comes, comes_by, comes_with, done_of, function_of, item_of, items_from, loops, run}
+use Rattle.dscript_eval_frames.specs.declared.work.Callback.{Callback}
+use Rattle.dscript_eval_frames.specs.declared.work.Callback.TheVariants as kinds
+use Rattle.dscript_eval_frames.specs.declared.work.Callbacks.{Callbacks}
+use Rattle.dscript_eval_frames.specs.declared.work.CallWork.TheVariants as call
+use Rattle.dscript_eval_frames.specs.declared.work.Work.TheVariants as works
+use Rattle.dscript_eval_frames.proofs.Opening.{acts_open}
+use Rattle.dscript_eval_frames.proofs.Followed.{followed-followed, followed-same}
+use Rattle.dscript_eval_frames.proofs.ItemLists.{item_there}
+use Rattle.dscript_eval_frames.proofs.Refused.{stops_first}
 
 -- ## After the last item
 

@@ -4,9 +4,9 @@ use Rattle.std.specs.declared.alloc.Global.{Global}
 use Rattle.std.specs.declared.vec.Vec.{Vec}
 use Rattle.dscript_value.specs.Plain.{Plain, plain_of}
 use Rattle.dscript_value.specs.declared.value.Value.{Value}
-use Rattle.eval_machine.specs.Works.{item_of, items_from}
-use Rattle.eval_machine.specs.declared.work.Callback.{Callback}
-use Rattle.eval_machine.specs.declared.work.Callbacks.{Callbacks}
+use Rattle.dscript_eval_frames.specs.Works.{item_of, items_from}
+use Rattle.dscript_eval_frames.specs.declared.work.Callback.{Callback}
+use Rattle.dscript_eval_frames.specs.declared.work.Callbacks.{Callbacks}
 use Rattle.dscript_eval.specs.CallbackArgs.{args_of}
 use Rattle.dscript_eval.proofs.CallbackMoves.{next_item}
 

@@ -8,28 +8,28 @@ use Rattle.dscript_value.specs.Plain as plain
 use Rattle.dscript_value.specs.Plain.{Plain}
 use Rattle.dscript_value.specs.declared.parts.Callee.{Callee}
 use Rattle.dscript_value.specs.declared.parts.Callee.TheVariants as callees
-use Rattle.dscript_operators.specs.CallbackArguments.{Function}
-use Rattle.dscript_meaning.specs.Acts.{Act, Acts, Call}
-use Rattle.dscript_meaning.specs.Callbacks.{called_back}
-use Rattle.dscript_meaning.specs.Evaluating.{followed}
-use Rattle.dscript_meaning.specs.Expressions.{value}
-use Rattle.dscript_meaning.specs.Frames.{filled, function_frame, within}
-use Rattle.dscript_meaning.specs.Lookups.{function_at}
-use Rattle.dscript_meaning.specs.Meaning.{acts, function_call}
-use Rattle.dscript_meaning.specs.States.{State}
-use Rattle.dscript_meaning.specs.Statements.{On, body_value}
-use Rattle.eval_now.specs.Now.{IsAtOnce, Knows}
-use Rattle.eval_machine.specs.Forms.{acts_at}
-use Rattle.eval_machine.specs.Views.{View}
-use Rattle.eval_machine.specs.Works.{Answer, comes_with, function_of, item_of, items_from, run}
-use Rattle.eval_machine.specs.declared.stop.Stop.{Stop}
-use Rattle.eval_machine.specs.declared.work.Callback.{Callback}
-use Rattle.eval_machine.specs.declared.work.Callbacks.{Callbacks}
-use Rattle.eval_machine.specs.declared.work.CallWork.TheVariants as call
-use Rattle.eval_machine.specs.declared.work.Work.TheVariants as works
-use Rattle.eval_machine.specs.declared.stop.Stop.TheVariants as stops
-use Rattle.eval_machine.proofs.Kept.{memory_stops}
-use Rattle.eval_machine.proofs.Opening.{acts_open}
+use Rattle.dscript_eval_operators.specs.CallbackArguments.{Function}
+use Rattle.dscript_eval_meaning.specs.Acts.{Act, Acts, Call}
+use Rattle.dscript_eval_meaning.specs.Callbacks.{called_back}
+use Rattle.dscript_eval_meaning.specs.Evaluating.{followed}
+use Rattle.dscript_eval_meaning.specs.Expressions.{value}
+use Rattle.dscript_eval_meaning.specs.Frames.{filled, function_frame, within}
+use Rattle.dscript_eval_meaning.specs.Lookups.{function_at}
+use Rattle.dscript_eval_meaning.specs.Meaning.{acts, function_call}
+use Rattle.dscript_eval_meaning.specs.States.{State}
+use Rattle.dscript_eval_meaning.specs.Statements.{On, body_value}
+use Rattle.dscript_eval_direct.specs.Now.{IsAtOnce, Knows}
+use Rattle.dscript_eval_frames.specs.Forms.{acts_at}
+use Rattle.dscript_eval_frames.specs.Views.{View}
+use Rattle.dscript_eval_frames.specs.Works.{Answer, comes_with, function_of, item_of, items_from, run}
+use Rattle.dscript_eval_frames.specs.declared.stop.Stop.{Stop}
+use Rattle.dscript_eval_frames.specs.declared.work.Callback.{Callback}
+use Rattle.dscript_eval_frames.specs.declared.work.Callbacks.{Callbacks}
+use Rattle.dscript_eval_frames.specs.declared.work.CallWork.TheVariants as call
+use Rattle.dscript_eval_frames.specs.declared.work.Work.TheVariants as works
+use Rattle.dscript_eval_frames.specs.declared.stop.Stop.TheVariants as stops
+use Rattle.dscript_eval_frames.proofs.Kept.{memory_stops}
+use Rattle.dscript_eval_frames.proofs.Opening.{acts_open}
 use Rattle.dscript_eval.specs.AtOnce.{AreLeft, IsBodyGiven, IsCalled}
 use Rattle.dscript_eval.specs.CallbackArgs.{args_of}
 use Rattle.dscript_eval.proofs.CallMoves.{expr_value}

@@ -12,25 +12,25 @@ use Rattle.dscript_program.specs.declared.bound.BoundPart.{BoundPart}
 use Rattle.dscript_value.specs.Plain as plain
 use Rattle.dscript_value.specs.Plain.{Plain, plain_of}
 use Rattle.dscript_value.specs.declared.value.Value.{Value}
-use Rattle.dscript_operators.specs.Indexing.{indexed}
+use Rattle.dscript_eval_operators.specs.Indexing.{indexed}
 use Rattle.dscript_sdk.specs.Members.{is_function_named, member_of}
-use Rattle.dscript_meaning.specs.Acts.{Acts}
-use Rattle.dscript_meaning.specs.Calls.{Named, Whole, applied, member, method, subject_call}
-use Rattle.dscript_meaning.specs.Evaluating.{Gives, answered, followed, gives, spend, step, ◌>>=◌, ◌>>◌}
-use Rattle.dscript_meaning.specs.Expressions.{after, arguments, value}
-use Rattle.dscript_meaning.specs.States.{State}
-use Rattle.dscript_meaning.specs.Statements.{On}
-use Rattle.eval_machine.specs.Forms.{acts_at, begins_with_call, call_form, method_form, part_form, value_at}
-use Rattle.eval_machine.specs.Views.{View}
-use Rattle.eval_machine.specs.Works.{comes, comes_by, comes_with, run, used}
-use Rattle.eval_machine.specs.declared.work.CallWork.TheVariants as call
-use Rattle.eval_machine.specs.declared.work.ExprWork.TheVariants as expr
-use Rattle.eval_machine.specs.declared.work.Use.{Use}
-use Rattle.eval_machine.specs.declared.work.Use.TheVariants as uses
-use Rattle.eval_machine.specs.declared.work.Work.TheVariants as works
-use Rattle.eval_exprs.specs.AtOnce.{IsGiven}
-use Rattle.eval_exprs.proofs.Equations.{call-is, index-is, member-is, no_parts-is}
-use Rattle.eval_machine.proofs.Followed.{empty_list, followed-end, followed-followed, followed-same}
+use Rattle.dscript_eval_meaning.specs.Acts.{Acts}
+use Rattle.dscript_eval_meaning.specs.Calls.{Named, Whole, applied, member, method, subject_call}
+use Rattle.dscript_eval_meaning.specs.Evaluating.{Gives, answered, followed, gives, spend, step, ◌>>=◌, ◌>>◌}
+use Rattle.dscript_eval_meaning.specs.Expressions.{after, arguments, value}
+use Rattle.dscript_eval_meaning.specs.States.{State}
+use Rattle.dscript_eval_meaning.specs.Statements.{On}
+use Rattle.dscript_eval_frames.specs.Forms.{acts_at, begins_with_call, call_form, method_form, part_form, value_at}
+use Rattle.dscript_eval_frames.specs.Views.{View}
+use Rattle.dscript_eval_frames.specs.Works.{comes, comes_by, comes_with, run, used}
+use Rattle.dscript_eval_frames.specs.declared.work.CallWork.TheVariants as call
+use Rattle.dscript_eval_frames.specs.declared.work.ExprWork.TheVariants as expr
+use Rattle.dscript_eval_frames.specs.declared.work.Use.{Use}
+use Rattle.dscript_eval_frames.specs.declared.work.Use.TheVariants as uses
+use Rattle.dscript_eval_frames.specs.declared.work.Work.TheVariants as works
+use Rattle.dscript_eval_exprs.specs.AtOnce.{IsGiven}
+use Rattle.dscript_eval_exprs.proofs.Equations.{call-is, index-is, member-is, no_parts-is}
+use Rattle.dscript_eval_frames.proofs.Followed.{empty_list, followed-end, followed-followed, followed-same}
 
 -- ## Parts after a value
 

@@ -4,12 +4,12 @@ use Rattle.dscript_program.specs.BoundTree as tree
 use Rattle.dscript_program.specs.BoundTree.{PartData, PartRow, to_exprs}
 use Rattle.dscript_program.specs.Views.{expr_data}
 use Rattle.dscript_program.specs.declared.bound.BoundExpr.{BoundExpr}
-use Rattle.eval_machine.specs.Forms.{acts_at, part_form}
-use Rattle.eval_machine.specs.Keeps.{PreservesAnswer}
-use Rattle.eval_machine.specs.Views.{View}
-use Rattle.eval_machine.specs.Works.{comes_by}
-use Rattle.eval_machine.specs.declared.stop.Stop.{Stop}
-use Rattle.eval_machine.proofs.Kept.{keeps_at}
+use Rattle.dscript_eval_frames.specs.Forms.{acts_at, part_form}
+use Rattle.dscript_eval_frames.specs.Keeps.{PreservesAnswer}
+use Rattle.dscript_eval_frames.specs.Views.{View}
+use Rattle.dscript_eval_frames.specs.Works.{comes_by}
+use Rattle.dscript_eval_frames.specs.declared.stop.Stop.{Stop}
+use Rattle.dscript_eval_frames.proofs.Kept.{keeps_at}
 
 pub part_as
     : (result : Result (Unit {0}) Stop) (v w : View) (d e : PartData) (rest : PartRow) → d ≡ e

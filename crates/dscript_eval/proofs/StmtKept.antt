@@ -3,16 +3,16 @@ use Rattle.std.proofs.Common.{◌≡◌, ℕ, Result, refl, sym, subst}
 use Rattle.std.specs.Borrow.{Bor}
 use Rattle.dscript_program.specs.Views.{stmt_data}
 use Rattle.dscript_program.specs.declared.bound.BoundStmt.{BoundStmt}
-use Rattle.eval_machine.specs.Forms.{acts_at, stmt_form}
-use Rattle.eval_frames.specs.Costs.{stmt_cost}
-use Rattle.eval_machine.specs.Keeps.{PreservesAnswer, StopsWith}
-use Rattle.eval_machine.specs.Steps.{Spent, Unspent}
-use Rattle.eval_machine.specs.Views.{View}
-use Rattle.eval_machine.specs.Works.{Answer, comes_with, goes_by}
-use Rattle.eval_machine.specs.declared.stop.Stop.{Stop}
-use Rattle.eval_machine.specs.declared.work.StmtWork.TheVariants as stmt
-use Rattle.eval_machine.specs.declared.work.Work.TheVariants as works
-use Rattle.eval_machine.proofs.Kept.{keeps_at, spent_goes, unspent_goes}
+use Rattle.dscript_eval_frames.specs.Forms.{acts_at, stmt_form}
+use Rattle.dscript_eval_frames.specs.Costs.{stmt_cost}
+use Rattle.dscript_eval_frames.specs.Keeps.{PreservesAnswer, StopsWith}
+use Rattle.dscript_eval_frames.specs.Steps.{Spent, Unspent}
+use Rattle.dscript_eval_frames.specs.Views.{View}
+use Rattle.dscript_eval_frames.specs.Works.{Answer, comes_with, goes_by}
+use Rattle.dscript_eval_frames.specs.declared.stop.Stop.{Stop}
+use Rattle.dscript_eval_frames.specs.declared.work.StmtWork.TheVariants as stmt
+use Rattle.dscript_eval_frames.specs.declared.work.Work.TheVariants as works
+use Rattle.dscript_eval_frames.proofs.Kept.{keeps_at, spent_goes, unspent_goes}
 use Rattle.dscript_eval.proofs.StmtMoves.{does_move}
 
 pub spent_does

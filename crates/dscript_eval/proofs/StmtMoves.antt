@@ -10,27 +10,27 @@ use Rattle.dscript_program.specs.declared.bound.BoundExpr.{BoundExpr}
 use Rattle.dscript_program.specs.declared.bound.BoundStmt.{BoundStmt}
 use Rattle.dscript_value.specs.Plain as plain
 use Rattle.dscript_value.specs.Plain.{Plain, PlainValues, item_list, plain_values}
-use Rattle.dscript_meaning.specs.Acts.{Acts}
-use Rattle.sdk_values.specs.Kinds.{items_in}
-use Rattle.dscript_operators.specs.Truth.{is_true}
-use Rattle.dscript_meaning.specs.Evaluating.{Gives, answered, followed, gives, spend, ◌>>=◌, ◌>>◌}
-use Rattle.dscript_meaning.specs.Frames.{bind, with_local}
-use Rattle.dscript_meaning.specs.Meaning.{acts}
-use Rattle.dscript_meaning.specs.States as meaning
-use Rattle.dscript_meaning.specs.States.{State}
-use Rattle.dscript_meaning.specs.Statements.{Way, Back, On, all, does, next, otherwise, turns}
-use Rattle.eval_machine.specs.Forms.{acts_at, bind_form, stmt_form, turn_form, unset_form, value_at}
-use Rattle.eval_frames.specs.Costs.{stmt_cost}
-use Rattle.eval_machine.specs.Views.{View}
-use Rattle.eval_machine.specs.Works.{Continuation, comes, comes_with, goes_by, returned_by, run, unwound}
-use Rattle.eval_machine.specs.declared.work.ExprWork.TheVariants as expr
-use Rattle.eval_machine.specs.declared.work.StmtWork.{StmtWork}
-use Rattle.eval_machine.specs.declared.work.StmtWork.TheVariants as stmt
-use Rattle.eval_frames.specs.declared.frame.Frame.{Frame}
-use Rattle.eval_machine.specs.declared.work.Work.{Work}
-use Rattle.eval_machine.specs.declared.work.Work.TheVariants as works
-use Rattle.eval_machine.proofs.Forms.{no_steps}
-use Rattle.eval_machine.proofs.Followed.{empty_list, followed-followed, followed-same}
+use Rattle.dscript_eval_meaning.specs.Acts.{Acts}
+use Rattle.dscript_sdk_values.specs.Kinds.{items_in}
+use Rattle.dscript_eval_operators.specs.Truth.{is_true}
+use Rattle.dscript_eval_meaning.specs.Evaluating.{Gives, answered, followed, gives, spend, ◌>>=◌, ◌>>◌}
+use Rattle.dscript_eval_meaning.specs.Frames.{bind, with_local}
+use Rattle.dscript_eval_meaning.specs.Meaning.{acts}
+use Rattle.dscript_eval_meaning.specs.States as meaning
+use Rattle.dscript_eval_meaning.specs.States.{State}
+use Rattle.dscript_eval_meaning.specs.Statements.{Way, Back, On, all, does, next, otherwise, turns}
+use Rattle.dscript_eval_frames.specs.Forms.{acts_at, bind_form, stmt_form, turn_form, unset_form, value_at}
+use Rattle.dscript_eval_frames.specs.Costs.{stmt_cost}
+use Rattle.dscript_eval_frames.specs.Views.{View}
+use Rattle.dscript_eval_frames.specs.Works.{Continuation, comes, comes_with, goes_by, returned_by, run, unwound}
+use Rattle.dscript_eval_frames.specs.declared.work.ExprWork.TheVariants as expr
+use Rattle.dscript_eval_frames.specs.declared.work.StmtWork.{StmtWork}
+use Rattle.dscript_eval_frames.specs.declared.work.StmtWork.TheVariants as stmt
+use Rattle.dscript_eval_frames.specs.declared.frame.Frame.{Frame}
+use Rattle.dscript_eval_frames.specs.declared.work.Work.{Work}
+use Rattle.dscript_eval_frames.specs.declared.work.Work.TheVariants as works
+use Rattle.dscript_eval_frames.proofs.Forms.{no_steps}
+use Rattle.dscript_eval_frames.proofs.Followed.{empty_list, followed-followed, followed-same}
 
 -- the expression of a statement, and then what is left of the statement
 pub then_stmt

@@ -5,12 +5,12 @@ use Rattle.dscript_program.specs.BoundTree.{StmtData, to_stmt, to_stmts}
 use Rattle.dscript_program.specs.Views.{expr_data, stmt_data}
 use Rattle.dscript_program.specs.declared.bound.BoundExpr.{BoundExpr}
 use Rattle.dscript_program.specs.declared.bound.BoundStmt.{BoundStmt}
-use Rattle.eval_machine.specs.Forms.{acts_at, let_form, return_form, stmt_form}
-use Rattle.eval_machine.specs.Keeps.{PreservesAnswer}
-use Rattle.eval_machine.specs.Views.{View}
-use Rattle.eval_machine.specs.Works.{goes_by}
-use Rattle.eval_machine.specs.declared.stop.Stop.{Stop}
-use Rattle.eval_machine.proofs.Kept.{keeps_at}
+use Rattle.dscript_eval_frames.specs.Forms.{acts_at, let_form, return_form, stmt_form}
+use Rattle.dscript_eval_frames.specs.Keeps.{PreservesAnswer}
+use Rattle.dscript_eval_frames.specs.Views.{View}
+use Rattle.dscript_eval_frames.specs.Works.{goes_by}
+use Rattle.dscript_eval_frames.specs.declared.stop.Stop.{Stop}
+use Rattle.dscript_eval_frames.proofs.Kept.{keeps_at}
 
 pub stmt_as
     : (result : Result (Unit {0}) Stop) (v w : View) (m d : StmtData) → m ≡ d

@@ -8,19 +8,19 @@ use Rattle.dscript_program.specs.declared.bound.BoundStmt.{BoundStmt}
 use Rattle.std.specs.Prelude.{if◌then◌else◌}
 use Rattle.dscript_value.specs.Plain as plain
 use Rattle.dscript_value.specs.Plain.{Plain}
-use Rattle.dscript_operators.specs.Truth.{is_true}
-use Rattle.dscript_meaning.specs.Evaluating.{Gives, followed, gives, spend, ◌>>◌}
-use Rattle.dscript_meaning.specs.Frames.{bind, with_local}
-use Rattle.dscript_meaning.specs.States.{Frame, State}
-use Rattle.dscript_meaning.specs.Statements.{Way, On, does, otherwise}
-use Rattle.eval_frames.specs.Costs.{stmt_cost}
-use Rattle.eval_now.specs.Now.{IsAtOnce, Knows}
-use Rattle.eval_now.proofs.Steps.{spent}
-use Rattle.eval_machine.specs.Forms.{acts_at, bind_form, stmt_form}
-use Rattle.eval_machine.specs.Views.{View}
-use Rattle.eval_machine.specs.Works.{comes_with, run}
-use Rattle.eval_machine.specs.declared.work.StmtWork.TheVariants as stmt
-use Rattle.eval_machine.specs.declared.work.Work.TheVariants as works
+use Rattle.dscript_eval_operators.specs.Truth.{is_true}
+use Rattle.dscript_eval_meaning.specs.Evaluating.{Gives, followed, gives, spend, ◌>>◌}
+use Rattle.dscript_eval_meaning.specs.Frames.{bind, with_local}
+use Rattle.dscript_eval_meaning.specs.States.{Frame, State}
+use Rattle.dscript_eval_meaning.specs.Statements.{Way, On, does, otherwise}
+use Rattle.dscript_eval_frames.specs.Costs.{stmt_cost}
+use Rattle.dscript_eval_direct.specs.Now.{IsAtOnce, Knows}
+use Rattle.dscript_eval_direct.proofs.Steps.{spent}
+use Rattle.dscript_eval_frames.specs.Forms.{acts_at, bind_form, stmt_form}
+use Rattle.dscript_eval_frames.specs.Views.{View}
+use Rattle.dscript_eval_frames.specs.Works.{comes_with, run}
+use Rattle.dscript_eval_frames.specs.declared.work.StmtWork.TheVariants as stmt
+use Rattle.dscript_eval_frames.specs.declared.work.Work.TheVariants as works
 use Rattle.dscript_eval.specs.AtOnce.{IsPassed, bind_step, does_at, if_step}
 use Rattle.dscript_eval.proofs.StmtMoves.{all_move, does_begins, no_other-is}
 

@@ -4,32 +4,32 @@ use Rattle.std.specs.Prelude.{slice_get}
 use Rattle.bx_tree.specs.Trees.{Files}
 use Rattle.dscript_program.specs.ProgramData.{FileData, FunctionData, ProgramData}
 use Rattle.dscript_value.specs.Plain as plain
-use Rattle.dscript_meaning.specs.Acts.{Acts}
-use Rattle.dscript_meaning.specs.Answers.{Stops}
-use Rattle.dscript_meaning.specs.Evaluating.{Stop, followed, gives, ◌>>◌}
-use Rattle.dscript_meaning.specs.Lookups.{path_at}
-use Rattle.dscript_meaning.specs.Meaning.{Refused, Unnumbered, acts, demand_decls, demand_files, evaluated, meaning}
-use Rattle.dscript_meaning.specs.Meaning.{pips_or_refusal, start}
-use Rattle.sdk_pips.specs.States.{State as Calls, no_calls}
+use Rattle.dscript_eval_meaning.specs.Acts.{Acts}
+use Rattle.dscript_eval_meaning.specs.Answers.{Stops}
+use Rattle.dscript_eval_meaning.specs.Evaluating.{Stop, followed, gives, ◌>>◌}
+use Rattle.dscript_eval_meaning.specs.Lookups.{path_at}
+use Rattle.dscript_eval_meaning.specs.Meaning.{Refused, Unnumbered, acts, demand_decls, demand_files, evaluated, meaning}
+use Rattle.dscript_eval_meaning.specs.Meaning.{pips_or_refusal, start}
+use Rattle.dscript_sdk_pips.specs.States.{State as Calls, no_calls}
 use Rattle.dscript_value.specs.Plain.{Plain}
-use Rattle.dscript_meaning.specs.Constants.{Table, all_waiting}
-use Rattle.dscript_meaning.specs.Frames.{constant_frame}
-use Rattle.dscript_meaning.specs.States as states
-use Rattle.dscript_meaning.specs.States.{State}
-use Rattle.eval_machine.specs.declared.work.Work.{Work}
-use Rattle.dscript_meaning.specs.Statements.{On}
-use Rattle.dscript_meaning.specs.declared.fault.EvalFault.{EvalFault}
-use Rattle.dscript_meaning.specs.declared.fault.EvalFault.TheVariants as eval_faults
-use Rattle.dscript_meaning.specs.declared.limits.TheConstants.{MAX_OPEN_CALLS}
-use Rattle.eval_machine.specs.Keeps.{StopsWith}
+use Rattle.dscript_eval_meaning.specs.Constants.{Table, all_waiting}
+use Rattle.dscript_eval_meaning.specs.Frames.{constant_frame}
+use Rattle.dscript_eval_meaning.specs.States as states
+use Rattle.dscript_eval_meaning.specs.States.{State}
+use Rattle.dscript_eval_frames.specs.declared.work.Work.{Work}
+use Rattle.dscript_eval_meaning.specs.Statements.{On}
+use Rattle.dscript_eval_meaning.specs.declared.fault.EvalFault.{EvalFault}
+use Rattle.dscript_eval_meaning.specs.declared.fault.EvalFault.TheVariants as eval_faults
+use Rattle.dscript_eval_meaning.specs.declared.limits.TheConstants.{MAX_OPEN_CALLS}
+use Rattle.dscript_eval_frames.specs.Keeps.{StopsWith}
 use Rattle.dscript_eval.specs.Tops.{IsAnsweredAs, first_view}
-use Rattle.eval_machine.specs.Views.{View}
-use Rattle.eval_machine.specs.Works.{comes, decls_of, run}
-use Rattle.eval_machine.specs.declared.work.StmtWork.TheVariants as stmt
-use Rattle.eval_machine.specs.declared.work.Work.TheVariants as works
-use Rattle.eval_machine.specs.declared.stop.Stop.{Stop as MachineStop}
-use Rattle.eval_machine.specs.declared.stop.Stop.TheVariants as stops
-use Rattle.eval_machine.proofs.Followed.{followed-followed, followed-same}
+use Rattle.dscript_eval_frames.specs.Views.{View}
+use Rattle.dscript_eval_frames.specs.Works.{comes, decls_of, run}
+use Rattle.dscript_eval_frames.specs.declared.work.StmtWork.TheVariants as stmt
+use Rattle.dscript_eval_frames.specs.declared.work.Work.TheVariants as works
+use Rattle.dscript_eval_frames.specs.declared.stop.Stop.{Stop as MachineStop}
+use Rattle.dscript_eval_frames.specs.declared.stop.Stop.TheVariants as stops
+use Rattle.dscript_eval_frames.proofs.Followed.{followed-followed, followed-same}
 
 followed-unit
     : (r : Result (Unit {0} × State) Stop)

@@ -1,11 +1,11 @@
 -- A work that is written in another way.
 use Rattle.std.proofs.Common.{◌≡◌, Result, ap}
-use Rattle.eval_machine.specs.Keeps.{PreservesAnswer}
-use Rattle.eval_machine.specs.Views.{View}
-use Rattle.eval_machine.specs.Works.{comes_with}
-use Rattle.eval_machine.specs.declared.stop.Stop.{Stop}
-use Rattle.eval_machine.specs.declared.work.Work.{Work}
-use Rattle.eval_machine.proofs.Kept.{keeps_at}
+use Rattle.dscript_eval_frames.specs.Keeps.{PreservesAnswer}
+use Rattle.dscript_eval_frames.specs.Views.{View}
+use Rattle.dscript_eval_frames.specs.Works.{comes_with}
+use Rattle.dscript_eval_frames.specs.declared.stop.Stop.{Stop}
+use Rattle.dscript_eval_frames.specs.declared.work.Work.{Work}
+use Rattle.dscript_eval_frames.proofs.Kept.{keeps_at}
 
 pub done_as
     : (result : Result (Unit {0}) Stop) (v w : View) (x y : Work) → x ≡ y

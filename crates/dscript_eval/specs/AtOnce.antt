@@ -4,21 +4,21 @@ use Rattle.dscript_program.specs.BoundTree as tree
 use Rattle.dscript_program.specs.BoundTree.{ExprData, StmtData, no_stmt}
 use Rattle.dscript_program.specs.ProgramData.{FunctionData}
 use Rattle.dscript_value.specs.Plain.{Plain}
-use Rattle.dscript_meaning.specs.Acts.{Acts}
-use Rattle.dscript_meaning.specs.Callbacks.{called_back}
-use Rattle.dscript_meaning.specs.Evaluating.{Gives, spend, ◌>>◌}
-use Rattle.dscript_meaning.specs.Expressions.{value}
-use Rattle.dscript_meaning.specs.Frames.{function_frame}
-use Rattle.dscript_meaning.specs.Statements.{Way, On, does}
-use Rattle.eval_machine.specs.Forms.{acts_at, bind_form, stmt_form}
-use Rattle.eval_machine.specs.Keeps.{StopsWith}
-use Rattle.eval_machine.specs.Views.{View}
-use Rattle.eval_machine.specs.Works.{Answer, comes_with, function_of, item_of, items_from}
+use Rattle.dscript_eval_meaning.specs.Acts.{Acts}
+use Rattle.dscript_eval_meaning.specs.Callbacks.{called_back}
+use Rattle.dscript_eval_meaning.specs.Evaluating.{Gives, spend, ◌>>◌}
+use Rattle.dscript_eval_meaning.specs.Expressions.{value}
+use Rattle.dscript_eval_meaning.specs.Frames.{function_frame}
+use Rattle.dscript_eval_meaning.specs.Statements.{Way, On, does}
+use Rattle.dscript_eval_frames.specs.Forms.{acts_at, bind_form, stmt_form}
+use Rattle.dscript_eval_frames.specs.Keeps.{StopsWith}
+use Rattle.dscript_eval_frames.specs.Views.{View}
+use Rattle.dscript_eval_frames.specs.Works.{Answer, comes_with, function_of, item_of, items_from}
 use Rattle.dscript_eval.specs.CallbackArgs.{args_of}
-use Rattle.eval_machine.specs.declared.stop.Stop.{Stop}
-use Rattle.eval_machine.specs.declared.work.Callbacks.{Callbacks}
-use Rattle.eval_machine.specs.declared.work.CallWork.TheVariants as call
-use Rattle.eval_machine.specs.declared.work.Work.TheVariants as works
+use Rattle.dscript_eval_frames.specs.declared.stop.Stop.{Stop}
+use Rattle.dscript_eval_frames.specs.declared.work.Callbacks.{Callbacks}
+use Rattle.dscript_eval_frames.specs.declared.work.CallWork.TheVariants as call
+use Rattle.dscript_eval_frames.specs.declared.work.Work.TheVariants as works
 
 -- the step of a statement that binds a local to the value of an expression, and the statement
 abbrev pub bind_step : ℕ → ExprData → View → Gives Way

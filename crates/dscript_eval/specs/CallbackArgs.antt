@@ -2,20 +2,20 @@
 use Rattle.std.specs.Prelude.{◌≡◌, ℕ, ◌+◌, pos, List, [], ◌∷◌, map, Option, Some, None}
 use Rattle.std.specs.declared.alloc.Global.{Global}
 use Rattle.std.specs.declared.vec.Vec.{Vec}
-use Rattle.sdk_members.specs.declared.member.Member.{Member}
-use Rattle.sdk_members.specs.declared.member.Member.TheVariants as members
-use Rattle.sdk_values.specs.Answers.{list_answer}
-use Rattle.dscript_operators.specs.CallbackArguments.{Function}
-use Rattle.dscript_meaning.specs.Acts.{Acts}
-use Rattle.dscript_meaning.specs.Callbacks.{filtered, joined, mapped, reduced}
-use Rattle.dscript_meaning.specs.Evaluating.{Gives, answered, ◌>>=◌}
+use Rattle.dscript_sdk_members.specs.declared.member.Member.{Member}
+use Rattle.dscript_sdk_members.specs.declared.member.Member.TheVariants as members
+use Rattle.dscript_sdk_values.specs.Answers.{list_answer}
+use Rattle.dscript_eval_operators.specs.CallbackArguments.{Function}
+use Rattle.dscript_eval_meaning.specs.Acts.{Acts}
+use Rattle.dscript_eval_meaning.specs.Callbacks.{filtered, joined, mapped, reduced}
+use Rattle.dscript_eval_meaning.specs.Evaluating.{Gives, answered, ◌>>=◌}
 use Rattle.dscript_value.specs.Plain as plain
 use Rattle.dscript_value.specs.Plain.{Plain, plain_of}
 use Rattle.dscript_value.specs.declared.value.Value.{Value}
-use Rattle.eval_machine.specs.Works.{item_of, items_from}
-use Rattle.eval_machine.specs.declared.work.Callback.{Callback}
-use Rattle.eval_machine.specs.declared.work.Callback.TheVariants as kinds
-use Rattle.eval_machine.specs.declared.work.Callbacks.{Callbacks}
+use Rattle.dscript_eval_frames.specs.Works.{item_of, items_from}
+use Rattle.dscript_eval_frames.specs.declared.work.Callback.{Callback}
+use Rattle.dscript_eval_frames.specs.declared.work.Callback.TheVariants as kinds
+use Rattle.dscript_eval_frames.specs.declared.work.Callbacks.{Callbacks}
 
 -- an item and its number; in a reduction the value so far comes before them
 abbrev pub args_of : Callback → Plain → Plain → ℕ → List Plain

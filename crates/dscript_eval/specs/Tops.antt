@@ -3,16 +3,16 @@ use Rattle.std.specs.Prelude.{◌≡◌, ℕ, [], ◌∷◌}
 use Rattle.bx_tree.specs.Trees.{Files}
 use Rattle.dscript_program.specs.ProgramData.{ProgramData}
 use Rattle.dscript_value.specs.Plain as plain
-use Rattle.dscript_meaning.specs.Lookups.{path_at}
-use Rattle.dscript_meaning.specs.Meaning.{start}
-use Rattle.dscript_meaning.specs.declared.fault.EvalFault.{EvalFault}
-use Rattle.dscript_meaning.specs.declared.fault.EvalFault.TheVariants as eval_faults
-use Rattle.dscript_meaning.specs.declared.limits.TheConstants.{MAX_OPEN_CALLS}
-use Rattle.eval_machine.specs.Views.{View}
-use Rattle.eval_machine.specs.declared.stop.Stop.{Stop}
-use Rattle.eval_machine.specs.declared.stop.Stop.TheVariants as stops
-use Rattle.eval_machine.specs.declared.work.StmtWork.TheVariants as stmt
-use Rattle.eval_machine.specs.declared.work.Work.TheVariants as works
+use Rattle.dscript_eval_meaning.specs.Lookups.{path_at}
+use Rattle.dscript_eval_meaning.specs.Meaning.{start}
+use Rattle.dscript_eval_meaning.specs.declared.fault.EvalFault.{EvalFault}
+use Rattle.dscript_eval_meaning.specs.declared.fault.EvalFault.TheVariants as eval_faults
+use Rattle.dscript_eval_meaning.specs.declared.limits.TheConstants.{MAX_OPEN_CALLS}
+use Rattle.dscript_eval_frames.specs.Views.{View}
+use Rattle.dscript_eval_frames.specs.declared.stop.Stop.{Stop}
+use Rattle.dscript_eval_frames.specs.declared.stop.Stop.TheVariants as stops
+use Rattle.dscript_eval_frames.specs.declared.work.StmtWork.TheVariants as stmt
+use Rattle.dscript_eval_frames.specs.declared.work.Work.TheVariants as works
 
 -- the machine before the first step
 abbrev pub first_view : ProgramData → Files → ℕ → View

@@ -2,38 +2,35 @@
 ghost use Rattle.std.specs.Prelude.{◌≡◌, ◌≢◌, ◌+◌, ◌∷◌, ◌++◌, [], true, pos, map, IfOk, MatchResult};
 ghost use Rattle.dscript_value.specs.Plain as plain;
 ghost use Rattle.dscript_value.specs.Plain.{item_list, plain_function, plain_of, plain_values};
-ghost use Rattle.sdk_members.specs.Names.{member_named};
+ghost use Rattle.dscript_sdk_members.specs.Names.{member_named};
 ghost use Rattle.dscript_sdk.specs.Members.{is_callback_named};
 ghost use Rattle.dscript_value.specs.declared.parts.Callee.TheVariants as callees;
-ghost use Rattle.dscript_meaning.specs.Acts.{Call};
-ghost use Rattle.dscript_meaning.specs.Callbacks as meaning;
-ghost use Rattle.dscript_meaning.specs.Callbacks.{called_back};
-ghost use Rattle.dscript_meaning.specs.Calls.{items_of};
+ghost use Rattle.dscript_eval_meaning.specs.Acts.{Call};
+ghost use Rattle.dscript_eval_meaning.specs.Callbacks as meaning;
+ghost use Rattle.dscript_eval_meaning.specs.Callbacks.{called_back};
+ghost use Rattle.dscript_eval_meaning.specs.Calls.{items_of};
 ghost use Rattle.dscript_eval.specs.AtOnce.{AreLeft};
 ghost use Rattle.dscript_eval.specs.CallbackArgs.{AreNextArgs, args_of, kind_named, loop_form};
-ghost use Rattle.eval_machine.specs.Forms.{acts_at, each_form};
-ghost use Rattle.eval_machine.specs.Keeps.{Comes, IsDone};
-ghost use Rattle.eval_machine.specs.Views.{seen};
-ghost use Rattle.eval_machine.specs.Works.{comes_with, function_of, item_of, items_from};
-ghost use Rattle.eval_machine.specs.declared.stop.Stop.TheVariants as stops;
-ghost use Rattle.eval_machine.specs.declared.work.Callback.TheVariants as kinds;
-ghost use Rattle.eval_machine.specs.declared.work.CallWork.TheVariants as call;
-ghost use Rattle.eval_machine.specs.declared.work.Work.TheVariants as works;
+ghost use Rattle.dscript_eval_frames.specs.Forms.{acts_at, each_form};
+ghost use Rattle.dscript_eval_frames.specs.Keeps.{Comes, IsDone};
+ghost use Rattle.dscript_eval_frames.specs.Views.{seen};
+ghost use Rattle.dscript_eval_frames.specs.Works.{comes_with, function_of, item_of, items_from};
+ghost use Rattle.dscript_eval_frames.specs.declared.stop.Stop.TheVariants as stops;
+ghost use Rattle.dscript_eval_frames.specs.declared.work.Callback.TheVariants as kinds;
+ghost use Rattle.dscript_eval_frames.specs.declared.work.CallWork.TheVariants as call;
+ghost use Rattle.dscript_eval_frames.specs.declared.work.Work.TheVariants as works;
 
 use crate::Memory;
 use crate::calls::{ambient, held_method, open_call};
 use crate::calls_now::call_at_once;
 use bx_tree::Text;
-use dscript_ambient::Ambient;
-use dscript_meaning::EvalKind;
-use dscript_operators::{add_items, callback, is_true, reduction};
+use dscript_program::Ambient;
+use dscript_eval_meaning::EvalKind;
+use dscript_eval_operators::{add_items, callback, is_true, reduction};
 use dscript_value::{Callee, FunctionRef, Value, Values};
-use eval_machine::{
-    CallWork, Callback, Callbacks, Machine, Stop, Work, add_value, item_ref, push_item,
-    shared_items, stop_of,
-};
-use sdk_members::Member;
-use sdk_values::grown_list;
+use dscript_eval_frames::{CallWork, Callback, Callbacks, Machine, Stop, Work, add_value, item_ref, push_item, shared_items, stop_of};
+use dscript_sdk_members::Member;
+use dscript_sdk_values::grown_list;
 use std::alloc::{AllocError, Global};
 
 // The item that is next; undefined if there is none.

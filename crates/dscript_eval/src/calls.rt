@@ -2,30 +2,28 @@
 ghost use Rattle.std.specs.Prelude.{◌≡◌, ◌<◌, ◌∷◌, map, None, Some, MatchOption};
 ghost use Rattle.dscript_program.specs.Views.{body_data};
 ghost use Rattle.dscript_value.specs.Plain.{item_list, plain_function, plain_of};
-ghost use Rattle.dscript_meaning.specs.Acts.{Call};
-ghost use Rattle.dscript_meaning.specs.Calls as calls;
-ghost use Rattle.dscript_meaning.specs.Calls.{applied, call_of_function};
-ghost use Rattle.eval_frames.specs.Frames.{frame_of};
-ghost use Rattle.eval_machine.specs.Forms.{acts_at};
+ghost use Rattle.dscript_eval_meaning.specs.Acts.{Call};
+ghost use Rattle.dscript_eval_meaning.specs.Calls as calls;
+ghost use Rattle.dscript_eval_meaning.specs.Calls.{applied, call_of_function};
+ghost use Rattle.dscript_eval_frames.specs.Frames.{frame_of};
+ghost use Rattle.dscript_eval_frames.specs.Forms.{acts_at};
 ghost use Rattle.dscript_eval.specs.Bodies.{body_comes};
-ghost use Rattle.eval_machine.specs.Keeps.{Comes, IsDone, PreservesAnswer};
-ghost use Rattle.eval_machine.specs.Views.{seen};
-ghost use Rattle.eval_machine.specs.Works.{callee_in, comes, function_of, used};
-ghost use Rattle.eval_machine.specs.declared.work.CallWork.TheVariants as call;
-ghost use Rattle.eval_machine.specs.declared.work.ExprWork.TheVariants as expr;
-ghost use Rattle.eval_machine.specs.declared.work.Work.TheVariants as works;
+ghost use Rattle.dscript_eval_frames.specs.Keeps.{Comes, IsDone, PreservesAnswer};
+ghost use Rattle.dscript_eval_frames.specs.Views.{seen};
+ghost use Rattle.dscript_eval_frames.specs.Works.{callee_in, comes, function_of, used};
+ghost use Rattle.dscript_eval_frames.specs.declared.work.CallWork.TheVariants as call;
+ghost use Rattle.dscript_eval_frames.specs.declared.work.ExprWork.TheVariants as expr;
+ghost use Rattle.dscript_eval_frames.specs.declared.work.Work.TheVariants as works;
 ghost use Rattle.dscript_value.specs.declared.parts.Callee.TheVariants as callees;
 
 use crate::callbacks::callbacks;
 use bx_tree::Text;
-use dscript_ambient::Ambient;
-use dscript_meaning::EvalKind;
-use dscript_program::{Body, BoundExpr, Function};
+use dscript_program::{Ambient, Body, BoundExpr, Function};
+use dscript_eval_meaning::EvalKind;
 use dscript_sdk::{Site, call, is_callback, method};
 use dscript_value::{Callee, FunctionRef, Value};
-use eval_exprs::at_once;
-use eval_frames::{Frame, path_of};
-use eval_machine::{CallWork, ExprWork, Machine, StmtWork, Stop, Use, Work, add_value, stop_of};
+use dscript_eval_exprs::at_once;
+use dscript_eval_frames::{CallWork, ExprWork, Frame, Machine, StmtWork, Stop, Use, Work, add_value, path_of, stop_of};
 
 // The function that a value is, if it is one.
 fn function_in(value: &Value) -> Option<&FunctionRef>

@@ -3,15 +3,15 @@ ghost use Rattle.std.specs.Prelude.{◌≡◌, ◌∷◌, [], false, map, pos, t
 ghost use Rattle.dscript_program.specs.Views.{expr_data, function_data};
 ghost use Rattle.dscript_value.specs.Plain as plain;
 ghost use Rattle.dscript_value.specs.Plain.{plain_of};
-ghost use Rattle.eval_machine.specs.Views.{seen};
+ghost use Rattle.dscript_eval_frames.specs.Views.{seen};
 ghost use Rattle.dscript_eval.specs.AtOnce.{IsBodyGiven, IsCalled};
 ghost use Rattle.dscript_eval.specs.CallbackArgs.{args_of};
 
 use crate::callbacks::number_of;
 use dscript_program::{Body, BoundExpr, Function};
 use dscript_value::{Callee, Value};
-use eval_machine::{Callback, Callbacks, Machine, item_ref};
-use eval_now::{MAX_NESTING, value_now};
+use dscript_eval_frames::{Callback, Callbacks, Machine, item_ref};
+use dscript_eval_direct::{MAX_NESTING, value_now};
 
 fn first_of(values: &[Value], count: usize) -> &[Value]
     ensures { map plain_of result.now ≡ take count (map plain_of values.now) }

@@ -1,23 +1,22 @@
 //! The evaluation of a program.
 ghost use Rattle.std.specs.Prelude.{◌≡◌, map, Err, IfErr, IfOk};
 ghost use Rattle.dscript_program.specs.Views.{program_data};
-ghost use Rattle.dscript_meaning.specs.Answers.{Builds, Stops};
-ghost use Rattle.dscript_meaning.specs.Meaning.{Unnumbered, meaning};
-ghost use Rattle.dscript_meaning.specs.declared.fault.EvalFault.TheVariants as eval_faults;
+ghost use Rattle.dscript_eval_meaning.specs.Answers.{Builds, Stops};
+ghost use Rattle.dscript_eval_meaning.specs.Meaning.{Unnumbered, meaning};
+ghost use Rattle.dscript_eval_meaning.specs.declared.fault.EvalFault.TheVariants as eval_faults;
 ghost use Rattle.dscript_eval.specs.Tops.{IsAnsweredAs, first_view};
-ghost use Rattle.eval_frames.specs.Codes.{code_data};
-ghost use Rattle.eval_machine.specs.Views.{seen};
+ghost use Rattle.dscript_eval_frames.specs.Codes.{code_data};
+ghost use Rattle.dscript_eval_frames.specs.Views.{seen};
 
 use crate::Memory;
 use crate::running::run;
 use bx_tree::Tree;
-use dscript_meaning::{EvalFault, MAX_OPEN_CALLS};
+use dscript_eval_meaning::{EvalFault, MAX_OPEN_CALLS};
 use dscript_program::Program;
 use dscript_sdk::SdkState;
 use dscript_value::Value;
-use eval_frames::{Code, Frame, all_waiting, codes_of, path_of};
-use eval_machine::{Machine, StmtWork, Stop, Work};
-use pip_types::PipList;
+use dscript_eval_frames::{Code, Frame, Machine, StmtWork, Stop, Work, all_waiting, codes_of, path_of};
+use pip_model_types::PipList;
 use std::alloc::Global;
 
 // The machine before the first step.

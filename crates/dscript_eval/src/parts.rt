@@ -4,23 +4,23 @@ ghost use Rattle.dscript_program.specs.BoundTree as tree;
 ghost use Rattle.dscript_program.specs.BoundTree.{more_parts, to_exprs, to_parts};
 ghost use Rattle.dscript_program.specs.Views.{expr_data, part_data};
 ghost use Rattle.dscript_sdk.specs.Members.{is_function_named, member_of};
-ghost use Rattle.dscript_meaning.specs.Evaluating.{answered};
-ghost use Rattle.eval_machine.specs.Forms.{acts_at, begins_with_call, call_form, method_form};
-ghost use Rattle.eval_machine.specs.Forms.{method_step_form, part_form};
-ghost use Rattle.eval_machine.specs.Views.{seen};
-ghost use Rattle.eval_machine.specs.Keeps.{Comes, IsDone, PreservesAnswer};
-ghost use Rattle.eval_machine.specs.Works.{comes_with};
-ghost use Rattle.eval_machine.specs.declared.work.ExprWork.TheVariants as expr;
-ghost use Rattle.eval_machine.specs.declared.work.Work.TheVariants as works;
+ghost use Rattle.dscript_eval_meaning.specs.Evaluating.{answered};
+ghost use Rattle.dscript_eval_frames.specs.Forms.{acts_at, begins_with_call, call_form, method_form};
+ghost use Rattle.dscript_eval_frames.specs.Forms.{method_step_form, part_form};
+ghost use Rattle.dscript_eval_frames.specs.Views.{seen};
+ghost use Rattle.dscript_eval_frames.specs.Keeps.{Comes, IsDone, PreservesAnswer};
+ghost use Rattle.dscript_eval_frames.specs.Works.{comes_with};
+ghost use Rattle.dscript_eval_frames.specs.declared.work.ExprWork.TheVariants as expr;
+ghost use Rattle.dscript_eval_frames.specs.declared.work.Work.TheVariants as works;
 
 use crate::calls::arguments;
 use bx_tree::Text;
-use dscript_operators::index;
+use dscript_eval_operators::index;
 use dscript_program::{BoundExpr, BoundPart};
 use dscript_sdk::{has_function, member};
 use dscript_value::Value;
-use eval_exprs::at_once;
-use eval_machine::{ExprWork, Machine, Stop, Use, Work};
+use dscript_eval_exprs::at_once;
+use dscript_eval_frames::{ExprWork, Machine, Stop, Use, Work};
 
 // The arguments of the first part and the other parts, if the first is a call.
 #[tactic(auto, using(dscript_program::proofs::NodeViews::bound_views))]

@@ -1,19 +1,19 @@
 //! The loop of the machine.
 ghost use Rattle.std.specs.Prelude.{◌≡◌, [], IfOk};
-ghost use Rattle.eval_machine.specs.Keeps.{IsDone, PreservesAnswer};
-ghost use Rattle.eval_machine.specs.Views.{seen};
-ghost use Rattle.eval_machine.specs.Works.{comes};
-ghost use Rattle.eval_machine.specs.declared.work.Work.TheVariants as works;
+ghost use Rattle.dscript_eval_frames.specs.Keeps.{IsDone, PreservesAnswer};
+ghost use Rattle.dscript_eval_frames.specs.Views.{seen};
+ghost use Rattle.dscript_eval_frames.specs.Works.{comes};
+ghost use Rattle.dscript_eval_frames.specs.declared.work.Work.TheVariants as works;
 
 use crate::callbacks::{callbacks_from, came, close};
 use crate::calls::{argument, arguments, leave};
 use crate::parts::{after, after_member, index_value};
 use crate::statements::{all, bind, branch, does, start, turns, unwind};
-use eval_exprs::{
+use dscript_eval_exprs::{
     choose, demands, eval, fields, first_hole, hole, item, items, keep, named_field, operands,
     operated, other_holes, prefix, spread_fields, spread_item,
 };
-use eval_machine::{CallWork, ExprWork, Machine, StmtWork, Stop, Work};
+use dscript_eval_frames::{CallWork, ExprWork, Machine, StmtWork, Stop, Work};
 
 // Does a work of an expression.
 fn turn_expr<'a>(machine: &mut Machine<'a>, work: ExprWork<'a>) -> Result<(), Stop>

@@ -5,24 +5,23 @@ ghost use Rattle.dscript_program.specs.BoundTree.{to_stmt};
 ghost use Rattle.dscript_program.specs.Views.{expr_data, stmt_data};
 ghost use Rattle.dscript_value.specs.Plain as plain;
 ghost use Rattle.dscript_value.specs.Plain.{item_list, plain_of, plain_values};
-ghost use Rattle.dscript_meaning.specs.Evaluating.{gives};
-ghost use Rattle.dscript_meaning.specs.Statements.{Back};
-ghost use Rattle.eval_machine.specs.Forms.{acts_at, bind_form, let_form, return_form, stmt_form, turn_form, unset_form};
+ghost use Rattle.dscript_eval_meaning.specs.Evaluating.{gives};
+ghost use Rattle.dscript_eval_meaning.specs.Statements.{Back};
+ghost use Rattle.dscript_eval_frames.specs.Forms.{acts_at, bind_form, let_form, return_form, stmt_form, turn_form, unset_form};
 ghost use Rattle.dscript_eval.specs.TurnSteps.{turn_step_form};
-ghost use Rattle.eval_machine.specs.Keeps.{Goes, IsDone, PreservesAnswer};
-ghost use Rattle.eval_machine.specs.Views.{seen};
-ghost use Rattle.eval_machine.specs.Works.{returned_by};
-ghost use Rattle.eval_machine.specs.declared.work.StmtWork.TheVariants as stmt;
-ghost use Rattle.eval_machine.specs.declared.work.Work.TheVariants as works;
+ghost use Rattle.dscript_eval_frames.specs.Keeps.{Goes, IsDone, PreservesAnswer};
+ghost use Rattle.dscript_eval_frames.specs.Views.{seen};
+ghost use Rattle.dscript_eval_frames.specs.Works.{returned_by};
+ghost use Rattle.dscript_eval_frames.specs.declared.work.StmtWork.TheVariants as stmt;
+ghost use Rattle.dscript_eval_frames.specs.declared.work.Work.TheVariants as works;
 
 use crate::calls::leave;
 use crate::statements_now::statement_at_once;
-use dscript_operators::is_true;
+use dscript_eval_operators::is_true;
 use dscript_program::{BoundExpr, BoundStmt};
 use dscript_value::{Value, Values};
-use eval_exprs::at_once;
-use eval_frames::stmt_cost;
-use eval_machine::{ExprWork, Machine, StmtWork, Stop, Work, item_at, shared_items, stop_of};
+use dscript_eval_exprs::at_once;
+use dscript_eval_frames::{ExprWork, Machine, StmtWork, Stop, Work, item_at, shared_items, stmt_cost, stop_of};
 
 // The statement after `else`, if there is one.
 fn other_of(other: &Option<Box<BoundStmt>>) -> Option<&BoundStmt>

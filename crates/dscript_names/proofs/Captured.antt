@@ -2,7 +2,7 @@
 use Rattle.std.proofs.Common.{◌≡◌, ℕ, ◌<◌, ◌==◌, Bool, true, false, not, cond, nat_lt, List, [], ◌∷◌, filter, refl, ltb-true}
 use Rattle.std.specs.List.{AllByRecursion, IsDistinct}
 use Rattle.dscript_ast.specs.ExprTree.{ParamTree}
-use Rattle.dscript_binding.specs.Walk.{Bound, each_once, function_of}
+use Rattle.dscript_names_binding.specs.Walk.{Bound, each_once, function_of}
 use Rattle.dscript_program.specs.BoundTree.{BodyData}
 use Rattle.dscript_names.specs.Captures.{HasOuterCaptures}
 

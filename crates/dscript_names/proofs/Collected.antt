@@ -7,12 +7,12 @@ use Rattle.dscript_ast.specs.FileTree.{to_marked}
 use Rattle.dscript_ast.specs.ExprTree.{to_stmts}
 use Rattle.dscript_ast.specs.Views.{item_tree, marked_tree, stmt_tree}
 use Rattle.dscript_ast.specs.declared.expr.Stmt.{Stmt}
-use Rattle.dscript_scopes.specs.Duplicates.{block_names, stmt_names}
+use Rattle.dscript_names_scopes.specs.Duplicates.{block_names, stmt_names}
 use Rattle.dscript_names.specs.Singles.{single}
 use Rattle.dscript_ast.specs.declared.file.Item.{Item}
 use Rattle.dscript_ast.specs.declared.file.Marked.{Marked}
 use Rattle.dscript_program.specs.ProgramData.{Dotted}
-use Rattle.dscript_scopes.specs.Declarations.{all_declared, declared_by, item_declared, item_imports, item_opened}
+use Rattle.dscript_names_scopes.specs.Declarations.{all_declared, declared_by, item_declared, item_imports, item_opened}
 use Rattle.dscript_names.specs.Gathered.{AddsItem, NamesOf}
 use Rattle.dscript_names.specs.declared.collecting.Names.{Names}
 

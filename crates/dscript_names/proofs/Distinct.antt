@@ -11,7 +11,7 @@ use Rattle.std.specs.List.{AllByRecursion, IsDistinct, dedup, dedup_from, list_a
 use Rattle.std.specs.List.Sorted.{IsPermutation, IsSorted}
 use Rattle.std.specs.Ordering.{eq_by_cmp}
 use Rattle.std.specs.declared.cmp.Ordering.{Ordering}
-use Rattle.dscript_scopes.specs.Duplicates.{has_repeat}
+use Rattle.dscript_names_scopes.specs.Duplicates.{has_repeat}
 
 -- ## No element is there twice
 

@@ -4,15 +4,15 @@ use Rattle.std.specs.List.{filter, flat_map, list_any}
 use Rattle.std.proofs.lemmas.List.{drop-map, drop_all, map-append, take_more}
 use Rattle.bx_tree.specs.Paths.{Atoms, same_path}
 use Rattle.dscript_ast.specs.FileTree.{ItemTree}
-use Rattle.dscript_modules.specs.Workspaces.{ModuleData}
+use Rattle.dscript_program.specs.Workspaces.{ModuleData}
 use Rattle.dscript_program.specs.ProgramData.{Dotted}
-use Rattle.dscript_scopes.specs.Declarations.{ParsedData, is_exported, item_declared, item_opened, items_of, module_of, names_of}
-use Rattle.dscript_scopes.specs.Duplicates.{exported_names, exports_one_of, first_duplicate, has_duplicate, has_repeat, item_repeats, repeats}
-use Rattle.dscript_scopes.specs.Names.{FileNames}
+use Rattle.dscript_names_scopes.specs.Declarations.{ParsedData, is_exported, item_declared, item_opened, items_of, module_of, names_of}
+use Rattle.dscript_names_scopes.specs.Duplicates.{exported_names, exports_one_of, first_duplicate, has_duplicate, has_repeat, item_repeats, repeats}
+use Rattle.dscript_names_scopes.specs.Names.{FileNames}
 use Rattle.dscript_names.specs.Exports.{HasExports, exported_at, exports_name}
 use Rattle.dscript_names.specs.Gathered.{NamesOf}
-use Rattle.dscript_modules.specs.declared.fault.SpecFault.{SpecFault}
-use Rattle.dscript_modules.specs.declared.fault.SpecFault.TheVariants as faults
+use Rattle.dscript_program.specs.declared.spec_fault.SpecFault.{SpecFault}
+use Rattle.dscript_program.specs.declared.spec_fault.SpecFault.TheVariants as faults
 use Rattle.dscript_names.specs.Gathering.{Added, IsDuplicate, IsDuplicateIn, IsTrueTo, file_names}
 use Rattle.dscript_names.specs.Views.{parsed_data}
 use Rattle.dscript_names.specs.declared.parsed.Parsed.{Parsed}

@@ -1,9 +1,9 @@
 -- Worked examples, which pin down what names mean.
 use Prim.Native.String.{String as Letters}
 use Rattle.std.proofs.Common.{◌≡◌, ℕ, Bool, true, false, List, [], ◌∷◌, map, Some, None, Result, Ok, Err, codes, pos, refl}
-use Rattle.dscript_ambient.specs.Ambient.{written_name}
-use Rattle.dscript_ambient.specs.declared.ambient.Ambient.TheVariants as calls
-use Rattle.dscript_ambient.specs.declared.ambient.Ambient.{Ambient}
+use Rattle.dscript_program.specs.Ambient.{written_name}
+use Rattle.dscript_program.specs.declared.ambient.Ambient.TheVariants as calls
+use Rattle.dscript_program.specs.declared.ambient.Ambient.{Ambient}
 use Rattle.dscript_ast.specs.ExprTree as tree
 use Rattle.dscript_ast.specs.ExprTree.{ParamTree, ExprTree, StmtTree, to_exprs, to_parts, to_stmts, to_elements, to_props}
 use Rattle.dscript_ast.specs.FileTree as file
@@ -16,14 +16,14 @@ use Rattle.dscript_program.specs.BoundTree.{ExprData}
 use Rattle.dscript_program.specs.ProgramData as declares
 use Rattle.dscript_program.specs.ProgramData.{KindData, DeclData, FileData, FunctionData, ProgramData}
 use Rattle.dscript_program.specs.declared.target.Target.TheVariants as targets
-use Rattle.dscript_modules.specs.Workspaces.{ModuleData}
-use Rattle.dscript_modules.specs.Faults.{FaultData}
-use Rattle.dscript_modules.specs.declared.fault.SpecKind.{SpecKind}
-use Rattle.dscript_modules.specs.declared.fault.SpecKind.TheVariants as faults
-use Rattle.dscript_scopes.specs.Declarations.{ParsedData, declared_by}
-use Rattle.dscript_scopes.specs.Duplicates.{expr_repeats, marked_repeats}
-use Rattle.dscript_scopes.specs.Lookup.{found_at, found_outside}
-use Rattle.dscript_binding.specs.Binding.{bind_expr, bind_marked}
+use Rattle.dscript_program.specs.Workspaces.{ModuleData}
+use Rattle.dscript_program.specs.SpecFaults.{FaultData}
+use Rattle.dscript_program.specs.declared.spec_fault.SpecKind.{SpecKind}
+use Rattle.dscript_program.specs.declared.spec_fault.SpecKind.TheVariants as faults
+use Rattle.dscript_names_scopes.specs.Declarations.{ParsedData, declared_by}
+use Rattle.dscript_names_scopes.specs.Duplicates.{expr_repeats, marked_repeats}
+use Rattle.dscript_names_scopes.specs.Lookup.{found_at, found_outside}
+use Rattle.dscript_names_binding.specs.Binding.{bind_expr, bind_marked}
 use Rattle.dscript_names.specs.Named.{named, fault_in_file}
 
 -- ## Trees

@@ -16,7 +16,7 @@ use Rattle.dscript_ast.specs.declared.expr.Prop.{Prop}
 use Rattle.dscript_ast.specs.declared.expr.Stmt.{Stmt}
 use Rattle.dscript_ast.specs.declared.file.Item.{Item}
 use Rattle.dscript_ast.specs.declared.file.Marked.{Marked}
-use Rattle.dscript_scopes.specs.Duplicates.{all_marked_repeat, elements_repeat, expr_repeats, exprs_repeat, holes_repeat, item_repeats, marked_repeats, operands_repeat, part_repeats, parts_repeat, prop_repeats, props_repeat, stmt_repeats, stmts_repeat}
+use Rattle.dscript_names_scopes.specs.Duplicates.{all_marked_repeat, elements_repeat, expr_repeats, exprs_repeat, holes_repeat, item_repeats, marked_repeats, operands_repeat, part_repeats, parts_repeat, prop_repeats, props_repeat, stmt_repeats, stmts_repeat}
 use Rattle.dscript_names.specs.Singles.{element_value, hole_value, operand_value}
 
 pub or_assoc : (a b c : Bool) → ((a || b) || c) ≡ (a || (b || c))

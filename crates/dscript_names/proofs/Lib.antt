@@ -12,3 +12,13 @@ pub mod Collected
 pub mod Owning
 pub mod Duplicated
 pub mod Resolved
+mod Steps
+mod Walks
+mod Takes
+mod TakesTrees
+mod TakesFiles
+mod WalksFiles
+mod Declared
+mod Bounded
+mod Programs
+mod Bundled

@@ -6,15 +6,15 @@ use Rattle.dscript_program.specs.ProgramData.{FunctionData}
 use Rattle.dscript_program.specs.Numbering.{Taker, Declares, Holds, FillRun, IsConsecutive, body_takers}
 use Rattle.dscript_program.specs.BoundTree.{BodyData}
 use Rattle.dscript_ast.specs.ExprTree.{ParamTree, PartTrees}
-use Rattle.dscript_modules.specs.declared.fault.SpecKind.{SpecKind}
-use Rattle.dscript_scopes.specs.declared.found.Found.{Found}
-use Rattle.dscript_scopes.specs.declared.local.Local.{Local}
-use Rattle.dscript_scopes.specs.Lookup.{Site, found_at, assigned}
-use Rattle.dscript_scopes.specs.Names.{World}
+use Rattle.dscript_program.specs.declared.spec_fault.SpecKind.{SpecKind}
+use Rattle.dscript_names_scopes.specs.declared.found.Found.{Found}
+use Rattle.dscript_names_scopes.specs.declared.local.Local.{Local}
+use Rattle.dscript_names_scopes.specs.Lookup.{Site, found_at, assigned}
+use Rattle.dscript_names_scopes.specs.Names.{World}
 use Rattle.dscript_names.specs.Captures.{HasOuterCaptures}
 use Rattle.dscript_names.proofs.Captured.{captures_of}
-use Rattle.dscript_binding.specs.Walk.{Here, Bound, Binds, chained, continued, ◌>>=◌, gives, next_local, declare, leave, within, closed, function_in, function_of, params_from, or_fault}
-use Rattle.dscript_binding.specs.Binding.{names_target, bind_name, assigns}
+use Rattle.dscript_names_binding.specs.Walk.{Here, Bound, Binds, chained, continued, ◌>>=◌, gives, next_local, declare, leave, within, closed, function_in, function_of, params_from, or_fault}
+use Rattle.dscript_names_binding.specs.Binding.{names_target, bind_name, assigns}
 
 -- ## Runs
 

@@ -12,15 +12,15 @@ use Rattle.dscript_program.specs.Numbering.{Taker, Holds, FillRun, IsConsecutive
 use Rattle.dscript_program.specs.ProgramData as declares
 use Rattle.dscript_program.specs.BoundTree.{ExprData}
 use Rattle.dscript_program.specs.ProgramData.{Dotted, DeclData, FunctionData, ProgramData}
-use Rattle.dscript_modules.specs.Workspaces.{ModuleData}
-use Rattle.dscript_modules.specs.Faults.{FaultData}
-use Rattle.dscript_modules.specs.declared.fault.SpecKind.{SpecKind}
-use Rattle.dscript_scopes.specs.Names.{World, FileNames}
-use Rattle.dscript_scopes.specs.Declarations.{ParsedData, names_of, items_of, world_of}
-use Rattle.dscript_scopes.specs.Duplicates.{first_duplicate}
-use Rattle.dscript_scopes.specs.Lookup.{Site}
-use Rattle.dscript_binding.specs.Walk.{Here, Bound, Binds, chained, continued, ◌>>=◌, gives, no_fault, declaration}
-use Rattle.dscript_binding.specs.Binding.{block_locals, declared_function, site_in, bind_marked, bind_decl, bind_all_marked, check_import, imports_fault, bind_item, bind_items}
+use Rattle.dscript_program.specs.Workspaces.{ModuleData}
+use Rattle.dscript_program.specs.SpecFaults.{FaultData}
+use Rattle.dscript_program.specs.declared.spec_fault.SpecKind.{SpecKind}
+use Rattle.dscript_names_scopes.specs.Names.{World, FileNames}
+use Rattle.dscript_names_scopes.specs.Declarations.{ParsedData, names_of, items_of, world_of}
+use Rattle.dscript_names_scopes.specs.Duplicates.{first_duplicate}
+use Rattle.dscript_names_scopes.specs.Lookup.{Site}
+use Rattle.dscript_names_binding.specs.Walk.{Here, Bound, Binds, chained, continued, ◌>>=◌, gives, no_fault, declaration}
+use Rattle.dscript_names_binding.specs.Binding.{block_locals, declared_function, site_in, bind_marked, bind_decl, bind_all_marked, check_import, imports_fault, bind_item, bind_items}
 use Rattle.dscript_names.specs.Captures.{AllCaptureOuter, HasOuterCaptures}
 use Rattle.dscript_names.specs.Counting.{CountsFromZero, HasLocalsFromZero}
 use Rattle.dscript_names.specs.Named.{named, before_others, file_first, bind_files, unless_duplicate}

@@ -6,11 +6,11 @@ use Rattle.dscript_ast.specs.ExprTree.{ParamTree, HeadTree, ExprTree, OperandTre
 use Rattle.dscript_program.specs.BoundTree as bound
 use Rattle.dscript_program.specs.BoundTree.{ExprData, OperandData, PartData, ElementData, PropData, HoleData, StmtData, MaybeStmt as MaybeBound, BodyData, to_elements, to_exprs, to_holes, to_operands, to_parts, to_props, to_stmts}
 use Rattle.dscript_program.specs.Numbering.{Taker, Declares, Holds, takers_of, operands_takers, part_takers, parts_takers, exprs_takers, elements_takers, prop_takers, props_takers, holes_takers, stmt_takers, maybe_takers, else_takers, stmts_takers, body_takers}
-use Rattle.dscript_scopes.specs.Names.{World}
-use Rattle.dscript_scopes.specs.declared.local.Local.{Local}
-use Rattle.dscript_scopes.specs.Lookup.{Site}
-use Rattle.dscript_binding.specs.Walk.{Binds, ◌>>=◌, gives, in_turn, declare, within}
-use Rattle.dscript_binding.specs.Binding.{bind_expr, bind_exprs, bind_operand, bind_operands, bind_part, bind_parts, bind_element, bind_elements, bind_prop, bind_props, bind_hole, bind_holes, bind_stmt, bind_maybe, bind_else, bind_stmts, arrow, postfix, with_parts, block_locals, stmt_locals, loop_local, params_of}
+use Rattle.dscript_names_scopes.specs.Names.{World}
+use Rattle.dscript_names_scopes.specs.declared.local.Local.{Local}
+use Rattle.dscript_names_scopes.specs.Lookup.{Site}
+use Rattle.dscript_names_binding.specs.Walk.{Binds, ◌>>=◌, gives, in_turn, declare, within}
+use Rattle.dscript_names_binding.specs.Binding.{bind_expr, bind_exprs, bind_operand, bind_operands, bind_part, bind_parts, bind_element, bind_elements, bind_prop, bind_props, bind_hole, bind_holes, bind_stmt, bind_maybe, bind_else, bind_stmts, arrow, postfix, with_parts, block_locals, stmt_locals, loop_local, params_of}
 use Rattle.dscript_names.proofs.Numbered.{Numbers, step, done, IsBody, next_numbers, declare_numbers, name_numbers, assigns_numbers, within_numbers, function_numbers}
 use Rattle.dscript_ast.specs.Literals.{name_of}
 

@@ -6,9 +6,9 @@ use Rattle.std.specs.Option.{option_or, unwrap_or}
 use Rattle.std.proofs.lemmas.List.{map-append, take_more}
 use Rattle.bx_tree.specs.Orders.{path_cmp_matches, same_path_equiv}
 use Rattle.bx_tree.specs.Paths.{Atoms, path_cmp, same_path}
-use Rattle.dscript_modules.specs.Workspaces.{module_data, modules_data}
-use Rattle.dscript_modules.specs.declared.workspace.ModuleText.{ModuleText}
-use Rattle.dscript_scopes.specs.Declarations.{module_of}
+use Rattle.dscript_program.specs.Workspaces.{module_data, modules_data}
+use Rattle.dscript_program.specs.declared.workspace.ModuleText.{ModuleText}
+use Rattle.dscript_names_scopes.specs.Declarations.{module_of}
 use Rattle.dscript_names.specs.Owners.{HasOwners, has_file, owner_in}
 use Rattle.dscript_names.specs.declared.owners.Owners.{Owners}
 use Rattle.dscript_names.proofs.Found.{any_last}

@@ -2,16 +2,16 @@
 use Rattle.std.proofs.Common.{◌≡◌, ℕ, suc, ◌+◌, ◌<◌, List, [], ◌∷◌, ◌++◌, map, length, drop, get_or, drop-cons, add-one, None, Result, Ok, Err, refl, sym, ◌∙◌, ap, append_assoc, append-nil, subst}
 use Rattle.bx_tree.specs.Paths.{Atoms}
 use Rattle.dscript_ast.specs.FileTree.{ItemTree}
-use Rattle.dscript_binding.specs.Binding.{bind_items}
-use Rattle.dscript_binding.specs.Declares.{Came}
-use Rattle.dscript_binding.specs.Walk.{Bound, declaration}
-use Rattle.dscript_binding.specs.Walked.{here_of, table_of}
-use Rattle.dscript_binding.specs.declared.walker.Walker.{Walker}
-use Rattle.dscript_modules.specs.Faults.{FaultData}
-use Rattle.dscript_modules.specs.Workspaces.{ModuleData}
-use Rattle.dscript_modules.specs.declared.fault.SpecKind.{SpecKind}
-use Rattle.dscript_modules.specs.declared.fault.SpecFault.{SpecFault}
-use Rattle.dscript_modules.specs.declared.fault.SpecFault.TheVariants as faults
+use Rattle.dscript_names_binding.specs.Binding.{bind_items}
+use Rattle.dscript_names_binding.specs.Declares.{Came}
+use Rattle.dscript_names_binding.specs.Walk.{Bound, declaration}
+use Rattle.dscript_names_binding.specs.Walked.{here_of, table_of}
+use Rattle.dscript_names_binding.specs.declared.walker.Walker.{Walker}
+use Rattle.dscript_program.specs.SpecFaults.{FaultData}
+use Rattle.dscript_program.specs.Workspaces.{ModuleData}
+use Rattle.dscript_program.specs.declared.spec_fault.SpecKind.{SpecKind}
+use Rattle.dscript_program.specs.declared.spec_fault.SpecFault.{SpecFault}
+use Rattle.dscript_program.specs.declared.spec_fault.SpecFault.TheVariants as faults
 use Rattle.std.specs.declared.alloc.Global.{Global}
 use Rattle.std.specs.declared.vec.Vec.{Vec}
 use Rattle.std.proofs.lemmas.List.{map-append}
@@ -22,9 +22,9 @@ use Rattle.std.specs.Prelude.{MatchResult}
 use Rattle.dscript_program.specs.declared.program.BoundDecl.{BoundDecl}
 use Rattle.dscript_program.specs.declared.program.BoundFile.{BoundFile}
 use Rattle.dscript_program.specs.ProgramData.{DeclData, FileData, FunctionData, ProgramData}
-use Rattle.dscript_scopes.specs.Declarations.{ParsedData, items_of, names_of, world_of}
-use Rattle.dscript_scopes.specs.Names.{FileNames, World}
-use Rattle.dscript_scopes.specs.Duplicates.{first_duplicate}
+use Rattle.dscript_names_scopes.specs.Declarations.{ParsedData, items_of, names_of, world_of}
+use Rattle.dscript_names_scopes.specs.Names.{FileNames, World}
+use Rattle.dscript_names_scopes.specs.Duplicates.{first_duplicate}
 use Rattle.dscript_names.specs.Gathering.{IsDuplicate}
 use Rattle.dscript_names.specs.Named.{bind_files, file_first, before_others, named, unless_duplicate}
 use Rattle.dscript_names.specs.Views.{IsRefused, parsed_data}

@@ -5,10 +5,10 @@ use Rattle.std.specs.List.{list_any}
 use Rattle.bx_tree.specs.Paths.{same_path}
 use Rattle.dscript_program.specs.ProgramData.{Dotted}
 use Rattle.std.specs.Str.{bytes_eq}
-use Rattle.dscript_scopes.specs.Duplicates.{has_repeat, repeats}
+use Rattle.dscript_names_scopes.specs.Duplicates.{has_repeat, repeats}
 use Rattle.dscript_names.specs.Singles.{Finds, single}
 use Rattle.dscript_names.specs.declared.repeats.Repeats.{Repeats}
-use Rattle.dscript_scopes.specs.Orders.{name_cmp, name_cmp_matches}
+use Rattle.dscript_names_scopes.specs.Orders.{name_cmp, name_cmp_matches}
 
 cond_or : (a b : Bool) → cond a true b ≡ (a || b)
 cond_or true b = refl

@@ -6,9 +6,9 @@ use Rattle.std.specs.List.{list_any}
 use Rattle.std.specs.Ordering.{nat_cmp}
 use Rattle.bx_tree.specs.Paths.{same_path}
 use Rattle.dscript_program.specs.ProgramData.{Dotted}
-use Rattle.dscript_scopes.specs.Duplicates.{exported_names}
-use Rattle.dscript_scopes.specs.Names.{FileNames}
-use Rattle.dscript_scopes.specs.Orders.{name_cmp}
+use Rattle.dscript_names_scopes.specs.Duplicates.{exported_names}
+use Rattle.dscript_names_scopes.specs.Names.{FileNames}
+use Rattle.dscript_names_scopes.specs.Orders.{name_cmp}
 use Rattle.dscript_names.specs.declared.exported.Exports.{Exports}
 
 abbrev pub seen_in : BTreeSet Dotted → Dotted → Bool

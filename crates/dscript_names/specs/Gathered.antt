@@ -2,7 +2,7 @@
 use Rattle.std.specs.Prelude.{◌≡◌, List, ◌++◌, Result, IfOk}
 use Rattle.std.specs.List.{flat_map}
 use Rattle.dscript_ast.specs.FileTree.{ItemTree}
-use Rattle.dscript_scopes.specs.Declarations.{item_declared, item_imports, item_opened}
+use Rattle.dscript_names_scopes.specs.Declarations.{item_declared, item_imports, item_opened}
 use Rattle.dscript_names.specs.declared.collecting.Names.{Names}
 
 -- the names of the item come after those before

@@ -4,13 +4,13 @@ use Rattle.std.specs.Bool.{⊤}
 use Rattle.std.specs.List.{flat_map}
 use Rattle.bx_tree.specs.Paths.{Atoms}
 use Rattle.dscript_ast.specs.FileTree.{ItemTree}
-use Rattle.dscript_modules.specs.Workspaces.{ModuleData}
-use Rattle.dscript_modules.specs.declared.fault.SpecFault.{SpecFault}
-use Rattle.dscript_modules.specs.declared.fault.SpecFault.TheVariants as faults
-use Rattle.dscript_modules.specs.declared.fault.SpecKind.TheVariants as fault_kinds
-use Rattle.dscript_scopes.specs.Declarations.{ParsedData, item_declared, item_imports, item_opened}
-use Rattle.dscript_scopes.specs.Duplicates.{first_duplicate, has_duplicate}
-use Rattle.dscript_scopes.specs.Names.{FileNames}
+use Rattle.dscript_program.specs.Workspaces.{ModuleData}
+use Rattle.dscript_program.specs.declared.spec_fault.SpecFault.{SpecFault}
+use Rattle.dscript_program.specs.declared.spec_fault.SpecFault.TheVariants as faults
+use Rattle.dscript_program.specs.declared.spec_fault.SpecKind.TheVariants as fault_kinds
+use Rattle.dscript_names_scopes.specs.Declarations.{ParsedData, item_declared, item_imports, item_opened}
+use Rattle.dscript_names_scopes.specs.Duplicates.{first_duplicate, has_duplicate}
+use Rattle.dscript_names_scopes.specs.Names.{FileNames}
 use Rattle.dscript_names.specs.Exports.{HasExports}
 use Rattle.dscript_names.specs.declared.gathering.Gathering.{Gathering}
 

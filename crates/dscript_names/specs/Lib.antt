@@ -9,3 +9,6 @@ pub mod Gathering
 pub mod Resolving
 pub mod Counting
 pub mod Captures
+pub mod Sizes
+pub mod Counted
+pub mod Texts

@@ -2,15 +2,15 @@
 use Rattle.std.specs.Prelude.{ℕ, ◌+◌, List, [], ◌∷◌, ◌++◌, Option, Some, None, Result, Ok, Err}
 use Rattle.bx_tree.specs.Paths.{Atoms}
 use Rattle.dscript_program.specs.ProgramData.{DeclData, ProgramData}
-use Rattle.dscript_modules.specs.Workspaces.{ModuleData}
-use Rattle.dscript_modules.specs.Faults.{FaultData}
-use Rattle.dscript_modules.specs.declared.fault.SpecKind.{SpecKind}
-use Rattle.dscript_modules.specs.declared.fault.SpecKind.TheVariants as faults
-use Rattle.dscript_scopes.specs.Names.{World, FileNames}
-use Rattle.dscript_scopes.specs.Declarations.{ParsedData, names_of, items_of, world_of}
-use Rattle.dscript_scopes.specs.Duplicates.{first_duplicate}
-use Rattle.dscript_binding.specs.Walk.{Bound}
-use Rattle.dscript_binding.specs.Binding.{bind_items}
+use Rattle.dscript_program.specs.Workspaces.{ModuleData}
+use Rattle.dscript_program.specs.SpecFaults.{FaultData}
+use Rattle.dscript_program.specs.declared.spec_fault.SpecKind.{SpecKind}
+use Rattle.dscript_program.specs.declared.spec_fault.SpecKind.TheVariants as faults
+use Rattle.dscript_names_scopes.specs.Names.{World, FileNames}
+use Rattle.dscript_names_scopes.specs.Declarations.{ParsedData, names_of, items_of, world_of}
+use Rattle.dscript_names_scopes.specs.Duplicates.{first_duplicate}
+use Rattle.dscript_names_binding.specs.Walk.{Bound}
+use Rattle.dscript_names_binding.specs.Binding.{bind_items}
 
 -- a fault of names has its file, and no place in it
 abbrev pub fault_in_file : SpecKind → Atoms → FaultData

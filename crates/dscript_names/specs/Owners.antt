@@ -4,9 +4,9 @@ use Rattle.std.specs.BTreeMap.{BTreeMap, get}
 use Rattle.std.specs.List.{list_any}
 use Rattle.std.specs.Option.{unwrap_or}
 use Rattle.bx_tree.specs.Paths.{Atoms, path_cmp, same_path}
-use Rattle.dscript_modules.specs.Workspaces.{ModuleData, modules_data}
-use Rattle.dscript_modules.specs.declared.workspace.ModuleText.{ModuleText}
-use Rattle.dscript_scopes.specs.Declarations.{module_of}
+use Rattle.dscript_program.specs.Workspaces.{ModuleData, modules_data}
+use Rattle.dscript_program.specs.declared.workspace.ModuleText.{ModuleText}
+use Rattle.dscript_names_scopes.specs.Declarations.{module_of}
 use Rattle.dscript_names.specs.declared.owners.Owners.{Owners}
 
 abbrev pub owner_at : BTreeMap Atoms ℕ → Atoms → Option ℕ

@@ -3,16 +3,16 @@ use Rattle.std.specs.Prelude.{◌≡◌, ℕ, ◌+◌, List, [], ◌∷◌, ◌+
 use Rattle.std.specs.Bool.{⊤}
 use Rattle.bx_tree.specs.Paths.{Atoms}
 use Rattle.dscript_ast.specs.FileTree.{ItemTree}
-use Rattle.dscript_binding.specs.Binding.{bind_items}
-use Rattle.dscript_binding.specs.Walk.{Bound, Here}
-use Rattle.dscript_binding.specs.Walked.{table_of}
-use Rattle.dscript_modules.specs.Faults.{FaultData}
-use Rattle.dscript_modules.specs.declared.fault.SpecFault.{SpecFault}
-use Rattle.dscript_modules.specs.declared.fault.SpecFault.TheVariants as faults
+use Rattle.dscript_names_binding.specs.Binding.{bind_items}
+use Rattle.dscript_names_binding.specs.Walk.{Bound, Here}
+use Rattle.dscript_names_binding.specs.Walked.{table_of}
+use Rattle.dscript_program.specs.SpecFaults.{FaultData}
+use Rattle.dscript_program.specs.declared.spec_fault.SpecFault.{SpecFault}
+use Rattle.dscript_program.specs.declared.spec_fault.SpecFault.TheVariants as faults
 use Rattle.dscript_program.specs.ProgramData.{DeclData, FileData, FunctionData, ProgramData}
 use Rattle.dscript_program.specs.Views.{file_data}
-use Rattle.dscript_scopes.specs.Declarations.{ParsedData, items_of}
-use Rattle.dscript_scopes.specs.Names.{FileNames, World}
+use Rattle.dscript_names_scopes.specs.Declarations.{ParsedData, items_of}
+use Rattle.dscript_names_scopes.specs.Names.{FileNames, World}
 use Rattle.dscript_names.specs.Named.{file_first}
 use Rattle.dscript_names.specs.declared.resolving.Resolving.{Resolving}
 

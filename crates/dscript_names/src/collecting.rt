@@ -4,14 +4,14 @@ ghost use Rattle.std.specs.Prelude.{◌≡◌, ◌∷◌, [], ◌++◌, IfOk, ma
 ghost use Rattle.std.specs.Option.{unwrap_or};
 ghost use Rattle.dscript_ast.specs.FileTree.{to_marked};
 ghost use Rattle.dscript_ast.specs.Views.{decl_tree, import_tree, item_tree, marked_tree};
-ghost use Rattle.dscript_scopes.specs.Declarations.{all_declared, declared};
-ghost use Rattle.dscript_scopes.specs.Declarations.{declared_as, declared_by, first_opened};
-ghost use Rattle.dscript_scopes.specs.Declarations.{imported_name};
+ghost use Rattle.dscript_names_scopes.specs.Declarations.{all_declared, declared};
+ghost use Rattle.dscript_names_scopes.specs.Declarations.{declared_as, declared_by, first_opened};
+ghost use Rattle.dscript_names_scopes.specs.Declarations.{imported_name};
 ghost use Rattle.dscript_names.specs.Gathered.{GathersItem, GathersItems};
 
 use bx_tree::{Memory, Text};
 use dscript_ast::{Decl, ImportName, Item, Mark, Marked};
-use dscript_scopes::{Declared, DottedName, Imported};
+use dscript_names_scopes::{Declared, DottedName, Imported};
 use std::alloc::Global;
 
 /// For how many declarations of a file at most memory is taken before the first is met.
@@ -63,7 +63,7 @@ fn add(
 
 /// Adds a declaration, or those of a namespace.
 #[cycle(decls)]
-#[tactic(auto, using(dscript_ast::proofs::NodeViews::tree_views), unfolding(dscript_scopes::specs::Declarations::declared_by))]
+#[tactic(auto, using(dscript_ast::proofs::NodeViews::tree_views), unfolding(dscript_names_scopes::specs::Declarations::declared_by))]
 fn add_decl(
     decls: &mut Vec<Declared>,
     alloc: Global,
@@ -88,7 +88,7 @@ fn add_decl(
 
 /// Adds a declaration with its mark.
 #[cycle(decls)]
-#[tactic(auto, using(dscript_ast::proofs::NodeViews::tree_views), unfolding(dscript_scopes::specs::Declarations::declared_by))]
+#[tactic(auto, using(dscript_ast::proofs::NodeViews::tree_views), unfolding(dscript_names_scopes::specs::Declarations::declared_by))]
 fn add_marked(
     decls: &mut Vec<Declared>,
     alloc: Global,
@@ -103,7 +103,7 @@ fn add_marked(
 
 /// Adds declarations with their marks.
 #[cycle(decls)]
-#[tactic(auto, using(dscript_ast::proofs::NodeViews::tree_views), unfolding(dscript_scopes::specs::Declarations::declared_by))]
+#[tactic(auto, using(dscript_ast::proofs::NodeViews::tree_views), unfolding(dscript_names_scopes::specs::Declarations::declared_by))]
 fn add_all(
     decls: &mut Vec<Declared>,
     alloc: Global,

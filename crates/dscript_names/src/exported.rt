@@ -4,7 +4,7 @@ ghost use Rattle.std.specs.Prelude.{◌≡◌, ◌&&◌, ◌||◌, ◌==◌, ℕ
 ghost use Rattle.std.specs.List.{filter, list_any};
 ghost use Rattle.bx_tree.specs.Paths.{same_path};
 ghost use Rattle.dscript_program.specs.ProgramData.{Dotted};
-ghost use Rattle.dscript_scopes.specs.Declarations.{is_exported};
+ghost use Rattle.dscript_names_scopes.specs.Declarations.{is_exported};
 ghost use Rattle.dscript_names.specs.Exports.{exported_at, seen_in};
 ghost use Rattle.dscript_names.specs.Lent.{names_lent};
 ghost use Rattle.bx_tree.specs.Lent.{texts_now};
@@ -12,7 +12,7 @@ ghost use Rattle.bx_tree.specs.Lent.{texts_now};
 use crate::collecting::joined;
 use crate::seen::see;
 use bx_tree::Memory;
-use dscript_scopes::{Declared, DottedName, Imported, Viewer};
+use dscript_names_scopes::{Declared, DottedName, Imported, Viewer};
 use std::alloc::Global;
 use std::collections::{BTreeMap, BTreeSet};
 

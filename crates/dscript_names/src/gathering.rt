@@ -4,9 +4,9 @@ ghost use Rattle.std.specs.Prelude.{◌≡◌, ◌||◌, ◌∷◌, [], ◌++◌
 ghost use Rattle.std.specs.List.{list_any};
 ghost use Rattle.bx_tree.specs.Paths.{same_path};
 ghost use Rattle.dscript_ast.specs.Views.{file_tree, item_tree};
-ghost use Rattle.dscript_modules.specs.Workspaces.{modules_of};
-ghost use Rattle.dscript_scopes.specs.Declarations.{items_of, names_of};
-ghost use Rattle.dscript_scopes.specs.Duplicates.{first_duplicate, has_repeat, item_repeats, repeats};
+ghost use Rattle.dscript_program.specs.Workspaces.{modules_of};
+ghost use Rattle.dscript_names_scopes.specs.Declarations.{items_of, names_of};
+ghost use Rattle.dscript_names_scopes.specs.Duplicates.{first_duplicate, has_repeat, item_repeats, repeats};
 ghost use Rattle.dscript_names.specs.Exports.{exported_at};
 ghost use Rattle.dscript_names.specs.Gathering.{Adds, IsDuplicate, IsDuplicateIn};
 ghost use Rattle.dscript_names.specs.Views.{parsed_data};
@@ -19,8 +19,8 @@ use crate::repeats::blocks_repeat;
 use crate::seen::{either, has_repeat};
 use bx_tree::{Memory, Path};
 use dscript_ast::{File, Item};
-use dscript_modules::{SpecFault, SpecKind, Workspace};
-use dscript_scopes::{DottedName, FileNames};
+use dscript_program::{SpecFault, SpecKind, Workspace};
+use dscript_names_scopes::{DottedName, FileNames};
 use std::alloc::Global;
 use std::collections::BTreeMap;
 

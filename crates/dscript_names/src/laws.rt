@@ -1,14 +1,14 @@
 //! What is proved of the meaning of names itself. The functions do nothing: their clauses are the laws.
 
 ghost use Rattle.std.specs.Prelude.{◌≡◌, ◌⊎◌, List, Ok, Err};
-ghost use Rattle.dscript_scopes.specs.Declarations.{ParsedData};
+ghost use Rattle.dscript_names_scopes.specs.Declarations.{ParsedData};
 ghost use Rattle.dscript_names.specs.Captures.{AllCaptureOuter};
 ghost use Rattle.dscript_names.specs.Counting.{HasLocalsFromZero};
 ghost use Rattle.dscript_names.specs.Named.{named};
 ghost use Rattle.dscript_program.specs.Numbering.{HasConsecutiveLocals};
 ghost use Rattle.dscript_program.specs.ProgramData.{ProgramData};
-ghost use Rattle.dscript_modules.specs.Workspaces.{ModuleData};
-ghost use Rattle.dscript_modules.specs.Faults.{FaultData};
+ghost use Rattle.dscript_program.specs.Workspaces.{ModuleData};
+ghost use Rattle.dscript_program.specs.SpecFaults.{FaultData};
 
 /// A workspace with its parsed files has one program at most and one first fault at most, and not both.
 pub fn one_meaning()

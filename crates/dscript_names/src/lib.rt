@@ -1,17 +1,18 @@
-//! Name resolution of a whole workspace: duplicate declarations, and each file bound with the names of all.
+//! Name resolution: from the parsed files of a workspace to a program in which each name is resolved.
 //!
-//! What a name stands for is defined in `dscript_scopes` (`specs/Lookup.antt`), by scanning lists of declarations
-//! outwards, and what each part of a file comes to in `dscript_binding` (`specs/Binding.antt`). `specs/Named.antt`
-//! puts the files of a workspace together to one program, and says which fault of names over all files comes
-//! first. The code looks for names that are declared twice, gathers the names of all
-//! files, and then resolves file by file, with tables in place of the lists. docs/FORMATS.md has the rules in
-//! prose. This crate depends on `dscript_modules` for modules and faults, on `dscript_ast` for the trees that
-//! it takes, on `dscript_program` for those that it gives, on `dscript_scopes` for targets of names, and on
-//! `dscript_binding` for walks through trees. It carries the promise that a workspace has one program, or is
-//! refused with its first fault.
+//! `specs/Named.antt` says what each name stands for, by scanning lists of declarations outwards, and which fault of
+//! names comes first. The code looks for names that are declared twice, gathers the names of all files, and then
+//! resolves file by file, with tables in place of the lists. docs/FORMATS.md has the rules in prose.
+//! `specs/Sizes.antt` gives each tree a size, which is at least what a walk through it counts and at most the number
+//! of its tokens. This crate depends on `dscript_ast` for the trees that it takes, on `dscript_program` for modules,
+//! for faults and for the trees that it gives, on `dscript_names_scopes` for targets of names, on
+//! `dscript_names_binding` for walks through trees, and on `dscript_grammar` for what tokens derive. It carries the
+//! promises that a workspace has one program, or is refused with its first fault, and that no number of 32 bits is
+//! wanting in a program whose files are of one bundle.
 #![tactic(auto)]
 
 mod collecting;
+mod counting_laws;
 mod exported;
 mod gathering;
 mod laws;
@@ -21,8 +22,8 @@ mod repeats;
 mod resolving;
 mod seen;
 
-pub use dscript_modules::{ModuleText, SpecFault, SpecKind, Workspace};
-pub use dscript_program::{BoundDecl, BoundExpr, BoundFile, BoundStmt, Program, Target};
+pub use counting_laws::{counts_are_bounded, program_counts_are_bounded};
+pub use dscript_program::{BoundDecl, BoundExpr, BoundFile, BoundStmt, ModuleText, Program, SpecFault, SpecKind, Target, Workspace};
 pub use laws::{captures_are_outer, locals_are_consecutive, one_meaning, some_meaning};
 pub use parsed::Parsed;
 pub use resolving::resolve;

@@ -3,12 +3,12 @@
 ghost use Rattle.std.specs.Prelude.{◌≡◌, ℕ, IfOk, OnOk, if◌then◌else◌, Some};
 ghost use Rattle.std.specs.List.{list_any};
 ghost use Rattle.bx_tree.specs.Paths.{Atoms, same_path};
-ghost use Rattle.dscript_modules.specs.Workspaces.{modules_of};
-ghost use Rattle.dscript_scopes.specs.Declarations.{module_of};
+ghost use Rattle.dscript_program.specs.Workspaces.{modules_of};
+ghost use Rattle.dscript_names_scopes.specs.Declarations.{module_of};
 ghost use Rattle.dscript_names.specs.Owners.{HasOwners, owner_at, owner_in};
 
 use bx_tree::{Memory, Path};
-use dscript_modules::{ModuleText, Workspace};
+use dscript_program::{ModuleText, Workspace};
 use std::alloc::Global;
 use std::collections::BTreeMap;
 

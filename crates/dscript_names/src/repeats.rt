@@ -10,15 +10,15 @@ ghost use Rattle.dscript_ast.specs.Views.{decl_tree, element_tree, expr_tree};
 ghost use Rattle.dscript_ast.specs.Views.{head_tree, hole_tree, item_tree};
 ghost use Rattle.dscript_ast.specs.Views.{marked_tree, operand_tree, param_tree};
 ghost use Rattle.dscript_ast.specs.Views.{part_tree, prop_tree, stmt_tree};
-ghost use Rattle.dscript_scopes.specs.Duplicates.{all_marked_repeat, block_names};
-ghost use Rattle.dscript_scopes.specs.Duplicates.{decl_repeats, elements_repeat};
-ghost use Rattle.dscript_scopes.specs.Duplicates.{else_repeats, expr_repeats};
-ghost use Rattle.dscript_scopes.specs.Duplicates.{exprs_repeat, has_repeat, head_names};
-ghost use Rattle.dscript_scopes.specs.Duplicates.{holes_repeat, item_repeats, marked_repeats, maybe_repeats};
-ghost use Rattle.dscript_scopes.specs.Duplicates.{operands_repeat, param_names, part_repeats, parts_repeat};
-ghost use Rattle.dscript_scopes.specs.Duplicates.{prop_repeats, props_repeat};
-ghost use Rattle.dscript_scopes.specs.Duplicates.{repeats, stmt_names, stmt_repeats};
-ghost use Rattle.dscript_scopes.specs.Duplicates.{stmts_repeat};
+ghost use Rattle.dscript_names_scopes.specs.Duplicates.{all_marked_repeat, block_names};
+ghost use Rattle.dscript_names_scopes.specs.Duplicates.{decl_repeats, elements_repeat};
+ghost use Rattle.dscript_names_scopes.specs.Duplicates.{else_repeats, expr_repeats};
+ghost use Rattle.dscript_names_scopes.specs.Duplicates.{exprs_repeat, has_repeat, head_names};
+ghost use Rattle.dscript_names_scopes.specs.Duplicates.{holes_repeat, item_repeats, marked_repeats, maybe_repeats};
+ghost use Rattle.dscript_names_scopes.specs.Duplicates.{operands_repeat, param_names, part_repeats, parts_repeat};
+ghost use Rattle.dscript_names_scopes.specs.Duplicates.{prop_repeats, props_repeat};
+ghost use Rattle.dscript_names_scopes.specs.Duplicates.{repeats, stmt_names, stmt_repeats};
+ghost use Rattle.dscript_names_scopes.specs.Duplicates.{stmts_repeat};
 ghost use Rattle.dscript_names.specs.Singles.{Finds, element_value, hole_value, operand_value, single};
 
 use crate::seen::has_repeat;
@@ -26,7 +26,7 @@ use bx_tree::{Memory, Text};
 use dscript_ast::{
     ArrowHead, Decl, Element, Expr, Hole, Item, Marked, Operand, Param, PostfixPart, Prop, Stmt,
 };
-use dscript_scopes::DottedName;
+use dscript_names_scopes::DottedName;
 use std::alloc::Global;
 
 /// Whether a block that was met declares a name twice.
@@ -145,7 +145,7 @@ impl Repeats {
 
     /// Looks through an expression.
     #[cycle(trees)]
-    #[tactic(auto, using(dscript_ast::proofs::NodeViews::tree_views, crate::proofs::Found::or_laws), unfolding(dscript_scopes::specs::Duplicates::expr_repeats))]
+    #[tactic(auto, using(dscript_ast::proofs::NodeViews::tree_views, crate::proofs::Found::or_laws), unfolding(dscript_names_scopes::specs::Duplicates::expr_repeats))]
     fn expr(&mut self, expr: &Expr) -> Result<(), Memory>
         ensures { Finds self.old self.new result (expr_repeats (expr_tree expr.now)) }
     {
@@ -207,7 +207,7 @@ impl Repeats {
 
     /// Looks through an operand.
     #[cycle(trees)]
-    #[tactic(auto, using(dscript_ast::proofs::NodeViews::tree_views, crate::proofs::Found::or_laws), unfolding(dscript_scopes::specs::Duplicates::expr_repeats))]
+    #[tactic(auto, using(dscript_ast::proofs::NodeViews::tree_views, crate::proofs::Found::or_laws), unfolding(dscript_names_scopes::specs::Duplicates::expr_repeats))]
     fn operand(&mut self, operand: &Operand) -> Result<(), Memory>
         ensures { Finds self.old self.new result (expr_repeats (operand_value (operand_tree operand.now))) }
     {
@@ -216,7 +216,7 @@ impl Repeats {
 
     /// Looks through operands.
     #[cycle(trees)]
-    #[tactic(auto, using(dscript_ast::proofs::NodeViews::tree_views, crate::proofs::Found::or_laws), unfolding(dscript_scopes::specs::Duplicates::expr_repeats))]
+    #[tactic(auto, using(dscript_ast::proofs::NodeViews::tree_views, crate::proofs::Found::or_laws), unfolding(dscript_names_scopes::specs::Duplicates::expr_repeats))]
     fn operands(&mut self, operands: &[Operand]) -> Result<(), Memory>
         ensures { Finds self.old self.new result
             (operands_repeat (to_operands (map operand_tree operands.now))) }
@@ -229,7 +229,7 @@ impl Repeats {
 
     /// Looks through a member, an index or a call.
     #[cycle(trees)]
-    #[tactic(auto, using(dscript_ast::proofs::NodeViews::tree_views, crate::proofs::Found::or_laws), unfolding(dscript_scopes::specs::Duplicates::expr_repeats))]
+    #[tactic(auto, using(dscript_ast::proofs::NodeViews::tree_views, crate::proofs::Found::or_laws), unfolding(dscript_names_scopes::specs::Duplicates::expr_repeats))]
     fn part(&mut self, part: &PostfixPart) -> Result<(), Memory>
         ensures { Finds self.old self.new result (part_repeats (part_tree part.now)) }
     {
@@ -242,7 +242,7 @@ impl Repeats {
 
     /// Looks through members, indices and calls.
     #[cycle(trees)]
-    #[tactic(auto, using(dscript_ast::proofs::NodeViews::tree_views, crate::proofs::Found::or_laws), unfolding(dscript_scopes::specs::Duplicates::expr_repeats))]
+    #[tactic(auto, using(dscript_ast::proofs::NodeViews::tree_views, crate::proofs::Found::or_laws), unfolding(dscript_names_scopes::specs::Duplicates::expr_repeats))]
     fn parts(&mut self, parts: &[PostfixPart]) -> Result<(), Memory>
         ensures { Finds self.old self.new result (parts_repeat (to_parts (map part_tree parts.now))) }
     {
@@ -254,7 +254,7 @@ impl Repeats {
 
     /// Looks through expressions.
     #[cycle(trees)]
-    #[tactic(auto, using(dscript_ast::proofs::NodeViews::tree_views, crate::proofs::Found::or_laws), unfolding(dscript_scopes::specs::Duplicates::expr_repeats))]
+    #[tactic(auto, using(dscript_ast::proofs::NodeViews::tree_views, crate::proofs::Found::or_laws), unfolding(dscript_names_scopes::specs::Duplicates::expr_repeats))]
     fn exprs(&mut self, exprs: &[Expr]) -> Result<(), Memory>
         ensures { Finds self.old self.new result (exprs_repeat (to_exprs (map expr_tree exprs.now))) }
     {
@@ -266,7 +266,7 @@ impl Repeats {
 
     /// Looks through an element.
     #[cycle(trees)]
-    #[tactic(auto, using(dscript_ast::proofs::NodeViews::tree_views, crate::proofs::Found::or_laws), unfolding(dscript_scopes::specs::Duplicates::expr_repeats))]
+    #[tactic(auto, using(dscript_ast::proofs::NodeViews::tree_views, crate::proofs::Found::or_laws), unfolding(dscript_names_scopes::specs::Duplicates::expr_repeats))]
     fn element(&mut self, element: &Element) -> Result<(), Memory>
         ensures { Finds self.old self.new result (expr_repeats (element_value (element_tree element.now))) }
     {
@@ -275,7 +275,7 @@ impl Repeats {
 
     /// Looks through elements.
     #[cycle(trees)]
-    #[tactic(auto, using(dscript_ast::proofs::NodeViews::tree_views, crate::proofs::Found::or_laws), unfolding(dscript_scopes::specs::Duplicates::expr_repeats))]
+    #[tactic(auto, using(dscript_ast::proofs::NodeViews::tree_views, crate::proofs::Found::or_laws), unfolding(dscript_names_scopes::specs::Duplicates::expr_repeats))]
     fn elements(&mut self, elements: &[Element]) -> Result<(), Memory>
         ensures { Finds self.old self.new result
             (elements_repeat (to_elements (map element_tree elements.now))) }
@@ -288,7 +288,7 @@ impl Repeats {
 
     /// Looks through a property.
     #[cycle(trees)]
-    #[tactic(auto, using(dscript_ast::proofs::NodeViews::tree_views, crate::proofs::Found::or_laws), unfolding(dscript_scopes::specs::Duplicates::expr_repeats))]
+    #[tactic(auto, using(dscript_ast::proofs::NodeViews::tree_views, crate::proofs::Found::or_laws), unfolding(dscript_names_scopes::specs::Duplicates::expr_repeats))]
     fn prop(&mut self, prop: &Prop) -> Result<(), Memory>
         ensures { Finds self.old self.new result (prop_repeats (prop_tree prop.now)) }
     {
@@ -302,7 +302,7 @@ impl Repeats {
 
     /// Looks through properties.
     #[cycle(trees)]
-    #[tactic(auto, using(dscript_ast::proofs::NodeViews::tree_views, crate::proofs::Found::or_laws), unfolding(dscript_scopes::specs::Duplicates::expr_repeats))]
+    #[tactic(auto, using(dscript_ast::proofs::NodeViews::tree_views, crate::proofs::Found::or_laws), unfolding(dscript_names_scopes::specs::Duplicates::expr_repeats))]
     fn props(&mut self, props: &[Prop]) -> Result<(), Memory>
         ensures { Finds self.old self.new result (props_repeat (to_props (map prop_tree props.now))) }
     {
@@ -314,7 +314,7 @@ impl Repeats {
 
     /// Looks through a hole.
     #[cycle(trees)]
-    #[tactic(auto, using(dscript_ast::proofs::NodeViews::tree_views, crate::proofs::Found::or_laws), unfolding(dscript_scopes::specs::Duplicates::expr_repeats))]
+    #[tactic(auto, using(dscript_ast::proofs::NodeViews::tree_views, crate::proofs::Found::or_laws), unfolding(dscript_names_scopes::specs::Duplicates::expr_repeats))]
     fn hole(&mut self, hole: &Hole) -> Result<(), Memory>
         ensures { Finds self.old self.new result (expr_repeats (hole_value (hole_tree hole.now))) }
     {
@@ -323,7 +323,7 @@ impl Repeats {
 
     /// Looks through holes.
     #[cycle(trees)]
-    #[tactic(auto, using(dscript_ast::proofs::NodeViews::tree_views, crate::proofs::Found::or_laws), unfolding(dscript_scopes::specs::Duplicates::expr_repeats))]
+    #[tactic(auto, using(dscript_ast::proofs::NodeViews::tree_views, crate::proofs::Found::or_laws), unfolding(dscript_names_scopes::specs::Duplicates::expr_repeats))]
     fn holes(&mut self, holes: &[Hole]) -> Result<(), Memory>
         ensures { Finds self.old self.new result (holes_repeat (to_holes (map hole_tree holes.now))) }
     {
@@ -335,7 +335,7 @@ impl Repeats {
 
     /// Looks through a statement.
     #[cycle(trees)]
-    #[tactic(auto, using(dscript_ast::proofs::NodeViews::tree_views, crate::proofs::Found::or_laws), unfolding(dscript_scopes::specs::Duplicates::expr_repeats))]
+    #[tactic(auto, using(dscript_ast::proofs::NodeViews::tree_views, crate::proofs::Found::or_laws), unfolding(dscript_names_scopes::specs::Duplicates::expr_repeats))]
     fn stmt(&mut self, stmt: &Stmt) -> Result<(), Memory>
         ensures { Finds self.old self.new result (stmt_repeats (stmt_tree stmt.now)) }
     {
@@ -364,7 +364,7 @@ impl Repeats {
 
     /// Looks through an expression, if there is one.
     #[cycle(trees)]
-    #[tactic(auto, using(dscript_ast::proofs::NodeViews::tree_views, crate::proofs::Found::or_laws), unfolding(dscript_scopes::specs::Duplicates::expr_repeats))]
+    #[tactic(auto, using(dscript_ast::proofs::NodeViews::tree_views, crate::proofs::Found::or_laws), unfolding(dscript_names_scopes::specs::Duplicates::expr_repeats))]
     fn maybe(&mut self, expr: &Option<Expr>) -> Result<(), Memory>
         ensures { Finds self.old self.new result (maybe_repeats (to_expr (option_map expr_tree expr.now))) }
     {
@@ -376,7 +376,7 @@ impl Repeats {
 
     /// Looks through the statement after `else`, if there is one.
     #[cycle(trees)]
-    #[tactic(auto, using(dscript_ast::proofs::NodeViews::tree_views, crate::proofs::Found::or_laws), unfolding(dscript_scopes::specs::Duplicates::expr_repeats))]
+    #[tactic(auto, using(dscript_ast::proofs::NodeViews::tree_views, crate::proofs::Found::or_laws), unfolding(dscript_names_scopes::specs::Duplicates::expr_repeats))]
     fn otherwise(&mut self, stmt: &Option<Box<Stmt>>) -> Result<(), Memory>
         ensures { Finds self.old self.new result
             (else_repeats (to_stmt (option_map (λ s. stmt_tree s.value) stmt.now))) }
@@ -389,7 +389,7 @@ impl Repeats {
 
     /// Looks through statements.
     #[cycle(trees)]
-    #[tactic(auto, using(dscript_ast::proofs::NodeViews::tree_views, crate::proofs::Found::or_laws), unfolding(dscript_scopes::specs::Duplicates::expr_repeats))]
+    #[tactic(auto, using(dscript_ast::proofs::NodeViews::tree_views, crate::proofs::Found::or_laws), unfolding(dscript_names_scopes::specs::Duplicates::expr_repeats))]
     fn stmts(&mut self, stmts: &[Stmt]) -> Result<(), Memory>
         ensures { Finds self.old self.new result (stmts_repeat (to_stmts (map stmt_tree stmts.now))) }
     {
@@ -401,7 +401,7 @@ impl Repeats {
 
     /// Looks through a declaration.
     #[cycle(decls)]
-    #[tactic(auto, using(dscript_ast::proofs::NodeViews::tree_views, crate::proofs::Found::or_laws), unfolding(dscript_scopes::specs::Duplicates::marked_repeats))]
+    #[tactic(auto, using(dscript_ast::proofs::NodeViews::tree_views, crate::proofs::Found::or_laws), unfolding(dscript_names_scopes::specs::Duplicates::marked_repeats))]
     fn decl(&mut self, decl: &Decl) -> Result<(), Memory>
         ensures { Finds self.old self.new result (decl_repeats (decl_tree decl.now)) }
     {
@@ -419,7 +419,7 @@ impl Repeats {
 
     /// Looks through a declaration with its mark.
     #[cycle(decls)]
-    #[tactic(auto, using(dscript_ast::proofs::NodeViews::tree_views, crate::proofs::Found::or_laws), unfolding(dscript_scopes::specs::Duplicates::marked_repeats))]
+    #[tactic(auto, using(dscript_ast::proofs::NodeViews::tree_views, crate::proofs::Found::or_laws), unfolding(dscript_names_scopes::specs::Duplicates::marked_repeats))]
     fn marked(&mut self, marked: &Marked) -> Result<(), Memory>
         ensures { Finds self.old self.new result (marked_repeats (marked_tree marked.now)) }
     {
@@ -428,7 +428,7 @@ impl Repeats {
 
     /// Looks through declarations.
     #[cycle(decls)]
-    #[tactic(auto, using(dscript_ast::proofs::NodeViews::tree_views, crate::proofs::Found::or_laws), unfolding(dscript_scopes::specs::Duplicates::marked_repeats))]
+    #[tactic(auto, using(dscript_ast::proofs::NodeViews::tree_views, crate::proofs::Found::or_laws), unfolding(dscript_names_scopes::specs::Duplicates::marked_repeats))]
     fn all_marked(&mut self, decls: &[Marked]) -> Result<(), Memory>
         ensures { Finds self.old self.new result (all_marked_repeat (to_marked (map marked_tree decls.now))) }
     {

@@ -2,22 +2,21 @@
 
 ghost use Rattle.std.specs.Prelude.{◌≡◌, [], IfOk, MatchResult, Ok, length, map};
 ghost use Rattle.dscript_ast.specs.Views.{file_tree, item_tree};
-ghost use Rattle.dscript_binding.specs.Walked.{table_of};
-ghost use Rattle.dscript_modules.specs.Workspaces.{modules_data, modules_of};
+ghost use Rattle.dscript_names_binding.specs.Walked.{table_of};
+ghost use Rattle.dscript_program.specs.Workspaces.{modules_data, modules_of};
 ghost use Rattle.dscript_names.specs.Named.{named};
 ghost use Rattle.dscript_names.specs.Resolving.{IsFaultOf, ResolvesFile, bind_each, files_of};
 ghost use Rattle.dscript_names.specs.Views.{IsRefused, parsed_data};
 ghost use Rattle.dscript_program.specs.Views.{program_data};
-ghost use Rattle.dscript_scopes.specs.Declarations.{items_of};
+ghost use Rattle.dscript_names_scopes.specs.Declarations.{items_of};
 
 use crate::gathering::gather;
 use crate::parsed::Parsed;
 use bx_tree::{Memory, Path, Text};
 use dscript_ast::{File, Item};
-use dscript_binding::{Binder, Scene, Walker};
-use dscript_modules::{ModuleText, SpecFault, Workspace};
-use dscript_program::{BoundFile, Program};
-use dscript_scopes::{FileNames, Scopes, Site, Stop, World};
+use dscript_names_binding::{Binder, Scene, Walker};
+use dscript_program::{BoundFile, ModuleText, Program, SpecFault, Workspace};
+use dscript_names_scopes::{FileNames, Scopes, Site, Stop, World};
 use std::alloc::{AllocError, Global};
 
 /// The names of modules.

@@ -4,11 +4,11 @@ ghost use Rattle.std.specs.Prelude.{◌≡◌, ◌||◌, IfOk, OnOk};
 ghost use Rattle.std.specs.BTreeSet.{contains};
 ghost use Rattle.bx_tree.specs.Paths.{same_path};
 ghost use Rattle.dscript_program.specs.ProgramData.{Dotted};
-ghost use Rattle.dscript_scopes.specs.Duplicates.{has_repeat};
-ghost use Rattle.dscript_scopes.specs.Orders.{name_cmp};
+ghost use Rattle.dscript_names_scopes.specs.Duplicates.{has_repeat};
+ghost use Rattle.dscript_names_scopes.specs.Orders.{name_cmp};
 
 use bx_tree::Memory;
-use dscript_scopes::DottedName;
+use dscript_names_scopes::DottedName;
 use std::collections::BTreeSet;
 
 /// Whether one of the two holds.

@@ -1,1 +1,4 @@
 pub mod Refuses
+pub mod Places
+pub mod Reading
+pub mod ReadFaults

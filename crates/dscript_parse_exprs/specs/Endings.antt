@@ -4,7 +4,7 @@ use Rattle.dscript_lex.specs.declared.token.TokenKind.{TokenKind}
 use Rattle.dscript_grammar.specs.ExprGrammar.{any_expr}
 use Rattle.dscript_grammar.specs.ExprReading.{at_part, at_template, operator_precedence}
 use Rattle.dscript_grammar.specs.Reading.{at_punctuator, take_punctuator}
-use Rattle.dscript_parse_types.specs.Endings.{EndsType}
+use Rattle.dscript_parse_tokens.specs.Endings.{EndsType}
 
 -- no expression goes on with the first of these tokens
 pub record EndsExpr (rest : List TokenKind) : Type 0 where

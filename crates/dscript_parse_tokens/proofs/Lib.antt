@@ -3,3 +3,4 @@ pub mod Closing
 pub mod NameLists
 pub mod Refusals
 pub mod Steps
+pub mod UnionLoops

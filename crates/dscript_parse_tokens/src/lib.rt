@@ -1,8 +1,8 @@
-//! Parser combinators over tokens: the lowest layer of the parser.
+//! The lowest layers of the parser of DScript: single tokens, lists, and types.
 //!
-//! A function of the parser reads from the start of a list of tokens, with as many levels of nesting
-//! as are left. It gives what the reader of the grammar that has its name gives, and refuses exactly
-//! where that one does: `specs/Gives.antt` says it once for all of them.
+//! A function of the parser reads from the start of a list of tokens, with as many levels of nesting as are left. It
+//! gives what the reader of the grammar that has its name gives, and refuses exactly where that one does:
+//! `specs/Gives.antt` says it once for all of them.
 #![tactic(auto)]
 
 mod depth;
@@ -11,13 +11,14 @@ mod lists;
 mod parsed;
 mod syntax;
 mod tokens;
+mod type_laws;
+mod types;
 
 pub use depth::Depth;
 pub use laws::names_are_derived;
 pub use lists::{closed, dotted, list, many, names, separated, until};
 pub use parsed::{Parse, Parsed, Refusal, higher, node};
 pub use syntax::Syntax;
-pub use tokens::{
-    at_identifier, at_punctuator, flag, identifier, is_text, keyword, name, punctuator, string,
-    string_at, take_keyword, take_punctuator,
-};
+pub use tokens::{at_identifier, at_punctuator, flag, identifier, is_text, keyword, name, punctuator, string, string_at, take_keyword, take_punctuator};
+pub use type_laws::{bodies_are_derived, rows_of_types_are_derived, types_are_derived};
+pub use types::{body, type_list, type_node};

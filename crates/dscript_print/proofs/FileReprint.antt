@@ -14,7 +14,7 @@ use Rattle.dscript_ast.specs.declared.file.Form.{Form}
 use Rattle.dscript_ast.specs.declared.file.Form.TheVariants as forms
 use Rattle.dscript_ast.specs.declared.file.Mark.{Mark}
 use Rattle.dscript_ast.specs.declared.file.Mark.TheVariants as marks
-use Rattle.dscript_spell.specs.Spellable.{AreSpellable}
+use Rattle.dscript_print_tokens.specs.Spellable.{AreSpellable}
 use Rattle.dscript_print.specs.Runs.{punct, keyword, concat_tokens, separate, word_run}
 use Rattle.dscript_print.specs.TypeKinds.{type_kinds, note_kinds}
 use Rattle.dscript_print.specs.ExprKinds.{expr_kinds, stmt_kinds, params_kinds}

@@ -3,7 +3,7 @@ use Rattle.std.proofs.Common.{◌≡◌, ℕ, List, sym, subst, ◌∙◌}
 use Rattle.dscript_lex.specs.declared.token.TokenKind.{TokenKind}
 use Rattle.dscript_grammar.specs.Derives.{Derives}
 use Rattle.dscript_ast.specs.FileTree.{FileTree}
-use Rattle.dscript_spell.specs.Spellable.{AreSpellable, HasKinds}
+use Rattle.dscript_print_tokens.specs.Spellable.{AreSpellable, HasKinds}
 use Rattle.dscript_print.specs.FileKinds.{file_kinds}
 use Rattle.dscript_print.specs.Printing.{Prints}
 use Rattle.dscript_print.proofs.Sources.{derived, written}

@@ -10,7 +10,7 @@ use Rattle.dscript_lex.specs.Tokens.{Lexeme, CutTo, in_hole, brackets_after, tok
 use Rattle.dscript_grammar.specs.Derives.{Derives}
 use Rattle.dscript_ast.specs.FileTree.{FileTree}
 use Rattle.dscript_ast.specs.declared.file.Form.{Form}
-use Rattle.dscript_spell.specs.Spellable.{AreSpellable}
+use Rattle.dscript_print_tokens.specs.Spellable.{AreSpellable}
 use Rattle.dscript_print.specs.FileKinds.{file_kinds}
 use Rattle.dscript_print.proofs.Reprint.{AllSpell}
 use Rattle.dscript_print.proofs.FileReprint.{derived_again, can_be_written}

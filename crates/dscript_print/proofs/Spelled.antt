@@ -16,7 +16,7 @@ use Rattle.dscript_lex.specs.Bytes.{is_blank, is_word_start}
 use Rattle.std.specs.Char.{is_ascii_digit}
 use Rattle.dscript_lex.specs.Punctuators.{is_punctuator}
 use Rattle.dscript_lex.specs.Tokens.{brackets_after, after_punctuator, closed, in_hole}
-use Rattle.dscript_spell.specs.Spellable.{HasSpelling, AreSpellableAfter, AreSpellable}
+use Rattle.dscript_print_tokens.specs.Spellable.{HasSpelling, AreSpellableAfter, AreSpellable}
 use Rattle.dscript_print.specs.Runs.{punct}
 
 -- the token has a spelling, inside a hole or not

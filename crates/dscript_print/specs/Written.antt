@@ -6,7 +6,7 @@ use Rattle.dscript_ast.specs.declared.type_node.TypeNode.{TypeNode}
 use Rattle.dscript_ast.specs.Views.{note_tree, type_tree, member_tree, field_tree, hole_tree, head_tree}
 use Rattle.dscript_ast.specs.Views.{expr_tree, operand_tree, part_tree, stmt_tree}
 use Rattle.dscript_lex.specs.declared.token.TokenKind.TheVariants as kinds
-use Rattle.dscript_spell.specs.Spellable as spellable
+use Rattle.dscript_print_tokens.specs.Spellable as spellable
 use Rattle.dscript_ast.specs.declared.expr.Hole as holes
 use Rattle.std.specs.declared.alloc.Global.{Global}
 use Rattle.std.specs.declared.boxed.Box.{Box}

@@ -6,7 +6,7 @@ ghost use Rattle.dscript_lex.specs.Tokens.{AreTokens};
 ghost use Rattle.dscript_ast.specs.declared.file.Form.{Form};
 ghost use Rattle.dscript_grammar.specs.Derives.{Derives};
 ghost use Rattle.dscript_ast.specs.FileTree.{FileTree};
-ghost use Rattle.dscript_spell.specs.Spellable.{AreSpellable};
+ghost use Rattle.dscript_print_tokens.specs.Spellable.{AreSpellable};
 ghost use Rattle.dscript_print.specs.FileKinds.{file_kinds};
 ghost use Rattle.dscript_print.specs.Printing.{Prints, TextDerives};
 

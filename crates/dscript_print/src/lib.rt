@@ -2,7 +2,7 @@
 //!
 //! A writer goes through the tree once and collects tokens, with the blanks before each; then they are
 //! spelled. This crate depends on `dscript_ast` for trees, on `dscript_grammar` for what they are derived
-//! from, on `dscript_lex` for tokens and on `dscript_spell`, which writes them. It carries the promise of the
+//! from, on `dscript_lex` for tokens and on `dscript_print_tokens`, which writes them. It carries the promise of the
 //! round trip: the tokens of a printed text derive the file that was printed.
 #![tactic(auto)]
 

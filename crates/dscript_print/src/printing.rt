@@ -7,7 +7,7 @@ ghost use Rattle.dscript_print.specs.Printing.{Prints};
 use crate::writer::Writer;
 use bx_tree::Memory;
 use dscript_ast::File;
-use dscript_spell::spell;
+use dscript_print_tokens::spell;
 use std::alloc::Global;
 
 /// A text of the file: each item and statement on a line of its own, the contents of braces indented by four

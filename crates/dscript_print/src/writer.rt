@@ -7,7 +7,7 @@ ghost use Rattle.dscript_print.specs.Runs.{punct};
 
 use bx_tree::{Memory, Text};
 use dscript_lex::TokenKind;
-use dscript_spell::{Gap, Laid};
+use dscript_print_tokens::{Gap, Laid};
 use std::alloc::Global;
 
 /// The tokens that were written, and the blanks before the next.

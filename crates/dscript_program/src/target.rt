@@ -1,6 +1,6 @@
 //! What names stand for.
 
-use dscript_ambient::Ambient;
+use crate::ambient::Ambient;
 
 /// What a name stands for.
 #[derive(Clone, Copy, Debug, PartialEq, Eq)]

@@ -4,17 +4,17 @@ use Rattle.std.specs.FinMap.{empty}
 use Rattle.bx_tree.specs.Paths.{Atoms}
 use Rattle.bx_tree.specs.Trees.{Files}
 use Rattle.bx_tree.specs.declared.file_input.FileInput.TheVariants.{Source}
-use Rattle.dscript_ambient.specs.declared.ambient.Ambient.TheVariants as calls
-use Rattle.pip_types.specs.declared.pip.PipKind.TheVariants as kinds
-use Rattle.pip_types.specs.declared.dir_inputs.SealForm.TheVariants.{SourceTop}
+use Rattle.dscript_program.specs.declared.ambient.Ambient.TheVariants as calls
+use Rattle.pip_model_types.specs.declared.pip.PipKind.TheVariants as kinds
+use Rattle.pip_model_types.specs.declared.dir_inputs.SealForm.TheVariants.{SourceTop}
 use Rattle.dscript_value.specs.Plain as plain
 use Rattle.dscript_value.specs.Plain.{Plain, to_items}
-use Rattle.sdk_values.specs.declared.fault.SdkFault.TheVariants.{BadArgument, Kind, Missing}
-use Rattle.sdk_calls.specs.CmdArgument.{cmd_argument}
-use Rattle.sdk_calls.specs.Sources.{files_below}
-use Rattle.sdk_members.specs.Names.{member_named, written_name}
-use Rattle.sdk_members.specs.TextMembers.{text_function, text_property}
-use Rattle.sdk_pips.specs.States.{State}
+use Rattle.dscript_sdk_values.specs.declared.fault.SdkFault.TheVariants.{BadArgument, Kind, Missing}
+use Rattle.dscript_sdk_calls.specs.CmdArgument.{cmd_argument}
+use Rattle.dscript_sdk_calls.specs.Sources.{files_below}
+use Rattle.dscript_sdk_members.specs.Names.{member_named, written_name}
+use Rattle.dscript_sdk_members.specs.TextMembers.{text_function, text_property}
+use Rattle.dscript_sdk_pips.specs.States.{State}
 use Rattle.dscript_sdk.specs.Calls.{call_of}
 use Rattle.dscript_sdk.specs.Members.{member_of, method_of}
 use Rattle.dscript_sdk.specs.ProcessMembers.{output_file}

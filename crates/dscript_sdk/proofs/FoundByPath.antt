@@ -13,9 +13,9 @@ use Rattle.std.proofs.lemmas.List.Sorted.{searchable_from_sorted}
 use Rattle.std.proofs.lemmas.Map.Keys.{Less-from_sorted}
 use Rattle.bx_tree.specs.Orders.{equal_paths, path_cmp_total}
 use Rattle.bx_tree.specs.Paths.{Atoms, path_cmp, same_path}
-use Rattle.pip_types.specs.Outputs.{outdir_cmp, sharing_rank}
-use Rattle.pip_types.specs.declared.outputs.OutDir.{OutDir}
-use Rattle.sdk_execute.proofs.FoundByTest.{path_found}
+use Rattle.pip_model_types.specs.Outputs.{outdir_cmp, sharing_rank}
+use Rattle.pip_model_types.specs.declared.outputs.OutDir.{OutDir}
+use Rattle.dscript_sdk_execute.proofs.FoundByTest.{path_found}
 
 abbrev dir_path : OutDir → Atoms
 dir_path d = d.path

@@ -1,27 +1,27 @@
 -- The ambient calls.
 use Rattle.std.specs.Prelude.{true, false, List}
 use Rattle.bx_tree.specs.Paths.{Atoms}
-use Rattle.dscript_ambient.specs.declared.ambient.Ambient.{Ambient}
-use Rattle.dscript_ambient.specs.declared.ambient.Ambient.TheVariants as calls
+use Rattle.dscript_program.specs.declared.ambient.Ambient.{Ambient}
+use Rattle.dscript_program.specs.declared.ambient.Ambient.TheVariants as calls
 use Rattle.dscript_value.specs.Plain.{Plain}
-use Rattle.sdk_calls.specs.ArtifactInput.{artifact_input}
-use Rattle.sdk_calls.specs.ArtifactNone.{artifact_none}
-use Rattle.sdk_calls.specs.ArtifactOutput.{artifact_output}
-use Rattle.sdk_calls.specs.CmdArgument.{cmd_argument}
-use Rattle.sdk_calls.specs.CmdFlag.{cmd_flag}
-use Rattle.sdk_calls.specs.CmdOption.{cmd_option}
-use Rattle.sdk_calls.specs.ContractAssert.{contract_assert}
-use Rattle.sdk_calls.specs.ContractFail.{contract_fail}
-use Rattle.sdk_pips.specs.CopyFile.{copy_file}
-use Rattle.sdk_execute.specs.Execute.{execute}
-use Rattle.sdk_calls.specs.Globs.{glob_files}
-use Rattle.sdk_pips.specs.NewOutputDirectory.{new_output_directory}
-use Rattle.sdk_pips.specs.SealDirectory.{seal_directory}
-use Rattle.sdk_pips.specs.SealPartialDirectory.{seal_partial_directory}
-use Rattle.sdk_pips.specs.SealSourceDirectory.{seal_source_directory}
-use Rattle.sdk_pips.specs.States.{Change, State, unchanged}
-use Rattle.sdk_pips.specs.WriteAllLines.{write_all_lines}
-use Rattle.sdk_pips.specs.WriteAllText.{write_all_text}
+use Rattle.dscript_sdk_calls.specs.ArtifactInput.{artifact_input}
+use Rattle.dscript_sdk_calls.specs.ArtifactNone.{artifact_none}
+use Rattle.dscript_sdk_calls.specs.ArtifactOutput.{artifact_output}
+use Rattle.dscript_sdk_calls.specs.CmdArgument.{cmd_argument}
+use Rattle.dscript_sdk_calls.specs.CmdFlag.{cmd_flag}
+use Rattle.dscript_sdk_calls.specs.CmdOption.{cmd_option}
+use Rattle.dscript_sdk_calls.specs.ContractAssert.{contract_assert}
+use Rattle.dscript_sdk_calls.specs.ContractFail.{contract_fail}
+use Rattle.dscript_sdk_pips.specs.CopyFile.{copy_file}
+use Rattle.dscript_sdk_execute.specs.Execute.{execute}
+use Rattle.dscript_sdk_calls.specs.Globs.{glob_files}
+use Rattle.dscript_sdk_pips.specs.NewOutputDirectory.{new_output_directory}
+use Rattle.dscript_sdk_pips.specs.SealDirectory.{seal_directory}
+use Rattle.dscript_sdk_pips.specs.SealPartialDirectory.{seal_partial_directory}
+use Rattle.dscript_sdk_pips.specs.SealSourceDirectory.{seal_source_directory}
+use Rattle.dscript_sdk_pips.specs.States.{Change, State, unchanged}
+use Rattle.dscript_sdk_pips.specs.WriteAllLines.{write_all_lines}
+use Rattle.dscript_sdk_pips.specs.WriteAllText.{write_all_text}
 
 -- what a call in a specification file comes to at its arguments
 unfoldable pub call_of : Ambient → Atoms → List Plain → State → Change

@@ -5,18 +5,18 @@ use Rattle.dscript_value.specs.declared.parts.Callee.TheVariants as callees
 use Rattle.dscript_value.specs.Depths.{field_at}
 use Rattle.dscript_value.specs.Plain as plain
 use Rattle.dscript_value.specs.Plain.{Plain, item_list, member_list}
-use Rattle.sdk_values.specs.declared.fault.SdkFault.TheVariants.{Kind, Missing}
-use Rattle.sdk_values.specs.Answers.{function_answer}
-use Rattle.sdk_values.specs.Outcomes.{Outcome, ◌>>=◌}
-use Rattle.sdk_members.specs.Functions.{MemberFunction}
-use Rattle.sdk_members.specs.ListMembers.{is_callback, list_function, list_property}
-use Rattle.sdk_members.specs.Names.{member_named}
-use Rattle.sdk_members.specs.PathMembers.{any_path_property, directory_function, file_property, path_function}
-use Rattle.sdk_members.specs.TextMembers.{text_function, text_property}
-use Rattle.sdk_members.specs.declared.member.Member.{Member}
+use Rattle.dscript_sdk_values.specs.declared.fault.SdkFault.TheVariants.{Kind, Missing}
+use Rattle.dscript_sdk_values.specs.Answers.{function_answer}
+use Rattle.dscript_sdk_values.specs.Outcomes.{Outcome, ◌>>=◌}
+use Rattle.dscript_sdk_members.specs.Functions.{MemberFunction}
+use Rattle.dscript_sdk_members.specs.ListMembers.{is_callback, list_function, list_property}
+use Rattle.dscript_sdk_members.specs.Names.{member_named}
+use Rattle.dscript_sdk_members.specs.PathMembers.{any_path_property, directory_function, file_property, path_function}
+use Rattle.dscript_sdk_members.specs.TextMembers.{text_function, text_property}
+use Rattle.dscript_sdk_members.specs.declared.member.Member.{Member}
 use Rattle.dscript_sdk.specs.ProcessMembers.{process_function}
 use Rattle.dscript_sdk.specs.StaticMembers.{static_function, static_property}
-use Rattle.sdk_pips.specs.States.{State}
+use Rattle.dscript_sdk_pips.specs.States.{State}
 use Rattle.bx_tree.specs.FileInputs.{input_path}
 
 -- the member function of a value, without those that call functions

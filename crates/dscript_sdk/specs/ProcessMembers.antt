@@ -3,21 +3,21 @@ use Rattle.std.specs.Prelude.{ℕ, if◌then◌else◌, List, [], map, slice_get
 use Rattle.std.specs.List.{list_any}
 use Rattle.bx_tree.specs.Paths.{Atoms, same_path}
 use Rattle.bx_tree.specs.declared.file_input.FileInput.TheVariants.{Made}
-use Rattle.pip_types.specs.declared.outputs.OutDir.{OutDir}
-use Rattle.pip_types.specs.declared.pip.Pip.{Pip}
-use Rattle.pip_types.specs.declared.pip.PipKind.{PipKind}
-use Rattle.pip_types.specs.declared.pip.PipKind.TheVariants as kinds
+use Rattle.pip_model_types.specs.declared.outputs.OutDir.{OutDir}
+use Rattle.pip_model_types.specs.declared.pip.Pip.{Pip}
+use Rattle.pip_model_types.specs.declared.pip.PipKind.{PipKind}
+use Rattle.pip_model_types.specs.declared.pip.PipKind.TheVariants as kinds
 use Rattle.dscript_value.specs.declared.parts.StaticDir.TheVariants.{Opaque}
 use Rattle.dscript_value.specs.Plain as plain
 use Rattle.dscript_value.specs.Plain.{Plain}
-use Rattle.sdk_values.specs.declared.fault.SdkFault.TheVariants.{BadArgument}
-use Rattle.sdk_values.specs.Arguments.{one_of}
-use Rattle.sdk_values.specs.Kinds.{directory_in, path_in}
-use Rattle.sdk_values.specs.Outcomes.{◌>>=◌}
-use Rattle.sdk_members.specs.Functions.{MemberFunction}
-use Rattle.sdk_members.specs.declared.member.Member.{Member}
-use Rattle.sdk_members.specs.declared.member.Member.TheVariants as members
-use Rattle.sdk_pips.specs.States.{State}
+use Rattle.dscript_sdk_values.specs.declared.fault.SdkFault.TheVariants.{BadArgument}
+use Rattle.dscript_sdk_values.specs.Arguments.{one_of}
+use Rattle.dscript_sdk_values.specs.Kinds.{directory_in, path_in}
+use Rattle.dscript_sdk_values.specs.Outcomes.{◌>>=◌}
+use Rattle.dscript_sdk_members.specs.Functions.{MemberFunction}
+use Rattle.dscript_sdk_members.specs.declared.member.Member.{Member}
+use Rattle.dscript_sdk_members.specs.declared.member.Member.TheVariants as members
+use Rattle.dscript_sdk_pips.specs.States.{State}
 
 -- the output files that a process declares; its console file is none of them
 abbrev pub files_of_kind : PipKind → List Atoms

@@ -4,13 +4,13 @@ use Rattle.bx_tree.specs.Paths.{Atoms}
 use Rattle.bx_tree.specs.Trees.{Files}
 use Rattle.bx_tree.specs.declared.file_input.FileInput.{FileInput}
 use Rattle.bx_tree.specs.declared.file_input.FileInput.TheVariants.{Source}
-use Rattle.pip_types.specs.declared.dir_inputs.SealForm.{SealForm}
-use Rattle.pip_types.specs.declared.dir_inputs.SealForm.TheVariants.{Full, Partial, SourceTop, SourceAll}
-use Rattle.pip_types.specs.declared.pip.Pip.{Pip}
-use Rattle.pip_types.specs.declared.pip.PipKind.{PipKind}
-use Rattle.pip_types.specs.declared.pip.PipKind.TheVariants as kinds
-use Rattle.sdk_calls.specs.Sources.{files_below, files_directly_in}
-use Rattle.sdk_pips.specs.States.{State}
+use Rattle.pip_model_types.specs.declared.dir_inputs.SealForm.{SealForm}
+use Rattle.pip_model_types.specs.declared.dir_inputs.SealForm.TheVariants.{Full, Partial, SourceTop, SourceAll}
+use Rattle.pip_model_types.specs.declared.pip.Pip.{Pip}
+use Rattle.pip_model_types.specs.declared.pip.PipKind.{PipKind}
+use Rattle.pip_model_types.specs.declared.pip.PipKind.TheVariants as kinds
+use Rattle.dscript_sdk_calls.specs.Sources.{files_below, files_directly_in}
+use Rattle.dscript_sdk_pips.specs.States.{State}
 
 -- the files that a seal holds: those that it lists, or source files below its root
 abbrev pub held_by : Files → SealForm → Atoms → List FileInput → List FileInput

@@ -7,16 +7,16 @@ use Rattle.dscript_value.specs.declared.parts.StaticDir.{StaticDir}
 use Rattle.dscript_value.specs.declared.parts.StaticDir.TheVariants.{Seal, Opaque}
 use Rattle.dscript_value.specs.Plain as plain
 use Rattle.dscript_value.specs.Plain.{Plain}
-use Rattle.sdk_values.specs.declared.fault.SdkFault.TheVariants.{BadArgument}
-use Rattle.sdk_values.specs.Answers.{list_answer}
-use Rattle.sdk_values.specs.Arguments.{one_of}
-use Rattle.sdk_values.specs.Kinds.{path_in}
-use Rattle.sdk_values.specs.Outcomes.{Outcome, ◌>>=◌, unless_none}
-use Rattle.sdk_members.specs.Functions.{MemberFunction}
-use Rattle.sdk_members.specs.declared.member.Member.{Member}
-use Rattle.sdk_members.specs.declared.member.Member.TheVariants as members
+use Rattle.dscript_sdk_values.specs.declared.fault.SdkFault.TheVariants.{BadArgument}
+use Rattle.dscript_sdk_values.specs.Answers.{list_answer}
+use Rattle.dscript_sdk_values.specs.Arguments.{one_of}
+use Rattle.dscript_sdk_values.specs.Kinds.{path_in}
+use Rattle.dscript_sdk_values.specs.Outcomes.{Outcome, ◌>>=◌, unless_none}
+use Rattle.dscript_sdk_members.specs.Functions.{MemberFunction}
+use Rattle.dscript_sdk_members.specs.declared.member.Member.{Member}
+use Rattle.dscript_sdk_members.specs.declared.member.Member.TheVariants as members
 use Rattle.dscript_sdk.specs.SealMembers.{seal_members}
-use Rattle.sdk_pips.specs.States.{State}
+use Rattle.dscript_sdk_pips.specs.States.{State}
 use Rattle.bx_tree.specs.FileInputs.{input_path}
 
 -- the first of some files that has this path

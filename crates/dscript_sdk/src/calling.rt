@@ -1,21 +1,21 @@
 //! The ambient calls by name.
 ghost use Rattle.std.specs.Prelude.{◌≡◌, Ok, map, IfOk, IfErr, OnErr};
-ghost use Rattle.sdk_values.specs.Outcomes.{Refuses};
+ghost use Rattle.dscript_sdk_values.specs.Outcomes.{Refuses};
 ghost use Rattle.dscript_sdk.specs.Calls.{call_of};
 ghost use Rattle.dscript_value.specs.Plain.{plain_of};
 
-use dscript_ambient::Ambient;
+use dscript_program::Ambient;
 use dscript_value::Value;
-use sdk_calls::{
+use dscript_sdk_calls::{
     artifact_input, artifact_none, artifact_output, cmd_argument, cmd_flag, cmd_option,
     contract_assert, contract_fail, glob_files,
 };
-use sdk_execute::execute;
-use sdk_pips::{
+use dscript_sdk_execute::execute;
+use dscript_sdk_pips::{
     SdkState, Site, copy_file, new_output_directory, seal_directory, seal_partial_directory,
     seal_source_directory, write_all_lines, write_all_text,
 };
-use sdk_values::SdkFault;
+use dscript_sdk_values::SdkFault;
 use std::alloc::Global;
 
 /// What an ambient call gives at its arguments, or its first fault. A fault leaves the state as it was.

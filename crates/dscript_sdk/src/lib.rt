@@ -1,10 +1,9 @@
 //! Dispatch of all ambient functions, methods and properties.
 //!
-//! Evaluation calls them in order, and what they make is the list of pips. This crate joins `sdk_calls`,
-//! `sdk_pips` and `sdk_execute`, which have the calls, and `sdk_members`, which has the members of texts,
-//! lists and paths; those of processes and static directories are here. It carries the promise that each
-//! call and each member answers what its definition says, or its first fault, and that a fault changes
-//! nothing.
+//! Evaluation calls them in order, and what they make is the list of pips. This crate joins `dscript_sdk_calls`,
+//! `dscript_sdk_pips` and `dscript_sdk_execute`, which have the calls, and `dscript_sdk_members`, which has the
+//! members of texts, lists and paths; those of processes and static directories are here. It carries the promise that
+//! each call and each member answers what its definition says, or its first fault, and that a fault changes nothing.
 #![tactic(auto)]
 
 mod calling;
@@ -13,7 +12,7 @@ mod process_members;
 mod static_members;
 
 pub use calling::call;
-pub use dscript_ambient::Ambient;
+pub use dscript_program::Ambient;
 pub use membership::{has_function, is_callback, member, method};
-pub use sdk_pips::{MAX_NUMBERED_PIPS, SdkState, Site};
-pub use sdk_values::SdkFault;
+pub use dscript_sdk_pips::{MAX_NUMBERED_PIPS, SdkState, Site};
+pub use dscript_sdk_values::SdkFault;

@@ -3,34 +3,34 @@ ghost use Rattle.std.specs.Prelude.{◌≡◌, ◌∷◌, ◌||◌, [], Ok, Some
 ghost use Rattle.std.specs.Prelude.{MatchResult};
 ghost use Rattle.bx_tree.specs.Paths.{Atoms};
 ghost use Rattle.dscript_value.specs.declared.parts.Callee.TheVariants as callees;
-ghost use Rattle.sdk_members.specs.ListMembers.{is_callback as callback, list_function};
-ghost use Rattle.sdk_members.specs.Names.{member_named};
-ghost use Rattle.sdk_members.specs.PathMembers.{directory_function, path_function};
-ghost use Rattle.sdk_members.specs.TextMembers.{text_function};
-ghost use Rattle.sdk_values.specs.Answers.{function_answer};
+ghost use Rattle.dscript_sdk_members.specs.ListMembers.{is_callback as callback, list_function};
+ghost use Rattle.dscript_sdk_members.specs.Names.{member_named};
+ghost use Rattle.dscript_sdk_members.specs.PathMembers.{directory_function, path_function};
+ghost use Rattle.dscript_sdk_members.specs.TextMembers.{text_function};
+ghost use Rattle.dscript_sdk_values.specs.Answers.{function_answer};
 ghost use Rattle.dscript_sdk.specs.ProcessMembers.{process_function};
 ghost use Rattle.dscript_sdk.specs.StaticMembers.{seal_function};
-ghost use Rattle.sdk_members.specs.Gives.{Gives, applied};
-ghost use Rattle.sdk_values.specs.Outcomes.{Refuses};
+ghost use Rattle.dscript_sdk_members.specs.Gives.{Gives, applied};
+ghost use Rattle.dscript_sdk_values.specs.Outcomes.{Refuses};
 ghost use Rattle.dscript_sdk.specs.Members.{call_of_member, function_at, function_named, is_callback_named};
 ghost use Rattle.dscript_sdk.specs.Members.{is_function_found};
 ghost use Rattle.dscript_sdk.specs.Members.{is_callback_of, is_function_named, is_function_of, member_answer};
 ghost use Rattle.dscript_sdk.specs.Members.{member_of, method_of, own_member, property_at};
 ghost use Rattle.dscript_sdk.specs.Members.{property_or_missing};
-ghost use Rattle.sdk_pips.specs.States.{State};
+ghost use Rattle.dscript_sdk_pips.specs.States.{State};
 ghost use Rattle.dscript_value.specs.Plain.{Plain, plain_of};
 
 use crate::process_members::call_process;
 use crate::static_members::{call_static, member_of_static};
 use bx_tree::Text;
 use dscript_value::{DepthFault, StaticDir, Value, member_of as function_of};
-use sdk_calls::file_path;
-use sdk_members::{
+use dscript_sdk_calls::file_path;
+use dscript_sdk_members::{
     Member, call_directory, call_list, call_path, call_text, member_of_file, member_of_list,
     member_of_path, member_of_text,
 };
-use sdk_pips::SdkState;
-use sdk_values::SdkFault;
+use dscript_sdk_pips::SdkState;
+use dscript_sdk_values::SdkFault;
 use std::alloc::Global;
 
 fn call_function(
@@ -89,7 +89,7 @@ fn own(value: &Value, name: &Text) -> Result<Option<Value>, SdkFault>
 }
 
 // Whether a member of a value is a function.
-#[tactic(auto, unfolding(sdk_members::specs::TextMembers::text_function, sdk_members::specs::ListMembers::list_function, sdk_members::specs::ListMembers::is_callback, sdk_members::specs::PathMembers::path_function, sdk_members::specs::PathMembers::directory_function, crate::specs::StaticMembers::static_function, crate::specs::ProcessMembers::process_function))]
+#[tactic(auto, unfolding(dscript_sdk_members::specs::TextMembers::text_function, dscript_sdk_members::specs::ListMembers::list_function, dscript_sdk_members::specs::ListMembers::is_callback, dscript_sdk_members::specs::PathMembers::path_function, dscript_sdk_members::specs::PathMembers::directory_function, crate::specs::StaticMembers::static_function, crate::specs::ProcessMembers::process_function))]
 fn is_function(value: &Value, member: Member) -> bool
     ensures { (s : State) → is_function_of s member (plain_of value.now) ≡ result }
 {
@@ -107,7 +107,7 @@ fn is_function(value: &Value, member: Member) -> bool
     }
 }
 
-#[tactic(auto, unfolding(sdk_members::specs::TextMembers::text_function))]
+#[tactic(auto, unfolding(dscript_sdk_members::specs::TextMembers::text_function))]
 fn is_text_function(member: Member) -> bool
     ensures { (text : List ℕ) → is_some (text_function member text) ≡ result }
 {
@@ -117,7 +117,7 @@ fn is_text_function(member: Member) -> bool
     )
 }
 
-#[tactic(auto, unfolding(sdk_members::specs::ListMembers::list_function, sdk_members::specs::ListMembers::is_callback))]
+#[tactic(auto, unfolding(dscript_sdk_members::specs::ListMembers::list_function, dscript_sdk_members::specs::ListMembers::is_callback))]
 fn is_list_function(member: Member) -> bool
     ensures { (items : List Plain) → (callback member || is_some (list_function member items)) ≡ result }
 {
@@ -128,14 +128,14 @@ fn is_list_function(member: Member) -> bool
     }
 }
 
-#[tactic(auto, unfolding(sdk_members::specs::PathMembers::path_function))]
+#[tactic(auto, unfolding(dscript_sdk_members::specs::PathMembers::path_function))]
 fn is_path_function(member: Member) -> bool
     ensures { (path : Atoms) → is_some (path_function member path) ≡ result }
 {
     matches!(member, Member::Combine | Member::ChangeExtension)
 }
 
-#[tactic(auto, unfolding(sdk_members::specs::PathMembers::directory_function))]
+#[tactic(auto, unfolding(dscript_sdk_members::specs::PathMembers::directory_function))]
 fn is_directory_function(member: Member) -> bool
     ensures { (path : Atoms) → is_some (directory_function member path) ≡ result }
 {
@@ -253,7 +253,7 @@ pub fn method(
 }
 
 /// Whether a member of a value is a function that calls functions.
-#[tactic(auto, unfolding(crate::specs::Members::is_callback_named, sdk_members::specs::ListMembers::is_callback))]
+#[tactic(auto, unfolding(crate::specs::Members::is_callback_named, dscript_sdk_members::specs::ListMembers::is_callback))]
 pub fn is_callback(value: &Value, name: &Text) -> bool
     ensures { result ≡ is_callback_named name.now (plain_of value.now) }
 {
@@ -263,7 +263,7 @@ pub fn is_callback(value: &Value, name: &Text) -> bool
     }
 }
 
-#[tactic(auto, unfolding(sdk_members::specs::ListMembers::is_callback))]
+#[tactic(auto, unfolding(dscript_sdk_members::specs::ListMembers::is_callback))]
 fn is_list_callback(member: Member) -> bool
     ensures { result ≡ callback member }
 {

@@ -4,10 +4,10 @@ ghost use Rattle.std.specs.Prelude.{MatchResult};
 ghost use Rattle.std.specs.List.{list_any};
 ghost use Rattle.std.specs.List.Sorted.{IsStrictlySortedBy};
 ghost use Rattle.bx_tree.specs.Paths.{same_path};
-ghost use Rattle.pip_types.specs.Outputs.{outdir_cmp};
-ghost use Rattle.pip_types.specs.declared.outputs.OutDir.{OutDir as AnyDir};
-ghost use Rattle.sdk_members.specs.Gives.{Gives, applied};
-ghost use Rattle.sdk_values.specs.Outcomes.{Refuses};
+ghost use Rattle.pip_model_types.specs.Outputs.{outdir_cmp};
+ghost use Rattle.pip_model_types.specs.declared.outputs.OutDir.{OutDir as AnyDir};
+ghost use Rattle.dscript_sdk_members.specs.Gives.{Gives, applied};
+ghost use Rattle.dscript_sdk_values.specs.Outcomes.{Refuses};
 ghost use Rattle.dscript_sdk.specs.ProcessMembers.{declared_by, directories_of_kind, files_of_kind};
 ghost use Rattle.dscript_sdk.specs.ProcessMembers.{output_directory};
 ghost use Rattle.dscript_sdk.specs.ProcessMembers.{output_file as declared_file, process_function};
@@ -15,10 +15,10 @@ ghost use Rattle.dscript_value.specs.Plain.{plain_of};
 
 use bx_tree::{FileInput, Path};
 use dscript_value::{StaticDir, Value};
-use pip_types::{OutDir, Outputs, Pip, PipKind};
-use sdk_members::Member;
-use sdk_pips::SdkState;
-use sdk_values::{SdkFault, first_argument, read_directory, read_path};
+use pip_model_types::{OutDir, Outputs, Pip, PipKind};
+use dscript_sdk_members::Member;
+use dscript_sdk_pips::SdkState;
+use dscript_sdk_values::{SdkFault, first_argument, read_directory, read_path};
 
 fn has_output(outs: &Outputs, path: &Path) -> bool
     ensures { result ≡ list_any (same_path path.now) outs.now }

@@ -3,9 +3,9 @@ ghost use Rattle.std.specs.Prelude.{◌≡◌, ◌++◌, Ok, Some, None, find, m
 ghost use Rattle.std.specs.Prelude.{IfOk, MatchOption, MatchResult};
 ghost use Rattle.bx_tree.specs.Paths.{same_path};
 ghost use Rattle.bx_tree.specs.declared.file_input.FileInput.TheVariants as inputs;
-ghost use Rattle.sdk_members.specs.Gives.{Gives, applied};
-ghost use Rattle.sdk_values.specs.Answers.{list_answer};
-ghost use Rattle.sdk_values.specs.Outcomes.{Refuses};
+ghost use Rattle.dscript_sdk_members.specs.Gives.{Gives, applied};
+ghost use Rattle.dscript_sdk_values.specs.Answers.{list_answer};
+ghost use Rattle.dscript_sdk_values.specs.Outcomes.{Refuses};
 ghost use Rattle.dscript_sdk.specs.SealMembers.{held_by, held_by_kind, held_by_pip, seal_members};
 ghost use Rattle.dscript_sdk.specs.StaticMembers.{file_with, member_file};
 ghost use Rattle.dscript_sdk.specs.StaticMembers.{seal_function, static_function, static_property};
@@ -16,11 +16,11 @@ ghost use Rattle.bx_tree.specs.FileInputs.{input_path};
 use crate::process_members::pip_at;
 use bx_tree::{FileInput, Memory, Path, Tree};
 use dscript_value::{StaticDir, Value};
-use pip_types::{PipKind, SealDesc, SealForm};
-use sdk_calls::{file_path, find_below, find_directly_in, static_path};
-use sdk_members::Member;
-use sdk_pips::SdkState;
-use sdk_values::{SdkFault, first_argument, list_value, read_path, share_file};
+use pip_model_types::{PipKind, SealDesc, SealForm};
+use dscript_sdk_calls::{file_path, find_below, find_directly_in, static_path};
+use dscript_sdk_members::Member;
+use dscript_sdk_pips::SdkState;
+use dscript_sdk_values::{SdkFault, first_argument, list_value, read_path, share_file};
 use std::alloc::Global;
 
 // Files like these.

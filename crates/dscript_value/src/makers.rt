@@ -7,7 +7,7 @@ ghost use Rattle.dscript_value.specs.declared.parts.Callee.TheVariants as callee
 use crate::parts::Callee;
 use crate::value::{FlatValues, FunctionRef, Value, Values};
 use bx_tree::Text;
-use dscript_ambient::Ambient;
+use dscript_program::Ambient;
 use std::alloc::{AllocError, AllocFailed, Global};
 
 /// The greatest depth of a value.

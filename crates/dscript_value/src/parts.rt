@@ -2,7 +2,7 @@
 ghost use Rattle.std.specs.Prelude.{◌≡◌, IfOk};
 
 use bx_tree::{FileInput, Path, Text};
-use dscript_ambient::Ambient;
+use dscript_program::Ambient;
 use std::alloc::{AllocError, Global};
 use std::marker::Model;
 use std::rc::Rc;

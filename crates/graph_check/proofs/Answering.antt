@@ -5,17 +5,17 @@ use Rattle.std.proofs.lemmas.Bool.{cases_lt}
 use Rattle.std.proofs.lemmas.Option.{slice_get_read}
 use Rattle.bx_tree.specs.Paths.{Atoms}
 use Rattle.bx_tree.specs.Trees.{Files}
-use Rattle.pip_types.specs.declared.pip.Pip.{Pip}
+use Rattle.pip_model_types.specs.declared.pip.Pip.{Pip}
 use Rattle.pip_model.specs.declared.plan.TheConstants.{MAX_PIPS}
 use Rattle.graph_check.specs.declared.fault.GraphKind.{GraphKind}
 use Rattle.graph_check.specs.declared.fault.GraphKind.TheVariants.{DoubleProducer, Overlap, NoSuchSource, OutsideOut, Twin, Limit}
 use Rattle.graph_check.specs.NoSuchSource.{named_sources}
-use Rattle.graph_outputs.specs.Outputs.{declared_files, outputs}
+use Rattle.graph_check_outputs.specs.Outputs.{declared_files, outputs}
 use Rattle.graph_check.specs.Rules.{FailsAt, KeepsRules, RuleHolds, rank}
 use Rattle.graph_check.specs.Twin.{descriptions}
-use Rattle.graph_outputs.proofs.Has.{has_within}
-use Rattle.graph_outputs.proofs.Prefixes.{overlaps_within}
-use Rattle.graph_outputs.proofs.Repeats.{repeats_within}
+use Rattle.graph_check_outputs.proofs.Has.{has_within}
+use Rattle.graph_check_outputs.proofs.Prefixes.{overlaps_within}
+use Rattle.graph_check_outputs.proofs.Repeats.{repeats_within}
 
 -- a rule fails at a pip of the list alone
 pub fails_within : (rule : GraphKind) (pips : List Pip) (tree : Files) (i : ℕ) → FailsAt rule pips tree i → i < length pips

@@ -14,30 +14,30 @@ use Rattle.std.proofs.lemmas.Slice.Eq.{bytes_eq-Decides}
 use Rattle.bx_tree.specs.Paths.{Atoms, IsBelow, same_path}
 use Rattle.bx_tree.specs.Orders.{same_path_decides}
 use Rattle.bx_tree.specs.Trees.{Files, paths_of}
-use Rattle.pip_types.specs.declared.dir_inputs.DirInput.{DirInput}
-use Rattle.pip_types.specs.declared.dir_inputs.DirInput.TheVariants.{Sealed, Opaque}
-use Rattle.pip_types.specs.declared.outputs.OutDir.{OutDir}
-use Rattle.pip_types.specs.declared.pip.Pip.{Pip}
-use Rattle.pip_types.specs.declared.pip.PipKind.{PipKind}
-use Rattle.pip_types.specs.declared.pip.PipKind.TheVariants.{Process, Copy, Write, Seal}
-use Rattle.pip_types.specs.declared.pip.ProcessDesc.{ProcessDesc}
-use Rattle.pip_types.specs.declared.pip.SealDesc.{SealDesc}
+use Rattle.pip_model_types.specs.declared.dir_inputs.DirInput.{DirInput}
+use Rattle.pip_model_types.specs.declared.dir_inputs.DirInput.TheVariants.{Sealed, Opaque}
+use Rattle.pip_model_types.specs.declared.outputs.OutDir.{OutDir}
+use Rattle.pip_model_types.specs.declared.pip.Pip.{Pip}
+use Rattle.pip_model_types.specs.declared.pip.PipKind.{PipKind}
+use Rattle.pip_model_types.specs.declared.pip.PipKind.TheVariants.{Process, Copy, Write, Seal}
+use Rattle.pip_model_types.specs.declared.pip.ProcessDesc.{ProcessDesc}
+use Rattle.pip_model_types.specs.declared.pip.SealDesc.{SealDesc}
 use Rattle.pip_model.specs.declared.plan.TheConstants.{MAX_PIPS}
 use Rattle.graph_check.specs.declared.fault.GraphKind.{GraphKind}
 use Rattle.graph_check.specs.declared.fault.GraphKind.TheVariants as rules
-use Rattle.graph_outputs.specs.DoubleProducer.{DoubleProducerAt}
+use Rattle.graph_check_outputs.specs.DoubleProducer.{DoubleProducerAt}
 use Rattle.graph_check.specs.NoSuchSource.{NoSuchSourceAt, named_sources}
-use Rattle.pip_order.specs.Orders.{described_alike, tied_processes}
-use Rattle.graph_outputs.specs.Outputs.{IsWithin, PipHas, declared_files, outputs}
-use Rattle.graph_outputs.specs.OutsideOut.{OutsideOutAt, out_dir}
-use Rattle.graph_outputs.specs.Overlap.{FileIsDir, IsUnlisted, NestedOutputs, OverlapAt, Overlaps, SealMeetsDir, UnlistedFile, UnsharedDir, full_seals}
-use Rattle.graph_outputs.specs.Overlap.Overlaps.{Nested, OnePath, Unshared, Unlisted, Meets}
+use Rattle.graph_check.specs.Orders.{described_alike, tied_processes}
+use Rattle.graph_check_outputs.specs.Outputs.{IsWithin, PipHas, declared_files, outputs}
+use Rattle.graph_check_outputs.specs.OutsideOut.{OutsideOutAt, out_dir}
+use Rattle.graph_check_outputs.specs.Overlap.{FileIsDir, IsUnlisted, NestedOutputs, OverlapAt, Overlaps, SealMeetsDir, UnlistedFile, UnsharedDir, full_seals}
+use Rattle.graph_check_outputs.specs.Overlap.Overlaps.{Nested, OnePath, Unshared, Unlisted, Meets}
 use Rattle.graph_check.specs.Rules.{FailsAt}
 use Rattle.graph_check.specs.Twin.{TwinAt, descriptions}
-use Rattle.pip_order.specs.Descriptions.{description, without_pip}
-use Rattle.pip_order.specs.ProcessOrder.{process_cmp}
-use Rattle.graph_outputs.proofs.Unsharing.{has_along}
-use Rattle.pip_types.specs.Kinds.{outdirs_of}
+use Rattle.graph_check.specs.Descriptions.{description, without_pip}
+use Rattle.graph_check.specs.ProcessOrder.{process_cmp}
+use Rattle.graph_check_outputs.proofs.Unsharing.{has_along}
+use Rattle.pip_model_types.specs.Kinds.{outdirs_of}
 use Rattle.bx_tree.specs.FileInputs.{input_path}
 
 -- ## Tests of what pips have

@@ -4,13 +4,13 @@ use Rattle.bx_tree.specs.Paths.{Atoms}
 use Rattle.bx_tree.specs.Trees.{Files}
 use Rattle.bx_tree.specs.declared.file_input.FileInput.{FileInput}
 use Rattle.bx_tree.specs.declared.file_input.FileInput.TheVariants.{Source}
-use Rattle.pip_types.specs.declared.dir_inputs.DirInput.TheVariants.{Sealed}
-use Rattle.pip_types.specs.declared.dir_inputs.SealForm.{SealForm}
-use Rattle.pip_types.specs.declared.dir_inputs.SealForm.TheVariants.{Full, Partial}
-use Rattle.pip_types.specs.declared.pip.Pip.{Pip}
-use Rattle.pip_types.specs.declared.pip.PipKind.{PipKind}
-use Rattle.pip_types.specs.declared.pip.PipKind.TheVariants.{Process, Copy, Write, Seal}
-use Rattle.pip_types.specs.declared.pip.ProcessDesc.{ProcessDesc}
+use Rattle.pip_model_types.specs.declared.dir_inputs.DirInput.TheVariants.{Sealed}
+use Rattle.pip_model_types.specs.declared.dir_inputs.SealForm.{SealForm}
+use Rattle.pip_model_types.specs.declared.dir_inputs.SealForm.TheVariants.{Full, Partial}
+use Rattle.pip_model_types.specs.declared.pip.Pip.{Pip}
+use Rattle.pip_model_types.specs.declared.pip.PipKind.{PipKind}
+use Rattle.pip_model_types.specs.declared.pip.PipKind.TheVariants.{Process, Copy, Write, Seal}
+use Rattle.pip_model_types.specs.declared.pip.ProcessDesc.{ProcessDesc}
 use Rattle.graph_check.specs.declared.fault.GraphKind.TheVariants.{DoubleProducer, Overlap, NoSuchSource, OutsideOut, Twin}
 use Rattle.graph_check.proofs.Verdicts.{verdict}
 

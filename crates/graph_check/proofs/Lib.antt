@@ -3,3 +3,4 @@ pub mod Answering
 pub mod Deciding
 pub mod Verdicts
 pub mod Examples
+pub mod Lists

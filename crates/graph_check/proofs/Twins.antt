@@ -7,13 +7,13 @@ use Rattle.std.specs.Ordering.{is_eq}
 use Rattle.std.specs.BTreeSet.{BTreeSet, Updates, contains}
 use Rattle.std.proofs.lemmas.Cmp.{tied_itself}
 use Rattle.std.proofs.lemmas.List.Folds.{Any-from_list_any, list_any-from_Any}
-use Rattle.pip_types.specs.declared.pip.ProcessDesc.{ProcessDesc}
+use Rattle.pip_model_types.specs.declared.pip.ProcessDesc.{ProcessDesc}
 use Rattle.graph_check.specs.Described.{HasDescribed, described_cmp, described_total}
-use Rattle.pip_order.specs.Orders.{described_alike, tied_processes}
-use Rattle.pip_order.specs.Descriptions.{description}
+use Rattle.graph_check.specs.Orders.{described_alike, tied_processes}
+use Rattle.graph_check.specs.Descriptions.{description}
 use Rattle.graph_check.specs.declared.twin.Described.{Described}
-use Rattle.graph_outputs.proofs.Adding.{old_stays, tied_or_old}
-use Rattle.graph_outputs.proofs.Repeats.{any_along}
+use Rattle.graph_check_outputs.proofs.Adding.{old_stays, tied_or_old}
+use Rattle.graph_check_outputs.proofs.Repeats.{any_along}
 
 -- a process is found exactly where one of its description is there
 pub found_from_has : (s : BTreeSet Described) (q : Described) → HasDescribed s (description q.process.now) → contains described_cmp s q ≡ true

@@ -7,10 +7,10 @@ use Rattle.std.specs.declared.cmp.Ordering.{Ordering}
 use Rattle.std.proofs.lemmas.Cmp.{eq_by_cmp_equiv, on_total}
 use Rattle.std.specs.BTreeSet.{BTreeSet}
 use Rattle.std.specs.List.{Any}
-use Rattle.pip_types.specs.declared.pip.ProcessDesc.{ProcessDesc}
-use Rattle.pip_order.specs.Descriptions.{description}
-use Rattle.pip_order.specs.Orders.{process_cmp_total}
-use Rattle.pip_order.specs.ProcessOrder.{process_cmp}
+use Rattle.pip_model_types.specs.declared.pip.ProcessDesc.{ProcessDesc}
+use Rattle.graph_check.specs.Descriptions.{description}
+use Rattle.graph_check.specs.Orders.{process_cmp_total}
+use Rattle.graph_check.specs.ProcessOrder.{process_cmp}
 use Rattle.graph_check.specs.declared.twin.Described.{Described}
 
 abbrev pub described_cmp : Described → Described → Ordering

@@ -1,6 +1,6 @@
 -- The rule that there are not too many pips.
 use Rattle.std.specs.Prelude.{◌≡◌, ℕ, ◌<◌, List, length}
-use Rattle.pip_types.specs.declared.pip.Pip.{Pip}
+use Rattle.pip_model_types.specs.declared.pip.Pip.{Pip}
 use Rattle.pip_model.specs.declared.plan.TheConstants.{MAX_PIPS}
 
 -- pip i is the first beyond the limit

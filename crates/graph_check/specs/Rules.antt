@@ -2,16 +2,16 @@
 use Rattle.std.specs.Prelude.{◌≡◌, ℕ, ◌<◌, List, IsSomeAnd, slice_get, ◌⊎◌}
 use Rattle.bx_tree.specs.Paths.{Atoms}
 use Rattle.bx_tree.specs.Trees.{Files}
-use Rattle.pip_types.specs.declared.pip.Pip.{Pip}
+use Rattle.pip_model_types.specs.declared.pip.Pip.{Pip}
 use Rattle.graph_check.specs.declared.fault.GraphKind.{GraphKind}
 use Rattle.graph_check.specs.declared.fault.GraphKind.TheVariants.{DoubleProducer, Overlap, NoSuchSource}
 use Rattle.graph_check.specs.declared.fault.GraphKind.TheVariants.{OutsideOut, Twin, Limit}
 use Rattle.graph_check.specs.declared.fault.GraphFault.{GraphFault}
 use Rattle.graph_check.specs.declared.fault.GraphFault.TheVariants.{Fault, Memory}
-use Rattle.graph_outputs.specs.DoubleProducer.{DoubleProducerAt}
-use Rattle.graph_outputs.specs.Overlap.{OverlapAt}
+use Rattle.graph_check_outputs.specs.DoubleProducer.{DoubleProducerAt}
+use Rattle.graph_check_outputs.specs.Overlap.{OverlapAt}
 use Rattle.graph_check.specs.NoSuchSource.{NoSuchSourceAt}
-use Rattle.graph_outputs.specs.OutsideOut.{OutsideOutAt}
+use Rattle.graph_check_outputs.specs.OutsideOut.{OutsideOutAt}
 use Rattle.graph_check.specs.Twin.{TwinAt}
 use Rattle.graph_check.specs.Limit.{LimitAt}
 

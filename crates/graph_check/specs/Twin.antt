@@ -1,11 +1,11 @@
 -- The rule that no two processes have one description.
 use Rattle.std.specs.Prelude.{ℕ, ◌<◌, List, [], ◌∷◌}
-use Rattle.pip_types.specs.declared.pip.Pip.{Pip}
-use Rattle.pip_types.specs.declared.pip.PipKind.{PipKind}
-use Rattle.pip_types.specs.declared.pip.PipKind.TheVariants.{Process, Copy, Write, Seal}
-use Rattle.pip_types.specs.declared.pip.ProcessDesc.{ProcessDesc}
-use Rattle.pip_order.specs.Descriptions.{description}
-use Rattle.graph_outputs.specs.Outputs.{PipHas}
+use Rattle.pip_model_types.specs.declared.pip.Pip.{Pip}
+use Rattle.pip_model_types.specs.declared.pip.PipKind.{PipKind}
+use Rattle.pip_model_types.specs.declared.pip.PipKind.TheVariants.{Process, Copy, Write, Seal}
+use Rattle.pip_model_types.specs.declared.pip.ProcessDesc.{ProcessDesc}
+use Rattle.graph_check.specs.Descriptions.{description}
+use Rattle.graph_check_outputs.specs.Outputs.{PipHas}
 
 -- the description of a process; other pips have none
 abbrev pub descriptions : PipKind → List ProcessDesc

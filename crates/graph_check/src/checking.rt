@@ -1,6 +1,6 @@
 //! All rules, one after the other.
 ghost use Rattle.std.specs.Prelude.{◌≡◌, ◌<◌, ◌≤◌, IfOk, MatchResult, length};
-ghost use Rattle.graph_outputs.specs.Firsts.{IsFirst};
+ghost use Rattle.graph_check_outputs.specs.Firsts.{IsFirst};
 ghost use Rattle.graph_check.specs.Rules.{FailsAt, IsRefusal, KeepsRules, RuleHolds, rank};
 ghost use Rattle.graph_check.specs.declared.fault.GraphKind.{GraphKind as AnyRule};
 
@@ -8,7 +8,7 @@ use crate::fault::{GraphFault, GraphKind};
 use crate::limit::limit;
 use crate::no_such_source::no_such_source;
 use crate::twin::twin;
-use graph_outputs::{first_double_producer, first_outside, first_overlap};
+use graph_check_outputs::{first_double_producer, first_outside, first_overlap};
 use pip_model::{Memory, Pip, PipList, Plan, Sources};
 use std::alloc::Global;
 

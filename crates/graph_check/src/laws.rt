@@ -2,7 +2,7 @@
 ghost use Rattle.std.specs.Prelude.{◌≡◌, ℕ, List};
 ghost use Rattle.bx_tree.specs.Paths.{Atoms};
 ghost use Rattle.bx_tree.specs.Trees.{Files};
-ghost use Rattle.pip_types.specs.declared.pip.Pip.{Pip as AnyPip};
+ghost use Rattle.pip_model_types.specs.declared.pip.Pip.{Pip as AnyPip};
 ghost use Rattle.graph_check.specs.Rules.{HasAnswer, IsFirstBrokenRule, KeepsRules};
 ghost use Rattle.graph_check.specs.declared.fault.GraphKind.{GraphKind as AnyRule};
 

@@ -1,5 +1,5 @@
 //! The rule that there are not too many pips.
-ghost use Rattle.graph_outputs.specs.Firsts.{IsFirst};
+ghost use Rattle.graph_check_outputs.specs.Firsts.{IsFirst};
 ghost use Rattle.graph_check.specs.Limit.{LimitAt};
 
 use pip_model::{MAX_PIPS, Pip};

@@ -1,7 +1,7 @@
 //! The rule that source files are there.
 ghost use Rattle.std.specs.Prelude.{◌↔◌, Any, Contains, IsTrue, IfOk};
 ghost use Rattle.bx_tree.specs.Trees.{paths_of};
-ghost use Rattle.graph_outputs.specs.Firsts.{IsFirst};
+ghost use Rattle.graph_check_outputs.specs.Firsts.{IsFirst};
 ghost use Rattle.graph_check.specs.NoSuchSource.{NoSuchSourceAt, named_sources};
 
 use crate::named::add_named_sources;

@@ -1,17 +1,17 @@
 //! The rule that no two processes have one description.
 ghost use Rattle.std.specs.Prelude.{◌≡◌, ◌↔◌, ◌⊎◌, Any, Contains, IfOk, OnOk, IsTrue};
 ghost use Rattle.std.specs.Ordering.{as_partial_cmp, eq_by_cmp};
-ghost use Rattle.pip_types.specs.declared.pip.ProcessDesc.{ProcessDesc as AnyProcess};
-ghost use Rattle.graph_outputs.specs.Firsts.{IsFirst};
+ghost use Rattle.pip_model_types.specs.declared.pip.ProcessDesc.{ProcessDesc as AnyProcess};
+ghost use Rattle.graph_check_outputs.specs.Firsts.{IsFirst};
 ghost use Rattle.graph_check.specs.Twin.{TwinAt, descriptions};
-ghost use Rattle.pip_order.specs.Descriptions.{description};
+ghost use Rattle.graph_check.specs.Descriptions.{description};
 ghost use Rattle.graph_check.specs.Described.{HasDescribed};
 ghost use Rattle.std.proofs.Common.{rules};
 ghost use Rattle.graph_check.specs.Described.{described_cmp, described_total, described_matches};
 ghost use Rattle.graph_check.specs.Described.{described_equiv, described_partial_eq, described_partial};
 
 use pip_model::{Memory, Pip, PipKind, ProcessDesc};
-use pip_order::process_order;
+use crate::descriptions::process_order;
 use std::alloc::{AllocError, Global};
 use std::cmp::Ordering;
 use std::collections::BTreeSet;

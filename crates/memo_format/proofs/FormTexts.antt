@@ -4,13 +4,13 @@ use Rattle.std.specs.Bool.{nat_le}
 use Rattle.std.specs.List.{AllByRecursion, flat_map}
 use Rattle.std.proofs.lemmas.Bool.{leb-true, le-leb}
 use Rattle.bx_tree.specs.Orders.{path_cmp_total}
-use Rattle.stored_lines.specs.Forms.{IsForm}
-use Rattle.stored_lines.specs.Lines.{begins, rises}
-use Rattle.stored_lines.specs.Reading.{◌>>=◌}
-use Rattle.stored_lines.proofs.Combining.{after_form, as_form, bind_some, form_of, only_form, pair_form, whole_again, whole_read}
-use Rattle.stored_lines.proofs.LineLists.{lines_form}
-use Rattle.stored_lines.proofs.PartForms.{digest_form, newline}
-use Rattle.stored_lines.proofs.Rising.{rising_sorted, sorted_rising}
+use Rattle.prints.specs.Forms.{IsForm}
+use Rattle.prints.specs.Lines.{begins, rises}
+use Rattle.prints.specs.Reading.{◌>>=◌}
+use Rattle.prints.proofs.Combining.{after_form, as_form, bind_some, form_of, only_form, pair_form, whole_again, whole_read}
+use Rattle.prints.proofs.LineLists.{lines_form}
+use Rattle.prints.proofs.PartForms.{digest_form, newline}
+use Rattle.prints.proofs.Rising.{rising_sorted, sorted_rising}
 use Rattle.memo_format.specs.declared.entry.Entry.{Entry}
 use Rattle.memo_format.specs.declared.entry.OutputLine.{OutputLine}
 use Rattle.memo_format.specs.declared.selector.Selector.{Selector}

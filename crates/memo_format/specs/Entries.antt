@@ -5,9 +5,9 @@ use Rattle.std.specs.List.Sorted.{IsStrictlySortedBy}
 use Rattle.std.specs.Ordering.{is_lt}
 use Rattle.bx_tree.specs.Paths.{Atoms, IsPath, path_cmp}
 use Rattle.bx_digest.specs.Digests.{IsDigest}
-use Rattle.stored_lines.specs.Lines.{begins, lines_at, rises}
-use Rattle.stored_lines.specs.Parts.{digest_at, digest_part, path_at, path_part}
-use Rattle.stored_lines.specs.Reading.{Taken, ◌>>=◌, after_word, as_at, both_at, only_at, whole_of}
+use Rattle.prints.specs.Lines.{begins, lines_at, rises}
+use Rattle.prints.specs.Parts.{digest_at, digest_part, path_at, path_part}
+use Rattle.prints.specs.Reading.{Taken, ◌>>=◌, after_word, as_at, both_at, only_at, whole_of}
 use Rattle.memo_format.specs.Seals.{sealed, unsealed}
 use Rattle.memo_format.specs.declared.entry.Entry.{Entry}
 use Rattle.memo_format.specs.declared.entry.OutputLine.{OutputLine}

@@ -4,9 +4,9 @@ use Rattle.std.specs.Prelude.{Err, if◌then◌else◌}
 use Rattle.std.specs.Borrow.{Bor}
 use Rattle.std.specs.Str.{bytes_eq}
 use Rattle.sha2.specs.Sha256.{sha256}
-use Rattle.stored_lines.specs.Parts.{digest_part}
-use Rattle.stored_lines.specs.declared.fault.TextFault.{TextFault}
-use Rattle.stored_lines.specs.declared.fault.TextFault.TheVariants as faults
+use Rattle.prints.specs.Parts.{digest_part}
+use Rattle.prints.specs.declared.text_fault.TextFault.{TextFault}
+use Rattle.prints.specs.declared.text_fault.TextFault.TheVariants as faults
 use Rattle.memo_format.specs.declared.seal.TheConstants.{SEAL_BYTES}
 
 abbrev pub seal_line : List ℕ → List ℕ

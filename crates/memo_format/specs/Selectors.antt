@@ -2,9 +2,9 @@
 use Rattle.std.specs.Prelude.{ℕ, ◌≤◌, nat_le, List, ◌++◌, length, codes, Option}
 use Rattle.std.specs.List.{AllByRecursion, flat_map}
 use Rattle.bx_digest.specs.Digests.{IsDigest}
-use Rattle.stored_lines.specs.Lines.{begins, lines_at}
-use Rattle.stored_lines.specs.Parts.{digest_at, digest_part}
-use Rattle.stored_lines.specs.Reading.{Taken, ◌>>=◌, after_word, as_at, both_at, only_at, whole_of}
+use Rattle.prints.specs.Lines.{begins, lines_at}
+use Rattle.prints.specs.Parts.{digest_at, digest_part}
+use Rattle.prints.specs.Reading.{Taken, ◌>>=◌, after_word, as_at, both_at, only_at, whole_of}
 use Rattle.memo_format.specs.Seals.{sealed, unsealed}
 use Rattle.memo_format.specs.declared.selector.TheConstants.{MAX_SELECTORS}
 use Rattle.memo_format.specs.declared.selector.Selector.{Selector}

@@ -1,8 +1,8 @@
 //! Entries and their text.
 ghost use Rattle.std.specs.Prelude.{◌≡◌, ◌++◌, Err, IfOk, OnOk, Some, codes};
-ghost use Rattle.stored_lines.specs.Lines.{begins, rises};
+ghost use Rattle.prints.specs.Lines.{begins, rises};
 ghost use Rattle.std.proofs.Common.{refl};
-ghost use Rattle.stored_lines.specs.Reading.{Gives, Takes};
+ghost use Rattle.prints.specs.Reading.{Gives, Takes};
 ghost use Rattle.memo_format.specs.Answers.{ReadsForm};
 ghost use Rattle.memo_format.specs.declared.entry.Entry.{Entry as AnyEntry};
 ghost use Rattle.memo_format.specs.Entries.{IsEntry, IsOutput, OutputsRise, body_entry, entry_text};
@@ -16,7 +16,7 @@ use bx_digest::Digest;
 use bx_tree::Path;
 use std::alloc::{AllocError, Global};
 use std::marker::Model;
-use stored_lines::{Cursor, Line, TextFault, append_digest, append_lines, append_path, read_lines};
+use prints::{Cursor, Line, TextFault, append_digest, append_lines, append_path, read_lines};
 
 /// A file that a run made, with the digest of its bytes.
 #[derive(Drop)]

@@ -4,7 +4,7 @@ ghost use Rattle.memo_format.specs.Found.{FoundParts, IsFound, output_lines};
 
 use crate::entry::Entry;
 use observed::{Answer, PathSet};
-use pip_types::Made;
+use pip_model_types::Made;
 use std::marker::Model;
 
 /// What a lookup finds: an entry, its path set, what its asks are answered now, and the files of its outputs.

@@ -3,7 +3,7 @@
 //! A list of selectors names, for one weak text, the path sets that were met and the strong texts that their
 //! answers gave; an entry names the outputs of a run under its strong text. Each ends with a seal. This crate
 //! writes both and reads both, says which names of a store are well-formed, and has what a lookup finds. It depends
-//! on `stored_lines` for the lines. It carries the promise that a form is read back as what it was written
+//! on `prints` for the lines. It carries the promise that a form is read back as what it was written
 //! of, and that what is no form, or has another seal, is refused.
 #![tactic(auto)]
 

@@ -4,7 +4,7 @@ ghost use Rattle.memo_format.specs.Seals.{Unseals, seal_line as line_of, sealed}
 
 use bx_digest::digest_of;
 use std::alloc::{AllocError, Global};
-use stored_lines::{TextFault, append_digest};
+use prints::{TextFault, append_digest};
 
 /// The bytes of the line of a seal: its word, a space, 64 digits and a newline.
 pub const SEAL_BYTES: usize = 70;

@@ -1,8 +1,8 @@
 //! Selectors, and the text of a list of them.
 ghost use Rattle.std.specs.Prelude.{◌≡◌, ◌≤◌, ◌++◌, Err, IfOk, OnOk, Some, List, codes, length};
-ghost use Rattle.stored_lines.specs.Lines.{begins};
+ghost use Rattle.prints.specs.Lines.{begins};
 ghost use Rattle.std.proofs.Common.{refl};
-ghost use Rattle.stored_lines.specs.Reading.{GivesItems, Takes};
+ghost use Rattle.prints.specs.Reading.{GivesItems, Takes};
 ghost use Rattle.memo_format.specs.Answers.{ReadsItems};
 ghost use Rattle.memo_format.specs.declared.selector.Selector.{Selector as AnySelector};
 ghost use Rattle.memo_format.specs.Selectors.{AreSelectors, IsSelector, body_selectors, read_selectors_text};
@@ -13,7 +13,7 @@ use crate::fault::FormatFault;
 use crate::seal::{seal, unseal};
 use bx_digest::Digest;
 use std::alloc::{AllocError, Global};
-use stored_lines::{Cursor, Line, TextFault, append_digest, append_lines, read_lines};
+use prints::{Cursor, Line, TextFault, append_digest, append_lines, read_lines};
 
 /// The greatest number of selectors in a list.
 pub const MAX_SELECTORS: usize = 64;

@@ -10,16 +10,16 @@ use Rattle.bx_tree.specs.Paths.{Atoms}
 use Rattle.bx_tree.specs.Trees.{Files}
 use Rattle.observed.proofs.OneSet.{contains_has}
 use Rattle.observed.specs.Members.{Has}
-use Rattle.pip_types.specs.Makers.{IsPipList}
-use Rattle.pip_types.specs.declared.pip.Pip.{Pip}
-use Rattle.pip_types.specs.declared.pip.PipKind.{PipKind}
-use Rattle.pip_types.specs.declared.pip.PipKind.TheVariants.{Process, Copy, Write, Seal}
+use Rattle.pip_model_types.specs.Makers.{IsPipList}
+use Rattle.pip_model_types.specs.declared.pip.Pip.{Pip}
+use Rattle.pip_model_types.specs.declared.pip.PipKind.{PipKind}
+use Rattle.pip_model_types.specs.declared.pip.PipKind.TheVariants.{Process, Copy, Write, Seal}
 use Rattle.pip_model.specs.Edges.{targets}
 use Rattle.pip_model.proofs.EdgesBack.{edge_back}
-use Rattle.pip_inputs.specs.Results.{ByPip, inputs_of, kept_from}
+use Rattle.pip_view_inputs.specs.Results.{ByPip, inputs_of, kept_from}
 use Rattle.run_record.specs.declared.outcome.Outcome.{Outcome}
 use Rattle.run_record.specs.declared.outcome.Outcome.TheVariants.{Good, Failed}
-use Rattle.verdicts.specs.declared.verdict.Verdict.TheVariants as verdicts
+use Rattle.violations.specs.declared.verdict.Verdict.TheVariants as verdicts
 use Rattle.violations.specs.DoubleWrites.{clash_at, first_clash, has_clash, least_clash, or_next, outdirs_in, shared_paths}
 use Rattle.one_thread.specs.OneThread.{Result, by_outcome, failed, inputs_are_good, is_good, made_by, on_from, one_thread, process_outcome, result_of, unless_clash, worked}
 

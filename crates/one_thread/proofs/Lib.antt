@@ -4,3 +4,11 @@ pub mod OnePip
 pub mod PutFiles
 pub mod Waiting
 pub mod SharedSets
+pub mod PutAll
+pub mod Prefixes
+pub mod Making
+pub mod Clashing
+pub mod Meeting
+pub mod OneResult
+pub mod OneMore
+pub mod KeptApart

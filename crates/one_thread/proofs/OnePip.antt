@@ -5,18 +5,18 @@ use Rattle.std.proofs.lemmas.Bool.{false≢true}
 use Rattle.bx_tree.specs.Trees.{Files}
 use Rattle.observed.specs.declared.access.Answer.{Answer}
 use Rattle.observed.specs.declared.ask.Ask.{Ask}
-use Rattle.pip_types.specs.declared.desc.Desc.{Desc}
-use Rattle.pip_types.specs.declared.made.Slot.{Slot}
-use Rattle.pip_types.specs.declared.pip.Pip.{Pip}
-use Rattle.pip_types.specs.declared.pip.PipKind.{PipKind}
-use Rattle.pip_types.specs.declared.pip.PipKind.TheVariants.{Process, Copy, Write, Seal}
-use Rattle.pip_types.specs.declared.pip.ProcessDesc.{ProcessDesc}
-use Rattle.pip_inputs.specs.Plain.{desc_of, kind_process, plain_in, plain_of, process_in}
-use Rattle.pip_inputs.specs.Results.{ByPip, inputs_of, kind_inputs}
-use Rattle.pip_outputs.specs.Slots.{slot_files}
+use Rattle.pip_model_types.specs.declared.desc.Desc.{Desc}
+use Rattle.pip_model_types.specs.declared.made.Slot.{Slot}
+use Rattle.pip_model_types.specs.declared.pip.Pip.{Pip}
+use Rattle.pip_model_types.specs.declared.pip.PipKind.{PipKind}
+use Rattle.pip_model_types.specs.declared.pip.PipKind.TheVariants.{Process, Copy, Write, Seal}
+use Rattle.pip_model_types.specs.declared.pip.ProcessDesc.{ProcessDesc}
+use Rattle.pip_view_inputs.specs.Plain.{desc_of, kind_process, plain_in, plain_of, process_in}
+use Rattle.pip_view_inputs.specs.Results.{ByPip, inputs_of, kind_inputs}
+use Rattle.violations.specs.Slots.{slot_files}
 use Rattle.pip_view.specs.Sees.{sees}
 use Rattle.run_record.specs.declared.outcome.Outcome.{Outcome}
-use Rattle.verdicts.specs.declared.verdict.Verdict.TheVariants as verdicts
+use Rattle.violations.specs.declared.verdict.Verdict.TheVariants as verdicts
 use Rattle.one_thread.specs.OneThread.{Result, by_outcome, failed, ran, succeeded, worked}
 use Rattle.one_thread.specs.Views.{ended_in, good_at, worked_in}
 

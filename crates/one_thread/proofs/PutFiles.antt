@@ -3,11 +3,11 @@ use Rattle.std.proofs.Common.{◌≡◌, ℕ, suc, ◌+◌, ◌<◌, ◌≤◌, 
 use Rattle.std.proofs.lemmas.List.{drop_all}
 use Rattle.std.proofs.Math.Seq.{drop-cons}
 use Rattle.bx_tree.specs.Trees.{Files}
-use Rattle.own_writes.specs.Writes.{with_file}
-use Rattle.pip_outputs.specs.Slots.{slot_files}
-use Rattle.pip_types.specs.Made.{made_files}
-use Rattle.pip_types.specs.declared.made.MadeFile.{MadeFile}
-use Rattle.pip_types.specs.declared.made.Slot.{Slot}
+use Rattle.tool_run_writes.specs.Writes.{with_file}
+use Rattle.violations.specs.Slots.{slot_files}
+use Rattle.pip_model_types.specs.Made.{made_files}
+use Rattle.pip_model_types.specs.declared.made.MadeFile.{MadeFile}
+use Rattle.pip_model_types.specs.declared.made.Slot.{Slot}
 use Rattle.one_thread.specs.OneThread.{all_made, put_all}
 
 put_after : (files xs ys : Files) → put_all files (xs ++ ys) ≡ put_all (put_all files xs) ys

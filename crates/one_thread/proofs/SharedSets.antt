@@ -10,18 +10,18 @@ use Rattle.std.proofs.Math.Seq.{drop-cons}
 use Rattle.bx_tree.specs.Orders.{path_cmp_matches, same_path_decides}
 use Rattle.bx_tree.specs.Paths.{Atoms, path_cmp, same_path}
 use Rattle.bx_tree.specs.Trees.{Files}
-use Rattle.own_writes.specs.Below.{is_below}
-use Rattle.own_writes.proofs.DirectorySets.{any_append}
-use Rattle.pip_outputs.specs.Slots.{slot_files}
-use Rattle.pip_types.specs.Made.{made_files}
-use Rattle.pip_types.specs.declared.made.MadeFile.{MadeFile}
-use Rattle.pip_types.specs.declared.made.Slot.{Slot}
-use Rattle.pip_types.specs.declared.outputs.OutDir.{OutDir}
-use Rattle.pip_types.specs.declared.pip.Pip.{Pip}
-use Rattle.verdicts.specs.declared.verdict.Violation.{Violation}
+use Rattle.tool_run_writes.specs.Below.{is_below}
+use Rattle.tool_run_writes.proofs.DirectorySets.{any_append}
+use Rattle.violations.specs.Slots.{slot_files}
+use Rattle.pip_model_types.specs.Made.{made_files}
+use Rattle.pip_model_types.specs.declared.made.MadeFile.{MadeFile}
+use Rattle.pip_model_types.specs.declared.made.Slot.{Slot}
+use Rattle.pip_model_types.specs.declared.outputs.OutDir.{OutDir}
+use Rattle.pip_model_types.specs.declared.pip.Pip.{Pip}
+use Rattle.violations.specs.declared.verdict.Violation.{Violation}
 use Rattle.violations.specs.DoubleWrites.{clash_at, first_clash, has_clash, is_clash, is_shared, least_clash, or_next, outdirs_in, shared_paths}
 use Rattle.one_thread.specs.Shared.{KeepsShared, all_shared, any_clash}
-use Rattle.pip_types.specs.Kinds.{outdirs_of}
+use Rattle.pip_model_types.specs.Kinds.{outdirs_of}
 
 -- ## Tests of lists
 

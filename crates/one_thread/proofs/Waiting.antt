@@ -8,8 +8,8 @@ use Rattle.std.proofs.lemmas.Option.{slice_get-get_or}
 use Rattle.std.proofs.Math.Seq.{drop-cons}
 use Rattle.observed.proofs.OneSet.{contains_has, has_contained}
 use Rattle.observed.specs.Members.{Has}
-use Rattle.pip_types.specs.declared.made.Slot.{Slot}
-use Rattle.pip_types.specs.declared.pip.Pip.{Pip}
+use Rattle.pip_model_types.specs.declared.made.Slot.{Slot}
+use Rattle.pip_model_types.specs.declared.pip.Pip.{Pip}
 use Rattle.pip_model.specs.Edges.{targets}
 use Rattle.pip_model.specs.Plans.{AreInputs}
 use Rattle.one_thread.specs.Views.{good_at, good_in, is_good_slot}

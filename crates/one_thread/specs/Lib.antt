@@ -1,3 +1,5 @@
 pub mod OneThread
 pub mod Views
 pub mod Shared
+pub mod Outputs
+pub mod Keeping

@@ -3,32 +3,32 @@ use Rattle.std.specs.Prelude.{ℕ, ◌+◌, Bool, false, not, List, [], ◌∷�
 use Rattle.std.specs.Prelude.{Option, Some, None, slice_get}
 use Rattle.std.specs.List.{list_all, flat_map}
 use Rattle.bx_tree.specs.Trees.{Files}
-use Rattle.pip_types.specs.declared.pip.Pip.{Pip}
-use Rattle.pip_types.specs.declared.pip.PipKind.{PipKind}
-use Rattle.pip_types.specs.declared.pip.PipKind.TheVariants.{Process, Copy, Write, Seal}
-use Rattle.pip_types.specs.declared.pip.ProcessDesc.{ProcessDesc}
-use Rattle.pip_types.specs.declared.desc.Desc.{Desc}
+use Rattle.pip_model_types.specs.declared.pip.Pip.{Pip}
+use Rattle.pip_model_types.specs.declared.pip.PipKind.{PipKind}
+use Rattle.pip_model_types.specs.declared.pip.PipKind.TheVariants.{Process, Copy, Write, Seal}
+use Rattle.pip_model_types.specs.declared.pip.ProcessDesc.{ProcessDesc}
+use Rattle.pip_model_types.specs.declared.desc.Desc.{Desc}
 use Rattle.pip_model.specs.Edges.{targets}
 use Rattle.observed.specs.declared.ask.Ask.{Ask}
 use Rattle.observed.specs.declared.access.Answer.{Answer}
 use Rattle.observed.specs.declared.access.End.TheVariants as ends
 use Rattle.tool_run.specs.Described.{described}
-use Rattle.own_writes.specs.Writes.{with_file}
+use Rattle.tool_run_writes.specs.Writes.{with_file}
 use Rattle.run_record.specs.Facts.{run_for}
 use Rattle.run_record.specs.Outcomes.{outcome_of}
 use Rattle.run_record.specs.declared.outcome.Outcome.{Outcome}
 use Rattle.run_record.specs.declared.outcome.Outcome.TheVariants.{Good, Failed}
 use Rattle.run_record.specs.declared.outcome.Cause.{Cause}
 use Rattle.run_record.specs.declared.outcome.Cause.TheVariants as causes
-use Rattle.pip_inputs.specs.Plain.{desc_of, plain_of}
-use Rattle.pip_inputs.specs.Results.{ByPip, inputs_of}
+use Rattle.pip_view_inputs.specs.Plain.{desc_of, plain_of}
+use Rattle.pip_view_inputs.specs.Results.{ByPip, inputs_of}
 use Rattle.pip_view.specs.Sees.{sees}
-use Rattle.verdicts.specs.Verdicts.{is_skip, is_success}
+use Rattle.violations.specs.Verdicts.{is_skip, is_success}
 use Rattle.violations.specs.Classes.{class_of}
 use Rattle.violations.specs.DoubleWrites.{clash_at}
-use Rattle.verdicts.specs.declared.verdict.Verdict.{Verdict}
-use Rattle.verdicts.specs.declared.verdict.Verdict.TheVariants as verdicts
-use Rattle.verdicts.specs.declared.verdict.Violation.{Violation}
+use Rattle.violations.specs.declared.verdict.Verdict.{Verdict}
+use Rattle.violations.specs.declared.verdict.Verdict.TheVariants as verdicts
+use Rattle.violations.specs.declared.verdict.Violation.{Violation}
 
 -- ## Results
 

@@ -4,10 +4,10 @@ use Rattle.std.specs.BTreeSet.{BTreeSet, contains}
 use Rattle.std.specs.List.{list_any}
 use Rattle.bx_tree.specs.Paths.{Atoms, path_cmp, same_path}
 use Rattle.bx_tree.specs.Trees.{Files}
-use Rattle.own_writes.specs.Below.{is_below}
-use Rattle.pip_types.specs.declared.pip.Pip.{Pip}
+use Rattle.tool_run_writes.specs.Below.{is_below}
+use Rattle.pip_model_types.specs.declared.pip.Pip.{Pip}
 use Rattle.violations.specs.DoubleWrites.{is_clash, shared_paths}
-use Rattle.pip_types.specs.Kinds.{outdirs_of}
+use Rattle.pip_model_types.specs.Kinds.{outdirs_of}
 
 -- the paths of all files that these pips made in directories which they share, one pip after the other
 abbrev pub all_shared : List Pip → List Files → List Atoms

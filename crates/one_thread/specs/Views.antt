@@ -3,16 +3,16 @@ use Rattle.std.specs.Prelude.{◌≡◌, ℕ, Bool, true, false, List, [], ◌�
 use Rattle.std.specs.Prelude.{if◌then◌else◌, slice_get}
 use Rattle.std.specs.List.{list_all}
 use Rattle.bx_tree.specs.Trees.{Files}
-use Rattle.pip_types.specs.declared.made.Slot.{Slot}
-use Rattle.pip_types.specs.declared.made.Slot.TheVariants as slots
-use Rattle.pip_types.specs.declared.pip.Pip.{Pip}
-use Rattle.pip_types.specs.declared.pip.PipKind.{PipKind}
+use Rattle.pip_model_types.specs.declared.made.Slot.{Slot}
+use Rattle.pip_model_types.specs.declared.made.Slot.TheVariants as slots
+use Rattle.pip_model_types.specs.declared.pip.Pip.{Pip}
+use Rattle.pip_model_types.specs.declared.pip.PipKind.{PipKind}
 use Rattle.pip_model.specs.Edges.{targets}
-use Rattle.pip_outputs.specs.Slots.{slot_files}
-use Rattle.pip_inputs.specs.Results.{ByPip, inputs_of}
-use Rattle.verdicts.specs.Verdicts.{is_success}
-use Rattle.verdicts.specs.declared.verdict.Verdict.{Verdict}
-use Rattle.verdicts.specs.declared.verdict.Verdict.TheVariants as verdicts
+use Rattle.violations.specs.Slots.{slot_files}
+use Rattle.pip_view_inputs.specs.Results.{ByPip, inputs_of}
+use Rattle.violations.specs.Verdicts.{is_success}
+use Rattle.violations.specs.declared.verdict.Verdict.{Verdict}
+use Rattle.violations.specs.declared.verdict.Verdict.TheVariants as verdicts
 use Rattle.one_thread.specs.OneThread.{Result, failed, worked}
 use Rattle.one_thread.specs.declared.ended.PipResult.{PipResult}
 

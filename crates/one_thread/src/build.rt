@@ -1,6 +1,6 @@
 //! The build of all pips, one after the other.
 ghost use Rattle.std.specs.Prelude.{◌≡◌, IfOk, map};
-ghost use Rattle.pip_outputs.specs.Slots.{slot_files};
+ghost use Rattle.violations.specs.Slots.{slot_files};
 ghost use Rattle.one_thread.specs.OneThread.{made_by, one_thread, verdicts_of};
 
 use crate::Memory;

@@ -1,10 +1,10 @@
 //! What one pip comes to.
 ghost use Rattle.std.specs.Prelude.{◌≡◌, ◌<◌, ◌≤◌, false, All, IfOk, IsSome, length, map, slice_get, take};
 ghost use Rattle.std.specs.List.{list_all};
-ghost use Rattle.pip_outputs.specs.Slots.{slot_files};
-ghost use Rattle.pip_inputs.specs.Plain.{plain_at, process_in};
-ghost use Rattle.pip_inputs.specs.Results.{inputs_at};
-ghost use Rattle.verdicts.specs.Verdicts as ends;
+ghost use Rattle.violations.specs.Slots.{slot_files};
+ghost use Rattle.pip_view_inputs.specs.Plain.{plain_at, process_in};
+ghost use Rattle.pip_view_inputs.specs.Results.{inputs_at};
+ghost use Rattle.violations.specs.Verdicts as ends;
 ghost use Rattle.violations.specs.Classes.{class_of};
 ghost use Rattle.violations.specs.DoubleWrites.{clash_at};
 ghost use Rattle.one_thread.specs.OneThread as builds;
@@ -16,7 +16,7 @@ use crate::Memory;
 use crate::shared::SharedFiles;
 use bx_io::Gate;
 use observed::{Access, End};
-use pip_inputs::process_at;
+use pip_view_inputs::process_at;
 use pip_model::{Made, Plan, Slot, Sources};
 use pip_view::{Inputs, PipView, desc, plain};
 use run_record::{Cause, Outcome, outcome_of_run};

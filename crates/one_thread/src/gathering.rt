@@ -1,7 +1,7 @@
 //! The files that a whole build gives.
 ghost use Rattle.std.specs.Prelude.{◌≡◌, [], IfOk, OnOk, map};
-ghost use Rattle.pip_outputs.specs.Slots.{slot_files};
-ghost use Rattle.pip_types.specs.Made.{made_files};
+ghost use Rattle.violations.specs.Slots.{slot_files};
+ghost use Rattle.pip_model_types.specs.Made.{made_files};
 ghost use Rattle.one_thread.specs.OneThread.{all_made, put_all};
 
 use crate::Memory;

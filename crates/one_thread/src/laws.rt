@@ -1,8 +1,8 @@
 //! What holds of all builds on one thread.
 ghost use Rattle.std.specs.Prelude.{◌≡◌, ℕ, List, Some, length, slice_get};
 ghost use Rattle.bx_tree.specs.Trees.{Files};
-ghost use Rattle.pip_types.specs.Makers.{IsPipList};
-ghost use Rattle.pip_types.specs.declared.pip.Pip.{Pip};
+ghost use Rattle.pip_model_types.specs.Makers.{IsPipList};
+ghost use Rattle.pip_model_types.specs.declared.pip.Pip.{Pip};
 ghost use Rattle.one_thread.specs.OneThread.{one_thread, result_of};
 
 /// Each pip has a result, which is read off the results of all.

@@ -1,9 +1,8 @@
-//! The reference build: executes all pips sequentially, without a cache; every other way to build is proved
-//! equal to it.
+//! Executes all pips sequentially, without a cache: the reference build that every other build is compared with.
 //!
-//! Pip by pip, what each comes to is read off its inputs, what it sees, and the run of its tool. This crate
-//! depends on `pip_view`, `run_record` and `violations`. It carries the promise that the build is the
-//! definition of it.
+//! Pip by pip, what each comes to is read off its inputs, what it sees, and the run of its tool. This crate depends
+//! on `pip_view`, `run_record` and `violations`, and on `graph_check` for the rules that the pips keep. It carries
+//! the promises that the build is its definition, and that no output file lies below another or is there twice.
 #![tactic(auto)]
 
 mod above;
@@ -11,14 +10,14 @@ mod build;
 mod ended;
 mod gathering;
 mod laws;
+mod outputs_apart;
 mod shared;
 
 pub use build::{Built, build_all};
-pub use ended::{
-    Frame, PipResult, after_run, after_success, inputs_are_good, is_good, made_plainly, skipped,
-};
+pub use ended::{Frame, PipResult, after_run, after_success, inputs_are_good, is_good, made_plainly, skipped};
 pub use gathering::outputs;
 pub use laws::each_result;
+pub use outputs_apart::{kept_files_keep_apart, outputs_keep_apart};
 
 /// Out of memory, the one refusal that no contract ties to a cause.
 pub type Memory = std::alloc::AllocError;

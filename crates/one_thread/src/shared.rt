@@ -3,13 +3,13 @@ ghost use Rattle.std.specs.Prelude.{◌≡◌, ◌++◌, ◌∷◌, [], List, If
 ghost use Rattle.std.specs.BTreeSet.{contains};
 ghost use Rattle.std.specs.List.{list_any};
 ghost use Rattle.bx_tree.specs.Paths.{Atoms, path_cmp};
-ghost use Rattle.own_writes.specs.Below.{is_below as lies_below};
-ghost use Rattle.pip_outputs.specs.Slots.{slot_files};
-ghost use Rattle.pip_types.specs.Made.{made_files};
+ghost use Rattle.tool_run_writes.specs.Below.{is_below as lies_below};
+ghost use Rattle.violations.specs.Slots.{slot_files};
+ghost use Rattle.pip_model_types.specs.Made.{made_files};
 ghost use Rattle.violations.specs.DoubleWrites as double_writes;
 ghost use Rattle.violations.specs.DoubleWrites.{outdirs_in, shared_paths};
 ghost use Rattle.one_thread.specs.Shared.{KeepsShared, any_clash};
-ghost use Rattle.pip_types.specs.Kinds.{outdirs_of};
+ghost use Rattle.pip_model_types.specs.Kinds.{outdirs_of};
 
 use crate::Memory;
 use crate::above::{add_directories, directories};

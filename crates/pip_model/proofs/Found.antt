@@ -6,7 +6,7 @@ use Rattle.std.proofs.lemmas.Bool.{cases_lt}
 use Rattle.std.proofs.lemmas.List.{take_more, get_or_at, get_or_append_left}
 use Rattle.std.proofs.lemmas.List.Concat.{flat_map-append}
 use Rattle.std.proofs.lemmas.Option.{slice_get-get_or}
-use Rattle.pip_types.specs.declared.pip.Pip.{Pip}
+use Rattle.pip_model_types.specs.declared.pip.Pip.{Pip}
 use Rattle.pip_model.specs.Edges.{targets}
 use Rattle.pip_model.specs.Inputs.{AreTargets}
 use Rattle.pip_model.specs.Plans.{AreInputs}

@@ -8,7 +8,7 @@ use Rattle.std.proofs.lemmas.List.Elements.{Contains-append_left, Contains-push}
 use Rattle.std.proofs.lemmas.Slice.Eq.{bytes_eq-Decides}
 use Rattle.bx_tree.specs.declared.file_input.FileInput.{FileInput}
 use Rattle.bx_tree.specs.Paths.{path_text}
-use Rattle.pip_types.specs.declared.pip.Pip.{Pip}
+use Rattle.pip_model_types.specs.declared.pip.Pip.{Pip}
 use Rattle.pip_model.specs.Listings.{HasNear, IsNear, KeepsFound, ListsNear, listed_files}
 use Rattle.pip_model.specs.Outputs.{Table, found_in}
 use Rattle.pip_model.proofs.EdgesBack.{in_range}

@@ -2,7 +2,7 @@
 use Rattle.std.proofs.Common.{◌≡◌, ℕ, suc, ◌+◌, ◌<◌, ◌≤◌, List, ◌++◌, length, drop, get_or, ap, append_assoc, append-nil, sym, ◌∙◌, add-one}
 use Rattle.std.proofs.lemmas.List.{drop_all}
 use Rattle.std.proofs.Math.Seq.{drop-cons}
-use Rattle.pip_types.specs.declared.pip.Pip.{Pip}
+use Rattle.pip_model_types.specs.declared.pip.Pip.{Pip}
 use Rattle.pip_model.specs.Outputs.{numbers_at, numbers_from, output_paths}
 
 next_numbers : (text : List ℕ) (pips : List Pip) (j : ℕ) (pip : Pip) → j < length pips → pip ≡ get_or pips j pip

@@ -5,12 +5,12 @@ use Rattle.std.specs.List.{flat_map}
 use Rattle.bx_tree.specs.Paths.{Atoms, IsBelow}
 use Rattle.bx_tree.specs.declared.file_input.FileInput.{FileInput}
 use Rattle.bx_tree.specs.declared.file_input.FileInput.TheVariants.{Source, Made}
-use Rattle.pip_types.specs.declared.dir_inputs.DirInput.{DirInput}
-use Rattle.pip_types.specs.declared.dir_inputs.DirInput.TheVariants.{Sealed, Opaque}
-use Rattle.pip_types.specs.declared.outputs.OutDir.{OutDir}
-use Rattle.pip_types.specs.declared.pip.Pip.{Pip}
-use Rattle.pip_types.specs.declared.pip.PipKind.{PipKind}
-use Rattle.pip_types.specs.declared.pip.PipKind.TheVariants.{Process, Copy, Write, Seal}
+use Rattle.pip_model_types.specs.declared.dir_inputs.DirInput.{DirInput}
+use Rattle.pip_model_types.specs.declared.dir_inputs.DirInput.TheVariants.{Sealed, Opaque}
+use Rattle.pip_model_types.specs.declared.outputs.OutDir.{OutDir}
+use Rattle.pip_model_types.specs.declared.pip.Pip.{Pip}
+use Rattle.pip_model_types.specs.declared.pip.PipKind.{PipKind}
+use Rattle.pip_model_types.specs.declared.pip.PipKind.TheVariants.{Process, Copy, Write, Seal}
 use Rattle.pip_model.specs.Walks.{Walk}
 
 -- the pip that made a file; a source file has none

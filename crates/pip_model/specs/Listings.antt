@@ -4,13 +4,13 @@ use Rattle.std.specs.Prelude.{length, nat_lt, slice_get}
 use Rattle.std.specs.List.{list_any}
 use Rattle.bx_tree.specs.Paths.{path_text}
 use Rattle.bx_tree.specs.declared.file_input.FileInput.{FileInput}
-use Rattle.pip_types.specs.declared.dir_inputs.DirInput.{DirInput}
-use Rattle.pip_types.specs.declared.pip.Pip.{Pip}
-use Rattle.pip_types.specs.declared.pip.PipKind.{PipKind}
-use Rattle.pip_types.specs.declared.pip.PipKind.TheVariants.{Process, Copy, Write, Seal}
+use Rattle.pip_model_types.specs.declared.dir_inputs.DirInput.{DirInput}
+use Rattle.pip_model_types.specs.declared.pip.Pip.{Pip}
+use Rattle.pip_model_types.specs.declared.pip.PipKind.{PipKind}
+use Rattle.pip_model_types.specs.declared.pip.PipKind.TheVariants.{Process, Copy, Write, Seal}
 use Rattle.pip_model.specs.declared.listings.TheConstants.{FEW_DIRS}
 use Rattle.pip_model.specs.Outputs.{Table, found_in}
-use Rattle.pip_types.specs.Kinds.{taken_dirs}
+use Rattle.pip_model_types.specs.Kinds.{taken_dirs}
 use Rattle.bx_tree.specs.FileInputs.{input_path}
 
 -- the files that a pip lists, none but of a seal

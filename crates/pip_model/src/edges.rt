@@ -6,7 +6,7 @@ ghost use Rattle.pip_model.specs.Plans.{AreAllInputs};
 ghost use Rattle.std.specs.List.{flat_map};
 
 use bx_tree::FileInput;
-use pip_types::{DirInput, Pip, PipKind};
+use pip_model_types::{DirInput, Pip, PipKind};
 use std::alloc::{AllocError, Global};
 use std::marker::Model;
 

@@ -8,7 +8,7 @@ ghost use Rattle.bx_tree.specs.FileInputs.{input_path};
 
 use crate::outputs::ByText;
 use bx_tree::{FileInput, Path};
-use pip_types::{Pip, PipKind};
+use pip_model_types::{Pip, PipKind};
 use std::alloc::{AllocError, Global};
 
 /// Up to this many directories of a process are searched one by one.

@@ -7,10 +7,10 @@ ghost use Rattle.std.specs.Str.{bytes_eq};
 ghost use Rattle.pip_model.specs.Listings.{KeepsFound};
 ghost use Rattle.pip_model.specs.Outputs.{HasOutputsOf, found_in, number_at};
 ghost use Rattle.pip_model.specs.Outputs.{numbers_at, output_paths};
-ghost use Rattle.pip_types.specs.Outputs.{outdir_paths};
+ghost use Rattle.pip_model_types.specs.Outputs.{outdir_paths};
 
 use bx_tree::Path;
-use pip_types::{OutDir, Pip, PipKind};
+use pip_model_types::{OutDir, Pip, PipKind};
 use std::alloc::{AllocError, Global};
 use std::collections::BTreeMap;
 

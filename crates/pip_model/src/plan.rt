@@ -1,6 +1,6 @@
 //! The plan of a build.
 ghost use Rattle.std.specs.Prelude.{◌≡◌, ◌↔◌, ◌<◌, ◌≤◌, ℕ, true, length, All, Contains, IsTrue, IfOk};
-ghost use Rattle.pip_types.specs.Makers.{IsPipList};
+ghost use Rattle.pip_model_types.specs.Makers.{IsPipList};
 ghost use Rattle.pip_model.specs.Edges.{CanProduce, Leads};
 ghost use Rattle.pip_model.specs.Listings.{ListsNear, has_wide};
 ghost use Rattle.pip_model.specs.Outputs.{numbers_from};
@@ -13,7 +13,7 @@ use crate::outputs::{ByText, by_output};
 use crate::producing::produces;
 use crate::reach::all_rows;
 use bx_tree::Path;
-use pip_types::{Pip, PipList};
+use pip_model_types::{Pip, PipList};
 use std::alloc::{AllocError, Global};
 use std::marker::Model;
 

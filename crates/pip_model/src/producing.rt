@@ -4,7 +4,7 @@ ghost use Rattle.bx_tree.specs.Paths.{IsBelow};
 ghost use Rattle.pip_model.specs.Edges.{Produces};
 
 use bx_tree::Path;
-use pip_types::{OutDir, PipKind};
+use pip_model_types::{OutDir, PipKind};
 
 fn is_same_path(a: &Path, b: &Path) -> bool
     ensures { IsTrue result ↔ (a.now ≡ b.now) }

@@ -8,16 +8,16 @@ use Rattle.observed.specs.declared.access.Answer.{Answer}
 use Rattle.observed.specs.declared.access.Answer.TheVariants as answers
 use Rattle.observed.specs.declared.ask.AskKind.{AskKind}
 use Rattle.observed.specs.declared.ask.AskKind.TheVariants as kinds
-use Rattle.own_writes.specs.Writes.{has_below}
-use Rattle.pip_outputs.specs.Producing.{least_unseen}
-use Rattle.pip_types.specs.declared.pip.Pip.{Pip}
-use Rattle.pip_types.specs.declared.pip.PipKind.{PipKind}
-use Rattle.pip_types.specs.declared.pip.ProcessDesc.{ProcessDesc}
+use Rattle.tool_run_writes.specs.Writes.{has_below}
+use Rattle.violations.specs.Producing.{least_unseen}
+use Rattle.pip_model_types.specs.declared.pip.Pip.{Pip}
+use Rattle.pip_model_types.specs.declared.pip.PipKind.{PipKind}
+use Rattle.pip_model_types.specs.declared.pip.ProcessDesc.{ProcessDesc}
 use Rattle.tool_run.specs.Description.{file_answer}
 use Rattle.pip_view.specs.Agreement.{ViewAgrees}
-use Rattle.pip_inputs.specs.Contents.{bytes_at, input_file}
+use Rattle.pip_view_inputs.specs.Contents.{bytes_at, input_file}
 use Rattle.pip_view.specs.InputFiles.{by_pip, dir_members, is_listed, is_opaque, process_files, source_members}
-use Rattle.pip_inputs.specs.Results.{ByPip}
+use Rattle.pip_view_inputs.specs.Results.{ByPip}
 use Rattle.pip_view.specs.Sees.{answer_at, is_root, kind_sees, looked, pip_sees}
 use Rattle.pip_view.proofs.SourceMembers.{at_both, or_else}
 

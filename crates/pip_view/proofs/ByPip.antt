@@ -8,17 +8,17 @@ use Rattle.std.proofs.lemmas.List.Sums.{prefix_len-le-length}
 use Rattle.std.proofs.lemmas.Bool.{cases_Bool, false≢true, ltb-false}
 use Rattle.bx_tree.specs.Paths.{Atoms}
 use Rattle.bx_tree.specs.Trees.{Files}
-use Rattle.pip_types.specs.Dirs.{dir_pip}
-use Rattle.pip_types.specs.declared.dir_inputs.DirInput.{DirInput}
-use Rattle.pip_types.specs.declared.dir_inputs.DirInput.TheVariants.{Sealed, Opaque}
-use Rattle.pip_types.specs.declared.dir_inputs.SealForm.TheVariants.{Full, Partial, SourceTop, SourceAll}
-use Rattle.pip_types.specs.declared.pip.Pip.{Pip}
+use Rattle.pip_model_types.specs.Dirs.{dir_pip}
+use Rattle.pip_model_types.specs.declared.dir_inputs.DirInput.{DirInput}
+use Rattle.pip_model_types.specs.declared.dir_inputs.DirInput.TheVariants.{Sealed, Opaque}
+use Rattle.pip_model_types.specs.declared.dir_inputs.SealForm.TheVariants.{Full, Partial, SourceTop, SourceAll}
+use Rattle.pip_model_types.specs.declared.pip.Pip.{Pip}
 use Rattle.pip_view.specs.Gathered.{opaque_members, with_opaque}
-use Rattle.pip_types.specs.declared.pip.ProcessDesc.{ProcessDesc}
+use Rattle.pip_model_types.specs.declared.pip.ProcessDesc.{ProcessDesc}
 use Rattle.pip_view.specs.InputFiles.{by_pip, dir_members, insert_by_pip, is_listed, is_opaque, listed_in, named_files}
 use Rattle.pip_view.specs.Taken.{dirs_files, taken_bytes, taken_files}
-use Rattle.pip_inputs.specs.Contents.{bytes_at, input_file}
-use Rattle.pip_inputs.specs.Results.{ByPip}
+use Rattle.pip_view_inputs.specs.Contents.{bytes_at, input_file}
+use Rattle.pip_view_inputs.specs.Results.{ByPip}
 
 -- ## Insertion
 

@@ -6,11 +6,11 @@ use Rattle.std.proofs.lemmas.List.{drop-map, drop_all, get_or-map, length-map}
 use Rattle.bx_tree.specs.Paths.{Atoms, path_cmp}
 use Rattle.bx_tree.specs.Trees.{paths_of}
 use Rattle.bx_tree.specs.declared.file_input.FileInput.{FileInput}
-use Rattle.own_writes.specs.Below.{is_below, next_atom}
-use Rattle.own_writes.specs.Writes.{has_below, own_names}
-use Rattle.pip_types.specs.Inputs.{RiseByPath}
-use Rattle.pip_types.specs.Made.{RisingFiles, made_files}
-use Rattle.pip_types.specs.declared.made.MadeFile.{MadeFile}
+use Rattle.tool_run_writes.specs.Below.{is_below, next_atom}
+use Rattle.tool_run_writes.specs.Writes.{has_below, own_names}
+use Rattle.pip_model_types.specs.Inputs.{RiseByPath}
+use Rattle.pip_model_types.specs.Made.{RisingFiles, made_files}
+use Rattle.pip_model_types.specs.declared.made.MadeFile.{MadeFile}
 use Rattle.pip_view.specs.Gathered.{all_taken, as_taken, below_of, names_within}
 use Rattle.pip_view.specs.Taken.{any_below, begins, taken_names, while_begins}
 use Rattle.pip_view.proofs.Begun.{begun_have_all, begun_next, partitioned_files}

@@ -8,8 +8,8 @@ use Rattle.std.proofs.lemmas.Cmp.{nat_list_cmp_total}
 use Rattle.bx_tree.specs.Orders.{equal_texts}
 use Rattle.observed.proofs.OneSet.{has_insert, insert_has, insert_sorted, unique}
 use Rattle.observed.specs.Members.{Has}
-use Rattle.tool_values.specs.Listings.{add_names}
-use Rattle.pip_inputs.proofs.InOrder.{never_both}
+use Rattle.tool_run.specs.Listings.{add_names}
+use Rattle.pip_view_inputs.proofs.InOrder.{never_both}
 
 abbrev pub IsNameSet : List (List ℕ) → Type 0
 IsNameSet set = IsStrictlySortedBy (slice_cmp nat_cmp) set

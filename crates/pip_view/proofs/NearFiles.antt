@@ -8,19 +8,19 @@ use Rattle.std.proofs.lemmas.List.Elements.{filter-append}
 use Rattle.bx_tree.specs.Orders.{same_path_decides}
 use Rattle.bx_tree.specs.Paths.{Atoms, IsBelow, same_path}
 use Rattle.bx_tree.specs.declared.file_input.FileInput.{FileInput}
-use Rattle.own_writes.specs.Below.{is_below, next_atom}
-use Rattle.own_writes.proofs.BelowByAtoms.{below_decides}
-use Rattle.own_writes.proofs.NextAtoms.{none_next}
-use Rattle.pip_types.specs.Dirs.{RiseByForm, dir_pip}
-use Rattle.pip_types.specs.declared.dir_inputs.DirInput.{DirInput}
-use Rattle.pip_types.specs.declared.dir_inputs.DirInput.TheVariants.{Sealed, Opaque}
-use Rattle.pip_types.specs.declared.dir_inputs.SealForm.TheVariants.{Full, Partial, SourceTop, SourceAll}
-use Rattle.pip_types.specs.declared.pip.Pip.{Pip}
-use Rattle.pip_types.specs.declared.pip.PipKind.{PipKind}
-use Rattle.pip_types.specs.declared.pip.PipKind.TheVariants.{Process, Copy, Write, Seal}
+use Rattle.tool_run_writes.specs.Below.{is_below, next_atom}
+use Rattle.tool_run_writes.proofs.BelowByAtoms.{below_decides}
+use Rattle.tool_run_writes.proofs.NextAtoms.{none_next}
+use Rattle.pip_model_types.specs.Dirs.{RiseByForm, dir_pip}
+use Rattle.pip_model_types.specs.declared.dir_inputs.DirInput.{DirInput}
+use Rattle.pip_model_types.specs.declared.dir_inputs.DirInput.TheVariants.{Sealed, Opaque}
+use Rattle.pip_model_types.specs.declared.dir_inputs.SealForm.TheVariants.{Full, Partial, SourceTop, SourceAll}
+use Rattle.pip_model_types.specs.declared.pip.Pip.{Pip}
+use Rattle.pip_model_types.specs.declared.pip.PipKind.{PipKind}
+use Rattle.pip_model_types.specs.declared.pip.PipKind.TheVariants.{Process, Copy, Write, Seal}
 use Rattle.pip_model.specs.Listings.{listed_files}
-use Rattle.pip_near.specs.Near.{AreNear, ListsAt}
-use Rattle.pip_near.proofs.Rising.{at_head, in_decides, in_rest, is_in, none_there, some_by_test}
+use Rattle.pip_view_directories.specs.Near.{AreNear, ListsAt}
+use Rattle.pip_view_directories.proofs.Rising.{at_head, in_decides, in_rest, is_in, none_there, some_by_test}
 use Rattle.pip_view.specs.InputFiles.{listed_by, listed_in}
 use Rattle.pip_view.specs.Taken.{any_below, dir_files, dirs_files, first_at, taken_names}
 use Rattle.pip_view.proofs.TakenFiles.{below_after, first_after, names_after, or_first}

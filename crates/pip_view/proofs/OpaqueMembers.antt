@@ -8,22 +8,22 @@ use Rattle.std.proofs.Math.Seq.{drop-cons}
 use Rattle.bx_tree.specs.Orders.{same_path_decides}
 use Rattle.bx_tree.specs.Paths.{Atoms, same_path}
 use Rattle.bx_tree.specs.Trees.{Files, file_at}
-use Rattle.own_writes.specs.Below.{is_below, next_atom}
-use Rattle.own_writes.specs.Writes.{has_below, own_names}
-use Rattle.own_writes.proofs.BelowByAtoms.{below_decides}
-use Rattle.own_writes.proofs.NextAtoms.{none_next}
-use Rattle.pip_inputs.specs.Plain.{kind_process, process_in}
-use Rattle.pip_inputs.specs.Results.{ByPip}
-use Rattle.pip_outputs.specs.Producing.{dirs_at}
-use Rattle.pip_types.specs.declared.dir_inputs.DirInput.{DirInput}
-use Rattle.pip_types.specs.declared.pip.Pip.{Pip}
-use Rattle.pip_types.specs.declared.pip.PipKind.{PipKind}
-use Rattle.pip_types.specs.declared.pip.PipKind.TheVariants.{Process, Copy, Write, Seal}
+use Rattle.tool_run_writes.specs.Below.{is_below, next_atom}
+use Rattle.tool_run_writes.specs.Writes.{has_below, own_names}
+use Rattle.tool_run_writes.proofs.BelowByAtoms.{below_decides}
+use Rattle.tool_run_writes.proofs.NextAtoms.{none_next}
+use Rattle.pip_view_inputs.specs.Plain.{kind_process, process_in}
+use Rattle.pip_view_inputs.specs.Results.{ByPip}
+use Rattle.violations.specs.Producing.{dirs_at}
+use Rattle.pip_model_types.specs.declared.dir_inputs.DirInput.{DirInput}
+use Rattle.pip_model_types.specs.declared.pip.Pip.{Pip}
+use Rattle.pip_model_types.specs.declared.pip.PipKind.{PipKind}
+use Rattle.pip_model_types.specs.declared.pip.PipKind.TheVariants.{Process, Copy, Write, Seal}
 use Rattle.pip_view.specs.Gathered.{below_of, deeper, dirs_now, members_of, opaque_members}
 use Rattle.pip_view.specs.InputFiles.{by_pip, is_opaque}
 use Rattle.pip_view.specs.Seen.{KeepsView, ViewData, opaque_by, opaque_in}
 use Rattle.pip_view.proofs.SourceMembers.{at_both, below_both, names_both, or_else}
-use Rattle.pip_types.specs.Kinds.{taken_dirs}
+use Rattle.pip_model_types.specs.Kinds.{taken_dirs}
 
 -- ## Two directories
 

@@ -13,23 +13,23 @@ use Rattle.observed.specs.declared.access.Answer.TheVariants as answers
 use Rattle.observed.specs.declared.ask.Ask.{Ask}
 use Rattle.observed.specs.declared.ask.AskKind.{AskKind}
 use Rattle.observed.specs.declared.ask.AskKind.TheVariants as kinds
-use Rattle.own_writes.specs.Below.{is_below, next_atom}
-use Rattle.own_writes.specs.Writes.{has_below, own_names}
-use Rattle.pip_outputs.specs.Producing.{dirs_at, least_unseen}
-use Rattle.pip_types.specs.declared.pip.Pip.{Pip}
-use Rattle.pip_types.specs.declared.pip.PipKind.{PipKind}
-use Rattle.pip_types.specs.declared.pip.ProcessDesc.{ProcessDesc}
-use Rattle.pip_types.specs.declared.pip.PipKind.TheVariants.{Process, Copy, Write, Seal}
-use Rattle.tool_values.specs.Listings.{add_names, names_text}
+use Rattle.tool_run_writes.specs.Below.{is_below, next_atom}
+use Rattle.tool_run_writes.specs.Writes.{has_below, own_names}
+use Rattle.violations.specs.Producing.{dirs_at, least_unseen}
+use Rattle.pip_model_types.specs.declared.pip.Pip.{Pip}
+use Rattle.pip_model_types.specs.declared.pip.PipKind.{PipKind}
+use Rattle.pip_model_types.specs.declared.pip.ProcessDesc.{ProcessDesc}
+use Rattle.pip_model_types.specs.declared.pip.PipKind.TheVariants.{Process, Copy, Write, Seal}
+use Rattle.tool_run.specs.Listings.{add_names, names_text}
 use Rattle.pip_view.specs.InputFiles.{input_files, is_source_of}
 use Rattle.pip_view.specs.Sees.{as_input, as_source, is_root, looked, pip_sees}
 use Rattle.pip_view.specs.Seen.{AnswerAs, ViewData, answer_by_source, answer_elsewhere, answer_unnamed, is_sealed_at, is_unseen_at, named_by, named_in, opaque_by, opaque_in, taken_by, taken_in, view_answers}
-use Rattle.pip_inputs.specs.Plain.{kind_process, process_in}
+use Rattle.pip_view_inputs.specs.Plain.{kind_process, process_in}
 use Rattle.pip_view.proofs.ByPip.{named_split}
 use Rattle.pip_view.proofs.NameSets.{IsNameSet, added_after, one_addition, set_has, set_kept}
 use Rattle.pip_view.proofs.Together.{below_sources, names_sources}
 use Rattle.pip_view.proofs.SourceMembers.{at_both, below_both, has_both, names_both, or_else, sealed_at, sealed_below, sealed_names, sealed_sources}
-use Rattle.pip_types.specs.Kinds.{taken_dirs}
+use Rattle.pip_model_types.specs.Kinds.{taken_dirs}
 
 -- the input files are the named ones, and the members of seals of source files
 all_inputs : (v : ViewData) (kind : PipKind) → input_files v.pips v.tree v.inputs kind ≡ named_by v (kind_process kind) ++ sealed_sources v.pips v.tree v.inputs (taken_dirs kind)

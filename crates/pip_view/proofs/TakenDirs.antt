@@ -4,24 +4,24 @@ use Rattle.std.specs.Borrow.{Bor}
 use Rattle.std.specs.List.Sorted.{IsStrictlySortedBy}
 use Rattle.std.specs.Option.{option_copied}
 use Rattle.std.specs.Prelude.{IfSome, IsSomeAnd, slice_get}
-use Rattle.pip_outputs.specs.Producing.{dirs_at}
-use Rattle.pip_types.specs.Dirs.{RiseByForm}
+use Rattle.violations.specs.Producing.{dirs_at}
+use Rattle.pip_model_types.specs.Dirs.{RiseByForm}
 use Rattle.std.specs.List.{All}
 use Rattle.std.proofs.lemmas.Bool.{lt-ltb}
 use Rattle.std.proofs.lemmas.List.Elements.{All-weaker}
 use Rattle.std.proofs.lemmas.List.Folds.{list_any_at}
-use Rattle.pip_types.specs.Makers.{HasOutDir, IsDirAmong, IsPipList, IsSealOf, NamesAmong}
-use Rattle.pip_types.specs.declared.dir_inputs.DirInput.{DirInput}
-use Rattle.pip_types.specs.declared.dir_inputs.DirInput.TheVariants.{Sealed, Opaque}
-use Rattle.pip_types.specs.declared.pip.Pip.{Pip}
-use Rattle.pip_types.specs.declared.pip.PipKind.{PipKind}
-use Rattle.pip_types.specs.declared.pip.PipKind.TheVariants.{Process, Copy, Write, Seal}
-use Rattle.pip_types.specs.declared.pip.ProcessDesc.{ProcessDesc}
-use Rattle.pip_inputs.specs.Plain.{kind_process, process_in}
+use Rattle.pip_model_types.specs.Makers.{HasOutDir, IsDirAmong, IsPipList, IsSealOf, NamesAmong}
+use Rattle.pip_model_types.specs.declared.dir_inputs.DirInput.{DirInput}
+use Rattle.pip_model_types.specs.declared.dir_inputs.DirInput.TheVariants.{Sealed, Opaque}
+use Rattle.pip_model_types.specs.declared.pip.Pip.{Pip}
+use Rattle.pip_model_types.specs.declared.pip.PipKind.{PipKind}
+use Rattle.pip_model_types.specs.declared.pip.PipKind.TheVariants.{Process, Copy, Write, Seal}
+use Rattle.pip_model_types.specs.declared.pip.ProcessDesc.{ProcessDesc}
+use Rattle.pip_view_inputs.specs.Plain.{kind_process, process_in}
 use Rattle.pip_model.specs.Listings.{is_wide}
 use Rattle.pip_model.specs.declared.listings.TheConstants.{FEW_DIRS}
-use Rattle.pip_near.specs.Near.{AreTaken}
-use Rattle.pip_types.specs.Kinds.{taken_dirs}
+use Rattle.pip_view_directories.specs.Near.{AreTaken}
+use Rattle.pip_model_types.specs.Kinds.{taken_dirs}
 
 kind_is : (kind : PipKind) (d : ProcessDesc) → kind_process kind ≡ Some d → kind ≡ Process d
 kind_is (Process e) d h = let same : e ≡ d = cc in ap Process same

@@ -7,13 +7,13 @@ use Rattle.bx_tree.specs.Orders.{same_path_decides}
 use Rattle.bx_tree.specs.Paths.{Atoms, same_path}
 use Rattle.bx_tree.specs.Trees.{Files, file_at}
 use Rattle.bx_tree.specs.declared.file_input.FileInput.{FileInput}
-use Rattle.own_writes.specs.Below.{is_below, next_atom}
-use Rattle.own_writes.specs.Writes.{has_below, own_names}
-use Rattle.pip_inputs.specs.Contents.{bytes_at, input_bytes}
-use Rattle.pip_inputs.specs.Results.{ByPip}
-use Rattle.pip_types.specs.declared.dir_inputs.DirInput.{DirInput}
-use Rattle.pip_types.specs.declared.pip.Pip.{Pip}
-use Rattle.pip_types.specs.declared.pip.ProcessDesc.{ProcessDesc}
+use Rattle.tool_run_writes.specs.Below.{is_below, next_atom}
+use Rattle.tool_run_writes.specs.Writes.{has_below, own_names}
+use Rattle.pip_view_inputs.specs.Contents.{bytes_at, input_bytes}
+use Rattle.pip_view_inputs.specs.Results.{ByPip}
+use Rattle.pip_model_types.specs.declared.dir_inputs.DirInput.{DirInput}
+use Rattle.pip_model_types.specs.declared.pip.Pip.{Pip}
+use Rattle.pip_model_types.specs.declared.pip.ProcessDesc.{ProcessDesc}
 use Rattle.pip_view.specs.Taken.{any_below, dir_files, dirs_files, executable, first_at, taken_bytes, taken_names}
 use Rattle.bx_tree.specs.FileInputs.{input_path}
 

@@ -3,13 +3,13 @@ use Rattle.std.specs.Prelude.{◌≡◌, ℕ, List, Some, slice_get}
 use Rattle.bx_tree.specs.Trees.{Files}
 use Rattle.observed.specs.declared.access.Answer.{Answer}
 use Rattle.observed.specs.declared.ask.Ask.{Ask}
-use Rattle.pip_types.specs.declared.pip.Pip.{Pip}
-use Rattle.pip_types.specs.declared.pip.PipKind.TheVariants.{Process}
-use Rattle.pip_types.specs.declared.pip.ProcessDesc.{ProcessDesc}
+use Rattle.pip_model_types.specs.declared.pip.Pip.{Pip}
+use Rattle.pip_model_types.specs.declared.pip.PipKind.TheVariants.{Process}
+use Rattle.pip_model_types.specs.declared.pip.ProcessDesc.{ProcessDesc}
 use Rattle.tool_run.specs.Described.{described}
 use Rattle.tool_run.specs.Description.{given}
-use Rattle.pip_inputs.specs.Plain.{desc_of}
-use Rattle.pip_inputs.specs.Results.{ByPip}
+use Rattle.pip_view_inputs.specs.Plain.{desc_of}
+use Rattle.pip_view_inputs.specs.Results.{ByPip}
 use Rattle.pip_view.specs.Sees.{sees}
 
 -- Where the description of process i answers a read or a probe of its executable or of a declared file, what

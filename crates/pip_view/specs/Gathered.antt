@@ -6,13 +6,13 @@ use Rattle.bx_tree.specs.Paths.{Atoms, same_path}
 use Rattle.bx_tree.specs.Trees.{Files}
 use Rattle.bx_tree.specs.declared.file_input.FileInput.{FileInput}
 use Rattle.bx_tree.specs.declared.file_input.FileInput.TheVariants.{Source}
-use Rattle.own_writes.specs.Below.{is_below}
-use Rattle.pip_types.specs.declared.dir_inputs.DirInput.{DirInput}
-use Rattle.pip_types.specs.declared.dir_inputs.DirInput.TheVariants.{Sealed, Opaque}
-use Rattle.pip_types.specs.declared.made.MadeFile.{MadeFile}
+use Rattle.tool_run_writes.specs.Below.{is_below}
+use Rattle.pip_model_types.specs.declared.dir_inputs.DirInput.{DirInput}
+use Rattle.pip_model_types.specs.declared.dir_inputs.DirInput.TheVariants.{Sealed, Opaque}
+use Rattle.pip_model_types.specs.declared.made.MadeFile.{MadeFile}
 use Rattle.pip_view.specs.InputFiles.{by_pip, insert_by_pip, is_opaque}
 use Rattle.pip_view.specs.Taken.{taken_names}
-use Rattle.pip_inputs.specs.Results.{ByPip, files_by}
+use Rattle.pip_view_inputs.specs.Results.{ByPip, files_by}
 use Rattle.bx_tree.specs.FileInputs.{input_path}
 
 -- the files that lie below a directory

@@ -5,7 +5,7 @@ use Rattle.std.specs.List.{AllByRecursion}
 use Rattle.std.specs.List.Sorted.{IsStrictlySortedBy}
 use Rattle.std.specs.Ordering.{is_lt, nat_cmp}
 use Rattle.bx_tree.specs.Paths.{Atoms, IsPath, path_cmp, path_text}
-use Rattle.own_writes.specs.Below.{is_below}
+use Rattle.tool_run_writes.specs.Below.{is_below}
 
 -- paths of files, in order
 pub record AreFilePaths (paths : List Atoms) : Type 0 where

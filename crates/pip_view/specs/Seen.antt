@@ -9,18 +9,18 @@ use Rattle.observed.specs.declared.access.Answer.{Answer}
 use Rattle.observed.specs.declared.access.Answer.TheVariants as answers
 use Rattle.observed.specs.declared.ask.Ask.{Ask}
 use Rattle.observed.specs.declared.ask.AskKind.{AskKind}
-use Rattle.own_writes.specs.Below.{is_below}
-use Rattle.own_writes.specs.Writes.{has_below, own_names}
-use Rattle.pip_near.specs.Ranges.{AreOthers}
-use Rattle.pip_types.specs.Dirs.{RiseByForm}
-use Rattle.pip_types.specs.declared.dir_inputs.DirInput.{DirInput}
-use Rattle.pip_types.specs.declared.pip.Pip.{Pip}
-use Rattle.pip_types.specs.declared.pip.ProcessDesc.{ProcessDesc}
-use Rattle.pip_outputs.specs.Producing.{dirs_at, least_unseen}
+use Rattle.tool_run_writes.specs.Below.{is_below}
+use Rattle.tool_run_writes.specs.Writes.{has_below, own_names}
+use Rattle.pip_view_directories.specs.Ranges.{AreOthers}
+use Rattle.pip_model_types.specs.Dirs.{RiseByForm}
+use Rattle.pip_model_types.specs.declared.dir_inputs.DirInput.{DirInput}
+use Rattle.pip_model_types.specs.declared.pip.Pip.{Pip}
+use Rattle.pip_model_types.specs.declared.pip.ProcessDesc.{ProcessDesc}
+use Rattle.violations.specs.Producing.{dirs_at, least_unseen}
 use Rattle.pip_view.specs.Gathered.{members_of}
 use Rattle.pip_view.specs.InputFiles.{by_pip, is_opaque, is_source_of, named_files}
-use Rattle.pip_inputs.specs.Plain.{process_in}
-use Rattle.pip_inputs.specs.Results.{ByPip}
+use Rattle.pip_view_inputs.specs.Plain.{process_in}
+use Rattle.pip_view_inputs.specs.Results.{ByPip}
 use Rattle.pip_view.specs.Sees.{as_input, as_source, is_root, sees}
 use Rattle.pip_view.specs.Taken.{taken_bytes, taken_files}
 

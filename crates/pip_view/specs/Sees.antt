@@ -2,20 +2,20 @@
 use Rattle.std.specs.Prelude.{ℕ, Bool, true, false, ◌||◌, if◌then◌else◌, List, [], ◌∷◌, ◌++◌, Option, Some}
 use Rattle.std.specs.Prelude.{None, is_some, slice_get}
 use Rattle.bx_tree.specs.Paths.{Atoms}
-use Rattle.pip_inputs.specs.Results.{ByPip}
+use Rattle.pip_view_inputs.specs.Results.{ByPip}
 use Rattle.bx_tree.specs.Trees.{Files, file_at}
-use Rattle.pip_types.specs.declared.pip.Pip.{Pip}
-use Rattle.pip_types.specs.declared.pip.PipKind.{PipKind}
+use Rattle.pip_model_types.specs.declared.pip.Pip.{Pip}
+use Rattle.pip_model_types.specs.declared.pip.PipKind.{PipKind}
 use Rattle.observed.specs.declared.ask.AskKind.{AskKind}
 use Rattle.observed.specs.declared.ask.AskKind.TheVariants as kinds
 use Rattle.observed.specs.declared.ask.Ask.{Ask}
 use Rattle.observed.specs.declared.access.Answer.{Answer}
 use Rattle.observed.specs.declared.access.Answer.TheVariants as answers
-use Rattle.own_writes.specs.Writes.{has_below, own_names}
-use Rattle.tool_values.specs.Listings.{add_names, names_text}
+use Rattle.tool_run_writes.specs.Writes.{has_below, own_names}
+use Rattle.tool_run.specs.Listings.{add_names, names_text}
 use Rattle.pip_view.specs.InputFiles.{input_files}
-use Rattle.pip_outputs.specs.Producing.{least_unseen}
-use Rattle.pip_types.specs.Kinds.{taken_dirs}
+use Rattle.violations.specs.Producing.{least_unseen}
+use Rattle.pip_model_types.specs.Kinds.{taken_dirs}
 
 -- whether the path is the root, which has no atoms
 abbrev pub is_root : Atoms → Bool

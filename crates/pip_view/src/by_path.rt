@@ -1,6 +1,6 @@
 //! Files of a map by path, as those that a pip made.
 ghost use Rattle.std.specs.Prelude.{◌≡◌, IfOk};
-ghost use Rattle.pip_types.specs.Made.{RisingFiles, made_files};
+ghost use Rattle.pip_model_types.specs.Made.{RisingFiles, made_files};
 
 use crate::Memory;
 use bx_digest::Blob;

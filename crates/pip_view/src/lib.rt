@@ -1,9 +1,8 @@
-//! The file system as a process sees it: declared inputs, other sources, and outputs of other pips that are
-//! hidden from it.
+//! File access rules: what a process sees of the files around it.
 //!
-//! The view of a process is the rule of its input files, of other source files, and of what other pips can
-//! produce. This crate depends on `pip_inputs` for the results of its inputs, on `pip_outputs` for what pips
-//! can produce, on `pip_near` for the directories that matter at a path, and on `observed` and `own_writes` for
+//! The view of a process is the rule of its input files, of other source files, and of what other pips can produce.
+//! This crate depends on `pip_view_inputs` for the results of its inputs, on `violations` for what pips can produce,
+//! on `pip_view_directories` for the directories that matter at a path, and on `observed` and `tool_run_writes` for
 //! what runs ask and are answered. It carries the promise that a view answers as the rules of a build say.
 #![tactic(auto)]
 
@@ -19,7 +18,7 @@ mod view;
 
 pub use by_path::made_of;
 pub use laws::view_agrees;
-pub use pip_inputs::{Inputs, desc, plain};
+pub use pip_view_inputs::{Inputs, desc, plain};
 pub use view::PipView;
 
 /// Out of memory, the one refusal that no contract ties to a cause.

@@ -5,17 +5,17 @@ ghost use Rattle.std.specs.List.{position_or_len};
 ghost use Rattle.std.specs.Option.{option_copied};
 ghost use Rattle.bx_tree.specs.Paths.{same_path};
 ghost use Rattle.bx_tree.specs.Trees.{file_at};
-ghost use Rattle.own_writes.specs.Below.{is_below as lies_below};
-ghost use Rattle.own_writes.specs.Writes.{has_below as file_below, own_names};
-ghost use Rattle.pip_inputs.specs.Results.{files_by};
-ghost use Rattle.pip_types.specs.Dirs.{dir_pip};
-ghost use Rattle.pip_types.specs.Made.{RisingFiles, made_files};
-ghost use Rattle.pip_types.specs.declared.dir_inputs.DirInput.{DirInput as AnyDir};
+ghost use Rattle.tool_run_writes.specs.Below.{is_below as lies_below};
+ghost use Rattle.tool_run_writes.specs.Writes.{has_below as file_below, own_names};
+ghost use Rattle.pip_view_inputs.specs.Results.{files_by};
+ghost use Rattle.pip_model_types.specs.Dirs.{dir_pip};
+ghost use Rattle.pip_model_types.specs.Made.{RisingFiles, made_files};
+ghost use Rattle.pip_model_types.specs.declared.dir_inputs.DirInput.{DirInput as AnyDir};
 ghost use Rattle.pip_view.specs.Gathered.{below_of, deeper as deeper_of, dirs_now, members_of};
 ghost use Rattle.pip_view.specs.Gathered.{opaque_members, opaque_of, with_opaque};
 ghost use Rattle.pip_view.specs.InputFiles.{by_pip, insert_by_pip as with_dir, is_opaque as opaque};
-ghost use Rattle.tool_values.specs.Listings.{add_names as with_names};
-ghost use Rattle.tool_values.specs.NameSets.{names_now};
+ghost use Rattle.tool_run.specs.Listings.{add_names as with_names};
+ghost use Rattle.tool_run.specs.NameSets.{names_now};
 ghost use Rattle.bx_tree.specs.Lent.{texts_now};
 
 use crate::below::{is_below, prefix_of};
@@ -23,10 +23,10 @@ use crate::made_list::{add_below, has_below};
 use crate::{Memory, Names};
 use bx_digest::Blob;
 use bx_tree::Path;
-use pip_inputs::Inputs;
+use pip_view_inputs::Inputs;
 use pip_model::{DirInput, DirInputs, MadeFile};
 use std::alloc::Global;
-use tool_values::add_names;
+use tool_run::add_names;
 
 // The pip whose directory this is.
 fn pip_of(dir: &DirInput) -> u32

@@ -2,11 +2,11 @@
 ghost use Rattle.std.specs.Prelude.{◌≡◌, ◌++◌, ◌∷◌, [], IfOk, OnOk, slice_get};
 ghost use Rattle.std.specs.Option.{option_copied, option_map_or};
 ghost use Rattle.bx_tree.specs.Trees.{file_at as found_at};
-ghost use Rattle.tool_values.specs.Listings.{add_names as with_names};
-ghost use Rattle.tool_values.specs.NameSets.{names_now};
-ghost use Rattle.pip_inputs.specs.Contents.{input_bytes};
-ghost use Rattle.pip_near.specs.Near.{AreTaken};
-ghost use Rattle.pip_types.specs.Inputs.{RiseByPath};
+ghost use Rattle.tool_run.specs.Listings.{add_names as with_names};
+ghost use Rattle.tool_run.specs.NameSets.{names_now};
+ghost use Rattle.pip_view_inputs.specs.Contents.{input_bytes};
+ghost use Rattle.pip_view_directories.specs.Near.{AreTaken};
+ghost use Rattle.pip_model_types.specs.Inputs.{RiseByPath};
 ghost use Rattle.pip_view.specs.InputFiles.{listed_in};
 ghost use Rattle.pip_view.specs.Taken.{any_below, dir_files, dirs_files, executable, first_at};
 ghost use Rattle.pip_view.specs.Taken.{taken_bytes, taken_files, taken_names};
@@ -18,11 +18,11 @@ use crate::file_list::{add_below, file_at, has_below};
 use crate::{Memory, Names};
 use bx_digest::Blob;
 use bx_tree::{FileInput, Path};
-use pip_inputs::{Inputs, input_file, source_blob};
+use pip_view_inputs::{Inputs, input_file, source_blob};
 use pip_model::{DirInput, FileInputs, Pip, PipKind, Plan, ProcessDesc, SealForm, Sources};
-use pip_near::{near_dirs, searched};
+use pip_view_directories::{near_dirs, searched};
 use std::alloc::Global;
-use tool_values::add_names;
+use tool_run::add_names;
 
 // The files that a pip lists, if it is a seal.
 fn listed(pips: &[Pip], pip: u32) -> Option<&FileInputs>

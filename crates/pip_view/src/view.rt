@@ -1,16 +1,16 @@
 //! What a pip sees.
 ghost use Rattle.std.specs.Prelude.{◌≡◌, ◌≢◌, ◌<◌, ◌||◌, IfOk, IfSome, OnOk, if◌then◌else◌, length, slice_get};
 ghost use Rattle.std.specs.List.{filter_map, list_any};
-ghost use Rattle.own_writes.specs.Below.{next_atom};
+ghost use Rattle.tool_run_writes.specs.Below.{next_atom};
 ghost use Rattle.std.specs.Option.{option_copied};
 ghost use Rattle.bx_tree.specs.Trees.{file_at};
-ghost use Rattle.own_writes.specs.Writes.{has_below as file_below, own_names};
-ghost use Rattle.pip_inputs.specs.Plain.{process_in};
-ghost use Rattle.pip_near.specs.Near.{AreTaken};
-ghost use Rattle.pip_types.specs.Dirs.{RiseByForm};
-ghost use Rattle.tool_values.specs.Listings.{add_names as with_names};
-ghost use Rattle.tool_values.specs.NameSets.{names_now};
-ghost use Rattle.pip_outputs.specs.Producing.{dirs_at as dirs_of_pip};
+ghost use Rattle.tool_run_writes.specs.Writes.{has_below as file_below, own_names};
+ghost use Rattle.pip_view_inputs.specs.Plain.{process_in};
+ghost use Rattle.pip_view_directories.specs.Near.{AreTaken};
+ghost use Rattle.pip_model_types.specs.Dirs.{RiseByForm};
+ghost use Rattle.tool_run.specs.Listings.{add_names as with_names};
+ghost use Rattle.tool_run.specs.NameSets.{names_now};
+ghost use Rattle.violations.specs.Producing.{dirs_at as dirs_of_pip};
 ghost use Rattle.pip_view.specs.InputFiles as files;
 ghost use Rattle.pip_view.specs.Ranges.{AreFilePaths};
 ghost use Rattle.pip_view.specs.Sees as seen;
@@ -26,14 +26,14 @@ use crate::{Memory, Names};
 use bx_digest::Blob;
 use bx_tree::Path;
 use observed::{Answer, Ask, AskKind, View};
-use pip_inputs::{Inputs, process_at};
+use pip_view_inputs::{Inputs, process_at};
 use pip_model::{DirInput, DirInputs, Pip, Plan, ProcessDesc, SealForm, Sources};
-use pip_near::{around_dirs, other_dirs, searched};
-use pip_outputs::least_unseen;
+use pip_view_directories::{around_dirs, other_dirs, searched};
+use violations::least_unseen;
 use std::alloc::Global;
 use std::collections::BTreeSet;
 use std::marker::Model;
-use tool_values::{add_names, lines};
+use tool_run::{add_names, lines};
 
 /// What a pip sees of the source files and of what its inputs made, without what its own run writes.
 #[derive(Drop)]

@@ -7,17 +7,17 @@ use Rattle.bx_tree.specs.Paths.{Atoms, IsPath, path_cmp}
 use Rattle.bx_tree.specs.Trees.{Files, paths_of}
 use Rattle.bx_tree.specs.declared.file_input.FileInput.{FileInput}
 use Rattle.bx_tree.specs.declared.file_input.FileInput.TheVariants.{Source}
-use Rattle.pip_types.specs.Args.{IsSortedByName}
-use Rattle.pip_types.specs.Dirs.{RiseByForm}
-use Rattle.pip_types.specs.Made.{RisingFiles, made_files}
-use Rattle.pip_types.specs.Orders.{dir_cmp_total}
-use Rattle.pip_types.specs.Outputs.{outdir_cmp}
-use Rattle.pip_types.specs.declared.args.EnvPair.{EnvPair}
-use Rattle.pip_types.specs.declared.desc.Desc.{Desc}
-use Rattle.pip_types.specs.declared.dir_inputs.DirInput.{DirInput}
-use Rattle.pip_types.specs.declared.made.MadeFile.{MadeFile}
-use Rattle.pip_types.specs.declared.outputs.OutDir.{OutDir}
-use Rattle.stored_lines.proofs.Rising.{map_same}
+use Rattle.pip_model_types.specs.Args.{IsSortedByName}
+use Rattle.pip_model_types.specs.Dirs.{RiseByForm}
+use Rattle.pip_model_types.specs.Made.{RisingFiles, made_files}
+use Rattle.pip_model_types.specs.Orders.{dir_cmp_total}
+use Rattle.pip_model_types.specs.Outputs.{outdir_cmp}
+use Rattle.pip_model_types.specs.declared.args.EnvPair.{EnvPair}
+use Rattle.pip_model_types.specs.declared.desc.Desc.{Desc}
+use Rattle.pip_model_types.specs.declared.dir_inputs.DirInput.{DirInput}
+use Rattle.pip_model_types.specs.declared.made.MadeFile.{MadeFile}
+use Rattle.pip_model_types.specs.declared.outputs.OutDir.{OutDir}
+use Rattle.prints.proofs.Rising.{map_same}
 use Rattle.prints.specs.declared.weak_lines.DirLine.{DirLine}
 use Rattle.prints.specs.declared.weak_lines.FileLine.{FileLine}
 use Rattle.prints.specs.declared.weak_parts.WeakParts.{WeakParts}

@@ -10,10 +10,10 @@ use Rattle.std.proofs.lemmas.List.Sorted.{Contains-permutation, IsPermutation-sy
 use Rattle.bx_tree.specs.Paths.{Atoms, path_cmp, same_path}
 use Rattle.bx_tree.specs.Orders.{path_cmp_total, path_cmp_matches}
 use Rattle.observed.proofs.OneSet.{contains_has, has_contained, unique}
-use Rattle.pip_types.specs.Inputs.{RiseByPath}
-use Rattle.pip_types.specs.Sets.{IsSetOf}
-use Rattle.stored_lines.specs.Lines.{rises}
-use Rattle.stored_lines.proofs.Rising.{rising_sorted}
+use Rattle.pip_model_types.specs.Inputs.{RiseByPath}
+use Rattle.pip_model_types.specs.Sets.{IsSetOf}
+use Rattle.prints.specs.Lines.{rises}
+use Rattle.prints.proofs.Rising.{rising_sorted}
 use Rattle.prints.specs.declared.weak_lines.FileLine.{FileLine}
 use Rattle.prints.specs.ReadWeak.{file_before, sources_of}
 use Rattle.bx_tree.specs.FileInputs.{input_path}

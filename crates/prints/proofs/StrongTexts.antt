@@ -1,9 +1,9 @@
 -- What a strong text is read as.
 use Rattle.std.proofs.Common.{◌≡◌, ◌↔◌, ℕ, false, List, codes, Some, None, refl, sym, ap, ◌∙◌}
-use Rattle.stored_lines.specs.Forms.{IsForm}
-use Rattle.stored_lines.proofs.Combining.{after_form, as_form, pair_form, whole_again, whole_read}
-use Rattle.stored_lines.proofs.LineLists.{lines_form}
-use Rattle.stored_lines.proofs.PartForms.{digest_form, newline}
+use Rattle.prints.specs.Forms.{IsForm}
+use Rattle.prints.proofs.Combining.{after_form, as_form, pair_form, whole_again, whole_read}
+use Rattle.prints.proofs.LineLists.{lines_form}
+use Rattle.prints.proofs.PartForms.{digest_form, newline}
 use Rattle.prints.specs.declared.strong_parts.StrongParts.{StrongParts}
 use Rattle.prints.specs.Strong.{IsStrong, has_more, parts_of, read_strong_text, strong_at, strong_text}
 use Rattle.prints.specs.AnswerForms.{answer_form, answer_seen}

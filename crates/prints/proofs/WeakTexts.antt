@@ -14,20 +14,20 @@ use Rattle.bx_tree.specs.Paths.{Atoms, IsPath, path_cmp}
 use Rattle.bx_tree.specs.Orders.{path_cmp_total}
 use Rattle.bx_tree.specs.declared.file_input.FileInput.{FileInput}
 use Rattle.bx_tree.specs.declared.file_input.FileInput.TheVariants.{Source}
-use Rattle.pip_types.specs.Dirs.{RiseByForm, dir_cmp, dir_path, form_rank}
-use Rattle.pip_types.specs.Inputs.{RiseByPath}
-use Rattle.pip_types.specs.Orders.{dir_cmp_total, outdir_cmp_total}
-use Rattle.pip_types.specs.declared.args.EnvPair.{EnvPair}
-use Rattle.pip_types.specs.declared.dir_inputs.SealForm.{SealForm}
-use Rattle.pip_types.specs.declared.dir_inputs.DirInput.{DirInput}
-use Rattle.pip_types.specs.declared.dir_inputs.DirInput.TheVariants.{Sealed, Opaque}
-use Rattle.pip_types.specs.declared.outputs.OutDir.{OutDir}
-use Rattle.stored_lines.specs.Forms.{IsForm}
-use Rattle.stored_lines.specs.Lines.{begins, rises}
-use Rattle.stored_lines.specs.Reading.{both_at}
-use Rattle.stored_lines.proofs.Combining.{after_form, as_form, both_form, form_of, only_form, pair_form, whole_again, whole_read}
-use Rattle.stored_lines.proofs.LineLists.{lines_form}
-use Rattle.stored_lines.proofs.Rising.{map_same, rising_sorted, rising_sorted_by, sorted_by_rising, sorted_rising}
+use Rattle.pip_model_types.specs.Dirs.{RiseByForm, dir_cmp, dir_path, form_rank}
+use Rattle.pip_model_types.specs.Inputs.{RiseByPath}
+use Rattle.pip_model_types.specs.Orders.{dir_cmp_total, outdir_cmp_total}
+use Rattle.pip_model_types.specs.declared.args.EnvPair.{EnvPair}
+use Rattle.pip_model_types.specs.declared.dir_inputs.SealForm.{SealForm}
+use Rattle.pip_model_types.specs.declared.dir_inputs.DirInput.{DirInput}
+use Rattle.pip_model_types.specs.declared.dir_inputs.DirInput.TheVariants.{Sealed, Opaque}
+use Rattle.pip_model_types.specs.declared.outputs.OutDir.{OutDir}
+use Rattle.prints.specs.Forms.{IsForm}
+use Rattle.prints.specs.Lines.{begins, rises}
+use Rattle.prints.specs.Reading.{both_at}
+use Rattle.prints.proofs.Combining.{after_form, as_form, both_form, form_of, only_form, pair_form, whole_again, whole_read}
+use Rattle.prints.proofs.LineLists.{lines_form}
+use Rattle.prints.proofs.Rising.{map_same, rising_sorted, rising_sorted_by, sorted_by_rising, sorted_rising}
 use Rattle.prints.specs.declared.weak_reading.Head.{Head}
 use Rattle.prints.specs.declared.weak_reading.Lists.{Lists}
 use Rattle.prints.specs.declared.weak_lines.DirLine.{DirLine}

@@ -4,12 +4,12 @@ use Rattle.std.proofs.Common.{◌≡◌, ℕ, true, List, ◌++◌, codes, Optio
 use Rattle.std.proofs.Common.{◌∙◌}
 use Rattle.hex.specs.Hex.{encode_lower}
 use Rattle.observed.specs.Texts.{after_prefix}
-use Rattle.stored_lines.specs.Forms.{Anything, IsForm}
-use Rattle.stored_lines.specs.Parts.{named_digest}
-use Rattle.stored_lines.specs.Reading.{◌>>=◌}
-use Rattle.stored_lines.proofs.Combining.{bind_some, prefix_sound, some_same}
-use Rattle.stored_lines.proofs.PartForms.{Lacks, digest_again, digest_sound, hex_lacks, lacks_append, newline}
-use Rattle.stored_lines.proofs.PartForms.{part_form}
+use Rattle.prints.specs.Forms.{Anything, IsForm}
+use Rattle.prints.specs.Parts.{named_digest}
+use Rattle.prints.specs.Reading.{◌>>=◌}
+use Rattle.prints.proofs.Combining.{bind_some, prefix_sound, some_same}
+use Rattle.prints.proofs.PartForms.{Lacks, digest_again, digest_sound, hex_lacks, lacks_append, newline}
+use Rattle.prints.proofs.PartForms.{part_form}
 use Rattle.prints.specs.declared.strong_parts.AnswerLine.{AnswerLine}
 use Rattle.prints.specs.declared.strong_parts.AnswerLine.TheVariants as lines
 use Rattle.prints.specs.Strong.{IsAnswerLine, answer_at, answer_line, answer_words, has_more, named_answer}

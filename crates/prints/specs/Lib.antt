@@ -5,3 +5,7 @@ pub mod ReadWeak
 pub mod Strong
 pub mod LineForms
 pub mod AnswerForms
+pub mod Reading
+pub mod Parts
+pub mod Lines
+pub mod Forms

@@ -7,16 +7,16 @@ use Rattle.bx_tree.specs.Paths.{Atoms, IsPath, path_cmp}
 use Rattle.bx_tree.specs.Trees.{Files, paths_of}
 use Rattle.bx_tree.specs.declared.file_input.FileInput.TheVariants.{Source}
 use Rattle.bx_digest.specs.Digests.{IsDigest}
-use Rattle.pip_types.specs.Args.{IsSortedByName}
-use Rattle.pip_types.specs.Dirs.{RiseByForm, dir_path}
-use Rattle.pip_types.specs.Inputs.{RiseByPath}
-use Rattle.pip_types.specs.Outputs.{outdir_cmp}
-use Rattle.pip_types.specs.declared.args.EnvPair.{EnvPair}
-use Rattle.pip_types.specs.declared.desc.Desc.{Desc}
-use Rattle.pip_types.specs.declared.dir_inputs.DirInput.{DirInput}
-use Rattle.pip_types.specs.declared.dir_inputs.DirInput.TheVariants.{Sealed, Opaque}
-use Rattle.pip_types.specs.declared.outputs.OutDir.{OutDir}
-use Rattle.pip_types.specs.declared.pip.ProcessDesc.{ProcessDesc}
+use Rattle.pip_model_types.specs.Args.{IsSortedByName}
+use Rattle.pip_model_types.specs.Dirs.{RiseByForm, dir_path}
+use Rattle.pip_model_types.specs.Inputs.{RiseByPath}
+use Rattle.pip_model_types.specs.Outputs.{outdir_cmp}
+use Rattle.pip_model_types.specs.declared.args.EnvPair.{EnvPair}
+use Rattle.pip_model_types.specs.declared.desc.Desc.{Desc}
+use Rattle.pip_model_types.specs.declared.dir_inputs.DirInput.{DirInput}
+use Rattle.pip_model_types.specs.declared.dir_inputs.DirInput.TheVariants.{Sealed, Opaque}
+use Rattle.pip_model_types.specs.declared.outputs.OutDir.{OutDir}
+use Rattle.pip_model_types.specs.declared.pip.ProcessDesc.{ProcessDesc}
 use Rattle.prints.specs.declared.weak_lines.DirLine.{DirLine}
 use Rattle.prints.specs.declared.weak_lines.FileLine.{FileLine}
 use Rattle.prints.specs.declared.weak_parts.WeakParts.{WeakParts}

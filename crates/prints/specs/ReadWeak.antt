@@ -8,17 +8,17 @@ use Rattle.bx_tree.specs.Paths.{Atoms, path_cmp}
 use Rattle.bx_tree.specs.declared.file_input.FileInput.{FileInput}
 use Rattle.bx_tree.specs.declared.file_input.FileInput.TheVariants.{Source}
 use Rattle.observed.specs.Texts.{after_prefix, named_path}
-use Rattle.pip_types.specs.Dirs.{dir_cmp}
-use Rattle.pip_types.specs.Outputs.{outdir_cmp}
-use Rattle.pip_types.specs.declared.args.EnvPair.{EnvPair}
-use Rattle.pip_types.specs.declared.dir_inputs.SealForm.{SealForm}
-use Rattle.pip_types.specs.declared.dir_inputs.SealForm.TheVariants.{Full, Partial, SourceTop, SourceAll}
-use Rattle.pip_types.specs.declared.dir_inputs.DirInput.{DirInput}
-use Rattle.pip_types.specs.declared.dir_inputs.DirInput.TheVariants.{Sealed, Opaque}
-use Rattle.pip_types.specs.declared.outputs.OutDir.{OutDir}
-use Rattle.stored_lines.specs.Lines.{begins, lines_at, rises}
-use Rattle.stored_lines.specs.Parts.{counted_at, digest_at, number_at, part_at, path_at}
-use Rattle.stored_lines.specs.Reading.{Taken, ◌>>=◌, after_word, as_at, both_at, only_at, whole_of}
+use Rattle.pip_model_types.specs.Dirs.{dir_cmp}
+use Rattle.pip_model_types.specs.Outputs.{outdir_cmp}
+use Rattle.pip_model_types.specs.declared.args.EnvPair.{EnvPair}
+use Rattle.pip_model_types.specs.declared.dir_inputs.SealForm.{SealForm}
+use Rattle.pip_model_types.specs.declared.dir_inputs.SealForm.TheVariants.{Full, Partial, SourceTop, SourceAll}
+use Rattle.pip_model_types.specs.declared.dir_inputs.DirInput.{DirInput}
+use Rattle.pip_model_types.specs.declared.dir_inputs.DirInput.TheVariants.{Sealed, Opaque}
+use Rattle.pip_model_types.specs.declared.outputs.OutDir.{OutDir}
+use Rattle.prints.specs.Lines.{begins, lines_at, rises}
+use Rattle.prints.specs.Parts.{counted_at, digest_at, number_at, part_at, path_at}
+use Rattle.prints.specs.Reading.{Taken, ◌>>=◌, after_word, as_at, both_at, only_at, whole_of}
 use Rattle.prints.specs.declared.weak_parts.WeakParts.{WeakParts}
 use Rattle.prints.specs.declared.weak_lines.DirLine.{DirLine}
 use Rattle.prints.specs.declared.weak_lines.FileLine.{FileLine}

@@ -10,9 +10,9 @@ use Rattle.observed.specs.declared.access.Answer.{Answer}
 use Rattle.observed.specs.declared.access.Answer.TheVariants as answers
 use Rattle.observed.specs.declared.ask.Ask.{Ask}
 use Rattle.observed.specs.Texts.{after_prefix, paths_text}
-use Rattle.stored_lines.specs.Lines.{lines_at}
-use Rattle.stored_lines.specs.Parts.{digest_at, digest_part, named_digest, part_at}
-use Rattle.stored_lines.specs.Reading.{Taken, ◌>>=◌, after_word, as_at, both_at, whole_of}
+use Rattle.prints.specs.Lines.{lines_at}
+use Rattle.prints.specs.Parts.{digest_at, digest_part, named_digest, part_at}
+use Rattle.prints.specs.Reading.{Taken, ◌>>=◌, after_word, as_at, both_at, whole_of}
 use Rattle.prints.specs.declared.strong_parts.AnswerLine.{AnswerLine}
 use Rattle.prints.specs.declared.strong_parts.AnswerLine.TheVariants as lines
 use Rattle.prints.specs.declared.strong_parts.StrongParts.{StrongParts}

@@ -3,14 +3,14 @@ use Rattle.std.specs.Prelude.{ℕ, Bool, true, false, List, [], ◌∷◌, ◌++
 use Rattle.std.specs.List.{flat_map}
 use Rattle.sha2.specs.Sha256.{sha256}
 use Rattle.bx_tree.specs.Paths.{Atoms, path_text}
-use Rattle.pip_types.specs.declared.args.EnvPair.{EnvPair}
-use Rattle.pip_types.specs.declared.dir_inputs.SealForm.{SealForm}
-use Rattle.pip_types.specs.declared.dir_inputs.SealForm.TheVariants.{Full, Partial, SourceTop, SourceAll}
-use Rattle.pip_types.specs.declared.dir_inputs.DirInput.{DirInput}
-use Rattle.pip_types.specs.declared.dir_inputs.DirInput.TheVariants.{Sealed, Opaque}
-use Rattle.pip_types.specs.declared.made.MadeFile.{MadeFile}
-use Rattle.pip_types.specs.declared.outputs.OutDir.{OutDir}
-use Rattle.stored_lines.specs.Parts.{counted_part, digest_part, number_part, path_part}
+use Rattle.pip_model_types.specs.declared.args.EnvPair.{EnvPair}
+use Rattle.pip_model_types.specs.declared.dir_inputs.SealForm.{SealForm}
+use Rattle.pip_model_types.specs.declared.dir_inputs.SealForm.TheVariants.{Full, Partial, SourceTop, SourceAll}
+use Rattle.pip_model_types.specs.declared.dir_inputs.DirInput.{DirInput}
+use Rattle.pip_model_types.specs.declared.dir_inputs.DirInput.TheVariants.{Sealed, Opaque}
+use Rattle.pip_model_types.specs.declared.made.MadeFile.{MadeFile}
+use Rattle.pip_model_types.specs.declared.outputs.OutDir.{OutDir}
+use Rattle.prints.specs.Parts.{counted_part, digest_part, number_part, path_part}
 use Rattle.prints.specs.declared.weak_parts.WeakParts.{WeakParts}
 use Rattle.prints.specs.declared.weak_lines.DirLine.{DirLine}
 use Rattle.prints.specs.declared.weak_lines.FileLine.{FileLine}

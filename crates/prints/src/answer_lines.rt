@@ -3,8 +3,8 @@ ghost use Rattle.std.specs.Prelude.{◌≡◌, ◌++◌, codes, OnOk};
 ghost use Rattle.std.proofs.Common.{refl};
 ghost use Rattle.bx_digest.specs.Digests.{IsDigest};
 ghost use Rattle.observed.specs.Texts.{after_prefix};
-ghost use Rattle.stored_lines.specs.Parts.{digest_part};
-ghost use Rattle.stored_lines.specs.Reading.{Gives, Takes};
+ghost use Rattle.prints.specs.Parts.{digest_part};
+ghost use Rattle.prints.specs.Reading.{Gives, Takes};
 ghost use Rattle.prints.specs.Strong.{IsAnswerLine, answer_at, answer_line, has_more, line_of, named_answer};
 ghost use Rattle.prints.specs.Strong.{with_digest};
 ghost use Rattle.prints.specs.AnswerForms.{answer_form, answer_seen};
@@ -12,7 +12,10 @@ ghost use Rattle.prints.specs.AnswerForms.{answer_form, answer_seen};
 use crate::strong_parts::AnswerLine;
 use observed::Answer;
 use std::alloc::{AllocError, Global};
-use stored_lines::{Cursor, Line, TextFault, after_word, append_digest, digest_of};
+use crate::cursor::{Cursor, after_word, digest_of};
+use crate::line::Line;
+use crate::part::append_digest;
+use crate::text_fault::TextFault;
 
 // The answer that a line says.
 fn answer_of(line: &[u8]) -> Result<AnswerLine, TextFault>

@@ -1,29 +1,37 @@
-//! Weak and strong fingerprints of processes: their texts, written and parsed.
+//! Fingerprints: the weak and strong texts of a process, and the lines of all stored texts.
 //!
-//! The weak text says all of a process that its run depends on, its contents named by digest; the strong text
-//! says what the asks of a path set are answered. This crate writes both and reads both. It depends on
-//! `pip_types` for processes, on `observed` for asks and answers and on `stored_lines` for the lines. It
-//! carries the promise that a text is read back as what it was written of, and that what no process or no
-//! answers have is refused.
+//! A weak text says all of a process but what it observes, and a strong text what was observed; each is written and
+//! read back, and is known by its digest. Lines of words, paths, digests, numbers and counted bytes are those of
+//! every stored form. This crate depends on `bx_tree`, `bx_digest` and `pip_model_types` for what a text says, on
+//! `observed` for answers, and on `sha2` and `hex`. It carries the promises that each text is the one of its
+//! definition, and that a line is read back as it was written.
 #![tactic(auto)]
 
 mod answer_lines;
+mod cursor;
 mod fault;
 mod laws;
+mod line;
 mod order;
+mod part;
 mod printed;
 mod strong_forms;
 mod strong_parts;
+mod text_fault;
 mod weak_lines;
 mod weak_parts;
 mod weak_reading;
 mod weak_writing;
 
+pub use cursor::{Cursor, after_word, digest_of, path_of};
 pub use fault::PrintFault;
 pub use laws::{strong_texts, weak_texts};
+pub use line::{Line, append_lines, read_lines};
+pub use part::{append_counted, append_digest, append_number, append_path};
 pub use printed::Printed;
 pub use strong_forms::{read_strong, strong, strong_of};
 pub use strong_parts::{AnswerLine, AnswerLines, StrongParts};
+pub use text_fault::TextFault;
 pub use weak_parts::{Digests, WeakParts};
 pub use weak_reading::read_weak;
 pub use weak_writing::weak;

@@ -1,11 +1,11 @@
 //! Whether lists are in their order.
 ghost use Rattle.std.specs.Prelude.{◌≡◌};
-ghost use Rattle.stored_lines.specs.Lines.{rises};
+ghost use Rattle.prints.specs.Lines.{rises};
 ghost use Rattle.prints.specs.ReadWeak.{dir_before, file_before, not_after, outdir_before, path_before};
 
 use crate::weak_lines::FileLine;
 use bx_tree::Path;
-use pip_types::{DirInput, EnvPair, OutDir};
+use pip_model_types::{DirInput, EnvPair, OutDir};
 
 // Whether no variable has a name below that of the one before it.
 pub(crate) fn are_variables_sorted(pairs: &[EnvPair]) -> bool

@@ -1,7 +1,7 @@
 //! The strong text of what asks are answered.
 ghost use Rattle.std.specs.Prelude.{◌≡◌, ◌++◌, Err, IfOk, OnOk, Some, map};
 ghost use Rattle.sha2.specs.Sha256.{sha256};
-ghost use Rattle.stored_lines.specs.Reading.{Gives};
+ghost use Rattle.prints.specs.Reading.{Gives};
 ghost use Rattle.prints.specs.Answers.{ReadsPrint};
 ghost use Rattle.prints.specs.Strong.{IsStrong, asked_parts, read_strong_text, strong_parts, strong_text};
 ghost use Rattle.prints.specs.declared.strong_parts.StrongParts.{StrongParts as AnyParts};
@@ -13,7 +13,10 @@ use crate::strong_parts::{AnswerLine, AnswerLines, StrongParts};
 use bx_digest::{Digest, digest_of};
 use observed::{Answer, PathSet, View};
 use std::alloc::{AllocError, Global};
-use stored_lines::{Cursor, TextFault, append_digest, append_lines, read_lines};
+use crate::cursor::Cursor;
+use crate::line::{append_lines, read_lines};
+use crate::part::append_digest;
+use crate::text_fault::TextFault;
 
 /// The strong text of the answers to the asks of a path set, by the digests of the weak text and of the path
 /// set's text, with its digest.

@@ -2,8 +2,8 @@
 ghost use Rattle.std.specs.Prelude.{◌≡◌, ◌++◌, codes, OnOk};
 ghost use Rattle.std.proofs.Common.{refl};
 ghost use Rattle.bx_tree.specs.Paths.{IsPath};
-ghost use Rattle.stored_lines.specs.Lines.{begins};
-ghost use Rattle.stored_lines.specs.Reading.{Gives, Takes};
+ghost use Rattle.prints.specs.Lines.{begins};
+ghost use Rattle.prints.specs.Reading.{Gives, Takes};
 ghost use Rattle.prints.specs.Processes.{IsCountable, IsDirLine, IsFileLine, IsOutDir, IsVariable};
 ghost use Rattle.prints.specs.ReadWeak.{arg_at, env_at, form_at, in_at, indir_at, named_form, named_sharing};
 ghost use Rattle.prints.specs.ReadWeak.{out_at, outdir_at, sharing_at};
@@ -13,9 +13,12 @@ ghost use Rattle.prints.specs.LineForms.{arg_form, env_form, in_form, indir_form
 
 use bx_digest::Digest;
 use bx_tree::{Path, Text};
-use pip_types::{DirInput, EnvPair, MadeFile, OutDir, SealForm};
+use pip_model_types::{DirInput, EnvPair, MadeFile, OutDir, SealForm};
 use std::alloc::{AllocError, Global};
-use stored_lines::{Cursor, Line, TextFault, append_counted, append_digest, append_path};
+use crate::cursor::Cursor;
+use crate::line::Line;
+use crate::part::{append_counted, append_digest, append_path};
+use crate::text_fault::TextFault;
 
 /// A declared file, with its digest.
 #[derive(Drop)]

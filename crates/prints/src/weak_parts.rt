@@ -2,7 +2,7 @@
 ghost use Rattle.std.specs.Prelude.{◌≡◌};
 
 use bx_digest::Digest;
-use pip_types::ProcessDesc;
+use pip_model_types::ProcessDesc;
 use std::marker::Model;
 
 /// Digests, in order. Contracts see them as a list.

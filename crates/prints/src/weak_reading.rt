@@ -1,7 +1,7 @@
 //! Reading weak texts.
 ghost use Rattle.std.specs.Prelude.{◌≡◌, true, Err, IfOk, OnOk, Some};
-ghost use Rattle.stored_lines.specs.Lines.{rises};
-ghost use Rattle.stored_lines.specs.Reading.{Gives, GivesItems, Takes, TakesItems};
+ghost use Rattle.prints.specs.Lines.{rises};
+ghost use Rattle.prints.specs.Reading.{Gives, GivesItems, Takes, TakesItems};
 ghost use Rattle.prints.specs.Answers.{ReadsPrint};
 ghost use Rattle.prints.specs.Processes.{IsWeak, without_pips};
 ghost use Rattle.prints.specs.ReadWeak.{args_at, console_at, dir_of as any_dir, digests_of, dir_before};
@@ -21,12 +21,14 @@ use crate::weak_lines::{
 use crate::weak_parts::{Digests, WeakParts};
 use bx_digest::Digest;
 use bx_tree::{FileInput, Path, Text};
-use pip_types::{
+use pip_model_types::{
     Arguments, DirInput, DirInputs, EnvPair, FileInputs, MadeFile, OutDir, OutDirs, Outputs,
     ProcessDesc, SealForm, Variables,
 };
 use std::alloc::{AllocError, Global};
-use stored_lines::{Cursor, TextFault, after_word, path_of, read_lines};
+use crate::cursor::{Cursor, after_word, path_of};
+use crate::line::read_lines;
+use crate::text_fault::TextFault;
 
 // The lines that are there once.
 #[derive(Drop)]

@@ -13,9 +13,10 @@ use crate::weak_lines::{
     ArgKind, DirLine, EnvKind, FileLine, InKind, IndirKind, OutKind, OutdirKind,
 };
 use bx_tree::{Path, Text};
-use pip_types::{Desc, DirInput, EnvPair, MadeFile, OutDir};
+use pip_model_types::{Desc, DirInput, EnvPair, MadeFile, OutDir};
 use std::alloc::{AllocError, Global};
-use stored_lines::{append_digest, append_lines, append_number, append_path};
+use crate::line::append_lines;
+use crate::part::{append_digest, append_number, append_path};
 
 // Adds the line of the console file.
 fn append_console(text: &mut Vec<u8>, console: Option<&Path>) -> Result<(), AllocError>

@@ -3,12 +3,12 @@ use Rattle.std.proofs.Common.{◌≡◌, ◌⊎◌, ℕ, zero, suc, ◌+◌, ◌
 use Rattle.std.specs.Prelude.{slice_get}
 use Rattle.bx_tree.specs.Trees.{Files}
 use Rattle.bx_io.specs.Holdings.{Holdings}
-use Rattle.pip_types.specs.declared.desc.Desc.{Desc}
-use Rattle.pip_types.specs.declared.made.Slot.{Slot}
-use Rattle.pip_types.specs.declared.pip.Pip.{Pip}
-use Rattle.pip_types.specs.declared.pip.PipKind.{PipKind}
-use Rattle.pip_types.specs.declared.pip.PipKind.TheVariants.{Process}
-use Rattle.pip_types.specs.declared.pip.ProcessDesc.{ProcessDesc}
+use Rattle.pip_model_types.specs.declared.desc.Desc.{Desc}
+use Rattle.pip_model_types.specs.declared.made.Slot.{Slot}
+use Rattle.pip_model_types.specs.declared.pip.Pip.{Pip}
+use Rattle.pip_model_types.specs.declared.pip.PipKind.{PipKind}
+use Rattle.pip_model_types.specs.declared.pip.PipKind.TheVariants.{Process}
+use Rattle.pip_model_types.specs.declared.pip.ProcessDesc.{ProcessDesc}
 use Rattle.pip_model.specs.Edges.{targets}
 use Rattle.observed.specs.declared.ask.Ask.{Ask}
 use Rattle.observed.specs.declared.access.Answer.{Answer}
@@ -17,23 +17,23 @@ use Rattle.run_record.specs.declared.outcome.Outcome.{Outcome}
 use Rattle.run_record.specs.declared.outcome.Outcome.TheVariants.{Good, Failed}
 use Rattle.run_record.specs.declared.outcome.Cause.{Cause}
 use Rattle.run_record.specs.declared.outcome.Cause.TheVariants as causes
-use Rattle.record_match.specs.Digests.{IsReadBack}
-use Rattle.store_meaning.specs.Keeping.{outcome_files}
-use Rattle.store_meaning.specs.Usable.{Usable}
-use Rattle.pip_inputs.specs.Plain.{desc_of, kind_process, process_in}
-use Rattle.pip_inputs.specs.Results.{inputs_of}
-use Rattle.pip_outputs.specs.Slots.{slot_files}
+use Rattle.run_record.specs.Digests.{IsReadBack}
+use Rattle.two_phase_meaning.specs.Keeping.{outcome_files}
+use Rattle.two_phase_meaning.specs.Usable.{Usable}
+use Rattle.pip_view_inputs.specs.Plain.{desc_of, kind_process, process_in}
+use Rattle.pip_view_inputs.specs.Results.{inputs_of}
+use Rattle.violations.specs.Slots.{slot_files}
 use Rattle.pip_view.specs.Sees.{sees}
-use Rattle.verdicts.specs.Verdicts.{is_success}
-use Rattle.verdicts.specs.declared.verdict.Verdict.{Verdict}
-use Rattle.verdicts.specs.declared.verdict.Violation.{Violation}
+use Rattle.violations.specs.Verdicts.{is_success}
+use Rattle.violations.specs.declared.verdict.Verdict.{Verdict}
+use Rattle.violations.specs.declared.verdict.Violation.{Violation}
 use Rattle.violations.specs.Classes.{class_of}
 use Rattle.one_thread.specs.OneThread.{Result, by_cause, by_outcome, inputs_are_good, one_thread, verdicts_of, violated}
 use Rattle.one_thread.specs.Views.{ended_result, slots_are_good}
 use Rattle.one_thread.proofs.GoingThrough.{IsSoFar, all_good, made_is}
-use Rattle.store_builds.specs.Compared.{desc_after, view_after}
-use Rattle.store_builds.specs.Runs.{IsOfSuccess, RunsAs, SucceedsAt}
-use Rattle.store_builds.proofs.SoFar.{process_there}
+use Rattle.retire.specs.Compared.{desc_after, view_after}
+use Rattle.retire.specs.Runs.{IsOfSuccess, RunsAs, SucceedsAt}
+use Rattle.retire.proofs.SoFar.{process_there}
 use Rattle.retire.specs.Deciding as deciding
 use Rattle.retire.specs.Deciding.{DecidedBy, Decides}
 use Rattle.retire.specs.Taking.{IsOfNow, TakesFrom, kept_if, outcome_in, record_in}

@@ -3,12 +3,12 @@ use Rattle.std.proofs.Common.{◌≡◌, ℕ, true, cond, List, [], ◌∷◌, d
 use Rattle.std.specs.Prelude.{slice_get}
 use Rattle.bx_tree.specs.Trees.{Files}
 use Rattle.bx_io.specs.Holdings.{Holdings}
-use Rattle.pip_types.specs.declared.desc.Desc.{Desc}
-use Rattle.pip_types.specs.declared.made.Slot.{Slot}
-use Rattle.pip_types.specs.declared.pip.Pip.{Pip}
-use Rattle.pip_types.specs.declared.pip.PipKind.{PipKind}
-use Rattle.pip_types.specs.declared.pip.PipKind.TheVariants.{Process}
-use Rattle.pip_types.specs.declared.pip.ProcessDesc.{ProcessDesc}
+use Rattle.pip_model_types.specs.declared.desc.Desc.{Desc}
+use Rattle.pip_model_types.specs.declared.made.Slot.{Slot}
+use Rattle.pip_model_types.specs.declared.pip.Pip.{Pip}
+use Rattle.pip_model_types.specs.declared.pip.PipKind.{PipKind}
+use Rattle.pip_model_types.specs.declared.pip.PipKind.TheVariants.{Process}
+use Rattle.pip_model_types.specs.declared.pip.ProcessDesc.{ProcessDesc}
 use Rattle.pip_model.specs.Edges.{targets}
 use Rattle.observed.specs.declared.ask.Ask.{Ask}
 use Rattle.observed.specs.declared.access.Answer.{Answer}
@@ -18,23 +18,23 @@ use Rattle.run_record.specs.Outcomes.{outcome_of}
 use Rattle.run_record.specs.declared.outcome.Outcome.TheVariants.{Good}
 use Rattle.memo_format.specs.Found.{FoundParts}
 use Rattle.memo_format.specs.declared.selector.Selector.{Selector}
-use Rattle.record_match.specs.Collisions.{NoCollision}
-use Rattle.store_meaning.specs.Honest.{Honest, IsGoodRun}
-use Rattle.store_meaning.specs.Compared.{ComparedInRun}
-use Rattle.store_meaning.proofs.Found.{found}
-use Rattle.pip_inputs.specs.Plain.{desc_of, kind_process, process_in}
-use Rattle.pip_inputs.specs.Results.{inputs_of}
-use Rattle.pip_outputs.specs.Slots.{slot_files}
+use Rattle.run_record.specs.Collisions.{NoCollision}
+use Rattle.two_phase_meaning.specs.Honest.{Honest, IsGoodRun}
+use Rattle.two_phase_meaning.specs.Compared.{ComparedInRun}
+use Rattle.two_phase_meaning.proofs.Found.{found}
+use Rattle.pip_view_inputs.specs.Plain.{desc_of, kind_process, process_in}
+use Rattle.pip_view_inputs.specs.Results.{inputs_of}
+use Rattle.violations.specs.Slots.{slot_files}
 use Rattle.pip_view.specs.Sees.{sees}
-use Rattle.verdicts.specs.declared.verdict.Verdict.{Verdict}
-use Rattle.verdicts.specs.declared.verdict.Verdict.TheVariants as verdicts
+use Rattle.violations.specs.declared.verdict.Verdict.{Verdict}
+use Rattle.violations.specs.declared.verdict.Verdict.TheVariants as verdicts
 use Rattle.one_thread.specs.OneThread.{Result, by_outcome, failed, inputs_are_good, ran, worked}
 use Rattle.one_thread.specs.Views.{ended_result, kind_ended, results_of, slots_are_good}
 use Rattle.one_thread.proofs.GoingThrough.{IsSoFar, all_good, made_is}
 use Rattle.two_phase.specs.Lookups.{FirstLeadsTo, LeadsTo}
-use Rattle.store_builds.specs.Compared.{desc_after, view_after}
-use Rattle.store_builds.specs.Runs.{RunsAs, results_before}
-use Rattle.store_builds.proofs.SoFar.{run_met, taken}
+use Rattle.retire.specs.Compared.{desc_after, view_after}
+use Rattle.retire.specs.Runs.{RunsAs, results_before}
+use Rattle.retire.proofs.SoFar.{run_met, taken}
 use Rattle.retire.specs.Builds.{IsFair}
 use Rattle.retire.specs.Deciding as deciding
 use Rattle.retire.specs.Deciding.{DecidedBy, Decides}

@@ -7,10 +7,10 @@ use Rattle.bx_io.proofs.Changes.{after-append, known_after-append, known_after-n
 use Rattle.run_record.specs.Facts.{Facts, Sound}
 use Rattle.memo_format.specs.StoreNames.{HoldsBlob, HoldsEntry}
 use Rattle.memo_format.specs.declared.entry.Entry.{Entry}
-use Rattle.record_match.specs.Collisions.{NoCollision}
-use Rattle.store_meaning.specs.Honest.{Honest}
-use Rattle.store_meaning.specs.Keeping.{ComparedInSave, IsGood, blobs_of, record_entry, record_selector, with_first}
-use Rattle.store_meaning.proofs.Added.{contents_added, entries_added}
+use Rattle.run_record.specs.Collisions.{NoCollision}
+use Rattle.two_phase_meaning.specs.Honest.{Honest}
+use Rattle.two_phase_meaning.specs.Keeping.{ComparedInSave, IsGood, blobs_of, record_entry, record_selector, with_first}
+use Rattle.two_phase_meaning.proofs.Added.{contents_added, entries_added}
 use Rattle.two_phase.specs.Putting.{LeavesHonest, PutsUpTo}
 use Rattle.two_phase.proofs.Applied.{Made, made_of}
 use Rattle.two_phase.proofs.Prefixes.{leaves_honest}

@@ -5,28 +5,28 @@ use Rattle.std.specs.List.{AllByRecursion}
 use Rattle.std.specs.Option.{option_to_list}
 use Rattle.bx_tree.specs.Trees.{Files}
 use Rattle.bx_io.specs.Holdings.{Holdings}
-use Rattle.pip_types.specs.declared.desc.Desc.{Desc}
-use Rattle.pip_types.specs.declared.made.Slot.{Slot}
+use Rattle.pip_model_types.specs.declared.desc.Desc.{Desc}
+use Rattle.pip_model_types.specs.declared.made.Slot.{Slot}
 use Rattle.observed.specs.declared.ask.Ask.{Ask}
 use Rattle.observed.specs.declared.access.Answer.{Answer}
-use Rattle.pip_types.specs.declared.pip.Pip.{Pip}
-use Rattle.pip_types.specs.declared.pip.PipKind.{PipKind}
-use Rattle.pip_types.specs.declared.pip.PipKind.TheVariants.{Process, Copy, Write, Seal}
-use Rattle.pip_types.specs.declared.pip.ProcessDesc.{ProcessDesc}
+use Rattle.pip_model_types.specs.declared.pip.Pip.{Pip}
+use Rattle.pip_model_types.specs.declared.pip.PipKind.{PipKind}
+use Rattle.pip_model_types.specs.declared.pip.PipKind.TheVariants.{Process, Copy, Write, Seal}
+use Rattle.pip_model_types.specs.declared.pip.ProcessDesc.{ProcessDesc}
 use Rattle.run_record.specs.Facts.{Facts, Sound}
 use Rattle.run_record.specs.declared.outcome.Outcome.{Outcome}
 use Rattle.run_record.specs.declared.outcome.Outcome.TheVariants.{Good, Failed}
 use Rattle.run_record.specs.declared.outcome.Cause.{Cause}
 use Rattle.run_record.specs.declared.outcome.Cause.TheVariants as causes
-use Rattle.store_meaning.specs.Keeping.{IsGood}
-use Rattle.pip_inputs.specs.Plain.{desc_of, kind_process}
-use Rattle.pip_inputs.specs.Results.{inputs_of}
+use Rattle.two_phase_meaning.specs.Keeping.{IsGood}
+use Rattle.pip_view_inputs.specs.Plain.{desc_of, kind_process}
+use Rattle.pip_view_inputs.specs.Results.{inputs_of}
 use Rattle.pip_view.specs.Sees.{sees}
-use Rattle.pip_outputs.specs.Slots.{slot_files}
-use Rattle.verdicts.specs.Verdicts.{is_skip, is_success}
-use Rattle.verdicts.specs.declared.verdict.Verdict.{Verdict}
-use Rattle.verdicts.specs.declared.verdict.Verdict.TheVariants as verdicts
-use Rattle.verdicts.specs.declared.verdict.Violation.{Violation}
+use Rattle.violations.specs.Slots.{slot_files}
+use Rattle.violations.specs.Verdicts.{is_skip, is_success}
+use Rattle.violations.specs.declared.verdict.Verdict.{Verdict}
+use Rattle.violations.specs.declared.verdict.Verdict.TheVariants as verdicts
+use Rattle.violations.specs.declared.verdict.Violation.{Violation}
 use Rattle.violations.specs.Classes.{class_of}
 use Rattle.violations.specs.DoubleWrites.{clash_at}
 use Rattle.one_thread.specs.OneThread.{Result, by_cause, by_outcome, run_count, runs, unless_clash, violated}

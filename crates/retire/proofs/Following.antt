@@ -8,20 +8,20 @@ use Rattle.std.proofs.lemmas.Option.{slice_get-get_or}
 use Rattle.std.proofs.Math.Seq.{drop-cons}
 use Rattle.bx_tree.specs.Trees.{Files}
 use Rattle.bx_io.specs.Holdings.{Holdings}
-use Rattle.pip_types.specs.declared.desc.Desc.{Desc}
-use Rattle.pip_types.specs.declared.made.Slot.{Slot}
-use Rattle.pip_types.specs.declared.pip.Pip.{Pip}
+use Rattle.pip_model_types.specs.declared.desc.Desc.{Desc}
+use Rattle.pip_model_types.specs.declared.made.Slot.{Slot}
+use Rattle.pip_model_types.specs.declared.pip.Pip.{Pip}
 use Rattle.observed.specs.Members.{Has}
 use Rattle.observed.specs.declared.ask.Ask.{Ask}
 use Rattle.observed.specs.declared.access.Answer.{Answer}
 use Rattle.run_record.specs.Facts.{Facts, Sound}
-use Rattle.verdicts.specs.Verdicts.{is_success}
-use Rattle.verdicts.specs.declared.verdict.Verdict.{Verdict}
+use Rattle.violations.specs.Verdicts.{is_success}
+use Rattle.violations.specs.declared.verdict.Verdict.{Verdict}
 use Rattle.one_thread.specs.OneThread.{Result, result_of}
 use Rattle.one_thread.specs.Views.{ended_in, ended_result, is_good_slot, results_of}
 use Rattle.one_thread.proofs.GoingThrough.{IsSoFar, begun, ended_is, files_built, next_built, results_more, verdicts_built}
-use Rattle.store_builds.specs.HitSet.{HitsFrom, IsHitSet, PipHits}
-use Rattle.store_builds.specs.Runs.{RunsAs, SucceedsAt}
+use Rattle.retire.specs.HitSet.{HitsFrom, IsHitSet, PipHits}
+use Rattle.retire.specs.Runs.{RunsAs, SucceedsAt}
 use Rattle.retire.specs.Builds.{Between, IsFair}
 use Rattle.retire.specs.Counting.{one_fault, one_hit}
 use Rattle.retire.specs.Deciding.{Decides, DecidesAt, FollowsAll, IsThere}

@@ -4,11 +4,11 @@ use Rattle.std.specs.Prelude.{slice_get}
 use Rattle.std.specs.List.{AllByRecursion}
 use Rattle.bx_tree.specs.Trees.{Files}
 use Rattle.bx_io.specs.Holdings.{Holdings, StoreState}
-use Rattle.pip_types.specs.Makers.{IsPipList}
-use Rattle.pip_types.specs.declared.desc.Desc.{Desc}
-use Rattle.pip_types.specs.declared.made.Slot.{Slot}
-use Rattle.pip_types.specs.declared.pip.Pip.{Pip}
-use Rattle.pip_types.specs.declared.pip.PipKind.TheVariants.{Process}
+use Rattle.pip_model_types.specs.Makers.{IsPipList}
+use Rattle.pip_model_types.specs.declared.desc.Desc.{Desc}
+use Rattle.pip_model_types.specs.declared.made.Slot.{Slot}
+use Rattle.pip_model_types.specs.declared.pip.Pip.{Pip}
+use Rattle.pip_model_types.specs.declared.pip.PipKind.TheVariants.{Process}
 use Rattle.observed.specs.Members.{Has}
 use Rattle.observed.specs.declared.ask.Ask.{Ask}
 use Rattle.observed.specs.declared.access.Answer.{Answer}
@@ -16,17 +16,17 @@ use Rattle.graph_check.specs.Rules.{KeepsRules}
 use Rattle.run_record.specs.Facts.{Facts, Sound}
 use Rattle.memo_format.specs.declared.selector.Selector.{Selector}
 use Rattle.prints.specs.Strong.{strong_parts, strong_text}
-use Rattle.record_match.specs.Digests.{IsReadBack, weak_of}
-use Rattle.store_meaning.specs.Contents.{HoldsPaths}
-use Rattle.store_meaning.specs.Keeping.{answers_text, paths_digest, record_selector}
-use Rattle.store_meaning.specs.Compared as met
-use Rattle.store_meaning.specs.Usable.{Usable, UsableAt, asked_text}
-use Rattle.store_meaning.proofs.Stays.{at_one, usable_at}
-use Rattle.verdicts.specs.declared.verdict.Verdict.{Verdict}
-use Rattle.store_builds.specs.Compared.{Compared, desc_after, view_after}
-use Rattle.store_builds.specs.Runs.{IsOfSuccess, NoneReserved, RunsAs, results_before}
-use Rattle.store_builds.proofs.SoFar.{process_there, run_met, success_met}
-use Rattle.store_builds.proofs.SuccessFits.{success_fits}
+use Rattle.run_record.specs.Digests.{IsReadBack, weak_of}
+use Rattle.two_phase_meaning.specs.Contents.{HoldsPaths}
+use Rattle.two_phase_meaning.specs.Keeping.{answers_text, paths_digest, record_selector}
+use Rattle.two_phase_meaning.specs.Compared as met
+use Rattle.two_phase_meaning.specs.Usable.{Usable, UsableAt, asked_text}
+use Rattle.two_phase_meaning.proofs.Stays.{at_one, usable_at}
+use Rattle.violations.specs.declared.verdict.Verdict.{Verdict}
+use Rattle.retire.specs.Compared.{Compared, desc_after, view_after}
+use Rattle.retire.specs.Runs.{IsOfSuccess, NoneReserved, RunsAs, results_before}
+use Rattle.retire.proofs.SoFar.{process_there, run_met, success_met}
+use Rattle.retire.proofs.SuccessFits.{success_fits}
 use Rattle.retire.specs.Builds.{Between, IsFair, LeavesFair, LeavesUsable}
 use Rattle.retire.specs.Deciding.{FollowsAll, IsThere}
 use Rattle.retire.specs.Keeping.{PutsAllEach, PutsFirst}

@@ -13,3 +13,8 @@ pub mod Putting
 pub mod Others
 pub mod Leaving
 pub mod Whole
+pub mod RecordMet
+pub mod SoFar
+pub mod SuccessFits
+pub mod Twins
+pub mod AllHits

@@ -3,18 +3,18 @@ use Rattle.std.proofs.Common.{◌≡◌, ℕ, ◌+◌, ◌<◌, ◌≤◌, List,
 use Rattle.std.specs.List.{AllByRecursion}
 use Rattle.bx_tree.specs.Trees.{Files}
 use Rattle.bx_io.specs.Holdings.{Holdings, StoreState}
-use Rattle.pip_types.specs.Makers.{IsPipList}
-use Rattle.pip_types.specs.declared.desc.Desc.{Desc}
-use Rattle.pip_types.specs.declared.pip.Pip.{Pip}
+use Rattle.pip_model_types.specs.Makers.{IsPipList}
+use Rattle.pip_model_types.specs.declared.desc.Desc.{Desc}
+use Rattle.pip_model_types.specs.declared.pip.Pip.{Pip}
 use Rattle.observed.specs.declared.ask.Ask.{Ask}
 use Rattle.observed.specs.declared.access.Answer.{Answer}
 use Rattle.graph_check.specs.Rules.{KeepsRules}
 use Rattle.run_record.specs.Facts.{Facts}
-use Rattle.record_match.specs.Collisions.{NoCollision}
-use Rattle.record_match.specs.Digests.{IsReadBack}
-use Rattle.store_builds.specs.Compared.{Compared}
-use Rattle.store_builds.specs.Runs.{NoneReserved, RunsAs}
-use Rattle.store_builds.proofs.Twins.{one_process}
+use Rattle.run_record.specs.Collisions.{NoCollision}
+use Rattle.run_record.specs.Digests.{IsReadBack}
+use Rattle.retire.specs.Compared.{Compared}
+use Rattle.retire.specs.Runs.{NoneReserved, RunsAs}
+use Rattle.retire.proofs.Twins.{one_process}
 use Rattle.retire.specs.Builds.{Between}
 use Rattle.retire.specs.Keeping.{PutsAllEach}
 use Rattle.retire.proofs.Stay.{AreOthers, IsOther}

@@ -13,28 +13,28 @@ use Rattle.observed.specs.Members.{Has}
 use Rattle.observed.specs.declared.ask.Ask.{Ask}
 use Rattle.observed.specs.declared.access.Answer.{Answer}
 use Rattle.observed.proofs.OneSet.{contains_has}
-use Rattle.own_writes.specs.Below.{is_below}
-use Rattle.own_writes.proofs.BelowByAtoms.{below_decides}
-use Rattle.pip_types.specs.declared.desc.Desc.{Desc}
-use Rattle.pip_types.specs.declared.made.Slot.{Slot}
-use Rattle.pip_types.specs.declared.outputs.OutDir.{OutDir}
-use Rattle.pip_types.specs.declared.pip.Pip.{Pip}
-use Rattle.pip_types.specs.declared.pip.PipKind.{PipKind}
-use Rattle.pip_types.specs.declared.pip.PipKind.TheVariants.{Process}
-use Rattle.pip_types.specs.declared.pip.ProcessDesc.{ProcessDesc}
-use Rattle.pip_inputs.specs.Plain.{desc_of}
-use Rattle.pip_inputs.specs.Results.{inputs_of}
-use Rattle.pip_outputs.specs.Slots.{slot_files}
+use Rattle.tool_run_writes.specs.Below.{is_below}
+use Rattle.tool_run_writes.proofs.BelowByAtoms.{below_decides}
+use Rattle.pip_model_types.specs.declared.desc.Desc.{Desc}
+use Rattle.pip_model_types.specs.declared.made.Slot.{Slot}
+use Rattle.pip_model_types.specs.declared.outputs.OutDir.{OutDir}
+use Rattle.pip_model_types.specs.declared.pip.Pip.{Pip}
+use Rattle.pip_model_types.specs.declared.pip.PipKind.{PipKind}
+use Rattle.pip_model_types.specs.declared.pip.PipKind.TheVariants.{Process}
+use Rattle.pip_model_types.specs.declared.pip.ProcessDesc.{ProcessDesc}
+use Rattle.pip_view_inputs.specs.Plain.{desc_of}
+use Rattle.pip_view_inputs.specs.Results.{inputs_of}
+use Rattle.violations.specs.Slots.{slot_files}
 use Rattle.pip_view.specs.Sees.{sees}
-use Rattle.store_meaning.specs.Usable.{fits, may_make}
+use Rattle.two_phase_meaning.specs.Usable.{fits, may_make}
 use Rattle.violations.specs.DoubleWrites.{clash_at}
 use Rattle.one_thread.specs.OneThread.{Result, by_outcome}
 use Rattle.one_thread.specs.Views.{ended_result}
-use Rattle.build_outputs.specs.Keeping.{AreKept, AreOwnOutputs, KeptAt, Makes}
-use Rattle.build_outputs.proofs.Making.{has_first, has_last}
-use Rattle.build_outputs.proofs.Meeting.{Apart}
-use Rattle.build_outputs.proofs.OneMore.{one_more_kept}
-use Rattle.build_outputs.proofs.OneResult.{AllHold, none_kept, of_kind, of_outcome, of_unclashed}
+use Rattle.one_thread.specs.Keeping.{AreKept, AreOwnOutputs, KeptAt, Makes}
+use Rattle.one_thread.proofs.Making.{has_first, has_last}
+use Rattle.one_thread.proofs.Meeting.{Apart}
+use Rattle.one_thread.proofs.OneMore.{one_more_kept}
+use Rattle.one_thread.proofs.OneResult.{AllHold, none_kept, of_kind, of_outcome, of_unclashed}
 use Rattle.retire.specs.Deciding as deciding
 use Rattle.retire.specs.Deciding.{Decides, DecidesAt}
 use Rattle.retire.specs.Taking.{IsOfNow, outcome_in}
@@ -42,7 +42,7 @@ use Rattle.retire.specs.declared.deciding.Next.{Next}
 use Rattle.retire.specs.declared.taking.Taken.{Taken}
 use Rattle.retire.specs.declared.taking.Taken.TheVariants as takings
 use Rattle.retire.proofs.Along.{ran_is}
-use Rattle.pip_types.specs.Outputs.{is_console}
+use Rattle.pip_model_types.specs.Outputs.{is_console}
 
 -- ## What fits a process, it makes
 

@@ -5,16 +5,16 @@ use Rattle.std.specs.List.{AllByRecursion}
 use Rattle.std.specs.Option.{option_map}
 use Rattle.std.proofs.lemmas.Option.{slice_get-map}
 use Rattle.bx_tree.specs.Trees.{Files}
-use Rattle.pip_types.specs.declared.made.Slot.{Slot}
-use Rattle.pip_types.specs.declared.pip.Pip.{Pip}
+use Rattle.pip_model_types.specs.declared.made.Slot.{Slot}
+use Rattle.pip_model_types.specs.declared.pip.Pip.{Pip}
 use Rattle.run_record.specs.Facts.{Facts}
-use Rattle.verdicts.specs.Verdicts.{is_success}
-use Rattle.verdicts.specs.declared.verdict.Verdict.{Verdict}
-use Rattle.verdicts.specs.declared.verdict.Verdict.TheVariants as verdicts
+use Rattle.violations.specs.Verdicts.{is_success}
+use Rattle.violations.specs.declared.verdict.Verdict.{Verdict}
+use Rattle.violations.specs.declared.verdict.Verdict.TheVariants as verdicts
 use Rattle.one_thread.specs.OneThread.{Result, one_thread, verdicts_of}
 use Rattle.one_thread.specs.Views.{result_in, results_of}
 use Rattle.one_thread.proofs.GoingThrough.{IsSoFar}
-use Rattle.store_builds.specs.Runs.{IsOfSuccess, SucceedsAt}
+use Rattle.retire.specs.Runs.{IsOfSuccess, SucceedsAt}
 use Rattle.retire.specs.Builds.{Between}
 use Rattle.retire.proofs.Along.{before_is}
 

@@ -2,29 +2,29 @@
 use Rattle.std.proofs.Common.{◌≡◌, ◌⊎◌, ℕ, ◌+◌, ◌≤◌, Bool, true, false, List, [], ◌∷◌, length, map, Some, None, refl, sym, ap, ◌∙◌, subst, inl, inr, arith}
 use Rattle.bx_tree.specs.Trees.{Files}
 use Rattle.bx_io.specs.Holdings.{Holdings}
-use Rattle.pip_types.specs.declared.desc.Desc.{Desc}
-use Rattle.pip_types.specs.declared.made.Slot.{Slot}
-use Rattle.pip_types.specs.declared.pip.Pip.{Pip}
-use Rattle.pip_types.specs.declared.pip.PipKind.{PipKind}
-use Rattle.pip_types.specs.declared.pip.PipKind.TheVariants.{Process, Copy, Write, Seal}
-use Rattle.pip_types.specs.declared.pip.ProcessDesc.{ProcessDesc}
+use Rattle.pip_model_types.specs.declared.desc.Desc.{Desc}
+use Rattle.pip_model_types.specs.declared.made.Slot.{Slot}
+use Rattle.pip_model_types.specs.declared.pip.Pip.{Pip}
+use Rattle.pip_model_types.specs.declared.pip.PipKind.{PipKind}
+use Rattle.pip_model_types.specs.declared.pip.PipKind.TheVariants.{Process, Copy, Write, Seal}
+use Rattle.pip_model_types.specs.declared.pip.ProcessDesc.{ProcessDesc}
 use Rattle.pip_model.specs.Edges.{targets}
 use Rattle.observed.specs.declared.ask.Ask.{Ask}
 use Rattle.observed.specs.declared.access.Answer.{Answer}
 use Rattle.memo_format.specs.Found.{FoundParts}
 use Rattle.memo_format.specs.declared.selector.Selector.{Selector}
-use Rattle.store_meaning.specs.Usable.{AnyUsable, Usable}
-use Rattle.pip_inputs.specs.Plain.{desc_of, kind_process}
-use Rattle.pip_inputs.specs.Results.{inputs_of}
-use Rattle.pip_outputs.specs.Slots.{slot_files}
+use Rattle.two_phase_meaning.specs.Usable.{AnyUsable, Usable}
+use Rattle.pip_view_inputs.specs.Plain.{desc_of, kind_process}
+use Rattle.pip_view_inputs.specs.Results.{inputs_of}
+use Rattle.violations.specs.Slots.{slot_files}
 use Rattle.pip_view.specs.Sees.{sees}
-use Rattle.verdicts.specs.declared.verdict.Verdict.{Verdict}
+use Rattle.violations.specs.declared.verdict.Verdict.{Verdict}
 use Rattle.one_thread.specs.OneThread.{inputs_are_good}
 use Rattle.one_thread.specs.Views.{results_of, slots_are_good}
 use Rattle.one_thread.proofs.GoingThrough.{IsSoFar, all_good, made_is}
 use Rattle.two_phase.specs.Lookups.{FirstLeadsTo, LookupHits}
-use Rattle.store_builds.specs.HitSet.{PipHits, WorkHits}
-use Rattle.store_builds.specs.Compared.{desc_after, view_after}
+use Rattle.retire.specs.HitSet.{PipHits, WorkHits}
+use Rattle.retire.specs.Compared.{desc_after, view_after}
 use Rattle.retire.specs.Counting.{one_fault, one_hit}
 use Rattle.retire.specs.Deciding as deciding
 use Rattle.retire.specs.Deciding.{DecidedBy, Decides}

@@ -1,7 +1,7 @@
 -- What is usable stays so while records of other processes are kept, and what was kept is usable.
 use Rattle.std.proofs.Common.{◌≡◌, ℕ, List, [], ◌∷◌, map, Option, Some, sym, ◌∙◌, subst, inl, inr, append-nil}
 use Rattle.std.specs.List.{AllByRecursion}
-use Rattle.pip_types.specs.declared.desc.Desc.{Desc}
+use Rattle.pip_model_types.specs.declared.desc.Desc.{Desc}
 use Rattle.observed.specs.Members.{Has}
 use Rattle.observed.specs.declared.ask.Ask.{Ask}
 use Rattle.observed.specs.declared.access.Answer.{Answer}
@@ -9,13 +9,13 @@ use Rattle.bx_io.specs.Holdings.{Holdings, StoreState, holdings_after, state_aft
 use Rattle.run_record.specs.Facts.{Facts}
 use Rattle.memo_format.specs.StoreNames.{HoldsBlob}
 use Rattle.memo_format.specs.declared.selector.Selector.{Selector}
-use Rattle.record_match.specs.Collisions.{NoCollision}
-use Rattle.record_match.specs.Digests.{weak_of}
-use Rattle.store_meaning.specs.Keeping.{ComparedInSave, ComparedInStay, FilesFit, puts_of, record_selector, with_first}
-use Rattle.store_meaning.specs.Usable.{UsableAt, asked_text}
-use Rattle.store_meaning.proofs.Added.{contents_added}
-use Rattle.store_meaning.proofs.Again as again
-use Rattle.store_meaning.proofs.Stays.{stays_met}
+use Rattle.run_record.specs.Collisions.{NoCollision}
+use Rattle.run_record.specs.Digests.{weak_of}
+use Rattle.two_phase_meaning.specs.Keeping.{ComparedInSave, ComparedInStay, FilesFit, puts_of, record_selector, with_first}
+use Rattle.two_phase_meaning.specs.Usable.{UsableAt, asked_text}
+use Rattle.two_phase_meaning.proofs.Added.{contents_added}
+use Rattle.two_phase_meaning.proofs.Again as again
+use Rattle.two_phase_meaning.proofs.Stays.{stays_met}
 use Rattle.two_phase.specs.Putting.{PutsAll, planned}
 use Rattle.two_phase.proofs.Applied.{Made, made_of}
 use Rattle.retire.specs.Keeping.{PutsAllEach}

@@ -6,20 +6,20 @@ use Rattle.bx_tree.specs.Trees.{Files}
 use Rattle.bx_io.specs.Causes.{IsWithin}
 use Rattle.bx_io.specs.Holdings.{Change, Holdings, IsPrefix, StoreState, holdings_after}
 use Rattle.bx_io.proofs.Changes.{known_after-nil}
-use Rattle.pip_types.specs.Makers.{IsPipList}
-use Rattle.pip_types.specs.declared.made.Slot.{Slot}
-use Rattle.pip_types.specs.declared.pip.Pip.{Pip}
+use Rattle.pip_model_types.specs.Makers.{IsPipList}
+use Rattle.pip_model_types.specs.declared.made.Slot.{Slot}
+use Rattle.pip_model_types.specs.declared.pip.Pip.{Pip}
 use Rattle.graph_check.specs.Rules.{KeepsRules}
 use Rattle.run_record.specs.Facts.{Facts}
 use Rattle.memo_format.specs.StoreNames.{HoldsEntry}
-use Rattle.store_meaning.specs.Honest.{Honest}
-use Rattle.pip_outputs.specs.Slots.{slot_files}
-use Rattle.verdicts.specs.declared.verdict.Verdict.{Verdict}
-use Rattle.build_outputs.specs.Keeping.{AreKept}
-use Rattle.build_outputs.specs.Outputs.{AreOutputs}
-use Rattle.build_outputs.proofs.KeptApart.{are_outputs}
+use Rattle.two_phase_meaning.specs.Honest.{Honest}
+use Rattle.violations.specs.Slots.{slot_files}
+use Rattle.violations.specs.declared.verdict.Verdict.{Verdict}
+use Rattle.one_thread.specs.Keeping.{AreKept}
+use Rattle.one_thread.specs.Outputs.{AreOutputs}
+use Rattle.one_thread.proofs.KeptApart.{are_outputs}
 use Rattle.one_thread.specs.OneThread.{all_made, made_by, one_thread, outputs_of, put_all, run_count, verdicts_of}
-use Rattle.store_builds.specs.Runs.{NoneReserved}
+use Rattle.retire.specs.Runs.{NoneReserved}
 use Rattle.retire.specs.Builds.{Fair, IsFair, LeavesFair, LeavesUsable, RunsLate, Spares}
 use Rattle.retire.specs.Deciding.{FollowsAll}
 use Rattle.retire.specs.Keeping.{IsSuccess, OnlyPuts, PutsAllEach, PutsFirst}

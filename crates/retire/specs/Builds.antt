@@ -3,16 +3,16 @@ use Rattle.std.specs.Prelude.{◌≡◌, ℕ, ◌+◌, ◌≤◌, Bool, true, fa
 use Rattle.std.specs.Prelude as prelude
 use Rattle.bx_tree.specs.Trees.{Files}
 use Rattle.bx_io.specs.Holdings.{Holdings, StoreState}
-use Rattle.pip_types.specs.declared.pip.Pip.{Pip}
+use Rattle.pip_model_types.specs.declared.pip.Pip.{Pip}
 use Rattle.run_record.specs.Facts.{Facts}
-use Rattle.verdicts.specs.declared.verdict.Verdict.{Verdict}
-use Rattle.record_match.specs.Collisions.{NoCollision}
-use Rattle.store_meaning.specs.Honest.{Honest}
+use Rattle.violations.specs.declared.verdict.Verdict.{Verdict}
+use Rattle.run_record.specs.Collisions.{NoCollision}
+use Rattle.two_phase_meaning.specs.Honest.{Honest}
 use Rattle.one_thread.specs.OneThread.{one_thread, outputs_of, run_count, verdicts_of}
 use Rattle.two_phase.specs.Putting.{LeavesHonest}
-use Rattle.store_builds.specs.HitSet.{IsHitSet}
-use Rattle.store_builds.specs.Compared.{Compared}
-use Rattle.store_builds.specs.Runs.{AddsSuccesses, AllUsable, IsOfSuccess}
+use Rattle.retire.specs.HitSet.{IsHitSet}
+use Rattle.retire.specs.Compared.{Compared}
+use Rattle.retire.specs.Runs.{AddsSuccesses, AllUsable, IsOfSuccess}
 use Rattle.retire.specs.Keeping.{PutsFirst}
 
 -- These are the verdicts and the files of the sequential build, and all processes that are not skipped

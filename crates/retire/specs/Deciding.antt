@@ -4,28 +4,28 @@ use Rattle.std.specs.Prelude as prelude
 use Rattle.std.specs.List.{AllByRecursion}
 use Rattle.bx_tree.specs.Trees.{Files}
 use Rattle.bx_io.specs.Holdings.{Holdings}
-use Rattle.pip_types.specs.declared.desc.Desc.{Desc}
-use Rattle.pip_types.specs.declared.made.Slot.{Slot}
-use Rattle.pip_types.specs.declared.pip.Pip.{Pip}
-use Rattle.pip_types.specs.declared.pip.PipKind.{PipKind}
-use Rattle.pip_types.specs.declared.pip.PipKind.TheVariants.{Process}
-use Rattle.pip_types.specs.declared.pip.ProcessDesc.{ProcessDesc}
+use Rattle.pip_model_types.specs.declared.desc.Desc.{Desc}
+use Rattle.pip_model_types.specs.declared.made.Slot.{Slot}
+use Rattle.pip_model_types.specs.declared.pip.Pip.{Pip}
+use Rattle.pip_model_types.specs.declared.pip.PipKind.{PipKind}
+use Rattle.pip_model_types.specs.declared.pip.PipKind.TheVariants.{Process}
+use Rattle.pip_model_types.specs.declared.pip.ProcessDesc.{ProcessDesc}
 use Rattle.observed.specs.Members.{Has}
 use Rattle.observed.specs.declared.ask.Ask.{Ask}
 use Rattle.observed.specs.declared.access.Answer.{Answer}
 use Rattle.run_record.specs.Facts.{Facts, Sound}
-use Rattle.record_match.specs.Digests.{IsReadBack}
-use Rattle.store_meaning.specs.Usable.{Usable}
-use Rattle.pip_outputs.specs.Slots.{slot_files}
-use Rattle.pip_inputs.specs.Plain.{desc_of, kind_process}
-use Rattle.pip_inputs.specs.Results.{ByPip, inputs_of}
+use Rattle.run_record.specs.Digests.{IsReadBack}
+use Rattle.two_phase_meaning.specs.Usable.{Usable}
+use Rattle.violations.specs.Slots.{slot_files}
+use Rattle.pip_view_inputs.specs.Plain.{desc_of, kind_process}
+use Rattle.pip_view_inputs.specs.Results.{ByPip, inputs_of}
 use Rattle.pip_view.specs.Sees.{sees}
-use Rattle.verdicts.specs.Verdicts.{is_success}
-use Rattle.verdicts.specs.declared.verdict.Verdict.{Verdict}
-use Rattle.verdicts.specs.declared.verdict.Verdict.TheVariants as verdicts
+use Rattle.violations.specs.Verdicts.{is_success}
+use Rattle.violations.specs.declared.verdict.Verdict.{Verdict}
+use Rattle.violations.specs.declared.verdict.Verdict.TheVariants as verdicts
 use Rattle.one_thread.specs.OneThread.{Result, by_outcome, failed, made_by, one_thread, verdicts_of, worked}
 use Rattle.one_thread.specs.Views.{ended_result, slots_are_good}
-use Rattle.store_builds.specs.Runs.{RunsAs, SucceedsAt}
+use Rattle.retire.specs.Runs.{RunsAs, SucceedsAt}
 use Rattle.retire.specs.Builds.{Between, Spares}
 use Rattle.retire.specs.declared.deciding.Next.{Next}
 use Rattle.retire.specs.declared.taking.Taken.{Taken}

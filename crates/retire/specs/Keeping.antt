@@ -3,7 +3,7 @@ use Rattle.std.specs.Prelude.{◌≡◌, ℕ, List, [], ◌∷◌, Option, take}
 use Rattle.std.specs.List.{AllByRecursion}
 use Rattle.bx_io.specs.Holdings.{StoreState}
 use Rattle.run_record.specs.Facts.{Facts, Sound}
-use Rattle.store_meaning.specs.Keeping.{IsGood}
+use Rattle.two_phase_meaning.specs.Keeping.{IsGood}
 use Rattle.two_phase.specs.Putting.{PutsAll, PutsUpTo}
 
 -- The puts of each of the records were made, one record after another, each up to some place.

@@ -4,3 +4,6 @@ pub mod Counting
 pub mod Reading
 pub mod Taking
 pub mod Deciding
+pub mod Compared
+pub mod HitSet
+pub mod Runs

@@ -2,14 +2,14 @@
 use Rattle.std.specs.Prelude.{Bool, true, false, Option, Some}
 use Rattle.std.specs.Prelude as prelude
 use Rattle.bx_io.specs.Holdings.{Holdings}
-use Rattle.pip_types.specs.declared.desc.Desc.{Desc}
+use Rattle.pip_model_types.specs.declared.desc.Desc.{Desc}
 use Rattle.observed.specs.declared.ask.Ask.{Ask}
 use Rattle.observed.specs.declared.access.Answer.{Answer}
 use Rattle.run_record.specs.Facts.{Facts, IsRun, Sound}
 use Rattle.run_record.specs.declared.outcome.Outcome.{Outcome}
 use Rattle.run_record.specs.declared.outcome.Outcome.TheVariants.{Good}
-use Rattle.record_match.specs.Digests.{IsReadBack}
-use Rattle.store_meaning.specs.Usable.{Usable}
+use Rattle.run_record.specs.Digests.{IsReadBack}
+use Rattle.two_phase_meaning.specs.Usable.{Usable}
 use Rattle.two_phase.specs.Lookups.{IsCurrentHit, LookupHits}
 use Rattle.retire.specs.declared.taking.Taken.{Taken}
 use Rattle.retire.specs.declared.taking.Taken.TheVariants as taken

@@ -2,7 +2,7 @@
 
 ghost use Rattle.std.specs.Prelude.{◌≡◌, length};
 ghost use Rattle.one_thread.specs.OneThread as builds;
-ghost use Rattle.verdicts.specs.Verdicts as ends;
+ghost use Rattle.violations.specs.Verdicts as ends;
 
 use pip_model::{Pip, PipKind};
 use violations::Verdict;

@@ -4,11 +4,11 @@ ghost use Rattle.std.specs.Prelude.{length, map, slice_get};
 ghost use Rattle.std.specs.List.{AllByRecursion};
 ghost use Rattle.std.specs.Option.{option_to_list};
 ghost use Rattle.bx_io.specs.Holdings.{Holdings};
-ghost use Rattle.build_outputs.specs.Keeping.{AreKept};
+ghost use Rattle.one_thread.specs.Keeping.{AreKept};
 ghost use Rattle.graph_check.specs.Rules.{KeepsRules};
-ghost use Rattle.pip_inputs.specs.Plain.{process_in};
-ghost use Rattle.pip_outputs.specs.Slots.{slot_files};
-ghost use Rattle.pip_types.specs.declared.pip.ProcessDesc.{ProcessDesc as AnyProcess};
+ghost use Rattle.pip_view_inputs.specs.Plain.{process_in};
+ghost use Rattle.violations.specs.Slots.{slot_files};
+ghost use Rattle.pip_model_types.specs.declared.pip.ProcessDesc.{ProcessDesc as AnyProcess};
 ghost use Rattle.one_thread.specs.OneThread.{by_outcome, run_count};
 ghost use Rattle.one_thread.specs.Views.{Agrees, ended_result, is_good_slot};
 ghost use Rattle.retire.specs.Builds.{IsFair};
@@ -24,7 +24,7 @@ use bx_io::{Gate, KeepReader};
 use one_thread::{
     Frame, PipResult, after_run, after_success, inputs_are_good, is_good, made_plainly, skipped,
 };
-use pip_inputs::process_at;
+use pip_view_inputs::process_at;
 use pip_model::{MAX_PIPS, Slot};
 use pip_view::Inputs;
 use run_record::Record;

@@ -1,7 +1,7 @@
 //! Keeping the records of a build.
 ghost use Rattle.std.specs.Prelude.{◌≡◌, ◌+◌, ◌≤◌, IfOk, IsSome, length};
 ghost use Rattle.std.specs.List.{AllByRecursion};
-ghost use Rattle.store_meaning.specs.Keeping.{IsGood};
+ghost use Rattle.two_phase_meaning.specs.Keeping.{IsGood};
 ghost use Rattle.retire.specs.Keeping.{IsSuccess, PutsAllEach, PutsFirst};
 ghost use Rattle.two_phase.specs.Held.{AreHeld};
 ghost use Rattle.two_phase.specs.Putting.{PutsAll, PutsUpTo};

@@ -1,10 +1,10 @@
 //! What a whole build gives.
 ghost use Rattle.std.specs.Prelude.{◌≡◌, ℕ, ◌+◌, ◌≤◌, false, true, IfOk, Some, length};
 ghost use Rattle.bx_io.specs.Holdings.{Holdings, StoreState as KeptParts, held_in};
-ghost use Rattle.build_outputs.specs.Outputs.{AreOutputs};
+ghost use Rattle.one_thread.specs.Outputs.{AreOutputs};
 ghost use Rattle.graph_check.specs.Rules.{KeepsRules};
 ghost use Rattle.one_thread.specs.OneThread as builds;
-ghost use Rattle.store_builds.specs.Runs.{NoneReserved};
+ghost use Rattle.retire.specs.Runs.{NoneReserved};
 ghost use Rattle.retire.specs.Builds.{Fair, IsBuild, IsFair, LeavesFair, LeavesUsable, RunsLate};
 ghost use Rattle.retire.specs.Builds.{Spares};
 ghost use Rattle.retire.specs.Keeping.{OnlyPuts};
@@ -13,9 +13,8 @@ use crate::Memory;
 use crate::counting::run_count;
 use crate::deciding::decide_all;
 use crate::keeping::keep_all;
-use build_outputs::outputs_keep_apart;
+use one_thread::{Frame, build_all, outputs, outputs_keep_apart};
 use bx_io::{Gate, Keeper};
-use one_thread::{Frame, build_all, outputs};
 use pip_model::{Made, Plan, Sources};
 use std::alloc::Global;
 use violations::Verdict;

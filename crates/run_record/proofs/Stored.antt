@@ -6,7 +6,7 @@ use Rattle.observed.specs.Members.{Has}
 use Rattle.observed.specs.Orders.{same_ask_is, same_ask_itself}
 use Rattle.observed.specs.declared.ask.Ask.{Ask}
 use Rattle.observed.specs.declared.access.Answer.{Answer}
-use Rattle.pip_types.specs.declared.desc.Desc.{Desc}
+use Rattle.pip_model_types.specs.declared.desc.Desc.{Desc}
 use Rattle.tool_run.specs.Description.{Description}
 use Rattle.tool_run.specs.Described.{described}
 use Rattle.std.specs.List.{AllByRecursion}

@@ -1,6 +1,6 @@
 -- What a record holds, and that it is sound.
 use Rattle.std.specs.Prelude.{◌≡◌, List, length, map}
-use Rattle.pip_types.specs.declared.desc.Desc.{Desc}
+use Rattle.pip_model_types.specs.declared.desc.Desc.{Desc}
 use Rattle.observed.specs.declared.ask.Ask.{Ask}
 use Rattle.observed.specs.declared.access.Access.{Access}
 use Rattle.observed.specs.declared.access.Answer.{Answer}

@@ -1,3 +1,6 @@
 pub mod Outcomes
 pub mod Answered
 pub mod Facts
+pub mod Collisions
+pub mod Digests
+pub mod Matches

@@ -7,7 +7,7 @@ use Rattle.observed.specs.declared.access.End.{End}
 use Rattle.observed.specs.declared.access.End.TheVariants as ends
 use Rattle.tool_run.specs.Description.{Description}
 use Rattle.tool_run.specs.Run.{Run}
-use Rattle.own_writes.specs.Writes.{with_file}
+use Rattle.tool_run_writes.specs.Writes.{with_file}
 use Rattle.run_record.specs.declared.outcome.Outcome.{Outcome}
 use Rattle.run_record.specs.declared.outcome.Outcome.TheVariants.{Good, Failed}
 use Rattle.run_record.specs.declared.outcome.Cause.TheVariants as causes

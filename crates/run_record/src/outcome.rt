@@ -9,8 +9,8 @@ ghost use Rattle.run_record.specs.Outcomes.{outcome_of, refused, with_console};
 use bx_digest::Blob;
 use bx_tree::Path;
 use observed::{Access, End};
-use own_writes::with_file;
-use pip_types::{Desc, Made};
+use tool_run_writes::with_file;
+use pip_model_types::{Desc, Made};
 use std::alloc::{AllocError, Global};
 use tool_run::Ran;
 

@@ -12,7 +12,7 @@ use crate::answers::given_to;
 use crate::outcome::{Outcome, judge};
 use bx_io::Gate;
 use observed::{Access, Answer, PathSet, View};
-use pip_types::Desc;
+use pip_model_types::Desc;
 use std::alloc::{AllocError, Global};
 use std::marker::Model;
 use tool_run::{Ran, accesses_hold, noninterference, path_set_of, run, run_no_tool};

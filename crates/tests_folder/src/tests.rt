@@ -1,4 +1,4 @@
-use bx_folder::{MemFolder, PackFault, Placed, Replace, Thing, UnpackFault, pack, unpack};
+use bundle_folder::{MemFolder, PackFault, Placed, Replace, Thing, UnpackFault, pack, unpack};
 use std::alloc::{AllocError, Global};
 use std::test::Fail;
 

@@ -21,7 +21,7 @@ use Rattle.observed.specs.declared.access.Answer.{Answer}
 use Rattle.observed.specs.declared.access.Answer.TheVariants as answers
 use Rattle.observed.specs.declared.access.End.{End}
 use Rattle.observed.specs.declared.access.End.TheVariants as ends
-use Rattle.pip_types.specs.Made.{RisingFiles}
+use Rattle.pip_model_types.specs.Made.{RisingFiles}
 use Rattle.tool_text.specs.declared.tool.Operand.{Operand}
 use Rattle.tool_text.specs.declared.tool.Instr.{Instr}
 use Rattle.tool_text.specs.declared.tool.Instr.TheVariants as instrs
@@ -30,9 +30,9 @@ use Rattle.tool_run.specs.declared.effect.Effect.TheVariants as effects
 use Rattle.tool_run.specs.declared.limits.TheConstants.{MAX_REGISTER, MAX_OUTPUT}
 use Rattle.tool_run.specs.Description.{Description, answer_of, permits, resolved}
 use Rattle.tool_run.specs.Machine.{Machine, at_place, effect_of, fitting, fitting_two, next, start, written}
-use Rattle.tool_values.specs.Values.{number_of, split_parts, variable}
-use Rattle.own_writes.specs.Writes.{clashes, own_answer, own_file, has_below}
-use Rattle.own_writes.proofs.Unnested.{none_unnested, put_rising, put_unnested}
+use Rattle.tool_run.specs.Values.{number_of, split_parts, variable}
+use Rattle.tool_run_writes.specs.Writes.{clashes, own_answer, own_file, has_below}
+use Rattle.tool_run_writes.proofs.Unnested.{none_unnested, put_rising, put_unnested}
 use Rattle.tool_run.specs.Instructions.{act, list_with, look_up, looks, or_jump, probe_with, read_with, value, with_answer, with_number, writes_at}
 use Rattle.tool_run.specs.Laws.{EndsDenied, IsAnswered, IsDenied, RunInvariant}
 use Rattle.tool_run.specs.Run.{Run, Turn, at_end_or, ended, onward, run_from, run_of, run_tool, turn, turned}

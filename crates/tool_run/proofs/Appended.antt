@@ -8,7 +8,7 @@ use Rattle.tool_text.specs.declared.tool.Operand.TheVariants.{Register, Constant
 use Rattle.tool_run.specs.declared.limits.TheConstants.{MAX_REGISTER}
 use Rattle.tool_run.specs.declared.effect.Effect.TheVariants as effects
 use Rattle.tool_run.specs.Machine.{Machine, effect_of, fitting, with_register}
-use Rattle.tool_values.specs.Values.{value_of}
+use Rattle.tool_run.specs.Values.{value_of}
 
 set_twice : (xs : List (List ℕ)) (n : ℕ) (a b : List ℕ) → set (set xs n a) n b ≡ set xs n b
 set_twice [] n a b = refl

@@ -14,8 +14,8 @@ use Rattle.tool_run.specs.declared.effect.Effect.{Effect}
 use Rattle.tool_run.specs.declared.effect.Effect.TheVariants as effects
 use Rattle.tool_run.specs.declared.limits.TheConstants.{MAX_OUTPUT}
 use Rattle.tool_run.specs.Description.{Description, permits, resolved}
-use Rattle.tool_values.specs.Values.{number_of, split_parts, variable}
-use Rattle.own_writes.specs.Writes.{clashes, own_answer}
+use Rattle.tool_run.specs.Values.{number_of, split_parts, variable}
+use Rattle.tool_run_writes.specs.Writes.{clashes, own_answer}
 use Rattle.tool_run.specs.Machine.{Machine, effect_of, fitting, fitting_two, written}
 use Rattle.tool_run.specs.Instructions.{act, look_up, looks, or_jump, value, with_answer, with_number, writes_at}
 

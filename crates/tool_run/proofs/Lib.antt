@@ -5,3 +5,6 @@ pub mod AskPlaces
 pub mod Turns
 pub mod Appended
 pub mod FromRoot
+pub mod Numbers
+pub mod Splitting
+pub mod NamesAdded

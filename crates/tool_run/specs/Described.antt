@@ -1,12 +1,12 @@
 -- What a run uses of a process that is given with its contents.
 use Rattle.std.specs.Prelude.{List, map}
 use Rattle.bx_tree.specs.Paths.{Atoms}
-use Rattle.pip_types.specs.declared.outputs.OutDir.{OutDir}
-use Rattle.pip_types.specs.declared.desc.Desc.{Desc}
+use Rattle.pip_model_types.specs.declared.outputs.OutDir.{OutDir}
+use Rattle.pip_model_types.specs.declared.desc.Desc.{Desc}
 use Rattle.tool_text.specs.Reading.{tool_of}
-use Rattle.tool_values.specs.Values.{variables}
+use Rattle.tool_run.specs.Values.{variables}
 use Rattle.tool_run.specs.Description.{Description}
-use Rattle.pip_types.specs.Outputs.{outdir_paths}
+use Rattle.pip_model_types.specs.Outputs.{outdir_paths}
 
 -- The description of a process; its tool is the one whose text the executable has, if there is one.
 abbrev pub described : Desc → Description

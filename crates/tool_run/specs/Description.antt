@@ -12,8 +12,8 @@ use Rattle.observed.specs.declared.ask.Ask.{Ask}
 use Rattle.observed.specs.declared.access.Answer.{Answer}
 use Rattle.observed.specs.declared.access.Answer.TheVariants as answers
 use Rattle.tool_text.specs.declared.tool.Instr.{Instr}
-use Rattle.own_writes.specs.Below.{is_below}
-use Rattle.pip_types.specs.Outputs.{is_console}
+use Rattle.tool_run_writes.specs.Below.{is_below}
+use Rattle.pip_model_types.specs.Outputs.{is_console}
 
 -- What a run uses of a process: its tool, if the executable is one; the executable and the declared
 -- files, each as its path and its bytes; the working directory, arguments and variables; the output

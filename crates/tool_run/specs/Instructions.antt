@@ -17,9 +17,9 @@ use Rattle.tool_text.specs.declared.tool.Instr.TheVariants as instrs
 use Rattle.tool_run.specs.declared.effect.Effect.{Effect}
 use Rattle.tool_run.specs.declared.effect.Effect.TheVariants as effects
 use Rattle.tool_run.specs.Description.{Description, permits, resolved}
-use Rattle.tool_values.specs.Values.{number_of, split_parts, value_of, variable}
-use Rattle.own_writes.specs.Writes.{clashes, own_answer, own_names}
-use Rattle.tool_values.specs.Listings.{listed}
+use Rattle.tool_run.specs.Values.{number_of, split_parts, value_of, variable}
+use Rattle.tool_run_writes.specs.Writes.{clashes, own_answer, own_names}
+use Rattle.tool_run.specs.Listings.{listed}
 use Rattle.tool_run.specs.Machine.{Machine, at_place, effect_of, fitting, fitting_two, next, said, written}
 
 abbrev pub value : Machine → Operand → List ℕ

@@ -10,7 +10,7 @@ use Rattle.observed.specs.declared.access.Access.TheVariants.{Asked, Wrote, Writ
 use Rattle.observed.specs.declared.access.Answer.{Answer}
 use Rattle.observed.specs.declared.access.Answer.TheVariants as answers
 use Rattle.observed.specs.declared.access.End.TheVariants as ends
-use Rattle.pip_types.specs.Made.{RisingFiles}
+use Rattle.pip_model_types.specs.Made.{RisingFiles}
 use Rattle.tool_run.specs.Description.{Description, answer_of, permits}
 use Rattle.tool_run.specs.Run.{Run, path_set, run_of}
 

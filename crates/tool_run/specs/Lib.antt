@@ -8,3 +8,6 @@ pub mod Contents
 pub mod States
 pub mod Effects
 pub mod Seen
+pub mod Values
+pub mod Listings
+pub mod NameSets

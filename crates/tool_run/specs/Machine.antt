@@ -9,7 +9,7 @@ use Rattle.tool_text.specs.declared.limits.TheConstants.{REGISTERS}
 use Rattle.tool_run.specs.declared.limits.TheConstants.{MAX_REGISTER, MAX_OUTPUT}
 use Rattle.tool_run.specs.declared.effect.Effect.{Effect}
 use Rattle.tool_run.specs.declared.effect.Effect.TheVariants as effects
-use Rattle.own_writes.specs.Writes.{with_file}
+use Rattle.tool_run_writes.specs.Writes.{with_file}
 
 -- A machine: the place of its next instruction, its registers, the files that it wrote, in the order of
 -- paths, what it said, and how many bytes it wrote and said in all.

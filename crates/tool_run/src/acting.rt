@@ -13,7 +13,7 @@ use observed::End;
 use std::alloc::{AllocError, Global};
 use std::mem;
 use tool_text::{Operand, Register};
-use tool_values::head;
+use crate::values::head;
 
 // The digits of a number.
 fn decimal(alloc: Global, number: usize) -> Result<Vec<u8>, AllocError>
@@ -37,7 +37,7 @@ fn is_register(operand: &Operand, register: Register) -> bool
 impl State {
     ghost use Rattle.tool_run.specs.Machine.{effect_of, fitting, fitting_two};
     ghost use Rattle.tool_run.specs.Instructions.{value as value_in};
-    ghost use Rattle.tool_values.specs.Values.{split_parts};
+    ghost use Rattle.tool_run.specs.Values.{split_parts};
 
     // A register becomes a number's digits.
     pub(crate) fn set_number(

@@ -4,17 +4,17 @@ ghost use Rattle.std.specs.Option.{option_copied};
 ghost use Rattle.std.specs.Fmt.{decimal};
 ghost use Rattle.std.specs.Str.{bytes_eq};
 ghost use Rattle.tool_run.specs.declared.effect.Effect.TheVariants as effects;
-ghost use Rattle.tool_values.specs.Values.{variables};
+ghost use Rattle.tool_run.specs.Values.{variables};
 ghost use Rattle.tool_run.specs.States.{machine_of};
 
 use crate::effect::Effect;
 use crate::state::State;
 use bx_tree::Text;
 use observed::End;
-use pip_types::EnvPair;
+use pip_model_types::EnvPair;
 use std::alloc::{AllocError, Global};
 use tool_text::{Operand, Register};
-use tool_values::{number_of, variable};
+use crate::values::{number_of, variable};
 
 // The bytes of an argument.
 fn argument(arguments: &[Text], number: usize) -> Option<&[u8]>
@@ -29,7 +29,7 @@ fn argument(arguments: &[Text], number: usize) -> Option<&[u8]>
 impl State {
     ghost use Rattle.tool_run.specs.Machine.{at_place, effect_of, fitting, next};
     ghost use Rattle.tool_run.specs.Instructions.{or_jump as jumps_or_sets, value as value_in, with_number};
-    ghost use Rattle.tool_values.specs.Values.{number_of as number_in, variable as variable_in};
+    ghost use Rattle.tool_run.specs.Values.{number_of as number_in, variable as variable_in};
 
     pub(crate) fn head(
         &mut self,

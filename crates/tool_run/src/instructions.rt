@@ -8,7 +8,7 @@ ghost use Rattle.tool_run.specs.States.{machine_of};
 use crate::effect::Effect;
 use crate::state::State;
 use observed::{AskKind, End};
-use pip_types::Desc;
+use pip_model_types::Desc;
 use std::alloc::{AllocError, Global};
 use tool_text::Instr;
 

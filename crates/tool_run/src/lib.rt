@@ -1,27 +1,32 @@
-//! The interpreter of the tool language, and the definition of a run as a function of the answers to its file
-//! accesses.
+//! Runs tools: interprets the instructions of a tool over a view of the files around it.
 //!
-//! A run goes through the instructions of a tool. It sees its executable, the files that it declares and its
-//! own writes, and all others through a view; what it did is a list of accesses, the files that it wrote, what it
-//! said, how it ended and how many steps it took. The crate depends on `tool_text`, `tool_values`, `observed` and
-//! `own_writes`. It carries the promises that a run is as defined, and depends on nothing but its path set.
+//! A run sees its executable, the files that it declares and its own writes, and all others through a view; what it
+//! did is a list of accesses, the files that it wrote, what it said, how it ended and how many steps it took. This
+//! crate depends on `tool_text` for tools, on `observed` for accesses, and on `tool_run_writes` for the files that a
+//! run has written. It carries the promises that a run is as defined, and depends on nothing but its path set.
 #![tactic(auto)]
 
 mod acting;
 mod content;
 mod counted;
+mod digits;
 mod effect;
 mod instructions;
 mod laws;
 mod limits;
 mod listing;
 mod looking;
+mod name_lines;
 mod path_sets;
 mod paths;
 mod running;
 mod state;
+mod values;
 
+pub use digits::MAX_DIGITS;
 pub use laws::{accesses_hold, noninterference};
 pub use limits::{MAX_OUTPUT, MAX_REGISTER};
+pub use name_lines::{add_names, lines, names_of_lines};
 pub use path_sets::path_set_of;
 pub use running::{Ran, run, run_no_tool};
+pub use values::{head, number_of, split, tail, variable};

@@ -1,15 +1,15 @@
 //! Listings: what a run's own writes add to the names in a directory.
 ghost use Rattle.std.specs.Prelude.{◌≡◌, IfOk};
-ghost use Rattle.tool_values.specs.Listings.{listed};
-ghost use Rattle.own_writes.specs.Writes.{own_names as names_below};
+ghost use Rattle.tool_run.specs.Listings.{listed};
+ghost use Rattle.tool_run_writes.specs.Writes.{own_names as names_below};
 
 use crate::content::Content;
 use bx_digest::Blob;
 use bx_tree::Path;
-use own_writes::Writes;
+use tool_run_writes::Writes;
 use std::alloc::{AllocError, Global};
 use std::collections::BTreeSet;
-use tool_values::{add_names, lines, names_of_lines};
+use crate::name_lines::{add_names, lines, names_of_lines};
 
 // The listing of a directory with what own writes add to it.
 pub(crate) fn with_own_names(

@@ -12,7 +12,7 @@ use crate::state::{State, effect_of_end};
 use bx_digest::Blob;
 use bx_tree::Path;
 use observed::{Answer, Ask, AskKind, End};
-use pip_types::Desc;
+use pip_model_types::Desc;
 use std::alloc::{AllocError, Global};
 use tool_text::{Instr, Operand, Register};
 

@@ -6,7 +6,7 @@ ghost use Rattle.tool_run.specs.Run.{asks_of as asks_among, path_set};
 
 use crate::running::declared;
 use observed::{Access, Ask, AskKind, PathSet};
-use pip_types::Desc;
+use pip_model_types::Desc;
 use std::alloc::{AllocError, Global};
 
 // Whether a declared file answers an ask.

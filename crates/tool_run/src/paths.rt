@@ -5,14 +5,14 @@ ghost use Rattle.std.specs.Option.{option_copied};
 ghost use Rattle.bx_tree.specs.Paths.{same_path};
 ghost use Rattle.bx_path.specs.Joining.{join_of};
 ghost use Rattle.tool_run.specs.Described.{described};
-ghost use Rattle.own_writes.specs.Below.{is_below as lies_below};
+ghost use Rattle.tool_run_writes.specs.Below.{is_below as lies_below};
 ghost use Rattle.tool_run.specs.Description.{permits as permitted};
 ghost use Rattle.tool_run.specs.Description.{resolved as path_of_text};
-ghost use Rattle.pip_types.specs.Outputs.{is_console as console_at, outdir_paths};
+ghost use Rattle.pip_model_types.specs.Outputs.{is_console as console_at, outdir_paths};
 
 use bx_path::join;
 use bx_tree::{Path, PathFault};
-use pip_types::{Desc, OutDir, Outputs};
+use pip_model_types::{Desc, OutDir, Outputs};
 use std::alloc::{AllocError, Global};
 
 // The path that a text leads to from another, if it is one.

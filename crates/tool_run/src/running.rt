@@ -15,7 +15,7 @@ use crate::state::State;
 use bx_digest::Blob;
 use bx_tree::Path;
 use observed::{Access, Answer, Ask, AskKind, End, View};
-use pip_types::{Desc, Made};
+use pip_model_types::{Desc, Made};
 use std::alloc::{AllocError, Global};
 use tool_text::{Instr, Tool};
 

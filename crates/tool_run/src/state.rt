@@ -2,10 +2,10 @@
 ghost use Rattle.std.specs.Prelude.{◌≡◌, ◌<◌, ◌≤◌, ◌++◌, ◌^◌, [], IfOk, OnOk, codes, length};
 ghost use Rattle.std.specs.Prelude.{if◌then◌else◌, replicate, vec_len};
 ghost use Rattle.observed.specs.declared.access.End.TheVariants as ends;
-ghost use Rattle.own_writes.specs.Writes.{clashes};
+ghost use Rattle.tool_run_writes.specs.Writes.{clashes};
 ghost use Rattle.tool_run.specs.declared.effect.Effect.TheVariants as effects;
 ghost use Rattle.tool_run.specs.Effects.{effect_for};
-ghost use Rattle.tool_values.specs.Values.{value_of};
+ghost use Rattle.tool_run.specs.Values.{value_of};
 ghost use Rattle.tool_text.specs.declared.limits.TheConstants.{REGISTERS};
 ghost use Rattle.tool_run.specs.declared.limits.TheConstants.{MAX_OUTPUT};
 
@@ -15,7 +15,7 @@ use crate::limits::{MAX_OUTPUT, MAX_REGISTER};
 use bx_digest::Blob;
 use bx_tree::Path;
 use observed::End;
-use own_writes::Writes;
+use tool_run_writes::Writes;
 use std::alloc::{AllocError, Global};
 use std::mem;
 use tool_text::{Operand, REGISTERS, Register};

@@ -8,7 +8,7 @@ use Rattle.bx_io.specs.Holdings.{Holdings, StoreState, held_in}
 use Rattle.bx_io.specs.declared.keeper.Got.TheVariants as got
 use Rattle.observed.specs.Texts.{read_paths_text}
 use Rattle.observed.specs.declared.ask.Ask.{Ask}
-use Rattle.pip_types.specs.declared.desc.Desc.{Desc}
+use Rattle.pip_model_types.specs.declared.desc.Desc.{Desc}
 use Rattle.memo_format.specs.Entries.{output_paths, read_entry_text}
 use Rattle.memo_format.specs.Selectors.{read_selectors_text}
 use Rattle.memo_format.specs.StoreNames.{HoldsList, at_blob, at_entry, at_list}
@@ -19,10 +19,10 @@ use Rattle.content_store.specs.Contents.{Fetches, IsContent}
 use Rattle.content_store.specs.HeldEntries.{FetchesEntry, IsHeld}
 use Rattle.content_store.specs.declared.content.Fetched.TheVariants as fetched
 use Rattle.content_store.specs.declared.entries.FetchedEntry.TheVariants as fetched_entries
-use Rattle.store_meaning.specs.Contents.{HoldsPaths}
-use Rattle.store_meaning.specs.Keeping.{or_none, selectors_in}
-use Rattle.record_match.specs.Digests.{weak_of}
-use Rattle.store_meaning.specs.Usable.{fits}
+use Rattle.two_phase_meaning.specs.Contents.{HoldsPaths}
+use Rattle.two_phase_meaning.specs.Keeping.{or_none, selectors_in}
+use Rattle.run_record.specs.Digests.{weak_of}
+use Rattle.two_phase_meaning.specs.Usable.{fits}
 use Rattle.two_phase.specs.Putting.{IsListAt}
 use Rattle.two_phase.specs.Finding.{AddsTo, FindsOne, IsEntryFor, PutsIn}
 

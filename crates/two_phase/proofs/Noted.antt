@@ -19,9 +19,9 @@ use Rattle.bx_io.specs.Holdings.{Holdings, Put, StoreState, known_after}
 use Rattle.bx_io.specs.declared.keeper.PutFault.{PutFault}
 use Rattle.memo_format.specs.StoreNames.{HoldsBlob, at_blob, at_entry, at_list}
 use Rattle.content_store.specs.Contents.{IsContent, blob_put}
-use Rattle.record_match.proofs.Digest.{is_digest}
-use Rattle.store_meaning.proofs.Digests.{blob_no_entry, blob_no_list, same_blob_name}
-use Rattle.store_meaning.proofs.Puts.{still_there, there_now}
+use Rattle.run_record.proofs.Digest.{is_digest}
+use Rattle.two_phase_meaning.proofs.Digests.{blob_no_entry, blob_no_list, same_blob_name}
+use Rattle.two_phase_meaning.proofs.Puts.{still_there, there_now}
 use Rattle.two_phase.specs.Applying.{Applies, IsNoOp}
 use Rattle.two_phase.specs.Held.{AreHeld, Tracks, noted_at}
 use Rattle.two_phase.specs.declared.held.HeldContents.{HeldContents}

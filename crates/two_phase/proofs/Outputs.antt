@@ -12,20 +12,20 @@ use Rattle.bx_io.specs.Holdings.{Holdings}
 use Rattle.bx_tree.specs.Paths.{Atoms, IsBelow, path_cmp}
 use Rattle.bx_tree.specs.Trees.{Files, NoneNested, paths_of}
 use Rattle.bx_tree.specs.Orders.{path_cmp_total}
-use Rattle.pip_types.specs.Made.{RisingFiles}
+use Rattle.pip_model_types.specs.Made.{RisingFiles}
 use Rattle.observed.specs.Members.{Has}
 use Rattle.observed.proofs.OneSet.{contains_has}
-use Rattle.own_writes.specs.Below.{is_below}
-use Rattle.own_writes.specs.Writes.{clashes, put_file}
-use Rattle.own_writes.proofs.BelowByAtoms.{below_decides}
-use Rattle.own_writes.proofs.Unnested.{none_unnested, put_unnested}
+use Rattle.tool_run_writes.specs.Below.{is_below}
+use Rattle.tool_run_writes.specs.Writes.{clashes, put_file}
+use Rattle.tool_run_writes.proofs.BelowByAtoms.{below_decides}
+use Rattle.tool_run_writes.proofs.Unnested.{none_unnested, put_unnested}
 use Rattle.memo_format.specs.Entries.{OutputsRise, output_paths}
 use Rattle.memo_format.specs.Found.{output_lines}
 use Rattle.memo_format.specs.declared.entry.OutputLine.{OutputLine}
 use Rattle.content_store.specs.Contents.{IsContent}
-use Rattle.record_match.specs.Collisions.{contents_of}
-use Rattle.store_meaning.specs.Contents.{HoldsAll}
-use Rattle.store_meaning.proofs.Same.{all_both}
+use Rattle.run_record.specs.Collisions.{contents_of}
+use Rattle.two_phase_meaning.specs.Contents.{HoldsAll}
+use Rattle.two_phase_meaning.proofs.Same.{all_both}
 use Rattle.two_phase.specs.Finding.{AddsTo, AreOutputs, FindsOne}
 
 abbrev pub line_for : Atoms → List ℕ → OutputLine

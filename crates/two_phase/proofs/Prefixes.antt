@@ -11,11 +11,11 @@ use Rattle.memo_format.specs.StoreNames.{at_entry, at_list}
 use Rattle.memo_format.specs.declared.selector.Selector.{Selector}
 use Rattle.memo_format.specs.declared.selector.TheConstants.{MAX_SELECTORS}
 use Rattle.content_store.specs.Contents.{blob_put}
-use Rattle.store_meaning.specs.Honest.{Honest}
-use Rattle.record_match.specs.Collisions.{NoCollision}
-use Rattle.record_match.specs.Digests.{weak_of}
-use Rattle.store_meaning.proofs.Puts as keeping
-use Rattle.store_meaning.specs.Keeping.{ComparedInSave, IsGood, list_at, record_selector, same_selector, with_first}
+use Rattle.two_phase_meaning.specs.Honest.{Honest}
+use Rattle.run_record.specs.Collisions.{NoCollision}
+use Rattle.run_record.specs.Digests.{weak_of}
+use Rattle.two_phase_meaning.proofs.Puts as keeping
+use Rattle.two_phase_meaning.specs.Keeping.{ComparedInSave, IsGood, list_at, record_selector, same_selector, with_first}
 use Rattle.two_phase.specs.Applying.{AppliesAll, AppliesPrefix}
 use Rattle.two_phase.specs.Putting.{IsListAt, IsNextList, IsWritten, LeavesHonest, PutsAll, PutsUpTo, all_puts, planned, written_selector}
 use Rattle.two_phase.specs.declared.recording.Written.{Written}

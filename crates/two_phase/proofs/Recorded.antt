@@ -6,9 +6,9 @@ use Rattle.bx_tree.specs.Trees.{Files}
 use Rattle.observed.specs.Texts.{paths_text, read_paths_text}
 use Rattle.observed.specs.declared.ask.Ask.{Ask}
 use Rattle.observed.specs.declared.access.Answer.{Answer}
-use Rattle.pip_types.specs.Made.{made_files}
-use Rattle.pip_types.specs.declared.desc.Desc.{Desc}
-use Rattle.pip_types.specs.declared.made.MadeFile.{MadeFile}
+use Rattle.pip_model_types.specs.Made.{made_files}
+use Rattle.pip_model_types.specs.declared.desc.Desc.{Desc}
+use Rattle.pip_model_types.specs.declared.made.MadeFile.{MadeFile}
 use Rattle.run_record.specs.Facts.{Facts}
 use Rattle.prints.specs.Processes.{weak_parts}
 use Rattle.prints.specs.ReadWeak.{read_weak_text}
@@ -16,10 +16,10 @@ use Rattle.prints.specs.Strong.{strong_parts, strong_text}
 use Rattle.prints.specs.Weak.{weak_text}
 use Rattle.memo_format.specs.Entries.{entry_text, read_entry_text}
 use Rattle.memo_format.specs.Found.{output_lines}
-use Rattle.record_match.specs.Collisions.{contents_of}
-use Rattle.record_match.specs.Digests.{weak_of}
-use Rattle.store_meaning.specs.Contents.{answer_contents, desc_contents, given_contents}
-use Rattle.store_meaning.specs.Keeping.{answers_text, entry_with, outcome_files, paths_digest, record_entry}
+use Rattle.run_record.specs.Collisions.{contents_of}
+use Rattle.run_record.specs.Digests.{weak_of}
+use Rattle.two_phase_meaning.specs.Contents.{answer_contents, desc_contents, given_contents}
+use Rattle.two_phase_meaning.specs.Keeping.{answers_text, entry_with, outcome_files, paths_digest, record_entry}
 use Rattle.two_phase.specs.Putting.{IsWritten}
 use Rattle.two_phase.specs.declared.recording.Written.{Written}
 

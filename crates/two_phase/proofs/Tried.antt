@@ -6,16 +6,16 @@ use Rattle.bx_tree.specs.Paths.{Atoms}
 use Rattle.bx_io.specs.Holdings.{Holdings}
 use Rattle.observed.specs.declared.ask.Ask.{Ask}
 use Rattle.observed.specs.declared.access.Answer.{Answer}
-use Rattle.pip_types.specs.declared.desc.Desc.{Desc}
+use Rattle.pip_model_types.specs.declared.desc.Desc.{Desc}
 use Rattle.memo_format.specs.Entries.{output_paths}
 use Rattle.memo_format.specs.Found.{FoundParts, found_parts}
 use Rattle.memo_format.specs.StoreNames.{HoldsList}
 use Rattle.memo_format.specs.declared.entry.Entry.{Entry}
 use Rattle.prints.specs.Strong.{strong_parts, strong_text}
 use Rattle.memo_format.specs.declared.selector.Selector.{Selector}
-use Rattle.store_meaning.specs.Contents.{HoldsPaths}
-use Rattle.record_match.specs.Digests.{IsReadBack, weak_of}
-use Rattle.store_meaning.specs.Usable.{AnyUsable, UsableBy, asked_text, fits}
+use Rattle.two_phase_meaning.specs.Contents.{HoldsPaths}
+use Rattle.run_record.specs.Digests.{IsReadBack, weak_of}
+use Rattle.two_phase_meaning.specs.Usable.{AnyUsable, UsableBy, asked_text, fits}
 use Rattle.two_phase.specs.Finding.{AreOutputs, FindsOne, HasParts, IsEntryFor, IsOf, IsOn, IsStrongMatch, IsWith}
 use Rattle.two_phase.specs.Lookups.{FindsFirst, FindsUsable, IsCurrentHit, LeadsTo, LookupGives, Onward}
 use Rattle.two_phase.specs.declared.lookups.LookupResult.TheVariants as lookup_results

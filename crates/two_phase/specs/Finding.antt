@@ -3,8 +3,8 @@ use Rattle.std.specs.Prelude.{◌≡◌, ◌⊎◌, ℕ, true, false, List, map,
 use Rattle.sha2.specs.Sha256.{sha256}
 use Rattle.bx_tree.specs.Paths.{Atoms}
 use Rattle.bx_tree.specs.Trees.{Files, NoneNested, paths_of}
-use Rattle.own_writes.specs.Writes.{put_file}
-use Rattle.pip_types.specs.declared.desc.Desc.{Desc}
+use Rattle.tool_run_writes.specs.Writes.{put_file}
+use Rattle.pip_model_types.specs.declared.desc.Desc.{Desc}
 use Rattle.observed.specs.declared.ask.Ask.{Ask}
 use Rattle.observed.specs.declared.access.Answer.{Answer}
 use Rattle.bx_io.specs.Holdings.{Holdings}
@@ -15,10 +15,10 @@ use Rattle.memo_format.specs.declared.entry.OutputLine.{OutputLine}
 use Rattle.memo_format.specs.declared.selector.Selector.{Selector}
 use Rattle.content_store.specs.Contents.{IsContent}
 use Rattle.content_store.specs.HeldEntries.{IsHeld}
-use Rattle.record_match.specs.Collisions.{contents_of}
-use Rattle.record_match.specs.Digests.{weak_of}
-use Rattle.store_meaning.specs.Contents.{HoldsAll}
-use Rattle.store_meaning.specs.Usable.{asked_text, fits}
+use Rattle.run_record.specs.Collisions.{contents_of}
+use Rattle.run_record.specs.Digests.{weak_of}
+use Rattle.two_phase_meaning.specs.Contents.{HoldsAll}
+use Rattle.two_phase_meaning.specs.Usable.{asked_text, fits}
 
 -- What is found has the property, and where nothing is found, nothing has it. Nothing is said where the
 -- holdings are unknown.

@@ -1,15 +1,15 @@
 -- What a lookup answers.
 use Rattle.std.specs.Prelude.{◌≡◌, ◌⊎◌, List, [], ◌∷◌, map, Option, Some, None, IsTrue, ⊤}
 use Rattle.bx_tree.specs.Trees.{NoneNested, paths_of}
-use Rattle.pip_types.specs.declared.desc.Desc.{Desc}
+use Rattle.pip_model_types.specs.declared.desc.Desc.{Desc}
 use Rattle.observed.specs.declared.ask.Ask.{Ask}
 use Rattle.observed.specs.declared.access.Answer.{Answer}
 use Rattle.bx_io.specs.Holdings.{Holdings}
 use Rattle.memo_format.specs.Found.{FoundParts}
 use Rattle.memo_format.specs.StoreNames.{HoldsList}
 use Rattle.memo_format.specs.declared.selector.Selector.{Selector}
-use Rattle.record_match.specs.Digests.{IsReadBack, weak_of}
-use Rattle.store_meaning.specs.Usable.{AnyUsable, Usable, UsableBy, fits}
+use Rattle.run_record.specs.Digests.{IsReadBack, weak_of}
+use Rattle.two_phase_meaning.specs.Usable.{AnyUsable, Usable, UsableBy, fits}
 use Rattle.two_phase.specs.declared.lookups.LookupResult.{LookupResult}
 use Rattle.two_phase.specs.declared.lookups.LookupResult.TheVariants as lookup_results
 

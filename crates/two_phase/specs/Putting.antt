@@ -11,11 +11,11 @@ use Rattle.memo_format.specs.Entries.{entry_text}
 use Rattle.memo_format.specs.Selectors.{selectors_text}
 use Rattle.memo_format.specs.StoreNames.{at_entry, at_list}
 use Rattle.content_store.specs.Contents.{blob_put}
-use Rattle.record_match.specs.Collisions.{contents_of}
-use Rattle.record_match.specs.Digests.{weak_of}
-use Rattle.store_meaning.specs.Contents.{desc_contents, given_contents}
-use Rattle.store_meaning.specs.Honest.{Honest}
-use Rattle.store_meaning.specs.Keeping.{Spelled, answers_text, list_at, outcome_files, puts_of, record_entry, record_selector, with_first}
+use Rattle.run_record.specs.Collisions.{contents_of}
+use Rattle.run_record.specs.Digests.{weak_of}
+use Rattle.two_phase_meaning.specs.Contents.{desc_contents, given_contents}
+use Rattle.two_phase_meaning.specs.Honest.{Honest}
+use Rattle.two_phase_meaning.specs.Keeping.{Spelled, answers_text, list_at, outcome_files, puts_of, record_entry, record_selector, with_first}
 use Rattle.two_phase.specs.Applying.{AppliesAll}
 use Rattle.two_phase.specs.declared.recording.Written.{Written}
 

@@ -9,7 +9,7 @@ ghost use Rattle.memo_format.specs.Found.{output_lines};
 ghost use Rattle.memo_format.specs.Selectors.{read_selectors_text};
 ghost use Rattle.memo_format.specs.StoreNames.{HoldsList};
 ghost use Rattle.observed.specs.Texts.{read_paths_text};
-ghost use Rattle.store_meaning.specs.Contents.{HoldsPaths};
+ghost use Rattle.two_phase_meaning.specs.Contents.{HoldsPaths};
 ghost use Rattle.two_phase.specs.Calls.{ReaderCall};
 ghost use Rattle.two_phase.specs.Finding.{AddsTo, AreOutputs, FindsOne, PutsIn};
 
@@ -19,8 +19,8 @@ use bx_io::{Got, KeepReader};
 use content_store::{Fetched, FetchedEntry, get_blob, get_entry, list_name};
 use memo_format::{Entry, FormatFault, OutputLine, Selector, read_selectors};
 use observed::{PathSet, SetFault};
-use own_writes::Writes;
-use pip_types::Made;
+use tool_run_writes::Writes;
+use pip_model_types::Made;
 use std::alloc::Global;
 use std::marker::Model;
 

@@ -3,14 +3,14 @@ ghost use Rattle.std.specs.Prelude.{◌≡◌, true};
 ghost use Rattle.std.specs.List.{list_all, list_any};
 ghost use Rattle.std.specs.Option.{option_copied, option_map_or};
 ghost use Rattle.memo_format.specs.Entries.{OutputsRise, output_paths};
-ghost use Rattle.own_writes.specs.Below.{is_below as lies_below};
-ghost use Rattle.store_meaning.specs.Usable.{fits as all_fit, may_make as makes};
-ghost use Rattle.pip_types.specs.Outputs.{is_console as console_at};
+ghost use Rattle.tool_run_writes.specs.Below.{is_below as lies_below};
+ghost use Rattle.two_phase_meaning.specs.Usable.{fits as all_fit, may_make as makes};
+ghost use Rattle.pip_model_types.specs.Outputs.{is_console as console_at};
 ghost use Rattle.bx_tree.specs.Paths.{has_path};
 
 use bx_tree::Path;
 use memo_format::OutputLine;
-use pip_types::{OutDir, Outputs, ProcessDesc};
+use pip_model_types::{OutDir, Outputs, ProcessDesc};
 
 // Whether one of the outputs, which rise by path, has a path.
 fn has_output(outputs: &[OutputLine], path: &Path) -> bool

@@ -2,9 +2,9 @@
 ghost use Rattle.std.specs.Prelude.{Option, Some};
 ghost use Rattle.bx_io.specs.Holdings.{StoreState as KeptParts};
 ghost use Rattle.run_record.specs.Facts.{Facts, Sound};
-ghost use Rattle.store_meaning.specs.Honest.{Honest};
-ghost use Rattle.store_meaning.specs.Keeping.{ComparedInSave, IsGood};
-ghost use Rattle.record_match.specs.Collisions.{NoCollision};
+ghost use Rattle.two_phase_meaning.specs.Honest.{Honest};
+ghost use Rattle.two_phase_meaning.specs.Keeping.{ComparedInSave, IsGood};
+ghost use Rattle.run_record.specs.Collisions.{NoCollision};
 ghost use Rattle.two_phase.specs.Putting.{LeavesHonest, PutsUpTo};
 
 /// A save leaves an honest store honest after each of its changes.

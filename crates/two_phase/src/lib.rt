@@ -3,7 +3,7 @@
 //! A lookup goes through the selectors that a store has under the weak text of a process, and takes the first
 //! whose path set, asked now, gives its strong text, if the entry and all outputs are there. A save puts what
 //! a run made: its texts and contents, then its entry, then the list of selectors; contents that are held
-//! already are left out. This crate depends on `store_meaning` for what is usable and what is put. It carries
+//! already are left out. This crate depends on `two_phase_meaning` for what is usable and what is put. It carries
 //! the promise that a hit is the first usable selector, that a miss says that there is none, and that a save
 //! that is cut off made a prefix of its puts, but for those that would change nothing.
 #![tactic(auto)]

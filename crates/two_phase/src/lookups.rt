@@ -3,8 +3,8 @@ ghost use Rattle.std.specs.Prelude.{◌≡◌, ◌↔◌, Err, IfOk, IfSome, IsT
 ghost use Rattle.sha2.specs.Sha256.{sha256};
 ghost use Rattle.memo_format.specs.Entries.{OutputsRise, output_paths};
 ghost use Rattle.prints.specs.Strong.{strong_parts, strong_text};
-ghost use Rattle.record_match.specs.Digests.{IsReadBack, weak_of};
-ghost use Rattle.store_meaning.specs.Usable.{fits as all_fit};
+ghost use Rattle.run_record.specs.Digests.{IsReadBack, weak_of};
+ghost use Rattle.two_phase_meaning.specs.Usable.{fits as all_fit};
 ghost use Rattle.two_phase.specs.Calls.{ReaderCall};
 ghost use Rattle.two_phase.specs.Finding.{FindsOne, HasParts, IsEntryFor, IsOf, IsOn, IsStrongMatch, IsWith};
 ghost use Rattle.two_phase.specs.Lookups.{FindsFirst, FindsUsable, IsCurrentHit, LeadsTo, LookupGives, LookupHitIsCurrent};
@@ -16,7 +16,7 @@ use bx_digest::Digest;
 use bx_io::KeepReader;
 use memo_format::{Entry, Found, Selector};
 use observed::{Answer, PathSet, View};
-use pip_types::Desc;
+use pip_model_types::Desc;
 use prints::{strong_of, weak};
 use std::alloc::{AllocError, Global};
 

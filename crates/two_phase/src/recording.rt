@@ -3,16 +3,16 @@ ghost use Rattle.std.specs.Prelude.{◌≡◌, ◌++◌, ◌∷◌, [], IfOk, On
 ghost use Rattle.memo_format.specs.Entries.{entry_text, read_entry_text};
 ghost use Rattle.memo_format.specs.Found.{output_lines};
 ghost use Rattle.observed.specs.Texts.{paths_text, read_paths_text};
-ghost use Rattle.pip_types.specs.Made.{made_files};
-ghost use Rattle.record_match.specs.Collisions.{contents_of};
-ghost use Rattle.store_meaning.specs.Contents.{answer_contents, desc_contents, given_contents};
-ghost use Rattle.store_meaning.specs.Keeping.{IsGood, entry_with, outcome_files as files_of};
+ghost use Rattle.pip_model_types.specs.Made.{made_files};
+ghost use Rattle.run_record.specs.Collisions.{contents_of};
+ghost use Rattle.two_phase_meaning.specs.Contents.{answer_contents, desc_contents, given_contents};
+ghost use Rattle.two_phase_meaning.specs.Keeping.{IsGood, entry_with, outcome_files as files_of};
 ghost use Rattle.two_phase.specs.Putting.{IsWritten};
 
 use bx_digest::{Blob, Digest};
 use memo_format::{Entry, OutputLine, OutputLines, write_entry};
 use observed::{Answer, PathSet};
-use pip_types::{Desc, Made, MadeFile};
+use pip_model_types::{Desc, Made, MadeFile};
 use prints::{Printed, strong_of, weak};
 use run_record::{Outcome, Record};
 use std::alloc::{AllocError, Global};

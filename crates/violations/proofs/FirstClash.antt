@@ -7,15 +7,15 @@ use Rattle.std.proofs.lemmas.List.{drop_all}
 use Rattle.std.proofs.Math.Seq.{drop-cons}
 use Rattle.bx_tree.specs.Paths.{Atoms}
 use Rattle.bx_tree.specs.Trees.{Files, paths_of}
-use Rattle.own_writes.specs.Below.{is_below}
-use Rattle.pip_outputs.specs.Slots.{slot_files}
-use Rattle.pip_types.specs.Made.{made_files}
-use Rattle.pip_types.specs.declared.made.MadeFile.{MadeFile}
-use Rattle.pip_types.specs.declared.made.Slot.{Slot}
-use Rattle.pip_types.specs.declared.outputs.OutDir.{OutDir}
-use Rattle.pip_types.specs.declared.pip.Pip.{Pip}
+use Rattle.tool_run_writes.specs.Below.{is_below}
+use Rattle.violations.specs.Slots.{slot_files}
+use Rattle.pip_model_types.specs.Made.{made_files}
+use Rattle.pip_model_types.specs.declared.made.MadeFile.{MadeFile}
+use Rattle.pip_model_types.specs.declared.made.Slot.{Slot}
+use Rattle.pip_model_types.specs.declared.outputs.OutDir.{OutDir}
+use Rattle.pip_model_types.specs.declared.pip.Pip.{Pip}
 use Rattle.violations.specs.DoubleWrites.{clash_of, first_clash, has_clash, is_clash, is_shared, least_clash, or_next, shared_paths}
-use Rattle.pip_types.specs.Kinds.{outdirs_of}
+use Rattle.pip_model_types.specs.Kinds.{outdirs_of}
 
 -- ## Files in shared directories
 

@@ -5,8 +5,8 @@ use Rattle.std.specs.Prelude.{◌⊎◌, IsSomeAnd, slice_get}
 use Rattle.std.specs.List.{Contains, list_any}
 use Rattle.std.proofs.lemmas.Bool.Decides.{Decides-eqb}
 use Rattle.std.proofs.lemmas.List.Folds.{Any-from_list_any, list_any-from_Any}
-use Rattle.pip_types.specs.declared.pip.Pip.{Pip}
-use Rattle.pip_types.specs.Makers.{IsPipList}
+use Rattle.pip_model_types.specs.declared.pip.Pip.{Pip}
+use Rattle.pip_model_types.specs.Makers.{IsPipList}
 use Rattle.pip_model.specs.Edges.{Edge, Leads, targets}
 use Rattle.pip_model.specs.Walks.{One, Step}
 use Rattle.pip_model.proofs.EdgesBack.{edge_back, in_range}

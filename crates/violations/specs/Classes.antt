@@ -2,7 +2,7 @@
 use Rattle.std.specs.Prelude.{ℕ, Bool, List, Option, Some, None, is_some, slice_get, if◌then◌else◌}
 use Rattle.bx_tree.specs.Paths.{Atoms}
 use Rattle.bx_tree.specs.Trees.{Files, file_at}
-use Rattle.pip_types.specs.declared.pip.Pip.{Pip}
+use Rattle.pip_model_types.specs.declared.pip.Pip.{Pip}
 use Rattle.observed.specs.declared.ask.AskKind.{AskKind}
 use Rattle.observed.specs.declared.ask.AskKind.TheVariants as kinds
 use Rattle.observed.specs.declared.ask.Ask.{Ask}
@@ -10,14 +10,14 @@ use Rattle.observed.specs.declared.access.Access.{Access}
 use Rattle.observed.specs.declared.access.Access.TheVariants.{Asked, Wrote, WriteDenied}
 use Rattle.observed.specs.declared.access.Answer.{Answer}
 use Rattle.observed.specs.declared.access.Answer.TheVariants as answers
-use Rattle.pip_outputs.specs.Producing.{dirs_at, least_unseen}
-use Rattle.verdicts.specs.declared.verdict.Violation.{Violation}
-use Rattle.verdicts.specs.declared.verdict.ViolationKind.{ViolationKind}
-use Rattle.verdicts.specs.declared.verdict.ViolationKind.TheVariants as violations
-use Rattle.verdicts.specs.declared.verdict.DeedKind.{DeedKind}
-use Rattle.verdicts.specs.declared.verdict.DeedKind.TheVariants as deeds
+use Rattle.violations.specs.Producing.{dirs_at, least_unseen}
+use Rattle.violations.specs.declared.verdict.Violation.{Violation}
+use Rattle.violations.specs.declared.verdict.ViolationKind.{ViolationKind}
+use Rattle.violations.specs.declared.verdict.ViolationKind.TheVariants as violations
+use Rattle.violations.specs.declared.verdict.DeedKind.{DeedKind}
+use Rattle.violations.specs.declared.verdict.DeedKind.TheVariants as deeds
 use Rattle.violations.specs.Leading.{leads}
-use Rattle.verdicts.specs.Verdicts.{alone, with_pip}
+use Rattle.violations.specs.Verdicts.{alone, with_pip}
 
 -- A denied look at what pip j can produce: ordered where edges lead from pip i to pip j, a cycle where they
 -- lead from pip j to pip i, and a race otherwise.

@@ -4,16 +4,16 @@ use Rattle.std.specs.Prelude.{Some, None, slice_get}
 use Rattle.std.specs.List.{list_any}
 use Rattle.bx_tree.specs.Paths.{Atoms, same_path}
 use Rattle.bx_tree.specs.Trees.{Files, paths_of}
-use Rattle.pip_types.specs.declared.outputs.OutDir.{OutDir}
-use Rattle.pip_types.specs.declared.pip.Pip.{Pip}
-use Rattle.pip_types.specs.declared.pip.PipKind.{PipKind}
-use Rattle.pip_types.specs.declared.pip.PipKind.TheVariants.{Process, Copy, Write, Seal}
-use Rattle.own_writes.specs.Below.{is_below}
-use Rattle.verdicts.specs.Verdicts.{with_pip}
-use Rattle.verdicts.specs.declared.verdict.Violation.{Violation}
-use Rattle.verdicts.specs.declared.verdict.ViolationKind.TheVariants as violations
-use Rattle.verdicts.specs.declared.verdict.DeedKind.TheVariants as deeds
-use Rattle.pip_types.specs.Kinds.{outdirs_of}
+use Rattle.pip_model_types.specs.declared.outputs.OutDir.{OutDir}
+use Rattle.pip_model_types.specs.declared.pip.Pip.{Pip}
+use Rattle.pip_model_types.specs.declared.pip.PipKind.{PipKind}
+use Rattle.pip_model_types.specs.declared.pip.PipKind.TheVariants.{Process, Copy, Write, Seal}
+use Rattle.tool_run_writes.specs.Below.{is_below}
+use Rattle.violations.specs.Verdicts.{with_pip}
+use Rattle.violations.specs.declared.verdict.Violation.{Violation}
+use Rattle.violations.specs.declared.verdict.ViolationKind.TheVariants as violations
+use Rattle.violations.specs.declared.verdict.DeedKind.TheVariants as deeds
+use Rattle.pip_model_types.specs.Kinds.{outdirs_of}
 
 -- whether the path lies strictly below a directory that the pip shares
 abbrev pub is_shared : List OutDir → Atoms → Bool

@@ -1,20 +1,20 @@
 //! Writes of two processes in shared directories that clash.
 ghost use Rattle.std.specs.Prelude.{◌≡◌, ◌≤◌, ◌<◌, ◌&&◌, None, IfOk, if◌then◌else◌, length, map, slice_get};
 ghost use Rattle.std.specs.List.{list_any};
-ghost use Rattle.own_writes.specs.Below.{is_below as lies_below};
-ghost use Rattle.pip_outputs.specs.Slots.{slot_files};
-ghost use Rattle.pip_types.specs.Made.{made_files};
-ghost use Rattle.pip_types.specs.declared.made.MadeFile.{MadeFile as AnyFile};
-ghost use Rattle.pip_types.specs.declared.outputs.OutDir.{OutDir as AnyDir};
-ghost use Rattle.verdicts.specs.Verdicts.{with_pip};
+ghost use Rattle.tool_run_writes.specs.Below.{is_below as lies_below};
+ghost use Rattle.violations.specs.Slots.{slot_files};
+ghost use Rattle.pip_model_types.specs.Made.{made_files};
+ghost use Rattle.pip_model_types.specs.declared.made.MadeFile.{MadeFile as AnyFile};
+ghost use Rattle.pip_model_types.specs.declared.outputs.OutDir.{OutDir as AnyDir};
+ghost use Rattle.violations.specs.Verdicts.{with_pip};
 ghost use Rattle.violations.specs.DoubleWrites as double_writes;
-ghost use Rattle.pip_types.specs.Kinds.{outdirs_of};
+ghost use Rattle.pip_model_types.specs.Kinds.{outdirs_of};
 
 use crate::Memory;
 use crate::classes::with_other;
 use bx_tree::Path;
 use pip_model::{Made, MadeFile, OutDir, Pip, PipKind, Plan, Slot};
-use verdicts::{DeedKind, Violation, ViolationKind};
+use crate::verdict::{DeedKind, Violation, ViolationKind};
 
 fn outdirs_of(kind: &PipKind) -> &[OutDir]
     ensures { result.now ≡ outdirs_of kind.entry.now }

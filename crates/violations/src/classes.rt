@@ -1,8 +1,8 @@
 //! What violation a denied access is.
 ghost use Rattle.std.specs.Prelude.{◌≡◌, ◌<◌, IfOk, IfSome, is_some, length};
 ghost use Rattle.bx_tree.specs.Trees.{file_at};
-ghost use Rattle.pip_types.specs.Makers.{IsPipList};
-ghost use Rattle.verdicts.specs.Verdicts.{alone as lone, with_pip};
+ghost use Rattle.pip_model_types.specs.Makers.{IsPipList};
+ghost use Rattle.violations.specs.Verdicts.{alone as lone, with_pip};
 ghost use Rattle.violations.specs.Classes as classes;
 ghost use Rattle.violations.specs.Leading.{leads as walks_lead};
 
@@ -10,8 +10,8 @@ use crate::Memory;
 use bx_tree::Path;
 use observed::{Access, Answer, Ask, AskKind};
 use pip_model::{Plan, Sources};
-use pip_outputs::least_unseen;
-use verdicts::{DeedKind, Violation, ViolationKind};
+use crate::producing::least_unseen;
+use crate::verdict::{DeedKind, Violation, ViolationKind};
 
 // A violation that concerns no other pip.
 fn alone(kind: ViolationKind, deed: DeedKind, path: &Path) -> Result<Violation, Memory>

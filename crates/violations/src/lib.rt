@@ -1,18 +1,24 @@
-//! Classification of denied file accesses, and detection of double writes.
+//! Violations: which dependency violation a disallowed access is, double writes, and the verdicts that name them.
 //!
-//! Which violation it is, walks along the edges of the graph decide. This crate depends on `pip_model` for the
-//! plan, on `pip_outputs` for what pips can produce, and on `verdicts`, which it re-exports. It carries the
-//! promises that the other pip which a violation names is the least one.
+//! How a pip ends is a verdict. Which violation a denied access is depends on the pip that can produce the path and
+//! on walks along the edges of the graph. This crate depends on `pip_model` for the plan, on `observed` for accesses,
+//! and on `tool_run_writes` for what lies below a directory. It carries the promises that just one verdict is a
+//! success, and that the other pip which a violation names is the least one.
 #![tactic(auto)]
 
 mod clashes;
 mod classes;
 mod laws;
+mod producing;
+mod producing_laws;
+mod verdict;
 
 pub use clashes::double_write;
 pub use classes::classify;
 pub use laws::leads_are_walks;
-pub use verdicts::{DeedKind, Verdict, Violation, ViolationKind};
+pub use producing::{dirs_at, least_unseen};
+pub use producing_laws::unseen_is_produced;
+pub use verdict::{DeedKind, Verdict, Violation, ViolationKind};
 
 /// Out of memory, the one refusal that no contract ties to a cause.
 pub type Memory = std::alloc::AllocError;

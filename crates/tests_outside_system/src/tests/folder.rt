@@ -1,7 +1,7 @@
 //! A store in a folder. What its calls answer is said by a text, a word for each.
 
 use bx_io::{Got, Keeper, Listed, PutFault, is_name};
-use bx_system::FolderKeeper;
+use bx_io_system::FolderKeeper;
 use std::alloc::{AllocError, Global};
 use std::fs;
 use std::rt::Files;

@@ -1,7 +1,7 @@
 //! Sources and sinks over streams that fail in the middle.
 
 use bx_io::{Failed, NoFaultSource, Sink, Source};
-use bx_system::{StdSink, StdSource};
+use bx_io_system::{StdSink, StdSource};
 use std::io::{self, ErrorKind, Read, Write};
 use std::test::Fail;
 

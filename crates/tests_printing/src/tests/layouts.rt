@@ -1,7 +1,7 @@
 //! Texts with their layouts. Each layout is also its own layout, so it is parsed to the file that was laid out.
 
 use dscript_ast::Form;
-use dscript_format::{LayoutFault, lay_out};
+use dscript_print_format::{LayoutFault, lay_out};
 use std::alloc::Global;
 use std::test::Fail;
 

@@ -2,7 +2,7 @@
 
 use bx_tree::Text;
 use dscript_lex::TokenKind;
-use dscript_spell::{Gap, Laid, spell};
+use dscript_print_tokens::{Gap, Laid, spell};
 use std::alloc::Global;
 use std::test::Fail;
 

@@ -3,8 +3,7 @@ use super::fixture::{ASKED, One, SMALLER, WEAK, desc, record};
 use bx_digest::Digest;
 use bx_tree::Path;
 use observed::Answer;
-use record_match::{Match, matches};
-use run_record::Record;
+use run_record::{Match, Record, matches};
 use std::alloc::Global;
 use std::test::Fail;
 

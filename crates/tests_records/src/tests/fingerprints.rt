@@ -3,7 +3,7 @@ use super::fixture::{ASKED, One, WEAK, blob};
 use bx_digest::digest_of;
 use bx_tree::Path;
 use observed::{Answer, PathSet};
-use pip_types::ProcessDesc;
+use pip_model_types::ProcessDesc;
 use prints::{AnswerLine, StrongParts, WeakParts, read_strong, read_weak, strong};
 use std::alloc::Global;
 use std::test::Fail;

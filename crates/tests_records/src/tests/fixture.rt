@@ -6,7 +6,7 @@ ghost use Rattle.observed.specs.declared.access.Answer.TheVariants as answers;
 use bx_digest::Blob;
 use bx_tree::Path;
 use observed::{Answer, Ask, PathSet, View};
-use pip_types::{Desc, Made};
+use pip_model_types::{Desc, Made};
 use prints::read_weak;
 use run_record::{Record, replay};
 use std::alloc::{AllocError, Global};

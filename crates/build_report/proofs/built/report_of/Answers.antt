@@ -1,5 +1,5 @@
 use Rattle.std.proofs.Common.{◌++◌, ap, sym, ◌∙◌, arith}
-use Rattle.pip_types.specs.declared.pip.Pip.{Pip}
+use Rattle.pip_model_types.specs.declared.pip.Pip.{Pip}
 use Rattle.build_report.specs.Reports.{pip_line}
 use Rattle.build_report.proofs.PipLines.{all_lines, one_more_line}
 use Rattle.build_report.proofs.built.report_of.Goals as goal

@@ -1,5 +1,5 @@
 use Rattle.std.proofs.Common.{ap, sym, ◌∙◌}
-use Rattle.bx_front.proofs.OnePlan.{OneFailure}
+use Rattle.bx_engine_front.proofs.OnePlan.{OneFailure}
 use Rattle.bx_engine.specs.Ending.{status_of, output_of}
 use Rattle.bx_engine.proofs.OneEnding.{endless_or_ending, one_ending, one_text}
 use Rattle.bx_engine.proofs.laws.one_end.Goals as goal

@@ -3,7 +3,7 @@ use Rattle.std.specs.List.{AllByRecursion}
 use Rattle.bx_tree.specs.Bundle.{body_text}
 use Rattle.bx_tree.specs.Paths.{IsPath}
 use Rattle.bx_tree.specs.Trees.{paths_of}
-use Rattle.pip_types.specs.Made.{made_files}
+use Rattle.pip_model_types.specs.Made.{made_files}
 use Rattle.bx_engine.proofs.output.output.Given as goal
 
 abbrev pub invariant-files : goal.invariant-files

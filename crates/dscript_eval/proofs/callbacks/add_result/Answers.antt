@@ -1,7 +1,7 @@
-use Rattle.eval_machine.specs.Views.{seen}
+use Rattle.dscript_eval_frames.specs.Views.{seen}
 use Rattle.dscript_eval.proofs.CallbackMoves.{came_map}
 use Rattle.dscript_eval.proofs.CallsNow.{left_after}
-use Rattle.eval_machine.proofs.ItemLists.{ends_in}
+use Rattle.dscript_eval_frames.proofs.ItemLists.{ends_in}
 use Rattle.dscript_eval.proofs.callbacks.add_result.Goals as goal
 
 pub returns : goal.returns

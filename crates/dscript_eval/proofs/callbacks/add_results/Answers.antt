@@ -1,4 +1,4 @@
-use Rattle.eval_machine.specs.Views.{seen}
+use Rattle.dscript_eval_frames.specs.Views.{seen}
 use Rattle.dscript_eval.proofs.CallbackMoves.{came_many, many_stops}
 use Rattle.dscript_eval.proofs.CallsNow.{left_after}
 use Rattle.dscript_eval.proofs.callbacks.add_results.Goals as goal

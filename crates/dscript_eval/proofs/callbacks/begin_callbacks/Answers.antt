@@ -1,8 +1,8 @@
 use Rattle.std.proofs.Common.{ap, ◌∙◌}
 use Rattle.dscript_value.specs.Plain.{PlainFunction, PlainValues, item_list, plain_function}
-use Rattle.eval_machine.specs.Views.{seen}
+use Rattle.dscript_eval_frames.specs.Views.{seen}
 use Rattle.dscript_eval.proofs.CallbackMoves.{loop_begins}
-use Rattle.eval_machine.proofs.Kept.{kept}
+use Rattle.dscript_eval_frames.proofs.Kept.{kept}
 use Rattle.dscript_eval.proofs.callbacks.begin_callbacks.Goals as goal
 
 pub returns : goal.returns

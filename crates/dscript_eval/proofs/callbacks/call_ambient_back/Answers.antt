@@ -1,10 +1,10 @@
 use Rattle.std.proofs.Common.{arith, map}
 use Rattle.dscript_value.specs.Plain.{item_list, plain_function, plain_of}
-use Rattle.eval_machine.specs.Views.{seen}
+use Rattle.dscript_eval_frames.specs.Views.{seen}
 use Rattle.dscript_eval.proofs.CallbackMoves.{called_ambient}
-use Rattle.eval_machine.proofs.Opening.{none_openable}
-use Rattle.eval_machine.proofs.Kept.{keeps_at}
-use Rattle.eval_machine.proofs.Refused.{faulted}
+use Rattle.dscript_eval_frames.proofs.Opening.{none_openable}
+use Rattle.dscript_eval_frames.proofs.Kept.{keeps_at}
+use Rattle.dscript_eval_frames.proofs.Refused.{faulted}
 use Rattle.dscript_eval.proofs.callbacks.call_ambient_back.Goals as goal
 
 pub returns : goal.returns

@@ -1,12 +1,12 @@
 use Rattle.std.proofs.Common.{List, ap, map, sym, ◌∙◌}
 use Rattle.dscript_value.specs.Plain.{Plain, plain_of}
 use Rattle.dscript_value.specs.declared.parts.Callee.TheVariants as callees
-use Rattle.dscript_meaning.specs.Acts.{Call}
-use Rattle.eval_machine.specs.Forms.{acts_at}
-use Rattle.eval_machine.specs.Views.{seen}
-use Rattle.eval_machine.specs.Works.{comes_by, function_of}
+use Rattle.dscript_eval_meaning.specs.Acts.{Call}
+use Rattle.dscript_eval_frames.specs.Forms.{acts_at}
+use Rattle.dscript_eval_frames.specs.Views.{seen}
+use Rattle.dscript_eval_frames.specs.Works.{comes_by, function_of}
 use Rattle.dscript_eval.proofs.CallbackMoves.{called_at}
-use Rattle.eval_machine.proofs.Kept.{keeps_at}
+use Rattle.dscript_eval_frames.proofs.Kept.{keeps_at}
 use Rattle.dscript_eval.proofs.callbacks.call_back.Goals as goal
 
 pub returns-in-Place : goal.returns-in-Place

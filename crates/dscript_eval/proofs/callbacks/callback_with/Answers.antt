@@ -1,9 +1,9 @@
 use Rattle.std.proofs.Common.{ap, map}
 use Rattle.dscript_value.specs.Plain.{PlainFunction, item_list, plain_of}
-use Rattle.eval_machine.specs.Views.{seen}
-use Rattle.eval_machine.specs.Works.{item_of}
+use Rattle.dscript_eval_frames.specs.Views.{seen}
+use Rattle.dscript_eval_frames.specs.Works.{item_of}
 use Rattle.dscript_eval.proofs.CallbackMoves.{loop_next}
-use Rattle.eval_machine.proofs.Kept.{keeps_at}
+use Rattle.dscript_eval_frames.proofs.Kept.{keeps_at}
 use Rattle.dscript_eval.proofs.callbacks.callback_with.Goals as goal
 
 pub returns : goal.returns

@@ -1,9 +1,9 @@
 use Rattle.std.proofs.Common.{ap, map, ◌∙◌}
-use Rattle.sdk_members.specs.Names.{member_named}
+use Rattle.dscript_sdk_members.specs.Names.{member_named}
 use Rattle.dscript_value.specs.Plain.{plain_of}
-use Rattle.eval_machine.specs.Views.{seen}
+use Rattle.dscript_eval_frames.specs.Views.{seen}
 use Rattle.dscript_eval.proofs.CallbackMoves.{callbacks_with, no_callbacks}
-use Rattle.eval_machine.proofs.Kept.{keeps_at}
+use Rattle.dscript_eval_frames.proofs.Kept.{keeps_at}
 use Rattle.dscript_eval.proofs.callbacks.callbacks.Goals as goal
 
 pub returns-in-Ok : goal.returns-in-Ok

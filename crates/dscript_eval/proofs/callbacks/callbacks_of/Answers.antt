@@ -1,9 +1,9 @@
 use Rattle.std.proofs.Common.{ap, map}
 use Rattle.dscript_value.specs.Plain.{item_list, plain_of, plain_values}
-use Rattle.eval_machine.specs.Forms.{acts_at, each_form}
-use Rattle.eval_machine.specs.Views.{seen}
-use Rattle.eval_machine.specs.Works.{comes_by}
-use Rattle.eval_machine.proofs.Kept.{keeps_at}
+use Rattle.dscript_eval_frames.specs.Forms.{acts_at, each_form}
+use Rattle.dscript_eval_frames.specs.Views.{seen}
+use Rattle.dscript_eval_frames.specs.Works.{comes_by}
+use Rattle.dscript_eval_frames.proofs.Kept.{keeps_at}
 use Rattle.dscript_eval.proofs.callbacks.callbacks_of.Goals as goal
 
 pub returns-in-Reduce : goal.returns-in-Reduce

@@ -1,9 +1,9 @@
 use Rattle.std.proofs.Common.{map, sym, ◌∙◌}
 use Rattle.dscript_value.specs.Plain.{item_list, plain_of, plain_values}
-use Rattle.eval_machine.specs.Views.{seen}
+use Rattle.dscript_eval_frames.specs.Views.{seen}
 use Rattle.dscript_eval.proofs.CallbackMoves.{callbacks_are}
-use Rattle.eval_machine.proofs.Kept.{keeps_at}
-use Rattle.eval_machine.proofs.Refused.{faulted}
+use Rattle.dscript_eval_frames.proofs.Kept.{keeps_at}
+use Rattle.dscript_eval_frames.proofs.Refused.{faulted}
 use Rattle.dscript_eval.proofs.callbacks.callbacks_on.Goals as goal
 
 pub returns-in-Some : goal.returns-in-Some

@@ -1,4 +1,4 @@
-use Rattle.eval_machine.proofs.Kept.{keeps_at}
+use Rattle.dscript_eval_frames.proofs.Kept.{keeps_at}
 use Rattle.dscript_eval.proofs.callbacks.came.Goals as goal
 
 pub returns-in-Ok : goal.returns-in-Ok

@@ -1,5 +1,5 @@
 use Rattle.std.proofs.Common.{refl}
-use Rattle.eval_machine.proofs.Kept.{kept}
+use Rattle.dscript_eval_frames.proofs.Kept.{kept}
 use Rattle.dscript_eval.proofs.callbacks.close.Goals as goal
 
 pub returns : goal.returns

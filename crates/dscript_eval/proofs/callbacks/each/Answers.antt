@@ -1,8 +1,8 @@
 use Rattle.dscript_value.specs.Plain.{item_list, plain_of, plain_values}
 use Rattle.std.proofs.Common.{map}
-use Rattle.eval_machine.specs.Views.{seen}
+use Rattle.dscript_eval_frames.specs.Views.{seen}
 use Rattle.dscript_eval.proofs.CallbackMoves.{each_begins, each_stops}
-use Rattle.eval_machine.proofs.Kept.{keeps_at}
+use Rattle.dscript_eval_frames.proofs.Kept.{keeps_at}
 use Rattle.dscript_eval.proofs.callbacks.each.Goals as goal
 
 pub returns-in-Ok : goal.returns-in-Ok

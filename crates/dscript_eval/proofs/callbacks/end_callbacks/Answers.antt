@@ -1,6 +1,6 @@
-use Rattle.eval_machine.specs.Views.{seen}
+use Rattle.dscript_eval_frames.specs.Views.{seen}
 use Rattle.dscript_eval.proofs.CallbackMoves.{loop_end, reduction_end}
-use Rattle.eval_machine.proofs.Kept.{keeps_at}
+use Rattle.dscript_eval_frames.proofs.Kept.{keeps_at}
 use Rattle.dscript_eval.proofs.callbacks.end_callbacks.Goals as goal
 
 pub returns-in-Reduce : goal.returns-in-Reduce

@@ -1,8 +1,8 @@
 use Rattle.std.proofs.Common.{sym, ◌∙◌}
-use Rattle.eval_machine.specs.Views.{seen}
+use Rattle.dscript_eval_frames.specs.Views.{seen}
 use Rattle.dscript_eval.proofs.CallbackMoves.{came_dropped, came_kept}
 use Rattle.dscript_eval.proofs.CallsNow.{left_after}
-use Rattle.eval_machine.proofs.ItemLists.{ends_in}
+use Rattle.dscript_eval_frames.proofs.ItemLists.{ends_in}
 use Rattle.dscript_eval.proofs.callbacks.keep_item.Goals as goal
 
 pub returns-then-not-is_true : goal.returns-then-not-is_true

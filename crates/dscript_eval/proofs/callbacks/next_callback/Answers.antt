@@ -1,7 +1,7 @@
 use Rattle.std.proofs.Common.{List, ap, map, subst, ◌∙◌}
 use Rattle.dscript_value.specs.Plain.{plain_of}
 use Rattle.dscript_value.specs.declared.value.Value.{Value}
-use Rattle.eval_machine.specs.Views.{seen}
+use Rattle.dscript_eval_frames.specs.Views.{seen}
 use Rattle.dscript_eval.specs.CallbackArgs.{AreNextArgs}
 use Rattle.dscript_eval.proofs.callbacks.next_callback.Goals as goal
 

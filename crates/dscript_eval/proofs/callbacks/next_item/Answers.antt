@@ -2,8 +2,8 @@ use Rattle.std.proofs.Common.{ap, sym, ◌∙◌}
 use Rattle.std.specs.Prelude.{unwrap_or}
 use Rattle.dscript_value.specs.Plain as plain
 use Rattle.dscript_value.specs.Plain.{item_list, plain_values}
-use Rattle.sdk_values.proofs.Views.{plain-Undefined}
-use Rattle.eval_machine.proofs.ItemLists.{nothing_there}
+use Rattle.dscript_sdk_values.proofs.Views.{plain-Undefined}
+use Rattle.dscript_eval_frames.proofs.ItemLists.{nothing_there}
 use Rattle.dscript_eval.proofs.CallbackReads.{item_read}
 use Rattle.dscript_eval.proofs.callbacks.next_item.Goals as goal
 

@@ -1,9 +1,9 @@
 use Rattle.std.proofs.Common.{Ok, ap, map, sym, ◌∙◌}
 use Rattle.dscript_value.specs.Plain.{Plain, item_list, plain_of, plain_values}
-use Rattle.eval_machine.specs.Views.{seen}
-use Rattle.eval_machine.specs.Works.{function_of}
+use Rattle.dscript_eval_frames.specs.Views.{seen}
+use Rattle.dscript_eval_frames.specs.Works.{function_of}
 use Rattle.dscript_eval.proofs.CallbackMoves.{reduce_begins, reduce_stops}
-use Rattle.eval_machine.proofs.Kept.{keeps_at}
+use Rattle.dscript_eval_frames.proofs.Kept.{keeps_at}
 use Rattle.dscript_eval.proofs.callbacks.reduce.Goals as goal
 
 pub returns-in_ok-first-in-Ok : goal.returns-in_ok-first-in-Ok

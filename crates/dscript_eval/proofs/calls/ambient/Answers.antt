@@ -1,7 +1,7 @@
 use Rattle.std.proofs.Common.{refl}
-use Rattle.eval_machine.specs.Views.{seen}
+use Rattle.dscript_eval_frames.specs.Views.{seen}
 use Rattle.dscript_eval.proofs.CallMoves.{ambient_move, ambient_stops}
-use Rattle.eval_machine.proofs.Kept.{keeps_at}
+use Rattle.dscript_eval_frames.proofs.Kept.{keeps_at}
 use Rattle.dscript_eval.proofs.calls.ambient.Goals as goal
 
 pub returns-in-Ok : goal.returns-in-Ok

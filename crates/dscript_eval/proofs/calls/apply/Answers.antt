@@ -1,8 +1,8 @@
 use Rattle.dscript_value.specs.Plain.{plain_of}
-use Rattle.eval_machine.specs.Views.{seen}
+use Rattle.dscript_eval_frames.specs.Views.{seen}
 use Rattle.dscript_eval.proofs.CallMoves.{applied_function, applied_none}
-use Rattle.eval_machine.proofs.Kept.{keeps_at}
-use Rattle.eval_machine.proofs.Refused.{faulted}
+use Rattle.dscript_eval_frames.proofs.Kept.{keeps_at}
+use Rattle.dscript_eval_frames.proofs.Refused.{faulted}
 use Rattle.dscript_eval.proofs.calls.apply.Goals as goal
 
 pub returns-in-Some : goal.returns-in-Some

@@ -1,7 +1,7 @@
-use Rattle.eval_machine.specs.Views.{seen}
+use Rattle.dscript_eval_frames.specs.Views.{seen}
 use Rattle.dscript_eval.proofs.CallMoves.{argument_move}
-use Rattle.eval_machine.proofs.ItemLists.{ends_in}
-use Rattle.eval_machine.proofs.Kept.{keeps_at}
+use Rattle.dscript_eval_frames.proofs.ItemLists.{ends_in}
+use Rattle.dscript_eval_frames.proofs.Kept.{keeps_at}
 use Rattle.dscript_eval.proofs.calls.argument.Goals as goal
 
 pub returns-in-Ok : goal.returns-in-Ok

@@ -1,11 +1,11 @@
 use Rattle.std.proofs.Common.{ap, sym, ◌∙◌}
-use Rattle.eval_machine.specs.Views.{View, seen}
-use Rattle.eval_machine.specs.Works.{comes_with}
-use Rattle.eval_machine.specs.declared.work.CallWork.TheVariants as call
-use Rattle.eval_machine.specs.declared.work.Work.TheVariants as works
-use Rattle.eval_machine.proofs.ItemLists.{ends_in}
-use Rattle.eval_machine.proofs.Kept.{keeps_at}
-use Rattle.eval_exprs.proofs.AtOnce.{given_then}
+use Rattle.dscript_eval_frames.specs.Views.{View, seen}
+use Rattle.dscript_eval_frames.specs.Works.{comes_with}
+use Rattle.dscript_eval_frames.specs.declared.work.CallWork.TheVariants as call
+use Rattle.dscript_eval_frames.specs.declared.work.Work.TheVariants as works
+use Rattle.dscript_eval_frames.proofs.ItemLists.{ends_in}
+use Rattle.dscript_eval_frames.proofs.Kept.{keeps_at}
+use Rattle.dscript_eval_exprs.proofs.AtOnce.{given_then}
 use Rattle.dscript_eval.proofs.CallMoves.{argument_move, arguments_move}
 use Rattle.dscript_eval.proofs.calls.arguments.Goals as goal
 

@@ -1,8 +1,8 @@
 use Rattle.std.proofs.Common.{◌≡◌, length}
-use Rattle.eval_machine.specs.Views.{seen}
-use Rattle.eval_machine.specs.Works.{comes_with}
-use Rattle.eval_machine.specs.declared.work.CallWork.TheVariants as call
-use Rattle.eval_machine.specs.declared.work.Work.TheVariants as works
+use Rattle.dscript_eval_frames.specs.Views.{seen}
+use Rattle.dscript_eval_frames.specs.Works.{comes_with}
+use Rattle.dscript_eval_frames.specs.declared.work.CallWork.TheVariants as call
+use Rattle.dscript_eval_frames.specs.declared.work.Work.TheVariants as works
 use Rattle.dscript_eval.proofs.calls.arguments.Given as goal
 
 abbrev pub invariant-arguments : goal.invariant-arguments

@@ -1,11 +1,11 @@
 use Rattle.std.proofs.Common.{List, ap, map, sym, ◌∙◌}
 use Rattle.dscript_value.specs.Plain.{plain_of}
 use Rattle.dscript_value.specs.declared.value.Value.{Value}
-use Rattle.eval_machine.specs.Forms.{acts_at}
-use Rattle.eval_machine.specs.Views.{seen}
-use Rattle.eval_machine.specs.Works.{comes_by, used}
+use Rattle.dscript_eval_frames.specs.Forms.{acts_at}
+use Rattle.dscript_eval_frames.specs.Views.{seen}
+use Rattle.dscript_eval_frames.specs.Works.{comes_by, used}
 use Rattle.dscript_eval.proofs.CallMoves.{arguments_end, arguments_move}
-use Rattle.eval_machine.proofs.Kept.{keeps_at, kept}
+use Rattle.dscript_eval_frames.proofs.Kept.{keeps_at, kept}
 use Rattle.dscript_eval.proofs.calls.arguments_by_work.Goals as goal
 
 pub returns-in-Some : goal.returns-in-Some

@@ -2,9 +2,9 @@ use Rattle.std.proofs.Common.{List, ap, map, sym, ◌∙◌}
 use Rattle.dscript_program.specs.BoundTree as tree
 use Rattle.dscript_program.specs.Views.{body_data, stmt_data}
 use Rattle.dscript_program.specs.declared.bound.BoundStmt.{BoundStmt}
-use Rattle.eval_machine.specs.Views.{seen}
+use Rattle.dscript_eval_frames.specs.Views.{seen}
 use Rattle.dscript_eval.proofs.CallMoves.{begin_expr, begin_stmts}
-use Rattle.eval_machine.proofs.Kept.{keeps_at, kept}
+use Rattle.dscript_eval_frames.proofs.Kept.{keeps_at, kept}
 use Rattle.dscript_eval.proofs.calls.begin.Goals as goal
 
 pub returns-in-Expr : goal.returns-in-Expr

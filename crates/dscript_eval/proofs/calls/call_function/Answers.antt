@@ -1,11 +1,11 @@
 use Rattle.std.proofs.Common.{ap, map, sym}
 use Rattle.dscript_value.specs.Plain.{item_list, plain_function, plain_of}
 use Rattle.dscript_value.specs.declared.parts.Callee.{Callee}
-use Rattle.dscript_meaning.specs.Calls.{call_of_function}
-use Rattle.eval_machine.specs.Forms.{acts_at}
-use Rattle.eval_machine.specs.Views.{seen}
-use Rattle.eval_machine.specs.Works.{comes_by}
-use Rattle.eval_machine.proofs.Kept.{keeps_at}
+use Rattle.dscript_eval_meaning.specs.Calls.{call_of_function}
+use Rattle.dscript_eval_frames.specs.Forms.{acts_at}
+use Rattle.dscript_eval_frames.specs.Views.{seen}
+use Rattle.dscript_eval_frames.specs.Works.{comes_by}
+use Rattle.dscript_eval_frames.proofs.Kept.{keeps_at}
 use Rattle.dscript_eval.proofs.calls.call_function.Goals as goal
 
 pub returns : goal.returns

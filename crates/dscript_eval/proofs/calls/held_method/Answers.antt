@@ -1,13 +1,13 @@
 use Rattle.std.proofs.Common.{List, ap, map}
 use Rattle.dscript_value.specs.Plain.{plain_of}
 use Rattle.dscript_value.specs.declared.value.Value.{Value}
-use Rattle.dscript_meaning.specs.Calls.{held_method}
-use Rattle.eval_machine.specs.Forms.{acts_at}
-use Rattle.eval_machine.specs.Views.{seen}
-use Rattle.eval_machine.specs.Works.{comes_by}
-use Rattle.eval_machine.proofs.Followed.{empty_list}
-use Rattle.eval_machine.proofs.Kept.{keeps_at}
-use Rattle.eval_machine.proofs.Refused.{faulted}
+use Rattle.dscript_eval_meaning.specs.Calls.{held_method}
+use Rattle.dscript_eval_frames.specs.Forms.{acts_at}
+use Rattle.dscript_eval_frames.specs.Views.{seen}
+use Rattle.dscript_eval_frames.specs.Works.{comes_by}
+use Rattle.dscript_eval_frames.proofs.Followed.{empty_list}
+use Rattle.dscript_eval_frames.proofs.Kept.{keeps_at}
+use Rattle.dscript_eval_frames.proofs.Refused.{faulted}
 use Rattle.dscript_eval.proofs.calls.held_method.Goals as goal
 
 pub returns-in-Some : goal.returns-in-Some

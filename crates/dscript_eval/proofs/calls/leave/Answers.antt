@@ -1,4 +1,4 @@
-use Rattle.eval_machine.specs.Views.{seen}
+use Rattle.dscript_eval_frames.specs.Views.{seen}
 use Rattle.dscript_eval.proofs.CallMoves.{left_move}
 use Rattle.dscript_eval.proofs.calls.leave.Goals as goal
 

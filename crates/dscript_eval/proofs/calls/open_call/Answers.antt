@@ -1,12 +1,12 @@
 use Rattle.std.proofs.Common.{ap, arith, map, ◌∙◌}
 use Rattle.dscript_value.specs.Plain.{PlainFunction, item_list, plain_of}
-use Rattle.dscript_meaning.specs.Frames.{function_frame}
-use Rattle.eval_frames.specs.Codes.{code_data}
-use Rattle.eval_machine.specs.Views.{seen}
-use Rattle.eval_machine.proofs.Opening.{none_openable}
+use Rattle.dscript_eval_meaning.specs.Frames.{function_frame}
+use Rattle.dscript_eval_frames.specs.Codes.{code_data}
+use Rattle.dscript_eval_frames.specs.Views.{seen}
+use Rattle.dscript_eval_frames.proofs.Opening.{none_openable}
 use Rattle.dscript_eval.proofs.CallMoves.{no_code, opened_body}
-use Rattle.eval_machine.proofs.Kept.{keeps_at}
-use Rattle.eval_machine.proofs.Refused.{faulted}
+use Rattle.dscript_eval_frames.proofs.Kept.{keeps_at}
+use Rattle.dscript_eval_frames.proofs.Refused.{faulted}
 use Rattle.dscript_eval.proofs.calls.open_call.Goals as goal
 
 pub returns-then-machine-eq0 : goal.returns-then-machine-eq0

@@ -1,10 +1,10 @@
 use Rattle.std.proofs.Common.{ap, map}
 use Rattle.dscript_value.specs.Plain.{plain_of}
-use Rattle.eval_machine.specs.Forms.{acts_at}
-use Rattle.eval_machine.specs.Views.{seen}
-use Rattle.eval_machine.specs.Works.{comes_by, used}
-use Rattle.eval_machine.specs.declared.work.Use.{Use}
-use Rattle.eval_machine.proofs.Kept.{keeps_at}
+use Rattle.dscript_eval_frames.specs.Forms.{acts_at}
+use Rattle.dscript_eval_frames.specs.Views.{seen}
+use Rattle.dscript_eval_frames.specs.Works.{comes_by, used}
+use Rattle.dscript_eval_frames.specs.declared.work.Use.{Use}
+use Rattle.dscript_eval_frames.proofs.Kept.{keeps_at}
 use Rattle.dscript_eval.proofs.calls.use_arguments.Goals as goal
 
 pub returns-in-Apply : goal.returns-in-Apply

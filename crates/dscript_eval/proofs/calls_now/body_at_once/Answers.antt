@@ -3,7 +3,7 @@ use Rattle.std.proofs.lemmas.List.{length-map}
 use Rattle.dscript_ast.specs.Views.{param_tree}
 use Rattle.dscript_program.specs.Views.{expr_data, function_data}
 use Rattle.dscript_value.specs.Plain.{plain_of}
-use Rattle.eval_machine.specs.Views.{seen}
+use Rattle.dscript_eval_frames.specs.Views.{seen}
 use Rattle.dscript_eval.proofs.CallsNow.{body_given, knows_args}
 use Rattle.dscript_eval.proofs.calls_now.body_at_once.Goals as goal
 

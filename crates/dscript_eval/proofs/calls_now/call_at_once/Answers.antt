@@ -1,8 +1,8 @@
 use Rattle.std.proofs.Common.{ap, arith, sym, ◌∙◌}
 use Rattle.dscript_program.specs.Views.{body_data, expr_data}
 use Rattle.dscript_value.specs.Plain.{plain_of}
-use Rattle.eval_frames.specs.Codes.{code_data}
-use Rattle.eval_machine.specs.Views.{seen}
+use Rattle.dscript_eval_frames.specs.Codes.{code_data}
+use Rattle.dscript_eval_frames.specs.Views.{seen}
 use Rattle.dscript_eval.proofs.CallsNow.{called_given}
 use Rattle.dscript_eval.proofs.calls_now.call_at_once.Goals as goal
 

@@ -1,4 +1,4 @@
-use Rattle.eval_machine.specs.declared.work.Callback.TheVariants as kinds
+use Rattle.dscript_eval_frames.specs.declared.work.Callback.TheVariants as kinds
 use Rattle.dscript_eval.proofs.CallsNow.{kind_given}
 use Rattle.dscript_eval.proofs.calls_now.callback_at_once.Goals as goal
 

@@ -1,8 +1,8 @@
 use Rattle.std.proofs.Common.{Ok, Err, ap, subst, sym, ◌∙◌}
 use Rattle.dscript_program.specs.Views.{program_data}
-use Rattle.eval_machine.specs.Keeps.{StopsWith}
-use Rattle.eval_machine.specs.Views.{seen}
-use Rattle.eval_machine.specs.Works.{Answer, comes}
+use Rattle.dscript_eval_frames.specs.Keeps.{StopsWith}
+use Rattle.dscript_eval_frames.specs.Views.{seen}
+use Rattle.dscript_eval_frames.specs.Works.{Answer, comes}
 use Rattle.dscript_eval.proofs.Tops.{answered_as, built, ended, unnumbered_is}
 use Rattle.dscript_eval.proofs.evaluation.evaluate.Goals as goal
 

@@ -1,7 +1,7 @@
 use Rattle.std.proofs.Common.{refl, subst, sym}
 use Rattle.dscript_program.specs.Views.{program_data}
-use Rattle.dscript_meaning.specs.declared.fault.EvalFault.TheVariants as eval_faults
-use Rattle.eval_machine.specs.declared.stop.Stop.{Stop}
+use Rattle.dscript_eval_meaning.specs.declared.fault.EvalFault.TheVariants as eval_faults
+use Rattle.dscript_eval_frames.specs.declared.stop.Stop.{Stop}
 use Rattle.dscript_eval.specs.Tops.{IsAnsweredAs}
 use Rattle.dscript_eval.proofs.evaluation.fault_of.Goals as goal
 

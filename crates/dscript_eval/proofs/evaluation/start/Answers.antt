@@ -1,9 +1,9 @@
 use Rattle.std.proofs.Common.{◌++◌, ◌∷◌, List, [], ap, reverse, ◌∙◌}
 use Rattle.dscript_program.specs.Views.{program_data}
-use Rattle.sdk_values.proofs.Views.{plain-Undefined}
-use Rattle.eval_machine.specs.declared.work.StmtWork.TheVariants as stmt
-use Rattle.eval_machine.specs.declared.work.Work.{Work}
-use Rattle.eval_machine.specs.declared.work.Work.TheVariants as works
+use Rattle.dscript_sdk_values.proofs.Views.{plain-Undefined}
+use Rattle.dscript_eval_frames.specs.declared.work.StmtWork.TheVariants as stmt
+use Rattle.dscript_eval_frames.specs.declared.work.Work.{Work}
+use Rattle.dscript_eval_frames.specs.declared.work.Work.TheVariants as works
 use Rattle.dscript_eval.proofs.Tops.{first_is}
 use Rattle.dscript_eval.proofs.evaluation.start.Goals as goal
 

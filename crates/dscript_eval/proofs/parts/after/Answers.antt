@@ -1,12 +1,12 @@
-use Rattle.eval_machine.specs.Views.{seen}
+use Rattle.dscript_eval_frames.specs.Views.{seen}
 use Rattle.dscript_program.specs.BoundTree.{to_parts}
 use Rattle.dscript_program.specs.Views.{part_data}
 use Rattle.std.proofs.Common.{map, refl, sym, subst}
-use Rattle.eval_machine.specs.Forms.{acts_at, part_form}
-use Rattle.eval_machine.specs.Keeps.{StopsWith}
-use Rattle.eval_machine.specs.Views.{View}
-use Rattle.eval_machine.specs.Works.{Answer}
-use Rattle.eval_machine.proofs.Kept.{keeps_at, spent_then, unspent_first}
+use Rattle.dscript_eval_frames.specs.Forms.{acts_at, part_form}
+use Rattle.dscript_eval_frames.specs.Keeps.{StopsWith}
+use Rattle.dscript_eval_frames.specs.Views.{View}
+use Rattle.dscript_eval_frames.specs.Works.{Answer}
+use Rattle.dscript_eval_frames.proofs.Kept.{keeps_at, spent_then, unspent_first}
 use Rattle.dscript_eval.proofs.PartMoves.{after_end, after_move}
 use Rattle.dscript_eval.proofs.parts.after.Goals as goal
 

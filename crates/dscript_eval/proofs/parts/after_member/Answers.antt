@@ -1,7 +1,7 @@
 use Rattle.std.proofs.Common.{◌∙◌}
 use Rattle.std.proofs.lemmas.Bool.{both_ways}
-use Rattle.eval_machine.specs.Views.{seen}
-use Rattle.eval_machine.proofs.Kept.{keeps_at}
+use Rattle.dscript_eval_frames.specs.Views.{seen}
+use Rattle.dscript_eval_frames.proofs.Kept.{keeps_at}
 use Rattle.dscript_eval.proofs.PartMoves.{method_move}
 use Rattle.dscript_eval.proofs.parts.after_member.Goals as goal
 

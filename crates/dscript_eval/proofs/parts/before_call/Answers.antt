@@ -1,10 +1,10 @@
 use Rattle.std.proofs.Common.{ap, length, sym, ◌∙◌}
 use Rattle.std.proofs.lemmas.Bool.{eqb-true}
-use Rattle.eval_machine.specs.Views.{View, seen}
-use Rattle.eval_machine.specs.Works.{comes_with}
-use Rattle.eval_machine.specs.declared.work.CallWork.TheVariants as call
-use Rattle.eval_machine.specs.declared.work.Work.TheVariants as works
-use Rattle.eval_machine.proofs.Kept.{keeps_at, memory_stops}
+use Rattle.dscript_eval_frames.specs.Views.{View, seen}
+use Rattle.dscript_eval_frames.specs.Works.{comes_with}
+use Rattle.dscript_eval_frames.specs.declared.work.CallWork.TheVariants as call
+use Rattle.dscript_eval_frames.specs.declared.work.Work.TheVariants as works
+use Rattle.dscript_eval_frames.proofs.Kept.{keeps_at, memory_stops}
 use Rattle.dscript_eval.proofs.PartMoves.{call_alone, call_move}
 use Rattle.dscript_eval.proofs.parts.before_call.Goals as goal
 

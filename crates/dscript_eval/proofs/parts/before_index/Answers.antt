@@ -1,6 +1,6 @@
 use Rattle.std.proofs.Common.{◌∙◌}
-use Rattle.eval_machine.specs.Views.{seen}
-use Rattle.eval_machine.proofs.Kept.{keeps_at, kept}
+use Rattle.dscript_eval_frames.specs.Views.{seen}
+use Rattle.dscript_eval_frames.proofs.Kept.{keeps_at, kept}
 use Rattle.dscript_eval.proofs.PartMoves.{index_move, index_next, index_now}
 use Rattle.dscript_eval.proofs.parts.before_index.Goals as goal
 

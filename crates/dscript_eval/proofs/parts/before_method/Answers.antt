@@ -1,9 +1,9 @@
 use Rattle.std.proofs.Common.{map, refl}
 use Rattle.dscript_program.specs.BoundTree.{to_exprs, to_parts}
 use Rattle.dscript_program.specs.Views.{expr_data, part_data}
-use Rattle.eval_machine.specs.Forms.{acts_at, method_form}
-use Rattle.eval_machine.specs.Views.{View, seen}
-use Rattle.eval_machine.proofs.Kept.{spent_then, unspent_first}
+use Rattle.dscript_eval_frames.specs.Forms.{acts_at, method_form}
+use Rattle.dscript_eval_frames.specs.Views.{View, seen}
+use Rattle.dscript_eval_frames.proofs.Kept.{spent_then, unspent_first}
 use Rattle.dscript_eval.proofs.parts.before_method.Goals as goal
 
 pub returns-in-Ok : goal.returns-in-Ok

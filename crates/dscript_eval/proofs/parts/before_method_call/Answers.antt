@@ -1,5 +1,5 @@
-use Rattle.eval_machine.specs.Views.{seen}
-use Rattle.eval_machine.proofs.Kept.{keeps_at}
+use Rattle.dscript_eval_frames.specs.Views.{seen}
+use Rattle.dscript_eval_frames.proofs.Kept.{keeps_at}
 use Rattle.dscript_eval.proofs.PartMoves.{method_call_move}
 use Rattle.dscript_eval.proofs.parts.before_method_call.Goals as goal
 

@@ -1,13 +1,13 @@
 use Rattle.std.proofs.Common.{ap, length, sym, ◌∙◌}
 use Rattle.std.proofs.lemmas.Bool.{eqb-true}
 use Rattle.dscript_value.specs.Plain.{plain_of}
-use Rattle.dscript_operators.specs.Indexing.{indexed}
-use Rattle.dscript_meaning.specs.Evaluating.{answered}
-use Rattle.eval_machine.specs.Views.{View, seen}
-use Rattle.eval_machine.specs.Works.{comes_with}
-use Rattle.eval_machine.specs.declared.work.ExprWork.TheVariants as expr
-use Rattle.eval_machine.specs.declared.work.Work.TheVariants as works
-use Rattle.eval_machine.proofs.Kept.{keeps_at, memory_stops}
+use Rattle.dscript_eval_operators.specs.Indexing.{indexed}
+use Rattle.dscript_eval_meaning.specs.Evaluating.{answered}
+use Rattle.dscript_eval_frames.specs.Views.{View, seen}
+use Rattle.dscript_eval_frames.specs.Works.{comes_with}
+use Rattle.dscript_eval_frames.specs.declared.work.ExprWork.TheVariants as expr
+use Rattle.dscript_eval_frames.specs.declared.work.Work.TheVariants as works
+use Rattle.dscript_eval_frames.proofs.Kept.{keeps_at, memory_stops}
 use Rattle.dscript_eval.proofs.PartMoves.{last_part}
 use Rattle.dscript_eval.proofs.parts.index_then.Goals as goal
 

@@ -1,7 +1,7 @@
 use Rattle.std.proofs.Common.{length, sym, ◌∙◌}
 use Rattle.std.proofs.lemmas.Bool.{eqb-true}
-use Rattle.eval_machine.specs.Views.{seen}
-use Rattle.eval_machine.proofs.Kept.{keeps_at, memory_stops}
+use Rattle.dscript_eval_frames.specs.Views.{seen}
+use Rattle.dscript_eval_frames.proofs.Kept.{keeps_at, memory_stops}
 use Rattle.dscript_eval.proofs.PartMoves.{member_alone, member_then}
 use Rattle.dscript_eval.proofs.parts.member_value.Goals as goal
 

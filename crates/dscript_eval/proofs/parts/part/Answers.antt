@@ -1,7 +1,7 @@
 use Rattle.std.proofs.Common.{ap, ◌∙◌}
 use Rattle.dscript_program.specs.Views.{part_data}
 use Rattle.dscript_program.proofs.NodeViews.{part_data-Call, part_data-Index, part_data-Member}
-use Rattle.eval_machine.specs.Views.{seen}
+use Rattle.dscript_eval_frames.specs.Views.{seen}
 use Rattle.dscript_eval.proofs.PartRests.{call_from, index_from, part_as}
 use Rattle.dscript_eval.proofs.parts.part.Goals as goal
 

@@ -1,7 +1,7 @@
 use Rattle.std.proofs.Common.{ap, subst, sym, ◌∙◌}
-use Rattle.eval_machine.specs.Keeps.{StopsWith}
-use Rattle.eval_machine.specs.Views.{View}
-use Rattle.eval_machine.specs.Works.{Answer, comes}
+use Rattle.dscript_eval_frames.specs.Keeps.{StopsWith}
+use Rattle.dscript_eval_frames.specs.Views.{View}
+use Rattle.dscript_eval_frames.specs.Works.{Answer, comes}
 use Rattle.dscript_eval.proofs.running.run.Goals as goal
 
 pub turns-preserved : goal.turns-preserved

@@ -1,6 +1,6 @@
 use Rattle.std.proofs.Common.{◌≡◌}
-use Rattle.eval_machine.specs.Views.{seen}
-use Rattle.eval_machine.specs.Works.{comes}
+use Rattle.dscript_eval_frames.specs.Views.{seen}
+use Rattle.dscript_eval_frames.specs.Works.{comes}
 use Rattle.dscript_eval.proofs.running.run.Given as goal
 
 abbrev pub invariant-turns : goal.invariant-turns

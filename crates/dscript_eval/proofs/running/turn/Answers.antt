@@ -1,4 +1,4 @@
-use Rattle.eval_machine.specs.Views.{seen}
+use Rattle.dscript_eval_frames.specs.Views.{seen}
 use Rattle.dscript_eval.proofs.Turns.{done_as}
 use Rattle.dscript_eval.proofs.running.turn.Goals as goal
 

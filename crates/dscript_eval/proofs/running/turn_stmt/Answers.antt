@@ -1,6 +1,6 @@
 use Rattle.std.proofs.Common.{ap}
-use Rattle.eval_machine.specs.Views.{seen}
-use Rattle.eval_machine.specs.declared.work.Work.TheVariants as works
+use Rattle.dscript_eval_frames.specs.Views.{seen}
+use Rattle.dscript_eval_frames.specs.declared.work.Work.TheVariants as works
 use Rattle.dscript_eval.proofs.Turns.{done_as}
 use Rattle.dscript_eval.proofs.running.turn_stmt.Goals as goal
 

@@ -1,9 +1,9 @@
 use Rattle.std.proofs.Common.{ap, sym, ◌∙◌}
-use Rattle.eval_machine.specs.Views.{View, seen}
-use Rattle.eval_machine.specs.Works.{comes_with}
-use Rattle.eval_machine.specs.declared.work.StmtWork.TheVariants as stmt
-use Rattle.eval_machine.specs.declared.work.Work.TheVariants as works
-use Rattle.eval_machine.proofs.Kept.{keeps_at}
+use Rattle.dscript_eval_frames.specs.Views.{View, seen}
+use Rattle.dscript_eval_frames.specs.Works.{comes_with}
+use Rattle.dscript_eval_frames.specs.declared.work.StmtWork.TheVariants as stmt
+use Rattle.dscript_eval_frames.specs.declared.work.Work.TheVariants as works
+use Rattle.dscript_eval_frames.proofs.Kept.{keeps_at}
 use Rattle.dscript_eval.proofs.StmtMoves.{all_end}
 use Rattle.dscript_eval.proofs.StmtsNow.{passed_move}
 use Rattle.dscript_eval.proofs.statements.all.Goals as goal

@@ -1,4 +1,4 @@
-use Rattle.eval_machine.specs.Views.{seen}
+use Rattle.dscript_eval_frames.specs.Views.{seen}
 use Rattle.dscript_eval.proofs.StmtMoves.{bound_move}
 use Rattle.dscript_eval.proofs.statements.bind.Goals as goal
 

@@ -1,6 +1,6 @@
 use Rattle.std.proofs.Common.{sym, ◌∙◌}
-use Rattle.eval_machine.specs.Views.{seen}
-use Rattle.eval_machine.proofs.Kept.{keeps_at, kept}
+use Rattle.dscript_eval_frames.specs.Views.{seen}
+use Rattle.dscript_eval_frames.proofs.Kept.{keeps_at, kept}
 use Rattle.dscript_eval.proofs.StmtMoves.{branch_none, branch_other, branch_true}
 use Rattle.dscript_eval.proofs.statements.branch.Goals as goal
 

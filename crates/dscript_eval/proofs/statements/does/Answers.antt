@@ -1,4 +1,4 @@
-use Rattle.eval_machine.specs.Views.{seen}
+use Rattle.dscript_eval_frames.specs.Views.{seen}
 use Rattle.dscript_eval.proofs.StmtKept.{spent_does, unspent_does}
 use Rattle.dscript_eval.proofs.statements.does.Goals as goal
 

@@ -1,4 +1,4 @@
-use Rattle.eval_machine.specs.Views.{seen}
+use Rattle.dscript_eval_frames.specs.Views.{seen}
 use Rattle.dscript_eval.proofs.StmtRests.{let_as}
 use Rattle.dscript_eval.proofs.statements.let_local.Goals as goal
 

@@ -1,7 +1,7 @@
 use Rattle.std.proofs.Common.{length, sym, ◌∙◌}
 use Rattle.std.proofs.lemmas.Bool.{eqb-true}
-use Rattle.eval_machine.specs.Views.{seen}
-use Rattle.eval_machine.proofs.Kept.{keeps_at, kept}
+use Rattle.dscript_eval_frames.specs.Views.{seen}
+use Rattle.dscript_eval_frames.proofs.Kept.{keeps_at, kept}
 use Rattle.dscript_eval.proofs.StmtMoves.{all_end, all_last, all_move}
 use Rattle.dscript_eval.proofs.statements.one_by_one.Goals as goal
 

@@ -2,7 +2,7 @@ use Rattle.std.proofs.Common.{ap, ◌∙◌}
 use Rattle.dscript_program.specs.Views.{stmt_data}
 use Rattle.dscript_program.proofs.NodeViews.{stmt_data-Assign, stmt_data-Block, stmt_data-Const, stmt_data-Empty, stmt_data-For}
 use Rattle.dscript_program.proofs.NodeViews.{stmt_data-If, stmt_data-Let, stmt_data-Return, stmt_data-Value}
-use Rattle.eval_machine.specs.Views.{seen}
+use Rattle.dscript_eval_frames.specs.Views.{seen}
 use Rattle.dscript_eval.proofs.StmtRests.{block_from, for_from, if_from, stmt_as}
 use Rattle.dscript_eval.proofs.statements.rest_of.Goals as goal
 

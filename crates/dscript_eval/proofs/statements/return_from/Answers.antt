@@ -1,4 +1,4 @@
-use Rattle.eval_machine.specs.Views.{seen}
+use Rattle.dscript_eval_frames.specs.Views.{seen}
 use Rattle.dscript_eval.proofs.StmtRests.{return_as}
 use Rattle.dscript_eval.proofs.statements.return_from.Goals as goal
 

@@ -1,5 +1,5 @@
-use Rattle.eval_machine.specs.Views.{seen}
-use Rattle.eval_machine.proofs.Kept.{keeps_at}
+use Rattle.dscript_eval_frames.specs.Views.{seen}
+use Rattle.dscript_eval_frames.proofs.Kept.{keeps_at}
 use Rattle.dscript_eval.proofs.StmtMoves.{no_value_move}
 use Rattle.dscript_eval.proofs.statements.return_undefined.Goals as goal
 

@@ -1,7 +1,7 @@
-use Rattle.eval_machine.specs.Views.{seen}
-use Rattle.eval_machine.specs.declared.work.StmtWork.TheVariants as stmt
-use Rattle.eval_machine.specs.declared.work.Work.TheVariants as works
-use Rattle.eval_exprs.proofs.AtOnce.{now_then, unless_now}
+use Rattle.dscript_eval_frames.specs.Views.{seen}
+use Rattle.dscript_eval_frames.specs.declared.work.StmtWork.TheVariants as stmt
+use Rattle.dscript_eval_frames.specs.declared.work.Work.TheVariants as works
+use Rattle.dscript_eval_exprs.proofs.AtOnce.{now_then, unless_now}
 use Rattle.dscript_eval.proofs.StmtMoves.{return_move}
 use Rattle.dscript_eval.proofs.statements.return_value.Goals as goal
 

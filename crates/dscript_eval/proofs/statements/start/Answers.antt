@@ -1,6 +1,6 @@
-use Rattle.eval_machine.specs.Views.{seen}
-use Rattle.eval_machine.proofs.Kept.{kept}
-use Rattle.eval_machine.proofs.Refused.{stops_first}
+use Rattle.dscript_eval_frames.specs.Views.{seen}
+use Rattle.dscript_eval_frames.proofs.Kept.{kept}
+use Rattle.dscript_eval_frames.proofs.Refused.{stops_first}
 use Rattle.dscript_eval.proofs.StmtMoves.{start_move}
 use Rattle.dscript_eval.proofs.statements.start.Goals as goal
 

@@ -1,9 +1,9 @@
 use Rattle.std.proofs.Common.{drop, refl}
 use Rattle.dscript_program.specs.Views.{stmt_data}
 use Rattle.dscript_value.specs.Plain.{item_list, plain_of, plain_values}
-use Rattle.eval_machine.specs.Forms.{acts_at, turn_form}
-use Rattle.eval_machine.specs.Views.{View, seen}
-use Rattle.eval_machine.proofs.Kept.{spent_goes, unspent_goes}
+use Rattle.dscript_eval_frames.specs.Forms.{acts_at, turn_form}
+use Rattle.dscript_eval_frames.specs.Views.{View, seen}
+use Rattle.dscript_eval_frames.proofs.Kept.{spent_goes, unspent_goes}
 use Rattle.dscript_eval.proofs.statements.turn_of.Goals as goal
 
 pub returns-in-Ok : goal.returns-in-Ok

@@ -1,8 +1,8 @@
 use Rattle.std.proofs.Common.{subst}
 use Rattle.dscript_value.specs.Plain.{item_list, plain_of, plain_values}
-use Rattle.eval_machine.specs.ItemsFrom.{IsItemFrom}
-use Rattle.eval_machine.specs.Views.{seen}
-use Rattle.eval_machine.proofs.Kept.{keeps_at}
+use Rattle.dscript_eval_frames.specs.ItemsFrom.{IsItemFrom}
+use Rattle.dscript_eval_frames.specs.Views.{seen}
+use Rattle.dscript_eval_frames.proofs.Kept.{keeps_at}
 use Rattle.dscript_eval.proofs.StmtMoves.{turn_first, turns_end}
 use Rattle.dscript_eval.proofs.statements.turns.Goals as goal
 

@@ -1,8 +1,8 @@
 use Rattle.std.proofs.Common.{◌∷◌, ap, length, sym, ◌∙◌, arith}
-use Rattle.eval_machine.specs.Views.{View, seen}
-use Rattle.eval_machine.specs.Works.{comes}
-use Rattle.eval_machine.specs.declared.work.Work.{Work}
-use Rattle.eval_machine.proofs.Kept.{keeps_at}
+use Rattle.dscript_eval_frames.specs.Views.{View, seen}
+use Rattle.dscript_eval_frames.specs.Works.{comes}
+use Rattle.dscript_eval_frames.specs.declared.work.Work.{Work}
+use Rattle.dscript_eval_frames.proofs.Kept.{keeps_at}
 use Rattle.dscript_eval.proofs.StmtMoves.{left_body, nothing_left, passed_over}
 use Rattle.dscript_eval.proofs.statements.unwind.Goals as goal
 

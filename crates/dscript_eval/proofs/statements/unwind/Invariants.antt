@@ -1,6 +1,6 @@
 use Rattle.std.proofs.Common.{◌≡◌, length}
-use Rattle.eval_machine.specs.Views.{seen}
-use Rattle.eval_machine.specs.Works.{returned_by}
+use Rattle.dscript_eval_frames.specs.Views.{seen}
+use Rattle.dscript_eval_frames.specs.Works.{returned_by}
 use Rattle.dscript_eval.proofs.statements.unwind.Given as goal
 
 abbrev pub invariant-work : goal.invariant-work

@@ -1,5 +1,5 @@
-use Rattle.eval_machine.specs.Views.{seen}
-use Rattle.eval_machine.proofs.Kept.{kept}
+use Rattle.dscript_eval_frames.specs.Views.{seen}
+use Rattle.dscript_eval_frames.proofs.Kept.{kept}
 use Rattle.dscript_eval.proofs.StmtMoves.{value_move}
 use Rattle.dscript_eval.proofs.statements.value_unused.Goals as goal
 

@@ -1,7 +1,7 @@
 use Rattle.std.proofs.Common.{refl, sym, ◌∙◌}
 use Rattle.dscript_program.specs.Views.{expr_data}
-use Rattle.eval_machine.specs.Views.{seen}
-use Rattle.eval_exprs.proofs.AtOnce.{knows_own}
+use Rattle.dscript_eval_frames.specs.Views.{seen}
+use Rattle.dscript_eval_exprs.proofs.AtOnce.{knows_own}
 use Rattle.dscript_eval.proofs.StmtsNow.{untaken_passes}
 use Rattle.dscript_eval.proofs.statements_now.untaken_at_once.Goals as goal
 

@@ -1,7 +1,7 @@
 use Rattle.std.proofs.Common.{map, rules}
 use Rattle.dscript_ast.specs.FileTree.{to_marked}
 use Rattle.dscript_ast.specs.Views.{marked_tree}
-use Rattle.dscript_scopes.specs.Declarations.{all_declared, declared_by}
+use Rattle.dscript_names_scopes.specs.Declarations.{all_declared, declared_by}
 use Rattle.dscript_names.proofs.Collected.{added_more, marked_listed}
 use Rattle.dscript_names.proofs.collecting.+decls.Goals as goal
 

@@ -1,7 +1,7 @@
 use Rattle.std.proofs.Common.{◌≡◌, ◌++◌, map, take}
 use Rattle.dscript_ast.specs.FileTree.{to_marked}
 use Rattle.dscript_ast.specs.Views.{marked_tree}
-use Rattle.dscript_scopes.specs.Declarations.{all_declared}
+use Rattle.dscript_names_scopes.specs.Declarations.{all_declared}
 use Rattle.dscript_names.proofs.collecting.+decls.Given as goal
 
 abbrev pub invariant-add_all-decls : goal.invariant-add_all-decls

@@ -1,6 +1,6 @@
 use Rattle.std.proofs.Common.{◌≡◌, ◌++◌, map, take}
 use Rattle.dscript_ast.specs.Views.{import_tree}
-use Rattle.dscript_scopes.specs.Declarations.{imported_name}
+use Rattle.dscript_names_scopes.specs.Declarations.{imported_name}
 use Rattle.dscript_names.proofs.collecting.add_imports.Given as goal
 
 abbrev pub invariant-names : goal.invariant-names

@@ -1,6 +1,6 @@
 use Rattle.std.proofs.Common.{◌≡◌, map, take}
 use Rattle.std.specs.List.{filter}
-use Rattle.dscript_scopes.specs.Declarations.{is_exported}
+use Rattle.dscript_names_scopes.specs.Declarations.{is_exported}
 use Rattle.dscript_names.proofs.exported.exported_names.Given as goal
 
 abbrev pub invariant-decls : goal.invariant-decls

@@ -1,7 +1,7 @@
 use Rattle.std.proofs.Common.{◌≡◌, ◌∙◌, ap, map, take}
 use Rattle.std.proofs.lemmas.List.{take_all}
-use Rattle.dscript_modules.specs.Workspaces.{modules_of}
-use Rattle.dscript_scopes.specs.Declarations.{names_of}
+use Rattle.dscript_program.specs.Workspaces.{modules_of}
+use Rattle.dscript_names_scopes.specs.Declarations.{names_of}
 use Rattle.dscript_names.specs.Views.{parsed_data}
 use Rattle.dscript_names.proofs.Duplicated.{duplicate_first, files_more, first_here, first_later, first_none}
 use Rattle.dscript_names.proofs.Owning.{owned}

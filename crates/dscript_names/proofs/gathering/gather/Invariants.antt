@@ -1,7 +1,7 @@
 use Rattle.std.proofs.Common.{◌≡◌, [], drop, map, take}
-use Rattle.dscript_modules.specs.Workspaces.{modules_of}
-use Rattle.dscript_scopes.specs.Declarations.{names_of}
-use Rattle.dscript_scopes.specs.Duplicates.{first_duplicate}
+use Rattle.dscript_program.specs.Workspaces.{modules_of}
+use Rattle.dscript_names_scopes.specs.Declarations.{names_of}
+use Rattle.dscript_names_scopes.specs.Duplicates.{first_duplicate}
 use Rattle.dscript_names.specs.Gathering.{IsTrueTo}
 use Rattle.dscript_names.specs.Views.{parsed_data}
 use Rattle.dscript_names.proofs.gathering.gather.Given as goal

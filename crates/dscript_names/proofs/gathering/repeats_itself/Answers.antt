@@ -3,9 +3,9 @@ use Rattle.std.specs.Borrow.{Bor}
 use Rattle.std.specs.Str.{bytes_eq}
 use Rattle.bx_tree.specs.Paths.{same_path}
 use Rattle.dscript_program.specs.ProgramData.{Dotted}
-use Rattle.dscript_scopes.specs.Duplicates.{has_repeat, repeats}
-use Rattle.dscript_scopes.specs.declared.names.Declared.{Declared}
-use Rattle.dscript_scopes.specs.declared.names.Imported.{Imported}
+use Rattle.dscript_names_scopes.specs.Duplicates.{has_repeat, repeats}
+use Rattle.dscript_names_scopes.specs.declared.names.Declared.{Declared}
+use Rattle.dscript_names_scopes.specs.declared.names.Imported.{Imported}
 use Rattle.dscript_names.proofs.Distinct.{repeat_mapped}
 use Rattle.dscript_names.proofs.SeenNames.{itself}
 use Rattle.dscript_names.proofs.gathering.repeats_itself.Goals as goal

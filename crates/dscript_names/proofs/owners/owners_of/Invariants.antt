@@ -2,7 +2,7 @@ use Rattle.std.proofs.Common.{◌≡◌, length}
 use Rattle.std.specs.Option.{option_or}
 use Rattle.std.specs.List.{position_from}
 use Rattle.bx_tree.specs.Paths.{Atoms}
-use Rattle.dscript_modules.specs.Workspaces.{modules_data}
+use Rattle.dscript_program.specs.Workspaces.{modules_data}
 use Rattle.dscript_names.specs.Owners.{has_file, owner_at}
 use Rattle.dscript_names.proofs.owners.owners_of.Given as goal
 

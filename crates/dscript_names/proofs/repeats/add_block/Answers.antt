@@ -1,7 +1,7 @@
 use Rattle.std.proofs.Common.{map, rules}
 use Rattle.dscript_ast.specs.ExprTree.{to_stmts}
 use Rattle.dscript_ast.specs.Views.{stmt_tree}
-use Rattle.dscript_scopes.specs.Duplicates.{block_names, stmt_names}
+use Rattle.dscript_names_scopes.specs.Duplicates.{block_names, stmt_names}
 use Rattle.dscript_names.specs.Singles.{single}
 use Rattle.dscript_names.proofs.Collected.{added_more, names_listed}
 use Rattle.dscript_names.proofs.repeats.add_block.Goals as goal

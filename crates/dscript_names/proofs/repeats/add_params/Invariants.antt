@@ -1,6 +1,6 @@
 use Rattle.std.proofs.Common.{◌≡◌, ◌++◌, map, take}
 use Rattle.dscript_ast.specs.Views.{param_tree}
-use Rattle.dscript_scopes.specs.Duplicates.{param_names}
+use Rattle.dscript_names_scopes.specs.Duplicates.{param_names}
 use Rattle.dscript_names.specs.Singles.{single}
 use Rattle.dscript_names.proofs.repeats.add_params.Given as goal
 

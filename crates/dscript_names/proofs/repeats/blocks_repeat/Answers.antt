@@ -1,7 +1,7 @@
 use Rattle.std.proofs.Common.{false, map, rules}
 use Rattle.std.specs.List.{list_any}
 use Rattle.dscript_ast.specs.Views.{item_tree}
-use Rattle.dscript_scopes.specs.Duplicates.{item_repeats}
+use Rattle.dscript_names_scopes.specs.Duplicates.{item_repeats}
 use Rattle.dscript_names.proofs.Found.{found_more, items_listed}
 use Rattle.dscript_names.proofs.repeats.blocks_repeat.Goals as goal
 

@@ -1,6 +1,6 @@
 use Rattle.std.proofs.Common.{◌≡◌, ◌+◌, drop, length, map}
 use Rattle.std.specs.Vec.Iter.{into_iter_items}
-use Rattle.dscript_binding.specs.Walked.{table_of}
+use Rattle.dscript_names_binding.specs.Walked.{table_of}
 use Rattle.dscript_names.specs.Resolving.{after_files, bind_each, count_of, files_of}
 use Rattle.dscript_names.specs.Views.{parsed_data}
 use Rattle.dscript_names.proofs.resolving.bind.Given as goal

@@ -1,5 +1,5 @@
 use Rattle.std.proofs.Common.{◌≡◌, map, take}
-use Rattle.dscript_modules.specs.Workspaces.{modules_data}
+use Rattle.dscript_program.specs.Workspaces.{modules_data}
 use Rattle.dscript_names.proofs.resolving.module_names.Given as goal
 
 abbrev pub invariant-modules : goal.invariant-modules

@@ -1,8 +1,8 @@
 use Rattle.std.proofs.Common.{◌∙◌, [], ap, length, map, sym}
 use Rattle.std.proofs.lemmas.Result.{err_from_is_err_and}
-use Rattle.dscript_modules.specs.Workspaces.{modules_data, modules_of}
-use Rattle.dscript_scopes.specs.Declarations.{names_of}
-use Rattle.dscript_scopes.specs.Duplicates.{first_duplicate}
+use Rattle.dscript_program.specs.Workspaces.{modules_data, modules_of}
+use Rattle.dscript_names_scopes.specs.Declarations.{names_of}
+use Rattle.dscript_names_scopes.specs.Duplicates.{first_duplicate}
 use Rattle.dscript_names.specs.Views.{parsed_data}
 use Rattle.dscript_names.proofs.Listed.{length_map}
 use Rattle.dscript_names.proofs.Resolved.{named_is, refused_duplicate, resolved}

@@ -1,8 +1,8 @@
 use Rattle.std.proofs.Common.{◌≡◌, ◌∷◌, [], cond, MatchResult, Ok, Some, ap, sym, ◌∙◌, subst}
 use Rattle.dscript_value.specs.declared.parts.Callee.TheVariants.{Member}
 use Rattle.dscript_value.specs.Plain.{plain_of}
-use Rattle.sdk_values.specs.Answers.{function_answer}
-use Rattle.sdk_values.specs.Outcomes.{Refuses}
+use Rattle.dscript_sdk_values.specs.Answers.{function_answer}
+use Rattle.dscript_sdk_values.specs.Outcomes.{Refuses}
 use Rattle.dscript_sdk.specs.Members.{member_answer, property_at, property_or_missing}
 use Rattle.dscript_sdk.proofs.membership.named_member.Goals as goal
 

@@ -1,7 +1,7 @@
 use Rattle.std.proofs.Common.{rules, ◌∙◌}
 use Rattle.std.proofs.lemmas.Fn.{always_returns_same}
 use Rattle.bx_tree.specs.Paths.{path_cmp}
-use Rattle.pip_types.specs.declared.outputs.OutDir.{OutDir}
+use Rattle.pip_model_types.specs.declared.outputs.OutDir.{OutDir}
 use Rattle.dscript_sdk.proofs.FoundByPath.{found_by_path}
 use Rattle.dscript_sdk.proofs.process_members.has_directory.Goals as goal
 

@@ -1,4 +1,4 @@
-use Rattle.sdk_execute.proofs.FoundByTest.{path_found}
+use Rattle.dscript_sdk_execute.proofs.FoundByTest.{path_found}
 use Rattle.dscript_sdk.proofs.process_members.has_output.Goals as goal
 
 pub returns : goal.returns

@@ -1,5 +1,5 @@
 use Rattle.std.proofs.Common.{IfOk, sym, subst}
-use Rattle.graph_outputs.specs.Firsts.{IsFirst}
+use Rattle.graph_check_outputs.specs.Firsts.{IsFirst}
 use Rattle.graph_check.specs.Rules.{FailsAt}
 use Rattle.graph_check.specs.declared.fault.GraphKind.{GraphKind}
 use Rattle.graph_check.proofs.checking.first_failure.Goals as goal

@@ -1,6 +1,6 @@
 use Rattle.std.proofs.Common.{◌∙◌, ap, subst, sym}
-use Rattle.pip_types.specs.declared.pip.Pip.{Pip}
-use Rattle.graph_outputs.specs.Firsts.{IsFirst}
+use Rattle.pip_model_types.specs.declared.pip.Pip.{Pip}
+use Rattle.graph_check_outputs.specs.Firsts.{IsFirst}
 use Rattle.graph_check.specs.Rules.{FailsAt}
 use Rattle.graph_check.proofs.Answering.{fails_within, spec_at}
 use Rattle.graph_check.proofs.checking.keep_rule.Goals as goal

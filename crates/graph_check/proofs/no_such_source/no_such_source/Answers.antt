@@ -2,7 +2,7 @@ use Rattle.std.specs.List.{Contains}
 use Rattle.bx_tree.specs.Paths.{Atoms}
 use Rattle.bx_tree.specs.Trees.{Files, paths_of}
 use Rattle.graph_check.specs.NoSuchSource.{named_sources}
-use Rattle.graph_outputs.proofs.Firsts.{found_first, found_none, none_has}
+use Rattle.graph_check_outputs.proofs.Firsts.{found_first, found_none, none_has}
 use Rattle.graph_check.proofs.no_such_source.no_such_source.Goals as goal
 
 abbrev IsMissing : Files → Atoms → Type 0

@@ -1,11 +1,11 @@
 use Rattle.std.proofs.Common.{inl, inr, ◌⊎◌, IsTrue, subst, sym}
 use Rattle.std.specs.Prelude.{◌↔◌}
 use Rattle.std.specs.List.{Any, Contains}
-use Rattle.pip_types.specs.declared.pip.PipKind.{PipKind}
-use Rattle.pip_types.specs.declared.pip.ProcessDesc.{ProcessDesc}
+use Rattle.pip_model_types.specs.declared.pip.PipKind.{PipKind}
+use Rattle.pip_model_types.specs.declared.pip.ProcessDesc.{ProcessDesc}
 use Rattle.graph_check.specs.Described.{HasDescribed}
 use Rattle.graph_check.specs.Twin.{descriptions}
-use Rattle.pip_order.specs.Descriptions.{description}
+use Rattle.graph_check.specs.Descriptions.{description}
 use Rattle.graph_check.proofs.Twins.{among_once, described_once}
 use Rattle.graph_check.proofs.twin.is_twin.Goals as goal
 

@@ -4,8 +4,8 @@ use Rattle.std.proofs.lemmas.Option.{slice_get_read}
 use Rattle.graph_check.specs.Described.{HasDescribed}
 use Rattle.graph_check.specs.Twin.{TwinAt, descriptions}
 use Rattle.graph_check.specs.declared.twin.Described.{Described}
-use Rattle.graph_outputs.proofs.Firsts.{none_at_all, none_more}
-use Rattle.graph_outputs.proofs.Repeats.{repeats_within, so_far_more, so_far_no_repeat, so_far_none, so_far_repeats}
+use Rattle.graph_check_outputs.proofs.Firsts.{none_at_all, none_more}
+use Rattle.graph_check_outputs.proofs.Repeats.{repeats_within, so_far_more, so_far_no_repeat, so_far_none, so_far_repeats}
 use Rattle.graph_check.proofs.twin.twin.Goals as goal
 
 none_of : (P : Described → Type 0) (xs : List Described) → length xs ≡ 0 → Any P xs → ⊥

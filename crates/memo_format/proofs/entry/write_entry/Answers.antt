@@ -1,8 +1,8 @@
 use Rattle.std.proofs.Common.{◌≡◌, ◌++◌, ◌∙◌, List, ℕ, codes, map, ap, subst}
 use Rattle.std.specs.List.{AllByRecursion, flat_map}
-use Rattle.stored_lines.specs.Parts.{digest_part}
-use Rattle.stored_lines.proofs.Joining.{joined_six}
-use Rattle.stored_lines.proofs.Rising.{map_same}
+use Rattle.prints.specs.Parts.{digest_part}
+use Rattle.prints.proofs.Joining.{joined_six}
+use Rattle.prints.proofs.Rising.{map_same}
 use Rattle.memo_format.specs.declared.entry.OutputLine.{OutputLine}
 use Rattle.memo_format.specs.Entries.{IsOutput, entry_text, output_line, paths_line, read_entry_text, strong_line, weak_line}
 use Rattle.memo_format.specs.Seals.{sealed}

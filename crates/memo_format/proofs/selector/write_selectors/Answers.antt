@@ -2,7 +2,7 @@ use Rattle.std.proofs.Common.{◌≡◌, ◌++◌, ◌∙◌, List, ℕ, codes, 
 use Rattle.std.specs.List.{AllByRecursion, flat_map}
 use Rattle.memo_format.specs.Seals.{sealed}
 use Rattle.memo_format.specs.Selectors.{IsSelector, read_selectors_text, select_line, selectors_text}
-use Rattle.stored_lines.proofs.Rising.{map_same}
+use Rattle.prints.proofs.Rising.{map_same}
 use Rattle.memo_format.proofs.FormTexts.{selectors_again}
 use Rattle.memo_format.proofs.selector.write_selectors.Goals as goal
 

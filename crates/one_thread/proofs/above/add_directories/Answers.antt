@@ -3,7 +3,7 @@ use Rattle.std.specs.BTreeSet.{contains}
 use Rattle.std.specs.List.{list_any}
 use Rattle.std.proofs.lemmas.List.{take_all}
 use Rattle.bx_tree.specs.Paths.{Atoms, path_cmp, same_path}
-use Rattle.own_writes.proofs.DirectorySets.{one_more}
+use Rattle.tool_run_writes.proofs.DirectorySets.{one_more}
 use Rattle.one_thread.proofs.above.add_directories.Goals as goal
 
 pub above-preserved : goal.above-preserved

@@ -3,7 +3,7 @@ use Rattle.std.proofs.lemmas.Slice.Eq.{bytes_eq-Decides}
 use Rattle.bx_tree.specs.Paths.{Atoms, path_text}
 use Rattle.bx_path.specs.Joining.{parent}
 use Rattle.bx_path.proofs.StepsOfTexts.{root_from_text}
-use Rattle.own_writes.proofs.Ancestors.{join_up}
+use Rattle.tool_run_writes.proofs.Ancestors.{join_up}
 use Rattle.one_thread.proofs.above.parent.Goals as goal
 
 pub returns-then-eq : goal.returns-then-eq

@@ -1,8 +1,8 @@
 use Rattle.std.proofs.Common.{◌<◌, ◌≤◌, List, ap, length, map, subst, take, ◌∙◌}
 use Rattle.std.specs.Prelude.{slice_get}
-use Rattle.pip_types.specs.declared.made.Slot.{Slot}
-use Rattle.pip_types.specs.declared.pip.Pip.{Pip}
-use Rattle.pip_outputs.specs.Slots.{slot_files}
+use Rattle.pip_model_types.specs.declared.made.Slot.{Slot}
+use Rattle.pip_model_types.specs.declared.pip.Pip.{Pip}
+use Rattle.violations.specs.Slots.{slot_files}
 use Rattle.one_thread.specs.Shared.{all_shared}
 use Rattle.one_thread.specs.Views.{ended_in}
 use Rattle.one_thread.proofs.GoingThrough.{begun, files_built, next_built, verdicts_built}

@@ -1,5 +1,5 @@
 use Rattle.std.proofs.Common.{map, take}
-use Rattle.pip_outputs.specs.Slots.{slot_files}
+use Rattle.violations.specs.Slots.{slot_files}
 use Rattle.one_thread.specs.Shared.{KeepsShared, all_shared}
 use Rattle.one_thread.proofs.GoingThrough.{IsSoFar}
 use Rattle.one_thread.proofs.build.build_all.Given as goal

@@ -1,5 +1,5 @@
 use Rattle.std.proofs.Common.{ap, map, sym, take, ◌∙◌}
-use Rattle.pip_outputs.specs.Slots.{slot_files}
+use Rattle.violations.specs.Slots.{slot_files}
 use Rattle.one_thread.specs.OneThread.{succeeded, unless_clash}
 use Rattle.one_thread.specs.Shared.{all_shared}
 use Rattle.one_thread.proofs.SharedSets.{no_clash}

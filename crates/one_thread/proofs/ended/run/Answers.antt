@@ -1,7 +1,7 @@
 use Rattle.std.proofs.Common.{map}
 use Rattle.std.specs.Prelude.{slice_get}
 use Rattle.std.proofs.lemmas.Result.{IfOk-weaker}
-use Rattle.pip_outputs.specs.Slots.{slot_files}
+use Rattle.violations.specs.Slots.{slot_files}
 use Rattle.one_thread.specs.Views.{ended_result}
 use Rattle.one_thread.proofs.OnePip.{process_worked}
 use Rattle.one_thread.proofs.ended.run.Goals as goal

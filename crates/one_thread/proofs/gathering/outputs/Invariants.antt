@@ -1,5 +1,5 @@
 use Rattle.std.proofs.Common.{◌≡◌, [], drop, map}
-use Rattle.pip_outputs.specs.Slots.{slot_files}
+use Rattle.violations.specs.Slots.{slot_files}
 use Rattle.one_thread.specs.OneThread.{all_made, put_all}
 use Rattle.one_thread.proofs.gathering.outputs.Given as goal
 

@@ -1,6 +1,6 @@
 use Rattle.std.proofs.Common.{ℕ, List, ap, ◌∙◌}
 use Rattle.bx_tree.specs.Paths.{Atoms}
-use Rattle.own_writes.specs.Writes.{with_file}
+use Rattle.tool_run_writes.specs.Writes.{with_file}
 use Rattle.one_thread.proofs.PutFiles.{file_more, files_end}
 use Rattle.one_thread.proofs.gathering.put_files.Goals as goal
 

@@ -1,5 +1,5 @@
 use Rattle.std.proofs.Common.{◌≡◌, drop}
-use Rattle.pip_types.specs.Made.{made_files}
+use Rattle.pip_model_types.specs.Made.{made_files}
 use Rattle.one_thread.specs.OneThread.{put_all}
 use Rattle.one_thread.proofs.gathering.put_files.Given as goal
 

@@ -1,5 +1,5 @@
 use Rattle.std.proofs.Common.{arith}
-use Rattle.own_writes.proofs.NextAtoms.{first_before, first_whole}
+use Rattle.tool_run_writes.proofs.NextAtoms.{first_before, first_whole}
 use Rattle.pip_view.proofs.below.first_part.Goals as goal
 
 pub returns-then-byte-eq47 : goal.returns-then-byte-eq47

@@ -3,9 +3,9 @@ use Rattle.std.proofs.lemmas.Iterator.{YieldsList-from_map_by}
 use Rattle.std.proofs.lemmas.Iterator.Consumers.{YieldsList-from_rest, map_from_collect}
 use Rattle.bx_tree.specs.Paths.{Atoms}
 use Rattle.bx_tree.specs.Trees.{Files}
-use Rattle.pip_types.specs.declared.made.MadeFile.{MadeFile}
-use Rattle.pip_types.specs.Made.{made_files}
-use Rattle.own_writes.proofs.SameFiles.{map_itself}
+use Rattle.pip_model_types.specs.declared.made.MadeFile.{MadeFile}
+use Rattle.pip_model_types.specs.Made.{made_files}
+use Rattle.tool_run_writes.proofs.SameFiles.{map_itself}
 use Rattle.pip_view.proofs.by_path.files_of.Goals as goal
 
 pub returns-clause-files : goal.returns-clause-files

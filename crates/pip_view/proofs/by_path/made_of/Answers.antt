@@ -1,7 +1,7 @@
 use Rattle.std.proofs.Common.{◌≡◌, IfOk, sym, subst}
 use Rattle.bx_tree.specs.Trees.{Files}
-use Rattle.pip_types.specs.Made.{RisingFiles}
-use Rattle.own_writes.proofs.SameFiles.{distinct_paths, one_made}
+use Rattle.pip_model_types.specs.Made.{RisingFiles}
+use Rattle.tool_run_writes.proofs.SameFiles.{distinct_paths, one_made}
 use Rattle.pip_view.proofs.by_path.made_of.Goals as goal
 
 pub of-requires : goal.of-requires

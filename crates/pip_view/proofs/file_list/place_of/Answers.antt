@@ -2,7 +2,7 @@ use Rattle.std.proofs.Common.{rules}
 use Rattle.std.proofs.lemmas.Fn.{always_returns_same}
 use Rattle.bx_tree.specs.Paths.{path_cmp}
 use Rattle.bx_tree.specs.declared.file_input.FileInput.{FileInput}
-use Rattle.pip_types.proofs.Placed.{place_from_search, place_if_found}
+use Rattle.pip_model_types.proofs.Placed.{place_from_search, place_if_found}
 use Rattle.pip_view.proofs.file_list.place_of.Goals as goal
 use Rattle.bx_tree.specs.FileInputs.{input_path}
 

@@ -1,6 +1,6 @@
 use Rattle.std.proofs.Common.{rules}
 use Rattle.std.proofs.lemmas.List.Sorted.{IsPartitionPoint-from_clause}
-use Rattle.pip_types.specs.declared.made.MadeFile.{MadeFile}
+use Rattle.pip_model_types.specs.declared.made.MadeFile.{MadeFile}
 use Rattle.pip_view.proofs.MadeLists.{partitioned_made}
 use Rattle.pip_view.proofs.made_list.count_before.Goals as goal
 use Rattle.bx_tree.specs.Ranges.{comes_before}

@@ -2,8 +2,8 @@ use Rattle.std.proofs.Common.{◌≡◌, ◌-◌, List, ℕ, true, false, length
 use Rattle.std.proofs.lemmas.List.{length-drop, take_all}
 use Rattle.std.specs.List.Sorted.{IsPartitionPoint}
 use Rattle.bx_tree.specs.declared.file_input.FileInput.{FileInput}
-use Rattle.own_writes.specs.Below.{is_below}
-use Rattle.pip_types.specs.declared.made.MadeFile.{MadeFile}
+use Rattle.tool_run_writes.specs.Below.{is_below}
+use Rattle.pip_model_types.specs.declared.made.MadeFile.{MadeFile}
 use Rattle.pip_view.specs.Gathered.{all_taken}
 use Rattle.pip_view.specs.Taken.{while_begins}
 use Rattle.pip_view.proofs.MadeLists.{made_have_all}

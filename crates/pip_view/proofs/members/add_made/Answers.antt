@@ -1,7 +1,7 @@
 use Rattle.std.proofs.Common.{◌≡◌, ◌++◌, List, ℕ, OnOk, ap, append-nil, subst, sym, ◌∙◌}
 use Rattle.bx_tree.specs.Trees.{Files}
-use Rattle.own_writes.specs.Writes.{own_names}
-use Rattle.pip_inputs.specs.Results.{files_by}
+use Rattle.tool_run_writes.specs.Writes.{own_names}
+use Rattle.pip_view_inputs.specs.Results.{files_by}
 use Rattle.pip_view.specs.Gathered.{below_of}
 use Rattle.pip_view.proofs.OpaqueMembers.{names_at, names_deeper}
 use Rattle.pip_view.proofs.members.add_made.Goals as goal

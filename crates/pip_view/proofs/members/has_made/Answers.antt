@@ -1,7 +1,7 @@
 use Rattle.std.proofs.Common.{ap, sym, ◌∙◌}
 use Rattle.bx_tree.specs.Trees.{Files}
-use Rattle.own_writes.specs.Writes.{has_below}
-use Rattle.pip_inputs.specs.Results.{files_by}
+use Rattle.tool_run_writes.specs.Writes.{has_below}
+use Rattle.pip_view_inputs.specs.Results.{files_by}
 use Rattle.pip_view.proofs.OpaqueMembers.{below_deeper, has_within}
 use Rattle.pip_view.proofs.members.has_made.Goals as goal
 

@@ -1,5 +1,5 @@
 use Rattle.std.proofs.Common.{◌≡◌, drop}
-use Rattle.own_writes.specs.Writes.{has_below}
+use Rattle.tool_run_writes.specs.Writes.{has_below}
 use Rattle.pip_view.specs.Gathered.{dirs_now, members_of}
 use Rattle.pip_view.proofs.members.has_member.Given as goal
 

@@ -1,7 +1,7 @@
 use Rattle.std.proofs.Common.{ℕ, nat_le, Bor, ap, arith, ◌∙◌}
 use Rattle.std.specs.List.{position_or_len}
-use Rattle.pip_types.specs.Dirs.{dir_pip}
-use Rattle.pip_types.specs.declared.dir_inputs.DirInput.{DirInput}
+use Rattle.pip_model_types.specs.Dirs.{dir_pip}
+use Rattle.pip_model_types.specs.declared.dir_inputs.DirInput.{DirInput}
 use Rattle.pip_view.proofs.ByPip.{place_within, put_by_pip}
 use Rattle.pip_view.proofs.members.insert_by_pip.Goals as goal
 

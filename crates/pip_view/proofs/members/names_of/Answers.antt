@@ -1,5 +1,5 @@
 use Rattle.std.proofs.Common.{◌++◌, ap}
-use Rattle.own_writes.specs.Writes.{own_names}
+use Rattle.tool_run_writes.specs.Writes.{own_names}
 use Rattle.pip_view.specs.Gathered.{dirs_now, members_of}
 use Rattle.pip_view.proofs.OpaqueMembers.{names_member, no_member_names_left}
 use Rattle.pip_view.proofs.members.names_of.Goals as goal

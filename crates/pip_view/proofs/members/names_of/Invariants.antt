@@ -1,5 +1,5 @@
 use Rattle.std.proofs.Common.{◌≡◌, ◌++◌, drop}
-use Rattle.own_writes.specs.Writes.{own_names}
+use Rattle.tool_run_writes.specs.Writes.{own_names}
 use Rattle.pip_view.specs.Gathered.{dirs_now, members_of}
 use Rattle.pip_view.proofs.members.names_of.Given as goal
 use Rattle.bx_tree.specs.Lent.{texts_now}

@@ -1,6 +1,6 @@
 use Rattle.std.proofs.Common.{[], ap, append-nil, map}
 use Rattle.std.specs.Borrow.{Bor}
-use Rattle.pip_types.specs.declared.dir_inputs.DirInput.{DirInput}
+use Rattle.pip_model_types.specs.declared.dir_inputs.DirInput.{DirInput}
 use Rattle.pip_view.proofs.ByPip.{all_sorted, one_more_sorted}
 use Rattle.pip_view.proofs.members.opaque_by_pip.Goals as goal
 

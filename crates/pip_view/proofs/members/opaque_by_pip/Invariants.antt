@@ -1,6 +1,6 @@
 use Rattle.std.proofs.Common.{◌≡◌, ◌++◌, List, filter, length, map}
 use Rattle.std.specs.Borrow.{Bor}
-use Rattle.pip_types.specs.declared.dir_inputs.DirInput.{DirInput}
+use Rattle.pip_model_types.specs.declared.dir_inputs.DirInput.{DirInput}
 use Rattle.pip_view.specs.InputFiles.{by_pip, is_opaque}
 use Rattle.pip_view.proofs.members.opaque_by_pip.Given as goal
 

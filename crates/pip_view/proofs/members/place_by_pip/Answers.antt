@@ -1,8 +1,8 @@
 use Rattle.std.proofs.Common.{length, nat_le, refl, Bor, rules, tests, ◌∙◌}
 use Rattle.std.proofs.lemmas.Iterator.{YieldsList-from_slice}
 use Rattle.std.proofs.lemmas.Iterator.Search.{position_from_yields_List}
-use Rattle.pip_types.specs.Dirs.{dir_pip}
-use Rattle.pip_types.specs.declared.dir_inputs.DirInput.{DirInput}
+use Rattle.pip_model_types.specs.Dirs.{dir_pip}
+use Rattle.pip_model_types.specs.declared.dir_inputs.DirInput.{DirInput}
 use Rattle.pip_view.proofs.ByPip.{place_or_end, place_within}
 use Rattle.pip_view.proofs.members.place_by_pip.Goals as goal
 

@@ -1,6 +1,6 @@
 use Rattle.std.proofs.Common.{◌≡◌, ◌∷◌, List, ℕ, OnOk, ap, subst, ◌∙◌}
-use Rattle.tool_values.specs.Listings.{add_names}
-use Rattle.tool_values.specs.NameSets.{names_now}
+use Rattle.tool_run.specs.Listings.{add_names}
+use Rattle.tool_run.specs.NameSets.{names_now}
 use Rattle.std.specs.Option.{unwrap_or}
 use Rattle.pip_view.specs.Taken.{executable}
 use Rattle.pip_view.proofs.NearFiles.{names_searched}

@@ -1,6 +1,6 @@
 use Rattle.std.proofs.Common.{◌≡◌, List, ℕ, OnOk, ap, subst, ◌∙◌}
-use Rattle.tool_values.specs.Listings.{add_names}
-use Rattle.tool_values.specs.NameSets.{names_now}
+use Rattle.tool_run.specs.Listings.{add_names}
+use Rattle.tool_run.specs.NameSets.{names_now}
 use Rattle.pip_view.proofs.view.add_below.Goals as goal
 use Rattle.bx_tree.specs.Lent.{texts_now}
 

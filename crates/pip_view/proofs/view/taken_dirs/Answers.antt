@@ -1,6 +1,6 @@
 use Rattle.std.proofs.Common.{ap, subst, sym, ◌∙◌}
 use Rattle.std.specs.Prelude.{slice_get}
-use Rattle.pip_types.specs.Dirs.{RiseByForm}
+use Rattle.pip_model_types.specs.Dirs.{RiseByForm}
 use Rattle.pip_view.proofs.TakenDirs.{no_dirs_rise, pip_dirs, process_dirs}
 use Rattle.pip_view.proofs.view.taken_dirs.Goals as goal
 

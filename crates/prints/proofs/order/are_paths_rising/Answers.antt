@@ -1,6 +1,6 @@
 use Rattle.std.proofs.Common.{rules}
 use Rattle.std.proofs.lemmas.Fn.{always_returns_same}
-use Rattle.stored_lines.proofs.Rising.{neighbours_rise}
+use Rattle.prints.proofs.Rising.{neighbours_rise}
 use Rattle.prints.specs.ReadWeak.{path_before}
 use Rattle.prints.proofs.order.are_paths_rising.Goals as goal
 

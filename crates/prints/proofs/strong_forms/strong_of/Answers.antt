@@ -1,7 +1,7 @@
 use Rattle.std.proofs.Common.{◌≡◌, ◌++◌, ◌∙◌, List, ℕ, codes, map, ap}
 use Rattle.std.specs.List.{flat_map}
-use Rattle.stored_lines.specs.Parts.{digest_part}
-use Rattle.stored_lines.proofs.Joining.{joined_four}
+use Rattle.prints.specs.Parts.{digest_part}
+use Rattle.prints.proofs.Joining.{joined_four}
 use Rattle.prints.specs.Strong.{answer_line, line_of, read_strong_text, strong_parts}
 use Rattle.prints.proofs.StrongTexts.{strong_again}
 use Rattle.prints.proofs.strong_forms.strong_of.Goals as goal

@@ -1,10 +1,10 @@
 use Rattle.std.proofs.Common.{◌∙◌, ap, sym}
 use Rattle.std.specs.Cmp.Lexicographic.{slice_cmp}
 use Rattle.std.specs.Ordering.{is_lt, nat_cmp}
-use Rattle.pip_types.specs.declared.args.EnvPair.{EnvPair}
-use Rattle.stored_lines.specs.Lines.{rises}
+use Rattle.pip_model_types.specs.declared.args.EnvPair.{EnvPair}
+use Rattle.prints.specs.Lines.{rises}
 use Rattle.prints.specs.ReadWeak.{not_after}
-use Rattle.stored_lines.proofs.Rising.{rising_sorted_by}
+use Rattle.prints.proofs.Rising.{rising_sorted_by}
 use Rattle.prints.proofs.weak_reading.env.Goals as goal
 
 pub in_order-requires : goal.in_order-requires

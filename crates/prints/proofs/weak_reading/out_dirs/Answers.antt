@@ -1,4 +1,4 @@
-use Rattle.pip_types.specs.Orders.{outdir_cmp_total}
+use Rattle.pip_model_types.specs.Orders.{outdir_cmp_total}
 use Rattle.prints.proofs.InOrder.{set_same}
 use Rattle.prints.proofs.WeakTexts.{rising_itself}
 use Rattle.prints.proofs.weak_reading.out_dirs.Goals as goal

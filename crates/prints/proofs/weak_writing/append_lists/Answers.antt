@@ -1,10 +1,10 @@
 use Rattle.std.proofs.Common.{◌++◌, ◌∙◌, List, ℕ, map, ap, subst}
 use Rattle.std.specs.List.{AllByRecursion, flat_map}
 use Rattle.bx_tree.specs.Paths.{Atoms, IsPath}
-use Rattle.pip_types.specs.declared.args.EnvPair.{EnvPair}
-use Rattle.pip_types.specs.declared.dir_inputs.DirInput.{DirInput}
-use Rattle.pip_types.specs.declared.outputs.OutDir.{OutDir}
-use Rattle.stored_lines.proofs.Joining.{joined_six}
+use Rattle.pip_model_types.specs.declared.args.EnvPair.{EnvPair}
+use Rattle.pip_model_types.specs.declared.dir_inputs.DirInput.{DirInput}
+use Rattle.pip_model_types.specs.declared.outputs.OutDir.{OutDir}
+use Rattle.prints.proofs.Joining.{joined_six}
 use Rattle.prints.specs.Processes.{IsCountable, IsDirLine, IsOutDir, IsVariable}
 use Rattle.prints.specs.Weak.{arg_line, dir_line, env_line, in_line, indir_line, line_of_file, out_line, outdir_line}
 use Rattle.prints.proofs.DescTexts.{lists_weak, lists_written}

@@ -1,5 +1,5 @@
 use Rattle.std.proofs.Common.{◌++◌, ◌∙◌, ap}
-use Rattle.stored_lines.proofs.Joining.{joined_two}
+use Rattle.prints.proofs.Joining.{joined_two}
 use Rattle.prints.specs.Processes.{weak_parts}
 use Rattle.prints.specs.Weak.{head_text, lists_text}
 use Rattle.prints.proofs.DescTexts.{desc_again}

@@ -1,9 +1,9 @@
 use Rattle.std.proofs.Common.{◌∙◌, List, Option, ap, refl, subst, sym}
 use Rattle.std.specs.Prelude.{IsSome, slice_get}
 use Rattle.std.proofs.lemmas.Result.{IfOk-weaker}
-use Rattle.pip_inputs.specs.Plain.{process_in}
-use Rattle.pip_types.specs.declared.pip.Pip.{Pip}
-use Rattle.pip_types.specs.declared.pip.ProcessDesc.{ProcessDesc}
+use Rattle.pip_view_inputs.specs.Plain.{process_in}
+use Rattle.pip_model_types.specs.declared.pip.Pip.{Pip}
+use Rattle.pip_model_types.specs.declared.pip.ProcessDesc.{ProcessDesc}
 use Rattle.one_thread.specs.Views.{Agrees, ended_result}
 use Rattle.one_thread.proofs.OnePip.{pip_there}
 use Rattle.retire.specs.Counting.{one_fault}

@@ -1,8 +1,8 @@
 use Rattle.std.proofs.Common.{◌≡◌, ◌+◌, ◌≤◌, length, map, Some}
 use Rattle.std.specs.List.{AllByRecursion}
 use Rattle.bx_io.specs.Holdings.{Holdings}
-use Rattle.build_outputs.specs.Keeping.{AreKept}
-use Rattle.pip_outputs.specs.Slots.{slot_files}
+use Rattle.one_thread.specs.Keeping.{AreKept}
+use Rattle.violations.specs.Slots.{slot_files}
 use Rattle.one_thread.specs.OneThread.{run_count}
 use Rattle.retire.specs.Builds.{IsFair}
 use Rattle.retire.specs.Keeping.{IsSuccess}

@@ -1,8 +1,8 @@
 use Rattle.std.proofs.Common.{◌∙◌, ap, map, subst, sym}
 use Rattle.std.specs.Prelude.{slice_get}
-use Rattle.pip_inputs.specs.Plain.{process_in}
-use Rattle.pip_outputs.specs.Slots.{slot_files}
-use Rattle.verdicts.specs.Verdicts.{is_success}
+use Rattle.pip_view_inputs.specs.Plain.{process_in}
+use Rattle.violations.specs.Slots.{slot_files}
+use Rattle.violations.specs.Verdicts.{is_success}
 use Rattle.one_thread.specs.Views.{Agrees, ended_result}
 use Rattle.one_thread.specs.declared.ended.PipResult.{PipResult}
 use Rattle.retire.specs.Counting.{one_fault}

@@ -1,7 +1,7 @@
 use Rattle.std.proofs.Common.{◌∙◌, ap, map, sym}
 use Rattle.std.proofs.lemmas.Result.{IfOk-weaker}
 use Rattle.bx_tree.specs.Trees.{Files}
-use Rattle.pip_outputs.specs.Slots.{slot_files}
+use Rattle.violations.specs.Slots.{slot_files}
 use Rattle.violations.specs.DoubleWrites.{clash_at}
 use Rattle.one_thread.specs.OneThread.{by_outcome, unless_clash}
 use Rattle.retire.specs.Taking.{outcome_in}

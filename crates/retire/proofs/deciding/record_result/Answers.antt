@@ -1,7 +1,7 @@
 use Rattle.std.proofs.Common.{◌∙◌, ap, map}
 use Rattle.std.proofs.lemmas.Result.{IfOk-weaker}
 use Rattle.run_record.specs.declared.outcome.Outcome.{Outcome}
-use Rattle.pip_outputs.specs.Slots.{slot_files}
+use Rattle.violations.specs.Slots.{slot_files}
 use Rattle.one_thread.specs.OneThread.{by_outcome}
 use Rattle.retire.proofs.deciding.record_result.Goals as goal
 

@@ -1,6 +1,6 @@
 use Rattle.std.proofs.Common.{◌∙◌, ap, length, subst, sym}
 use Rattle.std.proofs.lemmas.List.{length-map}
-use Rattle.build_outputs.specs.Outputs.{AreOutputs}
+use Rattle.one_thread.specs.Outputs.{AreOutputs}
 use Rattle.one_thread.specs.OneThread.{Result, one_thread}
 use Rattle.one_thread.proofs.EachResult.{number_of_results}
 use Rattle.retire.proofs.Whole.{files_are}

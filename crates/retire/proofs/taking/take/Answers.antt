@@ -1,7 +1,7 @@
 use Rattle.std.proofs.Common.{refl, subst}
 use Rattle.std.specs.Prelude.{slice_get}
 use Rattle.run_record.specs.Facts.{IsRun}
-use Rattle.pip_inputs.specs.Plain.{process_in}
+use Rattle.pip_view_inputs.specs.Plain.{process_in}
 use Rattle.retire.specs.declared.taking.Taken.TheVariants as takings
 use Rattle.retire.proofs.Decisions.{hit_taken, miss_taken, now_in, takes_in}
 use Rattle.retire.proofs.Lookups.{on_fault, on_read}

@@ -1,7 +1,7 @@
 use Rattle.std.proofs.Common.{◌≡◌, drop}
 use Rattle.std.specs.List.{list_all}
 use Rattle.memo_format.specs.Entries.{output_paths}
-use Rattle.store_meaning.specs.Usable.{may_make}
+use Rattle.two_phase_meaning.specs.Usable.{may_make}
 use Rattle.two_phase.proofs.fitting.may_make_all.Given as goal
 
 abbrev pub invariant-outputs : goal.invariant-outputs

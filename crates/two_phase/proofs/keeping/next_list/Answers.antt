@@ -1,7 +1,7 @@
 use Rattle.std.proofs.Common.{◌∙◌, List, ℕ, ap}
 use Rattle.memo_format.specs.Selectors.{selectors_text}
 use Rattle.memo_format.specs.declared.selector.Selector.{Selector}
-use Rattle.store_meaning.specs.Keeping.{with_first}
+use Rattle.two_phase_meaning.specs.Keeping.{with_first}
 use Rattle.two_phase.specs.Putting.{written_selector}
 use Rattle.two_phase.proofs.Prefixes.{list_few}
 use Rattle.two_phase.proofs.keeping.next_list.Goals as goal

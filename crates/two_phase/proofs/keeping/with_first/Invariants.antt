@@ -1,6 +1,6 @@
 use Rattle.std.proofs.Common.{◌≡◌, ◌∷◌, take}
 use Rattle.std.specs.Prelude.{filter, not}
-use Rattle.store_meaning.specs.Keeping.{same_selector}
+use Rattle.two_phase_meaning.specs.Keeping.{same_selector}
 use Rattle.two_phase.proofs.keeping.with_first.Given as goal
 
 abbrev pub invariant-old : goal.invariant-old

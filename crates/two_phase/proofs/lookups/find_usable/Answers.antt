@@ -1,7 +1,7 @@
 use Rattle.std.proofs.Common.{ℕ, List, Option, Some, subst, sym}
 use Rattle.memo_format.specs.StoreNames.{HoldsList}
 use Rattle.memo_format.specs.declared.selector.Selector.{Selector}
-use Rattle.record_match.specs.Digests.{weak_of}
+use Rattle.run_record.specs.Digests.{weak_of}
 use Rattle.two_phase.specs.Finding.{FindsOne}
 use Rattle.two_phase.proofs.Tried.{list_tried, no_list_for}
 use Rattle.two_phase.proofs.lookups.find_usable.Goals as goal

@@ -1,6 +1,6 @@
 use Rattle.std.proofs.Common.{List, Option, subst}
 use Rattle.observed.specs.declared.ask.Ask.{Ask}
-use Rattle.store_meaning.specs.Contents.{HoldsPaths}
+use Rattle.two_phase_meaning.specs.Contents.{HoldsPaths}
 use Rattle.two_phase.specs.Finding.{FindsOne}
 use Rattle.two_phase.proofs.Tried.{leads_given, no_paths}
 use Rattle.two_phase.proofs.lookups.follow.Goals as goal

@@ -1,10 +1,10 @@
 use Rattle.std.proofs.Common.{◌≡◌, Option, IfSome, subst}
 use Rattle.std.specs.Prelude.{IsTrue}
 use Rattle.memo_format.specs.Entries.{OutputsRise, output_paths}
-use Rattle.record_match.specs.Digests.{weak_of}
+use Rattle.run_record.specs.Digests.{weak_of}
 use Rattle.memo_format.specs.declared.entry.Entry.{Entry}
 use Rattle.two_phase.specs.Finding.{FindsOne, IsEntryFor}
-use Rattle.store_meaning.specs.Usable.{fits}
+use Rattle.two_phase_meaning.specs.Usable.{fits}
 use Rattle.two_phase.proofs.Tried.{no_entry_on, on_given, parts_of}
 use Rattle.two_phase.proofs.lookups.found_by.Goals as goal
 

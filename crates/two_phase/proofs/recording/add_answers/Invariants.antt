@@ -1,5 +1,5 @@
 use Rattle.std.proofs.Common.{◌≡◌, ◌++◌, take}
-use Rattle.store_meaning.specs.Contents.{given_contents}
+use Rattle.two_phase_meaning.specs.Contents.{given_contents}
 use Rattle.two_phase.proofs.recording.add_answers.Given as goal
 
 abbrev pub invariant-answers : goal.invariant-answers

@@ -1,7 +1,7 @@
 use Rattle.std.proofs.Common.{◌++◌, ◌∙◌, ap, refl}
 use Rattle.bx_tree.specs.Trees.{Files}
-use Rattle.record_match.specs.Collisions.{contents_of}
-use Rattle.store_meaning.specs.Contents.{given_contents}
+use Rattle.run_record.specs.Collisions.{contents_of}
+use Rattle.two_phase_meaning.specs.Contents.{given_contents}
 use Rattle.two_phase.proofs.Recorded.{all_joined}
 use Rattle.two_phase.proofs.recording.all_contents.Goals as goal
 

@@ -1,11 +1,11 @@
 use Rattle.std.proofs.Common.{◌≡◌, IfOk, List, Option, ap, map, subst, take, ◌∙◌}
 use Rattle.std.specs.Prelude.{slice_get}
 use Rattle.bx_tree.specs.Trees.{Files}
-use Rattle.pip_outputs.specs.Slots.{slot_files}
-use Rattle.pip_types.specs.Made.{made_files}
-use Rattle.pip_types.specs.declared.outputs.OutDir.{OutDir}
-use Rattle.pip_types.specs.declared.pip.Pip.{Pip}
-use Rattle.verdicts.specs.declared.verdict.Violation.{Violation}
+use Rattle.violations.specs.Slots.{slot_files}
+use Rattle.pip_model_types.specs.Made.{made_files}
+use Rattle.pip_model_types.specs.declared.outputs.OutDir.{OutDir}
+use Rattle.pip_model_types.specs.declared.pip.Pip.{Pip}
+use Rattle.violations.specs.declared.verdict.Violation.{Violation}
 use Rattle.violations.specs.DoubleWrites.{clash_of, outdirs_in}
 use Rattle.violations.proofs.clashes.double_write.Goals as goal
 

@@ -1,5 +1,5 @@
 use Rattle.std.proofs.Common.{Some, ap, map, sym, ◌∙◌}
-use Rattle.pip_outputs.specs.Slots.{slot_files}
+use Rattle.violations.specs.Slots.{slot_files}
 use Rattle.violations.proofs.FirstClash.{file_found, file_passed, no_file_left}
 use Rattle.violations.proofs.clashes.first_clash.Goals as goal
 

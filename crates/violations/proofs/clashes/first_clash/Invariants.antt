@@ -1,6 +1,6 @@
 use Rattle.std.proofs.Common.{◌≡◌, drop, map}
-use Rattle.pip_outputs.specs.Slots.{slot_files}
-use Rattle.pip_types.specs.Made.{made_files}
+use Rattle.violations.specs.Slots.{slot_files}
+use Rattle.pip_model_types.specs.Made.{made_files}
 use Rattle.violations.specs.DoubleWrites.{clash_of}
 use Rattle.violations.proofs.clashes.first_clash.Given as goal
 

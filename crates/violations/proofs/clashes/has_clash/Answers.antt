@@ -1,7 +1,7 @@
 use Rattle.std.proofs.Common.{List, ap, ◌∙◌}
 use Rattle.std.specs.List.{list_any}
-use Rattle.pip_types.specs.Made.{made_files}
-use Rattle.pip_types.specs.declared.outputs.OutDir.{OutDir}
+use Rattle.pip_model_types.specs.Made.{made_files}
+use Rattle.pip_model_types.specs.declared.outputs.OutDir.{OutDir}
 use Rattle.violations.specs.DoubleWrites.{is_clash, shared_paths}
 use Rattle.violations.proofs.FirstClash.{any_where_shared}
 use Rattle.violations.proofs.clashes.has_clash.Goals as goal

@@ -1,5 +1,5 @@
 use Rattle.std.proofs.Common.{◌≡◌, drop, map}
-use Rattle.pip_outputs.specs.Slots.{slot_files}
+use Rattle.violations.specs.Slots.{slot_files}
 use Rattle.violations.specs.DoubleWrites.{least_clash}
 use Rattle.violations.proofs.clashes.least_clash.Given as goal
 

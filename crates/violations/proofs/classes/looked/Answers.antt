@@ -1,6 +1,6 @@
 use Rattle.std.proofs.Common.{◌≡◌, IfOk, Option, ℕ, subst}
-use Rattle.verdicts.specs.Verdicts.{with_pip}
-use Rattle.verdicts.specs.declared.verdict.ViolationKind.{ViolationKind}
+use Rattle.violations.specs.Verdicts.{with_pip}
+use Rattle.violations.specs.declared.verdict.ViolationKind.{ViolationKind}
 use Rattle.violations.specs.Classes.{other_class}
 use Rattle.violations.proofs.classes.looked.Goals as goal
 

@@ -1,6 +1,6 @@
 use Rattle.std.proofs.Common.{◌∙◌, ap, map}
 use Rattle.std.specs.List.{filter, list_any}
-use Rattle.dscript_scopes.specs.Declarations.{is_exported}
+use Rattle.dscript_names_scopes.specs.Declarations.{is_exported}
 use Rattle.dscript_names.specs.Exports.{exported_at}
 use Rattle.dscript_names.proofs.Duplicated.{file_added}
 use Rattle.dscript_names.proofs.gathering.Gathering.add.Goals as goal

@@ -1,7 +1,7 @@
 use Rattle.std.proofs.Common.{map, rules}
 use Rattle.dscript_ast.specs.FileTree.{to_marked}
 use Rattle.dscript_ast.specs.Views.{marked_tree}
-use Rattle.dscript_scopes.specs.Duplicates.{all_marked_repeat, marked_repeats}
+use Rattle.dscript_names_scopes.specs.Duplicates.{all_marked_repeat, marked_repeats}
 use Rattle.dscript_names.proofs.Found.{found_more, marked_listed}
 use Rattle.dscript_names.proofs.repeats.Repeats.+decls.Goals as goal
 

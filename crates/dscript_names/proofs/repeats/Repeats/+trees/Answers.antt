@@ -1,7 +1,7 @@
 use Rattle.std.proofs.Common.{map, rules}
 use Rattle.dscript_ast.specs.ExprTree.{to_elements, to_exprs, to_holes, to_operands, to_parts, to_props, to_stmts}
 use Rattle.dscript_ast.specs.Views.{element_tree, expr_tree, hole_tree, operand_tree, part_tree, prop_tree, stmt_tree}
-use Rattle.dscript_scopes.specs.Duplicates.{elements_repeat, expr_repeats, exprs_repeat, holes_repeat, operands_repeat, part_repeats, parts_repeat, prop_repeats, props_repeat, stmt_repeats, stmts_repeat}
+use Rattle.dscript_names_scopes.specs.Duplicates.{elements_repeat, expr_repeats, exprs_repeat, holes_repeat, operands_repeat, part_repeats, parts_repeat, prop_repeats, props_repeat, stmt_repeats, stmts_repeat}
 use Rattle.dscript_names.specs.Singles.{element_value, hole_value, operand_value}
 use Rattle.dscript_names.proofs.Found.{elements_listed, exprs_listed, found_more, holes_listed, operands_listed, parts_listed, props_listed, stmts_listed}
 use Rattle.dscript_ast.specs.declared.expr.Expr.TheViews.{the_lemmas}

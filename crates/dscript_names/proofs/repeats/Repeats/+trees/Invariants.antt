@@ -1,7 +1,7 @@
 use Rattle.std.proofs.Common.{◌≡◌, ◌||◌, map, take}
 use Rattle.dscript_ast.specs.ExprTree.{to_elements, to_exprs, to_holes, to_operands, to_parts, to_props, to_stmts}
 use Rattle.dscript_ast.specs.Views.{element_tree, expr_tree, hole_tree, operand_tree, part_tree, prop_tree, stmt_tree}
-use Rattle.dscript_scopes.specs.Duplicates.{elements_repeat, exprs_repeat, holes_repeat, operands_repeat, parts_repeat, props_repeat, stmts_repeat}
+use Rattle.dscript_names_scopes.specs.Duplicates.{elements_repeat, exprs_repeat, holes_repeat, operands_repeat, parts_repeat, props_repeat, stmts_repeat}
 use Rattle.dscript_names.proofs.repeats.Repeats.+trees.Given as goal
 
 abbrev pub invariant-operands-operands : goal.invariant-operands-operands

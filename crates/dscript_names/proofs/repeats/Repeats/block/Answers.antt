@@ -1,7 +1,7 @@
 use Rattle.std.proofs.Common.{◌++◌, map, ap, ◌∙◌}
 use Rattle.dscript_ast.specs.ExprTree.{to_stmts}
 use Rattle.dscript_ast.specs.Views.{stmt_tree}
-use Rattle.dscript_scopes.specs.Duplicates.{block_names}
+use Rattle.dscript_names_scopes.specs.Duplicates.{block_names}
 use Rattle.dscript_names.specs.Singles.{single}
 use Rattle.dscript_names.proofs.SeenNames.{looked}
 use Rattle.dscript_names.proofs.repeats.Repeats.block.Goals as goal

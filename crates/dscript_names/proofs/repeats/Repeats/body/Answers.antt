@@ -2,7 +2,7 @@ use Rattle.std.proofs.Common.{◌++◌, map, ap, sym, ◌∙◌}
 use Rattle.std.proofs.lemmas.List.{map-append}
 use Rattle.dscript_ast.specs.ExprTree.{to_stmts}
 use Rattle.dscript_ast.specs.Views.{head_tree, stmt_tree}
-use Rattle.dscript_scopes.specs.Duplicates.{block_names, head_names}
+use Rattle.dscript_names_scopes.specs.Duplicates.{block_names, head_names}
 use Rattle.dscript_names.specs.Singles.{single}
 use Rattle.dscript_names.proofs.SeenNames.{looked}
 use Rattle.dscript_names.proofs.repeats.Repeats.body.Goals as goal

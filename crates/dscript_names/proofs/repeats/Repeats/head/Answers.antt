@@ -1,6 +1,6 @@
 use Rattle.std.proofs.Common.{◌++◌, map, ap, ◌∙◌}
 use Rattle.dscript_ast.specs.Views.{head_tree}
-use Rattle.dscript_scopes.specs.Duplicates.{head_names}
+use Rattle.dscript_names_scopes.specs.Duplicates.{head_names}
 use Rattle.dscript_names.specs.Singles.{single}
 use Rattle.dscript_names.proofs.SeenNames.{looked}
 use Rattle.dscript_names.proofs.repeats.Repeats.head.Goals as goal

@@ -1,7 +1,7 @@
 use Rattle.std.proofs.Common.{◌++◌, List, append-nil, sym, subst, take}
 use Rattle.std.proofs.lemmas.List.{take_all}
-use Rattle.pip_types.specs.Made.{made_files}
-use Rattle.pip_types.specs.declared.made.MadeFile.{MadeFile}
+use Rattle.pip_model_types.specs.Made.{made_files}
+use Rattle.pip_model_types.specs.declared.made.MadeFile.{MadeFile}
 use Rattle.violations.specs.DoubleWrites.{shared_paths}
 use Rattle.one_thread.specs.Shared.{KeepsShared}
 use Rattle.one_thread.proofs.SharedSets.{shared_taken}

@@ -1,6 +1,6 @@
 use Rattle.std.proofs.Common.{◌++◌, List, take}
 use Rattle.bx_tree.specs.Paths.{Atoms}
-use Rattle.pip_types.specs.Made.{made_files}
+use Rattle.pip_model_types.specs.Made.{made_files}
 use Rattle.violations.specs.DoubleWrites.{shared_paths}
 use Rattle.one_thread.specs.Shared.{KeepsShared}
 use Rattle.one_thread.proofs.shared.SharedFiles.add_files.Given as goal

@@ -2,9 +2,9 @@ use Rattle.std.proofs.Common.{◌++◌, List, OnOk, ap, subst, ◌∙◌}
 use Rattle.std.specs.Prelude.{slice_get}
 use Rattle.bx_tree.specs.Paths.{Atoms}
 use Rattle.bx_tree.specs.Trees.{Files}
-use Rattle.pip_outputs.specs.Slots.{slot_files}
-use Rattle.pip_types.specs.declared.outputs.OutDir.{OutDir}
-use Rattle.pip_types.specs.declared.pip.Pip.{Pip}
+use Rattle.violations.specs.Slots.{slot_files}
+use Rattle.pip_model_types.specs.declared.outputs.OutDir.{OutDir}
+use Rattle.pip_model_types.specs.declared.pip.Pip.{Pip}
 use Rattle.violations.specs.DoubleWrites.{outdirs_in, shared_paths}
 use Rattle.one_thread.specs.Shared.{KeepsShared}
 use Rattle.one_thread.proofs.shared.SharedFiles.add_slot.Goals as goal

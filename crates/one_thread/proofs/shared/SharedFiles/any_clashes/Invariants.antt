@@ -1,7 +1,7 @@
 use Rattle.std.proofs.Common.{◌≡◌, List, drop}
 use Rattle.std.specs.List.{list_any}
 use Rattle.bx_tree.specs.Paths.{Atoms}
-use Rattle.pip_types.specs.Made.{made_files}
+use Rattle.pip_model_types.specs.Made.{made_files}
 use Rattle.violations.specs.DoubleWrites.{shared_paths}
 use Rattle.one_thread.specs.Shared.{KeepsShared, any_clash}
 use Rattle.one_thread.proofs.shared.SharedFiles.any_clashes.Given as goal

@@ -3,8 +3,8 @@ use Rattle.std.specs.Prelude.{slice_get}
 use Rattle.std.specs.List.{list_any}
 use Rattle.std.proofs.lemmas.Result.{IfOk-weaker}
 use Rattle.bx_tree.specs.Trees.{Files}
-use Rattle.pip_types.specs.declared.outputs.OutDir.{OutDir}
-use Rattle.pip_types.specs.declared.pip.Pip.{Pip}
+use Rattle.pip_model_types.specs.declared.outputs.OutDir.{OutDir}
+use Rattle.pip_model_types.specs.declared.pip.Pip.{Pip}
 use Rattle.violations.specs.DoubleWrites.{outdirs_in, shared_paths}
 use Rattle.one_thread.specs.Shared.{any_clash}
 use Rattle.one_thread.proofs.shared.SharedFiles.has_clash.Goals as goal

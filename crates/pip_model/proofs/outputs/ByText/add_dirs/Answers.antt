@@ -2,7 +2,7 @@ use Rattle.std.proofs.Common.{◌++◌, List, ap, append-nil, sym, ◌∙◌}
 use Rattle.std.specs.List.{flat_map}
 use Rattle.std.proofs.lemmas.List.{take_all}
 use Rattle.std.proofs.lemmas.List.Folds.{flat_map-map}
-use Rattle.pip_types.specs.declared.outputs.OutDir.{OutDir}
+use Rattle.pip_model_types.specs.declared.outputs.OutDir.{OutDir}
 use Rattle.pip_model.specs.Outputs.{found_in, number_at}
 use Rattle.pip_model.proofs.Found.{more_found}
 use Rattle.pip_model.proofs.outputs.ByText.add_dirs.Goals as goal

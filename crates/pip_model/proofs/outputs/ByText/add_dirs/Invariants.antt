@@ -1,6 +1,6 @@
 use Rattle.std.proofs.Common.{◌≡◌, ◌++◌, ℕ, List, take}
 use Rattle.std.specs.List.{flat_map}
-use Rattle.pip_types.specs.declared.outputs.OutDir.{OutDir}
+use Rattle.pip_model_types.specs.declared.outputs.OutDir.{OutDir}
 use Rattle.pip_model.specs.Outputs.{found_in, number_at}
 use Rattle.pip_model.proofs.outputs.ByText.add_dirs.Given as goal
 

@@ -1,5 +1,5 @@
 use Rattle.std.proofs.Common.{List, subst, sym}
-use Rattle.pip_types.specs.declared.pip.Pip.{Pip}
+use Rattle.pip_model_types.specs.declared.pip.Pip.{Pip}
 use Rattle.pip_model.specs.Listings.{HasListingsOf}
 use Rattle.pip_model.specs.Outputs.{HasOutputsOf}
 use Rattle.pip_model.specs.Plans.{AreAllInputs}

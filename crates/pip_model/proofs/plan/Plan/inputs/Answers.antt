@@ -1,6 +1,6 @@
 use Rattle.std.proofs.Common.{◌<◌, ℕ, List, ap, length, subst, sym, ◌∙◌}
 use Rattle.std.specs.List.{All}
-use Rattle.pip_types.specs.declared.pip.Pip.{Pip}
+use Rattle.pip_model_types.specs.declared.pip.Pip.{Pip}
 use Rattle.pip_model.specs.Plans.{AreInputs, PlanData}
 use Rattle.pip_model.proofs.Planning.{inputs_back}
 use Rattle.pip_model.proofs.plan.Plan.inputs.Goals as goal

@@ -1,9 +1,9 @@
 use Rattle.std.proofs.Common.{◌≡◌, ℕ, List, OnOk, ap, subst, ◌∙◌}
 use Rattle.std.specs.Borrow.{Bor}
-use Rattle.own_writes.specs.Writes.{own_names}
-use Rattle.pip_types.specs.declared.dir_inputs.DirInput.{DirInput}
-use Rattle.tool_values.specs.Listings.{add_names}
-use Rattle.tool_values.specs.NameSets.{names_now}
+use Rattle.tool_run_writes.specs.Writes.{own_names}
+use Rattle.pip_model_types.specs.declared.dir_inputs.DirInput.{DirInput}
+use Rattle.tool_run.specs.Listings.{add_names}
+use Rattle.tool_run.specs.NameSets.{names_now}
 use Rattle.pip_view.specs.Gathered.{dirs_now, members_of, opaque_of}
 use Rattle.pip_view.specs.Seen.{KeepsView, ViewData}
 use Rattle.pip_view.proofs.AroundMembers.{own_searched}

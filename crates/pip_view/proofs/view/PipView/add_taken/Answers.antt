@@ -1,9 +1,9 @@
 use Rattle.std.proofs.Common.{◌≡◌, ℕ, List, Option, Some, OnOk, ap, subst, sym, ◌∙◌}
-use Rattle.own_writes.specs.Writes.{own_names}
-use Rattle.pip_near.specs.Near.{AreTaken}
-use Rattle.pip_types.specs.declared.pip.ProcessDesc.{ProcessDesc}
-use Rattle.tool_values.specs.Listings.{add_names}
-use Rattle.tool_values.specs.NameSets.{names_now}
+use Rattle.tool_run_writes.specs.Writes.{own_names}
+use Rattle.pip_view_directories.specs.Near.{AreTaken}
+use Rattle.pip_model_types.specs.declared.pip.ProcessDesc.{ProcessDesc}
+use Rattle.tool_run.specs.Listings.{add_names}
+use Rattle.tool_run.specs.NameSets.{names_now}
 use Rattle.pip_view.specs.Seen.{ViewData, taken_by}
 use Rattle.pip_view.specs.Taken.{taken_files}
 use Rattle.pip_view.proofs.TakenFiles.{names_of_taken}

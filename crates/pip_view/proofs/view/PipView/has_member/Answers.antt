@@ -1,7 +1,7 @@
 use Rattle.std.proofs.Common.{◌≡◌, Bool, IfOk, List, ap, subst, ◌∙◌}
 use Rattle.std.specs.Borrow.{Bor}
-use Rattle.own_writes.specs.Writes.{has_below}
-use Rattle.pip_types.specs.declared.dir_inputs.DirInput.{DirInput}
+use Rattle.tool_run_writes.specs.Writes.{has_below}
+use Rattle.pip_model_types.specs.declared.dir_inputs.DirInput.{DirInput}
 use Rattle.pip_view.specs.Gathered.{dirs_now, members_of, opaque_of}
 use Rattle.pip_view.specs.Seen.{KeepsView, ViewData}
 use Rattle.pip_view.proofs.AroundMembers.{under_searched}

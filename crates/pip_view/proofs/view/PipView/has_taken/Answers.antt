@@ -1,7 +1,7 @@
 use Rattle.std.proofs.Common.{◌≡◌, Bool, List, Option, Some, IfOk, ap, subst, sym, ◌∙◌}
-use Rattle.own_writes.specs.Writes.{has_below}
-use Rattle.pip_near.specs.Near.{AreTaken}
-use Rattle.pip_types.specs.declared.pip.ProcessDesc.{ProcessDesc}
+use Rattle.tool_run_writes.specs.Writes.{has_below}
+use Rattle.pip_view_directories.specs.Near.{AreTaken}
+use Rattle.pip_model_types.specs.declared.pip.ProcessDesc.{ProcessDesc}
 use Rattle.pip_view.specs.Seen.{ViewData, taken_by}
 use Rattle.pip_view.specs.Taken.{taken_files}
 use Rattle.pip_view.proofs.TakenFiles.{below_taken}

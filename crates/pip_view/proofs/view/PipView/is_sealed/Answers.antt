@@ -2,9 +2,9 @@ use Rattle.std.proofs.Common.{List, ap, ◌∙◌}
 use Rattle.std.specs.List.{list_any}
 use Rattle.std.specs.Option.{unwrap_or}
 use Rattle.std.specs.Prelude.{slice_get}
-use Rattle.pip_outputs.specs.Producing.{dirs_at}
-use Rattle.pip_types.specs.declared.dir_inputs.DirInput.{DirInput}
-use Rattle.pip_types.specs.declared.pip.Pip.{Pip}
+use Rattle.violations.specs.Producing.{dirs_at}
+use Rattle.pip_model_types.specs.declared.dir_inputs.DirInput.{DirInput}
+use Rattle.pip_model_types.specs.declared.pip.Pip.{Pip}
 use Rattle.pip_view.specs.InputFiles.{is_source_of}
 use Rattle.pip_view.specs.Seen.{ViewData}
 use Rattle.pip_view.proofs.AroundMembers.{sealed_searched}

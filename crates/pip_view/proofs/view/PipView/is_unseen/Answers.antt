@@ -1,6 +1,6 @@
 use Rattle.std.proofs.Common.{ap, ◌∙◌}
 use Rattle.std.specs.Prelude.{is_some, slice_get}
-use Rattle.pip_outputs.specs.Producing.{dirs_at, least_unseen}
+use Rattle.violations.specs.Producing.{dirs_at, least_unseen}
 use Rattle.pip_view.specs.Seen.{ViewData}
 use Rattle.pip_view.proofs.view.PipView.is_unseen.Goals as goal
 

@@ -1,6 +1,6 @@
 use Rattle.std.proofs.Common.{◌≡◌, IfOk, refl, subst, sym, ◌∙◌}
 use Rattle.observed.specs.declared.access.Answer.{Answer}
-use Rattle.own_writes.specs.Writes.{has_below}
+use Rattle.tool_run_writes.specs.Writes.{has_below}
 use Rattle.pip_view.specs.Seen.{named_in}
 use Rattle.pip_view.proofs.Seeing.{found_answers, unnamed_answers}
 use Rattle.pip_view.proofs.view.PipView.looked.Goals as goal

@@ -1,7 +1,7 @@
 use Rattle.std.proofs.Common.{◌≡◌, ℕ, List, Option, IfOk, ap, subst, ◌∙◌}
 use Rattle.std.specs.Borrow.{Bor}
 use Rattle.bx_tree.specs.Trees.{file_at}
-use Rattle.pip_types.specs.declared.dir_inputs.DirInput.{DirInput}
+use Rattle.pip_model_types.specs.declared.dir_inputs.DirInput.{DirInput}
 use Rattle.pip_view.specs.Gathered.{dirs_now, members_of, opaque_of}
 use Rattle.pip_view.specs.Seen.{KeepsView, ViewData}
 use Rattle.pip_view.proofs.AroundMembers.{at_searched}

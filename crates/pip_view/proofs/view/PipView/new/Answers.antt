@@ -1,10 +1,10 @@
 use Rattle.std.proofs.Common.{List, filter, ap, subst, ◌∙◌}
 use Rattle.std.specs.Prelude.{slice_get}
-use Rattle.pip_near.specs.Ranges.{AreOthers}
-use Rattle.pip_outputs.specs.Producing.{dirs_at}
-use Rattle.pip_types.specs.Dirs.{RiseByForm}
-use Rattle.pip_types.specs.declared.dir_inputs.DirInput.{DirInput}
-use Rattle.pip_types.specs.declared.pip.Pip.{Pip}
+use Rattle.pip_view_directories.specs.Ranges.{AreOthers}
+use Rattle.violations.specs.Producing.{dirs_at}
+use Rattle.pip_model_types.specs.Dirs.{RiseByForm}
+use Rattle.pip_model_types.specs.declared.dir_inputs.DirInput.{DirInput}
+use Rattle.pip_model_types.specs.declared.pip.Pip.{Pip}
 use Rattle.pip_view.specs.InputFiles.{by_pip, is_opaque}
 use Rattle.pip_view.proofs.view.PipView.new.Goals as goal
 

@@ -1,8 +1,8 @@
 use Rattle.std.proofs.Common.{List, ap, subst, ◌∙◌}
 use Rattle.std.specs.Prelude.{IfSome, slice_get}
-use Rattle.pip_types.specs.declared.pip.Pip.{Pip}
-use Rattle.pip_inputs.specs.Plain.{process_in}
-use Rattle.pip_near.specs.Near.{AreTaken}
+use Rattle.pip_model_types.specs.declared.pip.Pip.{Pip}
+use Rattle.pip_view_inputs.specs.Plain.{process_in}
+use Rattle.pip_view_directories.specs.Near.{AreTaken}
 use Rattle.pip_view.specs.Seen.{ViewData}
 use Rattle.pip_view.proofs.TakenDirs.{takes_if}
 use Rattle.pip_view.proofs.view.PipView.process.Goals as goal

@@ -1,7 +1,7 @@
 use Rattle.std.proofs.Common.{◌≡◌, ℕ, List, Option, Some, IfOk, ap, subst, sym, ◌∙◌}
 use Rattle.bx_tree.specs.Trees.{file_at}
-use Rattle.pip_near.specs.Near.{AreTaken}
-use Rattle.pip_types.specs.declared.pip.ProcessDesc.{ProcessDesc}
+use Rattle.pip_view_directories.specs.Near.{AreTaken}
+use Rattle.pip_model_types.specs.declared.pip.ProcessDesc.{ProcessDesc}
 use Rattle.pip_view.specs.Seen.{ViewData, taken_by}
 use Rattle.pip_view.proofs.view.PipView.taken.Goals as goal
 

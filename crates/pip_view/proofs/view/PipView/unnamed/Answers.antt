@@ -1,6 +1,6 @@
 use Rattle.std.proofs.Common.{◌≡◌, ℕ, List, IfOk, Option, ap, subst, ◌∙◌}
 use Rattle.bx_tree.specs.Trees.{file_at}
-use Rattle.own_writes.specs.Writes.{has_below}
+use Rattle.tool_run_writes.specs.Writes.{has_below}
 use Rattle.pip_view.specs.Seen.{ViewData, answer_by_source, named_in}
 use Rattle.pip_view.proofs.view.PipView.unnamed.Goals as goal
 

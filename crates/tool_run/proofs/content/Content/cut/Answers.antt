@@ -1,5 +1,5 @@
 use Rattle.std.proofs.Common.{◌∙◌}
-use Rattle.tool_values.proofs.Splitting.{after_short, both_parts}
+use Rattle.tool_run.proofs.Splitting.{after_short, both_parts}
 use Rattle.tool_run.proofs.content.Content.cut.Goals as goal
 
 pub overflow_sub-start : goal.overflow_sub-start

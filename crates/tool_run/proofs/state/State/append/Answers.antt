@@ -4,7 +4,7 @@ use Rattle.tool_run.specs.declared.limits.TheConstants.{MAX_REGISTER}
 use Rattle.tool_text.specs.declared.tool.Operand.TheVariants.{Register}
 use Rattle.tool_run.specs.Machine.{effect_of, fitting}
 use Rattle.tool_run.specs.States.{machine_of}
-use Rattle.tool_values.specs.Values.{value_of}
+use Rattle.tool_run.specs.Values.{value_of}
 use Rattle.tool_run.proofs.Appended.{appended, other_value}
 use Rattle.tool_run.proofs.state.State.append.Goals as goal
 

@@ -1,5 +1,0 @@
-use Rattle.build_outputs.proofs.KeptApart.{are_outputs}
-use Rattle.build_outputs.proofs.laws.kept_files_keep_apart.Goals as goal
-
-pub returns : goal.returns
-returns c = λ pips tree made keeps kept. are_outputs pips tree keeps made kept

@@ -1,0 +1,90 @@
+//! All passes, one after the other.
+
+ghost use Rattle.std.specs.Prelude.{◌≡◌, IfOk, MatchResult};
+ghost use Rattle.bx_tree.specs.Bundle.{IsInSize};
+ghost use Rattle.dscript_program.specs.Views.{program_data};
+ghost use Rattle.bx_engine_front.specs.FileFaults.{RefusesTree};
+ghost use Rattle.bx_engine_front.specs.Faults.{IsRefused};
+ghost use Rattle.bx_engine_front.specs.Specifications.{IsProgram, MakesPips, Plans};
+
+use crate::fault::FrontFault;
+use crate::limits::Limits;
+use crate::projects::{parse_projects, project_files};
+use crate::refusing::{evaluation_refusal, file_refusal, graph_refusal};
+use bx_tree::Tree;
+use dscript_eval::evaluate;
+use dscript_program::{Program, SpecFault};
+use dscript_names::resolve;
+use dscript_names_workspace::find_workspace;
+use graph_check::check;
+use pip_model::{PipList, Plan, Sources};
+use std::alloc::Global;
+
+/// The plan of a build, with the source files that it reads.
+#[derive(Drop)]
+pub struct FrontEnd {
+    pub plan: Plan,
+    pub sources: Sources,
+}
+
+// The program of a tree: its modules are found, their files are read, and the names in them are resolved.
+fn program_of(alloc: Global, tree: &Tree) -> Result<Program, SpecFault>
+    requires { IsInSize tree.now }
+    ensures { MatchResult result
+        (λ program. IsProgram tree.now (program_data program))
+        (λ fault. RefusesTree tree.now fault) }
+{
+    let work = find_workspace(alloc, tree)?;
+    let files = project_files(alloc, tree, &work)?;
+    let parsed = parse_projects(alloc, files.as_slice())?;
+    resolve(&work, parsed)
+}
+
+// The pips of a program, which is that of a tree.
+fn evaluated(
+    alloc: Global,
+    program: &Program,
+    tree: &Tree,
+    limits: &Limits,
+) -> Result<PipList, FrontFault>
+    requires { IsProgram tree.now (program_data program.now) }
+    ensures { MatchResult result
+        (λ pips. MakesPips limits.now tree.now pips)
+        (λ fault. IsRefused limits.now tree.now fault) }
+{
+    match evaluate(alloc, program, tree, limits.eval_budget) {
+        Ok(pips) => Ok(pips),
+        Err(fault) => Err(evaluation_refusal(alloc, fault)),
+    }
+}
+
+// The pips of a tree. Its program is freed before this returns.
+fn pips_of(alloc: Global, tree: &Tree, limits: &Limits) -> Result<PipList, FrontFault>
+    requires { IsInSize tree.now }
+    ensures { MatchResult result
+        (λ pips. MakesPips limits.now tree.now pips)
+        (λ fault. IsRefused limits.now tree.now fault) }
+{
+    match program_of(alloc, tree) {
+        Ok(program) => evaluated(alloc, &program, tree, limits),
+        Err(fault) => Err(file_refusal(alloc, fault)),
+    }
+}
+
+/// The plan that a tree of source files asks for, or the first refusal. The bytes of the files become those
+/// of the sources.
+pub fn plan_of(alloc: Global, tree: Tree, limits: &Limits) -> Result<FrontEnd, FrontFault>
+    requires { IsInSize tree }
+    ensures plan { MatchResult result
+        (λ end. Plans limits.now tree end.plan.pips)
+        (λ fault. IsRefused limits.now tree fault) }
+    ensures sources { IfOk result (λ end. end.sources ≡ tree) }
+    ensures tool_budget { IfOk result (λ end. end.plan.tool_budget ≡ limits.now.tool_budget) }
+{
+    let pips = pips_of(alloc, &tree, limits)?;
+    let sources = Sources::new(alloc, tree)?;
+    match check(alloc, pips, &sources, limits.tool_budget) {
+        Ok(plan) => Ok(FrontEnd { plan, sources }),
+        Err(fault) => Err(graph_refusal(alloc, fault)),
+    }
+}

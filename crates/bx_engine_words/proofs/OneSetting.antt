@@ -1,0 +1,201 @@
+-- Words are settings in one way at most.
+use Rattle.std.proofs.Common.{◌≡◌, ℕ, ◌<◌, ◌^◌, Bool, true, false, ◌==◌, inl, inr, List, [], ◌∷◌, ◌++◌, codes, get_or, length, refl, ap, sym, subst, ◌∙◌, arith}
+use Rattle.std.specs.Fmt.{decimal}
+use Rattle.std.specs.Prelude.{◌↔◌, IsTrue}
+use Rattle.std.specs.List.{after_first, before_first, list_any}
+use Rattle.std.proofs.lemmas.Fmt.{decimal_injective}
+use Rattle.bx_engine_words.specs.declared.order.Order.{Order}
+use Rattle.bx_engine_words.specs.declared.setting.NumberOption.{NumberOption}
+use Rattle.bx_engine_words.specs.declared.setting.NumberOption.TheVariants as options
+use Rattle.bx_engine_words.specs.declared.setting.Setting.{Setting}
+use Rattle.bx_engine_words.specs.declared.setting.Setting.TheVariants.{Number, NoCache}
+use Rattle.bx_engine_words.specs.Given.{IsNumber}
+use Rattle.bx_engine_words.specs.Settings.{AreSettings, BeginWith, IsValue, build_of, option_text}
+use Rattle.bx_engine_words.specs.Words.{AreOptions, Orders}
+
+-- ## Options
+
+abbrev pub is_equals : ℕ → Bool
+is_equals b = b == 61
+
+pub name_before : (option : NumberOption) (v : List ℕ)
+    → before_first is_equals (option_text option ++ codes "=" ++ v) ≡ option_text option
+name_before options.Workers v = refl
+name_before options.EvalBudget v = refl
+name_before options.ToolBudget v = refl
+
+pub value_after : (option : NumberOption) (v : List ℕ) → after_first is_equals (option_text option ++ codes "=" ++ v) ≡ v
+value_after options.Workers v = refl
+value_after options.EvalBudget v = refl
+value_after options.ToolBudget v = refl
+
+pub has_equals : (option : NumberOption) (v : List ℕ) → list_any is_equals (option_text option ++ codes "=" ++ v) ≡ true
+has_equals options.Workers v = refl
+has_equals options.EvalBudget v = refl
+has_equals options.ToolBudget v = refl
+
+pub lacks_equals : (option : NumberOption) → list_any is_equals (option_text option) ≡ false
+lacks_equals options.Workers = refl
+lacks_equals options.EvalBudget = refl
+lacks_equals options.ToolBudget = refl
+
+false_not : (b : Bool) → b ≡ false → b ≡ true → ⊥
+false_not b e f = cc
+
+joined_or_alone : (a b : NumberOption) (v : List ℕ) → option_text a ++ codes "=" ++ v ≡ option_text b → ⊥
+joined_or_alone a b v e =
+    false_not (list_any is_equals (option_text b)) (lacks_equals b) (ap (list_any is_equals) (sym e) ∙ has_equals a v)
+
+-- the byte in which all options differ
+abbrev third : List ℕ → ℕ
+third text = get_or text 2 0
+
+abbrev letter : NumberOption → ℕ
+letter options.Workers = 119
+letter options.EvalBudget = 101
+letter options.ToolBudget = 116
+
+letter_in : (option : NumberOption) (v : List ℕ) → third (option_text option ++ codes "=" ++ v) ≡ letter option
+letter_in options.Workers v = refl
+letter_in options.EvalBudget v = refl
+letter_in options.ToolBudget v = refl
+
+letter_alone : (option : NumberOption) → third (option_text option) ≡ letter option
+letter_alone options.Workers = refl
+letter_alone options.EvalBudget = refl
+letter_alone options.ToolBudget = refl
+
+same_letters : (a b : NumberOption) → letter a ≡ letter b → a ≡ b
+same_letters options.Workers options.Workers e = refl
+same_letters options.Workers options.EvalBudget e = absurd (omega (arith, e))
+same_letters options.Workers options.ToolBudget e = absurd (omega (arith, e))
+same_letters options.EvalBudget options.Workers e = absurd (omega (arith, e))
+same_letters options.EvalBudget options.EvalBudget e = refl
+same_letters options.EvalBudget options.ToolBudget e = absurd (omega (arith, e))
+same_letters options.ToolBudget options.Workers e = absurd (omega (arith, e))
+same_letters options.ToolBudget options.EvalBudget e = absurd (omega (arith, e))
+same_letters options.ToolBudget options.ToolBudget e = refl
+
+other_letter : (option : NumberOption) → 110 ≡ letter option → ⊥
+other_letter options.Workers e = omega (arith, e)
+other_letter options.EvalBudget e = omega (arith, e)
+other_letter options.ToolBudget e = omega (arith, e)
+
+pub same_names : (a b : NumberOption) → option_text a ≡ option_text b → a ≡ b
+same_names a b e = same_letters a b (sym (letter_alone a) ∙ ap third e ∙ letter_alone b)
+
+no_cache_letter : third (codes "--no-cache") ≡ 110
+no_cache_letter = refl
+
+no_cache_or_joined : (option : NumberOption) (v : List ℕ) → codes "--no-cache" ≡ option_text option ++ codes "=" ++ v → ⊥
+no_cache_or_joined option v e =
+    other_letter option (sym no_cache_letter ∙ ap third e ∙ letter_in option v)
+
+no_cache_or_alone : (option : NumberOption) → codes "--no-cache" ≡ option_text option → ⊥
+no_cache_or_alone option e = other_letter option (sym no_cache_letter ∙ ap third e ∙ letter_alone option)
+
+pub small_value : (option : NumberOption) (n : ℕ) → IsValue option n → n < 2 ^ 64
+small_value options.Workers n h = omega (arith, h.most)
+small_value options.EvalBudget n h = omega (arith, h.most)
+small_value options.ToolBudget n h = omega (arith, h.most)
+
+-- two texts are an option and its value in one way
+pub not_a_value : (name text : List ℕ) (option other : NumberOption) (m n : ℕ) (r : Bool) → name ≡ option_text option
+    → text ≡ decimal m → m < 2 ^ 64 → (IsTrue r ↔ IsValue option m) → r ≡ false → IsNumber name text other n → ⊥
+not_a_value name text option other m n r named written small test outside h =
+    let same : other ≡ option = same_names other option (sym h.name_is ∙ named) in
+    let value : IsValue option n = subst (λ (o : NumberOption). IsValue o n) same h.value in
+    let number : n ≡ m = decimal_injective n m (small_value option n value) small (sym h.text_is ∙ written) in
+    false_not r outside (test.1 (subst (IsValue option) number value))
+
+-- ## Words
+
+first_same : {X : Type 0} {x y : X} {xs ys : List X} → x ∷ xs ≡ y ∷ ys → x ≡ y
+first_same e = cc
+
+rest_same : {X : Type 0} {x y : X} {xs ys : List X} → x ∷ xs ≡ y ∷ ys → xs ≡ ys
+rest_same e = cc
+
+abbrev SameStart : Setting → Setting → List (List ℕ) → List (List ℕ) → Type 0
+SameStart s t rest more = (s ≡ t) × (rest ≡ more)
+
+same_number : (a b : NumberOption) (m n : ℕ) (rest more : List (List ℕ)) → IsValue a m → IsValue b n
+    → option_text a ≡ option_text b → decimal m ≡ decimal n → rest ≡ more
+    → SameStart (Number a m) (Number b n) rest more
+same_number a b m n rest more h k names values rests = (
+  ap (λ (option : NumberOption). Number option m) (same_names a b names)
+      ∙ ap (Number b) (decimal_injective m n (small_value a m h) (small_value b n k) values),
+  rests,
+)
+
+both_numbers : (words : List (List ℕ)) (a b : NumberOption) (m n : ℕ) (rest more : List (List ℕ))
+    → BeginWith words (Number a m) rest → BeginWith words (Number b n) more
+    → SameStart (Number a m) (Number b n) rest more
+both_numbers words a b m n rest more h k = elim h.1 [
+  | inl x ↦ elim k.1 [
+    | inl y ↦
+        let e = sym x ∙ y in
+        same_number a b m n rest more h.0 k.0
+        (sym (name_before a (decimal m)) ∙ ap (before_first is_equals) (first_same e) ∙ name_before b (decimal n))
+        (sym (value_after a (decimal m)) ∙ ap (after_first is_equals) (first_same e) ∙ value_after b (decimal n))
+        (rest_same e)
+    | inr y ↦ absurd (joined_or_alone a b (decimal m) (first_same (sym x ∙ y)))
+  ]
+  | inr x ↦ elim k.1 [
+    | inl y ↦ absurd (joined_or_alone b a (decimal n) (first_same (sym y ∙ x)))
+    | inr y ↦
+        let e = sym x ∙ y in
+        same_number a b m n rest more h.0 k.0 (first_same e) (first_same (rest_same e)) (rest_same (rest_same e))
+  ]
+]
+
+no_cache_or_number : (words : List (List ℕ)) (option : NumberOption) (n : ℕ) (rest more : List (List ℕ))
+    → BeginWith words NoCache rest → BeginWith words (Number option n) more → ⊥
+no_cache_or_number words option n rest more h k = elim k.1 [
+  | inl y ↦ no_cache_or_joined option (decimal n) (first_same (sym h ∙ y))
+  | inr y ↦ no_cache_or_alone option (first_same (sym h ∙ y))
+]
+
+pub one_beginning : (words : List (List ℕ)) (s t : Setting) (rest more : List (List ℕ)) → BeginWith words s rest
+    → BeginWith words t more → SameStart s t rest more
+one_beginning words NoCache NoCache rest more h k = (refl, rest_same (sym h ∙ k))
+one_beginning words NoCache (Number b n) rest more h k = absurd (no_cache_or_number words b n rest more h k)
+one_beginning words (Number a m) NoCache rest more h k = absurd (no_cache_or_number words a m more rest k h)
+one_beginning words (Number a m) (Number b n) rest more h k = both_numbers words a b m n rest more h k
+
+cons_or_none : {X : Type 0} {words : List X} {x : X} {xs : List X} → words ≡ [] → words ≡ x ∷ xs → ⊥
+cons_or_none e f = cc
+
+pub none_begin : (words : List (List ℕ)) (s : Setting) (rest : List (List ℕ)) → words ≡ [] → BeginWith words s rest → ⊥
+none_begin words NoCache rest e h = cons_or_none e h
+none_begin words (Number option n) rest e h = elim h.1 [ inl x ↦ cons_or_none e x | inr x ↦ cons_or_none e x ]
+
+-- fewer words come after a setting
+pub fewer_after : (words : List (List ℕ)) (s : Setting) (rest : List (List ℕ)) → BeginWith words s rest
+    → length rest < length words
+fewer_after words NoCache rest h = omega (arith, ap length h)
+fewer_after words (Number option n) rest h = elim h.1 [
+  | inl x ↦ omega (arith, ap length x)
+  | inr x ↦ omega (arith, ap length x)
+]
+
+-- ## Orders
+
+pub one_settings : (words : List (List ℕ)) (ss ts : List Setting) → AreSettings words ss → AreSettings words ts → ss ≡ ts
+one_settings words [] [] h k = refl
+one_settings words [] (t ∷ ts) h k = absurd (none_begin words t k.0 h k.1)
+one_settings words (s ∷ ss) [] h k = absurd (none_begin words s h.0 k h.1)
+one_settings words (s ∷ ss) (t ∷ ts) h k =
+    let one = one_beginning words s t h.0 k.0 h.1 k.1 in
+    ap (λ (x : Setting). x ∷ ss) one.0
+    ∙ ap (λ (xs : List Setting). t ∷ xs)
+    (one_settings k.0 ss ts (subst (λ (rest : List (List ℕ)). AreSettings rest ss) one.1 h.2) k.2)
+
+one_options : (words : List (List ℕ)) (a b : Order) → AreOptions words a → AreOptions words b → a ≡ b
+one_options words a b h k =
+    h.order_is ∙ ap build_of (one_settings words h.settings k.settings h.settings_are k.settings_are) ∙ sym k.order_is
+
+pub one_order : (words : List (List ℕ)) (a b : Order) → Orders words a → Orders words b → a ≡ b
+one_order words a b h k =
+    let rest : h.options ≡ k.options = rest_same (sym h.words_are ∙ k.words_are) in
+    one_options k.options a b (subst (λ (options : List (List ℕ)). AreOptions options a) rest h.options_are) k.options_are

@@ -1,0 +1,264 @@
+-- The settings that were read so far, and those that may follow.
+use Rattle.std.proofs.Common.{◌≡◌, ℕ, Bool, true, false, ◌||◌, cond, List, [], ◌∷◌, ◌++◌, Option, Some, None, refl, ap, sym, subst, ◌∙◌, append_assoc, arith, length, map}
+use Rattle.std.specs.List.{AllByRecursion, IsDistinct, list_any}
+use Rattle.std.specs.Option.{is_some}
+use Rattle.std.proofs.lemmas.List.{append-nil}
+use Rattle.bx_engine_words.specs.declared.given.Given.{Given}
+use Rattle.bx_engine_words.specs.declared.order.Order.{Order}
+use Rattle.bx_engine_words.specs.declared.setting.NumberOption.{NumberOption}
+use Rattle.bx_engine_words.specs.declared.setting.NumberOption.TheVariants as options
+use Rattle.bx_engine_words.specs.declared.setting.Setting.{Setting}
+use Rattle.bx_engine_words.specs.declared.setting.Setting.TheVariants.{Number, NoCache}
+use Rattle.bx_engine_words.specs.Given.{build_with_given, given_of, is_given, with_setting}
+use Rattle.bx_engine_words.specs.Settings.{AreSettings, BeginWith, has_no_cache, is_same, same_option, value_of}
+use Rattle.bx_engine_words.specs.Words.{AreOptions}
+use Rattle.bx_engine_words.proofs.OneSetting.{none_begin, one_beginning}
+
+-- ## One setting more
+
+-- a setting is of the option of one of these
+abbrev pub is_among : List Setting → Setting → Bool
+is_among ss s = list_any (λ x. is_same x s) ss
+
+or_some : {X : Type 0} (b : Bool) (x : X) (o : Option X) → is_some (cond b (Some x) o) ≡ (b || is_some o)
+or_some true x o = refl
+or_some false x o = refl
+
+value_among : (option : NumberOption) (n : ℕ) (ss : List Setting)
+    → is_some (value_of option ss) ≡ is_among ss (Number option n)
+value_among option n [] = refl
+value_among option n (Number other m ∷ ss) =
+    or_some (same_option other option) m (value_of option ss)
+    ∙ ap (λ b. same_option other option || b) (value_among option n ss)
+value_among option n (NoCache ∷ ss) = value_among option n ss
+
+given_among : (ss : List Setting) (s : Setting) → is_given (given_of ss) s ≡ is_among ss s
+given_among ss (Number options.Workers n) = value_among options.Workers n ss
+given_among ss (Number options.EvalBudget n) = value_among options.EvalBudget n ss
+given_among ss (Number options.ToolBudget n) = value_among options.ToolBudget n ss
+given_among ss NoCache = refl
+
+last_after : (b : Bool) (m n : ℕ) (o p : Option ℕ) → is_some (cond b (Some m) o) ≡ false
+    → (is_some o ≡ false → p ≡ Some n) → cond b (Some m) p ≡ Some n
+last_after true m n o p free h = absurd cc
+last_after false m n o p free h = h free
+
+-- the option of the last setting is not set before
+set_last : (option : NumberOption) (n : ℕ) (ss : List Setting) → is_some (value_of option ss) ≡ false
+    → same_option option option ≡ true → value_of option (ss ++ Number option n ∷ []) ≡ Some n
+set_last option n [] free same = ap (λ b. cond b (Some n) None) same
+set_last option n (Number other m ∷ ss) free same =
+    last_after (same_option other option) m n (value_of option ss) (value_of option (ss ++ Number option n ∷ [])) free
+    (λ free_before. set_last option n ss free_before same)
+set_last option n (NoCache ∷ ss) free same = set_last option n ss free same
+
+-- other options are set as before
+set_other : (option other : NumberOption) (n : ℕ) (ss : List Setting) → same_option other option ≡ false
+    → value_of option (ss ++ Number other n ∷ []) ≡ value_of option ss
+set_other option other n [] differ = ap (λ b. cond b (Some n) None) differ
+set_other option other n (Number third m ∷ ss) differ =
+    ap (λ o. cond (same_option third option) (Some m) o) (set_other option other n ss differ)
+set_other option other n (NoCache ∷ ss) differ = set_other option other n ss differ
+
+set_no_cache : (option : NumberOption) (ss : List Setting) → value_of option (ss ++ NoCache ∷ []) ≡ value_of option ss
+set_no_cache option [] = refl
+set_no_cache option (Number other m ∷ ss) =
+    ap (λ o. cond (same_option other option) (Some m) o) (set_no_cache option ss)
+set_no_cache option (NoCache ∷ ss) = set_no_cache option ss
+
+number_cached : (option : NumberOption) (n : ℕ) (ss : List Setting)
+    → has_no_cache (ss ++ Number option n ∷ []) ≡ has_no_cache ss
+number_cached option n [] = refl
+number_cached option n (s ∷ ss) = ap (λ b. is_same s NoCache || b) (number_cached option n ss)
+
+or_true : (b : Bool) → (b || true) ≡ true
+or_true true = refl
+or_true false = refl
+
+no_cache_last : (ss : List Setting) → has_no_cache (ss ++ NoCache ∷ []) ≡ true
+no_cache_last [] = refl
+no_cache_last (s ∷ ss) = ap (λ b. is_same s NoCache || b) (no_cache_last ss) ∙ or_true (is_same s NoCache)
+
+abbrev all_given : Option ℕ → Option ℕ → Option ℕ → Bool → Given
+all_given w e t c = record { workers = w; eval_budget = e; tool_budget = t; no_cache = c }
+
+same_given : {w v e f t u : Option ℕ} {c d : Bool} → w ≡ v → e ≡ f → t ≡ u → c ≡ d → all_given w e t c ≡ all_given v f u d
+same_given a b c d = cc
+
+given_more : (ss : List Setting) (s : Setting) → is_given (given_of ss) s ≡ false
+    → given_of (ss ++ s ∷ []) ≡ with_setting (given_of ss) s
+given_more ss (Number options.Workers n) free =
+    same_given (set_last options.Workers n ss free refl) (set_other options.EvalBudget options.Workers n ss refl)
+    (set_other options.ToolBudget options.Workers n ss refl) (number_cached options.Workers n ss)
+given_more ss (Number options.EvalBudget n) free =
+    same_given (set_other options.Workers options.EvalBudget n ss refl) (set_last options.EvalBudget n ss free refl)
+    (set_other options.ToolBudget options.EvalBudget n ss refl) (number_cached options.EvalBudget n ss)
+given_more ss (Number options.ToolBudget n) free =
+    same_given (set_other options.Workers options.ToolBudget n ss refl) (set_other options.EvalBudget options.ToolBudget n ss refl)
+    (set_last options.ToolBudget n ss free refl) (number_cached options.ToolBudget n ss)
+given_more ss NoCache free =
+    same_given (set_no_cache options.Workers ss) (set_no_cache options.EvalBudget ss) (set_no_cache options.ToolBudget ss)
+    (no_cache_last ss)
+
+-- ## Each option once
+
+-- the setting is of another option than each of these
+abbrev Differs : Setting → List Setting → Type 0
+Differs s ss = AllByRecursion (λ x. is_same x s ≡ false) ss
+
+or_parts : (a b : Bool) → (a || b) ≡ false → (a ≡ false) × (b ≡ false)
+or_parts true b e = absurd cc
+or_parts false b e = (refl, e)
+
+differs_new : (ss : List Setting) (s : Setting) → is_among ss s ≡ false → Differs s ss
+differs_new [] s e = tt
+differs_new (x ∷ ss) s e =
+    let parts = or_parts (is_same x s) (is_among ss s) e in
+    (parts.0, differs_new ss s parts.1)
+
+new_differs : (ss : List Setting) (s : Setting) → Differs s ss → is_among ss s ≡ false
+new_differs [] s h = refl
+new_differs (x ∷ ss) s h = ap (λ b. b || is_among ss s) h.0 ∙ new_differs ss s h.1
+
+add_last : (P : Setting → Type 0) (ss : List Setting) (s : Setting) → AllByRecursion P ss → P s → AllByRecursion P (ss ++ s ∷ [])
+add_last P [] s h p = (p, tt)
+add_last P (x ∷ ss) s h p = (h.0, add_last P ss s h.1 p)
+
+in_middle : (P : Setting → Type 0) (ss : List Setting) (s : Setting) (rest : List Setting) → AllByRecursion P (ss ++ s ∷ rest) → P s
+in_middle P [] s rest h = h.0
+in_middle P (x ∷ ss) s rest h = in_middle P ss s rest h.1
+
+distinct_more : (ss : List Setting) (s : Setting) → IsDistinct is_same ss → Differs s ss → IsDistinct is_same (ss ++ s ∷ [])
+unfolding IsDistinct
+distinct_more [] s h k = (tt, tt)
+distinct_more (x ∷ ss) s h k = (add_last (λ y. is_same x y ≡ false) ss s h.0 k.0, distinct_more ss s h.1 k.1)
+
+distinct_before : (ss : List Setting) (s : Setting) (rest : List Setting) → IsDistinct is_same (ss ++ s ∷ rest) → Differs s ss
+unfolding IsDistinct
+distinct_before [] s rest h = tt
+distinct_before (x ∷ ss) s rest h = (in_middle (λ y. is_same x y ≡ false) ss s rest h.0, distinct_before ss s rest h.1)
+
+-- ## What was read
+
+-- All but the rest of the words were read, as settings of different options, which say this. Settings that the
+-- words are begin with them.
+pub record ReadSoFar (words rest : List (List ℕ)) (given : Given) : Type 0 where
+  pub settings : List Setting
+  pub given_is : given ≡ given_of settings
+  pub distinct : IsDistinct is_same settings
+  pub more : (others : List Setting) → AreSettings rest others → AreSettings words (settings ++ others)
+  pub only : (all : List Setting) → AreSettings words all
+      → (others : List Setting) × (all ≡ settings ++ others) × AreSettings rest others
+
+pub none_read : (words : List (List ℕ)) (given : Given) → given ≡ given_of [] → ReadSoFar words words given
+unfolding IsDistinct
+none_read words given is = record {
+  settings = [];
+  given_is = is;
+  distinct = tt;
+  more = λ others h. h;
+  only = λ all h. (all, refl, h);
+}
+
+-- the settings after the next one
+next_only : (rest after : List (List ℕ)) (s : Setting) (before all others : List Setting) → BeginWith rest s after
+    → all ≡ before ++ others → AreSettings rest others
+    → (more : List Setting) × (all ≡ before ++ s ∷ more) × AreSettings after more
+next_only rest after s before all [] b e k = absurd (none_begin rest s after k b)
+next_only rest after s before all (t ∷ ts) b e k =
+    let one = one_beginning rest s t after k.0 b k.1 in (
+      ts,
+      e ∙ ap (λ (x : Setting). before ++ x ∷ ts) (sym one.0),
+      subst (λ (r : List (List ℕ)). AreSettings r ts) (sym one.1) k.2,
+    )
+
+one_more : (words rest after : List (List ℕ)) (given next : Given) (s : Setting) → ReadSoFar words rest given
+    → BeginWith rest s after → is_given given s ≡ false → next ≡ with_setting given s → ReadSoFar words after next
+one_more words rest after given next s h b free is =
+    let new : is_given (given_of h.settings) s ≡ false = subst (λ (g : Given). is_given g s ≡ false) h.given_is free in
+    record {
+      settings = h.settings ++ s ∷ [];
+      given_is = is ∙ ap (λ (g : Given). with_setting g s) h.given_is ∙ sym (given_more h.settings s new);
+      distinct = distinct_more h.settings s h.distinct
+          (differs_new h.settings s (sym (given_among h.settings s) ∙ new));
+      more = λ others k.
+          subst (AreSettings words) (sym (append_assoc h.settings (s ∷ []) others)) (h.more (s ∷ others) (after, b, k));
+      only = λ all k.
+          let o = h.only all k in
+          let n = next_only rest after s h.settings all o.0 b o.1 o.2 in
+          (n.0, n.1 ∙ sym (append_assoc h.settings (s ∷ []) n.0), n.2);
+    }
+
+-- ## Where the words are no options
+
+left_begin : (rest : List (List ℕ)) (others : List Setting) → ((s : Setting) (after : List (List ℕ)) → BeginWith rest s after → ⊥)
+    → (rest ≡ [] → ⊥) → AreSettings rest others → ⊥
+left_begin rest [] none some h = some h
+left_begin rest (s ∷ others) none some h = none s h.0 h.1
+
+no_setting_left : (words rest : List (List ℕ)) (given : Given) (order : Order) → ReadSoFar words rest given
+    → ((s : Setting) (after : List (List ℕ)) → BeginWith rest s after → ⊥) → (rest ≡ [] → ⊥) → AreOptions words order → ⊥
+no_setting_left words rest given order h none some are =
+    let o = h.only are.settings are.settings_are in left_begin rest o.0 none some o.2
+
+true_not : (b : Bool) → b ≡ true → b ≡ false → ⊥
+true_not b e f = cc
+
+given_twice : (words rest after : List (List ℕ)) (given : Given) (s : Setting) (order : Order) → ReadSoFar words rest given
+    → BeginWith rest s after → is_given given s ≡ true → AreOptions words order → ⊥
+given_twice words rest after given s order h b twice are =
+    let o = h.only are.settings are.settings_are in
+    let n = next_only rest after s h.settings are.settings o.0 b o.1 o.2 in
+    true_not (is_given given s) twice
+    (ap (λ (g : Given). is_given g s) h.given_is ∙ given_among h.settings s
+    ∙ new_differs h.settings s (distinct_before h.settings s n.0 (subst (IsDistinct is_same) n.1 are.once)))
+
+-- ## Where they are
+
+pub all_read : (words rest : List (List ℕ)) (given : Given) (order : Order) → ReadSoFar words rest given → rest ≡ []
+    → order ≡ build_with_given given → AreOptions words order
+all_read words rest given order h none is = record {
+  settings = h.settings;
+  settings_are = subst (AreSettings words) (append-nil h.settings) (h.more [] none);
+  once = h.distinct;
+  order_is = is ∙ ap build_with_given h.given_is;
+}
+
+-- ## Words in memory
+
+-- the first of some words, by its text
+pub starts : {S : Type 0} (text_of : S → List ℕ) (rest others : List S) (first : S) (text : List ℕ) → rest ≡ first ∷ others
+    → text ≡ text_of first → map text_of rest ≡ text ∷ map text_of others
+starts text_of rest others first text e is =
+    ap (map text_of) e ∙ ap (λ (t : List ℕ). t ∷ map text_of others) (sym is)
+
+pub no_words : {S : Type 0} (text_of : S → List ℕ) (rest : List S) → length rest ≡ 0 → map text_of rest ≡ []
+no_words text_of [] e = refl
+no_words text_of (word ∷ rest) e = absurd (omega (arith, e))
+
+begins : (rest words : List (List ℕ)) (s : Setting) (after : List (List ℕ)) → rest ≡ words → BeginWith words s after
+    → BeginWith rest s after
+begins rest words s after e h = subst (λ (ws : List (List ℕ)). BeginWith ws s after) (sym e) h
+
+pub next_is_none : (words rest others : List (List ℕ)) (first : List ℕ) (given : Given) (order : Order)
+    → ReadSoFar words rest given → rest ≡ first ∷ others
+    → ((s : Setting) (after : List (List ℕ)) → BeginWith (first ∷ others) s after → ⊥) → AreOptions words order → ⊥
+next_is_none words rest others first given order h e none are =
+    no_setting_left words rest given order h
+    (λ s after b. none s after (begins (first ∷ others) rest s after (sym e) b))
+    (λ empty. first_or_none empty e) are
+  where
+    first_or_none : rest ≡ [] → rest ≡ first ∷ others → ⊥
+    first_or_none a b = cc
+
+pub next_is_given : (words rest others after : List (List ℕ)) (first : List ℕ) (given : Given) (s : Setting) (order : Order)
+    → ReadSoFar words rest given → rest ≡ first ∷ others → BeginWith (first ∷ others) s after → is_given given s ≡ true
+    → AreOptions words order → ⊥
+next_is_given words rest others after first given s order h e b twice are =
+    given_twice words rest after given s order h (begins rest (first ∷ others) s after e b) twice are
+
+pub next_is_new : (words rest others after : List (List ℕ)) (first : List ℕ) (given next : Given) (s : Setting)
+    → ReadSoFar words rest given → rest ≡ first ∷ others → BeginWith (first ∷ others) s after → is_given given s ≡ false
+    → next ≡ with_setting given s → ReadSoFar words after next
+next_is_new words rest others after first given next s h e b free is =
+    one_more words rest after given next s h (begins rest (first ∷ others) s after e b) free is

@@ -1,0 +1,79 @@
+-- The settings that were read so far.
+use Rattle.std.specs.Prelude.{◌≡◌, ℕ, List, Bool, true, not, Some, ⊤}
+use Rattle.std.specs.Fmt.{decimal}
+use Rattle.std.specs.Option.{is_some, unwrap_or}
+use Rattle.bx_engine_words.specs.declared.given.Given.{Given}
+use Rattle.bx_engine_words.specs.declared.order.Order.{Order}
+use Rattle.bx_engine_words.specs.declared.order.Order.TheVariants.{Build}
+use Rattle.bx_engine_words.specs.declared.order.TheConstants.{DEFAULT_EVAL_BUDGET, DEFAULT_TOOL_BUDGET}
+use Rattle.bx_engine_words.specs.declared.order.TheConstants.{DEFAULT_WORKERS}
+use Rattle.bx_engine_words.specs.declared.setting.NumberOption.{NumberOption}
+use Rattle.bx_engine_words.specs.declared.setting.NumberOption.TheVariants as options
+use Rattle.bx_engine_words.specs.declared.setting.Setting.{Setting}
+use Rattle.bx_engine_words.specs.declared.setting.Setting.TheVariants.{Number, NoCache}
+use Rattle.bx_engine_words.specs.Settings.{IsValue, has_no_cache, option_text, value_of}
+
+-- what these settings say
+abbrev pub given_of : List Setting → Given
+given_of settings = record {
+  workers = value_of options.Workers settings;
+  eval_budget = value_of options.EvalBudget settings;
+  tool_budget = value_of options.ToolBudget settings;
+  no_cache = has_no_cache settings;
+}
+
+-- the option of the setting was given
+abbrev pub is_given : Given → Setting → Bool
+is_given given (Number options.Workers n) = is_some given.workers
+is_given given (Number options.EvalBudget n) = is_some given.eval_budget
+is_given given (Number options.ToolBudget n) = is_some given.tool_budget
+is_given given NoCache = given.no_cache
+
+-- one setting more
+abbrev pub with_setting : Given → Setting → Given
+with_setting given (Number options.Workers n) = record {
+  workers = Some n;
+  eval_budget = given.eval_budget;
+  tool_budget = given.tool_budget;
+  no_cache = given.no_cache;
+}
+with_setting given (Number options.EvalBudget n) = record {
+  workers = given.workers;
+  eval_budget = Some n;
+  tool_budget = given.tool_budget;
+  no_cache = given.no_cache;
+}
+with_setting given (Number options.ToolBudget n) = record {
+  workers = given.workers;
+  eval_budget = given.eval_budget;
+  tool_budget = Some n;
+  no_cache = given.no_cache;
+}
+with_setting given NoCache = record {
+  workers = given.workers;
+  eval_budget = given.eval_budget;
+  tool_budget = given.tool_budget;
+  no_cache = true;
+}
+
+-- the two texts are an option and its value
+pub record IsNumber (name text : List ℕ) (option : NumberOption) (n : ℕ) : Type 0 where
+  pub name_is : name ≡ option_text option
+  pub text_is : text ≡ decimal n
+  pub value : IsValue option n
+
+-- the setting is a number, which these two texts are
+abbrev pub IsNumberSetting : List ℕ → List ℕ → Setting → Type 0
+IsNumberSetting name text (Number option n) = IsNumber name text option n
+IsNumberSetting name text NoCache = ⊥
+
+-- the number of a setting is a value of its option
+abbrev pub HasValue : Setting → Type 0
+HasValue (Number option n) = IsValue option n
+HasValue NoCache = ⊤
+
+-- the build with these settings
+abbrev pub build_with_given : Given → Order
+build_with_given given =
+    Build (unwrap_or given.workers DEFAULT_WORKERS) (not given.no_cache)
+    (unwrap_or given.eval_budget DEFAULT_EVAL_BUDGET) (unwrap_or given.tool_budget DEFAULT_TOOL_BUDGET)

@@ -1,0 +1,88 @@
+-- The settings of a build: an option with its value, in one word or in two.
+use Rattle.std.specs.Prelude.{◌≡◌, ℕ, ◌≤◌, List, [], ◌∷◌, ◌++◌, codes, ◌⊎◌}
+use Rattle.std.specs.Prelude.{Bool, true, false, not, if◌then◌else◌}
+use Rattle.std.specs.Prelude.{Option, Some, None, length, nat_lt, ◌||◌, ◌&&◌, ◌==◌}
+use Rattle.std.specs.Fmt.{decimal}
+use Rattle.std.specs.List.{list_any}
+use Rattle.std.specs.Option.{unwrap_or}
+use Rattle.bx_engine_words.specs.declared.order.Order.{Order}
+use Rattle.bx_engine_words.specs.declared.order.Order.TheVariants.{Build}
+use Rattle.bx_engine_words.specs.declared.order.TheConstants.{DEFAULT_EVAL_BUDGET, DEFAULT_TOOL_BUDGET}
+use Rattle.bx_engine_words.specs.declared.order.TheConstants.{DEFAULT_WORKERS, MAX_EVAL_BUDGET, MAX_TOOL_BUDGET}
+use Rattle.bx_engine_words.specs.declared.order.TheConstants.{MAX_WORKERS}
+use Rattle.bx_engine_words.specs.declared.setting.NumberOption.{NumberOption}
+use Rattle.bx_engine_words.specs.declared.setting.NumberOption.TheVariants as options
+use Rattle.bx_engine_words.specs.declared.setting.Setting.{Setting}
+use Rattle.bx_engine_words.specs.declared.setting.Setting.TheVariants.{Number, NoCache}
+
+-- ## Options
+
+-- the text of an option
+abbrev pub option_text : NumberOption → List ℕ
+option_text options.Workers = codes "--workers"
+option_text options.EvalBudget = codes "--eval-budget"
+option_text options.ToolBudget = codes "--tool-budget"
+
+-- the greatest value of an option
+abbrev pub greatest : NumberOption → ℕ
+greatest options.Workers = MAX_WORKERS
+greatest options.EvalBudget = MAX_EVAL_BUDGET
+greatest options.ToolBudget = MAX_TOOL_BUDGET
+
+abbrev pub same_option : NumberOption → NumberOption → Bool
+same_option options.Workers options.Workers = true
+same_option options.EvalBudget options.EvalBudget = true
+same_option options.ToolBudget options.ToolBudget = true
+same_option _ _ = false
+
+-- the text begins with a plus, or with a zero before something else
+abbrev pub odd_start : List ℕ → Bool
+odd_start [] = false
+odd_start (b ∷ bs) = b == 43 || (b == 48 && nat_lt 0 (length bs))
+
+-- ## Settings in words
+
+-- the number is a value of the option
+pub record IsValue (option : NumberOption) (n : ℕ) : Type 0 where
+  pub least : 1 ≤ n
+  pub most : n ≤ greatest option
+
+-- The words begin with this setting, and these come after it. A number is written in decimal digits without
+-- a zero before them, in the word of its option after a `=`, or in the next word.
+abbrev pub BeginWith : List (List ℕ) → Setting → List (List ℕ) → Type 0
+BeginWith words NoCache rest = words ≡ codes "--no-cache" ∷ rest
+BeginWith words (Number option n) rest =
+    IsValue option n
+    × ((words ≡ (option_text option ++ codes "=" ++ decimal n) ∷ rest)
+    ⊎ (words ≡ option_text option ∷ decimal n ∷ rest))
+
+-- the words are these settings, one after the other
+abbrev pub AreSettings : List (List ℕ) → List Setting → Type 0
+AreSettings words [] = words ≡ []
+AreSettings words (s ∷ settings) =
+    (rest : List (List ℕ)) × BeginWith words s rest × AreSettings rest settings
+
+-- ## What settings say
+
+-- two settings are of one option
+abbrev pub is_same : Setting → Setting → Bool
+is_same (Number a m) (Number b n) = same_option a b
+is_same NoCache NoCache = true
+is_same _ _ = false
+
+-- the number that an option is set to
+abbrev pub value_of : NumberOption → List Setting → Option ℕ
+value_of option [] = None
+value_of option (Number other n ∷ settings) =
+    if same_option other option then Some n else value_of option settings
+value_of option (NoCache ∷ settings) = value_of option settings
+
+abbrev pub has_no_cache : List Setting → Bool
+has_no_cache settings = list_any (λ s. is_same s NoCache) settings
+
+-- the build with these settings, and with the default of each option that is not set
+abbrev pub build_of : List Setting → Order
+build_of settings =
+    Build (unwrap_or (value_of options.Workers settings) DEFAULT_WORKERS) (not (has_no_cache settings))
+    (unwrap_or (value_of options.EvalBudget settings) DEFAULT_EVAL_BUDGET)
+    (unwrap_or (value_of options.ToolBudget settings) DEFAULT_TOOL_BUDGET)

@@ -1,0 +1,113 @@
+//! The settings of a build, each of one word or two.
+
+ghost use Rattle.std.specs.Prelude.{◌≡◌, ◌<◌, ◌^◌, ◌∷◌, ◌↔◌, ℕ, IsTrue, List, MatchOption, map, string_bytes};
+ghost use Rattle.std.specs.Fmt.{decimal};
+ghost use Rattle.bx_engine_words.specs.Given.{IsNumber, IsNumberSetting};
+ghost use Rattle.bx_engine_words.specs.Settings.{BeginWith, IsValue, odd_start, option_text};
+ghost use Rattle.bx_engine_words.specs.Settings.{greatest as greatest_of};
+ghost use Rattle.bx_engine_words.specs.declared.setting.NumberOption.{NumberOption as AnyOption};
+ghost use Rattle.bx_engine_words.specs.declared.setting.Setting.{Setting as AnySetting};
+
+use crate::order::{MAX_EVAL_BUDGET, MAX_TOOL_BUDGET, MAX_WORKERS};
+
+/// An option of a build whose value is a number.
+#[derive(Clone, Copy, Debug, PartialEq, Eq)]
+pub(crate) enum NumberOption {
+    Workers,
+    EvalBudget,
+    ToolBudget,
+}
+
+/// An option of a build with its value, if it has one.
+#[derive(Clone, Copy, Debug, PartialEq, Eq)]
+pub(crate) enum Setting {
+    Number(NumberOption, u64),
+    NoCache,
+}
+
+impl NumberOption {
+    /// The option with this text.
+    fn named(text: &str) -> Option<NumberOption>
+        ensures { MatchOption result
+            ((option : AnyOption) → text.now ≡ option_text option → ⊥)
+            (λ option. text.now ≡ option_text option) }
+    {
+        match text {
+            "--workers" => Some(NumberOption::Workers),
+            "--eval-budget" => Some(NumberOption::EvalBudget),
+            "--tool-budget" => Some(NumberOption::ToolBudget),
+            _ => None,
+        }
+    }
+
+    /// The greatest value.
+    fn greatest(self) -> u64
+        ensures { result ≡ greatest_of self }
+    {
+        match self {
+            NumberOption::Workers => MAX_WORKERS as u64,
+            NumberOption::EvalBudget => MAX_EVAL_BUDGET,
+            NumberOption::ToolBudget => MAX_TOOL_BUDGET,
+        }
+    }
+
+    /// Whether the number is a value of this option.
+    fn has_value(self, number: u64) -> bool
+        ensures { IsTrue result ↔ IsValue self number }
+    {
+        1 <= number && number <= self.greatest()
+    }
+}
+
+/// Whether a text begins with a plus, or with a zero before something else.
+fn has_odd_start(text: &[u8]) -> bool
+    ensures { result ≡ odd_start text.now }
+{
+    match text.split_first() {
+        Some((first, rest)) => *first == b'+' || (*first == b'0' && !rest.is_empty()),
+        None => false,
+    }
+}
+
+/// The number of 64 bits that has this text in decimal digits.
+fn read_number(text: &str) -> Option<u64>
+    ensures { MatchOption result
+        ((n : ℕ) → n < 2 ^ 64 → text.now ≡ decimal n → ⊥)
+        (λ n. (n < 2 ^ 64) × (text.now ≡ decimal n)) }
+{
+    if has_odd_start(text.as_bytes()) {
+        return None;
+    }
+    text.parse::<u64>().ok()
+}
+
+/// The setting of an option with this text to the number with that one, if it is in the option's range.
+fn read_value(name: &str, text: &str) -> Option<Setting>
+    ensures { MatchOption result
+        ((option : AnyOption) (n : ℕ) → IsNumber name.now text.now option n → ⊥)
+        (λ setting. IsNumberSetting name.now text.now setting) }
+{
+    let option = NumberOption::named(name)?;
+    let number = read_number(text)?;
+    if !option.has_value(number) {
+        return None;
+    }
+    Some(Setting::Number(option, number))
+}
+
+/// The setting that words begin with, of which this is the first, and the words after it.
+pub(crate) fn read_setting<'a>(first: &str, rest: &'a [String]) -> Option<(Setting, &'a [String])>
+    ensures { MatchOption result
+        ((setting : AnySetting) (after : List (List ℕ))
+        → BeginWith (first.now ∷ map string_bytes rest.entry.now) setting after → ⊥)
+        (λ x. BeginWith (first.now ∷ map string_bytes rest.entry.now) x.0 (map string_bytes x.1.now)) }
+{
+    if first == "--no-cache" {
+        return Some((Setting::NoCache, rest));
+    }
+    if let Some((name, text)) = first.split_once('=') {
+        return Some((read_value(name, text)?, rest));
+    }
+    let (text, after) = rest.split_first()?;
+    Some((read_value(first, text.as_str())?, after))
+}

@@ -1,5 +1,0 @@
-use Rattle.bx_folder.proofs.RoundTrip.{unpack_of_pack}
-use Rattle.bx_folder.proofs.laws.packed_is_unpacked.Goals as goal
-
-pub returns : goal.returns
-returns c = unpack_of_pack

@@ -1,8 +1,0 @@
-use Rattle.std.proofs.Common.{◌≡◌, ◌∙◌, subst}
-use Rattle.bx_folder.specs.Folders.{IsFolder}
-use Rattle.bx_folder.proofs.mem_folder.MemFolderFolder.list.Goals as goal
-
-pub returns-clause-folder : goal.returns-clause-folder
-returns-clause-folder c nodes e =
-    let same : c.args.self.now.nodes ≡ nodes = cc in
-    subst IsFolder (c.next_fails.ensures.nodes ∙ same) c.entries.ensures.folder

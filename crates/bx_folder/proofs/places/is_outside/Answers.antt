@@ -1,6 +1,0 @@
-use Rattle.std.proofs.Common.{ap, not}
-use Rattle.bx_folder.proofs.Within.{same_test}
-use Rattle.bx_folder.proofs.places.is_outside.Goals as goal
-
-pub returns : goal.returns
-returns c = ap not (same_test c.is_within.result c.args.place.now c.args.top.now c.is_within.ensures)

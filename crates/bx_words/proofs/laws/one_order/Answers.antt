@@ -1,5 +1,0 @@
-use Rattle.bx_words.proofs.OneSetting.{one_order}
-use Rattle.bx_words.proofs.laws.one_order.Goals as goal
-
-pub returns : goal.returns
-returns c = one_order

@@ -1,9 +1,0 @@
-use Rattle.std.proofs.Common.{sym, ◌∙◌, arith}
-use Rattle.dscript_config.proofs.Literals.{no_directory_text, not_zero}
-use Rattle.dscript_config.proofs.literal.directory_text.Goals as goal
-
-pub returns-else-is_empty : goal.returns-else-is_empty
-returns-else-is_empty c =
-    let path = c.in-Path-Directory-default-default in
-    no_directory_text c.args.value.now path.field-0 path.text path.holes path.is
-    (λ none. not_zero _ (sym c.is_empty.ensures ∙ c.if-is_empty.false) (omega arith))

@@ -1,0 +1,14 @@
+use Rattle.std.proofs.Common.{◌≡◌, length}
+use Rattle.dscript_eval_frames.specs.Views.{seen}
+use Rattle.dscript_eval_frames.specs.Works.{comes_with}
+use Rattle.dscript_eval_frames.specs.declared.work.ExprWork.TheVariants as expr
+use Rattle.dscript_eval_frames.specs.declared.work.Work.TheVariants as works
+use Rattle.dscript_eval_exprs.proofs.collections.items.Given as goal
+
+abbrev pub invariant-elements : goal.invariant-elements
+invariant-elements l =
+    comes_with (works.Expr (expr.Items (record { ref_ptr = (0, 0); now = l.fn.es }) l.fn.done)) (seen l.fn.machine)
+    ≡ comes_with (works.Expr (expr.Items (record { ref_ptr = (0, 0); now = l.left }) l.made)) (seen l.machine)
+
+abbrev pub decreases-elements : goal.decreases-elements
+decreases-elements l = length l.left

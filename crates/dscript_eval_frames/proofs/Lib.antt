@@ -1,0 +1,14 @@
+pub mod Rows
+pub mod Locals
+pub mod Ascents
+pub mod Placings
+pub mod OwnLocals
+pub mod Places
+pub mod Waiting
+pub mod Followed
+pub mod ItemLists
+pub mod Forms
+pub mod Machines
+pub mod Kept
+pub mod Refused
+pub mod Opening

@@ -1,0 +1,16 @@
+pub mod Increasing
+pub mod Placed
+pub mod Codes
+pub mod Own
+pub mod Frames
+pub mod Statuses
+pub mod Consts
+pub mod Costs
+pub mod Made
+pub mod Views
+pub mod Works
+pub mod Keeps
+pub mod Steps
+pub mod Faults
+pub mod Forms
+pub mod ItemsFrom

@@ -1,0 +1,13 @@
+pub mod States
+pub mod Evaluating
+pub mod Lookups
+pub mod Frames
+pub mod Constants
+pub mod Acts
+pub mod Callbacks
+pub mod Calls
+pub mod Expressions
+pub mod Statements
+pub mod Meaning
+pub mod Answers
+pub mod Laws

@@ -1,0 +1,64 @@
+//! What `...` adds to a list or an object.
+ghost use Rattle.std.specs.Prelude.{◌≡◌, ◌++◌, Ok, map, IfOk, MatchResult};
+ghost use Rattle.dscript_value.specs.Grown.{grown_items};
+ghost use Rattle.dscript_value.specs.Plain.{plain_field, plain_of};
+ghost use Rattle.dscript_sdk_values.specs.Outcomes.{Refuses};
+ghost use Rattle.dscript_eval_operators.specs.Spreads.{with_fields_of, with_items_of};
+
+use crate::Memory;
+use dscript_value::{Field, GrowingList, Value};
+use dscript_sdk_values::{MAX_LIST_ITEMS, SdkFault, read_values};
+use std::alloc::Global;
+
+/// Adds the items of a list to some items, which together must be few enough.
+#[tactic(auto, unfolding(crate::specs::Spreads::with_items_of))]
+pub fn add_items(alloc: Global, items: &mut GrowingList, list: &Value) -> Result<(), SdkFault>
+    ensures { MatchResult result
+        (λ _. with_items_of (grown_items items.old) (plain_of list.now) ≡ Ok (grown_items items.new))
+        (λ fault. Refuses fault (with_items_of (grown_items items.old) (plain_of list.now))) }
+{
+    let more = read_values(list)?;
+    if items.len() > MAX_LIST_ITEMS || more.len() > MAX_LIST_ITEMS - items.len() {
+        return Err(SdkFault::Range);
+    }
+    items.append(alloc, more)?;
+    Ok(())
+}
+
+// A field like this one.
+fn share_field(field: &Field) -> Result<Field, Memory>
+    ensures { IfOk result (λ copy. plain_field copy ≡ plain_field field.now) }
+{
+    let name = field.name.share()?;
+    let value = field.value.share()?;
+    Ok(Field { name, value })
+}
+
+// Adds fields like these.
+fn add_shared(fields: &mut Vec<Field>, more: &[Field]) -> Result<(), Memory>
+    ensures { IfOk result (λ _. map plain_field fields.new.items
+        ≡ map plain_field fields.old.items ++ map plain_field more.now) }
+{
+    'fields: for field in more {
+        fields.push(share_field(field)?)?;
+    }
+    Ok(())
+}
+
+/// Adds the fields of an object to some fields. `undefined` has none.
+#[tactic(auto, unfolding(crate::specs::Spreads::with_fields_of, crate::specs::Spreads::spread_fields))]
+pub fn add_fields(fields: &mut Vec<Field>, value: &Value) -> Result<(), SdkFault>
+    ensures { MatchResult result
+        (λ _. with_fields_of (map plain_field fields.old.items) (plain_of value.now)
+        ≡ Ok (map plain_field fields.new.items))
+        (λ fault. Refuses fault (with_fields_of (map plain_field fields.old.items) (plain_of value.now))) }
+{
+    match value {
+        Value::Undefined => Ok(()),
+        Value::Object(object) => {
+            add_shared(fields, object.fields())?;
+            Ok(())
+        }
+        _ => Err(SdkFault::Kind),
+    }
+}

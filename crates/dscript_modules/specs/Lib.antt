@@ -1,2 +1,0 @@
-pub mod Workspaces
-pub mod Faults

@@ -1,0 +1,9 @@
+use Rattle.std.proofs.Common.{refl}
+use Rattle.dscript_names_scopes.specs.declared.names.Imported.{Imported}
+use Rattle.dscript_names_scopes.proofs.Placed.{place_put}
+use Rattle.dscript_names_scopes.proofs.places.places_of_imports.Goals as goal
+
+pub last-preserved : goal.last-preserved
+last-preserved c = λ x.
+    place_put (λ (y : Imported). y.name) c.last.left.now c.in-Some.before.now c.in-Some.imported.now x _ _ _ _
+    c.in-Some.ensures.cases.0 refl (c.in_ok-put.ensures x) (c.last.invariant x)

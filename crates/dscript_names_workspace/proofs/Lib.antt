@@ -1,0 +1,27 @@
+pub mod OneAnswer
+pub mod SomeAnswer
+pub mod Directories
+pub mod Deepest
+pub mod PathSets
+pub mod Owners
+pub mod ModulesKept
+pub mod FirstFaults
+pub mod FirstNames
+pub mod ReadTexts
+pub mod Answering
+pub mod FoundModules
+pub mod ModuleNames
+pub mod ModuleSources
+pub mod ModuleDirs
+pub mod ModuleSharing
+pub mod ObjectTrees
+pub mod Literals
+pub mod Globs
+pub mod Patterns
+pub mod FilePaths
+pub mod JoinedLists
+pub mod Positions
+pub mod ListedFiles
+pub mod GatheredFiles
+pub mod Members
+mod Examples

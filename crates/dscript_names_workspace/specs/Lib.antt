@@ -1,0 +1,13 @@
+pub mod Membership
+pub mod PathSets
+pub mod Workspaces
+pub mod ModuleFiles
+pub mod Finding
+pub mod ModuleLaws
+pub mod Views
+pub mod Paths
+pub mod Lists
+pub mod Objects
+pub mod Configs
+pub mod Modules
+pub mod ConfigViews

@@ -1,0 +1,60 @@
+//! What configurations ask of paths, and files by their position in a tree.
+
+ghost use Rattle.std.specs.Prelude.{◌≡◌, ◌<◌, [], false, length, slice_index_or, MatchOption};
+ghost use Rattle.std.specs.Cmp.Lexicographic.{slice_cmp};
+ghost use Rattle.std.specs.Ordering.{nat_cmp};
+ghost use Rattle.bx_tree.specs.Paths.{path_text};
+ghost use Rattle.bx_tree.specs.Trees.{paths_of};
+ghost use Rattle.dscript_names_workspace.specs.Paths.{IsAt, is_below as lies_below, is_source};
+ghost use Rattle.dscript_names_workspace.specs.Paths.{is_module_file as names_module, is_specification as names_dsc};
+
+use bx_tree::{Path, Tree};
+use std::cmp::Ordering;
+
+/// Whether a file is named `module.config.dsc`.
+pub fn is_module_file(path: &Path) -> bool
+    ensures { result ≡ names_module path.now }
+{
+    let text = path.text().as_bytes();
+    text == b"module.config.dsc".as_slice() || text.ends_with(b"/module.config.dsc".as_slice())
+}
+
+/// Whether a path ends in `.dsc`.
+pub fn is_specification(path: &Path) -> bool
+    ensures { result ≡ names_dsc path.now }
+{
+    path.text().as_bytes().ends_with(b".dsc".as_slice())
+}
+
+/// Whether a path lies strictly below a directory.
+pub fn is_below(dir: &Path, path: &Path) -> bool
+    ensures { result ≡ lies_below dir.now path.now }
+{
+    path.is_below(dir)
+}
+
+/// The path of the file at this position.
+pub fn path_at(tree: &Tree, position: usize) -> &Path
+    requires { position < length tree.now }
+    ensures { result.now ≡ slice_index_or (paths_of tree.entry.now) position [] }
+{
+    &tree.files()[position].path
+}
+
+fn text_order(path: &Path, text: &[u8]) -> Ordering
+    ensures { result ≡ slice_cmp nat_cmp (path_text path.now) text.now }
+{
+    path.text().as_bytes().cmp(text)
+}
+
+/// The position of the file with this path.
+pub(crate) fn position_of(tree: &Tree, path: &Path) -> Option<usize>
+    ensures { MatchOption result
+        (is_source tree.now path.now ≡ false)
+        (λ position. IsAt tree.now position path.now) }
+{
+    let text = path.text().as_bytes();
+    tree.files()
+        .binary_search_by(|file| text_order(&file.path, text))
+        .ok()
+}

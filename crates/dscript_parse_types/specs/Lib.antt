@@ -1,2 +1,0 @@
-pub mod UnionInvariants
-pub mod Endings

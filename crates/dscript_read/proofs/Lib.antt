@@ -1,3 +1,0 @@
-pub mod OneReading
-pub mod SomeReading
-mod PlaceExamples

@@ -1,5 +1,0 @@
-use Rattle.std.proofs.Common.{◌≡◌, take}
-use Rattle.dscript_scopes.proofs.dotted.shared.Given as goal
-
-abbrev pub invariant-texts : goal.invariant-texts
-invariant-texts l = l.copy.items ≡ take l.text-index l.texts

@@ -1,0 +1,144 @@
+//! What calls ask of the source tree: all that they know of it, they know from here.
+ghost use Rattle.std.specs.Prelude.{◌≡◌, ◌≢◌, ◌≤◌, true, false, length, IfOk, MatchResult};
+ghost use Rattle.std.specs.List.Sorted.{IsPartitionPoint};
+ghost use Rattle.bx_tree.specs.Paths.{IsPath};
+ghost use Rattle.bx_tree.specs.Trees.{IsTree, paths_of};
+ghost use Rattle.bx_tree.specs.Views.{files_of};
+ghost use Rattle.dscript_sdk_calls.specs.Ranges.{first_below, first_directly_in};
+ghost use Rattle.dscript_sdk_calls.specs.Sources.{files_below, files_directly_in, files_found, lies_directly_in};
+ghost use Rattle.dscript_sdk_calls.specs.Sources.{lies_below as below};
+ghost use Rattle.bx_path.specs.Globbing.{is_pattern};
+ghost use Rattle.bx_tree.specs.Ranges.{comes_before as path_before, prefix_below};
+
+use bx_path::{GlobFault, glob};
+use bx_tree::{Memory, Path, Tree, TreeFile};
+use dscript_sdk_values::SdkFault;
+use std::alloc::Global;
+
+/// The source files that a pattern finds in a directory, or anywhere below it where the glob is deep.
+#[tactic(auto, unfolding(crate::specs::Sources::files_found))]
+pub fn find_files(
+    alloc: Global,
+    tree: &Tree,
+    dir: &Path,
+    pattern: &[u8],
+    deep: bool,
+) -> Result<Vec<Path>, SdkFault>
+    ensures { MatchResult result
+        (λ paths. (is_pattern pattern.now ≡ true)
+        × (paths.items ≡ files_found tree.now dir.now pattern.now deep))
+        (λ fault. fault ≢ SdkFault.Memory
+        → (fault ≡ SdkFault.BadArgument) × (is_pattern pattern.now ≡ false)) }
+{
+    match glob(alloc, tree, dir, pattern, deep) {
+        Ok(paths) => Ok(paths),
+        Err(GlobFault::BadPattern) => Err(SdkFault::BadArgument),
+        Err(GlobFault::Memory) => Err(SdkFault::Memory),
+    }
+}
+
+// The bytes with which the text of each path below a directory begins.
+fn prefix_of(alloc: Global, dir: &Path) -> Result<Vec<u8>, Memory>
+    ensures prefix { IfOk result (λ prefix. prefix.items ≡ prefix_below dir.now) }
+    ensures is_path { IsPath dir.now }
+{
+    let text = dir.text();
+    if text == "." {
+        return Ok(Vec::new(alloc));
+    }
+    let mut prefix = text.as_bytes().to_vec(alloc)?;
+    prefix.push(b'/')?;
+    Ok(prefix)
+}
+
+// Whether a path comes before all paths whose texts begin with these bytes.
+fn comes_before(path: &Path, prefix: &[u8]) -> bool
+    ensures { result ≡ path_before prefix.now path.now }
+{
+    path.text().as_bytes().cmp(prefix).is_lt()
+}
+
+// How many files come before those whose paths' texts begin with these bytes.
+fn count_before(files: &[TreeFile], prefix: &[u8]) -> usize
+    requires { IsTree (files_of files.now) }
+    ensures bound { result ≤ length files.now }
+    ensures before { IsPartitionPoint
+        (λ file. path_before prefix.now file.path ≡ true)
+        (λ file. path_before prefix.now file.path ≡ false)
+        files.now result }
+{
+    files.partition_point(|file| comes_before(&file.path, prefix))
+}
+
+// The paths of the first files, up to one that does not lie below a directory.
+fn share_first_below(alloc: Global, files: &[TreeFile], dir: &Path) -> Result<Vec<Path>, Memory>
+    ensures { IfOk result (λ paths. paths.items ≡ first_below dir.now (paths_of (files_of files.now))) }
+{
+    let mut paths = Vec::new(alloc);
+    'files: for file in files {
+        if !lies_below(dir, &file.path) {
+            return Ok(paths);
+        }
+        paths.push(file.path.share()?)?;
+    }
+    Ok(paths)
+}
+
+/// The source files below a directory, which are next to one another in the tree.
+pub fn find_below(alloc: Global, tree: &Tree, dir: &Path) -> Result<Vec<Path>, Memory>
+    ensures { IfOk result (λ paths. paths.items ≡ files_below tree.now dir.now) }
+{
+    let prefix = prefix_of(alloc, dir)?;
+    let files = tree.files();
+    let start = count_before(files, prefix.as_slice());
+    share_first_below(alloc, &files[start..], dir)
+}
+
+/// Whether a path lies strictly below a directory.
+pub fn lies_below(dir: &Path, path: &Path) -> bool
+    ensures { result ≡ below dir.now path.now }
+{
+    path.is_below(dir)
+}
+
+// Whether a path below a directory is directly in it.
+fn is_directly_in(dir: &Path, prefix: &[u8], path: &Path) -> bool
+    requires prefix { prefix.now ≡ prefix_below dir.now }
+    requires below { below dir.now path.now ≡ true }
+    ensures { result ≡ lies_directly_in dir.now path.now }
+{
+    let (_, rest) = path.text().as_bytes().split_at(prefix.len());
+    !rest.contains(&b'/')
+}
+
+// The paths of the files directly in a directory among the first, up to one that does not lie below it.
+fn share_first_directly_in(
+    alloc: Global,
+    files: &[TreeFile],
+    dir: &Path,
+    prefix: &[u8],
+) -> Result<Vec<Path>, Memory>
+    requires { prefix.now ≡ prefix_below dir.now }
+    ensures { IfOk result (λ paths. paths.items ≡ first_directly_in dir.now (paths_of (files_of files.now))) }
+{
+    let mut paths = Vec::new(alloc);
+    'files: for file in files {
+        if !lies_below(dir, &file.path) {
+            return Ok(paths);
+        }
+        if is_directly_in(dir, prefix, &file.path) {
+            paths.push(file.path.share()?)?;
+        }
+    }
+    Ok(paths)
+}
+
+/// The source files directly in a directory.
+pub fn find_directly_in(alloc: Global, tree: &Tree, dir: &Path) -> Result<Vec<Path>, Memory>
+    ensures { IfOk result (λ paths. paths.items ≡ files_directly_in tree.now dir.now) }
+{
+    let prefix = prefix_of(alloc, dir)?;
+    let files = tree.files();
+    let start = count_before(files, prefix.as_slice());
+    share_first_directly_in(alloc, &files[start..], dir, prefix.as_slice())
+}

@@ -1,6 +1,0 @@
-use Rattle.std.proofs.Common.{◌≡◌, ◌++◌, drop}
-use Rattle.dscript_spell.specs.Spellings.{in_string}
-use Rattle.dscript_spell.proofs.enclosed.push_in_string.Given as goal
-
-abbrev pub invariant-bytes : goal.invariant-bytes
-invariant-bytes l = l.text.items ++ in_string (drop l.byte-index l.value) ≡ l.fn.text.items ++ in_string l.value

@@ -1,7 +1,0 @@
-use Rattle.std.proofs.Common.{◌≡◌, ◌++◌, drop}
-use Rattle.dscript_spell.specs.declared.side.Side.TheVariants.{Other}
-use Rattle.dscript_spell.specs.Layout.{written}
-use Rattle.dscript_spell.proofs.writing.write.Given as goal
-
-abbrev pub invariant-tokens : goal.invariant-tokens
-invariant-tokens l = l.text.items ++ written l.before (drop l.token-index l.laid) ≡ written Other l.laid

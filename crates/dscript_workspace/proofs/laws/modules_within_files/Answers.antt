@@ -1,5 +1,0 @@
-use Rattle.dscript_workspace.proofs.FoundModules.{within_files}
-use Rattle.dscript_workspace.proofs.laws.modules_within_files.Goals as goal
-
-pub returns : goal.returns
-returns c = within_files

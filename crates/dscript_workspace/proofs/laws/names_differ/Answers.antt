@@ -1,5 +1,0 @@
-use Rattle.dscript_workspace.proofs.ModuleNames.{own_names}
-use Rattle.dscript_workspace.proofs.laws.names_differ.Goals as goal
-
-pub returns : goal.returns
-returns c = own_names

@@ -1,5 +1,0 @@
-use Rattle.dscript_workspace.proofs.ModuleSharing.{share_none_of}
-use Rattle.dscript_workspace.proofs.laws.no_file_is_shared.Goals as goal
-
-pub returns : goal.returns
-returns c = share_none_of

@@ -1,8 +1,0 @@
-use Rattle.eval_machine.specs.Views.{seen}
-use Rattle.eval_exprs.proofs.CollectionMoves.{value_next}
-use Rattle.eval_machine.proofs.Kept.{kept}
-use Rattle.eval_exprs.proofs.collections.value_field.Goals as goal
-
-pub returns : goal.returns
-returns c =
-    kept _ _ _ _ c.push_two.ensures (value_next (seen c.args.machine.now) c.args.name c.args.others c.args.e c.args.done)

@@ -1,4 +1,0 @@
-use Rattle.eval_exprs.proofs.names.function_value.Goals as goal
-
-pub returns : goal.returns
-returns c = c.finish.ensures _ c.function_at-outcome.ensures

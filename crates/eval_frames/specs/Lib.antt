@@ -1,9 +1,0 @@
-pub mod Increasing
-pub mod Placed
-pub mod Codes
-pub mod Own
-pub mod Frames
-pub mod Statuses
-pub mod Consts
-pub mod Costs
-pub mod Made

@@ -1,5 +1,0 @@
-use Rattle.eval_machine.proofs.ItemLists.{item_where}
-use Rattle.eval_machine.proofs.items.item_ref.Goals as goal
-
-pub returns : goal.returns
-returns c = item_where _ _ c.args.at c.get.ensures

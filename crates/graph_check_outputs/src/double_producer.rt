@@ -1,0 +1,25 @@
+//! The rule that no two pips declare one file.
+ghost use Rattle.graph_check_outputs.specs.DoubleProducer.{DoubleProducerAt};
+ghost use Rattle.graph_check_outputs.specs.Firsts.{IsFirst};
+ghost use Rattle.std.specs.Prelude.{IfOk};
+
+use crate::declared::files_of;
+use crate::seen::{is_any_seen, see_all};
+use pip_model_types::{Memory, Pip};
+use std::alloc::Global;
+use std::collections::BTreeSet;
+
+/// The first pip that declares a file that an earlier pip declares.
+pub fn first_double_producer(alloc: Global, pips: &[Pip]) -> Result<Option<usize>, Memory>
+    ensures { IfOk result (IsFirst (DoubleProducerAt pips.now)) }
+{
+    let mut seen = BTreeSet::new(alloc);
+    'pips: for (number, pip) in pips.iter().enumerate() {
+        let files = files_of(alloc, &pip.kind)?;
+        if is_any_seen(&seen, files.as_slice()) {
+            return Ok(Some(number));
+        }
+        see_all(&mut seen, files.as_slice())?;
+    }
+    Ok(None)
+}

@@ -1,0 +1,45 @@
+//! The first pip with an output directory of an earlier pip that not both share.
+ghost use Rattle.std.specs.Prelude.{◌↔◌, ◌⊎◌, Any, Contains, IsTrue, IfOk};
+ghost use Rattle.graph_check_outputs.specs.Sharing.{TellsUnshared};
+
+use crate::declared::{dirs_of, lone_dirs_of};
+use crate::seen::{is_any_seen, see_all};
+use bx_tree::Path;
+use pip_model_types::{Memory, Pip};
+use std::alloc::Global;
+use std::collections::BTreeSet;
+
+// The output directories of the pips so far.
+#[derive(Drop)]
+struct SeenDirs {
+    all: BTreeSet<Path>,
+    lone: BTreeSet<Path>,
+}
+
+// Whether a pip has a directory of an earlier pip, and not both share it.
+fn is_clash(seen: &SeenDirs, dirs: &[Path], lone: &[Path]) -> bool
+    ensures { IsTrue result ↔ (Any (Contains seen.now.all.keys) lone.now
+        ⊎ Any (Contains seen.now.lone.keys) dirs.now) }
+{
+    is_any_seen(&seen.all, lone) || is_any_seen(&seen.lone, dirs)
+}
+
+// The first pip that has a directory of an earlier pip without both sharing it, or else the number of pips.
+pub(crate) fn first_unshared(alloc: Global, pips: &[Pip]) -> Result<usize, Memory>
+    ensures { IfOk result (TellsUnshared pips.now) }
+{
+    let mut seen = SeenDirs {
+        all: BTreeSet::new(alloc),
+        lone: BTreeSet::new(alloc),
+    };
+    'pips: for (number, pip) in pips.iter().enumerate() {
+        let dirs = dirs_of(alloc, &pip.kind)?;
+        let lone = lone_dirs_of(alloc, &pip.kind)?;
+        if is_clash(&seen, dirs.as_slice(), lone.as_slice()) {
+            return Ok(number);
+        }
+        see_all(&mut seen.all, dirs.as_slice())?;
+        see_all(&mut seen.lone, lone.as_slice())?;
+    }
+    Ok(pips.len())
+}

@@ -1,6 +1,0 @@
-use Rattle.std.proofs.Common.{arith}
-use Rattle.names_counts.proofs.Bundled.{program_bundled, world_bundled}
-use Rattle.names_counts.proofs.laws.program_counts_are_bounded.Goals as goal
-
-pub returns : goal.returns
-returns c = record { program = program_bundled; names = world_bundled; below = omega arith }

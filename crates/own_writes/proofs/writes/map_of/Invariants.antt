@@ -1,6 +1,0 @@
-use Rattle.std.proofs.Common.{◌≡◌, take}
-use Rattle.pip_types.specs.Made.{made_files}
-use Rattle.own_writes.proofs.writes.map_of.Given as goal
-
-abbrev pub invariant-files : goal.invariant-files
-invariant-files l = l.map.entries ≡ made_files (take l.file-index l.made)

@@ -1,8 +1,0 @@
-use Rattle.std.proofs.Common.{◌∙◌}
-use Rattle.pip_types.specs.Orders.{outdir_cmp_total}
-use Rattle.pip_inputs.proofs.InOrder.{set_same}
-use Rattle.pip_inputs.proofs.sharing.share_outdirs.Goals as goal
-
-pub returns : goal.returns
-returns c =
-    set_same outdir_cmp_total c.args.dirs.now c.in_ok-shared.shared.items c.of.result c.dirs-list.ensures.rising (c.in_ok-shared.ensures ∙ c.dirs-list.ensures.dirs) c.of.ensures

@@ -1,0 +1,11 @@
+use Rattle.std.proofs.Common.{◌≡◌, rules}
+use Rattle.std.proofs.lemmas.Iterator.{cases_from_any, YieldsList-from_slice}
+use Rattle.pip_model_types.specs.declared.outputs.OutDir.{OutDir}
+use Rattle.pip_model_types.proofs.AnyOf.{any_or_none}
+use Rattle.pip_model_types.proofs.fits.is_outdir.Goals as goal
+
+pub returns : goal.returns
+returns c =
+    any_or_none (λ (d : OutDir). d.path ≡ c.args.path.now) _ _
+    (cases_from_any _ _ _ (λ (d : OutDir). d.path ≡ c.args.path.now) (λ (d : OutDir). d.path ≡ c.args.path.now → ⊥) c.any.ensures.ran
+    (YieldsList-from_slice c.args.dirs.now cc) (λ x q k. search rules) (λ x q k. search rules))

@@ -1,0 +1,18 @@
+use Rattle.std.proofs.Common.{◌≡◌, ap, arith, length, rules, sym, vec_len}
+use Rattle.pip_model_types.proofs.FilesAt.{found_beside, not_beside, paths_beside}
+use Rattle.pip_model_types.proofs.sources.Sources.find.Goals as goal
+
+pub index-requires : goal.index-requires
+index-requires c =
+    let is = paths_beside c.self.inside.paths.items c.self.inside.blobs.items c.args.self.now c.paths.result.now c.self.invariant.size c.self.view_is c.paths.ensures.paths in
+    let long : vec_len c.self.inside.blobs ≡ length c.self.inside.blobs.items = search rules in
+    omega (arith, c.in-Some.ensures.0, ap length is, c.self.invariant.size, long)
+
+pub returns-in-Some-clause-value : goal.returns-in-Some-clause-value
+returns-in-Some-clause-value c =
+    let found = found_beside c.self.inside.paths.items c.self.inside.blobs.items c.args.self.now c.paths.result.now c.args.path.now c.in-Some.place c.index.result.now
+    c.self.invariant.size c.self.view_is c.paths.ensures.paths c.paths.ensures.tree.rising c.in-Some.ensures.0 c.in-Some.ensures.1 in
+    cc (found, c.index.ensures)
+
+pub returns-in-None-clause-value : goal.returns-in-None-clause-value
+returns-in-None-clause-value c = sym (not_beside c.args.self.now c.paths.result.now c.args.path.now c.paths.ensures.paths c.in-None.ensures)

@@ -1,0 +1,92 @@
+//! The source files by path.
+ghost use Rattle.std.specs.Prelude.{◌≡◌, ◌≢◌, ◌↔◌, ◌<◌, ◌++◌, ◌∷◌, [], length, IsSome, IfOk, OnOk};
+ghost use Rattle.std.specs.Prelude.{MatchOption, All, Contains};
+ghost use Rattle.std.specs.List.{HoldsAt};
+ghost use Rattle.std.specs.List.Sorted.{IsStrictlySortedBy};
+ghost use Rattle.bx_tree.specs.Paths.{path_cmp};
+ghost use Rattle.std.specs.Option.{option_copied};
+ghost use Rattle.bx_tree.specs.Trees.{IsTree, file_at, paths_of};
+
+use bx_digest::Blob;
+use bx_tree::{Path, Tree, TreeFile};
+use std::alloc::{AllocError, Global};
+use std::marker::Model;
+
+/// The source files by path. Contracts see them as the tree's list of (path, bytes).
+#[derive(Drop)]
+pub struct Sources {
+    paths: Vec<Path>,
+    blobs: Vec<Blob>,
+}
+
+impl Model for Sources {
+    ghost use Rattle.std.specs.Prelude.{◌≡◌, List, ℕ, length};
+    ghost use Rattle.std.specs.List.{zip};
+    ghost use Rattle.pip_model_types.specs.SourceFiles.{AreSources};
+
+    ghost Value = { List (List (List ℕ) × List ℕ) };
+
+    ghost view = { λ s. zip s.paths.items s.blobs.items };
+
+    ghost invariant = { λ s. AreSources s.paths.items s.blobs.items };
+}
+
+fn place_of(paths: &[Path], path: &Path) -> Option<usize>
+    requires { IsStrictlySortedBy path_cmp paths.now }
+    ensures { MatchOption result
+        (All (λ other. other ≢ path.now) paths.now)
+        (λ place. (place < length paths.now) × HoldsAt (λ other. other ≡ path.now) paths.now place) }
+{
+    paths.binary_search(path).ok()
+}
+
+// Adds a file to the paths and, as a blob, to the blobs.
+fn add(
+    alloc: Global,
+    paths: &mut Vec<Path>,
+    blobs: &mut Vec<Blob>,
+    file: TreeFile,
+) -> Result<(), AllocError>
+    ensures path { OnOk result (paths.new.items ≡ paths.old.items ++ file.path ∷ []) }
+    ensures blob { OnOk result (blobs.new.items ≡ blobs.old.items ++ file.bytes.items ∷ []) }
+{
+    let TreeFile { path, bytes } = file;
+    let blob = Blob::new(alloc, bytes)?;
+    paths.push(path)?;
+    blobs.push(blob)?;
+    Ok(())
+}
+
+impl Sources {
+    /// The files of a tree.
+    pub fn new(alloc: Global, tree: Tree) -> Result<Sources, AllocError>
+        ensures { IfOk result (λ sources. sources ≡ tree) }
+    {
+        let mut paths = Vec::new(alloc);
+        let mut blobs = Vec::new(alloc);
+        let _ = tree.files();
+        'files: for file in tree.into_files() {
+            add(alloc, &mut paths, &mut blobs, file)?;
+        }
+        Ok(Sources { paths, blobs })
+    }
+
+    /// The file at a path, if there is one.
+    pub fn find(&self, path: &Path) -> Option<&Blob>
+        ensures value { option_copied result ≡ file_at self.now path.now }
+        ensures there { IsSome result ↔ Contains (paths_of self.now) path.now }
+    {
+        match place_of(self.paths(), path) {
+            Some(place) => Some(&self.blobs[place]),
+            None => None,
+        }
+    }
+
+    /// The paths of the files, in order.
+    pub fn paths(&self) -> &[Path]
+        ensures paths { result.now ≡ paths_of self.now }
+        ensures tree { IsTree self.now }
+    {
+        self.paths.as_slice()
+    }
+}

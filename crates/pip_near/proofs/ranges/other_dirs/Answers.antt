@@ -1,5 +1,0 @@
-use Rattle.pip_near.proofs.AtPaths.{others_are}
-use Rattle.pip_near.proofs.ranges.other_dirs.Goals as goal
-
-pub returns : goal.returns
-returns c = others_are c.args.dirs.now c.in_ok-all_others.field-0.items c.of.result c.in_ok-all_others.ensures c.of.ensures

@@ -1,9 +1,0 @@
-use Rattle.std.proofs.Common.{◌∙◌, sym}
-use Rattle.pip_order.specs.Orders.{described_alike, tied_processes}
-use Rattle.pip_order.proofs.descriptions.process_order.Goals as goal
-
-pub returns-clause-ties : goal.returns-clause-ties
-returns-clause-ties c = (
-  λ tie. tied_processes c.args.a.now c.args.b.now (sym c.compared.ensures ∙ tie),
-  λ same. c.compared.ensures ∙ described_alike c.args.a.now c.args.b.now same,
-)

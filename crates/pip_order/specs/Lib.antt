@@ -1,3 +1,0 @@
-pub mod Descriptions
-pub mod ProcessOrder
-pub mod Orders

@@ -1,3 +1,0 @@
-pub mod LeastUnseen
-pub mod Produced
-pub mod Producers

@@ -1,5 +1,0 @@
-use Rattle.own_writes.proofs.BelowByAtoms.{below_is}
-use Rattle.pip_outputs.proofs.producing.is_below.Goals as goal
-
-pub returns : goal.returns
-returns c = below_is c.args.path.now c.args.dir.now c.is_below.result c.is_below.ensures

@@ -1,4 +1,0 @@
-pub mod Digest
-pub mod AnswerLines
-pub mod Same
-pub mod Differ

@@ -1,3 +1,0 @@
-pub mod Collisions
-pub mod Digests
-pub mod Matches

@@ -1,8 +1,0 @@
-use Rattle.std.proofs.Common.{◌≡◌, ◌++◌, drop}
-use Rattle.std.specs.List.{filter_map}
-use Rattle.sdk_execute.specs.Execute.{written}
-use Rattle.sdk_execute.proofs.arguments.written_arguments.Given as goal
-
-abbrev pub invariant-arguments : goal.invariant-arguments
-invariant-arguments l =
-    l.texts.items ++ filter_map written (drop l.argument-index l.arguments) ≡ filter_map written l.arguments

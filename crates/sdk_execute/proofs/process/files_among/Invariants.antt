@@ -1,7 +1,0 @@
-use Rattle.std.proofs.Common.{◌≡◌, ◌++◌, drop}
-use Rattle.std.specs.List.{filter_map}
-use Rattle.sdk_execute.specs.Execute.{taken_file}
-use Rattle.sdk_execute.proofs.process.files_among.Given as goal
-
-abbrev pub invariant-inputs : goal.invariant-inputs
-invariant-inputs l = l.files.items ++ filter_map taken_file (drop l.input-index l.inputs) ≡ filter_map taken_file l.inputs

@@ -1,7 +1,0 @@
-use Rattle.pip_types.specs.Orders.{dir_cmp_total}
-use Rattle.sdk_execute.proofs.Orders.{equal_dirs}
-use Rattle.sdk_execute.proofs.Sets.{only_set}
-use Rattle.sdk_execute.proofs.process.set_of_directories.Goals as goal
-
-pub returns : goal.returns
-returns c = only_set dir_cmp_total c.args.dirs.items c.of.result (λ x y _ _. equal_dirs x y) c.of.ensures

@@ -1,7 +1,0 @@
-use Rattle.pip_types.specs.Orders.{outdir_cmp_total}
-use Rattle.sdk_execute.proofs.Orders.{equal_outdirs}
-use Rattle.sdk_execute.proofs.Sets.{only_set}
-use Rattle.sdk_execute.proofs.process.set_of_outdirs.Goals as goal
-
-pub returns : goal.returns
-returns c = only_set outdir_cmp_total c.args.dirs.items c.of.result (λ x y _ _. equal_outdirs x y) c.of.ensures

@@ -1,5 +1,0 @@
-use Rattle.sdk_members.proofs.LastAtoms.{IsLastDot}
-use Rattle.sdk_members.proofs.path_members.last_dot.Given as goal
-
-abbrev pub invariant-bytes : goal.invariant-bytes
-invariant-bytes l = IsLastDot l.bytes l.place l.last

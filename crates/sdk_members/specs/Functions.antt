@@ -1,8 +1,0 @@
--- Member functions.
-use Rattle.std.specs.Prelude.{List}
-use Rattle.dscript_value.specs.Plain.{Plain}
-use Rattle.sdk_values.specs.Outcomes.{Outcome}
-
--- what a member function comes to at its arguments
-abbrev pub MemberFunction : Type 0
-MemberFunction = List Plain → Outcome Plain

@@ -1,5 +1,0 @@
-use Rattle.store_meaning.proofs.Puts.{nothing_honest}
-use Rattle.store_meaning.proofs.laws.empty_is_honest.Goals as goal
-
-pub returns : goal.returns
-returns c = nothing_honest

@@ -1,4 +1,0 @@
-pub mod Reading
-pub mod Parts
-pub mod Lines
-pub mod Forms

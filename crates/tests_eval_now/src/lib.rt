@@ -1,6 +1,0 @@
-//! Tests of `eval_now`: that values are found at once. Where none is, evaluation goes its usual way and comes to the same, so
-//! that no build shows it.
-#![tactic(auto)]
-
-#[cfg(test)]
-mod tests;

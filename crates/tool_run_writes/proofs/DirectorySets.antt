@@ -1,0 +1,118 @@
+-- Sets of directories, and what was written below them or above them.
+use Rattle.std.proofs.Common.{◌≡◌, ℕ, ◌+◌, ◌<◌, Bool, true, false, ◌||◌, cond, List, [], ◌∷◌, ◌++◌, length, take, get_or, Option, Some, refl, ap, sym, ◌∙◌}
+use Rattle.std.specs.Prelude.{is_some}
+use Rattle.std.specs.BTreeMap.{insert_entry, is_at}
+use Rattle.std.specs.List.{list_any}
+use Rattle.std.specs.Map.{lookup}
+use Rattle.std.specs.Ordering.{match_ordering}
+use Rattle.std.specs.declared.cmp.Ordering.{Ordering}
+use Rattle.std.specs.declared.cmp.Ordering.TheVariants.{Less, Equal, Greater}
+use Rattle.std.proofs.lemmas.List.{take_more}
+use Rattle.bx_tree.specs.Paths.{Atoms, path_cmp, same_path}
+use Rattle.bx_tree.specs.Trees.{Files}
+use Rattle.bx_tree.specs.Orders.{equal_paths, path_cmp_matches}
+use Rattle.tool_run_writes.specs.Below.{is_below}
+use Rattle.tool_run_writes.specs.Writes.{clashes, has_below}
+
+-- ## Tests of lists
+
+pub any_append : {X : Type 0} (p : X → Bool) (xs : List X) (x : X) → list_any p (xs ++ x ∷ []) ≡ (list_any p xs || p x)
+any_append p [] x = last (p x)
+  where
+    last : (t : Bool) → (t || false) ≡ t
+    last true = refl
+    last false = refl
+any_append p (y ∷ ys) x = ap (λ t. p y || t) (any_append p ys x) ∙ grouped (p y) (list_any p ys) (p x)
+  where
+    grouped : (a b c : Bool) → (a || (b || c)) ≡ ((a || b) || c)
+    grouped true b c = refl
+    grouped false b c = refl
+
+either_later : (a b x y : Bool) → ((a || b) || (x || y)) ≡ ((a || x) || (b || y))
+either_later true b x y = refl
+either_later false true true y = refl
+either_later false true false y = refl
+either_later false false x y = refl
+
+any_either : {X : Type 0} (p q : X → Bool) (xs : List X) → list_any (λ x. p x || q x) xs ≡ (list_any p xs || list_any q xs)
+any_either p q [] = refl
+any_either p q (x ∷ xs) = ap (λ t. (p x || q x) || t) (any_either p q xs) ∙ either_later (p x) (q x) (list_any p xs) (list_any q xs)
+
+any_alike : {X : Type 0} (p q : X → Bool) (xs : List X) → ((x : X) → p x ≡ q x) → list_any p xs ≡ list_any q xs
+any_alike p q [] same = refl
+any_alike p q (x ∷ xs) same = ap (λ t. t || list_any p xs) (same x) ∙ ap (λ t. q x || t) (any_alike p q xs same)
+
+none_any : {X : Type 0} (xs : List X) → list_any (λ (x : X). false) xs ≡ false
+none_any [] = refl
+none_any (x ∷ xs) = none_any xs
+
+any_swap : {X Y : Type 0} (r : X → Y → Bool) (xs : List X) (ys : List Y) → list_any (λ x. list_any (r x) ys) xs ≡ list_any (λ y. list_any (λ x. r x y) xs) ys
+any_swap r [] ys = sym (none_any ys)
+any_swap r (x ∷ xs) ys = ap (λ t. list_any (r x) ys || t) (any_swap r xs ys) ∙ sym (any_either (r x) (λ y. list_any (λ z. r z y) xs) ys)
+
+-- ## A directory more in a set
+
+more_or : (t a old before now : Bool) → now ≡ cond t true before → before ≡ (a || old) → now ≡ ((a || t) || old)
+more_or true true old before now put so_far = put
+more_or true false old before now put so_far = put
+more_or false true old before now put so_far = put ∙ so_far
+more_or false false old before now put so_far = put ∙ so_far
+
+pub one_more : (above : List Atoms) (i : ℕ) (dir k q : Atoms) (old before now : Bool) → i < length above → dir ≡ get_or above i dir → k ≡ dir
+    → now ≡ cond (is_at (path_cmp k) q) true before → before ≡ (list_any (λ d. same_path d q) (take i above) || old)
+    → now ≡ (list_any (λ d. same_path d q) (take (i + 1) above) || old)
+one_more above i dir k q old before now l is key put so_far =
+    more_or (same_path dir q) (list_any (λ d. same_path d q) (take i above)) old before now
+    (put ∙ ap (λ (x : Atoms). cond (is_at (path_cmp x) q) true before) key ∙ ap (λ t. cond t true before) (sym (path_cmp_matches dir q)))
+    so_far
+    ∙ sym (ap (λ t. t || old) (ap (list_any (λ d. same_path d q)) (take_more above i dir l ∙ ap (λ (x : Atoms). take i above ++ x ∷ []) (sym is))
+    ∙ any_append (λ d. same_path d q) (take i above) dir))
+
+-- ## A file more
+
+pub either_twice : (a r : Bool) → (a || r) ≡ (a || (a || r))
+either_twice true r = refl
+either_twice false r = refl
+
+pub either_swapped : (a b r : Bool) → (a || (b || r)) ≡ (b || (a || r))
+either_swapped true true r = refl
+either_swapped true false r = refl
+either_swapped false b r = refl
+
+-- what lies below a directory after a file was put is the file, or what did before
+pub below_put : (files : Files) (path : Atoms) (bytes : List ℕ) (dir : Atoms) → has_below (insert_entry path_cmp files path bytes) dir ≡ (is_below path dir || has_below files dir)
+below_put [] path bytes dir = refl
+below_put (f ∷ fs) path bytes dir =
+    by_order (path_cmp path f.0) refl (insert_entry path_cmp fs path bytes) (below_put fs path bytes dir)
+  where
+    by_order : (o : Ordering) → path_cmp path f.0 ≡ o → (rest : Files) → has_below rest dir ≡ (is_below path dir || has_below fs dir)
+        → has_below (match_ordering o ((path, bytes) ∷ f ∷ fs) ((f.0, bytes) ∷ fs) (f ∷ rest)) dir ≡ (is_below path dir || (is_below f.0 dir || has_below fs dir))
+    by_order Less e rest h = refl
+    by_order Equal e rest h =
+        either_twice (is_below f.0 dir) (has_below fs dir)
+        ∙ ap (λ (p : Atoms). is_below p dir || (is_below f.0 dir || has_below fs dir)) (sym (equal_paths path f.0 e))
+    by_order Greater e rest h = ap (λ t. is_below f.0 dir || t) h ∙ either_swapped (is_below f.0 dir) (is_below path dir) (has_below fs dir)
+
+-- ## A file above
+
+found_some : {X : Type 0} (t : Bool) (x : X) (o : Option X) → is_some (cond t (Some x) o) ≡ (t || is_some o)
+found_some true x o = refl
+found_some false x o = refl
+
+pub found_any : (files : Files) (dir : Atoms) → is_some (lookup (is_at (path_cmp dir)) files) ≡ list_any (λ f. same_path dir f.0) files
+found_any [] dir = refl
+found_any (f ∷ fs) dir =
+    found_some (is_at (path_cmp dir) f.0) f.1 (lookup (is_at (path_cmp dir)) fs)
+    ∙ ap (λ t. t || is_some (lookup (is_at (path_cmp dir)) fs)) (sym (path_cmp_matches dir f.0))
+    ∙ ap (λ t. same_path dir f.0 || t) (found_any fs dir)
+
+-- a path lies below a file where one of its directories is a file
+pub file_above : (dirs : List Atoms) (files : Files) (path : Atoms) → ((q : Atoms) → list_any (λ d. same_path d q) dirs ≡ is_below path q)
+    → list_any (λ d. is_some (lookup (is_at (path_cmp d)) files)) dirs ≡ list_any (λ f. is_below path f.0) files
+file_above dirs files path all =
+    any_alike (λ d. is_some (lookup (is_at (path_cmp d)) files)) (λ d. list_any (λ f. same_path d f.0) files) dirs (found_any files)
+    ∙ any_swap (λ (d : Atoms) (f : Atoms × List ℕ). same_path d f.0) dirs files
+    ∙ any_alike (λ (f : Atoms × List ℕ). list_any (λ d. same_path d f.0) dirs) (λ f. is_below path f.0) files (λ f. all f.0)
+
+pub clash_is : (files : Files) (path : Atoms) → (has_below files path || list_any (λ f. is_below path f.0) files) ≡ clashes files path
+clash_is files path = sym (any_either (λ (f : Atoms × List ℕ). is_below f.0 path) (λ (f : Atoms × List ℕ). is_below path f.0) files)

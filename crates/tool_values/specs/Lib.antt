@@ -1,3 +1,0 @@
-pub mod Values
-pub mod Listings
-pub mod NameSets
