@@ -5,8 +5,10 @@
 //! `bundle_system` for its words, its messages and its folder of the system, on `bundle_folder` and on `bx_tree`.
 #![tactic(auto)]
 
-use bundle_system::{Command, SystemFolder, bundle_message, pack_message, read_words, unpack_message};
 use bundle_folder::{Replace, pack, unpack};
+use bundle_system::{
+    Command, SystemFolder, bundle_message, pack_message, read_words, unpack_message,
+};
 use bx_tree::{MAX_BUNDLE_BYTES, Tree, read_bundle};
 use std::alloc::{AllocError, Global};
 use std::env;

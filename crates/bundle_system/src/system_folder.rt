@@ -3,7 +3,9 @@
 ghost use Rattle.std.specs.Prelude.{◌≡◌, None, IfOk};
 ghost use Rattle.bx_io.specs.Causes.{counted};
 
-use bundle_folder::{Entry, Folder, FolderFault, Kind, ListFault, ReadFault, WriteFault, is_left_out};
+use bundle_folder::{
+    Entry, Folder, FolderFault, Kind, ListFault, ReadFault, WriteFault, is_left_out,
+};
 use bx_tree::{MAX_FILE_BYTES, MAX_PATH_BYTES, Path};
 use std::alloc::{AllocError, Global};
 use std::fs::{self, DirEntry, File, FileType, OpenFile};

@@ -18,8 +18,8 @@ use crate::reading::{ReadFault, read_all};
 use crate::response::{Response, respond};
 use crate::status::Status;
 use crate::writing::write_all;
-use bx_io::{Gate, Keeper, Sink, Source};
 use bx_engine_words::Order;
+use bx_io::{Gate, Keeper, Sink, Source};
 use std::alloc::Global;
 
 /// Writes the output, and then the notes.

@@ -5,8 +5,8 @@ ghost use Rattle.bx_engine.specs.Expected.{limits_of as limits_of_order};
 ghost use Rattle.bx_engine.specs.Stores.{uses_store};
 
 use bx_engine_front::Limits;
-use bx_tree::MAX_BUNDLE_BYTES;
 use bx_engine_words::Order;
+use bx_tree::MAX_BUNDLE_BYTES;
 
 /// How many bytes of the source a build reads at most: one more than a bundle may have, which shows that a
 /// longer input is too long.

@@ -9,8 +9,8 @@ ghost use Rattle.bx_engine.specs.Expected.{limits_of as limits_of_order};
 
 use crate::limits::limits_of;
 use bx_engine_front::{FrontEnd, FrontFault, plan_of};
-use bx_tree::Tree;
 use bx_engine_words::Order;
+use bx_tree::Tree;
 use std::alloc::Global;
 
 /// The plan that an order asks for of a tree of source files, or the first refusal. The pips of the plan keep

@@ -18,9 +18,9 @@ ghost use Rattle.bx_engine_front.specs.Projects.{paths_of_modules, project_files
 
 use bx_tree::{MAX_FILE_BYTES, Path, Tree, TreeFile};
 use dscript_ast::{File, Form};
-use dscript_program::{ModuleText, Place, SpecFault, SpecKind, Workspace};
 use dscript_names::Parsed;
 use dscript_parse::{ReadFault, read_file};
+use dscript_program::{ModuleText, Place, SpecFault, SpecKind, Workspace};
 use std::alloc::{AllocError, Global};
 
 /// Appends these paths.

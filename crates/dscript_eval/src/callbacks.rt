@@ -24,13 +24,16 @@ use crate::Memory;
 use crate::calls::{ambient, held_method, open_call};
 use crate::calls_now::call_at_once;
 use bx_tree::Text;
-use dscript_program::Ambient;
+use dscript_eval_frames::{
+    CallWork, Callback, Callbacks, Machine, Stop, Work, add_value, item_ref, push_item,
+    shared_items, stop_of,
+};
 use dscript_eval_meaning::EvalKind;
 use dscript_eval_operators::{add_items, callback, is_true, reduction};
-use dscript_value::{Callee, FunctionRef, Value, Values};
-use dscript_eval_frames::{CallWork, Callback, Callbacks, Machine, Stop, Work, add_value, item_ref, push_item, shared_items, stop_of};
+use dscript_program::Ambient;
 use dscript_sdk_members::Member;
 use dscript_sdk_values::grown_list;
+use dscript_value::{Callee, FunctionRef, Value, Values};
 use std::alloc::{AllocError, Global};
 
 // The item that is next; undefined if there is none.

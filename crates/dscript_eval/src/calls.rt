@@ -18,12 +18,14 @@ ghost use Rattle.dscript_value.specs.declared.parts.Callee.TheVariants as callee
 
 use crate::callbacks::callbacks;
 use bx_tree::Text;
-use dscript_program::{Ambient, Body, BoundExpr, Function};
+use dscript_eval_exprs::at_once;
+use dscript_eval_frames::{
+    CallWork, ExprWork, Frame, Machine, StmtWork, Stop, Use, Work, add_value, path_of, stop_of,
+};
 use dscript_eval_meaning::EvalKind;
+use dscript_program::{Ambient, Body, BoundExpr, Function};
 use dscript_sdk::{Site, call, is_callback, method};
 use dscript_value::{Callee, FunctionRef, Value};
-use dscript_eval_exprs::at_once;
-use dscript_eval_frames::{CallWork, ExprWork, Frame, Machine, StmtWork, Stop, Use, Work, add_value, path_of, stop_of};
 
 // The function that a value is, if it is one.
 fn function_in(value: &Value) -> Option<&FunctionRef>

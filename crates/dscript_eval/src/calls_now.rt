@@ -8,10 +8,10 @@ ghost use Rattle.dscript_eval.specs.AtOnce.{IsBodyGiven, IsCalled};
 ghost use Rattle.dscript_eval.specs.CallbackArgs.{args_of};
 
 use crate::callbacks::number_of;
+use dscript_eval_direct::{MAX_NESTING, value_now};
+use dscript_eval_frames::{Callback, Callbacks, Machine, item_ref};
 use dscript_program::{Body, BoundExpr, Function};
 use dscript_value::{Callee, Value};
-use dscript_eval_frames::{Callback, Callbacks, Machine, item_ref};
-use dscript_eval_direct::{MAX_NESTING, value_now};
 
 fn first_of(values: &[Value], count: usize) -> &[Value]
     ensures { map plain_of result.now ≡ take count (map plain_of values.now) }

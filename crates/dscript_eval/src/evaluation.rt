@@ -11,11 +11,13 @@ ghost use Rattle.dscript_eval_frames.specs.Views.{seen};
 use crate::Memory;
 use crate::running::run;
 use bx_tree::Tree;
+use dscript_eval_frames::{
+    Code, Frame, Machine, StmtWork, Stop, Work, all_waiting, codes_of, path_of,
+};
 use dscript_eval_meaning::{EvalFault, MAX_OPEN_CALLS};
 use dscript_program::Program;
 use dscript_sdk::SdkState;
 use dscript_value::Value;
-use dscript_eval_frames::{Code, Frame, Machine, StmtWork, Stop, Work, all_waiting, codes_of, path_of};
 use pip_model_types::PipList;
 use std::alloc::Global;
 

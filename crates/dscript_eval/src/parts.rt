@@ -15,12 +15,12 @@ ghost use Rattle.dscript_eval_frames.specs.declared.work.Work.TheVariants as wor
 
 use crate::calls::arguments;
 use bx_tree::Text;
+use dscript_eval_exprs::at_once;
+use dscript_eval_frames::{ExprWork, Machine, Stop, Use, Work};
 use dscript_eval_operators::index;
 use dscript_program::{BoundExpr, BoundPart};
 use dscript_sdk::{has_function, member};
 use dscript_value::Value;
-use dscript_eval_exprs::at_once;
-use dscript_eval_frames::{ExprWork, Machine, Stop, Use, Work};
 
 // The arguments of the first part and the other parts, if the first is a call.
 #[tactic(auto, using(dscript_program::proofs::NodeViews::bound_views))]

@@ -17,11 +17,13 @@ ghost use Rattle.dscript_eval_frames.specs.declared.work.Work.TheVariants as wor
 
 use crate::calls::leave;
 use crate::statements_now::statement_at_once;
+use dscript_eval_exprs::at_once;
+use dscript_eval_frames::{
+    ExprWork, Machine, StmtWork, Stop, Work, item_at, shared_items, stmt_cost, stop_of,
+};
 use dscript_eval_operators::is_true;
 use dscript_program::{BoundExpr, BoundStmt};
 use dscript_value::{Value, Values};
-use dscript_eval_exprs::at_once;
-use dscript_eval_frames::{ExprWork, Machine, StmtWork, Stop, Work, item_at, shared_items, stmt_cost, stop_of};
 
 // The statement after `else`, if there is one.
 fn other_of(other: &Option<Box<BoundStmt>>) -> Option<&BoundStmt>

@@ -6,10 +6,10 @@ ghost use Rattle.dscript_program.specs.Views.{expr_data, stmt_data};
 ghost use Rattle.dscript_eval_frames.specs.Views.{seen};
 ghost use Rattle.dscript_eval.specs.AtOnce.{IsPassed, bind_step, does_at, if_step};
 
+use dscript_eval_direct::{MAX_NESTING, value_now};
+use dscript_eval_frames::Machine;
 use dscript_eval_operators::is_true;
 use dscript_program::{BoundExpr, BoundStmt};
-use dscript_eval_frames::Machine;
-use dscript_eval_direct::{MAX_NESTING, value_now};
 
 // Binds a local to the value of an expression, where that needs no call.
 fn bound_at_once(machine: &mut Machine<'_>, local: u32, e: &BoundExpr) -> bool

@@ -13,11 +13,11 @@ ghost use Rattle.dscript_eval_frames.specs.Made.{object_answer};
 ghost use Rattle.dscript_eval_direct.specs.Now.{IsAtOnce, name_and_value};
 
 use bx_tree::Text;
+use dscript_eval_frames::{object_value, text_of};
 use dscript_eval_operators::index;
 use dscript_program::{BoundExpr, BoundProp, Target};
-use dscript_value::{Field, Value};
-use dscript_eval_frames::{object_value, text_of};
 use dscript_sdk_values::list_value;
+use dscript_value::{Field, Value};
 use std::alloc::Global;
 
 // A number, as a value.

@@ -10,9 +10,9 @@ ghost use Rattle.dscript_eval_direct.specs.Now.{GoesAtOnce, IsAtOnce};
 
 use crate::leaves::{flag_value, number_value};
 use dscript_ast::BinaryOp;
+use dscript_eval_frames::operand_parts;
 use dscript_program::{BoundExpr, BoundOperand, Target};
 use dscript_value::Value;
-use dscript_eval_frames::operand_parts;
 
 // Spends steps, if enough are left.
 fn spend(left: &mut u64, steps: u64) -> bool

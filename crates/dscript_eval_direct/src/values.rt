@@ -15,10 +15,10 @@ use crate::leaves::{
 use crate::numbers::numbers_now;
 use bx_tree::Text;
 use dscript_ast::BinaryOp;
+use dscript_eval_frames::{element_parts, operand_parts};
 use dscript_eval_operators::{is_settled, is_true, operate};
 use dscript_program::{BoundElement, BoundExpr, BoundOperand, BoundPart, BoundProp};
 use dscript_value::{Field, Value};
-use dscript_eval_frames::{element_parts, operand_parts};
 use std::alloc::Global;
 
 /// How deep expressions may be nested that are evaluated at once.

@@ -12,12 +12,14 @@ ghost use Rattle.dscript_eval_frames.specs.declared.work.Work.TheVariants as wor
 use crate::given::at_once;
 use crate::names::name_value;
 use bx_tree::Text;
+use dscript_eval_direct::named_parts;
+use dscript_eval_frames::{
+    ExprWork, Machine, Stop, Work, add_field, element_parts, object_value, push_item, stop_of,
+};
 use dscript_eval_operators::{add_fields, add_items};
 use dscript_program::{BoundElement, BoundExpr, BoundProp, Target};
-use dscript_value::{Field, GrowingList};
-use dscript_eval_frames::{ExprWork, Machine, Stop, Work, add_field, element_parts, object_value, push_item, stop_of};
-use dscript_eval_direct::named_parts;
 use dscript_sdk_values::grown_list;
+use dscript_value::{Field, GrowingList};
 
 /// The elements of a list.
 pub fn begin_list<'a>(machine: &mut Machine<'a>, es: &'a [BoundElement]) -> Result<(), Stop>

@@ -13,9 +13,11 @@ ghost use Rattle.dscript_eval_frames.specs.Works.{decls_of};
 ghost use Rattle.dscript_eval_frames.specs.declared.work.StmtWork.TheVariants as stmt;
 ghost use Rattle.dscript_eval_frames.specs.declared.work.Work.TheVariants as works;
 
+use dscript_eval_frames::{
+    ExprWork, Frame, Machine, Status, StmtWork, Stop, Work, const_at, set_status, status_at,
+};
 use dscript_eval_meaning::EvalKind;
 use dscript_program::{BoundDecl, BoundExpr, BoundFile, DeclKind};
-use dscript_eval_frames::{ExprWork, Frame, Machine, Status, StmtWork, Stop, Work, const_at, set_status, status_at};
 
 // The file with this number, if there is one.
 fn file_in(files: &[BoundFile], file: u32) -> Option<&BoundFile>

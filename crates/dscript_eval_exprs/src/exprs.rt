@@ -17,10 +17,12 @@ use crate::literals::{begin_literal, begin_path};
 use crate::names::{arrow_value, name_value};
 use bx_tree::Text;
 use dscript_ast::{BinaryOp, PathKind, UnaryOp};
+use dscript_eval_frames::{
+    ExprWork, Literal, Machine, Stop, Work, expr_cost, operand_parts, text_of,
+};
 use dscript_eval_operators::{is_settled, is_true, operate, with_prefixes};
 use dscript_program::{BoundExpr, BoundHole, BoundOperand, BoundPart};
 use dscript_value::Value;
-use dscript_eval_frames::{ExprWork, Literal, Machine, Stop, Work, expr_cost, operand_parts, text_of};
 
 /// Evaluates an expression.
 pub fn eval<'a>(machine: &mut Machine<'a>, e: &'a BoundExpr) -> Result<(), Stop>

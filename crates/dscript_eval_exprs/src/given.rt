@@ -4,9 +4,9 @@ ghost use Rattle.dscript_program.specs.Views.{expr_data};
 ghost use Rattle.dscript_eval_frames.specs.Views.{seen};
 ghost use Rattle.dscript_eval_exprs.specs.AtOnce.{IsGiven};
 
-use dscript_program::BoundExpr;
-use dscript_eval_frames::Machine;
 use dscript_eval_direct::{MAX_NESTING, value_now};
+use dscript_eval_frames::Machine;
+use dscript_program::BoundExpr;
 
 /// Gives the value of an expression, where that needs no call. Otherwise nothing changes.
 pub fn at_once(machine: &mut Machine<'_>, e: &BoundExpr) -> bool

@@ -19,14 +19,16 @@ use crate::Memory;
 use crate::given::at_once;
 use bx_tree::{Path, Text};
 use dscript_ast::PathKind;
+use dscript_eval_frames::{
+    ExprWork, Literal, Machine, Stop, Work, directory_of, hole_parts, path_of, stop_of,
+};
 use dscript_eval_operators::{
     add_first_hole, add_literal_hole, add_template_hole, atom_literal, path_literal,
     relative_literal,
 };
 use dscript_program::BoundHole;
-use dscript_value::Value;
-use dscript_eval_frames::{ExprWork, Literal, Machine, Stop, Work, directory_of, hole_parts, path_of, stop_of};
 use dscript_sdk_values::{SdkFault, text_value};
+use dscript_value::Value;
 use std::alloc::Global;
 
 fn add_hole(

@@ -15,10 +15,10 @@ ghost use Rattle.dscript_eval_frames.specs.Views.{seen};
 
 use crate::Memory;
 use crate::constants::constant_value;
+use dscript_eval_frames::{Machine, Stop, function_at, kind_at};
 use dscript_eval_meaning::EvalKind;
 use dscript_program::{DeclKind, Target};
 use dscript_value::{Value, ambient_function};
-use dscript_eval_frames::{Machine, Stop, function_at, kind_at};
 
 /// The value of a name.
 pub fn name_value(machine: &mut Machine<'_>, target: Target) -> Result<(), Stop>

@@ -8,8 +8,8 @@ ghost use Rattle.dscript_eval_frames.specs.ItemsFrom.{IsItemFrom};
 
 use crate::Memory;
 use bx_tree::Text;
-use dscript_value::{Field, GrowingList, Value, Values};
 use dscript_sdk_values::SdkFault;
+use dscript_value::{Field, GrowingList, Value, Values};
 
 /// The items of a list, shared.
 pub fn shared_items(value: &Value) -> Result<Values, SdkFault>

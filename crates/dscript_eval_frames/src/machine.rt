@@ -9,15 +9,15 @@ ghost use Rattle.dscript_eval_frames.specs.Views.{seen};
 ghost use Rattle.dscript_eval_frames.specs.Steps.{Spent, Unspent};
 ghost use Rattle.dscript_eval_frames.specs.declared.stop.Stop.TheVariants as stops;
 
+use crate::code::Code;
+use crate::frame::Frame;
+use crate::status::Status;
 use crate::stop::Stop;
 use crate::work::Work;
 use dscript_eval_meaning::EvalKind;
 use dscript_program::Program;
 use dscript_sdk::SdkState;
 use dscript_value::Value;
-use crate::code::Code;
-use crate::frame::Frame;
-use crate::status::Status;
 use std::alloc::Global;
 use std::mem;
 

@@ -7,9 +7,9 @@ ghost use Rattle.dscript_sdk_values.specs.Answers.{function_answer, text_answer}
 ghost use Rattle.dscript_eval_frames.specs.Made.{Answers, object_answer};
 
 use bx_tree::{Path, PathFault, Text};
-use dscript_value::{DepthFault, Field, Value, object_of, place_function};
 use dscript_sdk_members::parent_of;
 use dscript_sdk_values::{MAX_TEXT_BYTES, SdkFault};
+use dscript_value::{DepthFault, Field, Value, object_of, place_function};
 use std::alloc::Global;
 
 /// A text, which must be short enough.

@@ -12,8 +12,8 @@ ghost use Rattle.dscript_eval_frames.specs.declared.work.Work.TheVariants as wor
 use crate::machine::Machine;
 use crate::stop::Stop;
 use dscript_eval_meaning::EvalKind;
-use dscript_value::Value;
 use dscript_sdk_values::SdkFault;
+use dscript_value::Value;
 
 /// A fault in a file.
 pub fn stop_of(fault: SdkFault, file: u32) -> Stop

@@ -2,13 +2,13 @@
 ghost use Rattle.std.specs.Prelude.{◌≡◌, []};
 ghost use Rattle.dscript_value.specs.Grown.{grown_items};
 
+use crate::frame::Frame;
 use bx_tree::{Path, Text};
 use dscript_ast::{BinaryOp, PathKind, UnaryOp};
 use dscript_program::{
     BoundElement, BoundExpr, BoundHole, BoundOperand, BoundPart, BoundProp, BoundStmt,
 };
 use dscript_value::{Field, FunctionRef, GrowingList, Value, Values};
-use crate::frame::Frame;
 use std::alloc::Global;
 
 /// What is to be done next.

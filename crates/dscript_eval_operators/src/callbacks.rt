@@ -3,8 +3,8 @@ ghost use Rattle.std.specs.Prelude.{◌≡◌, Ok, Err, map, MatchResult};
 ghost use Rattle.dscript_value.specs.Plain.{item_list, plain_function, plain_of};
 ghost use Rattle.dscript_eval_operators.specs.CallbackArguments.{callback_in, function_in, reduction_in};
 
-use dscript_value::{FunctionRef, Value};
 use dscript_sdk_values::{SdkFault, first_argument, two_arguments};
+use dscript_value::{FunctionRef, Value};
 
 fn read_function(value: &Value) -> Result<&FunctionRef, SdkFault>
     ensures { MatchResult result

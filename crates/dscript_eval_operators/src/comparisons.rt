@@ -4,8 +4,8 @@ ghost use Rattle.dscript_value.specs.Plain.{plain_of};
 ghost use Rattle.dscript_eval_operators.specs.Comparisons as spec;
 
 use crate::numbers::read_number;
-use dscript_value::Value;
 use dscript_sdk_values::SdkFault;
+use dscript_value::Value;
 
 // `<`
 #[tactic(auto, unfolding(crate::specs::Comparisons::is_less))]

@@ -3,8 +3,8 @@ ghost use Rattle.std.specs.Prelude.{◌≡◌, Ok, Err, MatchResult};
 ghost use Rattle.dscript_value.specs.Plain.{plain_of};
 ghost use Rattle.dscript_eval_operators.specs.Equalities as spec;
 
-use dscript_value::{NoOrder, Value, equal};
 use dscript_sdk_values::SdkFault;
+use dscript_value::{NoOrder, Value, equal};
 
 // `===`
 #[tactic(auto, unfolding(crate::specs::Equalities::is_equal))]

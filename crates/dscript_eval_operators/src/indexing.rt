@@ -8,8 +8,8 @@ ghost use Rattle.dscript_eval_operators.specs.Indexing.{indexed, item_at};
 
 use crate::Memory;
 use bx_tree::Text;
-use dscript_value::{Fields, Value, Values};
 use dscript_sdk_values::SdkFault;
+use dscript_value::{Fields, Value, Values};
 
 fn item(items: &Values, number: i32) -> Result<Value, SdkFault>
     ensures { MatchResult result

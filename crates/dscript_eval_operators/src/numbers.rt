@@ -4,8 +4,8 @@ ghost use Rattle.dscript_value.specs.Plain.{plain_of};
 ghost use Rattle.dscript_eval_operators.specs.Numbers.{difference_of, integer_answer, negative_of, number_in};
 ghost use Rattle.dscript_eval_operators.specs.Numbers.{product_of};
 
-use dscript_value::Value;
 use dscript_sdk_values::SdkFault;
+use dscript_value::Value;
 
 // The number that a value is.
 pub(crate) fn read_number(value: &Value) -> Result<i32, SdkFault>

@@ -11,8 +11,8 @@ use crate::numbers::{difference, negative, product};
 use crate::sums::sum;
 use crate::truth::is_true;
 use dscript_ast::{BinaryOp, UnaryOp};
-use dscript_value::Value;
 use dscript_sdk_values::SdkFault;
+use dscript_value::Value;
 use std::alloc::Global;
 
 /// Whether the left operand is the answer, so that the right one is not evaluated: that of `&&` where it

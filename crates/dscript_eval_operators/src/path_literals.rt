@@ -9,8 +9,8 @@ use crate::texts::{add_literal_hole, file_path};
 use bx_path::join;
 use bx_tree::{FileInput, Path, PathFault};
 use dscript_ast::PathKind;
-use dscript_value::Value;
 use dscript_sdk_values::SdkFault;
+use dscript_value::Value;
 use std::alloc::Global;
 
 // The base that a hole at the start of a literal gives, if it gives one.

@@ -9,8 +9,8 @@ ghost use Rattle.bx_tree.specs.Lent.{texts_now};
 
 use crate::Memory;
 use bx_tree::{Text, is_atom};
-use dscript_value::{RelativePath, Value};
 use dscript_sdk_values::SdkFault;
+use dscript_value::{RelativePath, Value};
 use std::alloc::Global;
 
 // The parts of a text between its `/`.

@@ -6,8 +6,8 @@ ghost use Rattle.dscript_sdk_values.specs.Outcomes.{Refuses};
 ghost use Rattle.dscript_eval_operators.specs.Spreads.{with_fields_of, with_items_of};
 
 use crate::Memory;
-use dscript_value::{Field, GrowingList, Value};
 use dscript_sdk_values::{MAX_LIST_ITEMS, SdkFault, read_values};
+use dscript_value::{Field, GrowingList, Value};
 use std::alloc::Global;
 
 /// Adds the items of a list to some items, which together must be few enough.

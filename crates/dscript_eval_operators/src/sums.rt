@@ -8,8 +8,8 @@ ghost use Rattle.dscript_eval_operators.specs.Sums.{sum_of};
 use crate::numbers::add_numbers;
 use crate::texts::number_text;
 use bx_tree::Text;
-use dscript_value::Value;
 use dscript_sdk_values::{SdkFault, text_value};
+use dscript_value::Value;
 use std::alloc::Global;
 
 // The sum of a number and what follows it.

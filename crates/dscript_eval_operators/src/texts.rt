@@ -10,8 +10,8 @@ ghost use Rattle.dscript_sdk_values.specs.PathTexts.{path_argument};
 
 use crate::Memory;
 use bx_tree::{FileInput, Path, Text};
-use dscript_value::Value;
 use dscript_sdk_values::SdkFault;
+use dscript_value::Value;
 use std::alloc::Global;
 
 // A number as decimal digits.

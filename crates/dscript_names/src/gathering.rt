@@ -19,8 +19,8 @@ use crate::repeats::blocks_repeat;
 use crate::seen::{either, has_repeat};
 use bx_tree::{Memory, Path};
 use dscript_ast::{File, Item};
-use dscript_program::{SpecFault, SpecKind, Workspace};
 use dscript_names_scopes::{DottedName, FileNames};
+use dscript_program::{SpecFault, SpecKind, Workspace};
 use std::alloc::Global;
 use std::collections::BTreeMap;
 

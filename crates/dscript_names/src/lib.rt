@@ -23,7 +23,10 @@ mod resolving;
 mod seen;
 
 pub use counting_laws::{counts_are_bounded, program_counts_are_bounded};
-pub use dscript_program::{BoundDecl, BoundExpr, BoundFile, BoundStmt, ModuleText, Program, SpecFault, SpecKind, Target, Workspace};
+pub use dscript_program::{
+    BoundDecl, BoundExpr, BoundFile, BoundStmt, ModuleText, Program, SpecFault, SpecKind, Target,
+    Workspace,
+};
 pub use laws::{captures_are_outer, locals_are_consecutive, one_meaning, some_meaning};
 pub use parsed::Parsed;
 pub use resolving::resolve;

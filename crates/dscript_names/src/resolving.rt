@@ -15,8 +15,8 @@ use crate::parsed::Parsed;
 use bx_tree::{Memory, Path, Text};
 use dscript_ast::{File, Item};
 use dscript_names_binding::{Binder, Scene, Walker};
-use dscript_program::{BoundFile, ModuleText, Program, SpecFault, Workspace};
 use dscript_names_scopes::{FileNames, Scopes, Site, Stop, World};
+use dscript_program::{BoundFile, ModuleText, Program, SpecFault, Workspace};
 use std::alloc::{AllocError, Global};
 
 /// The names of modules.

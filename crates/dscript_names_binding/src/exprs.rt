@@ -20,10 +20,10 @@ use crate::scene::Scene;
 use crate::walker::Walker;
 use bx_tree::{Memory, Text};
 use dscript_ast::{ArrowHead, Element, Expr, Hole, Operand, PostfixPart, Prop, Stmt};
+use dscript_names_scopes::Stop;
 use dscript_program::{
     Body, BoundElement, BoundExpr, BoundHole, BoundOperand, BoundPart, BoundProp,
 };
-use dscript_names_scopes::Stop;
 use std::alloc::Global;
 
 /// An expression with the parts after it, if any.

@@ -12,8 +12,8 @@ use crate::scene::Scene;
 use crate::walker::Walker;
 use bx_tree::Memory;
 use dscript_ast::Param;
-use dscript_program::{Body, Function};
 use dscript_names_scopes::Local;
+use dscript_program::{Body, Function};
 use std::alloc::{AllocError, Global};
 use std::collections::BTreeSet;
 

@@ -16,8 +16,8 @@ use crate::scene::Scene;
 use crate::walker::Walker;
 use bx_tree::Text;
 use dscript_ast::{Expr, LoopKind, Param, Stmt};
-use dscript_program::{Body, BoundExpr, BoundStmt};
 use dscript_names_scopes::Stop;
+use dscript_program::{Body, BoundExpr, BoundStmt};
 
 impl Walker {
     /// Resolves the names in a statement.

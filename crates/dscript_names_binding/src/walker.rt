@@ -12,8 +12,8 @@ ghost use Rattle.dscript_names_binding.specs.Walked.{Walked, Walks};
 use crate::scene::Scene;
 use bx_tree::{Memory, Text};
 use dscript_ast::PostfixPart;
-use dscript_program::{Function, Target};
 use dscript_names_scopes::{Block, Found, Local, Scopes, Stop, found_at};
+use dscript_program::{Function, Target};
 
 /// Where a walk is, and what it has gathered.
 #[derive(Drop)]

@@ -11,10 +11,10 @@ ghost use Rattle.dscript_names_workspace.specs.Lists.{concat_if_all};
 ghost use Rattle.dscript_names_workspace.specs.Paths.{AreWithin, is_module_file as names_module, paths_at};
 ghost use Rattle.dscript_names_workspace.specs.ConfigViews.{FindsPlaces, FindsPositions, item_tree, item_trees};
 
-use crate::listed_files::files_listed;
 use crate::gathering::{gathered, in_order};
 use crate::glob_call::listed_by;
 use crate::list::{ListItem, push_items};
+use crate::listed_files::files_listed;
 use crate::literal::string;
 use crate::object::{field_named, object_with};
 use crate::paths::{is_module_file, path_at};

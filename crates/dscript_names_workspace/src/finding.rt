@@ -15,14 +15,14 @@ ghost use Rattle.dscript_names_workspace.specs.ModuleFiles.{files_data};
 ghost use Rattle.dscript_names_workspace.specs.Views.{Answers, IsRefused};
 ghost use Rattle.dscript_names_workspace.specs.Workspaces.{Found, Refused, answer_of as answer_among};
 
+use crate::config::configured;
 use crate::module_file::{ModuleFile, file_fault, modules_in, name_fault};
 use crate::module_reading::{paths_at, read_modules};
 use bx_path::join;
 use bx_tree::{MAX_FILE_BYTES, Path, PathFault, Text, Tree};
 use dscript_ast::{Expr, File, Form};
-use crate::config::configured;
-use dscript_program::{Fault, ModuleText, Place, SpecFault, SpecKind, Workspace};
 use dscript_parse::{ReadFault, read_file};
+use dscript_program::{Fault, ModuleText, Place, SpecFault, SpecKind, Workspace};
 use std::alloc::{AllocError, Global};
 
 /// The file of this name at the root.

@@ -12,8 +12,8 @@ ghost use Rattle.dscript_names_workspace.specs.Paths.{AreWithin, paths_at};
 ghost use Rattle.dscript_names_workspace.specs.ConfigViews.{FindsPositions, Describes, IsProjects};
 ghost use Rattle.dscript_ast.specs.Literals.{name_of};
 
-use crate::listed_files::files_listed;
 use crate::gathering::in_order;
+use crate::listed_files::files_listed;
 use crate::literal::{only_part, string};
 use crate::object::{field_named, object_with};
 use crate::paths::{is_below, is_specification, path_at};

@@ -18,13 +18,13 @@ ghost use Rattle.dscript_names_workspace.specs.PathSets.{files_in};
 ghost use Rattle.dscript_names_workspace.specs.Workspaces.{Faulty, configuration_fault as fault_of_module};
 
 use crate::membership::{dir_of, implied_files};
+use crate::module::{Description, described};
 use crate::module_file::{ModuleFile, fault_in};
+use crate::paths::path_at;
 use bx_tree::{MAX_FILE_BYTES, Path, Tree};
 use dscript_ast::{Expr, File, Form};
-use crate::module::{Description, described};
-use crate::paths::path_at;
-use dscript_program::{Fault, ModuleText, Place, SpecKind};
 use dscript_parse::{ReadFault, read_file};
+use dscript_program::{Fault, ModuleText, Place, SpecKind};
 use std::alloc::{AllocError, Global};
 use std::collections::BTreeMap;
 

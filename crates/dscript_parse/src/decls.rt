@@ -13,7 +13,10 @@ use bx_tree::Text;
 use dscript_ast::{Decl, Mark, Marked, TypeNode};
 use dscript_lex::Token;
 use dscript_parse_exprs::{block, note, params, value};
-use dscript_parse_tokens::{Depth, Parse, Parsed, body, closed, dotted, higher, identifier, keyword, names, punctuator, take_keyword, take_punctuator, type_list, type_node, until};
+use dscript_parse_tokens::{
+    Depth, Parse, Parsed, body, closed, dotted, higher, identifier, keyword, names, punctuator,
+    take_keyword, take_punctuator, type_list, type_node, until,
+};
 use std::alloc::Global;
 
 /// Who may see the declaration that follows.

@@ -5,13 +5,13 @@ ghost use Rattle.dscript_ast.specs.Views.{file_tree};
 ghost use Rattle.dscript_parse.specs.Reading.{HasNoTokens, IsFile, IsNoFile};
 ghost use Rattle.dscript_parse.specs.ReadFaults.{Refuses};
 
-use crate::read_fault::ReadFault;
+use crate::fault::SyntaxFault;
+use crate::parsing::parse;
 use crate::place::{place_at, start_of};
+use crate::read_fault::ReadFault;
 use bx_tree::MAX_FILE_BYTES;
 use dscript_ast::{File, Form};
 use dscript_lex::{LexFault, lex};
-use crate::fault::SyntaxFault;
-use crate::parsing::parse;
 use std::alloc::Global;
 
 /// The file of this form that a text is, or the first fault with its place: that of the lexer, or, where

@@ -22,7 +22,10 @@ use dscript_ast::{
     ArrowHead, Expr, LoopKind, Operand, Param, PostfixPart, Stmt, TypeNode, UnaryOp, precedence,
 };
 use dscript_lex::{Token, TokenKind};
-use dscript_parse_tokens::{Depth, Parse, Parsed, Refusal, at_punctuator, flag, higher, identifier, is_text, list, many, node, punctuator, take_punctuator, type_node};
+use dscript_parse_tokens::{
+    Depth, Parse, Parsed, Refusal, at_punctuator, flag, higher, identifier, is_text, list, many,
+    node, punctuator, take_punctuator, type_node,
+};
 use std::alloc::Global;
 
 /// The type after a colon, if there is one.

@@ -19,6 +19,9 @@ pub use laws::names_are_derived;
 pub use lists::{closed, dotted, list, many, names, separated, until};
 pub use parsed::{Parse, Parsed, Refusal, higher, node};
 pub use syntax::Syntax;
-pub use tokens::{at_identifier, at_punctuator, flag, identifier, is_text, keyword, name, punctuator, string, string_at, take_keyword, take_punctuator};
+pub use tokens::{
+    at_identifier, at_punctuator, flag, identifier, is_text, keyword, name, punctuator, string,
+    string_at, take_keyword, take_punctuator,
+};
 pub use type_laws::{bodies_are_derived, rows_of_types_are_derived, types_are_derived};
 pub use types::{body, type_list, type_node};

@@ -13,13 +13,15 @@ ghost use Rattle.dscript_grammar.specs.Reading.{read_separated};
 ghost use Rattle.dscript_ast.specs.TypeTree.{to_types};
 ghost use Rattle.dscript_ast.specs.Views.{type_tree, member_tree, field_tree};
 
-use bx_tree::Text;
-use dscript_ast::{Field, Member, TypeNode};
-use dscript_lex::{Token, TokenKind};
 use crate::depth::Depth;
 use crate::lists::{dotted, list, separated, until};
 use crate::parsed::{Parse, Parsed, Refusal, higher, node};
-use crate::tokens::{at_identifier, at_punctuator, flag, identifier, is_text, name, punctuator, take_punctuator};
+use crate::tokens::{
+    at_identifier, at_punctuator, flag, identifier, is_text, name, punctuator, take_punctuator,
+};
+use bx_tree::Text;
+use dscript_ast::{Field, Member, TypeNode};
+use dscript_lex::{Token, TokenKind};
 use std::alloc::Global;
 
 /// Whether the tokens begin with the parameters of a function type, and not with a type.

@@ -17,7 +17,9 @@ mod target;
 mod workspace;
 
 pub use ambient::Ambient;
-pub use bound::{Body, BoundElement, BoundExpr, BoundHole, BoundOperand, BoundPart, BoundProp, BoundStmt};
+pub use bound::{
+    Body, BoundElement, BoundExpr, BoundHole, BoundOperand, BoundPart, BoundProp, BoundStmt,
+};
 pub use place::Place;
 pub use program::{BoundDecl, BoundFile, DeclKind, Function, Namespace, Program};
 pub use spec_fault::{Fault, SpecFault, SpecKind};

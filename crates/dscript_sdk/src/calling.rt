@@ -5,7 +5,6 @@ ghost use Rattle.dscript_sdk.specs.Calls.{call_of};
 ghost use Rattle.dscript_value.specs.Plain.{plain_of};
 
 use dscript_program::Ambient;
-use dscript_value::Value;
 use dscript_sdk_calls::{
     artifact_input, artifact_none, artifact_output, cmd_argument, cmd_flag, cmd_option,
     contract_assert, contract_fail, glob_files,
@@ -16,6 +15,7 @@ use dscript_sdk_pips::{
     seal_source_directory, write_all_lines, write_all_text,
 };
 use dscript_sdk_values::SdkFault;
+use dscript_value::Value;
 use std::alloc::Global;
 
 /// What an ambient call gives at its arguments, or its first fault. A fault leaves the state as it was.

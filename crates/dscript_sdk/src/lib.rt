@@ -13,6 +13,6 @@ mod static_members;
 
 pub use calling::call;
 pub use dscript_program::Ambient;
-pub use membership::{has_function, is_callback, member, method};
 pub use dscript_sdk_pips::{MAX_NUMBERED_PIPS, SdkState, Site};
 pub use dscript_sdk_values::SdkFault;
+pub use membership::{has_function, is_callback, member, method};

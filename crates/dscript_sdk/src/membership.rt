@@ -23,7 +23,6 @@ ghost use Rattle.dscript_value.specs.Plain.{Plain, plain_of};
 use crate::process_members::call_process;
 use crate::static_members::{call_static, member_of_static};
 use bx_tree::Text;
-use dscript_value::{DepthFault, StaticDir, Value, member_of as function_of};
 use dscript_sdk_calls::file_path;
 use dscript_sdk_members::{
     Member, call_directory, call_list, call_path, call_text, member_of_file, member_of_list,
@@ -31,6 +30,7 @@ use dscript_sdk_members::{
 };
 use dscript_sdk_pips::SdkState;
 use dscript_sdk_values::SdkFault;
+use dscript_value::{DepthFault, StaticDir, Value, member_of as function_of};
 use std::alloc::Global;
 
 fn call_function(

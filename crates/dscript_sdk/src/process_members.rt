@@ -14,11 +14,11 @@ ghost use Rattle.dscript_sdk.specs.ProcessMembers.{output_file as declared_file,
 ghost use Rattle.dscript_value.specs.Plain.{plain_of};
 
 use bx_tree::{FileInput, Path};
-use dscript_value::{StaticDir, Value};
-use pip_model_types::{OutDir, Outputs, Pip, PipKind};
 use dscript_sdk_members::Member;
 use dscript_sdk_pips::SdkState;
 use dscript_sdk_values::{SdkFault, first_argument, read_directory, read_path};
+use dscript_value::{StaticDir, Value};
+use pip_model_types::{OutDir, Outputs, Pip, PipKind};
 
 fn has_output(outs: &Outputs, path: &Path) -> bool
     ensures { result ≡ list_any (same_path path.now) outs.now }

@@ -15,12 +15,12 @@ ghost use Rattle.bx_tree.specs.FileInputs.{input_path};
 
 use crate::process_members::pip_at;
 use bx_tree::{FileInput, Memory, Path, Tree};
-use dscript_value::{StaticDir, Value};
-use pip_model_types::{PipKind, SealDesc, SealForm};
 use dscript_sdk_calls::{file_path, find_below, find_directly_in, static_path};
 use dscript_sdk_members::Member;
 use dscript_sdk_pips::SdkState;
 use dscript_sdk_values::{SdkFault, first_argument, list_value, read_path, share_file};
+use dscript_value::{StaticDir, Value};
+use pip_model_types::{PipKind, SealDesc, SealForm};
 use std::alloc::Global;
 
 // Files like these.

@@ -11,8 +11,8 @@ ghost use Rattle.dscript_value.specs.Plain.{plain_of};
 
 use crate::paths::file_path;
 use bx_tree::FileInput;
-use dscript_value::{Artifact, Value};
 use dscript_sdk_values::{FromValue, SdkFault, first_argument};
+use dscript_value::{Artifact, Value};
 use std::alloc::Global;
 
 fn input(alloc: Global, value: &Value) -> Result<Value, SdkFault>

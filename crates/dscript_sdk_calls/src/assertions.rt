@@ -6,8 +6,8 @@ ghost use Rattle.dscript_sdk_calls.specs.ContractFail as failures;
 ghost use Rattle.dscript_value.specs.Plain.{plain_of};
 
 use bx_tree::Text;
-use dscript_value::Value;
 use dscript_sdk_values::{FromValue, SdkFault, first_argument, read_flag, two_arguments};
+use dscript_value::Value;
 use std::alloc::Global;
 
 /// Always refuses, with a message.

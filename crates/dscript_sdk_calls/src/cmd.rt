@@ -14,8 +14,8 @@ ghost use Rattle.dscript_sdk_values.specs.PathTexts.{path_argument};
 
 use crate::paths::{artifact_path, file_path, path_bytes};
 use bx_tree::{Memory, Path, Text};
-use dscript_value::{Argument, Artifact, Value};
 use dscript_sdk_values::{FromValue, MAX_TEXT_BYTES, SdkFault, first_argument, two_arguments};
+use dscript_value::{Argument, Artifact, Value};
 use std::alloc::Global;
 
 // A text with the one that follows it, if both together are short enough.

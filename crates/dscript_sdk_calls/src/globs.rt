@@ -9,8 +9,8 @@ ghost use Rattle.dscript_value.specs.Plain.{plain_of};
 
 use crate::sources::find_files;
 use bx_tree::{FileInput, Memory, Path, Tree};
-use dscript_value::Value;
 use dscript_sdk_values::{SdkFault, list_value, read_directory, read_text, two_arguments};
+use dscript_value::Value;
 use std::alloc::Global;
 
 // Source files as values, in their order.

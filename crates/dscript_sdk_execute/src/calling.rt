@@ -12,10 +12,10 @@ use crate::clashes::unless_clashing;
 use crate::process::process_of;
 use crate::request::read_request;
 use bx_tree::Path;
-use dscript_value::Value;
-use pip_model_types::{Pip, PipKind, ProcessDesc};
 use dscript_sdk_pips::{SdkState, Site};
 use dscript_sdk_values::SdkFault;
+use dscript_value::Value;
+use pip_model_types::{Pip, PipKind, ProcessDesc};
 use std::alloc::Global;
 
 // The process that the arguments of a call in a file ask for.

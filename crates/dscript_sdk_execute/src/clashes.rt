@@ -10,8 +10,8 @@ ghost use Rattle.dscript_sdk_execute.specs.Execute.{clashes_console as console_c
 ghost use Rattle.dscript_sdk_execute.specs.Execute.{shares_exclusive as any_shares, unless_clashing as unless_clash};
 
 use bx_tree::{Memory, Path};
-use pip_model_types::{OutDir, OutDirs, Outputs, ProcessDesc};
 use dscript_sdk_values::SdkFault;
+use pip_model_types::{OutDir, OutDirs, Outputs, ProcessDesc};
 
 // Whether a directory is one of some, which rise.
 fn has_directory(dirs: &[OutDir], dir: &OutDir) -> bool

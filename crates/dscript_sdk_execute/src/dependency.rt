@@ -2,8 +2,8 @@
 ghost use Rattle.dscript_sdk_execute.specs.ExecuteObject.{dependency_in};
 
 use bx_tree::FileInput;
-use dscript_value::{StaticDir, Value};
 use dscript_sdk_values::{FromValue, SdkFault, share_file};
+use dscript_value::{StaticDir, Value};
 use std::alloc::Global;
 
 /// A file or a static directory that a process takes.

@@ -7,9 +7,9 @@ ghost use Rattle.dscript_sdk_values.specs.Outcomes.{Refuses};
 ghost use Rattle.dscript_sdk_execute.specs.ExecuteObject.{output_in, shared_directory_in, shared_in};
 
 use bx_tree::Path;
+use dscript_sdk_values::{FromValue, SdkFault, read_directory, read_object, read_text};
 use dscript_value::{Fields, Value};
 use pip_model_types::OutDir;
-use dscript_sdk_values::{FromValue, SdkFault, read_directory, read_object, read_text};
 use std::alloc::Global;
 
 const SHARED_FIELDS: [&[u8]; 2] = [b"kind", b"directory"];

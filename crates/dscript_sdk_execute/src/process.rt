@@ -16,13 +16,13 @@ use crate::dependency::Dependency;
 use crate::output::Output;
 use crate::request::{Made, Taken};
 use bx_tree::{FileInput, Memory, Path, PathFault};
+use dscript_sdk_members::parent_of;
+use dscript_sdk_pips::files_by_path;
+use dscript_sdk_values::share_file;
 use dscript_value::StaticDir;
 use pip_model_types::{
     Arguments, DirInput, DirInputs, OutDir, OutDirs, Outputs, Pip, PipKind, ProcessDesc, SealForm,
 };
-use dscript_sdk_members::parent_of;
-use dscript_sdk_pips::files_by_path;
-use dscript_sdk_values::share_file;
 use std::alloc::{AllocError, Global};
 
 fn files_among(alloc: Global, inputs: &[Dependency]) -> Result<Vec<FileInput>, Memory>

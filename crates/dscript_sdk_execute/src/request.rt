@@ -12,11 +12,11 @@ use crate::output::Output;
 use crate::tool::tool_field;
 use crate::variables::variables_field;
 use bx_tree::Path;
-use dscript_value::{Argument, Fields, Value};
-use pip_model_types::Variables;
 use dscript_sdk_values::{
     SdkFault, first_argument, read_directory, read_object, read_optional, read_optional_list,
 };
+use dscript_value::{Argument, Fields, Value};
+use pip_model_types::Variables;
 use std::alloc::Global;
 
 const OPTIONAL_FIELDS: [&[u8]; 8] = [

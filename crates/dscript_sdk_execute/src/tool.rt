@@ -6,8 +6,8 @@ ghost use Rattle.dscript_sdk_values.specs.Outcomes.{Refuses};
 ghost use Rattle.dscript_sdk_execute.specs.ExecuteObject.{exe_in, source_of, tool_in};
 
 use bx_tree::{FileInput, Path, Text};
-use dscript_value::{Fields, Value};
 use dscript_sdk_values::{SdkFault, read_file, read_object, read_optional};
+use dscript_value::{Fields, Value};
 use std::alloc::Global;
 
 // The path of a source file, which an executable is.

@@ -9,9 +9,9 @@ ghost use Rattle.dscript_sdk_values.specs.Outcomes.{Refuses};
 ghost use Rattle.dscript_sdk_execute.specs.ExecuteObject.{has_distinct_names, name_in, variable_in, variables_in};
 
 use bx_tree::Text;
+use dscript_sdk_values::{SdkFault, read_field, read_items, read_object, read_text};
 use dscript_value::{Fields, Value};
 use pip_model_types::{EnvPair, Variables};
-use dscript_sdk_values::{SdkFault, read_field, read_items, read_object, read_text};
 use std::alloc::Global;
 
 const VARIABLE_FIELDS: [&[u8]; 2] = [b"name", b"value"];

@@ -9,11 +9,11 @@ ghost use Rattle.dscript_sdk_members.specs.ListMembers.{join_items, list_functio
 
 use crate::member::Member;
 use bx_tree::Text;
-use dscript_value::{GrowingList, NoOrder, Value, Values, equal};
 use dscript_sdk_values::{
     MAX_TEXT_BYTES, SdkFault, first_argument, grown_list, number_value, read_each, read_text,
     read_values, text_value,
 };
+use dscript_value::{GrowingList, NoOrder, Value, Values, equal};
 use std::alloc::Global;
 
 fn concat(alloc: Global, values: &Values, args: &[Value]) -> Result<Value, SdkFault>

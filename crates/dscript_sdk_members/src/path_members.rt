@@ -17,8 +17,8 @@ ghost use Rattle.dscript_sdk_members.specs.PathMembers.{name_answer, parent_answ
 use crate::member::Member;
 use bx_path::join;
 use bx_tree::{Path, PathFault, Text, is_atom};
-use dscript_value::Value;
 use dscript_sdk_values::{SdkFault, first_argument, read_text};
+use dscript_value::Value;
 use std::alloc::Global;
 
 // The parts of a text before and after its first `/`.

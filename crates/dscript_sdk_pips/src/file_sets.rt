@@ -6,8 +6,8 @@ ghost use Rattle.dscript_sdk_pips.specs.FileSets.{AreCounted, counted, counting,
 ghost use Rattle.bx_tree.specs.FileInputs.{input_path};
 
 use bx_tree::{FileInput, Memory, Path};
-use pip_model_types::FileInputs;
 use dscript_sdk_values::share_file;
+use pip_model_types::FileInputs;
 use std::alloc::Global;
 use std::collections::BTreeMap;
 

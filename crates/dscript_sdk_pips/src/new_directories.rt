@@ -13,8 +13,8 @@ use crate::site::Site;
 use crate::state::SdkState;
 use bx_path::join;
 use bx_tree::{Path, PathFault, is_atom};
-use dscript_value::Value;
 use dscript_sdk_values::{SdkFault, first_argument, read_text};
+use dscript_value::Value;
 use std::alloc::Global;
 
 // The path to which a text leads.

@@ -21,10 +21,10 @@ use crate::file_sets::{files_by_path, path_of};
 use crate::site::Site;
 use crate::state::SdkState;
 use bx_tree::{FileInput, Memory, Path, Tree};
-use dscript_value::{StaticDir, Value};
-use pip_model_types::{FileInputs, PipKind, SealDesc, SealForm};
 use dscript_sdk_calls::{find_below, lies_below};
 use dscript_sdk_values::{SdkFault, read_directory, read_list, two_arguments};
+use dscript_value::{StaticDir, Value};
+use pip_model_types::{FileInputs, PipKind, SealDesc, SealForm};
 use std::alloc::Global;
 
 // A seal, and its directory.

@@ -10,9 +10,9 @@ use crate::limits::MAX_NUMBERED_PIPS;
 use crate::new_directories::numbered;
 use crate::site::Site;
 use bx_tree::{Memory, Path, Tree};
+use dscript_sdk_values::SdkFault;
 use dscript_value::Value;
 use pip_model_types::{Pip, PipKind, PipList};
-use dscript_sdk_values::SdkFault;
 use std::alloc::Global;
 use std::marker::Model;
 

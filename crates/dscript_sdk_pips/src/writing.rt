@@ -12,12 +12,12 @@ ghost use Rattle.dscript_value.specs.Plain.{plain_of};
 use crate::site::Site;
 use crate::state::SdkState;
 use bx_tree::{FileInput, Path, Text};
-use dscript_value::Value;
-use pip_model_types::{CopyDesc, PipKind, WriteDesc};
 use dscript_sdk_values::{
     FromValue, MAX_TEXT_BYTES, SdkFault, first_argument, read_field, read_list_field, read_object,
     two_arguments,
 };
+use dscript_value::Value;
+use pip_model_types::{CopyDesc, PipKind, WriteDesc};
 use std::alloc::Global;
 
 const LINES_FIELDS: [&[u8]; 2] = [b"outputPath", b"lines"];

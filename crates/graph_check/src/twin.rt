@@ -10,8 +10,8 @@ ghost use Rattle.std.proofs.Common.{rules};
 ghost use Rattle.graph_check.specs.Described.{described_cmp, described_total, described_matches};
 ghost use Rattle.graph_check.specs.Described.{described_equiv, described_partial_eq, described_partial};
 
-use pip_model::{Memory, Pip, PipKind, ProcessDesc};
 use crate::descriptions::process_order;
+use pip_model::{Memory, Pip, PipKind, ProcessDesc};
 use std::alloc::{AllocError, Global};
 use std::cmp::Ordering;
 use std::collections::BTreeSet;

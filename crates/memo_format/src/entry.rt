@@ -14,9 +14,9 @@ use crate::fault::FormatFault;
 use crate::seal::{seal, unseal};
 use bx_digest::Digest;
 use bx_tree::Path;
+use prints::{Cursor, Line, TextFault, append_digest, append_lines, append_path, read_lines};
 use std::alloc::{AllocError, Global};
 use std::marker::Model;
-use prints::{Cursor, Line, TextFault, append_digest, append_lines, append_path, read_lines};
 
 /// A file that a run made, with the digest of its bytes.
 #[derive(Drop)]

@@ -3,8 +3,8 @@ ghost use Rattle.std.specs.Prelude.{◌≡◌, ◌++◌, IfOk, OnOk};
 ghost use Rattle.memo_format.specs.Seals.{Unseals, seal_line as line_of, sealed};
 
 use bx_digest::digest_of;
-use std::alloc::{AllocError, Global};
 use prints::{TextFault, append_digest};
+use std::alloc::{AllocError, Global};
 
 /// The bytes of the line of a seal: its word, a space, 64 digits and a newline.
 pub const SEAL_BYTES: usize = 70;

@@ -12,8 +12,8 @@ ghost use Rattle.memo_format.specs.StoredForms.{select_form};
 use crate::fault::FormatFault;
 use crate::seal::{seal, unseal};
 use bx_digest::Digest;
-use std::alloc::{AllocError, Global};
 use prints::{Cursor, Line, TextFault, append_digest, append_lines, read_lines};
+use std::alloc::{AllocError, Global};
 
 /// The greatest number of selectors in a list.
 pub const MAX_SELECTORS: usize = 64;

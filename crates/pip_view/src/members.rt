@@ -23,8 +23,8 @@ use crate::made_list::{add_below, has_below};
 use crate::{Memory, Names};
 use bx_digest::Blob;
 use bx_tree::Path;
-use pip_view_inputs::Inputs;
 use pip_model::{DirInput, DirInputs, MadeFile};
+use pip_view_inputs::Inputs;
 use std::alloc::Global;
 use tool_run::add_names;
 

@@ -18,9 +18,9 @@ use crate::file_list::{add_below, file_at, has_below};
 use crate::{Memory, Names};
 use bx_digest::Blob;
 use bx_tree::{FileInput, Path};
-use pip_view_inputs::{Inputs, input_file, source_blob};
 use pip_model::{DirInput, FileInputs, Pip, PipKind, Plan, ProcessDesc, SealForm, Sources};
 use pip_view_directories::{near_dirs, searched};
+use pip_view_inputs::{Inputs, input_file, source_blob};
 use std::alloc::Global;
 use tool_run::add_names;
 

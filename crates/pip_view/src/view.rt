@@ -26,14 +26,14 @@ use crate::{Memory, Names};
 use bx_digest::Blob;
 use bx_tree::Path;
 use observed::{Answer, Ask, AskKind, View};
-use pip_view_inputs::{Inputs, process_at};
 use pip_model::{DirInput, DirInputs, Pip, Plan, ProcessDesc, SealForm, Sources};
 use pip_view_directories::{around_dirs, other_dirs, searched};
-use violations::least_unseen;
+use pip_view_inputs::{Inputs, process_at};
 use std::alloc::Global;
 use std::collections::BTreeSet;
 use std::marker::Model;
 use tool_run::{add_names, lines};
+use violations::least_unseen;
 
 /// What a pip sees of the source files and of what its inputs made, without what its own run writes.
 #[derive(Drop)]

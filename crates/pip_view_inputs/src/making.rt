@@ -14,9 +14,9 @@ use crate::inputs::Inputs;
 use crate::sharing::share_process;
 use bx_digest::Blob;
 use bx_tree::{FileInput, Path};
-use tool_run_writes::{Writes, with_file};
 use pip_model::{Desc, FileInputs, Made, MadeFile, Pip, PipKind, Plan, ProcessDesc, Sources};
 use std::alloc::Global;
+use tool_run_writes::{Writes, with_file};
 
 // A file, shared; none is a file of no bytes.
 fn share_or_empty(alloc: Global, found: Option<&Blob>) -> Result<Blob, Memory>

@@ -9,13 +9,13 @@ ghost use Rattle.prints.specs.Strong.{IsAnswerLine, answer_at, answer_line, has_
 ghost use Rattle.prints.specs.Strong.{with_digest};
 ghost use Rattle.prints.specs.AnswerForms.{answer_form, answer_seen};
 
-use crate::strong_parts::AnswerLine;
-use observed::Answer;
-use std::alloc::{AllocError, Global};
 use crate::cursor::{Cursor, after_word, digest_of};
 use crate::line::Line;
 use crate::part::append_digest;
+use crate::strong_parts::AnswerLine;
 use crate::text_fault::TextFault;
+use observed::Answer;
+use std::alloc::{AllocError, Global};
 
 // The answer that a line says.
 fn answer_of(line: &[u8]) -> Result<AnswerLine, TextFault>

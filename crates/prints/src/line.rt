@@ -5,8 +5,8 @@ ghost use Rattle.prints.specs.Forms.{Anything, IsForm};
 ghost use Rattle.prints.specs.Lines.{lines_at};
 ghost use Rattle.prints.specs.Reading.{Taken, Takes, TakesItems};
 
-use crate::text_fault::TextFault;
 use crate::cursor::Cursor;
+use crate::text_fault::TextFault;
 use std::alloc::{AllocError, Global};
 
 /// A kind of line, which is written of a `W` and read as an `R`.

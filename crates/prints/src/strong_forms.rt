@@ -7,16 +7,16 @@ ghost use Rattle.prints.specs.Strong.{IsStrong, asked_parts, read_strong_text, s
 ghost use Rattle.prints.specs.declared.strong_parts.StrongParts.{StrongParts as AnyParts};
 
 use crate::answer_lines::AnswerKind;
+use crate::cursor::Cursor;
 use crate::fault::PrintFault;
+use crate::line::{append_lines, read_lines};
+use crate::part::append_digest;
 use crate::printed::Printed;
 use crate::strong_parts::{AnswerLine, AnswerLines, StrongParts};
+use crate::text_fault::TextFault;
 use bx_digest::{Digest, digest_of};
 use observed::{Answer, PathSet, View};
 use std::alloc::{AllocError, Global};
-use crate::cursor::Cursor;
-use crate::line::{append_lines, read_lines};
-use crate::part::append_digest;
-use crate::text_fault::TextFault;
 
 /// The strong text of the answers to the asks of a path set, by the digests of the weak text and of the path
 /// set's text, with its digest.

@@ -11,14 +11,14 @@ ghost use Rattle.prints.specs.Weak.{arg_line, dir_line, dir_with, env_line, form
 ghost use Rattle.prints.specs.Weak.{line_of_file, out_line, outdir_line, sharing_word};
 ghost use Rattle.prints.specs.LineForms.{arg_form, env_form, in_form, indir_form, out_form, outdir_form};
 
-use bx_digest::Digest;
-use bx_tree::{Path, Text};
-use pip_model_types::{DirInput, EnvPair, MadeFile, OutDir, SealForm};
-use std::alloc::{AllocError, Global};
 use crate::cursor::Cursor;
 use crate::line::Line;
 use crate::part::{append_counted, append_digest, append_path};
 use crate::text_fault::TextFault;
+use bx_digest::Digest;
+use bx_tree::{Path, Text};
+use pip_model_types::{DirInput, EnvPair, MadeFile, OutDir, SealForm};
+use std::alloc::{AllocError, Global};
 
 /// A declared file, with its digest.
 #[derive(Drop)]

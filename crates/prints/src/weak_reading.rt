@@ -11,10 +11,13 @@ ghost use Rattle.prints.specs.ReadWeak.{outdir_before, outs_at, path_before, rea
 ghost use Rattle.prints.specs.Weak.{weak_text};
 ghost use Rattle.prints.specs.declared.weak_parts.WeakParts.{WeakParts as AnyParts};
 
+use crate::cursor::{Cursor, after_word, path_of};
 use crate::fault::PrintFault;
+use crate::line::read_lines;
 use crate::order::{
     are_dirs_rising, are_files_rising, are_outdirs_rising, are_paths_rising, are_variables_sorted,
 };
+use crate::text_fault::TextFault;
 use crate::weak_lines::{
     ArgKind, DirLine, EnvKind, FileLine, InKind, IndirKind, OutKind, OutdirKind,
 };
@@ -26,9 +29,6 @@ use pip_model_types::{
     ProcessDesc, SealForm, Variables,
 };
 use std::alloc::{AllocError, Global};
-use crate::cursor::{Cursor, after_word, path_of};
-use crate::line::read_lines;
-use crate::text_fault::TextFault;
 
 // The lines that are there once.
 #[derive(Drop)]

@@ -8,6 +8,8 @@ ghost use Rattle.prints.specs.Processes.{AreListsWeak, IsHeadWeak, weak_parts};
 ghost use Rattle.prints.specs.ReadWeak.{read_weak_text};
 ghost use Rattle.prints.specs.Weak.{console_line, head_text, lists_text, weak_text};
 
+use crate::line::append_lines;
+use crate::part::{append_digest, append_number, append_path};
 use crate::printed::Printed;
 use crate::weak_lines::{
     ArgKind, DirLine, EnvKind, FileLine, InKind, IndirKind, OutKind, OutdirKind,
@@ -15,8 +17,6 @@ use crate::weak_lines::{
 use bx_tree::{Path, Text};
 use pip_model_types::{Desc, DirInput, EnvPair, MadeFile, OutDir};
 use std::alloc::{AllocError, Global};
-use crate::line::append_lines;
-use crate::part::{append_digest, append_number, append_path};
 
 // Adds the line of the console file.
 fn append_console(text: &mut Vec<u8>, console: Option<&Path>) -> Result<(), AllocError>

@@ -24,9 +24,9 @@ use bx_io::{Gate, KeepReader};
 use one_thread::{
     Frame, PipResult, after_run, after_success, inputs_are_good, is_good, made_plainly, skipped,
 };
-use pip_view_inputs::process_at;
 use pip_model::{MAX_PIPS, Slot};
 use pip_view::Inputs;
+use pip_view_inputs::process_at;
 use run_record::Record;
 use tool_run::accesses_hold;
 use violations::Verdict;

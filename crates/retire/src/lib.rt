@@ -15,7 +15,10 @@ mod keeping;
 mod retiring;
 mod taking;
 
-pub use build_laws::{all_are_hits, one_hit_set, runs_are_compared, successes_are_compared, successes_fit, weak_texts_differ};
+pub use build_laws::{
+    all_are_hits, one_hit_set, runs_are_compared, successes_are_compared, successes_fit,
+    weak_texts_differ,
+};
 pub use retiring::{RetireTally, Retired, retire_empty};
 
 /// Out of memory, the one refusal that no contract ties to a cause.

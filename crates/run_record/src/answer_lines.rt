@@ -6,8 +6,8 @@ ghost use Rattle.run_record.specs.Digests.{digest_of_line};
 
 use bx_digest::{Digest, digest_of};
 use observed::Answer;
-use std::alloc::{AllocError, Global};
 use prints::append_digest;
+use std::alloc::{AllocError, Global};
 
 fn digest_line(alloc: Global, word: &[u8], digest: &Digest) -> Result<Vec<u8>, AllocError>
     ensures { IfOk result (λ line. line.items ≡ (word.now ++ encode_lower digest.now) ++ codes "\n") }

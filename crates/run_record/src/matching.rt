@@ -6,11 +6,11 @@ ghost use Rattle.run_record.specs.Digests.{IsReadBack, digest_asked, digest_of_l
 ghost use Rattle.run_record.specs.Matches.{Compares, FirstDiffer, Repeats};
 
 use crate::answer_lines::line_digest;
+use crate::record::Record;
 use bx_digest::Digest;
 use observed::{Answer, Ask, View};
 use pip_model_types::Desc;
 use prints::weak;
-use crate::record::Record;
 use std::alloc::{AllocError, Global};
 use tool_run::noninterference;
 

@@ -9,10 +9,10 @@ ghost use Rattle.run_record.specs.Outcomes.{outcome_of, refused, with_console};
 use bx_digest::Blob;
 use bx_tree::Path;
 use observed::{Access, End};
-use tool_run_writes::with_file;
 use pip_model_types::{Desc, Made};
 use std::alloc::{AllocError, Global};
 use tool_run::Ran;
+use tool_run_writes::with_file;
 
 /// Why a run did not succeed. Where several causes apply, the first of them counts, in the order denied
 /// access, fault of the tool, exit code, missing output.

@@ -1,8 +1,8 @@
 use bx_tree::Text;
 use dscript_ast::BinaryOp;
+use dscript_eval_direct::{MAX_NESTING, named_parts, value_now};
 use dscript_program::{BoundExpr, BoundOperand, BoundProp, Target};
 use dscript_value::Value;
-use dscript_eval_direct::{MAX_NESTING, named_parts, value_now};
 use std::alloc::Global;
 use std::test::Fail;
 

@@ -9,11 +9,11 @@ use crate::content::Content;
 use crate::effect::Effect;
 use crate::limits::MAX_REGISTER;
 use crate::state::{State, content_of, effect_of_end};
+use crate::values::head;
 use observed::End;
 use std::alloc::{AllocError, Global};
 use std::mem;
 use tool_text::{Operand, Register};
-use crate::values::head;
 
 // The digits of a number.
 fn decimal(alloc: Global, number: usize) -> Result<Vec<u8>, AllocError>
@@ -116,7 +116,12 @@ impl State {
     }
 
     // A register becomes its bytes with those of another operand after them, in place.
-    fn append(&mut self, alloc: Global, register: Register, y: &Operand) -> Result<Effect, AllocError>
+    fn append(
+        &mut self,
+        alloc: Global,
+        register: Register,
+        y: &Operand,
+    ) -> Result<Effect, AllocError>
         requires place { self.old.place < 2 ^ 63 }
         requires other { y.now ≢ Operand.Register register }
         ensures { IfOk result (λ effect.

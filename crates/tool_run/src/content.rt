@@ -2,12 +2,12 @@
 ghost use Rattle.std.specs.Prelude.{◌≡◌, ◌++◌, [], IfOk, OnOk, drop};
 ghost use Rattle.tool_run.specs.Values.{split_parts};
 
+use crate::values::{split, tail};
 use bx_digest::Blob;
 use bx_tree::Text;
 use std::alloc::{AllocError, Global};
 use std::marker::Model;
 use std::mem;
-use crate::values::{split, tail};
 
 // Bytes that a register owns, or those of a text or of a file, from a place on, which it shares.
 #[derive(Drop)]

@@ -9,12 +9,12 @@ ghost use Rattle.tool_run.specs.States.{machine_of};
 
 use crate::effect::Effect;
 use crate::state::State;
+use crate::values::{number_of, variable};
 use bx_tree::Text;
 use observed::End;
 use pip_model_types::EnvPair;
 use std::alloc::{AllocError, Global};
 use tool_text::{Operand, Register};
-use crate::values::{number_of, variable};
 
 // The bytes of an argument.
 fn argument(arguments: &[Text], number: usize) -> Option<&[u8]>

@@ -4,12 +4,12 @@ ghost use Rattle.tool_run.specs.Listings.{listed};
 ghost use Rattle.tool_run_writes.specs.Writes.{own_names as names_below};
 
 use crate::content::Content;
+use crate::name_lines::{add_names, lines, names_of_lines};
 use bx_digest::Blob;
 use bx_tree::Path;
-use tool_run_writes::Writes;
 use std::alloc::{AllocError, Global};
 use std::collections::BTreeSet;
-use crate::name_lines::{add_names, lines, names_of_lines};
+use tool_run_writes::Writes;
 
 // The listing of a directory with what own writes add to it.
 pub(crate) fn with_own_names(

@@ -15,9 +15,9 @@ use crate::limits::{MAX_OUTPUT, MAX_REGISTER};
 use bx_digest::Blob;
 use bx_tree::Path;
 use observed::End;
-use tool_run_writes::Writes;
 use std::alloc::{AllocError, Global};
 use std::mem;
+use tool_run_writes::Writes;
 use tool_text::{Operand, REGISTERS, Register};
 
 /// Where a run is: the place of its next instruction, its registers, what it wrote, what it said, and how many

@@ -19,10 +19,10 @@ use bx_io::{Got, KeepReader};
 use content_store::{Fetched, FetchedEntry, get_blob, get_entry, list_name};
 use memo_format::{Entry, FormatFault, OutputLine, Selector, read_selectors};
 use observed::{PathSet, SetFault};
-use tool_run_writes::Writes;
 use pip_model_types::Made;
 use std::alloc::Global;
 use std::marker::Model;
+use tool_run_writes::Writes;
 
 /// Selectors, in order. Contracts see them as a list.
 #[derive(Drop)]

@@ -288,7 +288,12 @@ fn put_record<K: Keeper>(
 /// Puts what a record of a success is: its texts and contents, then its entry, then the list of its process
 /// with its selector first. Path sets and contents of files that are noted as held are left out, and those
 /// that it puts are noted. It stops at the first refusal.
-pub fn keep<K: Keeper>(alloc: Global, keeper: &mut K, held: &mut HeldContents, ran: &Record) -> SaveResult
+pub fn keep<K: Keeper>(
+    alloc: Global,
+    keeper: &mut K,
+    held: &mut HeldContents,
+    ran: &Record,
+) -> SaveResult
     requires good { IsGood ran.now }
     requires held { AreHeld (K.known keeper.old) held.old }
     ensures kept { result ≡ SaveResult.Saved → PutsAll (K.known keeper.old) (K.known keeper.new) ran.now }

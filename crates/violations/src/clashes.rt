@@ -12,9 +12,9 @@ ghost use Rattle.pip_model_types.specs.Kinds.{outdirs_of};
 
 use crate::Memory;
 use crate::classes::with_other;
+use crate::verdict::{DeedKind, Violation, ViolationKind};
 use bx_tree::Path;
 use pip_model::{Made, MadeFile, OutDir, Pip, PipKind, Plan, Slot};
-use crate::verdict::{DeedKind, Violation, ViolationKind};
 
 fn outdirs_of(kind: &PipKind) -> &[OutDir]
     ensures { result.now ≡ outdirs_of kind.entry.now }

@@ -7,11 +7,11 @@ ghost use Rattle.violations.specs.Classes as classes;
 ghost use Rattle.violations.specs.Leading.{leads as walks_lead};
 
 use crate::Memory;
+use crate::producing::least_unseen;
+use crate::verdict::{DeedKind, Violation, ViolationKind};
 use bx_tree::Path;
 use observed::{Access, Answer, Ask, AskKind};
 use pip_model::{Plan, Sources};
-use crate::producing::least_unseen;
-use crate::verdict::{DeedKind, Violation, ViolationKind};
 
 // A violation that concerns no other pip.
 fn alone(kind: ViolationKind, deed: DeedKind, path: &Path) -> Result<Violation, Memory>
