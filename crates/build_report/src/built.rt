@@ -4,8 +4,8 @@ ghost use Rattle.std.specs.List.{list_all};
 ghost use Rattle.build_report.specs.Reports as texts;
 ghost use Rattle.violations.specs.Verdicts as ends;
 
-use crate::Memory;
 use crate::names::{deed_name, end_name, pip_name, violation_name};
+use bx_tree::Memory;
 use pip_model::{Pip, PipKind, Plan};
 use std::alloc::Global;
 use violations::{Verdict, Violation};

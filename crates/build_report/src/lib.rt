@@ -10,8 +10,6 @@ mod names;
 mod refusal;
 
 pub use built::report;
+pub use bx_tree::Memory;
 pub use counts::{Counts, notes};
 pub use refusal::{MAX_SHOWN_BYTES, Refusal, refused_report};
-
-/// Out of memory, the one refusal that no contract ties to a cause.
-pub type Memory = std::alloc::AllocError;

@@ -18,9 +18,9 @@ ghost use Rattle.bx_tree.specs.Lent.{texts_now};
 
 use crate::fault::PackFault;
 use crate::folder::{Entry, Folder, Kind, ListFault, ReadFault};
-use bx_io::Memory;
 use bx_tree::{
-    MAX_BUNDLE_BYTES, MAX_FILES, MAX_PATH_BYTES, Path, PathFault, Tree, TreeFile, write_bundle,
+    MAX_BUNDLE_BYTES, MAX_FILES, MAX_PATH_BYTES, Memory, Path, PathFault, Tree, TreeFile,
+    write_bundle,
 };
 use std::alloc::Global;
 

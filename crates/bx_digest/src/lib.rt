@@ -11,6 +11,3 @@ mod digest;
 
 pub use blob::Blob;
 pub use digest::{Digest, NotHex, digest_of};
-
-/// Out of memory, the one refusal that no contract ties to a cause.
-pub type Memory = std::alloc::AllocError;

@@ -26,6 +26,3 @@ pub use laws::{one_end, some_end};
 pub use planning::front;
 pub use status::Status;
 pub use top::command;
-
-/// Out of memory, the one refusal that no contract ties to a cause.
-pub type Memory = std::alloc::AllocError;

@@ -20,7 +20,6 @@ ghost use Rattle.bx_engine.specs.Responses.{IsResponseToBundle, IsResponseToFaul
 ghost use Rattle.bx_engine.specs.Statuses.{IsRefusal};
 ghost use Rattle.bx_engine.specs.Stores.{FairStore, StoreLeft, uses_store};
 
-use crate::Memory;
 use crate::fault::{InputFault, input_name};
 use crate::limits::is_cached;
 use crate::output::output;
@@ -30,7 +29,7 @@ use build_report::{Counts, notes, refused_report, report};
 use bx_engine_front::{FrontFault, Refusal};
 use bx_engine_words::Order;
 use bx_io::{Gate, Keeper};
-use bx_tree::{BundleFault, Text, Tree, read_bundle, reserved};
+use bx_tree::{BundleFault, Memory, Text, Tree, read_bundle, reserved};
 use pip_model::{Made, MadeFile, Plan, Sources};
 use retire::{RetireTally, Retired, retire_empty};
 use std::alloc::{AllocError, Global};

@@ -21,6 +21,3 @@ pub use fault::FrontFault;
 pub use front::{FrontEnd, plan_of};
 pub use laws::{one_plan, some_plan};
 pub use limits::Limits;
-
-/// Out of memory, the one refusal that no contract ties to a cause.
-pub type Memory = std::alloc::AllocError;

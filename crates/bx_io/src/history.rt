@@ -3,8 +3,7 @@
 ghost use Rattle.std.specs.Prelude.{◌≡◌, ◌-◌, [], ◌∷◌, ◌++◌, length, take, OnOk, OnErr};
 ghost use Rattle.bx_io.specs.Stored.{change_of};
 
-use crate::fault::Memory;
-use std::alloc::Global;
+use std::alloc::{AllocError, Global};
 use std::marker::Model;
 
 /// A change of an in-memory store.
@@ -47,7 +46,7 @@ impl History {
     }
 
     /// Adds a change.
-    pub fn push(&mut self, change: Change) -> Result<(), Memory>
+    pub fn push(&mut self, change: Change) -> Result<(), AllocError>
         ensures added { OnOk result (self.new ≡ self.old ++ change_of change ∷ []) }
         ensures refused { OnErr result (self.new ≡ self.old) }
     {

@@ -13,6 +13,3 @@ mod names;
 pub use content::{Fetched, get_blob, put_blob};
 pub use entries::{FetchedEntry, get_entry};
 pub use names::{blob_name, entry_name, list_name};
-
-/// Out of memory, the one refusal that no contract ties to a cause.
-pub type Memory = std::alloc::AllocError;

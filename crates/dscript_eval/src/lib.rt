@@ -17,6 +17,3 @@ mod statements_now;
 
 pub use dscript_eval_meaning::{EvalFault, EvalKind, MAX_OPEN_CALLS};
 pub use evaluation::evaluate;
-
-/// Out of memory, the one refusal that no contract ties to a cause.
-pub type Memory = std::alloc::AllocError;

@@ -16,6 +16,3 @@ pub use constants::{demands, keep};
 pub use exprs::{choose, eval, operands, operated, prefix};
 pub use given::at_once;
 pub use literals::{first_hole, hole, other_holes};
-
-/// Out of memory, the one refusal that no contract ties to a cause.
-pub type Memory = std::alloc::AllocError;

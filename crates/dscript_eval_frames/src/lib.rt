@@ -33,6 +33,3 @@ pub use outcomes::stop_of;
 pub use status::{Status, all_waiting, set_status, status_at};
 pub use stop::Stop;
 pub use work::{CallWork, Callback, Callbacks, ExprWork, Literal, StmtWork, Use, Work};
-
-/// Out of memory, the one refusal that no contract ties to a cause.
-pub type Memory = std::alloc::AllocError;

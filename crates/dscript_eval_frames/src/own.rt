@@ -7,7 +7,7 @@ ghost use Rattle.dscript_value.specs.Plain.{plain_of};
 ghost use Rattle.dscript_value.specs.declared.value.Value.{Value};
 ghost use Rattle.dscript_eval_frames.specs.Own.{own_values};
 
-use crate::Memory;
+use bx_tree::Memory;
 use dscript_value::Value;
 use std::alloc::Global;
 use std::collections::BTreeMap;

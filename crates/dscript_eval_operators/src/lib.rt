@@ -27,6 +27,3 @@ pub use relative_literals::{atom_literal, relative_literal};
 pub use spreads::{add_fields, add_items};
 pub use texts::{add_literal_hole, add_template_hole};
 pub use truth::is_true;
-
-/// Out of memory, the one refusal that no contract ties to a cause.
-pub type Memory = std::alloc::AllocError;

@@ -7,8 +7,7 @@ ghost use Rattle.dscript_sdk_values.specs.Outcomes.{Refuses};
 ghost use Rattle.dscript_eval_operators.specs.RelativeLiterals as spec;
 ghost use Rattle.bx_tree.specs.Lent.{texts_now};
 
-use crate::Memory;
-use bx_tree::{Text, is_atom};
+use bx_tree::{Memory, Text, is_atom};
 use dscript_sdk_values::SdkFault;
 use dscript_value::{RelativePath, Value};
 use std::alloc::Global;

@@ -8,8 +8,7 @@ ghost use Rattle.dscript_eval_operators.specs.Texts.{written_relative};
 ghost use Rattle.bx_tree.specs.FileInputs.{input_path as path_in_file};
 ghost use Rattle.dscript_sdk_values.specs.PathTexts.{path_argument};
 
-use crate::Memory;
-use bx_tree::{FileInput, Path, Text};
+use bx_tree::{FileInput, Memory, Path, Text};
 use dscript_sdk_values::SdkFault;
 use dscript_value::Value;
 use std::alloc::Global;

@@ -26,6 +26,3 @@ pub use reading::{
     FromValue, read_each, read_field, read_list, read_list_field, read_optional,
     read_optional_list, share_file,
 };
-
-/// Out of memory, the one refusal that no contract ties to a cause.
-pub type Memory = std::alloc::AllocError;

@@ -23,6 +23,3 @@ pub use makers::{DepthFault, MAX_DEPTH, ambient_function, list_of, member_of, pl
 pub use objects::object_of;
 pub use parts::{Argument, Artifact, Callee, RelativePath, StaticDir};
 pub use value::{Field, Fields, FlatValues, FunctionRef, Value, Values};
-
-/// Out of memory, the one refusal that no contract ties to a cause.
-pub type Memory = std::alloc::AllocError;

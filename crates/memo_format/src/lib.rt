@@ -14,11 +14,9 @@ mod laws;
 mod seal;
 mod selector;
 
+pub use bx_tree::Memory;
 pub use entry::{Entry, OutputLine, OutputLines, read_entry, write_entry};
 pub use fault::FormatFault;
 pub use found::Found;
 pub use laws::{entry_texts, selector_texts};
 pub use selector::{MAX_SELECTORS, Selector, read_selectors, write_selectors};
-
-/// Out of memory, the one refusal that no contract ties to a cause.
-pub type Memory = std::alloc::AllocError;

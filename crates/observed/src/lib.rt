@@ -16,9 +16,7 @@ mod view;
 
 pub use access::{Access, Answer, End};
 pub use ask::{Ask, AskKind};
+pub use bx_tree::Memory;
 pub use laws::{one_path_set, path_set_text};
 pub use path_set::{PathSet, SetFault};
 pub use view::View;
-
-/// Out of memory, the one refusal that no contract ties to a cause.
-pub type Memory = std::alloc::AllocError;

@@ -4,9 +4,8 @@ ghost use Rattle.violations.specs.Slots.{slot_files};
 ghost use Rattle.pip_model_types.specs.Made.{made_files};
 ghost use Rattle.one_thread.specs.OneThread.{all_made, put_all};
 
-use crate::Memory;
 use bx_digest::Blob;
-use bx_tree::Path;
+use bx_tree::{Memory, Path};
 use pip_model::{Made, MadeFile, Slot};
 use pip_view::made_of;
 use std::alloc::Global;

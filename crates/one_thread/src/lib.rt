@@ -20,6 +20,3 @@ pub use ended::{
 pub use gathering::outputs;
 pub use laws::each_result;
 pub use outputs_apart::{kept_files_keep_apart, outputs_keep_apart};
-
-/// Out of memory, the one refusal that no contract ties to a cause.
-pub type Memory = std::alloc::AllocError;

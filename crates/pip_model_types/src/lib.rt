@@ -20,6 +20,7 @@ mod sets;
 mod sources;
 
 pub use args::{Arguments, EnvPair, Variables};
+pub use bx_tree::Memory;
 pub use desc::Desc;
 pub use dir_inputs::{DirInput, DirInputs, SealForm};
 pub use file_inputs::FileInputs;
@@ -28,6 +29,3 @@ pub use outputs::{OutDir, OutDirs, Outputs};
 pub use pip::{CopyDesc, Pip, PipKind, ProcessDesc, SealDesc, WriteDesc};
 pub use pip_list::PipList;
 pub use sources::Sources;
-
-/// Out of memory, the one refusal that no contract ties to a cause.
-pub type Memory = std::alloc::AllocError;

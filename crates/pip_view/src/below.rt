@@ -9,8 +9,7 @@ ghost use Rattle.tool_run_writes.specs.Below.{first_atom, is_below as lies_below
 ghost use Rattle.pip_view.specs.Ranges.{AreFilePaths, first_below};
 ghost use Rattle.bx_tree.specs.Ranges.{comes_before as path_before, prefix_below};
 
-use crate::Memory;
-use bx_tree::Path;
+use bx_tree::{Memory, Path};
 use std::alloc::Global;
 
 // Whether a path lies strictly below a directory.

@@ -2,9 +2,8 @@
 ghost use Rattle.std.specs.Prelude.{◌≡◌, IfOk};
 ghost use Rattle.pip_model_types.specs.Made.{RisingFiles, made_files};
 
-use crate::Memory;
 use bx_digest::Blob;
-use bx_tree::Path;
+use bx_tree::{Memory, Path};
 use pip_model::{Made, MadeFile};
 use std::alloc::Global;
 use std::collections::BTreeMap;

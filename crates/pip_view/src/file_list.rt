@@ -12,9 +12,8 @@ ghost use Rattle.bx_tree.specs.Lent.{texts_now};
 ghost use Rattle.bx_tree.specs.FileInputs.{input_path};
 ghost use Rattle.bx_tree.specs.Ranges.{comes_before as path_before, prefix_below};
 
-use crate::Memory;
 use crate::below::{comes_before, is_below, next_atom};
-use bx_tree::{FileInput, Path};
+use bx_tree::{FileInput, Memory, Path};
 
 pub(crate) fn path_of(file: &FileInput) -> &Path
     ensures { result.now ≡ input_path file.entry.now }

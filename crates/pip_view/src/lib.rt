@@ -16,13 +16,11 @@ mod members;
 mod taken;
 mod view;
 
+pub use bx_tree::Memory;
 pub use by_path::made_of;
 pub use laws::view_agrees;
 pub use pip_view_inputs::{Inputs, desc, plain};
 pub use view::PipView;
-
-/// Out of memory, the one refusal that no contract ties to a cause.
-pub type Memory = std::alloc::AllocError;
 
 // The names of a listing.
 type Names = std::collections::BTreeSet<Vec<u8>>;

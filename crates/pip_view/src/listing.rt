@@ -5,9 +5,8 @@ ghost use Rattle.tool_run_writes.specs.Below.{next_atom as next_atom_of};
 ghost use Rattle.pip_view.specs.Ranges.{AreFilePaths, first_below};
 ghost use Rattle.bx_tree.specs.Lent.{texts_now};
 
-use crate::Memory;
 use crate::below::{from_below, next_atom};
-use bx_tree::Path;
+use bx_tree::{Memory, Path};
 use std::alloc::Global;
 
 // The next atoms of the first paths, up to one that does not lie below a directory.

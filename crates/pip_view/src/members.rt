@@ -18,11 +18,11 @@ ghost use Rattle.tool_run.specs.Listings.{add_names as with_names};
 ghost use Rattle.tool_run.specs.NameSets.{names_now};
 ghost use Rattle.bx_tree.specs.Lent.{texts_now};
 
+use crate::Names;
 use crate::below::{is_below, prefix_of};
 use crate::made_list::{add_below, has_below};
-use crate::{Memory, Names};
 use bx_digest::Blob;
-use bx_tree::Path;
+use bx_tree::{Memory, Path};
 use pip_model::{DirInput, DirInputs, MadeFile};
 use pip_view_inputs::Inputs;
 use std::alloc::Global;

@@ -4,10 +4,9 @@ ghost use Rattle.pip_model_types.specs.Dirs.{RiseByForm};
 ghost use Rattle.pip_view_directories.specs.Around.{AreAround, HasText, IsOver, IsPart, IsTextAround, IsUnder};
 ghost use Rattle.pip_view_directories.specs.Ranges.{AddsAll};
 
-use crate::Memory;
 use crate::near::is_root;
 use crate::ranges::add_between;
-use bx_tree::Path;
+use bx_tree::{Memory, Path};
 use pip_model::{DirInput, DirInputs};
 use std::alloc::Global;
 

@@ -13,6 +13,3 @@ mod ranges;
 pub use around::{MANY_DIRS, around_dirs};
 pub use near::{near_dirs, searched};
 pub use ranges::other_dirs;
-
-/// Out of memory, the one refusal that no contract ties to a cause.
-pub type Memory = std::alloc::AllocError;

@@ -5,8 +5,7 @@ ghost use Rattle.std.specs.Option.{unwrap_or};
 ghost use Rattle.pip_model_types.specs.Dirs.{RiseByForm};
 ghost use Rattle.pip_view_directories.specs.Near.{AddsDir, AreNear, AreOfSeals, AreTaken, dir_in, kind_dir};
 
-use crate::Memory;
-use bx_tree::Path;
+use bx_tree::{Memory, Path};
 use pip_model::{DirInput, DirInputs, FEW_DIRS, Pip, PipKind, Plan};
 use std::alloc::Global;
 

@@ -7,8 +7,7 @@ ghost use Rattle.pip_model_types.specs.declared.dir_inputs.DirInput.{DirInput as
 ghost use Rattle.pip_view_directories.specs.Ranges.{AddsAll, AreOthers, IsBetween, comes_before as before_text};
 ghost use Rattle.pip_view_directories.specs.Ranges.{is_other as other};
 
-use crate::Memory;
-use bx_tree::Path;
+use bx_tree::{Memory, Path};
 use pip_model::{DirInput, DirInputs, SealForm};
 use std::alloc::Global;
 

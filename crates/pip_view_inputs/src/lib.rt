@@ -11,6 +11,3 @@ mod sharing;
 
 pub use inputs::Inputs;
 pub use making::{desc, input_file, no_files, plain, process_at, source_blob};
-
-/// Out of memory, the one refusal that no contract ties to a cause.
-pub type Memory = std::alloc::AllocError;

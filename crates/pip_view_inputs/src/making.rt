@@ -9,11 +9,10 @@ ghost use Rattle.pip_view_inputs.specs.Contents.{bytes_at, input_bytes, input_fi
 ghost use Rattle.pip_view_inputs.specs.Plain.{desc_of, kind_process, plain_at, plain_of, process_in};
 ghost use Rattle.bx_tree.specs.FileInputs.{input_path};
 
-use crate::Memory;
 use crate::inputs::Inputs;
 use crate::sharing::share_process;
 use bx_digest::Blob;
-use bx_tree::{FileInput, Path};
+use bx_tree::{FileInput, Memory, Path};
 use pip_model::{Desc, FileInputs, Made, MadeFile, Pip, PipKind, Plan, ProcessDesc, Sources};
 use std::alloc::Global;
 use tool_run_writes::{Writes, with_file};

@@ -1,8 +1,7 @@
 //! Shared descriptions of processes: paths and texts are shared, and the lists of them are copied.
 ghost use Rattle.std.specs.Prelude.{◌≡◌, IfOk};
 
-use crate::Memory;
-use bx_tree::{FileInput, Path, Text};
+use bx_tree::{FileInput, Memory, Path, Text};
 use pip_model::{
     Arguments, DirInput, DirInputs, EnvPair, FileInputs, OutDir, OutDirs, Outputs, ProcessDesc,
     Variables,

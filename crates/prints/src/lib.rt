@@ -23,6 +23,7 @@ mod weak_parts;
 mod weak_reading;
 mod weak_writing;
 
+pub use bx_tree::Memory;
 pub use cursor::{Cursor, after_word, digest_of, path_of};
 pub use fault::PrintFault;
 pub use laws::{strong_texts, weak_texts};
@@ -35,6 +36,3 @@ pub use text_fault::TextFault;
 pub use weak_parts::{Digests, WeakParts};
 pub use weak_reading::read_weak;
 pub use weak_writing::weak;
-
-/// Out of memory, the one refusal that no contract ties to a cause.
-pub type Memory = std::alloc::AllocError;

@@ -18,9 +18,9 @@ ghost use Rattle.retire.specs.Keeping.{IsSuccess};
 ghost use Rattle.retire.specs.Reading.{ReadsOn};
 ghost use Rattle.retire.specs.Taking as takes;
 
-use crate::Memory;
 use crate::taking::{Taken, Way, take};
 use bx_io::{Gate, KeepReader};
+use bx_tree::Memory;
 use one_thread::{
     Frame, PipResult, after_run, after_success, inputs_are_good, is_good, made_plainly, skipped,
 };

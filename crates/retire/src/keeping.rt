@@ -6,8 +6,8 @@ ghost use Rattle.retire.specs.Keeping.{IsSuccess, PutsAllEach, PutsFirst};
 ghost use Rattle.two_phase.specs.Held.{AreHeld};
 ghost use Rattle.two_phase.specs.Putting.{PutsAll, PutsUpTo};
 
-use crate::Memory;
 use bx_io::Keeper;
+use bx_tree::Memory;
 use run_record::Record;
 use std::alloc::{AllocError, Global};
 use two_phase::{HeldContents, SaveResult, keep};

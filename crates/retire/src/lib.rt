@@ -19,7 +19,5 @@ pub use build_laws::{
     all_are_hits, one_hit_set, runs_are_compared, successes_are_compared, successes_fit,
     weak_texts_differ,
 };
+pub use bx_tree::Memory;
 pub use retiring::{RetireTally, Retired, retire_empty};
-
-/// Out of memory, the one refusal that no contract ties to a cause.
-pub type Memory = std::alloc::AllocError;

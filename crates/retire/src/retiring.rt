@@ -9,11 +9,11 @@ ghost use Rattle.retire.specs.Builds.{Fair, IsBuild, IsFair, LeavesFair, LeavesU
 ghost use Rattle.retire.specs.Builds.{Spares};
 ghost use Rattle.retire.specs.Keeping.{OnlyPuts};
 
-use crate::Memory;
 use crate::counting::run_count;
 use crate::deciding::decide_all;
 use crate::keeping::keep_all;
 use bx_io::{Gate, Keeper};
+use bx_tree::Memory;
 use one_thread::{Frame, build_all, outputs, outputs_keep_apart};
 use pip_model::{Made, Plan, Sources};
 use std::alloc::Global;

@@ -21,6 +21,3 @@ pub use held::HeldContents;
 pub use keeping::{SaveResult, keep};
 pub use laws::keeps_honest;
 pub use lookups::{LookupResult, lookup};
-
-/// Out of memory, the one refusal that no contract ties to a cause.
-pub type Memory = std::alloc::AllocError;

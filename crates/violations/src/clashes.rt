@@ -10,10 +10,9 @@ ghost use Rattle.violations.specs.Verdicts.{with_pip};
 ghost use Rattle.violations.specs.DoubleWrites as double_writes;
 ghost use Rattle.pip_model_types.specs.Kinds.{outdirs_of};
 
-use crate::Memory;
 use crate::classes::with_other;
 use crate::verdict::{DeedKind, Violation, ViolationKind};
-use bx_tree::Path;
+use bx_tree::{Memory, Path};
 use pip_model::{Made, MadeFile, OutDir, Pip, PipKind, Plan, Slot};
 
 fn outdirs_of(kind: &PipKind) -> &[OutDir]

@@ -13,12 +13,10 @@ mod producing;
 mod producing_laws;
 mod verdict;
 
+pub use bx_tree::Memory;
 pub use clashes::double_write;
 pub use classes::classify;
 pub use laws::leads_are_walks;
 pub use producing::{dirs_at, least_unseen};
 pub use producing_laws::unseen_is_produced;
 pub use verdict::{DeedKind, Verdict, Violation, ViolationKind};
-
-/// Out of memory, the one refusal that no contract ties to a cause.
-pub type Memory = std::alloc::AllocError;
