@@ -3,8 +3,8 @@ use Rattle.std.proofs.Common.{◌≡◌, ℕ, zero, suc, ◌≤◌, ◌<◌, Boo
 use Rattle.std.specs.List.{flat_map, AllByRecursion}
 use Rattle.std.proofs.lemmas.List.{append-nil}
 use Rattle.std.proofs.lemmas.List.Concat.{flat_map-cons}
-use Rattle.prints.specs.declared.text_fault.TextFault.{TextFault}
-use Rattle.prints.specs.declared.text_fault.TextFault.TheVariants as faults
+use Rattle.prints.specs.declared.fault.PrintFault.{PrintFault}
+use Rattle.prints.specs.declared.fault.PrintFault.TheVariants as faults
 use Rattle.prints.specs.Forms.{Anything, IsForm}
 use Rattle.prints.specs.Lines.{some_lines, lines_at}
 use Rattle.prints.specs.Reading.{Taken, Takes, TakesItems, ◌>>=◌}
@@ -147,6 +147,6 @@ module _ {X : Type 0} (starts : List ℕ → Bool) (r : List ℕ → Taken X) (p
           ∙ ap (λ xs. Some (xs, rest)) (append-nil prefix)
 
   -- what a fault in a line says of the lines
-  pub faulty : (after : List ℕ) (e : TextFault) → starts rest ≡ true → Takes (Err e) after (r rest) → IsUnderWay starts r prefix rest all → TakesItems {X = X} (Err e) after all
-  faulty after faults.Bad start e way = no_line start e way
+  pub faulty : (after : List ℕ) (e : PrintFault) → starts rest ≡ true → Takes (Err e) after (r rest) → IsUnderWay starts r prefix rest all → TakesItems {X = X} (Err e) after all
+  faulty after faults.BadPrint start e way = no_line start e way
   faulty after faults.Memory start e way = tt

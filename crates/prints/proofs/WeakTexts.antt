@@ -1,5 +1,5 @@
 -- What a weak text is read as.
-use Rattle.std.proofs.Common.{◌≡◌, ℕ, suc, ◌+◌, true, false, cond, ◌==◌, List, [], ◌∷◌, ◌++◌, length, map, codes, Option, Some, None, refl, sym, ap, subst, ◌∙◌, append_assoc, arith}
+use Rattle.std.proofs.Common.{◌≡◌, ℕ, suc, ◌+◌, true, false, cond, ◌==◌, List, [], ◌∷◌, ◌++◌, length, map, codes, Option, Some, None, Result, Ok, Err, IfOk, refl, sym, ap, subst, ◌∙◌, append_assoc, arith}
 use Rattle.std.specs.List.{AllByRecursion, flat_map}
 use Rattle.std.specs.List.Sorted.{IsStrictlySortedBy}
 use Rattle.std.specs.Cmp.Lexicographic.{slice_cmp}
@@ -24,10 +24,12 @@ use Rattle.pip_model_types.specs.declared.dir_inputs.DirInput.TheVariants.{Seale
 use Rattle.pip_model_types.specs.declared.outputs.OutDir.{OutDir}
 use Rattle.prints.specs.Forms.{IsForm}
 use Rattle.prints.specs.Lines.{begins, rises}
-use Rattle.prints.specs.Reading.{both_at}
+use Rattle.prints.specs.Reading.{Gives, both_at}
 use Rattle.prints.proofs.Combining.{after_form, as_form, both_form, form_of, only_form, pair_form, whole_again, whole_read}
 use Rattle.prints.proofs.LineLists.{lines_form}
 use Rattle.prints.proofs.Rising.{map_same, rising_sorted, rising_sorted_by, sorted_by_rising, sorted_rising}
+use Rattle.prints.specs.declared.fault.PrintFault.{PrintFault}
+use Rattle.prints.specs.declared.fault.PrintFault.TheVariants as faults
 use Rattle.prints.specs.declared.weak_reading.Head.{Head}
 use Rattle.prints.specs.declared.weak_reading.Lists.{Lists}
 use Rattle.prints.specs.declared.weak_lines.DirLine.{DirLine}
@@ -459,3 +461,17 @@ weak_again w h = ap read_weak_text (sym (same_text w)) ∙ whole_again weak_form
 
 pub no_weak : (text : List ℕ) → read_weak_text text ≡ None → (w : WeakParts) → IsWeak w → text ≡ weak_text w → ⊥
 no_weak text none w h is = let clash : Some (without_pips w) ≡ None = sym (ap read_weak_text is ∙ weak_again w h) ∙ none in cc
+
+-- ## What a reader of weak texts gives
+
+pub weak_found : (text : List ℕ) (r : Result WeakParts PrintFault) → Gives r (read_weak_text text) → IfOk r (λ w. IsWeak w × (text ≡ weak_text w))
+weak_found text (Ok w) h = let s = weak_sound text w h in (s.0, s.2)
+weak_found text (Err e) h = tt
+
+pub weak_pips : (text : List ℕ) (r : Result WeakParts PrintFault) → Gives r (read_weak_text text) → IfOk r (λ w. without_pips w ≡ w)
+weak_pips text (Ok w) h = (weak_sound text w h).1
+weak_pips text (Err e) h = tt
+
+pub weak_refused : (text : List ℕ) (r : Result WeakParts PrintFault) → Gives r (read_weak_text text) → r ≡ Err faults.BadPrint
+    → (w : WeakParts) → IsWeak w → text ≡ weak_text w → ⊥
+weak_refused text r h bad w is same = no_weak text (subst (λ (s : Result WeakParts PrintFault). Gives s (read_weak_text text)) bad h) w is same

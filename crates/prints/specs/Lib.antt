@@ -1,4 +1,3 @@
-pub mod Answers
 pub mod Processes
 pub mod Weak
 pub mod ReadWeak

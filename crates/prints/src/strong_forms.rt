@@ -2,7 +2,6 @@
 ghost use Rattle.std.specs.Prelude.{◌≡◌, ◌++◌, Err, IfOk, OnOk, Some, map};
 ghost use Rattle.sha2.specs.Sha256.{sha256};
 ghost use Rattle.prints.specs.Reading.{Gives};
-ghost use Rattle.prints.specs.Answers.{ReadsPrint};
 ghost use Rattle.prints.specs.Strong.{IsStrong, asked_parts, read_strong_text, strong_parts, strong_text};
 ghost use Rattle.prints.specs.declared.strong_parts.StrongParts.{StrongParts as AnyParts};
 
@@ -13,7 +12,6 @@ use crate::line::{append_lines, read_lines};
 use crate::part::append_digest;
 use crate::printed::Printed;
 use crate::strong_parts::{AnswerLine, AnswerLines, StrongParts};
-use crate::text_fault::TextFault;
 use bx_digest::{Digest, digest_of};
 use observed::{Answer, PathSet, View};
 use std::alloc::{AllocError, Global};
@@ -80,7 +78,7 @@ pub fn strong<V: View>(
 
 // The digests and answers of a text.
 #[tactic(auto, unfolding(crate::specs::Strong::read_strong_text))]
-fn parts_in(alloc: Global, bytes: &[u8]) -> Result<StrongParts, TextFault>
+fn parts_in(alloc: Global, bytes: &[u8]) -> Result<StrongParts, PrintFault>
     ensures { Gives result (read_strong_text bytes.now) }
 {
     let mut cursor = Cursor::of(bytes);
@@ -103,11 +101,7 @@ pub fn read_strong(alloc: Global, bytes: &[u8]) -> Result<StrongParts, PrintFaul
     ensures found { IfOk result (λ parts. IsStrong parts × (bytes.now ≡ strong_text parts)) }
     ensures none { result ≡ Err PrintFault.BadPrint → (parts : AnyParts) →
         IsStrong parts → bytes.now ≡ strong_text parts → ⊥ }
-    ensures read { ReadsPrint result (read_strong_text bytes.now) }
+    ensures read { Gives result (read_strong_text bytes.now) }
 {
-    match parts_in(alloc, bytes) {
-        Ok(parts) => Ok(parts),
-        Err(TextFault::Bad) => Err(PrintFault::BadPrint),
-        Err(TextFault::Memory) => Err(PrintFault::Memory),
-    }
+    parts_in(alloc, bytes)
 }
