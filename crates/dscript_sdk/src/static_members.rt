@@ -15,7 +15,7 @@ ghost use Rattle.bx_tree.specs.FileInputs.{input_path};
 
 use crate::process_members::pip_at;
 use bx_tree::{FileInput, Memory, Path, Tree};
-use dscript_sdk_calls::{file_path, find_below, find_directly_in, static_path};
+use dscript_sdk_calls::{find_below, find_directly_in, static_path};
 use dscript_sdk_members::Member;
 use dscript_sdk_pips::SdkState;
 use dscript_sdk_values::{SdkFault, first_argument, list_value, read_path, share_file};
@@ -52,7 +52,7 @@ fn find_file<'a>(files: &'a [FileInput], path: &Path) -> Option<&'a FileInput>
         (λ file. file_with path.now files.now ≡ Some file.now) }
 {
     'files: for file in files {
-        if file_path(file) == path {
+        if file.path() == path {
             return Some(file);
         }
     }

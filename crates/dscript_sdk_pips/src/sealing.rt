@@ -17,7 +17,7 @@ ghost use Rattle.dscript_sdk_calls.specs.Sources.{files_below};
 ghost use Rattle.dscript_value.specs.Plain.{plain_of};
 ghost use Rattle.bx_tree.specs.FileInputs.{input_path};
 
-use crate::file_sets::{files_by_path, path_of};
+use crate::file_sets::files_by_path;
 use crate::site::Site;
 use crate::state::SdkState;
 use bx_tree::{FileInput, Memory, Path, Tree};
@@ -138,7 +138,7 @@ fn are_below(dir: &Path, files: &[FileInput]) -> bool
     ensures { result ≡ seals.are_below dir.now files.now }
 {
     'files: for file in files {
-        if !lies_below(dir, path_of(file)) {
+        if !lies_below(dir, file.path()) {
             return false;
         }
     }
@@ -150,9 +150,7 @@ fn has_path(files: &[FileInput], path: &Path) -> bool
     requires { RiseByPath files.now }
     ensures { IsTrue result ↔ Contains (map input_path files.now) path.now }
 {
-    files
-        .binary_search_by(|file| path_of(file).cmp(path))
-        .is_ok()
+    files.binary_search_by(|file| file.path().cmp(path)).is_ok()
 }
 
 // Whether one of the files of a seal has a path.

@@ -9,7 +9,6 @@ ghost use Rattle.dscript_value.specs.Equality.{same_argument, same_artifact, sam
 ghost use Rattle.dscript_value.specs.Equality.{same_static};
 ghost use Rattle.dscript_value.specs.Equality.{static_kind, static_path, static_pip, unanswered};
 ghost use Rattle.dscript_value.specs.Plain.{plain_of};
-ghost use Rattle.bx_tree.specs.FileInputs.{input_path};
 
 use crate::parts::{Argument, Artifact, RelativePath, StaticDir};
 use crate::value::Value;
@@ -19,18 +18,10 @@ use bx_tree::{FileInput, Path, Text};
 #[derive(Clone, Copy, Debug, PartialEq, Eq)]
 pub struct NoOrder;
 
-fn path_of(file: &FileInput) -> &Path
-    ensures { result.now ≡ input_path file.now }
-{
-    match file {
-        FileInput::Source(path) | FileInput::Made(path, _) => path,
-    }
-}
-
 fn same_files(a: &FileInput, b: &FileInput) -> bool
     ensures { result ≡ same_file a.now b.now }
 {
-    path_of(a) == path_of(b)
+    a.path() == b.path()
 }
 
 fn kind_of(dir: &StaticDir) -> u8
@@ -89,7 +80,7 @@ fn path_of_artifact(artifact: &Artifact) -> &Path
     ensures { result.now ≡ artifact_path artifact.now }
 {
     match artifact {
-        Artifact::Input(file) => path_of(file),
+        Artifact::Input(file) => file.path(),
         Artifact::InputDir(dir) => root_of(dir),
         Artifact::Output(path) | Artifact::OutputDir(path) | Artifact::Plain(path) => path,
     }

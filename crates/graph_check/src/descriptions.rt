@@ -8,19 +8,10 @@ ghost use Rattle.pip_model_types.specs.Dirs.{dir_path, form_rank};
 ghost use Rattle.graph_check.specs.Descriptions.{description};
 ghost use Rattle.graph_check.specs.ProcessOrder.{call_cmp, env_cmp, file_cmp, form_cmp, inputs_cmp};
 ghost use Rattle.graph_check.specs.ProcessOrder.{maker_rank, outputs_cmp, process_cmp, text_cmp};
-ghost use Rattle.bx_tree.specs.FileInputs.{input_path};
 
 use bx_tree::{FileInput, Path, Text};
 use pip_model_types::{DirInput, EnvPair, ProcessDesc, SealForm};
 use std::cmp::Ordering;
-
-fn file_path(file: &FileInput) -> &Path
-    ensures { result.now ≡ input_path file.now }
-{
-    match file {
-        FileInput::Source(path) | FileInput::Made(path, _) => path,
-    }
-}
 
 fn args_order(a: &[Text], b: &[Text]) -> Ordering
     ensures { result ≡ slice_cmp text_cmp a.now b.now }
@@ -52,8 +43,8 @@ fn files_order(a: &[FileInput], b: &[FileInput]) -> Ordering
     ensures { result ≡ slice_cmp file_cmp a.now b.now }
 {
     a.iter()
-        .map(|file| (file_path(file), file_maker(file)))
-        .cmp(b.iter().map(|file| (file_path(file), file_maker(file))))
+        .map(|file| (file.path(), file_maker(file)))
+        .cmp(b.iter().map(|file| (file.path(), file_maker(file))))
 }
 
 // The path of a directory.

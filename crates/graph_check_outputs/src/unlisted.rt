@@ -10,22 +10,12 @@ use crate::tree_order::{count_before, is_within};
 use bx_tree::{FileInput, Path};
 use pip_model_types::SealDesc;
 
-fn file_path(file: &FileInput) -> &Path
-    ensures { result.now ≡ input_path file.now }
-{
-    match file {
-        FileInput::Source(path) | FileInput::Made(path, _) => path,
-    }
-}
-
 // Whether a path is that of one of these files.
 fn is_listed(files: &[FileInput], path: &Path) -> bool
     requires { RiseByPath files.now }
     ensures { IsTrue result ↔ Contains (map input_path files.now) path.now }
 {
-    files
-        .binary_search_by(|file| file_path(file).cmp(path))
-        .is_ok()
+    files.binary_search_by(|file| file.path().cmp(path)).is_ok()
 }
 
 fn is_member(seal: &SealDesc, path: &Path) -> bool

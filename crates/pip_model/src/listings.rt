@@ -4,10 +4,9 @@ ghost use Rattle.std.specs.Prelude.{◌≡◌, ◌++◌, ◌∷◌, [], ◌≤�
 ghost use Rattle.pip_model.specs.Listings.{HasListingsOf, HasNear, KeepsFound, ListsNear, has_wide as any_wide};
 ghost use Rattle.pip_model.specs.Listings.{is_wide as kind_wide, listed_files};
 ghost use Rattle.pip_model.specs.Outputs.{found_in};
-ghost use Rattle.bx_tree.specs.FileInputs.{input_path};
 
 use crate::outputs::ByText;
-use bx_tree::{FileInput, Path};
+use bx_tree::FileInput;
 use pip_model_types::{Pip, PipKind};
 use std::alloc::{AllocError, Global};
 
@@ -29,14 +28,6 @@ fn has_wide(pips: &[Pip]) -> bool
     ensures { result ≡ any_wide pips.now }
 {
     pips.iter().any(|pip| is_wide(&pip.kind))
-}
-
-fn path_of(file: &FileInput) -> &Path
-    ensures { result.now ≡ input_path file.entry.now }
-{
-    match file {
-        FileInput::Source(path) | FileInput::Made(path, _) => path,
-    }
 }
 
 // Notes a pip at the text of each path above that with this text.
@@ -63,7 +54,7 @@ fn add_file(
     ensures kept { OnOk result (KeepsFound found.old.table found.new.table) }
     ensures near { OnOk result (HasNear (file.now ∷ []) number found.new.table) }
 {
-    let text = path_of(file).text().as_bytes();
+    let text = file.path().text().as_bytes();
     add_above(found, alloc, number, text)?;
     found.note(alloc, number, text)?;
     Ok(())

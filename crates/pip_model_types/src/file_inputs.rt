@@ -6,7 +6,7 @@ ghost use Rattle.bx_tree.specs.Paths.{same_path};
 ghost use Rattle.pip_model_types.specs.Inputs.{RiseByPath};
 ghost use Rattle.bx_tree.specs.FileInputs.{input_path};
 
-use bx_tree::{FileInput, Path};
+use bx_tree::FileInput;
 use std::marker::Model;
 
 /// Files, sorted by path, of which no two have one path. Contracts see them as a list.
@@ -27,14 +27,6 @@ impl Model for FileInputs {
     ghost invariant = { λ f. RiseByPath f.files.items };
 }
 
-fn path_of(file: &FileInput) -> &Path
-    ensures { result.now ≡ input_path file.now }
-{
-    match file {
-        FileInput::Source(path) | FileInput::Made(path, _) => path,
-    }
-}
-
 // The files in the order of their paths.
 fn by_path(files: Vec<FileInput>) -> Vec<FileInput>
     requires { IsDistinct same_path (map input_path files.items) }
@@ -42,7 +34,7 @@ fn by_path(files: Vec<FileInput>) -> Vec<FileInput>
     ensures rising { RiseByPath result.items }
 {
     let mut files = files;
-    files.sort_unstable_by(|a, b| path_of(a).cmp(path_of(b)));
+    files.sort_unstable_by(|a, b| a.path().cmp(b.path()));
     files
 }
 

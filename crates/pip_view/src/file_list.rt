@@ -15,21 +15,13 @@ ghost use Rattle.bx_tree.specs.Ranges.{comes_before as path_before, prefix_below
 use crate::below::{comes_before, is_below, next_atom};
 use bx_tree::{FileInput, Memory, Path};
 
-pub(crate) fn path_of(file: &FileInput) -> &Path
-    ensures { result.now ≡ input_path file.entry.now }
-{
-    match file {
-        FileInput::Source(path) | FileInput::Made(path, _) => path,
-    }
-}
-
 fn place_of(files: &[FileInput], path: &Path) -> Option<usize>
     requires { RiseByPath files.now }
     ensures { MatchOption result
         (All (λ file. input_path file ≢ path.now) files.now)
         (λ place. (place < length files.now) × HoldsAt (λ file. input_path file ≡ path.now) files.now place) }
 {
-    files.binary_search_by(|file| path_of(file).cmp(path)).ok()
+    files.binary_search_by(|file| file.path().cmp(path)).ok()
 }
 
 // The file at a path.
@@ -52,7 +44,7 @@ fn count_before(files: &[FileInput], prefix: &[u8]) -> usize
         (λ (file : AnyFile). path_before prefix.now (input_path file) ≡ false)
         files.now result }
 {
-    files.partition_point(|file| comes_before(path_of(file), prefix))
+    files.partition_point(|file| comes_before(file.path(), prefix))
 }
 
 // The files from the first that may lie below a directory on, whose paths begin with these bytes.
@@ -70,7 +62,7 @@ fn from_prefix<'a>(files: &'a [FileInput], prefix: &[u8], dir: &Path) -> &'a [Fi
 fn begins(file: &FileInput, prefix: &[u8]) -> bool
     ensures { result ≡ begins_with prefix.now file.now }
 {
-    path_of(file).text().as_bytes().starts_with(prefix)
+    file.path().text().as_bytes().starts_with(prefix)
 }
 
 // Whether one of the first files, whose paths begin with these bytes, lies below a directory.
@@ -81,7 +73,7 @@ fn any_first(files: &[FileInput], prefix: &[u8], dir: &Path) -> bool
         if !begins(file, prefix) {
             return false;
         }
-        if is_below(path_of(file), dir) {
+        if is_below(file.path(), dir) {
             return true;
         }
     }
@@ -103,7 +95,7 @@ fn add_name<'a>(names: &mut Vec<&'a [u8]>, file: &'a FileInput, dir: &Path) -> R
     ensures { OnOk result (texts_now names.new.items
         ≡ texts_now names.old.items ++ taken_names dir.now (file.entry.now ∷ [])) }
 {
-    if let Some(name) = next_atom(dir, path_of(file)) {
+    if let Some(name) = next_atom(dir, file.path()) {
         names.push(name)?;
     }
     Ok(())

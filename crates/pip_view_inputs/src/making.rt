@@ -7,7 +7,6 @@ ghost use Rattle.pip_model_types.specs.declared.pip.ProcessDesc.{ProcessDesc as 
 ghost use Rattle.pip_view_inputs.specs.Results.{files_by};
 ghost use Rattle.pip_view_inputs.specs.Contents.{bytes_at, input_bytes, input_file as file_of_input};
 ghost use Rattle.pip_view_inputs.specs.Plain.{desc_of, kind_process, plain_at, plain_of, process_in};
-ghost use Rattle.bx_tree.specs.FileInputs.{input_path};
 
 use crate::inputs::Inputs;
 use crate::sharing::share_process;
@@ -58,15 +57,6 @@ fn input_blob(
     }
 }
 
-fn path_of(file: &FileInput) -> &Path
-    ensures { result.now ≡ input_path file.now }
-{
-    match file {
-        FileInput::Source(path) => path,
-        FileInput::Made(path, _) => path,
-    }
-}
-
 /// A file that a pip takes, with its bytes.
 pub fn input_file(
     alloc: Global,
@@ -78,7 +68,7 @@ pub fn input_file(
         (taken.path, taken.blob) ≡ file_of_input sources.now inputs.now file.now) }
 {
     Ok(MadeFile {
-        path: path_of(file).share()?,
+        path: file.path().share()?,
         blob: input_blob(alloc, sources, inputs, file)?,
     })
 }
