@@ -1,4 +1,5 @@
 pub mod PathTexts
+pub mod Roots
 pub mod AnyElement
 pub mod FileSearch
 pub mod HeaderParts

@@ -1,5 +1,5 @@
 -- Paths: lists of atoms, their texts, which path is below which, and their order.
-use Rattle.std.specs.Prelude.{◌≡◌, ◌≢◌, ℕ, ◌<◌, ◌≤◌, Bool, IsTrue, ◌&&◌, ◌||◌, ◌==◌, nat_le, nat_eq, cond}
+use Rattle.std.specs.Prelude.{◌≡◌, ◌≢◌, ℕ, ◌<◌, ◌≤◌, Bool, true, false, IsTrue, ◌&&◌, ◌||◌, ◌==◌, nat_le, nat_eq, cond}
 use Rattle.std.specs.Prelude.{List, [], ◌∷◌, ◌++◌, length, codes, ◌⊎◌}
 use Rattle.std.specs.List.{AllByRecursion, join_with_byte, list_any, slice_split}
 use Rattle.std.specs.Cmp.Lexicographic.{slice_cmp, pointwise}
@@ -44,6 +44,11 @@ pub record Names (text : List ℕ) (path : Atoms) : Type 0 where
 -- a path text: one that names a path
 abbrev pub IsPathText : List ℕ → Type 0
 IsPathText text = (path : Atoms) × Names text path
+
+-- whether the path is the root, which has no atoms
+abbrev pub is_root : Atoms → Bool
+is_root [] = true
+is_root (atom ∷ rest) = false
 
 -- the path lies strictly below the directory
 abbrev pub IsBelow : Atoms → Atoms → Type 0

@@ -5,7 +5,8 @@ ghost use Rattle.std.specs.List.{AllByRecursion, slice_split};
 ghost use Rattle.std.specs.Ordering.{as_partial_cmp};
 ghost use Rattle.std.proofs.Common.{rules};
 ghost use Rattle.bx_tree.specs.Paths.{IsAtom, TextBelow, IsBelow, IsPath, IsPathText, Names};
-ghost use Rattle.bx_tree.specs.Paths.{is_atom_byte as atom_byte, path_cmp, path_text, same_path};
+ghost use Rattle.bx_tree.specs.Paths.{is_atom_byte as atom_byte, is_root as has_no_atoms, path_cmp, path_text};
+ghost use Rattle.bx_tree.specs.Paths.{same_path};
 ghost use Rattle.bx_tree.specs.Orders.{path_cmp_total, path_cmp_matches, path_cmp_partial};
 ghost use Rattle.bx_tree.specs.Orders.{same_path_equiv, same_path_partial};
 
@@ -167,6 +168,21 @@ impl Path {
         ensures is_path { IsPath self.now }
     {
         self.text.as_str()
+    }
+
+    /// Whether the path is the root.
+    pub fn is_root(&self) -> bool
+        ensures root { IsTrue result ↔ (self.now ≡ []) }
+        ensures value { result ≡ has_no_atoms self.now }
+    {
+        self.text() == "."
+    }
+
+    /// Whether the path is the other one.
+    pub fn is_same(&self, other: &Path) -> bool
+        ensures { IsTrue result ↔ (self.now ≡ other.now) }
+    {
+        self == other
     }
 
     /// Whether the path lies strictly below a directory.

@@ -12,16 +12,10 @@ fn makes_file(kind: &PipKind, path: &Path) -> bool
 {
     match kind {
         PipKind::Process(process) => process.outs.has(path),
-        PipKind::Copy(copy) => is_same_path(&copy.to, path),
-        PipKind::Write(write) => is_same_path(&write.to, path),
+        PipKind::Copy(copy) => copy.to.is_same(path),
+        PipKind::Write(write) => write.to.is_same(path),
         PipKind::Seal(_) => false,
     }
-}
-
-fn is_same_path(a: &Path, b: &Path) -> bool
-    ensures { IsTrue result ↔ (a.now ≡ b.now) }
-{
-    a == b
 }
 
 fn is_same_form(a: SealForm, b: SealForm) -> bool
@@ -34,7 +28,7 @@ fn is_seal_of(kind: &PipKind, form: SealForm, root: &Path) -> bool
     ensures { IsTrue result ↔ IsSealOf form root.now kind.now }
 {
     match kind {
-        PipKind::Seal(seal) => is_same_form(seal.form, form) && is_same_path(&seal.root, root),
+        PipKind::Seal(seal) => is_same_form(seal.form, form) && seal.root.is_same(root),
         _ => false,
     }
 }
@@ -42,7 +36,7 @@ fn is_seal_of(kind: &PipKind, form: SealForm, root: &Path) -> bool
 fn is_outdir(dirs: &[OutDir], path: &Path) -> bool
     ensures { IsTrue result ↔ Any (λ dir. dir.path ≡ path.now) dirs.now }
 {
-    dirs.iter().any(|dir| is_same_path(&dir.path, path))
+    dirs.iter().any(|dir| dir.path.is_same(path))
 }
 
 fn has_outdir(kind: &PipKind, path: &Path) -> bool

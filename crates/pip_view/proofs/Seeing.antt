@@ -4,7 +4,7 @@ use Rattle.std.specs.Prelude.{is_some, slice_get}
 use Rattle.std.specs.List.{filter_map, list_any}
 use Rattle.std.specs.List.Sorted.{IsStrictlySortedBy}
 use Rattle.std.proofs.lemmas.Bool.{false≢true}
-use Rattle.bx_tree.specs.Paths.{Atoms}
+use Rattle.bx_tree.specs.Paths.{Atoms, is_root}
 use Rattle.bx_tree.specs.Trees.{Files, file_at, paths_of}
 use Rattle.observed.proofs.OneSet.{contains_has, has_contained}
 use Rattle.observed.specs.Members.{Has}
@@ -22,7 +22,7 @@ use Rattle.pip_model_types.specs.declared.pip.ProcessDesc.{ProcessDesc}
 use Rattle.pip_model_types.specs.declared.pip.PipKind.TheVariants.{Process, Copy, Write, Seal}
 use Rattle.tool_run.specs.Listings.{add_names, names_text}
 use Rattle.pip_view.specs.InputFiles.{input_files, is_source_of}
-use Rattle.pip_view.specs.Sees.{as_input, as_source, is_root, looked, pip_sees}
+use Rattle.pip_view.specs.Sees.{as_input, as_source, looked, pip_sees}
 use Rattle.pip_view.specs.Seen.{AnswerAs, ViewData, answer_by_source, answer_elsewhere, answer_unnamed, is_sealed_at, is_unseen_at, named_by, named_in, opaque_by, opaque_in, taken_by, taken_in, view_answers}
 use Rattle.pip_view_inputs.specs.Plain.{kind_process, process_in}
 use Rattle.pip_view.proofs.ByPip.{named_split}

@@ -3,7 +3,7 @@ use Rattle.std.specs.Prelude.{◌≡◌, ◌↔◌, ℕ, Bool, ◌||◌, if◌th
 use Rattle.std.specs.Prelude.{Option, Some, None, is_some}
 use Rattle.std.specs.Prelude.{◌<◌, filter, length, slice_get}
 use Rattle.std.specs.List.{list_any}
-use Rattle.bx_tree.specs.Paths.{Atoms, same_path}
+use Rattle.bx_tree.specs.Paths.{Atoms, is_root, same_path}
 use Rattle.bx_tree.specs.Trees.{Files, file_at}
 use Rattle.observed.specs.declared.access.Answer.{Answer}
 use Rattle.observed.specs.declared.access.Answer.TheVariants as answers
@@ -21,7 +21,7 @@ use Rattle.pip_view.specs.Gathered.{members_of}
 use Rattle.pip_view.specs.InputFiles.{by_pip, is_opaque, is_source_of, named_files}
 use Rattle.pip_view_inputs.specs.Plain.{process_in}
 use Rattle.pip_view_inputs.specs.Results.{ByPip}
-use Rattle.pip_view.specs.Sees.{as_input, as_source, is_root, sees}
+use Rattle.pip_view.specs.Sees.{as_input, as_source, sees}
 use Rattle.pip_view.specs.Taken.{taken_bytes, taken_files}
 
 -- a view: the pips, the source files, what the inputs made, and the pip that sees

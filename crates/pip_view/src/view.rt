@@ -3,6 +3,7 @@ ghost use Rattle.std.specs.Prelude.{◌≡◌, ◌≢◌, ◌<◌, ◌||◌, IfO
 ghost use Rattle.std.specs.List.{filter_map, list_any};
 ghost use Rattle.tool_run_writes.specs.Below.{next_atom};
 ghost use Rattle.std.specs.Option.{option_copied};
+ghost use Rattle.bx_tree.specs.Paths.{is_root};
 ghost use Rattle.bx_tree.specs.Trees.{file_at};
 ghost use Rattle.tool_run_writes.specs.Writes.{has_below as file_below, own_names};
 ghost use Rattle.pip_view_inputs.specs.Plain.{process_in};
@@ -86,12 +87,6 @@ fn is_directly_in(path: &Path, dir: &Path) -> bool
         return false;
     }
     !text_below(dir, path).contains(&b'/')
-}
-
-fn is_root(path: &Path) -> bool
-    ensures { result ≡ seen.is_root path.now }
-{
-    path.text() == "."
 }
 
 // Whether a source file is a member of a directory, which is a seal of source files.
@@ -333,9 +328,9 @@ impl<'a> PipView<'a> {
     // Whether a path is the root, or a file lies below it, where `below` says whether an input file does.
     fn is_directory(&self, alloc: Global, path: &Path, below: bool) -> Result<bool, Memory>
         ensures { IfOk result (λ yes. yes
-            ≡ (below || seen.is_root path.now || file_below self.now.tree path.now)) }
+            ≡ (below || is_root path.now || file_below self.now.tree path.now)) }
     {
-        if below || is_root(path) {
+        if below || path.is_root() {
             return Ok(true);
         }
         has_below(alloc, self.sources.paths(), path)
