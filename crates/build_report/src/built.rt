@@ -72,7 +72,8 @@ fn add_pip(
     Ok(())
 }
 
-fn all_succeeded(verdicts: &[Verdict]) -> bool
+/// Whether all pips succeeded.
+pub fn all_succeeded(verdicts: &[Verdict]) -> bool
     ensures { result ≡ list_all ends.is_success verdicts.now }
 {
     verdicts.iter().all(|verdict| verdict.is_success())

@@ -9,7 +9,7 @@ mod counts;
 mod names;
 mod refusal;
 
-pub use built::report;
+pub use built::{all_succeeded, report};
 pub use bx_tree::Memory;
 pub use counts::{Counts, notes};
 pub use refusal::{MAX_SHOWN_BYTES, Refusal, refused_report};

@@ -10,4 +10,4 @@ mod joining;
 mod matching;
 
 pub use globbing::{GlobFault, MAX_PATTERN_BYTES, glob};
-pub use joining::join;
+pub use joining::{join, parts_of};

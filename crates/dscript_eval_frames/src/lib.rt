@@ -30,6 +30,7 @@ pub use machine::Machine;
 pub use made::{directory_of, function_at, object_value, text_of};
 pub use nodes::{element_parts, expr_cost, hole_parts, operand_parts, stmt_cost};
 pub use outcomes::stop_of;
+pub use own::first_of;
 pub use status::{Status, all_waiting, set_status, status_at};
 pub use stop::Stop;
 pub use work::{CallWork, Callback, Callbacks, ExprWork, Literal, StmtWork, Use, Work};

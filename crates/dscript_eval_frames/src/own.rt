@@ -54,7 +54,8 @@ pub(crate) fn value_in(
     }
 }
 
-fn first_of(values: &[Value], count: usize) -> &[Value]
+/// The first values, as many as this, or all if there are fewer.
+pub fn first_of(values: &[Value], count: usize) -> &[Value]
     ensures { map plain_of result.now ≡ take count (map plain_of values.now) }
 {
     if count < values.len() {

@@ -17,5 +17,6 @@ mod stmts;
 mod walker;
 
 pub use decls::Binder;
+pub use functions::number_of;
 pub use scene::Scene;
 pub use walker::Walker;

@@ -12,10 +12,10 @@ ghost use Rattle.dscript_sdk_calls.specs.CmdOption as options;
 ghost use Rattle.dscript_value.specs.Plain.{plain_of};
 ghost use Rattle.dscript_sdk_values.specs.PathTexts.{path_argument};
 
-use crate::paths::{artifact_path, path_bytes};
+use crate::paths::path_bytes;
 use bx_tree::{Memory, Path, Text};
 use dscript_sdk_values::{FromValue, MAX_TEXT_BYTES, SdkFault, first_argument, two_arguments};
-use dscript_value::{Argument, Artifact, Value};
+use dscript_value::{Argument, Artifact, Value, artifact_path};
 use std::alloc::Global;
 
 // A text with the one that follows it, if both together are short enough.

@@ -16,5 +16,5 @@ pub use artifacts::{artifact_input, artifact_none, artifact_output};
 pub use assertions::{contract_assert, contract_fail};
 pub use cmd::{cmd_argument, cmd_flag, cmd_option};
 pub use globs::glob_files;
-pub use paths::{artifact_path, path_bytes, static_path};
+pub use paths::path_bytes;
 pub use sources::{find_below, find_directly_in, find_files, lies_below};

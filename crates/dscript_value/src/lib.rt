@@ -17,9 +17,9 @@ mod parts;
 mod sharing;
 mod value;
 
-pub use comparing::{NoOrder, equal};
+pub use comparing::{NoOrder, artifact_path, equal, static_path};
 pub use growing::GrowingList;
 pub use makers::{DepthFault, MAX_DEPTH, ambient_function, list_of, member_of, place_function};
 pub use objects::object_of;
 pub use parts::{Argument, Artifact, Callee, RelativePath, StaticDir};
-pub use value::{Field, Fields, FlatValues, FunctionRef, Value, Values};
+pub use value::{Field, Fields, FlatValues, FunctionRef, Value, Values, field_name};

@@ -1,7 +1,7 @@
 use Rattle.std.proofs.Common.{rules, eqb}
 use Rattle.std.proofs.lemmas.Iterator.Consumers.{map_from_collect}
 use Rattle.std.proofs.lemmas.Iterator.Splits.{YieldsList-from_slice_split}
-use Rattle.tool_text.proofs.lines.lines_of.Goals as goal
+use Rattle.bx_tree.proofs.text.lines_of.Goals as goal
 
 pub returns : goal.returns
 returns c =
