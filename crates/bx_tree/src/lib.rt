@@ -18,6 +18,7 @@ mod tree_file;
 
 pub use bundle::{BundleFault, append_file, read_bundle, write_bundle};
 pub use file_input::FileInput;
+pub use header::split_once;
 pub use laws::{one_path, one_reading, some_reading};
 pub use limits::{MAX_ATOM_BYTES, MAX_BUNDLE_BYTES, MAX_FILE_BYTES, MAX_FILES, MAX_PATH_BYTES};
 pub use path::{Path, PathFault, is_atom, is_path};
