@@ -9,7 +9,7 @@ ghost use Rattle.prints.specs.Reading.{Ends, Gives, Takes, TakesPart, TakesWord}
 
 use crate::fault::PrintFault;
 use bx_digest::Digest;
-use bx_tree::{Path, PathFault, Text};
+use bx_tree::{Path, PathFault, Text, split_once};
 use std::alloc::Global;
 use std::marker::Model;
 use std::str;
@@ -36,17 +36,12 @@ pub fn after_word<'a>(word: &[u8], text: &'a [u8]) -> Option<&'a [u8]>
 }
 
 // The parts of a text before and after the first such byte.
-fn split_once(text: &[u8], byte: u8) -> Option<(&[u8], &[u8])>
+fn cut_at(text: &[u8], byte: u8) -> Option<(&[u8], &[u8])>
     ensures { MatchOption result
         (part_at byte text.now ≡ None)
         (λ parts. part_at byte text.now ≡ Some (parts.0.now, parts.1.now)) }
 {
-    for (i, b) in text.iter().enumerate() {
-        if *b == byte {
-            return Some((&text[..i], &text[i + 1..]));
-        }
-    }
-    None
+    split_once(text, byte)
 }
 
 /// The path that a text stands for, the root for `.`.
@@ -140,7 +135,7 @@ impl<'a> Cursor<'a> {
     pub fn part(&mut self, end: u8) -> Result<&'a [u8], PrintFault>
         ensures { TakesPart result self.new (part_at end self.old) }
     {
-        match split_once(self.bytes, end) {
+        match cut_at(self.bytes, end) {
             Some((part, rest)) => {
                 self.bytes = rest;
                 Ok(part)
