@@ -7,3 +7,4 @@ pub mod TreeGrowth
 pub mod OneReading
 pub mod TreeCheck
 pub mod SomeReading
+pub mod Sets

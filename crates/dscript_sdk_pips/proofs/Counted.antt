@@ -17,8 +17,9 @@ use Rattle.bx_tree.specs.declared.file_input.FileInput.TheVariants.{Source, Made
 use Rattle.dscript_sdk_pips.specs.FileSets.{AreCounted, FileMap, MayCount, counted, counting, file_for, files_by_path, put_file}
 use Rattle.dscript_sdk_pips.proofs.FilesKept.{Own, files_rise, keys, own_from, rising_from, values}
 use Rattle.dscript_sdk_pips.proofs.Listed.{path_kept}
-use Rattle.dscript_sdk_pips.proofs.OneSet.{Has, contains_has, has_contained}
 use Rattle.bx_tree.specs.FileInputs.{input_path}
+use Rattle.bx_tree.specs.Members.{Has}
+use Rattle.bx_tree.proofs.Sets.{contains_has, has_contained}
 
 -- ## Which of two files counts
 

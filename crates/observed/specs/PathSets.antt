@@ -4,9 +4,9 @@ use Rattle.std.specs.List.{AllByRecursion}
 use Rattle.std.specs.List.Sorted.{IsStrictlySortedBy}
 use Rattle.std.specs.BTreeSet.{insert_key}
 use Rattle.bx_tree.specs.Paths.{IsPath}
+use Rattle.bx_tree.specs.Members.{Has}
 use Rattle.observed.specs.declared.ask.Ask.{Ask}
 use Rattle.observed.specs.Asks.{ask_cmp}
-use Rattle.observed.specs.Members.{Has}
 
 -- a path set: asks of paths, which strictly rise
 pub record IsPathSet (asks : List Ask) : Type 0 where

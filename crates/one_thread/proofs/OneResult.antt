@@ -4,11 +4,11 @@ use Rattle.std.specs.Prelude.{slice_get}
 use Rattle.std.specs.Option.{option_to_list}
 use Rattle.bx_tree.specs.Paths.{Atoms, IsBelow}
 use Rattle.bx_tree.specs.Trees.{Files, NoneNested, paths_of}
+use Rattle.bx_tree.specs.Members.{Has}
+use Rattle.bx_tree.proofs.Sets.{contains_has}
 use Rattle.graph_check_outputs.specs.Outputs.{declared_files}
-use Rattle.observed.specs.Members.{Has}
 use Rattle.observed.specs.declared.access.Answer.{Answer}
 use Rattle.observed.specs.declared.ask.Ask.{Ask}
-use Rattle.observed.proofs.OneSet.{contains_has}
 use Rattle.one_thread.specs.OneThread.{Result, by_cause, by_outcome, failed, inputs_are_good, made_by, process_outcome, ran, result_of, unless_clash, violated, worked}
 use Rattle.pip_view_inputs.specs.Contents.{input_bytes}
 use Rattle.pip_view_inputs.specs.Plain.{desc_of}

@@ -6,11 +6,10 @@ use Rattle.std.specs.BTreeSet.{insert_key}
 use Rattle.std.specs.Ordering.{match_ordering}
 use Rattle.std.specs.declared.cmp.Ordering.{Ordering}
 use Rattle.std.specs.declared.cmp.Ordering.TheVariants.{Less, Equal, Greater}
-use Rattle.bx_tree.specs.Orders.{equal_paths}
 use Rattle.bx_tree.specs.Paths.{Atoms, path_cmp}
 use Rattle.bx_tree.specs.Trees.{Files, paths_of}
-use Rattle.observed.specs.Members.{Has}
-use Rattle.observed.proofs.OneSet.{has_insert}
+use Rattle.bx_tree.specs.Members.{Has}
+use Rattle.bx_tree.proofs.Sets.{has_insert}
 use Rattle.tool_run_writes.specs.Writes.{with_file}
 use Rattle.tool_run_writes.proofs.Unnested.{put_rising}
 use Rattle.pip_model_types.specs.Made.{RisingFiles}
@@ -33,7 +32,7 @@ put_paths (f ∷ fs) path bytes = by_order (path_cmp path f.0) (insert_entry pat
 pub has_put : (files : Files) (path : Atoms) (bytes : List ℕ) (q : Atoms) → Has (paths_of (with_file files path bytes)) q
     → (path ≡ q) ⊎ Has (paths_of files) q
 has_put files path bytes q h =
-    has_insert path_cmp equal_paths (paths_of files) path q (subst (λ (ps : List Atoms). Has ps q) (put_paths files path bytes) h)
+    has_insert path_cmp (paths_of files) path q (subst (λ (ps : List Atoms). Has ps q) (put_paths files path bytes) h)
 
 -- ## All files
 

@@ -3,25 +3,17 @@ use Rattle.std.proofs.Common.{◌≡◌, false, List, [], ◌∷◌, map, ap, sy
 use Rattle.std.specs.Cmp.{IsTotalOrder}
 use Rattle.std.specs.List.{AllByRecursion, IsDistinct}
 use Rattle.std.specs.List.Sorted.{IsPermutation, IsStrictlySortedBy}
-use Rattle.std.specs.Ordering.{is_eq, ordering_reverse}
+use Rattle.std.specs.Ordering.{is_eq}
 use Rattle.std.specs.declared.cmp.Ordering.{Ordering}
-use Rattle.std.specs.declared.cmp.Ordering.TheVariants.{Less, Equal, Greater}
+use Rattle.std.specs.declared.cmp.Ordering.TheVariants.{Less}
 use Rattle.std.proofs.lemmas.List.Sorted.{Contains-permutation, IsPermutation-sym}
 use Rattle.bx_tree.specs.Paths.{Atoms, path_cmp, same_path}
 use Rattle.bx_tree.specs.Orders.{path_cmp_total, path_cmp_matches}
 use Rattle.bx_tree.specs.declared.file_input.FileInput.{FileInput}
-use Rattle.observed.proofs.OneSet.{contains_has, has_contained, unique}
 use Rattle.pip_model_types.specs.Inputs.{RiseByPath}
 use Rattle.pip_model_types.specs.Sets.{IsSetOf}
 use Rattle.bx_tree.specs.FileInputs.{input_path}
-
-pub never_both : {K : Type 0} {R : K → K → Ordering} → IsTotalOrder R → (a b : K) → R a b ≡ Less → R b a ≡ Less → ⊥
-never_both {R = R} order a b e f = turned (R a b) (R b a) (order.antisymm a b) e f
-  where
-    turned : (o p : Ordering) → o ≡ ordering_reverse p → o ≡ Less → p ≡ Less → ⊥
-    turned o Less h e f = cc
-    turned o Equal h e f = cc
-    turned o Greater h e f = cc
+use Rattle.bx_tree.proofs.Sets.{contains_has, has_contained, unique, never_both}
 
 -- the set of a list that rises is the list
 pub set_same : {K : Type 0} {R : K → K → Ordering} → IsTotalOrder R → (given shared set : List K) → IsStrictlySortedBy R given → shared ≡ given

@@ -1,7 +1,7 @@
 -- Keeps of several records leave an honest store honest, and add their entries alone.
 use Rattle.std.proofs.Common.{◌≡◌, ◌⊎◌, ℕ, List, [], ◌∷◌, ◌++◌, Option, Some, refl, sym, ap, ◌∙◌, subst, inl, inr, append-nil}
 use Rattle.std.specs.List.{AllByRecursion}
-use Rattle.observed.specs.Members.{Has}
+use Rattle.bx_tree.specs.Members.{Has}
 use Rattle.bx_io.specs.Holdings.{Change, Holdings, IsPrefix, StoreState, holdings_after, state_after}
 use Rattle.bx_io.proofs.Changes.{after-append, known_after-append, known_after-nil}
 use Rattle.run_record.specs.Facts.{Facts, Sound}

@@ -3,13 +3,13 @@ use Rattle.std.proofs.Common.{◌≡◌, ℕ, zero, suc, ◌+◌, List, [], ◌�
 use Rattle.std.specs.Prelude.{slice_get}
 use Rattle.std.proofs.lemmas.List.{take-append-le, take_all}
 use Rattle.bx_tree.specs.Trees.{Files}
+use Rattle.bx_tree.specs.Members.{Has}
 use Rattle.bx_io.specs.Holdings.{Holdings}
 use Rattle.pip_model_types.specs.declared.desc.Desc.{Desc}
 use Rattle.pip_model_types.specs.declared.pip.Pip.{Pip}
 use Rattle.pip_model_types.specs.declared.pip.PipKind.{PipKind}
 use Rattle.pip_model_types.specs.declared.pip.PipKind.TheVariants.{Process, Copy, Write, Seal}
 use Rattle.pip_model_types.specs.declared.pip.ProcessDesc.{ProcessDesc}
-use Rattle.observed.specs.Members.{Has}
 use Rattle.observed.specs.declared.ask.Ask.{Ask}
 use Rattle.observed.specs.declared.access.Answer.{Answer}
 use Rattle.run_record.specs.Facts.{Facts}

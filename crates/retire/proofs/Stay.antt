@@ -1,8 +1,8 @@
 -- What is usable stays so while records of other processes are kept, and what was kept is usable.
 use Rattle.std.proofs.Common.{◌≡◌, ℕ, List, [], ◌∷◌, map, Option, Some, sym, ◌∙◌, subst, inl, inr, append-nil}
 use Rattle.std.specs.List.{AllByRecursion}
+use Rattle.bx_tree.specs.Members.{Has}
 use Rattle.pip_model_types.specs.declared.desc.Desc.{Desc}
-use Rattle.observed.specs.Members.{Has}
 use Rattle.observed.specs.declared.ask.Ask.{Ask}
 use Rattle.observed.specs.declared.access.Answer.{Answer}
 use Rattle.bx_io.specs.Holdings.{Holdings, StoreState, holdings_after, state_after}

@@ -21,10 +21,8 @@ use Rattle.pip_model_types.specs.declared.pip.PipKind.{PipKind}
 use Rattle.pip_model_types.specs.declared.pip.PipKind.TheVariants.{Process, Copy, Write, Seal}
 use Rattle.pip_model_types.specs.declared.pip.ProcessDesc.{ProcessDesc}
 use Rattle.graph_check.specs.Descriptions.{description, without_pip}
-use Rattle.observed.specs.Members.{Has}
 use Rattle.observed.specs.declared.ask.Ask.{Ask}
 use Rattle.observed.specs.declared.access.Answer.{Answer}
-use Rattle.observed.proofs.OneSet.{contains_has, has_contained}
 use Rattle.graph_check_outputs.specs.OutsideOut.{out_dir}
 use Rattle.graph_check_outputs.specs.Outputs.{declared_files}
 use Rattle.graph_check_outputs.specs.Outputs as outputs
@@ -48,6 +46,8 @@ use Rattle.retire.specs.Compared.{Compared, inputs_after}
 use Rattle.retire.specs.Runs.{RunsAs, results_before}
 use Rattle.retire.proofs.SoFar.{process_there, run_met}
 use Rattle.bx_tree.specs.FileInputs.{input_path}
+use Rattle.bx_tree.specs.Members.{Has}
+use Rattle.bx_tree.proofs.Sets.{contains_has, has_contained}
 
 same_some : {X : Type 0} (x y : X) → Some x ≡ Some y → x ≡ y
 same_some x y e = cc

@@ -2,24 +2,16 @@
 use Rattle.std.proofs.Common.{◌≡◌, ◌∙◌, ℕ, false, List, [], ◌∷◌, Result, Ok, Err, IfOk, refl, ap, map}
 use Rattle.std.specs.List.{AllByRecursion, IsDistinct}
 use Rattle.std.specs.List.Sorted.{IsPermutation, IsStrictlySortedBy}
-use Rattle.std.specs.Ordering.{eq_by_cmp, ordering_reverse}
+use Rattle.std.specs.Ordering.{eq_by_cmp}
 use Rattle.std.specs.declared.cmp.Ordering.{Ordering}
-use Rattle.std.specs.declared.cmp.Ordering.TheVariants.{Less, Equal, Greater}
+use Rattle.std.specs.declared.cmp.Ordering.TheVariants.{Less}
 use Rattle.std.proofs.lemmas.List.Sorted.{Contains-permutation, IsPermutation-sym}
 use Rattle.std.proofs.lemmas.Map.Keys.{IsDistinct-from_sorted}
 use Rattle.bx_tree.specs.Paths.{Atoms, path_cmp, same_path}
 use Rattle.bx_tree.specs.Trees.{Files, paths_of}
 use Rattle.bx_tree.specs.Orders.{path_cmp_matches, path_cmp_total}
-use Rattle.observed.proofs.OneSet.{contains_has, has_contained, unique}
+use Rattle.bx_tree.proofs.Sets.{contains_has, has_contained, unique, never_both}
 use Rattle.pip_model_types.specs.Made.{RisingFiles}
-
-never_both : (a b : Atoms) → path_cmp a b ≡ Less → path_cmp b a ≡ Less → ⊥
-never_both a b e f = turned (path_cmp a b) (path_cmp b a) (path_cmp_total.antisymm a b) e f
-  where
-    turned : (o p : Ordering) → o ≡ ordering_reverse p → o ≡ Less → p ≡ Less → ⊥
-    turned o Less h e f = cc
-    turned o Equal h e f = cc
-    turned o Greater h e f = cc
 
 abbrev by_path : Atoms × List ℕ → Atoms × List ℕ → Ordering
 by_path f g = path_cmp f.0 g.0
@@ -34,7 +26,7 @@ rising [] h = tt
 rising (f ∷ fs) h = (all_above f.0 fs h.0, rising fs h.1)
 
 pub same_rising : (xs ys : Files) → RisingFiles xs → RisingFiles ys → IsPermutation xs ys → ys ≡ xs
-same_rising xs ys s t moved = unique by_path (λ f g. never_both f.0 g.0) ys xs (rising ys t) (rising xs s)
+same_rising xs ys s t moved = unique by_path (λ f g. never_both path_cmp_total f.0 g.0) ys xs (rising ys t) (rising xs s)
     (λ q h. has_contained xs q (Contains-permutation ys xs q (IsPermutation-sym xs ys moved) (contains_has ys q h)))
     (λ q h. has_contained ys q (Contains-permutation xs ys q moved (contains_has xs q h)))
 

@@ -1,8 +1,8 @@
 -- What the puts of a record add to a store.
 use Rattle.std.proofs.Common.{◌≡◌, ◌⊎◌, ℕ, List, [], ◌∷◌, ◌++◌, map, Some, sym, ap, ◌∙◌, subst, inl, inr}
 use Rattle.std.specs.FinMap.{insert}
+use Rattle.bx_tree.specs.Members.{Has}
 use Rattle.sha2.specs.Sha256.{sha256}
-use Rattle.observed.specs.Members.{Has}
 use Rattle.bx_io.specs.Holdings.{Change, Holdings, IsPrefix, holdings_after}
 use Rattle.bx_io.proofs.Changes.{after-append}
 use Rattle.run_record.specs.Facts.{Facts}

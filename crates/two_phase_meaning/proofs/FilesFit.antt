@@ -10,7 +10,7 @@ use Rattle.std.specs.declared.cmp.Ordering.TheVariants.{Less, Equal, Greater}
 use Rattle.bx_tree.specs.Paths.{Atoms, has_path, path_cmp, same_path}
 use Rattle.bx_tree.specs.Trees.{Files, file_at, paths_of}
 use Rattle.bx_tree.specs.Orders.{equal_paths, same_path_decides}
-use Rattle.observed.specs.Members.{Has}
+use Rattle.bx_tree.specs.Members.{Has}
 use Rattle.observed.specs.declared.access.Access.{Access}
 use Rattle.observed.specs.declared.access.End.{End}
 use Rattle.observed.specs.declared.access.End.TheVariants as ends

@@ -1,9 +1,10 @@
 use Rattle.std.proofs.lemmas.List.Filters.{dedup_is}
 use Rattle.std.proofs.lemmas.List.Kept.{Contains-dedup, Contains-from_dedup, IsStrictlySortedBy-dedup}
 use Rattle.std.proofs.lemmas.List.Sorted.{Contains-permutation, IsPermutation-sym}
+use Rattle.bx_tree.proofs.Sets.{contains_has, has_contained}
 use Rattle.observed.specs.Asks.{same_ask}
 use Rattle.observed.specs.Orders.{ask_cmp_total, ask_cmp_matches, same_ask_equiv, same_ask_is}
-use Rattle.observed.proofs.OneSet.{contains_has, has_contained, only_set}
+use Rattle.observed.proofs.OneSet.{only_set}
 use Rattle.observed.proofs.path_set.PathSet.of.Goals as goal
 
 pub invariant_of-result : goal.invariant_of-result
