@@ -11,3 +11,4 @@ pub mod FileInputs
 pub mod Ranges
 pub mod TextTables
 pub mod Members
+pub mod Sets

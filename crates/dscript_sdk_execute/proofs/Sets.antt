@@ -6,7 +6,7 @@ use Rattle.std.specs.declared.cmp.Ordering.{Ordering}
 use Rattle.std.specs.declared.cmp.Ordering.TheVariants.{Equal}
 use Rattle.bx_tree.specs.Members.{Has}
 use Rattle.bx_tree.proofs.Sets.{contains_has, has_contained, has_insert, insert_sorted, inserted, never_both, unique}
-use Rattle.pip_model_types.specs.Sets.{IsSetOf}
+use Rattle.bx_tree.specs.Sets.{IsSetOf}
 use Rattle.dscript_sdk_execute.specs.Sets.{set_by}
 
 -- elements of the list that tie are equal

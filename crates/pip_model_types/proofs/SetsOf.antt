@@ -5,7 +5,7 @@ use Rattle.std.specs.declared.cmp.Ordering.{Ordering}
 use Rattle.std.proofs.lemmas.Bool.{and_parts, eqb-true}
 use Rattle.bx_tree.specs.Orders.{same_path_decides}
 use Rattle.bx_tree.specs.Paths.{Atoms, same_path}
-use Rattle.pip_model_types.specs.Sets.{IsSetOf, IsSetUpTo}
+use Rattle.bx_tree.specs.Sets.{IsSetOf, IsSetUpTo}
 use Rattle.pip_model_types.specs.Dirs.{same_dir, dir_path, dir_pip, form_rank, seal_rank}
 use Rattle.pip_model_types.specs.Outputs.{same_outdir, sharing_rank}
 use Rattle.pip_model_types.specs.declared.dir_inputs.SealForm.{SealForm}

@@ -11,9 +11,9 @@ use Rattle.bx_tree.specs.Paths.{Atoms, path_cmp, same_path}
 use Rattle.bx_tree.specs.Orders.{path_cmp_total, path_cmp_matches}
 use Rattle.bx_tree.specs.declared.file_input.FileInput.{FileInput}
 use Rattle.pip_model_types.specs.Inputs.{RiseByPath}
-use Rattle.pip_model_types.specs.Sets.{IsSetOf}
 use Rattle.bx_tree.specs.FileInputs.{input_path}
 use Rattle.bx_tree.proofs.Sets.{contains_has, has_contained, unique, never_both}
+use Rattle.bx_tree.specs.Sets.{IsSetOf}
 
 -- the set of a list that rises is the list
 pub set_same : {K : Type 0} {R : K → K → Ordering} → IsTotalOrder R → (given shared set : List K) → IsStrictlySortedBy R given → shared ≡ given

@@ -10,13 +10,13 @@ use Rattle.std.proofs.lemmas.List.Sorted.{Contains-permutation, IsPermutation-sy
 use Rattle.bx_tree.specs.Paths.{Atoms, path_cmp, same_path}
 use Rattle.bx_tree.specs.Orders.{path_cmp_total, path_cmp_matches}
 use Rattle.pip_model_types.specs.Inputs.{RiseByPath}
-use Rattle.pip_model_types.specs.Sets.{IsSetOf}
 use Rattle.prints.specs.Lines.{rises}
 use Rattle.prints.proofs.Rising.{rising_sorted}
 use Rattle.prints.specs.declared.weak_lines.FileLine.{FileLine}
 use Rattle.prints.specs.ReadWeak.{file_before, sources_of}
 use Rattle.bx_tree.specs.FileInputs.{input_path}
 use Rattle.bx_tree.proofs.Sets.{contains_has, has_contained, unique, never_both}
+use Rattle.bx_tree.specs.Sets.{IsSetOf}
 
 -- the set of a list that rises is the list
 pub set_same : {K : Type 0} {R : K → K → Ordering} → IsTotalOrder R → (given set : List K) → IsStrictlySortedBy R given → IsSetOf R given set → set ≡ given
