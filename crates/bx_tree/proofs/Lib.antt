@@ -8,3 +8,4 @@ pub mod OneReading
 pub mod TreeCheck
 pub mod SomeReading
 pub mod Sets
+pub mod TextTables
