@@ -9,3 +9,4 @@ pub mod TreeCheck
 pub mod SomeReading
 pub mod Sets
 pub mod TextTables
+pub mod InOrder
