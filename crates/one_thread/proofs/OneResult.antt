@@ -2,6 +2,7 @@
 use Rattle.std.proofs.Common.{◌≡◌, ◌⊎◌, ℕ, Bool, true, false, cond, List, [], ◌∷◌, take, Option, Some, None, refl, ap, sym, ◌∙◌, subst, inl, inr}
 use Rattle.std.specs.Prelude.{slice_get}
 use Rattle.std.specs.Option.{option_to_list}
+use Rattle.tool_run_writes.proofs.Unnested.{not_itself}
 use Rattle.bx_tree.specs.Paths.{Atoms, IsBelow}
 use Rattle.bx_tree.specs.Trees.{Files, NoneNested, paths_of}
 use Rattle.bx_tree.specs.Members.{Has}
@@ -35,7 +36,6 @@ use Rattle.violations.specs.DoubleWrites.{clash_at, clash_of, outdirs_in}
 use Rattle.one_thread.specs.Keeping.{AreOwnOutputs, Makes}
 use Rattle.one_thread.proofs.Making.{good_files, has_last, with_console_has, written_makes}
 use Rattle.one_thread.proofs.Meeting.{Apart, below_file, file_below}
-use Rattle.one_thread.proofs.Prefixes.{not_itself}
 use Rattle.pip_model_types.specs.Kinds.{outdirs_of}
 
 -- each run keeps to its description

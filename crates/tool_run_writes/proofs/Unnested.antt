@@ -44,7 +44,7 @@ longer : (path rest : Atoms) → rest ≢ [] → path ≡ path ++ rest → ⊥
 longer [] rest some e = some (sym e)
 longer (a ∷ as') rest some e = let f : as' ≡ as' ++ rest = cc in longer as' rest some f
 
-not_itself : (path : Atoms) → IsBelow path path → ⊥
+pub not_itself : (path : Atoms) → IsBelow path path → ⊥
 not_itself path h = longer path h.0 h.1 h.2
 
 -- ## A file more
@@ -66,7 +66,7 @@ put_rising files path bytes h =
     subst (IsStrictlySortedBy path_cmp) (sym (put_paths files path bytes)) (insert_sorted path_cmp_total (paths_of files) path h)
 
 -- a path of the files with one more is that of the one, or one of theirs
-put_has : (files : Files) (path : Atoms) (bytes : List ℕ) (q : Atoms) → Has (paths_of (insert_entry path_cmp files path bytes)) q
+pub put_has : (files : Files) (path : Atoms) (bytes : List ℕ) (q : Atoms) → Has (paths_of (insert_entry path_cmp files path bytes)) q
     → (path ≡ q) ⊎ Has (paths_of files) q
 put_has files path bytes q h = has_insert path_cmp (paths_of files) path q (subst (λ (ps : List Atoms). Has ps q) (put_paths files path bytes) h)
 
