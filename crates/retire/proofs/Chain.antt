@@ -3,7 +3,7 @@ use Rattle.std.proofs.Common.{◌≡◌, ◌⊎◌, ℕ, List, [], ◌∷◌, �
 use Rattle.std.specs.List.{AllByRecursion}
 use Rattle.bx_tree.specs.Members.{Has}
 use Rattle.bx_io.specs.Holdings.{Change, Holdings, IsPrefix, StoreState, holdings_after, state_after}
-use Rattle.bx_io.proofs.Changes.{after-append, known_after-append, known_after-nil}
+use Rattle.bx_io.proofs.Changes.{after-append, known_after-append, known_after-nil, nothing_before}
 use Rattle.run_record.specs.Facts.{Facts, Sound}
 use Rattle.memo_format.specs.StoreNames.{HoldsBlob, HoldsEntry}
 use Rattle.memo_format.specs.declared.entry.Entry.{Entry}
@@ -46,10 +46,6 @@ IsOfOne fs e = (f : Facts) × Has fs f × (e ≡ record_entry f)
 pub record Leaves (before : StoreState) (fs : List Facts) (now : Option StoreState) : Type 0 where
   pub honest : LeavesHonest before now
   pub adds : (kept : StoreState) → now ≡ Some kept → (e : Entry) → HoldsEntry kept.held e → HoldsEntry before.held e ⊎ IsOfOne fs e
-
-nothing_before : (start : List Change) → IsPrefix start [] → start ≡ []
-nothing_before [] p = refl
-nothing_before (c ∷ cs) p = let joined : c ∷ (cs ++ p.rest) ≡ [] = p.joined in absurd cc
 
 module _ (M : List ℕ → Type 0) (apart : NoCollision M) where
   abbrev Within : StoreState → Type 0

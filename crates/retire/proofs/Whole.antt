@@ -1,11 +1,11 @@
 -- What a whole build gives and leaves, by what its steps say.
-use Rattle.std.proofs.Common.{◌≡◌, ℕ, ◌+◌, ◌≤◌, true, List, [], ◌∷◌, ◌++◌, map, Option, Some, None, refl, sym, ap, ◌∙◌, subst, inl, arith}
+use Rattle.std.proofs.Common.{◌≡◌, ℕ, ◌+◌, ◌≤◌, true, List, [], map, Option, Some, None, refl, sym, ap, ◌∙◌, subst, inl, arith}
 use Rattle.std.specs.Prelude.{IsSome}
 use Rattle.std.specs.List.{AllByRecursion}
 use Rattle.bx_tree.specs.Trees.{Files}
 use Rattle.bx_io.specs.Causes.{IsWithin}
-use Rattle.bx_io.specs.Holdings.{Change, Holdings, IsPrefix, StoreState, holdings_after}
-use Rattle.bx_io.proofs.Changes.{known_after-nil}
+use Rattle.bx_io.specs.Holdings.{Change, Holdings, StoreState, holdings_after}
+use Rattle.bx_io.proofs.Changes.{known_after-nil, nothing_before}
 use Rattle.pip_model_types.specs.Makers.{IsPipList}
 use Rattle.pip_model_types.specs.declared.made.Slot.{Slot}
 use Rattle.pip_model_types.specs.declared.pip.Pip.{Pip}
@@ -64,10 +64,6 @@ late_of pips tree budget S hits faults more late vs s same sum =
     }
 
 -- ## What is left
-
-nothing_before : (start : List Change) → IsPrefix start [] → start ≡ []
-nothing_before [] p = refl
-nothing_before (c ∷ cs) p = let joined : c ∷ (cs ++ p.rest) ≡ [] = p.joined in absurd cc
 
 -- where nothing was changed
 pub leaves_same : (pips : List Pip) (tree : Files) (budget : ℕ) (before : StoreState) (now : Option StoreState) → now ≡ Some before → IsFair pips tree budget before.held
