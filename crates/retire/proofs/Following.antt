@@ -4,7 +4,7 @@ use Rattle.std.specs.Prelude.{slice_get}
 use Rattle.std.specs.List.{AllByRecursion}
 use Rattle.std.specs.Option.{option_to_list}
 use Rattle.std.proofs.lemmas.List.{drop_all}
-use Rattle.std.proofs.lemmas.Option.{slice_get-get_or}
+use Rattle.std.proofs.lemmas.Option.{slice_get-get_or, same_Some}
 use Rattle.std.proofs.Math.Seq.{drop-cons}
 use Rattle.bx_tree.specs.Trees.{Files}
 use Rattle.bx_tree.specs.Members.{Has}
@@ -109,7 +109,7 @@ module _ (pips : List Pip) (tree : Files) (budget : ℕ) (S : Holdings) (fair : 
     left_is : drop n pips ≡ pip ∷ drop (n + 1) pips
     left_is =
         drop-cons pips n pip within
-        ∙ ap (λ (p : Pip). p ∷ drop (suc n) pips) (adding.same_some (get_or pips n pip) pip (sym (slice_get-get_or pips n pip within) ∙ at))
+        ∙ ap (λ (p : Pip). p ∷ drop (suc n) pips) (same_Some (get_or pips n pip) pip (sym (slice_get-get_or pips n pip within) ∙ at))
         ∙ ap (λ k. pip ∷ drop k pips) (adding.one_more n)
 
     spares_more : (numbers : List ℕ) → IsHitSet pips tree budget S numbers

@@ -2,6 +2,7 @@
 use Rattle.std.proofs.Common.{◌≡◌, ℕ, ◌+◌, ◌≤◌, true, List, [], map, Option, Some, None, refl, sym, ap, ◌∙◌, subst, inl, arith}
 use Rattle.std.specs.Prelude.{IsSome}
 use Rattle.std.specs.List.{AllByRecursion}
+use Rattle.std.proofs.lemmas.Option.{same_Some}
 use Rattle.bx_tree.specs.Trees.{Files}
 use Rattle.bx_io.specs.Causes.{IsWithin}
 use Rattle.bx_io.specs.Holdings.{Change, Holdings, StoreState, holdings_after}
@@ -25,9 +26,6 @@ use Rattle.retire.specs.Deciding.{FollowsAll}
 use Rattle.retire.specs.Keeping.{IsSuccess, OnlyPuts, PutsAllEach, PutsFirst}
 use Rattle.retire.specs.Reading.{ReadsOn}
 use Rattle.retire.proofs.Leaving.{leaves_fair, leaves_usable}
-
-same_some : {X : Type 0} (x y : X) → Some x ≡ Some y → x ≡ y
-same_some x y e = cc
 
 -- ## What is given
 
@@ -74,7 +72,7 @@ leaves_same pips tree budget before now is fair = record {
     makes = is ∙ sym (known_after-nil (Some before));
     along = λ start p. subst (λ (cs : List Change). Honest (holdings_after before.held cs)) (sym (nothing_before start p)) fair.honest;
   };
-  adds = λ kept here e h. inl (subst (λ (k : StoreState). HoldsEntry k.held e) (same_some kept before (sym here ∙ is)) h);
+  adds = λ kept here e h. inl (subst (λ (k : StoreState). HoldsEntry k.held e) (same_Some kept before (sym here ∙ is)) h);
   puts = ([], 0, omega arith, record { number = 0; each = is });
 }
 

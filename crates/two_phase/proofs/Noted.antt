@@ -13,6 +13,7 @@ use Rattle.std.specs.Prelude.{OnErr, OnOk}
 use Rattle.std.specs.Str.{bytes_eq}
 use Rattle.std.specs.declared.alloc.Global.{Global}
 use Rattle.std.specs.declared.vec.Vec.{Vec}
+use Rattle.std.proofs.lemmas.Option.{same_Some}
 use Rattle.bx_tree.proofs.TextTables.{text_put}
 use Rattle.sha2.specs.Sha256.{sha256}
 use Rattle.bx_io.specs.Holdings.{Holdings, Put, StoreState, known_after}
@@ -49,9 +50,6 @@ other_noted : (key : List ℕ) (old new : HeldContents) (value : Option (List �
 other_noted key old new value h q other =
     text_put key old.contents new.contents value h q ∙ cond-false (bytes_eq key q) value (noted_at old q) (not_equal key q other)
 
-same_some : {X : Type 0} (x y : X) → Some x ≡ Some y → x ≡ y
-same_some x y e = cc
-
 pub forgotten : (digest key : List ℕ) (old new : HeldContents) → key ≡ digest → Updated key old new None → (content : List ℕ) → Tracks old new digest content
 forgotten digest key old new is h content = record {
   here = λ other there. let none : noted_at new digest ≡ None = ap (noted_at new) (sym is) ∙ h.1 in absurd cc;
@@ -61,7 +59,7 @@ forgotten digest key old new is h content = record {
 pub noted : (digest key content value : List ℕ) (old new : HeldContents) → key ≡ digest → value ≡ content → Updated key old new (Some value)
     → Tracks old new digest content
 noted digest key content value old new is same h = record {
-  here = λ other there. same_some other content (sym there ∙ ap (noted_at new) (sym is) ∙ h.1 ∙ ap Some same);
+  here = λ other there. same_Some other content (sym there ∙ ap (noted_at new) (sym is) ∙ h.1 ∙ ap Some same);
   others = λ q apart. other_noted key old new (Some value) h q (λ e. apart (sym is ∙ e));
 }
 
