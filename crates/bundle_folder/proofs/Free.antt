@@ -9,6 +9,7 @@ use Rattle.std.proofs.lemmas.Bool.{false≢true, not-true}
 use Rattle.std.proofs.lemmas.Cmp.{tied_itself}
 use Rattle.std.proofs.lemmas.List.{append-nil, get_or-map, length-map, map-append}
 use Rattle.std.proofs.lemmas.List.Elements.{All-contains, All-contains_itself, All-filter, All-from_recursion, All-map, All-weaker, Contains-append_cases, Contains-append_left, Contains-append_right, filter_passes}
+use Rattle.std.proofs.lemmas.Option.{same_Some}
 use Rattle.bx_tree.specs.Orders.{path_cmp_total}
 use Rattle.bx_tree.specs.Paths.{Atoms, IsAtom, IsPath, IsPathText, Names, path_cmp, path_text}
 use Rattle.bx_tree.specs.Trees.{Files, IsTree, paths_of}
@@ -117,22 +118,19 @@ no_nodes nodes e = cc
 not_made : replaces.Nothing ≡ replaces.Made → ⊥
 not_made e = cc
 
-same_nodes : (a b : Nodes) → Some a ≡ Some b → a ≡ b
-same_nodes a b e = cc
-
 -- what was found free, and what is cleared, is free when the first file is made
 pub free_at_start : (replace : Replace) (holds : Option Nodes) (files : Files) → IsTree files
     → Known holds (λ nodes. AreFreeBut replace nodes files) → Known (start replace holds) (λ nodes. AreFree nodes files)
 free_at_start replaces.Nothing None files t k nodes e path c = absurd (no_nodes nodes e)
 free_at_start replaces.Made None files t k nodes e path c = absurd (no_nodes nodes e)
 free_at_start replaces.Nothing (Some before) files t k nodes e path c =
-    let same = same_nodes before nodes e in
+    let same = same_Some before nodes e in
     elim (k before refl path c) [
       | inl m ↦ absurd (not_made m.0)
       | inr f ↦ subst (λ n. IsFree n (path_text path)) same f
     ]
 free_at_start replaces.Made (Some before) files t k nodes e path c =
-    let same = same_nodes (without (codes "report.txt") (without (codes "out") before)) nodes e in
+    let same = same_Some (without (codes "report.txt") (without (codes "out") before)) nodes e in
     let is = tree_path files path t c in
     subst (λ n. IsFree n (path_text path)) same (elim (k before refl path c) [
       | inl m ↦ cleared_is_free before (path_text path) (no_root_text path is.0 is.1) m.1

@@ -8,3 +8,6 @@ pub mod TreeGrowth
 pub mod OneReading
 pub mod TreeCheck
 pub mod SomeReading
+pub mod Sets
+pub mod TextTables
+pub mod InOrder

@@ -10,3 +10,5 @@ pub mod Lent
 pub mod FileInputs
 pub mod Ranges
 pub mod TextTables
+pub mod Members
+pub mod Sets

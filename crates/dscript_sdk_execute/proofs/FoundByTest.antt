@@ -5,8 +5,9 @@ use Rattle.std.specs.List.{Contains, list_any}
 use Rattle.std.proofs.lemmas.Bool.{cases_Bool, false≢true}
 use Rattle.bx_tree.specs.Orders.{same_path_decides}
 use Rattle.bx_tree.specs.Paths.{Atoms, same_path}
+use Rattle.bx_tree.specs.Members.{Has}
+use Rattle.bx_tree.proofs.Sets.{contains_has, has_contained}
 use Rattle.pip_model_types.specs.declared.outputs.OutDir.{OutDir}
-use Rattle.dscript_sdk_pips.proofs.OneSet.{Has, contains_has, has_contained}
 use Rattle.dscript_sdk_execute.specs.Execute.{has_other_sharing}
 
 -- ## Tests that hold of one element alone

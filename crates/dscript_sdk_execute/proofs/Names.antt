@@ -17,9 +17,9 @@ use Rattle.std.proofs.lemmas.List.Sorted.{Contains-permutation, IsPermutation-sy
 use Rattle.std.proofs.lemmas.List.Sums.{sum_by-cons}
 use Rattle.std.proofs.lemmas.Map.Text.{is_eq-slice_cmp}
 use Rattle.std.proofs.lemmas.Slice.Eq.{bytes_eq-Decides}
+use Rattle.bx_tree.specs.Members.{Has}
 use Rattle.pip_model_types.specs.Args.{IsSortedByName}
 use Rattle.pip_model_types.specs.declared.args.EnvPair.{EnvPair}
-use Rattle.dscript_sdk_pips.proofs.OneSet.{Has}
 use Rattle.dscript_sdk_execute.specs.ExecuteObject.{has_distinct_names, name_cmp}
 use Rattle.dscript_sdk_execute.specs.Sets.{set_by}
 use Rattle.dscript_sdk_execute.proofs.Sets.{TiedAreEqual, only_set}

@@ -15,8 +15,9 @@ use Rattle.dscript_sdk_calls.specs.Sources.{files_below}
 use Rattle.dscript_sdk_pips.specs.FileSets.{FileMap, counted, file_for, files_by_path, put_file}
 use Rattle.dscript_sdk_pips.specs.Seals.{is_listed, lists_sources}
 use Rattle.dscript_sdk_pips.proofs.FilesKept.{keys, keys_put, own_from, own_paths}
-use Rattle.dscript_sdk_pips.proofs.OneSet.{Has, contains_has, has_contained, has_insert, insert_has}
 use Rattle.bx_tree.specs.FileInputs.{input_path}
+use Rattle.bx_tree.specs.Members.{Has}
+use Rattle.bx_tree.proofs.Sets.{contains_has, has_contained, has_insert, insert_has}
 
 -- ## Listed by a test, and among the paths
 
@@ -89,7 +90,7 @@ has_kept (f ∷ fs) es q h = elim (has_kept fs (put_file es f) q h) [
 ]
   where
     taken : Has (keys (put_file es f)) q → (input_path f ≡ q) ⊎ Has (keys es) q
-    taken h = has_insert path_cmp equal_paths (keys es) (input_path f) q
+    taken h = has_insert path_cmp (keys es) (input_path f) q
         (subst (λ ks. Has ks q) (keys_put es (input_path f) (counted f (file_for es (input_path f)))) h)
 
 paths_kept : (files : List FileInput) → map input_path (files_by_path files) ≡ keys (fold put_file [] files)

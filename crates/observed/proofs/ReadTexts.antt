@@ -17,6 +17,7 @@ use Rattle.std.proofs.lemmas.List.{append-nil}
 use Rattle.std.proofs.lemmas.List.Elements.{All-from_recursion}
 use Rattle.std.proofs.lemmas.List.Splits.{join_with_byte-slice_split, slice_split_at}
 use Rattle.std.proofs.lemmas.Slice.Eq.{bytes_eq-Decides}
+use Rattle.std.proofs.lemmas.Option.{same_Some}
 use Rattle.bx_tree.specs.Paths.{Atoms, IsAtom, IsPath, IsPathText, Names, is_atom_byte, path_of, path_text}
 use Rattle.bx_tree.specs.declared.limits.TheConstants.{MAX_ATOM_BYTES, MAX_PATH_BYTES}
 use Rattle.bx_tree.proofs.PathTexts.{named_by_parts, path_of-named}
@@ -34,9 +35,6 @@ use Rattle.observed.specs.Texts.{ReadsPathSet, ReadsAsks, all_asks, after_asks, 
 use Rattle.bx_tree.specs.Lent.{texts_now}
 
 -- ## Options
-
-some_same : {X : Type 0} (a b : X) → Some a ≡ Some b → a ≡ b
-some_same a b e = cc
 
 if_some : {X : Type 0} (b : Bool) (o : Option X) (x : X) → cond b o None ≡ Some x → (b ≡ true) × (o ≡ Some x)
 if_some true o x e = (refl, e)
@@ -89,7 +87,7 @@ pub path_sound : (text : List ℕ) (path : Atoms) → named_path text ≡ Some p
 path_sound text path e =
     let named = if_some (list_all is_atom (path_of text) && nat_le (length text) MAX_PATH_BYTES) (Some (path_of text)) path e in
     let tests = and_parts (list_all is_atom (path_of text)) (nat_le (length text) MAX_PATH_BYTES) named.0 in
-    subst (IsTextOf text) (some_same (path_of text) path named.1)
+    subst (IsTextOf text) (same_Some (path_of text) path named.1)
     (by_dot (pointwise nat_eq text (codes ".")) refl tests.0 (leb-true (length text) MAX_PATH_BYTES tests.1))
   where
     by_dot : (t : Bool) → pointwise nat_eq text (codes ".") ≡ t → list_all is_atom (cond t [] (slice_split (λ b. b == 47) text)) ≡ true → length text ≤ MAX_PATH_BYTES
@@ -126,7 +124,7 @@ no_path text other none = by_option (named_path text) refl
 -- ## Lines
 
 prefix_sound : (prefix text rest : List ℕ) → after_prefix prefix text ≡ Some rest → text ≡ prefix ++ rest
-prefix_sound [] text rest e = some_same text rest e
+prefix_sound [] text rest e = same_Some text rest e
 prefix_sound (p ∷ ps) [] rest e = cc
 prefix_sound (p ∷ ps) (b ∷ bs) rest e =
     let parts = if_some (p == b) (after_prefix ps bs) rest e in
@@ -147,7 +145,7 @@ at_sound kind line text ask is e = by_path (named_path text) refl e
     by_path None named e = cc
     by_path (Some path) named e =
         let h = path_sound text path named in
-        let same : record { kind = kind; path = path } ≡ ask = some_same (record { kind = kind; path = path }) ask e in
+        let same : record { kind = kind; path = path } ≡ ask = same_Some (record { kind = kind; path = path }) ask e in
         subst (IsLineOf line) same (record { is_path = h.is_path; line_is = is ∙ ap (λ t. kind_text kind ++ codes " " ++ t) h.text_is })
 
 pub ask_sound : (line : List ℕ) (ask : Ask) → named_ask line ≡ Some ask → IsLineOf line ask
@@ -214,11 +212,11 @@ with_sound : (o : Option Ask) (rest : Option (List Ask)) (asks : List Ask) → w
     → (a : Ask) × (more : List Ask) × (o ≡ Some a) × (rest ≡ Some more) × (a ∷ more ≡ asks)
 with_sound None rest asks e = cc
 with_sound (Some a) None asks e = cc
-with_sound (Some a) (Some more) asks e = (a, more, refl, refl, some_same (a ∷ more) asks e)
+with_sound (Some a) (Some more) asks e = (a, more, refl, refl, same_Some (a ∷ more) asks e)
 
 pub lines_sound : (lines : List (List ℕ)) (asks : List Ask) → named_asks lines ≡ Some asks → AreLinesOf lines asks
 lines_sound [] asks e = cc
-lines_sound ([] ∷ []) asks e = subst (AreLinesOf ([] ∷ [])) (some_same [] asks e) (record { paths = tt; joined = refl })
+lines_sound ([] ∷ []) asks e = subst (AreLinesOf ([] ∷ [])) (same_Some [] asks e) (record { paths = tt; joined = refl })
 lines_sound ((b ∷ bs) ∷ []) asks e = cc
 lines_sound (line ∷ more ∷ lines) asks e =
     let parts = with_sound (named_ask line) (named_asks (more ∷ lines)) asks e in
@@ -290,7 +288,7 @@ text_sound text set e = by_lines (slice_split (λ b. b == 10) text) refl e
         let named = if_some (bytes_eq first first_line) (option_and_then if_rising (named_asks lines)) set e in
         let parts = then_some (named_asks lines) named.1 in
         let rising = if_some (is_rising parts.0) (Some parts.0) set parts.2 in
-        let same : parts.0 ≡ set = some_same parts.0 set rising.1 in
+        let same : parts.0 ≡ set = same_Some parts.0 set rising.1 in
         let read : named_asks lines ≡ Some set = parts.1 ∙ ap Some same in
         let h = lines_sound lines set read in (
           record { order = rising_sound set (ap is_rising (sym same) ∙ rising.0); paths = h.paths },

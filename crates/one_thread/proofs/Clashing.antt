@@ -5,7 +5,7 @@ use Rattle.std.specs.List.{list_any}
 use Rattle.std.proofs.lemmas.Bool.{false≢true}
 use Rattle.bx_tree.specs.Paths.{Atoms, IsBelow, same_path}
 use Rattle.bx_tree.specs.Trees.{Files, paths_of}
-use Rattle.observed.specs.Members.{Has}
+use Rattle.bx_tree.specs.Members.{Has}
 use Rattle.tool_run_writes.specs.Below.{is_below}
 use Rattle.tool_run_writes.proofs.BelowByAtoms.{below_decides}
 use Rattle.pip_model_types.specs.declared.outputs.OutDir.{OutDir}

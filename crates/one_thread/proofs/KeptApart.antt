@@ -8,10 +8,10 @@ use Rattle.std.proofs.lemmas.Bool.{cases_order}
 use Rattle.std.proofs.lemmas.Option.{same_Some, slice_get-map, slice_get_within}
 use Rattle.bx_tree.specs.Paths.{Atoms, IsBelow}
 use Rattle.bx_tree.specs.Trees.{Files, paths_of}
+use Rattle.bx_tree.specs.Members.{Has}
+use Rattle.bx_tree.proofs.Sets.{has_contained}
 use Rattle.graph_check.specs.Rules.{KeepsRules}
 use Rattle.graph_check_outputs.specs.OutsideOut.{out_dir}
-use Rattle.observed.specs.Members.{Has}
-use Rattle.observed.proofs.OneSet.{has_contained}
 use Rattle.one_thread.proofs.EachResult.{number_of_results, result_of_all}
 use Rattle.one_thread.specs.OneThread.{Result, all_made, made_by, one_thread, outputs_of, put_all, result_of}
 use Rattle.pip_model_types.specs.Made.{RisingFiles}

@@ -6,12 +6,13 @@ use Rattle.std.proofs.lemmas.Bool.{or_cases}
 use Rattle.bx_tree.specs.Orders.{same_path_decides}
 use Rattle.bx_tree.specs.Paths.{Atoms, IsBelow, same_path}
 use Rattle.bx_tree.specs.Trees.{Files, paths_of}
-use Rattle.observed.specs.Members.{Has}
+use Rattle.bx_tree.specs.Members.{Has}
 use Rattle.observed.specs.declared.access.Access.{Access}
 use Rattle.observed.specs.declared.access.End.{End}
 use Rattle.observed.specs.declared.access.End.TheVariants as ends
 use Rattle.tool_run_writes.specs.Below.{is_below}
 use Rattle.tool_run_writes.proofs.BelowByAtoms.{below_decides}
+use Rattle.tool_run_writes.proofs.Unnested.{put_has}
 use Rattle.pip_model_types.specs.declared.desc.Desc.{Desc}
 use Rattle.pip_model_types.specs.declared.outputs.OutDir.{OutDir}
 use Rattle.pip_model_types.specs.declared.pip.PipKind.TheVariants.{Process}
@@ -22,7 +23,6 @@ use Rattle.tool_run.specs.Described.{described}
 use Rattle.tool_run.specs.Description.{Description, permits}
 use Rattle.tool_run.specs.Run.{Run}
 use Rattle.one_thread.specs.Keeping.{Makes}
-use Rattle.one_thread.proofs.PutAll.{has_put}
 use Rattle.pip_model_types.specs.Outputs.{is_console, outdir_paths}
 
 -- ## What a pip may make
@@ -82,7 +82,7 @@ written_makes x writes path all h = permitted_makes x path (permitted_at (descri
 pub with_console_has : (console : Option Atoms) (writes : Files) (said : List ℕ) (path : Atoms) → Has (paths_of (with_console console writes said)) path
     → Has (option_to_list console) path ⊎ Has (paths_of writes) path
 with_console_has None writes said path h = inr h
-with_console_has (Some file) writes said path h = elim (has_put writes file said path h) [ inl same ↦ inl (inl same) | inr more ↦ inr more ]
+with_console_has (Some file) writes said path h = elim (put_has writes file said path h) [ inl same ↦ inl (inl same) | inr more ↦ inr more ]
 
 same_files : (a b : Files) → Good a ≡ Good b → a ≡ b
 same_files a b e = cc

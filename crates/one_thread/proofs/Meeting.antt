@@ -4,13 +4,13 @@ use Rattle.std.specs.Prelude.{Contains, IsSomeAnd, slice_get}
 use Rattle.std.proofs.lemmas.Bool.{cases_Bool, cases_lt, false≢true}
 use Rattle.bx_tree.specs.Paths.{Atoms, IsBelow}
 use Rattle.bx_tree.specs.Trees.{Files}
+use Rattle.bx_tree.specs.Members.{Has}
+use Rattle.bx_tree.proofs.Sets.{contains_has}
 use Rattle.graph_check.specs.Rules.{KeepsRules}
 use Rattle.graph_check.specs.declared.fault.GraphKind.TheVariants as rules
 use Rattle.graph_check_outputs.specs.OutsideOut.{out_dir}
 use Rattle.graph_check_outputs.specs.Outputs.{declared_files, outputs, PipHas as At}
 use Rattle.graph_check_outputs.specs.Overlap.{Overlaps, Nested, OnePath, Unshared}
-use Rattle.observed.specs.Members.{Has}
-use Rattle.observed.proofs.OneSet.{contains_has}
 use Rattle.tool_run_writes.specs.Below.{is_below}
 use Rattle.tool_run_writes.proofs.BelowByAtoms.{below_decides}
 use Rattle.pip_model_types.specs.declared.outputs.OutDir.{OutDir}

@@ -2,13 +2,14 @@
 use Rattle.std.proofs.Common.{◌≡◌, ◌⊎◌, ℕ, Bool, true, false, cond, List, [], ◌∷◌, take, Option, Some, None, refl, ap, sym, ◌∙◌, subst, inl, inr}
 use Rattle.std.specs.Prelude.{slice_get}
 use Rattle.std.specs.Option.{option_to_list}
+use Rattle.tool_run_writes.proofs.Unnested.{not_itself}
 use Rattle.bx_tree.specs.Paths.{Atoms, IsBelow}
 use Rattle.bx_tree.specs.Trees.{Files, NoneNested, paths_of}
+use Rattle.bx_tree.specs.Members.{Has}
+use Rattle.bx_tree.proofs.Sets.{contains_has}
 use Rattle.graph_check_outputs.specs.Outputs.{declared_files}
-use Rattle.observed.specs.Members.{Has}
 use Rattle.observed.specs.declared.access.Answer.{Answer}
 use Rattle.observed.specs.declared.ask.Ask.{Ask}
-use Rattle.observed.proofs.OneSet.{contains_has}
 use Rattle.one_thread.specs.OneThread.{Result, by_cause, by_outcome, failed, inputs_are_good, made_by, process_outcome, ran, result_of, unless_clash, violated, worked}
 use Rattle.pip_view_inputs.specs.Contents.{input_bytes}
 use Rattle.pip_view_inputs.specs.Plain.{desc_of}
@@ -35,7 +36,6 @@ use Rattle.violations.specs.DoubleWrites.{clash_at, clash_of, outdirs_in}
 use Rattle.one_thread.specs.Keeping.{AreOwnOutputs, Makes}
 use Rattle.one_thread.proofs.Making.{good_files, has_last, with_console_has, written_makes}
 use Rattle.one_thread.proofs.Meeting.{Apart, below_file, file_below}
-use Rattle.one_thread.proofs.Prefixes.{not_itself}
 use Rattle.pip_model_types.specs.Kinds.{outdirs_of}
 
 -- each run keeps to its description

@@ -1,4 +1,3 @@
 pub mod Placed
 pub mod FilesAt
 pub mod SetsOf
-pub mod AnyOf

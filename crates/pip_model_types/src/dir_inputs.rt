@@ -2,9 +2,9 @@
 ghost use Rattle.std.specs.Prelude.{◌≡◌};
 ghost use Rattle.std.specs.Ordering.{as_partial_cmp};
 ghost use Rattle.std.proofs.Common.{rules};
+ghost use Rattle.bx_tree.specs.Sets.{IsSetOf};
 ghost use Rattle.pip_model_types.specs.Dirs.{RiseByForm, dir_cmp, dir_path, dir_pip, form_rank, same_dir};
 ghost use Rattle.pip_model_types.specs.Dirs.{seal_rank};
-ghost use Rattle.pip_model_types.specs.Sets.{IsSetOf};
 ghost use Rattle.pip_model_types.specs.Orders.{dir_cmp_matches, dir_cmp_partial, dir_cmp_total, same_dir_equiv};
 ghost use Rattle.pip_model_types.specs.Orders.{same_dir_partial};
 

@@ -4,8 +4,8 @@ ghost use Rattle.std.specs.List.Sorted.{IsStrictlySortedBy};
 ghost use Rattle.std.specs.Ordering.{as_partial_cmp};
 ghost use Rattle.std.proofs.Common.{rules};
 ghost use Rattle.bx_tree.specs.Paths.{path_cmp};
+ghost use Rattle.bx_tree.specs.Sets.{IsSetOf};
 ghost use Rattle.pip_model_types.specs.Outputs.{outdir_cmp, same_outdir};
-ghost use Rattle.pip_model_types.specs.Sets.{IsSetOf};
 ghost use Rattle.pip_model_types.specs.Orders.{outdir_cmp_matches, outdir_cmp_partial, outdir_cmp_total};
 ghost use Rattle.pip_model_types.specs.Orders.{same_outdir_equiv, same_outdir_partial};
 

@@ -6,8 +6,8 @@ use Rattle.std.proofs.lemmas.List.{take_more}
 use Rattle.std.proofs.lemmas.List.Elements.{filter-append}
 use Rattle.bx_tree.specs.Paths.{Atoms, IsBelow, path_text}
 use Rattle.bx_tree.proofs.PathTexts.{prefix_from_below}
+use Rattle.bx_tree.specs.Sets.{IsSetOf}
 use Rattle.pip_model_types.specs.Dirs.{dir_cmp, dir_path}
-use Rattle.pip_model_types.specs.Sets.{IsSetOf}
 use Rattle.pip_model_types.specs.declared.dir_inputs.DirInput.{DirInput}
 use Rattle.pip_view_directories.specs.Around.{AreAround, HasText, IsAround, IsOver, IsPart, IsTextAround, IsUnder}
 use Rattle.pip_view_directories.specs.Ranges.{AddsAll, AreOthers, is_other}

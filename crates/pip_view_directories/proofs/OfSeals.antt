@@ -9,7 +9,6 @@ use Rattle.bx_tree.specs.declared.file_input.FileInput.{FileInput}
 use Rattle.bx_tree.proofs.PathTexts.{prefix_from_below}
 use Rattle.pip_model_types.specs.Dirs.{dir_cmp, dir_pip}
 use Rattle.pip_model_types.specs.Makers.{HasOutDir, IsDirAmong, IsSealOf}
-use Rattle.pip_model_types.specs.Sets.{IsSetOf}
 use Rattle.pip_model_types.specs.declared.dir_inputs.DirInput.{DirInput}
 use Rattle.pip_model_types.specs.declared.dir_inputs.DirInput.TheVariants.{Sealed, Opaque}
 use Rattle.pip_model_types.specs.declared.dir_inputs.SealForm.{SealForm}
@@ -19,6 +18,7 @@ use Rattle.pip_model_types.specs.declared.pip.PipKind.TheVariants.{Process, Copy
 use Rattle.pip_model.specs.Listings.{IsNear, ListsNear, listed_files}
 use Rattle.pip_view_directories.specs.Near.{AddsDir, AreNear, AreOfSeals, ListsAt, dir_in, kind_dir}
 use Rattle.bx_tree.specs.FileInputs.{input_path}
+use Rattle.bx_tree.specs.Sets.{IsSetOf}
 
 -- ## One seal more
 

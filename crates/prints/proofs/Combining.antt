@@ -2,13 +2,10 @@
 use Rattle.std.proofs.Common.{◌≡◌, ℕ, Bool, true, false, cond, List, [], ◌∷◌, ◌++◌, ◌==◌, Option, Some, None, refl, sym, ap, subst, ◌∙◌, append_assoc}
 use Rattle.std.proofs.lemmas.Bool.Decides.{Decides-eqb}
 use Rattle.std.proofs.lemmas.List.{append-nil}
-use Rattle.std.proofs.lemmas.Option.{cond_some}
+use Rattle.std.proofs.lemmas.Option.{cond_some, same_Some}
 use Rattle.observed.specs.Texts.{after_prefix}
 use Rattle.prints.specs.Forms.{Anything, IsForm}
 use Rattle.prints.specs.Reading.{Taken, ◌>>=◌, after_word, both_at, as_at, only_at, if_ended, whole_of}
-
-pub some_same : {X : Type 0} (a b : X) → Some a ≡ Some b → a ≡ b
-some_same a b e = cc
 
 -- where something was read at last, something was read first
 pub bind_some : {X Y : Type 0} (o : Option X) (f : X → Option Y) (y : Y) → (o >>= f) ≡ Some y → (x : X) × (o ≡ Some x) × (f x ≡ Some y)
@@ -18,7 +15,7 @@ bind_some None f y e = absurd cc
 -- ## Words
 
 pub prefix_sound : (word text rest : List ℕ) → after_prefix word text ≡ Some rest → text ≡ word ++ rest
-prefix_sound [] text rest e = some_same text rest e
+prefix_sound [] text rest e = same_Some text rest e
 prefix_sound (p ∷ ps) [] rest e = cc
 prefix_sound (p ∷ ps) (b ∷ bs) rest e =
     let parts = if_some (p == b) (after_prefix ps bs) rest e in
@@ -53,12 +50,12 @@ both_form {X = X} {Y = Y} {G = G} {H = H} {w = w} {v = v} {r = r} {s = s} first 
   good = λ text taken e.
       let a = bind_some (r text) (λ x. s x.1 >>= λ y. Some ((x.0, y.0), y.1)) taken e in
       let b = bind_some (s a.0.1) (λ y. Some ((a.0.0, y.0), y.1)) taken a.2 in
-      subst (λ (t : (X × Y) × List ℕ). G t.0.0 × H t.0.1) (some_same ((a.0.0, b.0.0), b.0.1) taken b.2)
+      subst (λ (t : (X × Y) × List ℕ). G t.0.0 × H t.0.1) (same_Some ((a.0.0, b.0.0), b.0.1) taken b.2)
       (first.good text a.0 a.1, second.good a.0.1 b.0 b.1);
   written = λ text taken e.
       let a = bind_some (r text) (λ x. s x.1 >>= λ y. Some ((x.0, y.0), y.1)) taken e in
       let b = bind_some (s a.0.1) (λ y. Some ((a.0.0, y.0), y.1)) taken a.2 in
-      subst (λ (t : (X × Y) × List ℕ). text ≡ (w t.0.0 ++ v t.0.1) ++ t.1) (some_same ((a.0.0, b.0.0), b.0.1) taken b.2)
+      subst (λ (t : (X × Y) × List ℕ). text ≡ (w t.0.0 ++ v t.0.1) ++ t.1) (same_Some ((a.0.0, b.0.0), b.0.1) taken b.2)
       (first.written text a.0 a.1 ∙ ap (λ t. w a.0.0 ++ t) (second.written a.0.1 b.0 b.1) ∙ sym (append_assoc (w a.0.0) (v b.0.0) b.0.1));
   again = λ p rest g k.
       ap (both_at r s) (append_assoc (w p.0) (v p.1) rest)
@@ -78,10 +75,10 @@ pub as_form : {X Y : Type 0} {G : X → Type 0} {F : List ℕ → Type 0} {w : X
 as_form {X = X} {Y = Y} {w = w} {r = r} H f g to from form = record {
   good = λ text taken e.
       let a = bind_some (r text) (λ x. Some (f x.0, x.1)) taken e in
-      subst (λ (t : Y × List ℕ). H t.0) (some_same (f a.0.0, a.0.1) taken a.2) (to a.0.0 (form.good text a.0 a.1)).0;
+      subst (λ (t : Y × List ℕ). H t.0) (same_Some (f a.0.0, a.0.1) taken a.2) (to a.0.0 (form.good text a.0 a.1)).0;
   written = λ text taken e.
       let a = bind_some (r text) (λ x. Some (f x.0, x.1)) taken e in
-      subst (λ (t : Y × List ℕ). text ≡ w (g t.0) ++ t.1) (some_same (f a.0.0, a.0.1) taken a.2)
+      subst (λ (t : Y × List ℕ). text ≡ w (g t.0) ++ t.1) (same_Some (f a.0.0, a.0.1) taken a.2)
       (form.written text a.0 a.1 ∙ ap (λ x. w x ++ a.0.1) (sym (to a.0.0 (form.good text a.0 a.1)).1));
   again = λ y rest h k.
       ap (λ o. o >>= λ x. Some (f x.0, x.1)) (form.again (g y) rest (from y h).0 k) ∙ ap (λ z. Some (z, rest)) (from y h).1;
@@ -115,7 +112,7 @@ form_of H K to from follows form = record {
 -- ## Whole texts
 
 ended : {X : Type 0} (x y : X) (rest : List ℕ) → if_ended x rest ≡ Some y → (rest ≡ []) × (x ≡ y)
-ended x y [] e = (refl, some_same x y e)
+ended x y [] e = (refl, same_Some x y e)
 ended x y (b ∷ bs) e = absurd cc
 
 module _ {X : Type 0} {G : X → Type 0} {F : List ℕ → Type 0} {w : X → List ℕ} {r : List ℕ → Taken X} (form : IsForm G F w r) where

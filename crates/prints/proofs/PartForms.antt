@@ -9,7 +9,7 @@ use Rattle.std.proofs.lemmas.Bool.{and_from, and_parts, cases_Bool, ltb-true, lt
 use Rattle.std.proofs.lemmas.Bool.Decides.{Decides-eqb}
 use Rattle.std.proofs.lemmas.Fmt.{decimal_is_IsNumeral}
 use Rattle.std.proofs.lemmas.List.{take_at, drop_at, take-append-drop, length-take, length-drop}
-use Rattle.std.proofs.lemmas.Option.{cond_some}
+use Rattle.std.proofs.lemmas.Option.{cond_some, same_Some}
 use Rattle.std.proofs.lemmas.Slice.Eq.{bytes_eq-Decides}
 use Rattle.hex.specs.Hex.{IsBytes, decode_sized, encode_lower, encode_with, lower_digits}
 use Rattle.hex.specs.declared.error.FromHexError.{FromHexError}
@@ -21,7 +21,7 @@ use Rattle.observed.proofs.ReadTexts.{path_sound, path_complete}
 use Rattle.prints.specs.Forms.{Anything, IsForm}
 use Rattle.prints.specs.Parts.{bytes_at, counted_at, counted_part, digest_at, digest_part, if_written, named_digest, named_number, number_at, number_part, part_at, path_at, path_part, with_first}
 use Rattle.prints.specs.Reading.{Taken, ◌>>=◌}
-use Rattle.prints.proofs.Combining.{bind_some, some_same, prefix_sound, prefix_again}
+use Rattle.prints.proofs.Combining.{bind_some, prefix_sound, prefix_again}
 
 -- ## Bytes that end a part
 
@@ -62,7 +62,7 @@ first_sound : (b end : ℕ) (bs : List ℕ) (o : Taken (List ℕ)) (part : List 
     → with_first b o ≡ Some part → b ∷ bs ≡ part.0 ++ end ∷ part.1
 first_sound b end bs None part sound f = cc
 first_sound b end bs (Some t) part sound f =
-    subst (λ (p : List ℕ × List ℕ). b ∷ bs ≡ p.0 ++ end ∷ p.1) (some_same (b ∷ t.0, t.1) part f) (ap (λ r. b ∷ r) (sound t refl))
+    subst (λ (p : List ℕ × List ℕ). b ∷ bs ≡ p.0 ++ end ∷ p.1) (same_Some (b ∷ t.0, t.1) part f) (ap (λ r. b ∷ r) (sound t refl))
 
 pub part_sound : (end : ℕ) (text : List ℕ) (part : List ℕ × List ℕ) → part_at end text ≡ Some part → text ≡ part.0 ++ end ∷ part.1
 part_sound end [] part e = cc
@@ -71,7 +71,7 @@ part_sound end (b ∷ bs) part e = by_byte (b == end) refl (λ t f. part_sound e
     by_byte : (t : Bool) → (b == end) ≡ t → ((u : List ℕ × List ℕ) → part_at end bs ≡ Some u → bs ≡ u.0 ++ end ∷ u.1)
         → cond t (Some ([], bs)) (with_first b (part_at end bs)) ≡ Some part → b ∷ bs ≡ part.0 ++ end ∷ part.1
     by_byte true same sound e =
-        subst (λ (p : List ℕ × List ℕ). b ∷ bs ≡ p.0 ++ end ∷ p.1) (some_same ([], bs) part e) (ap (λ x. x ∷ bs) ((Decides-eqb b end).0 same))
+        subst (λ (p : List ℕ × List ℕ). b ∷ bs ≡ p.0 ++ end ∷ p.1) (same_Some ([], bs) part e) (ap (λ x. x ∷ bs) ((Decides-eqb b end).0 same))
     by_byte false other sound e = first_sound b end bs (part_at end bs) part sound e
 
 pub part_again : (end : ℕ) (part rest : List ℕ) → Lacks end part → part_at end (part ++ end ∷ rest) ≡ Some (part, rest)
@@ -92,11 +92,11 @@ part_form {X = X} G w named end sound again lacks = record {
   good = λ text taken e.
       let a = bind_some (part_at end text) (λ part. named part.0 >>= λ x. Some (x, part.1)) taken e in
       let b = bind_some (named a.0.0) (λ x. Some (x, a.0.1)) taken a.2 in
-      subst (λ (t : X × List ℕ). G t.0) (some_same (b.0, a.0.1) taken b.2) (sound a.0.0 b.0 b.1).0;
+      subst (λ (t : X × List ℕ). G t.0) (same_Some (b.0, a.0.1) taken b.2) (sound a.0.0 b.0 b.1).0;
   written = λ text taken e.
       let a = bind_some (part_at end text) (λ part. named part.0 >>= λ x. Some (x, part.1)) taken e in
       let b = bind_some (named a.0.0) (λ x. Some (x, a.0.1)) taken a.2 in
-      subst (λ (t : X × List ℕ). text ≡ (w t.0 ++ end ∷ []) ++ t.1) (some_same (b.0, a.0.1) taken b.2)
+      subst (λ (t : X × List ℕ). text ≡ (w t.0 ++ end ∷ []) ++ t.1) (same_Some (b.0, a.0.1) taken b.2)
       (part_sound end text a.0 a.1 ∙ ap (λ t. t ++ end ∷ a.0.1) (sound a.0.0 b.0 b.1).1 ∙ sym (append_assoc (w b.0) (end ∷ []) a.0.1));
   again = λ x rest g k.
       ap (λ text. part_at end text >>= λ part. named part.0 >>= λ x. Some (x, part.1)) (append_assoc (w x) (end ∷ []) rest)
@@ -198,7 +198,7 @@ bytes_sound : (count end : ℕ) (text : List ℕ) (taken : List ℕ × List ℕ)
 bytes_sound count end text taken e =
     let a = bind_some (after_prefix (end ∷ []) (drop count text)) (λ rest. Some (take count text, rest)) taken e in
     let after = prefix_sound (end ∷ []) (drop count text) a.0 a.1 in
-    subst (λ (t : List ℕ × List ℕ). (text ≡ t.0 ++ end ∷ t.1) × (length t.0 ≡ count)) (some_same (take count text, a.0) taken a.2) (
+    subst (λ (t : List ℕ × List ℕ). (text ≡ t.0 ++ end ∷ t.1) × (length t.0 ≡ count)) (same_Some (take count text, a.0) taken a.2) (
       sym (take-append-drop count text) ∙ ap (λ t. take count text ++ t) after,
       omega (arith, length-take count text, length-drop count text, ap length after),
     )

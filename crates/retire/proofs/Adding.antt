@@ -1,6 +1,7 @@
 -- What one pip adds: nothing, or the record of a process that succeeds.
 use Rattle.std.proofs.Common.{◌≡◌, ◌⊎◌, ℕ, zero, suc, ◌+◌, ◌<◌, Bool, true, false, List, [], ◌∷◌, length, map, Option, Some, None, refl, sym, ap, ◌∙◌, subst, inl, inr, arith}
 use Rattle.std.specs.Prelude.{slice_get}
+use Rattle.std.proofs.lemmas.Option.{same_Some}
 use Rattle.bx_tree.specs.Trees.{Files}
 use Rattle.bx_io.specs.Holdings.{Holdings}
 use Rattle.pip_model_types.specs.declared.desc.Desc.{Desc}
@@ -42,9 +43,6 @@ use Rattle.retire.specs.declared.taking.Taken.{Taken}
 use Rattle.retire.specs.declared.taking.Taken.TheVariants as takings
 use Rattle.retire.proofs.Along.{before_is, runs_as}
 use Rattle.retire.proofs.Spared.{hit_usable}
-
-pub same_some : {X : Type 0} (x y : X) → Some x ≡ Some y → x ≡ y
-same_some x y e = cc
 
 -- ## Numbers
 
@@ -124,7 +122,7 @@ module _ (pips : List Pip) (tree : Files) (budget : ℕ) (n : ℕ) (vs : List Ve
   kind_at : (pip : Pip) → slice_get pips n ≡ Some pip → (d : Desc) (see : Ask → Answer) (r : RunsAs pips tree budget n d see) → pip.kind ≡ Process r.process
   kind_at pip at d see r =
       let t = process_there (slice_get pips n) r.process r.is_process in
-      ap (λ (p : Pip). p.kind) (same_some pip t.0 (sym at ∙ t.1)) ∙ t.2
+      ap (λ (p : Pip). p.kind) (same_Some pip t.0 (sym at ∙ t.1)) ∙ t.2
 
   good_at : (d : Desc) (see : Ask → Answer) (r : RunsAs pips tree budget n d see) → slots_are_good pips (Process r.process) ss ≡ true
   good_at d see r =

@@ -3,6 +3,7 @@ use Rattle.std.proofs.Common.{◌≡◌, ℕ, zero, suc, ◌+◌, ◌≤◌, Boo
 use Rattle.std.specs.Prelude.{slice_get}
 use Rattle.std.specs.List.{AllByRecursion}
 use Rattle.std.specs.Option.{option_to_list}
+use Rattle.std.proofs.lemmas.Option.{same_Some}
 use Rattle.bx_tree.specs.Trees.{Files}
 use Rattle.bx_io.specs.Holdings.{Holdings}
 use Rattle.pip_model_types.specs.declared.desc.Desc.{Desc}
@@ -40,7 +41,7 @@ use Rattle.retire.specs.declared.deciding.Next.{Next}
 use Rattle.retire.specs.declared.taking.Taken.{Taken}
 use Rattle.retire.specs.declared.taking.Taken.TheVariants as takings
 use Rattle.retire.specs.declared.taking.Way.{Way}
-use Rattle.retire.proofs.Adding.{kept_none, same_some, success_good}
+use Rattle.retire.proofs.Adding.{kept_none, success_good}
 
 -- ## Processes that are not skipped
 
@@ -126,7 +127,7 @@ count_more [] vs v zero pip long at = absurd cc
 count_more [] vs v (suc n) pip long at = absurd cc
 count_more (p ∷ ps) [] v zero pip long at =
     first_counted (runs p.kind v) (run_count ps []) (none_counted ps)
-    ∙ ap (λ (q : Pip). 0 + one_run q.kind v) (same_some p pip at)
+    ∙ ap (λ (q : Pip). 0 + one_run q.kind v) (same_Some p pip at)
 count_more (p ∷ ps) [] v (suc n) pip long at = absurd (omega (arith, long))
 count_more (p ∷ ps) (w ∷ ws) v zero pip long at = absurd (omega (arith, long))
 count_more (p ∷ ps) (w ∷ ws) v (suc n) pip long at =
@@ -169,16 +170,16 @@ some_or_none o f h k = let never : None ≡ Some f = sym h ∙ k in cc
 kept_good : (pips : List Pip) (tree : Files) (made : List Files) (i : ℕ) (t : Taken) (r : Result) → r ≡ by_outcome pips tree made i (outcome_in t)
     → (b : Bool) → is_success r.verdict ≡ b → (f : Facts) → kept_if b (record_in t) ≡ Some f → IsGood f
 kept_good pips tree made i (takings.Hit found) r is b e f kept = absurd (some_or_none (kept_if b None) f (kept_none b) kept)
-kept_good pips tree made i (takings.Missed g) r is true e f kept = subst IsGood (same_some g f kept) (success_good pips tree made i g.outcome r is e)
+kept_good pips tree made i (takings.Missed g) r is true e f kept = subst IsGood (same_Some g f kept) (success_good pips tree made i g.outcome r is e)
 kept_good pips tree made i (takings.Missed g) r is false e f kept = absurd cc
-kept_good pips tree made i (takings.Faulted g) r is true e f kept = subst IsGood (same_some g f kept) (success_good pips tree made i g.outcome r is e)
+kept_good pips tree made i (takings.Faulted g) r is true e f kept = subst IsGood (same_Some g f kept) (success_good pips tree made i g.outcome r is e)
 kept_good pips tree made i (takings.Faulted g) r is false e f kept = absurd cc
 
 kept_sound : (d : Desc) (see : Ask → Answer) (t : Taken) → IsOfNow d see t → (b : Bool) (f : Facts) → kept_if b (record_in t) ≡ Some f → Sound f
 kept_sound d see (takings.Hit found) now b f kept = absurd (some_or_none (kept_if b None) f (kept_none b) kept)
-kept_sound d see (takings.Missed g) now true f kept = subst Sound (same_some g f kept) now.0
+kept_sound d see (takings.Missed g) now true f kept = subst Sound (same_Some g f kept) now.0
 kept_sound d see (takings.Missed g) now false f kept = absurd cc
-kept_sound d see (takings.Faulted g) now true f kept = subst Sound (same_some g f kept) now.0
+kept_sound d see (takings.Faulted g) now true f kept = subst Sound (same_Some g f kept) now.0
 kept_sound d see (takings.Faulted g) now false f kept = absurd cc
 
 decided_good : (pips : List Pip) (tree : Files) (budget : ℕ) (held : Option Holdings) (ss : List Slot) (n : ℕ) (kind : PipKind) (next : Next)

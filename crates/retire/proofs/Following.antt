@@ -4,14 +4,14 @@ use Rattle.std.specs.Prelude.{slice_get}
 use Rattle.std.specs.List.{AllByRecursion}
 use Rattle.std.specs.Option.{option_to_list}
 use Rattle.std.proofs.lemmas.List.{drop_all}
-use Rattle.std.proofs.lemmas.Option.{slice_get-get_or}
+use Rattle.std.proofs.lemmas.Option.{slice_get-get_or, same_Some}
 use Rattle.std.proofs.Math.Seq.{drop-cons}
 use Rattle.bx_tree.specs.Trees.{Files}
+use Rattle.bx_tree.specs.Members.{Has}
 use Rattle.bx_io.specs.Holdings.{Holdings}
 use Rattle.pip_model_types.specs.declared.desc.Desc.{Desc}
 use Rattle.pip_model_types.specs.declared.made.Slot.{Slot}
 use Rattle.pip_model_types.specs.declared.pip.Pip.{Pip}
-use Rattle.observed.specs.Members.{Has}
 use Rattle.observed.specs.declared.ask.Ask.{Ask}
 use Rattle.observed.specs.declared.access.Answer.{Answer}
 use Rattle.run_record.specs.Facts.{Facts, Sound}
@@ -109,7 +109,7 @@ module _ (pips : List Pip) (tree : Files) (budget : ℕ) (S : Holdings) (fair : 
     left_is : drop n pips ≡ pip ∷ drop (n + 1) pips
     left_is =
         drop-cons pips n pip within
-        ∙ ap (λ (p : Pip). p ∷ drop (suc n) pips) (adding.same_some (get_or pips n pip) pip (sym (slice_get-get_or pips n pip within) ∙ at))
+        ∙ ap (λ (p : Pip). p ∷ drop (suc n) pips) (same_Some (get_or pips n pip) pip (sym (slice_get-get_or pips n pip within) ∙ at))
         ∙ ap (λ k. pip ∷ drop k pips) (adding.one_more n)
 
     spares_more : (numbers : List ℕ) → IsHitSet pips tree budget S numbers

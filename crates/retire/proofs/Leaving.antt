@@ -2,14 +2,15 @@
 use Rattle.std.proofs.Common.{◌≡◌, ◌⊎◌, ℕ, zero, suc, ◌+◌, List, [], ◌∷◌, map, take, Option, Some, refl, sym, ap, ◌∙◌, subst, inl, inr, arith}
 use Rattle.std.specs.Prelude.{slice_get}
 use Rattle.std.specs.List.{AllByRecursion}
+use Rattle.std.proofs.lemmas.Option.{same_Some}
 use Rattle.bx_tree.specs.Trees.{Files}
+use Rattle.bx_tree.specs.Members.{Has}
 use Rattle.bx_io.specs.Holdings.{Holdings, StoreState}
 use Rattle.pip_model_types.specs.Makers.{IsPipList}
 use Rattle.pip_model_types.specs.declared.desc.Desc.{Desc}
 use Rattle.pip_model_types.specs.declared.made.Slot.{Slot}
 use Rattle.pip_model_types.specs.declared.pip.Pip.{Pip}
 use Rattle.pip_model_types.specs.declared.pip.PipKind.TheVariants.{Process}
-use Rattle.observed.specs.Members.{Has}
 use Rattle.observed.specs.declared.ask.Ask.{Ask}
 use Rattle.observed.specs.declared.access.Answer.{Answer}
 use Rattle.graph_check.specs.Rules.{KeepsRules}
@@ -34,9 +35,6 @@ use Rattle.retire.proofs.Chain.{IsReady, Leaves, chain}
 use Rattle.retire.proofs.Others.{NoneAt, all_others, none_is, spelled_each}
 use Rattle.retire.proofs.Records.{all_successes}
 use Rattle.retire.proofs.Stay.{kept_stays, stay}
-
-same_some : {X : Type 0} (x y : X) → Some x ≡ Some y → x ≡ y
-same_some x y e = cc
 
 -- ## Lists of records
 
@@ -111,7 +109,7 @@ module _ (pips : List Pip) (tree : Files) (budget : ℕ) (before : StoreState) (
   one_run i d e see view a b =
       let s = process_there (slice_get pips i) a.process a.is_process in
       let t = process_there (slice_get pips i) b.process b.is_process in
-      let pip : s.0 ≡ t.0 = same_some s.0 t.0 (sym s.1 ∙ t.1) in
+      let pip : s.0 ≡ t.0 = same_Some s.0 t.0 (sym s.1 ∙ t.1) in
       let kinds : Process a.process ≡ Process b.process = sym s.2 ∙ ap (λ (p : Pip). p.kind) pip ∙ t.2 in
       let same : a.process ≡ b.process = cc in (
         sym a.desc_is ∙ ap (desc_after pips tree budget (results_before pips tree budget i)) same ∙ b.desc_is,

@@ -8,11 +8,11 @@ use Rattle.std.proofs.lemmas.List.{length-map, map-append}
 use Rattle.bx_tree.specs.Orders.{same_path_decides}
 use Rattle.bx_tree.specs.Paths.{Atoms, IsBelow, has_path, same_path}
 use Rattle.bx_tree.specs.Trees.{Files, paths_of}
+use Rattle.bx_tree.specs.Members.{Has}
+use Rattle.bx_tree.proofs.Sets.{contains_has}
 use Rattle.bx_io.specs.Holdings.{Holdings}
-use Rattle.observed.specs.Members.{Has}
 use Rattle.observed.specs.declared.ask.Ask.{Ask}
 use Rattle.observed.specs.declared.access.Answer.{Answer}
-use Rattle.observed.proofs.OneSet.{contains_has}
 use Rattle.tool_run_writes.specs.Below.{is_below}
 use Rattle.tool_run_writes.proofs.BelowByAtoms.{below_decides}
 use Rattle.pip_model_types.specs.declared.desc.Desc.{Desc}

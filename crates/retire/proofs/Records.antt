@@ -3,7 +3,7 @@ use Rattle.std.proofs.Common.{◌≡◌, ℕ, ◌+◌, ◌<◌, zero, suc, true,
 use Rattle.std.specs.Prelude.{slice_get}
 use Rattle.std.specs.List.{AllByRecursion}
 use Rattle.std.specs.Option.{option_map}
-use Rattle.std.proofs.lemmas.Option.{slice_get-map}
+use Rattle.std.proofs.lemmas.Option.{slice_get-map, same_Some}
 use Rattle.bx_tree.specs.Trees.{Files}
 use Rattle.pip_model_types.specs.declared.made.Slot.{Slot}
 use Rattle.pip_model_types.specs.declared.pip.Pip.{Pip}
@@ -17,9 +17,6 @@ use Rattle.one_thread.proofs.GoingThrough.{IsSoFar}
 use Rattle.retire.specs.Runs.{IsOfSuccess, SucceedsAt}
 use Rattle.retire.specs.Builds.{Between}
 use Rattle.retire.proofs.Along.{before_is}
-
-same_some : {X : Type 0} (x y : X) → Some x ≡ Some y → x ≡ y
-same_some x y e = cc
 
 -- ## Verdicts
 
@@ -69,7 +66,7 @@ verdict_success pips tree budget n v last good = last ∙ ap (λ (w : Verdict). 
 
 pub success_verdict : (pips : List Pip) (tree : Files) (budget n : ℕ) (v : Verdict) → slice_get (verdicts_of (one_thread pips tree budget)) n ≡ Some v
     → SucceedsAt pips tree budget n → is_success v ≡ true
-success_verdict pips tree budget n v last succeeds = ap is_success (same_some v verdicts.Succeeded (sym last ∙ succeeds))
+success_verdict pips tree budget n v last succeeds = ap is_success (same_Some v verdicts.Succeeded (sym last ∙ succeeds))
 
 -- ## Records in order
 

@@ -2,14 +2,15 @@
 use Rattle.std.proofs.Common.{◌≡◌, ℕ, zero, suc, ◌+◌, List, [], ◌∷◌, ◌++◌, length, take, Option, Some, None, refl, sym, ap, ◌∙◌, subst, inl, inr, arith, append_assoc, append-nil, length-append}
 use Rattle.std.specs.Prelude.{slice_get}
 use Rattle.std.proofs.lemmas.List.{take-append-le, take_all}
+use Rattle.std.proofs.lemmas.Option.{same_Some}
 use Rattle.bx_tree.specs.Trees.{Files}
+use Rattle.bx_tree.specs.Members.{Has}
 use Rattle.bx_io.specs.Holdings.{Holdings}
 use Rattle.pip_model_types.specs.declared.desc.Desc.{Desc}
 use Rattle.pip_model_types.specs.declared.pip.Pip.{Pip}
 use Rattle.pip_model_types.specs.declared.pip.PipKind.{PipKind}
 use Rattle.pip_model_types.specs.declared.pip.PipKind.TheVariants.{Process, Copy, Write, Seal}
 use Rattle.pip_model_types.specs.declared.pip.ProcessDesc.{ProcessDesc}
-use Rattle.observed.specs.Members.{Has}
 use Rattle.observed.specs.declared.ask.Ask.{Ask}
 use Rattle.observed.specs.declared.access.Answer.{Answer}
 use Rattle.run_record.specs.Facts.{Facts}
@@ -22,13 +23,10 @@ use Rattle.retire.specs.HitSet.{HitsFrom}
 use Rattle.retire.specs.Runs.{IsOfSuccess, RunsAs, results_before}
 use Rattle.retire.proofs.RecordMet.{record_met}
 
-same_some : {X : Type 0} (x y : X) → Some x ≡ Some y → x ≡ y
-same_some x y e = cc
-
 -- ## Processes among pips
 
 process_kind : (kind : PipKind) (p : ProcessDesc) → kind_process kind ≡ Some p → kind ≡ Process p
-process_kind (Process d) p e = ap Process (same_some d p e)
+process_kind (Process d) p e = ap Process (same_Some d p e)
 process_kind (Copy d) p e = absurd cc
 process_kind (Write d) p e = absurd cc
 process_kind (Seal d) p e = absurd cc
@@ -61,7 +59,7 @@ module _ (pips : List Pip) (tree : Files) (budget : ℕ) where
     met_at [] results i (suc j) n pip long e at m = absurd cc
     met_at (p ∷ ps) results i zero n pip long e at m =
         let here : n ≡ i = omega (arith, e) in
-        inl (subst (λ (q : Pip). compared_at_pip pips tree budget S results i q.kind x) (sym (same_some p pip at))
+        inl (subst (λ (q : Pip). compared_at_pip pips tree budget S results i q.kind x) (sym (same_Some p pip at))
         (subst (λ (rs : List Result). compared_at_pip pips tree budget S rs i pip.kind x) (taken (p ∷ ps) results i long)
         (subst (λ (k : ℕ). compared_at_pip pips tree budget S (take k (on_from pips tree budget results i (p ∷ ps))) k pip.kind x) here m)))
     met_at (p ∷ ps) results i (suc j) n pip long e at m =

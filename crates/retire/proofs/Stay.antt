@@ -1,8 +1,9 @@
 -- What is usable stays so while records of other processes are kept, and what was kept is usable.
 use Rattle.std.proofs.Common.{◌≡◌, ℕ, List, [], ◌∷◌, map, Option, Some, sym, ◌∙◌, subst, inl, inr, append-nil}
 use Rattle.std.specs.List.{AllByRecursion}
+use Rattle.std.proofs.lemmas.Option.{same_Some}
+use Rattle.bx_tree.specs.Members.{Has}
 use Rattle.pip_model_types.specs.declared.desc.Desc.{Desc}
-use Rattle.observed.specs.Members.{Has}
 use Rattle.observed.specs.declared.ask.Ask.{Ask}
 use Rattle.observed.specs.declared.access.Answer.{Answer}
 use Rattle.bx_io.specs.Holdings.{Holdings, StoreState, holdings_after, state_after}
@@ -20,9 +21,6 @@ use Rattle.two_phase.specs.Putting.{PutsAll, planned}
 use Rattle.two_phase.proofs.Applied.{Made, made_of}
 use Rattle.retire.specs.Keeping.{PutsAllEach}
 use Rattle.retire.proofs.Chain.{IsReady}
-
-same_some : {X : Type 0} (x y : X) → Some x ≡ Some y → x ≡ y
-same_some x y e = cc
 
 -- the record is of a process with another weak text
 abbrev pub IsOther : Desc → Facts → Type 0
@@ -73,7 +71,7 @@ module _ (M : List ℕ → Type 0) (apart : NoCollision M) where
     pub stay : (fs : List Facts) (before : StoreState) (now : Option StoreState) → AllByRecursion (IsReady M) fs → AllByRecursion (IsOther d) fs → Within before
         → PutsAllEach (Some before) fs now → UsableAt before.held d see s asks → (kept : StoreState) → now ≡ Some kept → UsableAt kept.held d see s asks
     stay [] before now ready others within p u kept is =
-        subst (λ (k : StoreState). UsableAt k.held d see s asks) (same_some before kept (sym p ∙ is)) u
+        subst (λ (k : StoreState). UsableAt k.held d see s asks) (same_Some before kept (sym p ∙ is)) u
     stay (f ∷ fs) before now ready others within p u kept is =
         let one : PutsAll (Some before) p.0 f = p.1 in
         let step : Made before (planned f one.old) p.0 = done before f p.0 one in

@@ -5,13 +5,13 @@ use Rattle.std.specs.Option.{option_map}
 use Rattle.std.proofs.lemmas.List.{take-append-drop}
 use Rattle.std.proofs.lemmas.Option.{same_Some, slice_get-map, slice_get_within}
 use Rattle.bx_tree.specs.Trees.{Files, NoneNested, paths_of}
+use Rattle.bx_tree.proofs.Sets.{has_contained}
 use Rattle.pip_model_types.specs.Makers.{IsPipList}
 use Rattle.pip_model_types.specs.declared.desc.Desc.{Desc}
 use Rattle.pip_model_types.specs.declared.pip.Pip.{Pip}
 use Rattle.pip_model_types.specs.declared.pip.PipKind.TheVariants.{Process}
 use Rattle.observed.specs.declared.ask.Ask.{Ask}
 use Rattle.observed.specs.declared.access.Answer.{Answer}
-use Rattle.observed.proofs.OneSet.{has_contained}
 use Rattle.graph_check.specs.Rules.{KeepsRules}
 use Rattle.tool_run.proofs.Accesses.{holds}
 use Rattle.run_record.specs.Facts.{Facts, Sound}

@@ -5,6 +5,7 @@ use Rattle.std.specs.List.{Contains}
 use Rattle.std.specs.Option.{option_to_list}
 use Rattle.std.proofs.lemmas.Bool.{cases_Bool, cases_order, false≢true}
 use Rattle.std.proofs.lemmas.List.Elements.{All-contains}
+use Rattle.std.proofs.lemmas.Option.{same_Some}
 use Rattle.bx_tree.specs.Orders.{same_path_decides}
 use Rattle.bx_tree.specs.Paths.{Atoms, IsBelow, same_path}
 use Rattle.bx_tree.specs.Trees.{Files, IsReserved, paths_of}
@@ -21,10 +22,8 @@ use Rattle.pip_model_types.specs.declared.pip.PipKind.{PipKind}
 use Rattle.pip_model_types.specs.declared.pip.PipKind.TheVariants.{Process, Copy, Write, Seal}
 use Rattle.pip_model_types.specs.declared.pip.ProcessDesc.{ProcessDesc}
 use Rattle.graph_check.specs.Descriptions.{description, without_pip}
-use Rattle.observed.specs.Members.{Has}
 use Rattle.observed.specs.declared.ask.Ask.{Ask}
 use Rattle.observed.specs.declared.access.Answer.{Answer}
-use Rattle.observed.proofs.OneSet.{contains_has, has_contained}
 use Rattle.graph_check_outputs.specs.OutsideOut.{out_dir}
 use Rattle.graph_check_outputs.specs.Outputs.{declared_files}
 use Rattle.graph_check_outputs.specs.Outputs as outputs
@@ -48,9 +47,8 @@ use Rattle.retire.specs.Compared.{Compared, inputs_after}
 use Rattle.retire.specs.Runs.{RunsAs, results_before}
 use Rattle.retire.proofs.SoFar.{process_there, run_met}
 use Rattle.bx_tree.specs.FileInputs.{input_path}
-
-same_some : {X : Type 0} (x y : X) → Some x ≡ Some y → x ≡ y
-same_some x y e = cc
+use Rattle.bx_tree.specs.Members.{Has}
+use Rattle.bx_tree.proofs.Sets.{contains_has, has_contained}
 
 -- ## Lists
 
@@ -256,7 +254,7 @@ module _ (pips : List Pip) (tree : Files) (list : IsPipList pips) (keeps : Keeps
       (run_met pips tree budget S (weak_text (weak_parts d)) i d see runs (met.weak refl))
       (run_met pips tree budget S (weak_text (weak_parts e)) j e view others (met.weak refl)) same in
       let parts : weak_parts d ≡ weak_parts e =
-      same_some (weak_parts d) (weak_parts e) (sym read_d ∙ ap read_weak_text text ∙ read_e) in
+      same_Some (weak_parts d) (weak_parts e) (sym read_d ∙ ap read_weak_text text ∙ read_e) in
       twins i j a.0 b.0 runs.process others.process a.1 b.1 a.2 b.2
       (one_description i j a.0 b.0 runs.process others.process
       (inputs_after pips (Process runs.process) (results_before pips tree budget i))

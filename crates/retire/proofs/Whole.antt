@@ -1,11 +1,12 @@
 -- What a whole build gives and leaves, by what its steps say.
-use Rattle.std.proofs.Common.{◌≡◌, ℕ, ◌+◌, ◌≤◌, true, List, [], ◌∷◌, ◌++◌, map, Option, Some, None, refl, sym, ap, ◌∙◌, subst, inl, arith}
+use Rattle.std.proofs.Common.{◌≡◌, ℕ, ◌+◌, ◌≤◌, true, List, [], map, Option, Some, None, refl, sym, ap, ◌∙◌, subst, inl, arith}
 use Rattle.std.specs.Prelude.{IsSome}
 use Rattle.std.specs.List.{AllByRecursion}
+use Rattle.std.proofs.lemmas.Option.{same_Some}
 use Rattle.bx_tree.specs.Trees.{Files}
 use Rattle.bx_io.specs.Causes.{IsWithin}
-use Rattle.bx_io.specs.Holdings.{Change, Holdings, IsPrefix, StoreState, holdings_after}
-use Rattle.bx_io.proofs.Changes.{known_after-nil}
+use Rattle.bx_io.specs.Holdings.{Change, Holdings, StoreState, holdings_after}
+use Rattle.bx_io.proofs.Changes.{known_after-nil, nothing_before}
 use Rattle.pip_model_types.specs.Makers.{IsPipList}
 use Rattle.pip_model_types.specs.declared.made.Slot.{Slot}
 use Rattle.pip_model_types.specs.declared.pip.Pip.{Pip}
@@ -25,9 +26,6 @@ use Rattle.retire.specs.Deciding.{FollowsAll}
 use Rattle.retire.specs.Keeping.{IsSuccess, OnlyPuts, PutsAllEach, PutsFirst}
 use Rattle.retire.specs.Reading.{ReadsOn}
 use Rattle.retire.proofs.Leaving.{leaves_fair, leaves_usable}
-
-same_some : {X : Type 0} (x y : X) → Some x ≡ Some y → x ≡ y
-same_some x y e = cc
 
 -- ## What is given
 
@@ -65,10 +63,6 @@ late_of pips tree budget S hits faults more late vs s same sum =
 
 -- ## What is left
 
-nothing_before : (start : List Change) → IsPrefix start [] → start ≡ []
-nothing_before [] p = refl
-nothing_before (c ∷ cs) p = let joined : c ∷ (cs ++ p.rest) ≡ [] = p.joined in absurd cc
-
 -- where nothing was changed
 pub leaves_same : (pips : List Pip) (tree : Files) (budget : ℕ) (before : StoreState) (now : Option StoreState) → now ≡ Some before → IsFair pips tree budget before.held
     → LeavesFair pips tree budget before now
@@ -78,7 +72,7 @@ leaves_same pips tree budget before now is fair = record {
     makes = is ∙ sym (known_after-nil (Some before));
     along = λ start p. subst (λ (cs : List Change). Honest (holdings_after before.held cs)) (sym (nothing_before start p)) fair.honest;
   };
-  adds = λ kept here e h. inl (subst (λ (k : StoreState). HoldsEntry k.held e) (same_some kept before (sym here ∙ is)) h);
+  adds = λ kept here e h. inl (subst (λ (k : StoreState). HoldsEntry k.held e) (same_Some kept before (sym here ∙ is)) h);
   puts = ([], 0, omega arith, record { number = 0; each = is });
 }
 

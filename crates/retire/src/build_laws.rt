@@ -2,8 +2,8 @@
 ghost use Rattle.std.specs.Prelude.{◌≡◌, ℕ, List, length, true};
 ghost use Rattle.std.specs.List.{list_all};
 ghost use Rattle.bx_tree.specs.Trees.{Files};
+ghost use Rattle.bx_tree.specs.Members.{Has};
 ghost use Rattle.bx_io.specs.Holdings.{Holdings};
-ghost use Rattle.observed.specs.Members.{Has};
 ghost use Rattle.observed.specs.declared.ask.Ask.{Ask as AnyAsk};
 ghost use Rattle.observed.specs.declared.access.Answer.{Answer as AnyAnswer};
 ghost use Rattle.pip_model_types.specs.Makers.{IsPipList};

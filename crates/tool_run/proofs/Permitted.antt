@@ -5,8 +5,8 @@ use Rattle.std.specs.Prelude.{◌↔◌, IsTrue, Contains}
 use Rattle.std.proofs.lemmas.Bool.Decides.{same_from_decides}
 use Rattle.bx_tree.specs.Paths.{Atoms, same_path}
 use Rattle.bx_tree.specs.Orders.{same_path_decides}
-use Rattle.observed.specs.Members.{Has}
-use Rattle.observed.proofs.OneSet.{contains_has, has_contained}
+use Rattle.bx_tree.specs.Members.{Has}
+use Rattle.bx_tree.proofs.Sets.{contains_has, has_contained}
 use Rattle.pip_model_types.specs.declared.outputs.OutDir.{OutDir}
 use Rattle.tool_run_writes.specs.Below.{is_below}
 use Rattle.pip_model_types.specs.Outputs.{outdir_paths}

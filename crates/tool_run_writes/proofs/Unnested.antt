@@ -11,9 +11,9 @@ use Rattle.std.specs.declared.cmp.Ordering.{Ordering}
 use Rattle.std.specs.declared.cmp.Ordering.TheVariants.{Less, Equal, Greater}
 use Rattle.bx_tree.specs.Paths.{Atoms, IsBelow, path_cmp, same_path}
 use Rattle.bx_tree.specs.Trees.{Files, NoneNested, paths_of}
-use Rattle.bx_tree.specs.Orders.{equal_paths, path_cmp_total, same_path_decides}
-use Rattle.observed.specs.Members.{Has}
-use Rattle.observed.proofs.OneSet.{contains_has, has_contained, has_insert, insert_sorted}
+use Rattle.bx_tree.specs.Orders.{path_cmp_total, same_path_decides}
+use Rattle.bx_tree.specs.Members.{Has}
+use Rattle.bx_tree.proofs.Sets.{contains_has, has_contained, has_insert, insert_sorted}
 use Rattle.pip_model_types.specs.Made.{RisingFiles}
 use Rattle.tool_run_writes.specs.Below.{is_below}
 use Rattle.tool_run_writes.specs.Writes.{clashes, has_below}
@@ -44,7 +44,7 @@ longer : (path rest : Atoms) → rest ≢ [] → path ≡ path ++ rest → ⊥
 longer [] rest some e = some (sym e)
 longer (a ∷ as') rest some e = let f : as' ≡ as' ++ rest = cc in longer as' rest some f
 
-not_itself : (path : Atoms) → IsBelow path path → ⊥
+pub not_itself : (path : Atoms) → IsBelow path path → ⊥
 not_itself path h = longer path h.0 h.1 h.2
 
 -- ## A file more
@@ -66,9 +66,9 @@ put_rising files path bytes h =
     subst (IsStrictlySortedBy path_cmp) (sym (put_paths files path bytes)) (insert_sorted path_cmp_total (paths_of files) path h)
 
 -- a path of the files with one more is that of the one, or one of theirs
-put_has : (files : Files) (path : Atoms) (bytes : List ℕ) (q : Atoms) → Has (paths_of (insert_entry path_cmp files path bytes)) q
+pub put_has : (files : Files) (path : Atoms) (bytes : List ℕ) (q : Atoms) → Has (paths_of (insert_entry path_cmp files path bytes)) q
     → (path ≡ q) ⊎ Has (paths_of files) q
-put_has files path bytes q h = has_insert path_cmp equal_paths (paths_of files) path q (subst (λ (ps : List Atoms). Has ps q) (put_paths files path bytes) h)
+put_has files path bytes q h = has_insert path_cmp (paths_of files) path q (subst (λ (ps : List Atoms). Has ps q) (put_paths files path bytes) h)
 
 -- a path that clashes with no file lies below none of them, and none below it
 no_clash : (files : Files) (path q : Atoms) → clashes files path ≡ false → Has (paths_of files) q → (is_below q path ≡ false) × (is_below path q ≡ false)

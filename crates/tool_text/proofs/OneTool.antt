@@ -8,13 +8,14 @@ use Rattle.std.proofs.lemmas.Bool.{and_from, and_parts}
 use Rattle.std.proofs.lemmas.Bool.Decides.{Decides-ltb, nat_tests}
 use Rattle.std.proofs.lemmas.List.{append-nil}
 use Rattle.std.proofs.lemmas.Slice.Eq.{bytes_eq-Decides}
+use Rattle.std.proofs.lemmas.Option.{same_Some}
 use Rattle.tool_text.specs.declared.tool.Instr.{Instr}
 use Rattle.tool_text.specs.declared.tool.Instr.TheVariants as instrs
 use Rattle.tool_text.specs.declared.fault.ToolFault.{ToolFault}
 use Rattle.tool_text.specs.declared.fault.ToolFault.TheVariants.{BadTool}
 use Rattle.tool_text.specs.Grammar.{AreBlanks, AreDistinct, AreLines, AreOperands, IsInstr, IsLabel, IsLine, IsStart, IsTool, Labels, first_line, is_lower, says, word_of}
 use Rattle.tool_text.specs.Reading.{ReadsTool, op_of, after_byte, after_label, are_distinct, before_byte, instr_in, instr_of, is_label, is_label_byte, is_labelled, label_of, line_of, lines_of, operand_texts, place_of, skip_blanks, tool_from, tool_in, tool_of, with_line}
-use Rattle.tool_text.proofs.Values.{equal_numbers, if_some, some_same}
+use Rattle.tool_text.proofs.Values.{equal_numbers, if_some}
 use Rattle.tool_text.proofs.Places.{are_labels, distinct_complete, distinct_sound, label_complete, label_sound}
 use Rattle.tool_text.proofs.Commas.{separated_complete, separated_sound}
 use Rattle.tool_text.proofs.Wording.{HasLabels, are_parts, instr_complete, instr_sound, op_in, op_read, then_some, word_sound}
@@ -288,11 +289,11 @@ with_sound : (o : Option Instr) (rest : Option (List Instr)) (tool : List Instr)
     → (instr : Instr) × (instrs : List Instr) × (o ≡ Some instr) × (rest ≡ Some instrs) × (instr ∷ instrs ≡ tool)
 with_sound None rest tool e = cc
 with_sound (Some instr) None tool e = cc
-with_sound (Some instr) (Some instrs) tool e = (instr, instrs, refl, refl, some_same (instr ∷ instrs) tool e)
+with_sound (Some instr) (Some instrs) tool e = (instr, instrs, refl, refl, same_Some (instr ∷ instrs) tool e)
 
 pub lines_sound : (labels : Labels) (lines : List (List ℕ)) (tool : List Instr) → HasLabels labels → lines_of (place_of labels) lines ≡ Some tool
     → AreLines labels lines (map label_of lines) tool
-lines_sound labels [] tool ok e = subst (λ t. AreLines labels [] [] t) (some_same [] tool e) tt
+lines_sound labels [] tool ok e = subst (λ t. AreLines labels [] [] t) (same_Some [] tool e) tt
 lines_sound labels (line ∷ lines) tool ok e =
     let parts = with_sound (line_of (place_of labels) line) (lines_of (place_of labels) lines) tool e in
     subst (λ t. AreLines labels (line ∷ lines) (map label_of (line ∷ lines)) t) parts.4
@@ -355,7 +356,7 @@ pub read : (text : List ℕ) (tool : List Instr) → (tool_of text ≡ Some tool
 read text tool = (tool_sound text tool, tool_complete text tool)
 
 pub only : (text : List ℕ) (s t : List Instr) → IsTool text s → IsTool text t → s ≡ t
-only text s t h k = some_same s t (sym (tool_complete text s h) ∙ tool_complete text t k)
+only text s t h k = same_Some s t (sym (tool_complete text s h) ∙ tool_complete text t k)
 
 -- what is read is a tool of the text, and where none is read there is none
 pub found : (text : List ℕ) (read : Result (List Instr) ToolFault) → ReadsTool read (tool_of text) → IfOk read (λ tool. IsTool text tool)

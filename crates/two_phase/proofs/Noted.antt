@@ -1,19 +1,20 @@
 -- Contents that a store is known to hold.
 use Rattle.std.proofs.Common.{◌≡◌, ◌⊎◌, ℕ, Bool, true, false, List, [], ◌∷◌, Option, Some, None, Result, Ok, Err, cond, refl, sym, ap, ◌∙◌, subst, inl, inr}
 use Rattle.std.proofs.lemmas.Bool.{cases_Bool, cond-true, cond-false}
-use Rattle.std.proofs.lemmas.Cmp.{eq_by_cmp_equiv, nat_list_cmp_total}
-use Rattle.std.proofs.lemmas.Map.Text.{is_eq-slice_cmp}
+use Rattle.std.proofs.lemmas.Cmp.{nat_list_cmp_total}
 use Rattle.std.proofs.lemmas.Slice.Eq.{bytes_eq-Decides}
 use Rattle.std.specs.BTreeMap.{BTreeMap, UpdatesBy, get_by}
 use Rattle.std.specs.Cmp.{Equal-is}
 use Rattle.std.specs.Cmp.Lexicographic.{slice_cmp}
 use Rattle.std.specs.FinMap.{get, insert, get-insert, same_map, slice_cmp-IsAntisymmetric, nat_cmp-IsAntisymmetric}
-use Rattle.std.specs.Map.{AreApart, IsKeyTest, KeepsOthers, lookup}
+use Rattle.std.specs.Map.{lookup}
 use Rattle.std.specs.Ordering.{eq_by_cmp, is_eq, nat_cmp}
 use Rattle.std.specs.Prelude.{OnErr, OnOk}
 use Rattle.std.specs.Str.{bytes_eq}
 use Rattle.std.specs.declared.alloc.Global.{Global}
 use Rattle.std.specs.declared.vec.Vec.{Vec}
+use Rattle.std.proofs.lemmas.Option.{same_Some}
+use Rattle.bx_tree.proofs.TextTables.{text_put}
 use Rattle.sha2.specs.Sha256.{sha256}
 use Rattle.bx_io.specs.Holdings.{Holdings, Put, StoreState, known_after}
 use Rattle.bx_io.specs.declared.keeper.PutFault.{PutFault}
@@ -27,23 +28,6 @@ use Rattle.two_phase.specs.Held.{AreHeld, Tracks, noted_at}
 use Rattle.two_phase.specs.declared.held.HeldContents.{HeldContents}
 
 -- ## The table
-
-other_entries : {K X : Type 0} (eq : K → K → Bool) (test : K → Bool) (old new : List (K × X)) → KeepsOthers eq test old new → (other : K → Bool) → IsKeyTest eq other
-    → AreApart test other → lookup other new ≡ lookup other old
-unfolding KeepsOthers
-other_entries eq test old new kept = kept
-
--- a digest that differs from that of an entry is not at it
-apart : (key q k : List ℕ) → bytes_eq key q ≡ false → is_eq (slice_cmp nat_cmp key k) ≡ true → is_eq (slice_cmp nat_cmp q k) ≡ false
-apart key q k n y =
-    let at = (bytes_eq-Decides key k).0 (sym (is_eq-slice_cmp key k) ∙ y) in
-    elim (cases_Bool (bytes_eq q k)) [
-      | inl t ↦
-          let same : key ≡ q = at ∙ sym ((bytes_eq-Decides q k).0 t) in
-          let both : bytes_eq key q ≡ true = (bytes_eq-Decides key q).1 same in
-          cc
-      | inr f ↦ is_eq-slice_cmp q k ∙ f
-    ]
 
 same_or_other : (a b : List ℕ) → (a ≡ b) ⊎ (a ≡ b → ⊥)
 same_or_other a b = elim (cases_Bool (bytes_eq a b)) [
@@ -64,11 +48,7 @@ Updated key old new value =
 other_noted : (key : List ℕ) (old new : HeldContents) (value : Option (List ℕ)) → Updated key old new value → (q : List ℕ) → (key ≡ q → ⊥)
     → noted_at new q ≡ noted_at old q
 other_noted key old new value h q other =
-    other_entries _ _ old.contents.entries new.contents.entries h.3 _ (λ a b. (eq_by_cmp_equiv nat_list_cmp_total).congr q a.items b.items)
-    (λ k. apart key q k.items (not_equal key q other))
-
-same_some : {X : Type 0} (x y : X) → Some x ≡ Some y → x ≡ y
-same_some x y e = cc
+    text_put key old.contents new.contents value h q ∙ cond-false (bytes_eq key q) value (noted_at old q) (not_equal key q other)
 
 pub forgotten : (digest key : List ℕ) (old new : HeldContents) → key ≡ digest → Updated key old new None → (content : List ℕ) → Tracks old new digest content
 forgotten digest key old new is h content = record {
@@ -79,7 +59,7 @@ forgotten digest key old new is h content = record {
 pub noted : (digest key content value : List ℕ) (old new : HeldContents) → key ≡ digest → value ≡ content → Updated key old new (Some value)
     → Tracks old new digest content
 noted digest key content value old new is same h = record {
-  here = λ other there. same_some other content (sym there ∙ ap (noted_at new) (sym is) ∙ h.1 ∙ ap Some same);
+  here = λ other there. same_Some other content (sym there ∙ ap (noted_at new) (sym is) ∙ h.1 ∙ ap Some same);
   others = λ q apart. other_noted key old new (Some value) h q (λ e. apart (sym is ∙ e));
 }
 

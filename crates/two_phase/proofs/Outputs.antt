@@ -12,9 +12,9 @@ use Rattle.bx_io.specs.Holdings.{Holdings}
 use Rattle.bx_tree.specs.Paths.{Atoms, IsBelow, path_cmp}
 use Rattle.bx_tree.specs.Trees.{Files, NoneNested, paths_of}
 use Rattle.bx_tree.specs.Orders.{path_cmp_total}
+use Rattle.bx_tree.specs.Members.{Has}
+use Rattle.bx_tree.proofs.Sets.{contains_has}
 use Rattle.pip_model_types.specs.Made.{RisingFiles}
-use Rattle.observed.specs.Members.{Has}
-use Rattle.observed.proofs.OneSet.{contains_has}
 use Rattle.tool_run_writes.specs.Below.{is_below}
 use Rattle.tool_run_writes.specs.Writes.{clashes, put_file}
 use Rattle.tool_run_writes.proofs.BelowByAtoms.{below_decides}

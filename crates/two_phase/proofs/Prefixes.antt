@@ -5,6 +5,7 @@ use Rattle.sha2.specs.Sha256.{sha256}
 use Rattle.observed.specs.Texts.{paths_text}
 use Rattle.bx_io.specs.Holdings.{Change, IsPrefix, Put, StoreState, holdings_after}
 use Rattle.bx_io.specs.declared.keeper.PutFault.{PutFault}
+use Rattle.bx_io.proofs.Changes.{nothing_before}
 use Rattle.run_record.specs.Facts.{Facts, Sound}
 use Rattle.memo_format.specs.Selectors.{selectors_text}
 use Rattle.memo_format.specs.StoreNames.{at_entry, at_list}
@@ -117,10 +118,6 @@ prefix_of_prefix start made all p q = record {
   rest = p.rest ++ q.rest;
   joined = sym (append_assoc start p.rest q.rest) ∙ ap (λ cs. cs ++ q.rest) p.joined ∙ q.joined;
 }
-
-nothing_before : (start : List Change) → IsPrefix start [] → start ≡ []
-nothing_before [] p = refl
-nothing_before (c ∷ cs) p = let joined : c ∷ (cs ++ p.rest) ≡ [] = p.joined in absurd cc
 
 pub leaves_honest : (before : StoreState) (now : Option StoreState) (f : Facts) → Sound f → IsGood f → PutsUpTo (Some before) now f → Honest before.held
     → NoCollision (ComparedInSave before.held f) → LeavesHonest before now

@@ -1,5 +1,5 @@
 -- The files of a run that succeeded are what its process declares and may make.
-use Rattle.std.proofs.Common.{◌≡◌, ◌⊎◌, ℕ, Bool, true, false, cond, ◌&&◌, ◌||◌, ◌==◌, not, List, [], ◌∷◌, Option, Some, None, refl, sym, ap, ◌∙◌, subst, inl, inr}
+use Rattle.std.proofs.Common.{◌≡◌, ℕ, Bool, true, false, cond, ◌&&◌, ◌||◌, ◌==◌, not, List, [], ◌∷◌, Option, Some, None, refl, sym, ap, ◌∙◌, subst, inl, inr}
 use Rattle.std.specs.Prelude.{IsTrue, is_none}
 use Rattle.std.specs.BTreeMap.{insert_entry}
 use Rattle.std.specs.List.{AllByRecursion, list_all, list_any}
@@ -10,7 +10,7 @@ use Rattle.std.specs.declared.cmp.Ordering.TheVariants.{Less, Equal, Greater}
 use Rattle.bx_tree.specs.Paths.{Atoms, has_path, path_cmp, same_path}
 use Rattle.bx_tree.specs.Trees.{Files, file_at, paths_of}
 use Rattle.bx_tree.specs.Orders.{equal_paths, same_path_decides}
-use Rattle.observed.specs.Members.{Has}
+use Rattle.bx_tree.specs.Members.{Has}
 use Rattle.observed.specs.declared.access.Access.{Access}
 use Rattle.observed.specs.declared.access.End.{End}
 use Rattle.observed.specs.declared.access.End.TheVariants as ends
@@ -18,6 +18,7 @@ use Rattle.pip_model_types.specs.declared.desc.Desc.{Desc}
 use Rattle.pip_model_types.specs.declared.outputs.OutDir.{OutDir}
 use Rattle.pip_model_types.specs.declared.pip.ProcessDesc.{ProcessDesc}
 use Rattle.tool_run_writes.specs.Below.{is_below}
+use Rattle.tool_run_writes.proofs.Unnested.{put_has}
 use Rattle.tool_run.specs.Description.{Description, permits}
 use Rattle.tool_run.specs.Described.{described}
 use Rattle.tool_run.specs.Laws.{RunInvariant}
@@ -92,17 +93,6 @@ put_keeps (f ∷ fs) path bytes q h = by_order (path_cmp path f.0) (insert_entry
     by_order Less rest more h = inr h
     by_order Equal rest more h = h
     by_order Greater rest more h = elim h [ inl e ↦ inl e | inr k ↦ inr (more k) ]
-
--- a path of files with one more is that of the one, or one of theirs
-put_has : (files : Files) (path : Atoms) (bytes : List ℕ) (q : Atoms) → Has (paths_of (insert_entry path_cmp files path bytes)) q → (path ≡ q) ⊎ Has (paths_of files) q
-put_has [] path bytes q h = h
-put_has (f ∷ fs) path bytes q h = by_order (path_cmp path f.0) (insert_entry path_cmp fs path bytes) (put_has fs path bytes q) h
-  where
-    by_order : (o : Ordering) (rest : Files) → (Has (paths_of rest) q → (path ≡ q) ⊎ Has (paths_of fs) q)
-        → Has (paths_of (match_ordering o ((path, bytes) ∷ f ∷ fs) ((f.0, bytes) ∷ fs) (f ∷ rest))) q → (path ≡ q) ⊎ Has (paths_of (f ∷ fs)) q
-    by_order Less rest more h = h
-    by_order Equal rest more h = inr h
-    by_order Greater rest more h = elim h [ inl e ↦ inr (inl e) | inr k ↦ elim (more k) [ inl e ↦ inl e | inr m ↦ inr (inr m) ] ]
 
 put_there : (files : Files) (path : Atoms) (bytes : List ℕ) → Has (paths_of (insert_entry path_cmp files path bytes)) path
 put_there [] path bytes = inl refl

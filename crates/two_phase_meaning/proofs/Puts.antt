@@ -6,6 +6,7 @@ use Rattle.std.specs.Ordering.{nat_cmp, eq_by_cmp}
 use Rattle.std.specs.Cmp.{Equal-is}
 use Rattle.std.specs.Cmp.Lexicographic.{slice_cmp, nat_list_cmp_total}
 use Rattle.std.proofs.lemmas.Cmp.{eq_by_cmp_equiv}
+use Rattle.std.proofs.lemmas.Option.{same_Some}
 use Rattle.sha2.specs.Sha256.{sha256}
 use Rattle.observed.specs.Texts.{paths_text}
 use Rattle.bx_io.specs.Holdings.{Change, Holdings, IsPrefix, holdings_after}
@@ -30,9 +31,6 @@ use Rattle.two_phase_meaning.specs.Keeping.{ComparedInSave, IsGood, Spelled, ans
 use Rattle.two_phase_meaning.proofs.Digests.{blob_no_entry, blob_no_list, entry_no_blob, entry_no_list, same_blob_name}
 use Rattle.two_phase_meaning.proofs.Same.{all_has, all_left, all_map, all_right, lines_are}
 
-same_some : {X : Type 0} (x y : X) → Some x ≡ Some y → x ≡ y
-same_some x y e = cc
-
 -- ## What is held after a put
 
 same_name : (q name : List ℕ) → eq_by_cmp (slice_cmp nat_cmp) q name ≡ true → q ≡ name
@@ -46,7 +44,7 @@ chosen false new old found e = inr (refl, e)
 pub put_or_old : (S : Holdings) (name bytes q x : List ℕ) → get (insert S name bytes) q ≡ Some x → ((q ≡ name) × (bytes ≡ x)) ⊎ (get S q ≡ Some x)
 put_or_old S name bytes q x e =
     elim (chosen (eq_by_cmp (slice_cmp nat_cmp) q name) (Some bytes) (get S q) (Some x) (sym (get-insert nat_list_cmp_total S name bytes q) ∙ e)) [
-      | inl h ↦ inl (same_name q name h.0, same_some bytes x h.1)
+      | inl h ↦ inl (same_name q name h.0, same_Some bytes x h.1)
       | inr h ↦ inr h.1
     ]
 
@@ -183,7 +181,7 @@ pub entry_honest : (T : Holdings) (f : Facts) → Honest T → Spelled f → Hon
     → Honest (insert T (at_entry (sha256 (answers_text f))) (entry_text (record_entry f)))
 entry_honest T f honest spelled made e h = elim (put_or_old T (at_entry (sha256 (answers_text f))) (entry_text (record_entry f)) (at_entry e.strong) h.0 h.1) [
   | inl k ↦
-      let same : record_entry f ≡ e = same_some (record_entry f) e (sym spelled.entry ∙ ap read_entry_text k.1 ∙ h.2) in
+      let same : record_entry f ≡ e = same_Some (record_entry f) e (sym spelled.entry ∙ ap read_entry_text k.1 ∙ h.2) in
       subst (λ (x : Entry). HonestEntry (insert T (at_entry (sha256 (answers_text f))) (entry_text (record_entry f))) x) same
       (still_honest T (insert T (at_entry (sha256 (answers_text f))) (entry_text (record_entry f)))
       (entry_grows T (sha256 (answers_text f)) (entry_text (record_entry f))) (record_entry f) made)

@@ -2,10 +2,11 @@
 use Rattle.std.proofs.Common.{◌≡◌, ℕ, List, [], ◌∷◌, map, Some, refl, sym, ap, ◌∙◌, subst, inl, inr}
 use Rattle.std.specs.FinMap.{get, insert}
 use Rattle.std.specs.List.{AllByRecursion}
+use Rattle.std.proofs.lemmas.Option.{same_Some}
+use Rattle.bx_tree.specs.Members.{Has}
 use Rattle.sha2.specs.Sha256.{sha256}
 use Rattle.bx_digest.specs.Digests.{IsDigest}
 use Rattle.pip_model_types.specs.declared.desc.Desc.{Desc}
-use Rattle.observed.specs.Members.{Has}
 use Rattle.observed.specs.Texts.{paths_text}
 use Rattle.observed.specs.declared.ask.Ask.{Ask}
 use Rattle.observed.specs.declared.access.Answer.{Answer}
@@ -31,9 +32,6 @@ use Rattle.two_phase_meaning.proofs.Digests.{entry_no_blob, entry_no_list, list_
 use Rattle.two_phase_meaning.proofs.Puts.{Grows, blobs_grow, entry_grows, list_grows, still_there}
 use Rattle.two_phase_meaning.proofs.Same.{all_has, all_map, lines_are}
 
-same_some : {X : Type 0} (x y : X) → Some x ≡ Some y → x ≡ y
-same_some x y e = cc
-
 -- puts of contents leave the lists and entries
 blobs_leave : (xs : List (List ℕ)) (S : Holdings) (q bytes : List ℕ) → ((digest : List ℕ) → q ≡ at_blob digest → ⊥) → get S q ≡ Some bytes
     → get (holdings_after S (map blob_put xs)) q ≡ Some bytes
@@ -49,7 +47,7 @@ one_weak d e p q as' bs hp hq same =
     let right : StrongParts = strong_parts (weak_of e) q bs in
     let is_left : IsStrong left = record { weak = is_digest (weak_text (weak_parts d)); paths = hp; lines = lines_are as' } in
     let is_right : IsStrong right = record { weak = is_digest (weak_text (weak_parts e)); paths = hq; lines = lines_are bs } in
-    ap (λ (x : StrongParts). x.weak) (same_some left right (sym (strong_again left is_left) ∙ ap read_strong_text same ∙ strong_again right is_right))
+    ap (λ (x : StrongParts). x.weak) (same_Some left right (sym (strong_again left is_left) ∙ ap read_strong_text same ∙ strong_again right is_right))
 
 -- ## What puts leave at other names
 

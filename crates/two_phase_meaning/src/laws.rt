@@ -1,9 +1,9 @@
 //! What holds of all honest stores.
 ghost use Rattle.std.specs.Prelude.{◌≡◌, ◌≢◌, ◌⊎◌, ℕ, IsTrue, List, map};
 ghost use Rattle.std.specs.FinMap.{empty};
+ghost use Rattle.bx_tree.specs.Members.{Has};
 ghost use Rattle.bx_io.specs.Holdings.{Change, Holdings, IsPrefix, holdings_after};
 ghost use Rattle.pip_model_types.specs.declared.desc.Desc.{Desc as AnyDesc};
-ghost use Rattle.observed.specs.Members.{Has};
 ghost use Rattle.observed.specs.declared.ask.Ask.{Ask as AnyAsk};
 ghost use Rattle.observed.specs.declared.access.Answer.{Answer as AnyAnswer};
 ghost use Rattle.memo_format.specs.Entries.{output_paths};

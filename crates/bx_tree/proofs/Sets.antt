@@ -8,11 +8,7 @@ use Rattle.std.specs.Cmp.{IsTotalOrder}
 use Rattle.std.specs.BTreeSet.{insert_key}
 use Rattle.std.specs.declared.cmp.Ordering.{Ordering}
 use Rattle.std.specs.declared.cmp.Ordering.TheVariants.{Less, Equal, Greater}
-
--- one of the elements of the list
-abbrev pub Has : {X : Type 0} → List X → X → Type 0
-Has [] x = ⊥
-Has (y ∷ ys) x = (y ≡ x) ⊎ Has ys x
+use Rattle.bx_tree.specs.Members.{Has}
 
 -- ## Members
 
@@ -62,6 +58,15 @@ unique R asym (x ∷ xs) (y ∷ ys) s t into back =
     ap (λ z. z ∷ xs) same ∙ ap (λ zs. y ∷ zs) (unique R asym xs ys s.1 t.1
     (tails R asym x y xs ys same s.0 into) (tails R asym y x ys xs (sym same) t.0 back))
 
+-- in a total order, neither of two elements is less than the other and greater too
+pub never_both : {K : Type 0} {R : K → K → Ordering} → IsTotalOrder R → (a b : K) → R a b ≡ Less → R b a ≡ Less → ⊥
+never_both {R = R} order a b e f = turned (R a b) (R b a) (order.antisymm a b) e f
+  where
+    turned : (o p : Ordering) → o ≡ ordering_reverse p → o ≡ Less → p ≡ Less → ⊥
+    turned o Less h e f = cc
+    turned o Equal h e f = cc
+    turned o Greater h e f = cc
+
 -- ## Insertion
 
 -- what a list with an element put in its place has
@@ -79,14 +84,20 @@ has_placed Equal k x q xs rest less h = inr h
 has_placed Greater k x q xs rest less h =
     elim h [ inl e ↦ inr (inl e) | inr m ↦ elim (less m) [ inl e ↦ inl e | inr n ↦ inr (inr n) ] ]
 
-module _ {K : Type 0} (R : K → K → Ordering) (same : (x y : K) → R x y ≡ Equal → x ≡ y) where
-  pub insert_has : (xs : List K) (k q : K) → (k ≡ q) ⊎ Has xs q → Has (insert_key R xs k) q
-  insert_has [] k q h = h
-  insert_has (x ∷ xs) k q h = placed_has (R k x) k x q xs (insert_key R xs k) (same k x) (insert_has xs k q) h
+-- an element is put in, and the others stay, where it equals those that it ties with
+pub inserted : {K : Type 0} (R : K → K → Ordering) (xs : List K) (k q : K) → ((x : K) → Has xs x → R k x ≡ Equal → k ≡ x) → (k ≡ q) ⊎ Has xs q
+    → Has (insert_key R xs k) q
+inserted R [] k q same h = h
+inserted R (x ∷ xs) k q same h =
+    placed_has (R k x) k x q xs (insert_key R xs k) (same x (inl refl)) (inserted R xs k q (λ y m. same y (inr m))) h
 
-  pub has_insert : (xs : List K) (k q : K) → Has (insert_key R xs k) q → (k ≡ q) ⊎ Has xs q
-  has_insert [] k q h = h
-  has_insert (x ∷ xs) k q h = has_placed (R k x) k x q xs (insert_key R xs k) (has_insert xs k q) h
+pub insert_has : {K : Type 0} (R : K → K → Ordering) → ((x y : K) → R x y ≡ Equal → x ≡ y) → (xs : List K) (k q : K) → (k ≡ q) ⊎ Has xs q
+    → Has (insert_key R xs k) q
+insert_has R same xs k q h = inserted R xs k q (λ x m. same k x) h
+
+pub has_insert : {K : Type 0} (R : K → K → Ordering) (xs : List K) (k q : K) → Has (insert_key R xs k) q → (k ≡ q) ⊎ Has xs q
+has_insert R [] k q h = h
+has_insert R (x ∷ xs) k q h = has_placed (R k x) k x q xs (insert_key R xs k) (has_insert R xs k q) h
 
 less_back : (o p : Ordering) → o ≡ ordering_reverse p → o ≡ Greater → p ≡ Less
 less_back o Less e g = refl

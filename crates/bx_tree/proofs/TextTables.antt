@@ -1,4 +1,4 @@
--- A table of places by name after one more is kept.
+-- Tables by text after a change at one text.
 use Rattle.std.proofs.Common.{◌≡◌, ℕ, Bool, true, false, List, Option, cond, ap, sym, ◌∙◌, inl, inr}
 use Rattle.std.proofs.lemmas.Bool.{cases_Bool, cond-true, cond-false}
 use Rattle.std.proofs.lemmas.Cmp.{eq_by_cmp_equiv, nat_list_cmp_total}
@@ -19,7 +19,7 @@ other_entries : {K X : Type 0} (eq : K → K → Bool) (test : K → Bool) (old 
 unfolding KeepsOthers
 other_entries eq test old new kept = kept
 
--- a name that differs from the key of an entry is not at it
+-- a text that differs from the key of an entry is not at it
 apart : (key x k : List ℕ) → bytes_eq key x ≡ false
     → is_eq (slice_cmp nat_cmp key k) ≡ true → is_eq (slice_cmp nat_cmp x k) ≡ false
 apart key x k n y =
@@ -32,17 +32,17 @@ apart key x k n y =
       | inr f ↦ is_eq-slice_cmp x k ∙ f
     ]
 
-pub place_kept : (key : Vec ℕ Global) (old new : BTreeMap (Vec ℕ Global) ℕ) (value : Option ℕ)
-    → UpdatesBy (λ a b. slice_cmp nat_cmp a.items b.items) (λ k. slice_cmp nat_cmp key.items k.items) old new value
-    → (x : List ℕ) → at_text new x ≡ cond (bytes_eq key.items x) value (at_text old x)
-place_kept key old new value h x =
-    elim (cases_Bool (bytes_eq key.items x)) [
+pub text_put : {X : Type 0} (key : List ℕ) (old new : BTreeMap (Vec ℕ Global) X) (value : Option X)
+    → UpdatesBy (λ a b. slice_cmp nat_cmp a.items b.items) (λ k. slice_cmp nat_cmp key k.items) old new value
+    → (x : List ℕ) → at_text new x ≡ cond (bytes_eq key x) value (at_text old x)
+text_put key old new value h x =
+    elim (cases_Bool (bytes_eq key x)) [
       | inl t ↦
-          ap (at_text new) (sym ((bytes_eq-Decides key.items x).0 t)) ∙ h.1
-          ∙ sym (cond-true (bytes_eq key.items x) value (at_text old x) t)
+          ap (at_text new) (sym ((bytes_eq-Decides key x).0 t)) ∙ h.1
+          ∙ sym (cond-true (bytes_eq key x) value (at_text old x) t)
       | inr f ↦
           other_entries _ _ old.entries new.entries h.3 _
           (λ a b. (eq_by_cmp_equiv nat_list_cmp_total).congr x a.items b.items)
-          (λ k. apart key.items x k.items f)
-          ∙ sym (cond-false (bytes_eq key.items x) value (at_text old x) f)
+          (λ k. apart key x k.items f)
+          ∙ sym (cond-false (bytes_eq key x) value (at_text old x) f)
     ]
