@@ -20,6 +20,6 @@ root_decides path text r k e is = (
 pub root_is : (path : Atoms) (r : Bool) → (IsTrue r ↔ (path ≡ [])) → r ≡ is_root path
 root_is [] r h = h.1 refl
 root_is (atom ∷ rest) r h = elim (cases_Bool r) [
-  | inl yes ↦ let clash : atom ∷ rest ≡ [] = h.0 yes in cc
+  | inl so ↦ let clash : atom ∷ rest ≡ [] = h.0 so in cc
   | inr not_so ↦ not_so
 ]
