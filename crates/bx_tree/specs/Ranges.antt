@@ -1,8 +1,16 @@
 -- Where the paths below a directory are in a list that is sorted by path.
-use Rattle.bx_tree.specs.Paths.{Atoms, path_text}
-use Rattle.std.specs.Prelude.{Bool, List, [], codes, ℕ, ◌++◌, ◌∷◌}
-use Rattle.std.specs.Ordering.{is_lt, nat_cmp}
+use Rattle.std.specs.Prelude.{Bool, List, [], codes, ℕ, ◌++◌, ◌∷◌, ◌≢◌}
 use Rattle.std.specs.Cmp.Lexicographic.{slice_cmp}
+use Rattle.std.specs.List.{AllByRecursion}
+use Rattle.std.specs.List.Sorted.{IsStrictlySortedBy}
+use Rattle.std.specs.Ordering.{is_lt, nat_cmp}
+use Rattle.bx_tree.specs.Paths.{Atoms, IsPath, path_cmp, path_text}
+
+-- paths of files, in order
+pub record AreFilePaths (paths : List Atoms) : Type 0 where
+  pub are_paths : AllByRecursion IsPath paths
+  pub no_root : AllByRecursion (λ path. path ≢ []) paths
+  pub rising : IsStrictlySortedBy path_cmp paths
 
 -- the bytes with which the text of each path below a directory begins
 abbrev pub prefix_below : Atoms → List ℕ

@@ -17,8 +17,8 @@ use Rattle.tool_run_writes.specs.Below.{is_below, next_atom}
 use Rattle.tool_run_writes.specs.Writes.{has_below, own_names}
 use Rattle.tool_run_writes.proofs.BelowByAtoms.{below_decides}
 use Rattle.tool_run_writes.proofs.NextAtoms.{none_next}
-use Rattle.pip_view.specs.Ranges.{AreFilePaths, first_below}
-use Rattle.bx_tree.specs.Ranges.{comes_before, prefix_below}
+use Rattle.pip_view.specs.Ranges.{first_below}
+use Rattle.bx_tree.specs.Ranges.{AreFilePaths, comes_before, prefix_below}
 
 -- ## Texts that begin with a prefix
 

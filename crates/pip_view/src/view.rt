@@ -13,7 +13,7 @@ ghost use Rattle.tool_run.specs.Listings.{add_names as with_names};
 ghost use Rattle.tool_run.specs.NameSets.{names_now};
 ghost use Rattle.violations.specs.Producing.{dirs_at as dirs_of_pip};
 ghost use Rattle.pip_view.specs.InputFiles as files;
-ghost use Rattle.pip_view.specs.Ranges.{AreFilePaths};
+ghost use Rattle.bx_tree.specs.Ranges.{AreFilePaths};
 ghost use Rattle.pip_view.specs.Sees as seen;
 ghost use Rattle.pip_view.specs.Seen.{SearchedAt, answer_elsewhere, answer_unnamed, is_sealed_at, is_unseen_at};
 ghost use Rattle.pip_view.specs.Seen.{named_in, opaque_in, taken_in, view_answers};
