@@ -1,19 +1,19 @@
 -- A path's text decides whether a glob lists the path.
-use Rattle.std.proofs.Common.{inl, inr, append_assoc, ◌≡◌, ◌≢◌, ℕ, ◌<◌, ◌≤◌, ◌+◌, Bool, false, cond, ◌&&◌, ◌==◌, List, [], ◌∷◌, ◌++◌, length, get_or, take, drop, filter, codes, Option, Some, None, refl, ap, sym, ◌∙◌, subst, arith}
+use Rattle.std.proofs.Common.{append_assoc, ◌≡◌, ◌≢◌, ℕ, ◌<◌, ◌≤◌, ◌+◌, Bool, false, cond, ◌&&◌, ◌==◌, List, [], ◌∷◌, ◌++◌, length, get_or, take, drop, filter, codes, Option, Some, None, refl, ap, sym, ◌∙◌, subst, arith}
 use Rattle.std.specs.List.{AllByRecursion, slice_split}
 use Rattle.std.specs.Option.{option_map_or}
-use Rattle.std.specs.Str.{bytes_eq}
-use Rattle.std.proofs.lemmas.Bool.{cases_Bool, ne_eqb}
+use Rattle.std.proofs.lemmas.Bool.{ne_eqb}
 use Rattle.std.proofs.lemmas.List.{append_cancel_left, append-nil, drop_at, length-append, take_more}
 use Rattle.std.proofs.lemmas.List.Elements.{All-from_recursion, filter-append}
 use Rattle.std.proofs.lemmas.List.Splits.{slice_split_none, slice_split_at, length-slice_split}
-use Rattle.std.proofs.lemmas.Slice.Eq.{bytes_eq-Decides}
 use Rattle.bx_tree.specs.declared.tree_file.TreeFile.{TreeFile}
 use Rattle.bx_tree.specs.Paths.{Atoms, IsAtom, IsBelow, IsPath, path_text}
 use Rattle.bx_tree.specs.Trees.{paths_of}
 use Rattle.bx_tree.specs.Views.{files_of}
+use Rattle.bx_tree.proofs.Below.{strip_dir-append, strip_dir_is}
 use Rattle.bx_tree.proofs.PathTexts.{split-below, prefix_from_below}
-use Rattle.bx_path.specs.Globbing.{strip_dir, glob_of, is_hit, last_is_match}
+use Rattle.bx_path.specs.Globbing.{glob_of, is_hit, last_is_match}
+use Rattle.bx_tree.specs.Below.{strip_dir}
 use Rattle.bx_path.proofs.StepsOfTexts.{atoms_from_text, root_from_text}
 
 abbrev pub is_slash : ℕ → Bool
@@ -46,23 +46,6 @@ last_after_first pattern deep text prefix after e h =
     ∙ last_of_more pattern deep prefix (slice_split is_slash after) (omega (arith, length-slice_split is_slash after))
 
 -- ## The atoms after a directory
-
-strip_dir-append : (dir rest : Atoms) → strip_dir dir (dir ++ rest) ≡ Some rest
-strip_dir-append [] rest = refl
-strip_dir-append (d ∷ ds) rest =
-    ap (λ b. cond b (strip_dir ds (ds ++ rest)) None) ((bytes_eq-Decides d d).1 refl) ∙ strip_dir-append ds rest
-
-pub strip_dir_is : (dir path rest : Atoms) → strip_dir dir path ≡ Some rest → path ≡ dir ++ rest
-strip_dir_is [] path rest e = cc
-strip_dir_is (d ∷ ds) [] rest e = cc
-strip_dir_is (d ∷ ds) (a ∷ as') rest e = elim (cases_Bool (bytes_eq d a)) [
-  | inl same ↦
-      let tail : strip_dir ds as' ≡ Some rest = sym (ap (λ b. cond b (strip_dir ds as') None) same) ∙ e in
-      let head : d ≡ a = (bytes_eq-Decides d a).0 same in
-      let more = strip_dir_is ds as' rest tail in
-      cc
-  | inr differ ↦ let none : None ≡ Some rest = sym (ap (λ b. cond b (strip_dir ds as') None) differ) ∙ e in cc
-]
 
 -- what is not below the directory is no hit
 no_hit : (dir path : Atoms) (pattern : List ℕ) (deep : Bool) (o : Option Atoms) → strip_dir dir path ≡ o → (IsBelow path dir → ⊥)

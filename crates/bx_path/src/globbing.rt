@@ -3,7 +3,8 @@
 ghost use Rattle.std.specs.Prelude.{◌≡◌, ◌==◌, ◌↔◌, Some, IsTrue, MatchResult};
 ghost use Rattle.std.specs.List.{AllByRecursion, slice_split};
 ghost use Rattle.bx_tree.specs.Paths.{IsAtom, IsBelow};
-ghost use Rattle.bx_path.specs.Globbing.{IsPattern, glob_of, is_pattern_byte as pattern_byte, strip_dir};
+ghost use Rattle.bx_path.specs.Globbing.{IsPattern, glob_of, is_pattern_byte as pattern_byte};
+ghost use Rattle.bx_tree.specs.Below.{strip_dir};
 ghost use Rattle.bx_path.specs.Globbing.{is_hit as is_hit_of, last_is_match as last_pattern_match};
 
 use crate::matching::is_match;

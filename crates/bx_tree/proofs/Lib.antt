@@ -1,3 +1,4 @@
+pub mod Below
 pub mod PathTexts
 pub mod Roots
 pub mod AnyElement

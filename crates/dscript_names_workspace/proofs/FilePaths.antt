@@ -14,8 +14,8 @@ use Rattle.bx_tree.specs.Orders.{same_path_decides}
 use Rattle.bx_tree.specs.declared.tree_file.TreeFile.{TreeFile}
 use Rattle.bx_tree.proofs.FileSearch as search_files
 use Rattle.bx_tree.proofs.PathTexts.{same_from_text}
-use Rattle.bx_path.specs.Globbing.{strip_dir}
-use Rattle.bx_path.proofs.LastAtoms.{strip_dir_is}
+use Rattle.bx_tree.specs.Below.{strip_dir}
+use Rattle.bx_tree.proofs.Below.{strip_dir_is}
 use Rattle.dscript_names_workspace.specs.Paths.{IsAt, is_below, is_empty, is_source}
 
 -- ## Below a directory

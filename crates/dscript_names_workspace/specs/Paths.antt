@@ -6,7 +6,7 @@ use Rattle.std.specs.Option.{option_map_or}
 use Rattle.std.specs.Str.{bytes_eq}
 use Rattle.bx_tree.specs.Paths.{Atoms, has_path, path_text, same_path}
 use Rattle.bx_tree.specs.Trees.{Files, paths_of}
-use Rattle.bx_path.specs.Globbing.{strip_dir}
+use Rattle.bx_tree.specs.Below.{strip_dir}
 
 -- the path is that of a source file
 abbrev pub is_source : Files → Atoms → Bool

@@ -3,8 +3,8 @@ use Rattle.std.proofs.Common.{◌≡◌, ◌≢◌, ◌↔◌, Bool, true, false
 use Rattle.std.proofs.lemmas.Bool.{false≢true}
 use Rattle.std.proofs.lemmas.Slice.Eq.{bytes_eq-Decides}
 use Rattle.bx_tree.specs.Paths.{Atoms, IsBelow}
-use Rattle.bx_path.specs.Globbing.{strip_dir}
-use Rattle.bx_path.proofs.LastAtoms.{strip_dir_is}
+use Rattle.bx_tree.specs.Below.{strip_dir}
+use Rattle.bx_tree.proofs.Below.{strip_dir_is}
 use Rattle.dscript_sdk_calls.specs.Sources.{is_further, lies_below}
 
 pub strip_dir-append : (dir rest : Atoms) → strip_dir dir (dir ++ rest) ≡ Some rest

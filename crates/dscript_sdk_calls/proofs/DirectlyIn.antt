@@ -5,7 +5,7 @@ use Rattle.std.proofs.Math.Seq.{drop-append_seam}
 use Rattle.std.proofs.lemmas.Bool.{cases_eq, false≢true, ne_eqb}
 use Rattle.bx_tree.specs.Paths.{Atoms, IsAtom, IsPath, is_atom_byte, path_text}
 use Rattle.bx_tree.proofs.PathTexts.{join-append}
-use Rattle.bx_path.specs.Globbing.{strip_dir}
+use Rattle.bx_tree.specs.Below.{strip_dir}
 use Rattle.dscript_sdk_calls.specs.Sources.{is_one_further, lies_below, lies_directly_in}
 use Rattle.dscript_sdk_calls.proofs.Below.{strip_dir-append}
 use Rattle.dscript_sdk_calls.proofs.Together.{is_below}

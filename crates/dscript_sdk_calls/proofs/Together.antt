@@ -16,8 +16,8 @@ use Rattle.bx_tree.specs.Views.{files_of}
 use Rattle.bx_tree.specs.declared.tree_file.TreeFile.{TreeFile}
 use Rattle.bx_tree.proofs.FileSearch.{length-paths, path_at}
 use Rattle.bx_tree.proofs.PathTexts.{below_from_prefix, prefix_from_below}
-use Rattle.bx_path.proofs.LastAtoms.{strip_dir_is}
-use Rattle.bx_path.specs.Globbing.{strip_dir}
+use Rattle.bx_tree.proofs.Below.{strip_dir_is}
+use Rattle.bx_tree.specs.Below.{strip_dir}
 use Rattle.dscript_sdk_calls.specs.Ranges.{first_below}
 use Rattle.dscript_sdk_calls.specs.Sources.{files_below, is_further, lies_below}
 use Rattle.dscript_sdk_calls.proofs.Below.{below_true}

@@ -2,7 +2,8 @@
 use Rattle.std.specs.Prelude.{ℕ, Bool, true, false, List, [], ◌∷◌, filter, Option, Some, None}
 use Rattle.bx_tree.specs.Paths.{Atoms}
 use Rattle.bx_tree.specs.Trees.{Files, paths_of}
-use Rattle.bx_path.specs.Globbing.{glob_of, strip_dir}
+use Rattle.bx_path.specs.Globbing.{glob_of}
+use Rattle.bx_tree.specs.Below.{strip_dir}
 
 -- whether something follows the atoms of a directory
 abbrev pub is_further : Option Atoms → Bool

@@ -4,7 +4,7 @@ ghost use Rattle.std.specs.BTreeSet.{contains};
 ghost use Rattle.std.specs.List.{list_any};
 ghost use Rattle.bx_tree.specs.Paths.{Atoms, path_cmp, same_path};
 ghost use Rattle.bx_path.specs.Joining.{join_of, parent as parent_of};
-ghost use Rattle.tool_run_writes.specs.Below.{is_below as lies_below};
+ghost use Rattle.bx_tree.specs.Below.{is_below as lies_below};
 
 use bx_path::join;
 use bx_tree::{Memory, Path, PathFault};

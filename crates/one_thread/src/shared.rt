@@ -3,7 +3,7 @@ ghost use Rattle.std.specs.Prelude.{◌≡◌, ◌++◌, ◌∷◌, [], List, If
 ghost use Rattle.std.specs.BTreeSet.{contains};
 ghost use Rattle.std.specs.List.{list_any};
 ghost use Rattle.bx_tree.specs.Paths.{Atoms, path_cmp};
-ghost use Rattle.tool_run_writes.specs.Below.{is_below as lies_below};
+ghost use Rattle.bx_tree.specs.Below.{is_below as lies_below};
 ghost use Rattle.violations.specs.Slots.{slot_files};
 ghost use Rattle.pip_model_types.specs.Made.{made_files};
 ghost use Rattle.violations.specs.DoubleWrites as double_writes;

@@ -9,9 +9,9 @@ use Rattle.std.proofs.lemmas.List.Kept.{IsStrictlySortedBy-filter}
 use Rattle.bx_tree.specs.Orders.{same_path_decides}
 use Rattle.bx_tree.specs.Paths.{Atoms, IsBelow, same_path}
 use Rattle.bx_tree.specs.Trees.{Files, file_at}
-use Rattle.tool_run_writes.specs.Below.{is_below, next_atom}
+use Rattle.bx_tree.specs.Below.{is_below, next_atom}
 use Rattle.tool_run_writes.specs.Writes.{has_below, own_names}
-use Rattle.tool_run_writes.proofs.BelowByAtoms.{below_decides}
+use Rattle.bx_tree.proofs.Below.{below_decides}
 use Rattle.tool_run_writes.proofs.NextAtoms.{none_next}
 use Rattle.pip_view_inputs.specs.Results.{ByPip, files_by}
 use Rattle.violations.specs.Producing.{dirs_at}

@@ -13,9 +13,9 @@ use Rattle.bx_tree.specs.Orders.{equal_texts}
 use Rattle.bx_tree.specs.Paths.{Atoms, IsBelow, IsPath, path_cmp, path_text}
 use Rattle.bx_tree.specs.Trees.{Files, paths_of}
 use Rattle.bx_tree.proofs.PathTexts.{below_from_prefix, prefix_from_below}
-use Rattle.tool_run_writes.specs.Below.{is_below, next_atom}
+use Rattle.bx_tree.specs.Below.{is_below, next_atom}
 use Rattle.tool_run_writes.specs.Writes.{has_below, own_names}
-use Rattle.tool_run_writes.proofs.BelowByAtoms.{below_decides}
+use Rattle.bx_tree.proofs.Below.{below_decides}
 use Rattle.tool_run_writes.proofs.NextAtoms.{none_next}
 use Rattle.pip_view.specs.Ranges.{first_below}
 use Rattle.bx_tree.specs.Ranges.{AreFilePaths, comes_before, prefix_below}

@@ -7,7 +7,7 @@ use Rattle.std.specs.Option.{option_map_or}
 use Rattle.bx_tree.specs.Paths.{Atoms}
 use Rattle.bx_tree.specs.Trees.{Files}
 use Rattle.bx_tree.specs.declared.file_input.FileInput.{FileInput}
-use Rattle.bx_path.specs.Globbing.{strip_dir}
+use Rattle.bx_tree.specs.Below.{is_below, strip_dir}
 use Rattle.pip_model_types.specs.Dirs.{dir_pip, is_source_form}
 use Rattle.pip_model_types.specs.declared.dir_inputs.SealForm.{SealForm}
 use Rattle.pip_model_types.specs.declared.dir_inputs.SealForm.TheVariants.{Full, Partial, SourceTop, SourceAll}
@@ -17,7 +17,6 @@ use Rattle.pip_model_types.specs.declared.pip.Pip.{Pip}
 use Rattle.pip_model_types.specs.declared.pip.PipKind.{PipKind}
 use Rattle.pip_model_types.specs.declared.pip.PipKind.TheVariants.{Process, Copy, Write, Seal}
 use Rattle.pip_model_types.specs.declared.pip.ProcessDesc.{ProcessDesc}
-use Rattle.tool_run_writes.specs.Below.{is_below}
 use Rattle.pip_view_inputs.specs.Contents.{bytes_at, input_file}
 use Rattle.pip_view_inputs.specs.Results.{ByPip, files_by}
 

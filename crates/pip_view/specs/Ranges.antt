@@ -1,7 +1,7 @@
 -- The paths below a directory, where a list that rises by path begins with them.
 use Rattle.std.specs.Prelude.{if◌then◌else◌, List, [], ◌∷◌}
 use Rattle.bx_tree.specs.Paths.{Atoms}
-use Rattle.tool_run_writes.specs.Below.{is_below}
+use Rattle.bx_tree.specs.Below.{is_below}
 
 -- the first paths of a list, up to one that does not lie below the directory
 abbrev pub first_below : Atoms → List Atoms → List Atoms

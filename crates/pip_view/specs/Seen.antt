@@ -9,7 +9,7 @@ use Rattle.observed.specs.declared.access.Answer.{Answer}
 use Rattle.observed.specs.declared.access.Answer.TheVariants as answers
 use Rattle.observed.specs.declared.ask.Ask.{Ask}
 use Rattle.observed.specs.declared.ask.AskKind.{AskKind}
-use Rattle.tool_run_writes.specs.Below.{is_below}
+use Rattle.bx_tree.specs.Below.{is_below}
 use Rattle.tool_run_writes.specs.Writes.{has_below, own_names}
 use Rattle.pip_view_directories.specs.Ranges.{AreOthers}
 use Rattle.pip_model_types.specs.Dirs.{RiseByForm}

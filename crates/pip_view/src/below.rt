@@ -3,9 +3,8 @@ ghost use Rattle.std.specs.Prelude.{◌≡◌, ◌≤◌, ◌==◌, Some, true, 
 ghost use Rattle.std.specs.List.{list_any, slice_split};
 ghost use Rattle.std.specs.List.Sorted.{IsPartitionPoint, IsStrictlySortedBy};
 ghost use Rattle.std.specs.Option.{option_copied};
-ghost use Rattle.bx_path.specs.Globbing.{strip_dir};
+ghost use Rattle.bx_tree.specs.Below.{first_atom, is_below as lies_below, next_atom as next_atom_of, strip_dir};
 ghost use Rattle.bx_tree.specs.Paths.{IsBelow, IsPath, path_cmp};
-ghost use Rattle.tool_run_writes.specs.Below.{first_atom, is_below as lies_below, next_atom as next_atom_of};
 ghost use Rattle.pip_view.specs.Ranges.{first_below};
 ghost use Rattle.bx_tree.specs.Ranges.{AreFilePaths, comes_before as path_before, prefix_below};
 

@@ -5,7 +5,7 @@ ghost use Rattle.std.specs.List.{HoldsAt};
 ghost use Rattle.std.specs.List.Sorted.{IsPartitionPoint};
 ghost use Rattle.std.specs.Option.{option_copied};
 ghost use Rattle.bx_tree.specs.declared.file_input.FileInput.{FileInput as AnyFile};
-ghost use Rattle.tool_run_writes.specs.Below.{is_below as lies_below};
+ghost use Rattle.bx_tree.specs.Below.{is_below as lies_below};
 ghost use Rattle.pip_model_types.specs.Inputs.{RiseByPath};
 ghost use Rattle.pip_view.specs.Taken.{any_below, begins as begins_with, first_at, taken_names, while_begins};
 ghost use Rattle.bx_tree.specs.Lent.{texts_now};

@@ -1,7 +1,7 @@
 //! Names of what lies below a directory.
 ghost use Rattle.std.specs.Prelude.{◌≡◌, IfOk};
 ghost use Rattle.std.specs.List.{filter_map};
-ghost use Rattle.tool_run_writes.specs.Below.{next_atom as next_atom_of};
+ghost use Rattle.bx_tree.specs.Below.{next_atom as next_atom_of};
 ghost use Rattle.pip_view.specs.Ranges.{first_below};
 ghost use Rattle.bx_tree.specs.Ranges.{AreFilePaths};
 ghost use Rattle.bx_tree.specs.Lent.{texts_now};

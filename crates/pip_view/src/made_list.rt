@@ -2,7 +2,7 @@
 ghost use Rattle.std.specs.Prelude.{◌≡◌, ◌≤◌, ◌++◌, ◌∷◌, [], true, false, OnOk, filter, length};
 ghost use Rattle.std.specs.List.Sorted.{IsPartitionPoint};
 ghost use Rattle.bx_tree.specs.declared.file_input.FileInput.{FileInput as AnyFile};
-ghost use Rattle.tool_run_writes.specs.Below.{is_below as lies_below};
+ghost use Rattle.bx_tree.specs.Below.{is_below as lies_below};
 ghost use Rattle.tool_run_writes.specs.Writes.{has_below as file_below, own_names};
 ghost use Rattle.pip_model_types.specs.Made.{RisingFiles, made_files};
 ghost use Rattle.pip_model_types.specs.declared.made.MadeFile.{MadeFile as AnyMade};

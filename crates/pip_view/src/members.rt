@@ -5,7 +5,7 @@ ghost use Rattle.std.specs.List.{position_or_len};
 ghost use Rattle.std.specs.Option.{option_copied};
 ghost use Rattle.bx_tree.specs.Paths.{same_path};
 ghost use Rattle.bx_tree.specs.Trees.{file_at};
-ghost use Rattle.tool_run_writes.specs.Below.{is_below as lies_below};
+ghost use Rattle.bx_tree.specs.Below.{is_below as lies_below};
 ghost use Rattle.tool_run_writes.specs.Writes.{has_below as file_below, own_names};
 ghost use Rattle.pip_view_inputs.specs.Results.{files_by};
 ghost use Rattle.pip_model_types.specs.Dirs.{dir_pip};

@@ -1,7 +1,7 @@
 //! What a pip sees.
 ghost use Rattle.std.specs.Prelude.{◌≡◌, ◌≢◌, ◌<◌, ◌||◌, IfOk, IfSome, OnOk, if◌then◌else◌, length, slice_get};
 ghost use Rattle.std.specs.List.{filter_map, list_any};
-ghost use Rattle.tool_run_writes.specs.Below.{next_atom};
+ghost use Rattle.bx_tree.specs.Below.{next_atom};
 ghost use Rattle.std.specs.Option.{option_copied};
 ghost use Rattle.bx_tree.specs.Paths.{is_root};
 ghost use Rattle.bx_tree.specs.Trees.{file_at};

@@ -5,7 +5,7 @@ ghost use Rattle.std.specs.Option.{option_copied};
 ghost use Rattle.bx_tree.specs.Paths.{same_path};
 ghost use Rattle.bx_path.specs.Joining.{join_of};
 ghost use Rattle.tool_run.specs.Described.{described};
-ghost use Rattle.tool_run_writes.specs.Below.{is_below as lies_below};
+ghost use Rattle.bx_tree.specs.Below.{is_below as lies_below};
 ghost use Rattle.tool_run.specs.Description.{permits as permitted};
 ghost use Rattle.tool_run.specs.Description.{resolved as path_of_text};
 ghost use Rattle.pip_model_types.specs.Outputs.{is_console as console_at, outdir_paths};

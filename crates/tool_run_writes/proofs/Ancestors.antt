@@ -8,9 +8,8 @@ use Rattle.std.proofs.lemmas.List.{length-take}
 use Rattle.bx_tree.specs.declared.limits.TheConstants.{MAX_PATH_BYTES}
 use Rattle.bx_tree.specs.Paths.{Atoms, IsPath, path_text, same_path}
 use Rattle.std.proofs.lemmas.Cmp.{nat_list_eq_equiv}
-use Rattle.bx_path.specs.Globbing.{strip_dir}
+use Rattle.bx_tree.specs.Below.{first_atom, is_below, strip_dir}
 use Rattle.bx_path.specs.Joining.{join_of, parent}
-use Rattle.tool_run_writes.specs.Below.{first_atom, is_below}
 use Rattle.tool_run_writes.proofs.DirectorySets.{any_append}
 
 -- a path's text is no shorter than that of a directory of it

@@ -1,4 +1,3 @@
-pub mod BelowByAtoms
 pub mod NextAtoms
 pub mod Found
 pub mod SameFiles

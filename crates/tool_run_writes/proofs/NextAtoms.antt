@@ -7,9 +7,8 @@ use Rattle.std.proofs.lemmas.List.Elements.{filter_map-append}
 use Rattle.std.proofs.lemmas.List.{append-nil, drop_more, map_push, take-append-drop, take_all}
 use Rattle.bx_tree.specs.Paths.{Atoms}
 use Rattle.bx_tree.specs.Trees.{Files}
-use Rattle.bx_path.specs.Globbing.{strip_dir}
+use Rattle.bx_tree.specs.Below.{first_atom, is_below, next_atom, strip_dir}
 use Rattle.bx_path.proofs.LastAtoms.{split_first, split_whole}
-use Rattle.tool_run_writes.specs.Below.{first_atom, is_below, next_atom}
 use Rattle.tool_run_writes.specs.Writes.{has_below, own_names}
 use Rattle.bx_tree.specs.Lent.{texts_now}
 

@@ -5,8 +5,7 @@ ghost use Rattle.std.specs.BTreeMap.Range.{IsLeBy, IsLtBy, range_contains};
 ghost use Rattle.std.specs.List.{slice_split};
 ghost use Rattle.std.specs.Option.{option_copied};
 ghost use Rattle.bx_tree.specs.Paths.{Atoms, IsBelow, path_cmp, path_text};
-ghost use Rattle.bx_path.specs.Globbing.{strip_dir};
-ghost use Rattle.tool_run_writes.specs.Below.{first_atom, is_below as lies_below, next_atom as next_atom_of};
+ghost use Rattle.bx_tree.specs.Below.{first_atom, is_below as lies_below, next_atom as next_atom_of, strip_dir};
 
 use bx_tree::{Path, PathFault};
 use std::alloc::{AllocError, Global};

@@ -7,7 +7,7 @@ ghost use Rattle.std.specs.Option.{option_copied};
 ghost use Rattle.bx_tree.specs.Paths.{Atoms, path_cmp};
 ghost use Rattle.bx_tree.specs.Trees.{NoneNested, file_at, paths_of};
 ghost use Rattle.pip_model_types.specs.Made.{RisingFiles, made_files};
-ghost use Rattle.tool_run_writes.specs.Below.{is_below as lies_below};
+ghost use Rattle.bx_tree.specs.Below.{is_below as lies_below};
 ghost use Rattle.tool_run_writes.specs.Writes.{clashes as some_clash, has_below as some_below, own_names};
 ghost use Rattle.tool_run_writes.specs.Writes.{AreDirectories, own_answer, put_file, with_file as and_file};
 ghost use Rattle.bx_tree.specs.Lent.{texts_now};

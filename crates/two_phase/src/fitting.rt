@@ -3,7 +3,7 @@ ghost use Rattle.std.specs.Prelude.{◌≡◌, true};
 ghost use Rattle.std.specs.List.{list_all, list_any};
 ghost use Rattle.std.specs.Option.{option_copied, option_map_or};
 ghost use Rattle.memo_format.specs.Entries.{OutputsRise, output_paths};
-ghost use Rattle.tool_run_writes.specs.Below.{is_below as lies_below};
+ghost use Rattle.bx_tree.specs.Below.{is_below as lies_below};
 ghost use Rattle.two_phase_meaning.specs.Usable.{fits as all_fit, may_make as makes};
 ghost use Rattle.pip_model_types.specs.Outputs.{is_console as console_at};
 ghost use Rattle.bx_tree.specs.Paths.{has_path};

@@ -8,7 +8,7 @@ use Rattle.pip_model_types.specs.declared.outputs.OutDir.{OutDir}
 use Rattle.pip_model_types.specs.declared.pip.Pip.{Pip}
 use Rattle.pip_model_types.specs.declared.pip.PipKind.{PipKind}
 use Rattle.pip_model_types.specs.declared.pip.PipKind.TheVariants.{Process, Copy, Write, Seal}
-use Rattle.tool_run_writes.specs.Below.{is_below}
+use Rattle.bx_tree.specs.Below.{is_below}
 use Rattle.violations.specs.Verdicts.{with_pip}
 use Rattle.violations.specs.declared.verdict.Violation.{Violation}
 use Rattle.violations.specs.declared.verdict.ViolationKind.TheVariants as violations

@@ -2,7 +2,7 @@
 ghost use Rattle.std.specs.Prelude.{◌≡◌, ◌<◌, ◌&&◌, ◌==◌, IfSome, not, length, slice_get, get_or, take};
 ghost use Rattle.std.specs.List.{list_any};
 ghost use Rattle.bx_tree.specs.Paths.{same_path};
-ghost use Rattle.tool_run_writes.specs.Below.{is_below as lies_below};
+ghost use Rattle.bx_tree.specs.Below.{is_below as lies_below};
 ghost use Rattle.pip_model.specs.Outputs.{numbers_from};
 ghost use Rattle.violations.specs.Least as least;
 ghost use Rattle.violations.specs.Least.{Covers, CoversAbove, Passes, Stays};

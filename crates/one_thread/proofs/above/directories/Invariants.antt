@@ -1,7 +1,7 @@
 use Rattle.std.proofs.Common.{◌≡◌, ◌||◌}
 use Rattle.std.specs.List.{list_any}
 use Rattle.bx_tree.specs.Paths.{Atoms, same_path}
-use Rattle.tool_run_writes.specs.Below.{is_below}
+use Rattle.bx_tree.specs.Below.{is_below}
 use Rattle.tool_run_writes.proofs.Ancestors.{is_at_or_below, size_of}
 use Rattle.one_thread.proofs.above.directories.Given as goal
 

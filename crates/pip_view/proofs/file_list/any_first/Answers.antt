@@ -1,5 +1,5 @@
 use Rattle.std.proofs.Common.{ap, sym, ◌∙◌}
-use Rattle.tool_run_writes.specs.Below.{is_below}
+use Rattle.bx_tree.specs.Below.{is_below}
 use Rattle.pip_view.proofs.Begun.{any_all, any_end, any_next}
 use Rattle.pip_view.proofs.file_list.any_first.Goals as goal
 

@@ -1,6 +1,6 @@
 use Rattle.std.proofs.Common.{None, ap, cond, sym, ◌∙◌}
 use Rattle.bx_tree.specs.Trees.{file_at}
-use Rattle.tool_run_writes.specs.Below.{is_below}
+use Rattle.bx_tree.specs.Below.{is_below}
 use Rattle.pip_view_inputs.specs.Results.{files_by}
 use Rattle.pip_view.proofs.SourceMembers.{at_passing}
 use Rattle.pip_view.proofs.members.made_below.Goals as goal

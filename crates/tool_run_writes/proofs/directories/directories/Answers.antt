@@ -1,7 +1,7 @@
 use Rattle.std.proofs.Common.{◌∙◌, ◌||◌, ◌+◌, ◌<◌, List, length, Option, ap, sym, subst}
 use Rattle.std.specs.List.{list_any}
 use Rattle.bx_tree.specs.Paths.{Atoms, same_path}
-use Rattle.tool_run_writes.specs.Below.{is_below}
+use Rattle.bx_tree.specs.Below.{is_below}
 use Rattle.tool_run_writes.proofs.Ancestors.{below_parent, is_at_or_below, one_up, parent_smaller, size_of, whole}
 use Rattle.tool_run_writes.proofs.directories.directories.Goals as goal
 

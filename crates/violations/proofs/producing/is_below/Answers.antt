@@ -1,4 +1,4 @@
-use Rattle.tool_run_writes.proofs.BelowByAtoms.{below_is}
+use Rattle.bx_tree.proofs.Below.{below_is}
 use Rattle.violations.proofs.producing.is_below.Goals as goal
 
 pub returns : goal.returns

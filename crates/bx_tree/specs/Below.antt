@@ -1,8 +1,14 @@
 -- What lies strictly below a directory.
-use Rattle.std.specs.Prelude.{ℕ, Bool, true, false, List, [], ◌∷◌, Option, Some, None, option_and_then}
+use Rattle.std.specs.Prelude.{Bool, List, None, Option, Some, [], false, if◌then◌else◌, option_and_then, true, ℕ, ◌∷◌}
 use Rattle.std.specs.Option.{option_map_or}
+use Rattle.std.specs.Str.{bytes_eq}
 use Rattle.bx_tree.specs.Paths.{Atoms}
-use Rattle.bx_path.specs.Globbing.{strip_dir}
+
+-- the atoms of a path after those of a directory, if the path starts with these
+abbrev pub strip_dir : Atoms → Atoms → Option Atoms
+strip_dir [] path = Some path
+strip_dir (d ∷ ds) [] = None
+strip_dir (d ∷ ds) (a ∷ as') = if bytes_eq d a then strip_dir ds as' else None
 
 -- the first of the atoms
 abbrev pub first_atom : Atoms → Option (List ℕ)
