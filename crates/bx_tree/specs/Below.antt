@@ -1,5 +1,5 @@
 -- What lies strictly below a directory.
-use Rattle.std.specs.Prelude.{Bool, List, None, Option, Some, [], false, if◌then◌else◌, option_and_then, true, ℕ, ◌∷◌}
+use Rattle.std.specs.Prelude.{Bool, List, None, Option, Some, [], false, if◌then◌else◌, option_and_then, true, ℕ, ◌∷◌, ◌||◌}
 use Rattle.std.specs.Option.{option_map_or}
 use Rattle.std.specs.Str.{bytes_eq}
 use Rattle.bx_tree.specs.Paths.{Atoms}
@@ -22,3 +22,7 @@ next_atom dir path = option_and_then first_atom (strip_dir dir path)
 -- whether the path lies strictly below the directory
 abbrev pub is_below : Atoms → Atoms → Bool
 is_below path dir = option_map_or (λ atom. true) (next_atom dir path) false
+
+-- whether one of the two paths lies strictly below the other
+abbrev pub is_nested : Atoms → Atoms → Bool
+is_nested p q = is_below p q || is_below q p
