@@ -2,7 +2,8 @@
 
 ghost use Rattle.std.specs.Prelude.{◌≡◌, ◌<◌, [], false, length, slice_index_or, MatchOption};
 ghost use Rattle.bx_tree.specs.Trees.{paths_of};
-ghost use Rattle.dscript_names_workspace.specs.Paths.{IsAt, is_below as lies_below, is_source};
+ghost use Rattle.dscript_names_workspace.specs.Paths.{IsAt, is_source};
+ghost use Rattle.bx_tree.specs.Below.{is_below as lies_below};
 ghost use Rattle.dscript_names_workspace.specs.Paths.{is_module_file as names_module, is_specification as names_dsc};
 
 use bx_tree::{Path, Tree, text_order};
