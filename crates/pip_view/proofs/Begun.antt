@@ -23,7 +23,7 @@ use Rattle.tool_run_writes.proofs.NextAtoms.{none_next}
 use Rattle.pip_model_types.specs.Inputs.{RiseByPath}
 use Rattle.pip_view.specs.Taken.{any_below, begins, first_at, taken_names, while_begins}
 use Rattle.pip_view.proofs.TakenFiles.{names_after}
-use Rattle.pip_view.proofs.Together.{before_not_below, between, earlier_before, not_greater, starts_below}
+use Rattle.bx_tree.proofs.Ranges.{before_not_below, between, earlier_before, not_greater, starts_below}
 use Rattle.bx_tree.specs.FileInputs.{input_path}
 use Rattle.bx_tree.specs.Ranges.{comes_before, prefix_below}
 

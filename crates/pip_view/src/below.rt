@@ -5,8 +5,7 @@ ghost use Rattle.std.specs.List.Sorted.{IsPartitionPoint, IsStrictlySortedBy};
 ghost use Rattle.std.specs.Option.{option_copied};
 ghost use Rattle.bx_tree.specs.Below.{first_atom, is_below as lies_below, next_atom as next_atom_of, strip_dir};
 ghost use Rattle.bx_tree.specs.Paths.{IsBelow, IsPath, path_cmp};
-ghost use Rattle.pip_view.specs.Ranges.{first_below};
-ghost use Rattle.bx_tree.specs.Ranges.{AreFilePaths, comes_before as path_before, prefix_below};
+ghost use Rattle.bx_tree.specs.Ranges.{AreFilePaths, comes_before as path_before, first_below, prefix_below};
 
 use bx_tree::{Memory, Path};
 use std::alloc::Global;

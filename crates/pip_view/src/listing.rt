@@ -2,8 +2,7 @@
 ghost use Rattle.std.specs.Prelude.{◌≡◌, IfOk};
 ghost use Rattle.std.specs.List.{filter_map};
 ghost use Rattle.bx_tree.specs.Below.{next_atom as next_atom_of};
-ghost use Rattle.pip_view.specs.Ranges.{first_below};
-ghost use Rattle.bx_tree.specs.Ranges.{AreFilePaths};
+ghost use Rattle.bx_tree.specs.Ranges.{AreFilePaths, first_below};
 ghost use Rattle.bx_tree.specs.Lent.{texts_now};
 
 use crate::below::{from_below, next_atom};

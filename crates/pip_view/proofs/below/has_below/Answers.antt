@@ -1,5 +1,5 @@
 use Rattle.std.proofs.Common.{ap, sym, ◌∙◌}
-use Rattle.pip_view.specs.Ranges.{first_below}
+use Rattle.bx_tree.specs.Ranges.{first_below}
 use Rattle.pip_view.proofs.Together.{none_from_below, some_below}
 use Rattle.pip_view.proofs.below.has_below.Goals as goal
 
