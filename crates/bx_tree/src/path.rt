@@ -4,6 +4,7 @@ ghost use Rattle.std.specs.Prelude.{◌≡◌, ◌==◌, ◌↔◌, ℕ, List, [
 ghost use Rattle.std.specs.List.{AllByRecursion, slice_split};
 ghost use Rattle.std.specs.Ordering.{as_partial_cmp};
 ghost use Rattle.std.proofs.Common.{rules};
+ghost use Rattle.bx_tree.specs.Below.{is_below};
 ghost use Rattle.bx_tree.specs.Paths.{IsAtom, TextBelow, IsBelow, IsPath, IsPathText, Names};
 ghost use Rattle.bx_tree.specs.Paths.{is_atom_byte as atom_byte, is_root as has_no_atoms, path_cmp, path_text};
 ghost use Rattle.bx_tree.specs.Paths.{same_path};
@@ -187,7 +188,8 @@ impl Path {
 
     /// Whether the path lies strictly below a directory.
     pub fn is_below(&self, dir: &Path) -> bool
-        ensures { IsTrue result ↔ IsBelow self.now dir.now }
+        ensures below { IsTrue result ↔ IsBelow self.now dir.now }
+        ensures value { result ≡ is_below self.now dir.now }
     {
         lies_below(self.text().as_bytes(), dir.text().as_bytes())
     }

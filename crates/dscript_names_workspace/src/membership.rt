@@ -9,7 +9,7 @@ ghost use Rattle.dscript_names_workspace.specs.PathSets.{AddsToOwner, IsDeepest,
 ghost use Rattle.dscript_names_workspace.specs.PathSets.{may_belong as is_open};
 
 use crate::path_set::set_of;
-use crate::paths::{is_below, is_module_file, is_specification};
+use crate::paths::{is_module_file, is_specification};
 use bx_path::join;
 use bx_tree::{Path, PathFault, Tree};
 use std::alloc::{AllocError, Global};

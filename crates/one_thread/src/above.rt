@@ -4,7 +4,7 @@ ghost use Rattle.std.specs.BTreeSet.{contains};
 ghost use Rattle.std.specs.List.{list_any};
 ghost use Rattle.bx_tree.specs.Paths.{Atoms, path_cmp, same_path};
 ghost use Rattle.bx_path.specs.Joining.{join_of, parent as parent_of};
-ghost use Rattle.bx_tree.specs.Below.{is_below as lies_below};
+ghost use Rattle.bx_tree.specs.Below.{is_below};
 
 use bx_path::join;
 use bx_tree::{Memory, Path, PathFault};
@@ -35,7 +35,7 @@ fn parent(alloc: Global, path: &Path) -> Result<Option<Path>, Memory>
 // The directories that a path lies strictly below, from the nearest up to the root.
 pub(crate) fn directories(alloc: Global, path: &Path) -> Result<Vec<Path>, Memory>
     ensures { IfOk result (λ dirs. (q : Atoms) →
-        list_any (λ dir. same_path dir q) dirs.items ≡ lies_below path.now q) }
+        list_any (λ dir. same_path dir q) dirs.items ≡ is_below path.now q) }
 {
     let mut dirs = Vec::new(alloc);
     let mut next = parent(alloc, path)?;
@@ -53,7 +53,7 @@ pub(crate) fn add_directories(
     path: &Path,
 ) -> Result<(), Memory>
     ensures { OnOk result ((q : Atoms) →
-        contains path_cmp dirs.new q ≡ (lies_below path.now q || contains path_cmp dirs.old q)) }
+        contains path_cmp dirs.new q ≡ (is_below path.now q || contains path_cmp dirs.old q)) }
 {
     let above = directories(alloc, path)?;
     'above: for dir in &above {

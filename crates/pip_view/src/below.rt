@@ -3,19 +3,12 @@ ghost use Rattle.std.specs.Prelude.{◌≡◌, ◌≤◌, ◌==◌, Some, true, 
 ghost use Rattle.std.specs.List.{list_any, slice_split};
 ghost use Rattle.std.specs.List.Sorted.{IsPartitionPoint, IsStrictlySortedBy};
 ghost use Rattle.std.specs.Option.{option_copied};
-ghost use Rattle.bx_tree.specs.Below.{first_atom, is_below as lies_below, next_atom as next_atom_of, strip_dir};
+ghost use Rattle.bx_tree.specs.Below.{first_atom, is_below, next_atom as next_atom_of, strip_dir};
 ghost use Rattle.bx_tree.specs.Paths.{IsBelow, IsPath, path_cmp};
 ghost use Rattle.bx_tree.specs.Ranges.{AreFilePaths, comes_before as path_before, first_below, prefix_below};
 
 use bx_tree::{Memory, Path};
 use std::alloc::Global;
-
-// Whether a path lies strictly below a directory.
-pub(crate) fn is_below(path: &Path, dir: &Path) -> bool
-    ensures { result ≡ lies_below path.now dir.now }
-{
-    path.is_below(dir)
-}
 
 // The bytes with which the text of each path below a directory begins.
 pub(crate) fn prefix_of(alloc: Global, dir: &Path) -> Result<Vec<u8>, Memory>
@@ -58,7 +51,7 @@ pub(crate) fn from_below<'a>(
 ) -> Result<&'a [Path], Memory>
     requires { AreFilePaths paths.now }
     ensures { IfOk result (λ rest.
-        first_below dir.now rest.now ≡ filter (λ p. lies_below p dir.now) paths.entry.now) }
+        first_below dir.now rest.now ≡ filter (λ p. is_below p dir.now) paths.entry.now) }
 {
     let prefix = prefix_of(alloc, dir)?;
     let start = count_before(paths, prefix.as_slice());
@@ -69,11 +62,11 @@ pub(crate) fn from_below<'a>(
 // Whether one of the paths lies strictly below a directory.
 pub(crate) fn has_below(alloc: Global, paths: &[Path], dir: &Path) -> Result<bool, Memory>
     requires { AreFilePaths paths.now }
-    ensures { IfOk result (λ yes. yes ≡ list_any (λ p. lies_below p dir.now) paths.now) }
+    ensures { IfOk result (λ yes. yes ≡ list_any (λ p. is_below p dir.now) paths.now) }
 {
     let rest = from_below(alloc, paths, dir)?;
     match rest.split_first() {
-        Some((path, _)) => Ok(is_below(path, dir)),
+        Some((path, _)) => Ok(path.is_below(dir)),
         None => Ok(false),
     }
 }
@@ -108,7 +101,7 @@ fn first_part(text: &[u8]) -> &[u8]
 pub(crate) fn next_atom<'a>(dir: &Path, path: &'a Path) -> Option<&'a [u8]>
     ensures { option_copied result ≡ next_atom_of dir.now path.entry.now }
 {
-    if !is_below(path, dir) {
+    if !path.is_below(dir) {
         return None;
     }
     Some(first_part(text_below(dir, path)))

@@ -20,7 +20,7 @@ ghost use Rattle.pip_view.specs.Seen.{named_in, opaque_in, taken_in, view_answer
 ghost use Rattle.pip_view.specs.Sees.{sees};
 
 use crate::Names;
-use crate::below::{has_below, is_below, text_below};
+use crate::below::{has_below, text_below};
 use crate::listing::names_below;
 use crate::members::{add_members, find_member, has_member, opaque_by_pip, opaque_searched};
 use crate::taken::{add_taken, has_taken, taken_blob};
@@ -74,7 +74,7 @@ fn is_member(path: &Path, form: SealForm, root: &Path) -> bool
 {
     match form {
         SealForm::Full | SealForm::Partial => false,
-        SealForm::SourceAll => is_below(path, root),
+        SealForm::SourceAll => path.is_below(root),
         SealForm::SourceTop => is_directly_in(path, root),
     }
 }
@@ -83,7 +83,7 @@ fn is_member(path: &Path, form: SealForm, root: &Path) -> bool
 fn is_directly_in(path: &Path, dir: &Path) -> bool
     ensures { result ≡ files.is_directly_in path.now dir.now }
 {
-    if !is_below(path, dir) {
+    if !path.is_below(dir) {
         return false;
     }
     !text_below(dir, path).contains(&b'/')

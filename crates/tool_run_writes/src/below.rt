@@ -5,18 +5,11 @@ ghost use Rattle.std.specs.BTreeMap.Range.{IsLeBy, IsLtBy, range_contains};
 ghost use Rattle.std.specs.List.{slice_split};
 ghost use Rattle.std.specs.Option.{option_copied};
 ghost use Rattle.bx_tree.specs.Paths.{Atoms, IsBelow, path_cmp, path_text};
-ghost use Rattle.bx_tree.specs.Below.{first_atom, is_below as lies_below, next_atom as next_atom_of, strip_dir};
+ghost use Rattle.bx_tree.specs.Below.{first_atom, is_below, next_atom as next_atom_of, strip_dir};
 
 use bx_tree::{Path, PathFault};
 use std::alloc::{AllocError, Global};
 use std::ops::Bound;
-
-// Whether a path lies strictly below a directory.
-fn is_below(path: &Path, dir: &Path) -> bool
-    ensures { result ≡ lies_below path.now dir.now }
-{
-    path.is_below(dir)
-}
 
 // The part of a path's text after that of a directory that contains it and a `/`.
 fn text_below<'a>(dir: &Path, path: &'a Path) -> &'a [u8]
@@ -53,7 +46,7 @@ pub(crate) fn bounds_below(
     ensures forward { IfOk result (λ bounds.
         IsForward (IsLeBy path_cmp) (IsLtBy path_cmp) bounds.0 bounds.1) }
     ensures within { IfOk result (λ bounds. (q : Atoms) →
-        lies_below q dir.now ≡ true → range_contains path_cmp bounds.0 bounds.1 q ≡ true) }
+        is_below q dir.now ≡ true → range_contains path_cmp bounds.0 bounds.1 q ≡ true) }
 {
     if dir.text() == "." {
         return Ok((Bound::Unbounded, Bound::Unbounded));
@@ -81,7 +74,7 @@ fn first_part(text: &[u8]) -> &[u8]
 pub(crate) fn next_atom<'a>(dir: &Path, path: &'a Path) -> Option<&'a [u8]>
     ensures { option_copied result ≡ next_atom_of dir.now path.entry.now }
 {
-    if !is_below(path, dir) {
+    if !path.is_below(dir) {
         return None;
     }
     Some(first_part(text_below(dir, path)))
