@@ -23,6 +23,16 @@ next_atom dir path = option_and_then first_atom (strip_dir dir path)
 abbrev pub is_below : Atoms → Atoms → Bool
 is_below path dir = option_map_or (λ atom. true) (next_atom dir path) false
 
+-- whether this is just one atom
+abbrev pub is_one_atom : Atoms → Bool
+is_one_atom [] = false
+is_one_atom (atom ∷ []) = true
+is_one_atom (atom ∷ next ∷ rest) = false
+
+-- whether the path lies in the directory itself, and not in one below it
+abbrev pub is_directly_in : Atoms → Atoms → Bool
+is_directly_in path dir = option_map_or is_one_atom (strip_dir dir path) false
+
 -- whether one of the two paths lies strictly below the other
 abbrev pub is_nested : Atoms → Atoms → Bool
 is_nested p q = is_below p q || is_below q p

@@ -1,7 +1,7 @@
 //! What a pip sees.
 ghost use Rattle.std.specs.Prelude.{◌≡◌, ◌≢◌, ◌<◌, ◌||◌, IfOk, IfSome, OnOk, if◌then◌else◌, length, slice_get};
 ghost use Rattle.std.specs.List.{filter_map, list_any};
-ghost use Rattle.bx_tree.specs.Below.{next_atom};
+ghost use Rattle.bx_tree.specs.Below.{is_directly_in, next_atom};
 ghost use Rattle.std.specs.Option.{option_copied};
 ghost use Rattle.bx_tree.specs.Paths.{is_root};
 ghost use Rattle.bx_tree.specs.Trees.{file_at};
@@ -81,7 +81,7 @@ fn is_member(path: &Path, form: SealForm, root: &Path) -> bool
 
 // Whether a path lies in a directory itself, and not in one below it.
 fn is_directly_in(path: &Path, dir: &Path) -> bool
-    ensures { result ≡ files.is_directly_in path.now dir.now }
+    ensures { result ≡ is_directly_in path.now dir.now }
 {
     if !path.is_below(dir) {
         return false;
