@@ -1,8 +1,8 @@
--- What lies strictly below a directory.
-use Rattle.std.specs.Prelude.{Bool, List, None, Option, Some, [], false, if◌then◌else◌, option_and_then, true, ℕ, ◌∷◌, ◌||◌}
+-- What lies below a directory.
+use Rattle.std.specs.Prelude.{Bool, List, None, Option, Some, [], false, if◌then◌else◌, option_and_then, true, ℕ, ◌≡◌, ◌⊎◌, ◌∷◌, ◌||◌}
 use Rattle.std.specs.Option.{option_map_or}
 use Rattle.std.specs.Str.{bytes_eq}
-use Rattle.bx_tree.specs.Paths.{Atoms}
+use Rattle.bx_tree.specs.Paths.{Atoms, IsBelow, same_path}
 
 -- the atoms of a path after those of a directory, if the path starts with these
 abbrev pub strip_dir : Atoms → Atoms → Option Atoms
@@ -22,6 +22,14 @@ next_atom dir path = option_and_then first_atom (strip_dir dir path)
 -- whether the path lies strictly below the directory
 abbrev pub is_below : Atoms → Atoms → Bool
 is_below path dir = option_map_or (λ atom. true) (next_atom dir path) false
+
+-- the path is the directory, or lies below it
+abbrev pub IsAtOrBelow : Atoms → Atoms → Type 0
+IsAtOrBelow path dir = (path ≡ dir) ⊎ IsBelow path dir
+
+-- whether the path is the directory, or lies below it
+abbrev pub is_at_or_below : Atoms → Atoms → Bool
+is_at_or_below path dir = same_path path dir || is_below path dir
 
 -- whether this is just one atom
 abbrev pub is_one_atom : Atoms → Bool

@@ -9,7 +9,7 @@ use Rattle.std.specs.Cmp.{Equal-is}
 use Rattle.std.proofs.lemmas.Bool.{cases_lt, false≢true}
 use Rattle.std.proofs.lemmas.Bool.Decides.{Decides-and, Decides-or, Decides-not, Decides-eqb, Decides-ltb}
 use Rattle.std.proofs.lemmas.List.Folds.{Any-from_list_any, list_any-from_Any}
-use Rattle.bx_tree.specs.Below.{is_below}
+use Rattle.bx_tree.specs.Below.{IsAtOrBelow, is_at_or_below, is_below}
 use Rattle.bx_tree.specs.Paths.{Atoms, IsBelow, same_path}
 use Rattle.bx_tree.proofs.Below.{below_decides}
 use Rattle.bx_tree.specs.Orders.{same_path_decides}
@@ -28,7 +28,7 @@ use Rattle.graph_check.specs.declared.fault.GraphKind.TheVariants as rules
 use Rattle.graph_check_outputs.specs.DoubleProducer.{DoubleProducerAt}
 use Rattle.graph_check.specs.NoSuchSource.{NoSuchSourceAt, named_sources}
 use Rattle.graph_check.specs.Orders.{described_alike, tied_processes}
-use Rattle.graph_check_outputs.specs.Outputs.{IsWithin, PipHas, declared_files, outputs}
+use Rattle.graph_check_outputs.specs.Outputs.{PipHas, declared_files, outputs}
 use Rattle.graph_check_outputs.specs.OutsideOut.{OutsideOutAt, out_dir}
 use Rattle.graph_check_outputs.specs.Overlap.{FileIsDir, IsUnlisted, NestedOutputs, OverlapAt, Overlaps, SealMeetsDir, UnlistedFile, UnsharedDir, full_seals}
 use Rattle.graph_check_outputs.specs.Overlap.Overlaps.{Nested, OnePath, Unshared, Unlisted, Meets}
@@ -86,10 +86,7 @@ Decides-any_below p P each (suc n) =
 
 -- ## Tests of paths
 
-abbrev pub within_test : Atoms → Atoms → Bool
-within_test path dir = same_path path dir || is_below path dir
-
-Decides-within : (path dir : Atoms) → Decides (within_test path dir) (IsWithin path dir)
+Decides-within : (path dir : Atoms) → Decides (is_at_or_below path dir) (IsAtOrBelow path dir)
 Decides-within path dir = Decides-or (same_path path dir) (is_below path dir) (same_path_decides path dir) (below_decides path dir)
 
 abbrev pub among_test : Atoms → List Atoms → Bool
@@ -160,34 +157,34 @@ Decides-unshared pips i j =
 abbrev pub unlisted_test : List Pip → ℕ → ℕ → Bool
 unlisted_test pips i j =
     any_item declared_files
-    (λ file. any_item full_seals (λ (seal : SealDesc). within_test file seal.root && not (among_test file (map input_path seal.files))) pips j) pips i
+    (λ file. any_item full_seals (λ (seal : SealDesc). is_at_or_below file seal.root && not (among_test file (map input_path seal.files))) pips j) pips i
 
 Decides-unlisted : (pips : List Pip) (i j : ℕ) → Decides (unlisted_test pips i j) (UnlistedFile pips i j)
 Decides-unlisted pips i j =
     along (unlisted_test pips i j)
     (Decides-any_item declared_files
-    (λ file. any_item full_seals (λ (seal : SealDesc). within_test file seal.root && not (among_test file (map input_path seal.files))) pips j)
+    (λ file. any_item full_seals (λ (seal : SealDesc). is_at_or_below file seal.root && not (among_test file (map input_path seal.files))) pips j)
     (λ file. (seal : SealDesc) × PipHas full_seals pips j seal × IsUnlisted seal file)
-    (λ file. Decides-any_item full_seals (λ (seal : SealDesc). within_test file seal.root && not (among_test file (map input_path seal.files)))
+    (λ file. Decides-any_item full_seals (λ (seal : SealDesc). is_at_or_below file seal.root && not (among_test file (map input_path seal.files)))
     (λ seal. IsUnlisted seal file)
-    (λ (seal : SealDesc). Decides-and (within_test file seal.root) (not (among_test file (map input_path seal.files))) (Decides-within file seal.root)
+    (λ (seal : SealDesc). Decides-and (is_at_or_below file seal.root) (not (among_test file (map input_path seal.files))) (Decides-within file seal.root)
     (Decides-not (among_test file (map input_path seal.files)) (Decides-among file (map input_path seal.files)))) pips j) pips i)
     (λ (file, h, (seal, k, u)). (file, seal, h, k, u)) (λ (file, seal, h, k, u). (file, h, (seal, k, u)))
 
 abbrev pub seal_test : List Pip → ℕ → ℕ → Bool
 seal_test pips i j =
     any_item full_seals
-    (λ (seal : SealDesc). any_item outdirs_of (λ (dir : OutDir). within_test seal.root dir.path || is_below dir.path seal.root) pips j) pips i
+    (λ (seal : SealDesc). any_item outdirs_of (λ (dir : OutDir). is_at_or_below seal.root dir.path || is_below dir.path seal.root) pips j) pips i
 
 Decides-seal : (pips : List Pip) (i j : ℕ) → Decides (seal_test pips i j) (SealMeetsDir pips i j)
 Decides-seal pips i j =
     along (seal_test pips i j)
     (Decides-any_item full_seals
-    (λ (seal : SealDesc). any_item outdirs_of (λ (dir : OutDir). within_test seal.root dir.path || is_below dir.path seal.root) pips j)
-    (λ (seal : SealDesc). (dir : OutDir) × PipHas outdirs_of pips j dir × (IsWithin seal.root dir.path ⊎ IsBelow dir.path seal.root))
-    (λ (seal : SealDesc). Decides-any_item outdirs_of (λ (dir : OutDir). within_test seal.root dir.path || is_below dir.path seal.root)
-    (λ (dir : OutDir). IsWithin seal.root dir.path ⊎ IsBelow dir.path seal.root)
-    (λ (dir : OutDir). Decides-or (within_test seal.root dir.path) (is_below dir.path seal.root) (Decides-within seal.root dir.path)
+    (λ (seal : SealDesc). any_item outdirs_of (λ (dir : OutDir). is_at_or_below seal.root dir.path || is_below dir.path seal.root) pips j)
+    (λ (seal : SealDesc). (dir : OutDir) × PipHas outdirs_of pips j dir × (IsAtOrBelow seal.root dir.path ⊎ IsBelow dir.path seal.root))
+    (λ (seal : SealDesc). Decides-any_item outdirs_of (λ (dir : OutDir). is_at_or_below seal.root dir.path || is_below dir.path seal.root)
+    (λ (dir : OutDir). IsAtOrBelow seal.root dir.path ⊎ IsBelow dir.path seal.root)
+    (λ (dir : OutDir). Decides-or (is_at_or_below seal.root dir.path) (is_below dir.path seal.root) (Decides-within seal.root dir.path)
     (below_decides dir.path seal.root)) pips j) pips i)
     (λ (seal, h, (dir, k, m)). (seal, dir, h, k, m)) (λ (seal, dir, h, k, m). (seal, h, (dir, k, m)))
 

@@ -3,9 +3,8 @@ ghost use Rattle.std.specs.Prelude.{◌≡◌, ◌||◌, ◌++◌, [], IfOk, OnO
 ghost use Rattle.std.specs.Borrow.{Bor};
 ghost use Rattle.std.specs.List.{position_or_len};
 ghost use Rattle.std.specs.Option.{option_copied};
-ghost use Rattle.bx_tree.specs.Paths.{same_path};
 ghost use Rattle.bx_tree.specs.Trees.{file_at};
-ghost use Rattle.bx_tree.specs.Below.{is_below};
+ghost use Rattle.bx_tree.specs.Below.{is_at_or_below};
 ghost use Rattle.tool_run_writes.specs.Writes.{has_below as file_below, own_names};
 ghost use Rattle.pip_view_inputs.specs.Results.{files_by};
 ghost use Rattle.pip_model_types.specs.Dirs.{dir_pip};
@@ -126,7 +125,7 @@ fn made_by(inputs: &Inputs, pip: u32) -> &[MadeFile]
 
 // Whether a path is a directory or lies below it.
 fn is_at_or_below(path: &Path, dir: &Path) -> bool
-    ensures { result ≡ (same_path path.now dir.now || is_below path.now dir.now) }
+    ensures { result ≡ is_at_or_below path.now dir.now }
 {
     *path == *dir || path.is_below(dir)
 }

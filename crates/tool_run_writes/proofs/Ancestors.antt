@@ -8,7 +8,7 @@ use Rattle.std.proofs.lemmas.List.{length-take}
 use Rattle.bx_tree.specs.declared.limits.TheConstants.{MAX_PATH_BYTES}
 use Rattle.bx_tree.specs.Paths.{Atoms, IsPath, path_text, same_path}
 use Rattle.std.proofs.lemmas.Cmp.{nat_list_eq_equiv}
-use Rattle.bx_tree.specs.Below.{first_atom, is_below, strip_dir}
+use Rattle.bx_tree.specs.Below.{first_atom, is_at_or_below, is_below, strip_dir}
 use Rattle.bx_path.specs.Joining.{join_of, parent}
 use Rattle.tool_run_writes.proofs.DirectorySets.{any_append}
 
@@ -35,10 +35,10 @@ join_up (a ∷ rest) h = ap (λ t. cond t (Some (take (length rest) (a ∷ rest)
 
 -- ## What a path lies below
 
--- the path is the directory, or lies below it
-abbrev pub is_at_or_below : Option Atoms → Atoms → Bool
-is_at_or_below None dir = false
-is_at_or_below (Some path) dir = same_path path dir || is_below path dir
+-- the path, if there is one, is the directory or lies below it
+abbrev pub lies_at_or_below : Option Atoms → Atoms → Bool
+lies_at_or_below None dir = false
+lies_at_or_below (Some path) dir = is_at_or_below path dir
 
 abbrev rest_below : Option Atoms → Bool
 rest_below o = option_map_or (λ (atom : List ℕ). true) (option_and_then first_atom o) false
@@ -63,7 +63,7 @@ below_take a (b ∷ bs) (d ∷ ds) =
     (nat_list_eq_equiv.symm a d) (below_take b bs ds)
 
 -- a path lies below the directory that it lies in, and below what that lies below
-pub below_parent : (path dir : Atoms) → is_below path dir ≡ is_at_or_below (parent path) dir
+pub below_parent : (path dir : Atoms) → is_below path dir ≡ lies_at_or_below (parent path) dir
 below_parent [] [] = refl
 below_parent [] (d ∷ ds) = refl
 below_parent (a ∷ rest) dir = below_take a rest dir
@@ -83,12 +83,12 @@ grouped true b c = refl
 grouped false b c = refl
 
 pub one_up : (dirs : List Atoms) (dir q : Atoms) (next : Option Atoms) (below : Bool) → next ≡ parent dir
-    → (list_any (λ d. same_path d q) dirs || is_at_or_below (Some dir) q) ≡ below
-    → (list_any (λ d. same_path d q) (dirs ++ dir ∷ []) || is_at_or_below next q) ≡ below
+    → (list_any (λ d. same_path d q) dirs || lies_at_or_below (Some dir) q) ≡ below
+    → (list_any (λ d. same_path d q) (dirs ++ dir ∷ []) || lies_at_or_below next q) ≡ below
 one_up dirs dir q next below is so_far =
-    ap (λ t. t || is_at_or_below next q) (any_append (λ d. same_path d q) dirs dir)
-    ∙ grouped (list_any (λ d. same_path d q) dirs) (same_path dir q) (is_at_or_below next q)
-    ∙ ap (λ (o : Option Atoms). list_any (λ d. same_path d q) dirs || (same_path dir q || is_at_or_below o q)) is
+    ap (λ t. t || lies_at_or_below next q) (any_append (λ d. same_path d q) dirs dir)
+    ∙ grouped (list_any (λ d. same_path d q) dirs) (same_path dir q) (lies_at_or_below next q)
+    ∙ ap (λ (o : Option Atoms). list_any (λ d. same_path d q) dirs || (same_path dir q || lies_at_or_below o q)) is
     ∙ ap (λ t. list_any (λ d. same_path d q) dirs || (same_path dir q || t)) (sym (below_parent dir q))
     ∙ so_far
 

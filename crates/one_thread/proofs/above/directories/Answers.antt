@@ -2,20 +2,20 @@ use Rattle.std.proofs.Common.{◌∙◌, ◌||◌, ◌+◌, ◌<◌, List, lengt
 use Rattle.std.specs.List.{list_any}
 use Rattle.bx_tree.specs.Paths.{Atoms, same_path}
 use Rattle.bx_tree.specs.Below.{is_below}
-use Rattle.tool_run_writes.proofs.Ancestors.{below_parent, is_at_or_below, one_up, parent_smaller, size_of, whole}
+use Rattle.tool_run_writes.proofs.Ancestors.{below_parent, lies_at_or_below, one_up, parent_smaller, size_of, whole}
 use Rattle.one_thread.proofs.above.directories.Goals as goal
 
 pub dirs-init : goal.dirs-init
 dirs-init c = λ q.
-    ap (λ (xs : List Atoms). list_any (λ dir. same_path dir q) xs || is_at_or_below c.in_ok-next.next q) c.new-dirs.ensures.items
-    ∙ ap (λ (o : Option Atoms). is_at_or_below o q) c.in_ok-next.ensures
+    ap (λ (xs : List Atoms). list_any (λ dir. same_path dir q) xs || lies_at_or_below c.in_ok-next.next q) c.new-dirs.ensures.items
+    ∙ ap (λ (o : Option Atoms). lies_at_or_below o q) c.in_ok-next.ensures
     ∙ sym (below_parent c.args.path.now q)
 
 pub dirs-preserved : goal.dirs-preserved
 dirs-preserved c = λ q.
-    ap (λ (xs : List Atoms). list_any (λ dir. same_path dir q) xs || is_at_or_below c.in_ok-next-2.next q) c.in_ok-push.ensures.items
+    ap (λ (xs : List Atoms). list_any (λ dir. same_path dir q) xs || lies_at_or_below c.in_ok-next-2.next q) c.in_ok-push.ensures.items
     ∙ one_up c.dirs.dirs.items c.in-Some.dir q c.in_ok-next-2.next (is_below c.args.path.now q) c.in_ok-next-2.ensures
-    (ap (λ (o : Option Atoms). list_any (λ dir. same_path dir q) c.dirs.dirs.items || is_at_or_below o q) (sym c.in-Some.is) ∙ c.dirs.invariant q)
+    (ap (λ (o : Option Atoms). list_any (λ dir. same_path dir q) c.dirs.dirs.items || lies_at_or_below o q) (sym c.in-Some.is) ∙ c.dirs.invariant q)
 
 pub dirs-smaller : goal.dirs-smaller
 dirs-smaller c =
@@ -25,5 +25,5 @@ dirs-smaller c =
 pub returns : goal.returns
 returns c = λ q.
     sym (whole c.dirs.dirs.items q)
-    ∙ ap (λ (o : Option Atoms). list_any (λ dir. same_path dir q) c.dirs.dirs.items || is_at_or_below o q) (sym c.in_default.is)
+    ∙ ap (λ (o : Option Atoms). list_any (λ dir. same_path dir q) c.dirs.dirs.items || lies_at_or_below o q) (sym c.in_default.is)
     ∙ c.dirs.invariant q
