@@ -1,6 +1,7 @@
 pub mod Below
 pub mod PathTexts
 pub mod Roots
+pub mod AtomsBelow
 pub mod Ranges
 pub mod AnyElement
 pub mod FileSearch

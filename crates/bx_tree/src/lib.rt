@@ -5,6 +5,7 @@
 //! is the bundle of exactly one tree or has exactly one fault, and is read and written accordingly.
 #![tactic(auto)]
 
+mod below;
 mod bundle;
 mod file_input;
 mod header;
@@ -16,6 +17,7 @@ mod text;
 mod tree;
 mod tree_file;
 
+pub use below::{next_atom, text_below};
 pub use bundle::{BundleFault, append_file, read_bundle, write_bundle};
 pub use file_input::FileInput;
 pub use header::split_once;

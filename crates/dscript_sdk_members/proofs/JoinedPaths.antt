@@ -8,7 +8,7 @@ use Rattle.std.proofs.lemmas.Slice.Eq.{bytes_eq-Decides}
 use Rattle.bx_tree.specs.Paths.{Atoms, IsAtom, IsPath, is_atom_byte, path_text}
 use Rattle.bx_tree.specs.declared.limits.TheConstants.{MAX_PATH_BYTES}
 use Rattle.bx_path.specs.Joining.{if_short, join_of, parent, walk}
-use Rattle.bx_path.proofs.LastAtoms.{split_whole}
+use Rattle.bx_tree.proofs.AtomsBelow.{split_whole}
 use Rattle.bx_path.proofs.StepsOfTexts.{is_atom_true, is_atom_false, step_down}
 use Rattle.dscript_sdk_members.specs.PathMembers.{with_last}
 

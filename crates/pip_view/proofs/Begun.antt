@@ -19,7 +19,7 @@ use Rattle.bx_tree.specs.Paths.{Atoms, path_cmp, path_text, same_path}
 use Rattle.bx_tree.specs.declared.file_input.FileInput.{FileInput}
 use Rattle.bx_tree.specs.Below.{is_below, next_atom}
 use Rattle.bx_tree.proofs.Below.{below_decides}
-use Rattle.tool_run_writes.proofs.NextAtoms.{none_next}
+use Rattle.bx_tree.proofs.AtomsBelow.{none_next}
 use Rattle.pip_model_types.specs.Inputs.{RiseByPath}
 use Rattle.pip_view.specs.Taken.{any_below, begins, first_at, taken_names, while_begins}
 use Rattle.pip_view.proofs.TakenFiles.{names_after}

@@ -6,7 +6,7 @@ use Rattle.bx_tree.specs.Paths.{Atoms}
 use Rattle.bx_tree.specs.Ranges.{first_below}
 use Rattle.bx_tree.specs.Trees.{Files, paths_of}
 use Rattle.tool_run_writes.specs.Writes.{has_below, own_names}
-use Rattle.tool_run_writes.proofs.NextAtoms.{none_next}
+use Rattle.bx_tree.proofs.AtomsBelow.{none_next}
 
 -- ## Whether there are any, and their names
 

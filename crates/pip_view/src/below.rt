@@ -1,10 +1,9 @@
 //! Searches in source files: the paths below a directory are neighbours in their order.
-ghost use Rattle.std.specs.Prelude.{◌≡◌, ◌≤◌, ◌==◌, Some, true, false, IfOk, filter, length};
-ghost use Rattle.std.specs.List.{list_any, slice_split};
+ghost use Rattle.std.specs.Prelude.{◌≡◌, ◌≤◌, true, false, IfOk, filter, length};
+ghost use Rattle.std.specs.List.{list_any};
 ghost use Rattle.std.specs.List.Sorted.{IsPartitionPoint, IsStrictlySortedBy};
-ghost use Rattle.std.specs.Option.{option_copied};
-ghost use Rattle.bx_tree.specs.Below.{first_atom, is_below, next_atom as next_atom_of, strip_dir};
-ghost use Rattle.bx_tree.specs.Paths.{IsBelow, IsPath, path_cmp};
+ghost use Rattle.bx_tree.specs.Below.{is_below};
+ghost use Rattle.bx_tree.specs.Paths.{IsPath, path_cmp};
 ghost use Rattle.bx_tree.specs.Ranges.{AreFilePaths, comes_before as path_before, first_below, prefix_below};
 
 use bx_tree::{Memory, Path};
@@ -69,40 +68,4 @@ pub(crate) fn has_below(alloc: Global, paths: &[Path], dir: &Path) -> Result<boo
         Some((path, _)) => Ok(path.is_below(dir)),
         None => Ok(false),
     }
-}
-
-// The part of a path's text after that of a directory that contains it and a `/`.
-pub(crate) fn text_below<'a>(dir: &Path, path: &'a Path) -> &'a [u8]
-    requires { IsBelow path.now dir.now }
-    ensures { strip_dir dir.now path.entry.now ≡ Some (slice_split (λ b. b == 47) result.now) }
-{
-    let text = path.text().as_bytes();
-    let prefix = dir.text();
-    if prefix == "." {
-        return text;
-    }
-    let (_, rest) = text.split_at(prefix.len() + 1);
-    rest
-}
-
-// What precedes the first `/` of a text, or all of it.
-fn first_part(text: &[u8]) -> &[u8]
-    ensures { first_atom (slice_split (λ b. b == 47) text.entry.now) ≡ Some result.now }
-{
-    for (at, byte) in text.iter().enumerate() {
-        if *byte == b'/' {
-            return &text[..at];
-        }
-    }
-    text
-}
-
-// The atom of a path that comes next after a directory, if the path lies strictly below it.
-pub(crate) fn next_atom<'a>(dir: &Path, path: &'a Path) -> Option<&'a [u8]>
-    ensures { option_copied result ≡ next_atom_of dir.now path.entry.now }
-{
-    if !path.is_below(dir) {
-        return None;
-    }
-    Some(first_part(text_below(dir, path)))
 }

@@ -5,8 +5,8 @@ ghost use Rattle.bx_tree.specs.Below.{next_atom as next_atom_of};
 ghost use Rattle.bx_tree.specs.Ranges.{AreFilePaths, first_below};
 ghost use Rattle.bx_tree.specs.Lent.{texts_now};
 
-use crate::below::{from_below, next_atom};
-use bx_tree::{Memory, Path};
+use crate::below::from_below;
+use bx_tree::{Memory, Path, next_atom};
 use std::alloc::Global;
 
 // The next atoms of the first paths, up to one that does not lie below a directory.

@@ -12,8 +12,8 @@ ghost use Rattle.bx_tree.specs.Lent.{texts_now};
 ghost use Rattle.bx_tree.specs.FileInputs.{input_path};
 ghost use Rattle.bx_tree.specs.Ranges.{comes_before as path_before, prefix_below};
 
-use crate::below::{comes_before, next_atom};
-use bx_tree::{Memory, Path};
+use crate::below::comes_before;
+use bx_tree::{Memory, Path, next_atom};
 use pip_model::MadeFile;
 
 // How many files come before those whose paths begin with these bytes.

@@ -20,12 +20,12 @@ ghost use Rattle.pip_view.specs.Seen.{named_in, opaque_in, taken_in, view_answer
 ghost use Rattle.pip_view.specs.Sees.{sees};
 
 use crate::Names;
-use crate::below::{has_below, text_below};
+use crate::below::has_below;
 use crate::listing::names_below;
 use crate::members::{add_members, find_member, has_member, opaque_by_pip, opaque_searched};
 use crate::taken::{add_taken, has_taken, taken_blob};
 use bx_digest::Blob;
-use bx_tree::{Memory, Path};
+use bx_tree::{Memory, Path, text_below};
 use observed::{Answer, Ask, AskKind, View};
 use pip_model::{DirInput, DirInputs, Pip, Plan, ProcessDesc, SealForm, Sources};
 use pip_view_directories::{around_dirs, other_dirs, searched};

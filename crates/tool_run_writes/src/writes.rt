@@ -12,10 +12,10 @@ ghost use Rattle.tool_run_writes.specs.Writes.{clashes as some_clash, has_below 
 ghost use Rattle.tool_run_writes.specs.Writes.{AreDirectories, own_answer, put_file, with_file as and_file};
 ghost use Rattle.bx_tree.specs.Lent.{texts_now};
 
-use crate::below::{bounds_below, next_atom};
+use crate::below::bounds_below;
 use crate::directories::{add_directories, directories};
 use bx_digest::Blob;
-use bx_tree::Path;
+use bx_tree::{Path, next_atom};
 use observed::{Answer, Ask, AskKind};
 use pip_model_types::{Made, MadeFile};
 use std::alloc::{AllocError, Global};

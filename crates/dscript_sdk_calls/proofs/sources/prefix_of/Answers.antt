@@ -1,7 +1,7 @@
 use Rattle.std.proofs.Common.{◌≡◌, codes, ap, sym, ◌∙◌}
 use Rattle.std.proofs.lemmas.Slice.Eq.{bytes_eq-Decides}
 use Rattle.bx_tree.specs.Paths.{path_text}
-use Rattle.bx_path.proofs.StepsOfTexts.{root_from_text}
+use Rattle.bx_tree.proofs.PathTexts.{root_from_text}
 use Rattle.dscript_sdk_calls.proofs.sources.prefix_of.Goals as goal
 use Rattle.bx_tree.specs.Ranges.{prefix_below}
 

@@ -3,7 +3,7 @@ use Rattle.std.proofs.lemmas.Bool.{false≢true}
 use Rattle.std.proofs.lemmas.Slice.Eq.{bytes_eq-Decides}
 use Rattle.bx_tree.specs.Paths.{path_text}
 use Rattle.bx_path.specs.Joining.{parent}
-use Rattle.bx_path.proofs.StepsOfTexts.{root_from_text}
+use Rattle.bx_tree.proofs.PathTexts.{root_from_text}
 use Rattle.dscript_sdk_members.proofs.JoinedPaths.{join_up, parent_there}
 use Rattle.dscript_sdk_members.proofs.path_members.parent_of.Goals as goal
 

@@ -2,7 +2,7 @@ use Rattle.std.proofs.Common.{◌≡◌, ◌∙◌, IfOk, Option, codes, ap, sym
 use Rattle.std.proofs.lemmas.Slice.Eq.{bytes_eq-Decides}
 use Rattle.bx_tree.specs.Paths.{Atoms, path_text}
 use Rattle.bx_path.specs.Joining.{parent}
-use Rattle.bx_path.proofs.StepsOfTexts.{root_from_text}
+use Rattle.bx_tree.proofs.PathTexts.{root_from_text}
 use Rattle.tool_run_writes.proofs.Ancestors.{join_up}
 use Rattle.one_thread.proofs.above.parent.Goals as goal
 

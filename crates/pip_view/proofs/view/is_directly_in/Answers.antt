@@ -12,4 +12,4 @@ text_below-requires c = (below_decides c.args.path.now c.args.dir.now).0 (sym c.
 pub returns : goal.returns
 returns c =
     ap not c.contains.ensures.value
-    ∙ directly_by_text c.args.dir.now c.args.path.now c.text_below.result.now c.text_below.ensures
+    ∙ directly_by_text c.args.dir.now c.args.path.now c.text_below.result.now c.text_below.ensures.rest

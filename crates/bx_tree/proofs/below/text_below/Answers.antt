@@ -3,8 +3,9 @@ use Rattle.std.specs.List.{AllByRecursion, slice_split}
 use Rattle.std.proofs.lemmas.Bool.{false≢true}
 use Rattle.std.proofs.lemmas.Slice.Eq.{bytes_eq-Decides}
 use Rattle.bx_tree.specs.Paths.{IsAtom, path_text}
-use Rattle.bx_path.proofs.LastAtoms.{is_slash, below_root, below_dir}
-use Rattle.bx_path.proofs.globbing.text_below.Goals as goal
+use Rattle.bx_tree.proofs.AtomsBelow.{below_root, below_dir}
+use Rattle.bx_tree.proofs.PathTexts.{is_slash}
+use Rattle.bx_tree.proofs.below.text_below.Goals as goal
 
 pub returns-then-eq-clause-rest : goal.returns-then-eq-clause-rest
 returns-then-eq-clause-rest c =
