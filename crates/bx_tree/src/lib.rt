@@ -13,6 +13,7 @@ mod laws;
 mod limits;
 mod order;
 mod path;
+mod ranges;
 mod text;
 mod tree;
 mod tree_file;
@@ -26,6 +27,7 @@ pub use limits::{MAX_ATOM_BYTES, MAX_BUNDLE_BYTES, MAX_FILE_BYTES, MAX_FILES, MA
 pub use path::{Path, PathFault, is_atom, is_path};
 pub use text::{Text, lines_of};
 pub use tree::{Tree, reserved, text_order};
+pub use ranges::{comes_before, prefix_of};
 pub use tree_file::TreeFile;
 
 /// Out of memory: the one error whose cause no contract states.

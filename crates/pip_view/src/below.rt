@@ -3,40 +3,19 @@ ghost use Rattle.std.specs.Prelude.{◌≡◌, ◌≤◌, true, false, IfOk, fil
 ghost use Rattle.std.specs.List.{list_any};
 ghost use Rattle.std.specs.List.Sorted.{IsPartitionPoint, IsStrictlySortedBy};
 ghost use Rattle.bx_tree.specs.Below.{is_below};
-ghost use Rattle.bx_tree.specs.Paths.{IsPath, path_cmp};
-ghost use Rattle.bx_tree.specs.Ranges.{AreFilePaths, comes_before as path_before, first_below, prefix_below};
+ghost use Rattle.bx_tree.specs.Paths.{path_cmp};
+ghost use Rattle.bx_tree.specs.Ranges.{AreFilePaths, comes_before, first_below};
 
-use bx_tree::{Memory, Path};
+use bx_tree::{Memory, Path, comes_before, prefix_of};
 use std::alloc::Global;
-
-// The bytes with which the text of each path below a directory begins.
-pub(crate) fn prefix_of(alloc: Global, dir: &Path) -> Result<Vec<u8>, Memory>
-    ensures prefix { IfOk result (λ prefix. prefix.items ≡ prefix_below dir.now) }
-    ensures is_path { IsPath dir.now }
-{
-    let text = dir.text();
-    if text == "." {
-        return Ok(Vec::new(alloc));
-    }
-    let mut prefix = text.as_bytes().to_vec(alloc)?;
-    prefix.push(b'/')?;
-    Ok(prefix)
-}
-
-// Whether a path comes before all paths whose texts begin with these bytes.
-pub(crate) fn comes_before(path: &Path, prefix: &[u8]) -> bool
-    ensures { result ≡ path_before prefix.now path.now }
-{
-    path.text().as_bytes().cmp(prefix).is_lt()
-}
 
 // How many paths come before those whose texts begin with these bytes.
 fn count_before(paths: &[Path], prefix: &[u8]) -> usize
     requires { IsStrictlySortedBy path_cmp paths.now }
     ensures bound { result ≤ length paths.now }
     ensures before { IsPartitionPoint
-        (λ path. path_before prefix.now path ≡ true)
-        (λ path. path_before prefix.now path ≡ false)
+        (λ path. comes_before prefix.now path ≡ true)
+        (λ path. comes_before prefix.now path ≡ false)
         paths.now result }
 {
     paths.partition_point(|path| comes_before(path, prefix))

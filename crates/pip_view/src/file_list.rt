@@ -10,10 +10,9 @@ ghost use Rattle.pip_model_types.specs.Inputs.{RiseByPath};
 ghost use Rattle.pip_view.specs.Taken.{any_below, begins as begins_with, first_at, taken_names, while_begins};
 ghost use Rattle.bx_tree.specs.Lent.{texts_now};
 ghost use Rattle.bx_tree.specs.FileInputs.{input_path};
-ghost use Rattle.bx_tree.specs.Ranges.{comes_before as path_before, prefix_below};
+ghost use Rattle.bx_tree.specs.Ranges.{comes_before, prefix_below};
 
-use crate::below::comes_before;
-use bx_tree::{FileInput, Memory, Path, next_atom};
+use bx_tree::{FileInput, Memory, Path, comes_before, next_atom};
 
 fn place_of(files: &[FileInput], path: &Path) -> Option<usize>
     requires { RiseByPath files.now }
@@ -40,8 +39,8 @@ fn count_before(files: &[FileInput], prefix: &[u8]) -> usize
     requires { RiseByPath files.now }
     ensures bound { result ≤ length files.now }
     ensures before { IsPartitionPoint
-        (λ (file : AnyFile). path_before prefix.now (input_path file) ≡ true)
-        (λ (file : AnyFile). path_before prefix.now (input_path file) ≡ false)
+        (λ (file : AnyFile). comes_before prefix.now (input_path file) ≡ true)
+        (λ (file : AnyFile). comes_before prefix.now (input_path file) ≡ false)
         files.now result }
 {
     files.partition_point(|file| comes_before(file.path(), prefix))

@@ -10,10 +10,9 @@ ghost use Rattle.pip_view.specs.Gathered.{all_taken, as_taken, below_of, names_w
 ghost use Rattle.pip_view.specs.Taken.{any_below, begins as begins_with, taken_names, while_begins};
 ghost use Rattle.bx_tree.specs.Lent.{texts_now};
 ghost use Rattle.bx_tree.specs.FileInputs.{input_path};
-ghost use Rattle.bx_tree.specs.Ranges.{comes_before as path_before, prefix_below};
+ghost use Rattle.bx_tree.specs.Ranges.{comes_before, prefix_below};
 
-use crate::below::comes_before;
-use bx_tree::{Memory, Path, next_atom};
+use bx_tree::{Memory, Path, next_atom, comes_before};
 use pip_model::MadeFile;
 
 // How many files come before those whose paths begin with these bytes.
@@ -21,8 +20,8 @@ fn count_before(files: &[MadeFile], prefix: &[u8]) -> usize
     requires { RisingFiles (made_files files.now) }
     ensures bound { result ≤ length files.now }
     ensures before { IsPartitionPoint
-        (λ (file : AnyMade). path_before prefix.now file.path ≡ true)
-        (λ (file : AnyMade). path_before prefix.now file.path ≡ false)
+        (λ (file : AnyMade). comes_before prefix.now file.path ≡ true)
+        (λ (file : AnyMade). comes_before prefix.now file.path ≡ false)
         files.now result }
 {
     files.partition_point(|file| comes_before(&file.path, prefix))

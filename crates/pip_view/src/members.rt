@@ -18,10 +18,9 @@ ghost use Rattle.tool_run.specs.NameSets.{names_now};
 ghost use Rattle.bx_tree.specs.Lent.{texts_now};
 
 use crate::Names;
-use crate::below::prefix_of;
 use crate::made_list::{add_below, has_below};
 use bx_digest::Blob;
-use bx_tree::{Memory, Path};
+use bx_tree::{Memory, Path, prefix_of};
 use pip_model::{DirInput, DirInputs, MadeFile};
 use pip_view_inputs::Inputs;
 use std::alloc::Global;

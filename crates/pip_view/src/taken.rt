@@ -14,10 +14,9 @@ ghost use Rattle.bx_tree.specs.Lent.{texts_now};
 ghost use Rattle.bx_tree.specs.Ranges.{prefix_below};
 
 use crate::Names;
-use crate::below::prefix_of;
 use crate::file_list::{add_below, file_at, has_below};
 use bx_digest::Blob;
-use bx_tree::{FileInput, Memory, Path, next_atom};
+use bx_tree::{FileInput, Memory, Path, next_atom, prefix_of};
 use pip_model::{DirInput, FileInputs, Pip, PipKind, Plan, ProcessDesc, SealForm, Sources};
 use pip_view_directories::{near_dirs, searched};
 use pip_view_inputs::{Inputs, input_file, source_blob};

@@ -2,7 +2,7 @@ use Rattle.std.proofs.Common.{◌≡◌, codes, ap, sym, ◌∙◌}
 use Rattle.std.proofs.lemmas.Slice.Eq.{bytes_eq-Decides}
 use Rattle.bx_tree.specs.Paths.{path_text}
 use Rattle.bx_tree.proofs.PathTexts.{root_from_text}
-use Rattle.pip_view.proofs.below.prefix_of.Goals as goal
+use Rattle.bx_tree.proofs.ranges.prefix_of.Goals as goal
 use Rattle.bx_tree.specs.Ranges.{prefix_below}
 
 pub returns-then-eq-clause-prefix : goal.returns-then-eq-clause-prefix
