@@ -3,6 +3,5 @@ pub mod Found
 pub mod SameFiles
 pub mod PutInOrder
 pub mod DirectorySets
-pub mod Ancestors
 pub mod Bounds
 pub mod Unnested

@@ -13,8 +13,8 @@ ghost use Rattle.tool_run_writes.specs.Writes.{AreDirectories, own_answer, put_f
 ghost use Rattle.bx_tree.specs.Lent.{texts_now};
 
 use crate::below::bounds_below;
-use crate::directories::{add_directories, directories};
 use bx_digest::Blob;
+use bx_path::{add_directories, directories};
 use bx_tree::{Path, next_atom};
 use observed::{Answer, Ask, AskKind};
 use pip_model_types::{Made, MadeFile};

@@ -3,8 +3,8 @@ use Rattle.std.proofs.lemmas.Slice.Eq.{bytes_eq-Decides}
 use Rattle.bx_tree.specs.Paths.{Atoms, path_text}
 use Rattle.bx_path.specs.Joining.{parent}
 use Rattle.bx_tree.proofs.PathTexts.{root_from_text}
-use Rattle.tool_run_writes.proofs.Ancestors.{join_up}
-use Rattle.tool_run_writes.proofs.directories.parent.Goals as goal
+use Rattle.bx_path.proofs.Ancestors.{join_up}
+use Rattle.bx_path.proofs.above.parent.Goals as goal
 
 pub returns-then-eq : goal.returns-then-eq
 returns-then-eq c =

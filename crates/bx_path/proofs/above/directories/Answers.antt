@@ -2,8 +2,8 @@ use Rattle.std.proofs.Common.{◌∙◌, ◌||◌, ◌+◌, ◌<◌, List, lengt
 use Rattle.std.specs.List.{list_any}
 use Rattle.bx_tree.specs.Paths.{Atoms, same_path}
 use Rattle.bx_tree.specs.Below.{is_below}
-use Rattle.tool_run_writes.proofs.Ancestors.{below_parent, lies_at_or_below, one_up, parent_smaller, size_of, whole}
-use Rattle.one_thread.proofs.above.directories.Goals as goal
+use Rattle.bx_path.proofs.Ancestors.{below_parent, lies_at_or_below, one_up, parent_smaller, size_of, whole}
+use Rattle.bx_path.proofs.above.directories.Goals as goal
 
 pub dirs-init : goal.dirs-init
 dirs-init c = λ q.

@@ -1,16 +1,19 @@
 -- The directories of a path, from the one that it lies in up to the root.
-use Rattle.std.proofs.Common.{◌≡◌, ℕ, ◌+◌, ◌<◌, ◌≤◌, zero, suc, Bool, true, false, ◌||◌, ◌&&◌, cond, List, [], ◌∷◌, ◌++◌, length, take, codes, Option, Some, None, refl, ap, sym, ◌∙◌, arith, length-append}
+use Rattle.std.proofs.Common.{◌≡◌, ℕ, ◌+◌, ◌<◌, ◌≤◌, zero, suc, Bool, true, false, ◌||◌, ◌&&◌, cond, List, [], ◌∷◌, ◌++◌, length, take, get_or, codes, Option, Some, None, refl, ap, sym, ◌∙◌, arith, length-append}
+use Rattle.std.specs.BTreeMap.{is_at}
 use Rattle.std.specs.List.{join_with_byte, list_any}
 use Rattle.std.specs.Option.{option_and_then, option_map_or}
 use Rattle.std.specs.Str.{bytes_eq}
 use Rattle.std.proofs.lemmas.Bool.{le-leb}
-use Rattle.std.proofs.lemmas.List.{length-take}
-use Rattle.bx_tree.specs.declared.limits.TheConstants.{MAX_PATH_BYTES}
-use Rattle.bx_tree.specs.Paths.{Atoms, IsPath, path_text, same_path}
 use Rattle.std.proofs.lemmas.Cmp.{nat_list_eq_equiv}
+use Rattle.std.proofs.lemmas.List.{length-take, take_more}
+use Rattle.bx_tree.specs.declared.limits.TheConstants.{MAX_PATH_BYTES}
+use Rattle.bx_tree.specs.Orders.{path_cmp_matches}
+use Rattle.bx_tree.specs.Paths.{Atoms, IsPath, path_cmp, path_text, same_path}
 use Rattle.bx_tree.specs.Below.{first_atom, is_at_or_below, is_below, strip_dir}
 use Rattle.bx_path.specs.Joining.{join_of, parent}
-use Rattle.tool_run_writes.proofs.DirectorySets.{any_append}
+
+-- ## A step up
 
 -- a path's text is no shorter than that of a directory of it
 join_shorter : (a : List ℕ) (rest : Atoms) (n : ℕ) → length (join_with_byte 47 (a ∷ take n rest)) ≤ length (join_with_byte 47 (a ∷ rest))
@@ -70,6 +73,18 @@ below_parent (a ∷ rest) dir = below_take a rest dir
 
 -- ## One directory after the other
 
+grouped : (a b c : Bool) → ((a || b) || c) ≡ (a || (b || c))
+grouped true b c = refl
+grouped false b c = refl
+
+pub any_append : {X : Type 0} (p : X → Bool) (xs : List X) (x : X) → list_any p (xs ++ x ∷ []) ≡ (list_any p xs || p x)
+any_append p [] x = last (p x)
+  where
+    last : (t : Bool) → (t || false) ≡ t
+    last true = refl
+    last false = refl
+any_append p (y ∷ ys) x = ap (λ t. p y || t) (any_append p ys x) ∙ sym (grouped (p y) (list_any p ys) (p x))
+
 abbrev pub size_of : Option Atoms → ℕ
 size_of None = 0
 size_of (Some path) = length path + 1
@@ -77,10 +92,6 @@ size_of (Some path) = length path + 1
 pub parent_smaller : (path : Atoms) → size_of (parent path) < length path + 1
 parent_smaller [] = omega arith
 parent_smaller (a ∷ rest) = omega (arith, length-take (length rest) (a ∷ rest))
-
-grouped : (a b c : Bool) → ((a || b) || c) ≡ (a || (b || c))
-grouped true b c = refl
-grouped false b c = refl
 
 pub one_up : (dirs : List Atoms) (dir q : Atoms) (next : Option Atoms) (below : Bool) → next ≡ parent dir
     → (list_any (λ d. same_path d q) dirs || lies_at_or_below (Some dir) q) ≡ below
@@ -98,3 +109,21 @@ whole dirs q = same (list_any (λ d. same_path d q) dirs)
     same : (t : Bool) → (t || false) ≡ t
     same true = refl
     same false = refl
+
+-- ## A directory more in a set
+
+more_or : (t a old before now : Bool) → now ≡ cond t true before → before ≡ (a || old) → now ≡ ((a || t) || old)
+more_or true true old before now put so_far = put
+more_or true false old before now put so_far = put
+more_or false true old before now put so_far = put ∙ so_far
+more_or false false old before now put so_far = put ∙ so_far
+
+pub one_more : (above : List Atoms) (i : ℕ) (dir k q : Atoms) (old before now : Bool) → i < length above → dir ≡ get_or above i dir → k ≡ dir
+    → now ≡ cond (is_at (path_cmp k) q) true before → before ≡ (list_any (λ d. same_path d q) (take i above) || old)
+    → now ≡ (list_any (λ d. same_path d q) (take (i + 1) above) || old)
+one_more above i dir k q old before now l is key put so_far =
+    more_or (same_path dir q) (list_any (λ d. same_path d q) (take i above)) old before now
+    (put ∙ ap (λ (x : Atoms). cond (is_at (path_cmp x) q) true before) key ∙ ap (λ t. cond t true before) (sym (path_cmp_matches dir q)))
+    so_far
+    ∙ sym (ap (λ t. t || old) (ap (list_any (λ d. same_path d q)) (take_more above i dir l ∙ ap (λ (x : Atoms). take i above ++ x ∷ []) (sym is))
+    ∙ any_append (λ d. same_path d q) (take i above) dir))

@@ -3,8 +3,8 @@ use Rattle.std.specs.BTreeSet.{contains}
 use Rattle.std.specs.List.{list_any}
 use Rattle.std.proofs.lemmas.List.{take_all}
 use Rattle.bx_tree.specs.Paths.{Atoms, path_cmp, same_path}
-use Rattle.tool_run_writes.proofs.DirectorySets.{one_more}
-use Rattle.tool_run_writes.proofs.directories.add_directories.Goals as goal
+use Rattle.bx_path.proofs.Ancestors.{one_more}
+use Rattle.bx_path.proofs.above.add_directories.Goals as goal
 
 pub above-preserved : goal.above-preserved
 above-preserved c = λ q.

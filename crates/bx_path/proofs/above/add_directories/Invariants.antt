@@ -2,7 +2,7 @@ use Rattle.std.proofs.Common.{◌≡◌, ◌||◌, take}
 use Rattle.std.specs.BTreeSet.{contains}
 use Rattle.std.specs.List.{list_any}
 use Rattle.bx_tree.specs.Paths.{Atoms, path_cmp, same_path}
-use Rattle.one_thread.proofs.above.add_directories.Given as goal
+use Rattle.bx_path.proofs.above.add_directories.Given as goal
 
 abbrev pub invariant-above : goal.invariant-above
 invariant-above l =

@@ -6,13 +6,13 @@ ghost use Rattle.bx_tree.specs.Paths.{Atoms, path_cmp, same_path};
 ghost use Rattle.bx_path.specs.Joining.{join_of, parent as parent_of};
 ghost use Rattle.bx_tree.specs.Below.{is_below};
 
-use bx_path::join;
 use bx_tree::{Memory, Path, PathFault};
+use crate::joining::join;
 use std::alloc::{AllocError, Global};
 use std::collections::BTreeSet;
 
 // Where `..` leads from a path.
-fn one_up(alloc: Global, path: &Path) -> Result<Option<Path>, Memory>
+fn one_up(alloc: Global, path: &Path) -> Result<Option<Path>, AllocError>
     ensures { IfOk result (λ dir. dir ≡ join_of path.now (codes "..")) }
 {
     match join(alloc, path, b"..") {
@@ -22,8 +22,8 @@ fn one_up(alloc: Global, path: &Path) -> Result<Option<Path>, Memory>
     }
 }
 
-// The directory that a path lies in; the root lies in none.
-fn parent(alloc: Global, path: &Path) -> Result<Option<Path>, Memory>
+/// The directory that a path lies in; the root lies in none.
+pub fn parent(alloc: Global, path: &Path) -> Result<Option<Path>, AllocError>
     ensures { IfOk result (λ dir. dir ≡ parent_of path.now) }
 {
     if path.text() == "." {
@@ -32,8 +32,8 @@ fn parent(alloc: Global, path: &Path) -> Result<Option<Path>, Memory>
     one_up(alloc, path)
 }
 
-// The directories that a path lies strictly below, from the nearest up to the root.
-pub(crate) fn directories(alloc: Global, path: &Path) -> Result<Vec<Path>, Memory>
+/// The directories that a path lies strictly below, from the nearest up to the root.
+pub fn directories(alloc: Global, path: &Path) -> Result<Vec<Path>, AllocError>
     ensures { IfOk result (λ dirs. (q : Atoms) →
         list_any (λ dir. same_path dir q) dirs.items ≡ is_below path.now q) }
 {
@@ -46,12 +46,12 @@ pub(crate) fn directories(alloc: Global, path: &Path) -> Result<Vec<Path>, Memor
     Ok(dirs)
 }
 
-// Adds the directories that a path lies strictly below to a set.
-pub(crate) fn add_directories(
+/// Adds the directories that a path lies strictly below to a set.
+pub fn add_directories(
     alloc: Global,
     dirs: &mut BTreeSet<Path>,
     path: &Path,
-) -> Result<(), Memory>
+) -> Result<(), AllocError>
     ensures { OnOk result ((q : Atoms) →
         contains path_cmp dirs.new q ≡ (is_below path.now q || contains path_cmp dirs.old q)) }
 {
