@@ -22,7 +22,7 @@ use Rattle.bundle_folder.specs.Answers.{HasLargeFile, IsEntryOf, ListsNodes, ent
 use Rattle.bundle_folder.specs.Folders.{File, IsFolder, Known, Node, Nodes, Other, IsListed}
 use Rattle.bundle_folder.specs.Packing.{AreFilesOf, AreHeld, HasCauseIn, HasLongText, HasManyFiles, IsPack}
 use Rattle.bundle_folder.specs.Places.{IsWithin}
-use Rattle.bundle_folder.specs.Steps.{AreFilePaths, ArePathsOf, AreRead, IsEntryFault, IsFileIn, IsFilePath, IsPlaceFault, IsTextFault, IsTextOf}
+use Rattle.bundle_folder.specs.Steps.{AreEntryPaths, ArePathsOf, AreRead, IsEntryFault, IsFileIn, IsFilePath, IsPlaceFault, IsTextFault, IsTextOf}
 use Rattle.bundle_folder.specs.declared.folder.Entry.{Entry}
 use Rattle.bundle_folder.specs.declared.folder.Kind.{Kind}
 use Rattle.bundle_folder.specs.declared.folder.Kind.TheVariants as kinds
@@ -91,8 +91,8 @@ entry_cause left_out nodes entry faults.Memory is h = tt
 -- ## Paths
 
 -- one more entry with its path
-pub paths_more : (entries : List Entry) (paths : List Atoms) (entry : Entry) (path : Atoms) → AreFilePaths entries paths
-    → IsFilePath entry path → AreFilePaths (entries ++ entry ∷ []) (paths ++ path ∷ [])
+pub paths_more : (entries : List Entry) (paths : List Atoms) (entry : Entry) (path : Atoms) → AreEntryPaths entries paths
+    → IsFilePath entry path → AreEntryPaths (entries ++ entry ∷ []) (paths ++ path ∷ [])
 paths_more entries paths entry path all is = record {
   held = λ p c. elim (Contains-push_cases paths path p c) [
     | inl d ↦ let from = all.held p d in (from.0, Contains-append_left entries (entry ∷ []) from.0 from.1, from.2)
@@ -104,7 +104,7 @@ paths_more entries paths entry path all is = record {
   ];
 }
 
-pub no_paths : AreFilePaths [] []
+pub no_paths : AreEntryPaths [] []
 no_paths = record {
   held = λ p c. absurd (omega (arith, c.1));
   all = λ x c. absurd (omega (arith, c.1));
@@ -112,7 +112,7 @@ no_paths = record {
 
 -- the paths of the entries of a folder are those of its files
 pub paths_of_folder : (left_out : List (List ℕ)) (nodes : Nodes) (entries : List Entry) (paths order : List Atoms)
-    → ListsNodes left_out nodes entries → AreFilePaths entries paths → IsStrictlySortedBy path_cmp order
+    → ListsNodes left_out nodes entries → AreEntryPaths entries paths → IsStrictlySortedBy path_cmp order
     → ((path : Atoms) → Contains order path ↔ Contains paths path) → ArePathsOf left_out nodes order
 paths_of_folder left_out nodes entries paths order lists files rising same = record {
   rising = rising;

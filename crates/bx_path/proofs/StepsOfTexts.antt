@@ -1,15 +1,15 @@
 -- The steps of a relative text lead where the definition says, and give short paths exactly.
 use Rattle.bx_tree.specs.declared.limits.TheConstants.{MAX_ATOM_BYTES}
 use Rattle.bx_tree.specs.declared.limits.TheConstants.{MAX_PATH_BYTES}
-use Rattle.std.proofs.Common.{inl, inr, ◌==◌, append_assoc, ◌≡◌, ◌≢◌, ℕ, ◌<◌, ◌≤◌, ◌+◌, true, false, not, cond, ◌&&◌, nat_le, IsTrue, List, [], ◌∷◌, ◌++◌, length, get_or, take, codes, Some, None, refl, ap, sym, ◌∙◌, subst, arith, lit≤}
+use Rattle.std.proofs.Common.{inl, inr, append_assoc, ◌≡◌, ◌≢◌, ℕ, ◌<◌, ◌≤◌, ◌+◌, true, false, not, cond, ◌&&◌, nat_le, IsTrue, List, [], ◌∷◌, ◌++◌, length, get_or, take, codes, Some, None, refl, ap, sym, ◌∙◌, subst, arith}
 use Rattle.std.specs.Borrow.{Bor}
-use Rattle.std.specs.List.{AllByRecursion, join_with_byte, list_all, slice_split}
+use Rattle.std.specs.List.{AllByRecursion, join_with_byte, list_all}
 use Rattle.std.specs.Str.{bytes_eq}
 use Rattle.std.proofs.lemmas.Bool.{and_from, and_parts, cases_Bool, false≢true, le-leb, leb-true, lt-leb, not-true, cases_lt}
 use Rattle.std.proofs.lemmas.List.{take_more, map_push, length-map, length-take-le}
 use Rattle.std.proofs.lemmas.Slice.Eq.{bytes_eq-Decides}
-use Rattle.bx_tree.specs.Paths.{Atoms, IsAtom, IsPath, IsPathText, Names, is_atom_byte, path_text}
-use Rattle.bx_tree.proofs.PathTexts.{atoms_again, one_path, same_from_text, join-append}
+use Rattle.bx_tree.specs.Paths.{Atoms, IsAtom, IsPathText, Names, is_atom_byte, path_text}
+use Rattle.bx_tree.proofs.PathTexts.{one_path, join-append}
 use Rattle.bx_path.specs.Joining.{is_atom, parent, step, if_short}
 use Rattle.bx_tree.specs.Lent.{texts_now}
 
@@ -78,17 +78,6 @@ prefix_valid P (x ∷ xs) ys h = (h.0, prefix_valid P xs ys h.1)
 pub push_valid : {X : Type 0} (P : X → Type 0) (xs : List X) (y : X) → AllByRecursion P xs → P y → AllByRecursion P (xs ++ y ∷ [])
 push_valid P [] y h p = (p, tt)
 push_valid P (x ∷ xs) y h p = (h.0, push_valid P xs y h.1 p)
-
--- ## The atoms of a path
-
-root_path : IsPath []
-root_path = record { atoms = tt; short = lit≤ tt }
-
-pub root_from_text : (path : Atoms) → IsPath path → path_text path ≡ codes "." → path ≡ []
-root_from_text path h e = same_from_text path [] h root_path e
-
-pub atoms_from_text : (path : Atoms) → IsPath path → path_text path ≢ codes "." → slice_split (λ b. b == 47) (path_text path) ≡ path
-atoms_from_text path h n = atoms_again (path_text path) path (record { is_path = h; not_root = λ e. n (ap path_text e); text_is = refl })
 
 -- ## The text of atoms
 

@@ -1,5 +1,8 @@
+pub mod Below
 pub mod PathTexts
 pub mod Roots
+pub mod AtomsBelow
+pub mod Ranges
 pub mod AnyElement
 pub mod FileSearch
 pub mod HeaderParts

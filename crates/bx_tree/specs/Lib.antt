@@ -1,4 +1,5 @@
 pub mod Paths
+pub mod Below
 pub mod Trees
 pub mod Bundle
 pub mod Views

@@ -54,12 +54,16 @@ is_root (atom ∷ rest) = false
 abbrev pub IsBelow : Atoms → Atoms → Type 0
 IsBelow path dir = (rest : Atoms) × (rest ≢ []) × (path ≡ dir ++ rest)
 
+-- the text goes on after the directory's and a `/`
+abbrev pub TextGoesOn : List ℕ → List ℕ → Type 0
+TextGoesOn dir text = (rest : List ℕ) × (text ≡ dir ++ 47 ∷ rest)
+
 -- Which path is below which, by their texts: all but the root lie below the root, and a path below any other
 -- directory has a text that starts with the directory's text and a `/`.
 abbrev pub TextBelow : List ℕ → List ℕ → Type 0
 TextBelow dir text =
     ((dir ≡ codes ".") × (text ≢ codes "."))
-    ⊎ ((dir ≢ codes ".") × ((rest : List ℕ) × (text ≡ dir ++ 47 ∷ rest)))
+    ⊎ ((dir ≢ codes ".") × TextGoesOn dir text)
 
 -- The order of paths is that of the bytes of their texts. Paths with equal texts are equal; the second
 -- comparison makes the order total on lists of atoms that are no paths.

@@ -5,6 +5,7 @@
 //! is the bundle of exactly one tree or has exactly one fault, and is read and written accordingly.
 #![tactic(auto)]
 
+mod below;
 mod bundle;
 mod file_input;
 mod header;
@@ -12,10 +13,12 @@ mod laws;
 mod limits;
 mod order;
 mod path;
+mod ranges;
 mod text;
 mod tree;
 mod tree_file;
 
+pub use below::{next_atom, text_below};
 pub use bundle::{BundleFault, append_file, read_bundle, write_bundle};
 pub use file_input::FileInput;
 pub use header::split_once;
@@ -24,6 +27,7 @@ pub use limits::{MAX_ATOM_BYTES, MAX_BUNDLE_BYTES, MAX_FILE_BYTES, MAX_FILES, MA
 pub use path::{Path, PathFault, is_atom, is_path};
 pub use text::{Text, lines_of};
 pub use tree::{Tree, reserved, text_order};
+pub use ranges::{comes_before, prefix_of};
 pub use tree_file::TreeFile;
 
 /// Out of memory: the one error whose cause no contract states.

@@ -17,8 +17,9 @@ use Rattle.dscript_ast.specs.FileTree as trees
 use Rattle.dscript_names_workspace.specs.Configs.{module_files, modules_list, resolver_at, resolvers, resolvers_list}
 use Rattle.dscript_names_workspace.specs.Lists.{ItemTree, One, Many, files_listed, items_of, concat_if_all, listed_by}
 use Rattle.dscript_names_workspace.specs.Modules.{DescriptionData, described}
-use Rattle.dscript_names_workspace.specs.Paths.{in_tree, is_below, is_empty, is_module_file, is_specification}
-use Rattle.dscript_names_workspace.proofs.FilePaths.{below_decides}
+use Rattle.dscript_names_workspace.specs.Paths.{in_tree, is_empty, is_module_file, is_specification}
+use Rattle.bx_tree.specs.Below.{is_below}
+use Rattle.bx_tree.proofs.Below.{below_decides}
 use Rattle.dscript_program.specs.SpecFaults.{FaultData}
 use Rattle.dscript_program.specs.Workspaces.{ModuleData}
 use Rattle.dscript_parse.specs.Reading.{Reading, Read, NoTokens, NoFile}
@@ -153,19 +154,19 @@ both_are false b e f = cc
 not_both : (dirs : List Atoms) (d e path : Atoms) → has_path dirs d ≡ true → has_path dirs e ≡ true → (d ≡ e → ⊥)
     → is_implied dirs d path ≡ true → is_implied dirs e path ≡ true → ⊥
 not_both dirs d e path h k apart i j =
-    let a = below_first (is_below d path) (is_specification path) (not (is_config path)) (not (is_module_file path)) (is_deeper dirs d path) i in
-    let b = below_first (is_below e path) (is_specification path) (not (is_config path)) (not (is_module_file path)) (is_deeper dirs e path) j in
-    let above = (below_decides d path).0 a.0 in
-    let above' = (below_decides e path).0 b.0 in
+    let a = below_first (is_below path d) (is_specification path) (not (is_config path)) (not (is_module_file path)) (is_deeper dirs d path) i in
+    let b = below_first (is_below path e) (is_specification path) (not (is_config path)) (not (is_module_file path)) (is_deeper dirs e path) j in
+    let above = (below_decides path d).0 a.0 in
+    let above' = (below_decides path e).0 b.0 in
     elim (comparable path d e above.0 above'.0 above.2 above'.2) [
       | inl same ↦ apart same
       | inr other ↦ elim other [
         | inl under ↦
             false≢true (sym b.1 ∙ some_of (is_between e path) dirs d h
-            (both_are (is_below e d) (is_below d path) ((below_decides e d).1 under) a.0))
+            (both_are (is_below d e) (is_below path d) ((below_decides d e).1 under) a.0))
         | inr over ↦
             false≢true (sym a.1 ∙ some_of (is_between d path) dirs e k
-            (both_are (is_below d e) (is_below e path) ((below_decides d e).1 over) b.0))
+            (both_are (is_below e d) (is_below path e) ((below_decides e d).1 over) b.0))
       ]
     ]
 

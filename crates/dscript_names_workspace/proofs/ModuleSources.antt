@@ -15,7 +15,8 @@ use Rattle.dscript_names_workspace.specs.Lists.{files_listed}
 use Rattle.dscript_names_workspace.specs.Modules.{DescriptionData, are_projects, described, described_by, is_semantics, name_in, optional_projects}
 use Rattle.dscript_names_workspace.specs.Modules.{projects_in, projects_of}
 use Rattle.dscript_names_workspace.specs.Objects.{field_named, object_with}
-use Rattle.dscript_names_workspace.specs.Paths.{in_tree, is_below, is_module_file, is_specification}
+use Rattle.dscript_names_workspace.specs.Paths.{in_tree, is_module_file, is_specification}
+use Rattle.bx_tree.specs.Below.{is_below}
 use Rattle.dscript_program.specs.Workspaces.{ModuleData}
 use Rattle.dscript_parse.specs.Reading.{Reading, Read, NoTokens, NoFile}
 use Rattle.dscript_names_workspace.specs.Membership.{dir_of, files_of_module, implied_files, is_config, is_deeper, is_implied}
@@ -129,9 +130,9 @@ one_named dir [] path h k = absurd (false≢true k)
 one_named dir (p ∷ ps) path h k = elim (cases_Bool (same_path p path)) [
   | inl same ↦
       ap is_specification (sym ((same_path_decides p path).0 same))
-      ∙ projects_named (is_below dir p) (is_specification p) (first (is_below dir p && is_specification p) (are_projects dir ps) h)
+      ∙ projects_named (is_below p dir) (is_specification p) (first (is_below p dir && is_specification p) (are_projects dir ps) h)
   | inr differ ↦
-      one_named dir ps path (rest (is_below dir p && is_specification p) (are_projects dir ps) h)
+      one_named dir ps path (rest (is_below p dir && is_specification p) (are_projects dir ps) h)
       (sym (ap (λ b. b || has_path ps path) differ) ∙ k)
 ]
   where
@@ -236,7 +237,7 @@ read_own files implied path (Read (trees.Module e)) h =
 implied_are : (files : Files) (dirs : List Atoms) (dir : Atoms) → AreSpecifications files (implied_files files dirs dir)
 implied_are files dirs dir =
     specifications_kept files (is_implied dirs dir) (λ path h.
-    implied_named (is_below dir path) (is_specification path) (not (is_config path)) (not (is_module_file path))
+    implied_named (is_below path dir) (is_specification path) (not (is_config path)) (not (is_module_file path))
     (not (is_deeper dirs dir path)) h)
 
 file_own : (files : Files) (dirs : List Atoms) (path : Atoms) (m : ModuleFile) → IsModuleFile files dirs path m → IsOwn files m

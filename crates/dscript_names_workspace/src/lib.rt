@@ -28,4 +28,4 @@ pub use laws::{
     files_are_own, modules_within_files, names_differ, no_file_is_shared, one_answer, some_answer,
 };
 pub use module::{Description, described};
-pub use paths::{is_below, is_module_file, is_specification, path_at};
+pub use paths::{is_module_file, is_specification, path_at};

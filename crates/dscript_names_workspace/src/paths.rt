@@ -2,7 +2,7 @@
 
 ghost use Rattle.std.specs.Prelude.{◌≡◌, ◌<◌, [], false, length, slice_index_or, MatchOption};
 ghost use Rattle.bx_tree.specs.Trees.{paths_of};
-ghost use Rattle.dscript_names_workspace.specs.Paths.{IsAt, is_below as lies_below, is_source};
+ghost use Rattle.dscript_names_workspace.specs.Paths.{IsAt, is_source};
 ghost use Rattle.dscript_names_workspace.specs.Paths.{is_module_file as names_module, is_specification as names_dsc};
 
 use bx_tree::{Path, Tree, text_order};
@@ -20,13 +20,6 @@ pub fn is_specification(path: &Path) -> bool
     ensures { result ≡ names_dsc path.now }
 {
     path.text().as_bytes().ends_with(b".dsc".as_slice())
-}
-
-/// Whether a path lies strictly below a directory.
-pub fn is_below(dir: &Path, path: &Path) -> bool
-    ensures { result ≡ lies_below dir.now path.now }
-{
-    path.is_below(dir)
 }
 
 /// The path of the file at this position.

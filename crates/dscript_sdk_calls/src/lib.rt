@@ -17,4 +17,4 @@ pub use assertions::{contract_assert, contract_fail};
 pub use cmd::{cmd_argument, cmd_flag, cmd_option};
 pub use globs::glob_files;
 pub use paths::path_bytes;
-pub use sources::{find_below, find_directly_in, find_files, lies_below};
+pub use sources::{find_below, find_directly_in, find_files};

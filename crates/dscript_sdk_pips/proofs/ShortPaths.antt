@@ -9,7 +9,8 @@ use Rattle.std.proofs.lemmas.Fmt.{decimal_by_steps, length-decimal-le}
 use Rattle.bx_tree.specs.Paths.{Atoms, IsAtom, IsPath, is_atom_byte, path_text}
 use Rattle.bx_tree.specs.declared.limits.TheConstants.{MAX_PATH_BYTES}
 use Rattle.bx_path.specs.Joining.{if_short, join_of, walk}
-use Rattle.bx_path.proofs.StepsOfTexts.{atoms_from_text, join-push, root_from_text, step_down}
+use Rattle.bx_path.proofs.StepsOfTexts.{join-push, step_down}
+use Rattle.bx_tree.proofs.PathTexts.{atoms_from_text, root_from_text}
 use Rattle.dscript_sdk_members.proofs.JoinedPaths.{differs}
 
 -- ## Short paths

@@ -21,7 +21,7 @@ use crate::file_sets::files_by_path;
 use crate::site::Site;
 use crate::state::SdkState;
 use bx_tree::{FileInput, Memory, Path, Tree};
-use dscript_sdk_calls::{find_below, lies_below};
+use dscript_sdk_calls::find_below;
 use dscript_sdk_values::{SdkFault, read_directory, read_list, two_arguments};
 use dscript_value::{StaticDir, Value};
 use pip_model_types::{FileInputs, PipKind, SealDesc, SealForm};
@@ -138,7 +138,7 @@ fn are_below(dir: &Path, files: &[FileInput]) -> bool
     ensures { result ≡ seals.are_below dir.now files.now }
 {
     'files: for file in files {
-        if !lies_below(dir, file.path()) {
+        if !file.path().is_below(dir) {
             return false;
         }
     }

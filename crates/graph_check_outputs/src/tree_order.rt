@@ -2,7 +2,7 @@
 ghost use Rattle.std.specs.Prelude.{◌≡◌, ◌↔◌, ◌≤◌, IsTrue, false, length, true};
 ghost use Rattle.std.specs.List.Sorted.{IsPartitionPoint};
 ghost use Rattle.std.specs.Ordering.{is_lt};
-ghost use Rattle.graph_check_outputs.specs.Outputs.{IsWithin};
+ghost use Rattle.bx_tree.specs.Below.{IsAtOrBelow};
 ghost use Rattle.graph_check_outputs.specs.TreeOrder.{IsInTreeOrder, byte_rank, text_order, tree_cmp};
 
 use bx_tree::Path;
@@ -38,7 +38,7 @@ pub(crate) fn tree_order(a: &Path, b: &Path) -> Ordering
 
 // Whether a path is a directory or lies below it.
 pub(crate) fn is_within(path: &Path, dir: &Path) -> bool
-    ensures { IsTrue result ↔ IsWithin path.now dir.now }
+    ensures { IsTrue result ↔ IsAtOrBelow path.now dir.now }
 {
     path.is_same(dir) || path.is_below(dir)
 }

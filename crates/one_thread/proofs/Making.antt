@@ -10,9 +10,9 @@ use Rattle.bx_tree.specs.Members.{Has}
 use Rattle.observed.specs.declared.access.Access.{Access}
 use Rattle.observed.specs.declared.access.End.{End}
 use Rattle.observed.specs.declared.access.End.TheVariants as ends
-use Rattle.tool_run_writes.specs.Below.{is_below}
-use Rattle.tool_run_writes.proofs.BelowByAtoms.{below_decides}
 use Rattle.tool_run_writes.proofs.Unnested.{put_has}
+use Rattle.bx_tree.specs.Below.{is_below}
+use Rattle.bx_tree.proofs.Below.{below_decides}
 use Rattle.pip_model_types.specs.declared.desc.Desc.{Desc}
 use Rattle.pip_model_types.specs.declared.outputs.OutDir.{OutDir}
 use Rattle.pip_model_types.specs.declared.pip.PipKind.TheVariants.{Process}

@@ -10,8 +10,8 @@ use Rattle.std.proofs.Math.Seq.{drop-cons}
 use Rattle.bx_tree.specs.Orders.{path_cmp_matches, same_path_decides}
 use Rattle.bx_tree.specs.Paths.{Atoms, path_cmp, same_path}
 use Rattle.bx_tree.specs.Trees.{Files}
-use Rattle.tool_run_writes.specs.Below.{is_below}
-use Rattle.tool_run_writes.proofs.DirectorySets.{any_append}
+use Rattle.bx_tree.specs.Below.{is_below}
+use Rattle.bx_path.proofs.Ancestors.{any_append}
 use Rattle.violations.specs.Slots.{slot_files}
 use Rattle.pip_model_types.specs.Made.{made_files}
 use Rattle.pip_model_types.specs.declared.made.MadeFile.{MadeFile}

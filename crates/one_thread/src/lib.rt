@@ -5,7 +5,6 @@
 //! the promises that the build is its definition, and that no output file lies below another or is there twice.
 #![tactic(auto)]
 
-mod above;
 mod build;
 mod ended;
 mod gathering;

@@ -9,10 +9,10 @@ use Rattle.std.proofs.lemmas.List.Kept.{IsStrictlySortedBy-filter}
 use Rattle.bx_tree.specs.Orders.{same_path_decides}
 use Rattle.bx_tree.specs.Paths.{Atoms, IsBelow, same_path}
 use Rattle.bx_tree.specs.Trees.{Files, file_at}
-use Rattle.tool_run_writes.specs.Below.{is_below, next_atom}
+use Rattle.bx_tree.specs.Below.{is_below, is_directly_in, next_atom}
 use Rattle.tool_run_writes.specs.Writes.{has_below, own_names}
-use Rattle.tool_run_writes.proofs.BelowByAtoms.{below_decides}
-use Rattle.tool_run_writes.proofs.NextAtoms.{none_next}
+use Rattle.bx_tree.proofs.Below.{below_decides}
+use Rattle.bx_tree.proofs.AtomsBelow.{none_next}
 use Rattle.pip_view_inputs.specs.Results.{ByPip, files_by}
 use Rattle.violations.specs.Producing.{dirs_at}
 use Rattle.pip_model_types.specs.Dirs.{RiseByForm, dir_cmp, dir_path, dir_pip}
@@ -23,7 +23,7 @@ use Rattle.pip_view_directories.specs.Around.{AreAround, IsAround}
 use Rattle.pip_view_directories.specs.Ranges.{AreOthers, is_other}
 use Rattle.pip_view_directories.proofs.Rising.{at_head, filter_from, filter_keeps, head_or_rest, in_decides, in_rest, is_in, some_by_test}
 use Rattle.pip_view.specs.Gathered.{members_of, opaque_members, opaque_of}
-use Rattle.pip_view.specs.InputFiles.{by_pip, insert_by_pip, is_directly_in, is_opaque, is_source_of}
+use Rattle.pip_view.specs.InputFiles.{by_pip, insert_by_pip, is_opaque, is_source_of}
 use Rattle.pip_view.specs.Seen.{KeepsView, SearchedAt, ViewData, is_sealed_at, lies_near, opaque_in}
 use Rattle.pip_view.proofs.ByPip.{insert_all}
 use Rattle.pip_view.proofs.NearFiles.{left_out, none_kept}

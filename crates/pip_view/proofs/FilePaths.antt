@@ -1,6 +1,6 @@
 -- The paths of files, but for the root.
 use Rattle.bx_tree.specs.Trees.{Files, IsTree, paths_of}
-use Rattle.pip_view.specs.Ranges.{AreFilePaths}
+use Rattle.bx_tree.specs.Ranges.{AreFilePaths}
 
 -- source files have no root among them
 pub tree_paths : (tree : Files) → IsTree tree → AreFilePaths (paths_of tree)

@@ -13,7 +13,7 @@ use Rattle.observed.specs.declared.access.Answer.TheVariants as answers
 use Rattle.observed.specs.declared.ask.Ask.{Ask}
 use Rattle.observed.specs.declared.ask.AskKind.{AskKind}
 use Rattle.observed.specs.declared.ask.AskKind.TheVariants as kinds
-use Rattle.tool_run_writes.specs.Below.{is_below, next_atom}
+use Rattle.bx_tree.specs.Below.{is_below, next_atom}
 use Rattle.tool_run_writes.specs.Writes.{has_below, own_names}
 use Rattle.violations.specs.Producing.{dirs_at, least_unseen}
 use Rattle.pip_model_types.specs.declared.pip.Pip.{Pip}

@@ -6,13 +6,13 @@ use Rattle.bx_tree.specs.Orders.{same_path_decides}
 use Rattle.bx_tree.specs.Paths.{Atoms, same_path}
 use Rattle.bx_tree.specs.Trees.{Files, file_at}
 use Rattle.bx_tree.specs.Members.{Has}
-use Rattle.tool_run_writes.specs.Below.{is_below, next_atom}
+use Rattle.bx_tree.specs.Below.{is_below, next_atom, is_directly_in}
 use Rattle.tool_run_writes.specs.Writes.{has_below, own_names}
 use Rattle.pip_model_types.specs.declared.dir_inputs.DirInput.{DirInput}
 use Rattle.pip_model_types.specs.declared.dir_inputs.DirInput.TheVariants.{Sealed, Opaque}
 use Rattle.pip_model_types.specs.declared.dir_inputs.SealForm.TheVariants.{Full, Partial, SourceTop, SourceAll}
 use Rattle.pip_model_types.specs.declared.pip.Pip.{Pip}
-use Rattle.pip_view.specs.InputFiles.{dir_members, is_directly_in, is_source, is_source_of}
+use Rattle.pip_view.specs.InputFiles.{dir_members, is_source, is_source_of}
 use Rattle.pip_view_inputs.specs.Results.{ByPip}
 
 -- ## Files of two lists

@@ -5,7 +5,7 @@ use Rattle.std.specs.List.{filter_map, flat_map, list_any, starts_with}
 use Rattle.bx_tree.specs.Paths.{Atoms, path_text, same_path}
 use Rattle.bx_tree.specs.declared.file_input.FileInput.{FileInput}
 use Rattle.bx_tree.specs.declared.file_input.FileInput.TheVariants.{Source}
-use Rattle.tool_run_writes.specs.Below.{is_below, next_atom}
+use Rattle.bx_tree.specs.Below.{is_below, next_atom}
 use Rattle.pip_model_types.specs.declared.dir_inputs.DirInput.{DirInput}
 use Rattle.pip_model_types.specs.declared.dir_inputs.DirInput.TheVariants.{Sealed, Opaque}
 use Rattle.pip_model_types.specs.declared.dir_inputs.SealForm.{SealForm}

@@ -5,15 +5,14 @@ ghost use Rattle.std.specs.List.{HoldsAt};
 ghost use Rattle.std.specs.List.Sorted.{IsPartitionPoint};
 ghost use Rattle.std.specs.Option.{option_copied};
 ghost use Rattle.bx_tree.specs.declared.file_input.FileInput.{FileInput as AnyFile};
-ghost use Rattle.tool_run_writes.specs.Below.{is_below as lies_below};
+ghost use Rattle.bx_tree.specs.Below.{is_below};
 ghost use Rattle.pip_model_types.specs.Inputs.{RiseByPath};
 ghost use Rattle.pip_view.specs.Taken.{any_below, begins as begins_with, first_at, taken_names, while_begins};
 ghost use Rattle.bx_tree.specs.Lent.{texts_now};
 ghost use Rattle.bx_tree.specs.FileInputs.{input_path};
-ghost use Rattle.bx_tree.specs.Ranges.{comes_before as path_before, prefix_below};
+ghost use Rattle.bx_tree.specs.Ranges.{comes_before, prefix_below};
 
-use crate::below::{comes_before, is_below, next_atom};
-use bx_tree::{FileInput, Memory, Path};
+use bx_tree::{FileInput, Memory, Path, comes_before, next_atom};
 
 fn place_of(files: &[FileInput], path: &Path) -> Option<usize>
     requires { RiseByPath files.now }
@@ -40,8 +39,8 @@ fn count_before(files: &[FileInput], prefix: &[u8]) -> usize
     requires { RiseByPath files.now }
     ensures bound { result ≤ length files.now }
     ensures before { IsPartitionPoint
-        (λ (file : AnyFile). path_before prefix.now (input_path file) ≡ true)
-        (λ (file : AnyFile). path_before prefix.now (input_path file) ≡ false)
+        (λ (file : AnyFile). comes_before prefix.now (input_path file) ≡ true)
+        (λ (file : AnyFile). comes_before prefix.now (input_path file) ≡ false)
         files.now result }
 {
     files.partition_point(|file| comes_before(file.path(), prefix))
@@ -51,8 +50,8 @@ fn count_before(files: &[FileInput], prefix: &[u8]) -> usize
 fn from_prefix<'a>(files: &'a [FileInput], prefix: &[u8], dir: &Path) -> &'a [FileInput]
     requires rising { RiseByPath files.now }
     requires prefix { prefix.now ≡ prefix_below dir.now }
-    ensures { filter (λ (f : AnyFile). lies_below (input_path f) dir.now) (while_begins prefix.now result.now)
-        ≡ filter (λ (f : AnyFile). lies_below (input_path f) dir.now) files.entry.now }
+    ensures { filter (λ (f : AnyFile). is_below (input_path f) dir.now) (while_begins prefix.now result.now)
+        ≡ filter (λ (f : AnyFile). is_below (input_path f) dir.now) files.entry.now }
 {
     let start = count_before(files, prefix);
     &files[start..]
@@ -73,7 +72,7 @@ fn any_first(files: &[FileInput], prefix: &[u8], dir: &Path) -> bool
         if !begins(file, prefix) {
             return false;
         }
-        if is_below(file.path(), dir) {
+        if file.path().is_below(dir) {
             return true;
         }
     }

@@ -14,10 +14,9 @@ ghost use Rattle.bx_tree.specs.Lent.{texts_now};
 ghost use Rattle.bx_tree.specs.Ranges.{prefix_below};
 
 use crate::Names;
-use crate::below::{is_below, next_atom, prefix_of};
 use crate::file_list::{add_below, file_at, has_below};
 use bx_digest::Blob;
-use bx_tree::{FileInput, Memory, Path};
+use bx_tree::{FileInput, Memory, Path, next_atom, prefix_of};
 use pip_model::{DirInput, FileInputs, Pip, PipKind, Plan, ProcessDesc, SealForm, Sources};
 use pip_view_directories::{near_dirs, searched};
 use pip_view_inputs::{Inputs, input_file, source_blob};
@@ -179,7 +178,7 @@ fn has_among(
     let prefix = prefix_of(alloc, dir)?;
     let files = process.files.files();
     Ok(
-        is_below(&process.exe, dir)
+        process.exe.is_below(dir)
             || has_below(files, prefix.as_slice(), dir)
             || has_listed(pips, dirs, prefix.as_slice(), dir),
     )

@@ -8,7 +8,7 @@ use Rattle.bx_tree.specs.Orders.{same_path_decides}
 use Rattle.bx_tree.specs.Members.{Has}
 use Rattle.bx_tree.proofs.Sets.{contains_has, has_contained}
 use Rattle.pip_model_types.specs.declared.outputs.OutDir.{OutDir}
-use Rattle.tool_run_writes.specs.Below.{is_below}
+use Rattle.bx_tree.specs.Below.{is_below}
 use Rattle.pip_model_types.specs.Outputs.{outdir_paths}
 
 pub any_dirs : (path : Atoms) (dirs : List OutDir) → list_any (λ (d : OutDir). is_below path d.path) dirs ≡ list_any (λ dir. is_below path dir) (outdir_paths dirs)

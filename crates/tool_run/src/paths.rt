@@ -5,7 +5,7 @@ ghost use Rattle.std.specs.Option.{option_copied};
 ghost use Rattle.bx_tree.specs.Paths.{same_path};
 ghost use Rattle.bx_path.specs.Joining.{join_of};
 ghost use Rattle.tool_run.specs.Described.{described};
-ghost use Rattle.tool_run_writes.specs.Below.{is_below as lies_below};
+ghost use Rattle.bx_tree.specs.Below.{is_below};
 ghost use Rattle.tool_run.specs.Description.{permits as permitted};
 ghost use Rattle.tool_run.specs.Description.{resolved as path_of_text};
 ghost use Rattle.pip_model_types.specs.Outputs.{is_console as console_at, outdir_paths};
@@ -66,13 +66,6 @@ pub(crate) fn resolved(alloc: Global, dir: &Path, text: &[u8]) -> Result<Option<
     }
 }
 
-// Whether a path lies strictly below a directory.
-fn is_below(path: &Path, dir: &Path) -> bool
-    ensures { result ≡ lies_below path.now dir.now }
-{
-    path.is_below(dir)
-}
-
 fn is_output(outputs: &Outputs, path: &Path) -> bool
     ensures { result ≡ list_any (λ out. same_path out path.now) outputs.now }
 {
@@ -80,16 +73,16 @@ fn is_output(outputs: &Outputs, path: &Path) -> bool
 }
 
 fn is_below_any(dirs: &[OutDir], path: &Path) -> bool
-    ensures { result ≡ list_any (λ dir. lies_below path.now dir.path) dirs.now }
+    ensures { result ≡ list_any (λ dir. is_below path.now dir.path) dirs.now }
 {
-    dirs.iter().any(|dir| is_below(path, &dir.path))
+    dirs.iter().any(|dir| path.is_below(&dir.path))
 }
 
 // Whether a path is one of these files or lies strictly below one of these directories.
 fn is_declared(outputs: &Outputs, dirs: &[OutDir], path: &Path) -> bool
     ensures { result
         ≡ (list_any (λ out. same_path out path.now) outputs.now
-        || list_any (λ dir. lies_below path.now dir) (outdir_paths dirs.now)) }
+        || list_any (λ dir. is_below path.now dir) (outdir_paths dirs.now)) }
 {
     let inside = is_below_any(dirs, path);
     inside || is_output(outputs, path)

@@ -7,7 +7,6 @@
 #![tactic(auto)]
 
 mod below;
-mod directories;
 mod writes;
 
 pub use writes::{Writes, with_file};

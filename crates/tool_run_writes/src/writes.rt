@@ -7,15 +7,15 @@ ghost use Rattle.std.specs.Option.{option_copied};
 ghost use Rattle.bx_tree.specs.Paths.{Atoms, path_cmp};
 ghost use Rattle.bx_tree.specs.Trees.{NoneNested, file_at, paths_of};
 ghost use Rattle.pip_model_types.specs.Made.{RisingFiles, made_files};
-ghost use Rattle.tool_run_writes.specs.Below.{is_below as lies_below};
+ghost use Rattle.bx_tree.specs.Below.{is_below};
 ghost use Rattle.tool_run_writes.specs.Writes.{clashes as some_clash, has_below as some_below, own_names};
 ghost use Rattle.tool_run_writes.specs.Writes.{AreDirectories, own_answer, put_file, with_file as and_file};
 ghost use Rattle.bx_tree.specs.Lent.{texts_now};
 
-use crate::below::{bounds_below, next_atom};
-use crate::directories::{add_directories, directories};
+use crate::below::bounds_below;
 use bx_digest::Blob;
-use bx_tree::Path;
+use bx_path::{add_directories, directories};
+use bx_tree::{Path, next_atom};
 use observed::{Answer, Ask, AskKind};
 use pip_model_types::{Made, MadeFile};
 use std::alloc::{AllocError, Global};
@@ -96,7 +96,7 @@ fn add_new_directories(
 ) -> Result<(), AllocError>
     requires { AreDirectories dirs.old files.now.entries }
     ensures { OnOk result ((q : Atoms) →
-        contains path_cmp dirs.new q ≡ (lies_below path.now q || some_below files.now.entries q)) }
+        contains path_cmp dirs.new q ≡ (is_below path.now q || some_below files.now.entries q)) }
 {
     if files.contains_key(path) {
         return Ok(());
@@ -165,7 +165,7 @@ impl Writes {
 
     // Whether a path lies strictly below a file that was written.
     fn has_file_above(&self, alloc: Global, path: &Path) -> Result<bool, AllocError>
-        ensures { IfOk result (λ yes. yes ≡ list_any (λ f. lies_below path.now f.0) self.now) }
+        ensures { IfOk result (λ yes. yes ≡ list_any (λ f. is_below path.now f.0) self.now) }
     {
         let above = directories(alloc, path)?;
         Ok(is_any_file(&self.files, above.as_slice()))

@@ -3,7 +3,7 @@ ghost use Rattle.std.specs.Prelude.{◌≡◌, true};
 ghost use Rattle.std.specs.List.{list_all, list_any};
 ghost use Rattle.std.specs.Option.{option_copied, option_map_or};
 ghost use Rattle.memo_format.specs.Entries.{OutputsRise, output_paths};
-ghost use Rattle.tool_run_writes.specs.Below.{is_below as lies_below};
+ghost use Rattle.bx_tree.specs.Below.{is_below};
 ghost use Rattle.two_phase_meaning.specs.Usable.{fits as all_fit, may_make as makes};
 ghost use Rattle.pip_model_types.specs.Outputs.{is_console as console_at};
 ghost use Rattle.bx_tree.specs.Paths.{has_path};
@@ -46,12 +46,6 @@ fn have_console(outputs: &[OutputLine], console: Option<&Path>) -> bool
     }
 }
 
-fn is_below(path: &Path, dir: &Path) -> bool
-    ensures { result ≡ lies_below path.now dir.now }
-{
-    path.is_below(dir)
-}
-
 fn is_output(outs: &Outputs, path: &Path) -> bool
     ensures { result ≡ has_path outs.now path.now }
 {
@@ -68,9 +62,9 @@ fn is_console(console: Option<&Path>, path: &Path) -> bool
 }
 
 fn is_below_any(dirs: &[OutDir], path: &Path) -> bool
-    ensures { result ≡ list_any (λ dir. lies_below path.now dir.path) dirs.now }
+    ensures { result ≡ list_any (λ dir. is_below path.now dir.path) dirs.now }
 {
-    dirs.iter().any(|dir| is_below(path, &dir.path))
+    dirs.iter().any(|dir| path.is_below(&dir.path))
 }
 
 // Whether a process may make a file at a path.

@@ -17,8 +17,8 @@ use Rattle.observed.specs.declared.access.End.TheVariants as ends
 use Rattle.pip_model_types.specs.declared.desc.Desc.{Desc}
 use Rattle.pip_model_types.specs.declared.outputs.OutDir.{OutDir}
 use Rattle.pip_model_types.specs.declared.pip.ProcessDesc.{ProcessDesc}
-use Rattle.tool_run_writes.specs.Below.{is_below}
 use Rattle.tool_run_writes.proofs.Unnested.{put_has}
+use Rattle.bx_tree.specs.Below.{is_below}
 use Rattle.tool_run.specs.Description.{Description, permits}
 use Rattle.tool_run.specs.Described.{described}
 use Rattle.tool_run.specs.Laws.{RunInvariant}

@@ -12,7 +12,7 @@ use Rattle.pip_model_types.specs.declared.pip.ProcessDesc.{ProcessDesc}
 use Rattle.observed.specs.declared.ask.Ask.{Ask}
 use Rattle.observed.specs.declared.access.Answer.{Answer}
 use Rattle.bx_io.specs.Holdings.{Holdings}
-use Rattle.tool_run_writes.specs.Below.{is_below}
+use Rattle.bx_tree.specs.Below.{is_below}
 use Rattle.prints.specs.Strong.{strong_parts, strong_text}
 use Rattle.memo_format.specs.Entries.{output_paths}
 use Rattle.memo_format.specs.Found.{output_lines}

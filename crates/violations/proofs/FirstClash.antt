@@ -7,7 +7,7 @@ use Rattle.std.proofs.lemmas.List.{drop_all}
 use Rattle.std.proofs.Math.Seq.{drop-cons}
 use Rattle.bx_tree.specs.Paths.{Atoms}
 use Rattle.bx_tree.specs.Trees.{Files, paths_of}
-use Rattle.tool_run_writes.specs.Below.{is_below}
+use Rattle.bx_tree.specs.Below.{is_below}
 use Rattle.violations.specs.Slots.{slot_files}
 use Rattle.pip_model_types.specs.Made.{made_files}
 use Rattle.pip_model_types.specs.declared.made.MadeFile.{MadeFile}

@@ -1,7 +1,6 @@
 //! Writes of two processes in shared directories that clash.
 ghost use Rattle.std.specs.Prelude.{◌≡◌, ◌≤◌, ◌<◌, ◌&&◌, None, IfOk, if◌then◌else◌, length, map, slice_get};
 ghost use Rattle.std.specs.List.{list_any};
-ghost use Rattle.tool_run_writes.specs.Below.{is_below as lies_below};
 ghost use Rattle.violations.specs.Slots.{slot_files};
 ghost use Rattle.pip_model_types.specs.Made.{made_files};
 ghost use Rattle.pip_model_types.specs.declared.made.MadeFile.{MadeFile as AnyFile};
@@ -34,13 +33,6 @@ fn outdirs_at(pips: &[Pip], pip: u32) -> &[OutDir]
     }
 }
 
-// Whether a path lies strictly below a directory.
-fn is_below(path: &Path, dir: &Path) -> bool
-    ensures { result ≡ lies_below path.now dir.now }
-{
-    path.is_below(dir)
-}
-
 // Whether one of the directories is shared.
 fn shares_any(dirs: &[OutDir]) -> bool
     ensures { result ≡ list_any (λ (dir : AnyDir). dir.shared) dirs.now }
@@ -53,14 +45,14 @@ fn is_shared(dirs: &[OutDir], path: &Path) -> bool
     ensures { result ≡ double_writes.is_shared dirs.now path.now }
 {
     dirs.iter()
-        .any(|dir| dir.shared && is_below(path, &dir.path))
+        .any(|dir| dir.shared && path.is_below(&dir.path))
 }
 
 // Whether two paths cannot both be those of files.
 fn is_clash(p: &Path, q: &Path) -> bool
     ensures { result ≡ double_writes.is_clash p.now q.now }
 {
-    *p == *q || is_below(p, q) || is_below(q, p)
+    *p == *q || p.is_below(q) || q.is_below(p)
 }
 
 // Whether one of the files, in a directory that is shared, clashes with a path.

@@ -2,7 +2,6 @@
 ghost use Rattle.std.specs.Prelude.{◌≡◌, ◌<◌, ◌&&◌, ◌==◌, IfSome, not, length, slice_get, get_or, take};
 ghost use Rattle.std.specs.List.{list_any};
 ghost use Rattle.bx_tree.specs.Paths.{same_path};
-ghost use Rattle.tool_run_writes.specs.Below.{is_below as lies_below};
 ghost use Rattle.pip_model.specs.Outputs.{numbers_from};
 ghost use Rattle.violations.specs.Least as least;
 ghost use Rattle.violations.specs.Least.{Covers, CoversAbove, Passes, Stays};
@@ -12,13 +11,6 @@ ghost use Rattle.pip_model_types.specs.Outputs.{is_console};
 
 use bx_tree::Path;
 use pip_model::{DirInput, OutDir, Outputs, Pip, PipKind, Plan};
-
-// Whether a path lies strictly below a directory.
-fn is_below(path: &Path, dir: &Path) -> bool
-    ensures { result ≡ lies_below path.now dir.now }
-{
-    path.is_below(dir)
-}
 
 fn is_dir_of(pip: u32, path: &Path, dir: &DirInput) -> bool
     ensures { result ≡ producing.is_dir_of pip path.now dir.now }
@@ -38,7 +30,7 @@ fn takes_dir(dirs: &[DirInput], pip: u32, path: &Path) -> bool
 fn is_unseen_in(dirs: &[DirInput], pip: u32, path: &Path, out: &OutDir) -> bool
     ensures { result ≡ producing.is_unseen_in dirs.now pip path.now out.now }
 {
-    is_below(path, &out.path) && !takes_dir(dirs, pip, &out.path)
+    path.is_below(&out.path) && !takes_dir(dirs, pip, &out.path)
 }
 
 fn is_unseen_in_any(dirs: &[DirInput], pip: u32, path: &Path, outs: &[OutDir]) -> bool

@@ -1,7 +1,7 @@
 use Rattle.std.proofs.Common.{◌∙◌}
 use Rattle.std.specs.List.{list_any}
 use Rattle.bx_tree.specs.Paths.{same_path}
-use Rattle.tool_run_writes.specs.Below.{is_below}
+use Rattle.bx_tree.specs.Below.{is_below}
 use Rattle.tool_run.proofs.Permitted.{any_dirs, not_outside, outside}
 use Rattle.tool_run.proofs.paths.is_declared.Goals as goal
 use Rattle.pip_model_types.specs.Outputs.{outdir_paths}

@@ -1,7 +1,7 @@
 use Rattle.std.proofs.Common.{◌≡◌, Bool, IfOk, ap, subst, sym, ◌∙◌}
 use Rattle.bx_tree.specs.Paths.{is_root}
 use Rattle.bx_tree.specs.Trees.{paths_of}
-use Rattle.pip_view.specs.Ranges.{AreFilePaths}
+use Rattle.bx_tree.specs.Ranges.{AreFilePaths}
 use Rattle.pip_view.specs.Seen.{ViewData}
 use Rattle.pip_view.proofs.FilePaths.{tree_paths}
 use Rattle.pip_view.proofs.Seeing.{directory_is}
