@@ -1,5 +1,5 @@
 use Rattle.std.proofs.Common.{◌≡◌, map, take}
-use Rattle.two_phase.proofs.lookups.answers_to.Given as goal
+use Rattle.observed.proofs.view.answers_to.Given as goal
 
 abbrev pub invariant-asks : goal.invariant-asks
 invariant-asks g l = record {
