@@ -1,11 +1,11 @@
 //! A folder of the system.
 
 ghost use Rattle.std.specs.Prelude.{◌≡◌, None, IfOk};
-ghost use Rattle.bx_io.specs.Causes.{counted};
 
 use bundle_folder::{
     Entry, Folder, FolderFault, Kind, ListFault, ReadFault, WriteFault, is_left_out,
 };
+use bx_io::one_more;
 use bx_tree::{MAX_FILE_BYTES, MAX_PATH_BYTES, Path};
 use std::alloc::{AllocError, Global};
 use std::fs::{self, DirEntry, File, FileType, OpenFile};
@@ -217,13 +217,6 @@ fn show<W: Write>(terminal: &mut Option<W>, deed: &str, path: &Path) {
             let _ = terminal.write_all(part.as_bytes());
         }
     }
-}
-
-// A count of faults with one more, up to the greatest `u64`.
-fn one_more(faults: u64) -> u64
-    ensures { result ≡ counted faults }
-{
-    faults.saturating_add(1)
 }
 
 impl<R: Files + AllocGlobal + Clone + Drop, W: Write + Drop> SystemFolder<R, W> {
