@@ -209,11 +209,11 @@ fn remove_of<R: Files + AllocGlobal>(rt: &R, path: &str) -> io::Result<()> {
 }
 
 // Names a file on a terminal, in place of the one before.
-fn show<W: Write>(terminal: &mut Option<W>, deed: &str, path: &Path) {
+fn show<W: Write>(terminal: &mut Option<W>, action: &str, path: &Path) {
     if let Some(terminal) = terminal {
         let text = path.text();
         let start = text.len().saturating_sub(SHOWN);
-        for part in ["\r\x1b[K", deed, text.get(start..).unwrap_or(text)] {
+        for part in ["\r\x1b[K", action, text.get(start..).unwrap_or(text)] {
             let _ = terminal.write_all(part.as_bytes());
         }
     }

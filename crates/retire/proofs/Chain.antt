@@ -1,4 +1,4 @@
--- Keeps of several records leave an honest store honest, and add their entries alone.
+-- Saves of several records leave an honest store honest, and add their entries alone.
 use Rattle.std.proofs.Common.{◌≡◌, ◌⊎◌, ℕ, List, [], ◌∷◌, ◌++◌, Option, Some, refl, sym, ap, ◌∙◌, subst, inl, inr, append-nil}
 use Rattle.std.specs.List.{AllByRecursion}
 use Rattle.observed.specs.Members.{Has}
@@ -9,12 +9,12 @@ use Rattle.memo_format.specs.StoreNames.{HoldsBlob, HoldsEntry}
 use Rattle.memo_format.specs.declared.entry.Entry.{Entry}
 use Rattle.run_record.specs.Collisions.{NoCollision}
 use Rattle.two_phase_meaning.specs.Honest.{Honest}
-use Rattle.two_phase_meaning.specs.Keeping.{ComparedInSave, IsGood, blobs_of, record_entry, record_selector, with_first}
+use Rattle.two_phase_meaning.specs.Saving.{ComparedInSave, IsGood, blobs_of, record_entry, record_selector, with_first}
 use Rattle.two_phase_meaning.proofs.Added.{contents_added, entries_added}
 use Rattle.two_phase.specs.Putting.{LeavesHonest, PutsUpTo}
 use Rattle.two_phase.proofs.Applied.{Made, made_of}
 use Rattle.two_phase.proofs.Prefixes.{leaves_honest}
-use Rattle.retire.specs.Keeping.{PutsEach}
+use Rattle.retire.specs.Saving.{PutsEach}
 
 same_some : {X : Type 0} (x y : X) → Some x ≡ Some y → x ≡ y
 same_some x y e = cc
