@@ -8,7 +8,7 @@ use Rattle.bx_engine_front.specs.declared.limits.Limits.{Limits}
 use Rattle.pip_model_types.specs.declared.pip.Pip.{Pip}
 use Rattle.two_phase_meaning.specs.Honest.{Honest}
 use Rattle.retire.specs.Builds.{IsFair, LeavesFair}
-use Rattle.retire.specs.Keeping.{OnlyPuts}
+use Rattle.retire.specs.Saving.{OnlyPuts}
 use Rattle.bx_engine.specs.Ends.{AreSources}
 use Rattle.bx_engine.specs.Stores.{FairWhere, StoreLeft}
 

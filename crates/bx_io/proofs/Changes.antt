@@ -14,15 +14,15 @@ pub after-append : (held : Holdings) (first next : List Change) → holdings_aft
 after-append held [] next = refl
 after-append held (change ∷ first) next = after-append (changed held change) first next
 
-kept_after-append : (kept : StoreState) (first next : List Change) → state_after kept (first ++ next) ≡ state_after (state_after kept first) next
-kept_after-append kept first next =
+state_after-append : (kept : StoreState) (first next : List Change) → state_after kept (first ++ next) ≡ state_after (state_after kept first) next
+state_after-append kept first next =
     let held = after-append kept.held first next in
     let changes : kept.changes ++ (first ++ next) ≡ (kept.changes ++ first) ++ next = sym (append_assoc kept.changes first next) in
     cc
 
 pub known_after-append : (known : Option StoreState) (first next : List Change) → known_after known (first ++ next) ≡ known_after (known_after known first) next
 known_after-append None first next = refl
-known_after-append (Some kept) first next = ap Some (kept_after-append kept first next)
+known_after-append (Some kept) first next = ap Some (state_after-append kept first next)
 
 pub known_after-nil : (known : Option StoreState) → known_after known [] ≡ known
 known_after-nil None = refl

@@ -22,11 +22,11 @@ pub struct Archive {
 
 impl Model for Archive {
     ghost use Rattle.bx_io.specs.Holdings.{StoreState};
-    ghost use Rattle.bx_io.specs.Kept.{kept_code};
+    ghost use Rattle.bx_io.specs.StoreCodes.{state_code};
 
     ghost Value = { StoreState };
 
-    ghost coded = { kept_code };
+    ghost coded = { state_code };
 
     ghost view = { λ s. record { held = s.held; changes = s.changes } };
 }

@@ -24,7 +24,7 @@ pub struct History {
 impl Model for History {
     ghost use Rattle.std.specs.Prelude.{List, map};
     ghost use Rattle.bx_io.specs.Holdings as specs;
-    ghost use Rattle.bx_io.specs.Kept.{changes_code};
+    ghost use Rattle.bx_io.specs.StoreCodes.{changes_code};
 
     ghost Value = { List specs.Change };
 

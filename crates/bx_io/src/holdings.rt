@@ -22,7 +22,7 @@ pub struct Holdings {
 
 impl Model for Holdings {
     ghost use Rattle.bx_io.specs.Holdings as specs;
-    ghost use Rattle.bx_io.specs.Kept.{holdings_code};
+    ghost use Rattle.bx_io.specs.StoreCodes.{holdings_code};
 
     ghost Value = { specs.Holdings };
 

@@ -30,7 +30,7 @@ mod source;
 mod stop_keeper;
 
 pub use fail_keeper::FailKeeper;
-pub use fault::Failed;
+pub use fault::{Failed, one_more};
 pub use gate::{Gate, OpenGate};
 pub use keeper::{Got, KeepReader, Keeper, Listed, PutFault};
 pub use laws::{changes_in_order, counts_with_a_bound};

@@ -17,11 +17,11 @@ pub struct NoFaultKeeper {
 
 impl Model for NoFaultKeeper {
     ghost use Rattle.bx_io.specs.Holdings.{StoreState};
-    ghost use Rattle.bx_io.specs.Kept.{kept_code};
+    ghost use Rattle.bx_io.specs.StoreCodes.{state_code};
 
     ghost Value = { StoreState };
 
-    ghost coded = { kept_code };
+    ghost coded = { state_code };
 
     ghost view = { λ k. k.archive };
 }

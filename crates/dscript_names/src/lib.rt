@@ -6,9 +6,10 @@
 //! `specs/Sizes.antt` gives each tree a size, which is at least what a walk through it counts and at most the number
 //! of its tokens. This crate depends on `dscript_ast` for the trees that it takes, on `dscript_program` for modules,
 //! for faults and for the trees that it gives, on `dscript_names_scopes` for targets of names, on
-//! `dscript_names_binding` for walks through trees, and on `dscript_grammar` for what tokens derive. It carries the
-//! promises that a workspace has one program, or is refused with its first fault, and that no number of 32 bits is
-//! wanting in a program whose files are of one bundle.
+//! `dscript_names_binding` for walks through trees, on `dscript_grammar` for what tokens derive, and on
+//! `dscript_names_workspace`, whose one call it re-exports. It carries the promises that a workspace has one program,
+//! or is refused with its first fault, and that no number of 32 bits is wanting in a program whose files are of one
+//! bundle.
 #![tactic(auto)]
 
 mod collecting;
@@ -23,6 +24,7 @@ mod resolving;
 mod seen;
 
 pub use counting_laws::{counts_are_bounded, program_counts_are_bounded};
+pub use dscript_names_workspace::find_workspace;
 pub use dscript_program::{
     BoundDecl, BoundExpr, BoundFile, BoundStmt, ModuleText, Program, SpecFault, SpecKind, Target,
     Workspace,

@@ -120,7 +120,7 @@ fn least_overlap(
 {
     let mut apart = 0;
     let mut overlapping = pips.len();
-    'halves: while overlapping - apart > 1 {
+    'bounds: while overlapping - apart > 1 {
         let middle = apart + (overlapping - apart) / 2;
         if has_overlap(alloc, claims, unshared, &pips[..middle])? {
             overlapping = middle;

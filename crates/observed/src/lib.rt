@@ -19,4 +19,4 @@ pub use ask::{Ask, AskKind};
 pub use bx_tree::Memory;
 pub use laws::{one_path_set, path_set_text};
 pub use path_set::{PathSet, SetFault};
-pub use view::View;
+pub use view::{View, answers_to};

@@ -1,5 +1,5 @@
 //! The strong text of what asks are answered.
-ghost use Rattle.std.specs.Prelude.{◌≡◌, ◌++◌, Err, IfOk, OnOk, Some, map};
+ghost use Rattle.std.specs.Prelude.{◌≡◌, ◌++◌, Err, IfOk, OnOk, Some};
 ghost use Rattle.sha2.specs.Sha256.{sha256};
 ghost use Rattle.prints.specs.Reading.{Gives};
 ghost use Rattle.prints.specs.Strong.{IsStrong, asked_parts, read_strong_text, strong_parts, strong_text};
@@ -13,7 +13,7 @@ use crate::part::append_digest;
 use crate::printed::Printed;
 use crate::strong_parts::{AnswerLine, AnswerLines, StrongParts};
 use bx_digest::{Digest, digest_of};
-use observed::{Answer, PathSet, View};
+use observed::{Answer, PathSet, View, answers_to};
 use std::alloc::{AllocError, Global};
 
 /// The strong text of the answers to the asks of a path set, by the digests of the weak text and of the path
@@ -36,23 +36,6 @@ pub fn strong_of(
     append_digest(alloc, &mut text, paths, b'\n')?;
     append_lines::<Answer, AnswerLine, AnswerKind>(alloc, &mut text, answers)?;
     Ok(Printed::of(text))
-}
-
-// What a view answers to the asks of a path set, in their order.
-fn answers_to<V: View>(
-    alloc: Global,
-    paths: &PathSet,
-    view: &mut V,
-) -> Result<Vec<Answer>, AllocError>
-    ensures answers { IfOk result (λ answers. answers.items ≡ map (V.answers view.old) paths.now) }
-    ensures same { V.answers view.new ≡ V.answers view.old }
-{
-    let mut answers = Vec::new(alloc);
-    let asks = paths.asks();
-    'asks: for ask in asks {
-        answers.push(view.ask(alloc, ask)?)?;
-    }
-    Ok(answers)
 }
 
 /// The strong text of what a view answers now to the asks of a path set, with its digest. The path set's text

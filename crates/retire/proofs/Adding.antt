@@ -19,7 +19,7 @@ use Rattle.run_record.specs.declared.outcome.Outcome.TheVariants.{Good, Failed}
 use Rattle.run_record.specs.declared.outcome.Cause.{Cause}
 use Rattle.run_record.specs.declared.outcome.Cause.TheVariants as causes
 use Rattle.run_record.specs.Digests.{IsReadBack}
-use Rattle.two_phase_meaning.specs.Keeping.{outcome_files}
+use Rattle.two_phase_meaning.specs.Saving.{outcome_files}
 use Rattle.two_phase_meaning.specs.Usable.{Usable}
 use Rattle.pip_view_inputs.specs.Plain.{desc_of, kind_process, process_in}
 use Rattle.pip_view_inputs.specs.Results.{inputs_of}
@@ -37,7 +37,7 @@ use Rattle.retire.specs.Runs.{IsOfSuccess, RunsAs, SucceedsAt}
 use Rattle.retire.proofs.SoFar.{process_there}
 use Rattle.retire.specs.Deciding as deciding
 use Rattle.retire.specs.Deciding.{DecidedBy, Decides}
-use Rattle.retire.specs.Taking.{IsOfNow, TakesFrom, kept_if, outcome_in, record_in}
+use Rattle.retire.specs.Taking.{IsOfNow, TakesFrom, save_if, outcome_in, record_in}
 use Rattle.retire.specs.declared.deciding.Next.{Next}
 use Rattle.retire.specs.declared.taking.Taken.{Taken}
 use Rattle.retire.specs.declared.taking.Taken.TheVariants as takings
@@ -94,9 +94,9 @@ pub success_good : (pips : List Pip) (tree : Files) (made : List Files) (i : ℕ
 success_good pips tree made i o r is good =
     outcome_good pips tree made i o (ap (λ (x : Result). is_success x.verdict) (sym is) ∙ good)
 
-pub kept_none : (b : Bool) → kept_if b None ≡ None
-kept_none true = refl
-kept_none false = refl
+pub save_none : (b : Bool) → save_if b None ≡ None
+save_none true = refl
+save_none false = refl
 
 -- ## One pip
 
@@ -149,7 +149,7 @@ module _ (pips : List Pip) (tree : Files) (budget : ℕ) (n : ℕ) (vs : List Ve
       (is_good : SucceedsAt pips tree budget n → is_success next.ended.verdict ≡ true) where
     by_run : (p : ProcessDesc) (f : Facts) → pip.kind ≡ Process p → slots_are_good pips (Process p) ss ≡ true → IsRun f (desc_now p) (view_now p) → Sound f
         → ended_result next.ended ≡ by_outcome pips tree (map slot_files ss) n f.outcome → (b : Bool) → is_success next.ended.verdict ≡ b
-        → next.kept ≡ kept_if b (Some f) → Adds pips tree budget S n next.kept
+        → next.saved ≡ save_if b (Some f) → Adds pips tree budget S n next.saved
     by_run p f is good run sound result true e kept =
         one f kept (record {
           pip = n;
@@ -165,9 +165,9 @@ module _ (pips : List Pip) (tree : Files) (budget : ℕ) (n : ℕ) (vs : List Ve
 
     by_taken : (p : ProcessDesc) (t : Taken) → pip.kind ≡ Process p → slots_are_good pips (Process p) ss ≡ true → TakesFrom S (desc_now p) (view_now p) t → IsOfNow (desc_now p) (view_now p) t
         → ended_result next.ended ≡ by_outcome pips tree (map slot_files ss) n (outcome_in t)
-        → next.kept ≡ kept_if (is_success next.ended.verdict) (record_in t) → Adds pips tree budget S n next.kept
+        → next.saved ≡ save_if (is_success next.ended.verdict) (record_in t) → Adds pips tree budget S n next.saved
     by_taken p (takings.Hit found) is good takes now result kept =
-        nothing (kept ∙ kept_none (is_success next.ended.verdict)) (λ d see r yes.
+        nothing (kept ∙ save_none (is_success next.ended.verdict)) (λ d see r yes.
         let same = only_run pip p at is d see r in
         let there : Usable S (desc_now p) (view_now p) × IsReadBack (desc_now p) = (hit_usable S (desc_now p) (view_now p) found takes.0, takes.1) in
         subst (λ (v : Ask → Answer). Usable S d v × IsReadBack d) same.1
@@ -177,7 +177,7 @@ module _ (pips : List Pip) (tree : Files) (budget : ℕ) (n : ℕ) (vs : List Ve
     by_taken p (takings.Faulted f) is good takes now result kept =
         by_run p f is good now.1 now.0 result (is_success next.ended.verdict) refl kept
 
-    pub added_by : Decides pips tree budget (Some S) ss n pip.kind next → Adds pips tree budget S n next.kept
+    pub added_by : Decides pips tree budget (Some S) ss n pip.kind next → Adds pips tree budget S n next.saved
     added_by (deciding.skipped e d) =
         nothing d.record_is (λ x see r yes.
         absurd (not_true (slots_are_good pips pip.kind ss) e

@@ -1,4 +1,4 @@
--- Keeps of several records leave an honest store honest, and add their entries alone.
+-- Saves of several records leave an honest store honest, and add their entries alone.
 use Rattle.std.proofs.Common.{◌≡◌, ◌⊎◌, ℕ, List, [], ◌∷◌, ◌++◌, Option, Some, refl, sym, ap, ◌∙◌, subst, inl, inr, append-nil}
 use Rattle.std.specs.List.{AllByRecursion}
 use Rattle.std.proofs.lemmas.Option.{same_Some}
@@ -10,12 +10,12 @@ use Rattle.memo_format.specs.StoreNames.{HoldsBlob, HoldsEntry}
 use Rattle.memo_format.specs.declared.entry.Entry.{Entry}
 use Rattle.run_record.specs.Collisions.{NoCollision}
 use Rattle.two_phase_meaning.specs.Honest.{Honest}
-use Rattle.two_phase_meaning.specs.Keeping.{ComparedInSave, IsGood, blobs_of, record_entry, record_selector, with_first}
+use Rattle.two_phase_meaning.specs.Saving.{ComparedInSave, IsGood, blobs_of, record_entry, record_selector, with_first}
 use Rattle.two_phase_meaning.proofs.Added.{contents_added, entries_added}
 use Rattle.two_phase.specs.Putting.{LeavesHonest, PutsUpTo}
 use Rattle.two_phase.proofs.Applied.{Made, made_of}
 use Rattle.two_phase.proofs.Prefixes.{leaves_honest}
-use Rattle.retire.specs.Keeping.{PutsEach}
+use Rattle.retire.specs.Saving.{PutsEach}
 
 -- a prefix of two lists joined: of the first, or the first and a prefix of the next
 prefix_cases : (start xs ys : List Change) → IsPrefix start (xs ++ ys) → IsPrefix start xs ⊎ ((rest : List Change) × (start ≡ xs ++ rest) × IsPrefix rest ys)

@@ -125,13 +125,13 @@ module _ (pips : List Pip) (tree : Files) (budget : ℕ) (S : Holdings) (fair : 
     last : slice_get (adding.all_verdicts pips tree budget) n ≡ Some next.ended.verdict
     last = verdict_last pips tree budget n vs ss next.ended.verdict next.ended.slot so.so_far.verdicts so.so_far.slots so_far_more
 
-    added : Adds pips tree budget S n next.kept
+    added : Adds pips tree budget S n next.saved
     added =
         added_by pips tree budget n vs ss so.so_far S pip next at (verdict_success pips tree budget n next.ended.verdict last)
         (success_verdict pips tree budget n next.ended.verdict last) d
 
-    step_by : Adds pips tree budget S n next.kept
-        → FollowsTo pips tree budget S (n + 1) new_vs new_ss (fs ++ option_to_list next.kept) (hits + one_hit next.way) (faults + one_fault next.way)
+    step_by : Adds pips tree budget S n next.saved
+        → FollowsTo pips tree budget S (n + 1) new_vs new_ss (fs ++ option_to_list next.saved) (hits + one_hit next.way) (faults + one_fault next.way)
     step_by (adding.nothing none there) = record {
       so_far = so_far_more;
       spares = spares_more;
@@ -140,7 +140,7 @@ module _ (pips : List Pip) (tree : Files) (budget : ℕ) (S : Holdings) (fair : 
           (between_more pips tree budget 0 n fs so.successes);
       sounds = subst (AllByRecursion Sound) (sym (append-nil fs) ∙ ap (λ (o : Option Facts). fs ++ option_to_list o) (sym none)) so.sounds;
       all_there = λ i d' see l runs succeeds. elim (adding.below_or_at i n l) [
-        | inl less ↦ there_before S fs (option_to_list next.kept) d' see (so.all_there i d' see less runs succeeds)
+        | inl less ↦ there_before S fs (option_to_list next.saved) d' see (so.all_there i d' see less runs succeeds)
         | inr same ↦
             inl (there d' see (subst (λ k. RunsAs pips tree budget k d' see) same runs) (subst (SucceedsAt pips tree budget) same succeeds))
       ];
@@ -153,7 +153,7 @@ module _ (pips : List Pip) (tree : Files) (budget : ℕ) (S : Holdings) (fair : 
           (between_one pips tree budget 0 n fs f s number so.successes);
       sounds = subst (AllByRecursion Sound) (ap (λ (o : Option Facts). fs ++ option_to_list o) (sym kept)) (all_and Sound fs f so.sounds sound);
       all_there = λ i d' see l runs succeeds. elim (adding.below_or_at i n l) [
-        | inl less ↦ there_before S fs (option_to_list next.kept) d' see (so.all_there i d' see less runs succeeds)
+        | inl less ↦ there_before S fs (option_to_list next.saved) d' see (so.all_there i d' see less runs succeeds)
         | inr same ↦
             let is = there d' see (subst (λ k. RunsAs pips tree budget k d' see) same runs) in
             inr (f, subst (λ (gs : List Facts). Has gs f) (ap (λ (o : Option Facts). fs ++ option_to_list o) (sym kept)) (has_last fs f), is.0, is.1)
@@ -161,7 +161,7 @@ module _ (pips : List Pip) (tree : Files) (budget : ℕ) (S : Holdings) (fair : 
     }
 
   pub follows_more : (o : Option Pip) → slice_get pips n ≡ o → DecidesAt pips tree budget (Some S) ss n o next
-      → FollowsTo pips tree budget S (n + 1) new_vs new_ss (fs ++ option_to_list next.kept) (hits + one_hit next.way) (faults + one_fault next.way)
+      → FollowsTo pips tree budget S (n + 1) new_vs new_ss (fs ++ option_to_list next.saved) (hits + one_hit next.way) (faults + one_fault next.way)
   follows_more None at d = absurd d
   follows_more (Some pip) at d = step_by pip at d (added pip at d)
 

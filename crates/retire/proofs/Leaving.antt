@@ -19,7 +19,7 @@ use Rattle.memo_format.specs.declared.selector.Selector.{Selector}
 use Rattle.prints.specs.Strong.{strong_parts, strong_text}
 use Rattle.run_record.specs.Digests.{IsReadBack, weak_of}
 use Rattle.two_phase_meaning.specs.Contents.{HoldsPaths}
-use Rattle.two_phase_meaning.specs.Keeping.{answers_text, paths_digest, record_selector}
+use Rattle.two_phase_meaning.specs.Saving.{answers_text, paths_digest, record_selector}
 use Rattle.two_phase_meaning.specs.Compared as met
 use Rattle.two_phase_meaning.specs.Usable.{Usable, UsableAt, asked_text}
 use Rattle.two_phase_meaning.proofs.Stays.{at_one, usable_at}
@@ -30,11 +30,11 @@ use Rattle.retire.proofs.SoFar.{process_there, run_met, success_met}
 use Rattle.retire.proofs.SuccessFits.{success_fits}
 use Rattle.retire.specs.Builds.{Between, IsFair, LeavesFair, LeavesUsable}
 use Rattle.retire.specs.Deciding.{FollowsAll, IsThere}
-use Rattle.retire.specs.Keeping.{PutsAllEach, PutsFirst}
+use Rattle.retire.specs.Saving.{PutsAllEach, PutsFirst}
 use Rattle.retire.proofs.Chain.{IsReady, Leaves, chain}
 use Rattle.retire.proofs.Others.{NoneAt, all_others, none_is, spelled_each}
 use Rattle.retire.proofs.Records.{all_successes}
-use Rattle.retire.proofs.Stay.{kept_stays, stay}
+use Rattle.retire.proofs.Stay.{saved_stays, stay}
 
 -- ## Lists of records
 
@@ -121,13 +121,13 @@ module _ (pips : List Pip) (tree : Files) (budget : ℕ) (before : StoreState) (
     spelled : AllByRecursion (λ (f : Facts). IsReadBack f.desc) fs
     spelled = spelled_each (Some before) now fs puts
 
-    -- what was kept is usable
+    -- what was saved is usable
     by_record : (f : Facts) → Has fs f → IsOfSuccess pips tree budget f → (see : Ask → Answer) → f.answers ≡ map see f.paths → Usable kept.held f.desc see
     by_record f has s see answers =
         let text : answers_text f ≡ asked_text f.desc see (paths_digest f) f.paths =
         ap (λ (as' : List Answer). strong_text (strong_parts (weak_of f.desc) (paths_digest f) as')) answers in
         usable_at kept.held f.desc see (record_selector f) f.paths
-        (kept_stays (Compared pips tree budget before.held) fair.apart fs before now ready
+        (saved_stays (Compared pips tree budget before.held) fair.apart fs before now ready
         (all_others pips tree list keeps free budget before.held fair.apart fs 0 follows.high follows.successes spelled)
         (λ x held. inl held) puts f has (success_fits pips tree budget list f s keeps (one_of_all Sound fs f follows.sounds has)) see answers
         (success_met pips tree budget before.held f s (asked_text f.desc see (paths_digest f) f.paths) (inr (inr (inl text)))) kept is)

@@ -1,4 +1,4 @@
--- Keeps, one after another.
+-- Saves, one after another.
 use Rattle.std.proofs.Common.{◌≡◌, ℕ, zero, suc, ◌+◌, ◌<◌, ◌≤◌, List, [], ◌∷◌, ◌++◌, get_or, length, take, Option, refl, sym, ap, ◌∙◌, subst, arith}
 use Rattle.std.specs.Prelude.{IsSome}
 use Rattle.std.specs.List.{AllByRecursion}
@@ -8,7 +8,7 @@ use Rattle.bx_io.proofs.Changes.{rose_by_one}
 use Rattle.run_record.specs.Facts.{Facts}
 use Rattle.two_phase.specs.Calls.{KeeperCall}
 use Rattle.two_phase.specs.Putting.{PutsAll, PutsUpTo}
-use Rattle.retire.specs.Keeping.{PutsAllEach, PutsEach, PutsFirst}
+use Rattle.retire.specs.Saving.{PutsAllEach, PutsEach, PutsFirst}
 
 each_more : (fs : List Facts) (f : Facts) (before between now : Option StoreState) → PutsEach before fs between → PutsUpTo between now f → PutsEach before (fs ++ f ∷ []) now
 each_more [] f before between now same put = (now, subst (λ (k : Option StoreState). PutsUpTo k now f) same put, refl)

@@ -10,7 +10,7 @@ use Rattle.prints.specs.Strong.{strong_parts, strong_text}
 use Rattle.run_record.specs.Collisions.{contents_of}
 use Rattle.run_record.specs.Digests.{weak_of}
 use Rattle.two_phase_meaning.specs.Contents.{desc_contents, given_contents}
-use Rattle.two_phase_meaning.specs.Keeping.{IsGood, blobs_of, outcome_files, paths_digest}
+use Rattle.two_phase_meaning.specs.Saving.{IsGood, blobs_of, outcome_files, paths_digest}
 use Rattle.two_phase_meaning.specs.Compared as met
 use Rattle.two_phase_meaning.specs.Compared.{ComparedInRun, own_paths}
 

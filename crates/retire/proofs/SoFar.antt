@@ -14,7 +14,7 @@ use Rattle.pip_model_types.specs.declared.pip.ProcessDesc.{ProcessDesc}
 use Rattle.observed.specs.declared.ask.Ask.{Ask}
 use Rattle.observed.specs.declared.access.Answer.{Answer}
 use Rattle.run_record.specs.Facts.{Facts}
-use Rattle.two_phase_meaning.specs.Keeping.{blobs_of}
+use Rattle.two_phase_meaning.specs.Saving.{blobs_of}
 use Rattle.two_phase_meaning.specs.Compared.{ComparedInRun}
 use Rattle.pip_view_inputs.specs.Plain.{kind_process, process_in}
 use Rattle.one_thread.specs.OneThread.{Result, on_from, result_of}

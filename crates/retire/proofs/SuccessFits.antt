@@ -25,7 +25,7 @@ use Rattle.one_thread.proofs.EachResult.{number_of_results, result_of_all, resul
 use Rattle.one_thread.proofs.Meeting.{kept_apart}
 use Rattle.one_thread.specs.Keeping.{AreOwnOutputs}
 use Rattle.one_thread.proofs.OneResult.{kept_result}
-use Rattle.two_phase_meaning.specs.Keeping.{FilesFit, outcome_files}
+use Rattle.two_phase_meaning.specs.Saving.{FilesFit, outcome_files}
 use Rattle.two_phase_meaning.proofs.FilesFit.{files_fit, paths_lines}
 use Rattle.retire.specs.Compared.{view_after}
 use Rattle.retire.specs.Runs.{IsOfSuccess, results_before}

@@ -23,7 +23,7 @@ use Rattle.one_thread.specs.OneThread.{all_made, made_by, one_thread, outputs_of
 use Rattle.retire.specs.Runs.{NoneReserved}
 use Rattle.retire.specs.Builds.{Fair, IsFair, LeavesFair, LeavesUsable, RunsLate, Spares}
 use Rattle.retire.specs.Deciding.{FollowsAll}
-use Rattle.retire.specs.Keeping.{IsSuccess, OnlyPuts, PutsAllEach, PutsFirst}
+use Rattle.retire.specs.Saving.{IsSuccess, OnlyPuts, PutsAllEach, PutsFirst}
 use Rattle.retire.specs.Reading.{ReadsOn}
 use Rattle.retire.proofs.Leaving.{leaves_fair, leaves_usable}
 
@@ -80,14 +80,14 @@ leaves_same pips tree budget before now is fair = record {
 pub none_put : (known : Option StoreState) → OnlyPuts known known
 none_put known = ([], tt, record { number = 0; each = refl })
 
--- the records that are kept are of successes
+-- the records that are saved are of successes
 pub only_put : (old now : Option StoreState) (fs given : List Facts) → AllByRecursion IsSuccess fs → given ≡ fs → PutsFirst old given now → OnlyPuts old now
 only_put old now fs given good same puts = (fs, good, subst (λ (gs : List Facts). PutsFirst old gs now) same puts)
 
-pub leaves_kept : (pips : List Pip) (tree : Files) (budget : ℕ) (before : StoreState) (old now : Option StoreState) (vs : List Verdict) (ss : List Slot) (fs given : List Facts)
+pub leaves_saved : (pips : List Pip) (tree : Files) (budget : ℕ) (before : StoreState) (old now : Option StoreState) (vs : List Verdict) (ss : List Slot) (fs given : List Facts)
     (hits faults : ℕ) → old ≡ Some before → FollowsAll pips tree budget before.held vs ss fs hits faults → IsFair pips tree budget before.held → given ≡ fs
     → PutsFirst old given now → LeavesFair pips tree budget before now
-leaves_kept pips tree budget before old now vs ss fs given hits faults is follows fair same puts =
+leaves_saved pips tree budget before old now vs ss fs given hits faults is follows fair same puts =
     leaves_fair pips tree budget before vs ss fs hits faults follows fair now
     (subst (λ (k : Option StoreState). PutsFirst k fs now) is (subst (λ (gs : List Facts). PutsFirst old gs now) same puts))
 

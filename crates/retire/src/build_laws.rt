@@ -15,7 +15,7 @@ ghost use Rattle.run_record.specs.Digests.{IsReadBack, weak_of};
 ghost use Rattle.run_record.specs.Facts.{Facts, Sound};
 ghost use Rattle.one_thread.specs.OneThread.{one_thread, run_count, verdicts_of};
 ghost use Rattle.violations.specs.Verdicts.{is_success};
-ghost use Rattle.two_phase_meaning.specs.Keeping.{FilesFit, blobs_of};
+ghost use Rattle.two_phase_meaning.specs.Saving.{FilesFit, blobs_of};
 ghost use Rattle.two_phase_meaning.specs.Compared.{ComparedInRun};
 ghost use Rattle.retire.specs.HitSet.{IsHitSet};
 ghost use Rattle.retire.specs.Compared.{Compared};

@@ -11,8 +11,8 @@
 mod build_laws;
 mod counting;
 mod deciding;
-mod keeping;
 mod retiring;
+mod saving;
 mod taking;
 
 pub use build_laws::{

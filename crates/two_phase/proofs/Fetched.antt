@@ -21,7 +21,7 @@ use Rattle.content_store.specs.HeldEntries.{FetchesEntry, IsHeld}
 use Rattle.content_store.specs.declared.content.Fetched.TheVariants as fetched
 use Rattle.content_store.specs.declared.entries.FetchedEntry.TheVariants as fetched_entries
 use Rattle.two_phase_meaning.specs.Contents.{HoldsPaths}
-use Rattle.two_phase_meaning.specs.Keeping.{or_none, selectors_in}
+use Rattle.two_phase_meaning.specs.Saving.{or_none, selectors_in}
 use Rattle.run_record.specs.Digests.{weak_of}
 use Rattle.two_phase_meaning.specs.Usable.{fits}
 use Rattle.two_phase.specs.Putting.{IsListAt}

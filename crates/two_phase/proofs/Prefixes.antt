@@ -15,8 +15,8 @@ use Rattle.content_store.specs.Contents.{blob_put}
 use Rattle.two_phase_meaning.specs.Honest.{Honest}
 use Rattle.run_record.specs.Collisions.{NoCollision}
 use Rattle.run_record.specs.Digests.{weak_of}
-use Rattle.two_phase_meaning.proofs.Puts as keeping
-use Rattle.two_phase_meaning.specs.Keeping.{ComparedInSave, IsGood, list_at, record_selector, same_selector, with_first}
+use Rattle.two_phase_meaning.proofs.Puts as saving
+use Rattle.two_phase_meaning.specs.Saving.{ComparedInSave, IsGood, list_at, record_selector, same_selector, with_first}
 use Rattle.two_phase.specs.Applying.{AppliesAll, AppliesPrefix}
 use Rattle.two_phase.specs.Putting.{IsListAt, IsNextList, IsWritten, LeavesHonest, PutsAll, PutsUpTo, all_puts, planned, written_selector}
 use Rattle.two_phase.specs.declared.recording.Written.{Written}
@@ -134,5 +134,5 @@ leaves_honest before now f sound good puts honest apart =
       | inl none ↦
           subst (λ (cs : List Change). Honest (holdings_after before.held cs)) (sym (nothing_before start (subst (IsPrefix start) none p))) honest
       | inr spelled ↦
-          keeping.keeps before.held f honest sound good spelled apart (with_first (record_selector f) puts.old) start (prefix_of_prefix start puts.first (planned f puts.old) p puts.is_first)
+          saving.puts_stay_honest before.held f honest sound good spelled apart (with_first (record_selector f) puts.old) start (prefix_of_prefix start puts.first (planned f puts.old) p puts.is_first)
     ]

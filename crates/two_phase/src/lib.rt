@@ -11,13 +11,13 @@
 mod fetching;
 mod fitting;
 mod held;
-mod keeping;
 mod laws;
 mod lookups;
 mod recording;
+mod saving;
 mod store_fault;
 
 pub use held::HeldContents;
-pub use keeping::{SaveResult, keep};
-pub use laws::keeps_honest;
+pub use laws::saves_stay_honest;
 pub use lookups::{LookupResult, lookup};
+pub use saving::{SaveResult, keep};

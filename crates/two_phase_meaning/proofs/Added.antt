@@ -14,7 +14,7 @@ use Rattle.memo_format.specs.declared.entry.Entry.{Entry}
 use Rattle.memo_format.specs.declared.selector.Selector.{Selector}
 use Rattle.content_store.specs.Contents.{blob_put}
 use Rattle.run_record.specs.Digests.{weak_of}
-use Rattle.two_phase_meaning.specs.Keeping.{Spelled, answers_text, blobs_of, entry_put, list_put, puts_of, record_entry}
+use Rattle.two_phase_meaning.specs.Saving.{Spelled, answers_text, blobs_of, entry_put, list_put, puts_of, record_entry}
 use Rattle.two_phase_meaning.proofs.Digests.{blob_no_entry, blob_no_list, entry_no_blob, entry_no_list}
 use Rattle.two_phase_meaning.proofs.Puts.{cut, put_or_old}
 

@@ -1,4 +1,4 @@
--- What was kept is usable.
+-- What was saved is usable.
 use Rattle.std.proofs.Common.{◌≡◌, ℕ, zero, suc, ◌≤◌, Bool, true, false, cond, List, [], ◌∷◌, ◌++◌, map, take, length, Option, Some, None, refl, sym, ap, subst, inl, inr, arith}
 use Rattle.std.specs.Prelude.{filter, not}
 use Rattle.std.specs.FinMap.{get, insert}
@@ -22,7 +22,7 @@ use Rattle.run_record.proofs.Digest.{is_digest}
 use Rattle.run_record.specs.Collisions.{NoCollision, contents_of}
 use Rattle.run_record.specs.Digests.{weak_of}
 use Rattle.two_phase_meaning.specs.Contents.{HoldsAll, desc_contents, given_contents}
-use Rattle.two_phase_meaning.specs.Keeping.{ComparedInSave, FilesFit, Spelled, answers_text, blobs_of, entry_put, list_at, list_put, or_none, outcome_files, paths_digest, puts_of, record_entry, record_selector, same_selector, selectors_in, with_first}
+use Rattle.two_phase_meaning.specs.Saving.{ComparedInSave, FilesFit, Spelled, answers_text, blobs_of, entry_put, list_at, list_put, or_none, outcome_files, paths_digest, puts_of, record_entry, record_selector, same_selector, selectors_in, with_first}
 use Rattle.two_phase_meaning.specs.Usable.{UsableAt, UsableBy}
 use Rattle.two_phase_meaning.proofs.Digests.{entry_no_list}
 use Rattle.two_phase_meaning.proofs.Puts.{blobs_held, entry_grows, list_grows, still_there, there_now}
@@ -123,7 +123,7 @@ module _ (S : Holdings) (f : Facts) (spelled : Spelled f) (apart : NoCollision (
     asks_are = (first_usable see now).1;
   }
 
-  pub kept : (see : Ask → Answer) → f.answers ≡ map see f.paths → UsableAt (holdings_after S (puts_of f list)) f.desc see (record_selector f) f.paths
-  kept see now =
+  pub saved_is_usable : (see : Ask → Answer) → f.answers ≡ map see f.paths → UsableAt (holdings_after S (puts_of f list)) f.desc see (record_selector f) f.paths
+  saved_is_usable see now =
       subst (λ (T : Holdings). UsableAt T f.desc see (record_selector f) f.paths)
       (sym (after-append S (map blob_put (blobs_of f)) (entry_put f ∷ list_put f list ∷ []))) (usable see now)

@@ -32,7 +32,7 @@ use Rattle.run_record.specs.declared.outcome.Outcome.TheVariants.{Good, Failed}
 use Rattle.run_record.specs.declared.outcome.Cause.TheVariants as causes
 use Rattle.memo_format.specs.Entries.{output_paths}
 use Rattle.memo_format.specs.Found.{output_lines}
-use Rattle.two_phase_meaning.specs.Keeping.{IsGood, outcome_files}
+use Rattle.two_phase_meaning.specs.Saving.{IsGood, outcome_files}
 use Rattle.two_phase_meaning.specs.Usable.{fits, may_make}
 use Rattle.pip_model_types.specs.Outputs.{is_console, outdir_paths}
 

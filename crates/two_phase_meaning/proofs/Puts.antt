@@ -27,7 +27,7 @@ use Rattle.run_record.specs.Collisions.{NoCollision, contents_of}
 use Rattle.run_record.specs.Digests.{weak_of}
 use Rattle.two_phase_meaning.specs.Contents.{HoldsAll, desc_contents, given_contents}
 use Rattle.two_phase_meaning.specs.Honest.{Honest, HonestEntry}
-use Rattle.two_phase_meaning.specs.Keeping.{ComparedInSave, IsGood, Spelled, answers_text, blobs_of, entry_put, list_put, outcome_files, paths_digest, puts_of, record_entry}
+use Rattle.two_phase_meaning.specs.Saving.{ComparedInSave, IsGood, Spelled, answers_text, blobs_of, entry_put, list_put, outcome_files, paths_digest, puts_of, record_entry}
 use Rattle.two_phase_meaning.proofs.Digests.{blob_no_entry, blob_no_list, entry_no_blob, entry_no_list, same_blob_name}
 use Rattle.two_phase_meaning.proofs.Same.{all_has, all_left, all_map, all_right, lines_are}
 
@@ -238,9 +238,9 @@ after_tail T f list honest spelled entry (a ∷ b ∷ []) p =
 after_tail T f list honest spelled entry (a ∷ b ∷ c ∷ more) p =
     let joined : a ∷ b ∷ c ∷ (more ++ p.rest) ≡ entry_put f ∷ list_put f list ∷ [] = p.joined in absurd cc
 
-pub keeps : (S : Holdings) (f : Facts) → Honest S → Sound f → IsGood f → Spelled f → NoCollision (ComparedInSave S f)
+pub puts_stay_honest : (S : Holdings) (f : Facts) → Honest S → Sound f → IsGood f → Spelled f → NoCollision (ComparedInSave S f)
     → (list : List Selector) (made : List Change) → IsPrefix made (puts_of f list) → Honest (holdings_after S made)
-keeps S f honest sound good spelled apart list made p =
+puts_stay_honest S f honest sound good spelled apart list made p =
     let M : List ℕ → Type 0 = ComparedInSave S f in
     let within : (x : List ℕ) → HoldsBlob S x → M x = λ x h. inl h in
     let met : AllByRecursion M (blobs_of f) = all_has M (blobs_of f) (λ x h. inr h) in

@@ -26,7 +26,7 @@ use Rattle.content_store.specs.Contents.{blob_put}
 use Rattle.run_record.proofs.Digest.{is_digest}
 use Rattle.run_record.specs.Collisions.{NoCollision, contents_of}
 use Rattle.run_record.specs.Digests.{weak_of}
-use Rattle.two_phase_meaning.specs.Keeping.{ComparedInStay, answers_text, blobs_of, entry_put, list_put, paths_digest, puts_of, record_entry}
+use Rattle.two_phase_meaning.specs.Saving.{ComparedInStay, answers_text, blobs_of, entry_put, list_put, paths_digest, puts_of, record_entry}
 use Rattle.two_phase_meaning.specs.Usable.{AnyUsable, Usable, UsableAt, UsableBy, asked_text}
 use Rattle.two_phase_meaning.proofs.Digests.{entry_no_blob, entry_no_list, list_no_blob, list_no_entry, same_entry_name, same_list_name}
 use Rattle.two_phase_meaning.proofs.Puts.{Grows, blobs_grow, entry_grows, list_grows, still_there}

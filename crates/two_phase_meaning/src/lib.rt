@@ -12,5 +12,6 @@
 mod laws;
 
 pub use laws::{
-    empty_is_honest, good_files_fit, hits, keeps, kept, others_stay, puts_add, usable_at_one,
+    empty_is_honest, good_files_fit, hits, others_stay, puts_add, puts_stay_honest,
+    saved_is_usable, usable_at_one,
 };
