@@ -6,8 +6,8 @@ ghost use Rattle.bx_tree.specs.Paths.{Atoms, path_cmp, same_path};
 ghost use Rattle.bx_path.specs.Joining.{join_of, parent as parent_of};
 ghost use Rattle.bx_tree.specs.Below.{is_below};
 
-use bx_tree::{Memory, Path, PathFault};
 use crate::joining::join;
+use bx_tree::{Path, PathFault};
 use std::alloc::{AllocError, Global};
 use std::collections::BTreeSet;
 

@@ -5,7 +5,8 @@ ghost use Rattle.std.specs.List.{AllByRecursion, slice_split};
 ghost use Rattle.std.specs.Ordering.{as_partial_cmp};
 ghost use Rattle.std.proofs.Common.{rules};
 ghost use Rattle.bx_tree.specs.Below.{is_below};
-ghost use Rattle.bx_tree.specs.Paths.{IsAtom, TextBelow, IsBelow, IsPath, IsPathText, Names, is_atom_byte as atom_byte, is_root as has_no_atoms, path_cmp, path_text, same_path, TextGoesOn};
+ghost use Rattle.bx_tree.specs.Paths.{IsAtom, TextBelow, TextGoesOn, IsBelow, IsPath, IsPathText, Names};
+ghost use Rattle.bx_tree.specs.Paths.{is_atom_byte as atom_byte, is_root as has_no_atoms, path_cmp, path_text, same_path};
 ghost use Rattle.bx_tree.specs.Orders.{path_cmp_total, path_cmp_matches, path_cmp_partial};
 ghost use Rattle.bx_tree.specs.Orders.{same_path_equiv, same_path_partial};
 

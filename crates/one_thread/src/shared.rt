@@ -11,8 +11,8 @@ ghost use Rattle.violations.specs.DoubleWrites.{outdirs_in, shared_paths};
 ghost use Rattle.one_thread.specs.Shared.{KeepsShared, any_clash};
 ghost use Rattle.pip_model_types.specs.Kinds.{outdirs_of};
 
-use bx_tree::{Memory, Path};
 use bx_path::{add_directories, directories};
+use bx_tree::{Memory, Path};
 use pip_model::{Made, MadeFile, OutDir, Pip, PipKind, Plan, Slot};
 use std::alloc::Global;
 use std::collections::BTreeSet;

@@ -12,7 +12,7 @@ ghost use Rattle.bx_tree.specs.Lent.{texts_now};
 ghost use Rattle.bx_tree.specs.FileInputs.{input_path};
 ghost use Rattle.bx_tree.specs.Ranges.{comes_before, prefix_below};
 
-use bx_tree::{Memory, Path, next_atom, comes_before};
+use bx_tree::{Memory, Path, comes_before, next_atom};
 use pip_model::MadeFile;
 
 // How many files come before those whose paths begin with these bytes.

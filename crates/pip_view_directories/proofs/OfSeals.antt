@@ -6,7 +6,7 @@ use Rattle.std.proofs.lemmas.List.{take_more, take_all}
 use Rattle.std.proofs.lemmas.List.Elements.{All-contains, Contains-push, Contains-push_cases}
 use Rattle.bx_tree.specs.Paths.{Atoms, IsBelow, path_text}
 use Rattle.bx_tree.specs.declared.file_input.FileInput.{FileInput}
-use Rattle.bx_tree.proofs.PathTexts.{prefix_from_below, root_from_text}
+use Rattle.bx_tree.proofs.PathTexts.{prefix_from_below}
 use Rattle.pip_model_types.specs.Dirs.{dir_cmp, dir_pip}
 use Rattle.pip_model_types.specs.Makers.{HasOutDir, IsDirAmong, IsSealOf}
 use Rattle.pip_model_types.specs.declared.dir_inputs.DirInput.{DirInput}
