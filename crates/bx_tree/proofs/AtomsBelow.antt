@@ -96,7 +96,7 @@ below_dir path dir h k n b =
       subst (λ t. AllByRecursion IsAtom (slice_split is_slash t)) (sym left) known.1,
     )
 
--- ## What is no atom below a directory
+-- ## What does not lie below a directory
 
 pub none_next : (dir path : Atoms) → is_below path dir ≡ false → next_atom dir path ≡ None
 none_next dir path e = by_cases (next_atom dir path) e
