@@ -11,7 +11,7 @@ use Rattle.bx_tree.specs.Paths.{Atoms, IsBelow}
 use Rattle.bx_tree.specs.Trees.{paths_of}
 use Rattle.bx_tree.specs.Views.{files_of}
 use Rattle.bx_tree.proofs.AtomsBelow.{split_first}
-use Rattle.bx_tree.proofs.Below.{strip_dir_is}
+use Rattle.bx_tree.proofs.BelowPaths.{strip_dir_is}
 use Rattle.bx_tree.proofs.PathTexts.{is_slash}
 use Rattle.bx_path.specs.Globbing.{glob_of, is_hit, last_is_match}
 

@@ -8,7 +8,7 @@ use Rattle.std.proofs.lemmas.List.Elements.{All-from_recursion}
 use Rattle.std.proofs.lemmas.List.Splits.{slice_split_at, slice_split_none}
 use Rattle.bx_tree.specs.Below.{first_atom, is_below, next_atom, strip_dir}
 use Rattle.bx_tree.specs.Paths.{Atoms, IsAtom, IsBelow, IsPath, path_text}
-use Rattle.bx_tree.proofs.Below.{strip_dir-append}
+use Rattle.bx_tree.proofs.BelowPaths.{strip_dir-append}
 use Rattle.bx_tree.proofs.PathTexts.{atoms_from_text, is_slash, prefix_from_below, root_from_text, split-below}
 
 -- ## The first part of a text

@@ -1,8 +1,8 @@
-pub mod Below
+pub mod BelowPaths
 pub mod PathTexts
 pub mod Roots
 pub mod AtomsBelow
-pub mod Ranges
+pub mod SortedRanges
 pub mod AnyElement
 pub mod FileSearch
 pub mod HeaderParts

@@ -6,7 +6,7 @@ use Rattle.std.proofs.lemmas.List.{length-append, length-drop, length-take, take
 use Rattle.bx_tree.specs.Paths.{Atoms, IsBelow}
 use Rattle.bx_path.specs.Joining.{parent}
 use Rattle.bx_tree.specs.Below.{is_below}
-use Rattle.bx_tree.proofs.Below.{below_decides}
+use Rattle.bx_tree.proofs.BelowPaths.{below_decides}
 use Rattle.dscript_names_workspace.specs.PathSets.{IsDeepest}
 
 -- each directory above the path that the test holds of is this one or above it

@@ -19,7 +19,7 @@ use Rattle.dscript_names_workspace.specs.Lists.{ItemTree, One, Many, files_liste
 use Rattle.dscript_names_workspace.specs.Modules.{DescriptionData, described}
 use Rattle.dscript_names_workspace.specs.Paths.{in_tree, is_empty, is_module_file, is_specification}
 use Rattle.bx_tree.specs.Below.{is_below}
-use Rattle.bx_tree.proofs.Below.{below_decides}
+use Rattle.bx_tree.proofs.BelowPaths.{below_decides}
 use Rattle.dscript_program.specs.SpecFaults.{FaultData}
 use Rattle.dscript_program.specs.Workspaces.{ModuleData}
 use Rattle.dscript_parse.specs.Reading.{Reading, Read, NoTokens, NoFile}

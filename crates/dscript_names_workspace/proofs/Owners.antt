@@ -15,7 +15,7 @@ use Rattle.bx_tree.specs.Views.{files_of}
 use Rattle.bx_tree.specs.declared.tree_file.TreeFile.{TreeFile}
 use Rattle.dscript_names_workspace.specs.Paths.{is_module_file, is_specification}
 use Rattle.bx_tree.specs.Below.{is_below}
-use Rattle.bx_tree.proofs.Below.{below_decides}
+use Rattle.bx_tree.proofs.BelowPaths.{below_decides}
 use Rattle.dscript_names_workspace.specs.Membership.{is_between, is_config, is_deeper, is_implied}
 use Rattle.dscript_names_workspace.specs.PathSets.{IsDeepest, IsOwner, is_owner, may_belong}
 use Rattle.dscript_names_workspace.proofs.Deepest.{comparable}

@@ -7,7 +7,7 @@ use Rattle.std.proofs.lemmas.Bool.{cases_eq, false≢true, ne_eqb}
 use Rattle.bx_tree.specs.Paths.{Atoms, IsAtom, IsPath, is_atom_byte, path_text}
 use Rattle.bx_tree.proofs.PathTexts.{join-append}
 use Rattle.bx_tree.specs.Below.{is_below, is_directly_in, is_one_atom, strip_dir}
-use Rattle.bx_tree.proofs.Below.{below_decides, strip_dir-append}
+use Rattle.bx_tree.proofs.BelowPaths.{below_decides, strip_dir-append}
 use Rattle.bx_tree.specs.Ranges.{prefix_below}
 
 text_after : (dir : Atoms) (atom : List ℕ) (more : Atoms) → path_text (dir ++ atom ∷ more) ≡ prefix_below dir ++ join_with_byte 47 (atom ∷ more)

@@ -11,7 +11,7 @@ use Rattle.bx_tree.specs.Trees.{IsTree, paths_of}
 use Rattle.bx_tree.specs.Views.{files_of}
 use Rattle.bx_tree.specs.declared.tree_file.TreeFile.{TreeFile}
 use Rattle.bx_tree.proofs.FileSearch.{length-paths, path_at}
-use Rattle.bx_tree.proofs.Ranges.{before_not_below, earlier_before, first_are_all}
+use Rattle.bx_tree.proofs.SortedRanges.{before_not_below, earlier_before, first_are_all}
 use Rattle.dscript_sdk_calls.specs.Sources.{files_below}
 
 all_after : (P : Atoms → Type 0) (files : List TreeFile) → AllWithin (λ (f : TreeFile). P f.path) files 0 (length files)

@@ -11,7 +11,7 @@ use Rattle.std.proofs.lemmas.Bool.Decides.{Decides-and, Decides-or, Decides-not,
 use Rattle.std.proofs.lemmas.List.Folds.{Any-from_list_any, list_any-from_Any}
 use Rattle.bx_tree.specs.Below.{IsAtOrBelow, is_at_or_below, is_below}
 use Rattle.bx_tree.specs.Paths.{Atoms, IsBelow, same_path}
-use Rattle.bx_tree.proofs.Below.{below_decides}
+use Rattle.bx_tree.proofs.BelowPaths.{below_decides}
 use Rattle.bx_tree.specs.Orders.{same_path_decides}
 use Rattle.bx_tree.specs.Trees.{Files, paths_of}
 use Rattle.pip_model_types.specs.declared.dir_inputs.DirInput.{DirInput}

@@ -11,7 +11,7 @@ use Rattle.bx_tree.specs.Paths.{Atoms, IsBelow, same_path}
 use Rattle.bx_tree.specs.Trees.{Files, file_at}
 use Rattle.bx_tree.specs.Below.{is_below, is_directly_in, next_atom}
 use Rattle.tool_run_writes.specs.Writes.{has_below, own_names}
-use Rattle.bx_tree.proofs.Below.{below_decides}
+use Rattle.bx_tree.proofs.BelowPaths.{below_decides}
 use Rattle.bx_tree.proofs.AtomsBelow.{none_next}
 use Rattle.pip_view_inputs.specs.Results.{ByPip, files_by}
 use Rattle.violations.specs.Producing.{dirs_at}

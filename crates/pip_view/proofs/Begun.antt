@@ -18,12 +18,12 @@ use Rattle.bx_tree.specs.Orders.{path_cmp_matches, same_path_decides}
 use Rattle.bx_tree.specs.Paths.{Atoms, path_cmp, path_text, same_path}
 use Rattle.bx_tree.specs.declared.file_input.FileInput.{FileInput}
 use Rattle.bx_tree.specs.Below.{is_below, next_atom}
-use Rattle.bx_tree.proofs.Below.{below_decides}
+use Rattle.bx_tree.proofs.BelowPaths.{below_decides}
 use Rattle.bx_tree.proofs.AtomsBelow.{none_next}
 use Rattle.pip_model_types.specs.Inputs.{RiseByPath}
 use Rattle.pip_view.specs.Taken.{any_below, begins, first_at, taken_names, while_begins}
 use Rattle.pip_view.proofs.TakenFiles.{names_after}
-use Rattle.bx_tree.proofs.Ranges.{before_not_below, between, earlier_before, not_greater, starts_below}
+use Rattle.bx_tree.proofs.SortedRanges.{before_not_below, between, earlier_before, not_greater, starts_below}
 use Rattle.bx_tree.specs.FileInputs.{input_path}
 use Rattle.bx_tree.specs.Ranges.{comes_before, prefix_below}
 

@@ -9,7 +9,7 @@ use Rattle.bx_tree.specs.Orders.{same_path_decides}
 use Rattle.bx_tree.specs.Paths.{Atoms, IsBelow, same_path}
 use Rattle.bx_tree.specs.declared.file_input.FileInput.{FileInput}
 use Rattle.bx_tree.specs.Below.{is_below, next_atom}
-use Rattle.bx_tree.proofs.Below.{below_decides}
+use Rattle.bx_tree.proofs.BelowPaths.{below_decides}
 use Rattle.bx_tree.proofs.AtomsBelow.{none_next}
 use Rattle.pip_model_types.specs.Dirs.{RiseByForm, dir_pip}
 use Rattle.pip_model_types.specs.declared.dir_inputs.DirInput.{DirInput}

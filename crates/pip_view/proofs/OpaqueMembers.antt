@@ -10,7 +10,7 @@ use Rattle.bx_tree.specs.Paths.{Atoms, same_path}
 use Rattle.bx_tree.specs.Trees.{Files, file_at}
 use Rattle.bx_tree.specs.Below.{is_below, next_atom}
 use Rattle.tool_run_writes.specs.Writes.{has_below, own_names}
-use Rattle.bx_tree.proofs.Below.{below_decides}
+use Rattle.bx_tree.proofs.BelowPaths.{below_decides}
 use Rattle.bx_tree.proofs.AtomsBelow.{none_next}
 use Rattle.pip_view_inputs.specs.Plain.{kind_process, process_in}
 use Rattle.pip_view_inputs.specs.Results.{ByPip}

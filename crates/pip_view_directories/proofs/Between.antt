@@ -12,7 +12,7 @@ use Rattle.std.proofs.lemmas.List.Elements.{Contains-append_cases, Contains-appe
 use Rattle.std.proofs.lemmas.Map.Keys.{Less-from_sorted, sorted_tail}
 use Rattle.bx_tree.specs.Paths.{path_text}
 use Rattle.bx_tree.specs.Ranges.{comes_before}
-use Rattle.bx_tree.proofs.Ranges.{earlier_text}
+use Rattle.bx_tree.proofs.SortedRanges.{earlier_text}
 use Rattle.pip_model_types.specs.Dirs.{RiseByForm, dir_cmp, dir_path}
 use Rattle.pip_model_types.specs.declared.dir_inputs.DirInput.{DirInput}
 use Rattle.pip_view_directories.specs.Around.{HasText, IsUnder}

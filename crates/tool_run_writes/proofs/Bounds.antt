@@ -14,7 +14,7 @@ use Rattle.bx_tree.specs.Trees.{Files}
 use Rattle.bx_tree.proofs.PathTexts.{prefix_from_below}
 use Rattle.bx_tree.specs.Below.{is_below, next_atom}
 use Rattle.tool_run_writes.specs.Writes.{own_names}
-use Rattle.bx_tree.proofs.Below.{below_decides}
+use Rattle.bx_tree.proofs.BelowPaths.{below_decides}
 use Rattle.bx_tree.proofs.AtomsBelow.{none_next}
 
 -- ## Orders of texts

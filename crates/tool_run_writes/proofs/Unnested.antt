@@ -17,7 +17,7 @@ use Rattle.bx_tree.proofs.Sets.{contains_has, has_contained, has_insert, insert_
 use Rattle.pip_model_types.specs.Made.{RisingFiles}
 use Rattle.bx_tree.specs.Below.{is_below}
 use Rattle.tool_run_writes.specs.Writes.{clashes, has_below}
-use Rattle.bx_tree.proofs.Below.{below_decides}
+use Rattle.bx_tree.proofs.BelowPaths.{below_decides}
 use Rattle.tool_run_writes.proofs.DirectorySets.{either_swapped, either_twice, found_any}
 
 -- ## Tests

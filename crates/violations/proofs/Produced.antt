@@ -12,7 +12,7 @@ use Rattle.pip_model_types.specs.declared.outputs.OutDir.{OutDir}
 use Rattle.pip_model_types.specs.declared.pip.PipKind.{PipKind}
 use Rattle.pip_model_types.specs.declared.pip.PipKind.TheVariants.{Process, Copy, Write, Seal}
 use Rattle.pip_model.specs.Edges.{Produces}
-use Rattle.bx_tree.proofs.Below.{below_decides}
+use Rattle.bx_tree.proofs.BelowPaths.{below_decides}
 use Rattle.bx_tree.specs.Below.{is_below}
 use Rattle.violations.specs.Producing.{is_unseen_in, produces_unseen}
 use Rattle.pip_model_types.specs.Outputs.{is_console}

@@ -18,7 +18,7 @@ use Rattle.pip_model_types.specs.declared.pip.Pip.{Pip}
 use Rattle.pip_model_types.specs.declared.pip.PipKind.{PipKind}
 use Rattle.pip_model_types.specs.declared.pip.PipKind.TheVariants.{Process, Copy, Write, Seal}
 use Rattle.pip_model.specs.Outputs.{number_at, numbers_at, numbers_from, output_paths}
-use Rattle.bx_tree.proofs.Below.{below_decides}
+use Rattle.bx_tree.proofs.BelowPaths.{below_decides}
 use Rattle.violations.specs.Least.{Covers, CoversAbove, IsAtMost, is_producer}
 use Rattle.violations.specs.Producing.{is_unseen_in, produces_unseen}
 use Rattle.pip_model_types.specs.Outputs.{is_console, outdir_paths}

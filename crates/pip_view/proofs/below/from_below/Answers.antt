@@ -1,7 +1,7 @@
 use Rattle.std.proofs.Common.{◌≡◌, ◌-◌, true, false, length, drop, ap, ◌∙◌, subst, arith}
 use Rattle.std.proofs.lemmas.List.{length-drop, take_all}
 use Rattle.std.specs.List.Sorted.{IsPartitionPoint}
-use Rattle.bx_tree.proofs.Ranges.{all_below}
+use Rattle.bx_tree.proofs.SortedRanges.{all_below}
 use Rattle.pip_view.proofs.below.from_below.Goals as goal
 use Rattle.bx_tree.specs.Ranges.{comes_before, first_below}
 

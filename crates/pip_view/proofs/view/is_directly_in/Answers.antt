@@ -1,5 +1,5 @@
 use Rattle.std.proofs.Common.{not, ap, sym, ◌∙◌}
-use Rattle.bx_tree.proofs.Below.{below_decides}
+use Rattle.bx_tree.proofs.BelowPaths.{below_decides}
 use Rattle.pip_view.proofs.OneAtom.{directly_by_text, not_directly}
 use Rattle.pip_view.proofs.view.is_directly_in.Goals as goal
 

@@ -1,4 +1,4 @@
-use Rattle.bx_tree.proofs.Below.{below_is}
+use Rattle.bx_tree.proofs.BelowPaths.{below_is}
 use Rattle.bx_tree.proofs.PathTexts.{TextBelow-is}
 use Rattle.bx_tree.proofs.path.Path.is_below.Goals as goal
 

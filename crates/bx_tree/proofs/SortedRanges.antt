@@ -13,7 +13,7 @@ use Rattle.bx_tree.specs.Below.{is_below}
 use Rattle.bx_tree.specs.Orders.{equal_texts}
 use Rattle.bx_tree.specs.Paths.{Atoms, IsBelow, IsPath, path_cmp, path_text}
 use Rattle.bx_tree.specs.Ranges.{AreFilePaths, comes_before, first_below, prefix_below}
-use Rattle.bx_tree.proofs.Below.{below_decides}
+use Rattle.bx_tree.proofs.BelowPaths.{below_decides}
 use Rattle.bx_tree.proofs.PathTexts.{below_from_prefix, prefix_from_below}
 
 -- ## Texts that begin with a prefix
