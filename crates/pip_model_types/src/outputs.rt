@@ -1,5 +1,5 @@
 //! What a process declares to make.
-ghost use Rattle.std.specs.Prelude.{◌≡◌, ◌↔◌, IsTrue, Contains};
+ghost use Rattle.std.specs.Prelude.{◌≡◌, ◌↔◌, IsTrue, IfOk, Contains};
 ghost use Rattle.std.specs.List.Sorted.{IsStrictlySortedBy};
 ghost use Rattle.std.specs.Ordering.{as_partial_cmp};
 ghost use Rattle.std.proofs.Common.{rules};
@@ -11,6 +11,7 @@ ghost use Rattle.pip_model_types.specs.Orders.{same_outdir_equiv, same_outdir_pa
 
 use crate::sets::in_order;
 use bx_tree::Path;
+use std::alloc::AllocError;
 use std::cmp::Ordering;
 use std::marker::Model;
 
@@ -63,6 +64,18 @@ impl Outputs {
 pub struct OutDir {
     pub path: Path,
     pub shared: bool,
+}
+
+impl OutDir {
+    /// The directory, with its path shared.
+    pub fn share(&self) -> Result<OutDir, AllocError>
+        ensures { IfOk result (λ shared. shared ≡ self.now) }
+    {
+        Ok(OutDir {
+            path: self.path.share()?,
+            shared: self.shared,
+        })
+    }
 }
 
 impl PartialEq for OutDir {
