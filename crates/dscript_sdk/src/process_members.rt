@@ -1,5 +1,5 @@
 //! The members of processes.
-ghost use Rattle.std.specs.Prelude.{◌≡◌, ◌↔◌, Ok, Some, None, IsTrue, Contains, map, slice_get, MatchOption};
+ghost use Rattle.std.specs.Prelude.{◌≡◌, ◌↔◌, Ok, IsTrue, Contains, map, slice_get};
 ghost use Rattle.std.specs.Prelude.{MatchResult};
 ghost use Rattle.std.specs.List.{list_any};
 ghost use Rattle.std.specs.List.Sorted.{IsStrictlySortedBy};
@@ -18,7 +18,7 @@ use dscript_sdk_members::Member;
 use dscript_sdk_pips::SdkState;
 use dscript_sdk_values::{SdkFault, first_argument, read_directory, read_path};
 use dscript_value::{StaticDir, Value};
-use pip_model_types::{OutDir, Outputs, Pip, PipKind};
+use pip_model_types::{OutDir, Outputs, Pip, PipKind, pip_at};
 
 fn has_output(outs: &Outputs, path: &Path) -> bool
     ensures { result ≡ list_any (same_path path.now) outs.now }
@@ -50,15 +50,6 @@ fn makes_directory(kind: &PipKind, path: &Path) -> bool
         PipKind::Process(process) => has_directory(process.outdirs.dirs(), path),
         PipKind::Copy(_) | PipKind::Write(_) | PipKind::Seal(_) => false,
     }
-}
-
-// The pip with a number, if there is one.
-pub(crate) fn pip_at(pips: &[Pip], number: u32) -> Option<&Pip>
-    ensures { MatchOption result
-        (slice_get pips.now number ≡ None)
-        (λ pip. slice_get pips.now number ≡ Some pip.now) }
-{
-    pips.get(number as usize)
 }
 
 fn declares_file(pips: &[Pip], number: u32, path: &Path) -> bool

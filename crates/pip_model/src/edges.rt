@@ -1,12 +1,12 @@
 //! The pips that each pip waits for.
-ghost use Rattle.std.specs.Prelude.{◌≡◌, ◌++◌, MatchOption, OnOk, IfOk, Some, None, slice_get};
+ghost use Rattle.std.specs.Prelude.{◌≡◌, ◌++◌, OnOk, IfOk};
 ghost use Rattle.pip_model.specs.Edges.{dir_targets, kind_makers, maker, makers, targets};
 ghost use Rattle.pip_model.specs.Inputs.{AreTargets};
 ghost use Rattle.pip_model.specs.Plans.{AreAllInputs};
 ghost use Rattle.std.specs.List.{flat_map};
 
 use bx_tree::FileInput;
-use pip_model_types::{DirInput, Pip, PipKind};
+use pip_model_types::{DirInput, Pip, PipKind, pip_at};
 use std::alloc::{AllocError, Global};
 use std::marker::Model;
 
@@ -30,15 +30,6 @@ impl Inputs {
     {
         self.numbers.as_slice()
     }
-}
-
-// The pip with a number, if there is one.
-fn pip_at(pips: &[Pip], number: u32) -> Option<&Pip>
-    ensures { MatchOption result
-        (slice_get pips.now number ≡ None)
-        (λ pip. slice_get pips.now number ≡ Some pip.now) }
-{
-    pips.get(number as usize)
 }
 
 // Adds the pip that made a file.

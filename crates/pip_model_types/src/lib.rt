@@ -26,6 +26,6 @@ pub use dir_inputs::{DirInput, DirInputs, SealForm};
 pub use file_inputs::FileInputs;
 pub use made::{Made, MadeFile, Slot};
 pub use outputs::{OutDir, OutDirs, Outputs};
-pub use pip::{CopyDesc, Pip, PipKind, ProcessDesc, SealDesc, WriteDesc};
+pub use pip::{CopyDesc, Pip, PipKind, ProcessDesc, SealDesc, WriteDesc, pip_at};
 pub use pip_list::PipList;
 pub use sources::Sources;

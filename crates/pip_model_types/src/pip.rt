@@ -1,4 +1,6 @@
 //! Pips: the steps of a build.
+ghost use Rattle.std.specs.Prelude.{◌≡◌, None, Some, MatchOption, slice_get};
+
 use crate::args::{Arguments, Variables};
 use crate::dir_inputs::{DirInputs, SealForm};
 use crate::file_inputs::FileInputs;
@@ -57,4 +59,13 @@ pub enum PipKind {
 pub struct Pip {
     pub spec: Path,
     pub kind: PipKind,
+}
+
+/// The pip with a number, if there is one.
+pub fn pip_at(pips: &[Pip], number: u32) -> Option<&Pip>
+    ensures { MatchOption result
+        (slice_get pips.now number ≡ None)
+        (λ pip. slice_get pips.now number ≡ Some pip.now) }
+{
+    pips.get(number as usize)
 }
