@@ -22,7 +22,7 @@ use crate::made_list::{add_below, has_below};
 use bx_digest::Blob;
 use bx_tree::{Memory, Path, prefix_of};
 use pip_model::{DirInput, DirInputs, MadeFile};
-use pip_view_inputs::Inputs;
+use pip_view_inputs::{Inputs, made_at};
 use std::alloc::Global;
 use tool_run::add_names;
 
@@ -131,15 +131,6 @@ fn deeper<'a>(dir: &'a Path, other: &'a Path) -> Option<&'a Path>
         return Some(dir);
     }
     None
-}
-
-fn made_at<'a>(inputs: &'a Inputs, pip: u32, path: &Path) -> Option<&'a Blob>
-    ensures { option_copied result ≡ file_at (files_by inputs.entry.now pip) path.now }
-{
-    match inputs.find(pip) {
-        Some(made) => made.find(path),
-        None => None,
-    }
 }
 
 // The file at a path that a pip made below a directory.
