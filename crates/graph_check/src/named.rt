@@ -1,6 +1,7 @@
 //! The source files that pips name, as vectors of paths.
 ghost use Rattle.std.specs.Prelude.{◌≡◌, ◌++◌, ◌∷◌, [], OnOk};
-ghost use Rattle.graph_check.specs.NoSuchSource.{if_source, listed_sources, named_sources, sources_among};
+ghost use Rattle.pip_model_types.specs.Kinds.{form_files};
+ghost use Rattle.graph_check.specs.NoSuchSource.{if_source, named_sources, sources_among};
 
 use bx_tree::{FileInput, Path};
 use pip_model::{PipKind, SealDesc, SealForm};
@@ -34,8 +35,8 @@ fn add_sources(paths: &mut Vec<Path>, files: &[FileInput]) -> Result<(), AllocEr
 
 // Adds the source files that a seal lists.
 fn add_listed(paths: &mut Vec<Path>, seal: &SealDesc) -> Result<(), AllocError>
-    ensures { OnOk result
-        (paths.new.items ≡ paths.old.items ++ listed_sources seal.now.form seal.now.files) }
+    ensures { OnOk result (paths.new.items
+        ≡ paths.old.items ++ sources_among (form_files seal.now.form seal.now.files)) }
 {
     match seal.form {
         SealForm::Full | SealForm::Partial => add_sources(paths, seal.files.files()),

@@ -2,7 +2,8 @@
 //! going through all seals.
 ghost use Rattle.std.specs.Prelude.{◌≡◌, ◌++◌, ◌∷◌, [], ◌≤◌, ℕ, List, Contains, length, IfOk, OnOk};
 ghost use Rattle.pip_model.specs.Listings.{HasListingsOf, HasNear, KeepsFound, ListsNear, has_wide as any_wide};
-ghost use Rattle.pip_model.specs.Listings.{is_wide as kind_wide, listed_files};
+ghost use Rattle.pip_model.specs.Listings.{is_wide as kind_wide};
+ghost use Rattle.pip_model_types.specs.Kinds.{listed_files};
 ghost use Rattle.pip_model.specs.Outputs.{found_in};
 
 use crate::outputs::ByText;

@@ -7,7 +7,7 @@ ghost use Rattle.tool_run.specs.NameSets.{names_now};
 ghost use Rattle.pip_view_inputs.specs.Contents.{input_bytes};
 ghost use Rattle.pip_view_directories.specs.Near.{AreTaken};
 ghost use Rattle.pip_model_types.specs.Inputs.{RiseByPath};
-ghost use Rattle.pip_view.specs.InputFiles.{listed_in};
+ghost use Rattle.pip_model_types.specs.Kinds.{listed_in};
 ghost use Rattle.pip_view.specs.Taken.{any_below, dir_files, dirs_files, executable, first_at};
 ghost use Rattle.pip_view.specs.Taken.{taken_bytes, taken_files, taken_names};
 ghost use Rattle.bx_tree.specs.Lent.{texts_now};

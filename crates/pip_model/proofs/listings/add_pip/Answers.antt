@@ -1,6 +1,7 @@
 use Rattle.std.proofs.Common.{List, OnOk, ap, subst, sym, ◌∙◌}
 use Rattle.bx_tree.specs.declared.file_input.FileInput.{FileInput}
-use Rattle.pip_model.specs.Listings.{HasNear, listed_files}
+use Rattle.pip_model_types.specs.Kinds.{listed_files}
+use Rattle.pip_model.specs.Listings.{HasNear}
 use Rattle.pip_model.proofs.listings.add_pip.Goals as goal
 
 pub returns-in-Seal-clause-near : goal.returns-in-Seal-clause-near
