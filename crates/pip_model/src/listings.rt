@@ -82,10 +82,7 @@ fn add_pip(found: &mut ByText, alloc: Global, number: u32, kind: &PipKind) -> Re
     ensures kept { OnOk result (KeepsFound found.old.table found.new.table) }
     ensures near { OnOk result (HasNear (listed_files kind.now) number found.new.table) }
 {
-    match kind {
-        PipKind::Seal(seal) => add_files(found, alloc, number, seal.files.files()),
-        PipKind::Process(_) | PipKind::Copy(_) | PipKind::Write(_) => Ok(()),
-    }
+    add_files(found, alloc, number, kind.listed())
 }
 
 // The seals by the paths at and above the files that they list.

@@ -84,3 +84,9 @@ contains_if_found xs p (Err i) h = (λ e. absurd (false≢true e), λ k. absurd 
 pub map_itself : (ps : List Atoms) → map (λ (p : Atoms). p) ps ≡ ps
 map_itself [] = refl
 map_itself (p ∷ ps) = ap (λ qs. p ∷ qs) (map_itself ps)
+
+-- ## No paths
+
+pub no_files_rise : IsStrictlySortedBy path_cmp []
+unfolding IsStrictlySortedBy
+no_files_rise = tt

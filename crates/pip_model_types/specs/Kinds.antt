@@ -30,12 +30,12 @@ form_files Partial files = files
 form_files SourceTop files = []
 form_files SourceAll files = []
 
--- the files that a pip lists, none but of a seal
+-- the files that a pip lists, none but of a full or partial seal
 abbrev pub listed_files : PipKind → List FileInput
 listed_files (Process d) = []
 listed_files (Copy d) = []
 listed_files (Write d) = []
-listed_files (Seal d) = d.files
+listed_files (Seal d) = form_files d.form d.files
 
 abbrev pub listed_in : Option Pip → List FileInput
 listed_in None = []

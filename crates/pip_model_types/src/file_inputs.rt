@@ -1,5 +1,5 @@
 //! The files that a pip takes.
-ghost use Rattle.std.specs.Prelude.{◌≡◌, ◌↔◌, IsTrue, Contains, map};
+ghost use Rattle.std.specs.Prelude.{◌≡◌, ◌↔◌, [], IsTrue, Contains, map};
 ghost use Rattle.std.specs.List.{IsDistinct};
 ghost use Rattle.std.specs.List.Sorted.{IsPermutation};
 ghost use Rattle.bx_tree.specs.Paths.{same_path};
@@ -36,6 +36,14 @@ fn by_path(files: Vec<FileInput>) -> Vec<FileInput>
     let mut files = files;
     files.sort_unstable_by(|a, b| a.path().cmp(b.path()));
     files
+}
+
+/// No files.
+pub fn no_inputs<'a>() -> &'a [FileInput]
+    ensures files { result.now ≡ [] }
+    ensures rising { RiseByPath result.now }
+{
+    &[]
 }
 
 // Whether one of these files has a path.

@@ -23,7 +23,7 @@ pub use args::{Arguments, EnvPair, Variables};
 pub use bx_tree::Memory;
 pub use desc::Desc;
 pub use dir_inputs::{DirInput, DirInputs, SealForm};
-pub use file_inputs::FileInputs;
+pub use file_inputs::{FileInputs, no_inputs};
 pub use made::{Made, MadeFile, Slot};
 pub use outputs::{OutDir, OutDirs, Outputs};
 pub use pip::{CopyDesc, Pip, PipKind, ProcessDesc, SealDesc, WriteDesc, pip_at};

@@ -16,7 +16,7 @@ use Rattle.pip_view_inputs.specs.Results.{ByPip}
 use Rattle.pip_model_types.specs.Kinds.{form_files, listed_in}
 use Rattle.bx_tree.specs.FileInputs.{input_path}
 
--- the files that a directory lists, none but of a seal
+-- the files that a directory lists, none but of a full or partial seal
 abbrev pub dir_files : List Pip → DirInput → List FileInput
 dir_files pips (Sealed pip form root) = form_files form (listed_in (slice_get pips pip))
 dir_files pips (Opaque pip path) = []
