@@ -13,17 +13,12 @@ ghost use Rattle.dscript_sdk.specs.ProcessMembers.{output_file as declared_file,
 ghost use Rattle.dscript_value.specs.Plain.{plain_of};
 
 use bx_tree::{FileInput, Path};
+use dscript_sdk_execute::has_output;
 use dscript_sdk_members::Member;
 use dscript_sdk_pips::SdkState;
 use dscript_sdk_values::{SdkFault, first_argument, read_directory, read_path};
 use dscript_value::{StaticDir, Value};
-use pip_model_types::{OutDir, Outputs, Pip, PipKind, pip_at};
-
-fn has_output(outs: &Outputs, path: &Path) -> bool
-    ensures { result ≡ list_any (same_path path.now) outs.now }
-{
-    outs.has(path)
-}
+use pip_model_types::{OutDir, Pip, PipKind, pip_at};
 
 // Whether a path is that of one of some directories, which rise.
 fn has_directory(dirs: &[OutDir], path: &Path) -> bool

@@ -25,7 +25,7 @@ pub use desc::Desc;
 pub use dir_inputs::{DirInput, DirInputs, SealForm};
 pub use file_inputs::{FileInputs, no_inputs};
 pub use made::{Made, MadeFile, Slot};
-pub use outputs::{OutDir, OutDirs, Outputs};
+pub use outputs::{OutDir, OutDirs, Outputs, is_console};
 pub use pip::{CopyDesc, Pip, PipKind, ProcessDesc, SealDesc, WriteDesc, pip_at};
 pub use pip_list::PipList;
 pub use sources::Sources;

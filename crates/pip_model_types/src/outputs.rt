@@ -3,9 +3,9 @@ ghost use Rattle.std.specs.Prelude.{◌≡◌, ◌↔◌, IsTrue, IfOk, Contains
 ghost use Rattle.std.specs.List.Sorted.{IsStrictlySortedBy};
 ghost use Rattle.std.specs.Ordering.{as_partial_cmp};
 ghost use Rattle.std.proofs.Common.{rules};
-ghost use Rattle.bx_tree.specs.Paths.{path_cmp};
+ghost use Rattle.bx_tree.specs.Paths.{has_path, path_cmp};
 ghost use Rattle.bx_tree.specs.Sets.{IsSetOf};
-ghost use Rattle.pip_model_types.specs.Outputs.{outdir_cmp, same_outdir};
+ghost use Rattle.pip_model_types.specs.Outputs.{is_console, outdir_cmp, same_outdir};
 ghost use Rattle.pip_model_types.specs.Orders.{outdir_cmp_matches, outdir_cmp_partial, outdir_cmp_total};
 ghost use Rattle.pip_model_types.specs.Orders.{same_outdir_equiv, same_outdir_partial};
 
@@ -53,9 +53,20 @@ impl Outputs {
 
     /// Whether a path is one of these.
     pub fn has(&self, path: &Path) -> bool
-        ensures { IsTrue result ↔ Contains self.now path.now }
+        ensures member { IsTrue result ↔ Contains self.now path.now }
+        ensures value { result ≡ has_path self.now path.now }
     {
         self.paths().binary_search(path).is_ok()
+    }
+}
+
+/// Whether a path is that of the file of a console, if there is one.
+pub fn is_console(console: &Option<Path>, path: &Path) -> bool
+    ensures { result ≡ is_console console.now path.now }
+{
+    match console {
+        Some(file) => *file == *path,
+        None => false,
     }
 }
 

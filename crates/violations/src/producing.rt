@@ -7,10 +7,10 @@ ghost use Rattle.violations.specs.Least as least;
 ghost use Rattle.violations.specs.Least.{Covers, CoversAbove, Passes, Stays};
 ghost use Rattle.violations.specs.Producing as producing;
 ghost use Rattle.pip_model_types.specs.Kinds.{taken_dirs};
-ghost use Rattle.pip_model_types.specs.Outputs.{is_console};
 
 use bx_tree::Path;
 use pip_model::{DirInput, OutDir, Outputs, Pip, PipKind, Plan};
+use pip_model_types::is_console;
 
 fn is_dir_of(pip: u32, path: &Path, dir: &DirInput) -> bool
     ensures { result ≡ producing.is_dir_of pip path.now dir.now }
@@ -43,15 +43,6 @@ fn is_output(outs: &Outputs, path: &Path) -> bool
     ensures { result ≡ list_any (same_path path.now) outs.now }
 {
     outs.has(path)
-}
-
-fn is_console(console: &Option<Path>, path: &Path) -> bool
-    ensures { result ≡ is_console console.now path.now }
-{
-    match console {
-        Some(console) => *console == *path,
-        None => false,
-    }
 }
 
 // Whether a pip can produce a path by an output other than these directories.

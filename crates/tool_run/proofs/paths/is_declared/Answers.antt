@@ -15,5 +15,5 @@ returns-then-inside c =
 pub returns-else-inside : goal.returns-else-inside
 returns-else-inside c =
     not_outside (list_any (λ out. same_path out c.args.path.now) c.args.outputs.now) c.is_below_any-inside.result
-    (list_any (λ dir. is_below c.args.path.now dir) (outdir_paths c.args.dirs.now)) c.is_output.result
-    (c.is_below_any-inside.ensures ∙ any_dirs c.args.path.now c.args.dirs.now) c.if-inside.false c.is_output.ensures
+    (list_any (λ dir. is_below c.args.path.now dir) (outdir_paths c.args.dirs.now)) c.has.result
+    (c.is_below_any-inside.ensures ∙ any_dirs c.args.path.now c.args.dirs.now) c.if-inside.false c.has.ensures.value

@@ -6,5 +6,5 @@ use Rattle.violations.proofs.producing.is_output.Goals as goal
 
 pub returns : goal.returns
 returns c =
-    same_from_decides c.has.result (list_any (same_path c.args.path.now) c.args.outs.now) c.has.ensures
+    same_from_decides c.has.result (list_any (same_path c.args.path.now) c.args.outs.now) c.has.ensures.member
     (output_decides c.args.path.now c.args.outs.now)
