@@ -1,8 +1,10 @@
 //! What a process declares to make.
 ghost use Rattle.std.specs.Prelude.{◌≡◌, ◌↔◌, IsTrue, IfOk, Contains};
+ghost use Rattle.std.specs.List.{list_any};
 ghost use Rattle.std.specs.List.Sorted.{IsStrictlySortedBy};
 ghost use Rattle.std.specs.Ordering.{as_partial_cmp};
 ghost use Rattle.std.proofs.Common.{rules};
+ghost use Rattle.bx_tree.specs.Below.{is_below};
 ghost use Rattle.bx_tree.specs.Paths.{has_path, path_cmp};
 ghost use Rattle.bx_tree.specs.Sets.{IsSetOf};
 ghost use Rattle.pip_model_types.specs.Outputs.{is_console, outdir_cmp, same_outdir};
@@ -148,6 +150,13 @@ impl Model for OutDirs {
     ghost invariant = { λ d. IsStrictlySortedBy outdir_cmp d.dirs.items };
 }
 
+// Whether a path lies strictly below one of these directories.
+fn is_below_any(dirs: &[OutDir], path: &Path) -> bool
+    ensures { result ≡ list_any (λ dir. is_below path.now dir.path) dirs.now }
+{
+    dirs.iter().any(|dir| path.is_below(&dir.path))
+}
+
 impl OutDirs {
     /// These directories, each once.
     pub fn of(dirs: Vec<OutDir>) -> OutDirs
@@ -156,6 +165,13 @@ impl OutDirs {
         OutDirs {
             dirs: in_order(dirs),
         }
+    }
+
+    /// Whether a path lies strictly below one of these directories.
+    pub fn any_above(&self, path: &Path) -> bool
+        ensures { result ≡ list_any (λ dir. is_below path.now dir.path) self.now }
+    {
+        is_below_any(self.dirs(), path)
     }
 
     /// The directories, in order.

@@ -11,7 +11,7 @@ ghost use Rattle.pip_model_types.specs.Outputs.{outdir_paths};
 
 use bx_path::join;
 use bx_tree::{Path, PathFault};
-use pip_model_types::{Desc, OutDir, Outputs, is_console};
+use pip_model_types::{Desc, OutDirs, Outputs, is_console};
 use std::alloc::{AllocError, Global};
 
 // The path that a text leads to from another, if it is one.
@@ -65,19 +65,13 @@ pub(crate) fn resolved(alloc: Global, dir: &Path, text: &[u8]) -> Result<Option<
     }
 }
 
-fn is_below_any(dirs: &[OutDir], path: &Path) -> bool
-    ensures { result ≡ list_any (λ dir. is_below path.now dir.path) dirs.now }
-{
-    dirs.iter().any(|dir| path.is_below(&dir.path))
-}
-
 // Whether a path is one of these files or lies strictly below one of these directories.
-fn is_declared(outputs: &Outputs, dirs: &[OutDir], path: &Path) -> bool
+fn is_declared(outputs: &Outputs, dirs: &OutDirs, path: &Path) -> bool
     ensures { result
         ≡ (list_any (λ out. same_path out path.now) outputs.now
         || list_any (λ dir. is_below path.now dir) (outdir_paths dirs.now)) }
 {
-    let inside = is_below_any(dirs, path);
+    let inside = dirs.any_above(path);
     inside || outputs.has(path)
 }
 
@@ -86,5 +80,5 @@ pub(crate) fn permits(desc: &Desc, path: &Path) -> bool
     ensures { result ≡ permitted (described desc.now) path.now }
 {
     let process = &desc.process;
-    is_declared(&process.outs, process.outdirs.dirs(), path) && !is_console(&process.console, path)
+    is_declared(&process.outs, &process.outdirs, path) && !is_console(&process.console, path)
 }
