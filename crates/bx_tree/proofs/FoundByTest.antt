@@ -1,6 +1,6 @@
 -- Tests that find one element of a list.
 use Rattle.std.proofs.Common.{◌≡◌, ◌↔◌, Bool, true, ◌||◌, IsTrue, List, [], ◌∷◌, refl, ap, sym, ◌∙◌, inl, inr}
-use Rattle.std.specs.Bool.{one_answer}
+use Rattle.std.specs.Bool.{Decides, one_answer}
 use Rattle.std.specs.List.{Contains, list_any}
 use Rattle.std.proofs.lemmas.Bool.{cases_Bool, false≢true}
 use Rattle.bx_tree.specs.Orders.{same_path_decides}
@@ -45,3 +45,9 @@ pub has_path_from_answer : (paths : List Atoms) (path : Atoms) (answer : Bool) �
 has_path_from_answer paths path answer h =
     found_by_test (λ p. same_path p path) path paths answer ((same_path_decides path path).1 refl)
     (λ y e. (same_path_decides y path).0 e) h
+
+pub has_path_decides : (paths : List Atoms) (path : Atoms) → Decides (has_path paths path) (Contains paths path)
+has_path_decides paths path = (
+  λ e. contains_has paths path (has_from_any (λ p. same_path p path) path (λ y h. (same_path_decides y path).0 h) paths e),
+  λ k. any_from_has (λ p. same_path p path) path ((same_path_decides path path).1 refl) paths (has_contained paths path k),
+)
