@@ -12,5 +12,6 @@ pub mod OneReading
 pub mod TreeCheck
 pub mod SomeReading
 pub mod Sets
+pub mod FoundByTest
 pub mod TextTables
 pub mod InOrder

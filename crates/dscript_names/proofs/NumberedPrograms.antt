@@ -20,7 +20,8 @@ use Rattle.dscript_names_scopes.specs.Declarations.{ParsedData, names_of, items_
 use Rattle.dscript_names_scopes.specs.Duplicates.{first_duplicate}
 use Rattle.dscript_names_scopes.specs.Lookup.{Site}
 use Rattle.dscript_names_binding.specs.Walk.{Here, Bound, Binds, chained, continued, ◌>>=◌, gives, no_fault, declaration}
-use Rattle.dscript_names_binding.specs.Binding.{block_locals, declared_function, site_in, bind_marked, bind_decl, bind_all_marked, check_import, imports_fault, bind_item, bind_items}
+use Rattle.dscript_names_scopes.specs.Blocks.{block_locals}
+use Rattle.dscript_names_binding.specs.Binding.{declared_function, site_in, bind_marked, bind_decl, bind_all_marked, check_import, imports_fault, bind_item, bind_items}
 use Rattle.dscript_names.specs.Captures.{AllCaptureOuter, HasOuterCaptures}
 use Rattle.dscript_names.specs.Counting.{CountsFromZero, HasLocalsFromZero}
 use Rattle.dscript_names.specs.Named.{named, before_others, file_first, bind_files, unless_duplicate}

@@ -5,7 +5,8 @@ use Rattle.dscript_ast.specs.ExprTree.{ParamTree, StmtTree, to_stmts}
 use Rattle.dscript_ast.specs.FileTree as file
 use Rattle.dscript_ast.specs.FileTree.{MarkedTree, DeclTree, MarkedTrees, ItemTree, Marked}
 use Rattle.dscript_ast.specs.declared.file.Mark.{Mark}
-use Rattle.dscript_names_binding.specs.Binding.{bind_marked, bind_decl, bind_all_marked, bind_item, bind_items, block_locals, declared_function, imports_fault, site_in}
+use Rattle.dscript_names_scopes.specs.Blocks.{block_locals}
+use Rattle.dscript_names_binding.specs.Binding.{bind_marked, bind_decl, bind_all_marked, bind_item, bind_items, declared_function, imports_fault, site_in}
 use Rattle.dscript_names_binding.specs.Walk.{Here, Bound, Binds, chained, continued, ◌>>=◌, gives, no_fault, declaration}
 use Rattle.dscript_program.specs.declared.spec_fault.SpecKind.{SpecKind}
 use Rattle.dscript_program.specs.BoundTree as bound

@@ -15,7 +15,7 @@ use Rattle.bx_tree.specs.Paths.{Atoms, path_cmp, same_path}
 use Rattle.pip_model_types.specs.Outputs.{outdir_cmp, sharing_rank}
 use Rattle.pip_model_types.specs.declared.outputs.OutDir.{OutDir}
 use Rattle.pip_model_types.proofs.Placed.{not_level}
-use Rattle.dscript_sdk_execute.proofs.FoundByTest.{path_found}
+use Rattle.bx_tree.proofs.FoundByTest.{path_found}
 
 abbrev dir_path : OutDir → Atoms
 dir_path d = d.path

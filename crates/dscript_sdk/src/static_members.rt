@@ -13,14 +13,13 @@ ghost use Rattle.dscript_value.specs.Plain as plain;
 ghost use Rattle.dscript_value.specs.Plain.{plain_of};
 ghost use Rattle.bx_tree.specs.FileInputs.{input_path};
 
-use crate::process_members::pip_at;
 use bx_tree::{FileInput, Memory, Path, Tree};
 use dscript_sdk_calls::{find_below, find_directly_in};
 use dscript_sdk_members::Member;
 use dscript_sdk_pips::SdkState;
 use dscript_sdk_values::{SdkFault, first_argument, list_value, read_path, share_file};
 use dscript_value::{StaticDir, Value, static_path};
-use pip_model_types::{PipKind, SealDesc, SealForm};
+use pip_model_types::{PipKind, SealDesc, SealForm, pip_at};
 use std::alloc::Global;
 
 // Files like these.

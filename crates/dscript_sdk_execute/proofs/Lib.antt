@@ -3,5 +3,5 @@ pub mod Fields
 pub mod Sets
 pub mod Searches
 pub mod Names
-pub mod FoundByTest
+pub mod Sharing
 pub mod Examples

@@ -17,3 +17,4 @@ mod tool;
 mod variables;
 
 pub use calling::execute;
+pub use clashes::has_output;

@@ -1,16 +1,13 @@
 -- Which paths files have, before and after one of each path is kept.
-use Rattle.std.proofs.Common.{◌≡◌, ◌≢◌, ◌⊎◌, ◌↔◌, ℕ, ◌<◌, Bool, true, false, ◌||◌, ◌&&◌, IsTrue, List, [], ◌∷◌, length, get_or, map, Result, Ok, Err, refl, ap, sym, ◌∙◌, subst, inl, inr, arith}
+use Rattle.std.proofs.Common.{◌≡◌, ◌⊎◌, ◌↔◌, Bool, true, false, ◌||◌, ◌&&◌, IsTrue, List, [], ◌∷◌, map, refl, ap, sym, ◌∙◌, subst, inl, inr}
 use Rattle.std.specs.Prelude.{Contains, fold}
 use Rattle.std.specs.Cmp.{both_ways}
-use Rattle.std.specs.List.{All, HoldsAt, list_all}
-use Rattle.std.specs.Result.{MatchResult, is_ok}
-use Rattle.std.proofs.lemmas.List.{get_or-map, length-map}
+use Rattle.std.specs.List.{list_all}
 use Rattle.std.proofs.lemmas.Bool.{cases_Bool, false≢true}
 use Rattle.bx_tree.specs.Orders.{equal_paths, same_path_decides}
 use Rattle.bx_tree.specs.Paths.{Atoms, path_cmp, same_path}
 use Rattle.bx_tree.specs.Trees.{Files}
 use Rattle.bx_tree.specs.declared.file_input.FileInput.{FileInput}
-use Rattle.bx_tree.specs.declared.file_input.FileInput.TheVariants.{Source}
 use Rattle.dscript_sdk_calls.specs.Sources.{files_below}
 use Rattle.dscript_sdk_pips.specs.FileSets.{FileMap, counted, file_for, files_by_path, put_file}
 use Rattle.dscript_sdk_pips.specs.Seals.{is_listed, lists_sources}
@@ -46,24 +43,6 @@ listed_from_answer files path answer h =
     both_ways answer (is_listed files path)
     (λ e. has_listed files path (has_contained (map input_path files) path (h.0 e)))
     (λ e. h.1 (contains_has (map input_path files) path (listed_has files path e)))
-
--- ## Found by a search, and among the paths
-
-has_at : (files : List FileInput) (path : Atoms) (i : ℕ) → i < length files → input_path (get_or files i (Source path)) ≡ path
-    → Contains (map input_path files) path
-has_at files path i low same =
-    (i, omega (arith, low, length-map files input_path), get_or-map input_path files i (Source path) path low ∙ same)
-
-pub has_if_found : (files : List FileInput) (path : Atoms) (r : Result ℕ ℕ)
-    → MatchResult r (λ i. (i < length files) × HoldsAt (λ (f : FileInput). input_path f ≡ path) files i) (λ i. All (λ (f : FileInput). input_path f ≢ path) files)
-    → IsTrue (is_ok r) ↔ Contains (map input_path files) path
-has_if_found files path (Ok i) h = (λ e. has_at files path i h.0 (h.1 (Source path)), λ k. refl)
-has_if_found files path (Err i) h = (λ e. absurd (false≢true e), λ k. absurd (none k))
-  where
-    none : Contains (map input_path files) path → ⊥
-    none k =
-        let low : k.0 < length files = omega (arith, k.1, length-map files input_path) in
-        h k.0 (Source path) low (sym (get_or-map input_path files k.0 (Source path) path low) ∙ k.2)
 
 -- ## The files that count have the paths of all
 

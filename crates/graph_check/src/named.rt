@@ -1,9 +1,9 @@
 //! The source files that pips name, as vectors of paths.
 ghost use Rattle.std.specs.Prelude.{◌≡◌, ◌++◌, ◌∷◌, [], OnOk};
-ghost use Rattle.graph_check.specs.NoSuchSource.{if_source, listed_sources, named_sources, sources_among};
+ghost use Rattle.graph_check.specs.NoSuchSource.{if_source, named_sources, sources_among};
 
 use bx_tree::{FileInput, Path};
-use pip_model::{PipKind, SealDesc, SealForm};
+use pip_model::PipKind;
 use std::alloc::AllocError;
 
 fn add(paths: &mut Vec<Path>, path: &Path) -> Result<(), AllocError>
@@ -32,17 +32,6 @@ fn add_sources(paths: &mut Vec<Path>, files: &[FileInput]) -> Result<(), AllocEr
     Ok(())
 }
 
-// Adds the source files that a seal lists.
-fn add_listed(paths: &mut Vec<Path>, seal: &SealDesc) -> Result<(), AllocError>
-    ensures { OnOk result
-        (paths.new.items ≡ paths.old.items ++ listed_sources seal.now.form seal.now.files) }
-{
-    match seal.form {
-        SealForm::Full | SealForm::Partial => add_sources(paths, seal.files.files()),
-        SealForm::SourceTop | SealForm::SourceAll => Ok(()),
-    }
-}
-
 // Adds the source files that a pip names.
 pub(crate) fn add_named_sources(paths: &mut Vec<Path>, kind: &PipKind) -> Result<(), AllocError>
     ensures { OnOk result (paths.new.items ≡ paths.old.items ++ named_sources kind.now) }
@@ -54,6 +43,6 @@ pub(crate) fn add_named_sources(paths: &mut Vec<Path>, kind: &PipKind) -> Result
         }
         PipKind::Copy(copy) => add_source(paths, &copy.from),
         PipKind::Write(_) => Ok(()),
-        PipKind::Seal(seal) => add_listed(paths, seal),
+        PipKind::Seal(seal) => add_sources(paths, seal.listed()),
     }
 }

@@ -7,7 +7,6 @@ ghost use Rattle.one_thread.specs.OneThread.{all_made, put_all};
 use bx_digest::Blob;
 use bx_tree::{Memory, Path};
 use pip_model::{Made, MadeFile, Slot};
-use pip_view::made_of;
 use std::alloc::Global;
 use std::collections::BTreeMap;
 
@@ -41,5 +40,5 @@ pub fn outputs(alloc: Global, slots: &[Slot]) -> Result<Made, Memory>
     'slots: for slot in slots {
         put_slot(&mut files, slot)?;
     }
-    made_of(alloc, files)
+    Made::of_map(alloc, files)
 }

@@ -6,44 +6,15 @@ ghost use Rattle.bx_tree.specs.Paths.{Atoms, path_cmp};
 ghost use Rattle.bx_tree.specs.Below.{is_below};
 ghost use Rattle.violations.specs.Slots.{slot_files};
 ghost use Rattle.pip_model_types.specs.Made.{made_files};
-ghost use Rattle.violations.specs.DoubleWrites as double_writes;
 ghost use Rattle.violations.specs.DoubleWrites.{outdirs_in, shared_paths};
 ghost use Rattle.one_thread.specs.Shared.{KeepsShared, any_clash};
-ghost use Rattle.pip_model_types.specs.Kinds.{outdirs_of};
 
 use bx_path::{add_directories, directories};
 use bx_tree::{Memory, Path};
-use pip_model::{Made, MadeFile, OutDir, Pip, PipKind, Plan, Slot};
+use pip_model::{Made, MadeFile, OutDir, Plan, Slot};
 use std::alloc::Global;
 use std::collections::BTreeSet;
-
-// The output directories of a pip.
-fn outdirs_of(kind: &PipKind) -> &[OutDir]
-    ensures { result.now ≡ outdirs_of kind.entry.now }
-{
-    match kind {
-        PipKind::Process(process) => process.outdirs.dirs(),
-        PipKind::Copy(_) | PipKind::Write(_) | PipKind::Seal(_) => &[],
-    }
-}
-
-// The output directories of the pip with a number.
-fn outdirs_at(pips: &[Pip], pip: u32) -> &[OutDir]
-    ensures { result.now ≡ outdirs_in (slice_get pips.entry.now pip) }
-{
-    match pips.get(pip as usize) {
-        Some(pip) => outdirs_of(&pip.kind),
-        None => &[],
-    }
-}
-
-// Whether a path lies strictly below a directory that is shared.
-fn is_shared(dirs: &[OutDir], path: &Path) -> bool
-    ensures { result ≡ double_writes.is_shared dirs.now path.now }
-{
-    dirs.iter()
-        .any(|dir| dir.shared && path.is_below(&dir.path))
-}
+use violations::{is_shared, outdirs_at};
 
 // Whether one of these paths is in a set.
 fn has_any(files: &BTreeSet<Path>, paths: &[Path]) -> bool

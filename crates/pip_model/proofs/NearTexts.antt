@@ -9,7 +9,8 @@ use Rattle.std.proofs.lemmas.Slice.Eq.{bytes_eq-Decides}
 use Rattle.bx_tree.specs.declared.file_input.FileInput.{FileInput}
 use Rattle.bx_tree.specs.Paths.{path_text}
 use Rattle.pip_model_types.specs.declared.pip.Pip.{Pip}
-use Rattle.pip_model.specs.Listings.{HasNear, IsNear, KeepsFound, ListsNear, listed_files}
+use Rattle.pip_model_types.specs.Kinds.{listed_files}
+use Rattle.pip_model.specs.Listings.{HasNear, IsNear, KeepsFound, ListsNear}
 use Rattle.pip_model.specs.Outputs.{Table, found_in}
 use Rattle.pip_model.proofs.EdgesBack.{in_range}
 use Rattle.pip_model.proofs.Found.{there}

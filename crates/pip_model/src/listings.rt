@@ -2,7 +2,8 @@
 //! going through all seals.
 ghost use Rattle.std.specs.Prelude.{◌≡◌, ◌++◌, ◌∷◌, [], ◌≤◌, ℕ, List, Contains, length, IfOk, OnOk};
 ghost use Rattle.pip_model.specs.Listings.{HasListingsOf, HasNear, KeepsFound, ListsNear, has_wide as any_wide};
-ghost use Rattle.pip_model.specs.Listings.{is_wide as kind_wide, listed_files};
+ghost use Rattle.pip_model.specs.Listings.{is_wide as kind_wide};
+ghost use Rattle.pip_model_types.specs.Kinds.{listed_files};
 ghost use Rattle.pip_model.specs.Outputs.{found_in};
 
 use crate::outputs::ByText;
@@ -81,10 +82,7 @@ fn add_pip(found: &mut ByText, alloc: Global, number: u32, kind: &PipKind) -> Re
     ensures kept { OnOk result (KeepsFound found.old.table found.new.table) }
     ensures near { OnOk result (HasNear (listed_files kind.now) number found.new.table) }
 {
-    match kind {
-        PipKind::Seal(seal) => add_files(found, alloc, number, seal.files.files()),
-        PipKind::Process(_) | PipKind::Copy(_) | PipKind::Write(_) => Ok(()),
-    }
+    add_files(found, alloc, number, kind.listed())
 }
 
 // The seals by the paths at and above the files that they list.

@@ -81,6 +81,8 @@ pub contains_if_found : (xs : List Atoms) (p : Atoms) (r : Result ℕ ℕ)
 contains_if_found xs p (Ok i) h = (λ e. (i, h.0, h.1 p), λ k. refl)
 contains_if_found xs p (Err i) h = (λ e. absurd (false≢true e), λ k. absurd (All-contains (λ (x : Atoms). x ≢ p) xs p h k refl))
 
-pub map_itself : (ps : List Atoms) → map (λ (p : Atoms). p) ps ≡ ps
-map_itself [] = refl
-map_itself (p ∷ ps) = ap (λ qs. p ∷ qs) (map_itself ps)
+-- ## No paths
+
+pub no_files_rise : IsStrictlySortedBy path_cmp []
+unfolding IsStrictlySortedBy
+no_files_rise = tt

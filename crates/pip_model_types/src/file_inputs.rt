@@ -1,5 +1,5 @@
 //! The files that a pip takes.
-ghost use Rattle.std.specs.Prelude.{◌≡◌, map};
+ghost use Rattle.std.specs.Prelude.{◌≡◌, ◌↔◌, [], IsTrue, Contains, map};
 ghost use Rattle.std.specs.List.{IsDistinct};
 ghost use Rattle.std.specs.List.Sorted.{IsPermutation};
 ghost use Rattle.bx_tree.specs.Paths.{same_path};
@@ -38,6 +38,22 @@ fn by_path(files: Vec<FileInput>) -> Vec<FileInput>
     files
 }
 
+/// No files.
+pub fn no_inputs<'a>() -> &'a [FileInput]
+    ensures files { result.now ≡ [] }
+    ensures rising { RiseByPath result.now }
+{
+    &[]
+}
+
+// Whether one of these files has a path.
+fn has_file(files: &[FileInput], path: &Path) -> bool
+    requires { RiseByPath files.now }
+    ensures { IsTrue result ↔ Contains (map input_path files.now) path.now }
+{
+    files.binary_search_by(|file| file.path().cmp(path)).is_ok()
+}
+
 impl FileInputs {
     /// These files.
     pub fn of(files: Vec<FileInput>) -> FileInputs
@@ -56,6 +72,13 @@ impl FileInputs {
         ensures rising { RiseByPath self.now }
     {
         self.files.as_slice()
+    }
+
+    /// Whether one of the files has a path.
+    pub fn has_path(&self, path: &Path) -> bool
+        ensures { IsTrue result ↔ Contains (map input_path self.now) path.now }
+    {
+        has_file(self.files(), path)
     }
 
     /// The files, in order, as a vector.

@@ -1,10 +1,10 @@
 //! Whether what a pip names as made is made by an earlier pip.
-ghost use Rattle.std.specs.Prelude.{◌≡◌, ◌↔◌, IsTrue, MatchOption, All, Any, slice_get};
+ghost use Rattle.std.specs.Prelude.{◌≡◌, ◌↔◌, IsTrue, All, Any};
 ghost use Rattle.pip_model_types.specs.Makers.{FitsAfter, HasOutDir, IsDirAmong, IsFileAmong, IsSealOf, MakesFile};
 
 use crate::dir_inputs::{DirInput, SealForm};
 use crate::outputs::OutDir;
-use crate::pip::{Pip, PipKind};
+use crate::pip::{Pip, PipKind, pip_at};
 use bx_tree::{FileInput, Path};
 
 fn makes_file(kind: &PipKind, path: &Path) -> bool
@@ -46,15 +46,6 @@ fn has_outdir(kind: &PipKind, path: &Path) -> bool
         PipKind::Process(process) => is_outdir(process.outdirs.dirs(), path),
         _ => false,
     }
-}
-
-// The pip with a number, if there is one.
-fn pip_at(pips: &[Pip], number: u32) -> Option<&Pip>
-    ensures { MatchOption result
-        (slice_get pips.now number ≡ None)
-        (λ pip. slice_get pips.now number ≡ Some pip.now) }
-{
-    pips.get(number as usize)
 }
 
 fn is_file_among(pips: &[Pip], file: &FileInput) -> bool

@@ -231,7 +231,3 @@ none_at path (f ∷ fs) h = elim (cases_Bool (same_path (input_path f) path)) [
 
 pub none_found : (path : Atoms) (files : List FileInput) → All (λ f. input_path f ≢ path) files → None ≡ first_at path files
 none_found path files h = sym (none_at path files (recursion_from_All (λ f. input_path f ≢ path) files h))
-
-pub no_files_rise : RiseByPath []
-unfolding IsStrictlySortedBy
-no_files_rise = tt

@@ -1,13 +1,14 @@
 -- The input files of a pip, with their bytes.
 use Rattle.std.specs.Prelude.{Bool, true, false, nat_le, not, if◌then◌else◌, List, [], ◌∷◌, ◌++◌, map}
 use Rattle.std.specs.Prelude.{filter}
-use Rattle.std.specs.Prelude.{Option, Some, None, slice_get}
+use Rattle.std.specs.Prelude.{slice_get}
 use Rattle.std.specs.List.{flat_map}
 use Rattle.bx_tree.specs.Paths.{Atoms}
 use Rattle.bx_tree.specs.Trees.{Files}
 use Rattle.bx_tree.specs.declared.file_input.FileInput.{FileInput}
 use Rattle.bx_tree.specs.Below.{is_below, is_directly_in}
 use Rattle.pip_model_types.specs.Dirs.{dir_pip, is_source_form}
+use Rattle.pip_model_types.specs.Kinds.{listed_in}
 use Rattle.pip_model_types.specs.declared.dir_inputs.SealForm.{SealForm}
 use Rattle.pip_model_types.specs.declared.dir_inputs.SealForm.TheVariants.{Full, Partial, SourceTop, SourceAll}
 use Rattle.pip_model_types.specs.declared.dir_inputs.DirInput.{DirInput}
@@ -20,17 +21,6 @@ use Rattle.pip_view_inputs.specs.Contents.{bytes_at, input_file}
 use Rattle.pip_view_inputs.specs.Results.{ByPip, files_by}
 
 -- ## Members of directories
-
--- the files that a seal lists
-abbrev pub listed_by : PipKind → List FileInput
-listed_by (Process d) = []
-listed_by (Copy d) = []
-listed_by (Write d) = []
-listed_by (Seal d) = d.files
-
-abbrev pub listed_in : Option Pip → List FileInput
-listed_in None = []
-listed_in (Some pip) = listed_by pip.kind
 
 -- the members of a seal: the files that it lists, or those source files directly in its root or below it
 abbrev pub sealed_members : List FileInput → Files → ByPip → SealForm → Atoms → Files

@@ -7,7 +7,6 @@
 #![tactic(auto)]
 
 mod below;
-mod by_path;
 mod file_list;
 mod laws;
 mod listing;
@@ -17,7 +16,6 @@ mod taken;
 mod view;
 
 pub use bx_tree::Memory;
-pub use by_path::made_of;
 pub use laws::view_agrees;
 pub use pip_view_inputs::{Inputs, desc, plain};
 pub use view::PipView;

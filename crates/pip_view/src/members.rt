@@ -22,18 +22,9 @@ use crate::made_list::{add_below, has_below};
 use bx_digest::Blob;
 use bx_tree::{Memory, Path, prefix_of};
 use pip_model::{DirInput, DirInputs, MadeFile};
-use pip_view_inputs::Inputs;
+use pip_view_inputs::{Inputs, made_at};
 use std::alloc::Global;
 use tool_run::add_names;
-
-// The pip whose directory this is.
-fn pip_of(dir: &DirInput) -> u32
-    ensures { result ≡ dir_pip dir.now }
-{
-    match dir {
-        DirInput::Sealed(pip, _, _) | DirInput::Opaque(pip, _) => *pip,
-    }
-}
 
 fn is_opaque(dir: &DirInput) -> bool
     ensures { result ≡ opaque dir.now }
@@ -50,7 +41,7 @@ fn place_by_pip(sorted: &[&DirInput], pip: u32) -> usize
 {
     sorted
         .iter()
-        .position(|other| pip <= pip_of(other))
+        .position(|other| pip <= other.pip())
         .unwrap_or(sorted.len())
 }
 
@@ -59,7 +50,7 @@ fn insert_by_pip<'a>(sorted: &mut Vec<&'a DirInput>, dir: &'a DirInput) -> Resul
     ensures { OnOk result
         (dirs_now sorted.new.items ≡ with_dir dir.entry.now (dirs_now sorted.old.items)) }
 {
-    let place = place_by_pip(sorted.as_slice(), pip_of(dir));
+    let place = place_by_pip(sorted.as_slice(), dir.pip());
     sorted.insert(place, dir)?;
     Ok(())
 }
@@ -140,15 +131,6 @@ fn deeper<'a>(dir: &'a Path, other: &'a Path) -> Option<&'a Path>
         return Some(dir);
     }
     None
-}
-
-fn made_at<'a>(inputs: &'a Inputs, pip: u32, path: &Path) -> Option<&'a Blob>
-    ensures { option_copied result ≡ file_at (files_by inputs.entry.now pip) path.now }
-{
-    match inputs.find(pip) {
-        Some(made) => made.find(path),
-        None => None,
-    }
 }
 
 // The file at a path that a pip made below a directory.

@@ -15,7 +15,8 @@ use Rattle.pip_model_types.specs.declared.dir_inputs.SealForm.{SealForm}
 use Rattle.pip_model_types.specs.declared.pip.Pip.{Pip}
 use Rattle.pip_model_types.specs.declared.pip.PipKind.{PipKind}
 use Rattle.pip_model_types.specs.declared.pip.PipKind.TheVariants.{Process, Copy, Write, Seal}
-use Rattle.pip_model.specs.Listings.{IsNear, ListsNear, listed_files}
+use Rattle.pip_model_types.specs.Kinds.{listed_files}
+use Rattle.pip_model.specs.Listings.{IsNear, ListsNear}
 use Rattle.pip_view_directories.specs.Near.{AddsDir, AreNear, AreOfSeals, ListsAt, dir_in, kind_dir}
 use Rattle.bx_tree.specs.FileInputs.{input_path}
 use Rattle.bx_tree.specs.Sets.{IsSetOf}

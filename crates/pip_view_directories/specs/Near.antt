@@ -11,7 +11,8 @@ use Rattle.pip_model_types.specs.declared.dir_inputs.DirInput.TheVariants.{Seale
 use Rattle.pip_model_types.specs.declared.pip.Pip.{Pip}
 use Rattle.pip_model_types.specs.declared.pip.PipKind.{PipKind}
 use Rattle.pip_model_types.specs.declared.pip.PipKind.TheVariants.{Process, Copy, Write, Seal}
-use Rattle.pip_model.specs.Listings.{has_wide, listed_files}
+use Rattle.pip_model_types.specs.Kinds.{listed_files}
+use Rattle.pip_model.specs.Listings.{has_wide}
 use Rattle.pip_model.specs.declared.listings.TheConstants.{FEW_DIRS}
 use Rattle.bx_tree.specs.FileInputs.{input_path}
 

@@ -8,19 +8,9 @@ ghost use Rattle.pip_model_types.specs.declared.dir_inputs.DirInput.{DirInput as
 ghost use Rattle.pip_view_directories.specs.Ranges.{AddsAll, AreOthers, IsBetween};
 ghost use Rattle.pip_view_directories.specs.Ranges.{is_other as other};
 
-use bx_tree::{Memory, Path, comes_before};
+use bx_tree::{Memory, comes_before};
 use pip_model::{DirInput, DirInputs, SealForm};
 use std::alloc::Global;
-
-// The path of a directory.
-fn path_of(dir: &DirInput) -> &Path
-    ensures { result.now ≡ dir_path dir.entry.now }
-{
-    match dir {
-        DirInput::Sealed(_, _, root) => root,
-        DirInput::Opaque(_, path) => path,
-    }
-}
 
 // Whether a seal of this form does not list its files.
 fn is_unlisted(form: SealForm) -> bool
@@ -42,22 +32,12 @@ fn is_other(dir: &DirInput) -> bool
     }
 }
 
-// A directory, shared.
-fn share_dir(dir: &DirInput) -> Result<DirInput, Memory>
-    ensures { IfOk result (λ shared. shared ≡ dir.now) }
-{
-    match dir {
-        DirInput::Sealed(pip, form, root) => Ok(DirInput::Sealed(*pip, *form, root.share()?)),
-        DirInput::Opaque(pip, path) => Ok(DirInput::Opaque(*pip, path.share()?)),
-    }
-}
-
 // Adds a directory, if it does not list its files.
 fn add_other(others: &mut Vec<DirInput>, dir: &DirInput) -> Result<(), Memory>
     ensures { OnOk result (others.new.items ≡ others.old.items ++ filter other (dir.now ∷ [])) }
 {
     if is_other(dir) {
-        others.push(share_dir(dir)?)?;
+        others.push(dir.share()?)?;
     }
     Ok(())
 }
@@ -89,7 +69,7 @@ fn count_before(dirs: &[DirInput], text: &[u8]) -> usize
         (λ (dir : AnyDir). comes_before text.now (dir_path dir) ≡ false)
         dirs.now result }
 {
-    dirs.partition_point(|dir| comes_before(path_of(dir), text))
+    dirs.partition_point(|dir| comes_before(dir.path(), text))
 }
 
 // The directories whose paths have this text or a greater one.
@@ -131,7 +111,7 @@ fn add_all(found: &mut Vec<DirInput>, dirs: &[DirInput]) -> Result<(), Memory>
     ensures { OnOk result (found.new.items ≡ found.old.items ++ dirs.now) }
 {
     'dirs: for dir in dirs {
-        found.push(share_dir(dir)?)?;
+        found.push(dir.share()?)?;
     }
     Ok(())
 }

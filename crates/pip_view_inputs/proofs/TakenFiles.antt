@@ -6,7 +6,7 @@ use Rattle.std.proofs.lemmas.List.{map-append, take_more}
 use Rattle.bx_tree.specs.Paths.{path_cmp, same_path}
 use Rattle.bx_tree.specs.Trees.{Files, paths_of}
 use Rattle.bx_tree.specs.declared.file_input.FileInput.{FileInput}
-use Rattle.tool_run_writes.proofs.SameFiles.{distinct_paths}
+use Rattle.pip_model_types.proofs.SameFiles.{distinct_paths}
 use Rattle.pip_model_types.specs.Inputs.{RiseByPath}
 use Rattle.pip_model_types.specs.Made.{RisingFiles, made_files}
 use Rattle.pip_model_types.specs.declared.made.MadeFile.{MadeFile}

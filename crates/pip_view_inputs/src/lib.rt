@@ -10,4 +10,4 @@ mod making;
 mod sharing;
 
 pub use inputs::Inputs;
-pub use making::{desc, input_file, no_files, plain, process_at, source_blob};
+pub use making::{desc, input_file, made_at, no_files, plain, process_at, source_blob};

@@ -26,7 +26,8 @@ fn share_or_empty(alloc: Global, found: Option<&Blob>) -> Result<Blob, Memory>
     }
 }
 
-fn made_at<'a>(inputs: &'a Inputs, pip: u32, path: &Path) -> Option<&'a Blob>
+/// The bytes of the file at a path that an input made, if there is one.
+pub fn made_at<'a>(inputs: &'a Inputs, pip: u32, path: &Path) -> Option<&'a Blob>
     ensures { option_copied result ≡ file_at (files_by inputs.entry.now pip) path.now }
 {
     match inputs.find(pip) {

@@ -1,6 +1,5 @@
 pub mod NextAtoms
 pub mod Found
-pub mod SameFiles
 pub mod PutInOrder
 pub mod DirectorySets
 pub mod Bounds

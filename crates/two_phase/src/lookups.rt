@@ -17,7 +17,8 @@ use bx_io::KeepReader;
 use memo_format::{Entry, Found, Selector};
 use observed::{Answer, PathSet, View, answers_to};
 use pip_model_types::Desc;
-use prints::{strong_of, weak};
+use prints::strong_of;
+use run_record::weak_digest;
 use std::alloc::{AllocError, Global};
 
 /// The answer to a lookup.
@@ -31,15 +32,6 @@ pub enum LookupResult {
     Fault,
     /// There was no memory.
     Memory,
-}
-
-// The digest of the weak text of a process.
-fn weak_digest(alloc: Global, desc: &Desc) -> Result<Digest, AllocError>
-    ensures digest { IfOk result (λ digest. digest ≡ weak_of desc.now) }
-    ensures spells { IfOk result (λ _. IsReadBack desc.now) }
-{
-    let printed = weak(alloc, desc)?;
-    Ok(printed.digest)
 }
 
 // The digest of the strong text of answers.

@@ -7,10 +7,9 @@ use Rattle.std.specs.Str.{bytes_eq}
 use Rattle.std.proofs.lemmas.Bool.{cases_Bool, cond-true}
 use Rattle.std.proofs.lemmas.List.{get_or_at, take_at}
 use Rattle.std.proofs.lemmas.List.Elements.{Contains-append_cases, Contains-append_left, Contains-append_right, Contains-push, Contains-push_cases, at_from_Contains}
-use Rattle.std.proofs.lemmas.Map.Views.{Contains-from_any}
 use Rattle.std.proofs.lemmas.Slice.Eq.{bytes_eq-Decides}
 use Rattle.bx_tree.specs.Orders.{same_path_decides}
-use Rattle.bx_tree.specs.Paths.{Atoms, IsBelow, path_text, same_path}
+use Rattle.bx_tree.specs.Paths.{Atoms, IsBelow, has_path, path_text}
 use Rattle.bx_tree.proofs.PathTexts.{prefix_from_below}
 use Rattle.pip_model_types.specs.declared.dir_inputs.DirInput.{DirInput}
 use Rattle.pip_model_types.specs.declared.outputs.OutDir.{OutDir}
@@ -19,6 +18,7 @@ use Rattle.pip_model_types.specs.declared.pip.PipKind.{PipKind}
 use Rattle.pip_model_types.specs.declared.pip.PipKind.TheVariants.{Process, Copy, Write, Seal}
 use Rattle.pip_model.specs.Outputs.{number_at, numbers_at, numbers_from, output_paths}
 use Rattle.bx_tree.proofs.BelowPaths.{below_decides}
+use Rattle.bx_tree.proofs.FoundByTest.{has_path_decides}
 use Rattle.violations.specs.Least.{Covers, CoversAbove, IsAtMost, is_producer}
 use Rattle.violations.specs.Producing.{is_unseen_in, produces_unseen}
 use Rattle.pip_model_types.specs.Outputs.{is_console, outdir_paths}
@@ -116,12 +116,12 @@ output_at : (dirs : List DirInput) (j : ℕ) (path : Atoms) (kind : PipKind) →
     → At (output_paths kind) path
 output_at dirs j path (Process d) e =
     let files = d.outs ++ option_to_list d.console in
-    elim (or_cases (list_any (same_path path) d.outs || is_console d.console path) (list_any (is_unseen_in dirs j path) d.outdirs) e) [
+    elim (or_cases (has_path d.outs path || is_console d.console path) (list_any (is_unseen_in dirs j path) d.outdirs) e) [
       | inl file ↦ among_left files (outdir_paths d.outdirs) path
-          (elim (or_cases (list_any (same_path path) d.outs) (is_console d.console path) file) [
+          (elim (or_cases (has_path d.outs path) (is_console d.console path) file) [
             | inl out ↦ among_left d.outs (option_to_list d.console) path (
               path,
-              Contains-from_any {eq = same_path} (λ x y h. (same_path_decides x y).0 h) path d.outs out,
+              (has_path_decides d.outs path).0 out,
               inl refl,
             )
             | inr said ↦ among_right d.outs (option_to_list d.console) path (console_at d.console path said)

@@ -23,8 +23,8 @@ fn outdirs_of(kind: &PipKind) -> &[OutDir]
     }
 }
 
-// The output directories of the pip with a number.
-fn outdirs_at(pips: &[Pip], pip: u32) -> &[OutDir]
+/// The output directories of the pip with a number, none if there is no such pip.
+pub fn outdirs_at(pips: &[Pip], pip: u32) -> &[OutDir]
     ensures { result.now ≡ double_writes.outdirs_in (slice_get pips.entry.now pip) }
 {
     match pips.get(pip as usize) {
@@ -40,8 +40,8 @@ fn shares_any(dirs: &[OutDir]) -> bool
     dirs.iter().any(|dir| dir.shared)
 }
 
-// Whether a path lies strictly below a directory that is shared.
-fn is_shared(dirs: &[OutDir], path: &Path) -> bool
+/// Whether a path lies strictly below one of the directories that is shared.
+pub fn is_shared(dirs: &[OutDir], path: &Path) -> bool
     ensures { result ≡ double_writes.is_shared dirs.now path.now }
 {
     dirs.iter()

@@ -14,7 +14,7 @@ mod producing_laws;
 mod verdict;
 
 pub use bx_tree::Memory;
-pub use clashes::double_write;
+pub use clashes::{double_write, is_shared, outdirs_at};
 pub use classes::classify;
 pub use laws::leads_are_walks;
 pub use producing::{dirs_at, least_unseen};

@@ -21,7 +21,7 @@ files-preserved c = λ k d l. elim (cases_lt k c.files.file-index) [
   | inr now ↦
       let here : k ≡ c.files.file-index = omega arith in
       let at = at_default c.args.files.now c.files.file-index d c.file-item.result c.files-test.true (sym c.file-item.is) in
-      let member = c.is_member.ensures.0 c.if-not-is_member.false in
+      let member = c.has_path.ensures.0 c.if-not-has_path.false in
       subst (λ n. Contains (map input_path c.args.seal.now.files) (get_or c.args.files.now n d)) (sym here)
       (subst (Contains (map input_path c.args.seal.now.files)) (sym at) member)
 ]

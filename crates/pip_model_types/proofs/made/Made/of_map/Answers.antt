@@ -1,8 +1,8 @@
 use Rattle.std.proofs.Common.{◌≡◌, IfOk, sym, subst}
 use Rattle.bx_tree.specs.Trees.{Files}
 use Rattle.pip_model_types.specs.Made.{RisingFiles}
-use Rattle.tool_run_writes.proofs.SameFiles.{distinct_paths, one_made}
-use Rattle.tool_run_writes.proofs.writes.made_of.Goals as goal
+use Rattle.pip_model_types.proofs.SameFiles.{distinct_paths, one_made}
+use Rattle.pip_model_types.proofs.made.Made.of_map.Goals as goal
 
 pub of-requires : goal.of-requires
 of-requires c = distinct_paths _ (subst RisingFiles (sym c.in_ok-files_of.ensures.files) c.in_ok-files_of.ensures.rising)

@@ -10,7 +10,7 @@ use Rattle.bx_tree.specs.Paths.{Atoms, path_cmp}
 use Rattle.bx_tree.specs.declared.file_input.FileInput.{FileInput}
 use Rattle.bx_tree.specs.declared.file_input.FileInput.TheVariants.{Source}
 use Rattle.pip_model_types.proofs.Placed.{place_from_search}
-use Rattle.graph_check_outputs.proofs.unlisted.is_listed.Goals as goal
+use Rattle.pip_model_types.proofs.file_inputs.has_file.Goals as goal
 use Rattle.bx_tree.specs.FileInputs.{input_path}
 
 among : (files : List FileInput) (p : Atoms) (r : Result ℕ ℕ)

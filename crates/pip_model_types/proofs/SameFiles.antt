@@ -1,5 +1,5 @@
 -- Files that rise by path are one list, however they were put in order.
-use Rattle.std.proofs.Common.{◌≡◌, ℕ, List, [], ◌∷◌, Result, Ok, Err, IfOk, refl, ap, map}
+use Rattle.std.proofs.Common.{◌≡◌, ℕ, List, Result, Ok, Err, IfOk}
 use Rattle.std.specs.List.{IsDistinct}
 use Rattle.std.specs.List.Sorted.{IsPermutation}
 use Rattle.bx_tree.specs.Paths.{Atoms, same_path}
@@ -18,7 +18,3 @@ one_made (Err e) files s moved t = tt
 -- files that rise have paths of their own
 pub distinct_paths : (files : Files) → RisingFiles files → IsDistinct same_path (paths_of files)
 distinct_paths files h = rising_distinct (paths_of files) h
-
-pub map_itself : (files : Files) → map (λ (f : Atoms × List ℕ). f) files ≡ files
-map_itself [] = refl
-map_itself (f ∷ fs) = ap (λ gs. f ∷ gs) (map_itself fs)
