@@ -24,7 +24,7 @@ pub use file_input::FileInput;
 pub use header::split_once;
 pub use laws::{one_path, one_reading, some_reading};
 pub use limits::{MAX_ATOM_BYTES, MAX_BUNDLE_BYTES, MAX_FILE_BYTES, MAX_FILES, MAX_PATH_BYTES};
-pub use path::{Path, PathFault, is_atom, is_path};
+pub use path::{Path, PathFault, has_dir_prefix, is_atom, is_path};
 pub use ranges::{comes_before, prefix_of};
 pub use text::{Text, lines_of};
 pub use tree::{Tree, reserved, text_order};

@@ -92,8 +92,8 @@ pub fn is_path(text: &[u8]) -> bool
     has_atoms(text)
 }
 
-// Whether a text starts with a directory's text and a `/`.
-pub(crate) fn has_dir_prefix(text: &[u8], dir: &[u8]) -> bool
+/// Whether a text starts with a directory's text and a `/`.
+pub fn has_dir_prefix(text: &[u8], dir: &[u8]) -> bool
     ensures { IsTrue result ↔ TextGoesOn dir.now text.now }
 {
     if text.len() <= dir.len() {

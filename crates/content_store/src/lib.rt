@@ -3,7 +3,7 @@
 //! A content is held under the name that its digest gives, and an entry under that of its strong digest. This
 //! crate has those names, the calls that get a content and put one, and the call that gets an entry. It
 //! depends on `bx_io` for stores, on `bx_digest` for contents and on `memo_format` for entries and for which
-//! names are well. It carries the promise that what is found has the digest that was asked for.
+//! names are well-formed. It carries the promise that what is found has the digest that was asked for.
 #![tactic(auto)]
 
 mod content;

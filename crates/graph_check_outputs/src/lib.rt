@@ -16,6 +16,7 @@ mod tree_order;
 mod unlisted;
 mod unshared;
 
+pub use declared::add_path;
 pub use double_producer::first_double_producer;
 pub use outside_out::first_outside;
 pub use overlap::first_overlap;
