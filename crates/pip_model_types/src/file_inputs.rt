@@ -6,7 +6,7 @@ ghost use Rattle.bx_tree.specs.Paths.{same_path};
 ghost use Rattle.pip_model_types.specs.Inputs.{RiseByPath};
 ghost use Rattle.bx_tree.specs.FileInputs.{input_path};
 
-use bx_tree::FileInput;
+use bx_tree::{FileInput, Path};
 use std::marker::Model;
 
 /// Files, sorted by path, of which no two have one path. Contracts see them as a list.
