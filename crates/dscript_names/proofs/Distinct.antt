@@ -1,7 +1,7 @@
 -- Where a sorted list is cut to one of each, its length shows whether an element was there twice.
 use Rattle.std.proofs.Common.{◌≡◌, suc, ◌<◌, ◌≤◌, Bool, true, false, ◌||◌, List, [], ◌∷◌, length, map, cond, refl, sym, ap, ◌∙◌, arith, inl, inr, nat_lt}
 use borrow.Author.Tests.{ltb-true, ltb-false}
-use Rattle.std.proofs.lemmas.Bool.{cases_Bool}
+use Rattle.std.proofs.lemmas.Bool.{cases_Bool, or_parts}
 use Rattle.std.proofs.lemmas.List.Kept.{IsStrictlySortedBy-dedup}
 use Rattle.std.proofs.lemmas.List.Sorted.{IsPermutation-sym, length_permutation}
 use Rattle.std.proofs.lemmas.Map.Keys.{IsDistinct-IsPermutation, IsDistinct-cons, IsDistinct-from_apart, IsDistinct-from_sorted}
@@ -19,13 +19,9 @@ none_any : {X : Type 0} (p : X → Bool) (xs : List X) → AllByRecursion (λ y.
 none_any p [] h = refl
 none_any p (x ∷ xs) h = ap (λ b. b || list_any p xs) h.0 ∙ none_any p xs h.1
 
-neither : (a b : Bool) → (a || b) ≡ false → (a ≡ false) × (b ≡ false)
-neither true b e = cc
-neither false b e = (refl, e)
-
 any_none : {X : Type 0} (p : X → Bool) (xs : List X) → list_any p xs ≡ false → AllByRecursion (λ y. p y ≡ false) xs
 any_none p [] e = tt
-any_none p (x ∷ xs) e = let h = neither (p x) (list_any p xs) e in (h.0, any_none p xs h.1)
+any_none p (x ∷ xs) e = let h = or_parts (p x) (list_any p xs) e in (h.0, any_none p xs h.1)
 
 distinct_once : {X : Type 0} (same : X → X → Bool) (xs : List X) → IsDistinct same xs → has_repeat same xs ≡ false
 distinct_once same [] h = refl
@@ -39,7 +35,7 @@ none_distinct same = IsDistinct-from_apart same [] (λ i j d before within. absu
 once_distinct : {X : Type 0} (same : X → X → Bool) (xs : List X) → has_repeat same xs ≡ false → IsDistinct same xs
 once_distinct same [] e = none_distinct same
 once_distinct same (x ∷ xs) e =
-    let h = neither (list_any (same x) xs) (has_repeat same xs) e in
+    let h = or_parts (list_any (same x) xs) (has_repeat same xs) e in
     IsDistinct-cons same x xs (any_none (same x) xs h.0) (once_distinct same xs h.1)
 
 all_like : {X : Type 0} (p q : X → Bool) → ((y : X) → p y ≡ q y) → (xs : List X)

@@ -6,7 +6,7 @@ use Rattle.std.specs.List.Sorted.{IsStrictlySortedBy}
 use Rattle.std.specs.Option.{is_some, option_map_or}
 use Rattle.std.specs.declared.cmp.Ordering.{Ordering}
 use Rattle.std.specs.declared.cmp.Ordering.TheVariants.{Less, Equal}
-use Rattle.std.proofs.lemmas.Bool.{cases_Bool, false≢true}
+use Rattle.std.proofs.lemmas.Bool.{cases_Bool, false≢true, and_from, or_parts}
 use Rattle.std.proofs.lemmas.Cmp.{tied_itself}
 use Rattle.std.proofs.lemmas.List.Kept.{IsStrictlySortedBy-filter}
 use Rattle.bx_tree.specs.Paths.{Atoms, IsPath, has_path, path_cmp, same_path}
@@ -47,29 +47,21 @@ in_last : (xs : List ModuleFile) (q : ModuleFile) → In (xs ++ q ∷ []) q
 in_last [] q = inl refl
 in_last (x ∷ xs) q = inr (in_last xs q)
 
-or_left : (a b : Bool) → (a || b) ≡ false → a ≡ false
-or_left true b e = cc
-or_left false b e = refl
-
-or_right : (a b : Bool) → (a || b) ≡ false → b ≡ false
-or_right true b e = cc
-or_right false b e = e
-
 none_here : (test : ModuleFile → Bool) (xs : List ModuleFile) (q : ModuleFile) → list_any test xs ≡ false → In xs q
     → test q ≡ false
 none_here test [] q e h = absurd h
 none_here test (x ∷ xs) q e h = elim h [
-  | inl is ↦ ap test (sym is) ∙ or_left (test x) (list_any test xs) e
-  | inr k ↦ none_here test xs q (or_right (test x) (list_any test xs) e) k
+  | inl is ↦ ap test (sym is) ∙ (or_parts (test x) (list_any test xs) e).0
+  | inr k ↦ none_here test xs q (or_parts (test x) (list_any test xs) e).1 k
 ]
 
 none_of : (test : Atoms → Bool) (paths : List Atoms) (path : Atoms) → list_any test paths ≡ false
     → has_path paths path ≡ true → test path ≡ false
 none_of test [] path e h = absurd (false≢true h)
 none_of test (p ∷ ps) path e h = elim (cases_Bool (same_path p path)) [
-  | inl same ↦ ap test (sym ((same_path_decides p path).0 same)) ∙ or_left (test p) (list_any test ps) e
+  | inl same ↦ ap test (sym ((same_path_decides p path).0 same)) ∙ (or_parts (test p) (list_any test ps) e).0
   | inr differ ↦
-      none_of test ps path (or_right (test p) (list_any test ps) e) (sym (ap (λ b. b || has_path ps path) differ) ∙ h)
+      none_of test ps path (or_parts (test p) (list_any test ps) e).1 (sym (ap (λ b. b || has_path ps path) differ) ∙ h)
 ]
 
 some_of : (test : Atoms → Bool) (paths : List Atoms) (path : Atoms) → has_path paths path ≡ true → test path ≡ true
@@ -146,11 +138,6 @@ below_first true true false o d e = cc
 below_first true false c o d e = cc
 below_first false s c o d e = cc
 
-both_are : (a b : Bool) → a ≡ true → b ≡ true → (a && b) ≡ true
-both_are true true e f = refl
-both_are true false e f = cc
-both_are false b e f = cc
-
 not_both : (dirs : List Atoms) (d e path : Atoms) → has_path dirs d ≡ true → has_path dirs e ≡ true → (d ≡ e → ⊥)
     → is_implied dirs d path ≡ true → is_implied dirs e path ≡ true → ⊥
 not_both dirs d e path h k apart i j =
@@ -163,10 +150,10 @@ not_both dirs d e path h k apart i j =
       | inr other ↦ elim other [
         | inl under ↦
             false≢true (sym b.1 ∙ some_of (is_between e path) dirs d h
-            (both_are (is_below d e) (is_below path d) ((below_decides d e).1 under) a.0))
+            (and_from (is_below d e) (is_below path d) ((below_decides d e).1 under) a.0))
         | inr over ↦
             false≢true (sym a.1 ∙ some_of (is_between d path) dirs e k
-            (both_are (is_below e d) (is_below path e) ((below_decides e d).1 over) b.0))
+            (and_from (is_below e d) (is_below path e) ((below_decides e d).1 over) b.0))
       ]
     ]
 
@@ -193,13 +180,13 @@ two_apart files dirs all prefix before p q (Described m lists) (Described n true
       | inl yes' ↦
           let free = none_of (is_taken all before) n.files file g yes' in
           let own = none_here (has_file file) before (Described m lists)
-          (or_left (list_any (has_file file) before) (list_any (implies_file file) all) free) i in
+          (or_parts (list_any (has_file file) before) (list_any (implies_file file) all) free).0 i in
           absurd (false≢true (sym own ∙ t))
       | inr none ↦ none
     ]
 two_apart files dirs all prefix before p q (Described m true) (Described n false) f g i j a b h k d = λ file t.
     none_here (implies_file file) all (Described n false)
-    (or_right (list_any (has_file file) prefix) (list_any (implies_file file) all) (none_of (is_taken all prefix) m.files file f t)) j
+    (or_parts (list_any (has_file file) prefix) (list_any (implies_file file) all) (none_of (is_taken all prefix) m.files file f t)).1 j
 two_apart files dirs all prefix before p q (Described m false) (Described n false) f g i j a b h k d = λ file t.
     elim (cases_Bool (has_path n.files file)) [
       | inl yes' ↦
@@ -323,7 +310,7 @@ own_dirs (p ∷ ps) h s = (differ_after p ps h.0.0 h.0.1 h.1 s.0, own_dirs ps h.
 all_joined : (t : Atoms → Bool) (xs ys : List Atoms) → list_all t xs ≡ true → list_all t ys ≡ true → list_all t (xs ++ ys) ≡ true
 all_joined t [] ys h k = k
 all_joined t (x ∷ xs) ys h k =
-    both_are (t x) (list_all t (xs ++ ys)) (first (t x) (list_all t xs) h) (all_joined t xs ys (rest (t x) (list_all t xs) h) k)
+    and_from (t x) (list_all t (xs ++ ys)) (first (t x) (list_all t xs) h) (all_joined t xs ys (rest (t x) (list_all t xs) h) k)
   where
     first : (a b : Bool) → (a && b) ≡ true → a ≡ true
     first true b e = refl

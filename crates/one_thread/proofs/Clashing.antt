@@ -2,7 +2,7 @@
 use Rattle.std.proofs.Common.{◌≡◌, ℕ, ◌+◌, zero, suc, Bool, true, false, ◌&&◌, ◌||◌, cond, List, [], ◌∷◌, filter, Option, Some, None, refl, ap, sym, ◌∙◌, subst, inl, inr}
 use Rattle.std.specs.Prelude.{slice_get}
 use Rattle.std.specs.List.{list_any}
-use Rattle.std.proofs.lemmas.Bool.{false≢true}
+use Rattle.std.proofs.lemmas.Bool.{false≢true, or_parts}
 use Rattle.bx_tree.specs.Paths.{Atoms, IsBelow, same_path}
 use Rattle.bx_tree.specs.Trees.{Files, paths_of}
 use Rattle.bx_tree.specs.Members.{Has}
@@ -16,15 +16,11 @@ use Rattle.pip_model_types.specs.Kinds.{outdirs_of}
 
 -- ## Tests
 
-or_none : (a b : Bool) → (a || b) ≡ false → (a ≡ false) × (b ≡ false)
-or_none true b e = cc
-or_none false b e = (refl, e)
-
 none_passes : {X : Type 0} (p : X → Bool) (xs : List X) (x : X) → list_any p xs ≡ false → Has xs x → p x ≡ false
 none_passes p [] x e h = absurd h
 none_passes p (y ∷ xs) x e h = elim h [
-  | inl same ↦ ap p (sym same) ∙ (or_none (p y) (list_any p xs) e).0
-  | inr more ↦ none_passes p xs x (or_none (p y) (list_any p xs) e).1 more
+  | inl same ↦ ap p (sym same) ∙ (or_parts (p y) (list_any p xs) e).0
+  | inr more ↦ none_passes p xs x (or_parts (p y) (list_any p xs) e).1 more
 ]
 
 one_passes : {X : Type 0} (p : X → Bool) (xs : List X) (x : X) → Has xs x → p x ≡ true → list_any p xs ≡ true

@@ -1,8 +1,8 @@
 -- What the files of a process that succeeded are.
-use Rattle.std.proofs.Common.{◌≡◌, ◌⊎◌, ℕ, ◌==◌, Bool, true, false, ◌&&◌, ◌||◌, not, cond, List, [], ◌∷◌, ◌++◌, Option, Some, None, refl, sym, subst, inl, inr, IsTrue}
+use Rattle.std.proofs.Common.{◌≡◌, ◌⊎◌, ℕ, ◌==◌, Bool, true, false, ◌||◌, not, cond, List, [], ◌∷◌, ◌++◌, Option, Some, None, refl, sym, subst, inl, inr, IsTrue}
 use Rattle.std.specs.List.{AllByRecursion, list_any}
 use Rattle.std.specs.Option.{option_to_list}
-use Rattle.std.proofs.lemmas.Bool.{or_cases}
+use Rattle.std.proofs.lemmas.Bool.{or_cases, and_parts}
 use Rattle.bx_tree.specs.Orders.{same_path_decides}
 use Rattle.bx_tree.specs.Paths.{Atoms, IsBelow, same_path}
 use Rattle.bx_tree.specs.Trees.{Files, paths_of}
@@ -50,16 +50,12 @@ any_dir (dir ∷ dirs) path e = elim (or_cases (is_below path dir.path) (list_an
   | inr more ↦ let rest = any_dir dirs path more in (rest.0, inr rest.1, rest.2)
 ]
 
-both_true : (a b : Bool) → (a && b) ≡ true → a ≡ true
-both_true true b e = refl
-both_true false b e = e
-
 -- what a run may write its process makes
 permitted_makes : (x : Desc) (path : Atoms) → permits (described x) path ≡ true → Makes (Process x.process) path
 permitted_makes x path e =
     let files = list_any (λ out. same_path out path) x.process.outs in
     let dirs = list_any (λ dir. is_below path dir) (outdir_paths x.process.outdirs) in
-    elim (or_cases files dirs (both_true (files || dirs) (not (is_console x.process.console path)) e)) [
+    elim (or_cases files dirs (and_parts (files || dirs) (not (is_console x.process.console path)) e).0) [
       | inl out ↦ inl (has_first x.process.outs (option_to_list x.process.console) path (any_file x.process.outs path out))
       | inr dir ↦ inr (any_dir x.process.outdirs path dir)
     ]

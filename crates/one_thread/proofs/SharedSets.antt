@@ -4,7 +4,7 @@ use Rattle.std.specs.Prelude.{slice_get}
 use Rattle.std.specs.BTreeSet.{BTreeSet, contains}
 use Rattle.std.specs.BTreeMap.{is_at}
 use Rattle.std.specs.List.{list_any}
-use Rattle.std.proofs.lemmas.Bool.{cases_Bool, false≢true}
+use Rattle.std.proofs.lemmas.Bool.{cases_Bool, false≢true, or_parts}
 use Rattle.std.proofs.lemmas.List.{drop_all, take_more}
 use Rattle.std.proofs.Math.Seq.{drop-cons}
 use Rattle.bx_tree.specs.Orders.{path_cmp_matches, same_path_decides}
@@ -36,14 +36,6 @@ any_after p (x ∷ xs) ys = by_test (p x) (any_after p xs ys)
 any_alike : {X : Type 0} (p q : X → Bool) (xs : List X) → ((x : X) → p x ≡ q x) → list_any p xs ≡ list_any q xs
 any_alike p q [] same = refl
 any_alike p q (x ∷ xs) same = ap (λ t. t || list_any p xs) (same x) ∙ ap (λ t. q x || t) (any_alike p q xs same)
-
-none_first : (a b : Bool) → (a || b) ≡ false → a ≡ false
-none_first true b e = e
-none_first false b e = refl
-
-none_second : (a b : Bool) → (a || b) ≡ false → b ≡ false
-none_second true b e = absurd (false≢true (sym e))
-none_second false b e = e
 
 none_any : {X : Type 0} (xs : List X) → list_any (λ (x : X). false) xs ≡ false
 none_any [] = refl
@@ -225,16 +217,16 @@ least_none path j (pip ∷ pips) [] e = refl
 least_none path j (pip ∷ pips) (files ∷ made) e =
     let own = shared_paths (outdirs_of pip.kind) files in
     let both = sym (any_after (is_clash path) own (all_shared pips made)) ∙ e in
-    ap (λ t. cond t (Some j) (least_clash path (j + 1) pips made)) (none_first (list_any (is_clash path) own) (any_clash (all_shared pips made) path) both)
-    ∙ least_none path (j + 1) pips made (none_second (list_any (is_clash path) own) (any_clash (all_shared pips made) path) both)
+    ap (λ t. cond t (Some j) (least_clash path (j + 1) pips made)) (or_parts (list_any (is_clash path) own) (any_clash (all_shared pips made) path) both).0
+    ∙ least_none path (j + 1) pips made (or_parts (list_any (is_clash path) own) (any_clash (all_shared pips made) path) both).1
 
 first_none : (paths : List Atoms) (before : List Pip) (made : List Files) → list_any (any_clash (all_shared before made)) paths ≡ false
     → first_clash paths before made ≡ None
 first_none [] before made e = refl
 first_none (path ∷ paths) before made e =
     ap (λ o. or_next path o (first_clash paths before made))
-    (least_none path 0 before made (none_first (any_clash (all_shared before made) path) (list_any (any_clash (all_shared before made)) paths) e))
-    ∙ first_none paths before made (none_second (any_clash (all_shared before made) path) (list_any (any_clash (all_shared before made)) paths) e)
+    (least_none path 0 before made (or_parts (any_clash (all_shared before made) path) (list_any (any_clash (all_shared before made)) paths) e).0)
+    ∙ first_none paths before made (or_parts (any_clash (all_shared before made) path) (list_any (any_clash (all_shared before made)) paths) e).1
 
 -- where no file that a pip shares clashes with one before, there is no violation
 pub no_clash : (pips : List Pip) (made : List Files) (i : ℕ) (files : Files) (t : Bool) → t ≡ false

@@ -2,7 +2,7 @@
 use Rattle.std.proofs.Common.{◌≡◌, ◌<◌, ◌≤◌, ℕ, zero, suc, ◌+◌, Bool, true, false, ◌&&◌, List, [], ◌∷◌, length, drop, get_or, Option, Some, None, refl, ap, sym, ◌∙◌, subst, inl, inr, add-one, arith}
 use Rattle.std.specs.Prelude.{◌↔◌, Contains, IsSomeAnd, slice_get}
 use Rattle.std.specs.List.{list_all}
-use Rattle.std.proofs.lemmas.Bool.{cases_Bool, false≢true}
+use Rattle.std.proofs.lemmas.Bool.{cases_Bool, false≢true, and_parts}
 use Rattle.std.proofs.lemmas.List.{drop_all}
 use Rattle.std.proofs.lemmas.Option.{slice_get-get_or}
 use Rattle.std.proofs.Math.Seq.{drop-cons}
@@ -16,18 +16,10 @@ use Rattle.one_thread.specs.Views.{good_at, good_in, is_good_slot}
 
 -- ## Tests of all elements
 
-and_left : (a b : Bool) → (a && b) ≡ true → a ≡ true
-and_left true b e = refl
-and_left false b e = e
-
-and_right : (a b : Bool) → (a && b) ≡ true → b ≡ true
-and_right true b e = e
-and_right false b e = absurd (false≢true e)
-
 all_true : (p : ℕ → Bool) (xs : List ℕ) → list_all p xs ≡ true → (j : ℕ) → Has xs j → p j ≡ true
 all_true p [] e j h = absurd h
-all_true p (x ∷ xs) e j (inl same) = ap p (sym same) ∙ and_left (p x) (list_all p xs) e
-all_true p (x ∷ xs) e j (inr h) = all_true p xs (and_right (p x) (list_all p xs) e) j h
+all_true p (x ∷ xs) e j (inl same) = ap p (sym same) ∙ (and_parts (p x) (list_all p xs) e).0
+all_true p (x ∷ xs) e j (inr h) = all_true p xs (and_parts (p x) (list_all p xs) e).1 j h
 
 true_all : (p : ℕ → Bool) (xs : List ℕ) → ((j : ℕ) → Has xs j → p j ≡ true) → list_all p xs ≡ true
 true_all p [] each = refl

@@ -6,7 +6,7 @@ use Rattle.std.specs.List.Sorted.{IsSortedBy, IsStrictlySortedBy}
 use Rattle.std.specs.Ordering.{is_lt}
 use Rattle.std.specs.declared.cmp.Ordering.{Ordering}
 use Rattle.std.specs.declared.cmp.Ordering.TheVariants.{Less, Equal, Greater}
-use Rattle.std.proofs.lemmas.Bool.{and_from, and_parts}
+use Rattle.std.proofs.lemmas.Bool.{and_from, and_parts, not-true}
 use Rattle.prints.specs.Lines.{rises}
 
 is_less : (o : Ordering) → is_lt o ≡ true → o ≡ Less
@@ -38,15 +38,11 @@ module _ {X K : Type 0} {R : K → K → Ordering} (order : IsTotalOrder R) (key
 
 -- ## Sorted, with equal elements
 
-not_true : (b : Bool) → not b ≡ true → b ≡ false
-not_true true e = cc
-not_true false e = refl
-
 module _ {X : Type 0} (lt : X → X → Bool) where
   step_by_step : (xs : List X) → rises (λ a b. not (lt b a)) xs ≡ true → (k : ℕ) (d : X) → k + 1 < length xs → lt (get_or xs (k + 1) d) (get_or xs k d) ≡ false
   step_by_step [] e k d l = absurd (omega (arith, l))
   step_by_step (x ∷ []) e k d l = absurd (omega (arith, l))
-  step_by_step (x ∷ y ∷ rest) e zero d l = not_true (lt y x) (and_parts (not (lt y x)) (rises (λ a b. not (lt b a)) (y ∷ rest)) e).0
+  step_by_step (x ∷ y ∷ rest) e zero d l = not-true (lt y x) (and_parts (not (lt y x)) (rises (λ a b. not (lt b a)) (y ∷ rest)) e).0
   step_by_step (x ∷ y ∷ rest) e (suc k) d l =
       subst (λ n. lt (get_or (x ∷ y ∷ rest) n d) (get_or (y ∷ rest) k d) ≡ false) (next k)
       (step_by_step (y ∷ rest) (and_parts (not (lt y x)) (rises (λ a b. not (lt b a)) (y ∷ rest)) e).1 k d (omega (arith, l)))

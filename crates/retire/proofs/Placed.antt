@@ -3,7 +3,7 @@ use Rattle.std.proofs.Common.{◌≡◌, ◌⊎◌, ℕ, Bool, true, false, ◌&
 use Rattle.std.specs.Prelude.{slice_get}
 use Rattle.std.specs.List.{list_all, list_any}
 use Rattle.std.specs.Option.{option_map_or, option_to_list}
-use Rattle.std.proofs.lemmas.Bool.{or_cases}
+use Rattle.std.proofs.lemmas.Bool.{or_cases, and_parts}
 use Rattle.std.proofs.lemmas.List.{length-map, map-append}
 use Rattle.bx_tree.specs.Orders.{same_path_decides}
 use Rattle.bx_tree.specs.Paths.{Atoms, IsBelow, has_path, same_path}
@@ -56,14 +56,10 @@ last_true true true c e = e
 last_true true false c e = cc
 last_true false b c e = cc
 
-both_true : (a b : Bool) → (a && b) ≡ true → (a ≡ true) × (b ≡ true)
-both_true true b e = (refl, e)
-both_true false b e = cc
-
 all_at : {X : Type 0} (p : X → Bool) (xs : List X) (x : X) → list_all p xs ≡ true → Has xs x → p x ≡ true
 all_at p [] x e h = absurd h
 all_at p (y ∷ ys) x e h =
-    let both = both_true (p y) (list_all p ys) e in
+    let both = and_parts (p y) (list_all p ys) e in
     elim h [ inl same ↦ subst (λ z. p z ≡ true) same both.0 | inr more ↦ all_at p ys x both.1 more ]
 
 has_file : (paths : List Atoms) (path : Atoms) → has_path paths path ≡ true → Has paths path
