@@ -1,7 +1,7 @@
 -- The names of files, and what their modules export, one file after the other.
 use Rattle.std.proofs.Common.{◌≡◌, ℕ, suc, ◌+◌, ◌<◌, ◌≤◌, Bool, true, false, ◌&&◌, ◌||◌, ◌==◌, cond, List, [], ◌∷◌, ◌++◌, map, length, take, drop, get_or, Option, Some, None, refl, sym, ◌∙◌, ap, drop-cons, add-one, arith}
 use Rattle.std.specs.List.{filter, flat_map, list_any}
-use Rattle.std.proofs.lemmas.List.{drop-map, drop_all, map-append, take_more}
+use Rattle.std.proofs.lemmas.List.{drop-map, drop_all, map-append, take_more, length-map}
 use Rattle.bx_tree.specs.Paths.{Atoms, same_path}
 use Rattle.dscript_ast.specs.FileTree.{ItemTree}
 use Rattle.dscript_program.specs.Workspaces.{ModuleData}
@@ -20,7 +20,6 @@ use Rattle.dscript_names.specs.declared.collecting.Names.{Names}
 use Rattle.dscript_names.specs.declared.exported.Exports.{Exports}
 use Rattle.dscript_names.specs.declared.gathering.Gathering.{Gathering}
 use Rattle.dscript_names.proofs.Found.{any_last}
-use Rattle.dscript_names.proofs.Listed.{length_map}
 
 -- ## Names that are exported
 
@@ -209,7 +208,7 @@ pub first_none : (modules : List ModuleData) (xs : List Parsed) (i : ℕ) (g : G
     → (whole : Option Atoms) → whole ≡ first_from modules g (drop i (map parsed_data xs)) → whole ≡ None
 first_none modules xs i g past whole kept =
     let all : length (map parsed_data xs) ≤ i =
-    let same : length (map parsed_data xs) ≡ length xs = length_map parsed_data xs in omega (arith, same) in
+    let same : length (map parsed_data xs) ≡ length xs = length-map xs parsed_data in omega (arith, same) in
     kept ∙ ap (first_from modules g) (drop_all i (map parsed_data xs) all)
 
 pub duplicate_first : (modules : List ModuleData) (ps : List ParsedData) (path : Atoms) (fault : SpecFault)

@@ -97,8 +97,3 @@ module _ {X : Type 0} (e : X → X → Bool) where
   pub neighbours_rise : (xs : List X) (r : Bool) → IsAllAdjacentAnswer (λ x y b. b ≡ e x y) xs r → r ≡ rises e xs
   neighbours_rise xs true h = sym (all_steps xs (λ k d l. h k d l))
   neighbours_rise xs false h = sym (a_step xs h.0 h.1 h.2)
-
--- a list of which each element stands for itself
-pub map_same : {X : Type 0} (xs : List X) → map (λ x. x) xs ≡ xs
-map_same [] = refl
-map_same (x ∷ xs) = ap (λ t. x ∷ t) (map_same xs)
