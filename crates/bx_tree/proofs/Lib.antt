@@ -15,3 +15,4 @@ pub mod Sets
 pub mod FoundByTest
 pub mod TextTables
 pub mod InOrder
+pub mod Lists

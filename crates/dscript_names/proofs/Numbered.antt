@@ -3,6 +3,7 @@ use Rattle.std.proofs.Common.{◌≡◌, ℕ, ◌+◌, ◌-◌, ◌≤◌, List,
 use Rattle.std.specs.Bool.{⊤}
 use Rattle.std.specs.List.{slice_get, AllByRecursion}
 use Rattle.std.proofs.lemmas.List.{length-append}
+use Rattle.bx_tree.proofs.Lists.{all_append}
 use Rattle.dscript_program.specs.ProgramData.{FunctionData}
 use Rattle.dscript_program.specs.Numbering.{Taker, Declares, Holds, FillRun, IsConsecutive, body_takers}
 use Rattle.dscript_program.specs.BoundTree.{BodyData}
@@ -46,11 +47,6 @@ at_split table n [] gs h = (tt, subst (λ k. At table k gs) (omega arith) h)
 at_split table n (f ∷ fs) gs h =
     let g = at_split table (n + 1) fs gs h.1 in
     ((h.0, g.0), subst (λ k. At table k gs) (omega arith) g.1)
-
-pub all_append : {X : Type 0} (P : X → Type 0) (xs ys : List X)
-    → AllByRecursion P xs → AllByRecursion P ys → AllByRecursion P (xs ++ ys)
-all_append P [] ys h g = g
-all_append P (x ∷ xs) ys h g = (h.0, all_append P xs ys h.1 g)
 
 -- ## What is kept by a walk
 

@@ -4,6 +4,7 @@ use Rattle.std.specs.Bool.{⊤}
 use Rattle.std.specs.List.{slice_get, AllByRecursion}
 use Rattle.std.proofs.lemmas.List.{length-append}
 use Rattle.bx_tree.specs.Paths.{Atoms}
+use Rattle.bx_tree.proofs.Lists.{all_append}
 use Rattle.dscript_ast.specs.ExprTree.{ParamTree, StmtTree, to_stmts}
 use Rattle.dscript_ast.specs.FileTree as file
 use Rattle.dscript_ast.specs.FileTree.{MarkedTree, DeclTree, MarkedTrees, ImportTree, ItemTree, Marked}
@@ -26,7 +27,7 @@ use Rattle.dscript_names_binding.specs.Binding.{declared_function, site_in, bind
 use Rattle.dscript_names.specs.Captures.{AllCaptureOuter, HasOuterCaptures}
 use Rattle.dscript_names.specs.Counting.{CountsFromZero, HasLocalsFromZero}
 use Rattle.dscript_names.specs.Named.{named, before_others, file_first, bind_files, unless_duplicate}
-use Rattle.dscript_names.proofs.Numbered.{At, IsSound, at_split, all_append, Good, IsContained, Numbers, function_numbers}
+use Rattle.dscript_names.proofs.Numbered.{At, IsSound, at_split, Good, IsContained, Numbers, function_numbers}
 use Rattle.dscript_names.proofs.NumberedTrees.{IsExpr, body_numbers, expr_numbers, stmts_numbers}
 
 -- ## What is kept from one declaration to the next

@@ -6,12 +6,12 @@ use Rattle.std.specs.Option.{option_or, unwrap_or}
 use Rattle.std.proofs.lemmas.List.{map-append, take_more, length-map}
 use Rattle.bx_tree.specs.Orders.{path_cmp_matches, same_path_equiv}
 use Rattle.bx_tree.specs.Paths.{Atoms, path_cmp, same_path}
+use Rattle.bx_tree.proofs.Lists.{any_last}
 use Rattle.dscript_program.specs.Workspaces.{module_data, modules_data}
 use Rattle.dscript_program.specs.declared.workspace.ModuleText.{ModuleText}
 use Rattle.dscript_names_scopes.specs.Declarations.{module_of}
 use Rattle.dscript_names.specs.Owners.{HasOwners, has_file, owner_in}
 use Rattle.dscript_names.specs.declared.owners.Owners.{Owners}
-use Rattle.dscript_names.proofs.Found.{any_last}
 
 either_cond : {X : Type 0} (a b : Bool) (x y : X) → cond (a || b) x y ≡ cond b x (cond a x y)
 either_cond true true x y = refl

@@ -1,23 +1,16 @@
 -- The test of patterns decides what a pattern is.
-use Rattle.std.proofs.Common.{◌≡◌, ℕ, Bool, true, List, [], ◌∷◌, Option, Some, None, length, refl, ap, sym, ◌∙◌, inl, inr, arith}
-use Rattle.std.specs.Prelude.{◌&&◌, IsTrue, cond, nat_le, option_and_then}
-use Rattle.std.specs.List.{AllByRecursion, list_all}
+use Rattle.std.proofs.Common.{◌≡◌, ℕ, Bool, true, List, Option, Some, None, length, ap, sym, ◌∙◌, inl, inr, arith}
+use Rattle.std.specs.Prelude.{◌&&◌, cond, nat_le, option_and_then}
+use Rattle.std.specs.List.{list_all}
 use Rattle.std.proofs.lemmas.Bool.{cases_Bool, and_parts}
 use Rattle.std.proofs.lemmas.Bool.Decides.{nat_tests}
 use Rattle.bx_tree.specs.Paths.{Atoms}
 use Rattle.bx_tree.specs.Trees.{Files}
+use Rattle.bx_tree.proofs.Lists.{true_all, all_true}
 use Rattle.bx_path.specs.Joining.{join_of}
 use Rattle.bx_path.specs.Globbing.{IsPattern, glob_of, is_pattern, is_pattern_byte}
 use Rattle.bx_path.specs.declared.globbing.TheConstants.{MAX_PATTERN_BYTES}
 use Rattle.dscript_names_workspace.specs.Lists.{GlobData, glob_in}
-
-all_true : (p : ℕ → Bool) (bs : List ℕ) → AllByRecursion (λ b. IsTrue (p b)) bs → list_all p bs ≡ true
-all_true p [] h = refl
-all_true p (b ∷ bs) h = ap (λ t. t && list_all p bs) h.0 ∙ all_true p bs h.1
-
-true_all : (p : ℕ → Bool) (bs : List ℕ) → list_all p bs ≡ true → AllByRecursion (λ b. IsTrue (p b)) bs
-true_all p [] h = tt
-true_all p (b ∷ bs) h = ((and_parts (p b) (list_all p bs) h).0, true_all p bs (and_parts (p b) (list_all p bs) h).1)
 
 passes : (a b c : Bool) → a ≡ true → b ≡ true → c ≡ true → (a && b && c) ≡ true
 passes a b c x y z = cc
@@ -26,7 +19,7 @@ pub pattern_passes : (text : List ℕ) → IsPattern text → is_pattern text �
 pattern_passes text h =
     let some : nat_le 1 (length text) ≡ true = let l = h.some in grind (arith, nat_tests) in
     let short : nat_le (length text) MAX_PATTERN_BYTES ≡ true = let l = h.short in grind (arith, nat_tests) in
-    let bytes = all_true is_pattern_byte text h.bytes in
+    let bytes = true_all is_pattern_byte text h.bytes in
     ap (λ t. t && nat_le (length text) MAX_PATTERN_BYTES && list_all is_pattern_byte text) some
     ∙ ap (λ t. t && list_all is_pattern_byte text) short ∙ bytes
 
@@ -41,7 +34,7 @@ pattern_is text e =
     record {
       some = grind (arith, nat_tests, some);
       short = grind (arith, nat_tests, short);
-      bytes = true_all is_pattern_byte text (and_parts (low && high) bytes e).1;
+      bytes = all_true is_pattern_byte text (and_parts (low && high) bytes e).1;
     }
 
 abbrev if_pattern : Bool → List Atoms → Option (List Atoms)

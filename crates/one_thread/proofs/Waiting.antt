@@ -1,5 +1,5 @@
 -- Whether the pips succeeded for which a pip waits.
-use Rattle.std.proofs.Common.{◌≡◌, ◌<◌, ◌≤◌, ℕ, zero, suc, ◌+◌, Bool, true, false, ◌&&◌, List, [], ◌∷◌, length, drop, get_or, Option, Some, None, refl, ap, sym, ◌∙◌, subst, inl, inr, add-one, arith}
+use Rattle.std.proofs.Common.{◌≡◌, ◌<◌, ◌≤◌, ℕ, ◌+◌, Bool, true, false, ◌&&◌, List, [], ◌∷◌, length, drop, get_or, Option, Some, None, refl, ap, sym, ◌∙◌, subst, inl, inr, add-one}
 use Rattle.std.specs.Prelude.{◌↔◌, Contains, IsSomeAnd, slice_get}
 use Rattle.std.specs.List.{list_all}
 use Rattle.std.proofs.lemmas.Bool.{cases_Bool, false≢true, and_parts}
@@ -8,6 +8,7 @@ use Rattle.std.proofs.lemmas.Option.{slice_get-get_or}
 use Rattle.std.proofs.Math.Seq.{drop-cons}
 use Rattle.bx_tree.specs.Members.{Has}
 use Rattle.bx_tree.proofs.Sets.{contains_has, has_contained}
+use Rattle.bx_tree.proofs.Lists.{no_such_place}
 use Rattle.pip_model_types.specs.declared.made.Slot.{Slot}
 use Rattle.pip_model_types.specs.declared.pip.Pip.{Pip}
 use Rattle.pip_model.specs.Edges.{targets}
@@ -64,11 +65,6 @@ pub good_to_end : (ss : List Slot) (js : List ℕ) (n : ℕ) → length js ≤ n
 good_to_end ss js n l = ap (good_from ss) (drop_all n js l)
 
 -- ## The inputs of a pip
-
-no_such_place : {X : Type 0} (xs : List X) (i : ℕ) → i < length xs → slice_get xs i ≡ None → ⊥
-no_such_place [] i l e = absurd (omega (arith, l))
-no_such_place (x ∷ xs) zero l e = cc
-no_such_place (x ∷ xs) (suc i) l e = no_such_place xs i (omega (arith, l)) e
 
 -- the inputs that a plan keeps of a pip are those for which it waits
 pub inputs_good : (pips : List Pip) (i : ℕ) (ss : List Slot) (ins : List ℕ) → AreInputs pips i ins → i < length pips

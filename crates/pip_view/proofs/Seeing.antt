@@ -1,5 +1,5 @@
 -- What a view answers, from what it keeps.
-use Rattle.std.proofs.Common.{◌≡◌, ◌⊎◌, ◌<◌, ℕ, zero, suc, Bool, true, false, ◌||◌, cond, List, [], ◌∷◌, ◌++◌, length, Option, Some, None, refl, ap, sym, ◌∙◌, subst, inl, inr, arith}
+use Rattle.std.proofs.Common.{◌≡◌, ◌⊎◌, ◌<◌, ℕ, Bool, true, false, ◌||◌, cond, List, [], ◌∷◌, ◌++◌, length, Option, Some, None, refl, ap, sym, ◌∙◌, subst, inl, inr}
 use Rattle.std.specs.Prelude.{is_some, slice_get}
 use Rattle.std.specs.List.{filter_map, list_any}
 use Rattle.std.specs.List.Sorted.{IsStrictlySortedBy}
@@ -14,6 +14,7 @@ use Rattle.observed.specs.declared.ask.Ask.{Ask}
 use Rattle.observed.specs.declared.ask.AskKind.{AskKind}
 use Rattle.observed.specs.declared.ask.AskKind.TheVariants as kinds
 use Rattle.bx_tree.specs.Below.{is_below, next_atom}
+use Rattle.bx_tree.proofs.Lists.{no_such_place}
 use Rattle.tool_run_writes.specs.Writes.{has_below, own_names}
 use Rattle.violations.specs.Producing.{dirs_at, least_unseen}
 use Rattle.pip_model_types.specs.declared.pip.Pip.{Pip}
@@ -90,11 +91,6 @@ looked_is v kind path below dir e (Some bytes) = refl
 looked_is v kind path below dir e None = unnamed_is v kind path below dir e (file_at v.tree path)
 
 -- ## The pip of a view
-
-no_such_place : {X : Type 0} (xs : List X) (i : ℕ) → i < length xs → slice_get xs i ≡ None → ⊥
-no_such_place [] i l e = absurd (omega (arith, l))
-no_such_place (x ∷ xs) zero l e = cc
-no_such_place (x ∷ xs) (suc i) l e = no_such_place xs i (omega (arith, l)) e
 
 -- the files of a view answer as the input files of its pip that are named
 record Keeps (v : ViewData) (files : Files) (pip : Pip) : Type 0 where

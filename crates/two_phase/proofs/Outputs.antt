@@ -19,6 +19,7 @@ use Rattle.pip_model_types.specs.Made.{RisingFiles}
 use Rattle.bx_tree.specs.Below.{is_below}
 use Rattle.tool_run_writes.specs.Writes.{clashes, put_file}
 use Rattle.bx_tree.proofs.BelowPaths.{below_decides}
+use Rattle.bx_tree.proofs.Lists.{all_append}
 use Rattle.tool_run_writes.proofs.Unnested.{none_unnested, put_unnested}
 use Rattle.memo_format.specs.Entries.{OutputsRise, output_paths}
 use Rattle.memo_format.specs.Found.{output_lines}
@@ -26,7 +27,6 @@ use Rattle.memo_format.specs.declared.entry.OutputLine.{OutputLine}
 use Rattle.content_store.specs.Contents.{IsContent}
 use Rattle.run_record.specs.Collisions.{contents_of}
 use Rattle.two_phase_meaning.specs.Contents.{HoldsAll}
-use Rattle.two_phase_meaning.proofs.Same.{all_both}
 use Rattle.two_phase.specs.Finding.{AddsTo, AreOutputs, FindsOne}
 
 abbrev pub line_for : Atoms → List ℕ → OutputLine
@@ -83,7 +83,7 @@ held_more : (held : Option Holdings) (files : Files) (path : Atoms) (digest byte
     → FindsOne held (λ S y. IsContent S digest y) (Some bytes) → AreHeld held (files ++ (path, bytes) ∷ [])
 held_more None files path digest bytes h k = tt
 held_more (Some S) files path digest bytes h k =
-    subst (HoldsAll S) (sym (contents-append files ((path, bytes) ∷ []))) (all_both _ (contents_of files) (bytes ∷ []) h (k.held, tt))
+    subst (HoldsAll S) (sym (contents-append files ((path, bytes) ∷ []))) (all_append _ (contents_of files) (bytes ∷ []) h (k.held, tt))
 
 -- where a file was put
 was_put : (t : Bool) (files now : Files) (path : Atoms) (bytes : List ℕ) → clashes files path ≡ t
