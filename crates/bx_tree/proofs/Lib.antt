@@ -16,3 +16,4 @@ pub mod FoundByTest
 pub mod TextTables
 pub mod InOrder
 pub mod Lists
+pub mod Members

@@ -1,5 +1,5 @@
 -- No file is in two of the modules that were found.
-use Rattle.std.proofs.Common.{◌≡◌, ◌⊎◌, ℕ, Bool, true, false, not, List, [], ◌∷◌, ◌++◌, map, filter, Option, Some, None, cond, refl, ap, sym, subst, ◌∙◌, inl, inr}
+use Rattle.std.proofs.Common.{◌≡◌, ℕ, Bool, true, false, not, List, [], ◌∷◌, ◌++◌, map, filter, Option, Some, None, cond, refl, ap, sym, subst, ◌∙◌, inl, inr}
 use Rattle.std.specs.Prelude.{◌&&◌, ◌||◌, option_and_then, option_map}
 use Rattle.std.specs.List.{AllByRecursion, AllZip, cons_option, list_all, list_any}
 use Rattle.std.specs.List.Sorted.{IsStrictlySortedBy}
@@ -20,6 +20,8 @@ use Rattle.dscript_names_workspace.specs.Modules.{DescriptionData, described}
 use Rattle.dscript_names_workspace.specs.Paths.{in_tree, is_empty, is_module_file, is_specification}
 use Rattle.bx_tree.specs.Below.{is_below}
 use Rattle.bx_tree.proofs.BelowPaths.{below_decides}
+use Rattle.bx_tree.specs.Members.{Has}
+use Rattle.bx_tree.proofs.Members.{none_passes, has_front, has_last}
 use Rattle.dscript_program.specs.SpecFaults.{FaultData}
 use Rattle.dscript_program.specs.Workspaces.{ModuleData}
 use Rattle.dscript_parse.specs.Reading.{Reading, Read, NoTokens, NoFile}
@@ -34,26 +36,6 @@ use Rattle.dscript_names_workspace.proofs.ModuleDirs.{same_dir}
 use Rattle.dscript_names_workspace.proofs.ModuleSources.{kept_is}
 
 -- ## Tests of lists
-
-abbrev In : List ModuleFile → ModuleFile → Type 0
-In [] q = ⊥
-In (x ∷ xs) q = (x ≡ q) ⊎ In xs q
-
-in_more : (xs ys : List ModuleFile) (q : ModuleFile) → In xs q → In (xs ++ ys) q
-in_more [] ys q h = absurd h
-in_more (x ∷ xs) ys q h = elim h [ inl e ↦ inl e | inr k ↦ inr (in_more xs ys q k) ]
-
-in_last : (xs : List ModuleFile) (q : ModuleFile) → In (xs ++ q ∷ []) q
-in_last [] q = inl refl
-in_last (x ∷ xs) q = inr (in_last xs q)
-
-none_here : (test : ModuleFile → Bool) (xs : List ModuleFile) (q : ModuleFile) → list_any test xs ≡ false → In xs q
-    → test q ≡ false
-none_here test [] q e h = absurd h
-none_here test (x ∷ xs) q e h = elim h [
-  | inl is ↦ ap test (sym is) ∙ (or_parts (test x) (list_any test xs) e).0
-  | inr k ↦ none_here test xs q (or_parts (test x) (list_any test xs) e).1 k
-]
 
 none_of : (test : Atoms → Bool) (paths : List Atoms) (path : Atoms) → list_any test paths ≡ false
     → has_path paths path ≡ true → test path ≡ false
@@ -170,7 +152,7 @@ implied_at files dirs path file m e h =
     kept_is (is_implied dirs (dir_of path)) (paths_of files) file (ap (λ ps. has_path ps file) (sym e) ∙ h)
 
 two_apart : (files : Files) (dirs : List Atoms) (all prefix before : List ModuleFile) (p q : Atoms) (m n : ModuleFile)
-    → IsFree (is_taken all prefix) m → IsFree (is_taken all before) n → In before m → In all n
+    → IsFree (is_taken all prefix) m → IsFree (is_taken all before) n → Has before m → Has all n
     → IsImplied files dirs p m → IsImplied files dirs q n → has_path dirs (dir_of p) ≡ true
     → has_path dirs (dir_of q) ≡ true → (dir_of p ≡ dir_of q → ⊥) → Apart m n
 two_apart files dirs all prefix before p q (Faulty fault) n f g i j a b h k d = tt
@@ -179,13 +161,13 @@ two_apart files dirs all prefix before p q (Described m lists) (Described n true
     elim (cases_Bool (has_path n.files file)) [
       | inl yes' ↦
           let free = none_of (is_taken all before) n.files file g yes' in
-          let own = none_here (has_file file) before (Described m lists)
+          let own = none_passes (has_file file) before (Described m lists)
           (or_parts (list_any (has_file file) before) (list_any (implies_file file) all) free).0 i in
           absurd (false≢true (sym own ∙ t))
       | inr none ↦ none
     ]
 two_apart files dirs all prefix before p q (Described m true) (Described n false) f g i j a b h k d = λ file t.
-    none_here (implies_file file) all (Described n false)
+    none_passes (implies_file file) all (Described n false)
     (or_parts (list_any (has_file file) prefix) (list_any (implies_file file) all) (none_of (is_taken all prefix) m.files file f t)).1 j
 two_apart files dirs all prefix before p q (Described m false) (Described n false) f g i j a b h k d = λ file t.
     elim (cases_Bool (has_path n.files file)) [
@@ -207,30 +189,30 @@ AllApart [] = Unit {0}
 AllApart (m ∷ ms) = AllByRecursion (Apart m) ms × AllApart ms
 
 later_apart : (files : Files) (dirs : List Atoms) (all prefix before : List ModuleFile) (p : Atoms) (m : ModuleFile)
-    (paths : List Atoms) (rest : List ModuleFile) → IsFree (is_taken all prefix) m → In before m → IsImplied files dirs p m
+    (paths : List Atoms) (rest : List ModuleFile) → IsFree (is_taken all prefix) m → Has before m → IsImplied files dirs p m
     → has_path dirs (dir_of p) ≡ true → AllByRecursion (λ q. dir_of p ≡ dir_of q → ⊥) paths
     → AllByRecursion (λ q. has_path dirs (dir_of q) ≡ true) paths → AllZip (IsImplied files dirs) paths rest
-    → file_fault all before rest ≡ None → ((n : ModuleFile) → In rest n → In all n) → AllByRecursion (Apart m) rest
+    → file_fault all before rest ≡ None → ((n : ModuleFile) → Has rest n → Has all n) → AllByRecursion (Apart m) rest
 later_apart files dirs all prefix before p m [] [] f i a h d w z e into = tt
 later_apart files dirs all prefix before p m [] (n ∷ ns) f i a h d w z e into = absurd z
 later_apart files dirs all prefix before p m (q ∷ qs) [] f i a h d w z e into = tt
 later_apart files dirs all prefix before p m (q ∷ qs) (n ∷ ns) f i a h d w z e into =
     let free = free_from (is_taken all before) n (file_fault all (before ++ n ∷ []) ns) e in (
       two_apart files dirs all prefix before p q m n f free.0 i (into n (inl refl)) a z.0 h w.0 d.0,
-      later_apart files dirs all prefix (before ++ n ∷ []) p m qs ns f (in_more before (n ∷ []) m i) a h d.1 w.1 z.1 free.1
+      later_apart files dirs all prefix (before ++ n ∷ []) p m qs ns f (has_front before (n ∷ []) m i) a h d.1 w.1 z.1 free.1
           (λ x k. into x (inr k)),
     )
 
 all_apart : (files : Files) (dirs : List Atoms) (all before : List ModuleFile) (paths : List Atoms) (rest : List ModuleFile)
     → HaveOwnDirs paths → AllByRecursion (λ q. has_path dirs (dir_of q) ≡ true) paths
     → AllZip (IsImplied files dirs) paths rest → file_fault all before rest ≡ None
-    → ((n : ModuleFile) → In rest n → In all n) → AllApart rest
+    → ((n : ModuleFile) → Has rest n → Has all n) → AllApart rest
 all_apart files dirs all before [] [] d w z e into = tt
 all_apart files dirs all before [] (m ∷ ms) d w z e into = absurd z
 all_apart files dirs all before (p ∷ ps) [] d w z e into = tt
 all_apart files dirs all before (p ∷ ps) (m ∷ ms) d w z e into =
     let free = free_from (is_taken all before) m (file_fault all (before ++ m ∷ []) ms) e in (
-      later_apart files dirs all before (before ++ m ∷ []) p m ps ms free.0 (in_last before m) z.0 w.0 d.0 w.1 z.1 free.1
+      later_apart files dirs all before (before ++ m ∷ []) p m ps ms free.0 (has_last before m) z.0 w.0 d.0 w.1 z.1 free.1
           (λ x k. into x (inr k)),
       all_apart files dirs all (before ++ m ∷ []) ps ms d.1 w.1 z.1 free.1 (λ x k. into x (inr k)),
     )

@@ -40,7 +40,6 @@ use Rattle.run_record.specs.Digests.{IsReadBack, weak_of}
 use Rattle.pip_view_inputs.specs.Contents.{input_file}
 use Rattle.pip_view_inputs.specs.Plain.{desc_of}
 use Rattle.pip_view_inputs.specs.Results.{ByPip}
-use Rattle.one_thread.proofs.Making.{has_first}
 use Rattle.one_thread.proofs.Meeting.{declares, kept_below, made_below}
 use Rattle.two_phase_meaning.specs.Compared as met
 use Rattle.retire.specs.Compared.{Compared, inputs_after}
@@ -49,6 +48,7 @@ use Rattle.retire.proofs.SoFar.{process_there, run_met}
 use Rattle.bx_tree.specs.FileInputs.{input_path}
 use Rattle.bx_tree.specs.Members.{Has}
 use Rattle.bx_tree.proofs.Sets.{contains_has, has_contained}
+use Rattle.bx_tree.proofs.Members.{has_front}
 
 -- ## Lists
 
@@ -100,7 +100,7 @@ same_dirs k (d ∷ ds) (x ∷ es) e =
 -- ## Files
 
 makes_declared : (kind : PipKind) (path : Atoms) → MakesFile path kind → Has (declared_files kind) path
-makes_declared (Process d) path h = has_first d.outs (option_to_list d.console) path (has_contained d.outs path h)
+makes_declared (Process d) path h = has_front d.outs (option_to_list d.console) path (has_contained d.outs path h)
 makes_declared (Copy d) path h = inl h
 makes_declared (Write d) path h = inl h
 makes_declared (Seal d) path h = absurd h

@@ -4,6 +4,7 @@ use Rattle.std.specs.Prelude.{filter, not}
 use Rattle.std.specs.FinMap.{get, insert}
 use Rattle.std.specs.List.{AllByRecursion}
 use Rattle.bx_tree.proofs.Lists.{all_back}
+use Rattle.bx_tree.proofs.Members.{all_has}
 use Rattle.sha2.specs.Sha256.{sha256}
 use Rattle.observed.specs.Texts.{paths_text}
 use Rattle.observed.specs.declared.ask.Ask.{Ask}
@@ -27,7 +28,7 @@ use Rattle.two_phase_meaning.specs.Saving.{ComparedInSave, FilesFit, Spelled, an
 use Rattle.two_phase_meaning.specs.Usable.{UsableAt, UsableBy}
 use Rattle.two_phase_meaning.proofs.Digests.{entry_no_list}
 use Rattle.two_phase_meaning.proofs.Puts.{blobs_held, entry_grows, list_grows, still_there, there_now}
-use Rattle.two_phase_meaning.proofs.Same.{all_has, all_map}
+use Rattle.two_phase_meaning.proofs.Same.{all_map}
 
 -- ## Lists of selectors
 

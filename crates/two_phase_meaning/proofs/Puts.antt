@@ -8,6 +8,7 @@ use Rattle.std.specs.Cmp.Lexicographic.{slice_cmp, nat_list_cmp_total}
 use Rattle.std.proofs.lemmas.Cmp.{eq_by_cmp_equiv}
 use Rattle.std.proofs.lemmas.Option.{same_Some}
 use Rattle.bx_tree.proofs.Lists.{all_front, all_back}
+use Rattle.bx_tree.proofs.Members.{all_has}
 use Rattle.sha2.specs.Sha256.{sha256}
 use Rattle.observed.specs.Texts.{paths_text}
 use Rattle.bx_io.specs.Holdings.{Change, Holdings, IsPrefix, holdings_after}
@@ -30,7 +31,7 @@ use Rattle.two_phase_meaning.specs.Contents.{HoldsAll, desc_contents, given_cont
 use Rattle.two_phase_meaning.specs.Honest.{Honest, HonestEntry}
 use Rattle.two_phase_meaning.specs.Saving.{ComparedInSave, IsGood, Spelled, answers_text, blobs_of, entry_put, list_put, outcome_files, paths_digest, puts_of, record_entry}
 use Rattle.two_phase_meaning.proofs.Digests.{blob_no_entry, blob_no_list, entry_no_blob, entry_no_list, same_blob_name}
-use Rattle.two_phase_meaning.proofs.Same.{all_has, all_map, lines_are}
+use Rattle.two_phase_meaning.proofs.Same.{all_map, lines_are}
 
 -- ## What is held after a put
 

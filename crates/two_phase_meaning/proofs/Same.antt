@@ -1,11 +1,10 @@
 -- Contents that are met are equal where their digests are, and so is all that names them by digest.
-use Rattle.std.proofs.Common.{◌≡◌, ℕ, List, [], ◌∷◌, map, refl, ap, ◌∙◌, subst, inl, inr}
+use Rattle.std.proofs.Common.{◌≡◌, ℕ, List, [], ◌∷◌, map, refl, ap, ◌∙◌}
 use Rattle.std.specs.List.{AllByRecursion}
 use Rattle.sha2.specs.Sha256.{sha256}
 use Rattle.bx_tree.specs.Paths.{Atoms}
 use Rattle.bx_tree.specs.Trees.{Files, paths_of}
 use Rattle.bx_tree.specs.declared.file_input.FileInput.TheVariants.{Source}
-use Rattle.bx_tree.specs.Members.{Has}
 use Rattle.bx_tree.proofs.Lists.{all_front, all_back}
 use Rattle.pip_model_types.specs.declared.desc.Desc.{Desc}
 use Rattle.observed.specs.declared.access.Answer.{Answer}
@@ -24,14 +23,6 @@ use Rattle.two_phase_meaning.specs.Contents.{answer_contents, desc_contents, giv
 use Rattle.pip_model_types.specs.Outputs.{outdir_paths}
 
 -- ## Lists
-
-pub all_has : {X : Type 0} (P : X → Type 0) (xs : List X) → ((x : X) → Has xs x → P x) → AllByRecursion P xs
-all_has P [] h = tt
-all_has P (x ∷ xs) h = (h x (inl refl), all_has P xs (λ y k. h y (inr k)))
-
-pub has_all : {X : Type 0} (P : X → Type 0) (xs : List X) (x : X) → AllByRecursion P xs → Has xs x → P x
-has_all P [] x h k = absurd k
-has_all P (y ∷ ys) x h k = elim k [ inl e ↦ subst P e h.0 | inr r ↦ has_all P ys x h.1 r ]
 
 pub all_map : {X : Type 0} (P Q : X → Type 0) (xs : List X) → ((x : X) → P x → Q x) → AllByRecursion P xs → AllByRecursion Q xs
 all_map P Q [] f h = tt
