@@ -6,7 +6,6 @@ use Rattle.std.specs.List.{All, AllByRecursion, slice_split}
 use Rattle.std.specs.List.Sorted.{IsPermutation, IsStrictlySortedBy}
 use Rattle.std.specs.declared.cmp.Ordering.TheVariants.{Less}
 use Rattle.std.proofs.lemmas.List.{length-append, length-map, map_push, take-append-drop, take_more}
-use Rattle.bx_tree.proofs.OneReading.{prefix_all}
 use Rattle.std.proofs.lemmas.List.Concat.{length-flat_map}
 use Rattle.std.proofs.lemmas.List.Sums.{sum_by-le-sum_by, sum_by_push}
 use Rattle.std.proofs.lemmas.List.Elements.{All-contains, All-from_recursion, All-map, All-push, All-weaker, All-contains_itself, recursion_from_All, Contains-push, Contains-push_cases, Contains-append_left}
@@ -18,6 +17,7 @@ use Rattle.bx_tree.specs.Views.{file_of, files_of}
 use Rattle.bx_tree.specs.declared.limits.TheConstants.{MAX_BUNDLE_BYTES, MAX_FILES, MAX_FILE_BYTES, MAX_PATH_BYTES}
 use Rattle.bx_tree.specs.declared.tree_file.TreeFile.{TreeFile}
 use Rattle.bx_tree.proofs.PathTexts.{named_by_parts, prefix_from_below}
+use Rattle.bx_tree.proofs.Lists.{all_front}
 use Rattle.bundle_folder.specs.Answers.{HasLargeFile, IsEntryOf, ListsNodes, entry_data, kind_of}
 use Rattle.bundle_folder.specs.Folders.{File, IsFolder, Known, Node, Nodes, Other, IsListed}
 use Rattle.bundle_folder.specs.Packing.{AreFilesOf, AreHeld, HasCauseIn, HasLongText, HasManyFiles, IsPack}
@@ -206,7 +206,7 @@ read_step nodes files file path read e there =
 sorted_prefix : (xs ys : List Atoms) → IsStrictlySortedBy path_cmp (xs ++ ys) → IsStrictlySortedBy path_cmp xs
 unfolding IsStrictlySortedBy
 sorted_prefix [] ys h = tt
-sorted_prefix (x ∷ xs) ys h = (prefix_all (λ y. path_cmp x y ≡ Less) xs ys h.0, sorted_prefix xs ys h.1)
+sorted_prefix (x ∷ xs) ys h = (all_front (λ y. path_cmp x y ≡ Less) xs ys h.0, sorted_prefix xs ys h.1)
 
 taken : (n : ℕ) (paths : List Atoms) (path : Atoms) → Contains (take n paths) path → Contains paths path
 taken n paths path c =

@@ -11,6 +11,7 @@ use Rattle.bx_tree.specs.declared.limits.TheConstants.{MAX_PATH_BYTES}
 use Rattle.bx_tree.specs.Orders.{path_cmp_matches}
 use Rattle.bx_tree.specs.Paths.{Atoms, IsPath, path_cmp, path_text, same_path}
 use Rattle.bx_tree.specs.Below.{first_atom, is_at_or_below, is_below, strip_dir}
+use Rattle.bx_tree.proofs.Lists.{any_last}
 use Rattle.bx_path.specs.Joining.{join_of, parent}
 
 -- ## A step up
@@ -77,14 +78,6 @@ grouped : (a b c : Bool) → ((a || b) || c) ≡ (a || (b || c))
 grouped true b c = refl
 grouped false b c = refl
 
-pub any_append : {X : Type 0} (p : X → Bool) (xs : List X) (x : X) → list_any p (xs ++ x ∷ []) ≡ (list_any p xs || p x)
-any_append p [] x = last (p x)
-  where
-    last : (t : Bool) → (t || false) ≡ t
-    last true = refl
-    last false = refl
-any_append p (y ∷ ys) x = ap (λ t. p y || t) (any_append p ys x) ∙ sym (grouped (p y) (list_any p ys) (p x))
-
 abbrev pub size_of : Option Atoms → ℕ
 size_of None = 0
 size_of (Some path) = length path + 1
@@ -97,7 +90,7 @@ pub one_up : (dirs : List Atoms) (dir q : Atoms) (next : Option Atoms) (below : 
     → (list_any (λ d. same_path d q) dirs || lies_at_or_below (Some dir) q) ≡ below
     → (list_any (λ d. same_path d q) (dirs ++ dir ∷ []) || lies_at_or_below next q) ≡ below
 one_up dirs dir q next below is so_far =
-    ap (λ t. t || lies_at_or_below next q) (any_append (λ d. same_path d q) dirs dir)
+    ap (λ t. t || lies_at_or_below next q) (any_last (λ d. same_path d q) dirs dir)
     ∙ grouped (list_any (λ d. same_path d q) dirs) (same_path dir q) (lies_at_or_below next q)
     ∙ ap (λ (o : Option Atoms). list_any (λ d. same_path d q) dirs || (same_path dir q || lies_at_or_below o q)) is
     ∙ ap (λ t. list_any (λ d. same_path d q) dirs || (same_path dir q || t)) (sym (below_parent dir q))
@@ -126,4 +119,4 @@ one_more above i dir k q old before now l is key put so_far =
     (put ∙ ap (λ (x : Atoms). cond (is_at (path_cmp x) q) true before) key ∙ ap (λ t. cond t true before) (sym (path_cmp_matches dir q)))
     so_far
     ∙ sym (ap (λ t. t || old) (ap (list_any (λ d. same_path d q)) (take_more above i dir l ∙ ap (λ (x : Atoms). take i above ++ x ∷ []) (sym is))
-    ∙ any_append (λ d. same_path d q) (take i above) dir))
+    ∙ any_last (λ d. same_path d q) (take i above) dir))

@@ -12,16 +12,13 @@ use Rattle.bx_tree.specs.Paths.{Atoms, IsAtom, IsPathText, Names, is_atom_byte, 
 use Rattle.bx_tree.proofs.PathTexts.{one_path, join-append}
 use Rattle.bx_path.specs.Joining.{is_atom, parent, step, if_short}
 use Rattle.bx_tree.specs.Lent.{texts_now}
+use Rattle.bx_tree.proofs.Lists.{all_true}
 
 -- ## Atoms by a test
 
 all_bytes : (bs : List ℕ) → AllByRecursion (λ b. IsTrue (is_atom_byte b)) bs → list_all is_atom_byte bs ≡ true
 all_bytes [] h = refl
 all_bytes (b ∷ bs) h = and_from (is_atom_byte b) (list_all is_atom_byte bs) h.0 (all_bytes bs h.1)
-
-bytes_all : (bs : List ℕ) → list_all is_atom_byte bs ≡ true → AllByRecursion (λ b. IsTrue (is_atom_byte b)) bs
-bytes_all [] h = tt
-bytes_all (b ∷ bs) h = let parts = and_parts (is_atom_byte b) (list_all is_atom_byte bs) h in (parts.0, bytes_all bs parts.1)
 
 differs : (a b : List ℕ) → a ≢ b → not (bytes_eq a b) ≡ true
 differs a b n = elim (cases_Bool (bytes_eq a b)) [
@@ -48,7 +45,7 @@ is_atom_false text n = elim (cases_Bool (is_atom text)) [
       absurd (n (record {
         some = leb-true 1 (length text) f.0;
         short = leb-true (length text) MAX_ATOM_BYTES f.1;
-        bytes = bytes_all text d.1;
+        bytes = all_true is_atom_byte text d.1;
         not_dot = other_bytes text (codes ".") b.1;
         not_dots = other_bytes text (codes "..") a.1;
       }))
@@ -70,14 +67,6 @@ step_down path part e f h = step_other path part e f ∙ ap (λ b. cond b (Some 
 pub step_none : (path : Atoms) (part : List ℕ) → bytes_eq part (codes ".") ≡ false → bytes_eq part (codes "..") ≡ false → (IsAtom part → ⊥)
     → step path part ≡ None
 step_none path part e f n = step_other path part e f ∙ ap (λ b. cond b (Some (path ++ part ∷ [])) None) (is_atom_false part n)
-
-pub prefix_valid : {X : Type 0} (P : X → Type 0) (xs ys : List X) → AllByRecursion P (xs ++ ys) → AllByRecursion P xs
-prefix_valid P [] ys h = tt
-prefix_valid P (x ∷ xs) ys h = (h.0, prefix_valid P xs ys h.1)
-
-pub push_valid : {X : Type 0} (P : X → Type 0) (xs : List X) (y : X) → AllByRecursion P xs → P y → AllByRecursion P (xs ++ y ∷ [])
-push_valid P [] y h p = (p, tt)
-push_valid P (x ∷ xs) y h p = (h.0, push_valid P xs y h.1 p)
 
 -- ## The text of atoms
 

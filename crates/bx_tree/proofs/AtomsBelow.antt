@@ -10,6 +10,7 @@ use Rattle.bx_tree.specs.Below.{first_atom, is_below, next_atom, strip_dir}
 use Rattle.bx_tree.specs.Paths.{Atoms, IsAtom, IsBelow, IsPath, path_text}
 use Rattle.bx_tree.proofs.BelowPaths.{strip_dir-append}
 use Rattle.bx_tree.proofs.PathTexts.{atoms_from_text, is_slash, prefix_from_below, root_from_text, split-below}
+use Rattle.bx_tree.proofs.Lists.{all_back}
 
 -- ## The first part of a text
 
@@ -55,10 +56,6 @@ below_root path dir h k b e =
     let atoms = atoms_from_text path h other in
     (ap (λ d. strip_dir d path) root ∙ ap Some (sym atoms), subst (AllByRecursion IsAtom) (sym atoms) h.atoms)
 
-back_valid : {X : Type 0} (P : X → Type 0) (xs ys : List X) → AllByRecursion P (xs ++ ys) → AllByRecursion P ys
-back_valid P [] ys h = h
-back_valid P (x ∷ xs) ys h = back_valid P xs ys h.1
-
 -- after another directory comes the rest of the path's text after the directory's text and a `/`
 below_other : (path dir : Atoms) (rest : List ℕ) → IsPath path → IsPath dir → dir ≢ [] → IsBelow path dir → path_text path ≡ path_text dir ++ 47 ∷ rest
     → (strip_dir dir path ≡ Some (slice_split is_slash rest)) × AllByRecursion IsAtom (slice_split is_slash rest)
@@ -68,7 +65,7 @@ below_other path (a ∷ as') rest h k n b e =
     let whole : path ≡ (a ∷ as') ++ slice_split is_slash rest =
     sym (atoms_from_text path h other) ∙ ap (slice_split is_slash) e ∙ split-below a as' rest k.atoms in (
       ap (strip_dir (a ∷ as')) whole ∙ strip_dir-append (a ∷ as') (slice_split is_slash rest),
-      back_valid IsAtom (a ∷ as') (slice_split is_slash rest) (subst (AllByRecursion IsAtom) whole h.atoms),
+      all_back IsAtom (a ∷ as') (slice_split is_slash rest) (subst (AllByRecursion IsAtom) whole h.atoms),
     )
   where
     not_root : (p d : Atoms) → IsBelow p d → p ≡ [] → ⊥

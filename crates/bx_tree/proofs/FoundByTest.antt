@@ -7,6 +7,7 @@ use Rattle.bx_tree.specs.Orders.{same_path_decides}
 use Rattle.bx_tree.specs.Paths.{Atoms, has_path, same_path}
 use Rattle.bx_tree.specs.Members.{Has}
 use Rattle.bx_tree.proofs.Sets.{contains_has, has_contained}
+use Rattle.bx_tree.proofs.Members.{one_passes}
 
 has_from_any : {X : Type 0} (p : X → Bool) (x : X) → ((y : X) → p y ≡ true → y ≡ x) → (xs : List X)
     → list_any p xs ≡ true → Has xs x
@@ -16,22 +17,12 @@ has_from_any p x only (y ∷ ys) e = elim (cases_Bool (p y)) [
   | inr h ↦ inr (has_from_any p x only ys (sym (ap (λ b. b || list_any p ys) h) ∙ e))
 ]
 
-any_from_has : {X : Type 0} (p : X → Bool) (x : X) → p x ≡ true → (xs : List X) → Has xs x → list_any p xs ≡ true
-any_from_has p x holds [] h = absurd h
-any_from_has p x holds (y ∷ ys) h = elim (cases_Bool (p y)) [
-  | inl e ↦ ap (λ b. b || list_any p ys) e
-  | inr e ↦ elim h [
-    | inl same ↦ absurd (false≢true (sym e ∙ ap p same ∙ holds))
-    | inr more ↦ ap (λ b. b || list_any p ys) e ∙ any_from_has p x holds ys more
-  ]
-]
-
 -- an answer that says whether an element is in a list is that of a test which holds of this element alone
 pub found_by_test : {X : Type 0} (p : X → Bool) (x : X) (xs : List X) (answer : Bool)
     → p x ≡ true → ((y : X) → p y ≡ true → y ≡ x) → IsTrue answer ↔ Contains xs x → answer ≡ list_any p xs
 found_by_test p x xs answer holds only h = one_answer answer (list_any p xs) h (
   λ e. contains_has xs x (has_from_any p x only xs e),
-  λ k. any_from_has p x holds xs (has_contained xs x k),
+  λ k. one_passes p xs x (has_contained xs x k) holds,
 )
 
 pub path_found : (path : Atoms) (paths : List Atoms) (answer : Bool) → IsTrue answer ↔ Contains paths path
@@ -49,5 +40,5 @@ has_path_from_answer paths path answer h =
 pub has_path_decides : (paths : List Atoms) (path : Atoms) → Decides (has_path paths path) (Contains paths path)
 has_path_decides paths path = (
   λ e. contains_has paths path (has_from_any (λ p. same_path p path) path (λ y h. (same_path_decides y path).0 h) paths e),
-  λ k. any_from_has (λ p. same_path p path) path ((same_path_decides path path).1 refl) paths (has_contained paths path k),
+  λ k. one_passes (λ p. same_path p path) paths path (has_contained paths path k) ((same_path_decides path path).1 refl),
 )

@@ -15,3 +15,5 @@ pub mod Sets
 pub mod FoundByTest
 pub mod TextTables
 pub mod InOrder
+pub mod Lists
+pub mod Members

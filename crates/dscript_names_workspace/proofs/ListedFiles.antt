@@ -14,33 +14,15 @@ use Rattle.std.proofs.lemmas.List.Folds.{list_any-append}
 use Rattle.std.proofs.lemmas.List.Kept.{IsStrictlySortedBy-filter}
 use Rattle.std.proofs.lemmas.Map.Keys.{Less-from_sorted, sorted_from_strictly_increasing}
 use Rattle.bx_tree.specs.Paths.{Atoms, has_path, path_cmp, same_path}
-use Rattle.bx_tree.specs.Orders.{path_cmp_total, same_path_decides}
+use Rattle.bx_tree.specs.Orders.{path_cmp_total}
 use Rattle.bx_tree.specs.Trees.{Files, IsTree, paths_of}
 use Rattle.bx_tree.specs.Members.{Has}
 use Rattle.bx_tree.proofs.Sets.{contains_has, has_contained, never_both, unique}
+use Rattle.bx_tree.proofs.Members.{has_map, from_map, has_found, found_has, has_filter}
 use Rattle.dscript_names_workspace.specs.Paths.{AreWithin, in_tree, paths_at}
 use Rattle.dscript_names_workspace.specs.ConfigViews.{ArePlaces}
 
 -- ## Members
-
-in_map : {X Y : Type 0} (f : X → Y) (xs : List X) (x : X) → Has xs x → Has (map f xs) (f x)
-in_map f [] x h = absurd h
-in_map f (y ∷ ys) x h = elim h [ inl e ↦ inl (ap f e) | inr k ↦ inr (in_map f ys x k) ]
-
-from_map : {X Y : Type 0} (f : X → Y) (xs : List X) (y : Y) → Has (map f xs) y → (x : X) × Has xs x × (f x ≡ y)
-from_map f [] y h = absurd h
-from_map f (x ∷ xs) y h = elim h [
-  | inl e ↦ (x, inl refl, e)
-  | inr k ↦ let rest = from_map f xs y k in (rest.0, inr rest.1, rest.2)
-]
-
-in_cond : {X : Type 0} (b : Bool) (x : X) (xs : List X) (q : X) → Has (cond b (x ∷ xs) xs) q → Has (x ∷ xs) q
-in_cond true x xs q h = h
-in_cond false x xs q h = inr h
-
-more_cond : {X : Type 0} (b : Bool) (x : X) (xs : List X) (q : X) → Has xs q → Has (cond b (x ∷ xs) xs) q
-more_cond true x xs q h = inr h
-more_cond false x xs q h = h
 
 passes : {X : Type 0} (test : X → Bool) (x : X) (b : Bool) (xs : List X) (q : X) → test x ≡ b → (Has xs q → test q ≡ true)
     → Has (cond b (x ∷ xs) xs) q → test q ≡ true
@@ -51,35 +33,10 @@ filter_passes : {X : Type 0} (test : X → Bool) (xs : List X) (q : X) → Has (
 filter_passes test [] q h = absurd h
 filter_passes test (x ∷ xs) q h = passes test x (test x) (filter test xs) q refl (filter_passes test xs q) h
 
-in_filter : {X : Type 0} (test : X → Bool) (xs : List X) (q : X) → Has xs q → test q ≡ true → Has (filter test xs) q
-in_filter test [] q h t = absurd h
-in_filter test (x ∷ xs) q h t = elim h [
-  | inl e ↦ subst (λ b. Has (cond b (x ∷ filter test xs) (filter test xs)) q) (sym (ap test e ∙ t)) (inl e)
-  | inr k ↦ more_cond (test x) x (filter test xs) q (in_filter test xs q k t)
-]
-
 in_at : {X : Type 0} (xs : List X) (i : ℕ) (d : X) → i < length xs → Has xs (get_or xs i d)
 in_at [] i d l = absurd (omega (arith, l))
 in_at (x ∷ xs) zero d l = inl refl
 in_at (x ∷ xs) (suc i) d l = inr (in_at xs i d (omega (arith, l)))
-
-in_one_of : (paths : List Atoms) (q : Atoms) → Has paths q → has_path paths q ≡ true
-in_one_of [] q h = absurd h
-in_one_of (p ∷ ps) q h = elim h [
-  | inl e ↦ ap (λ b. b || has_path ps q) ((same_path_decides p q).1 e)
-  | inr k ↦ ap (λ b. same_path p q || b) (in_one_of ps q k) ∙ or_true (same_path p q)
-]
-  where
-    or_true : (b : Bool) → (b || true) ≡ true
-    or_true true = refl
-    or_true false = refl
-
-one_of_in : (paths : List Atoms) (q : Atoms) → has_path paths q ≡ true → Has paths q
-one_of_in [] q h = absurd (false≢true h)
-one_of_in (p ∷ ps) q h = elim (cases_Bool (same_path p q)) [
-  | inl same ↦ inl ((same_path_decides p q).0 same)
-  | inr differ ↦ inr (one_of_in ps q (sym (ap (λ b. b || has_path ps q) differ) ∙ h))
-]
 
 -- ## Files at positions
 
@@ -121,13 +78,13 @@ in_tree_at files ps qs tree w rises into back =
     let found = from_map at qs path h in
     let here = in_at (paths_of files) found.0 []
     (subst (λ n. found.0 < n) (sym (length-map files (λ f. f.0))) (in_within files qs found.0 w found.1)) in
-    in_filter (has_path (paths_at files ps)) (paths_of files) path
+    has_filter (has_path (paths_at files ps)) (paths_of files) path
     (subst (Has (paths_of files)) found.2 here)
-    (in_one_of (paths_at files ps) path (subst (Has (paths_at files ps)) found.2 (in_map at ps found.0 (back found.0 found.1)))))
+    (has_found (paths_at files ps) path (subst (Has (paths_at files ps)) found.2 (has_map at ps found.0 (back found.0 found.1)))))
     (λ path h.
-    let found = from_map at ps path (one_of_in (paths_at files ps) path
+    let found = from_map at ps path (found_has (paths_at files ps) path
     (filter_passes (has_path (paths_at files ps)) (paths_of files) path h)) in
-    subst (Has (paths_at files qs)) found.2 (in_map at qs found.0 (into found.0 found.1)))
+    subst (Has (paths_at files qs)) found.2 (has_map at qs found.0 (into found.0 found.1)))
 
 all_within : (files : Files) (qs : List ℕ) → ((q : ℕ) → Has qs q → q < length files) → AreWithin files qs
 all_within files [] h = tt
@@ -152,9 +109,9 @@ members : (files : Files) (ps qs : List ℕ) → ((q : ℕ) → Contains ps q �
     → has_path (paths_at files ps) path ≡ true → has_path (paths_at files qs) path ≡ true
 members files ps qs into path h =
     let at = λ (q : ℕ). get_or (paths_of files) q [] in
-    let found = from_map at ps path (one_of_in (paths_at files ps) path h) in
-    in_one_of (paths_at files qs) path
-    (subst (Has (paths_at files qs)) found.2 (in_map at qs found.0
+    let found = from_map at ps path (found_has (paths_at files ps) path h) in
+    has_found (paths_at files qs) path
+    (subst (Has (paths_at files qs)) found.2 (has_map at qs found.0
     (has_contained qs found.0 (into found.0 (contains_has ps found.0 found.1)))))
 
 -- two lists of positions with equal members are the places of equal sets of files
@@ -213,6 +170,6 @@ pub all_places : (test : Atoms → Bool) (files : Files) (paths : List Atoms) (p
     → list_all test (paths_at files ps) ≡ list_all test paths
 all_places test files paths ps h = both_ways (list_all test (paths_at files ps)) (list_all test paths)
     (all_at test (paths_at files ps) paths
-    (λ path k. one_of_in (paths_at files ps) path (h.same path ∙ in_one_of paths path k)))
+    (λ path k. found_has (paths_at files ps) path (h.same path ∙ has_found paths path k)))
     (all_at test paths (paths_at files ps)
-    (λ path k. one_of_in paths path (sym (h.same path) ∙ in_one_of (paths_at files ps) path k)))
+    (λ path k. found_has paths path (sym (h.same path) ∙ has_found (paths_at files ps) path k)))

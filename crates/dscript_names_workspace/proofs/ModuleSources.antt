@@ -5,7 +5,8 @@ use Rattle.std.specs.List.{AllByRecursion, AllZip, IsDistinct, cons_option}
 use Rattle.std.specs.Ordering.{eq_by_cmp}
 use Rattle.std.proofs.lemmas.Map.Keys.{IsDistinct-from_sorted}
 use Rattle.std.specs.Option.{option_map_or}
-use Rattle.std.proofs.lemmas.Bool.{cases_Bool, false≢true}
+use Rattle.std.proofs.lemmas.Bool.{cases_Bool, false≢true, and_parts}
+use Rattle.std.specs.Cmp.{both_ways}
 use Rattle.bx_tree.specs.Paths.{Atoms, has_path, path_cmp, same_path}
 use Rattle.bx_tree.specs.Orders.{path_cmp_matches, same_path_decides}
 use Rattle.bx_tree.specs.Trees.{Files, IsTree, file_at, paths_of}
@@ -70,17 +71,11 @@ kept_in test (p ∷ ps) path h t = elim (cases_Bool (same_path p path)) [
     more true p ps path h = ap (λ b. same_path p path || b) h ∙ or_true (same_path p path)
     more false p ps path h = h
 
-both_true : (a b : Bool) → (a ≡ true → b ≡ true) → (b ≡ true → a ≡ true) → a ≡ b
-both_true true true f g = refl
-both_true true false f g = sym (f refl)
-both_true false true f g = g refl
-both_true false false f g = refl
-
 each_kept : (test : Atoms → Bool) (all paths : List Atoms) → ((path : Atoms) → has_path paths path ≡ true → has_path all path ≡ true)
     → AllByRecursion (λ path. has_path (filter test all) path ≡ test path) paths
 each_kept test all [] into = tt
 each_kept test all (p ∷ ps) into = (
-  both_true (has_path (filter test all) p) (test p) (kept_is test all p) (kept_in test all p (into p (is_here ps p))),
+  both_ways (has_path (filter test all) p) (test p) (kept_is test all p) (kept_in test all p (into p (is_here ps p))),
   each_kept test all ps (λ path h. into path (ap (λ b. same_path p path || b) h ∙ or_true (same_path p path))),
 )
   where
@@ -120,17 +115,13 @@ implied_named true true c m d e = refl
 implied_named true false c m d e = cc
 implied_named false s c m d e = cc
 
-projects_named : (below spec : Bool) → (below && spec) ≡ true → spec ≡ true
-projects_named true spec e = e
-projects_named false spec e = cc
-
 one_named : (dir : Atoms) (paths : List Atoms) (path : Atoms) → are_projects dir paths ≡ true → has_path paths path ≡ true
     → is_specification path ≡ true
 one_named dir [] path h k = absurd (false≢true k)
 one_named dir (p ∷ ps) path h k = elim (cases_Bool (same_path p path)) [
   | inl same ↦
       ap is_specification (sym ((same_path_decides p path).0 same))
-      ∙ projects_named (is_below p dir) (is_specification p) (first (is_below p dir && is_specification p) (are_projects dir ps) h)
+      ∙ (and_parts (is_below p dir) (is_specification p) (first (is_below p dir && is_specification p) (are_projects dir ps) h)).1
   | inr differ ↦
       one_named dir ps path (rest (is_below p dir && is_specification p) (are_projects dir ps) h)
       (sym (ap (λ b. b || has_path ps path) differ) ∙ k)

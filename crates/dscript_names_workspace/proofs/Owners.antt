@@ -4,7 +4,7 @@ use Rattle.std.proofs.Common.{◌≡◌, ◌<◌, ◌+◌, ℕ, suc, Bool, true,
 use Rattle.std.specs.Prelude.{◌&&◌, ◌||◌, filter}
 use Rattle.std.specs.Bool.{MatchBool}
 use Rattle.std.specs.List.{list_any}
-use Rattle.std.proofs.lemmas.Bool.{cases_Bool, false≢true}
+use Rattle.std.proofs.lemmas.Bool.{cases_Bool, false≢true, and_left, and_from}
 use Rattle.std.proofs.Math.Seq.{take-suc}
 use Rattle.std.proofs.lemmas.List.{map-append}
 use Rattle.std.proofs.lemmas.List.Elements.{filter-append}
@@ -58,15 +58,6 @@ and_not true true e = refl
 and_not false d e = refl
 and_not true false e = cc
 
-and_none : (b d : Bool) → b ≡ false → (b && d) ≡ false
-and_none false d e = refl
-and_none true d e = cc
-
-both : (a b : Bool) → a ≡ true → b ≡ true → (a && b) ≡ true
-both true true e f = refl
-both true false e f = cc
-both false b e f = cc
-
 other_dir : (dirs : List Atoms) (path own dir : Atoms) → has_path dirs own ≡ true → has_path dirs dir ≡ true
     → is_below path own ≡ true → is_below path dir ≡ true → same_path own dir ≡ false
     → (is_below dir own && is_below path dir) ≡ false → is_deeper dirs dir path ≡ true
@@ -78,9 +69,9 @@ other_dir dirs path own dir m n b c differ last =
       | inr apart ↦ elim apart [
         | inl deeper ↦
             some_of dirs (is_between dir path) own m
-            (both (is_below own dir) (is_below path own) ((below_decides own dir).1 deeper) b)
+            (and_from (is_below own dir) (is_below path own) ((below_decides own dir).1 deeper) b)
         | inr higher ↦
-            absurd (false≢true (sym last ∙ both (is_below dir own) (is_below path dir) ((below_decides dir own).1 higher) c))
+            absurd (false≢true (sym last ∙ and_from (is_below dir own) (is_below path dir) ((below_decides dir own).1 higher) c))
       ]
     ]
 
@@ -96,13 +87,13 @@ at_owner dirs path own dir m n b last = elim (cases_Bool (same_path own dir)) [
     | inl c ↦
         and_not (is_below path dir) (is_deeper dirs dir path) (other_dir dirs path own dir m n b c differ (last dir n))
         ∙ sym differ
-    | inr c ↦ and_none (is_below path dir) (not (is_deeper dirs dir path)) c ∙ sym differ
+    | inr c ↦ and_left (is_below path dir) (not (is_deeper dirs dir path)) c ∙ sym differ
   ]
 ]
 
 at_deepest : (dirs : List Atoms) (path : Atoms) (owner : Option Atoms) (dir : Atoms) → IsDeepest (has_path dirs) path owner
     → has_path dirs dir ≡ true → (is_below path dir && not (is_deeper dirs dir path)) ≡ is_owner owner dir
-at_deepest dirs path None dir h n = and_none (is_below path dir) (not (is_deeper dirs dir path)) (h dir n)
+at_deepest dirs path None dir h n = and_left (is_below path dir) (not (is_deeper dirs dir path)) (h dir n)
 at_deepest dirs path (Some own) dir h n = at_owner dirs path own dir h.0 n h.1 h.2
 
 -- ## The files of a module

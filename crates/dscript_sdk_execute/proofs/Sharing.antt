@@ -1,7 +1,7 @@
 -- A directory that is both exclusive and shared.
 use Rattle.std.proofs.Common.{◌≡◌, ◌↔◌, Bool, true, false, not, ◌&&◌, ◌||◌, IsTrue, List, [], ◌∷◌, refl, ap, sym, ◌∙◌}
 use Rattle.std.specs.List.{Contains}
-use Rattle.std.proofs.lemmas.Bool.{false≢true}
+use Rattle.std.proofs.lemmas.Bool.{and_parts, not-true}
 use Rattle.bx_tree.specs.Orders.{same_path_decides}
 use Rattle.bx_tree.specs.Paths.{Atoms, same_path}
 use Rattle.bx_tree.proofs.FoundByTest.{found_by_test}
@@ -14,21 +14,13 @@ exclusive_of d = record { path = d.path; shared = false }
 abbrev shares_with : OutDir → OutDir → Bool
 shares_with d e = same_path d.path e.path && d.shared && not e.shared
 
-both_true : (a b : Bool) → (a && b) ≡ true → (a ≡ true) × (b ≡ true)
-both_true true b e = (refl, e)
-both_true false b e = absurd (false≢true e)
-
-not_true : (a : Bool) → not a ≡ true → a ≡ false
-not_true true e = absurd (false≢true e)
-not_true false e = refl
-
 only_exclusive : (d e : OutDir) → shares_with d e ≡ true → e ≡ exclusive_of d
 only_exclusive d e h =
-    let outer = both_true (same_path d.path e.path && d.shared) (not e.shared) h in
-    let inner = both_true (same_path d.path e.path) d.shared outer.0 in
+    let outer = and_parts (same_path d.path e.path && d.shared) (not e.shared) h in
+    let inner = and_parts (same_path d.path e.path) d.shared outer.0 in
     let with : Atoms → Bool → OutDir = λ p b. record { path = p; shared = b } in
     ap (λ p. with p e.shared) (sym ((same_path_decides d.path e.path).0 inner.0))
-    ∙ ap (λ b. with d.path b) (not_true e.shared outer.1)
+    ∙ ap (λ b. with d.path b) (not-true e.shared outer.1)
 
 shares_exclusive_of : (d : OutDir) → d.shared ≡ true → shares_with d (exclusive_of d) ≡ true
 shares_exclusive_of d e =

@@ -15,6 +15,7 @@ use Rattle.dscript_sdk_pips.proofs.FilesKept.{keys, keys_put, own_from, own_path
 use Rattle.bx_tree.specs.FileInputs.{input_path}
 use Rattle.bx_tree.specs.Members.{Has}
 use Rattle.bx_tree.proofs.Sets.{contains_has, has_contained, has_insert, insert_has}
+use Rattle.bx_tree.proofs.Members.{has_map}
 
 -- ## Listed by a test, and among the paths
 
@@ -75,16 +76,12 @@ has_kept (f ∷ fs) es q h = elim (has_kept fs (put_file es f) q h) [
 paths_kept : (files : List FileInput) → map input_path (files_by_path files) ≡ keys (fold put_file [] files)
 paths_kept files = own_paths (fold put_file [] files) (own_from files [] tt)
 
-has_path : (files : List FileInput) (file : FileInput) → Has files file → Has (map input_path files) (input_path file)
-has_path [] file h = absurd h
-has_path (f ∷ fs) file h = elim h [ inl here ↦ inl (ap input_path here) | inr more ↦ inr (has_path fs file more) ]
-
 pub path_kept : (files : List FileInput) (file : FileInput) → Contains files file
     → Contains (map input_path (files_by_path files)) (input_path file)
 path_kept files file h =
     contains_has (map input_path (files_by_path files)) (input_path file)
     (subst (λ ps. Has ps (input_path file)) (sym (paths_kept files))
-    (kept_has files [] (input_path file) (inr (has_path files file (has_contained files file h)))))
+    (kept_has files [] (input_path file) (inr (has_map input_path files file (has_contained files file h)))))
 
 listed_by_path : (files : List FileInput) (path : Atoms) → is_listed (files_by_path files) path ≡ is_listed files path
 listed_by_path files path =

@@ -33,6 +33,7 @@ use Rattle.observed.specs.Orders.{ask_cmp_total}
 use Rattle.observed.specs.PathSets.{IsPathSet}
 use Rattle.observed.specs.Texts.{ReadsPathSet, ReadsAsks, all_asks, after_asks, after_prefix, ask_after, ask_at, ask_line, first_line, if_rising, is_rising, kind_text, named_ask, named_asks, named_path, paths_text, read_lines, read_paths_text, with_ask}
 use Rattle.bx_tree.specs.Lent.{texts_now}
+use Rattle.bx_tree.proofs.Lists.{none_left, all_true}
 
 -- ## Options
 
@@ -41,10 +42,6 @@ if_some true o x e = (refl, e)
 if_some false o x e = cc
 
 -- ## Paths
-
-bytes_all : (bs : List ℕ) → list_all is_atom_byte bs ≡ true → AllByRecursion (λ b. IsTrue (is_atom_byte b)) bs
-bytes_all [] h = tt
-bytes_all (b ∷ bs) h = let parts = and_parts (is_atom_byte b) (list_all is_atom_byte bs) h in (parts.0, bytes_all bs parts.1)
 
 other_text : (a b : List ℕ) → not (bytes_eq a b) ≡ true → a ≢ b
 other_text a b h e = not_both (bytes_eq a b) h ((bytes_eq-Decides a b).1 e)
@@ -65,7 +62,7 @@ atom_sound text e =
     record {
       some = leb-true 1 (length text) f.0;
       short = leb-true (length text) MAX_ATOM_BYTES f.1;
-      bytes = bytes_all text d.1;
+      bytes = all_true is_atom_byte text d.1;
       not_dot = other_text text (codes ".") b.1;
       not_dots = other_text text (codes "..") a.1;
     }
@@ -383,14 +380,10 @@ texts_push : (rest : List (Bor (List ℕ))) (last : Bor (List ℕ)) → texts_no
 texts_push [] last = refl
 texts_push (x ∷ xs) last = ap (λ ts. x.now ∷ ts) (texts_push xs last)
 
-no_bytes : (xs : List ℕ) → length xs ≡ 0 → xs ≡ []
-no_bytes [] e = refl
-no_bytes (x ∷ xs) e = absurd (omega (arith, e))
-
 pub asks_closed : (lines rest : List (Bor (List ℕ))) (last : Bor (List ℕ)) → lines ≡ rest ++ last ∷ [] → length last.now ≡ 0
     → all_asks (texts_now rest) ≡ named_asks (texts_now lines)
 asks_closed lines rest last is none =
-    sym (ap (λ ls. named_asks (texts_now ls)) is ∙ ap named_asks (texts_push rest last) ∙ ap (λ t. named_asks (texts_now rest ++ t ∷ [])) (no_bytes last.now none)
+    sym (ap (λ ls. named_asks (texts_now ls)) is ∙ ap named_asks (texts_push rest last) ∙ ap (λ t. named_asks (texts_now rest ++ t ∷ [])) (none_left last.now none)
     ∙ named_prefix (texts_now rest))
 
 pub asks_open : (lines rest : List (Bor (List ℕ))) (last : Bor (List ℕ)) → lines ≡ rest ++ last ∷ [] → length last.now ≢ 0 → named_asks (texts_now lines) ≡ None

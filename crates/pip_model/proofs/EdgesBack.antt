@@ -1,8 +1,9 @@
 -- Each edge of a list of pips goes to a smaller pip.
-use Rattle.std.proofs.Common.{inl, inr, ◌≡◌, ℕ, zero, suc, ◌<◌, List, [], ◌∷◌, length, get_or, take, Option, Some, None, refl, subst, arith, length-take}
+use Rattle.std.proofs.Common.{inl, inr, ◌≡◌, ℕ, zero, suc, ◌<◌, List, [], ◌∷◌, length, take, Option, Some, None, refl, subst, arith, length-take}
 use Rattle.std.specs.Prelude.{IsSomeAnd, slice_get}
 use Rattle.std.specs.List.{All, Contains, flat_map}
 use Rattle.std.proofs.lemmas.List.Elements.{All-contains, Contains-append_cases}
+use Rattle.std.proofs.lemmas.Option.{get_or_from_slice_get, slice_get_within}
 use Rattle.bx_tree.specs.declared.file_input.FileInput.{FileInput}
 use Rattle.bx_tree.specs.declared.file_input.FileInput.TheVariants.{Source, Made}
 use Rattle.pip_model_types.specs.declared.dir_inputs.DirInput.{DirInput}
@@ -46,20 +47,10 @@ makers_before before fs j all c =
 
 -- ## A pip of a list
 
-at_place : {X : Type 0} (xs : List X) (i : ℕ) (x d : X) → slice_get xs i ≡ Some x → get_or xs i d ≡ x
-at_place [] i x d e = cc
-at_place (y ∷ ys) zero x d e = cc
-at_place (y ∷ ys) (suc i) x d e = at_place ys i x d e
-
-place_in : {X : Type 0} (xs : List X) (i : ℕ) (x : X) → slice_get xs i ≡ Some x → i < length xs
-place_in [] i x e = cc
-place_in (y ∷ ys) zero x e = omega arith
-place_in (y ∷ ys) (suc i) x e = let l = place_in ys i x e in omega (arith, l)
-
 -- what a pip names is made by the pips before it
 names_before : (pips : List Pip) → IsPipList pips → (i : ℕ) (pip : Pip) → slice_get pips i ≡ Some pip → NamesAmong (take i pips) pip.kind
 names_before pips list i pip e =
-    subst (λ (p : Pip). NamesAmong (take i pips) p.kind) (at_place pips i pip pip e) (list i (place_in pips i pip e) pip)
+    subst (λ (p : Pip). NamesAmong (take i pips) p.kind) (get_or_from_slice_get pips i pip pip e) (list i (slice_get_within pips i pip e) pip)
 
 below_take : (pips : List Pip) (i j : ℕ) → j < length (take i pips) → j < i
 below_take pips i j l = omega (arith, l, length-take i pips)

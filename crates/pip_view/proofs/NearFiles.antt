@@ -3,7 +3,7 @@ use Rattle.std.proofs.Common.{◌≡◌, ℕ, Bool, true, false, ◌||◌, cond,
 use Rattle.std.specs.Prelude.{Any, Contains, IfSome, IsSomeAnd, slice_get}
 use Rattle.std.specs.List.{cons_option, flat_map}
 use Rattle.std.specs.Option.{unwrap_or}
-use Rattle.std.proofs.lemmas.Bool.{cases_Bool, false≢true}
+use Rattle.std.proofs.lemmas.Bool.{cases_Bool, false≢true, or_cases}
 use Rattle.std.proofs.lemmas.List.Elements.{filter-append}
 use Rattle.bx_tree.specs.Orders.{same_path_decides}
 use Rattle.bx_tree.specs.Paths.{Atoms, IsBelow, same_path}
@@ -28,12 +28,8 @@ use Rattle.bx_tree.specs.FileInputs.{input_path}
 abbrev pub at_or_below : Atoms → FileInput → Bool
 at_or_below path file = same_path (input_path file) path || is_below (input_path file) path
 
-either_way : (a b : Bool) → (a || b) ≡ true → (a ≡ true) ⊎ (b ≡ true)
-either_way true b e = inl refl
-either_way false b e = inr e
-
 lies_at : (path : Atoms) (file : FileInput) → at_or_below path file ≡ true → (input_path file ≡ path) ⊎ IsBelow (input_path file) path
-lies_at path file e = elim (either_way (same_path (input_path file) path) (is_below (input_path file) path) e) [
+lies_at path file e = elim (or_cases (same_path (input_path file) path) (is_below (input_path file) path) e) [
   | inl same ↦ inl ((same_path_decides (input_path file) path).0 same)
   | inr below ↦ inr ((below_decides (input_path file) path).0 below)
 ]

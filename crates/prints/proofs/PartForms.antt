@@ -5,7 +5,7 @@ use Rattle.std.specs.Fmt.{decimal}
 use Rattle.std.specs.List.{AllByRecursion, join_with_byte, list_all}
 use Rattle.std.specs.Str.{bytes_eq}
 use Rattle.std.specs.Str.Parse.{AllDigits, digits_value}
-use Rattle.std.proofs.lemmas.Bool.{and_from, and_parts, cases_Bool, ltb-true, lt-ltb}
+use Rattle.std.proofs.lemmas.Bool.{and_from, and_parts, cases_Bool, ltb-true, lt-ltb, both_ways}
 use Rattle.std.proofs.lemmas.Bool.Decides.{Decides-eqb}
 use Rattle.std.proofs.lemmas.Fmt.{decimal_is_IsNumeral}
 use Rattle.std.proofs.lemmas.List.{take_at, drop_at, take-append-drop, length-take, length-drop}
@@ -52,9 +52,6 @@ other_byte end b P none p = elim (cases_Bool (b == end)) [
   | inl same ↦ absurd (none (subst P ((Decides-eqb b end).0 same) p))
   | inr other ↦ other
 ]
-
-false_not : (b : Bool) → b ≡ false → b ≡ true → ⊥
-false_not b e f = cc
 
 -- ## Parts
 
@@ -109,7 +106,7 @@ part_form {X = X} G w named end sound again lacks = record {
 atom_lacks : (end : ℕ) → IsEnd end → (bs : List ℕ) → AllByRecursion (λ b. IsTrue (is_atom_byte b)) bs → Lacks end bs
 atom_lacks end h [] all = tt
 atom_lacks end h (b ∷ bs) all =
-    (other_byte end b (λ c. is_atom_byte c ≡ true) (false_not (is_atom_byte end) h.atom) all.0, atom_lacks end h bs all.1)
+    (other_byte end b (λ c. is_atom_byte c ≡ true) (both_ways (is_atom_byte end) h.atom) all.0, atom_lacks end h bs all.1)
 
 pub path_lacks : (end : ℕ) → IsEnd end → (path : Atoms) → AllByRecursion IsAtom path → Lacks end (path_text path)
 path_lacks end h [] all = (h.dot, tt)

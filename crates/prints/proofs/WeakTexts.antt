@@ -8,7 +8,7 @@ use Rattle.std.specs.declared.cmp.Ordering.{Ordering}
 use Rattle.std.specs.declared.cmp.Ordering.TheVariants.{Less, Equal, Greater}
 use Rattle.std.specs.Cmp.{IsTotalOrder}
 use Rattle.std.proofs.lemmas.Bool.{and_from, lt-ltb}
-use Rattle.std.proofs.lemmas.List.{append-nil}
+use Rattle.std.proofs.lemmas.List.{append-nil, length-map, map-id}
 use Rattle.std.proofs.lemmas.List.Concat.{flat_map-cons}
 use Rattle.bx_tree.specs.Paths.{Atoms, IsPath, path_cmp}
 use Rattle.bx_tree.specs.Orders.{path_cmp_total}
@@ -27,7 +27,7 @@ use Rattle.prints.specs.Lines.{begins, rises}
 use Rattle.prints.specs.Reading.{Gives, both_at}
 use Rattle.prints.proofs.Combining.{after_form, as_form, both_form, form_of, only_form, pair_form, whole_again, whole_read}
 use Rattle.prints.proofs.LineLists.{lines_form}
-use Rattle.prints.proofs.Rising.{map_same, rising_sorted, rising_sorted_by, sorted_by_rising, sorted_rising}
+use Rattle.prints.proofs.Rising.{rising_sorted, rising_sorted_by, sorted_by_rising, sorted_rising}
 use Rattle.prints.specs.declared.fault.PrintFault.{PrintFault}
 use Rattle.prints.specs.declared.fault.PrintFault.TheVariants as faults
 use Rattle.prints.specs.declared.weak_reading.Head.{Head}
@@ -314,10 +314,6 @@ sources_map : (files : List FileInput) → map Source (map input_path files) ≡
 sources_map [] = refl
 sources_map (f ∷ fs) = ap (λ t. Source (input_path f) ∷ t) (sources_map fs)
 
-pub map_length : {X Y : Type 0} (f : X → Y) (xs : List X) → length (map f xs) ≡ length xs
-map_length f [] = refl
-map_length f (x ∷ xs) = ap suc (map_length f xs)
-
 -- ## What is read is well formed, and names no pips
 
 pub dir_paths : (dirs : List DirInput) → AllByRecursion IsDirLine (map dir_line dirs) → AllByRecursion (λ d. IsPath (dir_path d)) dirs
@@ -331,10 +327,10 @@ dir_lines (Sealed pip form root ∷ ds) h = (h.0, dir_lines ds h.1)
 dir_lines (Opaque pip path ∷ ds) h = (h.0, dir_lines ds h.1)
 
 pub rising_itself : {K : Type 0} {R : K → K → Ordering} → IsTotalOrder R → (xs : List K) → rises (λ a b. is_lt (R a b)) xs ≡ true → IsStrictlySortedBy R xs
-rising_itself {R = R} order xs e = subst (IsStrictlySortedBy R) (map_same xs) (rising_sorted order (λ x. x) xs e)
+rising_itself {R = R} order xs e = subst (IsStrictlySortedBy R) (map-id xs) (rising_sorted order (λ x. x) xs e)
 
 itself_rising : {K : Type 0} {R : K → K → Ordering} → IsTotalOrder R → (xs : List K) → IsStrictlySortedBy R xs → rises (λ a b. is_lt (R a b)) xs ≡ true
-itself_rising {R = R} order xs h = sorted_rising order (λ x. x) xs (subst (IsStrictlySortedBy R) (sym (map_same xs)) h)
+itself_rising {R = R} order xs h = sorted_rising order (λ x. x) xs (subst (IsStrictlySortedBy R) (sym (map-id xs)) h)
 
 abbrev with_lists : WeakParts → List FileInput → List DirInput → WeakParts
 with_lists w files dirs = record {
@@ -395,7 +391,7 @@ reads_lists : (w : WeakParts) → AreListsWeak w → AreReadLists (lists_of_part
 reads_lists w h =
     let paths = map input_path w.process.files in
     let sources = map (λ f. Source (input_path f)) w.process.files in
-    let many : length paths ≡ length w.files = map_length input_path w.process.files ∙ h.one_each in
+    let many : length paths ≡ length w.files = length-map w.process.files input_path ∙ h.one_each in
     let lines : file_lines (map input_path sources) w.files ≡ file_lines paths w.files = ap (λ ps. file_lines ps w.files) (same_paths w.process.files) in
     let rising : rises file_before (file_lines paths w.files) ≡ true =
     sorted_rising path_cmp_total (λ (f : FileLine). f.path) (file_lines paths w.files)

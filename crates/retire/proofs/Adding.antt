@@ -2,6 +2,7 @@
 use Rattle.std.proofs.Common.{◌≡◌, ◌⊎◌, ℕ, zero, suc, ◌+◌, ◌<◌, Bool, true, false, List, [], ◌∷◌, length, map, Option, Some, None, refl, sym, ap, ◌∙◌, subst, inl, inr, arith}
 use Rattle.std.specs.Prelude.{slice_get}
 use Rattle.std.proofs.lemmas.Option.{same_Some}
+use Rattle.std.proofs.lemmas.Bool.{both_ways}
 use Rattle.bx_tree.specs.Trees.{Files}
 use Rattle.bx_io.specs.Holdings.{Holdings}
 use Rattle.pip_model_types.specs.declared.desc.Desc.{Desc}
@@ -68,10 +69,6 @@ abbrev pub all_verdicts : List Pip → Files → ℕ → List Verdict
 all_verdicts pips tree budget = verdicts_of (one_thread pips tree budget)
 
 -- ## Outcomes of processes that succeed
-
-not_true : (b : Bool) → b ≡ false → b ≡ true → ⊥
-not_true true e k = cc
-not_true false e k = cc
 
 violated_fails : (o : Option Violation) → is_success (violated o).verdict ≡ true → ⊥
 violated_fails None e = cc
@@ -161,7 +158,7 @@ module _ (pips : List Pip) (tree : Files) (budget : ℕ) (n : ℕ) (vs : List Ve
         }) refl sound
         (λ d see r. let same = only_run pip p at is d see r in (run.desc ∙ same.0, run.answers ∙ ap (λ (v : Ask → Answer). map v f.paths) same.1))
     by_run p f is good run sound result false e kept =
-        nothing kept (λ d see r yes. absurd (not_true (is_success next.ended.verdict) e (is_good yes)))
+        nothing kept (λ d see r yes. absurd (both_ways (is_success next.ended.verdict) e (is_good yes)))
 
     by_taken : (p : ProcessDesc) (t : Taken) → pip.kind ≡ Process p → slots_are_good pips (Process p) ss ≡ true → TakesFrom S (desc_now p) (view_now p) t → IsOfNow (desc_now p) (view_now p) t
         → ended_result next.ended ≡ by_outcome pips tree (map slot_files ss) n (outcome_in t)
@@ -180,7 +177,7 @@ module _ (pips : List Pip) (tree : Files) (budget : ℕ) (n : ℕ) (vs : List Ve
     pub added_by : Decides pips tree budget (Some S) ss n pip.kind next → Adds pips tree budget S n next.saved
     added_by (deciding.skipped e d) =
         nothing d.record_is (λ x see r yes.
-        absurd (not_true (slots_are_good pips pip.kind ss) e
+        absurd (both_ways (slots_are_good pips pip.kind ss) e
         (subst (λ (k : PipKind). slots_are_good pips k ss ≡ true) (sym (kind_at pip at x see r)) (good_at x see r))))
     added_by (deciding.plain e none d) =
         nothing d.record_is (λ x see r yes.

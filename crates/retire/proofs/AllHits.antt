@@ -1,9 +1,10 @@
 -- Where something is usable for each process that succeeds, and all pips succeed, all processes hit.
-use Rattle.std.proofs.Common.{◌≡◌, ◌⊎◌, ℕ, zero, suc, ◌+◌, Bool, true, false, ◌&&◌, cond, List, [], ◌∷◌, ◌++◌, length, take, Option, Some, refl, sym, ap, ◌∙◌, subst, inl, inr, arith, append_assoc, append-nil, length-append}
+use Rattle.std.proofs.Common.{◌≡◌, ◌⊎◌, ℕ, zero, suc, ◌+◌, Bool, true, false, cond, List, [], ◌∷◌, ◌++◌, length, take, Option, Some, refl, sym, ap, ◌∙◌, subst, inl, inr, arith, append_assoc, append-nil, length-append}
 use Rattle.std.specs.Prelude.{slice_get}
 use Rattle.std.specs.List.{list_all}
 use Rattle.std.proofs.lemmas.Option.{slice_get-map}
 use Rattle.std.specs.Option.{option_map}
+use Rattle.std.proofs.lemmas.Bool.{and_parts}
 use Rattle.bx_tree.specs.Trees.{Files}
 use Rattle.bx_io.specs.Holdings.{Holdings}
 use Rattle.pip_model_types.specs.declared.pip.Pip.{Pip}
@@ -50,10 +51,6 @@ one_longer : {X : Type 0} (xs : List X) (x : X) (i : ℕ) → length xs ≡ i �
 one_longer xs x i e = length-append xs (x ∷ []) ∙ ap (λ n. n + 1) e
 
 -- ## Successes
-
-both : (a b : Bool) → (a && b) ≡ true → (a ≡ true) × (b ≡ true)
-both true b e = (refl, e)
-both false b e = absurd cc
 
 -- a pip that succeeds is not skipped
 good_inputs : (b : Bool) (r : Result) → is_success (cond b r (failed verdicts.Skipped)).verdict ≡ true → b ≡ true
@@ -128,7 +125,7 @@ module _ (pips : List Pip) (tree : Files) (budget : ℕ) (S : Holdings) (usable 
   hits_from (pip ∷ left) results i before is long count all good =
       let next = result_of pips tree budget results i pip.kind in
       let vs = verdicts_of (rest_of pips tree budget (results ++ next ∷ []) (i + 1) left) in
-      let g = both (is_success next.verdict) (list_all is_success vs) good in
+      let g = and_parts (is_success next.verdict) (list_all is_success vs) good in
       let go = good_inputs (inputs_are_good pips pip.kind results) _ g.0 in
       let rest =
       hits_from left (results ++ next ∷ []) (i + 1) (before ++ pip ∷ []) (is ∙ sym (append_assoc before (pip ∷ []) left)) (one_longer before pip i long)

@@ -8,6 +8,8 @@ use Rattle.std.proofs.lemmas.Option.{slice_get-get_or, same_Some}
 use Rattle.std.proofs.Math.Seq.{drop-cons}
 use Rattle.bx_tree.specs.Trees.{Files}
 use Rattle.bx_tree.specs.Members.{Has}
+use Rattle.bx_tree.proofs.Lists.{all_push}
+use Rattle.bx_tree.proofs.Members.{has_front, has_last}
 use Rattle.bx_io.specs.Holdings.{Holdings}
 use Rattle.pip_model_types.specs.declared.desc.Desc.{Desc}
 use Rattle.pip_model_types.specs.declared.made.Slot.{Slot}
@@ -45,22 +47,10 @@ pub record FollowsTo (pips : List Pip) (tree : Files) (budget : ℕ) (S : Holdin
 
 -- ## Records
 
-has_before : {X : Type 0} (xs ys : List X) (x : X) → Has xs x → Has (xs ++ ys) x
-has_before [] ys x h = absurd h
-has_before (y ∷ xs) ys x h = elim h [ inl e ↦ inl e | inr k ↦ inr (has_before xs ys x k) ]
-
-has_last : {X : Type 0} (xs : List X) (x : X) → Has (xs ++ x ∷ []) x
-has_last [] x = inl refl
-has_last (y ∷ xs) x = inr (has_last xs x)
-
-all_and : {X : Type 0} (P : X → Type 0) (xs : List X) (x : X) → AllByRecursion P xs → P x → AllByRecursion P (xs ++ x ∷ [])
-all_and P [] x h p = (p, tt)
-all_and P (y ∷ xs) x h p = (h.0, all_and P xs x h.1 p)
-
 there_before : (S : Holdings) (fs more : List Facts) (d : Desc) (see : Ask → Answer) → IsThere S fs d see → IsThere S (fs ++ more) d see
 there_before S fs more d see h = elim h [
   | inl usable ↦ inl usable
-  | inr kept ↦ inr (kept.0, has_before fs more kept.0 kept.1, kept.2, kept.3)
+  | inr kept ↦ inr (kept.0, has_front fs more kept.0 kept.1, kept.2, kept.3)
 ]
 
 -- ## At the start
@@ -151,7 +141,7 @@ module _ (pips : List Pip) (tree : Files) (budget : ℕ) (S : Holdings) (fair : 
       successes =
           subst (Between pips tree budget 0 (n + 1)) (ap (λ (o : Option Facts). fs ++ option_to_list o) (sym kept))
           (between_one pips tree budget 0 n fs f s number so.successes);
-      sounds = subst (AllByRecursion Sound) (ap (λ (o : Option Facts). fs ++ option_to_list o) (sym kept)) (all_and Sound fs f so.sounds sound);
+      sounds = subst (AllByRecursion Sound) (ap (λ (o : Option Facts). fs ++ option_to_list o) (sym kept)) (all_push Sound fs f so.sounds sound);
       all_there = λ i d' see l runs succeeds. elim (adding.below_or_at i n l) [
         | inl less ↦ there_before S fs (option_to_list next.saved) d' see (so.all_there i d' see less runs succeeds)
         | inr same ↦

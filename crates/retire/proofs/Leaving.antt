@@ -5,6 +5,7 @@ use Rattle.std.specs.List.{AllByRecursion}
 use Rattle.std.proofs.lemmas.Option.{same_Some}
 use Rattle.bx_tree.specs.Trees.{Files}
 use Rattle.bx_tree.specs.Members.{Has}
+use Rattle.bx_tree.proofs.Members.{has_all}
 use Rattle.bx_io.specs.Holdings.{Holdings, StoreState}
 use Rattle.pip_model_types.specs.Makers.{IsPipList}
 use Rattle.pip_model_types.specs.declared.desc.Desc.{Desc}
@@ -43,10 +44,6 @@ all_first P zero fs h = tt
 all_first P (suc n) [] h = tt
 all_first P (suc n) (f ∷ fs) h = (h.0, all_first P n fs h.1)
 
-one_of_all : (P : Facts → Type 0) (fs : List Facts) (f : Facts) → AllByRecursion P fs → Has fs f → P f
-one_of_all P [] f h has = absurd has
-one_of_all P (g ∷ gs) f h has = elim has [ inl same ↦ subst P same h.0 | inr later ↦ one_of_all P gs f h.1 later ]
-
 are_ready : (pips : List Pip) (tree : Files) (budget : ℕ) (S : Holdings) (fs : List Facts) → AllByRecursion (IsOfSuccess pips tree budget) fs → AllByRecursion Sound fs
     → AllByRecursion (IsReady (Compared pips tree budget S)) fs
 are_ready pips tree budget S [] h sounds = tt
@@ -76,7 +73,7 @@ module _ (pips : List Pip) (tree : Files) (budget : ℕ) (before : StoreState) (
         adds = λ kept is e h. elim (left.adds kept is e h) [
           | inl old ↦ inl old
           | inr new ↦
-              inr (new.0, one_of_all (IsOfSuccess pips tree budget) gs new.0 (all_first (IsOfSuccess pips tree budget) puts.number fs all_of) new.1, new.2)
+              inr (new.0, has_all (IsOfSuccess pips tree budget) gs new.0 (all_first (IsOfSuccess pips tree budget) puts.number fs all_of) new.1, new.2)
         ];
         puts = (fs, follows.high, follows.successes, puts);
       }
@@ -129,7 +126,7 @@ module _ (pips : List Pip) (tree : Files) (budget : ℕ) (before : StoreState) (
         usable_at kept.held f.desc see (record_selector f) f.paths
         (saved_stays (Compared pips tree budget before.held) fair.apart fs before now ready
         (all_others pips tree list keeps free budget before.held fair.apart fs 0 follows.high follows.successes spelled)
-        (λ x held. inl held) puts f has (success_fits pips tree budget list f s keeps (one_of_all Sound fs f follows.sounds has)) see answers
+        (λ x held. inl held) puts f has (success_fits pips tree budget list f s keeps (has_all Sound fs f follows.sounds has)) see answers
         (success_met pips tree budget before.held f s (asked_text f.desc see (paths_digest f) f.paths) (inr (inr (inl text)))) kept is)
 
     -- what was usable stays so, where no record is of its pip
@@ -160,7 +157,7 @@ module _ (pips : List Pip) (tree : Files) (budget : ℕ) (before : StoreState) (
         | inl usable ↦ by_store i d see runs usable.0 usable.1 none
         | inr own ↦
             let f : Facts = own.0 in
-            let s : IsOfSuccess pips tree budget f = one_of_all (IsOfSuccess pips tree budget) fs f all_of own.1 in
+            let s : IsOfSuccess pips tree budget f = has_all (IsOfSuccess pips tree budget) fs f all_of own.1 in
             subst (λ (x : Desc). Usable kept.held x see) own.2 (by_record f own.1 s see own.3)
       ]
     ]

@@ -1,11 +1,11 @@
 -- The weak texts of two processes of a build have different digests.
-use Rattle.std.proofs.Common.{◌≡◌, ◌⊎◌, ℕ, ◌+◌, ◌<◌, zero, suc, List, [], ◌∷◌, ◌++◌, get_or, length, map, take, Option, Some, None, refl, sym, ap, ◌∙◌, subst, inl, inr, arith}
+use Rattle.std.proofs.Common.{◌≡◌, ◌⊎◌, ℕ, ◌+◌, zero, suc, List, [], ◌∷◌, ◌++◌, map, take, Option, Some, None, refl, sym, ap, ◌∙◌, subst, inl, inr}
 use Rattle.std.specs.Prelude.{IsSomeAnd, slice_get}
 use Rattle.std.specs.List.{Contains}
 use Rattle.std.specs.Option.{option_to_list}
 use Rattle.std.proofs.lemmas.Bool.{cases_Bool, cases_order, false≢true}
 use Rattle.std.proofs.lemmas.List.Elements.{All-contains}
-use Rattle.std.proofs.lemmas.Option.{same_Some}
+use Rattle.std.proofs.lemmas.Option.{same_Some, get_or_from_slice_get, slice_get_within}
 use Rattle.bx_tree.specs.Orders.{same_path_decides}
 use Rattle.bx_tree.specs.Paths.{Atoms, IsBelow, same_path}
 use Rattle.bx_tree.specs.Trees.{Files, IsReserved, paths_of}
@@ -40,7 +40,6 @@ use Rattle.run_record.specs.Digests.{IsReadBack, weak_of}
 use Rattle.pip_view_inputs.specs.Contents.{input_file}
 use Rattle.pip_view_inputs.specs.Plain.{desc_of}
 use Rattle.pip_view_inputs.specs.Results.{ByPip}
-use Rattle.one_thread.proofs.Making.{has_first}
 use Rattle.one_thread.proofs.Meeting.{declares, kept_below, made_below}
 use Rattle.two_phase_meaning.specs.Compared as met
 use Rattle.retire.specs.Compared.{Compared, inputs_after}
@@ -49,6 +48,7 @@ use Rattle.retire.proofs.SoFar.{process_there, run_met}
 use Rattle.bx_tree.specs.FileInputs.{input_path}
 use Rattle.bx_tree.specs.Members.{Has}
 use Rattle.bx_tree.proofs.Sets.{contains_has, has_contained}
+use Rattle.bx_tree.proofs.Members.{has_front}
 
 -- ## Lists
 
@@ -63,18 +63,6 @@ get_taken (y ∷ ys) (suc n) (suc i) x e = get_taken ys n i x e
 some_there : {X : Type 0} (P : X → Type 0) (o : Option X) → IsSomeAnd o P → (x : X) × (o ≡ Some x) × P x
 some_there P None h = absurd h
 some_there P (Some x) h = (x, refl, h)
-
-at_place : {X : Type 0} (xs : List X) (i : ℕ) (x d : X) → slice_get xs i ≡ Some x → get_or xs i d ≡ x
-at_place [] zero x d e = absurd cc
-at_place [] (suc i) x d e = absurd cc
-at_place (y ∷ ys) zero x d e = cc
-at_place (y ∷ ys) (suc i) x d e = at_place ys i x d e
-
-place_in : {X : Type 0} (xs : List X) (i : ℕ) (x : X) → slice_get xs i ≡ Some x → i < length xs
-place_in [] zero x e = absurd cc
-place_in [] (suc i) x e = absurd cc
-place_in (y ∷ ys) zero x e = omega arith
-place_in (y ∷ ys) (suc i) x e = let l = place_in ys i x e in omega (arith, l)
 
 -- ## What a weak text says of files and directories
 
@@ -112,7 +100,7 @@ same_dirs k (d ∷ ds) (x ∷ es) e =
 -- ## Files
 
 makes_declared : (kind : PipKind) (path : Atoms) → MakesFile path kind → Has (declared_files kind) path
-makes_declared (Process d) path h = has_first d.outs (option_to_list d.console) path (has_contained d.outs path h)
+makes_declared (Process d) path h = has_front d.outs (option_to_list d.console) path (has_contained d.outs path h)
 makes_declared (Copy d) path h = inl h
 makes_declared (Write d) path h = inl h
 makes_declared (Seal d) path h = absurd h
@@ -183,7 +171,7 @@ module _ (pips : List Pip) (tree : Files) (list : IsPipList pips) (keeps : Keeps
   -- the files of process i are known
   names_before : (i : ℕ) (pip : Pip) → slice_get pips i ≡ Some pip → NamesAmong (take i pips) pip.kind
   names_before i pip at =
-      subst (λ (p : Pip). NamesAmong (take i pips) p.kind) (at_place pips i pip pip at) (list i (place_in pips i pip at) pip)
+      subst (λ (p : Pip). NamesAmong (take i pips) p.kind) (get_or_from_slice_get pips i pip pip at) (list i (slice_get_within pips i pip at) pip)
 
   in_tree : (i : ℕ) (pip : Pip) (path : Atoms) → slice_get pips i ≡ Some pip → Has (named_sources pip.kind) path → Contains (paths_of tree) path
   in_tree i pip path at h = elim (decided (paths_of tree) path) [

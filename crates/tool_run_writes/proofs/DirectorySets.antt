@@ -11,31 +11,8 @@ use Rattle.bx_tree.specs.Paths.{Atoms, path_cmp, same_path}
 use Rattle.bx_tree.specs.Trees.{Files}
 use Rattle.bx_tree.specs.Orders.{equal_paths, path_cmp_matches}
 use Rattle.bx_tree.specs.Below.{is_below}
+use Rattle.bx_tree.proofs.Lists.{any_either, any_alike, any_swap}
 use Rattle.tool_run_writes.specs.Writes.{clashes, has_below}
-
--- ## Tests of lists
-
-either_later : (a b x y : Bool) → ((a || b) || (x || y)) ≡ ((a || x) || (b || y))
-either_later true b x y = refl
-either_later false true true y = refl
-either_later false true false y = refl
-either_later false false x y = refl
-
-any_either : {X : Type 0} (p q : X → Bool) (xs : List X) → list_any (λ x. p x || q x) xs ≡ (list_any p xs || list_any q xs)
-any_either p q [] = refl
-any_either p q (x ∷ xs) = ap (λ t. (p x || q x) || t) (any_either p q xs) ∙ either_later (p x) (q x) (list_any p xs) (list_any q xs)
-
-any_alike : {X : Type 0} (p q : X → Bool) (xs : List X) → ((x : X) → p x ≡ q x) → list_any p xs ≡ list_any q xs
-any_alike p q [] same = refl
-any_alike p q (x ∷ xs) same = ap (λ t. t || list_any p xs) (same x) ∙ ap (λ t. q x || t) (any_alike p q xs same)
-
-none_any : {X : Type 0} (xs : List X) → list_any (λ (x : X). false) xs ≡ false
-none_any [] = refl
-none_any (x ∷ xs) = none_any xs
-
-any_swap : {X Y : Type 0} (r : X → Y → Bool) (xs : List X) (ys : List Y) → list_any (λ x. list_any (r x) ys) xs ≡ list_any (λ y. list_any (λ x. r x y) xs) ys
-any_swap r [] ys = sym (none_any ys)
-any_swap r (x ∷ xs) ys = ap (λ t. list_any (r x) ys || t) (any_swap r xs ys) ∙ sym (any_either (r x) (λ y. list_any (λ z. r z y) xs) ys)
 
 -- ## A file more
 

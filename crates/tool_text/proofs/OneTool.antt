@@ -1,10 +1,10 @@
 -- The reading of a tool is by its grammar, which gives a text one tool at most.
-use Rattle.std.proofs.Common.{◌≡◌, ℕ, ◌<◌, suc, true, false, Bool, not, ◌&&◌, ◌||◌, ◌==◌, cond, List, [], ◌∷◌, ◌++◌, ◌+◌, length, map, take, drop, filter, Option, Some, None, inl, inr, refl, ap, sym, ◌∙◌, subst, arith, append_assoc, length-append, IsTrue, ◌↔◌, ◌⊎◌, Result, Ok, Err, IfOk}
+use Rattle.std.proofs.Common.{◌≡◌, ℕ, ◌<◌, suc, true, false, Bool, not, ◌||◌, ◌==◌, cond, List, [], ◌∷◌, ◌++◌, ◌+◌, length, map, take, drop, filter, Option, Some, None, inl, inr, refl, ap, sym, ◌∙◌, subst, arith, append_assoc, length-append, IsTrue, ◌↔◌, ◌⊎◌, Result, Ok, Err, IfOk}
 use Rattle.std.specs.Bool.{nat_lt}
 use Rattle.std.specs.List.{AllByRecursion, slice_split, position_or_len}
 use Rattle.std.specs.Option.{option_and_then}
 use Rattle.std.specs.Str.{bytes_eq}
-use Rattle.std.proofs.lemmas.Bool.{and_from, and_parts}
+use Rattle.std.proofs.lemmas.Bool.{and_from, and_parts, and_right}
 use Rattle.std.proofs.lemmas.Bool.Decides.{Decides-ltb, nat_tests}
 use Rattle.std.proofs.lemmas.List.{append-nil}
 use Rattle.std.proofs.lemmas.Slice.Eq.{bytes_eq-Decides}
@@ -184,10 +184,6 @@ skip_start (x ∷ xs) rest h = one h.0 ∙ skip_start xs rest h.1
     one (inl e) = ap (λ b. skip_blanks (b ∷ xs ++ rest)) e
     one (inr e) = ap (λ b. skip_blanks (b ∷ xs ++ rest)) e
 
-and_false : (a b : Bool) → b ≡ false → (a && b) ≡ false
-and_false true b e = e
-and_false false b e = refl
-
 below_itself : (n : ℕ) → nat_lt n n ≡ true → ⊥
 below_itself n e = let l : n < n = (Decides-ltb n n).0 e in omega (arith, l)
 
@@ -253,7 +249,7 @@ begins : (line start rest after : List ℕ) (label : Option (List ℕ)) (instr :
     → Begins line label rest
 begins line start rest after None instr is word h =
     let none : is_labelled line ≡ false =
-    and_false (nat_lt (length (before_byte 58 line)) (length line)) (is_label (before_byte 58 line))
+    and_right (nat_lt (length (before_byte 58 line)) (length line)) (is_label (before_byte 58 line))
     (ap (λ t. is_label (before_byte 58 t)) (is ∙ ap (λ t. start ++ t) word) ∙ no_label start instr after h) in
     record {
       label_is = ap (λ t. cond t (Some (before_byte 58 line)) None) none;

@@ -5,9 +5,9 @@ use Rattle.std.specs.Str.{bytes_eq}
 use Rattle.std.proofs.lemmas.Bool.{and_from, and_parts}
 use Rattle.std.proofs.lemmas.Slice.Eq.{bytes_eq-Decides}
 use Rattle.std.proofs.lemmas.Option.{same_Some}
+use Rattle.bx_tree.proofs.Lists.{all_true, true_all}
 use Rattle.tool_text.specs.Grammar.{AreDistinct, IsLabel, IsTarget, Labels, is_lower}
 use Rattle.tool_text.specs.Reading.{are_distinct, has_label, is_label, is_label_byte, is_labelled, label_of, before_byte, place_from, place_of}
-use Rattle.tool_text.proofs.Values.{all_from, all_true}
 
 -- ## Labels
 
@@ -17,7 +17,7 @@ label_sound (b ∷ bs) e = let parts = and_parts (is_lower b) (list_all is_label
 
 pub label_complete : (text : List ℕ) → IsLabel text → is_label text ≡ true
 label_complete [] h = absurd h
-label_complete (b ∷ bs) h = and_from (is_lower b) (list_all is_label_byte bs) h.0 (all_from is_label_byte bs h.1)
+label_complete (b ∷ bs) h = and_from (is_lower b) (list_all is_label_byte bs) h.0 (true_all is_label_byte bs h.1)
 
 -- ## Places
 

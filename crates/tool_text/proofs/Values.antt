@@ -1,12 +1,13 @@
 -- The texts of registers, values and exit codes are read as the grammar says.
 use Rattle.std.proofs.Common.{◌≡◌, ◌≢◌, ℕ, ◌+◌, ◌<◌, true, false, Bool, not, ◌||◌, ◌==◌, cond, List, [], ◌∷◌, ◌++◌, length, Option, Some, None, inl, inr, refl, ap, sym, ◌∙◌, subst, arith, append_assoc}
-use Rattle.std.specs.Bool.{nat_lt, nat_le, IsTrue}
-use Rattle.std.specs.List.{AllByRecursion, list_all}
+use Rattle.std.specs.Bool.{nat_lt, nat_le}
+use Rattle.std.specs.List.{list_all}
 use Rattle.std.specs.Option.{option_map}
 use Rattle.std.specs.Str.Parse.{digits_value}
 use Rattle.std.proofs.lemmas.Bool.{and_from, and_parts, cases_Bool, false≢true}
 use Rattle.std.proofs.lemmas.Bool.Decides.{Decides-eqb, Decides-ltb, nat_tests}
 use Rattle.std.proofs.lemmas.Option.{same_Some}
+use Rattle.bx_tree.proofs.Lists.{all_true, true_all}
 use Rattle.tool_text.specs.declared.limits.TheConstants.{REGISTERS, MAX_EXIT}
 use Rattle.tool_text.specs.declared.tool.Operand.{Operand}
 use Rattle.tool_text.specs.declared.tool.Operand.TheVariants.{Register, Constant}
@@ -32,14 +33,6 @@ other_numbers x y e = λ same. false≢true (sym e ∙ (Decides-eqb x y).1 same)
 
 -- ## Digits
 
-pub all_true : (p : ℕ → Bool) (xs : List ℕ) → list_all p xs ≡ true → AllByRecursion (λ b. IsTrue (p b)) xs
-all_true p [] e = tt
-all_true p (x ∷ xs) e = let parts = and_parts (p x) (list_all p xs) e in (parts.0, all_true p xs parts.1)
-
-pub all_from : (p : ℕ → Bool) (xs : List ℕ) → AllByRecursion (λ b. IsTrue (p b)) xs → list_all p xs ≡ true
-all_from p [] h = refl
-all_from p (x ∷ xs) h = and_from (p x) (list_all p xs) h.0 (all_from p xs h.1)
-
 pub digits_sound : (text : List ℕ) → is_digits text ≡ true → IsDigits text
 digits_sound [] e = cc
 digits_sound (b ∷ bs) e =
@@ -48,7 +41,7 @@ digits_sound (b ∷ bs) e =
 pub digits_complete : (text : List ℕ) → IsDigits text → is_digits text ≡ true
 digits_complete [] d = absurd (d.some refl)
 digits_complete (b ∷ bs) d =
-    and_from (nat_lt 0 (length (b ∷ bs))) (list_all is_digit (b ∷ bs)) ((Decides-ltb 0 (length (b ∷ bs))).1 (omega arith)) (all_from is_digit (b ∷ bs) d.digits)
+    and_from (nat_lt 0 (length (b ∷ bs))) (list_all is_digit (b ∷ bs)) ((Decides-ltb 0 (length (b ∷ bs))).1 (omega arith)) (true_all is_digit (b ∷ bs) d.digits)
 
 zero_alone : (b : ℕ) (bs : List ℕ) → (nat_le (length (b ∷ bs)) 1 || not (b == 48)) ≡ true → b ≡ 48 → bs ≡ []
 zero_alone b [] e is = refl

@@ -7,6 +7,7 @@ use Rattle.std.specs.List.Sorted.{IsStrictlySortedBy}
 use Rattle.std.specs.Ordering.{match_ordering, ordering_reverse}
 use Rattle.std.specs.declared.cmp.Ordering.{Ordering}
 use Rattle.std.specs.declared.cmp.Ordering.TheVariants.{Less, Greater}
+use Rattle.std.proofs.lemmas.Bool.{or_cases}
 use Rattle.sha2.specs.Sha256.{sha256}
 use Rattle.bx_io.specs.Holdings.{Holdings}
 use Rattle.bx_tree.specs.Paths.{Atoms, IsBelow, path_cmp}
@@ -18,6 +19,7 @@ use Rattle.pip_model_types.specs.Made.{RisingFiles}
 use Rattle.bx_tree.specs.Below.{is_below}
 use Rattle.tool_run_writes.specs.Writes.{clashes, put_file}
 use Rattle.bx_tree.proofs.BelowPaths.{below_decides}
+use Rattle.bx_tree.proofs.Lists.{all_append}
 use Rattle.tool_run_writes.proofs.Unnested.{none_unnested, put_unnested}
 use Rattle.memo_format.specs.Entries.{OutputsRise, output_paths}
 use Rattle.memo_format.specs.Found.{output_lines}
@@ -25,7 +27,6 @@ use Rattle.memo_format.specs.declared.entry.OutputLine.{OutputLine}
 use Rattle.content_store.specs.Contents.{IsContent}
 use Rattle.run_record.specs.Collisions.{contents_of}
 use Rattle.two_phase_meaning.specs.Contents.{HoldsAll}
-use Rattle.two_phase_meaning.proofs.Same.{all_both}
 use Rattle.two_phase.specs.Finding.{AddsTo, AreOutputs, FindsOne}
 
 abbrev pub line_for : Atoms → List ℕ → OutputLine
@@ -82,7 +83,7 @@ held_more : (held : Option Holdings) (files : Files) (path : Atoms) (digest byte
     → FindsOne held (λ S y. IsContent S digest y) (Some bytes) → AreHeld held (files ++ (path, bytes) ∷ [])
 held_more None files path digest bytes h k = tt
 held_more (Some S) files path digest bytes h k =
-    subst (HoldsAll S) (sym (contents-append files ((path, bytes) ∷ []))) (all_both _ (contents_of files) (bytes ∷ []) h (k.held, tt))
+    subst (HoldsAll S) (sym (contents-append files ((path, bytes) ∷ []))) (all_append _ (contents_of files) (bytes ∷ []) h (k.held, tt))
 
 -- where a file was put
 was_put : (t : Bool) (files now : Files) (path : Atoms) (bytes : List ℕ) → clashes files path ≡ t
@@ -149,14 +150,10 @@ not_held None outputs rest o files g none = tt
 not_held (Some S) outputs rest o files g none =
     λ fs are. let there = held_at S (output_lines files) rest o fs (are.outputs_are ∙ sym g.done) are.held in none there.0 there.1
 
-either : (a b : Bool) → (a || b) ≡ true → (a ≡ true) ⊎ (b ≡ true)
-either true b e = inl refl
-either false b e = inr e
-
 clash_at : (files : Files) (path : Atoms) → clashes files path ≡ true → (q : Atoms) × Has (paths_of files) q × (IsBelow q path ⊎ IsBelow path q)
 clash_at [] path e = absurd cc
-clash_at (f ∷ fs) path e = elim (either (is_below f.0 path || is_below path f.0) (clashes fs path) e) [
-  | inl here ↦ elim (either (is_below f.0 path) (is_below path f.0) here) [
+clash_at (f ∷ fs) path e = elim (or_cases (is_below f.0 path || is_below path f.0) (clashes fs path) e) [
+  | inl here ↦ elim (or_cases (is_below f.0 path) (is_below path f.0) here) [
     | inl h ↦ (f.0, inl refl, inl ((below_decides f.0 path).0 h))
     | inr h ↦ (f.0, inl refl, inr ((below_decides path f.0).0 h))
   ]

@@ -3,6 +3,7 @@ use Rattle.std.proofs.Common.{◌≡◌, ◌⊎◌, ℕ, List, [], ◌∷◌, �
 use Rattle.std.specs.FinMap.{insert}
 use Rattle.std.proofs.lemmas.Option.{same_Some}
 use Rattle.bx_tree.specs.Members.{Has}
+use Rattle.bx_tree.proofs.Members.{has_front}
 use Rattle.sha2.specs.Sha256.{sha256}
 use Rattle.bx_io.specs.Holdings.{Change, Holdings, IsPrefix, holdings_after}
 use Rattle.bx_io.proofs.Changes.{after-append}
@@ -17,10 +18,6 @@ use Rattle.run_record.specs.Digests.{weak_of}
 use Rattle.two_phase_meaning.specs.Saving.{Spelled, answers_text, blobs_of, entry_put, list_put, puts_of, record_entry}
 use Rattle.two_phase_meaning.proofs.Digests.{blob_no_entry, blob_no_list, entry_no_blob, entry_no_list}
 use Rattle.two_phase_meaning.proofs.Puts.{cut, put_or_old}
-
-has_append : {X : Type 0} (xs ys : List X) (x : X) → Has xs x → Has (xs ++ ys) x
-has_append [] ys x h = absurd h
-has_append (y ∷ xs) ys x h = elim h [ inl e ↦ inl e | inr k ↦ inr (has_append xs ys x k) ]
 
 -- ## Contents
 
@@ -97,7 +94,7 @@ pub contents_added : (S : Holdings) (f : Facts) (list : List Selector) (made : L
 contents_added S f list made p y h = elim (cut (blobs_of f) (entry_put f ∷ list_put f list ∷ []) made p) [
   | inl part ↦ elim (blobs_added part.0 S y (subst (λ (cs : List Change). HoldsBlob (holdings_after S cs) y) part.3 h)) [
     | inl old ↦ inl old
-    | inr new ↦ inr (subst (λ (xs : List (List ℕ)). Has xs y) part.2 (has_append part.0 part.1 y new))
+    | inr new ↦ inr (subst (λ (xs : List (List ℕ)). Has xs y) part.2 (has_front part.0 part.1 y new))
   ]
   | inr all ↦
       let T : Holdings = holdings_after S (map blob_put (blobs_of f)) in

@@ -3,6 +3,8 @@ use Rattle.std.proofs.Common.{◌≡◌, ℕ, zero, suc, ◌≤◌, Bool, true, 
 use Rattle.std.specs.Prelude.{filter, not}
 use Rattle.std.specs.FinMap.{get, insert}
 use Rattle.std.specs.List.{AllByRecursion}
+use Rattle.bx_tree.proofs.Lists.{all_back}
+use Rattle.bx_tree.proofs.Members.{all_has}
 use Rattle.sha2.specs.Sha256.{sha256}
 use Rattle.observed.specs.Texts.{paths_text}
 use Rattle.observed.specs.declared.ask.Ask.{Ask}
@@ -26,7 +28,7 @@ use Rattle.two_phase_meaning.specs.Saving.{ComparedInSave, FilesFit, Spelled, an
 use Rattle.two_phase_meaning.specs.Usable.{UsableAt, UsableBy}
 use Rattle.two_phase_meaning.proofs.Digests.{entry_no_list}
 use Rattle.two_phase_meaning.proofs.Puts.{blobs_held, entry_grows, list_grows, still_there, there_now}
-use Rattle.two_phase_meaning.proofs.Same.{all_has, all_map, all_right}
+use Rattle.two_phase_meaning.proofs.Same.{all_map}
 
 -- ## Lists of selectors
 
@@ -92,7 +94,7 @@ module _ (S : Holdings) (f : Facts) (spelled : Spelled f) (apart : NoCollision (
   first_usable : (see : Ask → Answer) → f.answers ≡ map see f.paths → (u : UsableBy whole f.desc see (record_selector f)) × (u.asks ≡ f.paths)
   first_usable see now =
       let more = blobs_stay.1.1.1 in
-      let later = all_right (HoldsBlob whole) (desc_contents f.desc) (given_contents f.answers ++ contents_of (outcome_files f.outcome)) more in
+      let later = all_back (HoldsBlob whole) (desc_contents f.desc) (given_contents f.answers ++ contents_of (outcome_files f.outcome)) more in
       let first : UsableBy whole f.desc see (record_selector f) = record {
         asks = f.paths;
         paths = (paths_text f.paths, record { held = blobs_stay.1.0; digest_is = refl }, spelled.paths);
@@ -105,7 +107,7 @@ module _ (S : Holdings) (f : Facts) (spelled : Spelled f) (apart : NoCollision (
         unnested = fit.unnested;
         files = outcome_files f.outcome;
         outputs = refl;
-        made = all_right (HoldsBlob whole) (given_contents f.answers) (contents_of (outcome_files f.outcome)) later;
+        made = all_back (HoldsBlob whole) (given_contents f.answers) (contents_of (outcome_files f.outcome)) later;
       } in
       (first, refl)
 

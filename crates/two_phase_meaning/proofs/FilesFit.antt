@@ -19,6 +19,7 @@ use Rattle.pip_model_types.specs.declared.outputs.OutDir.{OutDir}
 use Rattle.pip_model_types.specs.declared.pip.ProcessDesc.{ProcessDesc}
 use Rattle.tool_run_writes.proofs.Unnested.{put_has}
 use Rattle.bx_tree.specs.Below.{is_below}
+use Rattle.bx_tree.proofs.Members.{all_pass, has_found}
 use Rattle.tool_run.specs.Description.{Description, permits}
 use Rattle.tool_run.specs.Described.{described}
 use Rattle.tool_run.specs.Laws.{RunInvariant}
@@ -64,17 +65,6 @@ success d r ends.NotADirectory files e = absurd cc
 
 -- ## Paths of files
 
-or_true : (t : Bool) → (t || true) ≡ true
-or_true true = refl
-or_true false = refl
-
-found_path : (paths : List Atoms) (path : Atoms) → Has paths path → has_path paths path ≡ true
-found_path [] path h = absurd h
-found_path (p ∷ ps) path h = elim h [
-  | inl e ↦ ap (λ t. t || has_path ps path) ((same_path_decides p path).1 e)
-  | inr k ↦ ap (λ t. same_path p path || t) (found_path ps path k) ∙ or_true (same_path p path)
-]
-
 there_by : (t : Bool) (f : Atoms × List ℕ) (fs : Files) (q : Atoms) → same_path f.0 q ≡ t → (is_none (file_at fs q) ≡ false → Has (paths_of fs) q)
     → is_none (cond t (Some f.1) (file_at fs q)) ≡ false → Has (paths_of (f ∷ fs)) q
 there_by true f fs q same more h = inl ((same_path_decides f.0 q).0 same)
@@ -115,7 +105,7 @@ all_by : (t : Bool) (out : Atoms) (outs : List Atoms) (files : Files) (paths : L
     → cond t (Some out) (first_missing outs files) ≡ None → list_all (has_path paths) (out ∷ outs) ≡ true
 all_by true out outs files paths missing within more h = absurd cc
 all_by false out outs files paths held within more h =
-    ap (λ t. t && list_all (has_path paths) outs) (found_path paths out (within (there files out held))) ∙ more h
+    ap (λ t. t && list_all (has_path paths) outs) (has_found paths out (within (there files out held))) ∙ more h
 
 all_there : (outs : List Atoms) (files : Files) (paths : List Atoms) → ((q : Atoms) → Has (paths_of files) q → Has paths q) → first_missing outs files ≡ None
     → list_all (has_path paths) outs ≡ true
@@ -129,7 +119,7 @@ with_within (Some path) files said q h = put_keeps files path said q h
 
 console_there : (console : Option Atoms) (files : Files) (said : List ℕ) → option_map_or (has_path (paths_of (with_console console files said))) console true ≡ true
 console_there None files said = refl
-console_there (Some path) files said = found_path (paths_of (with_console (Some path) files said)) path (put_there files path said)
+console_there (Some path) files said = has_found (paths_of (with_console (Some path) files said)) path (put_there files path said)
 
 -- ## What may be made
 
@@ -167,10 +157,6 @@ made_with d (Some path) files said q is all h = elim (put_has files path said q 
   | inr k ↦ permitted_made d q (all q k)
 ]
 
-all_true : {X : Type 0} (p : X → Bool) (xs : List X) → ((x : X) → Has xs x → p x ≡ true) → list_all p xs ≡ true
-all_true p [] h = refl
-all_true p (x ∷ xs) h = ap (λ t. t && list_all p xs) (h x (inl refl)) ∙ all_true p xs (λ y k. h y (inr k))
-
 -- ## Records
 
 all_three : (a b c : Bool) → a ≡ true → b ≡ true → c ≡ true → (a && b && c) ≡ true
@@ -183,7 +169,7 @@ run_fits d r files permitted s =
     (all_three (list_all (has_path (paths_of (with_console d.process.console r.writes r.console))) d.process.outs) _ _
     (all_there d.process.outs r.writes (paths_of (with_console d.process.console r.writes r.console)) (with_within d.process.console r.writes r.console) s.0)
     (console_there d.process.console r.writes r.console)
-    (all_true (may_make d.process) (paths_of (with_console d.process.console r.writes r.console))
+    (all_pass (may_make d.process) (paths_of (with_console d.process.console r.writes r.console))
     (λ q h. made_with d d.process.console r.writes r.console q refl (λ p k. permitted_at (described d) r.writes p permitted k) h)))
 
 pub files_fit : (f : Facts) → Sound f → IsGood f → fits f.desc.process (output_paths (output_lines (outcome_files f.outcome))) ≡ true

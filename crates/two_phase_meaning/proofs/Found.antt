@@ -4,6 +4,7 @@ use Rattle.std.specs.List.{AllByRecursion}
 use Rattle.std.proofs.lemmas.Option.{same_Some}
 use Rattle.bx_tree.specs.Trees.{Files}
 use Rattle.bx_tree.specs.Members.{Has}
+use Rattle.bx_tree.proofs.Members.{all_has}
 use Rattle.pip_model_types.specs.declared.desc.Desc.{Desc}
 use Rattle.observed.specs.Texts.{read_paths_text}
 use Rattle.observed.specs.declared.ask.Ask.{Ask}
@@ -33,7 +34,7 @@ use Rattle.two_phase_meaning.specs.Honest.{Honest, HonestEntry, IsGoodRun}
 use Rattle.two_phase_meaning.specs.Compared.{ComparedInRun}
 use Rattle.two_phase_meaning.specs.Compared as met
 use Rattle.two_phase_meaning.specs.Usable.{UsableBy, asked_text}
-use Rattle.two_phase_meaning.proofs.Same.{all_has, all_map, lines_are, same_answers, same_described, same_files}
+use Rattle.two_phase_meaning.proofs.Same.{all_map, lines_are, same_answers, same_described, same_files}
 
 -- a run that the answers to a path set's asks decide, over these answers alone and over all answers
 pub run_on_view : (d : Description) (see : Ask → Answer) (asks : List Ask) (files : Files) → IsGoodRun d (answered asks (map see asks)) asks files

@@ -7,6 +7,8 @@ use Rattle.std.specs.Cmp.{Equal-is}
 use Rattle.std.specs.Cmp.Lexicographic.{slice_cmp, nat_list_cmp_total}
 use Rattle.std.proofs.lemmas.Cmp.{eq_by_cmp_equiv}
 use Rattle.std.proofs.lemmas.Option.{same_Some}
+use Rattle.bx_tree.proofs.Lists.{all_front, all_back}
+use Rattle.bx_tree.proofs.Members.{all_has}
 use Rattle.sha2.specs.Sha256.{sha256}
 use Rattle.observed.specs.Texts.{paths_text}
 use Rattle.bx_io.specs.Holdings.{Change, Holdings, IsPrefix, holdings_after}
@@ -29,7 +31,7 @@ use Rattle.two_phase_meaning.specs.Contents.{HoldsAll, desc_contents, given_cont
 use Rattle.two_phase_meaning.specs.Honest.{Honest, HonestEntry}
 use Rattle.two_phase_meaning.specs.Saving.{ComparedInSave, IsGood, Spelled, answers_text, blobs_of, entry_put, list_put, outcome_files, paths_digest, puts_of, record_entry}
 use Rattle.two_phase_meaning.proofs.Digests.{blob_no_entry, blob_no_list, entry_no_blob, entry_no_list, same_blob_name}
-use Rattle.two_phase_meaning.proofs.Same.{all_has, all_left, all_map, all_right, lines_are}
+use Rattle.two_phase_meaning.proofs.Same.{all_map, lines_are}
 
 -- ## What is held after a put
 
@@ -148,7 +150,7 @@ module _ (M : List ℕ → Type 0) (apart : NoCollision M) where
 pub made_honest : (T : Holdings) (f : Facts) → Sound f → IsGood f → Spelled f → HoldsAll T (blobs_of f) → HonestEntry T (record_entry f)
 made_honest T f sound good spelled h =
     let rest = h.1.1.1 in
-    let later = all_right (HoldsBlob T) (desc_contents f.desc) (given_contents f.answers ++ contents_of (outcome_files f.outcome)) rest in
+    let later = all_back (HoldsBlob T) (desc_contents f.desc) (given_contents f.answers ++ contents_of (outcome_files f.outcome)) rest in
     record {
       desc = f.desc;
       asks = f.paths;
@@ -166,9 +168,9 @@ made_honest T f sound good spelled h =
         }),
       );
       one_each = sound.number;
-      declared = all_left (HoldsBlob T) (desc_contents f.desc) (given_contents f.answers ++ contents_of (outcome_files f.outcome)) rest;
-      answers = all_left (HoldsBlob T) (given_contents f.answers) (contents_of (outcome_files f.outcome)) later;
-      made = all_right (HoldsBlob T) (given_contents f.answers) (contents_of (outcome_files f.outcome)) later;
+      declared = all_front (HoldsBlob T) (desc_contents f.desc) (given_contents f.answers ++ contents_of (outcome_files f.outcome)) rest;
+      answers = all_front (HoldsBlob T) (given_contents f.answers) (contents_of (outcome_files f.outcome)) later;
+      made = all_back (HoldsBlob T) (given_contents f.answers) (contents_of (outcome_files f.outcome)) later;
       outputs = refl;
       run = record { paths_are = sound.run.paths; outcome = sound.run.outcome ∙ good };
     }
@@ -247,7 +249,7 @@ puts_stay_honest S f honest sound good spelled apart list made p =
     elim (cut (blobs_of f) (entry_put f ∷ list_put f list ∷ []) made p) [
       | inl h ↦
           subst (λ (cs : List Change). Honest (holdings_after S cs)) (sym h.3)
-          (blobs_honest M apart h.0 (all_left M h.0 h.1 (subst (AllByRecursion M) (sym h.2) met)) S honest within)
+          (blobs_honest M apart h.0 (all_front M h.0 h.1 (subst (AllByRecursion M) (sym h.2) met)) S honest within)
       | inr h ↦
           let T : Holdings = holdings_after S (map blob_put (blobs_of f)) in
           subst (λ (cs : List Change). Honest (holdings_after S cs)) (sym h.1)

@@ -4,6 +4,7 @@ use Rattle.std.specs.FinMap.{get, insert}
 use Rattle.std.specs.List.{AllByRecursion}
 use Rattle.std.proofs.lemmas.Option.{same_Some}
 use Rattle.bx_tree.specs.Members.{Has}
+use Rattle.bx_tree.proofs.Members.{all_has}
 use Rattle.sha2.specs.Sha256.{sha256}
 use Rattle.bx_digest.specs.Digests.{IsDigest}
 use Rattle.pip_model_types.specs.declared.desc.Desc.{Desc}
@@ -30,7 +31,7 @@ use Rattle.two_phase_meaning.specs.Saving.{ComparedInStay, answers_text, blobs_o
 use Rattle.two_phase_meaning.specs.Usable.{AnyUsable, Usable, UsableAt, UsableBy, asked_text}
 use Rattle.two_phase_meaning.proofs.Digests.{entry_no_blob, entry_no_list, list_no_blob, list_no_entry, same_entry_name, same_list_name}
 use Rattle.two_phase_meaning.proofs.Puts.{Grows, blobs_grow, entry_grows, list_grows, still_there}
-use Rattle.two_phase_meaning.proofs.Same.{all_has, all_map, lines_are}
+use Rattle.two_phase_meaning.proofs.Same.{all_map, lines_are}
 
 -- puts of contents leave the lists and entries
 blobs_leave : (xs : List (List ℕ)) (S : Holdings) (q bytes : List ℕ) → ((digest : List ℕ) → q ≡ at_blob digest → ⊥) → get S q ≡ Some bytes
