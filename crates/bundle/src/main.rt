@@ -1,9 +1,9 @@
 //! The program `bundle`: packs a folder as a bundle, unpacks a bundle, and lists its files.
 //!
-//! `bundle pack FOLDER` writes the bundle of the files of a folder, `bundle unpack [--replace] FOLDER` makes
-//! the files of a bundle in a folder, and `bundle list` names the files of a bundle. It depends on
-//! `bundle_system` for its commands, its messages and its folder of the system, on `bundle_folder`, on `bx_tree`,
-//! and on `bx_io_system` for its words.
+//! `bundle pack FOLDER` writes the bundle of the files of a folder, `bundle unpack [--replace] FOLDER` makes the
+//! files of a bundle in a folder, and `bundle list` lists the files of a bundle. It depends on `bundle_system` for
+//! its commands, its messages and its folder on disk, on `bundle_folder`, on `bx_tree`, and on `bx_io_system` for
+//! its arguments.
 #![tactic(auto)]
 
 use bundle_folder::{Replace, pack, unpack};

@@ -1,9 +1,9 @@
 //! Path joining, the directories of a path, and glob matching.
 //!
-//! A text joined to a path leads from it to another path, and a glob lists the files of a tree whose
-//! last atom matches a pattern. The directories that a path lies in are found step by step up. This
-//! crate depends on `bx_tree` for paths and trees. It carries the promise that all of these calls answer
-//! exactly as they are defined.
+//! A text joined to a path leads from it to another path, and a glob lists the files of a tree whose last atom
+//! matches a pattern. The directories that contain a path are found step by step upwards. This crate depends on
+//! `bx_tree` for paths and trees. It carries the promise that all of these calls answer exactly as they are
+//! defined.
 #![tactic(auto)]
 
 mod above;

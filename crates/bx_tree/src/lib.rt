@@ -1,8 +1,8 @@
 //! Paths, shared strings, source trees, and the bundle format that writes a tree as one text.
 //!
-//! Everything that the engine reads or makes is a tree of files, and a tree goes in and out as a
-//! bundle. This crate depends on nothing but std. It carries the promise of the round trip: each text
-//! is the bundle of exactly one tree or has exactly one fault, and is read and written accordingly.
+//! Everything that the engine reads or writes is a tree of files, and a tree goes in and out as a bundle. This
+//! crate depends on std alone. It carries the promise of the round trip: each text is the bundle of exactly one
+//! tree or has exactly one first fault, and is read and written accordingly.
 #![tactic(auto)]
 
 mod below;

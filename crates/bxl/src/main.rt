@@ -1,7 +1,7 @@
 //! The program `bxl`: the engine over standard input, output and error, and a cache folder.
 //!
-//! This crate makes the real outside and gives it to the engine. It depends on `bx_io_system` for the streams
-//! and the folder, on `bx_io`, whose traits they implement, and on `bx_engine`.
+//! This crate opens the real streams and the folder and passes them to the engine. It depends on `bx_io_system` for
+//! both, on `bx_io`, whose traits they implement, and on `bx_engine`.
 #![tactic(auto)]
 
 use bx_engine::{Status, command};

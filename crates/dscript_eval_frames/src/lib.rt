@@ -1,9 +1,9 @@
 //! The abstract machine of evaluation: its frames, its table of constants, and its stack of work.
 //!
-//! A frame is a running body with its locals; functions say how the locals that they captured are found. What is
-//! still to be done is a list in memory, so that deep calls take no stack. `specs/` says what each work comes to, by
-//! what the works after it do, and what a move of the machine keeps. This crate depends on `dscript_eval_meaning`, by
-//! whose words it is defined; the moves are in the crates above it.
+//! A frame is a running body with its locals; functions know how the locals that they captured are found. The
+//! continuation is a list in memory, so that deep calls take no stack. `specs/` says what each work on that list
+//! evaluates to, by the works after it, and what a transition of the machine preserves. This crate depends on
+//! `dscript_eval_meaning`, in whose words it is defined; the transitions are in the crates above it.
 #![tactic(auto)]
 
 mod captured;

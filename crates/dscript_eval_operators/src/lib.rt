@@ -1,9 +1,8 @@
-//! Evaluation of operators, interpolation, indexing and spreads.
+//! Evaluation of operators, interpolation, indexing and spreads on values.
 //!
-//! Evaluation takes an expression apart, and these functions make its value of those of its parts. This
-//! crate depends on `dscript_value` and `dscript_ast`, on `dscript_sdk_values` for faults and limits, and on
-//! `bx_path`. It carries the promise that each function answers what its definition says, or its first
-//! fault.
+//! Evaluation takes an expression apart, and these functions compute its value from those of its parts. This crate
+//! depends on `dscript_value` and `dscript_ast`, on `dscript_sdk_values` for faults and limits, and on `bx_path`.
+//! It carries the promise that each function evaluates as defined, to its value or its first fault.
 #![tactic(auto)]
 
 mod callbacks;

@@ -1,8 +1,7 @@
-//! Ambient functions without side effects: `Cmd`, `Artifact`, `Contract` and globs.
+//! Ambient calls without side effects: `Cmd`, `Artifact`, `Contract` and globs.
 //!
-//! Arguments of processes, artifacts, assertions and globs. This crate depends on `dscript_sdk_values` and
-//! `bx_path`, and asks the source tree in one file, sources.rt. It carries the promise that each of these
-//! calls answers what its definition says, or its first fault.
+//! This crate depends on `dscript_sdk_values` and `bx_path`, and asks the source tree in one file, sources.rt. It
+//! carries the promise that each of these calls evaluates as defined, to its value or its first fault.
 #![tactic(auto)]
 
 mod artifacts;

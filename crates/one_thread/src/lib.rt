@@ -1,8 +1,9 @@
 //! Executes all pips sequentially, without a cache: the reference build that every other build is compared with.
 //!
-//! Pip by pip, what each comes to is read off its inputs, what it sees, and the run of its tool. This crate depends
-//! on `pip_view`, `run_record` and `violations`, and on `graph_check` for the rules that the pips keep. It carries
-//! the promises that the build is its definition, and that no output file lies below another or is there twice.
+//! The result of each pip is determined by the results of its dependencies, by its view, and by the run of its
+//! tool. This crate depends on `pip_view`, `run_record` and `violations`, and on `graph_check` for the rules that
+//! the pips keep. It carries the promises that the build is as defined, and that no output lies below another or is
+//! there twice.
 #![tactic(auto)]
 
 mod build;

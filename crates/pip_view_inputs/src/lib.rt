@@ -1,8 +1,8 @@
 //! The results of a pip's dependencies, and the execution of copy, write and seal pips.
 //!
-//! A pip that is no process makes a copy, a text or nothing, and a process is described by its declarations
-//! and the contents of its files. This crate depends on `pip_model` for pips and plans and on `violations`
-//! for what slots hold. Its invariant: only the results of a pip's inputs are looked at.
+//! A pip that is no process produces a copy, a text or nothing, and a process is described by its declarations and
+//! the contents of its files. This crate depends on `pip_model` for pips and plans and on `violations` for the
+//! results in slots. Its invariant: `Inputs` has only the results of a pip's dependencies.
 #![tactic(auto)]
 
 mod inputs;

@@ -1,10 +1,10 @@
 //! Fingerprints: the weak and strong texts of a process, and the lines of all stored texts.
 //!
-//! A weak text says all of a process but what it observes, and a strong text what was observed; each is written and
-//! read back, and is known by its digest. Lines of words, paths, digests, numbers and counted bytes are those of
-//! every stored form. This crate depends on `bx_tree`, `bx_digest` and `pip_model_types` for what a text says, on
-//! `observed` for answers, and on `sha2` and `hex`. It carries the promises that each text is the one of its
-//! definition, and that a line is read back as it was written.
+//! A weak text has all of a process but what it observes, and a strong text what it observed; each is written and
+//! parsed back, and is named by its digest. Lines of words, paths, digests, numbers and counted bytes are those of
+//! every stored form. This crate depends on `bx_tree`, `bx_digest` and `pip_model_types` for the contents of a
+//! text, on `observed` for answers, and on `sha2` and `hex`. It carries the promises that each text is the one of
+//! its definition, and that a line parses back to what it was written of.
 #![tactic(auto)]
 
 mod answer_lines;

@@ -1,4 +1,5 @@
-//! For tests: whole calls of `command` over an outside in memory. What each writes and answers is one text.
+//! For tests: whole calls of `command` with in-memory sources, sinks and stores. The outputs and answers of each
+//! are one text.
 #![tactic(auto)]
 
 mod over_stores;
