@@ -3,8 +3,8 @@ ghost use Rattle.std.specs.Prelude.{◌≡◌, ◌++◌, OnOk};
 ghost use Rattle.graph_check.specs.NoSuchSource.{if_source, named_sources, sources_among};
 
 use bx_tree::{FileInput, Path};
-use pip_model::PipKind;
 use graph_check_outputs::add_path;
+use pip_model::PipKind;
 use std::alloc::AllocError;
 
 // Adds the path of a file, if it is a source file.
