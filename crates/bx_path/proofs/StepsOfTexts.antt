@@ -26,7 +26,7 @@ differs a b n = elim (cases_Bool (bytes_eq a b)) [
   | inr e ↦ ap not e
 ]
 
-other_bytes : (a b : List ℕ) → not (bytes_eq a b) ≡ true → a ≢ b
+pub other_bytes : (a b : List ℕ) → not (bytes_eq a b) ≡ true → a ≢ b
 other_bytes a b h e = false≢true (sym (not-true (bytes_eq a b) h) ∙ (bytes_eq-Decides a b).1 e)
 
 pub is_atom_true : (text : List ℕ) → IsAtom text → is_atom text ≡ true

@@ -14,7 +14,7 @@ pub none_kept : (places : BTreeMap ℕ ℕ) (locals : List ℕ) (i : ℕ) → pl
 none_kept places locals i none le n =
     ap (λ es. lookup (is_at (nat_cmp n)) es) none ∙ sym (at_drop_all (λ ls. place_from i ls n) locals i le)
 
-kept_by : (place q : ℕ) → is_at (nat_cmp place) q ≡ eqb place q
+pub kept_by : (place q : ℕ) → is_at (nat_cmp place) q ≡ eqb place q
 kept_by place q = grind arith
 
 -- the place before the first one is kept too

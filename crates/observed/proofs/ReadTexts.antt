@@ -22,7 +22,7 @@ use Rattle.bx_tree.specs.Paths.{Atoms, IsAtom, IsPath, IsPathText, Names, is_ato
 use Rattle.bx_tree.specs.declared.limits.TheConstants.{MAX_ATOM_BYTES, MAX_PATH_BYTES}
 use Rattle.bx_tree.proofs.PathTexts.{named_by_parts, path_of-named}
 use Rattle.bx_path.specs.Joining.{is_atom}
-use Rattle.bx_path.proofs.StepsOfTexts.{is_atom_true}
+use Rattle.bx_path.proofs.StepsOfTexts.{is_atom_true, other_bytes}
 use Rattle.observed.specs.declared.ask.AskKind.{AskKind}
 use Rattle.observed.specs.declared.ask.AskKind.TheVariants as kinds
 use Rattle.observed.specs.declared.ask.Ask.{Ask}
@@ -43,13 +43,6 @@ if_some false o x e = cc
 
 -- ## Paths
 
-other_text : (a b : List ℕ) → not (bytes_eq a b) ≡ true → a ≢ b
-other_text a b h e = not_both (bytes_eq a b) h ((bytes_eq-Decides a b).1 e)
-  where
-    not_both : (t : Bool) → not t ≡ true → t ≡ true → ⊥
-    not_both true h e = cc
-    not_both false h e = cc
-
 atom_sound : (text : List ℕ) → is_atom text ≡ true → IsAtom text
 atom_sound text e =
     let some = nat_le 1 (length text) in
@@ -63,8 +56,8 @@ atom_sound text e =
       some = leb-true 1 (length text) f.0;
       short = leb-true (length text) MAX_ATOM_BYTES f.1;
       bytes = all_true is_atom_byte text d.1;
-      not_dot = other_text text (codes ".") b.1;
-      not_dots = other_text text (codes "..") a.1;
+      not_dot = other_bytes text (codes ".") b.1;
+      not_dots = other_bytes text (codes "..") a.1;
     }
 
 atoms_sound : (path : Atoms) → list_all is_atom path ≡ true → AllByRecursion IsAtom path
@@ -120,7 +113,7 @@ no_path text other none = by_option (named_path text) refl
 
 -- ## Lines
 
-prefix_sound : (prefix text rest : List ℕ) → after_prefix prefix text ≡ Some rest → text ≡ prefix ++ rest
+pub prefix_sound : (prefix text rest : List ℕ) → after_prefix prefix text ≡ Some rest → text ≡ prefix ++ rest
 prefix_sound [] text rest e = same_Some text rest e
 prefix_sound (p ∷ ps) [] rest e = cc
 prefix_sound (p ∷ ps) (b ∷ bs) rest e =
@@ -363,7 +356,7 @@ pub err_asks : (e : SetFault) (part all : Option (List Ask)) → ReadsAsks (Err 
 err_asks BadSet part all h f = f h
 err_asks Memory part all h f = tt
 
-prefix_complete : (prefix rest : List ℕ) → after_prefix prefix (prefix ++ rest) ≡ Some rest
+pub prefix_complete : (prefix rest : List ℕ) → after_prefix prefix (prefix ++ rest) ≡ Some rest
 prefix_complete [] rest = refl
 prefix_complete (p ∷ ps) rest = ap (λ t. cond t (after_prefix ps (ps ++ rest)) None) ((Decides-eqb p p).1 refl) ∙ prefix_complete ps rest
 
