@@ -1,5 +1,5 @@
 -- The text of a path set is read as the path set.
-use Rattle.std.proofs.Common.{Vec, Global, IfOk, OnOk, ◌≡◌, ◌≢◌, ◌↔◌, ℕ, ◌+◌, ◌<◌, ◌≤◌, zero, suc, true, false, Bool, not, ◌&&◌, ◌==◌, cond, List, [], ◌∷◌, ◌++◌, length, codes, drop, get_or, add-one, Option, Some, None, Result, Ok, Err, inl, inr, refl, ap, sym, ◌∙◌, subst, arith, append_assoc, IsTrue}
+use Rattle.std.proofs.Common.{Vec, Global, IfOk, OnOk, ◌≡◌, ◌≢◌, ◌↔◌, ℕ, ◌+◌, ◌<◌, ◌≤◌, true, false, Bool, not, ◌&&◌, ◌==◌, cond, List, [], ◌∷◌, ◌++◌, length, codes, drop, get_or, Option, Some, None, Result, Ok, Err, inl, inr, refl, ap, sym, ◌∙◌, subst, arith, append_assoc, IsTrue}
 use Rattle.std.specs.declared.alloc.AllocError.{AllocError}
 use Rattle.std.specs.Bool.{nat_le, nat_eq}
 use Rattle.std.specs.Borrow.{Bor}
@@ -9,8 +9,7 @@ use Rattle.std.specs.List.Sorted.{IsStrictlySortedBy}
 use Rattle.std.specs.Option.{MatchOption, option_and_then, option_copied}
 use Rattle.std.specs.Ordering.{is_lt}
 use Rattle.std.specs.Str.{bytes_eq}
-use Rattle.std.specs.declared.cmp.Ordering.{Ordering}
-use Rattle.std.specs.declared.cmp.Ordering.TheVariants.{Less, Equal, Greater}
+use Rattle.std.specs.declared.cmp.Ordering.TheVariants.{Less}
 use Rattle.std.proofs.lemmas.Bool.{and_from, and_parts, cases_Bool, le-leb, leb-true}
 use Rattle.std.proofs.lemmas.Bool.Decides.{Decides-eqb}
 use Rattle.std.proofs.lemmas.List.{append-nil}
@@ -34,12 +33,9 @@ use Rattle.observed.specs.PathSets.{IsPathSet}
 use Rattle.observed.specs.Texts.{ReadsPathSet, ReadsAsks, all_asks, after_asks, after_prefix, ask_after, ask_at, ask_line, first_line, if_rising, is_rising, kind_text, named_ask, named_asks, named_path, paths_text, read_lines, read_paths_text, with_ask}
 use Rattle.bx_tree.specs.Lent.{texts_now}
 use Rattle.bx_tree.proofs.Lists.{none_left, all_true}
-
--- ## Options
-
-if_some : {X : Type 0} (b : Bool) (o : Option X) (x : X) → cond b o None ≡ Some x → (b ≡ true) × (o ≡ Some x)
-if_some true o x e = (refl, e)
-if_some false o x e = cc
+use Rattle.bx_tree.proofs.Lent.{texts_at, drop_whole}
+use Rattle.bx_tree.proofs.Options.{if_some}
+use Rattle.bx_tree.proofs.AncestorSearch.{less_from_is_lt}
 
 -- ## Paths
 
@@ -234,11 +230,6 @@ lines_complete (a ∷ as') h =
 
 -- ## Order
 
-is_less : (o : Ordering) → is_lt o ≡ true → o ≡ Less
-is_less Less e = refl
-is_less Equal e = cc
-is_less Greater e = cc
-
 all_above : (a b : Ask) (rest : List Ask) → ask_cmp a b ≡ Less → AllByRecursion (λ q. ask_cmp b q ≡ Less) rest → AllByRecursion (λ q. ask_cmp a q ≡ Less) rest
 all_above a b [] e h = tt
 all_above a b (c ∷ rest) e h = (ask_cmp_total.trans a b c e h.0, all_above a b rest e h.1)
@@ -249,7 +240,7 @@ rising_sound [] e = tt
 rising_sound (a ∷ []) e = (tt, tt)
 rising_sound (a ∷ b ∷ rest) e =
     let parts = and_parts (is_lt (ask_cmp a b)) (is_rising (b ∷ rest)) e in
-    let less = is_less (ask_cmp a b) parts.0 in
+    let less = less_from_is_lt (ask_cmp a b) parts.0 in
     let more = rising_sound (b ∷ rest) parts.1 in
     ((less, all_above a b rest less more.0), more)
 
@@ -313,14 +304,6 @@ after_more : (earlier : List Ask) (ask : Ask) (read : Option (List Ask)) → aft
 after_more earlier ask None = refl
 after_more earlier ask (Some asks) = ap Some (append_assoc earlier (ask ∷ []) asks)
 
-texts_at : (lines : List (Bor (List ℕ))) (i : ℕ) (d : Bor (List ℕ)) → i < length lines → texts_now (drop i lines) ≡ (get_or lines i d).now ∷ texts_now (drop (i + 1) lines)
-texts_at lines i d l = at lines i l ∙ ap (λ n. (get_or lines i d).now ∷ texts_now (drop n lines)) (sym (add-one i))
-  where
-    at : (xs : List (Bor (List ℕ))) (k : ℕ) → k < length xs → texts_now (drop k xs) ≡ (get_or xs k d).now ∷ texts_now (drop (suc k) xs)
-    at [] k m = absurd (omega (arith, m))
-    at (x ∷ xs) zero m = refl
-    at (x ∷ xs) (suc k) m = at xs k (omega (arith, m))
-
 pub one_ask : (lines : List (Bor (List ℕ))) (i : ℕ) (d : Bor (List ℕ)) (earlier new : List Ask) (ask : Ask) (all : Option (List Ask)) → i < length lines
     → named_ask (get_or lines i d).now ≡ Some ask → new ≡ earlier ++ ask ∷ [] → after_asks earlier (all_asks (texts_now (drop i lines))) ≡ all
     → after_asks new (all_asks (texts_now (drop (i + 1) lines))) ≡ all
@@ -335,12 +318,6 @@ pub bad_ask : (lines : List (Bor (List ℕ))) (i : ℕ) (d : Bor (List ℕ)) (ea
 bad_ask lines i d earlier all l is so_far =
     sym so_far ∙ ap (λ ts. after_asks earlier (all_asks ts)) (texts_at lines i d l)
     ∙ ap (λ o. after_asks earlier (with_ask o (all_asks (texts_now (drop (i + 1) lines))))) is
-
-drop_whole : (lines : List (Bor (List ℕ))) (i : ℕ) → length lines ≡ i → drop i lines ≡ []
-drop_whole [] zero e = refl
-drop_whole [] (suc i) e = absurd (omega (arith, e))
-drop_whole (x ∷ xs) zero e = absurd (omega (arith, e))
-drop_whole (x ∷ xs) (suc i) e = drop_whole xs i (omega (arith, e))
 
 pub all_read : (lines : List (Bor (List ℕ))) (i : ℕ) (earlier : List Ask) (all : Option (List Ask)) → length lines ≡ i
     → after_asks earlier (all_asks (texts_now (drop i lines))) ≡ all → all ≡ Some earlier

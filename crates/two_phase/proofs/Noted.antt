@@ -14,6 +14,7 @@ use Rattle.std.specs.declared.alloc.Global.{Global}
 use Rattle.std.specs.declared.vec.Vec.{Vec}
 use Rattle.std.proofs.lemmas.Option.{same_Some}
 use Rattle.bx_tree.proofs.TextTables.{text_put}
+use Rattle.bx_tree.proofs.Lists.{texts_differ}
 use Rattle.sha2.specs.Sha256.{sha256}
 use Rattle.bx_io.specs.Holdings.{Holdings, Put, StoreState, known_after}
 use Rattle.bx_io.specs.declared.keeper.PutFault.{PutFault}
@@ -35,12 +36,6 @@ same_or_other a b = elim (cases_Bool (bytes_eq a b)) [
   | inr f ↦ inr (λ same. let both : bytes_eq a b ≡ true = (bytes_eq-Decides a b).1 same in absurd cc)
 ]
 
-not_equal : (a b : List ℕ) → (a ≡ b → ⊥) → bytes_eq a b ≡ false
-not_equal a b other = elim (cases_Bool (bytes_eq a b)) [
-  | inl t ↦ absurd (other ((bytes_eq-Decides a b).0 t))
-  | inr f ↦ f
-]
-
 abbrev Updated : List ℕ → HeldContents → HeldContents → Option (List ℕ) → Type 0
 Updated key old new value =
     UpdatesBy (λ a b. slice_cmp nat_cmp a.items b.items) (λ k. slice_cmp nat_cmp key k.items) old.contents new.contents value
@@ -48,7 +43,7 @@ Updated key old new value =
 other_noted : (key : List ℕ) (old new : HeldContents) (value : Option (List ℕ)) → Updated key old new value → (q : List ℕ) → (key ≡ q → ⊥)
     → noted_at new q ≡ noted_at old q
 other_noted key old new value h q other =
-    text_put key old.contents new.contents value h q ∙ cond-false (bytes_eq key q) value (noted_at old q) (not_equal key q other)
+    text_put key old.contents new.contents value h q ∙ cond-false (bytes_eq key q) value (noted_at old q) (texts_differ key q other)
 
 pub forgotten : (digest key : List ℕ) (old new : HeldContents) → key ≡ digest → Updated key old new None → (content : List ℕ) → Tracks old new digest content
 forgotten digest key old new is h content = record {
