@@ -1,7 +1,7 @@
 -- The steps of a relative text lead where the definition says, and give short paths exactly.
 use Rattle.bx_tree.specs.declared.limits.TheConstants.{MAX_ATOM_BYTES}
 use Rattle.bx_tree.specs.declared.limits.TheConstants.{MAX_PATH_BYTES}
-use Rattle.std.proofs.Common.{inl, inr, append_assoc, ◌≡◌, ◌≢◌, ℕ, ◌<◌, ◌≤◌, ◌+◌, true, false, not, cond, ◌&&◌, nat_le, IsTrue, List, [], ◌∷◌, ◌++◌, length, get_or, take, codes, Some, None, refl, ap, sym, ◌∙◌, subst, arith, append-nil}
+use Rattle.std.proofs.Common.{inl, inr, append_assoc, ◌≡◌, ◌≢◌, ℕ, ◌<◌, ◌≤◌, ◌+◌, true, false, not, cond, ◌&&◌, nat_le, List, [], ◌∷◌, ◌++◌, length, get_or, take, codes, Some, None, refl, ap, sym, ◌∙◌, subst, arith, append-nil}
 use Rattle.std.specs.Borrow.{Bor}
 use Rattle.std.specs.List.{AllByRecursion, join_with_byte, list_all}
 use Rattle.std.specs.Str.{bytes_eq}
@@ -13,13 +13,9 @@ use Rattle.bx_tree.specs.Paths.{Atoms, IsAtom, IsPathText, Names, is_atom_byte, 
 use Rattle.bx_tree.proofs.PathTexts.{one_path, join-append}
 use Rattle.bx_path.specs.Joining.{is_atom, parent, step, if_short, walk}
 use Rattle.bx_tree.specs.Lent.{texts_now}
-use Rattle.bx_tree.proofs.Lists.{all_true, texts_differ}
+use Rattle.bx_tree.proofs.Lists.{all_true, texts_differ, true_all}
 
 -- ## Atoms by a test
-
-all_bytes : (bs : List ℕ) → AllByRecursion (λ b. IsTrue (is_atom_byte b)) bs → list_all is_atom_byte bs ≡ true
-all_bytes [] h = refl
-all_bytes (b ∷ bs) h = and_from (is_atom_byte b) (list_all is_atom_byte bs) h.0 (all_bytes bs h.1)
 
 differs : (a b : List ℕ) → a ≢ b → not (bytes_eq a b) ≡ true
 differs a b n = elim (cases_Bool (bytes_eq a b)) [
@@ -33,7 +29,7 @@ other_bytes a b h e = false≢true (sym (not-true (bytes_eq a b) h) ∙ (bytes_e
 pub is_atom_true : (text : List ℕ) → IsAtom text → is_atom text ≡ true
 is_atom_true text h =
     and_from _ _ (and_from _ _ (and_from _ _ (and_from _ _
-    (le-leb 1 (length text) h.some) (le-leb (length text) MAX_ATOM_BYTES h.short)) (all_bytes text h.bytes))
+    (le-leb 1 (length text) h.some) (le-leb (length text) MAX_ATOM_BYTES h.short)) (true_all is_atom_byte text h.bytes))
     (differs text (codes ".") h.not_dot)) (differs text (codes "..") h.not_dots)
 
 pub is_atom_false : (text : List ℕ) → (IsAtom text → ⊥) → is_atom text ≡ false
