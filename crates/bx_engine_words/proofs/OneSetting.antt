@@ -111,7 +111,7 @@ not_a_value name text option other m n r named written small test outside h =
 first_same : {X : Type 0} {x y : X} {xs ys : List X} → x ∷ xs ≡ y ∷ ys → x ≡ y
 first_same e = cc
 
-rest_same : {X : Type 0} {x y : X} {xs ys : List X} → x ∷ xs ≡ y ∷ ys → xs ≡ ys
+pub rest_same : {X : Type 0} {x y : X} {xs ys : List X} → x ∷ xs ≡ y ∷ ys → xs ≡ ys
 rest_same e = cc
 
 abbrev SameStart : Setting → Setting → List (List ℕ) → List (List ℕ) → Type 0

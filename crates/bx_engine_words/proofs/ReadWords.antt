@@ -7,13 +7,11 @@ use Rattle.std.proofs.lemmas.Slice.Eq.{bytes_eq-Decides}
 use Rattle.std.proofs.lemmas.Bool.{not-false}
 use Rattle.bx_engine_words.specs.declared.order.Order.{Order}
 use Rattle.bx_engine_words.specs.Words.{AreOptions, Orders}
+use Rattle.bx_engine_words.proofs.OneSetting.{rest_same}
 
 -- texts that are not found to differ are equal
 pub same_text : (a b : List ℕ) → not (pointwise eqb a b) ≡ false → a ≡ b
 same_text a b e = (bytes_eq-Decides a b).0 (not-false (pointwise eqb a b) e)
-
-rest_same : {X : Type 0} {x y : X} {xs ys : List X} → x ∷ xs ≡ y ∷ ys → xs ≡ ys
-rest_same e = cc
 
 abbrev IsReadAs : {E : Type 0} → List (List ℕ) → Result Order E → Type 0
 IsReadAs words r = MatchResult r (λ order. Orders words order) (λ _. (order : Order) → Orders words order → ⊥)

@@ -17,3 +17,5 @@ pub mod TextTables
 pub mod InOrder
 pub mod Lists
 pub mod Members
+pub mod Lent
+pub mod Options

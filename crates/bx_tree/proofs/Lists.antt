@@ -2,7 +2,9 @@
 use Rattle.std.proofs.Common.{◌≡◌, ℕ, ◌<◌, zero, suc, Bool, true, false, ◌||◌, List, [], ◌∷◌, ◌++◌, length, take, None, refl, ap, sym, ◌∙◌, arith}
 use Rattle.std.specs.Prelude.{IsTrue, slice_get}
 use Rattle.std.specs.List.{AllByRecursion, IsDistinct, list_all, list_any}
-use Rattle.std.proofs.lemmas.Bool.{and_from, and_parts}
+use Rattle.std.proofs.lemmas.Bool.{and_from, and_parts, false_from_ne_true}
+use Rattle.std.specs.Str.{bytes_eq}
+use Rattle.std.proofs.lemmas.Slice.Eq.{bytes_eq-Decides}
 
 -- ## All elements
 
@@ -100,3 +102,8 @@ pub no_such_place : {X : Type 0} (xs : List X) (i : ℕ) → i < length xs → s
 no_such_place [] i l e = absurd (omega (arith, l))
 no_such_place (x ∷ xs) zero l e = cc
 no_such_place (x ∷ xs) (suc i) l e = no_such_place xs i (omega (arith, l)) e
+
+-- ## Texts
+
+pub texts_differ : (a b : List ℕ) → (a ≡ b → ⊥) → bytes_eq a b ≡ false
+texts_differ a b other = false_from_ne_true (bytes_eq a b) (λ e. other ((bytes_eq-Decides a b).0 e))

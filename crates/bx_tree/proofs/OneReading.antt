@@ -184,7 +184,7 @@ Contains-middle : {X : Type 0} (xs : List X) (y : X) (ys : List X) → Contains 
 Contains-middle xs y ys =
     (length xs, omega (arith, length-append xs (y ∷ ys)), get_or_at xs y ys y (length xs) refl)
 
-prefix_sorted : {X : Type 0} (R : X → X → Ordering) (xs : List X) (y : X) (ys : List X) → IsStrictlySortedBy R (xs ++ y ∷ ys) → AllByRecursion (λ x. R x y ≡ Less) xs
+pub prefix_sorted : {X : Type 0} (R : X → X → Ordering) (xs : List X) (y : X) (ys : List X) → IsStrictlySortedBy R (xs ++ y ∷ ys) → AllByRecursion (λ x. R x y ≡ Less) xs
 unfolding IsStrictlySortedBy
 prefix_sorted R [] y ys h = tt
 prefix_sorted R (x ∷ xs) y ys h = (at_split (λ z. R x z ≡ Less) xs y ys h.0, prefix_sorted R xs y ys h.1)

@@ -15,6 +15,7 @@ use Rattle.bx_tree.specs.Paths.{Atoms, IsBelow, IsPath, path_cmp, path_text}
 use Rattle.bx_tree.specs.Ranges.{AreFilePaths, comes_before, first_below, prefix_below}
 use Rattle.bx_tree.proofs.BelowPaths.{below_decides}
 use Rattle.bx_tree.proofs.PathTexts.{below_from_prefix, prefix_from_below}
+use Rattle.bx_tree.proofs.AncestorSearch.{less_from_is_lt}
 
 -- ## Texts that begin with a prefix
 
@@ -154,16 +155,11 @@ before_by prefix text other Less e n less = nat_list_cmp_total.trans text other 
 before_by prefix text other Equal e n less = ap (λ t. slice_cmp nat_cmp t prefix) (equal_texts text other e) ∙ less
 before_by prefix text other Greater e n less = absurd (n refl)
 
-less_from : (o : Ordering) → is_lt o ≡ true → o ≡ Less
-less_from Less e = refl
-less_from Equal e = absurd (false≢true e)
-less_from Greater e = absurd (false≢true e)
-
 -- a text that comes not after one before another comes before the other
 pub earlier_text : (prefix text other : List ℕ) → (slice_cmp nat_cmp text other ≡ Greater → ⊥) → is_lt (slice_cmp nat_cmp other prefix) ≡ true
     → is_lt (slice_cmp nat_cmp text prefix) ≡ true
 earlier_text prefix text other n before =
-    ap is_lt (before_by prefix text other (slice_cmp nat_cmp text other) refl n (less_from (slice_cmp nat_cmp other prefix) before))
+    ap is_lt (before_by prefix text other (slice_cmp nat_cmp text other) refl n (less_from_is_lt (slice_cmp nat_cmp other prefix) before))
 
 pub earlier_before : (prefix : List ℕ) (path other : Atoms) → path_cmp path other ≡ Less → comes_before prefix other ≡ true → comes_before prefix path ≡ true
 earlier_before prefix path other less before = earlier_text prefix (path_text path) (path_text other) (not_greater path other less) before

@@ -12,7 +12,7 @@ use Rattle.content_store.specs.declared.entries.FetchedEntry.{FetchedEntry}
 use Rattle.content_store.specs.declared.entries.FetchedEntry.TheVariants as fetched
 use Rattle.content_store.specs.HeldEntries.{ChecksEntry, FetchesEntry, IsHeld}
 
-none_and_some : {X : Type 0} (o : Option X) (x : X) → o ≡ None → o ≡ Some x → ⊥
+pub none_and_some : {X : Type 0} (o : Option X) (x : X) → o ≡ None → o ≡ Some x → ⊥
 none_and_some o x h k = let never : None ≡ Some x = sym h ∙ k in cc
 
 -- a text of an entry of one digest is not that of one of another

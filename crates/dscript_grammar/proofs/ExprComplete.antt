@@ -241,7 +241,7 @@ first_stmt (suc h) Empty ts rest p = (ap not (at_first "}" p), keyword_not_taken
 same_after : {t : TokenKind} {ts m n : List TokenKind} → ts ≡ t ∷ m → ts ≡ t ∷ n → m ≡ n
 same_after {t = t} {ts = ts} {m = m} {n = n} e f = cc
 
-pick_false : {A : Type 0} {b : Bool} (x y : A) → b ≡ false → pick b x y ≡ y
+pub pick_false : {A : Type 0} {b : Bool} (x y : A) → b ≡ false → pick b x y ≡ y
 unfolding pick
 pick_false x y e = ap (λ c. pick c x y) e
 

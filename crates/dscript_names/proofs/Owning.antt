@@ -1,5 +1,5 @@
 -- A table that is filled from the last module to the first has the first module of each file.
-use Rattle.std.proofs.Common.{◌≡◌, ℕ, suc, ◌<◌, ◌+◌, Bool, true, false, not, ◌||◌, cond, List, [], ◌∷◌, ◌++◌, Option, Some, None, length, take, get_or, refl, ap, sym, ◌∙◌, arith, add-zero}
+use Rattle.std.proofs.Common.{◌≡◌, ℕ, ◌<◌, ◌+◌, Bool, true, false, not, ◌||◌, cond, List, [], ◌∷◌, ◌++◌, Option, Some, length, take, get_or, refl, ap, sym, ◌∙◌, arith}
 use Rattle.std.specs.BTreeMap.{is_at}
 use Rattle.std.specs.List.{list_any, position_from, position_or_len}
 use Rattle.std.specs.Option.{option_or, unwrap_or}
@@ -10,6 +10,7 @@ use Rattle.bx_tree.proofs.Lists.{any_last}
 use Rattle.dscript_program.specs.Workspaces.{module_data, modules_data}
 use Rattle.dscript_program.specs.declared.workspace.ModuleText.{ModuleText}
 use Rattle.dscript_names_scopes.specs.Declarations.{module_of}
+use Rattle.dscript_names_scopes.proofs.FirstValues.{position_last, either_then}
 use Rattle.dscript_names.specs.Owners.{HasOwners, has_file, owner_in}
 use Rattle.dscript_names.specs.declared.owners.Owners.{Owners}
 
@@ -31,25 +32,6 @@ owner_more q xs i x key n old mid new put before is l e =
     put ∙ ap (λ b. cond b (Some n) mid) test ∙ ap (cond (same_path q x) (Some n)) before
     ∙ sym (either_cond done (same_path q x) (Some n) old)
     ∙ ap (λ b. cond b (Some n) old) (sym (ap (list_any (same_path q)) more ∙ any_last (same_path q) (take i xs) x))
-
-position_last : {X : Type 0} (p : X → Bool) (n : ℕ) (xs : List X) (x : X)
-    → position_from p n (xs ++ x ∷ []) ≡ option_or (position_from p n xs) (cond (p x) (Some (n + length xs)) None)
-position_last p n [] x = ap (λ k. cond (p x) (Some k) None) (sym (add-zero n))
-position_last p n (y ∷ xs) x =
-    let next : n + 1 + length xs ≡ n + suc (length xs) = omega arith in
-    elim (p y) as (λ b. cond b (Some n) (position_from p (n + 1) (xs ++ x ∷ []))
-    ≡ option_or (cond b (Some n) (position_from p (n + 1) xs)) (cond (p x) (Some (n + suc (length xs))) None)) [
-      | true ↦ refl
-      | false ↦
-          position_last p (n + 1) xs x
-          ∙ ap (λ k. option_or (position_from p (n + 1) xs) (cond (p x) (Some k) None)) next
-    ]
-
-either_then : {X : Type 0} (a : Option X) (b : Bool) (v : X) (c : Option X)
-    → option_or (option_or a (cond b (Some v) None)) c ≡ option_or a (cond b (Some v) c)
-either_then (Some x) b v c = refl
-either_then None true v c = refl
-either_then None false v c = refl
 
 -- one module more, before those in the table
 pub module_put : (q : Atoms) (left before : List ModuleText) (m : ModuleText) (n : ℕ) (old new whole : Option ℕ)

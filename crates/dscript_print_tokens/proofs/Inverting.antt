@@ -60,7 +60,7 @@ opens_part hole b e = (and_parts hole (eqb b 0x7d) (tests_part (is_blank b) (is_
 as_said : (hole : Bool) (is said : TokenKind) → IsWritable hole is → Some (Spelled is) ≡ Some (Spelled said) → IsWritable hole said
 as_said hole is said fits e = let same : is ≡ said = cc in subst (IsWritable hole) same fits
 
-the_some : {A : Type 0} (t : Bool) (x y : A) → cond t (Some x) None ≡ Some y → Some x ≡ Some y
+pub the_some : {A : Type 0} (t : Bool) (x y : A) → cond t (Some x) None ≡ Some y → Some x ≡ Some y
 the_some true x y e = e
 the_some false x y e = cc
 

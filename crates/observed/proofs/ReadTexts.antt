@@ -1,5 +1,5 @@
 -- The text of a path set is read as the path set.
-use Rattle.std.proofs.Common.{Vec, Global, IfOk, OnOk, ◌≡◌, ◌≢◌, ◌↔◌, ℕ, ◌+◌, ◌<◌, ◌≤◌, zero, suc, true, false, Bool, not, ◌&&◌, ◌==◌, cond, List, [], ◌∷◌, ◌++◌, length, codes, drop, get_or, add-one, Option, Some, None, Result, Ok, Err, inl, inr, refl, ap, sym, ◌∙◌, subst, arith, append_assoc, IsTrue}
+use Rattle.std.proofs.Common.{Vec, Global, IfOk, OnOk, ◌≡◌, ◌≢◌, ◌↔◌, ℕ, ◌+◌, ◌<◌, ◌≤◌, true, false, Bool, not, ◌&&◌, ◌==◌, cond, List, [], ◌∷◌, ◌++◌, length, codes, drop, get_or, Option, Some, None, Result, Ok, Err, inl, inr, refl, ap, sym, ◌∙◌, subst, arith, append_assoc, IsTrue}
 use Rattle.std.specs.declared.alloc.AllocError.{AllocError}
 use Rattle.std.specs.Bool.{nat_le, nat_eq}
 use Rattle.std.specs.Borrow.{Bor}
@@ -9,8 +9,7 @@ use Rattle.std.specs.List.Sorted.{IsStrictlySortedBy}
 use Rattle.std.specs.Option.{MatchOption, option_and_then, option_copied}
 use Rattle.std.specs.Ordering.{is_lt}
 use Rattle.std.specs.Str.{bytes_eq}
-use Rattle.std.specs.declared.cmp.Ordering.{Ordering}
-use Rattle.std.specs.declared.cmp.Ordering.TheVariants.{Less, Equal, Greater}
+use Rattle.std.specs.declared.cmp.Ordering.TheVariants.{Less}
 use Rattle.std.proofs.lemmas.Bool.{and_from, and_parts, cases_Bool, le-leb, leb-true}
 use Rattle.std.proofs.lemmas.Bool.Decides.{Decides-eqb}
 use Rattle.std.proofs.lemmas.List.{append-nil}
@@ -22,7 +21,7 @@ use Rattle.bx_tree.specs.Paths.{Atoms, IsAtom, IsPath, IsPathText, Names, is_ato
 use Rattle.bx_tree.specs.declared.limits.TheConstants.{MAX_ATOM_BYTES, MAX_PATH_BYTES}
 use Rattle.bx_tree.proofs.PathTexts.{named_by_parts, path_of-named}
 use Rattle.bx_path.specs.Joining.{is_atom}
-use Rattle.bx_path.proofs.StepsOfTexts.{is_atom_true}
+use Rattle.bx_path.proofs.StepsOfTexts.{is_atom_true, other_bytes}
 use Rattle.observed.specs.declared.ask.AskKind.{AskKind}
 use Rattle.observed.specs.declared.ask.AskKind.TheVariants as kinds
 use Rattle.observed.specs.declared.ask.Ask.{Ask}
@@ -34,21 +33,11 @@ use Rattle.observed.specs.PathSets.{IsPathSet}
 use Rattle.observed.specs.Texts.{ReadsPathSet, ReadsAsks, all_asks, after_asks, after_prefix, ask_after, ask_at, ask_line, first_line, if_rising, is_rising, kind_text, named_ask, named_asks, named_path, paths_text, read_lines, read_paths_text, with_ask}
 use Rattle.bx_tree.specs.Lent.{texts_now}
 use Rattle.bx_tree.proofs.Lists.{none_left, all_true}
-
--- ## Options
-
-if_some : {X : Type 0} (b : Bool) (o : Option X) (x : X) → cond b o None ≡ Some x → (b ≡ true) × (o ≡ Some x)
-if_some true o x e = (refl, e)
-if_some false o x e = cc
+use Rattle.bx_tree.proofs.Lent.{texts_at, drop_whole}
+use Rattle.bx_tree.proofs.Options.{if_some}
+use Rattle.bx_tree.proofs.AncestorSearch.{less_from_is_lt}
 
 -- ## Paths
-
-other_text : (a b : List ℕ) → not (bytes_eq a b) ≡ true → a ≢ b
-other_text a b h e = not_both (bytes_eq a b) h ((bytes_eq-Decides a b).1 e)
-  where
-    not_both : (t : Bool) → not t ≡ true → t ≡ true → ⊥
-    not_both true h e = cc
-    not_both false h e = cc
 
 atom_sound : (text : List ℕ) → is_atom text ≡ true → IsAtom text
 atom_sound text e =
@@ -63,8 +52,8 @@ atom_sound text e =
       some = leb-true 1 (length text) f.0;
       short = leb-true (length text) MAX_ATOM_BYTES f.1;
       bytes = all_true is_atom_byte text d.1;
-      not_dot = other_text text (codes ".") b.1;
-      not_dots = other_text text (codes "..") a.1;
+      not_dot = other_bytes text (codes ".") b.1;
+      not_dots = other_bytes text (codes "..") a.1;
     }
 
 atoms_sound : (path : Atoms) → list_all is_atom path ≡ true → AllByRecursion IsAtom path
@@ -120,7 +109,7 @@ no_path text other none = by_option (named_path text) refl
 
 -- ## Lines
 
-prefix_sound : (prefix text rest : List ℕ) → after_prefix prefix text ≡ Some rest → text ≡ prefix ++ rest
+pub prefix_sound : (prefix text rest : List ℕ) → after_prefix prefix text ≡ Some rest → text ≡ prefix ++ rest
 prefix_sound [] text rest e = same_Some text rest e
 prefix_sound (p ∷ ps) [] rest e = cc
 prefix_sound (p ∷ ps) (b ∷ bs) rest e =
@@ -241,11 +230,6 @@ lines_complete (a ∷ as') h =
 
 -- ## Order
 
-is_less : (o : Ordering) → is_lt o ≡ true → o ≡ Less
-is_less Less e = refl
-is_less Equal e = cc
-is_less Greater e = cc
-
 all_above : (a b : Ask) (rest : List Ask) → ask_cmp a b ≡ Less → AllByRecursion (λ q. ask_cmp b q ≡ Less) rest → AllByRecursion (λ q. ask_cmp a q ≡ Less) rest
 all_above a b [] e h = tt
 all_above a b (c ∷ rest) e h = (ask_cmp_total.trans a b c e h.0, all_above a b rest e h.1)
@@ -256,7 +240,7 @@ rising_sound [] e = tt
 rising_sound (a ∷ []) e = (tt, tt)
 rising_sound (a ∷ b ∷ rest) e =
     let parts = and_parts (is_lt (ask_cmp a b)) (is_rising (b ∷ rest)) e in
-    let less = is_less (ask_cmp a b) parts.0 in
+    let less = less_from_is_lt (ask_cmp a b) parts.0 in
     let more = rising_sound (b ∷ rest) parts.1 in
     ((less, all_above a b rest less more.0), more)
 
@@ -320,14 +304,6 @@ after_more : (earlier : List Ask) (ask : Ask) (read : Option (List Ask)) → aft
 after_more earlier ask None = refl
 after_more earlier ask (Some asks) = ap Some (append_assoc earlier (ask ∷ []) asks)
 
-texts_at : (lines : List (Bor (List ℕ))) (i : ℕ) (d : Bor (List ℕ)) → i < length lines → texts_now (drop i lines) ≡ (get_or lines i d).now ∷ texts_now (drop (i + 1) lines)
-texts_at lines i d l = at lines i l ∙ ap (λ n. (get_or lines i d).now ∷ texts_now (drop n lines)) (sym (add-one i))
-  where
-    at : (xs : List (Bor (List ℕ))) (k : ℕ) → k < length xs → texts_now (drop k xs) ≡ (get_or xs k d).now ∷ texts_now (drop (suc k) xs)
-    at [] k m = absurd (omega (arith, m))
-    at (x ∷ xs) zero m = refl
-    at (x ∷ xs) (suc k) m = at xs k (omega (arith, m))
-
 pub one_ask : (lines : List (Bor (List ℕ))) (i : ℕ) (d : Bor (List ℕ)) (earlier new : List Ask) (ask : Ask) (all : Option (List Ask)) → i < length lines
     → named_ask (get_or lines i d).now ≡ Some ask → new ≡ earlier ++ ask ∷ [] → after_asks earlier (all_asks (texts_now (drop i lines))) ≡ all
     → after_asks new (all_asks (texts_now (drop (i + 1) lines))) ≡ all
@@ -343,12 +319,6 @@ bad_ask lines i d earlier all l is so_far =
     sym so_far ∙ ap (λ ts. after_asks earlier (all_asks ts)) (texts_at lines i d l)
     ∙ ap (λ o. after_asks earlier (with_ask o (all_asks (texts_now (drop (i + 1) lines))))) is
 
-drop_whole : (lines : List (Bor (List ℕ))) (i : ℕ) → length lines ≡ i → drop i lines ≡ []
-drop_whole [] zero e = refl
-drop_whole [] (suc i) e = absurd (omega (arith, e))
-drop_whole (x ∷ xs) zero e = absurd (omega (arith, e))
-drop_whole (x ∷ xs) (suc i) e = drop_whole xs i (omega (arith, e))
-
 pub all_read : (lines : List (Bor (List ℕ))) (i : ℕ) (earlier : List Ask) (all : Option (List Ask)) → length lines ≡ i
     → after_asks earlier (all_asks (texts_now (drop i lines))) ≡ all → all ≡ Some earlier
 all_read lines i earlier all l so_far =
@@ -363,7 +333,7 @@ pub err_asks : (e : SetFault) (part all : Option (List Ask)) → ReadsAsks (Err 
 err_asks BadSet part all h f = f h
 err_asks Memory part all h f = tt
 
-prefix_complete : (prefix rest : List ℕ) → after_prefix prefix (prefix ++ rest) ≡ Some rest
+pub prefix_complete : (prefix rest : List ℕ) → after_prefix prefix (prefix ++ rest) ≡ Some rest
 prefix_complete [] rest = refl
 prefix_complete (p ∷ ps) rest = ap (λ t. cond t (after_prefix ps (ps ++ rest)) None) ((Decides-eqb p p).1 refl) ∙ prefix_complete ps rest
 

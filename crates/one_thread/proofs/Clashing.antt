@@ -1,5 +1,5 @@
 -- A process that does not clash shares no path that is nested in an earlier one's.
-use Rattle.std.proofs.Common.{◌≡◌, ℕ, ◌+◌, zero, suc, Bool, true, false, ◌&&◌, ◌||◌, cond, List, [], ◌∷◌, Option, Some, None, refl, ap, sym, ◌∙◌, subst, inl, inr}
+use Rattle.std.proofs.Common.{◌≡◌, ℕ, ◌+◌, zero, suc, Bool, true, false, ◌&&◌, ◌||◌, List, [], ◌∷◌, Option, Some, None, refl, ap, sym, ◌∙◌, subst, inl, inr}
 use Rattle.std.specs.Prelude.{slice_get}
 use Rattle.std.proofs.lemmas.Bool.{false≢true}
 use Rattle.bx_tree.specs.Paths.{Atoms, IsBelow, same_path}
@@ -8,6 +8,7 @@ use Rattle.bx_tree.specs.Members.{Has}
 use Rattle.bx_tree.specs.Below.{is_below}
 use Rattle.bx_tree.proofs.BelowPaths.{below_decides}
 use Rattle.bx_tree.proofs.Members.{one_passes, none_passes, has_filter}
+use Rattle.bx_tree.proofs.Options.{none_both}
 use Rattle.pip_model_types.specs.declared.outputs.OutDir.{OutDir}
 use Rattle.pip_model_types.specs.declared.pip.Pip.{Pip}
 use Rattle.violations.specs.declared.verdict.Violation.{Violation}
@@ -30,10 +31,6 @@ no_clash_left : (path : Atoms) (o : Option ℕ) (next : Option Violation) → or
 no_clash_left path None next e = (refl, e)
 no_clash_left path (Some j) next e = cc
 
-no_least : (b : Bool) (j : ℕ) (rest : Option ℕ) → cond b (Some j) rest ≡ None → (b ≡ false) × (rest ≡ None)
-no_least true j rest e = cc
-no_least false j rest e = (refl, e)
-
 no_clash_at : (path : Atoms) (k : ℕ) (before : List Pip) (made : List Files) (j : ℕ) (pip : Pip) (files : Files) → least_clash path k before made ≡ None
     → slice_get before j ≡ Some pip → slice_get made j ≡ Some files → has_clash path pip.kind files ≡ false
 no_clash_at path k [] made j pip files e at there = cc
@@ -42,9 +39,9 @@ no_clash_at path k (p ∷ before) (f ∷ made) zero pip files e at there =
     let same : p ≡ pip = cc in let files_same : f ≡ files = cc in
     ap (λ (fs : Files). has_clash path pip.kind fs) (sym files_same)
     ∙ ap (λ (q : Pip). has_clash path q.kind f) (sym same)
-    ∙ (no_least (has_clash path p.kind f) k (least_clash path (k + 1) before made) e).0
+    ∙ (none_both (has_clash path p.kind f) k (least_clash path (k + 1) before made) e).0
 no_clash_at path k (p ∷ before) (f ∷ made) (suc j) pip files e at there =
-    no_clash_at path (k + 1) before made j pip files (no_least (has_clash path p.kind f) k (least_clash path (k + 1) before made) e).1 at there
+    no_clash_at path (k + 1) before made j pip files (none_both (has_clash path p.kind f) k (least_clash path (k + 1) before made) e).1 at there
 
 no_first_clash : (paths : List Atoms) (before : List Pip) (made : List Files) (path : Atoms) → first_clash paths before made ≡ None → Has paths path
     → least_clash path 0 before made ≡ None

@@ -24,13 +24,13 @@ use Rattle.pip_model.specs.declared.listings.TheConstants.{FEW_DIRS}
 use Rattle.pip_view_directories.specs.Near.{AreTaken}
 use Rattle.pip_model_types.specs.Kinds.{taken_dirs}
 
-kind_is : (kind : PipKind) (d : ProcessDesc) → kind_process kind ≡ Some d → kind ≡ Process d
+pub kind_is : (kind : PipKind) (d : ProcessDesc) → kind_process kind ≡ Some d → kind ≡ Process d
 kind_is (Process e) d h = let same : e ≡ d = cc in ap Process same
 kind_is (Copy e) d h = absurd cc
 kind_is (Write e) d h = absurd cc
 kind_is (Seal e) d h = absurd cc
 
-process_is : (o : Option Pip) (d : ProcessDesc) → process_in o ≡ Some d → (pip : Pip) × (o ≡ Some pip) × (pip.kind ≡ Process d)
+pub process_is : (o : Option Pip) (d : ProcessDesc) → process_in o ≡ Some d → (pip : Pip) × (o ≡ Some pip) × (pip.kind ≡ Process d)
 process_is None d h = absurd cc
 process_is (Some pip) d h = (pip, refl, kind_is pip.kind d h)
 

@@ -25,7 +25,7 @@ one_more tree made files n file items new f l at so_far is e =
     ∙ sym (map-append (input_file tree made) (take n files) (get_or files n file ∷ []))
     ∙ ap (map (input_file tree made)) (sym (take_more files n file l))
 
-paths_taken : (tree : Files) (made : ByPip) (files : List FileInput) → paths_of (map (input_file tree made) files) ≡ map input_path files
+pub paths_taken : (tree : Files) (made : ByPip) (files : List FileInput) → paths_of (map (input_file tree made) files) ≡ map input_path files
 paths_taken tree made [] = refl
 paths_taken tree made (f ∷ fs) = ap (λ ps. input_path f ∷ ps) (paths_taken tree made fs)
 

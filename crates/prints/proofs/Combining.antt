@@ -1,9 +1,9 @@
 -- Forms of parts give forms of what is made of them.
-use Rattle.std.proofs.Common.{◌≡◌, ℕ, Bool, true, false, cond, List, [], ◌∷◌, ◌++◌, ◌==◌, Option, Some, None, refl, sym, ap, subst, ◌∙◌, append_assoc}
-use Rattle.std.proofs.lemmas.Bool.Decides.{Decides-eqb}
+use Rattle.std.proofs.Common.{◌≡◌, ℕ, Bool, true, cond, List, [], ◌∷◌, ◌++◌, Option, Some, None, refl, sym, ap, subst, ◌∙◌, append_assoc}
 use Rattle.std.proofs.lemmas.List.{append-nil}
 use Rattle.std.proofs.lemmas.Option.{cond_some, same_Some}
 use Rattle.observed.specs.Texts.{after_prefix}
+use Rattle.observed.proofs.ReadTexts.{prefix_sound, prefix_complete}
 use Rattle.prints.specs.Forms.{Anything, IsForm}
 use Rattle.prints.specs.Reading.{Taken, ◌>>=◌, after_word, both_at, as_at, only_at, if_ended, whole_of}
 
@@ -11,23 +11,6 @@ use Rattle.prints.specs.Reading.{Taken, ◌>>=◌, after_word, both_at, as_at, o
 pub bind_some : {X Y : Type 0} (o : Option X) (f : X → Option Y) (y : Y) → (o >>= f) ≡ Some y → (x : X) × (o ≡ Some x) × (f x ≡ Some y)
 bind_some (Some x) f y e = (x, refl, e)
 bind_some None f y e = absurd cc
-
--- ## Words
-
-pub prefix_sound : (word text rest : List ℕ) → after_prefix word text ≡ Some rest → text ≡ word ++ rest
-prefix_sound [] text rest e = same_Some text rest e
-prefix_sound (p ∷ ps) [] rest e = cc
-prefix_sound (p ∷ ps) (b ∷ bs) rest e =
-    let parts = if_some (p == b) (after_prefix ps bs) rest e in
-    ap (λ x. x ∷ bs) (sym ((Decides-eqb p b).0 parts.0)) ∙ ap (λ t. p ∷ t) (prefix_sound ps bs rest parts.1)
-  where
-    if_some : {X : Type 0} (b : Bool) (o : Option X) (x : X) → cond b o None ≡ Some x → (b ≡ true) × (o ≡ Some x)
-    if_some true o x e = (refl, e)
-    if_some false o x e = absurd cc
-
-pub prefix_again : (word rest : List ℕ) → after_prefix word (word ++ rest) ≡ Some rest
-prefix_again [] rest = refl
-prefix_again (p ∷ ps) rest = ap (λ t. cond t (after_prefix ps (ps ++ rest)) None) ((Decides-eqb p p).1 refl) ∙ prefix_again ps rest
 
 -- ## Combinations
 
@@ -39,7 +22,7 @@ after_form {w = w} {r = r} word form = record {
       let s = bind_some (after_prefix word text) r taken e in
       prefix_sound word text s.0 s.1 ∙ ap (λ t. word ++ t) (form.written s.0 taken s.2) ∙ sym (append_assoc word (w taken.0) taken.1);
   again = λ x rest g f.
-      ap (after_word word r) (append_assoc word (w x) rest) ∙ ap (λ o. o >>= r) (prefix_again word (w x ++ rest)) ∙ form.again x rest g f;
+      ap (after_word word r) (append_assoc word (w x) rest) ∙ ap (λ o. o >>= r) (prefix_complete word (w x ++ rest)) ∙ form.again x rest g f;
 }
 
 pub both_form : {X Y : Type 0} {G : X → Type 0} {H : Y → Type 0} {F K : List ℕ → Type 0} {w : X → List ℕ} {v : Y → List ℕ}

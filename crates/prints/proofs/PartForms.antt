@@ -17,11 +17,11 @@ use Rattle.hex.proofs.HexLemmas.{decode_of-ok, decode_sized-encode_lower, decode
 use Rattle.bx_tree.specs.Paths.{Atoms, IsAtom, IsPath, is_atom_byte, path_text}
 use Rattle.bx_digest.specs.Digests.{IsDigest}
 use Rattle.observed.specs.Texts.{after_prefix, named_path}
-use Rattle.observed.proofs.ReadTexts.{path_sound, path_complete}
+use Rattle.observed.proofs.ReadTexts.{path_sound, path_complete, prefix_sound, prefix_complete}
 use Rattle.prints.specs.Forms.{Anything, IsForm}
 use Rattle.prints.specs.Parts.{bytes_at, counted_at, counted_part, digest_at, digest_part, if_written, named_digest, named_number, number_at, number_part, part_at, path_at, path_part, with_first}
 use Rattle.prints.specs.Reading.{Taken, ◌>>=◌}
-use Rattle.prints.proofs.Combining.{bind_some, prefix_sound, prefix_again}
+use Rattle.prints.proofs.Combining.{bind_some}
 
 -- ## Bytes that end a part
 
@@ -203,7 +203,7 @@ bytes_sound count end text taken e =
 bytes_again : (end : ℕ) (bytes rest : List ℕ) → bytes_at (length bytes) end (bytes ++ end ∷ rest) ≡ Some (bytes, rest)
 bytes_again end bytes rest =
     ap (λ t. after_prefix (end ∷ []) t >>= λ rest'. Some (take (length bytes) (bytes ++ end ∷ rest), rest')) (drop_at bytes (end ∷ rest) (length bytes) refl)
-    ∙ ap (λ o. o >>= λ rest'. Some (take (length bytes) (bytes ++ end ∷ rest), rest')) (prefix_again (end ∷ []) rest)
+    ∙ ap (λ o. o >>= λ rest'. Some (take (length bytes) (bytes ++ end ∷ rest), rest')) (prefix_complete (end ∷ []) rest)
     ∙ ap (λ t. Some (t, rest)) (take_at bytes (end ∷ rest) (length bytes) refl)
 
 abbrev pub IsCountable : List ℕ → Type 0

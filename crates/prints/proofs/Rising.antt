@@ -5,14 +5,10 @@ use Rattle.std.specs.List.{AllByRecursion, IsAllAdjacentAnswer}
 use Rattle.std.specs.List.Sorted.{IsSortedBy, IsStrictlySortedBy}
 use Rattle.std.specs.Ordering.{is_lt}
 use Rattle.std.specs.declared.cmp.Ordering.{Ordering}
-use Rattle.std.specs.declared.cmp.Ordering.TheVariants.{Less, Equal, Greater}
+use Rattle.std.specs.declared.cmp.Ordering.TheVariants.{Less}
 use Rattle.std.proofs.lemmas.Bool.{and_from, and_parts, not-true}
+use Rattle.bx_tree.proofs.AncestorSearch.{less_from_is_lt}
 use Rattle.prints.specs.Lines.{rises}
-
-is_less : (o : Ordering) → is_lt o ≡ true → o ≡ Less
-is_less Less e = refl
-is_less Equal e = cc
-is_less Greater e = cc
 
 module _ {X K : Type 0} {R : K → K → Ordering} (order : IsTotalOrder R) (key : X → K) where
   all_above : (k l : K) (rest : List K) → R k l ≡ Less → AllByRecursion (λ q. R l q ≡ Less) rest → AllByRecursion (λ q. R k q ≡ Less) rest
@@ -25,7 +21,7 @@ module _ {X K : Type 0} {R : K → K → Ordering} (order : IsTotalOrder R) (key
   rising_sorted (x ∷ []) e = (tt, tt)
   rising_sorted (x ∷ y ∷ rest) e =
       let parts = and_parts (is_lt (R (key x) (key y))) (rises (λ a b. is_lt (R (key a) (key b))) (y ∷ rest)) e in
-      let less = is_less (R (key x) (key y)) parts.0 in
+      let less = less_from_is_lt (R (key x) (key y)) parts.0 in
       let more = rising_sorted (y ∷ rest) parts.1 in
       ((less, all_above (key x) (key y) (map key rest) less more.0), more)
 

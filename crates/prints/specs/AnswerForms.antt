@@ -5,10 +5,11 @@ use Rattle.std.proofs.Common.{◌∙◌}
 use Rattle.std.proofs.lemmas.Option.{same_Some}
 use Rattle.hex.specs.Hex.{encode_lower}
 use Rattle.observed.specs.Texts.{after_prefix}
+use Rattle.observed.proofs.ReadTexts.{prefix_sound}
 use Rattle.prints.specs.Forms.{Anything, IsForm}
 use Rattle.prints.specs.Parts.{named_digest}
 use Rattle.prints.specs.Reading.{◌>>=◌}
-use Rattle.prints.proofs.Combining.{bind_some, prefix_sound}
+use Rattle.prints.proofs.Combining.{bind_some}
 use Rattle.prints.proofs.PartForms.{Lacks, digest_again, digest_sound, hex_lacks, lacks_append, newline}
 use Rattle.prints.proofs.PartForms.{part_form}
 use Rattle.prints.specs.declared.strong_parts.AnswerLine.{AnswerLine}

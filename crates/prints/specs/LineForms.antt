@@ -10,14 +10,14 @@ use Rattle.std.proofs.lemmas.Option.{same_Some}
 use Rattle.bx_tree.specs.Paths.{Atoms, IsPath, path_text}
 use Rattle.bx_digest.specs.Digests.{IsDigest}
 use Rattle.observed.specs.Texts.{after_prefix, named_path}
-use Rattle.observed.proofs.ReadTexts.{path_sound, path_complete}
+use Rattle.observed.proofs.ReadTexts.{path_sound, path_complete, prefix_sound}
 use Rattle.pip_model_types.specs.declared.args.EnvPair.{EnvPair}
 use Rattle.pip_model_types.specs.declared.dir_inputs.SealForm.{SealForm}
 use Rattle.pip_model_types.specs.declared.dir_inputs.SealForm.TheVariants.{Full, Partial, SourceTop, SourceAll}
 use Rattle.pip_model_types.specs.declared.outputs.OutDir.{OutDir}
 use Rattle.prints.specs.Forms.{Anything, IsForm}
 use Rattle.prints.specs.Reading.{◌>>=◌}
-use Rattle.prints.proofs.Combining.{after_form, as_form, bind_some, pair_form, prefix_sound}
+use Rattle.prints.proofs.Combining.{after_form, as_form, bind_some, pair_form}
 use Rattle.prints.proofs.PartForms.{Lacks, IsSmall, counted_form, digest_form, lacks_append, newline}
 use Rattle.prints.proofs.PartForms.{number_form, part_form, path_form, path_lacks, space}
 use Rattle.prints.specs.declared.weak_reading.Head.{Head}

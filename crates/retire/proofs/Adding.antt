@@ -26,6 +26,7 @@ use Rattle.pip_view_inputs.specs.Plain.{desc_of, kind_process, process_in}
 use Rattle.pip_view_inputs.specs.Results.{inputs_of}
 use Rattle.violations.specs.Slots.{slot_files}
 use Rattle.pip_view.specs.Sees.{sees}
+use Rattle.pip_view.proofs.TakenDirs.{process_is}
 use Rattle.violations.specs.Verdicts.{is_success}
 use Rattle.violations.specs.declared.verdict.Verdict.{Verdict}
 use Rattle.violations.specs.declared.verdict.Violation.{Violation}
@@ -35,7 +36,6 @@ use Rattle.one_thread.specs.Views.{ended_result, slots_are_good}
 use Rattle.one_thread.proofs.GoingThrough.{IsSoFar, all_good, made_is}
 use Rattle.retire.specs.Compared.{desc_after, view_after}
 use Rattle.retire.specs.Runs.{IsOfSuccess, RunsAs, SucceedsAt}
-use Rattle.retire.proofs.SoFar.{process_there}
 use Rattle.retire.specs.Deciding as deciding
 use Rattle.retire.specs.Deciding.{DecidedBy, Decides}
 use Rattle.retire.specs.Taking.{IsOfNow, TakesFrom, save_if, outcome_in, record_in}
@@ -118,7 +118,7 @@ module _ (pips : List Pip) (tree : Files) (budget : ℕ) (n : ℕ) (vs : List Ve
 
   kind_at : (pip : Pip) → slice_get pips n ≡ Some pip → (d : Desc) (see : Ask → Answer) (r : RunsAs pips tree budget n d see) → pip.kind ≡ Process r.process
   kind_at pip at d see r =
-      let t = process_there (slice_get pips n) r.process r.is_process in
+      let t = process_is (slice_get pips n) r.process r.is_process in
       ap (λ (p : Pip). p.kind) (same_Some pip t.0 (sym at ∙ t.1)) ∙ t.2
 
   good_at : (d : Desc) (see : Ask → Answer) (r : RunsAs pips tree budget n d see) → slots_are_good pips (Process r.process) ss ≡ true

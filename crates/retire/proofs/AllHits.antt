@@ -21,6 +21,7 @@ use Rattle.retire.specs.HitSet.{HitsFrom, IsHitSet, PipHits}
 use Rattle.retire.specs.Compared.{desc_after, view_after}
 use Rattle.retire.specs.Runs.{AllUsable, results_before}
 use Rattle.retire.proofs.SoFar.{taken}
+use Rattle.retire.proofs.Records.{success_is}
 
 -- ## Results that are left
 
@@ -56,14 +57,6 @@ one_longer xs x i e = length-append xs (x ∷ []) ∙ ap (λ n. n + 1) e
 good_inputs : (b : Bool) (r : Result) → is_success (cond b r (failed verdicts.Skipped)).verdict ≡ true → b ≡ true
 good_inputs true r e = refl
 good_inputs false r e = absurd cc
-
-success_is : (v : Verdict) → is_success v ≡ true → v ≡ verdicts.Succeeded
-success_is verdicts.Succeeded e = refl
-success_is verdicts.Skipped e = absurd cc
-success_is (verdicts.Exit code) e = absurd cc
-success_is (verdicts.Tool end) e = absurd cc
-success_is (verdicts.MissingOutput path) e = absurd cc
-success_is (verdicts.Violated violation) e = absurd cc
 
 -- ## Hits
 

@@ -7,7 +7,7 @@ use Rattle.pip_model_types.specs.declared.desc.Desc.{Desc}
 use Rattle.pip_model_types.specs.declared.made.Slot.{Slot}
 use Rattle.pip_model_types.specs.declared.pip.Pip.{Pip}
 use Rattle.pip_model_types.specs.declared.pip.PipKind.{PipKind}
-use Rattle.pip_model_types.specs.declared.pip.PipKind.TheVariants.{Process, Copy, Write, Seal}
+use Rattle.pip_model_types.specs.declared.pip.PipKind.TheVariants.{Process}
 use Rattle.pip_model_types.specs.declared.pip.ProcessDesc.{ProcessDesc}
 use Rattle.observed.specs.declared.ask.Ask.{Ask}
 use Rattle.observed.specs.declared.access.Answer.{Answer}
@@ -17,6 +17,7 @@ use Rattle.pip_view_inputs.specs.Plain.{desc_of, kind_process, plain_in, process
 use Rattle.pip_view_inputs.specs.Results.{ByPip, inputs_of, kind_inputs}
 use Rattle.violations.specs.Slots.{slot_files}
 use Rattle.pip_view.specs.Sees.{sees}
+use Rattle.pip_view.proofs.TakenDirs.{kind_is}
 use Rattle.violations.specs.Verdicts.{is_success}
 use Rattle.violations.specs.declared.verdict.Verdict.TheVariants as verdicts
 use Rattle.one_thread.specs.OneThread.{by_outcome, failed, succeeded}
@@ -95,12 +96,6 @@ decide_plainly pips tree budget held ss i (Some pip) inputs next there good none
       record_is = kept;
     })
 
-process_kind : (kind : PipKind) (p : ProcessDesc) → kind_process kind ≡ Some p → kind ≡ Process p
-process_kind (Process d) p e = cc
-process_kind (Copy d) p e = absurd cc
-process_kind (Write d) p e = absurd cc
-process_kind (Seal d) p e = absurd cc
-
 pub decide_process : (pips : List Pip) (tree : Files) (budget : ℕ) (held : Option Holdings) (ss : List Slot) (i : ℕ) (o : Option Pip) (inputs : ByPip) (next : Next)
     → good_at pips o ss ≡ true → IsSome (process_in o) → inputs ≡ kind_inputs pips o (map slot_files ss)
     → IfSome (process_in o) (λ q. DecidedBy pips tree budget held (map slot_files ss) inputs i q next) → DecidesAt pips tree budget held ss i o next
@@ -111,7 +106,7 @@ decide_process pips tree budget held ss i (Some pip) inputs next good there same
         → IfSome x (λ q. DecidedBy pips tree budget held (map slot_files ss) inputs i q next) → DecidesAt pips tree budget held ss i (Some pip) next
     by_process None is some by = absurd cc
     by_process (Some p) is some by =
-        let kind : pip.kind ≡ Process p = process_kind pip.kind p is in
+        let kind : pip.kind ≡ Process p = kind_is pip.kind p is in
         let now : DecidedBy pips tree budget held (map slot_files ss) (inputs_of pips pip.kind (map slot_files ss)) i p next =
         subst (λ (m : ByPip). DecidedBy pips tree budget held (map slot_files ss) m i p next) same by in
         deciding.process p good kind

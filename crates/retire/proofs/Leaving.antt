@@ -3,6 +3,7 @@ use Rattle.std.proofs.Common.{◌≡◌, ◌⊎◌, ℕ, zero, suc, ◌+◌, Lis
 use Rattle.std.specs.Prelude.{slice_get}
 use Rattle.std.specs.List.{AllByRecursion}
 use Rattle.std.proofs.lemmas.Option.{same_Some}
+use Rattle.pip_view.proofs.TakenDirs.{process_is}
 use Rattle.bx_tree.specs.Trees.{Files}
 use Rattle.bx_tree.specs.Members.{Has}
 use Rattle.bx_tree.proofs.Members.{has_all}
@@ -27,7 +28,7 @@ use Rattle.two_phase_meaning.proofs.Stays.{at_one, usable_at}
 use Rattle.violations.specs.declared.verdict.Verdict.{Verdict}
 use Rattle.retire.specs.Compared.{Compared, desc_after, view_after}
 use Rattle.retire.specs.Runs.{IsOfSuccess, NoneReserved, RunsAs, results_before}
-use Rattle.retire.proofs.SoFar.{process_there, run_met, success_met}
+use Rattle.retire.proofs.SoFar.{run_met, success_met}
 use Rattle.retire.proofs.SuccessFits.{success_fits}
 use Rattle.retire.specs.Builds.{Between, IsFair, LeavesFair, LeavesUsable}
 use Rattle.retire.specs.Deciding.{FollowsAll, IsThere}
@@ -104,8 +105,8 @@ module _ (pips : List Pip) (tree : Files) (budget : ℕ) (before : StoreState) (
   -- what runs as one pip is one process on one view
   one_run : (i : ℕ) (d e : Desc) (see view : Ask → Answer) → RunsAs pips tree budget i d see → RunsAs pips tree budget i e view → (d ≡ e) × (see ≡ view)
   one_run i d e see view a b =
-      let s = process_there (slice_get pips i) a.process a.is_process in
-      let t = process_there (slice_get pips i) b.process b.is_process in
+      let s = process_is (slice_get pips i) a.process a.is_process in
+      let t = process_is (slice_get pips i) b.process b.is_process in
       let pip : s.0 ≡ t.0 = same_Some s.0 t.0 (sym s.1 ∙ t.1) in
       let kinds : Process a.process ≡ Process b.process = sym s.2 ∙ ap (λ (p : Pip). p.kind) pip ∙ t.2 in
       let same : a.process ≡ b.process = cc in (

@@ -21,7 +21,7 @@ use Rattle.retire.proofs.Along.{before_is}
 
 -- ## Verdicts
 
-success_is : (v : Verdict) → is_success v ≡ true → v ≡ verdicts.Succeeded
+pub success_is : (v : Verdict) → is_success v ≡ true → v ≡ verdicts.Succeeded
 success_is verdicts.Succeeded e = refl
 success_is verdicts.Skipped e = absurd cc
 success_is (verdicts.Exit code) e = absurd cc

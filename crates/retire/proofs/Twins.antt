@@ -6,6 +6,7 @@ use Rattle.std.specs.Option.{option_to_list}
 use Rattle.std.proofs.lemmas.Bool.{cases_Bool, cases_order, false≢true}
 use Rattle.std.proofs.lemmas.List.Elements.{All-contains}
 use Rattle.std.proofs.lemmas.Option.{same_Some, get_or_from_slice_get, slice_get_within}
+use Rattle.pip_view.proofs.TakenDirs.{process_is}
 use Rattle.bx_tree.specs.Orders.{same_path_decides}
 use Rattle.bx_tree.specs.Paths.{Atoms, IsBelow, same_path}
 use Rattle.bx_tree.specs.Trees.{Files, IsReserved, paths_of}
@@ -37,14 +38,16 @@ use Rattle.prints.specs.Weak.{weak_text}
 use Rattle.prints.specs.declared.weak_parts.WeakParts.{WeakParts}
 use Rattle.run_record.specs.Collisions.{NoCollision}
 use Rattle.run_record.specs.Digests.{IsReadBack, weak_of}
+use Rattle.run_record.proofs.Same.{one_list}
 use Rattle.pip_view_inputs.specs.Contents.{input_file}
 use Rattle.pip_view_inputs.specs.Plain.{desc_of}
 use Rattle.pip_view_inputs.specs.Results.{ByPip}
+use Rattle.pip_view_inputs.proofs.TakenFiles.{paths_taken}
 use Rattle.one_thread.proofs.Meeting.{declares, kept_below, made_below}
 use Rattle.two_phase_meaning.specs.Compared as met
 use Rattle.retire.specs.Compared.{Compared, inputs_after}
 use Rattle.retire.specs.Runs.{RunsAs, results_before}
-use Rattle.retire.proofs.SoFar.{process_there, run_met}
+use Rattle.retire.proofs.SoFar.{run_met}
 use Rattle.bx_tree.specs.FileInputs.{input_path}
 use Rattle.bx_tree.specs.Members.{Has}
 use Rattle.bx_tree.proofs.Sets.{contains_has, has_contained}
@@ -65,19 +68,6 @@ some_there P None h = absurd h
 some_there P (Some x) h = (x, refl, h)
 
 -- ## What a weak text says of files and directories
-
-same_paths : (ps qs : List Atoms) → map Source ps ≡ map Source qs → ps ≡ qs
-same_paths [] [] e = refl
-same_paths [] (q ∷ qs) e = absurd cc
-same_paths (p ∷ ps) [] e = absurd cc
-same_paths (p ∷ ps) (q ∷ qs) e =
-    let first : p ≡ q = cc in
-    let rest : map Source ps ≡ map Source qs = cc in
-    ap (λ x. x ∷ ps) first ∙ ap (λ xs. q ∷ xs) (same_paths ps qs rest)
-
-input_paths : (tree : Files) (made : ByPip) (fs : List FileInput) → paths_of (map (input_file tree made) fs) ≡ map input_path fs
-input_paths tree made [] = refl
-input_paths tree made (f ∷ fs) = ap (λ ps. input_path f ∷ ps) (input_paths tree made fs)
 
 same_dir : (k : ℕ) (d e : DirInput) → with_pip k d ≡ with_pip k e → without_pip d ≡ without_pip e
 same_dir k (Sealed a form root) (Sealed b other at) e =
@@ -208,10 +198,10 @@ module _ (pips : List Pip) (tree : Files) (list : IsPipList pips) (keeps : Keeps
       let console : p.console ≡ q.console = ap (λ (x : WeakParts). x.process.console) w in
       let dirs : map without_pip p.dirs ≡ map without_pip q.dirs = same_dirs 0 p.dirs q.dirs (ap (λ (x : WeakParts). x.process.dirs) w) in
       let paths : paths_of (map (input_file tree made) p.files) ≡ paths_of (map (input_file tree others) q.files) =
-      same_paths (paths_of (map (input_file tree made) p.files)) (paths_of (map (input_file tree others) q.files)) (ap (λ (x : WeakParts). x.process.files) w) in
+      one_list (paths_of (map (input_file tree made) p.files)) (paths_of (map (input_file tree others) q.files)) (ap (λ (x : WeakParts). x.process.files) w) in
       let files : p.files ≡ q.files =
       same_inputs p.files q.files (known i a p at_i is_p) (known j b q at_j is_q)
-      (sym (input_paths tree made p.files) ∙ paths ∙ input_paths tree others q.files) in
+      (sym (paths_taken tree made p.files) ∙ paths ∙ paths_taken tree others q.files) in
       cc
 
   described : (i : ℕ) (a : Pip) (p : ProcessDesc) → slice_get pips i ≡ Some a → a.kind ≡ Process p → outputs.PipHas descriptions pips i (description p)
@@ -235,8 +225,8 @@ module _ (pips : List Pip) (tree : Files) (list : IsPipList pips) (keeps : Keeps
   pub one_process : (budget : ℕ) (S : Holdings) (i j : ℕ) (d e : Desc) (see view : Ask → Answer) → NoCollision (Compared pips tree budget S)
       → RunsAs pips tree budget i d see → RunsAs pips tree budget j e view → IsReadBack d → IsReadBack e → weak_of d ≡ weak_of e → i ≡ j
   one_process budget S i j d e see view apart runs others read_d read_e same =
-      let a = process_there (slice_get pips i) runs.process runs.is_process in
-      let b = process_there (slice_get pips j) others.process others.is_process in
+      let a = process_is (slice_get pips i) runs.process runs.is_process in
+      let b = process_is (slice_get pips j) others.process others.is_process in
       let text : weak_text (weak_parts d) ≡ weak_text (weak_parts e) =
       apart (weak_text (weak_parts d)) (weak_text (weak_parts e))
       (run_met pips tree budget S (weak_text (weak_parts d)) i d see runs (met.weak refl))

@@ -14,7 +14,7 @@ use Rattle.run_record.proofs.Digest.{is_digest}
 
 -- ## Lines
 
-is_line : (answer : Answer) → IsAnswerLine (line_of answer)
+pub is_line : (answer : Answer) → IsAnswerLine (line_of answer)
 is_line answers.Absent = tt
 is_line (answers.Content bytes) = is_digest bytes
 is_line answers.File = tt

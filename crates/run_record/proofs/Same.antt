@@ -29,7 +29,7 @@ use Rattle.pip_model_types.specs.Outputs.{outdir_paths}
 
 -- ## Processes
 
-one_list : (ps qs : List Atoms) → map Source ps ≡ map Source qs → ps ≡ qs
+pub one_list : (ps qs : List Atoms) → map Source ps ≡ map Source qs → ps ≡ qs
 one_list [] [] e = refl
 one_list [] (q ∷ qs) e = absurd cc
 one_list (p ∷ ps) [] e = absurd cc

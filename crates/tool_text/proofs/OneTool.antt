@@ -9,13 +9,14 @@ use Rattle.std.proofs.lemmas.Bool.Decides.{Decides-ltb, nat_tests}
 use Rattle.std.proofs.lemmas.List.{append-nil}
 use Rattle.std.proofs.lemmas.Slice.Eq.{bytes_eq-Decides}
 use Rattle.std.proofs.lemmas.Option.{same_Some}
+use Rattle.bx_tree.proofs.Options.{if_some}
 use Rattle.tool_text.specs.declared.tool.Instr.{Instr}
 use Rattle.tool_text.specs.declared.tool.Instr.TheVariants as instrs
 use Rattle.tool_text.specs.declared.fault.ToolFault.{ToolFault}
 use Rattle.tool_text.specs.declared.fault.ToolFault.TheVariants.{BadTool}
 use Rattle.tool_text.specs.Grammar.{AreBlanks, AreDistinct, AreLines, AreOperands, IsInstr, IsLabel, IsLine, IsStart, IsTool, Labels, first_line, is_lower, says, word_of}
 use Rattle.tool_text.specs.Reading.{ReadsTool, op_of, after_byte, after_label, are_distinct, before_byte, instr_in, instr_of, is_label, is_label_byte, is_labelled, label_of, line_of, lines_of, operand_texts, place_of, skip_blanks, tool_from, tool_in, tool_of, with_line}
-use Rattle.tool_text.proofs.Values.{equal_numbers, if_some}
+use Rattle.tool_text.proofs.Values.{equal_numbers}
 use Rattle.tool_text.proofs.Places.{are_labels, distinct_complete, distinct_sound, label_complete, label_sound}
 use Rattle.tool_text.proofs.Commas.{separated_complete, separated_sound}
 use Rattle.tool_text.proofs.Wording.{HasLabels, are_parts, instr_complete, instr_sound, op_in, op_read, then_some, word_sound}

@@ -8,6 +8,7 @@ use Rattle.std.proofs.lemmas.Bool.{and_from, and_parts, cases_Bool, false≢true
 use Rattle.std.proofs.lemmas.Bool.Decides.{Decides-eqb, Decides-ltb, nat_tests}
 use Rattle.std.proofs.lemmas.Option.{same_Some}
 use Rattle.bx_tree.proofs.Lists.{all_true, true_all}
+use Rattle.bx_tree.proofs.Options.{if_some}
 use Rattle.tool_text.specs.declared.limits.TheConstants.{REGISTERS, MAX_EXIT}
 use Rattle.tool_text.specs.declared.tool.Operand.{Operand}
 use Rattle.tool_text.specs.declared.tool.Operand.TheVariants.{Register, Constant}
@@ -16,10 +17,6 @@ use Rattle.tool_text.specs.Reading.{after_bytes, code_of, escape_of, is_digits, 
 use Rattle.tool_text.proofs.Strings.{one_escape, one_plain}
 
 -- ## Options
-
-pub if_some : {X : Type 0} (b : Bool) (o : Option X) (x : X) → cond b o None ≡ Some x → (b ≡ true) × (o ≡ Some x)
-if_some true o x e = (refl, e)
-if_some false o x e = cc
 
 pub map_some : {X Y : Type 0} (f : X → Y) (o : Option X) (y : Y) → option_map f o ≡ Some y → (x : X) × (o ≡ Some x) × (f x ≡ y)
 map_some f None y e = cc

@@ -18,6 +18,7 @@ use Rattle.memo_format.specs.declared.entry.OutputLine.{OutputLine}
 use Rattle.memo_format.specs.declared.selector.Selector.{Selector}
 use Rattle.content_store.specs.Contents.{Fetches, IsContent}
 use Rattle.content_store.specs.HeldEntries.{FetchesEntry, IsHeld}
+use Rattle.content_store.proofs.HeldEntries.{none_and_some}
 use Rattle.content_store.specs.declared.content.Fetched.TheVariants as fetched
 use Rattle.content_store.specs.declared.entries.FetchedEntry.TheVariants as fetched_entries
 use Rattle.two_phase_meaning.specs.Contents.{HoldsPaths}
@@ -26,9 +27,6 @@ use Rattle.run_record.specs.Digests.{weak_of}
 use Rattle.two_phase_meaning.specs.Usable.{fits}
 use Rattle.two_phase.specs.Putting.{IsListAt}
 use Rattle.two_phase.specs.Finding.{AddsTo, FindsOne, IsEntryFor, PutsIn}
-
-none_and_some : {X : Type 0} (o : Option X) (x : X) → o ≡ None → o ≡ Some x → ⊥
-none_and_some o x h k = let never : None ≡ Some x = sym h ∙ k in cc
 
 -- ## One thing is held under a name
 

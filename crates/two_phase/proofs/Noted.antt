@@ -4,9 +4,8 @@ use Rattle.std.proofs.lemmas.Bool.{cases_Bool, cond-true, cond-false}
 use Rattle.std.proofs.lemmas.Cmp.{nat_list_cmp_total}
 use Rattle.std.proofs.lemmas.Slice.Eq.{bytes_eq-Decides}
 use Rattle.std.specs.BTreeMap.{BTreeMap, UpdatesBy, get_by}
-use Rattle.std.specs.Cmp.{Equal-is}
 use Rattle.std.specs.Cmp.Lexicographic.{slice_cmp}
-use Rattle.std.specs.FinMap.{get, insert, get-insert, same_map, slice_cmp-IsAntisymmetric, nat_cmp-IsAntisymmetric}
+use Rattle.std.specs.FinMap.{get, insert, get-insert}
 use Rattle.std.specs.Map.{lookup}
 use Rattle.std.specs.Ordering.{eq_by_cmp, is_eq, nat_cmp}
 use Rattle.std.specs.Prelude.{OnErr, OnOk}
@@ -15,14 +14,16 @@ use Rattle.std.specs.declared.alloc.Global.{Global}
 use Rattle.std.specs.declared.vec.Vec.{Vec}
 use Rattle.std.proofs.lemmas.Option.{same_Some}
 use Rattle.bx_tree.proofs.TextTables.{text_put}
+use Rattle.bx_tree.proofs.Lists.{texts_differ}
 use Rattle.sha2.specs.Sha256.{sha256}
 use Rattle.bx_io.specs.Holdings.{Holdings, Put, StoreState, known_after}
 use Rattle.bx_io.specs.declared.keeper.PutFault.{PutFault}
+use Rattle.bx_io.proofs.Mapped.{same_holdings}
 use Rattle.memo_format.specs.StoreNames.{HoldsBlob, at_blob, at_entry, at_list}
 use Rattle.content_store.specs.Contents.{IsContent, blob_put}
 use Rattle.run_record.proofs.Digest.{is_digest}
 use Rattle.two_phase_meaning.proofs.Digests.{blob_no_entry, blob_no_list, same_blob_name}
-use Rattle.two_phase_meaning.proofs.Puts.{still_there, there_now}
+use Rattle.two_phase_meaning.proofs.Puts.{still_there, there_now, same_name}
 use Rattle.two_phase.specs.Applying.{Applies, IsNoOp}
 use Rattle.two_phase.specs.Held.{AreHeld, Tracks, noted_at}
 use Rattle.two_phase.specs.declared.held.HeldContents.{HeldContents}
@@ -35,12 +36,6 @@ same_or_other a b = elim (cases_Bool (bytes_eq a b)) [
   | inr f ↦ inr (λ same. let both : bytes_eq a b ≡ true = (bytes_eq-Decides a b).1 same in absurd cc)
 ]
 
-not_equal : (a b : List ℕ) → (a ≡ b → ⊥) → bytes_eq a b ≡ false
-not_equal a b other = elim (cases_Bool (bytes_eq a b)) [
-  | inl t ↦ absurd (other ((bytes_eq-Decides a b).0 t))
-  | inr f ↦ f
-]
-
 abbrev Updated : List ℕ → HeldContents → HeldContents → Option (List ℕ) → Type 0
 Updated key old new value =
     UpdatesBy (λ a b. slice_cmp nat_cmp a.items b.items) (λ k. slice_cmp nat_cmp key k.items) old.contents new.contents value
@@ -48,7 +43,7 @@ Updated key old new value =
 other_noted : (key : List ℕ) (old new : HeldContents) (value : Option (List ℕ)) → Updated key old new value → (q : List ℕ) → (key ≡ q → ⊥)
     → noted_at new q ≡ noted_at old q
 other_noted key old new value h q other =
-    text_put key old.contents new.contents value h q ∙ cond-false (bytes_eq key q) value (noted_at old q) (not_equal key q other)
+    text_put key old.contents new.contents value h q ∙ cond-false (bytes_eq key q) value (noted_at old q) (texts_differ key q other)
 
 pub forgotten : (digest key : List ℕ) (old new : HeldContents) → key ≡ digest → Updated key old new None → (content : List ℕ) → Tracks old new digest content
 forgotten digest key old new is h content = record {
@@ -83,12 +78,6 @@ noted_or_none digest content old between new (Err e) first next same = record {
 }
 
 -- ## What is held
-
-same_holdings : (S T : Holdings) → ((q : List ℕ) → get S q ≡ get T q) → S ≡ T
-same_holdings = same_map nat_list_cmp_total (slice_cmp-IsAntisymmetric nat_cmp-IsAntisymmetric)
-
-same_name : (q name : List ℕ) → eq_by_cmp (slice_cmp nat_cmp) q name ≡ true → q ≡ name
-same_name q name e = slice_cmp-IsAntisymmetric nat_cmp-IsAntisymmetric q name ((Equal-is (slice_cmp nat_cmp q name)).0 e)
 
 held_there : (b : Bool) (S : Holdings) (name bytes q : List ℕ) → eq_by_cmp (slice_cmp nat_cmp) q name ≡ b → get S name ≡ Some bytes
     → cond b (Some bytes) (get S q) ≡ get S q

@@ -4,15 +4,13 @@ use Rattle.std.proofs.Math.Seq.{drop-cons}
 use Rattle.std.specs.BTreeMap.{insert_entry}
 use Rattle.std.specs.List.{AllByRecursion}
 use Rattle.std.specs.List.Sorted.{IsStrictlySortedBy}
-use Rattle.std.specs.Ordering.{match_ordering, ordering_reverse}
-use Rattle.std.specs.declared.cmp.Ordering.{Ordering}
-use Rattle.std.specs.declared.cmp.Ordering.TheVariants.{Less, Greater}
+use Rattle.std.specs.Ordering.{match_ordering}
+use Rattle.std.specs.declared.cmp.Ordering.TheVariants.{Less}
 use Rattle.std.proofs.lemmas.Bool.{or_cases}
 use Rattle.sha2.specs.Sha256.{sha256}
 use Rattle.bx_io.specs.Holdings.{Holdings}
 use Rattle.bx_tree.specs.Paths.{Atoms, IsBelow, path_cmp}
 use Rattle.bx_tree.specs.Trees.{Files, NoneNested, paths_of}
-use Rattle.bx_tree.specs.Orders.{path_cmp_total}
 use Rattle.bx_tree.specs.Members.{Has}
 use Rattle.bx_tree.proofs.Sets.{contains_has}
 use Rattle.pip_model_types.specs.Made.{RisingFiles}
@@ -21,12 +19,14 @@ use Rattle.tool_run_writes.specs.Writes.{clashes, put_file}
 use Rattle.bx_tree.proofs.BelowPaths.{below_decides}
 use Rattle.bx_tree.proofs.Lists.{all_append}
 use Rattle.tool_run_writes.proofs.Unnested.{none_unnested, put_unnested}
+use Rattle.tool_run_writes.proofs.PutInOrder.{greater}
 use Rattle.memo_format.specs.Entries.{OutputsRise, output_paths}
 use Rattle.memo_format.specs.Found.{output_lines}
 use Rattle.memo_format.specs.declared.entry.OutputLine.{OutputLine}
 use Rattle.content_store.specs.Contents.{IsContent}
 use Rattle.run_record.specs.Collisions.{contents_of}
 use Rattle.two_phase_meaning.specs.Contents.{HoldsAll}
+use Rattle.two_phase_meaning.proofs.FilesFit.{paths_lines}
 use Rattle.two_phase.specs.Finding.{AddsTo, AreOutputs, FindsOne}
 
 abbrev pub line_for : Atoms → List ℕ → OutputLine
@@ -49,12 +49,6 @@ gathered_none None outputs = record { done = refl; are_held = tt; unnested = non
 gathered_none (Some S) outputs = record { done = refl; are_held = tt; unnested = none_unnested }
 
 -- ## One more
-
-greater : (a b : Atoms) → path_cmp a b ≡ Less → path_cmp b a ≡ Greater
-greater a b less = turned (path_cmp b a) (path_cmp a b) (path_cmp_total.antisymm b a) less
-  where
-    turned : (o p : Ordering) → o ≡ ordering_reverse p → p ≡ Less → o ≡ Greater
-    turned o p e less = e ∙ ap ordering_reverse less
 
 less_at : (path : Atoms) (before rest : List OutputLine) (o : OutputLine)
     → AllByRecursion (λ q. path_cmp path q ≡ Less) (output_paths (before ++ o ∷ rest)) → path_cmp path o.path ≡ Less
@@ -113,12 +107,8 @@ gathered_more held outputs rest o files now path bytes rise g found digest path_
 
 -- ## The end
 
-pub paths-lines : (files : Files) → output_paths (output_lines files) ≡ paths_of files
-paths-lines [] = refl
-paths-lines (f ∷ fs) = ap (λ ps. f.0 ∷ ps) (paths-lines fs)
-
 pub lines_rise : (files : Files) (outputs : List OutputLine) → outputs ≡ output_lines files → RisingFiles files → OutputsRise outputs
-lines_rise files outputs is rising = subst (IsStrictlySortedBy path_cmp) (sym (ap output_paths is ∙ paths-lines files)) rising
+lines_rise files outputs is rising = subst (IsStrictlySortedBy path_cmp) (sym (ap output_paths is ∙ paths_lines files)) rising
 
 pub gathered_all : (held : Option Holdings) (outputs : List OutputLine) (files : Files) → Gathered held outputs [] files → output_lines files ≡ outputs
 gathered_all held outputs files g = sym (append-nil (output_lines files)) ∙ g.done
@@ -131,7 +121,7 @@ gathered_end (Some S) outputs files g =
     record {
       outputs_are = all;
       held = g.are_held;
-      unnested = subst NoneNested (sym (paths-lines files) ∙ ap output_paths all) g.unnested;
+      unnested = subst NoneNested (sym (paths_lines files) ∙ ap output_paths all) g.unnested;
     }
 
 -- ## What is not held, or clashes

@@ -1,5 +1,5 @@
 -- Puts of records that are made one after another, up to some place.
-use Rattle.std.proofs.Common.{◌≡◌, ℕ, zero, suc, ◌≤◌, arith, append_assoc, List, [], ◌∷◌, ◌++◌, map, take, length, Option, Some, None, Result, Ok, Err, refl, sym, ap, ◌∙◌, subst, inl, inr}
+use Rattle.std.proofs.Common.{◌≡◌, ℕ, ◌≤◌, append_assoc, List, [], ◌∷◌, ◌++◌, map, length, Option, Some, None, Result, Ok, Err, refl, sym, ap, ◌∙◌, subst, inl, inr}
 use Rattle.std.specs.Prelude.{OnOk, filter, not}
 use Rattle.sha2.specs.Sha256.{sha256}
 use Rattle.observed.specs.Texts.{paths_text}
@@ -17,6 +17,7 @@ use Rattle.run_record.specs.Collisions.{NoCollision}
 use Rattle.run_record.specs.Digests.{weak_of}
 use Rattle.two_phase_meaning.proofs.Puts as saving
 use Rattle.two_phase_meaning.specs.Saving.{ComparedInSave, IsGood, list_at, record_selector, same_selector, with_first}
+use Rattle.two_phase_meaning.proofs.Again.{few_taken}
 use Rattle.two_phase.specs.Applying.{AppliesAll, AppliesPrefix}
 use Rattle.two_phase.specs.Putting.{IsListAt, IsNextList, IsWritten, LeavesHonest, PutsAll, PutsUpTo, all_puts, planned, written_selector}
 use Rattle.two_phase.specs.declared.recording.Written.{Written}
@@ -94,11 +95,6 @@ pub record_cut : (before between now : Option StoreState) (f : Facts) (w : Writt
 record_cut before between now f w text same h next made =
     put_up_to before now f w next.old text (subst (λ d. IsListAt before d next.old) h.weak_digest next.old_is) h (plan_is f w next.old text h next.text_is)
     (subst (λ (k : Option StoreState). AppliesPrefix k now (all_puts w text)) same made)
-
-few_taken : {X : Type 0} (n : ℕ) (xs : List X) → length (take n xs) ≤ n
-few_taken zero xs = omega arith
-few_taken (suc n) [] = omega arith
-few_taken (suc n) (x ∷ xs) = let rest = few_taken n xs in omega (arith, rest)
 
 pub list_few : (s : Selector) (old list : List Selector) → list ≡ with_first s old → length list ≤ MAX_SELECTORS
 list_few s old list is =

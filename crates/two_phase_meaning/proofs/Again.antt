@@ -53,7 +53,7 @@ list_selectors : (o : Option (List ℕ)) → AllByRecursion IsSelector (selector
 list_selectors None = tt
 list_selectors (Some text) = held_selectors (read_selectors_text text) (λ l e. (selectors_sound text l e).0)
 
-few_taken : {X : Type 0} (n : ℕ) (xs : List X) → length (take n xs) ≤ n
+pub few_taken : {X : Type 0} (n : ℕ) (xs : List X) → length (take n xs) ≤ n
 few_taken zero xs = omega arith
 few_taken (suc n) [] = omega arith
 few_taken (suc n) (x ∷ xs) = let rest = few_taken n xs in omega (arith, rest)

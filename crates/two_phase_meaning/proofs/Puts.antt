@@ -35,7 +35,7 @@ use Rattle.two_phase_meaning.proofs.Same.{all_map, lines_are}
 
 -- ## What is held after a put
 
-same_name : (q name : List ℕ) → eq_by_cmp (slice_cmp nat_cmp) q name ≡ true → q ≡ name
+pub same_name : (q name : List ℕ) → eq_by_cmp (slice_cmp nat_cmp) q name ≡ true → q ≡ name
 same_name q name e = slice_cmp-IsAntisymmetric nat_cmp-IsAntisymmetric q name ((Equal-is (slice_cmp nat_cmp q name)).0 e)
 
 chosen : (b : Bool) (new old found : Option (List ℕ)) → cond b new old ≡ found → ((b ≡ true) × (new ≡ found)) ⊎ ((b ≡ false) × (old ≡ found))

@@ -17,8 +17,8 @@ use Rattle.prints.specs.Strong.{IsAnswerLine, line_of}
 use Rattle.prints.specs.declared.weak_parts.WeakParts.{WeakParts}
 use Rattle.memo_format.specs.Found.{output_lines}
 use Rattle.memo_format.specs.declared.entry.OutputLine.{OutputLine}
-use Rattle.run_record.proofs.Digest.{is_digest}
 use Rattle.run_record.specs.Collisions.{NoCollision, contents_of}
+use Rattle.run_record.proofs.AnswerLines.{is_line}
 use Rattle.two_phase_meaning.specs.Contents.{answer_contents, desc_contents, given_contents}
 use Rattle.pip_model_types.specs.Outputs.{outdir_paths}
 
@@ -33,17 +33,9 @@ same_pair (a, b) (c, d) e f = cc
 
 -- ## Lines of strong texts are of digests
 
-line_is : (a : Answer) → IsAnswerLine (line_of a)
-line_is answers.Absent = tt
-line_is (answers.Content bytes) = is_digest bytes
-line_is answers.File = tt
-line_is answers.Directory = tt
-line_is (answers.Names names) = is_digest names
-line_is answers.Denied = tt
-
 pub lines_are : (given : List Answer) → AllByRecursion IsAnswerLine (map line_of given)
 lines_are [] = tt
-lines_are (a ∷ rest) = (line_is a, lines_are rest)
+lines_are (a ∷ rest) = (is_line a, lines_are rest)
 
 -- ## What is met
 
