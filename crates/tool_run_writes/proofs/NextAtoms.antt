@@ -7,6 +7,7 @@ use Rattle.std.proofs.lemmas.List.{append-nil, map_push}
 use Rattle.bx_tree.specs.Paths.{Atoms}
 use Rattle.bx_tree.specs.Trees.{Files}
 use Rattle.bx_tree.specs.Below.{is_below, next_atom}
+use Rattle.bx_tree.proofs.AtomsBelow.{none_next}
 use Rattle.tool_run_writes.specs.Writes.{has_below, own_names}
 use Rattle.bx_tree.specs.Lent.{texts_now}
 
