@@ -9,7 +9,7 @@ use Rattle.prints.specs.declared.fault.PrintFault.TheVariants as faults
 use Rattle.prints.specs.Forms.{Anything, IsForm}
 use Rattle.prints.specs.Lines.{some_lines, lines_at}
 use Rattle.prints.specs.Reading.{Taken, Takes, TakesItems, ◌>>=◌}
-use Rattle.prints.proofs.Combining.{bind_some}
+use Rattle.prints.specs.Combining.{bind_some}
 
 -- the lines that were read before those that are still read
 abbrev pub with_prefix : {X : Type 0} → List X → Taken (List X) → Taken (List X)

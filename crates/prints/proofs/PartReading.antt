@@ -17,7 +17,7 @@ use Rattle.bx_tree.specs.Headers.{HasNo, IsSplitOnce}
 use Rattle.bx_digest.specs.Digests.{IsDigest, IsHexText}
 use Rattle.bx_digest.proofs.HexTexts.{hex_text_of_digest}
 use Rattle.prints.specs.Parts.{named_digest, named_number, odd_start, part_at}
-use Rattle.prints.proofs.PartForms.{Lacks, digest_again, digest_sound, number_sound, no_part, part_again}
+use Rattle.prints.specs.PartForms.{Lacks, digest_again, digest_sound, number_sound, no_part, part_again}
 
 -- ## Cuts
 

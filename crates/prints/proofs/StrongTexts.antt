@@ -1,9 +1,9 @@
 -- What a strong text is read as.
 use Rattle.std.proofs.Common.{◌≡◌, ◌↔◌, ℕ, false, List, codes, Some, None, Result, Ok, Err, IfOk, refl, sym, ap, subst, ◌∙◌}
 use Rattle.prints.specs.Forms.{IsForm}
-use Rattle.prints.proofs.Combining.{after_form, as_form, pair_form, whole_again, whole_read}
+use Rattle.prints.specs.Combining.{after_form, as_form, pair_form, whole_again, whole_read}
 use Rattle.prints.proofs.LineLists.{lines_form}
-use Rattle.prints.proofs.PartForms.{digest_form, newline}
+use Rattle.prints.specs.PartForms.{digest_form, newline}
 use Rattle.prints.specs.Reading.{Gives}
 use Rattle.prints.specs.declared.fault.PrintFault.{PrintFault}
 use Rattle.prints.specs.declared.fault.PrintFault.TheVariants as faults

@@ -25,7 +25,7 @@ use Rattle.pip_model_types.specs.declared.outputs.OutDir.{OutDir}
 use Rattle.prints.specs.Forms.{IsForm}
 use Rattle.prints.specs.Lines.{begins, rises}
 use Rattle.prints.specs.Reading.{Gives, both_at}
-use Rattle.prints.proofs.Combining.{after_form, as_form, both_form, form_of, only_form, pair_form, whole_again, whole_read}
+use Rattle.prints.specs.Combining.{after_form, as_form, both_form, form_of, only_form, pair_form, whole_again, whole_read}
 use Rattle.prints.proofs.LineLists.{lines_form}
 use Rattle.prints.proofs.Rising.{rising_sorted, rising_sorted_by, sorted_by_rising, sorted_rising}
 use Rattle.prints.specs.declared.fault.PrintFault.{PrintFault}

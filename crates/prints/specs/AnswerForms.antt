@@ -9,9 +9,9 @@ use Rattle.observed.proofs.ReadTexts.{prefix_sound}
 use Rattle.prints.specs.Forms.{Anything, IsForm}
 use Rattle.prints.specs.Parts.{named_digest}
 use Rattle.prints.specs.Reading.{◌>>=◌}
-use Rattle.prints.proofs.Combining.{bind_some}
-use Rattle.prints.proofs.PartForms.{Lacks, digest_again, digest_sound, hex_lacks, lacks_append, newline}
-use Rattle.prints.proofs.PartForms.{part_form}
+use Rattle.prints.specs.Combining.{bind_some}
+use Rattle.prints.specs.PartForms.{Lacks, digest_again, digest_sound, hex_lacks, lacks_append, newline}
+use Rattle.prints.specs.PartForms.{part_form}
 use Rattle.prints.specs.declared.strong_parts.AnswerLine.{AnswerLine}
 use Rattle.prints.specs.declared.strong_parts.AnswerLine.TheVariants as lines
 use Rattle.prints.specs.Strong.{IsAnswerLine, answer_at, answer_line, answer_words, has_more, named_answer}

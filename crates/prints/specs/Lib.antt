@@ -2,6 +2,8 @@ pub mod Processes
 pub mod Weak
 pub mod ReadWeak
 pub mod Strong
+pub mod Combining
+pub mod PartForms
 pub mod LineForms
 pub mod AnswerForms
 pub mod Reading

@@ -17,9 +17,9 @@ use Rattle.pip_model_types.specs.declared.dir_inputs.SealForm.TheVariants.{Full,
 use Rattle.pip_model_types.specs.declared.outputs.OutDir.{OutDir}
 use Rattle.prints.specs.Forms.{Anything, IsForm}
 use Rattle.prints.specs.Reading.{◌>>=◌}
-use Rattle.prints.proofs.Combining.{after_form, as_form, bind_some, pair_form}
-use Rattle.prints.proofs.PartForms.{Lacks, IsSmall, counted_form, digest_form, lacks_append, newline}
-use Rattle.prints.proofs.PartForms.{number_form, part_form, path_form, path_lacks, space}
+use Rattle.prints.specs.Combining.{after_form, as_form, bind_some, pair_form}
+use Rattle.prints.specs.PartForms.{Lacks, IsSmall, counted_form, digest_form, lacks_append, newline}
+use Rattle.prints.specs.PartForms.{number_form, part_form, path_form, path_lacks, space}
 use Rattle.prints.specs.declared.weak_reading.Head.{Head}
 use Rattle.prints.specs.declared.weak_lines.DirLine.{DirLine}
 use Rattle.prints.specs.declared.weak_lines.FileLine.{FileLine}

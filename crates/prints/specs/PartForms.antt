@@ -21,7 +21,7 @@ use Rattle.observed.proofs.ReadTexts.{path_sound, path_complete, prefix_sound, p
 use Rattle.prints.specs.Forms.{Anything, IsForm}
 use Rattle.prints.specs.Parts.{bytes_at, counted_at, counted_part, digest_at, digest_part, if_written, named_digest, named_number, number_at, number_part, part_at, path_at, path_part, with_first}
 use Rattle.prints.specs.Reading.{Taken, ◌>>=◌}
-use Rattle.prints.proofs.Combining.{bind_some}
+use Rattle.prints.specs.Combining.{bind_some}
 
 -- ## Bytes that end a part
 
