@@ -61,11 +61,11 @@ no_clash_between before made dirs files j pip theirs p q e at there h k =
     none_passes (is_clash p) (shared_paths (outdirs_of pip.kind) theirs) q
     (no_clash_at p 0 before made j pip theirs (no_first_clash (shared_paths dirs files) before made p e h) at there) k
 
-below_clashes : (p q : Atoms) (a : Bool) → is_below p q ≡ true → (a || is_below p q || is_below q p) ≡ true
+below_clashes : (p q : Atoms) (a : Bool) → is_below p q ≡ true → (a || (is_below p q || is_below q p)) ≡ true
 below_clashes p q true e = refl
 below_clashes p q false e = ap (λ b. b || is_below q p) e
 
-above_clashes : (p q : Atoms) (a b : Bool) → is_below q p ≡ true → (a || b || is_below q p) ≡ true
+above_clashes : (p q : Atoms) (a b : Bool) → is_below q p ≡ true → (a || (b || is_below q p)) ≡ true
 above_clashes p q true b e = refl
 above_clashes p q false true e = refl
 above_clashes p q false false e = e

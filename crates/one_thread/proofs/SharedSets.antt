@@ -124,7 +124,12 @@ clash_is files dirs paths path above h e =
     ∙ regroup (list_any (same_path path) paths) (list_any (λ p. is_below p path) paths) (list_any (λ p. is_below path p) paths)
     ∙ ap (λ t. t || list_any (λ p. is_below p path) paths) (sym (any_either (same_path path) (λ p. is_below path p) paths))
     ∙ sym (any_either (λ p. same_path path p || is_below path p) (λ p. is_below p path) paths)
+    ∙ any_alike (λ p. (same_path path p || is_below path p) || is_below p path) (is_clash path) paths
+    (λ p. grouped (same_path path p) (is_below path p) (is_below p path))
   where
+    grouped : (a b c : Bool) → ((a || b) || c) ≡ (a || (b || c))
+    grouped true b c = refl
+    grouped false b c = refl
     regroup : (a b c : Bool) → ((a || b) || c) ≡ ((a || c) || b)
     regroup true b c = refl
     regroup false true true = refl
