@@ -130,6 +130,7 @@ clash_is files dirs paths path above h e =
     grouped : (a b c : Bool) → ((a || b) || c) ≡ (a || (b || c))
     grouped true b c = refl
     grouped false b c = refl
+
     regroup : (a b c : Bool) → ((a || b) || c) ≡ ((a || c) || b)
     regroup true b c = refl
     regroup false true true = refl
