@@ -41,7 +41,7 @@ change_of before now bound faults_before faults_now = record {
 
 -- ## Over any store
 
--- Each process that runs is run by the thread that goes through the pips, and that is the only one. Where the
+-- Each process that runs is run by the one thread, which executes pips sequentially. Where the
 -- keeper has a bound, at most as many faults are counted as its count rose by and its reader may count; where
 -- no fault is counted, the store's count did not rise; and where the store is not used, no hit and no fault
 -- is counted.

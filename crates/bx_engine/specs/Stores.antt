@@ -18,8 +18,8 @@ uses_store (Build workers cached eval_budget tool_budget) = cached
 
 -- ## What is asked of the store
 
--- Where the store is used and the input asks for a build, the store is known and honest, and no two different
--- ones of what is met in the build share a digest. Nothing is asked where the store is not used.
+-- Where the store is used and the input asks for a build, the store is known and honest, and there is no hash
+-- collision among the contents compared in the build. Nothing is asked where the store is not used.
 abbrev pub FairWhere : Bool → Limits → List ℕ → Option Holdings → Type 0
 FairWhere false limits input held = ⊤
 FairWhere true limits input held =

@@ -31,11 +31,11 @@ const USAGE: &str = "usage: bxl build|check|repair|trim|gen\n";
 /// commands, the statuses, the bundles that are read and written, and the notes.
 ///
 /// A build first reads `source` to its end, or to one byte past the limit on an input. Unless the words say
-/// `--no-cache`, it takes from `keeper` what is usable for a process in place of its run, and after all pips
-/// are decided it keeps there the records of the processes that ran and succeeded. It writes to `out` once
-/// all of its output is composed, and to `notes` last. A fault of `notes` changes nothing else, and one of
-/// `keeper` nothing but the counts in the notes and what is kept. Each process that is neither skipped nor
-/// taken from `keeper` passes `gate` once. No call needs `rt` yet.
+/// `--no-cache`, it reuses the cached results of the store `keeper` instead of running processes, and after
+/// all pips are decided it saves there the records of the processes that ran and succeeded. It writes to `out`
+/// once all of its output is composed, and to `notes` last. A fault of `notes` changes nothing else, and one
+/// of `keeper` nothing but the counts in the notes and what is saved. Each process that runs passes `gate`
+/// once. No call needs `rt` yet.
 pub fn command<H: Threads + Wait + Sync, S: Source, O: Sink, N: Sink, K: Keeper, G: Gate>(
     rt: &H,
     alloc: Global,

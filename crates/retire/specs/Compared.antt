@@ -1,4 +1,4 @@
--- What is met in a whole build over a store.
+-- What is compared in a whole build over a store.
 use Rattle.std.specs.Prelude.{◌≡◌, ◌⊎◌, ℕ, ◌+◌, true, List, [], ◌∷◌, ◌++◌}
 use Rattle.bx_tree.specs.Trees.{Files}
 use Rattle.pip_model_types.specs.declared.desc.Desc.{Desc}
@@ -30,7 +30,7 @@ desc_after pips tree budget results d = desc_of tree (inputs_after pips (Process
 abbrev pub view_after : List Pip → Files → List Result → ℕ → ProcessDesc → Ask → Answer
 view_after pips tree results i d = sees pips tree (inputs_after pips (Process d) results) i
 
--- what is met where pip i runs; nothing but processes runs
+-- what is compared where pip i runs; nothing but processes runs
 abbrev pub compared_in_work : List Pip → Files → ℕ → Holdings → List Result → ℕ → PipKind → List ℕ → Type 0
 compared_in_work pips tree budget S results i (Process d) x =
     ComparedInRun S (desc_after pips tree budget results d) (view_after pips tree results i d) x
@@ -38,14 +38,14 @@ compared_in_work pips tree budget S results i (Copy d) x = ⊥
 compared_in_work pips tree budget S results i (Write d) x = ⊥
 compared_in_work pips tree budget S results i (Seal d) x = ⊥
 
--- what is met at pip i, which may be skipped
+-- what is compared at pip i, which may be skipped
 abbrev pub compared_at_pip : List Pip → Files → ℕ → Holdings → List Result → ℕ → PipKind → List ℕ → Type 0
 compared_at_pip pips tree budget S results i kind x =
     (inputs_are_good pips kind results ≡ true) × compared_in_work pips tree budget S results i kind x
 
 -- ## All pips
 
--- what is met from pip i on, which is the first of these
+-- what is compared from pip i on, which is the first of these
 abbrev pub compared_from : List Pip → Files → ℕ → Holdings → List Result → ℕ → List Pip → List ℕ → Type 0
 compared_from pips tree budget S results i [] x = ⊥
 compared_from pips tree budget S results i (pip ∷ left) x =
@@ -53,7 +53,7 @@ compared_from pips tree budget S results i (pip ∷ left) x =
     ⊎ compared_from pips tree budget S (results ++ result_of pips tree budget results i pip.kind ∷ []) (i + 1)
     left x
 
--- What is met in the build of these pips: what the store holds under its own digest, and at each process that
+-- What is compared in the build of these pips: what the store holds under its own digest, and at each process that
 -- is not skipped what its run and its lookup meet.
 abbrev pub Compared : List Pip → Files → ℕ → Holdings → List ℕ → Type 0
 Compared pips tree budget S x = HoldsBlob S x ⊎ compared_from pips tree budget S [] 0 pips x

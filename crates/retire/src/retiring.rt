@@ -40,9 +40,9 @@ pub struct Retired {
     pub tally: RetireTally,
 }
 
-/// Decides all pips, one after another, as the sequential build does. Where the store is used, what is
-/// usable for a process is taken in place of its run, and after all pips are decided the records of the runs
-/// that succeeded are saved, by number.
+/// Decides all pips, one after another, as the sequential build does. Where the store is used, cached results
+/// are reused instead of running processes, and after all pips are decided the records of the runs that
+/// succeeded are saved, by number.
 pub fn retire_empty<K: Keeper, G: Gate>(
     alloc: Global,
     plan: &Plan,

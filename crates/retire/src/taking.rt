@@ -60,7 +60,7 @@ fn run_on<V: View, G: Gate>(
     Ok(ran)
 }
 
-// What is usable for a process, or else its run.
+// A cached result of a process, or else its run.
 pub(crate) fn take<R: KeepReader, G: Gate>(
     frame: &Frame<'_, G>,
     reader: &mut R,

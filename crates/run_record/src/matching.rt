@@ -129,9 +129,9 @@ fn compare<V: View>(
 }
 
 /// Compares a record with a process and a view: the digests of the weak texts, and then of the lines of the
-/// answers, ask by ask, up to the first that differs. Where nothing differs and no two of the contents, weak
-/// texts and lines share a digest, the run of the process on the view has the accesses, the path set and the
-/// outcome of the record.
+/// answers, ask by ask, up to the first that differs. Where nothing differs and there is no hash collision among
+/// the contents, weak texts and lines, the run of the process on the view has the accesses, the path set and
+/// the outcome of the record.
 pub fn matches<V: View>(alloc: Global, desc: &Desc, ran: &Record, view: &mut V) -> Match
     ensures compared { Compares desc.now ran.now (V.answers view.old) result }
     ensures same_run { result ≡ Match.Same → NoCollision (IsCompared desc.now ran.now (V.answers view.old)) →

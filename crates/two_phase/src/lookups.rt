@@ -209,7 +209,7 @@ fn first_usable<R: KeepReader, V: View>(
     Ok(None)
 }
 
-// What is usable for a process.
+// The usable cached result of a process, if the store has one.
 fn find_usable<R: KeepReader, V: View>(
     alloc: Global,
     reader: &mut R,
