@@ -1,5 +1,5 @@
 -- Worked examples of changes, of their prefixes and of counts.
-use Rattle.std.proofs.Common.{◌≡◌, ℕ, List, [], ◌∷◌, Some, None, codes, refl, ap, arith, rules}
+use Rattle.std.proofs.Common.{◌≡◌, ◌∙◌, ℕ, List, [], ◌∷◌, Some, None, codes, refl, ap, arith, rules}
 use Rattle.std.specs.FinMap.{empty, get, gets, same_map, slice_cmp-IsAntisymmetric, nat_cmp-IsAntisymmetric}
 use Rattle.std.specs.Cmp.Lexicographic.{nat_list_cmp_total}
 use Rattle.bx_io.specs.Causes.{Rose, last_count}

@@ -1,1 +1,4 @@
-pub mod FolderNames
+pub mod Events
+pub mod Telling
+pub mod Answers
+pub mod Files

@@ -1,14 +1,12 @@
 //! Implementations of the traits of `bx_io` over system streams and a folder on disk.
-//!
-//! The adapters are the trusted edge: the bytes that a stream or a folder gives or takes are not known to a
-//! proof, so it is proved only that an adapter counts each fault that it reports. This crate depends on `bx_io`,
-//! whose traits it implements.
 #![tactic(auto)]
 
-mod folder_keeper;
-mod std_sink;
-mod std_source;
+mod disk;
+mod kind;
+mod ordered;
+mod record;
 
-pub use folder_keeper::{FolderKeeper, FolderReader};
-pub use std_sink::StdSink;
-pub use std_source::StdSource;
+pub use disk::Disk;
+pub use kind::Kind;
+pub use ordered::OrderedDisk;
+pub use record::Record;
