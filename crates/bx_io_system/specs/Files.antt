@@ -67,9 +67,24 @@ told_at told name = option_map (λ (held : Holdings). get held name) told
 abbrev pub Agrees : Option Holdings → Files → Type 0
 Agrees told files = (name : List ℕ) → IsName name → told_at told name ≡ Some (get files name)
 
+-- there is no file of the name, unless the drop failed, which changes no file of a name
+abbrev pub Drops : Files → Files → List ℕ → Result (Unit {0}) Error → Type 0
+Drops before now name (Ok x) = (get now name ≡ None) × SameOthers before now name
+Drops before now name (Err e) = SameNames before now × (error_kind e ≡ NotFound → get before name ≡ None)
+
 -- ## The order of changes and syncs
 --
 -- After a loss of power an entry of a folder may stand without what was put before it, unless that was synced.
+
+-- the letters of contents, entries and lists of selectors
+abbrev pub blob_letter : ℕ
+blob_letter = 98
+
+abbrev pub entry_letter : ℕ
+entry_letter = 101
+
+abbrev pub list_letter : ℕ
+list_letter = 119
 
 -- the path is that of a name of the kind with this letter
 abbrev pub is_name_in : ℕ → List ℕ → Bool
@@ -87,26 +102,29 @@ abbrev pub unsynced : ℕ → List Event → Bool
 unsynced letter [] = false
 unsynced letter (e ∷ earlier) = unsynced_next letter e.0 e.1 (unsynced letter earlier)
 
--- where the path is of this kind, nothing of the other kind is unsynced
+-- where the path is of the first kind, nothing of the other kind is unsynced
 abbrev pub is_after : ℕ → ℕ → List ℕ → List Event → Bool
 is_after letter other path earlier = not (is_name_in letter path) || not (unsynced other earlier)
+
+-- a file may get this path: an entry after the contents before it are stored, a list after the entries are
+abbrev pub is_ready : List ℕ → List Event → Bool
+is_ready path earlier =
+    is_after entry_letter blob_letter path earlier && is_after list_letter entry_letter path earlier
 
 abbrev pub is_sync_of : Kind → List ℕ → List ℕ → Bool
 is_sync_of kinds.Synced path wanted = bytes_eq path wanted
 is_sync_of _ path wanted = false
 
--- the last call synced the file at this path
+-- the last call stored the file at this path
 abbrev pub is_stored : List ℕ → List Event → Bool
 is_stored path [] = false
 is_stored path (e ∷ earlier) = is_sync_of e.0 e.1 path
 
--- A call may come now. A file gets its name once its bytes are stored; an entry once the contents before it are;
--- a list once the entries before it are; and a content is dropped once the drops of entries before it are stored.
--- The letters are b, e and w.
+-- A call may come now. A file gets a path once its bytes are stored and what has to be there before it; and a
+-- content is removed once the changes of entries before that are stored.
 abbrev pub may_come : Kind → List ℕ → List ℕ → List Event → Bool
-may_come kinds.Renamed path old earlier =
-    is_stored old earlier && (is_after 101 98 path earlier && is_after 119 101 path earlier)
-may_come kinds.Removed path old earlier = is_after 98 101 path earlier
+may_come kinds.Renamed path old earlier = is_stored old earlier && is_ready path earlier
+may_come kinds.Removed path old earlier = is_after blob_letter entry_letter path earlier
 may_come _ path old earlier = true
 
 -- Each call came when it might.

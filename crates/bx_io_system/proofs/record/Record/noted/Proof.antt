@@ -23,7 +23,6 @@ use denote.Ref.{shr_vals, shr_Tells}
 use denote.Builtin.{u8, u64}
 use denote.Slice.{slice_val, shr_slice_vals, shr_slice_Tells}
 use Rattle.std.proofs.Common.{◌<◌, ◌^◌, ◌++◌, length}
-use Rattle.bx_io_system.specs.Events.{event_of}
 use denote.Triple.Walked.{stay_none_slice, Goes-none_slice}
 use denote.Shadow.{pure_i}
 use denote.Signature.{plain, types_at}
@@ -36,9 +35,10 @@ use Rattle.bx_io_system.specs.contracts.record.Record.noted as f
 use Rattle.bx_io_system.proofs.record.Record.noted.Statement as stated
 use Rattle.bx_io_system.proofs.record.Record.noted.Code as code
 use Rattle.bx_io_system.specs.contracts.record.Record as trail
+use Rattle.bx_io_system.specs.contracts.kind.Kind as kind
 
 abbrev stayed : Stays (f.ended).signature.params (f.ended).kept
-stayed = (stay_none_ref (0 ∷ []) tt (plain (λ _. trail.the_row)) yes, (stay_none_slice (1 ∷ []) tt (plain (λ _. u64)) yes, (stay_none_slice (2 ∷ []) tt (plain (λ _. u8)) yes, (stay_none_slice (3 ∷ []) tt (plain (λ _. u8)) yes, tt))))
+stayed = (stay_none_ref (0 ∷ []) tt (plain (λ _. trail.the_row)) yes, (stay_none_ref (1 ∷ []) tt (plain (λ _. kind.the_row)) yes, (stay_none_slice (2 ∷ []) tt (plain (λ _. u8)) yes, (stay_none_slice (3 ∷ []) tt (plain (λ _. u8)) yes, tt))))
 
 module _ {M : Type 1} {𝓤 : Ura M} (𝓛 : Logic 𝓤) (mem : Memory → SProp 𝓤) (run : Routine → Fun 𝓤) (C : Calls 𝓤 𝓛.H) (Λ : Loops 𝓤 𝓛.H) where
   open 𝓛 use {H}
@@ -48,7 +48,7 @@ module _ {M : Type 1} {𝓤 : Ura M} (𝓛 : Logic 𝓤) (mem : Memory → SProp
     m0 = vptr a.0.ref_ptr.0 a.0.ref_ptr.1
 
     abbrev m1 : Val
-    m1 = slice_val a.1.0.ref_ptr (length a.1.0.now)
+    m1 = vptr a.1.0.ref_ptr.0 a.1.0.ref_ptr.1
 
     abbrev m2 : Val
     m2 = slice_val a.1.1.0.ref_ptr (length a.1.1.0.now)
@@ -62,26 +62,26 @@ module _ {M : Type 1} {𝓤 : Ura M} (𝓛 : Logic 𝓤) (mem : Memory → SProp
     abbrev passed : Fml
     passed = owns (types_at f.signature.params κs) a (m0 ∷ [], (m1 ∷ [], (m2 ∷ [], (m3 ∷ [], tt))))
 
-    walk : length a.1.0.now < 2 ^ 64 → length a.1.1.0.now < 2 ^ 64 → length a.1.1.1.0.now < 2 ^ 64 → ent 𝓤 (on_entry 𝓛 f.signature κs qs a (m0 ∷ [], (m1 ∷ [], (m2 ∷ [], (m3 ∷ [], tt)))))
+    walk : length a.1.1.0.now < 2 ^ 64 → length a.1.1.1.0.now < 2 ^ 64 → ent 𝓤 (on_entry 𝓛 f.signature κs qs a (m0 ∷ [], (m1 ∷ [], (m2 ∷ [], (m3 ∷ [], tt)))))
         (WpFn 𝓤 H C Λ code.function (m0 ∷ m1 ∷ m2 ∷ m3 ∷ []) ((walk_of 𝓛 f.ended stayed (f.clauses 𝓛 mem run)).post bound))
-    walk f1 f2 f3 =
+    walk f2 f3 =
         qed 𝓛 (raw (alive 𝓛 f.signature κs qs) ∷ ‵ passed ∷ []) ∵ enter ! C Λ code.function (m0 ∷ m1 ∷ m2 ∷ m3 ∷ []) _ $
-        alloc_all ! (λ l. pass_all ! refl ((tt, tt), ((tt, (tt, (record { fits = f1 }, tt))), ((tt, (tt, (record { fits = f2 }, tt))), ((tt, (tt, (record { fits = f3 }, tt))), tt)))) $ sets ! (agg ! (no_more !)) refl (tt, tt) $
+        alloc_all ! (λ l. pass_all ! refl ((tt, tt), ((tt, tt), ((tt, (tt, (record { fits = f2 }, tt))), ((tt, (tt, (record { fits = f3 }, tt))), tt)))) $ sets ! (agg ! (no_more !)) refl (tt, tt) $
         returns ! (look_at ! 0 refl) $ free_all ! refl $
-        suffices ! _ (ends_at 𝓛 f.ended stayed (f.clauses 𝓛 mem run) bound (vstruct vnil) (record { first = a.0.now.first; held = a.0.now.held; events = event_of a.1.0.now a.1.1.0.now a.1.1.1.0.now ∷ a.0.now.events; closed = a.0.now.closed }) (tt, (tt, (tt, (tt, tt)))) (tt, (tt, (tt, (tt, tt))))) $
-        says ! refl $ pure_i ! (trail.the_row.own_val (record { first = a.0.now.first; held = a.0.now.held; events = event_of a.1.0.now a.1.1.0.now a.1.1.1.0.now ∷ a.0.now.events; closed = a.0.now.closed }) (vstruct vnil ∷ [])) ((λ vss. (tt, tt)), tt) ((tt, (refl, tt)), tt) $
+        suffices ! _ (ends_at 𝓛 f.ended stayed (f.clauses 𝓛 mem run) bound (vstruct vnil) (record { first = a.0.now.first; held = a.0.now.held; events = (a.1.0.now, a.1.1.0.now, a.1.1.1.0.now) ∷ a.0.now.events; closed = a.0.now.closed }) (tt, (tt, (tt, (tt, tt)))) (tt, (tt, (tt, (tt, tt))))) $
+        says ! refl $ pure_i ! (trail.the_row.own_val (record { first = a.0.now.first; held = a.0.now.held; events = (a.1.0.now, a.1.1.0.now, a.1.1.1.0.now) ∷ a.0.now.events; closed = a.0.now.closed }) (vstruct vnil ∷ [])) ((λ vss. (tt, tt)), tt) ((tt, (refl, tt)), tt) $
         move ! (1 ∷ 2 ∷ 0 ∷ []) $ done !)
 
   walks : Walks 𝓛 f.ended stayed (WpFn 𝓤 H C Λ code.function) (f.clauses 𝓛 mem run)
   walks =
-      walked 𝓛 f.ended stayed (f.clauses 𝓛 mem run) (WpFn 𝓤 H C Λ code.function) (λ κs. (shr_vals, (shr_slice_vals, (shr_slice_vals, (shr_slice_vals, tt)))))
-      (λ κs. (shr_Tells (named 0) κs.0 trail.the_row, (shr_slice_Tells (named 1) κs.1.0 u64, (shr_slice_Tells (named 2) κs.1.1.0 u8, (shr_slice_Tells (named 3) κs.1.1.1.0 u8, tt)))))
-      (λ κs qs bounds a g are. via 𝓤 _ (fst∗ 𝓤 _ (emp 𝓤)) (walk κs qs a are.1.0.0.1.0 are.1.1.0.0.1.0 are.1.1.1.0.0.1.0))
+      walked 𝓛 f.ended stayed (f.clauses 𝓛 mem run) (WpFn 𝓤 H C Λ code.function) (λ κs. (shr_vals, (shr_vals, (shr_slice_vals, (shr_slice_vals, tt)))))
+      (λ κs. (shr_Tells (named 0) κs.0 trail.the_row, (shr_Tells (named 1) κs.1.0 kind.the_row, (shr_slice_Tells (named 2) κs.1.1.0 u8, (shr_slice_Tells (named 3) κs.1.1.1.0 u8, tt)))))
+      (λ κs qs bounds a g are. via 𝓤 _ (fst∗ 𝓤 _ (emp 𝓤)) (walk κs qs a are.1.1.0.0.1.0 are.1.1.1.0.0.1.0))
 
 meets : {M : Type 1} {𝓤 : Ura M} (𝓛 : Logic 𝓤) (mem : Memory → SProp 𝓤) (run : Routine → Fun 𝓤) (𝓣 : Tables 𝓤 𝓛.H)
     → Meets 𝓛 f.signature (WpFn 𝓤 𝓛.H 𝓣.C 𝓣.Λ code.function) (f.spec 𝓛 mem run)
 meets {𝓤 = 𝓤} 𝓛 mem run 𝓣 =
-    walk_Meets 𝓛 f.ended stayed (Goes-none_ref 𝓛 4 (0 ∷ []) tt (plain (λ _. trail.the_row)) yes, (Goes-none_slice 𝓛 4 (1 ∷ []) tt (plain (λ _. u64)) yes, (Goes-none_slice 𝓛 4 (2 ∷ []) tt (plain (λ _. u8)) yes, (Goes-none_slice 𝓛 4 (3 ∷ []) tt (plain (λ _. u8)) yes, tt)))) (f.clauses 𝓛 mem run) (WpFn 𝓤 𝓛.H 𝓣.C 𝓣.Λ code.function)
+    walk_Meets 𝓛 f.ended stayed (Goes-none_ref 𝓛 4 (0 ∷ []) tt (plain (λ _. trail.the_row)) yes, (Goes-none_ref 𝓛 4 (1 ∷ []) tt (plain (λ _. kind.the_row)) yes, (Goes-none_slice 𝓛 4 (2 ∷ []) tt (plain (λ _. u8)) yes, (Goes-none_slice 𝓛 4 (3 ∷ []) tt (plain (λ _. u8)) yes, tt)))) (f.clauses 𝓛 mem run) (WpFn 𝓤 𝓛.H 𝓣.C 𝓣.Λ code.function)
     (WpFn-mono 𝓤 𝓛.H 𝓛.laws 𝓣 code.function) (walks 𝓛 mem run 𝓣.C 𝓣.Λ)
 
 pub noted_spec : {M : Type 1} → stated.statement M
