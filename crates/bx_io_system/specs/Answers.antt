@@ -8,6 +8,8 @@ use Rattle.std.specs.declared.io.ErrorKind.TheVariants.{NotFound, OutOfMemory}
 use Rattle.bx_io.specs.Holdings.{Change, Put, Drop, name_of}
 use Rattle.bx_io.specs.declared.keeper.Got.{Got}
 use Rattle.bx_io.specs.declared.keeper.Got.TheVariants as got
+use Rattle.bx_io.specs.declared.keeper.Listed.{Listed}
+use Rattle.bx_io.specs.declared.keeper.Listed.TheVariants as listed
 use Rattle.bx_io.specs.declared.keeper.PutFault.{PutFault}
 use Rattle.bx_io.specs.declared.keeper.PutFault.TheVariants as put_faults
 use Rattle.bx_io_system.specs.Events.{Event}
@@ -61,3 +63,9 @@ refused_event name put_faults.Memory = (kinds.Memory, name, [])
 abbrev pub change_event : Change → Result (Unit {0}) PutFault → Event
 change_event change (Ok x) = made_event change
 change_event change (Err e) = refused_event (name_of change) e
+
+-- how a listing is recorded
+abbrev pub listed_event : Listed → Event
+listed_event (listed.Names names) = (kinds.Listed, [], [])
+listed_event listed.Failed = (kinds.Failed, [], [])
+listed_event listed.Memory = (kinds.Memory, [], [])

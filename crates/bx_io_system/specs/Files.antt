@@ -1,5 +1,5 @@
 -- The files of a folder by path, and the order in which they are changed and stored.
-use Rattle.std.specs.Prelude.{◌≡◌, ℕ, Bool, true, false, ◌&&◌, ◌||◌, not, ◌==◌, List, [], ◌∷◌, length, slice_index, bytes_eq, Option, Some, None, Result, Ok, Err, Vec, option_map}
+use Rattle.std.specs.Prelude.{◌≡◌, ◌<◌, ℕ, Bool, true, false, ◌&&◌, ◌||◌, not, ◌==◌, List, [], ◌∷◌, length, slice_index, bytes_eq, Option, Some, None, Result, Ok, Err, Vec, String, string_bytes, All, option_map}
 use Rattle.std.specs.FinMap.{get}
 use Rattle.std.specs.IoError.{error_kind}
 use Rattle.std.specs.declared.alloc.Global.{Global}
@@ -44,7 +44,20 @@ abbrev pub Removes : Files → Files → List ℕ → Result (Unit {0}) Error �
 Removes before now path (Ok x) = (get now path ≡ None) × SameBut before now path
 Removes before now path (Err e) = (now ≡ before) × (error_kind e ≡ NotFound → get before path ≡ None)
 
+-- the call failed, and not as nothing is there
+abbrev pub IsUnlisted : {X : Type 0} → Result X Error → Type 0
+IsUnlisted (Ok x) = ⊥
+IsUnlisted (Err e) = error_kind e ≡ NotFound → ⊥
+
+-- each text is a name
+abbrev pub AreAllNames : List (String Global) → Type 0
+AreAllNames = All (λ name. IsName (string_bytes name))
+
 -- ## What becomes of the files of names
+
+-- where a file is begun, which is no name
+abbrev pub IsBegun : List ℕ → Type 0
+IsBegun path = NAME_LENGTH < length path
 
 -- each file of a name is as it was
 abbrev pub SameNames : Files → Files → Type 0

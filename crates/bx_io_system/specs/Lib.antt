@@ -2,3 +2,4 @@ pub mod Events
 pub mod Telling
 pub mod Answers
 pub mod Files
+pub mod Named

@@ -1,8 +1,8 @@
 //! The calls on the files of one folder.
 
-ghost use Rattle.std.specs.Prelude.{◌≡◌, Bool, true, List, [], ◌∷◌, IfOk, OnOk, OnErr, IsErr};
+ghost use Rattle.std.specs.Prelude.{◌≡◌, Bool, true, List, [], ◌∷◌, IfOk, OnOk, OnErr};
 ghost use Rattle.bx_io_system.specs.Events.{Event};
-ghost use Rattle.bx_io_system.specs.Files.{Files, Reads, Removes, Renames, Writes};
+ghost use Rattle.bx_io_system.specs.Files.{Files, IsUnlisted, Reads, Removes, Renames, Writes};
 ghost use Rattle.bx_io_system.specs.declared.kind.Kind.TheVariants as kinds;
 
 use std::alloc::{AllocError, Global};
@@ -63,7 +63,7 @@ pub trait Disk: Send + Drop {
     /// The names of the plain files in a folder. A disk of which it is known what it holds lists nothing, and
     /// fails.
     fn list(&mut self, alloc: Global, path: &str) -> io::Result<Vec<String>>
-        ensures unlisted { is_known ≡ true → IsErr result }
+        ensures unlisted { is_known ≡ true → IsUnlisted result }
         ensures files { files self.new ≡ files self.old }
         ensures calls { calls self.new ≡ calls self.old };
 }

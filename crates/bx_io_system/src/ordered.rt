@@ -1,11 +1,15 @@
 //! Puts and drops of names in a folder, in an order that a loss of power cannot turn round.
 
-ghost use Rattle.std.specs.Prelude.{◌≡◌, ◌≢◌, true, false, [], ◌∷◌, ◌++◌, codes, OnOk, OnErr, IfOk, slice_index};
+ghost use Rattle.std.specs.Prelude.{◌≡◌, ◌≢◌, ℕ, List, true, false, [], OnOk, IfOk, IfErr, slice_index, string_bytes};
 ghost use Rattle.bx_io.specs.Names.{IsName};
-ghost use Rattle.bx_io_system.specs.Files.{Files, Puts, Reads, Drops, SameNames, blob_letter, entry_letter};
-ghost use Rattle.bx_io_system.specs.Files.{is_durable, is_ready, is_stored, unsynced};
+ghost use Rattle.bx_io_system.specs.Files.{Drops, IsBegun, Puts, Reads, Removes, Renames, SameNames, blob_letter, entry_letter, is_after};
+ghost use Rattle.bx_io_system.specs.Files.{AreAllNames, IsUnlisted, Writes, is_durable, is_ready, is_stored, unsynced};
+ghost use Rattle.bx_io.specs.Answers.{ListsNames};
+ghost use Rattle.bx_io.specs.declared.keeper.Listed.TheVariants as listed;
+ghost use Rattle.std.specs.IoError.{error_kind};
 
 use crate::disk::Disk;
+use bx_io::is_name;
 use std::alloc::{AllocError, Global};
 use std::io::{self, ErrorKind};
 
@@ -28,6 +32,52 @@ fn letter_of(name: &str) -> u8
 {
     let bytes = name.as_bytes();
     bytes[0]
+}
+
+// Where the file of a name is begun.
+fn begun_name(alloc: Global, name: &str) -> Result<String, AllocError>
+    requires { IsName name.now }
+    ensures { IfOk result (λ begun. IsBegun (string_bytes begun)) }
+{
+    format!(in alloc; "{name}.new")
+}
+
+// Adds a name, if it is one.
+fn add_name(names: &mut Vec<String>, name: String) -> io::Result<()>
+    requires { AreAllNames names.old.items }
+    ensures { AreAllNames names.new.items }
+{
+    if is_name(name.as_bytes()) {
+        names.push(name)?;
+    }
+    Ok(())
+}
+
+// Adds the names among the files of the folder of a kind.
+fn add_files(
+    alloc: Global,
+    kind: &str,
+    files: &[String],
+    names: &mut Vec<String>,
+) -> io::Result<()>
+    requires { AreAllNames names.old.items }
+    ensures { AreAllNames names.new.items }
+{
+    'files: for file in files {
+        add_name(names, format!(in alloc; "{kind}/{file}")?)?;
+    }
+    Ok(())
+}
+
+// Names in order, each once.
+fn in_order(names: Vec<String>) -> Vec<String>
+    requires { AreAllNames names.items }
+    ensures { ListsNames (listed.Names result) }
+{
+    let mut names = names;
+    names.sort_unstable();
+    names.dedup();
+    names
 }
 
 impl<D: Disk> OrderedDisk<D> {
@@ -93,5 +143,164 @@ impl<D: Disk> OrderedDisk<D> {
             b'w' => self.sync_entries(alloc),
             _ => Ok(()),
         }
+    }
+
+    // Makes a folder, and stores that it is there, unless it was there.
+    fn make_folder(&mut self, alloc: Global, path: &str, above: &str) -> io::Result<()>
+        ensures ready { (name : List ℕ) → is_ready name (D.calls self.old.disk) ≡ true
+            → is_ready name (D.calls self.new.disk) ≡ true }
+        ensures files { D.files self.new.disk ≡ D.files self.old.disk }
+    {
+        match self.disk.make_folder(alloc, path) {
+            Ok(()) => self.disk.sync(alloc, above),
+            Err(error) if error.kind() == ErrorKind::AlreadyExists => Ok(()),
+            Err(error) => Err(error),
+        }
+    }
+
+    // Makes the folder, and in it the folder of the kind of a name.
+    fn make_folders(&mut self, alloc: Global, name: &str) -> io::Result<()>
+        ensures ready { (path : List ℕ) → is_ready path (D.calls self.old.disk) ≡ true
+            → is_ready path (D.calls self.new.disk) ≡ true }
+        ensures files { D.files self.new.disk ≡ D.files self.old.disk }
+    {
+        self.make_folder(alloc, "", "..")?;
+        self.make_folder(alloc, name.get(..1).unwrap_or(""), "")
+    }
+
+    // Writes a file, and makes the folders for it where they are missing.
+    fn write(&mut self, alloc: Global, name: &str, begun: &str, bytes: &[u8]) -> io::Result<()>
+        ensures written { D.is_known ≡ true
+            → Writes (D.files self.old.disk) (D.files self.new.disk) begun.now bytes.now result }
+        ensures ready { (path : List ℕ) → is_ready path (D.calls self.old.disk) ≡ true
+            → is_ready path (D.calls self.new.disk) ≡ true }
+    {
+        match self.disk.write(alloc, begun, bytes) {
+            Err(error) if error.kind() == ErrorKind::NotFound => {
+                self.make_folders(alloc, name)?;
+                self.disk.write(alloc, begun, bytes)
+            }
+            written => written,
+        }
+    }
+
+    // Writes a file, and waits until its bytes are stored.
+    fn store(&mut self, alloc: Global, name: &str, begun: &str, bytes: &[u8]) -> io::Result<()>
+        ensures written { D.is_known ≡ true
+            → Writes (D.files self.old.disk) (D.files self.new.disk) begun.now bytes.now result }
+        ensures stored { OnOk result (is_stored begun.now (D.calls self.new.disk) ≡ true) }
+        ensures ready { (path : List ℕ) → is_ready path (D.calls self.old.disk) ≡ true
+            → is_ready path (D.calls self.new.disk) ≡ true }
+    {
+        self.write(alloc, name, begun, bytes)?;
+        self.disk.sync(alloc, begun)
+    }
+
+    // Removes a file that was begun.
+    fn give_up(&mut self, alloc: Global, begun: &str)
+        requires { IsBegun begun.now }
+        ensures { D.is_known ≡ true → SameNames (D.files self.old.disk) (D.files self.new.disk) }
+    {
+        let _ = self.disk.remove(alloc, begun);
+    }
+
+    // Gives a file that was begun its name.
+    fn finish(&mut self, alloc: Global, begun: &str, name: &str) -> io::Result<()>
+        requires is_name { IsName name.now }
+        requires stored { is_stored begun.now (D.calls self.old.disk) ≡ true }
+        requires ready { is_ready name.now (D.calls self.old.disk) ≡ true }
+        ensures { D.is_known ≡ true
+            → Renames (D.files self.old.disk) (D.files self.new.disk) begun.now name.now result }
+    {
+        let letter = letter_of(name);
+        let done = self.disk.rename(alloc, begun, name);
+        self.blobs = self.blobs || letter == b'b';
+        self.entries = self.entries || letter == b'e';
+        done
+    }
+
+    /// Puts bytes under a name. They are written and stored beside it before they get it, so a stop at any moment
+    /// leaves the old bytes or the new ones.
+    pub(crate) fn put(&mut self, alloc: Global, name: &str, bytes: &[u8]) -> io::Result<()>
+        requires { IsName name.now }
+        ensures { D.is_known ≡ true
+            → Puts (D.files self.old.disk) (D.files self.new.disk) name.now bytes.now result }
+    {
+        let begun = begun_name(alloc, name)?;
+        self.settle(alloc, name)?;
+        match self.store(alloc, name, begun.as_str(), bytes) {
+            Ok(()) => self.finish(alloc, begun.as_str(), name),
+            Err(error) => {
+                self.give_up(alloc, begun.as_str());
+                Err(error)
+            }
+        }
+    }
+
+    // Removes the file of a name.
+    fn remove(&mut self, alloc: Global, name: &str) -> io::Result<()>
+        requires is_name { IsName name.now }
+        requires ready { is_after blob_letter entry_letter name.now (D.calls self.old.disk) ≡ true }
+        ensures { D.is_known ≡ true → Removes (D.files self.old.disk) (D.files self.new.disk) name.now result }
+    {
+        let letter = letter_of(name);
+        let done = self.disk.remove(alloc, name);
+        self.blobs = self.blobs || letter == b'b';
+        self.entries = self.entries || letter == b'e';
+        done
+    }
+
+    // Syncs what has to be stored before the file of a name is removed. That there is no folder to sync is no sign
+    // that there is no file.
+    fn settle_drop(&mut self, alloc: Global, name: &str) -> io::Result<()>
+        requires { IsName name.now }
+        ensures ready { OnOk result
+            (is_after blob_letter entry_letter name.now (D.calls self.new.disk) ≡ true) }
+        ensures files { D.files self.new.disk ≡ D.files self.old.disk }
+        ensures error { IfErr result (λ e. error_kind e ≢ ErrorKind.NotFound) }
+    {
+        if letter_of(name) != b'b' {
+            return Ok(());
+        }
+        match self.sync_entries(alloc) {
+            Err(error) if error.kind() == ErrorKind::NotFound => Err(io::Error::from(ErrorKind::Other)),
+            synced => synced,
+        }
+    }
+
+    /// Drops a name.
+    pub(crate) fn drop_name(&mut self, alloc: Global, name: &str) -> io::Result<()>
+        requires { IsName name.now }
+        ensures { D.is_known ≡ true → Drops (D.files self.old.disk) (D.files self.new.disk) name.now result }
+    {
+        self.settle_drop(alloc, name)?;
+        self.remove(alloc, name)
+    }
+
+    // Adds the names of a kind.
+    fn add_names(&mut self, alloc: Global, kind: &str, names: &mut Vec<String>) -> io::Result<()>
+        requires { AreAllNames names.old.items }
+        ensures names { AreAllNames names.new.items }
+        ensures unlisted { D.is_known ≡ true → IsUnlisted result }
+        ensures files { D.files self.new.disk ≡ D.files self.old.disk }
+    {
+        match self.disk.list(alloc, kind) {
+            Ok(files) => add_files(alloc, kind, &files, names),
+            Err(error) if error.kind() == ErrorKind::NotFound => Ok(()),
+            Err(error) => Err(error),
+        }
+    }
+
+    /// The names of all files of names, in order, each once.
+    pub(crate) fn names(&mut self, alloc: Global) -> io::Result<Vec<String>>
+        ensures names { IfOk result (λ names. ListsNames (listed.Names names)) }
+        ensures unlisted { D.is_known ≡ true → IsUnlisted result }
+        ensures files { D.files self.new.disk ≡ D.files self.old.disk }
+    {
+        let mut names = Vec::new(alloc);
+        self.add_names(alloc, "b", &mut names)?;
+        self.add_names(alloc, "e", &mut names)?;
+        self.add_names(alloc, "w", &mut names)?;
+        Ok(in_order(names))
     }
 }
