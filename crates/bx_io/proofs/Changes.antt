@@ -86,6 +86,12 @@ pub makes_some : (before now : StoreTold) (made : List Change) (held : Holdings)
     → (first : Holdings) × (held_in before ≡ Some first) × (holdings_after first made ≡ held)
 makes_some before now made held makes h = after_told-some before.held made held (makes.held held h)
 
+-- one put, of a name and of bytes that are these
+pub makes_put : (before now : StoreTold) (name other bytes same : List ℕ) → name ≡ other → bytes ≡ same → Makes before (Put name bytes ∷ []) now
+    → Makes before (Put other same ∷ []) now
+makes_put before now name other bytes same named are makes =
+    subst (λ (n : List ℕ). Makes before (Put n same ∷ []) now) named (subst (λ (b : List ℕ). Makes before (Put name b ∷ []) now) are makes)
+
 -- a store in memory after a list of changes
 pub makes_state : (kept : StoreState) (made : List Change) → Makes (told_of kept) made (told_of (state_after kept made))
 makes_state kept made = record { held = λ held h. h; changes = refl }

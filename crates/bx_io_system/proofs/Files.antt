@@ -1,6 +1,11 @@
 -- What becomes of files by one call after another.
 use Rattle.std.proofs.Common.{◌≡◌, ◌≢◌, ◌<◌, ◌∙◌, ℕ, List, ◌++◌, length, length-append, arith, ap, sym, subst, codes, Result, Ok, Err, Some}
-use Rattle.std.specs.FinMap.{get}
+use Rattle.std.proofs.Common.{None, Option, Vec, String, Global, rules}
+use Rattle.std.specs.Prelude.{option_map}
+use Rattle.std.specs.FinMap.{get, gets, insert, remove}
+use Rattle.std.specs.BTreeMap.{BTreeMap, get_by_text}
+use Rattle.bx_io.specs.Stored.{holdings_of}
+use Rattle.bx_io.proofs.Mapped.{get-holdings_of}
 use Rattle.std.specs.declared.io.Error.{Error}
 use Rattle.bx_io.specs.Names.{IsName}
 use Rattle.bx_io_system.specs.Files.{Files, IsBegun, Writes, SameBut}
@@ -21,3 +26,37 @@ written_again before mid between now path bytes e (Ok x) first same next = (
 )
 written_again before mid between now path bytes e (Err f) first same next =
     λ q other. next q other ∙ ap (λ (files : Files). get files q) same ∙ first q other
+
+-- ## A map in memory
+
+pub put_here : (files : Files) (path bytes : List ℕ) → get (insert files path bytes) path ≡ Some bytes
+put_here files path bytes = grind (gets, rules)
+
+pub put_other : (files : Files) (path bytes q : List ℕ) → (q ≡ path → ⊥) → get (insert files path bytes) q ≡ get files q
+put_other files path bytes q other = grind (gets, rules)
+
+pub dropped_here : (files : Files) (path : List ℕ) → get (remove files path) path ≡ None
+dropped_here files path = grind (gets, rules)
+
+pub dropped_other : (files : Files) (path q : List ℕ) → (q ≡ path → ⊥) → get (remove files path) q ≡ get files q
+dropped_other files path q other = grind (gets, rules)
+
+pub written_to : (before now : Files) (key path items bytes : List ℕ) → now ≡ insert before key items → key ≡ path → items ≡ bytes
+    → (get now path ≡ Some bytes) × SameBut before now path
+written_to before now key path items bytes is same all =
+    let now_is : now ≡ insert before path bytes = is ∙ ap (λ (k : List ℕ). insert before k items) same ∙ ap (λ (b : List ℕ). insert before path b) all in
+    (ap (λ (f : Files). get f path) now_is ∙ put_here before path bytes, λ q other. ap (λ (f : Files). get f q) now_is ∙ put_other before path bytes q other)
+
+pub removed_at : (before now : Files) (path : List ℕ) → now ≡ remove before path → (get now path ≡ None) × SameBut before now path
+removed_at before now path is =
+    (ap (λ (f : Files). get f path) is ∙ dropped_here before path, λ q other. ap (λ (f : Files). get f q) is ∙ dropped_other before path q other)
+
+found_bytes : (lent : Option (Vec ℕ Global)) (v : Vec ℕ Global) (items : List ℕ) → Some v ≡ lent → items ≡ v.items → option_map (λ (w : Vec ℕ Global). w.items) lent ≡ Some items
+found_bytes lent v items is same = ap (option_map (λ (w : Vec ℕ Global). w.items)) (sym is) ∙ ap Some (sym same)
+
+pub read_found : (m : BTreeMap (String Global) (Vec ℕ Global)) (path : List ℕ) (v : Vec ℕ Global) (items : List ℕ) → Some v ≡ get_by_text m path → items ≡ v.items
+    → get (holdings_of m) path ≡ Some items
+read_found m path v items is same = get-holdings_of m path ∙ found_bytes (get_by_text m path) v items is same
+
+pub read_none : (m : BTreeMap (String Global) (Vec ℕ Global)) (path : List ℕ) → None ≡ get_by_text m path → get (holdings_of m) path ≡ None
+read_none m path is = get-holdings_of m path ∙ ap (option_map (λ (w : Vec ℕ Global). w.items)) (sym is)

@@ -1,12 +1,16 @@
 -- What follows from what a folder tells.
 use Rattle.std.proofs.Common.{◌≡◌, ℕ, Bool, true, false, ◌&&◌, List, [], ◌∷◌, Option, Some, None, refl, ap, subst, ◌∙◌, IsSome, option_map, Result, Ok, Err}
 use Rattle.std.specs.Str.{bytes_eq}
-use Rattle.std.specs.FinMap.{get, insert, remove}
+use Rattle.std.specs.FinMap.{get, insert, remove, get-insert, get-remove, slice_cmp-IsAntisymmetric, nat_cmp-IsAntisymmetric}
+use Rattle.std.specs.Ordering.{nat_cmp, eq_by_cmp}
+use Rattle.std.specs.Cmp.{Equal-is}
+use Rattle.std.specs.Cmp.Lexicographic.{slice_cmp, nat_list_cmp_total}
+use Rattle.std.proofs.lemmas.Bool.{false≢true}
 use Rattle.std.proofs.lemmas.Slice.Eq.{bytes_eq-Decides}
 use Rattle.bx_io.specs.Holdings.{Holdings, Change, Put, Drop, changed, after_told, StoreTold, Makes, Keeps}
 use Rattle.bx_io.specs.Told.{Stays}
 use Rattle.bx_io_system.specs.declared.kind.Kind.TheVariants as kinds
-use Rattle.std.proofs.Common.{sym, ◌++◌, append-nil, OnOk, OnErr, Vec, Global}
+use Rattle.std.proofs.Common.{sym, cond, ◌++◌, append-nil, OnOk, OnErr, Vec, Global}
 use Rattle.std.specs.IoError.{error_kind}
 use Rattle.std.specs.declared.io.Error.{Error}
 use Rattle.std.specs.declared.io.ErrorKind.{ErrorKind}
@@ -255,3 +259,59 @@ pub agrees_answer : (first files : Holdings) (events : List Event) (closed : Boo
 agrees_answer first files events closed name done agrees reads =
     let is = told_is (told first events closed) name (get files name) agrees in
     told_on first is.0 events closed name (got_of done) is.1 (reads_answer is.0 files name done is.2 reads) ∙ sym is.1
+
+-- after a change that was made it tells on
+pub telling_change : (first : Holdings) (events : List Event) (closed : Bool) (change : Change) → IsSome (told first events closed)
+    → IsSome (told first (change_event change (Ok tt) ∷ events) closed)
+telling_change first events closed change telling =
+    let is = some_of (told first events closed) telling in
+    rw (told_made first events closed change, is.1) refl
+
+changed_at : (b : Bool) (q name : List ℕ) (put held found : Option (List ℕ)) → (b ≡ true → q ≡ name) → (q ≡ name → put ≡ found) → ((q ≡ name → ⊥) → held ≡ found)
+    → (b ≡ false → q ≡ name → ⊥) → cond b put held ≡ found
+changed_at true q name put held found same here other not = here (same refl)
+changed_at false q name put held found same here other not = other (not refl)
+
+eq_by_cmp-refl : (q : List ℕ) → eq_by_cmp (slice_cmp nat_cmp) q q ≡ true
+eq_by_cmp-refl q = (Equal-is (slice_cmp nat_cmp q q)).1 (nat_list_cmp_total.refl q)
+
+equal_names : (q name : List ℕ) → eq_by_cmp (slice_cmp nat_cmp) q name ≡ true → q ≡ name
+equal_names q name here = slice_cmp-IsAntisymmetric nat_cmp-IsAntisymmetric q name ((Equal-is (slice_cmp nat_cmp q name)).0 here)
+
+other_names : (q name : List ℕ) → eq_by_cmp (slice_cmp nat_cmp) q name ≡ false → q ≡ name → ⊥
+other_names q name other same =
+    let here : eq_by_cmp (slice_cmp nat_cmp) q q ≡ true = eq_by_cmp-refl q in
+    false≢true (sym (subst (λ (n : List ℕ). eq_by_cmp (slice_cmp nat_cmp) q n ≡ false) (sym same) other) ∙ here)
+
+told_at_some : (told : Option Holdings) (held : Holdings) (q : List ℕ) (found : Option (List ℕ)) → told ≡ Some held → told_at told q ≡ Some found → get held q ≡ found
+told_at_some told held q found is at =
+    let here : Some (get held q) ≡ Some found = sym (ap (λ (t : Option Holdings). told_at t q) is) ∙ at in
+    cc
+
+-- the files agree after a put
+pub agrees_put : (first files now : Holdings) (events : List Event) (closed : Bool) (name bytes q : List ℕ)
+    → told_at (told first events closed) q ≡ Some (get files q) → (get now name ≡ Some bytes) → ((q ≡ name → ⊥) → get now q ≡ get files q)
+    → told_at (told first (change_event (Put name bytes) (Ok tt) ∷ events) closed) q ≡ Some (get now q)
+agrees_put first files now events closed name bytes q agrees here others =
+    let is = told_is (told first events closed) q (get files q) agrees in
+    let made : told first (change_event (Put name bytes) (Ok tt) ∷ events) closed ≡ Some (insert is.0 name bytes) =
+    told_made first events closed (Put name bytes) ∙ ap (λ (t : Option Holdings). after_told t (Put name bytes ∷ [])) is.1 in
+    let at : get (insert is.0 name bytes) q ≡ get now q =
+    get-insert nat_list_cmp_total is.0 name bytes q
+    ∙ changed_at (eq_by_cmp (slice_cmp nat_cmp) q name) q name (Some bytes) (get is.0 q) (get now q) (equal_names q name)
+    (λ same. sym here ∙ ap (λ (n : List ℕ). get now n) (sym same)) (λ other. is.2 ∙ sym (others other)) (other_names q name) in
+    ap (λ (t : Option Holdings). told_at t q) made ∙ ap Some at
+
+-- the files agree after a drop
+pub agrees_drop : (first files now : Holdings) (events : List Event) (closed : Bool) (name q : List ℕ)
+    → told_at (told first events closed) q ≡ Some (get files q) → (get now name ≡ None) → ((q ≡ name → ⊥) → get now q ≡ get files q)
+    → told_at (told first (change_event (Drop name) (Ok tt) ∷ events) closed) q ≡ Some (get now q)
+agrees_drop first files now events closed name q agrees here others =
+    let is = told_is (told first events closed) q (get files q) agrees in
+    let made : told first (change_event (Drop name) (Ok tt) ∷ events) closed ≡ Some (remove is.0 name) =
+    told_made first events closed (Drop name) ∙ ap (λ (t : Option Holdings). after_told t (Drop name ∷ [])) is.1 in
+    let at : get (remove is.0 name) q ≡ get now q =
+    get-remove nat_list_cmp_total is.0 name q
+    ∙ changed_at (eq_by_cmp (slice_cmp nat_cmp) q name) q name None (get is.0 q) (get now q) (equal_names q name)
+    (λ same. sym here ∙ ap (λ (n : List ℕ). get now n) (sym same)) (λ other. is.2 ∙ sym (others other)) (other_names q name) in
+    ap (λ (t : Option Holdings). told_at t q) made ∙ ap Some at

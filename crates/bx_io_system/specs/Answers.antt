@@ -35,15 +35,6 @@ abbrev pub put_of : Result (Unit {0}) Error → Result (Unit {0}) PutFault
 put_of (Ok x) = Ok x
 put_of (Err e) = Err (put_fault_of (error_kind e))
 
-abbrev pub drop_fault_of : ErrorKind → Result (Unit {0}) PutFault
-drop_fault_of NotFound = Ok tt
-drop_fault_of kind = Err (put_fault_of kind)
-
--- what became of a drop
-abbrev pub drop_of : Result (Unit {0}) Error → Result (Unit {0}) PutFault
-drop_of (Ok x) = Ok x
-drop_of (Err e) = drop_fault_of (error_kind e)
-
 -- how an answer for a name is recorded
 abbrev pub event_for : List ℕ → Got → Event
 event_for name (got.Found bytes) = (kinds.Found, name, bytes.items)

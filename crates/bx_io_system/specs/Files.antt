@@ -83,7 +83,7 @@ Agrees told files = (name : List ℕ) → IsName name → told_at told name ≡ 
 -- there is no file of the name, unless the drop failed, which changes no file of a name
 abbrev pub Drops : Files → Files → List ℕ → Result (Unit {0}) Error → Type 0
 Drops before now name (Ok x) = (get now name ≡ None) × SameOthers before now name
-Drops before now name (Err e) = SameNames before now × (error_kind e ≡ NotFound → get before name ≡ None)
+Drops before now name (Err e) = SameNames before now
 
 -- ## The order of changes and syncs
 --

@@ -10,7 +10,7 @@ use std::io;
 
 /// The files of one folder, by paths from it. What they hold is known, as of a disk in memory, or not, as of the
 /// system's, which others may change at any moment.
-pub trait Disk: Send + Drop {
+pub trait Disk: Drop {
     // Whether it is known what the files hold.
     ghost is_known: { Bool };
 

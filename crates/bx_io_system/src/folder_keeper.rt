@@ -27,7 +27,7 @@ pub struct FolderReader<D: Disk> {
     system: System<D>,
 }
 
-impl<D: Disk> FolderKeeper<D> {
+impl<D: Disk + Send> FolderKeeper<D> {
     /// The store over the files of this folder, which need not be there.
     pub fn new(disk: D) -> FolderKeeper<D>
         ghost held: { Holdings }
@@ -49,7 +49,7 @@ impl<D: Disk> FolderKeeper<D> {
     {}
 }
 
-impl<D: Disk> KeepReader for FolderReader<D> {
+impl<D: Disk + Send> KeepReader for FolderReader<D> {
     ghost use Rattle.std.specs.Prelude.{None};
     ghost use Rattle.bx_io_system.specs.Telling.{told};
 
@@ -64,7 +64,7 @@ impl<D: Disk> KeepReader for FolderReader<D> {
     }
 }
 
-impl<D: Disk> Keeper for FolderKeeper<D> {
+impl<D: Disk + Send> Keeper for FolderKeeper<D> {
     type Reader = FolderReader<D>;
 
     ghost use Rattle.std.specs.Prelude.{None};

@@ -81,10 +81,11 @@ impl Disk for MemDisk {
 
     fn remove(&mut self, _alloc: Global, path: &str) -> io::Result<()> {
         self.log = Record::noted(&self.log, &Kind::Removed, path.as_bytes(), &[]);
-        match self.map.remove(path) {
-            Some(_) => Ok(()),
-            None => Err(io::Error::from(ErrorKind::NotFound)),
+        if self.map.get(path).is_none() {
+            return Err(io::Error::from(ErrorKind::NotFound));
         }
+        self.map.remove(path);
+        Ok(())
     }
 
     fn make_folder(&mut self, _alloc: Global, _path: &str) -> io::Result<()> {

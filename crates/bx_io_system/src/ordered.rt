@@ -1,12 +1,11 @@
 //! Puts and drops of names in a folder, in an order that a loss of power cannot turn round.
 
-ghost use Rattle.std.specs.Prelude.{◌≡◌, ◌≢◌, ℕ, List, true, false, [], OnOk, IfOk, IfErr, slice_index, string_bytes};
+ghost use Rattle.std.specs.Prelude.{◌≡◌, ℕ, List, true, false, [], OnOk, IfOk, slice_index, string_bytes};
 ghost use Rattle.bx_io.specs.Names.{IsName};
 ghost use Rattle.bx_io_system.specs.Files.{Drops, IsBegun, Puts, Reads, Removes, Renames, SameNames, blob_letter, entry_letter, is_after};
 ghost use Rattle.bx_io_system.specs.Files.{AreAllNames, IsUnlisted, Writes, is_durable, is_ready, is_stored, unsynced};
 ghost use Rattle.bx_io.specs.Answers.{ListsNames};
 ghost use Rattle.bx_io.specs.declared.keeper.Listed.TheVariants as listed;
-ghost use Rattle.std.specs.IoError.{error_kind};
 
 use crate::disk::Disk;
 use bx_io::is_name;
@@ -250,31 +249,30 @@ impl<D: Disk> OrderedDisk<D> {
         done
     }
 
-    // Syncs what has to be stored before the file of a name is removed. That there is no folder to sync is no sign
-    // that there is no file.
+    // Syncs what has to be stored before the file of a name is removed.
     fn settle_drop(&mut self, alloc: Global, name: &str) -> io::Result<()>
         requires { IsName name.now }
         ensures ready { OnOk result
             (is_after blob_letter entry_letter name.now (D.calls self.new.disk) ≡ true) }
         ensures files { D.files self.new.disk ≡ D.files self.old.disk }
-        ensures error { IfErr result (λ e. error_kind e ≢ ErrorKind.NotFound) }
     {
-        if letter_of(name) != b'b' {
-            return Ok(());
-        }
-        match self.sync_entries(alloc) {
-            Err(error) if error.kind() == ErrorKind::NotFound => Err(io::Error::from(ErrorKind::Other)),
-            synced => synced,
+        if letter_of(name) == b'b' {
+            self.sync_entries(alloc)
+        } else {
+            Ok(())
         }
     }
 
-    /// Drops a name.
+    /// Drops a name. Where there is no file, there is none afterwards.
     pub(crate) fn drop_name(&mut self, alloc: Global, name: &str) -> io::Result<()>
         requires { IsName name.now }
         ensures { D.is_known ≡ true → Drops (D.files self.old.disk) (D.files self.new.disk) name.now result }
     {
         self.settle_drop(alloc, name)?;
-        self.remove(alloc, name)
+        match self.remove(alloc, name) {
+            Err(error) if error.kind() == ErrorKind::NotFound => Ok(()),
+            removed => removed,
+        }
     }
 
     // Adds the names of a kind.

@@ -6,7 +6,7 @@ ghost use Rattle.bx_io.specs.Answers.{ListsNames};
 ghost use Rattle.bx_io.specs.Causes.{HasCause, counted};
 ghost use Rattle.bx_io.specs.Holdings.{Holdings, Put, Drop};
 ghost use Rattle.bx_io.specs.Names.{IsName};
-ghost use Rattle.bx_io_system.specs.Answers.{change_event, drop_of, event_for, got_of, listed_event, put_of};
+ghost use Rattle.bx_io_system.specs.Answers.{change_event, event_for, got_of, listed_event, put_of};
 ghost use Rattle.bx_io_system.specs.Events.{failures};
 ghost use Rattle.bx_io_system.specs.Files.{IsUnlisted, Reads, told_at};
 ghost use Rattle.bx_io_system.specs.Telling.{told, tells};
@@ -154,11 +154,11 @@ impl<D: Disk> System<D> {
         ensures no_fault { result ≢ Err PutFault.Failed → self.new.faults ≡ self.old.faults }
     {
         match self.disk.drop_name(alloc, name) {
-            Err(error) if error.kind() != ErrorKind::NotFound => Err(self.refused(name, error)),
-            _ => {
+            Ok(()) => {
                 self.log = Record::noted(&self.log, &Kind::Dropped, name.as_bytes(), &[]);
                 Ok(())
             }
+            Err(error) => Err(self.refused(name, error)),
         }
     }
 
