@@ -3,6 +3,7 @@ ghost use Rattle.std.specs.Prelude.{◌≡◌, ◌+◌, ◌≤◌, IfOk, IsSome,
 ghost use Rattle.std.specs.List.{AllByRecursion};
 ghost use Rattle.two_phase_meaning.specs.Keeping.{IsGood};
 ghost use Rattle.retire.specs.Keeping.{IsSuccess, PutsAllEach, PutsFirst};
+ghost use Rattle.bx_io.specs.Holdings.{held_in};
 ghost use Rattle.two_phase.specs.Held.{AreHeld};
 ghost use Rattle.two_phase.specs.Putting.{PutsAll, PutsUpTo};
 
@@ -20,11 +21,11 @@ fn keep_one<K: Keeper>(
     ran: &Record,
 ) -> Result<u64, Memory>
     requires good { IsGood ran.now }
-    requires held { AreHeld (K.known keeper.old) held.old }
+    requires held { AreHeld (held_in (K.known keeper.old)) held.old }
     ensures all { IfOk result (λ faults. faults ≡ 0
         → PutsAll (K.known keeper.old) (K.known keeper.new) ran.now) }
     ensures first { PutsUpTo (K.known keeper.old) (K.known keeper.new) ran.now }
-    ensures held { AreHeld (K.known keeper.new) held.new }
+    ensures held { AreHeld (held_in (K.known keeper.new)) held.new }
     ensures bound { K.bound keeper.new ≡ K.bound keeper.old }
     ensures faults { IsSome (K.bound keeper.old)
         → IfOk result (λ faults. K.faults keeper.old + faults ≤ K.faults keeper.new) }
