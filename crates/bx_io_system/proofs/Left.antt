@@ -1,5 +1,5 @@
 -- What follows from what a source tells.
-use Rattle.std.proofs.Common.{◌≡◌, ℕ, zero, suc, Bool, List, [], ◌∷◌, ◌++◌, length, take, drop, Option, Some, None, refl, sym, ap, ◌∙◌, arith}
+use Rattle.std.proofs.Common.{◌≡◌, ℕ, zero, suc, Bool, List, [], ◌∷◌, ◌++◌, length, take, drop, Option, Some, None, refl, sym, ap, subst, ◌∙◌, arith}
 use Rattle.std.specs.Str.{bytes_eq}
 use Rattle.std.proofs.lemmas.List.{take-append-drop}
 use Rattle.std.proofs.lemmas.Slice.Eq.{bytes_eq-Decides}
@@ -9,7 +9,7 @@ use Rattle.std.proofs.lemmas.Grind.{common_steps}
 use Rattle.bx_io_system.proofs.Telling.{keep_if_some}
 use Rattle.bx_io_system.specs.declared.kind.Kind.TheVariants as kinds
 use Rattle.bx_io_system.specs.Events.{Event, given_of, ended_of}
-use Rattle.std.proofs.Common.{true, false, append-nil, ◌<◌, ◌≤◌, length-take}
+use Rattle.std.proofs.Common.{true, false, append-nil, ◌<◌}
 
 left_piece : (bytes : List ℕ) (was : Option (List ℕ)) (rest : List ℕ) → left_next (kinds.Gave, [], bytes) was ≡ Some rest → was ≡ Some (bytes ++ rest)
 left_piece bytes None rest h = absurd (cc)
@@ -48,23 +48,37 @@ pub given_gave : (n : ℕ) (bytes : List ℕ) (events : List Event) → given_of
 given_gave zero bytes events = refl
 given_gave (suc n) bytes events = given_bytes bytes events
 
+none_less : 0 < 0 → ⊥
+none_less h = omega arith
+
 -- bytes are no end
 pub ended_gave : (n : ℕ) (bytes : List ℕ) (events : List Event) → 0 < length bytes → ended_of (gave n bytes ∷ events) ≡ false
-ended_gave n [] events some = absurd (omega arith)
+ended_gave n [] events some = absurd (none_less some)
 ended_gave zero (b ∷ bytes) events some = refl
 ended_gave (suc n) (b ∷ bytes) events some = refl
 
 -- no bytes where some were asked for are the end
+ended_nothing : (n : ℕ) (events : List Event) → 0 < n → ended_of (gave n [] ∷ events) ≡ true
+ended_nothing zero events some = absurd (none_less some)
+ended_nothing (suc n) events some = refl
+
 pub ended_none : (n : ℕ) (bytes : List ℕ) (events : List Event) → 0 < n → bytes ≡ [] → ended_of (gave n bytes ∷ events) ≡ true
-ended_none zero bytes events some none = absurd (omega arith)
-ended_none (suc n) bytes events some none = ap (λ (b : List ℕ). ended_of (gave_bytes b ∷ events)) none
+ended_none n bytes events some none = subst (λ (b : List ℕ). ended_of (gave n b ∷ events) ≡ true) (sym none) (ended_nothing n events some)
+
+some_not_none : (x : List ℕ) → ◌≡◌ {A = Option (List ℕ)} None (Some x) → ⊥
+some_not_none x h = cc
+
+some_same : (x y : List ℕ) → Some x ≡ Some y → x ≡ y
+some_same x y h = cc
 
 left_none : (was : Option (List ℕ)) (rest : List ℕ) → left_next (kinds.Ended, [], []) was ≡ Some rest → rest ≡ []
-left_none None rest h = absurd (cc)
-left_none (Some []) rest h = let same : [] ≡ rest = cc in sym same
-left_none (Some (x ∷ left)) rest h = absurd (cc)
+left_none None rest h = absurd (some_not_none rest h)
+left_none (Some []) rest h = sym (some_same [] rest h)
+left_none (Some (x ∷ left)) rest h = absurd (some_not_none rest h)
+
+left_nothing : (n : ℕ) (was : Option (List ℕ)) (rest : List ℕ) → 0 < n → left_next (gave n []) was ≡ Some rest → rest ≡ []
+left_nothing zero was rest some h = absurd (none_less some)
+left_nothing (suc n) was rest some h = left_none was rest h
 
 pub none_left_gave : (n : ℕ) (bytes : List ℕ) (was : Option (List ℕ)) (rest : List ℕ) → 0 < n → bytes ≡ [] → left_next (gave n bytes) was ≡ Some rest → rest ≡ []
-none_left_gave zero bytes was rest some none h = absurd (omega arith)
-none_left_gave (suc n) [] was rest some none h = left_none was rest h
-none_left_gave (suc n) (b ∷ bytes) was rest some none h = absurd (cc)
+none_left_gave n bytes was rest some none h = left_nothing n was rest some (subst (λ (b : List ℕ). left_next (gave n b) was ≡ Some rest) none h)

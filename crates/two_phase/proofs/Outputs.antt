@@ -9,6 +9,7 @@ use Rattle.std.specs.declared.cmp.Ordering.{Ordering}
 use Rattle.std.specs.declared.cmp.Ordering.TheVariants.{Less, Greater}
 use Rattle.sha2.specs.Sha256.{sha256}
 use Rattle.bx_io.specs.Holdings.{Holdings}
+use Rattle.bx_io.specs.Told.{Stays}
 use Rattle.bx_tree.specs.Paths.{Atoms, IsBelow, path_cmp}
 use Rattle.bx_tree.specs.Trees.{Files, NoneNested, paths_of}
 use Rattle.bx_tree.specs.Orders.{path_cmp_total}
@@ -34,8 +35,7 @@ line_for path digest = record { path = path; digest = digest }
 -- ## What was fetched so far
 
 abbrev pub AreHeld : Option Holdings → Files → Type 0
-AreHeld None files = Unit {0}
-AreHeld (Some S) files = HoldsAll S (contents_of files)
+AreHeld told files = (S : Holdings) → told ≡ Some S → HoldsAll S (contents_of files)
 
 -- these files are those of the outputs before the rest
 pub record Gathered (held : Option Holdings) (outputs rest : List OutputLine) (files : Files) : Type 0 where
@@ -44,8 +44,7 @@ pub record Gathered (held : Option Holdings) (outputs rest : List OutputLine) (f
   pub unnested : NoneNested (paths_of files)
 
 pub gathered_none : (held : Option Holdings) (outputs : List OutputLine) → Gathered held outputs outputs []
-gathered_none None outputs = record { done = refl; are_held = tt; unnested = none_unnested }
-gathered_none (Some S) outputs = record { done = refl; are_held = tt; unnested = none_unnested }
+gathered_none held outputs = record { done = refl; are_held = λ S is. tt; unnested = none_unnested }
 
 -- ## One more
 
@@ -80,9 +79,8 @@ contents-append (f ∷ fs) gs = ap (λ cs. f.1 ∷ cs) (contents-append fs gs)
 
 held_more : (held : Option Holdings) (files : Files) (path : Atoms) (digest bytes : List ℕ) → AreHeld held files
     → FindsOne held (λ S y. IsContent S digest y) (Some bytes) → AreHeld held (files ++ (path, bytes) ∷ [])
-held_more None files path digest bytes h k = tt
-held_more (Some S) files path digest bytes h k =
-    subst (HoldsAll S) (sym (contents-append files ((path, bytes) ∷ []))) (all_both _ (contents_of files) (bytes ∷ []) h (k.held, tt))
+held_more held files path digest bytes h k = λ S is.
+    subst (HoldsAll S) (sym (contents-append files ((path, bytes) ∷ []))) (all_both _ (contents_of files) (bytes ∷ []) (h S is) ((k S is).held, tt))
 
 -- where a file was put
 was_put : (t : Bool) (files now : Files) (path : Atoms) (bytes : List ℕ) → clashes files path ≡ t
@@ -124,14 +122,22 @@ gathered_all held outputs files g = sym (append-nil (output_lines files)) ∙ g.
 
 pub gathered_end : (held : Option Holdings) (outputs : List OutputLine) (files : Files) → Gathered held outputs [] files
     → FindsOne held (λ S fs. AreOutputs S outputs fs) (Some files)
-gathered_end None outputs files g = tt
-gathered_end (Some S) outputs files g =
-    let all = gathered_all (Some S) outputs files g in
+gathered_end held outputs files g = λ S is.
+    let all = gathered_all held outputs files g in
     record {
       outputs_are = all;
-      held = g.are_held;
+      held = g.are_held S is;
       unnested = subst NoneNested (sym (paths-lines files) ∙ ap output_paths all) g.unnested;
     }
+
+-- what was gathered is so of what is still told
+pub gathered_on : (held now : Option Holdings) (outputs rest : List OutputLine) (files : Files) → Stays held now → Gathered held outputs rest files
+    → Gathered now outputs rest files
+gathered_on held now outputs rest files stays g = record {
+  done = g.done;
+  are_held = λ S is. g.are_held S (stays S is);
+  unnested = g.unnested;
+}
 
 -- ## What is not held, or clashes
 
@@ -145,9 +151,8 @@ held_at S (p ∷ ps) rest o (f ∷ fs) e h = let more : output_lines fs ≡ ps +
 
 pub not_held : (held : Option Holdings) (outputs rest : List OutputLine) (o : OutputLine) (files : Files) → Gathered held outputs (o ∷ rest) files
     → FindsOne held (λ S y. IsContent S o.digest y) None → FindsOne held (λ S fs. AreOutputs S outputs fs) None
-not_held None outputs rest o files g none = tt
-not_held (Some S) outputs rest o files g none =
-    λ fs are. let there = held_at S (output_lines files) rest o fs (are.outputs_are ∙ sym g.done) are.held in none there.0 there.1
+not_held held outputs rest o files g none = λ S is fs are.
+    let there = held_at S (output_lines files) rest o fs (are.outputs_are ∙ sym g.done) are.held in none S is there.0 there.1
 
 either : (a b : Bool) → (a || b) ≡ true → (a ≡ true) ⊎ (b ≡ true)
 either true b e = inl refl
