@@ -24,7 +24,7 @@ fn path_of(alloc: Global, folder: &str, path: &str) -> Result<String, AllocError
     format!(in alloc; "{folder}/{path}")
 }
 
-impl<R: Files + AllocGlobal + Clone + Drop + Send> SystemDisk<R> {
+impl<R: Files + AllocGlobal + Clone + Drop> SystemDisk<R> {
     /// The folder at this path, which need not be there.
     pub fn new(rt: R, folder: String) -> SystemDisk<R>
         ensures { ⟦<SystemDisk<R> as Disk>⟧.calls result ≡ [] }
@@ -53,7 +53,7 @@ fn add_file<R: Files + Drop>(
     Ok(())
 }
 
-impl<R: Files + AllocGlobal + Clone + Drop + Send> Disk for SystemDisk<R> {
+impl<R: Files + AllocGlobal + Clone + Drop> Disk for SystemDisk<R> {
     ghost use Rattle.std.specs.Prelude.{false};
     ghost use Rattle.std.specs.FinMap.{empty};
 
