@@ -1,8 +1,13 @@
 -- What becomes of files by one call after another.
-use Rattle.std.proofs.Common.{◌≡◌, ◌≢◌, ◌<◌, ◌∙◌, ℕ, List, ◌++◌, length, length-append, arith, ap, sym, subst, codes, Result, Ok, Err, Some}
+use Rattle.std.proofs.Common.{◌≡◌, ◌≢◌, ◌<◌, ◌∙◌, ℕ, List, ◌++◌, length, length-append, arith, ap, sym, subst, codes, Result, Ok, Err, Some, refl}
 use Rattle.std.proofs.Common.{None, Option, Vec, String, Global, rules}
-use Rattle.std.specs.Prelude.{option_map}
-use Rattle.std.specs.FinMap.{get, gets, insert, remove}
+use Rattle.std.specs.Prelude.{option_map, option_copied, is_some, not, cond}
+use Rattle.std.proofs.Common.{Bool, true, false, Bor}
+use Rattle.std.proofs.lemmas.Bool.{false≢true}
+use Rattle.std.specs.FinMap.{get, gets, insert, remove, get-insert, get-remove}
+use Rattle.std.specs.Ordering.{nat_cmp, eq_by_cmp}
+use Rattle.std.specs.Cmp.Lexicographic.{slice_cmp, nat_list_cmp_total}
+use Rattle.bx_io_system.proofs.Telling.{other_at}
 use Rattle.std.specs.BTreeMap.{BTreeMap, get_by_text}
 use Rattle.bx_io.specs.Stored.{holdings_of}
 use Rattle.bx_io.proofs.Mapped.{get-holdings_of}
@@ -33,13 +38,15 @@ pub put_here : (files : Files) (path bytes : List ℕ) → get (insert files pat
 put_here files path bytes = grind (gets, rules)
 
 pub put_other : (files : Files) (path bytes q : List ℕ) → (q ≡ path → ⊥) → get (insert files path bytes) q ≡ get files q
-put_other files path bytes q other = grind (gets, rules)
+put_other files path bytes q other =
+    get-insert nat_list_cmp_total files path bytes q ∙ other_at (eq_by_cmp (slice_cmp nat_cmp) q path) q path (Some bytes) (get files q) refl other
 
 pub dropped_here : (files : Files) (path : List ℕ) → get (remove files path) path ≡ None
 dropped_here files path = grind (gets, rules)
 
 pub dropped_other : (files : Files) (path q : List ℕ) → (q ≡ path → ⊥) → get (remove files path) q ≡ get files q
-dropped_other files path q other = grind (gets, rules)
+dropped_other files path q other =
+    get-remove nat_list_cmp_total files path q ∙ other_at (eq_by_cmp (slice_cmp nat_cmp) q path) q path None (get files q) refl other
 
 pub written_to : (before now : Files) (key path items bytes : List ℕ) → now ≡ insert before key items → key ≡ path → items ≡ bytes
     → (get now path ≡ Some bytes) × SameBut before now path
@@ -60,3 +67,12 @@ read_found m path v items is same = get-holdings_of m path ∙ found_bytes (get_
 
 pub read_none : (m : BTreeMap (String Global) (Vec ℕ Global)) (path : List ℕ) → None ≡ get_by_text m path → get (holdings_of m) path ≡ None
 read_none m path is = get-holdings_of m path ∙ ap (option_map (λ (w : Vec ℕ Global). w.items)) (sym is)
+
+true_is_not : (b : Bool) → true ≡ not b → b ≡ true → ⊥
+true_is_not true some here = false≢true (sym some)
+true_is_not false some here = false≢true here
+
+pub absent_at : (m : BTreeMap (String Global) (Vec ℕ Global)) (path : List ℕ) (lent : Option (Bor (Vec ℕ Global))) (b : Bool) → is_some lent ≡ not b → b ≡ true
+    → option_copied lent ≡ get_by_text m path → get (holdings_of m) path ≡ None
+absent_at m path None b some here value = read_none m path value
+absent_at m path (Some v) b some here value = absurd (true_is_not b some here)

@@ -6,8 +6,15 @@ use Rattle.std.specs.Ordering.{nat_cmp, eq_by_cmp}
 use Rattle.std.specs.Cmp.{Equal-is}
 use Rattle.std.specs.Cmp.Lexicographic.{slice_cmp, nat_list_cmp_total}
 use Rattle.std.proofs.lemmas.Bool.{false≢true}
+use Rattle.std.proofs.lemmas.Cmp.{tied_itself}
 use Rattle.std.proofs.lemmas.Slice.Eq.{bytes_eq-Decides}
-use Rattle.bx_io.specs.Holdings.{Holdings, Change, Put, Drop, changed, after_told, StoreTold, Makes, Keeps}
+use Rattle.bx_io.specs.Holdings.{Holdings, Change, Put, Drop, AreNames, name_of, changed, after_told, StoreTold, Makes, Keeps}
+use Rattle.bx_io.specs.Names.{IsName}
+use Rattle.bx_io.proofs.Changes.{names-after}
+use Rattle.bx_io_system.specs.Named.{ToldNames}
+use Rattle.bx_io_system.specs.declared.record.Record.{Record}
+use Rattle.std.specs.Prelude.{IfSome}
+use Rattle.std.proofs.lemmas.List.Elements.{All-nil, All-cons}
 use Rattle.bx_io.specs.Told.{Stays}
 use Rattle.bx_io_system.specs.declared.kind.Kind.TheVariants as kinds
 use Rattle.std.proofs.Common.{sym, cond, ◌++◌, append-nil, OnOk, OnErr, Vec, Global}
@@ -273,15 +280,19 @@ changed_at true q name put held found same here other not = here (same refl)
 changed_at false q name put held found same here other not = other (not refl)
 
 eq_by_cmp-refl : (q : List ℕ) → eq_by_cmp (slice_cmp nat_cmp) q q ≡ true
-eq_by_cmp-refl q = (Equal-is (slice_cmp nat_cmp q q)).1 (nat_list_cmp_total.refl q)
+eq_by_cmp-refl q = (Equal-is (slice_cmp nat_cmp q q)).1 (tied_itself nat_list_cmp_total q)
 
-equal_names : (q name : List ℕ) → eq_by_cmp (slice_cmp nat_cmp) q name ≡ true → q ≡ name
+pub equal_names : (q name : List ℕ) → eq_by_cmp (slice_cmp nat_cmp) q name ≡ true → q ≡ name
 equal_names q name here = slice_cmp-IsAntisymmetric nat_cmp-IsAntisymmetric q name ((Equal-is (slice_cmp nat_cmp q name)).0 here)
 
 other_names : (q name : List ℕ) → eq_by_cmp (slice_cmp nat_cmp) q name ≡ false → q ≡ name → ⊥
 other_names q name other same =
     let here : eq_by_cmp (slice_cmp nat_cmp) q q ≡ true = eq_by_cmp-refl q in
     false≢true (sym (subst (λ (n : List ℕ). eq_by_cmp (slice_cmp nat_cmp) q n ≡ false) (sym same) other) ∙ here)
+
+pub other_at : (b : Bool) (q name : List ℕ) (put held : Option (List ℕ)) → eq_by_cmp (slice_cmp nat_cmp) q name ≡ b → (q ≡ name → ⊥) → cond b put held ≡ held
+other_at true q name put held here other = absurd (other (equal_names q name here))
+other_at false q name put held not other = refl
 
 told_at_some : (told : Option Holdings) (held : Holdings) (q : List ℕ) (found : Option (List ℕ)) → told ≡ Some held → told_at told q ≡ Some found → get held q ≡ found
 told_at_some told held q found is at =
@@ -315,3 +326,61 @@ agrees_drop first files now events closed name q agrees here others =
     ∙ changed_at (eq_by_cmp (slice_cmp nat_cmp) q name) q name None (get is.0 q) (get now q) (equal_names q name)
     (λ same. sym here ∙ ap (λ (n : List ℕ). get now n) (sym same)) (λ other. is.2 ∙ sym (others other)) (other_names q name) in
     ap (λ (t : Option Holdings). told_at t q) made ∙ ap Some at
+
+-- what is noted of a change names it by equal bytes
+pub agrees_put_noted : (first files now : Holdings) (events : List Event) (closed : Bool) (name noted bytes q : List ℕ) → noted ≡ name
+    → told_at (told first events closed) q ≡ Some (get files q) → (get now name ≡ Some bytes) → ((q ≡ name → ⊥) → get now q ≡ get files q)
+    → told_at (told first ((kinds.Put, noted, bytes) ∷ events) closed) q ≡ Some (get now q)
+agrees_put_noted first files now events closed name noted bytes q same agrees here others =
+    subst (λ (n : List ℕ). told_at (told first ((kinds.Put, n, bytes) ∷ events) closed) q ≡ Some (get now q)) (sym same)
+    (agrees_put first files now events closed name bytes q agrees here others)
+
+pub agrees_drop_noted : (first files now : Holdings) (events : List Event) (closed : Bool) (name noted q : List ℕ) → noted ≡ name
+    → told_at (told first events closed) q ≡ Some (get files q) → (get now name ≡ None) → ((q ≡ name → ⊥) → get now q ≡ get files q)
+    → told_at (told first ((kinds.Dropped, noted, []) ∷ events) closed) q ≡ Some (get now q)
+agrees_drop_noted first files now events closed name noted q same agrees here others =
+    subst (λ (n : List ℕ). told_at (told first ((kinds.Dropped, n, []) ∷ events) closed) q ≡ Some (get now q)) (sym same)
+    (agrees_drop first files now events closed name q agrees here others)
+
+-- ## Names
+
+held_same : (x y : Holdings) → Some x ≡ Some y → x ≡ y
+held_same x y h = cc
+
+-- what is told less often holds names still
+pub named_stays : (before now : Option Holdings) → Stays before now → ToldNames before → ToldNames now
+named_stays before now stays named = λ held h. named held (stays held h)
+
+pub named_at_first : (first held : Holdings) (events : List Event) (closed : Bool) → first ≡ held → events ≡ [] → closed ≡ true → AreNames held
+    → ToldNames (told first events closed)
+named_at_first first held events closed same none tells names =
+    rw (same, none, tells) (λ h is. subst AreNames (held_same held h is) names)
+
+named_change : (was : Option Holdings) (change : Change) → IsName (name_of change) → ToldNames was → ToldNames (after_told was (change ∷ []))
+named_change None change named names = λ held h. absurd (cc)
+named_change (Some before) change named names = λ held h.
+    subst AreNames (held_same (changed before change) held h)
+    (names-after before (change ∷ []) (names before refl) (All-cons (λ c. IsName (name_of c)) change [] named (All-nil (λ c. IsName (name_of c)))))
+
+-- a change of a name leaves names
+pub named_changed : (first : Holdings) (events : List Event) (closed : Bool) (change : Change) (r : Result (Unit {0}) PutFault) → IsName (name_of change)
+    → ToldNames (told first events closed) → ToldNames (told first (change_event change r ∷ events) closed)
+named_changed first events closed change (Ok x) named names =
+    subst ToldNames (sym (told_made first events closed change)) (named_change (told first events closed) change named names)
+named_changed first events closed change (Err fault) named names = subst ToldNames (sym (told_refused first events closed change fault)) names
+
+pub if_named : (o : Option Holdings) → ToldNames o → IfSome o AreNames
+if_named None names = tt
+if_named (Some held) names = names held refl
+
+-- ## Records
+
+pub noted_at : (log now : Record) (q : List ℕ) (found : Option (List ℕ)) → now ≡ log → told_at (told log.held log.events log.closed) q ≡ Some found
+    → told_at (told now.held now.events now.closed) q ≡ Some found
+noted_at log now q found is at = subst (λ (r : Record). told_at (told r.held r.events r.closed) q ≡ Some found) (sym is) at
+
+pub noted_names : (before now : Record) (change : Change) (r : Result (Unit {0}) PutFault) → now ≡ record before { events = change_event change r ∷ before.events; }
+    → IsName (name_of change) → ToldNames (told before.held before.events before.closed) → ToldNames (told now.held now.events now.closed)
+noted_names before now change r is named names =
+    subst (λ (log : Record). ToldNames (told log.held log.events log.closed)) (sym is)
+    (named_changed before.held before.events before.closed change r named names)

@@ -1,5 +1,5 @@
 -- That names are names in one way at most.
-use Rattle.std.specs.Prelude.{◌≡◌, ◌≤◌, ◌<◌, ◌⊎◌, ℕ, List, [], ◌∷◌, length, slice_index, drop, All}
+use Rattle.std.specs.Prelude.{◌≡◌, ◌≤◌, ◌<◌, ◌⊎◌, ℕ, List, [], ◌∷◌, length, slice_index, drop, All, Option, Some}
 use Rattle.std.specs.Coded.{Coded-set, coded_ℕ, ×_prop, Π_prop, le_prop}
 use Rattle.std.proofs.Common.{inl, inr, ap, ◌∙◌, arith}
 use Rattle.bx_io.specs.Names.{IsKindLetter, IsLowerHexDigit, IsName}
@@ -44,3 +44,10 @@ IsName-prop text x y =
 pub AreNames-prop : (held : Holdings) → IsProp (AreNames held)
 AreNames-prop held x y =
     ap (λ each. record { each = each }) (Π_prop (λ name. Π_prop (λ bytes. Π_prop (λ _. IsName-prop name))) x.each y.each)
+
+-- each held name that is told is a name
+abbrev pub ToldNames : Option Holdings → Type 0
+ToldNames told = (held : Holdings) → told ≡ Some held → AreNames held
+
+pub ToldNames-prop : (told : Option Holdings) → IsProp (ToldNames told)
+ToldNames-prop told = Π_prop (λ held. Π_prop (λ _. AreNames-prop held))

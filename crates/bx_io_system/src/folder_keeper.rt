@@ -4,7 +4,8 @@ ghost use Rattle.std.specs.Prelude.{◌≡◌, ℕ, List, [], true, Some, IsSome
 ghost use Rattle.std.specs.FinMap.{get};
 ghost use Rattle.bx_io.specs.Holdings.{AreNames, Holdings, held_in};
 ghost use Rattle.bx_io.specs.Names.{IsName};
-ghost use Rattle.bx_io_system.specs.Named.{AreNames-prop};
+ghost use Rattle.bx_io_system.specs.Named.{ToldNames, ToldNames-prop};
+ghost use Rattle.bx_io_system.specs.Telling.{told};
 
 use crate::disk::Disk;
 use crate::system::System;
@@ -18,7 +19,9 @@ use std::alloc::{AllocError, Global};
 #[derive(Drop)]
 pub struct FolderKeeper<D: Disk> {
     system: System<D>,
-    ghost named: { AreNames system.log.held } by { AreNames-prop system.log.held },
+    ghost named: { ToldNames (told system.log.held system.log.events system.log.closed) } by {
+        ToldNames-prop (told system.log.held system.log.events system.log.closed)
+    },
 }
 
 /// A reader of the folder of a [`FolderKeeper`], with a count of faults of its own.
@@ -51,7 +54,6 @@ impl<D: Disk + Send> FolderKeeper<D> {
 
 impl<D: Disk + Send> KeepReader for FolderReader<D> {
     ghost use Rattle.std.specs.Prelude.{None};
-    ghost use Rattle.bx_io_system.specs.Telling.{told};
 
     ghost held = { λ r. told r.system.log.held r.system.log.events r.system.log.closed };
 
@@ -68,7 +70,7 @@ impl<D: Disk + Send> Keeper for FolderKeeper<D> {
     type Reader = FolderReader<D>;
 
     ghost use Rattle.std.specs.Prelude.{None};
-    ghost use Rattle.bx_io_system.specs.Telling.{told, made_of};
+    ghost use Rattle.bx_io_system.specs.Telling.{made_of};
 
     ghost known = { λ k. record {
       held = told k.system.log.held k.system.log.events k.system.log.closed;

@@ -1,4 +1,4 @@
-use Rattle.bx_io_system.proofs.Telling.{agrees_drop, telling_change}
+use Rattle.bx_io_system.proofs.Telling.{noted_at, agrees_drop_noted, telling_change}
 use Rattle.bx_io.specs.Holdings.{Drop}
 use Rattle.bx_io_system.proofs.system.System.drop_name.Goals as goal
 
@@ -6,8 +6,8 @@ pub invariant_of-self-clause-agrees : goal.invariant_of-self-clause-agrees
 invariant_of-self-clause-agrees g c q known named =
     let log = c.args.self.now.log in
     let dropped = c.in-Ok.ensures known in
-    rw (c.noted-self.ensures, c.as_bytes.ensures.value)
-    (agrees_drop log.held _ _ log.events log.closed c.args.name.now q (c.args.self.now.agrees q known named) dropped.0 (dropped.1 q named))
+    noted_at _ c.noted-self.result q _ c.noted-self.ensures
+    (agrees_drop_noted log.held _ _ log.events log.closed c.args.name.now c.as_bytes.result.now q c.as_bytes.ensures.value (c.args.self.now.agrees q known named) dropped.0 (dropped.1 q named))
 
 pub invariant_of-self-clause-telling : goal.invariant_of-self-clause-telling
 invariant_of-self-clause-telling g c known =
