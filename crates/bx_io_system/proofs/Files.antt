@@ -1,7 +1,7 @@
 -- What becomes of files by one call after another.
-use Rattle.std.proofs.Common.{◌≡◌, ◌≢◌, ◌<◌, ◌∙◌, ℕ, List, ◌++◌, length, length-append, arith, ap, sym, subst, codes, Result, Ok, Err, Some, refl}
+use Rattle.std.proofs.Common.{◌≡◌, ◌∙◌, ℕ, List, ◌++◌, length, length-append, arith, ap, sym, codes, Result, Ok, Err, Some, refl}
 use Rattle.std.proofs.Common.{None, Option, Vec, String, Global, rules}
-use Rattle.std.specs.Prelude.{option_map, option_copied, is_some, not, cond}
+use Rattle.std.specs.Prelude.{option_map, option_copied, is_some, not}
 use Rattle.std.proofs.Common.{Bool, true, false, Bor}
 use Rattle.std.proofs.lemmas.Bool.{false≢true}
 use Rattle.std.specs.FinMap.{get, gets, insert, remove, get-insert, get-remove}

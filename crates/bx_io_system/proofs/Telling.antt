@@ -1,6 +1,5 @@
 -- What follows from what a folder tells.
-use Rattle.std.proofs.Common.{◌≡◌, ℕ, Bool, true, false, ◌&&◌, List, [], ◌∷◌, Option, Some, None, refl, ap, subst, ◌∙◌, IsSome, option_map, Result, Ok, Err}
-use Rattle.std.specs.Str.{bytes_eq}
+use Rattle.std.proofs.Common.{◌≡◌, ℕ, Bool, true, false, ◌&&◌, List, [], ◌∷◌, Option, Some, None, refl, ap, subst, ◌∙◌, IsSome, Result, Ok, Err}
 use Rattle.std.specs.FinMap.{get, insert, remove, get-insert, get-remove, slice_cmp-IsAntisymmetric, nat_cmp-IsAntisymmetric}
 use Rattle.std.specs.Ordering.{nat_cmp, eq_by_cmp}
 use Rattle.std.specs.Cmp.{Equal-is}
@@ -32,7 +31,7 @@ use Rattle.bx_io.specs.declared.keeper.PutFault.{PutFault}
 use Rattle.bx_io.specs.declared.keeper.PutFault.TheVariants as put_faults
 use Rattle.bx_io_system.specs.Events.{Event, keep_if}
 use Rattle.bx_io_system.specs.Answers.{event_for, change_event, fault_of, got_of, listed_event}
-use Rattle.bx_io_system.specs.Telling.{has_bytes, is_absent, step, next, seen, tells, gate, told, made_of}
+use Rattle.bx_io_system.specs.Telling.{has_bytes, is_absent, next, seen, tells, gate, told, made_of}
 
 pub keep_if_some : {X : Type 0} (b : Bool) (x y : X) → keep_if b x ≡ Some y → (b ≡ true) × (x ≡ y)
 keep_if_some true x y h = (refl, cc)
@@ -294,13 +293,8 @@ pub other_at : (b : Bool) (q name : List ℕ) (put held : Option (List ℕ)) →
 other_at true q name put held here other = absurd (other (equal_names q name here))
 other_at false q name put held not other = refl
 
-told_at_some : (told : Option Holdings) (held : Holdings) (q : List ℕ) (found : Option (List ℕ)) → told ≡ Some held → told_at told q ≡ Some found → get held q ≡ found
-told_at_some told held q found is at =
-    let here : Some (get held q) ≡ Some found = sym (ap (λ (t : Option Holdings). told_at t q) is) ∙ at in
-    cc
-
 -- the files agree after a put
-pub agrees_put : (first files now : Holdings) (events : List Event) (closed : Bool) (name bytes q : List ℕ)
+agrees_put : (first files now : Holdings) (events : List Event) (closed : Bool) (name bytes q : List ℕ)
     → told_at (told first events closed) q ≡ Some (get files q) → (get now name ≡ Some bytes) → ((q ≡ name → ⊥) → get now q ≡ get files q)
     → told_at (told first (change_event (Put name bytes) (Ok tt) ∷ events) closed) q ≡ Some (get now q)
 agrees_put first files now events closed name bytes q agrees here others =
@@ -314,7 +308,7 @@ agrees_put first files now events closed name bytes q agrees here others =
     ap (λ (t : Option Holdings). told_at t q) made ∙ ap Some at
 
 -- the files agree after a drop
-pub agrees_drop : (first files now : Holdings) (events : List Event) (closed : Bool) (name q : List ℕ)
+agrees_drop : (first files now : Holdings) (events : List Event) (closed : Bool) (name q : List ℕ)
     → told_at (told first events closed) q ≡ Some (get files q) → (get now name ≡ None) → ((q ≡ name → ⊥) → get now q ≡ get files q)
     → told_at (told first (change_event (Drop name) (Ok tt) ∷ events) closed) q ≡ Some (get now q)
 agrees_drop first files now events closed name q agrees here others =
@@ -327,34 +321,10 @@ agrees_drop first files now events closed name q agrees here others =
     (λ same. sym here ∙ ap (λ (n : List ℕ). get now n) (sym same)) (λ other. is.2 ∙ sym (others other)) (other_names q name) in
     ap (λ (t : Option Holdings). told_at t q) made ∙ ap Some at
 
--- what is noted of a change names it by equal bytes
-pub agrees_put_noted : (first files now : Holdings) (events : List Event) (closed : Bool) (name noted bytes q : List ℕ) → noted ≡ name
-    → told_at (told first events closed) q ≡ Some (get files q) → (get now name ≡ Some bytes) → ((q ≡ name → ⊥) → get now q ≡ get files q)
-    → told_at (told first ((kinds.Put, noted, bytes) ∷ events) closed) q ≡ Some (get now q)
-agrees_put_noted first files now events closed name noted bytes q same agrees here others =
-    subst (λ (n : List ℕ). told_at (told first ((kinds.Put, n, bytes) ∷ events) closed) q ≡ Some (get now q)) (sym same)
-    (agrees_put first files now events closed name bytes q agrees here others)
-
-pub agrees_drop_noted : (first files now : Holdings) (events : List Event) (closed : Bool) (name noted q : List ℕ) → noted ≡ name
-    → told_at (told first events closed) q ≡ Some (get files q) → (get now name ≡ None) → ((q ≡ name → ⊥) → get now q ≡ get files q)
-    → told_at (told first ((kinds.Dropped, noted, []) ∷ events) closed) q ≡ Some (get now q)
-agrees_drop_noted first files now events closed name noted q same agrees here others =
-    subst (λ (n : List ℕ). told_at (told first ((kinds.Dropped, n, []) ∷ events) closed) q ≡ Some (get now q)) (sym same)
-    (agrees_drop first files now events closed name q agrees here others)
-
 -- ## Names
 
 held_same : (x y : Holdings) → Some x ≡ Some y → x ≡ y
 held_same x y h = cc
-
--- what is told less often holds names still
-pub named_stays : (before now : Option Holdings) → Stays before now → ToldNames before → ToldNames now
-named_stays before now stays named = λ held h. named held (stays held h)
-
-pub named_at_first : (first held : Holdings) (events : List Event) (closed : Bool) → first ≡ held → events ≡ [] → closed ≡ true → AreNames held
-    → ToldNames (told first events closed)
-named_at_first first held events closed same none tells names =
-    rw (same, none, tells) (λ h is. subst AreNames (held_same held h is) names)
 
 named_change : (was : Option Holdings) (change : Change) → IsName (name_of change) → ToldNames was → ToldNames (after_told was (change ∷ []))
 named_change None change named names = λ held h. absurd (cc)
@@ -363,7 +333,7 @@ named_change (Some before) change named names = λ held h.
     (names-after before (change ∷ []) (names before refl) (All-cons (λ c. IsName (name_of c)) change [] named (All-nil (λ c. IsName (name_of c)))))
 
 -- a change of a name leaves names
-pub named_changed : (first : Holdings) (events : List Event) (closed : Bool) (change : Change) (r : Result (Unit {0}) PutFault) → IsName (name_of change)
+named_changed : (first : Holdings) (events : List Event) (closed : Bool) (change : Change) (r : Result (Unit {0}) PutFault) → IsName (name_of change)
     → ToldNames (told first events closed) → ToldNames (told first (change_event change r ∷ events) closed)
 named_changed first events closed change (Ok x) named names =
     subst ToldNames (sym (told_made first events closed change)) (named_change (told first events closed) change named names)
@@ -375,11 +345,25 @@ if_named (Some held) names = names held refl
 
 -- ## Records
 
-pub noted_at : (log now : Record) (q : List ℕ) (found : Option (List ℕ)) → now ≡ log → told_at (told log.held log.events log.closed) q ≡ Some found
-    → told_at (told now.held now.events now.closed) q ≡ Some found
-noted_at log now q found is at = subst (λ (r : Record). told_at (told r.held r.events r.closed) q ≡ Some found) (sym is) at
+-- the files agree after a change that was noted
+pub agrees_put_noted : (before now : Record) (files after : Holdings) (name noted bytes q : List ℕ) → now ≡ record before { events = (kinds.Put, noted, bytes) ∷ before.events }
+    → noted ≡ name → told_at (told before.held before.events before.closed) q ≡ Some (get files q) → (get after name ≡ Some bytes) → ((q ≡ name → ⊥) → get after q ≡ get files q)
+    → told_at (told now.held now.events now.closed) q ≡ Some (get after q)
+agrees_put_noted before now files after name noted bytes q is same agrees here others =
+    subst (λ (log : Record). told_at (told log.held log.events log.closed) q ≡ Some (get after q)) (sym is)
+    (subst (λ (n : List ℕ). told_at (told before.held ((kinds.Put, n, bytes) ∷ before.events) before.closed) q ≡ Some (get after q)) (sym same)
+    (agrees_put before.held files after before.events before.closed name bytes q agrees here others))
 
-pub noted_names : (before now : Record) (change : Change) (r : Result (Unit {0}) PutFault) → now ≡ record before { events = change_event change r ∷ before.events; }
+pub agrees_drop_noted : (before now : Record) (files after : Holdings) (name noted q : List ℕ) → now ≡ record before { events = (kinds.Dropped, noted, []) ∷ before.events }
+    → noted ≡ name → told_at (told before.held before.events before.closed) q ≡ Some (get files q) → (get after name ≡ None) → ((q ≡ name → ⊥) → get after q ≡ get files q)
+    → told_at (told now.held now.events now.closed) q ≡ Some (get after q)
+agrees_drop_noted before now files after name noted q is same agrees here others =
+    subst (λ (log : Record). told_at (told log.held log.events log.closed) q ≡ Some (get after q)) (sym is)
+    (subst (λ (n : List ℕ). told_at (told before.held ((kinds.Dropped, n, []) ∷ before.events) before.closed) q ≡ Some (get after q)) (sym same)
+    (agrees_drop before.held files after before.events before.closed name q agrees here others))
+
+-- a change of a name that was noted leaves names
+pub noted_names : (before now : Record) (change : Change) (r : Result (Unit {0}) PutFault) → now ≡ record before { events = change_event change r ∷ before.events }
     → IsName (name_of change) → ToldNames (told before.held before.events before.closed) → ToldNames (told now.held now.events now.closed)
 noted_names before now change r is named names =
     subst (λ (log : Record). ToldNames (told log.held log.events log.closed)) (sym is)

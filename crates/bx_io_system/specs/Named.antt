@@ -1,5 +1,5 @@
 -- That names are names in one way at most.
-use Rattle.std.specs.Prelude.{◌≡◌, ◌≤◌, ◌<◌, ◌⊎◌, ℕ, List, [], ◌∷◌, length, slice_index, drop, All, Option, Some}
+use Rattle.std.specs.Prelude.{◌≡◌, ◌⊎◌, ℕ, List, length, slice_index, drop, All, Option, Some}
 use Rattle.std.specs.Coded.{Coded-set, coded_ℕ, ×_prop, Π_prop, le_prop}
 use Rattle.std.proofs.Common.{inl, inr, ap, ◌∙◌, arith}
 use Rattle.bx_io.specs.Names.{IsKindLetter, IsLowerHexDigit, IsName}

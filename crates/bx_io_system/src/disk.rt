@@ -23,7 +23,7 @@ pub trait Disk: Drop {
     /// Another handle of the same files.
     fn again(&self, alloc: Global) -> Result<Self, AllocError>
     where
-        Self: Sized
+        Self: Sized,
         ensures files { IfOk result (λ disk. files disk ≡ files self.now) }
         ensures calls { IfOk result (λ disk. calls disk ≡ []) };
 

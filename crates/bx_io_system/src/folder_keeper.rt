@@ -19,9 +19,7 @@ use std::alloc::{AllocError, Global};
 #[derive(Drop)]
 pub struct FolderKeeper<D: Disk> {
     system: System<D>,
-    ghost named: { ToldNames (told system.log.held system.log.events system.log.closed) } by {
-        ToldNames-prop (told system.log.held system.log.events system.log.closed)
-    },
+    ghost named: { ToldNames (told system.log.held system.log.events system.log.closed) } by { ToldNames-prop _ },
 }
 
 /// A reader of the folder of a [`FolderKeeper`], with a count of faults of its own.

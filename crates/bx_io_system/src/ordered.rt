@@ -53,12 +53,7 @@ fn add_name(names: &mut Vec<String>, name: String) -> io::Result<()>
 }
 
 // Adds the names among the files of the folder of a kind.
-fn add_files(
-    alloc: Global,
-    kind: &str,
-    files: &[String],
-    names: &mut Vec<String>,
-) -> io::Result<()>
+fn add_files(alloc: Global, kind: &str, files: &[String], names: &mut Vec<String>) -> io::Result<()>
     requires { AreAllNames names.old.items }
     ensures { AreAllNames names.new.items }
 {

@@ -72,8 +72,12 @@ impl<D: Disk> System<D> {
     {
         match done {
             Ok(bytes) => {
-                self.log =
-                    Record::noted(&self.log, &Kind::Found, name.as_bytes(), bytes.as_slice());
+                self.log = Record::noted(
+                    &self.log,
+                    &Kind::Found,
+                    name.as_bytes(),
+                    bytes.as_slice(),
+                );
                 Got::Found(bytes)
             }
             Err(error) => match error.kind() {

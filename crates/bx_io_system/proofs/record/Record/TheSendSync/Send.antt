@@ -1,4 +1,4 @@
-use denote.Param.Send.{IsSend, owning_send, sendable}
+use denote.Param.Send.{IsSend, owning_send}
 use Rattle.bx_io_system.specs.contracts.record.Record.{the_row, the_type}
 
 pub send : IsSend the_row

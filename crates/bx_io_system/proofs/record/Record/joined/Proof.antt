@@ -20,12 +20,8 @@ use types.ByLocal.{alloc_all, pass_all, free_all, look_at, sets}
 use denote.Exit.{yes}
 use denote.RattleType.{owns}
 use denote.Ref.{shr_vals, shr_Tells}
-use denote.Builtin.{u8, u64}
-use denote.Slice.{slice_val, shr_slice_vals, shr_slice_Tells}
-use Rattle.std.proofs.Common.{◌<◌, ◌^◌, ◌++◌, length}
 use Rattle.std.specs.Prelude.{◌&&◌}
 use Rattle.bx_io_system.specs.Telling.{told, tells}
-use denote.Triple.Walked.{stay_none_slice, Goes-none_slice}
 use denote.Shadow.{pure_i}
 use denote.Signature.{plain, types_at}
 use denote.Triple.Entry.{on_entry, alive, Args}

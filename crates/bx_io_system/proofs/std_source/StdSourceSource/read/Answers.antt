@@ -1,5 +1,5 @@
-use Rattle.std.proofs.Common.{◌≡◌, length, take, Some}
-use Rattle.bx_io_system.specs.Events.{left_of, left_next, gave}
+use Rattle.std.proofs.Common.{length, take}
+use Rattle.bx_io_system.specs.Events.{left_of}
 use Rattle.bx_io_system.proofs.Left.{left_gave}
 use Rattle.bx_io_system.proofs.std_source.StdSourceSource.read.Goals as goal
 
