@@ -3,7 +3,7 @@ use Rattle.std.specs.Prelude.{◌≡◌, ◌≢◌, ◌⊎◌, ◌≤◌, ℕ, L
 use Rattle.bx_io.specs.Causes.{HasCause}
 use Rattle.bx_io.specs.Holdings.{Holdings, held_in}
 use Rattle.bx_engine_words.specs.declared.order.Order.{Order}
-use Rattle.retire.specs.Keeping.{OnlyPuts}
+use Rattle.retire.specs.Saving.{OnlyPuts}
 use Rattle.two_phase_meaning.specs.Honest.{Honest}
 use Rattle.bx_engine.specs.Calls.{Call}
 use Rattle.bx_engine.specs.Counting.{AppendsNotes, IsShown}

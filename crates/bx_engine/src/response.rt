@@ -1,8 +1,8 @@
 //! What a build of an input comes to: its status, its output and its notes.
 
 ghost use Rattle.std.specs.Prelude.{◌≡◌, ◌≤◌, [], ℕ, List, Some, IsSome, false, IfOk, OnOk, if◌then◌else◌, length};
-ghost use Rattle.std.specs.List.{AllByRecursion, list_all};
-ghost use Rattle.bx_io.specs.Holdings.{Holdings, held_in};
+ghost use Rattle.std.specs.List.{AllByRecursion};
+ghost use Rattle.bx_io.specs.Holdings.{Holdings, held_in, StoreState as AnyStore};
 ghost use Rattle.bx_tree.specs.Bundle.{IsBundle, IsInSize};
 ghost use Rattle.bx_tree.specs.Paths.{IsPath};
 ghost use Rattle.bx_tree.specs.Trees.{paths_of};
@@ -10,10 +10,9 @@ ghost use Rattle.graph_check.specs.Rules.{KeepsRules};
 ghost use Rattle.pip_model_types.specs.Made.{made_files};
 ghost use Rattle.two_phase_meaning.specs.Honest.{Honest};
 ghost use Rattle.retire.specs.Builds.{IsFair, LeavesFair};
-ghost use Rattle.retire.specs.Keeping.{OnlyPuts};
-ghost use Rattle.violations.specs.Verdicts as ends;
 ghost use Rattle.bx_engine.specs.Calls.{change_of};
 ghost use Rattle.bx_engine.specs.Counting.{given_files};
+ghost use Rattle.retire.specs.Saving.{OnlyPuts};
 ghost use Rattle.bx_engine.specs.Ending as endings;
 ghost use Rattle.bx_engine.specs.Expected.{limits_of};
 ghost use Rattle.bx_engine.specs.Responses.{IsBuildResponse, IsReportOf, IsResponseOf, IsResponseTo};
@@ -21,21 +20,19 @@ ghost use Rattle.bx_engine.specs.Responses.{IsResponseToBundle, IsResponseToFaul
 ghost use Rattle.bx_engine.specs.Statuses.{IsRefusal};
 ghost use Rattle.bx_engine.specs.Stores.{FairStore, StoreLeft, uses_store};
 
-use crate::Memory;
 use crate::fault::{InputFault, input_name};
 use crate::limits::is_cached;
 use crate::output::output;
 use crate::planning::front;
 use crate::status::Status;
-use build_report::{Counts, notes, refused_report, report};
+use build_report::{Counts, all_succeeded, notes, refused_report, report};
 use bx_engine_front::{FrontFault, Refusal};
 use bx_engine_words::Order;
 use bx_io::{Gate, Keeper};
-use bx_tree::{BundleFault, Text, Tree, read_bundle, reserved};
+use bx_tree::{BundleFault, Memory, Text, Tree, read_bundle, reserved};
 use pip_model::{Made, MadeFile, Plan, Sources};
 use retire::{RetireTally, Retired, retire_empty};
 use std::alloc::{AllocError, Global};
-use violations::Verdict;
 
 /// What a build comes to: its status, all bytes of its output, and its notes.
 #[derive(Drop)]
@@ -80,12 +77,6 @@ fn refuse_fault(alloc: Global, fault: FrontFault) -> Result<Response, Memory>
         FrontFault::Refused(refusal) => refuse_specification(alloc, &refusal),
         FrontFault::Memory => Err(AllocError),
     }
-}
-
-fn all_succeeded(verdicts: &[Verdict]) -> bool
-    ensures { result ≡ list_all ends.is_success verdicts.now }
-{
-    verdicts.iter().all(|verdict| verdict.is_success())
 }
 
 // The status of a build, by whether all pips succeeded.

@@ -9,7 +9,7 @@ use Rattle.std.proofs.lemmas.List.Elements.{All-head, All-tail}
 use Rattle.bx_io.specs.Causes.{Rose, last_count}
 use Rattle.bx_io.specs.Names.{IsName}
 use Rattle.bx_io.specs.Told.{Stays}
-use Rattle.bx_io.specs.Holdings.{Holdings, AreNames, Change, Put, Drop, changed, holdings_after, name_of, StoreState, state_after, StoreTold, told_of, held_in, after_told, Makes, Keeps, MakesPrefix}
+use Rattle.bx_io.specs.Holdings.{Holdings, AreNames, Change, Put, Drop, changed, holdings_after, name_of, StoreState, state_after, StoreTold, told_of, held_in, after_told, Makes, Keeps, MakesPrefix, IsPrefix}
 
 pub after-append : (held : Holdings) (first next : List Change) → holdings_after held (first ++ next) ≡ holdings_after (holdings_after held first) next
 after-append held [] next = refl
@@ -156,3 +156,8 @@ prefix_of_next before between now first next done made = record {
 -- a count that can still rise rose by one at least
 pub rose_by_one : (before now : ℕ) → Rose before now → now < last_count → before + 1 ≤ now
 rose_by_one before now rose below = omega (arith, rose, below)
+
+-- only no changes at all come before no changes
+pub nothing_before : (start : List Change) → IsPrefix start [] → start ≡ []
+nothing_before [] p = refl
+nothing_before (c ∷ cs) p = let joined : c ∷ (cs ++ p.rest) ≡ [] = p.joined in absurd cc

@@ -4,7 +4,7 @@ pub mod Told
 pub mod Holdings
 pub mod Answers
 pub mod Numbered
-pub mod Kept
+pub mod StoreCodes
 pub mod Memories
 pub mod Calls
 pub mod Stored

@@ -8,7 +8,6 @@ ghost use Rattle.bx_io.specs.Holdings.{AreNames, Holdings, Keeps, Makes, StoreTo
 ghost use Rattle.bx_io.specs.Answers.{Finds, Lists, ListsNames};
 ghost use Rattle.bx_io.specs.Told.{Stays};
 
-use crate::fault::Memory;
 use std::alloc::{AllocError, AllocFailed, Global};
 
 /// The answer to a look under a name.
@@ -85,7 +84,7 @@ pub trait Keeper {
     ghost bound: { Self → Option ℕ };
 
     /// A reader of what the store holds now. Only running out of memory is an error.
-    fn reader(&self, alloc: Global) -> Result<Self::Reader, Memory>
+    fn reader(&self, alloc: Global) -> Result<Self::Reader, AllocError>
         ensures held { IfOk result (λ reader. Self.Reader.held reader ≡ held_in (known self.now)) }
         ensures names { IfSome (held_in (known self.now)) AreNames }
         ensures bound { IfOk result (λ reader. Self.Reader.bound reader ≡ bound self.now) }

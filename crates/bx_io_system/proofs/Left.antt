@@ -10,6 +10,7 @@ use Rattle.bx_io_system.proofs.Telling.{keep_if_some}
 use Rattle.bx_io_system.specs.declared.kind.Kind.TheVariants as kinds
 use Rattle.bx_io_system.specs.Events.{Event, given_of, ended_of}
 use Rattle.std.proofs.Common.{true, false, append-nil, ◌<◌}
+use Rattle.std.proofs.lemmas.Option.{same_Some}
 
 left_piece : (bytes : List ℕ) (was : Option (List ℕ)) (rest : List ℕ) → left_next (kinds.Gave, [], bytes) was ≡ Some rest → was ≡ Some (bytes ++ rest)
 left_piece bytes None rest h = absurd (cc)
@@ -68,12 +69,9 @@ ended_none n bytes events some none = subst (λ (b : List ℕ). ended_of (gave n
 some_not_none : (x : List ℕ) → ◌≡◌ {A = Option (List ℕ)} None (Some x) → ⊥
 some_not_none x h = cc
 
-some_same : (x y : List ℕ) → Some x ≡ Some y → x ≡ y
-some_same x y h = cc
-
 left_none : (was : Option (List ℕ)) (rest : List ℕ) → left_next (kinds.Ended, [], []) was ≡ Some rest → rest ≡ []
 left_none None rest h = absurd (some_not_none rest h)
-left_none (Some []) rest h = sym (some_same [] rest h)
+left_none (Some []) rest h = sym (same_Some [] rest h)
 left_none (Some (x ∷ left)) rest h = absurd (some_not_none rest h)
 
 left_nothing : (n : ℕ) (was : Option (List ℕ)) (rest : List ℕ) → 0 < n → left_next (gave n []) was ≡ Some rest → rest ≡ []

@@ -1,4 +1,4 @@
-//! Implementations of the traits of `bx_io` over system streams and a folder on disk.
+//! Implementations of the traits of `bx_io` over system streams and a folder on disk, and the arguments of a call.
 //!
 //! An adapter says what the system answered, and keeps a record of it that takes no bytes. A stream or a folder
 //! had any contents at first, and tells what it has or holds as long as no answer disagrees with these and with
@@ -18,6 +18,7 @@ mod std_sink;
 mod std_source;
 mod system;
 mod system_disk;
+mod words;
 
 pub use disk::Disk;
 pub use folder_keeper::{FolderKeeper, FolderReader};
@@ -30,3 +31,4 @@ pub use std_sink::StdSink;
 pub use std_source::StdSource;
 pub use system::System;
 pub use system_disk::SystemDisk;
+pub use words::program_words;

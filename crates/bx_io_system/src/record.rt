@@ -3,7 +3,7 @@
 ghost use Rattle.std.specs.Prelude.{◌≡◌, ℕ, Bool, true, ◌&&◌, List, [], ◌∷◌};
 ghost use Rattle.std.specs.Borrow.{ftrue};
 ghost use Rattle.bx_io.specs.Holdings.{Holdings};
-ghost use Rattle.bx_io.specs.Kept.{holdings_code};
+ghost use Rattle.bx_io.specs.StoreCodes.{holdings_code};
 ghost use Rattle.bx_io_system.specs.Events.{Event};
 ghost use Rattle.bx_io_system.specs.Telling.{told, tells};
 

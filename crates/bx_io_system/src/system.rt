@@ -3,7 +3,7 @@
 ghost use Rattle.std.specs.Prelude.{◌≡◌, ◌≢◌, ℕ, List, [], ◌∷◌, ◌&&◌, true, Err, IfOk, IsSome, Some};
 ghost use Rattle.std.specs.FinMap.{get};
 ghost use Rattle.bx_io.specs.Answers.{ListsNames};
-ghost use Rattle.bx_io.specs.Causes.{HasCause, counted};
+ghost use Rattle.bx_io.specs.Causes.{HasCause};
 ghost use Rattle.bx_io.specs.Holdings.{Holdings, Put, Drop};
 ghost use Rattle.bx_io.specs.Names.{IsName};
 ghost use Rattle.bx_io_system.specs.Answers.{change_event, event_for, got_of, listed_event, put_of};
@@ -16,7 +16,7 @@ use crate::disk::Disk;
 use crate::kind::Kind;
 use crate::ordered::OrderedDisk;
 use crate::record::Record;
-use bx_io::{Got, Listed, PutFault};
+use bx_io::{Got, Listed, PutFault, one_more};
 use std::alloc::{AllocError, Global};
 use std::io::{self, ErrorKind};
 
@@ -31,13 +31,6 @@ pub struct System<D: Disk> {
     ghost agrees: { (name : List ℕ) → D.is_known ≡ true → IsName name
         → told_at (told log.held log.events log.closed) name ≡ Some (get (D.files disk.disk) name) },
     ghost telling: { D.is_known ≡ true → IsSome (told log.held log.events log.closed) },
-}
-
-// A count of faults with one more, up to the greatest `u64`.
-fn one_more(faults: u64) -> u64
-    ensures { result ≡ counted faults }
-{
-    faults.saturating_add(1)
 }
 
 impl<D: Disk> System<D> {

@@ -1,7 +1,7 @@
 //! The program `bxl`: the engine over standard input, output and error, and a cache folder.
 //!
-//! This crate makes the real outside and gives it to the engine. It depends on `bx_io_system` for the streams
-//! and the folder, on `bx_io`, whose traits they implement, and on `bx_engine`.
+//! This crate opens the real streams and the folder and passes them to the engine. It depends on `bx_io_system` for
+//! both, on `bx_io`, whose traits they implement, and on `bx_engine`.
 #![tactic(auto)]
 
 ghost use Rattle.std.specs.Prelude.{◌≡◌, [], IfOk, None, Some, map, string_bytes};
@@ -15,12 +15,10 @@ ghost use Rattle.bx_engine_words.specs.declared.order.Order.{Order as TheOrder};
 
 use bx_engine::{Status, command};
 use bx_io::{Keeper, OpenGate, Sink, Source};
-use bx_io_system::{FolderKeeper, StdSink, StdSource, SystemDisk};
+use bx_io_system::{FolderKeeper, StdSink, StdSource, SystemDisk, program_words};
 use std::alloc::{AllocError, Global};
-use std::env;
-use std::io::{ErrorKind, Stderr, Stdin, Stdout};
+use std::io::{Stderr, Stdin, Stdout};
 use std::process::ExitCode;
-use std::rt::Env;
 
 /// The folder of the working directory that holds results from one build to the next.
 const FOLDER: &str = ".bxl-cache";
@@ -49,15 +47,6 @@ fn keeper(
 {
     let disk = SystemDisk::new(rt.clone()?, String::from_str(alloc, FOLDER)?);
     Ok(FolderKeeper::new(disk))
-}
-
-/// The words after the program's name. Where they are not all text, there are none, which is no command.
-fn words<R: Env + AllocGlobal>(rt: &R) -> Result<Vec<String>, AllocError> {
-    match env::args(rt) {
-        Ok(args) => args.skip(1).collect(rt.alloc()),
-        Err(error) if error.kind() == ErrorKind::OutOfMemory => Err(AllocError),
-        Err(_) => Ok(Vec::new(rt.alloc())),
-    }
 }
 
 /// One call over the streams of the system and the folder. It is proved of all that the folder may hold at first:

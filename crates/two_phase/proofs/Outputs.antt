@@ -4,29 +4,30 @@ use Rattle.std.proofs.Math.Seq.{drop-cons}
 use Rattle.std.specs.BTreeMap.{insert_entry}
 use Rattle.std.specs.List.{AllByRecursion}
 use Rattle.std.specs.List.Sorted.{IsStrictlySortedBy}
-use Rattle.std.specs.Ordering.{match_ordering, ordering_reverse}
-use Rattle.std.specs.declared.cmp.Ordering.{Ordering}
-use Rattle.std.specs.declared.cmp.Ordering.TheVariants.{Less, Greater}
+use Rattle.std.specs.Ordering.{match_ordering}
+use Rattle.std.specs.declared.cmp.Ordering.TheVariants.{Less}
+use Rattle.std.proofs.lemmas.Bool.{or_cases}
 use Rattle.sha2.specs.Sha256.{sha256}
 use Rattle.bx_io.specs.Holdings.{Holdings}
 use Rattle.bx_io.specs.Told.{Stays}
 use Rattle.bx_tree.specs.Paths.{Atoms, IsBelow, path_cmp}
 use Rattle.bx_tree.specs.Trees.{Files, NoneNested, paths_of}
-use Rattle.bx_tree.specs.Orders.{path_cmp_total}
+use Rattle.bx_tree.specs.Members.{Has}
+use Rattle.bx_tree.proofs.Sets.{contains_has}
 use Rattle.pip_model_types.specs.Made.{RisingFiles}
-use Rattle.observed.specs.Members.{Has}
-use Rattle.observed.proofs.OneSet.{contains_has}
-use Rattle.tool_run_writes.specs.Below.{is_below}
+use Rattle.bx_tree.specs.Below.{is_below}
 use Rattle.tool_run_writes.specs.Writes.{clashes, put_file}
-use Rattle.tool_run_writes.proofs.BelowByAtoms.{below_decides}
+use Rattle.bx_tree.proofs.BelowPaths.{below_decides}
+use Rattle.bx_tree.proofs.Lists.{all_append}
 use Rattle.tool_run_writes.proofs.Unnested.{none_unnested, put_unnested}
+use Rattle.tool_run_writes.proofs.PutInOrder.{greater}
 use Rattle.memo_format.specs.Entries.{OutputsRise, output_paths}
 use Rattle.memo_format.specs.Found.{output_lines}
 use Rattle.memo_format.specs.declared.entry.OutputLine.{OutputLine}
 use Rattle.content_store.specs.Contents.{IsContent}
 use Rattle.run_record.specs.Collisions.{contents_of}
 use Rattle.two_phase_meaning.specs.Contents.{HoldsAll}
-use Rattle.two_phase_meaning.proofs.Same.{all_both}
+use Rattle.two_phase_meaning.proofs.FilesFit.{paths_lines}
 use Rattle.two_phase.specs.Finding.{AddsTo, AreOutputs, FindsOne}
 
 abbrev pub line_for : Atoms → List ℕ → OutputLine
@@ -47,12 +48,6 @@ pub gathered_none : (held : Option Holdings) (outputs : List OutputLine) → Gat
 gathered_none held outputs = record { done = refl; are_held = λ S is. tt; unnested = none_unnested }
 
 -- ## One more
-
-greater : (a b : Atoms) → path_cmp a b ≡ Less → path_cmp b a ≡ Greater
-greater a b less = turned (path_cmp b a) (path_cmp a b) (path_cmp_total.antisymm b a) less
-  where
-    turned : (o p : Ordering) → o ≡ ordering_reverse p → p ≡ Less → o ≡ Greater
-    turned o p e less = e ∙ ap ordering_reverse less
 
 less_at : (path : Atoms) (before rest : List OutputLine) (o : OutputLine)
     → AllByRecursion (λ q. path_cmp path q ≡ Less) (output_paths (before ++ o ∷ rest)) → path_cmp path o.path ≡ Less
@@ -80,7 +75,7 @@ contents-append (f ∷ fs) gs = ap (λ cs. f.1 ∷ cs) (contents-append fs gs)
 held_more : (held : Option Holdings) (files : Files) (path : Atoms) (digest bytes : List ℕ) → AreHeld held files
     → FindsOne held (λ S y. IsContent S digest y) (Some bytes) → AreHeld held (files ++ (path, bytes) ∷ [])
 held_more held files path digest bytes h k = λ S is.
-    subst (HoldsAll S) (sym (contents-append files ((path, bytes) ∷ []))) (all_both _ (contents_of files) (bytes ∷ []) (h S is) ((k S is).held, tt))
+    subst (HoldsAll S) (sym (contents-append files ((path, bytes) ∷ []))) (all_append _ (contents_of files) (bytes ∷ []) (h S is) ((k S is).held, tt))
 
 -- where a file was put
 was_put : (t : Bool) (files now : Files) (path : Atoms) (bytes : List ℕ) → clashes files path ≡ t
@@ -110,12 +105,8 @@ gathered_more held outputs rest o files now path bytes rise g found digest path_
 
 -- ## The end
 
-pub paths-lines : (files : Files) → output_paths (output_lines files) ≡ paths_of files
-paths-lines [] = refl
-paths-lines (f ∷ fs) = ap (λ ps. f.0 ∷ ps) (paths-lines fs)
-
 pub lines_rise : (files : Files) (outputs : List OutputLine) → outputs ≡ output_lines files → RisingFiles files → OutputsRise outputs
-lines_rise files outputs is rising = subst (IsStrictlySortedBy path_cmp) (sym (ap output_paths is ∙ paths-lines files)) rising
+lines_rise files outputs is rising = subst (IsStrictlySortedBy path_cmp) (sym (ap output_paths is ∙ paths_lines files)) rising
 
 pub gathered_all : (held : Option Holdings) (outputs : List OutputLine) (files : Files) → Gathered held outputs [] files → output_lines files ≡ outputs
 gathered_all held outputs files g = sym (append-nil (output_lines files)) ∙ g.done
@@ -127,7 +118,7 @@ gathered_end held outputs files g = λ S is.
     record {
       outputs_are = all;
       held = g.are_held S is;
-      unnested = subst NoneNested (sym (paths-lines files) ∙ ap output_paths all) g.unnested;
+      unnested = subst NoneNested (sym (paths_lines files) ∙ ap output_paths all) g.unnested;
     }
 
 -- what was gathered is so of what is still told
@@ -154,14 +145,10 @@ pub not_held : (held : Option Holdings) (outputs rest : List OutputLine) (o : Ou
 not_held held outputs rest o files g none = λ S is fs are.
     let there = held_at S (output_lines files) rest o fs (are.outputs_are ∙ sym g.done) are.held in none S is there.0 there.1
 
-either : (a b : Bool) → (a || b) ≡ true → (a ≡ true) ⊎ (b ≡ true)
-either true b e = inl refl
-either false b e = inr e
-
 clash_at : (files : Files) (path : Atoms) → clashes files path ≡ true → (q : Atoms) × Has (paths_of files) q × (IsBelow q path ⊎ IsBelow path q)
 clash_at [] path e = absurd cc
-clash_at (f ∷ fs) path e = elim (either (is_below f.0 path || is_below path f.0) (clashes fs path) e) [
-  | inl here ↦ elim (either (is_below f.0 path) (is_below path f.0) here) [
+clash_at (f ∷ fs) path e = elim (or_cases (is_below f.0 path || is_below path f.0) (clashes fs path) e) [
+  | inl here ↦ elim (or_cases (is_below f.0 path) (is_below path f.0) here) [
     | inl h ↦ (f.0, inl refl, inl ((below_decides f.0 path).0 h))
     | inr h ↦ (f.0, inl refl, inr ((below_decides path f.0).0 h))
   ]
