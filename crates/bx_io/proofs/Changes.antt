@@ -1,6 +1,6 @@
 -- Lists of changes: made one list after another, cut off, and what they keep.
-use Rattle.std.proofs.Common.{◌≡◌, ℕ, ◌+◌, ◌<◌, ◌≤◌, Bool, true, false, cond, List, [], ◌∷◌, ◌++◌, Option, Some, None, refl, sym, ap, subst, ◌∙◌, append_assoc, append-nil, arith}
-use Rattle.std.specs.Prelude.{All}
+use Rattle.std.proofs.Common.{◌≡◌, ℕ, ◌+◌, ◌<◌, ◌≤◌, Bool, true, false, cond, List, [], ◌∷◌, ◌++◌, Option, Some, None, Result, Ok, Err, refl, sym, ap, subst, ◌∙◌, append_assoc, append-nil, arith}
+use Rattle.std.specs.Prelude.{All, OnOk}
 use Rattle.std.specs.Ordering.{nat_cmp, eq_by_cmp}
 use Rattle.std.specs.Cmp.{Equal-is}
 use Rattle.std.specs.Cmp.Lexicographic.{slice_cmp, nat_list_cmp_total}
@@ -91,6 +91,12 @@ pub makes_put : (before now : StoreTold) (name other bytes same : List ℕ) → 
     → Makes before (Put other same ∷ []) now
 makes_put before now name other bytes same named are makes =
     subst (λ (n : List ℕ). Makes before (Put n same ∷ []) now) named (subst (λ (b : List ℕ). Makes before (Put name b ∷ []) now) are makes)
+
+-- as a call answers it
+pub made_put : {X E : Type 0} (r : Result X E) (before now : StoreTold) (name other bytes same : List ℕ) → name ≡ other → bytes ≡ same
+    → OnOk r (Makes before (Put name bytes ∷ []) now) → OnOk r (Makes before (Put other same ∷ []) now)
+made_put (Ok x) before now name other bytes same named are makes = makes_put before now name other bytes same named are makes
+made_put (Err e) before now name other bytes same named are makes = tt
 
 -- a store in memory after a list of changes
 pub makes_state : (kept : StoreState) (made : List Change) → Makes (told_of kept) made (told_of (state_after kept made))

@@ -19,6 +19,8 @@ use bx_io_system::{FolderKeeper, StdSink, StdSource, SystemDisk, program_words};
 use std::alloc::{AllocError, Global};
 use std::io::{Stderr, Stdin, Stdout};
 use std::process::ExitCode;
+use std::sync::Wait;
+use std::thread::Threads;
 
 /// The folder of the working directory that holds results from one build to the next.
 const FOLDER: &str = ".bxl-cache";
@@ -52,7 +54,11 @@ fn keeper(
 /// One call over the streams of the system and the folder. It is proved of all that the folder may hold at first:
 /// where the disk returned just that with what the call put, or where the words say `--no-cache`, the promise of
 /// the engine holds, and the input is what standard input gave.
-fn run(rt: &HostRuntime, words: &[String]) -> Result<Done, AllocError>
+fn run<H: Threads + Wait + Sync>(
+    threads: &H,
+    rt: &HostRuntime,
+    words: &[String],
+) -> Result<Done, AllocError>
     ghost held: { Holdings }
     requires { AreNames held }
     ensures headline { IfOk result (λ done. (order : TheOrder) → Orders (map string_bytes words.now) order
@@ -75,7 +81,7 @@ fn run(rt: &HostRuntime, words: &[String]) -> Result<Done, AllocError>
     let mut notes = StdSink::new(rt.stderr());
     let mut keeper = keeper(rt, alloc)?;
     let status = command(
-        rt,
+        threads,
         alloc,
         words,
         &mut source,
@@ -94,10 +100,10 @@ fn run(rt: &HostRuntime, words: &[String]) -> Result<Done, AllocError>
 }
 
 fn main(rt: HostRuntime) -> ExitCode {
-    let Ok(words) = words(&rt) else {
+    let Ok(words) = program_words(&rt) else {
         return ExitCode::from(Status::OutOfMemory.code());
     };
-    match run(&rt, &words) {
+    match run(&rt, &rt, &words) {
         Ok(done) => ExitCode::from(done.status.code()),
         Err(_) => ExitCode::from(Status::OutOfMemory.code()),
     }

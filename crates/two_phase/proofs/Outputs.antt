@@ -176,9 +176,8 @@ nested paths a b h k below none = elim below [
 
 pub not_put : (held : Option Holdings) (outputs rest : List OutputLine) (o : OutputLine) (files now : Files) (path : Atoms) (bytes : List ℕ)
     → Gathered held outputs (o ∷ rest) files → path ≡ o.path → ◌≡◌ {A = Files × Bool} (now, false) (put_file files path bytes) → FindsOne held (λ S fs. AreOutputs S outputs fs) None
-not_put None outputs rest o files now path bytes g path_is put = tt
-not_put (Some S) outputs rest o files now path bytes g path_is put =
-    λ fs are.
+not_put held outputs rest o files now path bytes g path_is put =
+    λ S is fs are.
     let clash = clash_at files o.path (subst (λ (p : Atoms). clashes files p ≡ true) path_is (was_left (clashes files path) files now path bytes refl put)) in
     let all : List Atoms = output_paths (output_lines files ++ o ∷ rest) in
     nested all clash.0 o.path (has_before files (o ∷ rest) clash.0 clash.1) (has_here (output_lines files) rest o) clash.2
@@ -215,16 +214,17 @@ not_added held outputs rest o files None g a e = elim a [
   | inr clash ↦ not_put held outputs rest o files clash.1.0 o.path clash.0 g refl clash.1.1
 ]
 
+-- as a call answers it, after which the reader tells what it told before, or nothing
 pub added_at : (held now : Option Holdings) (outputs : List OutputLine) (i : ℕ) (o : OutputLine) (files : Files) (r : Option Files) (next : Files)
-    → OutputsRise outputs → i < length outputs → o ≡ get_or outputs i o → now ≡ held → Gathered held outputs (drop i outputs) files
-    → AddsTo now files o r → r ≡ Some next → Gathered held outputs (drop (i + 1) outputs) next
-added_at held now outputs i o files r next rise l is same g a e =
-    added held outputs (drop (i + 1) outputs) o files r next rise (subst (λ rest. Gathered held outputs rest files) (next_of outputs i o l is) g)
-    (subst (λ h. AddsTo h files o r) same a) e
+    → OutputsRise outputs → i < length outputs → o ≡ get_or outputs i o → Stays held now → Gathered held outputs (drop i outputs) files
+    → AddsTo now files o r → r ≡ Some next → Gathered now outputs (drop (i + 1) outputs) next
+added_at held now outputs i o files r next rise l is stays g a e =
+    added now outputs (drop (i + 1) outputs) o files r next rise
+    (gathered_on held now outputs (o ∷ drop (i + 1) outputs) files stays (subst (λ rest. Gathered held outputs rest files) (next_of outputs i o l is) g)) a e
 
 pub not_added_at : (held now : Option Holdings) (outputs : List OutputLine) (i : ℕ) (o : OutputLine) (files : Files) (r : Option Files)
-    → i < length outputs → o ≡ get_or outputs i o → now ≡ held → Gathered held outputs (drop i outputs) files
-    → AddsTo now files o r → r ≡ None → FindsOne held (λ S fs. AreOutputs S outputs fs) None
-not_added_at held now outputs i o files r l is same g a e =
-    not_added held outputs (drop (i + 1) outputs) o files r (subst (λ rest. Gathered held outputs rest files) (next_of outputs i o l is) g)
-    (subst (λ h. AddsTo h files o r) same a) e
+    → i < length outputs → o ≡ get_or outputs i o → Stays held now → Gathered held outputs (drop i outputs) files
+    → AddsTo now files o r → r ≡ None → FindsOne now (λ S fs. AreOutputs S outputs fs) None
+not_added_at held now outputs i o files r l is stays g a e =
+    not_added now outputs (drop (i + 1) outputs) o files r
+    (gathered_on held now outputs (o ∷ drop (i + 1) outputs) files stays (subst (λ rest. Gathered held outputs rest files) (next_of outputs i o l is) g)) a e
