@@ -86,6 +86,11 @@ pub makes_some : (before now : StoreTold) (made : List Change) (held : Holdings)
     → (first : Holdings) × (held_in before ≡ Some first) × (holdings_after first made ≡ held)
 makes_some before now made held makes h = after_told-some before.held made held (makes.held held h)
 
+-- what is told after changes, where what was told before them is this
+pub told_after : (before now : StoreTold) (made : List Change) (held last : Holdings) → held_in before ≡ Some held → held_in now ≡ Some last → Makes before made now
+    → held_in now ≡ Some (holdings_after held made)
+told_after before now made held last was is makes = is ∙ sym (makes.held last is) ∙ ap (λ (told : Option Holdings). after_told told made) was
+
 -- one put, of a name and of bytes that are these
 pub makes_put : (before now : StoreTold) (name other bytes same : List ℕ) → name ≡ other → bytes ≡ same → Makes before (Put name bytes ∷ []) now
     → Makes before (Put other same ∷ []) now

@@ -1,6 +1,6 @@
 //! What a whole build gives.
 ghost use Rattle.std.specs.Prelude.{◌≡◌, ℕ, ◌+◌, ◌≤◌, false, true, IfOk, IsSome, Some, length};
-ghost use Rattle.bx_io.specs.Holdings.{Holdings, held_in, StoreState as AnyStore};
+ghost use Rattle.bx_io.specs.Holdings.{Holdings, held_in};
 ghost use Rattle.one_thread.specs.Outputs.{AreOutputs};
 ghost use Rattle.graph_check.specs.Rules.{KeepsRules};
 ghost use Rattle.one_thread.specs.OneThread as builds;

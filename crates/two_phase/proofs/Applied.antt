@@ -2,9 +2,9 @@
 use Rattle.std.proofs.Common.{◌≡◌, ℕ, ◌<◌, ◌≤◌, ◌+◌, append-nil, append_assoc, List, [], ◌∷◌, ◌++◌, map, take, drop, length, get_or, Some, Result, Ok, Err, refl, sym, ap, ◌∙◌, subst, inl, inr}
 use Rattle.std.specs.Prelude.{OnOk, OnErr}
 use Rattle.std.proofs.lemmas.List.{map-append, take_all, take_more, take-append-drop}
-use Rattle.bx_io.specs.Holdings.{Change, Holdings, IsPrefix, Keeps, Makes, StoreTold, after_told, changed, held_in, holdings_after}
+use Rattle.bx_io.specs.Holdings.{Change, Holdings, IsPrefix, Keeps, Makes, StoreTold, changed, held_in, holdings_after}
 use Rattle.bx_io.specs.declared.keeper.PutFault.{PutFault}
-use Rattle.bx_io.proofs.Changes.{keeps_all, keeps_makes, keeps_on, makes_both, makes_keeps, makes_none, makes_some, nothing_before}
+use Rattle.bx_io.proofs.Changes.{keeps_all, keeps_makes, keeps_on, makes_both, makes_keeps, makes_none, makes_some, nothing_before, told_after}
 use Rattle.content_store.specs.Contents.{blob_put}
 use Rattle.two_phase.specs.Applying.{Applies, AppliesAll, AppliesPrefix}
 
@@ -179,7 +179,7 @@ made_of (c ∷ cs) held S before now was is done =
     let there : (T : Holdings) × (held_in done.0 ≡ Some T) = told_before cs done.0 now S is done.2 in
     elim done.1 [
       | inl step ↦
-          let told : held_in done.0 ≡ Some (changed held c) = there.1 ∙ sym (step.held there.0 there.1) ∙ ap (λ t. after_told t (c ∷ [])) was in
+          let told : held_in done.0 ≡ Some (changed held c) = told_after before done.0 (c ∷ []) held there.0 was there.1 step in
           let rest : Made (changed held c) done.0 cs now = made_of cs (changed held c) S done.0 now told is done.2 in
           record {
             made = c ∷ rest.made;

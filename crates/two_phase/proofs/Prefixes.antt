@@ -54,6 +54,25 @@ list_before before between now all weak old keeps done at told = λ S is.
     let there = told_before all between now last.0 last.1 done in
     at there.0 there.1 ∙ ap (λ (T : Holdings). list_at T weak) (same_Some there.0 S (sym (keeps.held there.0 there.1) ∙ is))
 
+-- a call that changed nothing comes before the puts of a record
+pub keeps_puts : (before between now : StoreTold) (f : Facts) → Keeps before between → PutsUpTo between now f → PutsUpTo before now f
+keeps_puts before between now f keeps p = record {
+  old = p.old;
+  old_is = λ tells. list_before before between now p.first (weak_of f.desc) p.old keeps p.applies (p.old_is tells) tells;
+  first = p.first;
+  is_first = p.is_first;
+  applies = keeps_then_all p.first before between now keeps p.applies;
+  spelled = p.spelled;
+}
+
+pub keeps_puts_all : (before between now : StoreTold) (f : Facts) → Keeps before between → PutsAll between now f → PutsAll before now f
+keeps_puts_all before between now f keeps p = record {
+  old = p.old;
+  old_is = λ tells. list_before before between now (planned f p.old) (weak_of f.desc) p.old keeps p.applies (p.old_is tells) tells;
+  applies = keeps_then_all (planned f p.old) before between now keeps p.applies;
+  spelled = p.spelled;
+}
+
 -- what is put is what was planned
 pub plan_is : (f : Facts) (w : Written) (old : List Selector) (text : List ℕ) → IsWritten f w → text ≡ selectors_text (with_first (written_selector w) old)
     → all_puts w text ≡ planned f old

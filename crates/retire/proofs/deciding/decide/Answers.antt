@@ -30,7 +30,7 @@ returns-in-Some-clause-decided g c =
     let pips = c.args.frame.now.plan.now.pips in
     IfOk-weaker c.decide_process.result _ _
     (λ next h.
-    decide_process pips c.args.frame.now.sources.now c.args.frame.now.plan.now.tool_budget (g.R.KeepReader.held c.args.reader.now) c.args.slots.now c.args.pip
+    decide_process pips c.args.frame.now.sources.now c.args.frame.now.plan.now.tool_budget (g.R.KeepReader.held c.decide_process.new.reader) c.args.slots.now c.args.pip
     (slice_get pips c.args.pip) c.in_ok-inputs.inputs next (sym c.inputs_are_good.ensures ∙ c.if-not-inputs_are_good.false)
     (subst (λ (ps : List Pip). IsSome (process_in (slice_get ps c.args.pip))) c.pips.ensures.pips
     (subst (λ (o : Option ProcessDesc). IsSome o) c.in-Some.ensures refl)) c.in_ok-inputs.ensures h)
