@@ -4,7 +4,7 @@ use Rattle.std.proofs.Common.{refl, sym, ap, subst, ◌∙◌, arith}
 use Rattle.std.specs.Prelude.{Some, None, IsSome}
 use Rattle.std.specs.declared.option.Option.{Option}
 use Rattle.bx_io.specs.Told.{Moves, NoneLeft}
-use Rattle.bx_engine.specs.Known.{IsInput}
+use Rattle.bx_engine.specs.Known.{IsInput, IsReadOut}
 use Rattle.std.proofs.lemmas.List.{append-nil, append_cancel_left, drop_all, drop_at, length-append}
 use Rattle.std.proofs.lemmas.Bool.{cases_lt}
 use Rattle.bx_tree.specs.Bundle.{Faults}
@@ -16,8 +16,9 @@ use Rattle.bx_engine.specs.declared.status.Status.{Status}
 use Rattle.bx_engine.specs.declared.limits.TheConstants.{READ_LIMIT}
 use Rattle.bx_tree.specs.declared.limits.TheConstants.{MAX_BUNDLE_BYTES}
 use Rattle.bx_engine.specs.Ends.{Ends}
-use Rattle.bx_io.specs.Holdings.{Holdings, StoreState}
-use Rattle.bx_engine.specs.Counting.{AppendsNotes, IsNoted, IsShown, NotesOf, StoreChange}
+use Rattle.bx_io.specs.Holdings.{Holdings, StoreTold}
+use Rattle.bx_engine.specs.Calls.{Call, StoreChange}
+use Rattle.bx_engine.specs.Counting.{AppendsNotes, IsNoted, IsShown, NotesOf}
 use Rattle.bx_engine.specs.Expected.{IsExpected, Answers, Begins, limits_of}
 use Rattle.bx_engine.specs.Stores.{AsksFor, FairWhere, LeftOfBuild, StoreLeft}
 use Rattle.bx_engine.specs.Ending.{Ending, InputRefused, SpecificationRefused, Built}
@@ -60,6 +61,9 @@ long_prefix input bytes rest e h = omega (arith, ap length e, length-append byte
 
 at_limit : (bytes : List ℕ) → IsLong bytes → length bytes ≤ READ_LIMIT → length bytes ≡ READ_LIMIT
 at_limit bytes h k = omega arith
+
+past_limit : (count : ℕ) → MAX_BUNDLE_BYTES < count → count ≤ READ_LIMIT → count ≡ READ_LIMIT
+past_limit count h k = omega arith
 
 below_limit : (bytes : List ℕ) → length bytes ≤ MAX_BUNDLE_BYTES → length bytes ≤ READ_LIMIT
 below_limit bytes h = omega arith
@@ -184,44 +188,42 @@ noted_whole order input bytes change status text r n = elim r.whole [
   }
 ]
 
-pub notes_whole : (order : Order) (input bytes : List ℕ) (change : StoreChange) (status : Status)
-    (before now : List ℕ) (m n : ℕ) → ReadOf input bytes
-    → AppendsNotes order bytes change status before now m n → AppendsNotes order input change status before now m n
-notes_whole order input bytes change status before now m n r t = record {
+pub notes_whole : (call : Call) (input bytes : List ℕ) (order : Order) → ReadOf input bytes → AppendsNotes call bytes order → AppendsNotes call input order
+notes_whole call input bytes order r t = record {
   text = t.text;
-  noted = noted_whole order input bytes change status t.text r t.noted;
+  noted = noted_whole order input bytes call.store call.status t.text r t.noted;
   appended = t.appended;
 }
 
 -- ## Stores
 
-long_fair : (cached : Bool) (limits : Limits) (input : List ℕ) (held : Option Holdings) → IsLong input → FairWhere cached limits input held
-long_fair false limits input held h = tt
-long_fair true limits input held h = λ sources pips s plans. absurd (not_long input h s.bundle.whole)
+long_fair : (cached : Bool) (limits : Limits) (input : List ℕ) (before now : Option Holdings) → IsLong input → FairWhere cached limits input before now
+long_fair false limits input before now h = tt
+long_fair true limits input before now h = λ sources pips s plans. absurd (not_long input h s.bundle.whole)
 
 -- a store that is fair for an input is fair for what is read of it
-pub fair_read : (cached : Bool) (limits : Limits) (input bytes : List ℕ) (held : Option Holdings) → ReadOf input bytes
-    → FairWhere cached limits input held → FairWhere cached limits bytes held
-fair_read cached limits input bytes held r fair = elim r.whole [
-  | inl is ↦ subst (λ (i : List ℕ). FairWhere cached limits i held) (sym is) fair
-  | inr long ↦ long_fair cached limits bytes held long.0
+pub fair_read : (cached : Bool) (limits : Limits) (input bytes : List ℕ) (before now : Option Holdings) → ReadOf input bytes
+    → FairWhere cached limits input before now → FairWhere cached limits bytes before now
+fair_read cached limits input bytes before now r fair = elim r.whole [
+  | inl is ↦ subst (λ (i : List ℕ). FairWhere cached limits i before now) (sym is) fair
+  | inr long ↦ long_fair cached limits bytes before now long.0
 ]
 
-came_whole : (limits : Limits) (input bytes : List ℕ) (before : StoreState) (now : Option StoreState) → ReadOf input bytes
-    → LeftOfBuild limits bytes before now → LeftOfBuild limits input before now
-came_whole limits input bytes before now r came = elim r.whole [
-  | inl is ↦ subst (λ (i : List ℕ). LeftOfBuild limits i before now) is came
+came_whole : (limits : Limits) (input bytes : List ℕ) (held : Holdings) (before now : StoreTold) → ReadOf input bytes
+    → LeftOfBuild limits bytes held before now → LeftOfBuild limits input held before now
+came_whole limits input bytes held before now r came = elim r.whole [
+  | inl is ↦ subst (λ (i : List ℕ). LeftOfBuild limits i held before now) is came
   | inr long ↦ elim came [
     | inl same ↦ inl same
     | inr h ↦ absurd (not_long bytes long.0 h.2.bundle.whole)
   ]
 ]
 
-pub left_whole : (limits : Limits) (input bytes : List ℕ) (before : StoreState) (now : Option StoreState) → ReadOf input bytes
-    → StoreLeft limits bytes before now → StoreLeft limits input before now
-left_whole limits input bytes before now r s = record {
+pub left_whole : (limits : Limits) (input bytes : List ℕ) (held : Holdings) (before now : StoreTold) → ReadOf input bytes
+    → StoreLeft limits bytes held before now → StoreLeft limits input held before now
+left_whole limits input bytes held before now r s = record {
   honest = s.honest;
-  came = came_whole limits input bytes before now r s.came;
+  came = came_whole limits input bytes held before now r s.came;
 }
 
 -- ## Pips that were gone through
@@ -233,13 +235,25 @@ asked_whole limits input bytes pips r h = elim r.whole [
   | inr long ↦ absurd (not_long bytes long.0 h.1.bundle.whole)
 ]
 
-pub shown_whole : (order : Order) (source left : Option (List ℕ)) (bytes : List ℕ) (change : StoreChange) (status : Status)
-    (out_before out_now before now : Option (List ℕ)) (m n : ℕ) → ((input : List ℕ) → source ≡ Some input → ReadOf input bytes)
-    → IsShown order (Some bytes) change status out_before out_now before now m n → IsShown order source change status out_before out_now before now m n
-shown_whole order source left bytes change status out_before out_now before now m n read s = record {
+pub shown_whole : (call : Call) (input bytes : List ℕ) (order : Order) → ReadOf input bytes → IsShown call bytes order → IsShown call input order
+shown_whole call input bytes order read s = record {
   gone = s.gone;
-  asked = λ input known. asked_whole (limits_of order) input bytes s.gone.pips (read input known) (s.asked bytes refl);
+  asked = asked_whole (limits_of order) input bytes s.gone.pips read s.asked;
   status_is = s.status_is;
   written = s.written;
   noted = s.noted;
+}
+
+-- ## What was read
+
+-- to its end, or to one byte past the limit
+pub read_out : (given now_given : List ℕ) (ended : Bool) (bytes : List ℕ) (count : ℕ) → length bytes ≡ count → now_given ≡ given ++ bytes → count ≤ READ_LIMIT
+    → (count ≤ MAX_BUNDLE_BYTES → ended ≡ true) → IsReadOut given now_given ended
+read_out given now_given ended bytes count long gave bound end = record {
+  input = bytes;
+  gave = gave;
+  out = elim (cases_lt MAX_BUNDLE_BYTES count) [
+    | inl over ↦ inr (long ∙ past_limit count over bound)
+    | inr within ↦ inl (end within)
+  ];
 }

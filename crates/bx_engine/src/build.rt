@@ -2,7 +2,7 @@
 
 ghost use Rattle.std.specs.Prelude.{◌≡◌, ◌≢◌, ◌⊎◌, [], ℕ, List, Some, IsSome, drop, false};
 ghost use Rattle.bx_io.specs.Causes.{HasCause};
-ghost use Rattle.bx_io.specs.Holdings.{held_in, StoreState as AnyStore};
+ghost use Rattle.bx_io.specs.Holdings.{held_in};
 ghost use Rattle.bx_engine.specs.Beyond.{Beyond, OfEachCall, OfInput};
 ghost use Rattle.bx_engine.specs.Calls.{call_of, change_of, counted_of, written_of};
 ghost use Rattle.bx_engine.specs.Expected.{AppendsOrFails};
@@ -10,7 +10,6 @@ ghost use Rattle.bx_engine.specs.Headline.{Headline};
 ghost use Rattle.bx_engine.specs.Known.{Appends, AppendsPrefix, IsInput, IsReadOut};
 ghost use Rattle.bx_engine.specs.Statuses.{HasNoBuild, HasNoNotes, IsSilent, IsWhole};
 ghost use Rattle.bx_engine.specs.Stores.{FairStore, uses_store};
-ghost use Rattle.retire.specs.Saving.{OnlyPuts};
 
 use crate::limits::READ_LIMIT;
 use crate::reading::{ReadFault, read_all};

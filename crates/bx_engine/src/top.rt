@@ -1,10 +1,9 @@
 //! The top call.
 
 ghost use Rattle.std.specs.Prelude.{◌≡◌, ◌≢◌, ◌⊎◌, ℕ, List, Some, IsSome, drop, false, map, string_bytes};
-ghost use Rattle.bx_io.specs.Holdings.{held_in, StoreState as AnyStore};
+ghost use Rattle.bx_io.specs.Holdings.{held_in};
 ghost use Rattle.bx_engine.specs.Beyond.{Beyond, OfEachCall, OfInput};
 ghost use Rattle.bx_engine.specs.Calls.{call_of, change_of, counted_of, written_of};
-ghost use Rattle.retire.specs.Saving.{OnlyPuts};
 ghost use Rattle.bx_engine.specs.Ending.{usage_text};
 ghost use Rattle.bx_engine.specs.Expected.{AppendsOrFails};
 ghost use Rattle.bx_engine.specs.Headline.{Headline};
