@@ -1,6 +1,6 @@
 //! Contents that a store is known to hold.
 ghost use Rattle.std.specs.Prelude.{◌≡◌, ℕ, IsTrue, List, OnErr, OnOk, Option, Some};
-ghost use Rattle.bx_io.specs.Holdings.{Holdings, StoreState as AnyStore};
+ghost use Rattle.bx_io.specs.Holdings.{Holdings};
 ghost use Rattle.two_phase.specs.Held.{AreHeld, Tracks, noted_at};
 
 use bx_digest::{Blob, Digest};

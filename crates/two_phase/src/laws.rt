@@ -1,6 +1,6 @@
 //! What follows from what a save leaves.
 ghost use Rattle.std.specs.Prelude.{◌≡◌, Some, IsSome};
-ghost use Rattle.bx_io.specs.Holdings.{Holdings, StoreTold, held_in, StoreState as AnyStore};
+ghost use Rattle.bx_io.specs.Holdings.{Holdings, StoreTold, held_in};
 ghost use Rattle.run_record.specs.Facts.{Facts, Sound};
 ghost use Rattle.two_phase_meaning.specs.Honest.{Honest};
 ghost use Rattle.two_phase_meaning.specs.Saving.{ComparedInSave, IsGood};

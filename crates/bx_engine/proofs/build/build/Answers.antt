@@ -169,7 +169,7 @@ returns-in-Ok g c =
         | inr cut ↦ c.deliver.ensures.cut cut
       ];
       kept = λ none.
-          c.in-Ok-2.ensures.kept (refused_status _ _ c.deliver.ensures.status (not_begun _ (answered_or_memory came) none));
+          c.in-Ok-2.ensures.kept (refused_status _ _ c.deliver.ensures.status (not_begun c.deliver.result (answered_or_memory came) none));
       untouched = c.respond.ensures.untouched;
       bound = c.respond.ensures.bound;
       read = λ done. read_out _ _ _ c.in-Ok.input.items _ long given.gave given.bound given.end;
