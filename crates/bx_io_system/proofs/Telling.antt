@@ -1,6 +1,6 @@
 -- What follows from what a folder tells.
 use Rattle.std.proofs.Common.{◌≡◌, ℕ, Bool, true, false, ◌&&◌, List, [], ◌∷◌, Option, Some, None, refl, ap, subst, ◌∙◌, IsSome, Result, Ok, Err}
-use Rattle.std.specs.FinMap.{get, insert, remove, get-insert, get-remove, slice_cmp-IsAntisymmetric, nat_cmp-IsAntisymmetric}
+use Rattle.std.specs.FinMap.{empty, get, insert, remove, get-empty, get-insert, get-remove, slice_cmp-IsAntisymmetric, nat_cmp-IsAntisymmetric}
 use Rattle.std.specs.Ordering.{nat_cmp, eq_by_cmp}
 use Rattle.std.specs.Cmp.{Equal-is}
 use Rattle.std.specs.Cmp.Lexicographic.{slice_cmp, nat_list_cmp_total}
@@ -368,3 +368,11 @@ pub noted_names : (before now : Record) (change : Change) (r : Result (Unit {0})
 noted_names before now change r is named names =
     subst (λ (log : Record). ToldNames (told log.held log.events log.closed)) (sym is)
     (named_changed before.held before.events before.closed change r named names)
+
+-- ## Nothing is held
+
+not_none : {X : Type 0} (x : X) → None ≡ Some x → ⊥
+not_none x h = cc
+
+pub none_named : AreNames empty
+none_named = record { each = λ name bytes h. absurd (not_none bytes (sym (get-empty (slice_cmp nat_cmp) name) ∙ h)) }
