@@ -3,10 +3,11 @@ use Rattle.bx_io.proofs.Changes.{keeps_all}
 use Rattle.std.specs.Prelude.{vec_len}
 use Rattle.bx_engine.specs.Calls.{Call, call_of, change_of, counted_of, written_of}
 use Rattle.bx_engine.specs.Expected.{limits_of}
+use Rattle.bx_engine.specs.Known.{IsInput}
 use Rattle.bx_engine.specs.Statuses.{HasNoNotes}
 use Rattle.bx_engine.specs.declared.status.Status.TheVariants as statuses
 use Rattle.bx_engine.proofs.CallsEnd.{Answered, Left, Unanswered, beyond_answered, beyond_unanswered, each_answered, each_unanswered, headline_answered, headline_unanswered, input_answered, input_unanswered, left_read}
-use Rattle.bx_engine.proofs.ReadingKeepsEnding.{left_slice, read_out, read_slice}
+use Rattle.bx_engine.proofs.ReadingKeepsEnding.{ReadOf, left_slice, read_out, read_slice}
 use Rattle.bx_engine.proofs.StatusesDiffer.{answered_status, memory_is_no_refusal, not_begun, not_silent, quiet_refusal, refused_status}
 use Rattle.bx_engine.proofs.StoresLeft.{left_same, none_put}
 use Rattle.bx_engine.proofs.build.build.Goals as goal
@@ -107,7 +108,10 @@ returns-in-Err g c =
       puts = c.respond.ensures.puts;
       later = c.respond.ensures.later;
     } in
-    let read = λ input asked. read_slice _ _ _ _ input _ _ _ c.deref.ensures.value c.deref.ensures.len asked c.in-Ok.ensures.gave c.in-Ok.ensures.moved c.in-Ok.ensures.bound c.in-Ok.ensures.none_left in
+    let read : (input : List ℕ)
+        → IsInput (g.S.Source.given c.args.source.now) (g.S.Source.given c.read_all.new.source) (g.S.Source.left c.args.source.now)
+        (g.S.Source.left c.read_all.new.source) input → ReadOf input c.deref.result.now =
+    λ input asked. read_slice _ _ _ _ input _ _ _ c.deref.ensures.value c.deref.ensures.len asked c.in-Ok.ensures.gave c.in-Ok.ensures.moved c.in-Ok.ensures.bound c.in-Ok.ensures.none_left in
     let left : Left call c.deref.result.now order = c.respond.ensures.left in
     record {
       status = inr (inr (inr refl));
@@ -156,7 +160,10 @@ returns-in-Ok g c =
       later = c.respond.ensures.later;
     } in
     let long : length c.in-Ok.input.items ≡ vec_len c.in-Ok.input = ap length (sym c.deref.ensures.value) ∙ c.deref.ensures.len in
-    let read = λ input asked. read_slice _ _ _ _ input _ _ _ c.deref.ensures.value c.deref.ensures.len asked given.gave given.moved given.bound given.none_left in
+    let read : (input : List ℕ)
+        → IsInput (g.S.Source.given c.args.source.now) (g.S.Source.given c.read_all.new.source) (g.S.Source.left c.args.source.now)
+        (g.S.Source.left c.read_all.new.source) input → ReadOf input c.deref.result.now =
+    λ input asked. read_slice _ _ _ _ input _ _ _ c.deref.ensures.value c.deref.ensures.len asked given.gave given.moved given.bound given.none_left in
     record {
       status = elim came [ inl whole ↦ inl whole | inr cut ↦ inr (inr (inl cut)) ];
       headline = λ input asked fair. headline_answered call input bytes order (read input asked) a fair;
