@@ -40,6 +40,7 @@ fn checked(alloc: Global, bytes: Vec<u8>, digest: &Digest) -> Fetched
 }
 
 /// The content of a digest, hashed anew: a damaged one is not well-formed.
+#[tactic(auto, using(crate::proofs::HeldContents::held_content, crate::proofs::HeldContents::no_content))]
 pub fn get_blob<R: KeepReader>(alloc: Global, reader: &mut R, digest: &Digest) -> Fetched
     ensures fetched { Fetches (R.held reader.new) digest.now result }
     ensures digest { HasDigest digest.now result }
