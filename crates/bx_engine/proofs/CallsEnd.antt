@@ -134,7 +134,7 @@ headline_answered call input bytes order read a fair =
       sink = λ cut. (
         a.out_cause.rose cut,
         begins_whole order input bytes call.out.before call.out.now read
-        (written.begun order bytes a.response.status a.response.bytes.items call.out.before call.out.now (a.responds.expected here) (a.begun cut)),
+            (written.begun order bytes a.response.status a.response.bytes.items call.out.before call.out.now (a.responds.expected here) (a.begun cut)),
       );
       status = elim came [ inl whole ↦ inl whole | inr cut ↦ inr (inr (inr cut)) ];
       honest = honest_left call input order (left_read call input bytes order read a.left) fair;

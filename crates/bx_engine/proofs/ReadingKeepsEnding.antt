@@ -108,7 +108,7 @@ left_told left now input bytes told tells moved bound end =
           let whole : bytes ≡ input = sym (append-nil bytes) ∙ ap (λ r. bytes ++ r) (sym none) ∙ sym parts.2 in
           parts.1
           ∙ ap (λ (r : List ℕ). Some r)
-              (none ∙ sym (drop_all READ_LIMIT input (subst (λ i. length i ≤ READ_LIMIT) whole (below_limit bytes short))))
+          (none ∙ sym (drop_all READ_LIMIT input (subst (λ i. length i ≤ READ_LIMIT) whole (below_limit bytes short))))
     ]
 
 -- what reading an input gives: it is what was given, or all that was left

@@ -109,8 +109,8 @@ returns-in-Err g c =
       later = c.respond.ensures.later;
     } in
     let read : (input : List ℕ)
-        → IsInput (g.S.Source.given c.args.source.now) (g.S.Source.given c.read_all.new.source) (g.S.Source.left c.args.source.now)
-        (g.S.Source.left c.read_all.new.source) input → ReadOf input c.deref.result.now =
+    → IsInput (g.S.Source.given c.args.source.now) (g.S.Source.given c.read_all.new.source) (g.S.Source.left c.args.source.now)
+    (g.S.Source.left c.read_all.new.source) input → ReadOf input c.deref.result.now =
     λ input asked. read_slice _ _ _ _ input _ _ _ c.deref.ensures.value c.deref.ensures.len asked c.in-Ok.ensures.gave c.in-Ok.ensures.moved c.in-Ok.ensures.bound c.in-Ok.ensures.none_left in
     let left : Left call c.deref.result.now order = c.respond.ensures.left in
     record {
@@ -161,8 +161,8 @@ returns-in-Ok g c =
     } in
     let long : length c.in-Ok.input.items ≡ vec_len c.in-Ok.input = ap length (sym c.deref.ensures.value) ∙ c.deref.ensures.len in
     let read : (input : List ℕ)
-        → IsInput (g.S.Source.given c.args.source.now) (g.S.Source.given c.read_all.new.source) (g.S.Source.left c.args.source.now)
-        (g.S.Source.left c.read_all.new.source) input → ReadOf input c.deref.result.now =
+    → IsInput (g.S.Source.given c.args.source.now) (g.S.Source.given c.read_all.new.source) (g.S.Source.left c.args.source.now)
+    (g.S.Source.left c.read_all.new.source) input → ReadOf input c.deref.result.now =
     λ input asked. read_slice _ _ _ _ input _ _ _ c.deref.ensures.value c.deref.ensures.len asked given.gave given.moved given.bound given.none_left in
     record {
       status = elim came [ inl whole ↦ inl whole | inr cut ↦ inr (inr (inl cut)) ];
