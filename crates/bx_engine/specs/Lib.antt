@@ -2,8 +2,11 @@ pub mod Ending
 pub mod Ends
 pub mod Expected
 pub mod Known
+pub mod Calls
 pub mod Stores
 pub mod Counting
 pub mod OutputTrees
 pub mod Responses
 pub mod Statuses
+pub mod Headline
+pub mod Beyond

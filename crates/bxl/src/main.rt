@@ -4,37 +4,107 @@
 //! both, on `bx_io`, whose traits they implement, and on `bx_engine`.
 #![tactic(auto)]
 
+ghost use Rattle.std.specs.Prelude.{◌≡◌, [], IfOk, None, Some, map, string_bytes};
+ghost use Rattle.bx_io.specs.Holdings.{AreNames, Holdings, held_in};
+ghost use Rattle.bx_engine.specs.Beyond.{Beyond, OfEachCall, OfInput};
+ghost use Rattle.bx_engine.specs.Calls.{call_of, change_of, counted_of, written_of};
+ghost use Rattle.bx_engine.specs.Headline.{Headline};
+ghost use Rattle.bx_engine.specs.Stores.{FairStore};
+ghost use Rattle.bx_engine_words.specs.Words.{Orders};
+ghost use Rattle.bx_engine_words.specs.declared.order.Order.{Order as TheOrder};
+
 use bx_engine::{Status, command};
-use bx_io::OpenGate;
-use bx_io_system::{FolderKeeper, StdSink, StdSource, program_words};
+use bx_io::{Keeper, OpenGate, Sink, Source};
+use bx_io_system::{FolderKeeper, StdSink, StdSource, SystemDisk, program_words};
 use std::alloc::{AllocError, Global};
+use std::io::{Stderr, Stdin, Stdout};
 use std::process::ExitCode;
+use std::sync::Wait;
+use std::thread::Threads;
 
 /// The folder of the working directory that holds results from one build to the next.
 const FOLDER: &str = ".bxl-cache";
 
-/// The store over that folder.
-fn keeper(rt: &HostRuntime, alloc: Global) -> Result<FolderKeeper<HostRuntime>, AllocError> {
-    Ok(FolderKeeper::new(rt.clone()?, String::from_str(alloc, FOLDER)?))
+/// How a call ended, and the outside as it left it.
+#[derive(Drop)]
+struct Done {
+    status: Status,
+    source: StdSource<Stdin>,
+    out: StdSink<Stdout>,
+    notes: StdSink<Stderr>,
+    keeper: FolderKeeper<SystemDisk<HostRuntime>>,
 }
 
-fn main(rt: HostRuntime) -> ExitCode {
+/// The store over that folder.
+fn keeper(
+    rt: &HostRuntime,
+    alloc: Global,
+) -> Result<FolderKeeper<SystemDisk<HostRuntime>>, AllocError>
+    ghost held: { Holdings }
+    requires { AreNames held }
+    ensures known { IfOk result (λ keeper. ⟦<FolderKeeper<SystemDisk<HostRuntime>> as Keeper>⟧.known keeper
+        ≡ record { held = Some held; changes = [] }) }
+    ensures faults { IfOk result (λ keeper.
+        ⟦<FolderKeeper<SystemDisk<HostRuntime>> as Keeper>⟧.faults keeper ≡ 0) }
+{
+    let disk = SystemDisk::new(rt.clone()?, String::from_str(alloc, FOLDER)?);
+    Ok(FolderKeeper::new(disk))
+}
+
+/// One call over the streams of the system and the folder. It is proved of all that the folder may hold at first:
+/// where the disk returned just that with what the call put, or where the words say `--no-cache`, the promise of
+/// the engine holds, and the input is what standard input gave.
+fn run<H: Threads + Wait + Sync>(
+    threads: &H,
+    rt: &HostRuntime,
+    words: &[String],
+) -> Result<Done, AllocError>
+    ghost held: { Holdings }
+    requires { AreNames held }
+    ensures headline { IfOk result (λ done. (order : TheOrder) → Orders (map string_bytes words.now) order
+        → (fair : FairStore order (⟦<StdSource<Stdin> as Source>⟧.given done.source) (Some held)
+        (held_in (⟦<FolderKeeper<SystemDisk<HostRuntime>> as Keeper>⟧.known done.keeper)))
+        → Headline (call_of done.status
+        (counted_of 0 (⟦<StdSource<Stdin> as Source>⟧.faults done.source))
+        (written_of [] (⟦<StdSink<Stdout> as Sink>⟧.taken done.out) 0
+        (⟦<StdSink<Stdout> as Sink>⟧.faults done.out))
+        (written_of [] (⟦<StdSink<Stderr> as Sink>⟧.taken done.notes) 0
+        (⟦<StdSink<Stderr> as Sink>⟧.faults done.notes))
+        (change_of (record { held = Some held; changes = [] })
+        (⟦<FolderKeeper<SystemDisk<HostRuntime>> as Keeper>⟧.known done.keeper) None 0
+        (⟦<FolderKeeper<SystemDisk<HostRuntime>> as Keeper>⟧.faults done.keeper)))
+        (⟦<StdSource<Stdin> as Source>⟧.given done.source) order fair) }
+{
     let alloc = rt.alloc();
-    let Ok(words) = program_words(&rt) else {
-        return ExitCode::from(Status::OutOfMemory.code());
-    };
-    let Ok(mut keeper) = keeper(&rt, alloc) else {
-        return ExitCode::from(Status::OutOfMemory.code());
-    };
+    let mut source = StdSource::new(rt.stdin());
+    let mut out = StdSink::new(rt.stdout());
+    let mut notes = StdSink::new(rt.stderr());
+    let mut keeper = keeper(rt, alloc)?;
     let status = command(
-        &rt,
+        threads,
         alloc,
-        &words,
-        &mut StdSource::new(rt.stdin()),
-        &mut StdSink::new(rt.stdout()),
-        &mut StdSink::new(rt.stderr()),
+        words,
+        &mut source,
+        &mut out,
+        &mut notes,
         &mut keeper,
         &OpenGate,
     );
-    ExitCode::from(status.code())
+    Ok(Done {
+        status,
+        source,
+        out,
+        notes,
+        keeper,
+    })
+}
+
+fn main(rt: HostRuntime) -> ExitCode {
+    let Ok(words) = program_words(&rt) else {
+        return ExitCode::from(Status::OutOfMemory.code());
+    };
+    match run(&rt, &rt, &words) {
+        Ok(done) => ExitCode::from(done.status.code()),
+        Err(_) => ExitCode::from(Status::OutOfMemory.code()),
+    }
 }

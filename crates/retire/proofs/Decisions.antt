@@ -38,14 +38,11 @@ use Rattle.retire.specs.declared.taking.Way.TheVariants as ways
 
 pub hit_taken : (held : Option Holdings) (S : Holdings) (d : Desc) (see : Ask → Answer) (f : FoundParts) → held ≡ Some S → LookupGives held d see (lookup_results.Hit f)
     → LookupHitIsCurrent d see (lookup_results.Hit f) → TakesFrom S d see (takings.Hit f)
-hit_taken held S d see f is gives now = (subst (λ (o : Option Holdings). LookupGives o d see (lookup_results.Hit f)) is gives, now.0)
+hit_taken held S d see f is gives now = (gives S is, now.0)
 
 pub miss_taken : (held : Option Holdings) (S : Holdings) (d : Desc) (see view : Ask → Answer) (f : Facts) → held ≡ Some S → LookupGives held d see lookup_results.Miss
     → view ≡ see → IsRun f d view → TakesFrom S d see (takings.Missed f)
-miss_taken held S d see view f is gives same run = (
-  subst (λ (o : Option Holdings). LookupGives o d see lookup_results.Miss) is gives,
-  subst (IsRun f d) same run,
-)
+miss_taken held S d see view f is gives same run = (gives S is, subst (IsRun f d) same run)
 
 -- what is so of a description is so of the process that it is of
 pub takes_in : (o : Option ProcessDesc) (tree : Files) (inputs : ByPip) (budget : ℕ) (d : Desc) (see view : Ask → Answer) (held : Option Holdings) (t : Taken)

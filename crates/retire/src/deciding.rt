@@ -133,7 +133,7 @@ fn decide_process<R: KeepReader, G: Gate>(
     requires slots { pip ≤ length slots.now }
     ensures decided { IfOk result (λ next. IfSome (process_in (slice_get frame.now.plan.now.pips pip))
         (λ (process : AnyProcess). DecidedBy frame.now.plan.now.pips frame.now.sources.now
-        frame.now.plan.now.tool_budget (R.held reader.old) (map slot_files slots.now) inputs.now pip process
+        frame.now.plan.now.tool_budget (R.held reader.new) (map slot_files slots.now) inputs.now pip process
         next)) }
     ensures agrees { IfOk result (λ next. Agrees next.ended) }
     ensures reader { IfOk result (λ next. ReadsOn (R.held reader.old) (R.held reader.new) (R.bound reader.old)
@@ -154,7 +154,7 @@ fn decide<R: KeepReader, G: Gate>(
     requires pip { pip < length frame.now.plan.now.pips }
     requires slots { pip ≤ length slots.now }
     ensures decided { IfOk result (DecidesAt frame.now.plan.now.pips frame.now.sources.now
-        frame.now.plan.now.tool_budget (R.held reader.old) slots.now pip
+        frame.now.plan.now.tool_budget (R.held reader.new) slots.now pip
         (slice_get frame.now.plan.now.pips pip)) }
     ensures agrees { IfOk result (λ next. Agrees next.ended) }
     ensures reader { IfOk result (λ next. ReadsOn (R.held reader.old) (R.held reader.new) (R.bound reader.old)
@@ -206,7 +206,7 @@ pub(crate) fn decide_all<R: KeepReader, G: Gate>(
     reader: &mut R,
 ) -> Result<Decided, Memory>
     requires { KeepsRules frame.now.plan.now.pips frame.now.sources.now }
-    ensures follows { (S : Holdings) → R.held reader.old ≡ Some S
+    ensures follows { (S : Holdings) → R.held reader.new ≡ Some S
         → IsFair frame.now.plan.now.pips frame.now.sources.now frame.now.plan.now.tool_budget S
         → IfOk result (λ d. FollowsAll frame.now.plan.now.pips frame.now.sources.now
         frame.now.plan.now.tool_budget S d.verdicts.items d.slots.items d.records.items d.ways.hits

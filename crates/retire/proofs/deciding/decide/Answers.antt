@@ -40,5 +40,5 @@ returns-in-Process-clause-decided g c =
     let process = subst (StartsAs pips tree budget c.args.slots.now c.args.pip pip) c.in-Process.is c.in_ok-started.ensures in
     IfOk-weaker c.decide_process.result _ _
     (λ next h.
-    decide_process pips tree budget (g.R.KeepReader.held c.args.reader.now) c.args.slots.now c.args.pip pip c.in-Process.inputs next process.0 process.1 h)
+    decide_process pips tree budget (g.R.KeepReader.held c.decide_process.new.reader) c.args.slots.now c.args.pip pip c.in-Process.inputs next process.0 process.1 h)
     c.decide_process.ensures.decided

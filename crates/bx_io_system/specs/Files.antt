@@ -1,0 +1,146 @@
+-- The files of a folder by path, and the order in which they are changed and stored.
+use Rattle.std.specs.Prelude.{◌≡◌, ◌<◌, ℕ, Bool, true, false, ◌&&◌, ◌||◌, not, ◌==◌, List, [], ◌∷◌, length, slice_index, bytes_eq, Option, Some, None, Result, Ok, Err, Vec, String, string_bytes, All, option_map}
+use Rattle.std.specs.FinMap.{get}
+use Rattle.std.specs.IoError.{error_kind}
+use Rattle.std.specs.declared.alloc.Global.{Global}
+use Rattle.std.specs.declared.io.Error.{Error}
+use Rattle.std.specs.declared.io.ErrorKind.TheVariants.{NotFound}
+use Rattle.bx_io.specs.Holdings.{Holdings}
+use Rattle.bx_io.specs.Names.{IsName}
+use Rattle.bx_io.specs.declared.name.TheConstants.{NAME_LENGTH}
+use Rattle.bx_io_system.specs.Events.{Event}
+use Rattle.bx_io_system.specs.declared.kind.Kind.{Kind}
+use Rattle.bx_io_system.specs.declared.kind.Kind.TheVariants as kinds
+
+-- from the path of each file to its bytes
+abbrev pub Files : Type 0
+Files = Holdings
+
+-- ## What calls on files do
+
+-- the bytes of the file at a path, or that there is none
+abbrev pub Reads : Files → List ℕ → Result (Vec ℕ Global) Error → Type 0
+Reads files path (Ok bytes) = get files path ≡ Some bytes.items
+Reads files path (Err e) = error_kind e ≡ NotFound → get files path ≡ None
+
+-- each file but that at the path is as it was
+abbrev pub SameBut : Files → Files → List ℕ → Type 0
+SameBut before now path = (q : List ℕ) → (q ≡ path → ⊥) → get now q ≡ get before q
+
+-- the file has these bytes, unless the call failed
+abbrev pub Writes : Files → Files → List ℕ → List ℕ → Result (Unit {0}) Error → Type 0
+Writes before now path bytes (Ok x) = (get now path ≡ Some bytes) × SameBut before now path
+Writes before now path bytes (Err e) = SameBut before now path
+
+-- what was at one path is at the other, unless the call failed, which changes nothing
+abbrev pub Renames : Files → Files → List ℕ → List ℕ → Result (Unit {0}) Error → Type 0
+Renames before now old path (Ok x) =
+    (get now path ≡ get before old)
+    × ((q : List ℕ) → (q ≡ old → ⊥) → (q ≡ path → ⊥) → get now q ≡ get before q)
+Renames before now old path (Err e) = now ≡ before
+
+-- there is no file at the path, unless the call failed, which changes nothing
+abbrev pub Removes : Files → Files → List ℕ → Result (Unit {0}) Error → Type 0
+Removes before now path (Ok x) = (get now path ≡ None) × SameBut before now path
+Removes before now path (Err e) = (now ≡ before) × (error_kind e ≡ NotFound → get before path ≡ None)
+
+-- the call failed, and not as nothing is there
+abbrev pub IsUnlisted : {X : Type 0} → Result X Error → Type 0
+IsUnlisted (Ok x) = ⊥
+IsUnlisted (Err e) = error_kind e ≡ NotFound → ⊥
+
+-- each text is a name
+abbrev pub AreAllNames : List (String Global) → Type 0
+AreAllNames = All (λ name. IsName (string_bytes name))
+
+-- ## What becomes of the files of names
+
+-- where a file is begun, which is no name
+abbrev pub IsBegun : List ℕ → Type 0
+IsBegun path = NAME_LENGTH < length path
+
+-- each file of a name is as it was
+abbrev pub SameNames : Files → Files → Type 0
+SameNames before now = (q : List ℕ) → IsName q → get now q ≡ get before q
+
+-- each file of a name but this one is as it was
+abbrev pub SameOthers : Files → Files → List ℕ → Type 0
+SameOthers before now name = (q : List ℕ) → IsName q → (q ≡ name → ⊥) → get now q ≡ get before q
+
+-- the file of the name has these bytes, unless the put failed, which changes no file of a name
+abbrev pub Puts : Files → Files → List ℕ → List ℕ → Result (Unit {0}) Error → Type 0
+Puts before now name bytes (Ok x) = (get now name ≡ Some bytes) × SameOthers before now name
+Puts before now name bytes (Err e) = SameNames before now
+
+-- what is told of a name
+abbrev pub told_at : Option Holdings → List ℕ → Option (Option (List ℕ))
+told_at told name = option_map (λ (held : Holdings). get held name) told
+
+-- What is told of each name is its file.
+abbrev pub Agrees : Option Holdings → Files → Type 0
+Agrees told files = (name : List ℕ) → IsName name → told_at told name ≡ Some (get files name)
+
+-- there is no file of the name, unless the drop failed, which changes no file of a name
+abbrev pub Drops : Files → Files → List ℕ → Result (Unit {0}) Error → Type 0
+Drops before now name (Ok x) = (get now name ≡ None) × SameOthers before now name
+Drops before now name (Err e) = SameNames before now
+
+-- ## The order of changes and syncs
+--
+-- After a loss of power an entry of a folder may stand without what was put before it, unless that was synced.
+
+-- the letters of contents, entries and lists of selectors
+abbrev pub blob_letter : ℕ
+blob_letter = 98
+
+abbrev pub entry_letter : ℕ
+entry_letter = 101
+
+abbrev pub list_letter : ℕ
+list_letter = 119
+
+-- the path is that of a name of the kind with this letter
+abbrev pub is_name_in : ℕ → List ℕ → Bool
+is_name_in letter path = (length path == NAME_LENGTH) && (slice_index path 0 == letter)
+
+abbrev pub unsynced_next : ℕ → Kind → List ℕ → Bool → Bool
+unsynced_next letter kinds.Renamed path before = is_name_in letter path || before
+unsynced_next letter kinds.Removed path before = is_name_in letter path || before
+unsynced_next letter kinds.Synced path before = not (bytes_eq path (letter ∷ [])) && before
+unsynced_next letter _ path before = before
+
+-- A name of this kind was put or dropped since the folder of its kind was synced. The calls are the newest
+-- first.
+abbrev pub unsynced : ℕ → List Event → Bool
+unsynced letter [] = false
+unsynced letter (e ∷ earlier) = unsynced_next letter e.0 e.1 (unsynced letter earlier)
+
+-- where the path is of the first kind, nothing of the other kind is unsynced
+abbrev pub is_after : ℕ → ℕ → List ℕ → List Event → Bool
+is_after letter other path earlier = not (is_name_in letter path) || not (unsynced other earlier)
+
+-- a file may get this path: an entry after the contents before it are stored, a list after the entries are
+abbrev pub is_ready : List ℕ → List Event → Bool
+is_ready path earlier =
+    is_after entry_letter blob_letter path earlier && is_after list_letter entry_letter path earlier
+
+abbrev pub is_sync_of : Kind → List ℕ → List ℕ → Bool
+is_sync_of kinds.Synced path wanted = bytes_eq path wanted
+is_sync_of _ path wanted = false
+
+-- the last call stored the file at this path
+abbrev pub is_stored : List ℕ → List Event → Bool
+is_stored path [] = false
+is_stored path (e ∷ earlier) = is_sync_of e.0 e.1 path
+
+-- A call may come now. A file gets a path once its bytes are stored and what has to be there before it; and a
+-- content is removed once the changes of entries before that are stored.
+abbrev pub may_come : Kind → List ℕ → List ℕ → List Event → Bool
+may_come kinds.Renamed path old earlier = is_stored old earlier && is_ready path earlier
+may_come kinds.Removed path old earlier = is_after blob_letter entry_letter path earlier
+may_come _ path old earlier = true
+
+-- Each call came when it might.
+abbrev pub is_durable : List Event → Bool
+is_durable [] = true
+is_durable (e ∷ earlier) = may_come e.0 e.1 e.2 earlier && is_durable earlier

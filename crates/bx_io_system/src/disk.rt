@@ -1,0 +1,69 @@
+//! The calls on the files of one folder.
+
+ghost use Rattle.std.specs.Prelude.{◌≡◌, Bool, true, List, [], ◌∷◌, IfOk, OnOk, OnErr};
+ghost use Rattle.bx_io_system.specs.Events.{Event};
+ghost use Rattle.bx_io_system.specs.Files.{Files, IsUnlisted, Reads, Removes, Renames, Writes};
+ghost use Rattle.bx_io_system.specs.declared.kind.Kind.TheVariants as kinds;
+
+use std::alloc::{AllocError, Global};
+use std::io;
+
+/// The files of one folder, by paths from it. What they hold is known, as of a disk in memory, or not, as of the
+/// system's, which others may change at any moment.
+pub trait Disk: Drop {
+    // Whether it is known what the files hold.
+    ghost is_known: { Bool };
+
+    // The bytes of each file by its path, where that is known.
+    ghost files: { Self → Files };
+
+    // The calls that change or sync a file, the newest first.
+    ghost calls: { Self → List Event };
+
+    /// Another handle of the same files.
+    fn again(&self, alloc: Global) -> Result<Self, AllocError>
+    where
+        Self: Sized,
+        ensures files { IfOk result (λ disk. files disk ≡ files self.now) }
+        ensures calls { IfOk result (λ disk. calls disk ≡ []) };
+
+    /// The bytes of a file.
+    fn read(&mut self, alloc: Global, path: &str) -> io::Result<Vec<u8>>
+        ensures found { is_known ≡ true → Reads (files self.old) path.now result }
+        ensures files { files self.new ≡ files self.old }
+        ensures calls { calls self.new ≡ calls self.old };
+
+    /// Writes a file, in place of what was there.
+    fn write(&mut self, alloc: Global, path: &str, bytes: &[u8]) -> io::Result<()>
+        ensures written { is_known ≡ true → Writes (files self.old) (files self.new) path.now bytes.now result }
+        ensures calls { calls self.new ≡ (kinds.Wrote, path.now, []) ∷ calls self.old };
+
+    /// Waits until what lies at a path is stored: the bytes of a file, or which names a folder has. The path of
+    /// the folder itself is empty.
+    fn sync(&mut self, alloc: Global, path: &str) -> io::Result<()>
+        ensures files { files self.new ≡ files self.old }
+        ensures synced { OnOk result (calls self.new ≡ (kinds.Synced, path.now, []) ∷ calls self.old) }
+        ensures failed { OnErr result (calls self.new ≡ calls self.old) };
+
+    /// Gives a file another path, in place of what was there.
+    fn rename(&mut self, alloc: Global, old: &str, path: &str) -> io::Result<()>
+        ensures renamed { is_known ≡ true → Renames (files self.old) (files self.new) old.now path.now result }
+        ensures calls { calls self.new ≡ (kinds.Renamed, path.now, old.now) ∷ calls self.old };
+
+    /// Removes a file.
+    fn remove(&mut self, alloc: Global, path: &str) -> io::Result<()>
+        ensures removed { is_known ≡ true → Removes (files self.old) (files self.new) path.now result }
+        ensures calls { calls self.new ≡ (kinds.Removed, path.now, []) ∷ calls self.old };
+
+    /// Makes a folder. The path of the folder itself is empty.
+    fn make_folder(&mut self, alloc: Global, path: &str) -> io::Result<()>
+        ensures files { files self.new ≡ files self.old }
+        ensures calls { calls self.new ≡ calls self.old };
+
+    /// The names of the plain files in a folder. A disk of which it is known what it holds lists nothing, and
+    /// fails.
+    fn list(&mut self, alloc: Global, path: &str) -> io::Result<Vec<String>>
+        ensures unlisted { is_known ≡ true → IsUnlisted result }
+        ensures files { files self.new ≡ files self.old }
+        ensures calls { calls self.new ≡ calls self.old };
+}

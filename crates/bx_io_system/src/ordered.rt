@@ -1,0 +1,299 @@
+//! Puts and drops of names in a folder, in an order that a loss of power cannot turn round.
+
+ghost use Rattle.std.specs.Prelude.{◌≡◌, ℕ, List, true, false, [], OnOk, IfOk, slice_index, string_bytes};
+ghost use Rattle.bx_io.specs.Names.{IsName};
+ghost use Rattle.bx_io_system.specs.Files.{Drops, IsBegun, Puts, Reads, Removes, Renames, SameNames, blob_letter, entry_letter, is_after};
+ghost use Rattle.bx_io_system.specs.Files.{AreAllNames, IsUnlisted, Writes, is_durable, is_ready, is_stored, unsynced};
+ghost use Rattle.bx_io.specs.Answers.{ListsNames};
+ghost use Rattle.bx_io.specs.declared.keeper.Listed.TheVariants as listed;
+
+use crate::disk::Disk;
+use bx_io::is_name;
+use std::alloc::{AllocError, Global};
+use std::io::{self, ErrorKind};
+
+/// The files of a folder, with what has to be synced before the next change: the folder of the contents before an
+/// entry that follows them, and that of the entries before a list, and before a content is dropped.
+#[derive(Drop)]
+pub struct OrderedDisk<D: Disk> {
+    disk: D,
+    blobs: bool,
+    entries: bool,
+    ghost durable: { is_durable (D.calls disk) ≡ true },
+    ghost blobs_known: { unsynced blob_letter (D.calls disk) ≡ true → blobs ≡ true },
+    ghost entries_known: { unsynced entry_letter (D.calls disk) ≡ true → entries ≡ true },
+}
+
+// The first letter of a name, which is that of its kind.
+fn letter_of(name: &str) -> u8
+    requires { IsName name.now }
+    ensures { result ≡ slice_index name.now 0 }
+{
+    let bytes = name.as_bytes();
+    bytes[0]
+}
+
+// Where the file of a name is begun.
+fn begun_name(alloc: Global, name: &str) -> Result<String, AllocError>
+    requires { IsName name.now }
+    ensures { IfOk result (λ begun. IsBegun (string_bytes begun)) }
+{
+    format!(in alloc; "{name}.new")
+}
+
+// Adds a name, if it is one.
+fn add_name(names: &mut Vec<String>, name: String) -> io::Result<()>
+    requires { AreAllNames names.old.items }
+    ensures { AreAllNames names.new.items }
+{
+    if is_name(name.as_bytes()) {
+        names.push(name)?;
+    }
+    Ok(())
+}
+
+// Adds the names among the files of the folder of a kind.
+fn add_files(alloc: Global, kind: &str, files: &[String], names: &mut Vec<String>) -> io::Result<()>
+    requires { AreAllNames names.old.items }
+    ensures { AreAllNames names.new.items }
+{
+    'files: for file in files {
+        add_name(names, format!(in alloc; "{kind}/{file}")?)?;
+    }
+    Ok(())
+}
+
+// Names in order, each once.
+fn in_order(names: Vec<String>) -> Vec<String>
+    requires { AreAllNames names.items }
+    ensures { ListsNames (listed.Names result) }
+{
+    let mut names = names;
+    names.sort_unstable();
+    names.dedup();
+    names
+}
+
+impl<D: Disk> OrderedDisk<D> {
+    /// The files of this folder, of which nothing was changed yet.
+    pub(crate) fn new(disk: D) -> OrderedDisk<D>
+        requires { D.calls disk ≡ [] }
+        ensures { result.disk ≡ disk }
+    {
+        OrderedDisk {
+            disk,
+            blobs: false,
+            entries: false,
+        }
+    }
+
+    /// Another handle of the same files.
+    pub(crate) fn again(&self, alloc: Global) -> Result<OrderedDisk<D>, AllocError>
+        ensures { IfOk result (λ ordered. D.files ordered.disk ≡ D.files self.now.disk) }
+    {
+        Ok(OrderedDisk::new(self.disk.again(alloc)?))
+    }
+
+    /// The bytes of the file of a name.
+    pub(crate) fn get(&mut self, alloc: Global, name: &str) -> io::Result<Vec<u8>>
+        ensures found { D.is_known ≡ true → Reads (D.files self.old.disk) name.now result }
+        ensures files { D.files self.new.disk ≡ D.files self.old.disk }
+    {
+        self.disk.read(alloc, name)
+    }
+
+    // Syncs the folder of the contents, if something was changed there.
+    fn sync_blobs(&mut self, alloc: Global) -> io::Result<()>
+        ensures synced { OnOk result (unsynced blob_letter (D.calls self.new.disk) ≡ false) }
+        ensures files { D.files self.new.disk ≡ D.files self.old.disk }
+    {
+        if self.blobs {
+            self.disk.sync(alloc, "b")?;
+            self.blobs = false;
+        }
+        Ok(())
+    }
+
+    // Syncs the folder of the entries, if something was changed there.
+    fn sync_entries(&mut self, alloc: Global) -> io::Result<()>
+        ensures synced { OnOk result (unsynced entry_letter (D.calls self.new.disk) ≡ false) }
+        ensures files { D.files self.new.disk ≡ D.files self.old.disk }
+    {
+        if self.entries {
+            self.disk.sync(alloc, "e")?;
+            self.entries = false;
+        }
+        Ok(())
+    }
+
+    // Syncs what has to be stored before the file of a name is put.
+    fn settle(&mut self, alloc: Global, name: &str) -> io::Result<()>
+        requires { IsName name.now }
+        ensures ready { OnOk result (is_ready name.now (D.calls self.new.disk) ≡ true) }
+        ensures files { D.files self.new.disk ≡ D.files self.old.disk }
+    {
+        match letter_of(name) {
+            b'e' => self.sync_blobs(alloc),
+            b'w' => self.sync_entries(alloc),
+            _ => Ok(()),
+        }
+    }
+
+    // Makes a folder, and stores that it is there, unless it was there.
+    fn make_folder(&mut self, alloc: Global, path: &str, above: &str) -> io::Result<()>
+        ensures ready { (name : List ℕ) → is_ready name (D.calls self.old.disk) ≡ true
+            → is_ready name (D.calls self.new.disk) ≡ true }
+        ensures files { D.files self.new.disk ≡ D.files self.old.disk }
+    {
+        match self.disk.make_folder(alloc, path) {
+            Ok(()) => self.disk.sync(alloc, above),
+            Err(error) if error.kind() == ErrorKind::AlreadyExists => Ok(()),
+            Err(error) => Err(error),
+        }
+    }
+
+    // Makes the folder, and in it the folder of the kind of a name.
+    fn make_folders(&mut self, alloc: Global, name: &str) -> io::Result<()>
+        ensures ready { (path : List ℕ) → is_ready path (D.calls self.old.disk) ≡ true
+            → is_ready path (D.calls self.new.disk) ≡ true }
+        ensures files { D.files self.new.disk ≡ D.files self.old.disk }
+    {
+        self.make_folder(alloc, "", "..")?;
+        self.make_folder(alloc, name.get(..1).unwrap_or(""), "")
+    }
+
+    // Writes a file, and makes the folders for it where they are missing.
+    fn write(&mut self, alloc: Global, name: &str, begun: &str, bytes: &[u8]) -> io::Result<()>
+        ensures written { D.is_known ≡ true
+            → Writes (D.files self.old.disk) (D.files self.new.disk) begun.now bytes.now result }
+        ensures ready { (path : List ℕ) → is_ready path (D.calls self.old.disk) ≡ true
+            → is_ready path (D.calls self.new.disk) ≡ true }
+    {
+        match self.disk.write(alloc, begun, bytes) {
+            Err(error) if error.kind() == ErrorKind::NotFound => {
+                self.make_folders(alloc, name)?;
+                self.disk.write(alloc, begun, bytes)
+            }
+            written => written,
+        }
+    }
+
+    // Writes a file, and waits until its bytes are stored.
+    fn store(&mut self, alloc: Global, name: &str, begun: &str, bytes: &[u8]) -> io::Result<()>
+        ensures written { D.is_known ≡ true
+            → Writes (D.files self.old.disk) (D.files self.new.disk) begun.now bytes.now result }
+        ensures stored { OnOk result (is_stored begun.now (D.calls self.new.disk) ≡ true) }
+        ensures ready { (path : List ℕ) → is_ready path (D.calls self.old.disk) ≡ true
+            → is_ready path (D.calls self.new.disk) ≡ true }
+    {
+        self.write(alloc, name, begun, bytes)?;
+        self.disk.sync(alloc, begun)
+    }
+
+    // Removes a file that was begun.
+    fn give_up(&mut self, alloc: Global, begun: &str)
+        requires { IsBegun begun.now }
+        ensures { D.is_known ≡ true → SameNames (D.files self.old.disk) (D.files self.new.disk) }
+    {
+        let _ = self.disk.remove(alloc, begun);
+    }
+
+    // Gives a file that was begun its name.
+    fn finish(&mut self, alloc: Global, begun: &str, name: &str) -> io::Result<()>
+        requires is_name { IsName name.now }
+        requires stored { is_stored begun.now (D.calls self.old.disk) ≡ true }
+        requires ready { is_ready name.now (D.calls self.old.disk) ≡ true }
+        ensures { D.is_known ≡ true
+            → Renames (D.files self.old.disk) (D.files self.new.disk) begun.now name.now result }
+    {
+        let letter = letter_of(name);
+        let done = self.disk.rename(alloc, begun, name);
+        self.blobs = self.blobs || letter == b'b';
+        self.entries = self.entries || letter == b'e';
+        done
+    }
+
+    /// Puts bytes under a name. They are written and stored beside it before they get it, so a stop at any moment
+    /// leaves the old bytes or the new ones.
+    pub(crate) fn put(&mut self, alloc: Global, name: &str, bytes: &[u8]) -> io::Result<()>
+        requires { IsName name.now }
+        ensures { D.is_known ≡ true
+            → Puts (D.files self.old.disk) (D.files self.new.disk) name.now bytes.now result }
+    {
+        let begun = begun_name(alloc, name)?;
+        self.settle(alloc, name)?;
+        match self.store(alloc, name, begun.as_str(), bytes) {
+            Ok(()) => self.finish(alloc, begun.as_str(), name),
+            Err(error) => {
+                self.give_up(alloc, begun.as_str());
+                Err(error)
+            }
+        }
+    }
+
+    // Removes the file of a name.
+    fn remove(&mut self, alloc: Global, name: &str) -> io::Result<()>
+        requires is_name { IsName name.now }
+        requires ready { is_after blob_letter entry_letter name.now (D.calls self.old.disk) ≡ true }
+        ensures { D.is_known ≡ true → Removes (D.files self.old.disk) (D.files self.new.disk) name.now result }
+    {
+        let letter = letter_of(name);
+        let done = self.disk.remove(alloc, name);
+        self.blobs = self.blobs || letter == b'b';
+        self.entries = self.entries || letter == b'e';
+        done
+    }
+
+    // Syncs what has to be stored before the file of a name is removed.
+    fn settle_drop(&mut self, alloc: Global, name: &str) -> io::Result<()>
+        requires { IsName name.now }
+        ensures ready { OnOk result
+            (is_after blob_letter entry_letter name.now (D.calls self.new.disk) ≡ true) }
+        ensures files { D.files self.new.disk ≡ D.files self.old.disk }
+    {
+        if letter_of(name) == b'b' {
+            self.sync_entries(alloc)
+        } else {
+            Ok(())
+        }
+    }
+
+    /// Drops a name. Where there is no file, there is none afterwards.
+    pub(crate) fn drop_name(&mut self, alloc: Global, name: &str) -> io::Result<()>
+        requires { IsName name.now }
+        ensures { D.is_known ≡ true → Drops (D.files self.old.disk) (D.files self.new.disk) name.now result }
+    {
+        self.settle_drop(alloc, name)?;
+        match self.remove(alloc, name) {
+            Err(error) if error.kind() == ErrorKind::NotFound => Ok(()),
+            removed => removed,
+        }
+    }
+
+    // Adds the names of a kind.
+    fn add_names(&mut self, alloc: Global, kind: &str, names: &mut Vec<String>) -> io::Result<()>
+        requires { AreAllNames names.old.items }
+        ensures names { AreAllNames names.new.items }
+        ensures unlisted { D.is_known ≡ true → IsUnlisted result }
+        ensures files { D.files self.new.disk ≡ D.files self.old.disk }
+    {
+        match self.disk.list(alloc, kind) {
+            Ok(files) => add_files(alloc, kind, &files, names),
+            Err(error) if error.kind() == ErrorKind::NotFound => Ok(()),
+            Err(error) => Err(error),
+        }
+    }
+
+    /// The names of all files of names, in order, each once.
+    pub(crate) fn names(&mut self, alloc: Global) -> io::Result<Vec<String>>
+        ensures names { IfOk result (λ names. ListsNames (listed.Names names)) }
+        ensures unlisted { D.is_known ≡ true → IsUnlisted result }
+        ensures files { D.files self.new.disk ≡ D.files self.old.disk }
+    {
+        let mut names = Vec::new(alloc);
+        self.add_names(alloc, "b", &mut names)?;
+        self.add_names(alloc, "e", &mut names)?;
+        self.add_names(alloc, "w", &mut names)?;
+        Ok(in_order(names))
+    }
+}

@@ -1,0 +1,223 @@
+//! A folder with the record of what it answered.
+
+ghost use Rattle.std.specs.Prelude.{◌≡◌, ◌≢◌, ℕ, List, [], ◌∷◌, ◌&&◌, true, Err, IfOk, IsSome, Some};
+ghost use Rattle.std.specs.FinMap.{get};
+ghost use Rattle.bx_io.specs.Answers.{ListsNames};
+ghost use Rattle.bx_io.specs.Causes.{HasCause};
+ghost use Rattle.bx_io.specs.Holdings.{Holdings, Put, Drop};
+ghost use Rattle.bx_io.specs.Names.{IsName};
+ghost use Rattle.bx_io_system.specs.Answers.{change_event, event_for, got_of, listed_event, put_of};
+ghost use Rattle.bx_io_system.specs.Events.{failures};
+ghost use Rattle.bx_io_system.specs.Files.{IsUnlisted, Reads, told_at};
+ghost use Rattle.bx_io_system.specs.Telling.{told, tells};
+ghost use Rattle.bx_io_system.specs.declared.kind.Kind.TheVariants as kinds;
+
+use crate::disk::Disk;
+use crate::kind::Kind;
+use crate::ordered::OrderedDisk;
+use crate::record::Record;
+use bx_io::{Got, Listed, PutFault, one_more};
+use std::alloc::{AllocError, Global};
+use std::io::{self, ErrorKind};
+
+/// A folder, the record of what it answered and what was changed, and the count of faults, which is that of the
+/// record. Where it is known what the files of the folder hold, the record tells just that.
+#[derive(Drop)]
+pub struct System<D: Disk> {
+    disk: OrderedDisk<D>,
+    pub log: Record,
+    pub faults: u64,
+    ghost counted: { faults ≡ failures log.events },
+    ghost agrees: { (name : List ℕ) → D.is_known ≡ true → IsName name
+        → told_at (told log.held log.events log.closed) name ≡ Some (get (D.files disk.disk) name) },
+    ghost telling: { D.is_known ≡ true → IsSome (told log.held log.events log.closed) },
+}
+
+impl<D: Disk> System<D> {
+    /// The folder of this disk, of which nothing was asked yet.
+    pub(crate) fn new(disk: D) -> System<D>
+        ghost held: { Holdings }
+        requires unused { D.calls disk ≡ [] }
+        requires agrees { D.is_known ≡ true → (name : List ℕ) → IsName name
+            → get held name ≡ get (D.files disk) name }
+        ensures held { result.log.held ≡ held }
+        ensures events { result.log.events ≡ [] }
+        ensures closed { result.log.closed ≡ true }
+        ensures faults { result.faults ≡ 0 }
+    {
+        System {
+            disk: OrderedDisk::new(disk),
+            log: Record::new(),
+            faults: 0,
+        }
+    }
+
+    // Notes what a read of a name gave.
+    fn answered(&mut self, name: &str, done: io::Result<Vec<u8>>) -> Got
+        requires is_name { IsName name.now }
+        requires found { D.is_known ≡ true → Reads (D.files self.old.disk.disk) name.now done }
+        ensures answer { result ≡ got_of done }
+        ensures noted { self.new.log ≡ record self.old.log {
+          events = event_for name.now result ∷ self.old.log.events;
+        } }
+        ensures cause { HasCause self.old.faults self.new.faults (result ≡ Got.Failed) }
+        ensures no_fault { result ≢ Got.Failed → self.new.faults ≡ self.old.faults }
+    {
+        match done {
+            Ok(bytes) => {
+                self.log = Record::noted(
+                    &self.log,
+                    &Kind::Found,
+                    name.as_bytes(),
+                    bytes.as_slice(),
+                );
+                Got::Found(bytes)
+            }
+            Err(error) => match error.kind() {
+                ErrorKind::NotFound => {
+                    self.log = Record::noted(&self.log, &Kind::Absent, name.as_bytes(), &[]);
+                    Got::None
+                }
+                ErrorKind::OutOfMemory => {
+                    self.log = Record::noted(&self.log, &Kind::Memory, name.as_bytes(), &[]);
+                    Got::Memory
+                }
+                _ => {
+                    self.log = Record::noted(&self.log, &Kind::Failed, name.as_bytes(), &[]);
+                    self.faults = one_more(self.faults);
+                    Got::Failed
+                }
+            },
+        }
+    }
+
+    /// The answer for a name.
+    pub(crate) fn get(&mut self, alloc: Global, name: &str) -> Got
+        requires { IsName name.now }
+        ensures noted { self.new.log ≡ record self.old.log {
+          events = event_for name.now result ∷ self.old.log.events;
+        } }
+        ensures cause { HasCause self.old.faults self.new.faults (result ≡ Got.Failed) }
+        ensures no_fault { result ≢ Got.Failed → self.new.faults ≡ self.old.faults }
+    {
+        let done = self.disk.get(alloc, name);
+        self.answered(name, done)
+    }
+
+    // Notes that a change failed.
+    fn refused(&mut self, name: &str, error: io::Error) -> PutFault
+        ensures answer { Err result ≡ put_of (Err error) }
+        ensures noted { self.new.log ≡ record self.old.log {
+          events = change_event (Put name.now []) (Err result) ∷ self.old.log.events;
+        } }
+        ensures cause { HasCause self.old.faults self.new.faults (result ≡ PutFault.Failed) }
+        ensures no_fault { result ≢ PutFault.Failed → self.new.faults ≡ self.old.faults }
+    {
+        if error.kind() == ErrorKind::OutOfMemory {
+            self.log = Record::noted(&self.log, &Kind::Memory, name.as_bytes(), &[]);
+            PutFault::Memory
+        } else {
+            self.log = Record::noted(&self.log, &Kind::Failed, name.as_bytes(), &[]);
+            self.faults = one_more(self.faults);
+            PutFault::Failed
+        }
+    }
+
+    /// Puts bytes under a name.
+    pub(crate) fn put(&mut self, alloc: Global, name: &str, bytes: &[u8]) -> Result<(), PutFault>
+        requires { IsName name.now }
+        ensures noted { self.new.log ≡ record self.old.log {
+          events = change_event (Put name.now bytes.now) result ∷ self.old.log.events;
+        } }
+        ensures cause { HasCause self.old.faults self.new.faults (result ≡ Err PutFault.Failed) }
+        ensures no_fault { result ≢ Err PutFault.Failed → self.new.faults ≡ self.old.faults }
+    {
+        match self.disk.put(alloc, name, bytes) {
+            Ok(()) => {
+                self.log = Record::noted(&self.log, &Kind::Put, name.as_bytes(), bytes);
+                Ok(())
+            }
+            Err(error) => Err(self.refused(name, error)),
+        }
+    }
+
+    /// Drops a name. Where nothing is there, nothing is there afterwards.
+    pub(crate) fn drop_name(&mut self, alloc: Global, name: &str) -> Result<(), PutFault>
+        requires { IsName name.now }
+        ensures noted { self.new.log ≡ record self.old.log {
+          events = change_event (Drop name.now) result ∷ self.old.log.events;
+        } }
+        ensures cause { HasCause self.old.faults self.new.faults (result ≡ Err PutFault.Failed) }
+        ensures no_fault { result ≢ Err PutFault.Failed → self.new.faults ≡ self.old.faults }
+    {
+        match self.disk.drop_name(alloc, name) {
+            Ok(()) => {
+                self.log = Record::noted(&self.log, &Kind::Dropped, name.as_bytes(), &[]);
+                Ok(())
+            }
+            Err(error) => Err(self.refused(name, error)),
+        }
+    }
+
+    // Notes that a listing failed.
+    fn unlisted(&mut self, error: io::Error) -> Listed
+        ensures noted { self.new.log ≡ record self.old.log {
+          events = listed_event result ∷ self.old.log.events;
+        } }
+        ensures names { ListsNames result }
+        ensures cause { HasCause self.old.faults self.new.faults (result ≡ Listed.Failed) }
+        ensures no_fault { result ≢ Listed.Failed → self.new.faults ≡ self.old.faults }
+    {
+        if error.kind() == ErrorKind::OutOfMemory {
+            self.log = Record::noted(&self.log, &Kind::Memory, &[], &[]);
+            Listed::Memory
+        } else {
+            self.log = Record::noted(&self.log, &Kind::Failed, &[], &[]);
+            self.faults = one_more(self.faults);
+            Listed::Failed
+        }
+    }
+
+    /// All names.
+    pub(crate) fn names(&mut self, alloc: Global) -> Listed
+        ensures noted { self.new.log ≡ record self.old.log {
+          events = listed_event result ∷ self.old.log.events;
+        } }
+        ensures names { ListsNames result }
+        ensures cause { HasCause self.old.faults self.new.faults (result ≡ Listed.Failed) }
+        ensures no_fault { result ≢ Listed.Failed → self.new.faults ≡ self.old.faults }
+    {
+        match self.disk.names(alloc) {
+            Ok(names) => {
+                self.log = Record::noted(&self.log, &Kind::Listed, &[], &[]);
+                Listed::Names(names)
+            }
+            Err(error) => self.unlisted(error),
+        }
+    }
+
+    /// Joins the record of another one.
+    pub(crate) fn join(&mut self, other: &System<D>)
+        ensures log { self.new.log ≡ record self.old.log {
+          closed = tells (told other.now.log.held other.now.log.events other.now.log.closed)
+              && self.old.log.closed;
+        } }
+        ensures faults { self.new.faults ≡ self.old.faults }
+    {
+        self.log = Record::joined(&self.log, &other.log);
+    }
+
+    /// The same folder, with a count of faults of its own.
+    pub(crate) fn again(&self, alloc: Global) -> Result<System<D>, AllocError>
+        ensures log { IfOk result (λ system. system.log ≡ record self.now.log {
+          events = (kinds.Started, [], []) ∷ self.now.log.events;
+        }) }
+        ensures faults { IfOk result (λ system. system.faults ≡ 0) }
+    {
+        Ok(System {
+            disk: self.disk.again(alloc)?,
+            log: Record::noted(&self.log, &Kind::Started, &[], &[]),
+            faults: 0,
+        })
+    }
+}

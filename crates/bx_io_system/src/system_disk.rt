@@ -1,0 +1,117 @@
+//! The files of a folder of the system. Each method makes one call of the system, and notes one that changes or
+//! syncs something.
+
+ghost use Rattle.std.specs.Prelude.{◌≡◌, []};
+
+use crate::disk::Disk;
+use crate::kind::Kind;
+use crate::record::Record;
+use std::alloc::{AllocError, Global};
+use std::fs::{self, DirEntry, File, OpenFile};
+use std::io::{self, ErrorKind};
+use std::rt::Files;
+
+/// A folder of the system. What its files hold is not known.
+#[derive(Drop)]
+pub struct SystemDisk<R> {
+    rt: R,
+    folder: String,
+    log: Record,
+}
+
+// The system's path of a path from the folder.
+fn path_of(alloc: Global, folder: &str, path: &str) -> Result<String, AllocError> {
+    format!(in alloc; "{folder}/{path}")
+}
+
+impl<R: Files + AllocGlobal + Clone + Drop> SystemDisk<R> {
+    /// The folder at this path, which need not be there.
+    pub fn new(rt: R, folder: String) -> SystemDisk<R>
+        ensures { ⟦<SystemDisk<R> as Disk>⟧.calls result ≡ [] }
+    {
+        SystemDisk {
+            rt,
+            folder,
+            log: Record::new(),
+        }
+    }
+}
+
+// Adds the name of an entry of a folder, if it is that of a plain file. What is no text is no name.
+fn add_file<R: Files + Drop>(
+    alloc: Global,
+    entry: io::Result<DirEntry<R>>,
+    files: &mut Vec<String>,
+) -> io::Result<()> {
+    let entry = match entry {
+        Err(error) if error.kind() == ErrorKind::InvalidFilename => return Ok(()),
+        entry => entry?,
+    };
+    if entry.file_type()?.is_file() {
+        files.push(String::from_str(alloc, entry.file_name())?)?;
+    }
+    Ok(())
+}
+
+impl<R: Files + AllocGlobal + Clone + Drop> Disk for SystemDisk<R> {
+    ghost use Rattle.std.specs.Prelude.{false};
+    ghost use Rattle.std.specs.FinMap.{empty};
+
+    ghost is_known = { false };
+
+    ghost files = { λ _. empty };
+
+    ghost calls = { λ d. d.log.events };
+
+    fn again(&self, alloc: Global) -> Result<SystemDisk<R>, AllocError> {
+        Ok(SystemDisk::new(
+            self.rt.clone()?,
+            String::from_str(alloc, self.folder.as_str())?,
+        ))
+    }
+
+    fn read(&mut self, alloc: Global, path: &str) -> io::Result<Vec<u8>> {
+        let path = path_of(alloc, self.folder.as_str(), path)?;
+        fs::read(&self.rt, path.as_str())
+    }
+
+    fn write(&mut self, alloc: Global, path: &str, bytes: &[u8]) -> io::Result<()> {
+        self.log = Record::noted(&self.log, &Kind::Wrote, path.as_bytes(), &[]);
+        let path = path_of(alloc, self.folder.as_str(), path)?;
+        fs::write(&self.rt, path.as_str(), bytes)
+    }
+
+    fn sync(&mut self, alloc: Global, path: &str) -> io::Result<()> {
+        let full = path_of(alloc, self.folder.as_str(), path)?;
+        File::open(&self.rt, full.as_str())?.sync_all()?;
+        self.log = Record::noted(&self.log, &Kind::Synced, path.as_bytes(), &[]);
+        Ok(())
+    }
+
+    fn rename(&mut self, alloc: Global, old: &str, path: &str) -> io::Result<()> {
+        self.log = Record::noted(&self.log, &Kind::Renamed, path.as_bytes(), old.as_bytes());
+        let old = path_of(alloc, self.folder.as_str(), old)?;
+        let path = path_of(alloc, self.folder.as_str(), path)?;
+        fs::rename(&self.rt, old.as_str(), path.as_str())
+    }
+
+    fn remove(&mut self, alloc: Global, path: &str) -> io::Result<()> {
+        self.log = Record::noted(&self.log, &Kind::Removed, path.as_bytes(), &[]);
+        let path = path_of(alloc, self.folder.as_str(), path)?;
+        fs::remove_file(&self.rt, path.as_str())
+    }
+
+    fn make_folder(&mut self, alloc: Global, path: &str) -> io::Result<()> {
+        let path = path_of(alloc, self.folder.as_str(), path)?;
+        fs::create_dir(&self.rt, path.as_str())
+    }
+
+    fn list(&mut self, alloc: Global, path: &str) -> io::Result<Vec<String>> {
+        let path = path_of(alloc, self.folder.as_str(), path)?;
+        let mut files = Vec::new(alloc);
+        'entries: for entry in fs::read_dir(&self.rt, path.as_str())? {
+            add_file(alloc, entry, &mut files)?;
+        }
+        Ok(files)
+    }
+}
