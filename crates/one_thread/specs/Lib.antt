@@ -3,3 +3,5 @@ pub mod Views
 pub mod Shared
 pub mod Outputs
 pub mod Keeping
+pub mod Lines
+pub mod Least
