@@ -1,1 +1,2 @@
 pub mod PipLines
+pub mod OneNotes

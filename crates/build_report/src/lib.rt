@@ -6,10 +6,12 @@
 
 mod built;
 mod counts;
+mod laws;
 mod names;
 mod refusal;
 
 pub use built::{all_succeeded, report};
 pub use bx_tree::Memory;
 pub use counts::{Counts, notes};
+pub use laws::one_set_of_counts;
 pub use refusal::{MAX_SHOWN_BYTES, Refusal, refused_report};

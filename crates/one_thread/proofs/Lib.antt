@@ -12,3 +12,5 @@ pub mod Meeting
 pub mod OneResult
 pub mod OneMore
 pub mod KeptApart
+pub mod Reported
+pub mod LeastPaths

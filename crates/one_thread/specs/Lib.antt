@@ -4,3 +4,5 @@ pub mod Starting
 pub mod Shared
 pub mod Outputs
 pub mod Keeping
+pub mod Lines
+pub mod Least

@@ -2,6 +2,7 @@
 ghost use Rattle.std.specs.Prelude.{◌≡◌, IfOk, map};
 ghost use Rattle.violations.specs.Slots.{slot_files};
 ghost use Rattle.one_thread.specs.OneThread.{made_by, one_thread, verdicts_of};
+ghost use Rattle.one_thread.specs.Views.{AllAgree};
 
 use crate::ended::{Frame, ended};
 use crate::shared::SharedFiles;
@@ -19,7 +20,7 @@ pub struct Built {
 }
 
 /// Builds all pips of a plan, one after the other, without a cache. Each process that is not skipped passes
-/// the gate once.
+/// the gate once. The slot of a pip is good exactly where the pip succeeded.
 pub fn build_all<G: Gate>(
     alloc: Global,
     plan: &Plan,
@@ -30,6 +31,7 @@ pub fn build_all<G: Gate>(
         ≡ verdicts_of (one_thread plan.now.pips sources.now plan.now.tool_budget)) }
     ensures files { IfOk result (λ built. map slot_files built.slots.items
         ≡ made_by (one_thread plan.now.pips sources.now plan.now.tool_budget)) }
+    ensures slots { IfOk result (λ built. AllAgree built.verdicts.items built.slots.items) }
 {
     let frame = Frame {
         alloc,

@@ -40,3 +40,6 @@ pub returns-clause-files : goal.returns-clause-files
 returns-clause-files g c =
     files_built c.args.plan.now.pips c.args.sources.now c.args.plan.now.tool_budget c.pips.number c.pips.verdicts.items c.pips.slots.items
     c.pips.invariant.0 (subst (λ (ps : List Pip). length ps ≤ c.pips.number) c.pips-pips.ensures.pips c.pips-test.false)
+
+pub returns-clause-slots : goal.returns-clause-slots
+returns-clause-slots g c = c.pips.invariant.0.agree

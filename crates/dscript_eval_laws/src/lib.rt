@@ -1,0 +1,8 @@
+//! Laws of what programs evaluate to.
+//!
+//! This crate depends on `dscript_eval_meaning` for the semantics, and has no code: its functions carry the laws.
+#![tactic(auto)]
+
+mod laws;
+
+pub use laws::messages_are_of_specifications;
