@@ -157,7 +157,7 @@ keeps_step s e q w x left h dependents ready new seats k allowed size flags sett
     let P : ℕ → Type 0 = λ p. AreFlagged (set s.states p x) new × Settles (list_at dependents p) x (flagged ready p (is_waiting x)) new in
     let at_pip = subst P h.pip (flags, settles) in
     let Q : PipState → Type 0 = λ y. AreFlagged (set s.states (pip_of e) y) new
-        × Settles (list_at dependents (pip_of e)) y (flagged ready (pip_of e) (is_waiting y)) new in
+    × Settles (list_at dependents (pip_of e)) y (flagged ready (pip_of e) (is_waiting y)) new in
     let both = subst Q h.state_is at_pip in
     rw (h.pip, h.state_is, h.left_is, h.worker) (keeps_after s e dependents ready new seats k allowed size both.0 both.1)
 

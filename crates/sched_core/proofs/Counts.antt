@@ -147,6 +147,7 @@ bad_now states q y x there before = elim (cases_eq y q) [
     and_true : (b : Bool) → b ≡ (b && true)
     and_true true = refl
     and_true false = refl
+
     or_none : (a b : Bool) → a ≡ (a || (b && false))
     or_none true b = refl
     or_none false true = refl

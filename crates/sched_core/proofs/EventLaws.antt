@@ -116,15 +116,15 @@ pub record CutAt (s : CoreState) (xs : List Event) (e : Event) (between : List E
   pub legal : is_legal (after (state_after s xs) e) between ≡ true
   pub last_allowed : allows (state_after (after (state_after s xs) e) between) last ≡ true
 
-pub cut_at : (s : CoreState) (xs : List Event) (e : Event) (between : List Event) (last : Event) → IsSound s
-    → is_legal s ((xs ++ e ∷ between) ++ last ∷ []) ≡ true → CutAt s xs e between last
-cut_at s xs e between last sound h =
-    let whole = legal_parts s (xs ++ e ∷ between) (last ∷ []) h in
+pub cut_at : (s : CoreState) (xs : List Event) (e : Event) (between : List Event) (last : Event) (rest : List Event) → IsSound s
+    → is_legal s ((xs ++ e ∷ between) ++ last ∷ rest) ≡ true → CutAt s xs e between last
+cut_at s xs e between last rest sound h =
+    let whole = legal_parts s (xs ++ e ∷ between) (last ∷ rest) h in
     let parts = legal_parts s xs (e ∷ between) whole.0 in
     let at = and_parts (allows (state_after s xs) e) (is_legal (after (state_after s xs) e) between) parts.1 in
     let here = sound_after s xs sound parts.0 in
     let final : allows (state_after s (xs ++ e ∷ between)) last ≡ true =
-    (and_parts (allows (state_after s (xs ++ e ∷ between)) last) true whole.1).0 in record {
+    (and_parts (allows (state_after s (xs ++ e ∷ between)) last) (is_legal (after (state_after s (xs ++ e ∷ between)) last) rest) whole.1).0 in record {
       sound = here;
       allowed = at.0;
       sound_next = sound_step (state_after s xs) e here (steps_of (state_after s xs) e here at.0);
@@ -133,9 +133,9 @@ cut_at s xs e between last sound h =
     }
 
 pub published_once : (nodes : List Node) (workers : ℕ) → PublishedOnce nodes workers
-published_once nodes workers xs between p v w a b h =
+published_once nodes workers xs between rest p v w a b h =
     let s = begin nodes workers in
-    let cut = cut_at s xs (event.Publish p v a) between (event.Publish p w b) (sound_at_first nodes workers) h in
+    let cut = cut_at s xs (event.Publish p v a) between (event.Publish p w b) rest (sound_at_first nodes workers) h in
     let mid = after (state_after s xs) (event.Publish p v a) in
     let there = (steps_of (state_after s xs) (event.Publish p v a) cut.sound cut.allowed).there in
     let first : is_published (state_at mid.states p) ≡ true =
@@ -197,11 +197,11 @@ all_good_at states inputs d h (k, l, is) = elim (cases_Bool (is_good (state_at s
 ]
 
 pub starts_after_inputs : (nodes : List Node) (workers : ℕ) → StartsAfterInputs nodes workers
-starts_after_inputs nodes workers xs p w d h has =
+starts_after_inputs nodes workers xs rest p w d h has =
     let s = begin nodes workers in
     let end = state_after s xs in
-    let parts = legal_parts s xs (event.Start p w ∷ []) h in
-    let may = (waits_to_start end p w (fits end (event.Start p w) (next_allowed s xs (event.Start p w) h))).1 in
+    let parts = legal_parts s xs (event.Start p w ∷ rest) h in
+    let may = (waits_to_start end p w (fits end (event.Start p w) (next_allowed s xs (event.Start p w) rest h))).1 in
     let has_now : Contains (inputs_at end.nodes p) d = rw (nodes_after s xs) has in
     let good = all_good_at end.states (inputs_at end.nodes p) d may has_now in
     let turn = turns (λ t. is_good (state_at t.states d)) s xs (sound_at_first nodes workers) parts.0
@@ -214,7 +214,7 @@ starts_after_inputs nodes workers xs p w d h has =
       by.0,
       at.cut ∙ ap (λ e. turn.0 ++ e ∷ turn.2) is,
       ap (λ (v : CoreState). state_at v.states d) (state_after-append s turn.0 (event.Complete d by.0 ∷ []))
-      ∙ ap (λ e. state_at (after (state_after s turn.0) e).states d) (sym is) ∙ by.1.done,
+          ∙ ap (λ e. state_at (after (state_after s turn.0) e).states d) (sym is) ∙ by.1.done,
     )
 
 -- ## Released between two starts
@@ -240,9 +240,9 @@ waits_by s (event.Skip p w) d there same before now = absurd (both_ways false re
 waits_by s (event.Release p w) d there same before now = (w, ap (λ k. event.Release k w) (sym same))
 
 pub released_between : (nodes : List Node) (workers : ℕ) → ReleasedBetween nodes workers
-released_between nodes workers xs between p v w h =
+released_between nodes workers xs between rest p v w h =
     let s = begin nodes workers in
-    let cut = cut_at s xs (event.Start p v) between (event.Start p w) (sound_at_first nodes workers) h in
+    let cut = cut_at s xs (event.Start p v) between (event.Start p w) rest (sound_at_first nodes workers) h in
     let mid = after (state_after s xs) (event.Start p v) in
     let end = state_after mid between in
     let there = (steps_of (state_after s xs) (event.Start p v) cut.sound cut.allowed).there in
@@ -271,9 +271,9 @@ stays_gone w s (event.Release p v) sound h gone = elim (cases_eq w v) [
 ]
 
 pub gone_for_good : (nodes : List Node) (workers : ℕ) → GoneForGood nodes workers
-gone_for_good nodes workers xs between p w e h same =
+gone_for_good nodes workers xs between rest p w e h same =
     let s = begin nodes workers in
-    let cut = cut_at s xs (event.Release p w) between e (sound_at_first nodes workers) h in
+    let cut = cut_at s xs (event.Release p w) between e rest (sound_at_first nodes workers) h in
     let front = state_after s xs in
     let mid = after front (event.Release p w) in
     let end = state_after mid between in

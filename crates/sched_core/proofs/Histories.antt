@@ -34,8 +34,10 @@ legal_push s (x ∷ xs) e h allowed =
     and_from (allows s x) (is_legal (after s x) (xs ++ e ∷ [])) parts.0 (legal_push (after s x) xs e parts.1 allowed)
 
 -- the next event after a legal list is allowed
-pub next_allowed : (s : CoreState) (xs : List Event) (e : Event) → is_legal s (xs ++ e ∷ []) ≡ true → allows (state_after s xs) e ≡ true
-next_allowed s xs e h = (and_parts (allows (state_after s xs) e) true (legal_parts s xs (e ∷ []) h).1).0
+pub next_allowed : (s : CoreState) (xs : List Event) (e : Event) (rest : List Event) → is_legal s (xs ++ e ∷ rest) ≡ true
+    → allows (state_after s xs) e ≡ true
+next_allowed s xs e rest h =
+    (and_parts (allows (state_after s xs) e) (is_legal (after (state_after s xs) e) rest) (legal_parts s xs (e ∷ rest) h).1).0
 
 pub sound_after : (s : CoreState) (xs : List Event) → IsSound s → is_legal s xs ≡ true → IsSound (state_after s xs)
 sound_after s [] sound h = sound
@@ -65,13 +67,18 @@ abbrev pub Turns : (P : CoreState → Bool) → CoreState → List Event → Typ
 Turns P s xs = (front : List Event) × (e : Event) × (back : List Event) × TurnsAt P s xs front e back
 
 later : (P : CoreState → Bool) (s : CoreState) (x : Event) (xs : List Event) → Turns P (after s x) xs → Turns P s (x ∷ xs)
-later P s x xs (front, e, back, at) = (x ∷ front, e, back, record {
-  cut = ap (λ es. x ∷ es) at.cut;
-  sound = at.sound;
-  allowed = at.allowed;
-  before = at.before;
-  now = at.now;
-})
+later P s x xs (front, e, back, at) = (
+  x ∷ front,
+  e,
+  back,
+  record {
+    cut = ap (λ es. x ∷ es) at.cut;
+    sound = at.sound;
+    allowed = at.allowed;
+    before = at.before;
+    now = at.now;
+  },
+)
 
 -- a test that is false before a legal list and true after it turns at one of its events
 pub turns : (P : CoreState → Bool) (s : CoreState) (xs : List Event) → IsSound s → is_legal s xs ≡ true → P s ≡ false

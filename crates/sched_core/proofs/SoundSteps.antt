@@ -215,7 +215,7 @@ sound_step s e sound h =
     let at_other : (p : ℕ) → (p ≡ q → ⊥) → state_at now p ≡ state_at s.states p = λ p n. state_at-other s.states q p x n in
     -- whoever holds a pip now is the worker of the event at its pip, or held the pip before
     let holding : (p u : ℕ) → holds u (state_at now p) ≡ true
-        → ((p ≡ q) × (u ≡ w) × (holds u x ≡ true)) ⊎ ((p ≡ q → ⊥) × (u ≡ w → ⊥) × (holds u (state_at s.states p) ≡ true)) =
+    → ((p ≡ q) × (u ≡ w) × (holds u x ≡ true)) ⊎ ((p ≡ q → ⊥) × (u ≡ w → ⊥) × (holds u (state_at s.states p) ≡ true)) =
     λ p u g. elim (cases_eq p q) [
       | inl same ↦
           let here : holds u x ≡ true = sym (ap (holds u) (at_pip p same)) ∙ g in

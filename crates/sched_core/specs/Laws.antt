@@ -40,25 +40,25 @@ OnePip nodes workers = (events : List Event) (p q w : ℕ) → Legal nodes worke
 
 -- a pip is published at most once
 abbrev pub PublishedOnce : List Node → ℕ → Type 0
-PublishedOnce nodes workers = (events between : List Event) (p v w : ℕ) (a b : Bool)
-    → Legal nodes workers ((events ++ event.Publish p v a ∷ between) ++ event.Publish p w b ∷ []) → ⊥
+PublishedOnce nodes workers = (events between rest : List Event) (p v w : ℕ) (a b : Bool)
+    → Legal nodes workers ((events ++ event.Publish p v a ∷ between) ++ event.Publish p w b ∷ rest) → ⊥
 
 -- before a pip starts, each of its inputs completed with success
 abbrev pub StartsAfterInputs : List Node → ℕ → Type 0
-StartsAfterInputs nodes workers = (events : List Event) (p w input : ℕ)
-    → Legal nodes workers (events ++ event.Start p w ∷ [])
+StartsAfterInputs nodes workers = (events rest : List Event) (p w input : ℕ)
+    → Legal nodes workers (events ++ event.Start p w ∷ rest)
     → Contains (inputs_at nodes p) input → CompletesWell nodes workers events input
 
 -- between two starts of a pip it is released
 abbrev pub ReleasedBetween : List Node → ℕ → Type 0
-ReleasedBetween nodes workers = (events between : List Event) (p v w : ℕ)
-    → Legal nodes workers ((events ++ event.Start p v ∷ between) ++ event.Start p w ∷ [])
+ReleasedBetween nodes workers = (events between rest : List Event) (p v w : ℕ)
+    → Legal nodes workers ((events ++ event.Start p v ∷ between) ++ event.Start p w ∷ rest)
     → (u : ℕ) × Among between (event.Release p u)
 
 -- a worker that released a pip makes no later event
 abbrev pub GoneForGood : List Node → ℕ → Type 0
-GoneForGood nodes workers = (events between : List Event) (p w : ℕ) (e : Event)
-    → Legal nodes workers ((events ++ event.Release p w ∷ between) ++ e ∷ []) → worker_of e ≡ w → ⊥
+GoneForGood nodes workers = (events between rest : List Event) (p w : ℕ) (e : Event)
+    → Legal nodes workers ((events ++ event.Release p w ∷ between) ++ e ∷ rest) → worker_of e ≡ w → ⊥
 
 -- ## States and sizes
 

@@ -12,11 +12,7 @@ use crate::state::PipState;
 use std::alloc::{AllocError, Global};
 
 // Adds a pip to the dependents of an input.
-fn add_dependent(
-    dependents: &mut Vec<PipNumbers>,
-    input: u32,
-    pip: u32,
-) -> Result<(), AllocError>
+fn add_dependent(dependents: &mut Vec<PipNumbers>, input: u32, pip: u32) -> Result<(), AllocError>
     requires { input < length dependents.old.items }
     ensures { OnOk result (dependents.new.items
         ≡ set dependents.old.items input (list_at dependents.old.items input ++ pip ∷ [])) }
@@ -126,12 +122,7 @@ fn count_all_bad(dependents: &[u32], states: &[PipState], ready: &mut Readiness)
 }
 
 // Brings what is counted for these pips up to the state that an input of theirs came to.
-pub(crate) fn settle(
-    dependents: &[u32],
-    states: &[PipState],
-    ready: &mut Readiness,
-    next: PipState,
-)
+pub(crate) fn settle(dependents: &[u32], states: &[PipState], ready: &mut Readiness, next: PipState)
     requires size { HasSize ready.old (length states.now) }
     requires flagged { AreFlagged states.now ready.old }
     requires counted { (p : ℕ) → times p dependents.now ≤ missing_at ready.old p }

@@ -17,11 +17,9 @@ pub fn legal_events()
     ensures gone_for_good { (nodes : List AnyNode) (workers : ℕ) → GoneForGood nodes workers }
     ensures sound { (nodes : List AnyNode) (workers : ℕ) → ReachesSound nodes workers }
     ensures few { (nodes : List AnyNode) (workers : ℕ) → FewEvents nodes workers }
-{
-}
+{}
 
 /// Where no pip may start or be skipped and nobody holds one, each pip is completed or skipped.
 pub fn settled_at_the_end()
     ensures { (s : CoreState) → EndsSettled s }
-{
-}
+{}

@@ -14,6 +14,8 @@ mod machine;
 mod readiness;
 mod ready_set;
 mod state;
+#[cfg(test)]
+mod tests;
 
 pub use event::Event;
 pub use graph::{Graph, Node, PipNumbers};

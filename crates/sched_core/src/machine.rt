@@ -274,7 +274,12 @@ impl Core {
         leave(left, event);
         seats[worker] = next.seat(pip);
         ready.set_flags(pip as usize, next.is_waiting());
-        settle(dependents[pip as usize].as_slice(), states.as_slice(), ready, next);
+        settle(
+            dependents[pip as usize].as_slice(),
+            states.as_slice(),
+            ready,
+            next,
+        );
     }
 
     /// Makes an event where the table allows it, and else changes nothing and tells why it does not.
