@@ -1,0 +1,105 @@
+-- What contracts see of a board, a share and a job, and what a board keeps.
+use Rattle.std.specs.Prelude.{◌≡◌, ◌≢◌, ℕ, ◌+◌, ◌*◌, ◌<◌, ◌≤◌, ◌==◌, Bool, true, false, ◌&&◌, List, [], ◌∷◌, ◌++◌, length, map, set, Option, Some, None, slice_get, is_some}
+use Rattle.bx_tree.specs.Trees.{Files}
+use Rattle.pip_model.specs.Edges.{targets}
+use Rattle.pip_model.specs.Plans.{AreInputs, PlanData}
+use Rattle.pip_view_inputs.specs.Plain.{process_in}
+use Rattle.sched_core.specs.Laws.{reached}
+use Rattle.sched_core.specs.Legal.{Legal, begin}
+use Rattle.sched_core.specs.Table.{CoreState, after, are_settled, busy_of, holds_none, inputs_at, node_at, pip_of, state_at}
+use Rattle.sched_core.specs.declared.event.Event.{Event}
+use Rattle.sched_core.specs.declared.event.Event.TheVariants as event
+use Rattle.sched_core.specs.declared.graph.Node.{Node}
+use Rattle.sched_core.specs.declared.state.PipState.{PipState}
+use Rattle.sched_core.specs.declared.state.PipState.TheVariants as state
+use Rattle.sched_board.specs.Slots.{AllFit}
+use Rattle.sched_board.specs.declared.held.Held.{Held}
+
+-- ## What contracts see
+
+pub record BoardData : Type 0 where
+  pub plan : PlanData
+  pub sources : Files
+  pub core : CoreState
+  pub history : List Event
+  pub slots : List Held
+
+-- a share: its worker, how many events that made, and whether it is marked
+pub record ShareData : Type 0 where
+  pub worker : ℕ
+  pub events : ℕ
+  pub marked : Bool
+
+-- a job: its pip, whether that is a process, and what was said of its lookup, if it was looked up
+pub record JobData : Type 0 where
+  pub pip : ℕ
+  pub is_process : Bool
+  pub looked : Option Bool
+
+abbrev pub one_more : ShareData → ShareData
+one_more share = record share { events = share.events + 1 }
+
+abbrev pub with_mark : ShareData → ShareData
+with_mark share = record share { marked = true }
+
+abbrev pub mark_amount : Bool → ℕ
+mark_amount true = 1
+mark_amount false = 0
+
+-- ## The graph of a plan
+
+-- pip k of the plan is a process, and waits for these pips
+pub record IsNodeOf (plan : PlanData) (k : ℕ) (node : Node) : Type 0 where
+  pub kind : node.is_process ≡ is_some (process_in (slice_get plan.pips k))
+  pub inputs : AreInputs plan.pips k node.inputs
+
+pub record IsGraphOf (plan : PlanData) (nodes : List Node) : Type 0 where
+  pub size : length nodes ≡ length plan.pips
+  pub each : (k : ℕ) → k < length nodes → IsNodeOf plan k (node_at nodes k)
+
+-- ## What a board keeps
+
+-- `events` and `marks` are the totals of the two ledgers, `room` is what is reserved for the history.
+pub record KeepsBoard (b : BoardData) (events marks room : ℕ) : Type 0 where
+  pub graph : IsGraphOf b.plan b.core.nodes
+  pub legal : Legal b.core.nodes (length b.core.left) b.history
+  pub reached : b.core ≡ reached b.core.nodes (length b.core.left) b.history
+  pub fit : AllFit b.plan b.sources b.core.states b.slots
+  pub slots_size : length b.slots ≡ length b.plan.pips
+  pub counted : length b.history ≡ events
+  pub marked : 0 < marks → are_settled b.core.states ≡ true
+  pub room_left : 4 * length b.core.nodes + 3 * length b.core.left ≤ room
+
+-- ## One event
+
+-- the board after an event that leaves the slots
+abbrev pub stepped : BoardData → Event → BoardData
+stepped b e = record b { core = after b.core e; history = b.history ++ e ∷ [] }
+
+-- the board after an event that fills the slot of its pip
+abbrev pub filled : BoardData → Event → Held → BoardData
+filled b e slot = record b { core = after b.core e; history = b.history ++ e ∷ []; slots = set b.slots (pip_of e) slot }
+
+-- ## Conditions
+
+-- the state of a pip that a worker holds is the one that its job tells
+abbrev pub tells : ℕ → Option Bool → PipState → Type 0
+tells worker None s = s ≡ state.Held worker
+tells worker (Some hit) s = s ≡ state.Looked worker hit
+
+-- The share is of a worker of this board, who holds no pip.
+pub record IsFree (b : BoardData) (share : ShareData) : Type 0 where
+  pub worker : share.worker < length b.core.left
+  pub free : busy_of share.worker b.core.states ≡ None
+
+-- The share is of a worker of this board, who holds just the job's pip, in the state that the job tells and of the kind that it tells.
+pub record IsBusy (b : BoardData) (share : ShareData) (job : JobData) : Type 0 where
+  pub worker : share.worker < length b.core.left
+  pub there : job.pip < length b.core.nodes
+  pub state_is : tells share.worker job.looked (state_at b.core.states job.pip)
+  pub kind : job.is_process ≡ (node_at b.core.nodes job.pip).is_process
+
+-- what a share without events can be told: its worker is one of this board, and published the pip
+pub record CanComplete (b : BoardData) (share : ShareData) (pip : ℕ) : Type 0 where
+  pub worker : share.worker < length b.core.left
+  pub published : (good : Bool) × (state_at b.core.states pip ≡ state.Published share.worker good)

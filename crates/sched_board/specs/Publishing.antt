@@ -1,0 +1,78 @@
+-- What a publication answers, and what it changes.
+use Rattle.std.specs.Prelude.{◌≡◌, ◌≢◌, ℕ, ◌+◌, Bool, true, false, List, map, Option, Some, None, Result, Ok, Err, slice_get}
+use Rattle.bx_tree.specs.Trees.{Files}
+use Rattle.observed.specs.declared.ask.Ask.{Ask}
+use Rattle.observed.specs.declared.access.Answer.{Answer}
+use Rattle.pip_model_types.specs.declared.desc.Desc.{Desc}
+use Rattle.pip_model_types.specs.declared.pip.ProcessDesc.{ProcessDesc}
+use Rattle.pip_view_inputs.specs.Plain.{process_in}
+use Rattle.run_record.specs.Digests.{digest_of_line, weak_of}
+use Rattle.run_record.specs.Matches.{FirstDiffer}
+use Rattle.sha2.specs.Sha256.{sha256}
+use Rattle.memo_format.specs.Found.{output_lines}
+use Rattle.sched_core.specs.declared.event.Event.TheVariants as event
+use Rattle.sched_board.specs.Board.{BoardData, CanComplete, ShareData, JobData, filled, one_more}
+use Rattle.sched_board.specs.Slots.{HoldsOwn, own_desc, own_plain, own_view, is_good_slot}
+use Rattle.sched_board.specs.Texts.{outputs_text}
+use Rattle.sched_board.specs.declared.held.Held.{Held}
+use Rattle.sched_board.specs.declared.held.Held.TheVariants as held
+use Rattle.sched_board.specs.declared.publish.PublishFault.{PublishFault}
+use Rattle.sched_board.specs.declared.publish.PublishFault.TheVariants as fault
+use Rattle.sched_board.specs.declared.publish.Shown.{Shown}
+use Rattle.sched_board.specs.declared.publish.Shown.TheVariants as shown
+
+-- the slot that holds what was shown
+abbrev pub slot_of : Shown → Held
+slot_of (shown.Ran record) = held.Ran record
+slot_of (shown.Hit found) = held.Hit found
+slot_of (shown.Plain made) = held.Plain made
+
+-- what is shown fits the kind of the pip and what was said of its lookup
+abbrev pub fits_job : JobData → Shown → Bool
+fits_job job s = fits_told job.is_process job.looked s
+
+abbrev pub fits_told : Bool → Option Bool → Shown → Bool
+fits_told true (Some true) (shown.Hit found) = true
+fits_told true (Some false) (shown.Ran record) = true
+fits_told false None (shown.Plain made) = true
+fits_told process looked s = false
+
+-- a difference: index 0 is the description or the plain result, and ask number k is k + 1
+pub record Difference : Type 0 where
+  pub index : ℕ
+  pub held : List ℕ
+  pub now : List ℕ
+
+-- What is shown first differs from the board's own here: in the digest of the description; else at the first ask whose
+-- answer has a line of another digest.
+abbrev pub DiffersAt : List ℕ → List ℕ → List (List ℕ) → List (List ℕ) → Difference → Type 0
+DiffersAt weak weak' lines lines' d =
+    ((weak ≢ weak') × (d ≡ record { index = 0; held = weak; now = weak' }))
+    ⊎ ((weak ≡ weak') × (k : ℕ) × (d.index ≡ k + 1) × FirstDiffer lines lines' k d.held d.now)
+
+abbrev pub ShownDiffers : BoardData → ℕ → Shown → Difference → Option ProcessDesc → Type 0
+ShownDiffers b pip (shown.Ran record) d (Some process) =
+    DiffersAt (weak_of record.desc) (weak_of (own_desc b.plan b.sources b.slots pip process))
+    (map digest_of_line record.answers) (map (λ ask. digest_of_line (own_view b.plan b.sources b.slots pip ask)) record.paths) d
+ShownDiffers b pip (shown.Hit found) d (Some process) =
+    DiffersAt found.entry.weak (weak_of (own_desc b.plan b.sources b.slots pip process))
+    (map digest_of_line found.answers) (map (λ ask. digest_of_line (own_view b.plan b.sources b.slots pip ask)) found.paths) d
+ShownDiffers b pip (shown.Plain made) d None =
+    (output_lines made ≢ output_lines (own_plain b.plan b.sources b.slots pip))
+    × (d ≡ record {
+      index = 0;
+      held = sha256 (outputs_text (output_lines made));
+      now = sha256 (outputs_text (output_lines (own_plain b.plan b.sources b.slots pip)));
+    })
+ShownDiffers b pip s d process = ⊥
+
+-- Published: just what was shown stands in the pip's slot, and the event is made; refused: it differs, at the first place, with
+-- both digests, and nothing changes; or there was no memory, and nothing changes. A refusal hands the job back.
+abbrev pub Publishes : {L E : Type 0} → BoardData → ShareData → JobData → Shown → Result ℕ (PublishFault L E) → BoardData → ShareData → Type 0
+Publishes b share job s (Ok pip) b' share' =
+    (pip ≡ job.pip) × HoldsOwn b.plan b.sources b.slots job.pip (is_good_slot (slot_of s)) (slot_of s)
+    × (b' ≡ filled b (event.Publish job.pip share.worker (is_good_slot (slot_of s))) (slot_of s))
+    × (share' ≡ one_more share) × CanComplete b' share' pip
+Publishes b share job s (Err (fault.Refused job' unlike)) b' share' =
+    (job' ≡ job) × ShownDiffers b job.pip s unlike (process_in (slice_get b.plan.pips job.pip)) × (b' ≡ b) × (share' ≡ share)
+Publishes b share job s (Err (fault.Memory job')) b' share' = (job' ≡ job) × (b' ≡ b) × (share' ≡ share)
