@@ -5,8 +5,8 @@ use Rattle.pip_model.specs.Edges.{targets}
 use Rattle.pip_model.specs.Plans.{AreInputs, PlanData}
 use Rattle.pip_view_inputs.specs.Plain.{process_in}
 use Rattle.sched_core.specs.Laws.{reached}
-use Rattle.sched_core.specs.Legal.{Legal, begin}
-use Rattle.sched_core.specs.Table.{CoreState, after, are_settled, busy_of, holds_none, inputs_at, node_at, pip_of, state_at}
+use Rattle.sched_core.specs.Legal.{Legal, initial_state}
+use Rattle.sched_core.specs.Table.{CoreState, next_state, are_settled, busy_of, holds_none, node_inputs, node_at, pip_of, state_at}
 use Rattle.sched_core.specs.declared.event.Event.{Event}
 use Rattle.sched_core.specs.declared.event.Event.TheVariants as event
 use Rattle.sched_core.specs.declared.graph.Node.{Node}
@@ -74,11 +74,11 @@ pub record KeepsBoard (b : BoardData) (events marks room : ℕ) : Type 0 where
 
 -- the board after an event that leaves the slots
 abbrev pub stepped : BoardData → Event → BoardData
-stepped b e = record b { core = after b.core e; history = b.history ++ e ∷ [] }
+stepped b e = record b { core = next_state b.core e; history = b.history ++ e ∷ [] }
 
 -- the board after an event that fills the slot of its pip
 abbrev pub filled : BoardData → Event → Held → BoardData
-filled b e slot = record b { core = after b.core e; history = b.history ++ e ∷ []; slots = set b.slots (pip_of e) slot }
+filled b e slot = record b { core = next_state b.core e; history = b.history ++ e ∷ []; slots = set b.slots (pip_of e) slot }
 
 -- ## Conditions
 

@@ -92,7 +92,7 @@ impl<L: Ledger, E: Ledger> Board<L, E> {
         requires fresh { All (λ s. (s.parts ≡ 1) × (s.amount ≡ 0)) blank.event_parts.items × All (λ s. (s.parts ≡ 1) × (s.amount ≡ 0)) blank.mark_parts.items }
         requires totals { (blank.events.total ≡ 0) × (blank.marks.total ≡ 0) }
         ensures plan { IfOk result (λ made. (made.board.plan ≡ arc_value plan) × (made.board.sources ≡ arc_value sources)) }
-        ensures core { IfOk result (λ made. made.board.core ≡ begin made.board.core.nodes workers) }
+        ensures core { IfOk result (λ made. made.board.core ≡ initial_state made.board.core.nodes workers) }
         ensures graph { IfOk result (λ made. IsGraphOf (arc_value plan) made.board.core.nodes) }
         ensures empty { IfOk result (λ made. (made.board.history ≡ []) × All (λ slot. slot ≡ Held.Empty) made.board.slots) }
         ensures shares { IfOk result (λ made. made.shares.items ≡ map (λ k. record { worker = k; events = 0; marked = false }) (range_with_len 0 workers)) }
@@ -174,7 +174,7 @@ impl<L: Ledger, E: Ledger> Board<L, E> {
         ensures published_once { PublishedOnce self.core.nodes (length self.core.left) }
         ensures starts_after_inputs { StartsAfterInputs self.core.nodes (length self.core.left) }
         ensures released_between { ReleasedBetween self.core.nodes (length self.core.left) }
-        ensures gone_for_good { GoneForGood self.core.nodes (length self.core.left) }
+        ensures nothing_after_release { NothingAfterRelease self.core.nodes (length self.core.left) }
         ensures one_thread { HoldsOneThread self }
     { .. }
 }

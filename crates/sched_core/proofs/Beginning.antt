@@ -6,11 +6,11 @@ use Rattle.std.proofs.lemmas.List.{length-map, length-replicate, get_or-replicat
 use Rattle.std.proofs.lemmas.List.Sums.{sum_by-cons}
 use Rattle.sched_core.proofs.Seats.{busy_nobody}
 use Rattle.sched_core.specs.Indexes.{AreCounted, AreDependents, AreFlagged, AreSeats, HasSize, KeepsCore, Readiness, list_at, missing_at, missing_of, seat_at}
-use Rattle.sched_core.specs.Legal.{all_waiting, begin}
+use Rattle.sched_core.specs.Legal.{all_waiting, initial_state}
 use Rattle.sched_core.specs.Sets.{flag_at}
 use Rattle.sched_core.specs.Sound.{IsSound}
-use Rattle.sched_core.specs.States.{holds, is_bad, is_begun, is_good, is_skipped}
-use Rattle.sched_core.specs.Table.{AreOrdered, busy_of, inputs_at, no_node, some_bad, state_at}
+use Rattle.sched_core.specs.States.{holds, is_bad, is_begun, is_success, is_skipped}
+use Rattle.sched_core.specs.Table.{AreOrdered, busy_of, node_inputs, no_node, some_bad, state_at}
 use Rattle.sched_core.specs.declared.graph.Node.{Node}
 use Rattle.sched_core.specs.declared.state.PipState.{PipState}
 use Rattle.sched_core.specs.declared.state.PipState.TheVariants as state
@@ -35,13 +35,13 @@ any_none f (x ∷ xs) h = ap (λ b. b || list_any f xs) (h 0 (omega arith)) ∙ 
 
 count_not_good : (n : ℕ) (inputs : List ℕ) → missing_of (all_waiting n) inputs ≡ length inputs
 count_not_good n inputs =
-    count_all (λ y. not (is_good (state_at (all_waiting n) y))) inputs (λ y. ap not (fails_of_all is_good n y refl refl))
+    count_all (λ y. not (is_success (state_at (all_waiting n) y))) inputs (λ y. ap not (fails_of_all is_success n y refl refl))
 
 -- the number of inputs of each pip
 abbrev pub input_counts : List Node → List ℕ
 input_counts nodes = map (λ (node : Node). length node.inputs) nodes
 
-input_count : (nodes : List Node) (p : ℕ) → get_or (input_counts nodes) p 0 ≡ length (inputs_at nodes p)
+input_count : (nodes : List Node) (p : ℕ) → get_or (input_counts nodes) p 0 ≡ length (node_inputs nodes p)
 input_count [] p = refl
 input_count (node ∷ nodes) zero = refl
 input_count (node ∷ nodes) (suc p) = input_count nodes p
@@ -52,25 +52,25 @@ no_flag n p = elim (cases_lt p n) [
   | inr past ↦ get_or_past (replicate n false) p false (omega (arith, length-replicate {A = Bool} n false, past))
 ]
 
-none_bad : (nodes : List Node) → AreOrdered nodes → (p : ℕ) → some_bad (all_waiting (length nodes)) (inputs_at nodes p) ≡ false
-none_bad nodes ordered p = any_none (λ input. is_bad (state_at (all_waiting (length nodes)) input)) (inputs_at nodes p) (λ k l. waits k l)
+none_bad : (nodes : List Node) → AreOrdered nodes → (p : ℕ) → some_bad (all_waiting (length nodes)) (node_inputs nodes p) ≡ false
+none_bad nodes ordered p = any_none (λ input. is_bad (state_at (all_waiting (length nodes)) input)) (node_inputs nodes p) (λ k l. waits k l)
   where
-    waits : (k : ℕ) → k < length (inputs_at nodes p) → is_bad (state_at (all_waiting (length nodes)) (get_or (inputs_at nodes p) k 0)) ≡ false
+    waits : (k : ℕ) → k < length (node_inputs nodes p) → is_bad (state_at (all_waiting (length nodes)) (get_or (node_inputs nodes p) k 0)) ≡ false
     waits k l = elim (cases_lt p (length nodes)) [
-      | inl there ↦ ap is_bad (get_or-replicate (length nodes) (get_or (inputs_at nodes p) k 0) state.Waiting state.Skipped (omega (arith, ordered p k 0 l, there)))
+      | inl there ↦ ap is_bad (get_or-replicate (length nodes) (get_or (node_inputs nodes p) k 0) state.Waiting state.Skipped (omega (arith, ordered p k 0 l, there)))
       | inr past ↦
-          let none : inputs_at nodes p ≡ [] = ap (λ (node : Node). node.inputs) (get_or_past nodes p no_node past) in
+          let none : node_inputs nodes p ≡ [] = ap (λ (node : Node). node.inputs) (get_or_past nodes p no_node past) in
           absurd (omega (arith, l, ap {B = ℕ} length none))
     ]
 
 pub counted_at_first : (nodes : List Node) (r : Readiness) → AreOrdered nodes → r.missing ≡ input_counts nodes
     → r.failed ≡ replicate (length nodes) false → AreCounted nodes (all_waiting (length nodes)) r
 counted_at_first nodes r ordered missing failed = record {
-  missing = λ p. ap (λ xs. get_or xs p 0) missing ∙ input_count nodes p ∙ sym (count_not_good (length nodes) (inputs_at nodes p));
+  missing = λ p. ap (λ xs. get_or xs p 0) missing ∙ input_count nodes p ∙ sym (count_not_good (length nodes) (node_inputs nodes p));
   failed = λ p. ap (λ xs. flag_at xs p) failed ∙ no_flag (length nodes) p ∙ sym (none_bad nodes ordered p);
 }
 
-pub sound_at_first : (nodes : List Node) (workers : ℕ) → IsSound (begin nodes workers)
+pub sound_at_first : (nodes : List Node) (workers : ℕ) → IsSound (initial_state nodes workers)
 sound_at_first nodes workers = record {
   same_size = length-replicate (length nodes) state.Waiting;
   begun = λ p h. absurd (both_ways (is_begun (state_at (all_waiting (length nodes)) p)) (fails_of_all is_begun (length nodes) p refl refl) h);
@@ -90,7 +90,7 @@ no_seat n w = elim (cases_lt w n) [
 pub keeps_at_first : (nodes : List Node) (workers : ℕ) (dependents : List (List ℕ)) (ready : Readiness) → AreOrdered nodes
     → length nodes < 2 ^ 32 → HasSize ready (length nodes) → length dependents ≡ length nodes → AreDependents nodes dependents
     → AreCounted nodes (all_waiting (length nodes)) ready → AreFlagged (all_waiting (length nodes)) ready
-    → KeepsCore (begin nodes workers) dependents ready (replicate workers None)
+    → KeepsCore (initial_state nodes workers) dependents ready (replicate workers None)
 keeps_at_first nodes workers dependents ready ordered few size many lists counted flags = record {
   ordered = ordered;
   few = few;

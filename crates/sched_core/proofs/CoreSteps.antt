@@ -9,12 +9,12 @@ use Rattle.sched_core.proofs.Flags.{but_state, flagged_all, flagged_size}
 use Rattle.sched_core.proofs.Places.{is_there, state_at-same, state_at-other}
 use Rattle.sched_core.proofs.Seats.{busy_nobody, busy_other, busy_some, no_holder, none_holds, some_holder}
 use Rattle.sched_core.proofs.SoundSteps.{Steps, sound_step, steps_of, stepped}
-use Rattle.sched_core.specs.Indexes.{AreCounted, AreDependents, AreFlagged, AreSeats, HasSize, KeepsCore, Readiness, Settles, flagged, list_at, missing_at, missing_of, seat_at, times}
-use Rattle.sched_core.specs.Legal.{all_waiting, begin}
+use Rattle.sched_core.specs.Indexes.{AreCounted, AreDependents, AreFlagged, AreSeats, HasSize, KeepsCore, Readiness, Settles, flagged, list_at, missing_at, missing_of, seat_at, times, seat_of}
+use Rattle.sched_core.specs.Legal.{all_waiting, initial_state}
 use Rattle.sched_core.specs.Sets.{flag_at, IsLeast, IsNever}
 use Rattle.sched_core.specs.Sound.{IsSound}
-use Rattle.sched_core.specs.States.{holder, holds, is_bad, is_begun, is_good, is_skipped, is_waiting}
-use Rattle.sched_core.specs.Table.{AreOrdered, CoreState, after, allows, busy_of, has_left, inputs_at, left_after, may_skip, may_start, pip_of, seat_of, some_bad, state_at, worker_of}
+use Rattle.sched_core.specs.States.{holder, holds, is_bad, is_begun, is_success, is_skipped, is_waiting}
+use Rattle.sched_core.specs.Table.{AreOrdered, CoreState, next_state, allows, busy_of, has_left, node_inputs, left_after, may_skip, may_start, pip_of, some_bad, state_at, worker_of}
 use Rattle.sched_core.specs.declared.event.Event.{Event}
 use Rattle.sched_core.specs.declared.event.Event.TheVariants as event
 use Rattle.sched_core.specs.declared.graph.Node.{Node}
@@ -28,7 +28,7 @@ pub starts_are : (s : CoreState) (dependents : List (List ℕ)) (ready : Readine
 starts_are s dependents ready seats k p =
     k.flagged.starts p
     ∙ ap (λ (n : ℕ). is_waiting (state_at s.states p) && (n == 0)) (k.counted.missing p)
-    ∙ ap (λ b. is_waiting (state_at s.states p) && b) (sym (all_good-is s.states (inputs_at s.nodes p)))
+    ∙ ap (λ b. is_waiting (state_at s.states p) && b) (sym (all_good-is s.states (node_inputs s.nodes p)))
 
 pub skips_are : (s : CoreState) (dependents : List (List ℕ)) (ready : Readiness) (seats : List (Option ℕ)) → KeepsCore s dependents ready seats
     → (p : ℕ) → flag_at ready.skips p ≡ may_skip s p
@@ -62,14 +62,14 @@ length-left_after left (event.Release p w) = length-set left w true
 
 seats_step : (s : CoreState) (e : Event) (seats : List (Option ℕ)) → IsSound s → Steps s e (stepped s e) → length seats ≡ length s.left
     → AreSeats s.states seats
-    → AreSeats (after s e).states (set seats (worker_of e) (seat_of (pip_of e) (stepped s e)))
+    → AreSeats (next_state s e).states (set seats (worker_of e) (seat_of (pip_of e) (stepped s e)))
 seats_step s e seats sound h size before u =
     let q = pip_of e in
     let w = worker_of e in
     let x = stepped s e in
     let now = set s.states q x in
     let v = seat_of q x in
-    let sound_now : IsSound (after s e) = sound_step s e sound h in
+    let sound_now : IsSound (next_state s e) = sound_step s e sound h in
     let at_pip : state_at now q ≡ x = state_at-same s.states q x h.there in
     elim (cases_eq u w) [
       | inl same ↦
@@ -99,7 +99,7 @@ seats_step s e seats sound h size before u =
     ]
 
 counted_step : (s : CoreState) (q : ℕ) (x : PipState) (dependents : List (List ℕ)) (old new : Readiness) → q < length s.states
-    → is_good (state_at s.states q) ≡ false → is_bad (state_at s.states q) ≡ false
+    → is_success (state_at s.states q) ≡ false → is_bad (state_at s.states q) ≡ false
     → AreDependents s.nodes dependents → AreCounted s.nodes s.states old
     → Settles (list_at dependents q) x old new → AreCounted s.nodes (set s.states q x) new
 counted_step s q x dependents old new there not_good not_bad lists before h = record {
@@ -107,20 +107,20 @@ counted_step s q x dependents old new there not_good not_bad lists before h = re
     arith,
     h.missing p,
     before.missing p,
-    missing-set s.states q x (inputs_at s.nodes p) there not_good,
-    ap (λ n. if is_good x then n else 0) (lists q p),
+    missing-set s.states q x (node_inputs s.nodes p) there not_good,
+    ap (λ n. if is_success x then n else 0) (lists q p),
   );
   failed = λ p.
       h.failed p ∙ ap (λ b. b || (is_bad x && not (times p (list_at dependents q) == 0))) (before.failed p)
-      ∙ ap (λ (n : ℕ). some_bad s.states (inputs_at s.nodes p) || (is_bad x && not (n == 0))) (lists q p)
-      ∙ sym (some_bad-set s.states q x (inputs_at s.nodes p) there not_bad);
+      ∙ ap (λ (n : ℕ). some_bad s.states (node_inputs s.nodes p) || (is_bad x && not (n == 0))) (lists q p)
+      ∙ sym (some_bad-set s.states q x (node_inputs s.nodes p) there not_bad);
 }
 
 keeps_after : (s : CoreState) (e : Event) (dependents : List (List ℕ)) (ready new : Readiness) (seats : List (Option ℕ))
     → KeepsCore s dependents ready seats → allows s e ≡ true → HasSize new (length s.nodes)
     → AreFlagged (set s.states (pip_of e) (stepped s e)) new
     → Settles (list_at dependents (pip_of e)) (stepped s e) (flagged ready (pip_of e) (is_waiting (stepped s e))) new
-    → KeepsCore (after s e) dependents new (set seats (worker_of e) (seat_of (pip_of e) (stepped s e)))
+    → KeepsCore (next_state s e) dependents new (set seats (worker_of e) (seat_of (pip_of e) (stepped s e)))
 keeps_after s e dependents ready new seats k allowed size flags settles =
     let h = steps_of s e k.sound allowed in record {
       ordered = k.ordered;
@@ -144,7 +144,7 @@ pub record Advances (s : CoreState) (e : Event) (q w : ℕ) (x : PipState) (left
   pub left_is : left ≡ left_after s.left e
 
 pub advanced : (s : CoreState) (e : Event) (q w : ℕ) (x : PipState) (left : List Bool) → Advances s e q w x left
-    → record { nodes = s.nodes; states = set s.states q x; left = left } ≡ after s e
+    → record { nodes = s.nodes; states = set s.states q x; left = left } ≡ next_state s e
 advanced s e q w x left h = rw (h.pip, h.state_is, h.left_is) refl
 
 pub keeps_step : (s : CoreState) (e : Event) (q w : ℕ) (x : PipState) (left : List Bool) → Advances s e q w x left
@@ -164,7 +164,7 @@ keeps_step s e q w x left h dependents ready new seats k allowed size flags sett
 -- ## Before the dependents are gone through
 
 -- a pip that is not good is missing wherever it is an input
-times_missing : (states : List PipState) (q : ℕ) (inputs : List ℕ) → q < length states → is_good (state_at states q) ≡ false
+times_missing : (states : List PipState) (q : ℕ) (inputs : List ℕ) → q < length states → is_success (state_at states q) ≡ false
     → times q inputs ≤ missing_of states inputs
 times_missing states q inputs there not_good = omega (arith, missing-good states q (state.Done true) inputs there not_good refl)
 
@@ -188,7 +188,7 @@ pub can_settle : (s : CoreState) (e : Event) (q : ℕ) (x : PipState) (dependent
 can_settle s e q x dependents ready seats k allowed pip =
     let h = steps_of s e k.sound allowed in
     let there : q < length s.states = rw pip h.there in
-    let not_good : is_good (state_at s.states q) ≡ false = ap (λ i. is_good (state_at s.states i)) pip ∙ h.still_open.not_good in
+    let not_good : is_success (state_at s.states q) ≡ false = ap (λ i. is_success (state_at s.states i)) pip ∙ h.still_open.not_good in
     let n : length (set s.states q x) ≡ length s.nodes = length-set s.states q x ∙ k.sound.same_size in record {
       size = rw n (flagged_size ready (length s.nodes) q (is_waiting x) k.size);
       flags = flagged_all (set s.states q x) ready (length s.nodes) q (is_waiting x) k.size (omega (arith, there, k.sound.same_size))
@@ -197,13 +197,13 @@ can_settle s e q x dependents ready seats k allowed pip =
       counted = λ p. omega (
         arith,
         lists_agree s dependents ready seats k q p,
-        times_missing s.states q (inputs_at s.nodes p) there not_good,
+        times_missing s.states q (node_inputs s.nodes p) there not_good,
         k.counted.missing p,
       );
     }
   where
     lists_agree : (s : CoreState) (dependents : List (List ℕ)) (ready : Readiness) (seats : List (Option ℕ)) → KeepsCore s dependents ready seats
-        → (q p : ℕ) → times p (list_at dependents q) ≡ times q (inputs_at s.nodes p)
+        → (q p : ℕ) → times p (list_at dependents q) ≡ times q (node_inputs s.nodes p)
     lists_agree s dependents ready seats k q p = k.are_dependents q p
 
 -- the size of the indexes, by that of the states now

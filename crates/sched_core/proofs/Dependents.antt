@@ -5,7 +5,7 @@ use Rattle.std.proofs.lemmas.Bool.{cases_Bool, cases_eq, cases_lt, eq-eqb, eqb-t
 use Rattle.std.proofs.lemmas.List.{length-replicate, get_or-set_same, get_or-set_other, get_or_past, get_or-replicate}
 use Rattle.std.proofs.lemmas.List.Sums.{sum_by-cons, sum_by-append, count_by_more_yes, count_by_more_no}
 use Rattle.sched_core.specs.Indexes.{AddsDependents, AreDependents, list_at, times}
-use Rattle.sched_core.specs.Table.{inputs_at, no_node}
+use Rattle.sched_core.specs.Table.{node_inputs, no_node}
 use Rattle.sched_core.specs.declared.graph.Node.{Node}
 
 -- ## How often a number stands in a list
@@ -74,7 +74,7 @@ adds_more old now inputs pip k l there h q p =
 
 -- the pips before one stand among the dependents of their inputs
 abbrev pub AreDependentsBelow : List Node → List (List ℕ) → ℕ → Type 0
-AreDependentsBelow nodes lists i = (q p : ℕ) → times p (list_at lists q) ≡ (if ltb p i then times q (inputs_at nodes p) else 0)
+AreDependentsBelow nodes lists i = (q p : ℕ) → times p (list_at lists q) ≡ (if ltb p i then times q (node_inputs nodes p) else 0)
 
 no_list : (n q : ℕ) → list_at (replicate n []) q ≡ []
 no_list n q = elim (cases_lt q n) [
@@ -86,31 +86,31 @@ pub none_below : (nodes : List Node) (n : ℕ) → AreDependentsBelow nodes (rep
 none_below nodes n q p = rw (le-ltb p 0 (omega arith)) (ap (times p) (no_list n q))
 
 pub more_below : (nodes : List Node) (old new : List (List ℕ)) (i : ℕ) → AreDependentsBelow nodes old i
-    → AddsDependents old new (inputs_at nodes i) i → AreDependentsBelow nodes new (i + 1)
+    → AddsDependents old new (node_inputs nodes i) i → AreDependentsBelow nodes new (i + 1)
 more_below nodes old new i h adds q p = elim (cases_eq i p) [
   | inl e ↦
       let hit : (i == p) ≡ true = eq-eqb i p e in
       let before : ltb p i ≡ false = le-ltb p i (omega (arith, e)) in
       let now : ltb p (i + 1) ≡ true = lt-ltb p (i + 1) (omega (arith, e)) in
-      let a : times p (list_at old q) ≡ 0 = h q p ∙ ap (λ b. if b then times q (inputs_at nodes p) else 0) before in
-      let b : times p (list_at new q) ≡ times p (list_at old q) + times q (inputs_at nodes i) =
-      adds q p ∙ ap (λ b. times p (list_at old q) + (if b then times q (inputs_at nodes i) else 0)) hit in
-      rw now (omega (arith, a, b, ap (λ k. times q (inputs_at nodes k)) e))
+      let a : times p (list_at old q) ≡ 0 = h q p ∙ ap (λ b. if b then times q (node_inputs nodes p) else 0) before in
+      let b : times p (list_at new q) ≡ times p (list_at old q) + times q (node_inputs nodes i) =
+      adds q p ∙ ap (λ b. times p (list_at old q) + (if b then times q (node_inputs nodes i) else 0)) hit in
+      rw now (omega (arith, a, b, ap (λ k. times q (node_inputs nodes k)) e))
   | inr n ↦
       let miss : (i == p) ≡ false = ne_eqb i p n in
       let b : times p (list_at new q) ≡ times p (list_at old q) + 0 =
-      adds q p ∙ ap (λ b. times p (list_at old q) + (if b then times q (inputs_at nodes i) else 0)) miss in
+      adds q p ∙ ap (λ b. times p (list_at old q) + (if b then times q (node_inputs nodes i) else 0)) miss in
       let same : ltb p i ≡ ltb p (i + 1) = elim (cases_lt p i) [
         | inl l ↦ lt-ltb p i l ∙ sym (lt-ltb p (i + 1) (omega (arith, l)))
         | inr g ↦ le-ltb p i g ∙ sym (le-ltb p (i + 1) (omega (arith, g, n)))
       ] in
-      b ∙ add-zero (times p (list_at old q)) ∙ h q p ∙ ap (λ b. if b then times q (inputs_at nodes p) else 0) same
+      b ∙ add-zero (times p (list_at old q)) ∙ h q p ∙ ap (λ b. if b then times q (node_inputs nodes p) else 0) same
 ]
 
 pub all_below : (nodes : List Node) (lists : List (List ℕ)) (i : ℕ) → length nodes ≤ i → AreDependentsBelow nodes lists i → AreDependents nodes lists
 all_below nodes lists i past h q p = elim (cases_lt p i) [
-  | inl l ↦ h q p ∙ ap (λ b. if b then times q (inputs_at nodes p) else 0) (lt-ltb p i l)
+  | inl l ↦ h q p ∙ ap (λ b. if b then times q (node_inputs nodes p) else 0) (lt-ltb p i l)
   | inr g ↦
-      let none : inputs_at nodes p ≡ [] = ap (λ (node : Node). node.inputs) (get_or_past nodes p no_node (omega (arith, past, g))) in
-      h q p ∙ ap (λ b. if b then times q (inputs_at nodes p) else 0) (le-ltb p i g) ∙ sym (ap (times q) none)
+      let none : node_inputs nodes p ≡ [] = ap (λ (node : Node). node.inputs) (get_or_past nodes p no_node (omega (arith, past, g))) in
+      h q p ∙ ap (λ b. if b then times q (node_inputs nodes p) else 0) (le-ltb p i g) ∙ sym (ap (times q) none)
 ]

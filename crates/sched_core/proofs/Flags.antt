@@ -7,7 +7,7 @@ use Rattle.sched_core.specs.Indexes.{AreCounted, AreFlagged, HasSize, Readiness,
 use Rattle.sched_core.specs.Legal.{all_waiting}
 use Rattle.sched_core.specs.Sets.{flag_at}
 use Rattle.sched_core.specs.States.{is_waiting}
-use Rattle.sched_core.specs.Table.{inputs_at, some_bad, state_at}
+use Rattle.sched_core.specs.Table.{node_inputs, some_bad, state_at}
 use Rattle.sched_core.specs.declared.graph.Node.{Node}
 use Rattle.sched_core.specs.declared.state.PipState.{PipState}
 use Rattle.sched_core.specs.declared.state.PipState.TheVariants as state

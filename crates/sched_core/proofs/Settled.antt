@@ -6,12 +6,12 @@ use Rattle.std.proofs.lemmas.List.{get_or_past}
 use Rattle.std.proofs.lemmas.List.Folds.{list_all_at}
 use Rattle.sched_core.specs.Laws.{EndsSettled}
 use Rattle.sched_core.specs.Sound.{IsSound}
-use Rattle.sched_core.specs.States.{holder, is_bad, is_good, is_settled, is_waiting}
-use Rattle.sched_core.specs.Table.{AreOrdered, CoreState, all_good, are_settled, inputs_at, is_idle, may_skip, may_start, some_bad, state_at}
+use Rattle.sched_core.specs.States.{holder, is_bad, is_success, is_settled, is_waiting}
+use Rattle.sched_core.specs.Table.{AreOrdered, CoreState, all_good, are_settled, node_inputs, is_idle, may_skip, may_start, some_bad, state_at}
 use Rattle.sched_core.specs.declared.state.PipState.{PipState}
 use Rattle.sched_core.specs.declared.state.PipState.TheVariants as state
 
-good_if_settled : (s : PipState) → is_settled s ≡ true → is_bad s ≡ false → is_good s ≡ true
+good_if_settled : (s : PipState) → is_settled s ≡ true → is_bad s ≡ false → is_success s ≡ true
 good_if_settled state.Waiting h n = cc
 good_if_settled (state.Held w) h n = cc
 good_if_settled (state.Looked w hit) h n = cc
@@ -25,7 +25,7 @@ all_good_if_settled : (states : List PipState) (inputs : List ℕ) → ((k : ℕ
 all_good_if_settled states [] h n = refl
 all_good_if_settled states (x ∷ xs) h n =
     let parts = or_parts (is_bad (state_at states x)) (some_bad states xs) n in
-    and_from (is_good (state_at states x)) (all_good states xs)
+    and_from (is_success (state_at states x)) (all_good states xs)
     (good_if_settled (state_at states x) (h 0 (omega arith)) parts.0)
     (all_good_if_settled states xs (λ k l. h (suc k) (omega (arith, l))) parts.1)
 
@@ -52,10 +52,10 @@ settled_below : (s : CoreState) → AreOrdered s.nodes → ((p : ℕ) → may_st
     → is_idle s.states ≡ true → (n p : ℕ) → p < n → is_settled (state_at s.states p) ≡ true
 settled_below s ordered start skip idle zero p l = absurd (omega (arith, l))
 settled_below s ordered start skip idle (suc n) p l =
-    settled_if (state_at s.states p) (all_good s.states (inputs_at s.nodes p)) (some_bad s.states (inputs_at s.nodes p))
+    settled_if (state_at s.states p) (all_good s.states (node_inputs s.nodes p)) (some_bad s.states (node_inputs s.nodes p))
     (free_at s.states idle p) (start p) (skip p)
-    (all_good_if_settled s.states (inputs_at s.nodes p)
-    (λ k within. settled_below s ordered start skip idle n (get_or (inputs_at s.nodes p) k 0) (omega (arith, ordered p k 0 within, l))))
+    (all_good_if_settled s.states (node_inputs s.nodes p)
+    (λ k within. settled_below s ordered start skip idle n (get_or (node_inputs s.nodes p) k 0) (omega (arith, ordered p k 0 within, l))))
 
 settled_all : (states : List PipState) → ((p : ℕ) → is_settled (state_at states p) ≡ true) → are_settled states ≡ true
 settled_all [] h = refl

@@ -8,8 +8,8 @@ use Rattle.sched_core.proofs.Seats.{none_holds}
 use Rattle.sched_core.proofs.StateTests.{IsHeldBy, IsOpen, completable_is_held, completed_holder, completed_skipped, lookable_is_held, publishable_is_held, releasable_is_held, waiting_is_free, waiting_is_open}
 use Rattle.sched_core.specs.Indexes.{missing_of, times}
 use Rattle.sched_core.specs.Sound.{IsSound}
-use Rattle.sched_core.specs.States.{completed, holder, holds, is_bad, is_begun, is_good, is_skipped, is_waiting, is_worker, may_complete, may_look, may_publish, may_release}
-use Rattle.sched_core.specs.Table.{CoreState, after, all_good, allows, fits_table, has_left, holds_none, inputs_at, left_after, may_skip, may_start, node_at, pip_of, some_bad, state_after_event, state_at, worker_of}
+use Rattle.sched_core.specs.States.{completed, holder, holds, is_bad, is_begun, is_success, is_skipped, is_waiting, is_worker, may_complete, may_look, may_publish, may_release}
+use Rattle.sched_core.specs.Table.{CoreState, next_state, all_good, allows, fits_table, has_left, holds_none, node_inputs, left_after, may_skip, may_start, node_at, pip_of, some_bad, state_after_event, state_at, worker_of}
 use Rattle.sched_core.specs.declared.event.Event.{Event}
 use Rattle.sched_core.specs.declared.event.Event.TheVariants as event
 use Rattle.sched_core.specs.declared.state.PipState.{PipState}
@@ -21,7 +21,7 @@ eqb_zero : (n : ℕ) → (n == 0) ≡ true → n ≡ 0
 eqb_zero n h = eqb-true n 0 h
 
 pub good_stays : (states : List PipState) (q : ℕ) (x : PipState) (inputs : List ℕ) → q < length states
-    → is_good (state_at states q) ≡ false → all_good states inputs ≡ true → all_good (set states q x) inputs ≡ true
+    → is_success (state_at states q) ≡ false → all_good states inputs ≡ true → all_good (set states q x) inputs ≡ true
 good_stays states q x inputs there before h =
     let none : missing_of states inputs ≡ 0 = eqb_zero (missing_of states inputs) (sym (all_good-is states inputs) ∙ h) in
     all_good-is (set states q x) inputs
@@ -39,8 +39,8 @@ pub record Steps (s : CoreState) (e : Event) (x : PipState) : Type 0 where
   pub there : pip_of e < length s.states
   pub is_in : worker_of e < length s.left
   pub still_open : IsOpen (state_at s.states (pip_of e))
-  pub begun : is_begun x ≡ true → all_good s.states (inputs_at s.nodes (pip_of e)) ≡ true
-  pub skipped : is_skipped x ≡ true → some_bad s.states (inputs_at s.nodes (pip_of e)) ≡ true
+  pub begun : is_begun x ≡ true → all_good s.states (node_inputs s.nodes (pip_of e)) ≡ true
+  pub skipped : is_skipped x ≡ true → some_bad s.states (node_inputs s.nodes (pip_of e)) ≡ true
   -- only the worker of the event holds its pip, before and after, and no other pip
   pub before : (u : ℕ) → holds u (state_at s.states (pip_of e)) ≡ true → u ≡ worker_of e
   pub by : (u : ℕ) → holds u x ≡ true → u ≡ worker_of e
@@ -85,7 +85,7 @@ start_steps : (s : CoreState) (p w : ℕ) → has_left s.left w ≡ false → (m
     → Steps s (event.Start p w) (state.Held w)
 start_steps s p w stayed h =
     let parts = and_parts (may_start s p) (holds_none w s.states) h in
-    let may = and_parts (is_waiting (state_at s.states p)) (all_good s.states (inputs_at s.nodes p)) parts.0 in
+    let may = and_parts (is_waiting (state_at s.states p)) (all_good s.states (node_inputs s.nodes p)) parts.0 in
     let open_now = waiting_is_open (state_at s.states p) may.0 in record {
       there = open_there s.states p open_now;
       is_in = worker_there s.left w stayed;
@@ -103,7 +103,7 @@ skip_steps : (s : CoreState) (p w : ℕ) → has_left s.left w ≡ false → (ma
     → Steps s (event.Skip p w) state.Skipped
 skip_steps s p w stayed h =
     let parts = and_parts (may_skip s p) (holds_none w s.states) h in
-    let may = and_parts (is_waiting (state_at s.states p)) (some_bad s.states (inputs_at s.nodes p)) parts.0 in
+    let may = and_parts (is_waiting (state_at s.states p)) (some_bad s.states (node_inputs s.nodes p)) parts.0 in
     let open_now = waiting_is_open (state_at s.states p) may.0 in record {
       there = open_there s.states p open_now;
       is_in = worker_there s.left w stayed;
@@ -198,18 +198,18 @@ steps_of s e sound h =
 -- ## Sound stays sound
 
 abbrev Begun : CoreState → List PipState → ℕ → PipState → Type 0
-Begun s states p x = is_begun x ≡ true → all_good states (inputs_at s.nodes p) ≡ true
+Begun s states p x = is_begun x ≡ true → all_good states (node_inputs s.nodes p) ≡ true
 
-pub sound_step : (s : CoreState) (e : Event) → IsSound s → Steps s e (stepped s e) → IsSound (after s e)
+pub sound_step : (s : CoreState) (e : Event) → IsSound s → Steps s e (stepped s e) → IsSound (next_state s e)
 sound_step s e sound h =
     let q = pip_of e in
     let w = worker_of e in
     let x = stepped s e in
     let now = set s.states q x in
-    let good : (p : ℕ) → all_good s.states (inputs_at s.nodes p) ≡ true → all_good now (inputs_at s.nodes p) ≡ true =
-    λ p g. good_stays s.states q x (inputs_at s.nodes p) h.there h.still_open.not_good g in
-    let bad : (p : ℕ) → some_bad s.states (inputs_at s.nodes p) ≡ true → some_bad now (inputs_at s.nodes p) ≡ true =
-    λ p b. bad_stays s.states q x (inputs_at s.nodes p) h.there h.still_open.not_bad b in
+    let good : (p : ℕ) → all_good s.states (node_inputs s.nodes p) ≡ true → all_good now (node_inputs s.nodes p) ≡ true =
+    λ p g. good_stays s.states q x (node_inputs s.nodes p) h.there h.still_open.not_good g in
+    let bad : (p : ℕ) → some_bad s.states (node_inputs s.nodes p) ≡ true → some_bad now (node_inputs s.nodes p) ≡ true =
+    λ p b. bad_stays s.states q x (node_inputs s.nodes p) h.there h.still_open.not_bad b in
     let at_pip : (p : ℕ) → p ≡ q → state_at now p ≡ x =
     λ p e'. ap (λ k. state_at now k) e' ∙ state_at-same s.states q x h.there in
     let at_other : (p : ℕ) → (p ≡ q → ⊥) → state_at now p ≡ state_at s.states p = λ p n. state_at-other s.states q p x n in
@@ -227,7 +227,7 @@ sound_step s e sound h =
       same_size = length-set s.states q x ∙ sound.same_size;
       begun = λ p g. elim (cases_eq p q) [
         | inl same ↦
-            good p (ap (λ k. all_good s.states (inputs_at s.nodes k)) same ∙ h.begun (sym (ap is_begun (at_pip p same)) ∙ g))
+            good p (ap (λ k. all_good s.states (node_inputs s.nodes k)) same ∙ h.begun (sym (ap is_begun (at_pip p same)) ∙ g))
         | inr other ↦ good p (sound.begun p (sym (ap is_begun (at_other p other)) ∙ g))
       ];
       alone = λ p r u a b. elim (holding p u a) [
@@ -248,7 +248,7 @@ sound_step s e sound h =
       ];
       skipped = λ p l g. elim (cases_eq p q) [
         | inl same ↦
-            bad p (ap (λ k. some_bad s.states (inputs_at s.nodes k)) same ∙ h.skipped (sym (ap is_skipped (at_pip p same)) ∙ g))
+            bad p (ap (λ k. some_bad s.states (node_inputs s.nodes k)) same ∙ h.skipped (sym (ap is_skipped (at_pip p same)) ∙ g))
         | inr other ↦ bad p (sound.skipped p l (sym (ap is_skipped (at_other p other)) ∙ g))
       ];
     }

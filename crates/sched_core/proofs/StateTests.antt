@@ -1,13 +1,13 @@
 -- What follows of a state from a test that it passes.
 use Rattle.std.proofs.Common.{◌≡◌, ◌⊎◌, ℕ, ◌==◌, Bool, true, false, not, ◌&&◌, ◌||◌, Option, Some, None, refl, ap, sym, ◌∙◌, inl, inr}
-use Rattle.sched_core.specs.States.{completed, holder, holds, is_bad, is_begun, is_claimed_by, is_good, is_looked_by, is_published, is_settled, is_skipped, is_waiting}
+use Rattle.sched_core.specs.States.{completed, holder, holds, is_bad, is_begun, is_claimed_by, is_success, may_publish_looked, is_settled, is_skipped, is_waiting}
 use Rattle.sched_core.specs.States.{may_complete, may_look, may_publish, may_release}
 use Rattle.sched_core.specs.declared.state.PipState.{PipState}
 use Rattle.sched_core.specs.declared.state.PipState.TheVariants as state
 
 -- a state in which something can still happen to its pip
 pub record IsOpen (s : PipState) : Type 0 where
-  pub not_good : is_good s ≡ false
+  pub not_good : is_success s ≡ false
   pub not_bad : is_bad s ≡ false
   pub not_skipped : is_skipped s ≡ false
 
@@ -57,7 +57,7 @@ and_second : (a b : Bool) → (a && b) ≡ true → b ≡ true
 and_second true b h = h
 and_second false b h = cc
 
-pub looked_is_held : (w : ℕ) (good : Bool) (s : PipState) → is_looked_by w good s ≡ true → IsHeldBy w s
+pub looked_is_held : (w : ℕ) (good : Bool) (s : PipState) → may_publish_looked w good s ≡ true → IsHeldBy w s
 looked_is_held w good state.Waiting h = cc
 looked_is_held w good (state.Held v) h = cc
 looked_is_held w good (state.Looked v hit) h = record {

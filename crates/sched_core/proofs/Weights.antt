@@ -9,16 +9,34 @@ use Rattle.sched_core.proofs.CoreSteps.{length-left_after}
 use Rattle.sched_core.proofs.EventLaws.{fits, waits_to_skip, waits_to_start}
 use Rattle.sched_core.proofs.SoundSteps.{Steps, sound_step, steps_of, stepped}
 use Rattle.sched_core.specs.Laws.{FewEvents}
-use Rattle.sched_core.specs.Legal.{all_waiting, begin, is_legal, state_after}
+use Rattle.sched_core.specs.Legal.{all_waiting, initial_state, is_legal, state_after}
 use Rattle.sched_core.specs.Sound.{IsSound}
-use Rattle.sched_core.specs.States.{completed, is_claimed_by, is_looked_by, is_waiting, may_complete, may_publish, may_release}
-use Rattle.sched_core.specs.Table.{CoreState, after, allows, fits_table, has_left, left_after, node_at, pip_of, state_at, worker_of}
-use Rattle.sched_core.specs.Weight.{leave_rank, rank, weight}
+use Rattle.sched_core.specs.States.{completed, is_claimed_by, may_publish_looked, is_waiting, may_complete, may_publish, may_release}
+use Rattle.sched_core.specs.Table.{CoreState, next_state, allows, fits_table, has_left, left_after, node_at, pip_of, state_at, worker_of}
 use Rattle.sched_core.specs.declared.event.Event.{Event}
 use Rattle.sched_core.specs.declared.event.Event.TheVariants as event
 use Rattle.sched_core.specs.declared.graph.Node.{Node}
 use Rattle.sched_core.specs.declared.state.PipState.{PipState}
 use Rattle.sched_core.specs.declared.state.PipState.TheVariants as state
+
+-- ## How far all pips and workers are
+
+-- Each event but a release takes its pip at least one further.
+abbrev rank : PipState → ℕ
+rank state.Waiting = 0
+rank (state.Held w) = 1
+rank (state.Looked w hit) = 2
+rank (state.Published w good) = 3
+rank (state.Done good) = 4
+rank state.Skipped = 4
+
+-- A release takes its pip back by two at most, and its worker leaves.
+abbrev leave_rank : Bool → ℕ
+leave_rank true = 3
+leave_rank false = 0
+
+abbrev weight : CoreState → ℕ
+weight s = sum_by rank s.states + sum_by leave_rank s.left
 
 -- ## Ranks
 
@@ -38,7 +56,7 @@ claimed_rank w (state.Published v good) h = cc
 claimed_rank w (state.Done good) h = cc
 claimed_rank w state.Skipped h = cc
 
-looked_rank : (w : ℕ) (good : Bool) (s : PipState) → is_looked_by w good s ≡ true → rank s ≡ 2
+looked_rank : (w : ℕ) (good : Bool) (s : PipState) → may_publish_looked w good s ≡ true → rank s ≡ 2
 looked_rank w good state.Waiting h = cc
 looked_rank w good (state.Held v) h = cc
 looked_rank w good (state.Looked v hit) h = refl
@@ -84,7 +102,7 @@ rises s (event.Release p w) h stayed there =
     let before : leave_rank (get_or s.left w true) ≡ 0 = ap leave_rank stayed in
     record { by = omega (arith, release_rank w (state_at s.states p) h, sum_by-set leave_rank s.left w true true there, before) }
 
-weight_step : (s : CoreState) (e : Event) → IsSound s → allows s e ≡ true → weight s + 1 ≤ weight (after s e)
+weight_step : (s : CoreState) (e : Event) → IsSound s → allows s e ≡ true → weight s + 1 ≤ weight (next_state s e)
 weight_step s e sound h =
     let steps = steps_of s e sound h in
     let stayed = not-true (has_left s.left (worker_of e)) (and_parts (not (has_left s.left (worker_of e))) (fits_table s e) h).0 in
@@ -96,9 +114,9 @@ weight_step s e sound h =
 weight_after : (s : CoreState) (xs : List Event) → IsSound s → is_legal s xs ≡ true → weight s + length xs ≤ weight (state_after s xs)
 weight_after s [] sound h = omega arith
 weight_after s (x ∷ xs) sound h =
-    let parts = and_parts (allows s x) (is_legal (after s x) xs) h in
+    let parts = and_parts (allows s x) (is_legal (next_state s x) xs) h in
     let next = sound_step s x sound (steps_of s x sound parts.0) in
-    omega (arith, weight_step s x sound parts.0, weight_after (after s x) xs next parts.1)
+    omega (arith, weight_step s x sound parts.0, weight_after (next_state s x) xs next parts.1)
 
 rank_bound : (s : PipState) → rank s ≤ 4
 rank_bound state.Waiting = omega arith
@@ -125,15 +143,15 @@ weight_bound s = omega (arith, ranks_bound s.states, leaves_bound s.left)
 
 same_states : (s : CoreState) (xs : List Event) → length (state_after s xs).states ≡ length s.states
 same_states s [] = refl
-same_states s (x ∷ xs) = same_states (after s x) xs ∙ length-set s.states (pip_of x) (stepped s x)
+same_states s (x ∷ xs) = same_states (next_state s x) xs ∙ length-set s.states (pip_of x) (stepped s x)
 
 same_left : (s : CoreState) (xs : List Event) → length (state_after s xs).left ≡ length s.left
 same_left s [] = refl
-same_left s (x ∷ xs) = same_left (after s x) xs ∙ length-left_after s.left x
+same_left s (x ∷ xs) = same_left (next_state s x) xs ∙ length-left_after s.left x
 
 pub few_events : (nodes : List Node) (workers : ℕ) → FewEvents nodes workers
 few_events nodes workers events legal =
-    let s = begin nodes workers in
+    let s = initial_state nodes workers in
     omega (
       arith,
       weight_after s events (sound_at_first nodes workers) legal,

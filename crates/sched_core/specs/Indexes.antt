@@ -1,12 +1,12 @@
 -- What the core keeps so that no call goes over all pips.
-use Rattle.std.specs.Prelude.{◌≡◌, ℕ, ◌==◌, ◌<◌, ◌+◌, ◌^◌, Bool, true, false, not, if◌then◌else◌, ◌&&◌, ◌||◌, List, [], Option, Some, None, length, set, count_by}
+use Rattle.std.specs.Prelude.{◌≡◌, ℕ, ◌==◌, ◌<◌, ◌+◌, ◌^◌, Bool, true, false, not, if◌then◌else◌, ◌&&◌, ◌||◌, List, [], Option, Some, None, is_some, length, set, count_by}
 use Rattle.std.specs.List.{slice_index_or}
 use Rattle.sched_core.specs.declared.graph.Node.{Node}
 use Rattle.sched_core.specs.declared.state.PipState.{PipState}
-use Rattle.sched_core.specs.States.{is_bad, is_good, is_waiting}
+use Rattle.sched_core.specs.States.{holder, is_bad, is_success, is_waiting}
 use Rattle.sched_core.specs.Sets.{flag_at}
 use Rattle.sched_core.specs.Sound.{IsSound}
-use Rattle.sched_core.specs.Table.{AreOrdered, CoreState, busy_of, inputs_at, some_bad, state_at}
+use Rattle.sched_core.specs.Table.{AreOrdered, CoreState, busy_of, node_inputs, some_bad, state_at}
 
 -- how often a number stands in a list
 abbrev pub times : ℕ → List ℕ → ℕ
@@ -14,7 +14,7 @@ times x xs = count_by (λ y. y == x) xs
 
 -- how many of these inputs did not complete with success
 abbrev pub missing_of : List PipState → List ℕ → ℕ
-missing_of states inputs = count_by (λ input. not (is_good (state_at states input))) inputs
+missing_of states inputs = count_by (λ input. not (is_success (state_at states input))) inputs
 
 -- for each pip how many of its inputs are missing, whether one is bad, and whether it may start or be skipped
 pub record Readiness : Type 0 where
@@ -28,6 +28,10 @@ missing_at r pip = slice_index_or r.missing pip 0
 
 abbrev pub list_at : List (List ℕ) → ℕ → List ℕ
 list_at lists pip = slice_index_or lists pip []
+
+-- the pip, where a worker holds it in this state
+abbrev pub seat_of : ℕ → PipState → Option ℕ
+seat_of pip s = if is_some (holder s) then Some pip else None
 
 abbrev pub seat_at : List (Option ℕ) → ℕ → Option ℕ
 seat_at seats worker = slice_index_or seats worker None
@@ -59,18 +63,18 @@ pub record AreFlagged (states : List PipState) (r : Readiness) : Type 0 where
 -- A pip came to this state, and these pips have it among their inputs: what was counted for them before is
 -- brought up to now.
 pub record Settles (dependents : List ℕ) (next : PipState) (old new : Readiness) : Type 0 where
-  pub missing : (p : ℕ) → missing_at new p + (if is_good next then times p dependents else 0) ≡ missing_at old p
+  pub missing : (p : ℕ) → missing_at new p + (if is_success next then times p dependents else 0) ≡ missing_at old p
   pub failed : (p : ℕ) → flag_at new.failed p
       ≡ (flag_at old.failed p || (is_bad next && not (times p dependents == 0)))
 
 -- what is counted is so
 pub record AreCounted (nodes : List Node) (states : List PipState) (r : Readiness) : Type 0 where
-  pub missing : (p : ℕ) → missing_at r p ≡ missing_of states (inputs_at nodes p)
-  pub failed : (p : ℕ) → flag_at r.failed p ≡ some_bad states (inputs_at nodes p)
+  pub missing : (p : ℕ) → missing_at r p ≡ missing_of states (node_inputs nodes p)
+  pub failed : (p : ℕ) → flag_at r.failed p ≡ some_bad states (node_inputs nodes p)
 
 -- a pip has another among its dependents as often as the other has it among its inputs
 abbrev pub AreDependents : List Node → List (List ℕ) → Type 0
-AreDependents nodes dependents = (q p : ℕ) → times p (list_at dependents q) ≡ times q (inputs_at nodes p)
+AreDependents nodes dependents = (q p : ℕ) → times p (list_at dependents q) ≡ times q (node_inputs nodes p)
 
 -- the pip is added to the dependents of each of these inputs
 abbrev pub AddsDependents : List (List ℕ) → List (List ℕ) → List ℕ → ℕ → Type 0

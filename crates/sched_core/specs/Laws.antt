@@ -4,18 +4,14 @@ use Rattle.sched_core.specs.declared.event.Event.{Event}
 use Rattle.sched_core.specs.declared.event.Event.TheVariants as event
 use Rattle.sched_core.specs.declared.graph.Node.{Node}
 use Rattle.sched_core.specs.declared.state.PipState.TheVariants as state
-use Rattle.sched_core.specs.Legal.{Legal, begin, state_after}
+use Rattle.sched_core.specs.Legal.{Legal, initial_state, state_after}
 use Rattle.sched_core.specs.Sound.{IsSound}
 use Rattle.sched_core.specs.States.{holds}
-use Rattle.sched_core.specs.Table.{CoreState, are_settled, AreOrdered, inputs_at, is_idle, may_skip, may_start, state_at, worker_of}
+use Rattle.sched_core.specs.Table.{CoreState, are_settled, AreOrdered, node_inputs, is_idle, may_skip, may_start, state_at, worker_of}
 
 -- the state that a list of events leads to, where all pips waited
 abbrev pub reached : List Node → ℕ → List Event → CoreState
-reached nodes workers events = state_after (begin nodes workers) events
-
--- the event stands in the list
-abbrev pub Among : List Event → Event → Type 0
-Among events e = (front : List Event) × (back : List Event) × (events ≡ front ++ e ∷ back)
+reached nodes workers events = state_after (initial_state nodes workers) events
 
 -- the list has a completion of the pip, by which the pip is done with success
 abbrev pub CompletesWell : List Node → ℕ → List Event → ℕ → Type 0
@@ -47,17 +43,17 @@ PublishedOnce nodes workers = (events between rest : List Event) (p v w : ℕ) (
 abbrev pub StartsAfterInputs : List Node → ℕ → Type 0
 StartsAfterInputs nodes workers = (events rest : List Event) (p w input : ℕ)
     → Legal nodes workers (events ++ event.Start p w ∷ rest)
-    → Contains (inputs_at nodes p) input → CompletesWell nodes workers events input
+    → Contains (node_inputs nodes p) input → CompletesWell nodes workers events input
 
 -- between two starts of a pip it is released
 abbrev pub ReleasedBetween : List Node → ℕ → Type 0
 ReleasedBetween nodes workers = (events between rest : List Event) (p v w : ℕ)
     → Legal nodes workers ((events ++ event.Start p v ∷ between) ++ event.Start p w ∷ rest)
-    → (u : ℕ) × Among between (event.Release p u)
+    → (u : ℕ) × Contains between (event.Release p u)
 
 -- a worker that released a pip makes no later event
-abbrev pub GoneForGood : List Node → ℕ → Type 0
-GoneForGood nodes workers = (events between rest : List Event) (p w : ℕ) (e : Event)
+abbrev pub NothingAfterRelease : List Node → ℕ → Type 0
+NothingAfterRelease nodes workers = (events between rest : List Event) (p w : ℕ) (e : Event)
     → Legal nodes workers ((events ++ event.Release p w ∷ between) ++ e ∷ rest) → worker_of e ≡ w → ⊥
 
 -- ## States and sizes

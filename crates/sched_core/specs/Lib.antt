@@ -2,7 +2,6 @@ pub mod States
 pub mod Table
 pub mod Legal
 pub mod Sound
-pub mod Weight
 pub mod Laws
 pub mod Sets
 pub mod Indexes

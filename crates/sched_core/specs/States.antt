@@ -12,13 +12,13 @@ is_waiting (state.Done good) = false
 is_waiting state.Skipped = false
 
 -- the pip completed with success
-abbrev pub is_good : PipState → Bool
-is_good state.Waiting = false
-is_good (state.Held w) = false
-is_good (state.Looked w hit) = false
-is_good (state.Published w good) = false
-is_good (state.Done good) = good
-is_good state.Skipped = false
+abbrev pub is_success : PipState → Bool
+is_success state.Waiting = false
+is_success (state.Held w) = false
+is_success (state.Looked w hit) = false
+is_success (state.Published w good) = false
+is_success (state.Done good) = good
+is_success state.Skipped = false
 
 -- the pip completed without success, or was skipped
 abbrev pub is_bad : PipState → Bool
@@ -56,18 +56,18 @@ is_claimed_by worker (state.Published w good) = false
 is_claimed_by worker (state.Done good) = false
 is_claimed_by worker state.Skipped = false
 
--- the worker looked the pip up; a hit is published as a success
-abbrev pub is_looked_by : ℕ → Bool → PipState → Bool
-is_looked_by worker good state.Waiting = false
-is_looked_by worker good (state.Held w) = false
-is_looked_by worker good (state.Looked w hit) = w == worker && (not hit || good)
-is_looked_by worker good (state.Published w published) = false
-is_looked_by worker good (state.Done done) = false
-is_looked_by worker good state.Skipped = false
+-- the worker looked the pip up, and may publish it so: a hit is published as a success
+abbrev pub may_publish_looked : ℕ → Bool → PipState → Bool
+may_publish_looked worker good state.Waiting = false
+may_publish_looked worker good (state.Held w) = false
+may_publish_looked worker good (state.Looked w hit) = w == worker && (not hit || good)
+may_publish_looked worker good (state.Published w published) = false
+may_publish_looked worker good (state.Done done) = false
+may_publish_looked worker good state.Skipped = false
 
 -- A process is published once it was looked up, any other pip as it was claimed, and as a success.
 abbrev pub may_publish : Bool → ℕ → Bool → PipState → Bool
-may_publish true worker good s = is_looked_by worker good s
+may_publish true worker good s = may_publish_looked worker good s
 may_publish false worker good s = is_claimed_by worker s && good
 
 abbrev pub may_look : Bool → ℕ → PipState → Bool
@@ -110,15 +110,6 @@ is_begun (state.Looked w hit) = true
 is_begun (state.Published w good) = true
 is_begun (state.Done good) = true
 is_begun state.Skipped = false
-
--- the pip was published
-abbrev pub is_published : PipState → Bool
-is_published state.Waiting = false
-is_published (state.Held w) = false
-is_published (state.Looked w hit) = false
-is_published (state.Published w good) = true
-is_published (state.Done good) = true
-is_published state.Skipped = false
 
 abbrev pub is_skipped : PipState → Bool
 is_skipped state.Waiting = false

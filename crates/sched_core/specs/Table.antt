@@ -1,12 +1,12 @@
 -- The table of events: where each is allowed, and what the state is after it.
-use Rattle.std.specs.Prelude.{ℕ, ◌<◌, Bool, true, false, not, ◌&&◌, List, [], ◌∷◌, All, Option, position, is_none, is_some, Some, None, if◌then◌else◌, set, slice_get}
+use Rattle.std.specs.Prelude.{ℕ, ◌<◌, Bool, true, false, not, ◌&&◌, List, [], ◌∷◌, All, Option, position, is_none, set, slice_get}
 use Rattle.std.specs.List.{list_all, list_any, slice_index_or}
 use Rattle.sched_core.specs.declared.event.Event.{Event}
 use Rattle.sched_core.specs.declared.event.Event.TheVariants as event
 use Rattle.sched_core.specs.declared.graph.Node.{Node}
 use Rattle.sched_core.specs.declared.state.PipState.{PipState}
 use Rattle.sched_core.specs.declared.state.PipState.TheVariants as state
-use Rattle.sched_core.specs.States.{completed, holder, holds, is_bad, is_good, is_settled, is_waiting, may_complete, may_look, may_publish, may_release}
+use Rattle.sched_core.specs.States.{completed, holder, holds, is_bad, is_success, is_settled, is_waiting, may_complete, may_look, may_publish, may_release}
 
 -- ## What is scheduled
 
@@ -22,20 +22,21 @@ no_node = record { is_process = false; inputs = [] }
 abbrev pub node_at : List Node → ℕ → Node
 node_at nodes pip = slice_index_or nodes pip no_node
 
-abbrev pub inputs_at : List Node → ℕ → List ℕ
-inputs_at nodes pip = (node_at nodes pip).inputs
+abbrev pub node_inputs : List Node → ℕ → List ℕ
+node_inputs nodes pip = (node_at nodes pip).inputs
 
 -- a pip that is not there reads as skipped, of which the table allows no event
 abbrev pub state_at : List PipState → ℕ → PipState
 state_at states pip = slice_index_or states pip state.Skipped
 
--- a worker that is not there reads as one that has left
+-- A worker that is not there reads as one that has left, so that no legal list has an event of it. Else it could start and
+-- release without end, as there is no place in which to keep that it left.
 abbrev pub has_left : List Bool → ℕ → Bool
 has_left left worker = slice_index_or left worker true
 
 -- each input of a pip has a smaller number
 abbrev pub AreOrdered : List Node → Type 0
-AreOrdered nodes = (p : ℕ) → All (λ input. input < p) (inputs_at nodes p)
+AreOrdered nodes = (p : ℕ) → All (λ input. input < p) (node_inputs nodes p)
 
 -- ## Events
 
@@ -58,18 +59,18 @@ worker_of (event.Release p w) = w
 -- ## Where an event is allowed
 
 abbrev pub all_good : List PipState → List ℕ → Bool
-all_good states inputs = list_all (λ input. is_good (state_at states input)) inputs
+all_good states inputs = list_all (λ input. is_success (state_at states input)) inputs
 
 abbrev pub some_bad : List PipState → List ℕ → Bool
 some_bad states inputs = list_any (λ input. is_bad (state_at states input)) inputs
 
 -- the pip waits, and all its inputs completed with success
 abbrev pub may_start : CoreState → ℕ → Bool
-may_start s pip = is_waiting (state_at s.states pip) && all_good s.states (inputs_at s.nodes pip)
+may_start s pip = is_waiting (state_at s.states pip) && all_good s.states (node_inputs s.nodes pip)
 
 -- the pip waits, and an input completed without success or was skipped
 abbrev pub may_skip : CoreState → ℕ → Bool
-may_skip s pip = is_waiting (state_at s.states pip) && some_bad s.states (inputs_at s.nodes pip)
+may_skip s pip = is_waiting (state_at s.states pip) && some_bad s.states (node_inputs s.nodes pip)
 
 -- the pip that a worker holds, if it holds one
 abbrev pub busy_of : ℕ → List PipState → Option ℕ
@@ -110,8 +111,8 @@ left_after left (event.Complete p w) = left
 left_after left (event.Skip p w) = left
 left_after left (event.Release p w) = set left w true
 
-abbrev pub after : CoreState → Event → CoreState
-after s e = record {
+abbrev pub next_state : CoreState → Event → CoreState
+next_state s e = record {
   nodes = s.nodes;
   states = set s.states (pip_of e) (state_after_event (state_at s.states (pip_of e)) e);
   left = left_after s.left e;
@@ -120,21 +121,17 @@ after s e = record {
 -- ## What an answer tells
 
 -- why an event is not allowed: the state of its pip, the pip that its worker holds, and whether that has left
-pub record Refusal : Type 0 where
+pub record IllegalData : Type 0 where
   pub state : Option PipState
   pub busy : Option ℕ
   pub left : Bool
 
-abbrev pub refusal : CoreState → Event → Refusal
-refusal s e = record {
+abbrev pub why_illegal : CoreState → Event → IllegalData
+why_illegal s e = record {
   state = slice_get s.states (pip_of e);
   busy = busy_of (worker_of e) s.states;
   left = has_left s.left (worker_of e);
 }
-
--- the pip, where a worker holds it in this state
-abbrev pub seat_of : ℕ → PipState → Option ℕ
-seat_of pip s = if is_some (holder s) then Some pip else None
 
 -- ## Over all pips
 

@@ -13,9 +13,9 @@ pub struct Illegal {
 }
 
 impl Model for Illegal {
-    ghost use Rattle.sched_core.specs.Table.{Refusal};
+    ghost use Rattle.sched_core.specs.Table.{IllegalData};
 
-    ghost Value = { Refusal };
+    ghost Value = { IllegalData };
 
     ghost view = { λ i. record { state = i.state; busy = i.busy; left = i.left } };
 

@@ -1,6 +1,6 @@
 //! What holds of every legal list of events. No call of this file does anything: its contract is the law.
 ghost use Rattle.std.specs.Prelude.{ℕ, List};
-ghost use Rattle.sched_core.specs.Laws.{EndsSettled, FewEvents, GoneForGood, OneHolder, OnePip, PublishedOnce, ReachesSound, ReleasedBetween, StartsAfterInputs};
+ghost use Rattle.sched_core.specs.Laws.{EndsSettled, FewEvents, NothingAfterRelease, OneHolder, OnePip, PublishedOnce, ReachesSound, ReleasedBetween, StartsAfterInputs};
 ghost use Rattle.sched_core.specs.Table.{AreOrdered, CoreState};
 ghost use Rattle.sched_core.specs.declared.graph.Node.{Node as AnyNode};
 
@@ -14,7 +14,7 @@ pub fn legal_events()
     ensures published_once { (nodes : List AnyNode) (workers : ℕ) → PublishedOnce nodes workers }
     ensures starts_after_inputs { (nodes : List AnyNode) (workers : ℕ) → StartsAfterInputs nodes workers }
     ensures released_between { (nodes : List AnyNode) (workers : ℕ) → ReleasedBetween nodes workers }
-    ensures gone_for_good { (nodes : List AnyNode) (workers : ℕ) → GoneForGood nodes workers }
+    ensures nothing_after_release { (nodes : List AnyNode) (workers : ℕ) → NothingAfterRelease nodes workers }
     ensures sound { (nodes : List AnyNode) (workers : ℕ) → ReachesSound nodes workers }
     ensures few { (nodes : List AnyNode) (workers : ℕ) → FewEvents nodes workers }
 {}

@@ -1,11 +1,11 @@
 //! The core: the state of all pips, changed by one event at a time.
 ghost use Rattle.std.specs.Prelude.{◌≡◌, ◌↔◌, ◌<◌, ◌≤◌, ◌+◌, ◌-◌, ◌^◌, ℕ, All, IsOk, IsTrue, IfOk, IfErr, IfSome, IfNone, OnOk, OnErr, is_none, length, replicate, true, false};
 ghost use Rattle.std.specs.List.{list_all};
-ghost use Rattle.sched_core.specs.Legal.{all_waiting as waiting_pips, begin};
+ghost use Rattle.sched_core.specs.Legal.{all_waiting as waiting_pips, initial_state};
 ghost use Rattle.sched_core.specs.Sets.{IsLeast, IsNever};
 ghost use Rattle.sched_core.specs.Sound.{IsSound};
-ghost use Rattle.sched_core.specs.Table.{AreOrdered, after, allows, busy_of, fits_table, has_left, holds_none, is_idle, left_after};
-ghost use Rattle.sched_core.specs.Table.{may_skip, may_start, node_at, refusal, state_at, worker_of};
+ghost use Rattle.sched_core.specs.Table.{AreOrdered, allows, busy_of, fits_table, has_left, is_idle, left_after, next_state};
+ghost use Rattle.sched_core.specs.Table.{may_skip, may_start, node_at, state_at, why_illegal, worker_of};
 
 use crate::event::Event;
 use crate::graph::{Graph, PipNumbers};
@@ -94,10 +94,11 @@ fn are_free(seats: &[Option<u32>]) -> bool
 }
 
 impl Core {
-    /// All pips wait, and no worker has left.
+    /// All pips of the graph wait, and no worker has left. Of a plan a core keeps the kinds and the inputs alone, which
+    /// are the graph: who calls it says which plan's they are.
     pub fn new(alloc: Global, graph: Graph, workers: u32) -> Result<Core, AllocError>
         requires { (0 < workers) × (workers ≤ MAX_WORKERS) }
-        ensures { IfOk result (λ core. core ≡ begin graph workers) }
+        ensures { IfOk result (λ core. core ≡ initial_state graph workers) }
     {
         let states = all_waiting(alloc, graph.nodes().len())?;
         let dependents = dependents_of(alloc, graph.nodes())?;
@@ -114,12 +115,18 @@ impl Core {
         })
     }
 
-    /// How many pips there are. What every core keeps.
-    pub fn len(&self) -> usize
-        ensures len { result ≡ length self.now.nodes }
+    /// What every core keeps. It does nothing.
+    pub fn keeps(&self)
         ensures ordered { AreOrdered self.now.nodes }
         ensures few { length self.now.nodes < 2 ^ 32 }
         ensures sound { IsSound self.now }
+    {
+        let _ = &self.graph;
+    }
+
+    /// How many pips there are.
+    pub fn len(&self) -> usize
+        ensures { result ≡ length self.now.nodes }
     {
         self.states.len()
     }
@@ -186,15 +193,15 @@ impl Core {
         are_free(self.seats.as_slice())
     }
 
-    /// Whether a pip waits, and all its inputs completed with success.
-    pub fn may_start(&self, pip: u32) -> bool
+    // Whether a pip waits, and all its inputs completed with success.
+    pub(crate) fn may_start(&self, pip: u32) -> bool
         ensures { result ≡ may_start self.now pip }
     {
         self.ready.may_start(pip)
     }
 
-    /// Whether a pip waits, and one of its inputs completed without success or was skipped.
-    pub fn may_skip(&self, pip: u32) -> bool
+    // Whether a pip waits, and one of its inputs completed without success or was skipped.
+    pub(crate) fn may_skip(&self, pip: u32) -> bool
         ensures { result ≡ may_skip self.now pip }
     {
         self.ready.may_skip(pip)
@@ -219,7 +226,7 @@ impl Core {
     }
 
     // Whether the table allows an event of a worker that has not left.
-    fn fits(&self, event: &Event) -> bool
+    fn fits_table(&self, event: &Event) -> bool
         ensures { result ≡ fits_table self.now event.now }
     {
         match *event {
@@ -238,16 +245,16 @@ impl Core {
         }
     }
 
-    /// Whether the table allows an event.
-    pub fn allows(&self, event: &Event) -> bool
+    // Whether the table allows an event.
+    pub(crate) fn allows(&self, event: &Event) -> bool
         ensures { result ≡ allows self.now event.now }
     {
-        !self.has_left(event.worker()) && self.fits(event)
+        !self.has_left(event.worker()) && self.fits_table(event)
     }
 
     // Why an event is refused.
-    fn refusal(&self, event: &Event) -> Illegal
-        ensures { result ≡ refusal self.now event.now }
+    fn why_illegal(&self, event: &Event) -> Illegal
+        ensures { result ≡ why_illegal self.now event.now }
     {
         let state = self.states.get(event.pip() as usize).copied();
         let worker = event.worker();
@@ -257,7 +264,7 @@ impl Core {
     // Makes an event.
     fn apply(&mut self, event: &Event)
         requires { allows self.old event.now ≡ true }
-        ensures { self.new ≡ after self.old event.now }
+        ensures { self.new ≡ next_state self.old event.now }
     {
         let Core {
             states,
@@ -286,12 +293,12 @@ impl Core {
     pub fn step(&mut self, event: &Event) -> Result<(), Illegal>
         requires worker { worker_of event.now < length self.old.left }
         ensures exact { IsTrue (allows self.old event.now) ↔ IsOk result }
-        ensures ok { OnOk result (self.new ≡ after self.old event.now) }
+        ensures ok { OnOk result (self.new ≡ next_state self.old event.now) }
         ensures err { OnErr result (self.new ≡ self.old) }
-        ensures why { IfErr result (λ illegal. illegal ≡ refusal self.old event.now) }
+        ensures why { IfErr result (λ illegal. illegal ≡ why_illegal self.old event.now) }
     {
         if !self.allows(event) {
-            return Err(self.refusal(event));
+            return Err(self.why_illegal(event));
         }
         self.apply(event);
         Ok(())

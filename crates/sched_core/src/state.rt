@@ -1,7 +1,8 @@
 //! The state of one pip.
 ghost use Rattle.std.specs.Prelude.{◌≡◌};
 ghost use Rattle.sched_core.specs.States as states;
-ghost use Rattle.sched_core.specs.Table.{seat_of, state_after_event};
+ghost use Rattle.sched_core.specs.Indexes.{seat_of};
+ghost use Rattle.sched_core.specs.Table.{state_after_event};
 
 use crate::event::Event;
 
@@ -34,8 +35,8 @@ impl PipState {
     }
 
     /// Whether it completed with success.
-    pub fn is_good(self) -> bool
-        ensures { result ≡ states.is_good self }
+    pub fn is_success(self) -> bool
+        ensures { result ≡ states.is_success self }
     {
         match self {
             PipState::Done(good) => good,
@@ -75,8 +76,8 @@ impl PipState {
     }
 
     // Whether the worker looked it up, and may publish it so: a hit is a success.
-    fn is_looked_by(self, worker: u32, good: bool) -> bool
-        ensures { result ≡ states.is_looked_by worker good self }
+    fn may_publish_looked(self, worker: u32, good: bool) -> bool
+        ensures { result ≡ states.may_publish_looked worker good self }
     {
         match self {
             PipState::Looked(holder, hit) => holder == worker && (!hit || good),
@@ -94,7 +95,7 @@ impl PipState {
         ensures { result ≡ states.may_publish is_process worker good self }
     {
         if is_process {
-            self.is_looked_by(worker, good)
+            self.may_publish_looked(worker, good)
         } else {
             self.is_claimed_by(worker) && good
         }

@@ -3,18 +3,18 @@ use Rattle.std.proofs.Common.{◌≡◌, ◌<◌, ℕ, List, length, get_or, ari
 use Rattle.std.proofs.lemmas.List.{get_or_default}
 use Rattle.sched_core.proofs.Dependents.{all_below, more_below}
 use Rattle.sched_core.specs.Indexes.{AddsDependents}
-use Rattle.sched_core.specs.Table.{inputs_at, no_node}
+use Rattle.sched_core.specs.Table.{node_inputs, no_node}
 use Rattle.sched_core.specs.declared.graph.Node.{Node}
 use Rattle.sched_core.proofs.indexes.dependents_of.Goals as goal
 
 pub add_dependents-requires : goal.add_dependents-requires
 add_dependents-requires c = λ k d l.
     let nodes = c.args.nodes.now in
-    let same : c.as_slice.result.now ≡ inputs_at nodes c.nodes.pip =
+    let same : c.as_slice.result.now ≡ node_inputs nodes c.nodes.pip =
     c.as_slice.ensures ∙ ap (λ (node : Node). node.inputs)
     (c.index-nodes-pip.is ∙ get_or_default nodes c.nodes.pip c.index-nodes-pip.result no_node c.nodes-test.true) in
-    let read : get_or c.as_slice.result.now k d ≡ get_or (inputs_at nodes c.nodes.pip) k d = ap (λ xs. get_or xs k d) same in
-    let within : k < length (inputs_at nodes c.nodes.pip) = omega (arith, l, ap {B = ℕ} length same) in
+    let read : get_or c.as_slice.result.now k d ≡ get_or (node_inputs nodes c.nodes.pip) k d = ap (λ xs. get_or xs k d) same in
+    let within : k < length (node_inputs nodes c.nodes.pip) = omega (arith, l, ap {B = ℕ} length same) in
     omega (arith, read, c.requires.ordered c.nodes.pip k d within, c.nodes-test.true, c.nodes.invariant.size)
 
 pub nodes-preserved : goal.nodes-preserved
@@ -22,7 +22,7 @@ nodes-preserved c =
     let nodes = c.args.nodes.now in
     let old = c.nodes.dependents.items in
     let new = c.add_dependents.new.dependents.items in
-    let same : c.as_slice.result.now ≡ inputs_at nodes c.nodes.pip =
+    let same : c.as_slice.result.now ≡ node_inputs nodes c.nodes.pip =
     c.as_slice.ensures ∙ ap (λ (node : Node). node.inputs)
     (c.index-nodes-pip.is ∙ get_or_default nodes c.nodes.pip c.index-nodes-pip.result no_node c.nodes-test.true) in
     let P : List ℕ → Type 0 = λ xs. AddsDependents old new xs c.nodes.pip in record {

@@ -4,7 +4,7 @@ use Rattle.std.proofs.lemmas.List.{get_or_default}
 use Rattle.sched_core.proofs.CoreSteps.{Advances, IsThere, advanced, can_settle, is_there_for, keeps_step, settles_by}
 use Rattle.sched_core.specs.Indexes.{flagged, list_at, missing_at, times}
 use Rattle.sched_core.specs.States.{is_waiting}
-use Rattle.sched_core.specs.Table.{CoreState, after, allows, state_after_event, state_at}
+use Rattle.sched_core.specs.Table.{CoreState, next_state, allows, state_after_event, state_at}
 use Rattle.sched_core.specs.declared.state.PipState.TheVariants as state
 use Rattle.sched_core.proofs.machine.Core.apply.Goals as goal
 
@@ -130,4 +130,4 @@ returns c =
       state_is = c.after-next.ensures ∙ ap (λ old. state_after_event old e) (was ∙ ap (state_at s.states) c.pip-pip.ensures);
       left_is = c.leave.ensures;
     } in
-    advanced s e q w x c.leave.new.left.items advances ∙ ap (λ v. after v e) c.self.view_is
+    advanced s e q w x c.leave.new.left.items advances ∙ ap (λ v. next_state v e) c.self.view_is
