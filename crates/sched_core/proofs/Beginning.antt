@@ -1,16 +1,16 @@
 -- How a core begins: all pips wait.
-use Rattle.std.proofs.Common.{◌≡◌, ◌⊎◌, ℕ, ◌+◌, ◌^◌, ◌<◌, ◌≤◌, ◌==◌, Bool, true, false, not, ◌||◌, cond, Option, Some, None, List, [], ◌∷◌, length, get_or, map, replicate, zero, suc, refl, ap, sym, ◌∙◌, arith, inl, inr}
+use Rattle.std.proofs.Common.{◌≡◌, ◌⊎◌, ℕ, ◌^◌, ◌<◌, Bool, true, false, not, ◌||◌, cond, Option, None, List, [], ◌∷◌, length, get_or, map, replicate, zero, suc, refl, ap, sym, ◌∙◌, arith, inl, inr}
 use Rattle.std.specs.List.{list_any, count_by}
-use Rattle.std.proofs.lemmas.Bool.{both_ways, cases_lt, eq-eqb}
-use Rattle.std.proofs.lemmas.List.{length-map, length-replicate, get_or-replicate, get_or_past}
+use Rattle.std.proofs.lemmas.Bool.{both_ways, cases_lt}
+use Rattle.std.proofs.lemmas.List.{length-replicate, get_or-replicate, get_or_past}
 use Rattle.std.proofs.lemmas.List.Sums.{sum_by-cons}
 use Rattle.sched_core.proofs.Seats.{busy_nobody}
-use Rattle.sched_core.specs.Indexes.{AreCounted, AreDependents, AreFlagged, AreSeats, HasSize, KeepsCore, Readiness, list_at, missing_at, missing_of, seat_at}
+use Rattle.sched_core.specs.Indexes.{AreCounted, AreDependents, AreFlagged, HasSize, KeepsCore, Readiness, missing_of, seat_at}
 use Rattle.sched_core.specs.Legal.{all_waiting, initial_state}
 use Rattle.sched_core.specs.Sets.{flag_at}
 use Rattle.sched_core.specs.Sound.{IsSound}
 use Rattle.sched_core.specs.States.{holds, is_bad, is_begun, is_success, is_skipped}
-use Rattle.sched_core.specs.Table.{AreOrdered, busy_of, node_inputs, no_node, some_bad, state_at}
+use Rattle.sched_core.specs.Table.{AreOrdered, node_inputs, no_node, some_bad, state_at}
 use Rattle.sched_core.specs.declared.graph.Node.{Node}
 use Rattle.sched_core.specs.declared.state.PipState.{PipState}
 use Rattle.sched_core.specs.declared.state.PipState.TheVariants as state

@@ -1,23 +1,19 @@
 -- What a core keeps, as it begins and from event to event.
-use Rattle.std.proofs.Common.{◌≡◌, ◌⊎◌, ℕ, ◌+◌, ◌^◌, ◌<◌, ◌≤◌, ◌==◌, Bool, true, false, not, ◌&&◌, ◌||◌, cond, if◌then◌else◌, Option, Some, None, is_none, is_some, IfSome, IfNone, List, [], ◌∷◌, length, get_or, set, map, replicate, zero, suc, refl, ap, sym, ◌∙◌, arith, inl, inr, subst, length-set}
-use Rattle.std.specs.List.{list_any, count_by}
-use Rattle.std.proofs.lemmas.Bool.{both_ways, cases_Bool, cases_eq, cases_lt, eq-eqb, eqb-true, false_from_ne_true}
-use Rattle.std.proofs.lemmas.List.{length-map, length-replicate, get_or-replicate, get_or-set_same, get_or-set_other, get_or_past}
-use Rattle.std.proofs.lemmas.List.Sums.{sum_by-cons}
+use Rattle.std.proofs.Common.{◌≡◌, ℕ, ◌<◌, ◌≤◌, ◌==◌, Bool, true, false, not, ◌&&◌, ◌||◌, if◌then◌else◌, Option, Some, None, is_some, IfSome, IfNone, List, length, set, refl, ap, sym, ◌∙◌, arith, inl, inr, subst, length-set}
+use Rattle.std.proofs.lemmas.Bool.{cases_Bool, cases_eq, false_from_ne_true}
+use Rattle.std.proofs.lemmas.List.{get_or-set_same, get_or-set_other}
 use Rattle.sched_core.proofs.Counts.{all_good-is, missing-good, missing-set, some_bad-set}
 use Rattle.sched_core.proofs.Flags.{but_state, flagged_all, flagged_size}
-use Rattle.sched_core.proofs.Places.{is_there, state_at-same, state_at-other}
-use Rattle.sched_core.proofs.Seats.{busy_nobody, busy_other, busy_some, no_holder, none_holds, some_holder}
+use Rattle.sched_core.proofs.Places.{state_at-same, state_at-other}
+use Rattle.sched_core.proofs.Seats.{busy_nobody, busy_other, busy_some, no_holder, some_holder}
 use Rattle.sched_core.proofs.SoundSteps.{Steps, sound_step, steps_of, stepped}
 use Rattle.sched_core.specs.Indexes.{AreCounted, AreDependents, AreFlagged, AreSeats, HasSize, KeepsCore, Readiness, Settles, flagged, list_at, missing_at, missing_of, seat_at, times, seat_of}
-use Rattle.sched_core.specs.Legal.{all_waiting, initial_state}
 use Rattle.sched_core.specs.Sets.{flag_at, IsLeast, IsNever}
 use Rattle.sched_core.specs.Sound.{IsSound}
-use Rattle.sched_core.specs.States.{holder, holds, is_bad, is_begun, is_success, is_skipped, is_waiting}
-use Rattle.sched_core.specs.Table.{AreOrdered, CoreState, next_state, allows, busy_of, has_left, node_inputs, left_after, may_skip, may_start, pip_of, some_bad, state_at, worker_of}
+use Rattle.sched_core.specs.States.{holder, holds, is_bad, is_success, is_waiting}
+use Rattle.sched_core.specs.Table.{CoreState, next_state, allows, node_inputs, left_after, may_skip, may_start, pip_of, some_bad, state_at, worker_of}
 use Rattle.sched_core.specs.declared.event.Event.{Event}
 use Rattle.sched_core.specs.declared.event.Event.TheVariants as event
-use Rattle.sched_core.specs.declared.graph.Node.{Node}
 use Rattle.sched_core.specs.declared.state.PipState.{PipState}
 use Rattle.sched_core.specs.declared.state.PipState.TheVariants as state
 

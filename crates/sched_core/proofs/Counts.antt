@@ -1,14 +1,13 @@
 -- How counts over the inputs of a pip change as another pip settles.
-use Rattle.std.proofs.Common.{◌≡◌, ◌⊎◌, ℕ, ◌+◌, ◌==◌, ◌<◌, ◌≤◌, Bool, true, false, not, cond, eqb, ◌&&◌, ◌||◌, if◌then◌else◌, List, [], ◌∷◌, length, get_or, set, refl, ap, sym, ◌∙◌, arith, inl, inr, zero-add}
-use Rattle.std.specs.List.{count_by, list_all, list_any, sum_by}
-use Rattle.std.proofs.lemmas.Bool.{cases_Bool, cases_eq, eq-eqb, eqb-true, ne_eqb}
+use Rattle.std.proofs.Common.{◌≡◌, ℕ, ◌+◌, ◌==◌, ◌<◌, Bool, true, false, not, cond, ◌&&◌, ◌||◌, if◌then◌else◌, List, [], ◌∷◌, length, set, refl, ap, sym, ◌∙◌, arith, inl, inr, zero-add}
+use Rattle.std.specs.List.{count_by, list_all, list_any}
+use Rattle.std.proofs.lemmas.Bool.{cases_Bool, cases_eq, eq-eqb, ne_eqb}
 use Rattle.std.proofs.lemmas.List.Sums.{sum_by-cons}
 use Rattle.sched_core.proofs.Places.{state_at-same, state_at-other}
 use Rattle.sched_core.specs.Indexes.{missing_of, times}
 use Rattle.sched_core.specs.States.{is_bad, is_success}
 use Rattle.sched_core.specs.Table.{all_good, some_bad, state_at}
 use Rattle.sched_core.specs.declared.state.PipState.{PipState}
-use Rattle.sched_core.specs.declared.state.PipState.TheVariants as state
 
 -- ## Any tests
 

@@ -1,19 +1,19 @@
 -- The laws of legal lists of events.
-use Rattle.std.proofs.Common.{◌≡◌, ◌⊎◌, ℕ, ◌+◌, ◌*◌, ◌<◌, ◌≤◌, ◌==◌, Bool, true, false, not, ◌&&◌, ◌||◌, List, [], ◌∷◌, ◌++◌, length, get_or, set, refl, ap, sym, ◌∙◌, arith, inl, inr, subst, append_assoc}
+use Rattle.std.proofs.Common.{◌≡◌, ℕ, ◌<◌, Bool, true, false, not, ◌&&◌, List, [], ◌∷◌, ◌++◌, length, get_or, set, refl, ap, sym, ◌∙◌, arith, inl, inr, subst}
 use Rattle.std.specs.List.{Contains}
-use Rattle.std.proofs.lemmas.Bool.{and_parts, both_ways, cases_Bool, cases_eq, eq-eqb, eqb-true, not-true, not_from_true}
+use Rattle.std.proofs.lemmas.Bool.{and_parts, both_ways, cases_Bool, cases_eq, not-true}
 use Rattle.std.proofs.lemmas.List.Elements.{Contains-append_right}
 use Rattle.std.proofs.lemmas.List.Folds.{list_all_at}
 use Rattle.std.proofs.lemmas.List.{get_or-set_same, get_or-set_other}
 use Rattle.sched_core.proofs.Beginning.{sound_at_first, fails_of_all}
-use Rattle.sched_core.proofs.Histories.{TurnsAt, lasts, legal_parts, next_allowed, nodes_after, sound_after, state_after-append, turns}
+use Rattle.sched_core.proofs.Histories.{lasts, legal_parts, next_allowed, nodes_after, sound_after, state_after-append, turns}
 use Rattle.sched_core.proofs.Places.{after_write, state_at-same, state_at-other}
-use Rattle.sched_core.proofs.SoundSteps.{Steps, one_holder, sound_step, steps_of, stepped}
-use Rattle.sched_core.specs.Laws.{CompletesWell, NothingAfterRelease, OneHolder, OnePip, PublishedOnce, ReachesSound, ReleasedBetween, StartsAfterInputs, reached}
-use Rattle.sched_core.specs.Legal.{all_waiting, initial_state, is_legal, state_after}
+use Rattle.sched_core.proofs.SoundSteps.{one_holder, sound_step, steps_of, stepped}
+use Rattle.sched_core.specs.Laws.{NothingAfterRelease, OneHolder, OnePip, PublishedOnce, ReachesSound, ReleasedBetween, StartsAfterInputs, reached}
+use Rattle.sched_core.specs.Legal.{initial_state, is_legal, state_after}
 use Rattle.sched_core.specs.Sound.{IsSound}
-use Rattle.sched_core.specs.States.{completed, holds, is_claimed_by, is_success, may_publish_looked, is_waiting, may_complete, may_publish, may_release}
-use Rattle.sched_core.specs.Table.{CoreState, next_state, all_good, allows, may_skip, some_bad, fits_table, has_left, holds_none, node_inputs, left_after, may_start, node_at, pip_of, state_after_event, state_at, worker_of}
+use Rattle.sched_core.specs.States.{completed, is_claimed_by, is_success, is_waiting, may_complete, may_publish, may_release}
+use Rattle.sched_core.specs.Table.{CoreState, next_state, all_good, allows, may_skip, some_bad, fits_table, has_left, holds_none, node_inputs, may_start, node_at, pip_of, state_at, worker_of}
 use Rattle.sched_core.specs.declared.event.Event.{Event}
 use Rattle.sched_core.specs.declared.event.Event.TheVariants as event
 use Rattle.sched_core.specs.declared.graph.Node.{Node}

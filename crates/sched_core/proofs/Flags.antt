@@ -1,14 +1,13 @@
 -- The flags of pips: how they follow what is counted.
-use Rattle.std.proofs.Common.{◌≡◌, ◌⊎◌, ℕ, ◌+◌, ◌-◌, ◌==◌, ◌<◌, ◌≤◌, Bool, true, false, not, cond, ◌&&◌, ◌||◌, if◌then◌else◌, List, [], ◌∷◌, length, get_or, set, take, map, replicate, refl, ap, sym, ◌∙◌, arith, inl, inr, subst, length-set, add-zero}
-use Rattle.std.proofs.lemmas.Bool.{cases_Bool, cases_eq, cases_lt, eq-eqb, ne_eqb, lt-ltb, le-ltb}
-use Rattle.std.proofs.lemmas.List.{length-map, length-replicate, get_or-set_same, get_or-set_other, get_or_past, get_or-replicate}
+use Rattle.std.proofs.Common.{◌≡◌, ℕ, ◌+◌, ◌-◌, ◌==◌, ◌<◌, ◌≤◌, Bool, true, false, not, cond, ◌&&◌, ◌||◌, List, length, get_or, set, take, refl, ap, sym, ◌∙◌, arith, inl, inr, length-set}
+use Rattle.std.proofs.lemmas.Bool.{cases_eq, cases_lt, eq-eqb, ne_eqb}
+use Rattle.std.proofs.lemmas.List.{length-replicate, get_or-set_same, get_or-set_other, get_or_past, get_or-replicate}
 use Rattle.sched_core.proofs.Dependents.{times_more, times_room}
-use Rattle.sched_core.specs.Indexes.{AreCounted, AreFlagged, HasSize, Readiness, flagged, missing_at, missing_of, times, with_failed, with_missing}
+use Rattle.sched_core.specs.Indexes.{AreFlagged, HasSize, Readiness, flagged, missing_at, times, with_failed, with_missing}
 use Rattle.sched_core.specs.Legal.{all_waiting}
 use Rattle.sched_core.specs.Sets.{flag_at}
 use Rattle.sched_core.specs.States.{is_waiting}
-use Rattle.sched_core.specs.Table.{node_inputs, some_bad, state_at}
-use Rattle.sched_core.specs.declared.graph.Node.{Node}
+use Rattle.sched_core.specs.Table.{state_at}
 use Rattle.sched_core.specs.declared.state.PipState.{PipState}
 use Rattle.sched_core.specs.declared.state.PipState.TheVariants as state
 

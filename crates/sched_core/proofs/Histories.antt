@@ -1,7 +1,7 @@
 -- Lists of events, cut at one of them.
-use Rattle.std.proofs.Common.{◌≡◌, ◌⊎◌, ℕ, ◌<◌, Bool, true, false, not, ◌&&◌, List, [], ◌∷◌, ◌++◌, length, refl, ap, sym, ◌∙◌, arith, inl, inr, append_assoc}
-use Rattle.std.proofs.lemmas.Bool.{and_from, and_parts, both_ways, cases_Bool, cases_eq}
-use Rattle.sched_core.proofs.SoundSteps.{Steps, sound_step, steps_of, stepped}
+use Rattle.std.proofs.Common.{◌≡◌, Bool, true, false, List, [], ◌∷◌, ◌++◌, refl, ap, inl, inr}
+use Rattle.std.proofs.lemmas.Bool.{and_from, and_parts, both_ways, cases_Bool}
+use Rattle.sched_core.proofs.SoundSteps.{sound_step, steps_of}
 use Rattle.sched_core.specs.Legal.{is_legal, state_after}
 use Rattle.sched_core.specs.Sound.{IsSound}
 use Rattle.sched_core.specs.Table.{CoreState, next_state, allows}

@@ -1,8 +1,8 @@
 -- The pip that a worker holds, found in the list of all states.
-use Rattle.std.proofs.Common.{◌≡◌, ◌⊎◌, ℕ, ◌<◌, ◌≤◌, ◌==◌, Bool, true, false, cond, ltb, Option, Some, None, is_none, is_some, List, [], ◌∷◌, length, get_or, set, zero, suc, refl, ap, sym, ◌∙◌, arith, inl, inr, subst, length-set}
+use Rattle.std.proofs.Common.{◌≡◌, ℕ, ◌<◌, ◌==◌, true, false, cond, ltb, Option, Some, None, is_none, is_some, List, [], ◌∷◌, length, set, zero, suc, refl, ap, sym, ◌∙◌, arith, inl, inr, length-set}
 use Rattle.std.specs.List.{list_all, position_or_len}
-use Rattle.std.proofs.lemmas.Bool.{cases_Bool, cases_eq, cases_lt, both_ways, eq-eqb, eqb-true, false_from_ne_true, lt-ltb, le-ltb}
-use Rattle.std.proofs.lemmas.List.{get_or-set_same, get_or-set_other, get_or_past}
+use Rattle.std.proofs.lemmas.Bool.{cases_Bool, cases_lt, eq-eqb, false_from_ne_true, lt-ltb, le-ltb}
+use Rattle.std.proofs.lemmas.List.{get_or_past}
 use Rattle.std.proofs.lemmas.List.Sums.{position_or_len_is, fails_before_first}
 use Rattle.std.proofs.lemmas.List.Folds.{list_all_at, position_or_len-set}
 use Rattle.std.proofs.lemmas.List.Quantifiers.{position-Some}

@@ -1,11 +1,9 @@
 -- Where nothing can go on, each pip is completed or skipped.
-use Rattle.std.proofs.Common.{◌≡◌, ◌⊎◌, ℕ, ◌+◌, ◌<◌, ◌≤◌, Bool, true, false, not, ◌&&◌, ◌||◌, Option, Some, None, is_none, List, [], ◌∷◌, length, get_or, zero, suc, refl, ap, sym, ◌∙◌, arith, inl, inr}
-use Rattle.std.specs.List.{list_all, list_any}
+use Rattle.std.proofs.Common.{◌≡◌, ℕ, ◌+◌, ◌<◌, Bool, true, false, ◌&&◌, is_none, List, [], ◌∷◌, length, get_or, zero, suc, refl, ap, arith, inl, inr}
 use Rattle.std.proofs.lemmas.Bool.{and_from, both_ways, cases_Bool, cases_lt, or_parts}
 use Rattle.std.proofs.lemmas.List.{get_or_past}
 use Rattle.std.proofs.lemmas.List.Folds.{list_all_at}
 use Rattle.sched_core.specs.Laws.{EndsSettled}
-use Rattle.sched_core.specs.Sound.{IsSound}
 use Rattle.sched_core.specs.States.{holder, is_bad, is_success, is_settled, is_waiting}
 use Rattle.sched_core.specs.Table.{AreOrdered, CoreState, all_good, are_settled, node_inputs, is_idle, may_skip, may_start, some_bad, state_at}
 use Rattle.sched_core.specs.declared.state.PipState.{PipState}

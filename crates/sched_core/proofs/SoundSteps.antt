@@ -1,14 +1,14 @@
 -- What every event keeps of a state.
-use Rattle.std.proofs.Common.{◌≡◌, ◌⊎◌, ℕ, ◌+◌, ◌<◌, ◌==◌, Bool, true, false, not, ◌&&◌, ◌||◌, if◌then◌else◌, cond, List, length, get_or, set, refl, ap, sym, ◌∙◌, arith, inl, inr, subst, length-set}
-use Rattle.std.proofs.lemmas.Bool.{and_parts, both_ways, cases_Bool, cases_eq, cases_lt, eq-eqb, eqb-true, not-true, or_left}
-use Rattle.std.proofs.lemmas.List.{get_or-set_same, get_or-set_other, get_or_past}
+use Rattle.std.proofs.Common.{◌≡◌, ◌⊎◌, ℕ, ◌<◌, ◌==◌, Bool, true, false, not, ◌&&◌, List, length, set, refl, ap, sym, ◌∙◌, arith, inl, inr, length-set}
+use Rattle.std.proofs.lemmas.Bool.{and_parts, both_ways, cases_eq, cases_lt, eq-eqb, eqb-true, not-true, or_left}
+use Rattle.std.proofs.lemmas.List.{get_or-set_other, get_or_past}
 use Rattle.sched_core.proofs.Counts.{all_good-is, missing-set, some_bad-set}
-use Rattle.sched_core.proofs.Places.{after_write, is_there, state_at-same, state_at-other}
+use Rattle.sched_core.proofs.Places.{is_there, state_at-same, state_at-other}
 use Rattle.sched_core.proofs.Seats.{none_holds}
 use Rattle.sched_core.proofs.StateTests.{IsHeldBy, IsOpen, completable_is_held, completed_holder, completed_skipped, lookable_is_held, publishable_is_held, releasable_is_held, waiting_is_free, waiting_is_open}
 use Rattle.sched_core.specs.Indexes.{missing_of, times}
 use Rattle.sched_core.specs.Sound.{IsSound}
-use Rattle.sched_core.specs.States.{completed, holder, holds, is_bad, is_begun, is_success, is_skipped, is_waiting, is_worker, may_complete, may_look, may_publish, may_release}
+use Rattle.sched_core.specs.States.{completed, holds, is_bad, is_begun, is_success, is_skipped, is_waiting, is_worker, may_complete}
 use Rattle.sched_core.specs.Table.{CoreState, next_state, all_good, allows, fits_table, has_left, holds_none, node_inputs, left_after, may_skip, may_start, node_at, pip_of, some_bad, state_after_event, state_at, worker_of}
 use Rattle.sched_core.specs.declared.event.Event.{Event}
 use Rattle.sched_core.specs.declared.event.Event.TheVariants as event

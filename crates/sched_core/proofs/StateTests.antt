@@ -1,6 +1,6 @@
 -- What follows of a state from a test that it passes.
-use Rattle.std.proofs.Common.{◌≡◌, ◌⊎◌, ℕ, ◌==◌, Bool, true, false, not, ◌&&◌, ◌||◌, Option, Some, None, refl, ap, sym, ◌∙◌, inl, inr}
-use Rattle.sched_core.specs.States.{completed, holder, holds, is_bad, is_begun, is_claimed_by, is_success, may_publish_looked, is_settled, is_skipped, is_waiting}
+use Rattle.std.proofs.Common.{◌≡◌, ℕ, ◌==◌, Bool, true, false, not, ◌&&◌, ◌||◌, None, refl}
+use Rattle.sched_core.specs.States.{completed, holder, holds, is_bad, is_begun, is_claimed_by, is_success, may_publish_looked, is_skipped, is_waiting}
 use Rattle.sched_core.specs.States.{may_complete, may_look, may_publish, may_release}
 use Rattle.sched_core.specs.declared.state.PipState.{PipState}
 use Rattle.sched_core.specs.declared.state.PipState.TheVariants as state

@@ -1,15 +1,15 @@
 -- The weight of a state rises at each event, and is bounded.
-use Rattle.std.proofs.Common.{◌≡◌, ◌⊎◌, ℕ, ◌+◌, ◌*◌, ◌<◌, ◌≤◌, ◌==◌, Bool, true, false, not, ◌&&◌, List, [], ◌∷◌, ◌++◌, length, get_or, set, replicate, zero, suc, refl, ap, sym, ◌∙◌, arith, inl, inr, length-set}
+use Rattle.std.proofs.Common.{◌≡◌, ℕ, ◌+◌, ◌*◌, ◌<◌, ◌≤◌, Bool, true, false, not, List, [], ◌∷◌, length, get_or, refl, ap, ◌∙◌, arith, length-set}
 use Rattle.std.specs.List.{sum_by}
-use Rattle.std.proofs.lemmas.Bool.{and_parts, both_ways, cases_eq, not-true}
+use Rattle.std.proofs.lemmas.Bool.{and_parts, not-true}
 use Rattle.std.proofs.lemmas.List.{length-replicate}
 use Rattle.std.proofs.lemmas.List.Sums.{sum_by-cons, sum_by-set}
 use Rattle.sched_core.proofs.Beginning.{sound_at_first}
 use Rattle.sched_core.proofs.CoreSteps.{length-left_after}
 use Rattle.sched_core.proofs.EventLaws.{fits, waits_to_skip, waits_to_start}
-use Rattle.sched_core.proofs.SoundSteps.{Steps, sound_step, steps_of, stepped}
+use Rattle.sched_core.proofs.SoundSteps.{sound_step, steps_of, stepped}
 use Rattle.sched_core.specs.Laws.{FewEvents}
-use Rattle.sched_core.specs.Legal.{all_waiting, initial_state, is_legal, state_after}
+use Rattle.sched_core.specs.Legal.{initial_state, is_legal, state_after}
 use Rattle.sched_core.specs.Sound.{IsSound}
 use Rattle.sched_core.specs.States.{completed, is_claimed_by, may_publish_looked, is_waiting, may_complete, may_publish, may_release}
 use Rattle.sched_core.specs.Table.{CoreState, next_state, allows, fits_table, has_left, left_after, node_at, pip_of, state_at, worker_of}

@@ -1,5 +1,5 @@
 -- What the core keeps so that no call goes over all pips.
-use Rattle.std.specs.Prelude.{◌≡◌, ℕ, ◌==◌, ◌<◌, ◌+◌, ◌^◌, Bool, true, false, not, if◌then◌else◌, ◌&&◌, ◌||◌, List, [], Option, Some, None, is_some, length, set, count_by}
+use Rattle.std.specs.Prelude.{◌≡◌, ℕ, ◌==◌, ◌<◌, ◌+◌, ◌^◌, Bool, true, not, if◌then◌else◌, ◌&&◌, ◌||◌, List, [], Option, Some, None, is_some, length, set, count_by}
 use Rattle.std.specs.List.{slice_index_or}
 use Rattle.sched_core.specs.declared.graph.Node.{Node}
 use Rattle.sched_core.specs.declared.state.PipState.{PipState}

@@ -1,5 +1,5 @@
 -- What every state keeps that legal events lead to.
-use Rattle.std.specs.Prelude.{◌≡◌, ℕ, ◌<◌, Bool, true, false, length}
+use Rattle.std.specs.Prelude.{◌≡◌, ℕ, ◌<◌, true, false, length}
 use Rattle.sched_core.specs.States.{holds, is_begun, is_skipped}
 use Rattle.sched_core.specs.Table.{CoreState, all_good, has_left, node_inputs, some_bad, state_at}
 

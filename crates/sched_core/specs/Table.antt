@@ -1,5 +1,5 @@
 -- The table of events: where each is allowed, and what the state is after it.
-use Rattle.std.specs.Prelude.{ℕ, ◌<◌, Bool, true, false, not, ◌&&◌, List, [], ◌∷◌, All, Option, position, is_none, set, slice_get}
+use Rattle.std.specs.Prelude.{ℕ, ◌<◌, Bool, true, false, not, ◌&&◌, List, [], All, Option, position, is_none, set, slice_get}
 use Rattle.std.specs.List.{list_all, list_any, slice_index_or}
 use Rattle.sched_core.specs.declared.event.Event.{Event}
 use Rattle.sched_core.specs.declared.event.Event.TheVariants as event

@@ -14,8 +14,6 @@ mod machine;
 mod readiness;
 mod ready_set;
 mod state;
-#[cfg(test)]
-mod tests;
 
 pub use event::Event;
 pub use graph::{Graph, Node, PipNumbers};

@@ -1,5 +1,5 @@
 -- An input of each of some pips failed: each is there, and what is kept of it is brought up to that.
-use Rattle.std.proofs.Common.{◌≡◌, ◌<◌, ℕ, length, get_or, ap, arith, ◌∙◌}
+use Rattle.std.proofs.Common.{◌<◌, length, get_or, ap, arith, ◌∙◌}
 use Rattle.std.proofs.lemmas.List.{get_or_default}
 use Rattle.sched_core.proofs.Flags.{but_failed, failed_step, flagged_all, flagged_size, stands_there, with_failed_size}
 use Rattle.sched_core.specs.Indexes.{with_failed}

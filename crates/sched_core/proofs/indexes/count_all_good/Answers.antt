@@ -1,5 +1,5 @@
 -- An input of each of some pips succeeded: each is there and misses one, and what is kept of it is brought up to that.
-use Rattle.std.proofs.Common.{◌≡◌, ◌-◌, ◌<◌, ℕ, length, get_or, ap, arith, ◌∙◌}
+use Rattle.std.proofs.Common.{◌-◌, ◌<◌, length, get_or, ap, arith, ◌∙◌}
 use Rattle.std.proofs.lemmas.List.{get_or_default}
 use Rattle.sched_core.proofs.Flags.{but_missing, flagged_all, flagged_size, missing_left, missing_step, missing_there, with_missing_size}
 use Rattle.sched_core.specs.Indexes.{missing_at, with_missing}

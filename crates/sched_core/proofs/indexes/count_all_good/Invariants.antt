@@ -1,6 +1,5 @@
-use Rattle.std.proofs.Common.{◌≡◌, ℕ, ◌+◌, ◌==◌, ◌||◌, not, length, take}
+use Rattle.std.proofs.Common.{◌≡◌, ℕ, ◌+◌, length, take}
 use Rattle.sched_core.specs.Indexes.{AreFlagged, HasSize, missing_at, times}
-use Rattle.sched_core.specs.Sets.{flag_at}
 use Rattle.sched_core.proofs.indexes.count_all_good.Given as goal
 
 abbrev pub invariant-dependents : goal.invariant-dependents

@@ -1,5 +1,5 @@
 -- The pips before the next one stand among the dependents of their inputs.
-use Rattle.std.proofs.Common.{◌≡◌, ◌<◌, ℕ, List, length, get_or, arith, ap, sym, ◌∙◌, subst}
+use Rattle.std.proofs.Common.{◌≡◌, ◌<◌, ℕ, List, length, get_or, arith, ap, ◌∙◌, subst}
 use Rattle.std.proofs.lemmas.List.{get_or_default}
 use Rattle.sched_core.proofs.Dependents.{all_below, more_below}
 use Rattle.sched_core.specs.Indexes.{AddsDependents}

@@ -1,8 +1,8 @@
 -- An event that is allowed has its pip and its worker, and leaves indexes of the state after it.
-use Rattle.std.proofs.Common.{◌≡◌, ◌<◌, ◌≤◌, ℕ, true, List, [], length, get_or, set, ap, sym, ◌∙◌, arith, refl, subst}
+use Rattle.std.proofs.Common.{◌≡◌, true, [], set, ap, ◌∙◌, arith}
 use Rattle.std.proofs.lemmas.List.{get_or_default}
 use Rattle.sched_core.proofs.CoreSteps.{Advances, IsThere, advanced, can_settle, is_there_for, keeps_step, settles_by}
-use Rattle.sched_core.specs.Indexes.{flagged, list_at, missing_at, times}
+use Rattle.sched_core.specs.Indexes.{flagged, list_at}
 use Rattle.sched_core.specs.States.{is_waiting}
 use Rattle.sched_core.specs.Table.{CoreState, next_state, allows, state_after_event, state_at}
 use Rattle.sched_core.specs.declared.state.PipState.TheVariants as state

@@ -1,5 +1,5 @@
 -- The flags are those of the pips that may start.
-use Rattle.std.proofs.Common.{ℕ, ap, ◌∙◌}
+use Rattle.std.proofs.Common.{ap, ◌∙◌}
 use Rattle.sched_core.proofs.CoreSteps.{none_least, some_least, starts_are}
 use Rattle.sched_core.specs.Sets.{flag_at}
 use Rattle.sched_core.specs.Table.{CoreState, may_start}
