@@ -9,7 +9,7 @@ use Rattle.sched_core.specs.Indexes.{AreCounted, AreDependents, AreFlagged, HasS
 use Rattle.sched_core.specs.Legal.{all_waiting, initial_state}
 use Rattle.sched_core.specs.Sets.{flag_at}
 use Rattle.sched_core.specs.Sound.{IsSound}
-use Rattle.sched_core.specs.States.{holds, is_bad, is_begun, is_success, is_skipped}
+use Rattle.sched_core.specs.States.{holds, is_bad, is_begun, is_done_well, is_skipped}
 use Rattle.sched_core.specs.Table.{AreOrdered, node_inputs, no_node, some_bad, state_at}
 use Rattle.sched_core.specs.declared.graph.Node.{Node}
 use Rattle.sched_core.specs.declared.state.PipState.{PipState}
@@ -35,7 +35,7 @@ any_none f (x ∷ xs) h = ap (λ b. b || list_any f xs) (h 0 (omega arith)) ∙ 
 
 count_not_good : (n : ℕ) (inputs : List ℕ) → missing_of (all_waiting n) inputs ≡ length inputs
 count_not_good n inputs =
-    count_all (λ y. not (is_success (state_at (all_waiting n) y))) inputs (λ y. ap not (fails_of_all is_success n y refl refl))
+    count_all (λ y. not (is_done_well (state_at (all_waiting n) y))) inputs (λ y. ap not (fails_of_all is_done_well n y refl refl))
 
 -- the number of inputs of each pip
 abbrev pub input_counts : List Node → List ℕ

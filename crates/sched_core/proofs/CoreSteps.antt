@@ -10,7 +10,7 @@ use Rattle.sched_core.proofs.SoundSteps.{Steps, sound_step, steps_of, stepped}
 use Rattle.sched_core.specs.Indexes.{AreCounted, AreDependents, AreFlagged, AreSeats, HasSize, KeepsCore, Readiness, Settles, flagged, list_at, missing_at, missing_of, seat_at, times, seat_of}
 use Rattle.sched_core.specs.Sets.{flag_at, IsLeast, IsNever}
 use Rattle.sched_core.specs.Sound.{IsSound}
-use Rattle.sched_core.specs.States.{holder, holds, is_bad, is_success, is_waiting}
+use Rattle.sched_core.specs.States.{holder, holds, is_bad, is_done_well, is_waiting}
 use Rattle.sched_core.specs.Table.{CoreState, next_state, allows, node_inputs, left_after, may_skip, may_start, pip_of, some_bad, state_at, worker_of}
 use Rattle.sched_core.specs.declared.event.Event.{Event}
 use Rattle.sched_core.specs.declared.event.Event.TheVariants as event
@@ -95,7 +95,7 @@ seats_step s e seats sound h size before u =
     ]
 
 counted_step : (s : CoreState) (q : ℕ) (x : PipState) (dependents : List (List ℕ)) (old new : Readiness) → q < length s.states
-    → is_success (state_at s.states q) ≡ false → is_bad (state_at s.states q) ≡ false
+    → is_done_well (state_at s.states q) ≡ false → is_bad (state_at s.states q) ≡ false
     → AreDependents s.nodes dependents → AreCounted s.nodes s.states old
     → Settles (list_at dependents q) x old new → AreCounted s.nodes (set s.states q x) new
 counted_step s q x dependents old new there not_good not_bad lists before h = record {
@@ -104,7 +104,7 @@ counted_step s q x dependents old new there not_good not_bad lists before h = re
     h.missing p,
     before.missing p,
     missing-set s.states q x (node_inputs s.nodes p) there not_good,
-    ap (λ n. if is_success x then n else 0) (lists q p),
+    ap (λ n. if is_done_well x then n else 0) (lists q p),
   );
   failed = λ p.
       h.failed p ∙ ap (λ b. b || (is_bad x && not (times p (list_at dependents q) == 0))) (before.failed p)
@@ -160,7 +160,7 @@ keeps_step s e q w x left h dependents ready new seats k allowed size flags sett
 -- ## Before the dependents are gone through
 
 -- a pip that is not good is missing wherever it is an input
-times_missing : (states : List PipState) (q : ℕ) (inputs : List ℕ) → q < length states → is_success (state_at states q) ≡ false
+times_missing : (states : List PipState) (q : ℕ) (inputs : List ℕ) → q < length states → is_done_well (state_at states q) ≡ false
     → times q inputs ≤ missing_of states inputs
 times_missing states q inputs there not_good = omega (arith, missing-good states q (state.Done true) inputs there not_good refl)
 
@@ -184,7 +184,7 @@ pub can_settle : (s : CoreState) (e : Event) (q : ℕ) (x : PipState) (dependent
 can_settle s e q x dependents ready seats k allowed pip =
     let h = steps_of s e k.sound allowed in
     let there : q < length s.states = rw pip h.there in
-    let not_good : is_success (state_at s.states q) ≡ false = ap (λ i. is_success (state_at s.states i)) pip ∙ h.still_open.not_good in
+    let not_good : is_done_well (state_at s.states q) ≡ false = ap (λ i. is_done_well (state_at s.states i)) pip ∙ h.still_open.not_good in
     let n : length (set s.states q x) ≡ length s.nodes = length-set s.states q x ∙ k.sound.same_size in record {
       size = rw n (flagged_size ready (length s.nodes) q (is_waiting x) k.size);
       flags = flagged_all (set s.states q x) ready (length s.nodes) q (is_waiting x) k.size (omega (arith, there, k.sound.same_size))

@@ -5,7 +5,7 @@ use Rattle.std.proofs.lemmas.Bool.{cases_Bool, cases_eq, eq-eqb, ne_eqb}
 use Rattle.std.proofs.lemmas.List.Sums.{sum_by-cons}
 use Rattle.sched_core.proofs.Places.{state_at-same, state_at-other}
 use Rattle.sched_core.specs.Indexes.{missing_of, times}
-use Rattle.sched_core.specs.States.{is_bad, is_success}
+use Rattle.sched_core.specs.States.{is_bad, is_done_well}
 use Rattle.sched_core.specs.Table.{all_good, some_bad, state_at}
 use Rattle.sched_core.specs.declared.state.PipState.{PipState}
 
@@ -78,16 +78,16 @@ all_is_count h (x ∷ xs) =
 
 -- all inputs are good where none is missing
 pub all_good-is : (states : List PipState) (inputs : List ℕ) → all_good states inputs ≡ (missing_of states inputs == 0)
-all_good-is states inputs = all_is_count (λ input. is_success (state_at states input)) inputs
+all_good-is states inputs = all_is_count (λ input. is_done_well (state_at states input)) inputs
 
-good_now : (states : List PipState) (q y : ℕ) (x : PipState) → q < length states → is_success (state_at states q) ≡ false
-    → is_success x ≡ true
-    → cond (not (is_success (state_at (set states q x) y))) 1 0 + cond (y == q) 1 0 ≡ cond (not (is_success (state_at states y))) 1 0
+good_now : (states : List PipState) (q y : ℕ) (x : PipState) → q < length states → is_done_well (state_at states q) ≡ false
+    → is_done_well x ≡ true
+    → cond (not (is_done_well (state_at (set states q x) y))) 1 0 + cond (y == q) 1 0 ≡ cond (not (is_done_well (state_at states y))) 1 0
 good_now states q y x there before now = elim (cases_eq y q) [
   | inl e ↦
-      let new : is_success (state_at (set states q x) y) ≡ true =
-      ap (λ k. is_success (state_at (set states q x) k)) e ∙ ap is_success (state_at-same states q x there) ∙ now in
-      let old : is_success (state_at states y) ≡ false = ap (λ k. is_success (state_at states k)) e ∙ before in
+      let new : is_done_well (state_at (set states q x) y) ≡ true =
+      ap (λ k. is_done_well (state_at (set states q x) k)) e ∙ ap is_done_well (state_at-same states q x there) ∙ now in
+      let old : is_done_well (state_at states y) ≡ false = ap (λ k. is_done_well (state_at states k)) e ∙ before in
       let hit : (y == q) ≡ true = eq-eqb y q e in
       rw (new, old, hit)
   | inr n ↦
@@ -98,32 +98,32 @@ good_now states q y x there before now = elim (cases_eq y q) [
 
 -- a pip that completes with success is missing no longer
 pub missing-good : (states : List PipState) (q : ℕ) (x : PipState) (inputs : List ℕ) → q < length states
-    → is_success (state_at states q) ≡ false → is_success x ≡ true
+    → is_done_well (state_at states q) ≡ false → is_done_well x ≡ true
     → missing_of (set states q x) inputs + times q inputs ≡ missing_of states inputs
 missing-good states q x inputs there before now =
-    count_split (λ y. not (is_success (state_at (set states q x) y))) (λ y. not (is_success (state_at states y))) (λ y. y == q)
+    count_split (λ y. not (is_done_well (state_at (set states q x) y))) (λ y. not (is_done_well (state_at states y))) (λ y. y == q)
     (λ y. good_now states q y x there before now) inputs
 
-same_good : (states : List PipState) (q y : ℕ) (x : PipState) → q < length states → is_success x ≡ is_success (state_at states q)
-    → is_success (state_at (set states q x) y) ≡ is_success (state_at states y)
+same_good : (states : List PipState) (q y : ℕ) (x : PipState) → q < length states → is_done_well x ≡ is_done_well (state_at states q)
+    → is_done_well (state_at (set states q x) y) ≡ is_done_well (state_at states y)
 same_good states q y x there same = elim (cases_eq y q) [
   | inl e ↦
-      ap (λ k. is_success (state_at (set states q x) k)) e ∙ ap is_success (state_at-same states q x there) ∙ same
-      ∙ sym (ap (λ k. is_success (state_at states k)) e)
-  | inr n ↦ ap is_success (state_at-other states q y x n)
+      ap (λ k. is_done_well (state_at (set states q x) k)) e ∙ ap is_done_well (state_at-same states q x there) ∙ same
+      ∙ sym (ap (λ k. is_done_well (state_at states k)) e)
+  | inr n ↦ ap is_done_well (state_at-other states q y x n)
 ]
 
 pub missing-same : (states : List PipState) (q : ℕ) (x : PipState) (inputs : List ℕ) → q < length states
-    → is_success x ≡ is_success (state_at states q) → missing_of (set states q x) inputs ≡ missing_of states inputs
+    → is_done_well x ≡ is_done_well (state_at states q) → missing_of (set states q x) inputs ≡ missing_of states inputs
 missing-same states q x inputs there same =
-    count_same (λ y. not (is_success (state_at (set states q x) y))) (λ y. not (is_success (state_at states y)))
+    count_same (λ y. not (is_done_well (state_at (set states q x) y))) (λ y. not (is_done_well (state_at states y)))
     (λ y. ap not (same_good states q y x there same)) inputs
 
 -- how many inputs are missing, as a pip that was not good comes to a state
 pub missing-set : (states : List PipState) (q : ℕ) (x : PipState) (inputs : List ℕ) → q < length states
-    → is_success (state_at states q) ≡ false
-    → missing_of (set states q x) inputs + (if is_success x then times q inputs else 0) ≡ missing_of states inputs
-missing-set states q x inputs there before = elim (cases_Bool (is_success x)) [
+    → is_done_well (state_at states q) ≡ false
+    → missing_of (set states q x) inputs + (if is_done_well x then times q inputs else 0) ≡ missing_of states inputs
+missing-set states q x inputs there before = elim (cases_Bool (is_done_well x)) [
   | inl now ↦ rw now (missing-good states q x inputs there before now)
   | inr not_now ↦ rw not_now (omega (arith, missing-same states q x inputs there (not_now ∙ sym before)))
 ]

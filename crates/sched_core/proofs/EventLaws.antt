@@ -12,7 +12,7 @@ use Rattle.sched_core.proofs.SoundSteps.{one_holder, sound_step, steps_of, stepp
 use Rattle.sched_core.specs.Laws.{NothingAfterRelease, OneHolder, OnePip, PublishedOnce, ReachesSound, ReleasedBetween, StartsAfterInputs, reached}
 use Rattle.sched_core.specs.Legal.{initial_state, is_legal, state_after}
 use Rattle.sched_core.specs.Sound.{IsSound}
-use Rattle.sched_core.specs.States.{completed, is_claimed_by, is_success, is_waiting, may_complete, may_publish, may_release}
+use Rattle.sched_core.specs.States.{completed, is_claimed_by, is_done_well, is_waiting, may_complete, may_publish, may_release}
 use Rattle.sched_core.specs.Table.{CoreState, next_state, all_good, allows, may_skip, some_bad, fits_table, has_left, holds_none, node_inputs, may_start, node_at, pip_of, state_at, worker_of}
 use Rattle.sched_core.specs.declared.event.Event.{Event}
 use Rattle.sched_core.specs.declared.event.Event.TheVariants as event
@@ -158,7 +158,7 @@ published_once nodes workers xs between rest p v w a b h =
 
 -- ## Starts after inputs
 
-good_is_done : (s : PipState) → is_success s ≡ true → s ≡ state.Done true
+good_is_done : (s : PipState) → is_done_well s ≡ true → s ≡ state.Done true
 good_is_done state.Waiting h = cc
 good_is_done (state.Held v) h = cc
 good_is_done (state.Looked v hit) h = cc
@@ -182,28 +182,28 @@ at_event : (P : PipState → Bool) (s : CoreState) (e : Event) (d : ℕ) → pip
 at_event P s e d there same now =
     sym (ap (λ k. P (state_at (next_state s e).states k)) same ∙ ap P (state_at-same s.states (pip_of e) (stepped s e) there)) ∙ now
 
-good_by : (s : CoreState) (e : Event) (d : ℕ) → pip_of e < length s.states → d ≡ pip_of e → is_success (state_at (next_state s e).states d) ≡ true
+good_by : (s : CoreState) (e : Event) (d : ℕ) → pip_of e < length s.states → d ≡ pip_of e → is_done_well (state_at (next_state s e).states d) ≡ true
     → (w : ℕ) × GoodBy s e d w
-good_by s (event.Start p w) d there same now = absurd (both_ways false refl (at_event is_success s (event.Start p w) d there same now))
-good_by s (event.Looked p w hit) d there same now = absurd (both_ways false refl (at_event is_success s (event.Looked p w hit) d there same now))
-good_by s (event.Publish p w good) d there same now = absurd (both_ways false refl (at_event is_success s (event.Publish p w good) d there same now))
+good_by s (event.Start p w) d there same now = absurd (both_ways false refl (at_event is_done_well s (event.Start p w) d there same now))
+good_by s (event.Looked p w hit) d there same now = absurd (both_ways false refl (at_event is_done_well s (event.Looked p w hit) d there same now))
+good_by s (event.Publish p w good) d there same now = absurd (both_ways false refl (at_event is_done_well s (event.Publish p w good) d there same now))
 good_by s (event.Complete p w) d there same now =
     (w, record { completes = ap (λ k. event.Complete k w) (sym same); done = good_is_done (state_at (next_state s (event.Complete p w)).states d) now })
-good_by s (event.Skip p w) d there same now = absurd (both_ways false refl (at_event is_success s (event.Skip p w) d there same now))
-good_by s (event.Release p w) d there same now = absurd (both_ways false refl (at_event is_success s (event.Release p w) d there same now))
+good_by s (event.Skip p w) d there same now = absurd (both_ways false refl (at_event is_done_well s (event.Skip p w) d there same now))
+good_by s (event.Release p w) d there same now = absurd (both_ways false refl (at_event is_done_well s (event.Release p w) d there same now))
 
-good_turn : (s : CoreState) (e : Event) (d : ℕ) → IsSound s → allows s e ≡ true → is_success (state_at s.states d) ≡ false
-    → is_success (state_at (next_state s e).states d) ≡ true → (w : ℕ) × GoodBy s e d w
+good_turn : (s : CoreState) (e : Event) (d : ℕ) → IsSound s → allows s e ≡ true → is_done_well (state_at s.states d) ≡ false
+    → is_done_well (state_at (next_state s e).states d) ≡ true → (w : ℕ) × GoodBy s e d w
 good_turn s e d sound h before now = elim (cases_eq d (pip_of e)) [
   | inl same ↦ good_by s e d (steps_of s e sound h).there same now
-  | inr other ↦ absurd (untouched is_success s e d other before now)
+  | inr other ↦ absurd (untouched is_done_well s e d other before now)
 ]
 
 all_good_at : (states : List PipState) (inputs : List ℕ) (d : ℕ) → all_good states inputs ≡ true → Contains inputs d
-    → is_success (state_at states d) ≡ true
-all_good_at states inputs d h (k, l, is) = elim (cases_Bool (is_success (state_at states (get_or inputs k d)))) [
-  | inl good ↦ ap (λ i. is_success (state_at states i)) (sym is) ∙ good
-  | inr bad ↦ absurd (both_ways (all_good states inputs) (list_all_at (λ i. is_success (state_at states i)) inputs k d l bad) h)
+    → is_done_well (state_at states d) ≡ true
+all_good_at states inputs d h (k, l, is) = elim (cases_Bool (is_done_well (state_at states (get_or inputs k d)))) [
+  | inl good ↦ ap (λ i. is_done_well (state_at states i)) (sym is) ∙ good
+  | inr bad ↦ absurd (both_ways (all_good states inputs) (list_all_at (λ i. is_done_well (state_at states i)) inputs k d l bad) h)
 ]
 
 pub starts_after_inputs : (nodes : List Node) (workers : ℕ) → StartsAfterInputs nodes workers
@@ -214,8 +214,8 @@ starts_after_inputs nodes workers xs rest p w d h has =
     let may = (waits_to_start end p w (fits end (event.Start p w) (next_allowed s xs (event.Start p w) rest h))).1 in
     let has_now : Contains (node_inputs end.nodes p) d = rw (nodes_after s xs) has in
     let good = all_good_at end.states (node_inputs end.nodes p) d may has_now in
-    let turn = turns (λ t. is_success (state_at t.states d)) s xs (sound_at_first nodes workers) parts.0
-    (fails_of_all is_success (length nodes) d refl refl) good in
+    let turn = turns (λ t. is_done_well (state_at t.states d)) s xs (sound_at_first nodes workers) parts.0
+    (fails_of_all is_done_well (length nodes) d refl refl) good in
     let at = turn.3 in
     let by = good_turn (state_after s turn.0) turn.1 d at.sound at.allowed at.before at.now in
     let is : turn.1 ≡ event.Complete d by.0 = by.1.completes in (

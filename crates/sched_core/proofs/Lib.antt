@@ -11,3 +11,4 @@ pub mod Histories
 pub mod EventLaws
 pub mod Weights
 pub mod Settled
+pub mod Examples

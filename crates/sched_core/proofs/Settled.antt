@@ -4,12 +4,12 @@ use Rattle.std.proofs.lemmas.Bool.{and_from, both_ways, cases_Bool, cases_lt, or
 use Rattle.std.proofs.lemmas.List.{get_or_past}
 use Rattle.std.proofs.lemmas.List.Folds.{list_all_at}
 use Rattle.sched_core.specs.Laws.{EndsSettled}
-use Rattle.sched_core.specs.States.{holder, is_bad, is_success, is_settled, is_waiting}
+use Rattle.sched_core.specs.States.{holder, is_bad, is_done_well, is_settled, is_waiting}
 use Rattle.sched_core.specs.Table.{AreOrdered, CoreState, all_good, are_settled, node_inputs, is_idle, may_skip, may_start, some_bad, state_at}
 use Rattle.sched_core.specs.declared.state.PipState.{PipState}
 use Rattle.sched_core.specs.declared.state.PipState.TheVariants as state
 
-good_if_settled : (s : PipState) → is_settled s ≡ true → is_bad s ≡ false → is_success s ≡ true
+good_if_settled : (s : PipState) → is_settled s ≡ true → is_bad s ≡ false → is_done_well s ≡ true
 good_if_settled state.Waiting h n = cc
 good_if_settled (state.Held w) h n = cc
 good_if_settled (state.Looked w hit) h n = cc
@@ -23,7 +23,7 @@ all_good_if_settled : (states : List PipState) (inputs : List ℕ) → ((k : ℕ
 all_good_if_settled states [] h n = refl
 all_good_if_settled states (x ∷ xs) h n =
     let parts = or_parts (is_bad (state_at states x)) (some_bad states xs) n in
-    and_from (is_success (state_at states x)) (all_good states xs)
+    and_from (is_done_well (state_at states x)) (all_good states xs)
     (good_if_settled (state_at states x) (h 0 (omega arith)) parts.0)
     (all_good_if_settled states xs (λ k l. h (suc k) (omega (arith, l))) parts.1)
 

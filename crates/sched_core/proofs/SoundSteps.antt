@@ -8,7 +8,7 @@ use Rattle.sched_core.proofs.Seats.{none_holds}
 use Rattle.sched_core.proofs.StateTests.{IsHeldBy, IsOpen, completable_is_held, completed_holder, completed_skipped, lookable_is_held, publishable_is_held, releasable_is_held, waiting_is_free, waiting_is_open}
 use Rattle.sched_core.specs.Indexes.{missing_of, times}
 use Rattle.sched_core.specs.Sound.{IsSound}
-use Rattle.sched_core.specs.States.{completed, holds, is_bad, is_begun, is_success, is_skipped, is_waiting, is_worker, may_complete}
+use Rattle.sched_core.specs.States.{completed, holds, is_bad, is_begun, is_done_well, is_skipped, is_waiting, is_worker, may_complete}
 use Rattle.sched_core.specs.Table.{CoreState, next_state, all_good, allows, fits_table, has_left, holds_none, node_inputs, left_after, may_skip, may_start, node_at, pip_of, some_bad, state_after_event, state_at, worker_of}
 use Rattle.sched_core.specs.declared.event.Event.{Event}
 use Rattle.sched_core.specs.declared.event.Event.TheVariants as event
@@ -21,7 +21,7 @@ eqb_zero : (n : ℕ) → (n == 0) ≡ true → n ≡ 0
 eqb_zero n h = eqb-true n 0 h
 
 pub good_stays : (states : List PipState) (q : ℕ) (x : PipState) (inputs : List ℕ) → q < length states
-    → is_success (state_at states q) ≡ false → all_good states inputs ≡ true → all_good (set states q x) inputs ≡ true
+    → is_done_well (state_at states q) ≡ false → all_good states inputs ≡ true → all_good (set states q x) inputs ≡ true
 good_stays states q x inputs there before h =
     let none : missing_of states inputs ≡ 0 = eqb_zero (missing_of states inputs) (sym (all_good-is states inputs) ∙ h) in
     all_good-is (set states q x) inputs

@@ -1,13 +1,13 @@
 -- What follows of a state from a test that it passes.
 use Rattle.std.proofs.Common.{◌≡◌, ℕ, ◌==◌, Bool, true, false, not, ◌&&◌, ◌||◌, None, refl}
-use Rattle.sched_core.specs.States.{completed, holder, holds, is_bad, is_begun, is_claimed_by, is_success, may_publish_looked, is_skipped, is_waiting}
+use Rattle.sched_core.specs.States.{completed, holder, holds, is_bad, is_begun, is_claimed_by, is_done_well, may_publish_looked, is_skipped, is_waiting}
 use Rattle.sched_core.specs.States.{may_complete, may_look, may_publish, may_release}
 use Rattle.sched_core.specs.declared.state.PipState.{PipState}
 use Rattle.sched_core.specs.declared.state.PipState.TheVariants as state
 
 -- a state in which something can still happen to its pip
 pub record IsOpen (s : PipState) : Type 0 where
-  pub not_good : is_success s ≡ false
+  pub not_good : is_done_well s ≡ false
   pub not_bad : is_bad s ≡ false
   pub not_skipped : is_skipped s ≡ false
 

@@ -3,7 +3,7 @@ use Rattle.std.specs.Prelude.{◌≡◌, ℕ, ◌==◌, ◌<◌, ◌+◌, ◌^�
 use Rattle.std.specs.List.{slice_index_or}
 use Rattle.sched_core.specs.declared.graph.Node.{Node}
 use Rattle.sched_core.specs.declared.state.PipState.{PipState}
-use Rattle.sched_core.specs.States.{holder, is_bad, is_success, is_waiting}
+use Rattle.sched_core.specs.States.{holder, is_bad, is_done_well, is_waiting}
 use Rattle.sched_core.specs.Sets.{flag_at}
 use Rattle.sched_core.specs.Sound.{IsSound}
 use Rattle.sched_core.specs.Table.{AreOrdered, CoreState, busy_of, node_inputs, some_bad, state_at}
@@ -14,7 +14,7 @@ times x xs = count_by (λ y. y == x) xs
 
 -- how many of these inputs did not complete with success
 abbrev pub missing_of : List PipState → List ℕ → ℕ
-missing_of states inputs = count_by (λ input. not (is_success (state_at states input))) inputs
+missing_of states inputs = count_by (λ input. not (is_done_well (state_at states input))) inputs
 
 -- for each pip how many of its inputs are missing, whether one is bad, and whether it may start or be skipped
 pub record Readiness : Type 0 where
@@ -63,7 +63,7 @@ pub record AreFlagged (states : List PipState) (r : Readiness) : Type 0 where
 -- A pip came to this state, and these pips have it among their inputs: what was counted for them before is
 -- brought up to now.
 pub record Settles (dependents : List ℕ) (next : PipState) (old new : Readiness) : Type 0 where
-  pub missing : (p : ℕ) → missing_at new p + (if is_success next then times p dependents else 0) ≡ missing_at old p
+  pub missing : (p : ℕ) → missing_at new p + (if is_done_well next then times p dependents else 0) ≡ missing_at old p
   pub failed : (p : ℕ) → flag_at new.failed p
       ≡ (flag_at old.failed p || (is_bad next && not (times p dependents == 0)))
 

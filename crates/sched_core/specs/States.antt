@@ -12,13 +12,13 @@ is_waiting (state.Done good) = false
 is_waiting state.Skipped = false
 
 -- the pip completed with success
-abbrev pub is_success : PipState → Bool
-is_success state.Waiting = false
-is_success (state.Held w) = false
-is_success (state.Looked w hit) = false
-is_success (state.Published w good) = false
-is_success (state.Done good) = good
-is_success state.Skipped = false
+abbrev pub is_done_well : PipState → Bool
+is_done_well state.Waiting = false
+is_done_well (state.Held w) = false
+is_done_well (state.Looked w hit) = false
+is_done_well (state.Published w good) = false
+is_done_well (state.Done good) = good
+is_done_well state.Skipped = false
 
 -- the pip completed without success, or was skipped
 abbrev pub is_bad : PipState → Bool

@@ -6,7 +6,7 @@ use Rattle.sched_core.specs.declared.event.Event.TheVariants as event
 use Rattle.sched_core.specs.declared.graph.Node.{Node}
 use Rattle.sched_core.specs.declared.state.PipState.{PipState}
 use Rattle.sched_core.specs.declared.state.PipState.TheVariants as state
-use Rattle.sched_core.specs.States.{completed, holder, holds, is_bad, is_success, is_settled, is_waiting, may_complete, may_look, may_publish, may_release}
+use Rattle.sched_core.specs.States.{completed, holder, holds, is_bad, is_done_well, is_settled, is_waiting, may_complete, may_look, may_publish, may_release}
 
 -- ## What is scheduled
 
@@ -59,7 +59,7 @@ worker_of (event.Release p w) = w
 -- ## Where an event is allowed
 
 abbrev pub all_good : List PipState → List ℕ → Bool
-all_good states inputs = list_all (λ input. is_success (state_at states input)) inputs
+all_good states inputs = list_all (λ input. is_done_well (state_at states input)) inputs
 
 abbrev pub some_bad : List PipState → List ℕ → Bool
 some_bad states inputs = list_any (λ input. is_bad (state_at states input)) inputs

@@ -130,7 +130,7 @@ pub(crate) fn settle(dependents: &[u32], states: &[PipState], ready: &mut Readin
     ensures flagged { AreFlagged states.now ready.new }
     ensures settles { Settles dependents.now next ready.old ready.new }
 {
-    if next.is_success() {
+    if next.is_done_well() {
         count_all_good(dependents, states, ready);
     } else if next.is_bad() {
         count_all_bad(dependents, states, ready);

@@ -3,7 +3,7 @@ ghost use Rattle.std.specs.Prelude.{◌≡◌, ◌≢◌, ◌&&◌, ◌||◌, �
 ghost use Rattle.sched_core.specs.Indexes.{AreFlagged, HasSize, flagged, missing_at, times};
 ghost use Rattle.sched_core.specs.Indexes.{Settles, with_failed, with_missing};
 ghost use Rattle.sched_core.specs.Sets.{IsLeast, IsNever, flag_at};
-ghost use Rattle.sched_core.specs.States.{is_bad, is_success};
+ghost use Rattle.sched_core.specs.States.{is_bad, is_done_well};
 
 use crate::ready_set::ReadySet;
 use crate::state::PipState;

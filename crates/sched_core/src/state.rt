@@ -35,8 +35,8 @@ impl PipState {
     }
 
     /// Whether it completed with success.
-    pub fn is_success(self) -> bool
-        ensures { result ≡ states.is_success self }
+    pub fn is_done_well(self) -> bool
+        ensures { result ≡ states.is_done_well self }
     {
         match self {
             PipState::Done(good) => good,
