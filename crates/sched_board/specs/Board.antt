@@ -36,6 +36,11 @@ pub record JobData : Type 0 where
   pub is_process : Bool
   pub looked : Option Bool
 
+-- why a share or a job does not fit: the state of the job's pip, and the pip that the worker holds
+pub record UnfitData : Type 0 where
+  pub state : Option PipState
+  pub busy : Option ℕ
+
 abbrev pub one_more : ShareData → ShareData
 one_more share = record share { events = share.events + 1 }
 
@@ -59,13 +64,19 @@ pub record IsGraphOf (plan : PlanData) (nodes : List Node) : Type 0 where
 
 -- ## What a board keeps
 
--- `events` and `marks` are the totals of the two ledgers, `room` is what is reserved for the history.
-pub record KeepsBoard (b : BoardData) (events marks room : ℕ) : Type 0 where
+-- A board of its plan and its sources: the core has the plan's pips, the history is legal and led to the core's state, and
+-- each pip of the plan has a slot, which fits the pip's state. This holds at each moment at which the lock is free, and of what
+-- is finished. It speaks of nothing but plan, sources, core, history and slots.
+pub record IsBoard (b : BoardData) : Type 0 where
   pub graph : IsGraphOf b.plan b.core.nodes
   pub legal : Legal b.core.nodes (length b.core.left) b.history
-  pub reached : b.core ≡ reached b.core.nodes (length b.core.left) b.history
-  pub fit : AllFit b.plan b.sources b.core.states b.slots
+  pub core_is : b.core ≡ reached b.core.nodes (length b.core.left) b.history
   pub slots_size : length b.slots ≡ length b.plan.pips
+  pub fit : AllFit b.plan b.sources b.core.states b.slots
+
+-- and the ledgers agree with it: `events` and `marks` are their totals, `room` is what is reserved for the history
+pub record KeepsBoard (b : BoardData) (events marks room : ℕ) : Type 0 where
+  pub board : IsBoard b
   pub counted : length b.history ≡ events
   pub marked : 0 < marks → are_settled b.core.states ≡ true
   pub room_left : 4 * length b.core.nodes + 3 * length b.core.left ≤ room
@@ -99,7 +110,7 @@ pub record IsBusy (b : BoardData) (share : ShareData) (job : JobData) : Type 0 w
   pub state_is : tells share.worker job.looked (state_at b.core.states job.pip)
   pub kind : job.is_process ≡ (node_at b.core.nodes job.pip).is_process
 
--- what a share without events can be told: its worker is one of this board, and published the pip
+-- The share is of a worker of this board, who published the pip.
 pub record CanComplete (b : BoardData) (share : ShareData) (pip : ℕ) : Type 0 where
   pub worker : share.worker < length b.core.left
   pub published : (good : Bool) × (state_at b.core.states pip ≡ state.Published share.worker good)

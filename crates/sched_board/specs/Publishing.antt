@@ -12,7 +12,7 @@ use Rattle.sha2.specs.Sha256.{sha256}
 use Rattle.memo_format.specs.Found.{output_lines}
 use Rattle.sched_core.specs.declared.event.Event.TheVariants as event
 use Rattle.sched_board.specs.Board.{BoardData, CanComplete, ShareData, JobData, filled, one_more}
-use Rattle.sched_board.specs.Slots.{HoldsOwn, own_desc, own_plain, own_view, is_good_slot}
+use Rattle.sched_board.specs.Slots.{HoldsOwn, own_desc, own_plain, own_view, is_good_held}
 use Rattle.sched_board.specs.Texts.{outputs_text}
 use Rattle.sched_board.specs.declared.held.Held.{Held}
 use Rattle.sched_board.specs.declared.held.Held.TheVariants as held
@@ -41,14 +41,14 @@ fits_told process looked s = false
 pub record Difference : Type 0 where
   pub index : ℕ
   pub held : List ℕ
-  pub now : List ℕ
+  pub own : List ℕ
 
 -- What is shown first differs from the board's own here: in the digest of the description; else at the first ask whose
 -- answer has a line of another digest.
 abbrev pub DiffersAt : List ℕ → List ℕ → List (List ℕ) → List (List ℕ) → Difference → Type 0
 DiffersAt weak weak' lines lines' d =
-    ((weak ≢ weak') × (d ≡ record { index = 0; held = weak; now = weak' }))
-    ⊎ ((weak ≡ weak') × (k : ℕ) × (d.index ≡ k + 1) × FirstDiffer lines lines' k d.held d.now)
+    ((weak ≢ weak') × (d ≡ record { index = 0; held = weak; own = weak' }))
+    ⊎ ((weak ≡ weak') × (k : ℕ) × (d.index ≡ k + 1) × FirstDiffer lines lines' k d.held d.own)
 
 abbrev pub ShownDiffers : BoardData → ℕ → Shown → Difference → Option ProcessDesc → Type 0
 ShownDiffers b pip (shown.Ran record) d (Some process) =
@@ -62,7 +62,7 @@ ShownDiffers b pip (shown.Plain made) d None =
     × (d ≡ record {
       index = 0;
       held = sha256 (outputs_text (output_lines made));
-      now = sha256 (outputs_text (output_lines (own_plain b.plan b.sources b.slots pip)));
+      own = sha256 (outputs_text (output_lines (own_plain b.plan b.sources b.slots pip)));
     })
 ShownDiffers b pip s d process = ⊥
 
@@ -70,8 +70,8 @@ ShownDiffers b pip s d process = ⊥
 -- both digests, and nothing changes; or there was no memory, and nothing changes. A refusal hands the job back.
 abbrev pub Publishes : {L E : Type 0} → BoardData → ShareData → JobData → Shown → Result ℕ (PublishFault L E) → BoardData → ShareData → Type 0
 Publishes b share job s (Ok pip) b' share' =
-    (pip ≡ job.pip) × HoldsOwn b.plan b.sources b.slots job.pip (is_good_slot (slot_of s)) (slot_of s)
-    × (b' ≡ filled b (event.Publish job.pip share.worker (is_good_slot (slot_of s))) (slot_of s))
+    (pip ≡ job.pip) × HoldsOwn b.plan b.sources b.slots job.pip (is_good_held (slot_of s)) (slot_of s)
+    × (b' ≡ filled b (event.Publish job.pip share.worker (is_good_held (slot_of s))) (slot_of s))
     × (share' ≡ one_more share) × CanComplete b' share' pip
 Publishes b share job s (Err (fault.Refused job' unlike)) b' share' =
     (job' ≡ job) × ShownDiffers b job.pip s unlike (process_in (slice_get b.plan.pips job.pip)) × (b' ≡ b) × (share' ≡ share)

@@ -11,7 +11,7 @@ use Rattle.observed.specs.declared.access.Answer.{Answer}
 use Rattle.pip_view_inputs.specs.Plain.{desc_of, plain_at, process_in}
 use Rattle.pip_view_inputs.specs.Results.{ByPip, inputs_at}
 use Rattle.pip_view.specs.Sees.{sees}
-use Rattle.run_record.specs.Digests.{weak_of}
+use Rattle.run_record.specs.Digests.{IsReadBack, weak_of}
 use Rattle.run_record.specs.Facts.{Facts, Sound}
 use Rattle.run_record.specs.Matches.{IsSameDesc, digest_of_line, held_lines, lines_now}
 use Rattle.run_record.specs.declared.outcome.Outcome.{Outcome}
@@ -46,12 +46,12 @@ held_files (held.Plain made) = made
 held_files held.Skipped = []
 
 -- whether the slot is that of a pip that succeeded
-abbrev pub is_good_slot : Held → Bool
-is_good_slot held.Empty = false
-is_good_slot (held.Ran record) = is_good_outcome record.outcome
-is_good_slot (held.Hit found) = true
-is_good_slot (held.Plain made) = true
-is_good_slot held.Skipped = false
+abbrev pub is_good_held : Held → Bool
+is_good_held held.Empty = false
+is_good_held (held.Ran record) = is_good_outcome record.outcome
+is_good_held (held.Hit found) = true
+is_good_held (held.Plain made) = true
+is_good_held held.Skipped = false
 
 -- ## The board's own
 
@@ -88,16 +88,19 @@ FilesAgree files others = output_lines files ≡ output_lines others
 
 -- ## What may stand in a slot
 
--- a sound record of the process of this pip that agrees with the board's own
+-- A sound record of the process of this pip that agrees with the board's own. The weak texts of both descriptions are read
+-- back as they were written, so that descriptions with one weak text are one.
 abbrev pub IsOwnRecord : PlanData → Files → List Held → ℕ → Facts → Option ProcessDesc → Type 0
 IsOwnRecord plan tree slots pip record None = ⊥
 IsOwnRecord plan tree slots pip record (Some process) =
-    Sound record × RecordAgrees (own_desc plan tree slots pip process) (own_view plan tree slots pip) record
+    Sound record × IsReadBack record.desc × IsReadBack (own_desc plan tree slots pip process)
+    × RecordAgrees (own_desc plan tree slots pip process) (own_view plan tree slots pip) record
 
 abbrev pub IsOwnFound : PlanData → Files → List Held → ℕ → FoundParts → Option ProcessDesc → Type 0
 IsOwnFound plan tree slots pip found None = ⊥
 IsOwnFound plan tree slots pip found (Some process) =
-    FoundAgrees (own_desc plan tree slots pip process) (own_view plan tree slots pip) found
+    IsReadBack (own_desc plan tree slots pip process)
+    × FoundAgrees (own_desc plan tree slots pip process) (own_view plan tree slots pip) found
 
 abbrev pub IsOwnPlain : PlanData → Files → List Held → ℕ → Files → Option ProcessDesc → Type 0
 IsOwnPlain plan tree slots pip made (Some process) = ⊥

@@ -58,7 +58,8 @@ impl Unlike {
     /// 0 for the description or the plain result, k + 1 for ask k.
     pub fn index(&self) -> u64      ensures { result ≡ self.now.index } { .. }
     pub fn held(&self) -> Digest    ensures { result ≡ self.now.held } { .. }
-    pub fn now(&self) -> Digest     ensures { result ≡ self.now.now } { .. }    // the private field has another name
+    /// The board's own.
+    pub fn now(&self) -> Digest     ensures { result ≡ self.now.own } { .. }
 }
 
 // ---- graph.rt
@@ -88,22 +89,20 @@ impl<L: Ledger, E: Ledger> Model for Board<L, E> {
 impl<L: Ledger, E: Ledger> Board<L, E> {
     pub fn new(alloc: Global, blank: Blank<L, E>, plan: Arc<Plan>, sources: Arc<Sources>, workers: u32) -> Result<NewBoard<L, E>, Memory>
         requires workers { (0 < workers) × (workers ≤ MAX_WORKERS) }
+        requires whole { (L.parts ≡ workers) × (E.parts ≡ workers) }
         requires parts { (vec_len blank.event_parts ≡ workers) × (vec_len blank.mark_parts ≡ workers) }
         requires fresh { All (λ s. (s.parts ≡ 1) × (s.amount ≡ 0)) blank.event_parts.items × All (λ s. (s.parts ≡ 1) × (s.amount ≡ 0)) blank.mark_parts.items }
         requires totals { (blank.events.total ≡ 0) × (blank.marks.total ≡ 0) }
         ensures plan { IfOk result (λ made. (made.board.plan ≡ arc_value plan) × (made.board.sources ≡ arc_value sources)) }
         ensures core { IfOk result (λ made. made.board.core ≡ initial_state made.board.core.nodes workers) }
-        ensures graph { IfOk result (λ made. IsGraphOf (arc_value plan) made.board.core.nodes) }
+        ensures board { IfOk result (λ made. IsBoard made.board) }
         ensures empty { IfOk result (λ made. (made.board.history ≡ []) × All (λ slot. slot ≡ Held.Empty) made.board.slots) }
         ensures shares { IfOk result (λ made. made.shares.items ≡ map (λ k. record { worker = k; events = 0; marked = false }) (range_with_len 0 workers)) }
     { .. }
 
     /// What every board keeps.
     pub fn keeps(&self)
-        ensures legal { Legal self.now.core.nodes (length self.now.core.left) self.now.history }
-        ensures core { self.now.core ≡ reached self.now.core.nodes (length self.now.core.left) self.now.history }
-        ensures graph { IsGraphOf self.now.plan self.now.core.nodes }
-        ensures slots { AllFit self.now.plan self.now.sources self.now.core.states self.now.slots }
+        ensures board { IsBoard self.now }
         ensures sound { IsSound self.now.core }
     { .. }
 
@@ -116,8 +115,8 @@ impl<L: Ledger, E: Ledger> Board<L, E> {
 
     /// The next thing that a worker does who holds no pip. Takes no memory.
     pub fn claim(&mut self, share: &mut Share<L, E>) -> Claim<L, E>
-        requires { IsFree self.old share.old }
-        ensures { Claims self.old share.old result self.new share.new }
+        requires free { IsFree self.old share.old }
+        ensures claims { Claims self.old share.old result self.new share.new }
     { .. }
 
     /// What the inputs of a job's pip made.
@@ -141,7 +140,7 @@ impl<L: Ledger, E: Ledger> Board<L, E> {
     pub fn publish(&mut self, alloc: Global, job: Job<L, E>, shown: Shown, share: &mut Share<L, E>) -> Result<Shut<L, E>, PublishFault<L, E>>
         requires busy { IsBusy self.old share.old job }
         requires shown { fits_job job shown ≡ true }
-        ensures { Publishes self.old share.old job shown result self.new share.new }
+        ensures publishes { Publishes self.old share.old job shown result self.new share.new }
     { .. }
 
     /// Under the same lock as the `publish` that gave the shut. Takes no memory.
@@ -166,7 +165,7 @@ impl<L: Ledger, E: Ledger> Board<L, E> {
         requires some { 0 < vec_len shares }
         ensures history { result.history.items ≡ self.history }
         ensures slots { result.slots.items ≡ self.slots }
-        ensures legal { Legal self.core.nodes (length self.core.left) self.history }
+        ensures board { IsBoard self }
         ensures counted { length self.history ≡ sum_by (λ (share : ShareData). share.events) shares.items }
         ensures marked { Any (λ (share : ShareData). share.marked ≡ true) shares.items → (are_settled self.core.states ≡ true) × All (λ slot. slot ≢ Held.Empty) self.slots }
         ensures one_holder { OneHolder self.core.nodes (length self.core.left) }
