@@ -1,12 +1,11 @@
 -- What contracts see of a board, a share and a job, and what a board keeps.
 use Rattle.std.specs.Prelude.{◌≡◌, ◌≢◌, ℕ, ◌+◌, ◌*◌, ◌<◌, ◌≤◌, ◌==◌, Bool, true, false, ◌&&◌, List, [], ◌∷◌, ◌++◌, length, map, set, Option, Some, None, slice_get, is_some}
 use Rattle.bx_tree.specs.Trees.{Files}
-use Rattle.pip_model.specs.Edges.{targets}
 use Rattle.pip_model.specs.Plans.{AreInputs, PlanData}
 use Rattle.pip_view_inputs.specs.Plain.{process_in}
 use Rattle.sched_core.specs.Laws.{reached}
-use Rattle.sched_core.specs.Legal.{Legal, initial_state}
-use Rattle.sched_core.specs.Table.{CoreState, next_state, are_settled, busy_of, holds_none, node_inputs, node_at, pip_of, state_at}
+use Rattle.sched_core.specs.Legal.{Legal}
+use Rattle.sched_core.specs.Table.{CoreState, are_settled, next_state, busy_of, node_at, pip_of, state_at}
 use Rattle.sched_core.specs.declared.event.Event.{Event}
 use Rattle.sched_core.specs.declared.event.Event.TheVariants as event
 use Rattle.sched_core.specs.declared.graph.Node.{Node}

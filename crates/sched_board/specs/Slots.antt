@@ -11,9 +11,11 @@ use Rattle.observed.specs.declared.access.Answer.{Answer}
 use Rattle.pip_view_inputs.specs.Plain.{desc_of, plain_at, process_in}
 use Rattle.pip_view_inputs.specs.Results.{ByPip, inputs_at}
 use Rattle.pip_view.specs.Sees.{sees}
-use Rattle.run_record.specs.Digests.{IsReadBack, weak_of}
+use Rattle.run_record.specs.Digests.{IsReadBack, digest_of_line, weak_of}
 use Rattle.run_record.specs.Facts.{Facts, Sound}
-use Rattle.run_record.specs.Matches.{IsSameDesc, digest_of_line, held_lines, lines_now}
+use Rattle.run_record.specs.Matches.{Compares}
+use Rattle.run_record.specs.declared.matching.Match.TheVariants as matching
+use Rattle.two_phase_meaning.specs.Keeping.{outcome_files}
 use Rattle.run_record.specs.declared.outcome.Outcome.{Outcome}
 use Rattle.run_record.specs.declared.outcome.Outcome.TheVariants.{Good, Failed}
 use Rattle.memo_format.specs.Found.{FoundParts, output_lines}
@@ -28,10 +30,6 @@ use Rattle.sched_board.specs.declared.held.Held.TheVariants as held
 -- a slot that is not there reads as skipped
 abbrev pub slot_at : List Held → ℕ → Held
 slot_at slots pip = slice_index_or slots pip held.Skipped
-
-abbrev pub outcome_files : Outcome → Files
-outcome_files (Good files) = files
-outcome_files (Failed cause) = []
 
 abbrev pub is_good_outcome : Outcome → Bool
 is_good_outcome (Good files) = true
@@ -75,7 +73,7 @@ own_plain plan tree slots pip = plain_at plan.pips tree (own_inputs plan slots p
 
 -- A record agrees with a process and what it sees: its weak text and the lines of its answers have the same digests.
 abbrev pub RecordAgrees : Desc → (Ask → Answer) → Facts → Type 0
-RecordAgrees desc see record = IsSameDesc desc record × (held_lines record ≡ lines_now record see)
+RecordAgrees desc see record = Compares desc record see matching.Same
 
 -- What was found agrees: its entry is of the weak text, and the lines of its answers have the same digests.
 abbrev pub FoundAgrees : Desc → (Ask → Answer) → FoundParts → Type 0

@@ -2,9 +2,8 @@
 use Rattle.std.specs.Prelude.{ℕ, List, [], ◌∷◌, ◌++◌, codes}
 use Rattle.std.specs.List.{flat_map}
 use Rattle.memo_format.specs.declared.entry.OutputLine.{OutputLine}
-use Rattle.memo_format.specs.StoredForms.{output_line_text}
+use Rattle.memo_format.specs.Entries.{output_line}
 
--- The lines are those of an entry, each with a newline. (`output_line_text` is memo_format's text of one line; where it has
--- another name there, that one.)
+-- The lines are those of an entry, each with a newline.
 abbrev pub outputs_text : List OutputLine → List ℕ
-outputs_text lines = flat_map output_line_text lines
+outputs_text lines = flat_map output_line lines
