@@ -1,7 +1,7 @@
 -- Worked examples of the table of events and of legal lists.
 use Rattle.std.proofs.Common.{◌≡◌, Bool, true, false, List, [], ◌∷◌, Some, None, refl}
 use Rattle.sched_core.specs.Legal.{initial_state, is_legal, state_after}
-use Rattle.sched_core.specs.Table.{CoreState, allows, are_settled, is_idle, may_skip, may_start, state_at, why_illegal}
+use Rattle.sched_core.specs.Table.{CoreState, allows, are_settled, may_start, state_at, why_illegal}
 use Rattle.sched_core.specs.declared.event.Event.{Event}
 use Rattle.sched_core.specs.declared.event.Event.TheVariants as event
 use Rattle.sched_core.specs.declared.graph.Node.{Node}
