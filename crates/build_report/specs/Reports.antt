@@ -36,10 +36,10 @@ pip_line number kind verdict =
     ++ end_text verdict ++ codes "\n"
 
 -- a line for each pip that has a verdict, numbered from this number on
-abbrev pub tests_with_pips : ℕ → List Pip → List Verdict → List ℕ
-tests_with_pips number [] vs = []
-tests_with_pips number (pip ∷ pips) [] = []
-tests_with_pips number (pip ∷ pips) (v ∷ vs) = pip_line number pip.kind v ++ tests_with_pips (number + 1) pips vs
+abbrev pub pip_lines : ℕ → List Pip → List Verdict → List ℕ
+pip_lines number [] vs = []
+pip_lines number (pip ∷ pips) [] = []
+pip_lines number (pip ∷ pips) (v ∷ vs) = pip_line number pip.kind v ++ pip_lines (number + 1) pips vs
 
 -- the lines that say whether all pips succeeded
 abbrev pub head_text : List Verdict → List ℕ
@@ -49,4 +49,4 @@ head_text vs =
 
 -- the report of a build of these pips, which ended so
 abbrev pub report_text : List Pip → List Verdict → List ℕ
-report_text pips vs = head_text vs ++ tests_with_pips 0 pips vs
+report_text pips vs = head_text vs ++ pip_lines 0 pips vs

@@ -4,8 +4,8 @@ ghost use Rattle.std.specs.List.{list_all};
 ghost use Rattle.build_report.specs.Reports as texts;
 ghost use Rattle.violations.specs.Verdicts as ends;
 
-use crate::Memory;
 use crate::names::{deed_name, end_name, pip_name, violation_name};
+use bx_tree::Memory;
 use pip_model::{Pip, PipKind, Plan};
 use std::alloc::Global;
 use violations::{Verdict, Violation};
@@ -72,7 +72,8 @@ fn add_pip(
     Ok(())
 }
 
-fn all_succeeded(verdicts: &[Verdict]) -> bool
+/// Whether all pips succeeded.
+pub fn all_succeeded(verdicts: &[Verdict]) -> bool
     ensures { result ≡ list_all ends.is_success verdicts.now }
 {
     verdicts.iter().all(|verdict| verdict.is_success())

@@ -2,7 +2,7 @@
 ghost use Rattle.std.specs.Prelude.{◌≡◌, ◌++◌, IfOk, OnOk};
 ghost use Rattle.build_report.specs.Notes.{count_line, notes_text};
 
-use crate::Memory;
+use bx_tree::Memory;
 use std::alloc::Global;
 
 /// What is counted of a build.

@@ -1,7 +1,7 @@
-//! The text of the build report, of a refused build's report, and of the notes.
+//! The text of the build report, of the report of an error, and of the notes.
 //!
-//! This crate depends on `violations` for how pips ended, on `pip_model` for the plan, and on
-//! `dscript_program` for places. It carries the promise that a report is the one text of what it says.
+//! This crate depends on `violations` for verdicts, on `pip_model` for the plan, and on `dscript_program` for
+//! positions. It carries the promise that each text is exactly the one of its definition.
 #![tactic(auto)]
 
 mod built;
@@ -9,9 +9,7 @@ mod counts;
 mod names;
 mod refusal;
 
-pub use built::report;
+pub use built::{all_succeeded, report};
+pub use bx_tree::Memory;
 pub use counts::{Counts, notes};
 pub use refusal::{MAX_SHOWN_BYTES, Refusal, refused_report};
-
-/// Out of memory, the one refusal that no contract ties to a cause.
-pub type Memory = std::alloc::AllocError;

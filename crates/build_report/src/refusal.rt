@@ -3,8 +3,7 @@ ghost use Rattle.std.specs.Prelude.{◌≡◌, ◌++◌, [], IfOk, OnOk};
 ghost use Rattle.std.specs.Option.{option_map_or};
 ghost use Rattle.build_report.specs.Refusals as texts;
 
-use crate::Memory;
-use bx_tree::{Path, Text};
+use bx_tree::{Memory, Path, Text};
 use dscript_program::Place;
 use std::alloc::Global;
 

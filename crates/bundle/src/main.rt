@@ -1,20 +1,21 @@
 //! The program `bundle`: packs a folder as a bundle, unpacks a bundle, and lists its files.
 //!
-//! `bundle pack FOLDER` writes the bundle of the files of a folder, `bundle unpack [--replace] FOLDER` makes
-//! the files of a bundle in a folder, and `bundle list` names the files of a bundle. It depends on
-//! `bundle_system` for its words, its messages and its folder of the system, on `bundle_folder` and on `bx_tree`.
+//! `bundle pack FOLDER` writes the bundle of the files of a folder, `bundle unpack [--replace] FOLDER` makes the
+//! files of a bundle in a folder, and `bundle list` lists the files of a bundle. It depends on `bundle_system` for
+//! its commands, its messages and its folder on disk, on `bundle_folder`, on `bx_tree`, and on `bx_io_system` for
+//! its arguments.
 #![tactic(auto)]
 
 use bundle_folder::{Replace, pack, unpack};
 use bundle_system::{
     Command, SystemFolder, bundle_message, pack_message, read_words, unpack_message,
 };
+use bx_io_system::program_words;
 use bx_tree::{MAX_BUNDLE_BYTES, Tree, read_bundle};
 use std::alloc::{AllocError, Global};
-use std::env;
 use std::io::{ErrorKind, IsTerminal, Read, Write};
 use std::process::ExitCode;
-use std::rt::{Env, Files};
+use std::rt::Files;
 
 // What a build makes at the top of a folder, and what it keeps there. None of it is source.
 const LEFT_OUT: [&str; 3] = ["out", "report.txt", ".bxl-cache"];
@@ -34,15 +35,6 @@ fn refused(message: Result<String, AllocError>) -> Ending {
     match message {
         Ok(message) => Ending::Refused(message),
         Err(_) => Ending::NoMemory,
-    }
-}
-
-// The words after the program's name, if all are text.
-fn arguments<R: Env + AllocGlobal>(rt: &R) -> Result<Vec<String>, AllocError> {
-    match env::args(rt) {
-        Ok(args) => args.skip(1).collect(rt.alloc()),
-        Err(error) if error.kind() == ErrorKind::OutOfMemory => Err(AllocError),
-        Err(_) => Ok(Vec::new(rt.alloc())),
     }
 }
 
@@ -132,7 +124,7 @@ fn run_list(alloc: Global, input: impl Read + Drop, out: &mut impl Write) -> End
 }
 
 fn run(rt: &HostRuntime, alloc: Global) -> Ending {
-    let Ok(words) = arguments(rt) else {
+    let Ok(words) = program_words(rt) else {
         return Ending::NoMemory;
     };
     let stream = rt.stderr();

@@ -3,16 +3,17 @@ use Rattle.std.proofs.Common.{◌==◌, ◌≡◌, ◌≢◌, ℕ, ◌<◌, Bool
 use Rattle.std.specs.Prelude.{Contains, Some, None, Option, map, filter, not}
 use Rattle.std.specs.List.{AllByRecursion}
 use Rattle.std.specs.List.Sorted.{IsStrictlySortedBy}
-use Rattle.std.specs.declared.cmp.Ordering.{Ordering}
 use Rattle.std.specs.declared.cmp.Ordering.TheVariants.{Less, Equal}
 use Rattle.std.proofs.lemmas.Bool.{false≢true, not-true}
 use Rattle.std.proofs.lemmas.Cmp.{tied_itself}
 use Rattle.std.proofs.lemmas.List.{append-nil, get_or-map, length-map, map-append}
 use Rattle.std.proofs.lemmas.List.Elements.{All-contains, All-contains_itself, All-filter, All-from_recursion, All-map, All-weaker, Contains-append_cases, Contains-append_left, Contains-append_right, filter_passes}
+use Rattle.std.proofs.lemmas.Option.{same_Some}
 use Rattle.bx_tree.specs.Orders.{path_cmp_total}
 use Rattle.bx_tree.specs.Paths.{Atoms, IsAtom, IsPath, IsPathText, Names, path_cmp, path_text}
 use Rattle.bx_tree.specs.Trees.{Files, IsTree, paths_of}
 use Rattle.bx_tree.proofs.PathTexts.{below_from_prefix, dot_is_none, same_from_text}
+use Rattle.bx_tree.proofs.OneReading.{prefix_sorted}
 use Rattle.bundle_folder.specs.Folders.{File, IsFree, Known, Node, Nodes, nodes_of, with_files, without}
 use Rattle.bundle_folder.specs.Places.{IsWithin, is_within}
 use Rattle.bundle_folder.specs.Unpacking.{AreFree, AreFreeBut, IsMade, start}
@@ -117,22 +118,19 @@ no_nodes nodes e = cc
 not_made : replaces.Nothing ≡ replaces.Made → ⊥
 not_made e = cc
 
-same_nodes : (a b : Nodes) → Some a ≡ Some b → a ≡ b
-same_nodes a b e = cc
-
 -- what was found free, and what is cleared, is free when the first file is made
 pub free_at_start : (replace : Replace) (holds : Option Nodes) (files : Files) → IsTree files
     → Known holds (λ nodes. AreFreeBut replace nodes files) → Known (start replace holds) (λ nodes. AreFree nodes files)
 free_at_start replaces.Nothing None files t k nodes e path c = absurd (no_nodes nodes e)
 free_at_start replaces.Made None files t k nodes e path c = absurd (no_nodes nodes e)
 free_at_start replaces.Nothing (Some before) files t k nodes e path c =
-    let same = same_nodes before nodes e in
+    let same = same_Some before nodes e in
     elim (k before refl path c) [
       | inl m ↦ absurd (not_made m.0)
       | inr f ↦ subst (λ n. IsFree n (path_text path)) same f
     ]
 free_at_start replaces.Made (Some before) files t k nodes e path c =
-    let same = same_nodes (without (codes "report.txt") (without (codes "out") before)) nodes e in
+    let same = same_Some (without (codes "report.txt") (without (codes "out") before)) nodes e in
     let is = tree_path files path t c in
     subst (λ n. IsFree n (path_text path)) same (elim (k before refl path c) [
       | inl m ↦ cleared_is_free before (path_text path) (no_root_text path is.0 is.1) m.1
@@ -140,16 +138,6 @@ free_at_start replaces.Made (Some before) files t k nodes e path c =
     ])
 
 -- ## After files were made
-
-sorted_before : {K : Type 0} (R : K → K → Ordering) (before : List K) (x : K) (after : List K)
-    → IsStrictlySortedBy R (before ++ x ∷ after) → AllByRecursion (λ y. R y x ≡ Less) before
-unfolding IsStrictlySortedBy
-sorted_before R [] x after h = tt
-sorted_before {K = K} R (b ∷ bs) x after h = (least bs h.0, sorted_before R bs x after h.1)
-  where
-    least : (ys : List K) → AllByRecursion (λ y. R b y ≡ Less) (ys ++ x ∷ after) → R b x ≡ Less
-    least [] k = k.0
-    least (y ∷ ys) k = least ys k.1
 
 -- paths of a tree whose texts lie within one another are one path
 pub within_in_tree : (files : Files) (p q : Atoms) → IsTree files → Contains (paths_of files) p → Contains (paths_of files) q
@@ -171,7 +159,7 @@ differs_from_later : (before : Files) (file g : Atoms × List ℕ) (after : File
 differs_from_later before file g after t c e =
     let split : paths_of (before ++ file ∷ after) ≡ paths_of before ++ file.0 ∷ paths_of after =
     map-append (λ (f : Atoms × List ℕ). f.0) before (file ∷ after) in
-    let below = sorted_before path_cmp (paths_of before) file.0 (paths_of after) (subst (IsStrictlySortedBy path_cmp) split t.rising) in
+    let below = prefix_sorted path_cmp (paths_of before) file.0 (paths_of after) (subst (IsStrictlySortedBy path_cmp) split t.rising) in
     let less = All-contains (λ y. path_cmp y file.0 ≡ Less) (paths_of before) g.0
     (All-from_recursion (λ y. path_cmp y file.0 ≡ Less) (paths_of before) below)
     (to_map (λ (f : Atoms × List ℕ). f.0) before g c) in

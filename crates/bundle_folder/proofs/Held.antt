@@ -6,7 +6,6 @@ use Rattle.std.specs.List.{All, AllByRecursion, slice_split}
 use Rattle.std.specs.List.Sorted.{IsPermutation, IsStrictlySortedBy}
 use Rattle.std.specs.declared.cmp.Ordering.TheVariants.{Less}
 use Rattle.std.proofs.lemmas.List.{length-append, length-map, map_push, take-append-drop, take_more}
-use Rattle.bx_tree.proofs.OneReading.{prefix_all}
 use Rattle.std.proofs.lemmas.List.Concat.{length-flat_map}
 use Rattle.std.proofs.lemmas.List.Sums.{sum_by-le-sum_by, sum_by_push}
 use Rattle.std.proofs.lemmas.List.Elements.{All-contains, All-from_recursion, All-map, All-push, All-weaker, All-contains_itself, recursion_from_All, Contains-push, Contains-push_cases, Contains-append_left}
@@ -18,11 +17,12 @@ use Rattle.bx_tree.specs.Views.{file_of, files_of}
 use Rattle.bx_tree.specs.declared.limits.TheConstants.{MAX_BUNDLE_BYTES, MAX_FILES, MAX_FILE_BYTES, MAX_PATH_BYTES}
 use Rattle.bx_tree.specs.declared.tree_file.TreeFile.{TreeFile}
 use Rattle.bx_tree.proofs.PathTexts.{named_by_parts, prefix_from_below}
+use Rattle.bx_tree.proofs.Lists.{all_front}
 use Rattle.bundle_folder.specs.Answers.{HasLargeFile, IsEntryOf, ListsNodes, entry_data, kind_of}
 use Rattle.bundle_folder.specs.Folders.{File, IsFolder, Known, Node, Nodes, Other, IsListed}
 use Rattle.bundle_folder.specs.Packing.{AreFilesOf, AreHeld, HasCauseIn, HasLongText, HasManyFiles, IsPack}
 use Rattle.bundle_folder.specs.Places.{IsWithin}
-use Rattle.bundle_folder.specs.Steps.{AreFilePaths, ArePathsOf, AreRead, IsEntryFault, IsFileIn, IsFilePath, IsPlaceFault, IsTextFault, IsTextOf}
+use Rattle.bundle_folder.specs.Steps.{AreEntryPaths, ArePathsOf, AreRead, IsEntryFault, IsFileIn, IsFilePath, IsPlaceFault, IsTextFault, IsTextOf}
 use Rattle.bundle_folder.specs.declared.folder.Entry.{Entry}
 use Rattle.bundle_folder.specs.declared.folder.Kind.{Kind}
 use Rattle.bundle_folder.specs.declared.folder.Kind.TheVariants as kinds
@@ -91,8 +91,8 @@ entry_cause left_out nodes entry faults.Memory is h = tt
 -- ## Paths
 
 -- one more entry with its path
-pub paths_more : (entries : List Entry) (paths : List Atoms) (entry : Entry) (path : Atoms) → AreFilePaths entries paths
-    → IsFilePath entry path → AreFilePaths (entries ++ entry ∷ []) (paths ++ path ∷ [])
+pub paths_more : (entries : List Entry) (paths : List Atoms) (entry : Entry) (path : Atoms) → AreEntryPaths entries paths
+    → IsFilePath entry path → AreEntryPaths (entries ++ entry ∷ []) (paths ++ path ∷ [])
 paths_more entries paths entry path all is = record {
   held = λ p c. elim (Contains-push_cases paths path p c) [
     | inl d ↦ let from = all.held p d in (from.0, Contains-append_left entries (entry ∷ []) from.0 from.1, from.2)
@@ -104,7 +104,7 @@ paths_more entries paths entry path all is = record {
   ];
 }
 
-pub no_paths : AreFilePaths [] []
+pub no_paths : AreEntryPaths [] []
 no_paths = record {
   held = λ p c. absurd (omega (arith, c.1));
   all = λ x c. absurd (omega (arith, c.1));
@@ -112,7 +112,7 @@ no_paths = record {
 
 -- the paths of the entries of a folder are those of its files
 pub paths_of_folder : (left_out : List (List ℕ)) (nodes : Nodes) (entries : List Entry) (paths order : List Atoms)
-    → ListsNodes left_out nodes entries → AreFilePaths entries paths → IsStrictlySortedBy path_cmp order
+    → ListsNodes left_out nodes entries → AreEntryPaths entries paths → IsStrictlySortedBy path_cmp order
     → ((path : Atoms) → Contains order path ↔ Contains paths path) → ArePathsOf left_out nodes order
 paths_of_folder left_out nodes entries paths order lists files rising same = record {
   rising = rising;
@@ -206,7 +206,7 @@ read_step nodes files file path read e there =
 sorted_prefix : (xs ys : List Atoms) → IsStrictlySortedBy path_cmp (xs ++ ys) → IsStrictlySortedBy path_cmp xs
 unfolding IsStrictlySortedBy
 sorted_prefix [] ys h = tt
-sorted_prefix (x ∷ xs) ys h = (prefix_all (λ y. path_cmp x y ≡ Less) xs ys h.0, sorted_prefix xs ys h.1)
+sorted_prefix (x ∷ xs) ys h = (all_front (λ y. path_cmp x y ≡ Less) xs ys h.0, sorted_prefix xs ys h.1)
 
 taken : (n : ℕ) (paths : List Atoms) (path : Atoms) → Contains (take n paths) path → Contains paths path
 taken n paths path c =

@@ -3,12 +3,11 @@ use Rattle.std.proofs.Common.{◌≡◌, ◌⊎◌, ℕ, ◌<◌, zero, suc, Lis
 use Rattle.std.specs.Prelude.{Contains}
 use Rattle.std.specs.List.{AllByRecursion}
 use Rattle.std.specs.List.Sorted.{IsStrictlySortedBy}
-use Rattle.std.specs.Ordering.{ordering_reverse}
-use Rattle.std.specs.declared.cmp.Ordering.{Ordering}
-use Rattle.std.specs.declared.cmp.Ordering.TheVariants.{Less, Equal, Greater}
+use Rattle.std.specs.declared.cmp.Ordering.TheVariants.{Less}
 use Rattle.bx_tree.specs.Orders.{path_cmp_total}
 use Rattle.bx_tree.specs.Paths.{Atoms, path_cmp}
 use Rattle.bx_tree.specs.Trees.{Files, IsTree, paths_of}
+use Rattle.bx_tree.proofs.Sets.{never_both}
 
 pub first : {X : Type 0} (x : X) (xs : List X) → Contains (x ∷ xs) x
 first x xs = (0, omega arith, refl)
@@ -27,14 +26,6 @@ either y x ys h = by_place h.0 h.1 h.2
 pub no_member : {X : Type 0} (x : X) → Contains [] x → ⊥
 no_member x h = absurd (omega (arith, h.1))
 
-turned : (o p : Ordering) → o ≡ ordering_reverse p → o ≡ Less → p ≡ Less → ⊥
-turned o Less h e f = cc
-turned o Equal h e f = cc
-turned o Greater h e f = cc
-
-never_both : (a b : Atoms) → path_cmp a b ≡ Less → path_cmp b a ≡ Less → ⊥
-never_both a b e f = turned (path_cmp a b) (path_cmp b a) (path_cmp_total.antisymm a b) e f
-
 above : (x q : Atoms × List ℕ) (xs : Files) → AllByRecursion (λ p. path_cmp x.0 p ≡ Less) (paths_of xs) → Contains xs q → path_cmp x.0 q.0 ≡ Less
 above x q [] all h = absurd (no_member q h)
 above x q (y ∷ ys) all h = elim (either y q ys h) [
@@ -49,7 +40,7 @@ heads x y xs ys below below' h k = elim (either y x ys h) [
   | inl e ↦ sym e
   | inr m ↦ elim (either x y xs k) [
     | inl e ↦ e
-    | inr n ↦ absurd (never_both x.0 y.0 (above x y xs below n) (above y x ys below' m))
+    | inr n ↦ absurd (never_both path_cmp_total x.0 y.0 (above x y xs below n) (above y x ys below' m))
   ]
 ]
 
@@ -58,7 +49,7 @@ tails : (x y : Atoms × List ℕ) (xs ys : Files) → x ≡ y → AllByRecursion
 tails x y xs ys same below into q h = elim (either y q ys (into q (later x q xs h))) [
   | inl e ↦
       let self : path_cmp x.0 x.0 ≡ Less = subst (λ (z : Atoms × List ℕ). path_cmp x.0 z.0 ≡ Less) (sym (same ∙ e)) (above x q xs below h) in
-      absurd (never_both x.0 x.0 self self)
+      absurd (never_both path_cmp_total x.0 x.0 self self)
   | inr k ↦ k
 ]
 

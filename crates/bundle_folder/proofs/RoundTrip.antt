@@ -1,6 +1,7 @@
 -- Packing and unpacking undo each other, and a folder has one text.
 use Rattle.std.proofs.Common.{◌≡◌, ◌↔◌, ℕ, List, [], refl, ap, sym, subst, ◌∙◌}
 use Rattle.std.specs.Prelude.{Contains, Some, Option}
+use Rattle.std.proofs.lemmas.Option.{same_Some}
 use Rattle.bx_tree.specs.Bundle.{bundle}
 use Rattle.bx_tree.specs.Paths.{Atoms, path_text}
 use Rattle.bx_tree.specs.Trees.{Files, IsTree}
@@ -15,9 +16,6 @@ use Rattle.bundle_folder.proofs.OneTree.{no_member, one_tree}
 
 file_bytes : (a b : List ℕ) → File a ≡ File b → a ≡ b
 file_bytes a b e = cc
-
-some_nodes : (a b : Nodes) → Some a ≡ Some b → a ≡ b
-some_nodes a b e = cc
 
 -- of two trees of the files of a folder, the second has each file of the first
 same_files : (left_out : List (List ℕ)) (nodes : Nodes) (xs ys : Files) → IsTree xs → IsTree ys → AreFilesOf left_out nodes xs
@@ -56,7 +54,7 @@ pub pack_of_unpack : (now : Option Nodes) (text : List ℕ) (count : ℕ)
 pack_of_unpack now text count h = (
   h.0,
   h.1,
-  λ nodes e. subst (λ n. AreFilesOf [] n h.0) (some_nodes (nodes_of h.0) nodes (sym h.3 ∙ e)) (files_made h.0),
+  λ nodes e. subst (λ n. AreFilesOf [] n h.0) (same_Some (nodes_of h.0) nodes (sym h.3 ∙ e)) (files_made h.0),
 )
 
 pub unpack_of_pack : (left_out : List (List ℕ)) (nodes : Nodes) (now : Option Nodes) (text : List ℕ) (count : ℕ)
@@ -65,7 +63,7 @@ pub unpack_of_pack : (left_out : List (List ℕ)) (nodes : Nodes) (now : Option 
 unpack_of_pack left_out nodes now text count h k made e place node =
     let files = h.0 in
     let same : nodes_of files ≡ made =
-    ap nodes_of (readings.one_tree text h.0 k.0 h.1 k.1) ∙ some_nodes (nodes_of k.0) made (sym k.3 ∙ e) in
+    ap nodes_of (readings.one_tree text h.0 k.0 h.1 k.1) ∙ same_Some (nodes_of k.0) made (sym k.3 ∙ e) in
     let a = h.2 nodes refl in (
       λ c.
           let f = from_map (λ (g : Atoms × List ℕ). (path_text g.0, File g.1)) files (place, node) (subst (λ n. Contains n (place, node)) (sym same) c) in

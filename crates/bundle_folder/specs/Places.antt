@@ -1,11 +1,12 @@
 -- Places in a folder, and which of them lie below which.
-use Rattle.std.specs.Prelude.{◌≡◌, ℕ, Bool, true, false, ◌==◌, ◌&&◌, List, [], ◌∷◌, ◌++◌, ◌⊎◌, Contains, map}
+use Rattle.std.specs.Prelude.{◌≡◌, ℕ, Bool, true, false, ◌==◌, ◌&&◌, List, [], ◌∷◌, ◌⊎◌, Contains, map}
 use Rattle.std.specs.Borrow.{Bor}
+use Rattle.bx_tree.specs.Paths.{TextGoesOn}
 
 -- The place is the other or lies below it. The text of a place is the names from the folder down, joined by
 -- `/`; the folder itself is written `.`, and is no place in it.
 abbrev pub IsWithin : List ℕ → List ℕ → Type 0
-IsWithin place top = (place ≡ top) ⊎ ((rest : List ℕ) × (place ≡ top ++ 47 ∷ rest))
+IsWithin place top = (place ≡ top) ⊎ TextGoesOn top place
 
 -- neither place is the other or lies below it
 abbrev pub IsApart : List ℕ → List ℕ → Type 0

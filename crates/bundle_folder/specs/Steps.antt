@@ -32,7 +32,7 @@ pub record IsFilePath (entry : Entry) (path : Atoms) : Type 0 where
   pub no_root : path ≢ []
 
 -- the paths are those of the entries, which are all files
-pub record AreFilePaths (entries : List Entry) (paths : List Atoms) : Type 0 where
+pub record AreEntryPaths (entries : List Entry) (paths : List Atoms) : Type 0 where
   pub held : (path : Atoms) → Contains paths path
       → (entry : Entry) × Contains entries entry × IsFilePath entry path
   pub all : (entry : Entry) → Contains entries entry

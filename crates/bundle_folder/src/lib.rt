@@ -1,10 +1,9 @@
 //! Packing a folder as a bundle, and unpacking a bundle to a folder.
 //!
-//! A folder is a trait with a count of faults, whose contract holds for a folder of the system and for one in
-//! memory alike. What a folder holds is packed as the bundle of its files, and a bundle is unpacked as files
-//! of a folder that has none of them. This crate depends on `bx_io` for counted faults and on `bx_tree` for
-//! paths and bundles. It carries the promise that packing and unpacking undo each other, and that each
-//! refusal names the place that causes it.
+//! A folder is a trait with a count of faults, whose contract holds for a folder on disk and for one in memory
+//! alike. The files of a folder are packed as a bundle, and a bundle is unpacked as files of a folder that has none
+//! of them. This crate depends on `bx_io` for counted faults and on `bx_tree` for paths and bundles. It carries the
+//! promises that packing and unpacking undo each other, and that each error names the path that causes it.
 #![tactic(auto)]
 
 mod fault;

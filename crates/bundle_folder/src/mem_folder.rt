@@ -11,8 +11,7 @@ ghost use Rattle.bx_tree.specs.Lent.{texts_now};
 
 use crate::folder::{Entry, Folder, FolderFault, Kind, ListFault, ReadFault, WriteFault};
 use crate::places::{is_apart, is_left_out, is_outside};
-use bx_io::Memory;
-use bx_tree::{MAX_FILE_BYTES, Path};
+use bx_tree::{MAX_FILE_BYTES, Memory, Path};
 use std::alloc::Global;
 use std::marker::Model;
 

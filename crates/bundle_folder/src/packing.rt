@@ -12,15 +12,15 @@ ghost use Rattle.bx_tree.specs.declared.limits.TheConstants.{MAX_FILES, MAX_FILE
 ghost use Rattle.bundle_folder.specs.Answers.{ListsNodes};
 ghost use Rattle.bundle_folder.specs.Folders.{File, IsFolder, Known, Nodes};
 ghost use Rattle.bundle_folder.specs.Packing.{BlamesFolder, HasCauseIn, HasPackCause, IsPack};
-ghost use Rattle.bundle_folder.specs.Steps.{AreFilePaths, ArePathsOf, AreRead, IsEntryFault, IsFileIn};
+ghost use Rattle.bundle_folder.specs.Steps.{AreEntryPaths, ArePathsOf, AreRead, IsEntryFault, IsFileIn};
 ghost use Rattle.bundle_folder.specs.Steps.{IsFilePath, IsPlaceFault, IsTextFault, IsTextOf};
 ghost use Rattle.bx_tree.specs.Lent.{texts_now};
 
 use crate::fault::PackFault;
 use crate::folder::{Entry, Folder, Kind, ListFault, ReadFault};
-use bx_io::Memory;
 use bx_tree::{
-    MAX_BUNDLE_BYTES, MAX_FILES, MAX_PATH_BYTES, Path, PathFault, Tree, TreeFile, write_bundle,
+    MAX_BUNDLE_BYTES, MAX_FILES, MAX_PATH_BYTES, Memory, Path, PathFault, Tree, TreeFile,
+    write_bundle,
 };
 use std::alloc::Global;
 
@@ -85,7 +85,7 @@ fn in_order(paths: Vec<Path>) -> Vec<Path>
 // The paths of entries that are all files, in the order of the entries.
 fn paths_in(alloc: Global, entries: &[Entry]) -> Result<Vec<Path>, PackFault>
     ensures { MatchResult result
-        (λ paths. AreFilePaths entries.now paths.items)
+        (λ paths. AreEntryPaths entries.now paths.items)
         (λ fault. (entry : _) × Contains entries.now entry × IsEntryFault entry fault) }
 {
     let mut paths = Vec::new(alloc);

@@ -1,27 +1,16 @@
 //! Which places of a folder lie below which.
 
-ghost use Rattle.std.specs.Prelude.{◌≡◌, ◌↔◌, ◌∷◌, ◌++◌, ℕ, List, IsTrue, not};
+ghost use Rattle.std.specs.Prelude.{◌≡◌, ◌↔◌, IsTrue, not};
 ghost use Rattle.bundle_folder.specs.Places.{IsApart, IsLeftOut, IsWithin, is_within as within};
 ghost use Rattle.bx_tree.specs.Lent.{texts_now};
 
-// Whether a place lies below another one.
-fn is_below(place: &[u8], top: &[u8]) -> bool
-    ensures { IsTrue result ↔ ((rest : List ℕ) × (place.now ≡ top.now ++ 47 ∷ rest)) }
-{
-    if place.len() <= top.len() {
-        return false;
-    }
-    if place[top.len()] != b'/' {
-        return false;
-    }
-    place.starts_with(top)
-}
+use bx_tree::has_dir_prefix;
 
 /// Whether a place is another one or lies below it. A place is the names from the folder down, joined by `/`.
 pub fn is_within(place: &str, top: &str) -> bool
     ensures { IsTrue result ↔ IsWithin place.now top.now }
 {
-    place == top || is_below(place.as_bytes(), top.as_bytes())
+    place == top || has_dir_prefix(place.as_bytes(), top.as_bytes())
 }
 
 // Whether a place is neither another one nor lies below it.

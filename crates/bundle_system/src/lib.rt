@@ -1,8 +1,7 @@
-//! Command line, messages and system folder of the program `bundle`.
+//! Command line, messages and on-disk folder of the program `bundle`.
 //!
-//! It depends on `bundle_folder`, whose trait the folder of the system implements, and on `bx_tree` for paths. It
-//! carries no promise but that the folder counts a fault where it reports one; `cases/folders` shows
-//! what it does.
+//! It depends on `bundle_folder`, whose trait the folder on disk implements, and on `bx_tree` for paths. It carries
+//! no promise but that the folder counts a fault where it reports one; `cases/folders` shows what it does.
 #![tactic(auto)]
 
 mod message;

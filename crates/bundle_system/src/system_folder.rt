@@ -1,11 +1,11 @@
 //! A folder of the system.
 
 ghost use Rattle.std.specs.Prelude.{◌≡◌, None, IfOk};
-ghost use Rattle.bx_io.specs.Causes.{counted};
 
 use bundle_folder::{
     Entry, Folder, FolderFault, Kind, ListFault, ReadFault, WriteFault, is_left_out,
 };
+use bx_io::one_more;
 use bx_tree::{MAX_FILE_BYTES, MAX_PATH_BYTES, Path};
 use std::alloc::{AllocError, Global};
 use std::fs::{self, DirEntry, File, FileType, OpenFile};
@@ -209,21 +209,14 @@ fn remove_of<R: Files + AllocGlobal>(rt: &R, path: &str) -> io::Result<()> {
 }
 
 // Names a file on a terminal, in place of the one before.
-fn show<W: Write>(terminal: &mut Option<W>, deed: &str, path: &Path) {
+fn show<W: Write>(terminal: &mut Option<W>, action: &str, path: &Path) {
     if let Some(terminal) = terminal {
         let text = path.text();
         let start = text.len().saturating_sub(SHOWN);
-        for part in ["\r\x1b[K", deed, text.get(start..).unwrap_or(text)] {
+        for part in ["\r\x1b[K", action, text.get(start..).unwrap_or(text)] {
             let _ = terminal.write_all(part.as_bytes());
         }
     }
-}
-
-// A count of faults with one more, up to the greatest `u64`.
-fn one_more(faults: u64) -> u64
-    ensures { result ≡ counted faults }
-{
-    faults.saturating_add(1)
 }
 
 impl<R: Files + AllocGlobal + Clone + Drop, W: Write + Drop> SystemFolder<R, W> {

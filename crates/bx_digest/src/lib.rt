@@ -1,9 +1,9 @@
-//! SHA-256 digests, and content blobs that cache their digest.
+//! SHA-256 digests, and content blobs that may cache their digest.
 //!
-//! Whatever the engine stores or compares by name is named by its digest, and whatever it hands from step
-//! to step is a blob, which is hashed where its digest is asked for. This crate depends on `sha2` and `hex`.
-//! It carries the promise that a blob's digest is SHA-256 of its bytes, and that a digest is written and read
-//! back exactly.
+//! Whatever the engine stores or compares by content is named by its digest, and contents are passed on as blobs,
+//! which are hashed where their digest is asked for. This crate depends on `sha2` and `hex`. It carries the
+//! promises that a blob's digest is SHA-256 of its bytes, and that a digest and its text convert to each other
+//! exactly.
 #![tactic(auto)]
 
 mod blob;
@@ -11,6 +11,3 @@ mod digest;
 
 pub use blob::Blob;
 pub use digest::{Digest, NotHex, digest_of};
-
-/// Out of memory, the one refusal that no contract ties to a cause.
-pub type Memory = std::alloc::AllocError;

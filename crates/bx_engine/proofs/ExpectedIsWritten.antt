@@ -15,7 +15,7 @@ use Rattle.bx_engine.specs.Responses.{IsGoneTo}
 use Rattle.bx_engine.specs.declared.response.Response.{Response}
 use Rattle.bx_engine.specs.Statuses.{IsGone, IsRefusal, IsWhole}
 use Rattle.bx_engine.specs.Stores.{AsksFor, StoreLeft}
-use Rattle.bx_engine.proofs.StatusesDiffer.{gone_same, gone_whole, refusal_whole, refused_status}
+use Rattle.bx_engine.proofs.StatusesDiffer.{gone_same, gone_whole, refusal_whole, refused_status, out_failed}
 use Rattle.bx_engine.specs.declared.status.Status.{Status}
 use Rattle.bx_engine.specs.declared.status.Status.TheVariants as statuses
 
@@ -33,16 +33,13 @@ whole_ending (Built pips results) = whole_if (all_succeeded results)
 pub whole_expected : (limits : Limits) (input : List ℕ) (status : Status) (bytes : List ℕ) → IsExpected limits input status bytes → IsWhole status
 whole_expected limits input status bytes h = subst IsWhole (sym h.status_is) (whole_ending h.ending)
 
-cut_is_not_whole : IsWhole statuses.OutFailed → ⊥
-cut_is_not_whole h = elim h [ inl a ↦ cc | inr b ↦ elim b [ inl c ↦ cc | inr d ↦ elim d [ inl e ↦ cc | inr f ↦ cc ] ] ]
-
 -- ## What is written
 
 same_status : (order : Order) (input : List ℕ) (status result : Status) (bytes : List ℕ) → Expected order input status bytes
     → (result ≡ status) ⊎ (result ≡ statuses.OutFailed) → IsWhole result → Expected order input result bytes
 same_status order input status result bytes h s whole = elim s [
   | inl same ↦ subst (λ (r : Status). Expected order input r bytes) (sym same) h
-  | inr cut ↦ absurd (cut_is_not_whole (subst IsWhole cut whole))
+  | inr cut ↦ absurd (out_failed (subst IsWhole cut whole))
 ]
 
 pub answered : (order : Order) (input : List ℕ) (status result : Status) (bytes : List ℕ) (before now : Option (List ℕ))
@@ -94,7 +91,7 @@ noted order input change status result text before now m n h s whole appended = 
   text = text;
   noted = elim s [
     | inl same ↦ subst (λ (r : Status). IsNoted order input change r text) (sym same) h
-    | inr cut ↦ absurd (cut_is_not_whole (subst IsWhole cut whole))
+    | inr cut ↦ absurd (out_failed (subst IsWhole cut whole))
   ];
   appended = appended;
 }

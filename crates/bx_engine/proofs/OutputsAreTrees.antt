@@ -7,6 +7,7 @@ use Rattle.std.proofs.lemmas.List.{map-append}
 use Rattle.std.proofs.lemmas.List.Elements.{All-contains, All-from_recursion, Contains-push_cases}
 use Rattle.bx_tree.specs.Paths.{Atoms, IsPath, IsBelow, path_cmp}
 use Rattle.bx_tree.specs.Trees.{Files, NoneNested, paths_of}
+use Rattle.bx_tree.proofs.Lists.{all_weaker}
 use Rattle.one_thread.specs.Outputs.{AreOutputs}
 use Rattle.build_report.specs.declared.refusal.Refusal.{Refusal}
 use Rattle.graph_check_outputs.specs.OutsideOut.{out_dir}
@@ -23,10 +24,6 @@ use Rattle.bx_engine.specs.declared.response.Response.{Response}
 use Rattle.bx_engine.proofs.ReportPath.{named_report}
 
 -- ## Lists
-
-all_weaker : {X : Type 0} (P Q : X → Type 0) → ((x : X) → P x → Q x) → (xs : List X) → AllByRecursion P xs → AllByRecursion Q xs
-all_weaker P Q f [] h = tt
-all_weaker P Q f (x ∷ xs) h = (f x h.0, all_weaker P Q f xs h.1)
 
 -- an element has what each has
 contained : {X : Type 0} (P : X → Type 0) (xs : List X) (x : X) → AllByRecursion P xs → Contains xs x → P x

@@ -60,7 +60,7 @@ not_whole status other same no_whole whole = no_whole (subst IsWhole same whole)
 source_failed : IsWhole statuses.SourceFailed → ⊥
 source_failed h = elim h [ inl a ↦ cc | inr b ↦ elim b [ inl c ↦ cc | inr d ↦ elim d [ inl e ↦ cc | inr f ↦ cc ] ] ]
 
-out_failed : IsWhole statuses.OutFailed → ⊥
+pub out_failed : IsWhole statuses.OutFailed → ⊥
 out_failed h = elim h [ inl a ↦ cc | inr b ↦ elim b [ inl c ↦ cc | inr d ↦ elim d [ inl e ↦ cc | inr f ↦ cc ] ] ]
 
 out_of_memory : IsWhole statuses.OutOfMemory → ⊥

@@ -1,20 +1,16 @@
 -- How an honest store is left.
-use Rattle.std.proofs.Common.{◌≡◌, ℕ, inl, inr, Bool, true, false, List, [], ◌∷◌, ◌++◌, Option, Some, refl, sym, ◌∙◌, subst}
+use Rattle.std.proofs.Common.{◌≡◌, ℕ, inl, inr, Bool, true, false, List, [], Option, Some, refl, sym, ◌∙◌, subst}
 use Rattle.bx_tree.specs.Trees.{Files}
-use Rattle.bx_io.specs.Holdings.{Change, IsPrefix, StoreState, holdings_after}
-use Rattle.bx_io.proofs.Changes.{known_after-nil}
+use Rattle.bx_io.specs.Holdings.{Change, StoreState, holdings_after}
+use Rattle.bx_io.proofs.Changes.{known_after-nil, nothing_before}
 use Rattle.bx_engine_front.specs.Specifications.{Plans}
 use Rattle.bx_engine_front.specs.declared.limits.Limits.{Limits}
 use Rattle.pip_model_types.specs.declared.pip.Pip.{Pip}
 use Rattle.two_phase_meaning.specs.Honest.{Honest}
 use Rattle.retire.specs.Builds.{IsFair, LeavesFair}
-use Rattle.retire.specs.Keeping.{OnlyPuts}
+use Rattle.retire.specs.Saving.{OnlyPuts}
 use Rattle.bx_engine.specs.Ends.{AreSources}
 use Rattle.bx_engine.specs.Stores.{FairWhere, StoreLeft}
-
-nothing_before : (start : List Change) → IsPrefix start [] → start ≡ []
-nothing_before [] p = refl
-nothing_before (c ∷ cs) p = let joined : c ∷ (cs ++ p.rest) ≡ [] = p.joined in absurd cc
 
 -- where nothing was changed
 pub left_same : (limits : Limits) (input : List ℕ) (before : StoreState) (now : Option StoreState) → now ≡ Some before → Honest before.held

@@ -3,9 +3,9 @@
 ghost use Rattle.std.specs.Prelude.{◌≡◌, ◌≢◌, ◌⊎◌, ◌≤◌, [], ℕ, List, Some, drop, false};
 ghost use Rattle.std.specs.Io.KnownBytes.{Appends};
 ghost use Rattle.bx_io.specs.Causes.{HasCause};
-ghost use Rattle.bx_io.specs.Holdings.{StoreState as KeptParts, held_in};
+ghost use Rattle.bx_io.specs.Holdings.{StoreState as AnyStore, held_in};
 ghost use Rattle.two_phase_meaning.specs.Honest.{Honest};
-ghost use Rattle.retire.specs.Keeping.{OnlyPuts};
+ghost use Rattle.retire.specs.Saving.{OnlyPuts};
 ghost use Rattle.bx_engine.specs.Counting.{AppendsNotes, IsShown, change_of};
 ghost use Rattle.bx_engine.specs.Expected.{Answers, AppendsOrFails, Begins, limits_of};
 ghost use Rattle.bx_engine.specs.Known.{AppendsPrefix};
@@ -83,7 +83,7 @@ fn answer<O: Sink, N: Sink, K: Keeper, G: Gate>(
     ensures no_notes { HasNoNotes result → notes.new ≡ notes.old }
 
     // What is left of the store.
-    ensures left { (before : KeptParts) → K.known keeper.old ≡ Some before → Honest before.held
+    ensures left { (before : AnyStore) → K.known keeper.old ≡ Some before → Honest before.held
         → FairStore order.now input.now (Some before.held)
         → StoreLeft (limits_of order.now) input.now before (K.known keeper.new) }
     ensures kept { IsRefusal result → keeper.new ≡ keeper.old }
@@ -144,7 +144,7 @@ pub(crate) fn build<S: Source, O: Sink, N: Sink, K: Keeper, G: Gate>(
     ensures no_notes { HasNoNotes result → notes.new ≡ notes.old }
 
     // What is left of the store.
-    ensures left { (input : List ℕ) (before : KeptParts) → S.left source.old ≡ Some input
+    ensures left { (input : List ℕ) (before : AnyStore) → S.left source.old ≡ Some input
         → K.known keeper.old ≡ Some before → Honest before.held
         → FairStore order.now input (Some before.held)
         → StoreLeft (limits_of order.now) input before (K.known keeper.new) }

@@ -1,10 +1,9 @@
 //! The engine's entry point: runs a command from its arguments and input to its status, output and notes.
 //!
-//! This crate depends on `bx_engine_words` for the words, on `bx_io` for the outside, on `bx_tree` for bundles, on
-//! `bx_engine_front` for the plan of a build, on `retire` for the build over a store, and on `build_report` for its
-//! texts. It carries the promise that all others are for: the call writes the bytes and gives the status that
-//! the definition of a build gives for the input, on both sides of every refusal and whatever an honest store
-//! holds.
+//! This crate depends on `bx_engine_words` for the arguments, on `bx_io` for the outside, on `bx_tree` for bundles,
+//! on `bx_engine_front` for the plan of a build, on `retire` for the build over a store, and on `build_report` for
+//! its texts. It carries the promise that all others are for: the call writes the bytes and gives the status that
+//! the definition of a build gives for the input, whatever an honest store holds, be it a build or an error.
 #![tactic(auto)]
 
 mod build;
@@ -26,6 +25,3 @@ pub use laws::{one_end, some_end};
 pub use planning::front;
 pub use status::Status;
 pub use top::command;
-
-/// Out of memory, the one refusal that no contract ties to a cause.
-pub type Memory = std::alloc::AllocError;

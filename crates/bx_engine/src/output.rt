@@ -8,8 +8,7 @@ ghost use Rattle.bx_tree.specs.Trees.{paths_of};
 ghost use Rattle.pip_model_types.specs.Made.{made_files};
 ghost use Rattle.bx_engine.specs.Ending.{report_path as path_of_report};
 
-use crate::Memory;
-use bx_tree::{Path, PathFault, append_file};
+use bx_tree::{Memory, Path, PathFault, append_file};
 use pip_model::MadeFile;
 use std::alloc::{AllocError, Global};
 

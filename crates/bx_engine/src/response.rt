@@ -1,8 +1,8 @@
 //! What a build of an input comes to: its status, its output and its notes.
 
 ghost use Rattle.std.specs.Prelude.{◌≡◌, ◌≤◌, [], ℕ, List, Some, false, IfOk, OnOk, if◌then◌else◌, length};
-ghost use Rattle.std.specs.List.{AllByRecursion, list_all};
-ghost use Rattle.bx_io.specs.Holdings.{StoreState as KeptParts};
+ghost use Rattle.std.specs.List.{AllByRecursion};
+ghost use Rattle.bx_io.specs.Holdings.{StoreState as AnyStore};
 ghost use Rattle.bx_tree.specs.Bundle.{IsBundle, IsInSize};
 ghost use Rattle.bx_tree.specs.Paths.{IsPath};
 ghost use Rattle.bx_tree.specs.Trees.{paths_of};
@@ -10,8 +10,7 @@ ghost use Rattle.graph_check.specs.Rules.{KeepsRules};
 ghost use Rattle.pip_model_types.specs.Made.{made_files};
 ghost use Rattle.two_phase_meaning.specs.Honest.{Honest};
 ghost use Rattle.retire.specs.Builds.{IsFair, LeavesFair};
-ghost use Rattle.retire.specs.Keeping.{OnlyPuts};
-ghost use Rattle.violations.specs.Verdicts as ends;
+ghost use Rattle.retire.specs.Saving.{OnlyPuts};
 ghost use Rattle.bx_engine.specs.Counting.{change_of, given_files};
 ghost use Rattle.bx_engine.specs.Ending as endings;
 ghost use Rattle.bx_engine.specs.Expected.{limits_of};
@@ -20,21 +19,19 @@ ghost use Rattle.bx_engine.specs.Responses.{IsResponseToBundle, IsResponseToFaul
 ghost use Rattle.bx_engine.specs.Statuses.{IsRefusal};
 ghost use Rattle.bx_engine.specs.Stores.{FairStore, StoreLeft, uses_store};
 
-use crate::Memory;
 use crate::fault::{InputFault, input_name};
 use crate::limits::is_cached;
 use crate::output::output;
 use crate::planning::front;
 use crate::status::Status;
-use build_report::{Counts, notes, refused_report, report};
+use build_report::{Counts, all_succeeded, notes, refused_report, report};
 use bx_engine_front::{FrontFault, Refusal};
 use bx_engine_words::Order;
 use bx_io::{Gate, Keeper};
-use bx_tree::{BundleFault, Text, Tree, read_bundle, reserved};
+use bx_tree::{BundleFault, Memory, Text, Tree, read_bundle, reserved};
 use pip_model::{Made, MadeFile, Plan, Sources};
 use retire::{RetireTally, Retired, retire_empty};
 use std::alloc::{AllocError, Global};
-use violations::Verdict;
 
 /// What a build comes to: its status, all bytes of its output, and its notes.
 #[derive(Drop)]
@@ -79,12 +76,6 @@ fn refuse_fault(alloc: Global, fault: FrontFault) -> Result<Response, Memory>
         FrontFault::Refused(refusal) => refuse_specification(alloc, &refusal),
         FrontFault::Memory => Err(AllocError),
     }
-}
-
-fn all_succeeded(verdicts: &[Verdict]) -> bool
-    ensures { result ≡ list_all ends.is_success verdicts.now }
-{
-    verdicts.iter().all(|verdict| verdict.is_success())
 }
 
 // The status of a build, by whether all pips succeeded.
@@ -149,7 +140,7 @@ fn build_plan<K: Keeper, G: Gate>(
     ensures response { IfOk result (IsBuildResponse plan.now.pips sources.now plan.now.tool_budget cached
         (change_of (K.known keeper.old) (K.known keeper.new) (K.bound keeper.old) (K.faults keeper.old)
         (K.faults keeper.new))) }
-    ensures left { (before : KeptParts) → K.known keeper.old ≡ Some before
+    ensures left { (before : AnyStore) → K.known keeper.old ≡ Some before
         → IsFair plan.now.pips sources.now plan.now.tool_budget before.held
         → LeavesFair plan.now.pips sources.now plan.now.tool_budget before (K.known keeper.new) }
     ensures untouched { cached ≡ false → keeper.new ≡ keeper.old }
@@ -174,7 +165,7 @@ fn respond_tree<K: Keeper, G: Gate>(
         (change_of (K.known keeper.old) (K.known keeper.new) (K.bound keeper.old) (K.faults keeper.old)
         (K.faults keeper.new))) }
     ensures kept { IfOk result (λ response. IsRefusal response.status → keeper.new ≡ keeper.old) }
-    ensures left { (input : List ℕ) (before : KeptParts) → IsBundle input tree
+    ensures left { (input : List ℕ) (before : AnyStore) → IsBundle input tree
         → K.known keeper.old ≡ Some before → Honest before.held
         → FairStore order.now input (Some before.held)
         → StoreLeft (limits_of order.now) input before (K.known keeper.new) }
@@ -225,7 +216,7 @@ pub(crate) fn respond<K: Keeper, G: Gate>(
     ensures response { IfOk result (Responds order.now input.now (change_of (K.known keeper.old)
         (K.known keeper.new) (K.bound keeper.old) (K.faults keeper.old) (K.faults keeper.new))) }
     ensures kept { IfOk result (λ response. IsRefusal response.status → keeper.new ≡ keeper.old) }
-    ensures left { (before : KeptParts) → K.known keeper.old ≡ Some before → Honest before.held
+    ensures left { (before : AnyStore) → K.known keeper.old ≡ Some before → Honest before.held
         → FairStore order.now input.now (Some before.held)
         → StoreLeft (limits_of order.now) input.now before (K.known keeper.new) }
     ensures untouched { uses_store order.now ≡ false → keeper.new ≡ keeper.old }

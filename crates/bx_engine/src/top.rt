@@ -2,9 +2,9 @@
 
 ghost use Rattle.std.specs.Prelude.{◌≡◌, ◌≢◌, ◌⊎◌, ◌≤◌, ℕ, List, Some, drop, false, map, string_bytes};
 ghost use Rattle.bx_io.specs.Causes.{HasCause};
-ghost use Rattle.bx_io.specs.Holdings.{StoreState as KeptParts, held_in};
+ghost use Rattle.bx_io.specs.Holdings.{StoreState as AnyStore, held_in};
 ghost use Rattle.two_phase_meaning.specs.Honest.{Honest};
-ghost use Rattle.retire.specs.Keeping.{OnlyPuts};
+ghost use Rattle.retire.specs.Saving.{OnlyPuts};
 ghost use Rattle.bx_engine.specs.Counting.{AppendsNotes, IsShown, change_of};
 ghost use Rattle.bx_engine.specs.Ending.{usage_text};
 ghost use Rattle.bx_engine.specs.Expected.{Answers, AppendsOrFails, Begins, limits_of};
@@ -104,7 +104,7 @@ pub fn command<H: Threads + Wait + Sync, S: Source, O: Sink, N: Sink, K: Keeper,
     // An honest store is left honest, with any status: it was honest before each change and after it, and is
     // as it was or as the sequential build leaves it. Whatever the store, a build only puts. It is
     // untouched where the words say `--no-cache`, and where no build is begun.
-    ensures left { (order : TheOrder) (input : List ℕ) (before : KeptParts)
+    ensures left { (order : TheOrder) (input : List ℕ) (before : AnyStore)
         → Orders (map string_bytes words.now) order → S.left source.old ≡ Some input
         → K.known keeper.old ≡ Some before → Honest before.held
         → FairStore order input (Some before.held)

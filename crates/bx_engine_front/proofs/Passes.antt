@@ -17,6 +17,7 @@ use Rattle.dscript_names_scopes.specs.Declarations.{ParsedData}
 use Rattle.dscript_names_workspace.specs.Finding.{Finds}
 use Rattle.dscript_names_workspace.specs.Views as of_trees
 use Rattle.dscript_names_workspace.specs.Workspaces.{Found}
+use Rattle.dscript_names_workspace.proofs.SomeAnswer.{kept}
 use Rattle.graph_check.specs.Rules.{KeepsRules, IsRefusal as IsBroken}
 use Rattle.graph_check.specs.declared.fault.GraphFault.{GraphFault}
 use Rattle.graph_check.specs.declared.fault.GraphFault.TheVariants as graph_faults
@@ -30,7 +31,6 @@ use Rattle.bx_engine_front.specs.Specifications.{HasFault, IsProgram, MakesPips,
 use Rattle.bx_engine_front.specs.declared.fault.FrontFault.{FrontFault}
 use Rattle.bx_engine_front.specs.declared.fault.FrontFault.TheVariants as front_faults
 use Rattle.bx_engine_front.specs.declared.limits.Limits.{Limits}
-use Rattle.bx_engine_front.proofs.ProjectFiles.{kept}
 
 -- ## Programs
 

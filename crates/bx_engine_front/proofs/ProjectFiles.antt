@@ -1,5 +1,5 @@
 -- The project files of a workspace, found by a search and read one by one.
-use Rattle.std.proofs.Common.{◌≡◌, ℕ, ◌+◌, ◌<◌, ◌≤◌, ◌++◌, append_assoc, zero, suc, Bool, true, false, cond, List, [], ◌∷◌, filter, length, get_or, drop, refl, ap, sym, subst, ◌∙◌, inl, inr, arith, Result, Ok, Err}
+use Rattle.std.proofs.Common.{◌≡◌, ℕ, ◌+◌, ◌<◌, ◌≤◌, ◌++◌, append_assoc, zero, suc, Bool, false, cond, List, [], ◌∷◌, filter, length, get_or, drop, refl, ap, sym, subst, ◌∙◌, inl, inr, arith, Result, Ok, Err}
 use Rattle.std.specs.Borrow.{Bor}
 use Rattle.std.specs.List.{AllByRecursion}
 use Rattle.std.specs.List.Sorted.{IsBinarySearchResult, IsPermutation, IsSearchInRange, IsSorted}
@@ -150,16 +150,3 @@ pub found_projects : (sources seen found : Files) (modules : List ModuleData) (p
 found_projects sources seen found modules paths sorted slice is from to moved all =
     is ∙ ap (λ (fs : Files). files_among slice fs) from ∙ ap (λ (ps : List Atoms). files_among ps sources) to
     ∙ in_any_order paths sorted sources moved ∙ ap (λ (ps : List Atoms). files_among ps sources) all
-
--- ## Sizes
-
-keep_if : {X : Type 0} (P : X → Type 0) (b : Bool) (x : X) (xs : List X) → P x → AllByRecursion P xs
-    → AllByRecursion P (cond b (x ∷ xs) xs)
-keep_if P true x xs h k = (h, k)
-keep_if P false x xs h k = k
-
--- what each element has, each has that passes a test
-pub kept : {X : Type 0} (P : X → Type 0) (test : X → Bool) (xs : List X) → AllByRecursion P xs
-    → AllByRecursion P (filter test xs)
-kept P test [] h = tt
-kept P test (x ∷ xs) h = keep_if P (test x) x (filter test xs) h.0 (kept P test xs h.1)

@@ -1,7 +1,7 @@
 //! Why a tree comes to no plan.
 
-use crate::Memory;
 use build_report::Refusal;
+use bx_tree::Memory;
 use std::alloc::AllocFailed;
 
 /// Why a tree comes to no plan.

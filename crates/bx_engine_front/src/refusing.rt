@@ -4,11 +4,10 @@ ghost use Rattle.std.specs.Prelude.{◌≡◌, IfOk};
 ghost use Rattle.build_report.specs.declared.refusal.Refusal.TheVariants.{Specification};
 ghost use Rattle.bx_engine_front.specs.Faults.{IsRefusal, ShowsEvaluation, ShowsFile, ShowsRule};
 
-use crate::Memory;
 use crate::fault::FrontFault;
 use crate::kinds::{evaluation_kind_name, file_kind_name, rule_name};
 use build_report::Refusal;
-use bx_tree::{Path, Text};
+use bx_tree::{Memory, Path, Text};
 use dscript_eval::EvalFault;
 use dscript_program::{Place, SpecFault};
 use graph_check::GraphFault;

@@ -4,6 +4,7 @@ use Rattle.std.specs.Fmt.{decimal}
 use Rattle.std.specs.Prelude.{◌↔◌, IsTrue}
 use Rattle.std.specs.List.{after_first, before_first, list_any}
 use Rattle.std.proofs.lemmas.Fmt.{decimal_injective}
+use Rattle.std.proofs.lemmas.Bool.{both_ways}
 use Rattle.bx_engine_words.specs.declared.order.Order.{Order}
 use Rattle.bx_engine_words.specs.declared.setting.NumberOption.{NumberOption}
 use Rattle.bx_engine_words.specs.declared.setting.NumberOption.TheVariants as options
@@ -39,12 +40,9 @@ lacks_equals options.Workers = refl
 lacks_equals options.EvalBudget = refl
 lacks_equals options.ToolBudget = refl
 
-false_not : (b : Bool) → b ≡ false → b ≡ true → ⊥
-false_not b e f = cc
-
 joined_or_alone : (a b : NumberOption) (v : List ℕ) → option_text a ++ codes "=" ++ v ≡ option_text b → ⊥
 joined_or_alone a b v e =
-    false_not (list_any is_equals (option_text b)) (lacks_equals b) (ap (list_any is_equals) (sym e) ∙ has_equals a v)
+    both_ways (list_any is_equals (option_text b)) (lacks_equals b) (ap (list_any is_equals) (sym e) ∙ has_equals a v)
 
 -- the byte in which all options differ
 abbrev third : List ℕ → ℕ
@@ -106,14 +104,14 @@ not_a_value name text option other m n r named written small test outside h =
     let same : other ≡ option = same_names other option (sym h.name_is ∙ named) in
     let value : IsValue option n = subst (λ (o : NumberOption). IsValue o n) same h.value in
     let number : n ≡ m = decimal_injective n m (small_value option n value) small (sym h.text_is ∙ written) in
-    false_not r outside (test.1 (subst (IsValue option) number value))
+    both_ways r outside (test.1 (subst (IsValue option) number value))
 
 -- ## Words
 
 first_same : {X : Type 0} {x y : X} {xs ys : List X} → x ∷ xs ≡ y ∷ ys → x ≡ y
 first_same e = cc
 
-rest_same : {X : Type 0} {x y : X} {xs ys : List X} → x ∷ xs ≡ y ∷ ys → xs ≡ ys
+pub rest_same : {X : Type 0} {x y : X} {xs ys : List X} → x ∷ xs ≡ y ∷ ys → xs ≡ ys
 rest_same e = cc
 
 abbrev SameStart : Setting → Setting → List (List ℕ) → List (List ℕ) → Type 0

@@ -3,6 +3,7 @@ use Rattle.std.proofs.Common.{◌≡◌, ℕ, Bool, true, false, ◌||◌, cond,
 use Rattle.std.specs.List.{AllByRecursion, IsDistinct, list_any}
 use Rattle.std.specs.Option.{is_some}
 use Rattle.std.proofs.lemmas.List.{append-nil}
+use Rattle.std.proofs.lemmas.Bool.{or_parts}
 use Rattle.bx_engine_words.specs.declared.given.Given.{Given}
 use Rattle.bx_engine_words.specs.declared.order.Order.{Order}
 use Rattle.bx_engine_words.specs.declared.setting.NumberOption.{NumberOption}
@@ -105,10 +106,6 @@ given_more ss NoCache free =
 -- the setting is of another option than each of these
 abbrev Differs : Setting → List Setting → Type 0
 Differs s ss = AllByRecursion (λ x. is_same x s ≡ false) ss
-
-or_parts : (a b : Bool) → (a || b) ≡ false → (a ≡ false) × (b ≡ false)
-or_parts true b e = absurd cc
-or_parts false b e = (refl, e)
 
 differs_new : (ss : List Setting) (s : Setting) → is_among ss s ≡ false → Differs s ss
 differs_new [] s e = tt

@@ -1,22 +1,17 @@
 -- Words that begin with the word `build`.
-use Rattle.std.proofs.Common.{◌≡◌, ℕ, Bool, true, false, not, List, ◌∷◌, codes, eqb, Option, Some, None, Result, refl, sym, subst, ◌∙◌}
+use Rattle.std.proofs.Common.{◌≡◌, ℕ, false, not, List, ◌∷◌, codes, eqb, Option, Some, None, Result, sym, subst, ◌∙◌}
 use Rattle.std.specs.Prelude.{MatchOption, MatchResult}
 use Rattle.std.specs.Cmp.Lexicographic.{pointwise}
 use Rattle.std.specs.Option.{ok_or}
 use Rattle.std.proofs.lemmas.Slice.Eq.{bytes_eq-Decides}
+use Rattle.std.proofs.lemmas.Bool.{not-false}
 use Rattle.bx_engine_words.specs.declared.order.Order.{Order}
 use Rattle.bx_engine_words.specs.Words.{AreOptions, Orders}
-
-same_bytes : (b : Bool) → not b ≡ false → b ≡ true
-same_bytes true e = refl
-same_bytes false e = sym e
+use Rattle.bx_engine_words.proofs.OneSetting.{rest_same}
 
 -- texts that are not found to differ are equal
 pub same_text : (a b : List ℕ) → not (pointwise eqb a b) ≡ false → a ≡ b
-same_text a b e = (bytes_eq-Decides a b).0 (same_bytes (pointwise eqb a b) e)
-
-rest_same : {X : Type 0} {x y : X} {xs ys : List X} → x ∷ xs ≡ y ∷ ys → xs ≡ ys
-rest_same e = cc
+same_text a b e = (bytes_eq-Decides a b).0 (not-false (pointwise eqb a b) e)
 
 abbrev IsReadAs : {E : Type 0} → List (List ℕ) → Result Order E → Type 0
 IsReadAs words r = MatchResult r (λ order. Orders words order) (λ _. (order : Order) → Orders words order → ⊥)

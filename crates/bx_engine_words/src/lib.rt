@@ -1,8 +1,8 @@
 //! The command line parser.
 //!
-//! `specs/Words.antt` has the words of each command as a grammar: a build is the word `build` with settings,
-//! each of one word or two, in any order. This crate depends on `std` alone. It carries the promise that
-//! words are read as the one order that they are, and are refused exactly where they are none.
+//! `specs/Words.antt` has the arguments of each command as a grammar: a build is the word `build` with settings,
+//! each of one word or two, in any order. This crate depends on std alone. It carries the promise that arguments
+//! are parsed as the one command that they are, and rejected exactly where they are none.
 #![tactic(auto)]
 
 mod given;

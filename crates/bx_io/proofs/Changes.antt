@@ -8,21 +8,21 @@ use Rattle.std.specs.FinMap.{get, get-insert, get-remove, slice_cmp-IsAntisymmet
 use Rattle.std.proofs.lemmas.List.Elements.{All-head, All-tail}
 use Rattle.bx_io.specs.Causes.{Rose, last_count}
 use Rattle.bx_io.specs.Names.{IsName}
-use Rattle.bx_io.specs.Holdings.{Holdings, AreNames, Change, Put, Drop, changed, holdings_after, name_of, StoreState, state_after, known_after, MakesPrefix}
+use Rattle.bx_io.specs.Holdings.{Holdings, AreNames, Change, Put, Drop, changed, holdings_after, name_of, StoreState, state_after, known_after, MakesPrefix, IsPrefix}
 
 pub after-append : (held : Holdings) (first next : List Change) → holdings_after held (first ++ next) ≡ holdings_after (holdings_after held first) next
 after-append held [] next = refl
 after-append held (change ∷ first) next = after-append (changed held change) first next
 
-kept_after-append : (kept : StoreState) (first next : List Change) → state_after kept (first ++ next) ≡ state_after (state_after kept first) next
-kept_after-append kept first next =
+state_after-append : (kept : StoreState) (first next : List Change) → state_after kept (first ++ next) ≡ state_after (state_after kept first) next
+state_after-append kept first next =
     let held = after-append kept.held first next in
     let changes : kept.changes ++ (first ++ next) ≡ (kept.changes ++ first) ++ next = sym (append_assoc kept.changes first next) in
     cc
 
 pub known_after-append : (known : Option StoreState) (first next : List Change) → known_after known (first ++ next) ≡ known_after (known_after known first) next
 known_after-append None first next = refl
-known_after-append (Some kept) first next = ap Some (kept_after-append kept first next)
+known_after-append (Some kept) first next = ap Some (state_after-append kept first next)
 
 pub known_after-nil : (known : Option StoreState) → known_after known [] ≡ known
 known_after-nil None = refl
@@ -82,3 +82,8 @@ prefix_of_next before between now first next done made = record {
 -- a count that can still rise rose by one at least
 pub rose_by_one : (before now : ℕ) → Rose before now → now < last_count → before + 1 ≤ now
 rose_by_one before now rose below = omega (arith, rose, below)
+
+-- only no changes at all come before no changes
+pub nothing_before : (start : List Change) → IsPrefix start [] → start ≡ []
+nothing_before [] p = refl
+nothing_before (c ∷ cs) p = let joined : c ∷ (cs ++ p.rest) ≡ [] = p.joined in absurd cc

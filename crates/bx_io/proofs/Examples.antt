@@ -1,9 +1,9 @@
 -- Worked examples of changes, of their prefixes and of counts.
 use Rattle.std.proofs.Common.{◌≡◌, ℕ, List, [], ◌∷◌, Some, None, codes, refl, ap, arith, rules}
-use Rattle.std.specs.FinMap.{empty, get, gets, same_map, slice_cmp-IsAntisymmetric, nat_cmp-IsAntisymmetric}
-use Rattle.std.specs.Cmp.Lexicographic.{nat_list_cmp_total}
+use Rattle.std.specs.FinMap.{empty, get, gets}
 use Rattle.bx_io.specs.Causes.{Rose, last_count}
 use Rattle.bx_io.specs.Holdings.{Holdings, Put, Drop, holdings_after, known_after, IsPrefix}
+use Rattle.bx_io.proofs.Mapped.{same_holdings}
 
 abbrev a : List ℕ
 a = codes "b/0a"
@@ -19,9 +19,6 @@ two = 2 ∷ []
 
 abbrev none : Holdings
 none = empty
-
-same : (m n : Holdings) → ((q : List ℕ) → get m q ≡ get n q) → m ≡ n
-same = same_map nat_list_cmp_total (slice_cmp-IsAntisymmetric nat_cmp-IsAntisymmetric)
 
 no_change : holdings_after none [] ≡ none
 no_change = refl
@@ -42,7 +39,7 @@ put_after_drop : get (holdings_after none (Drop a ∷ Put a one ∷ [])) a ≡ S
 put_after_drop = grind (gets, rules)
 
 drop_of_nothing : holdings_after none (Drop a ∷ []) ≡ none
-drop_of_nothing = same (holdings_after none (Drop a ∷ [])) none (λ q. grind (gets, rules))
+drop_of_nothing = same_holdings (holdings_after none (Drop a ∷ [])) none (λ q. grind (gets, rules))
 
 drop_leaves_others : get (holdings_after none (Put a one ∷ Put b two ∷ Drop a ∷ [])) b ≡ Some two
 drop_leaves_others = grind (gets, rules)

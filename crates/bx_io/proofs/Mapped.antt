@@ -40,7 +40,7 @@ items_lent None = refl
 items_lent (Some b) = refl
 
 -- two holdings that answer each path alike are equal
-same_holdings : (m n : Holdings) → ((q : List ℕ) → get m q ≡ get n q) → m ≡ n
+pub same_holdings : (m n : Holdings) → ((q : List ℕ) → get m q ≡ get n q) → m ≡ n
 same_holdings = same_map nat_list_cmp_total (slice_cmp-IsAntisymmetric nat_cmp-IsAntisymmetric)
 
 items_in_branch : (b : Bool) (w old : Option (Vec ℕ Global)) → option_map (λ v. v.items) (cond b w old) ≡ cond b (option_map (λ v. v.items) w) (option_map (λ v. v.items) old)

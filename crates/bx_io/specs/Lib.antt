@@ -3,7 +3,7 @@ pub mod Names
 pub mod Holdings
 pub mod Answers
 pub mod Numbered
-pub mod Kept
+pub mod StoreCodes
 pub mod Memories
 pub mod Calls
 pub mod Stored

@@ -2,7 +2,7 @@
 use Rattle.std.specs.Prelude.{ℕ, ◌+◌, List, refl}
 use Rattle.std.specs.Coded.{Coded, code_by, coded×, coded_ℕ, coded_list}
 use Rattle.bx_io.specs.Holdings.{Holdings, StoreState}
-use Rattle.bx_io.specs.Kept.{holdings_code, kept_code, script_code}
+use Rattle.bx_io.specs.StoreCodes.{holdings_code, state_code, script_code}
 use Rattle.bx_io.specs.Numbered.{Script}
 
 -- a source: the bytes that it has left, of which it gives at most `chunk` a call
@@ -45,7 +45,7 @@ faults_in keeper = keeper.inner.script.faults + keeper.refused
 
 abbrev pub scripted_code : Coded Scripted
 scripted_code =
-    code_by (StoreState × Script) (coded× kept_code script_code) (λ k. (k.kept, k.script))
+    code_by (StoreState × Script) (coded× state_code script_code) (λ k. (k.kept, k.script))
     (λ p. record { kept = p.0; script = p.1 }) (λ _. refl)
 
 abbrev pub scripted_reader_code : Coded ScriptedReader

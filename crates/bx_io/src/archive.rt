@@ -7,11 +7,10 @@ ghost use Rattle.bx_io.specs.Answers.{Finds, Lists, ListsNames};
 ghost use Rattle.bx_io.specs.Holdings.{AreNames, Put, Drop, state_after};
 ghost use Rattle.bx_io.specs.Names.{IsName};
 
-use crate::fault::Memory;
 use crate::history::{Change, History};
 use crate::holdings::Holdings;
 use crate::keeper::{Got, Listed};
-use std::alloc::Global;
+use std::alloc::{AllocError, Global};
 use std::marker::Model;
 
 /// Holdings with their history.
@@ -23,11 +22,11 @@ pub struct Archive {
 
 impl Model for Archive {
     ghost use Rattle.bx_io.specs.Holdings.{StoreState};
-    ghost use Rattle.bx_io.specs.Kept.{kept_code};
+    ghost use Rattle.bx_io.specs.StoreCodes.{state_code};
 
     ghost Value = { StoreState };
 
-    ghost coded = { kept_code };
+    ghost coded = { state_code };
 
     ghost view = { λ s. record { held = s.held; changes = s.changes } };
 }
@@ -51,7 +50,7 @@ impl Archive {
     }
 
     /// Holds the bytes under the name, in place of what was held there.
-    pub fn put(&mut self, alloc: Global, name: &str, bytes: &[u8]) -> Result<(), Memory>
+    pub fn put(&mut self, alloc: Global, name: &str, bytes: &[u8]) -> Result<(), AllocError>
         requires { IsName name.now }
         ensures made { OnOk result (self.new ≡ state_after self.old (Put name.now bytes.now ∷ [])) }
         ensures refused { OnErr result (self.new ≡ self.old) }
@@ -70,7 +69,7 @@ impl Archive {
     }
 
     /// Holds nothing under the name.
-    pub fn drop_name(&mut self, alloc: Global, name: &str) -> Result<(), Memory>
+    pub fn drop_name(&mut self, alloc: Global, name: &str) -> Result<(), AllocError>
         ensures made { OnOk result (self.new ≡ state_after self.old (Drop name.now ∷ [])) }
         ensures refused { OnErr result (self.new ≡ self.old) }
     {

@@ -6,11 +6,10 @@ ghost use Rattle.bx_io.specs.Causes.{HasCause, last_count};
 ghost use Rattle.bx_io.specs.Holdings.{AreNames, Put, Drop};
 ghost use Rattle.bx_io.specs.Names.{IsName};
 
-use crate::fault::Memory;
 use crate::keeper::{Got, Keeper, Listed, PutFault};
 use crate::mem_keeper::MemKeeper;
 use crate::mem_reader::FailReader;
-use std::alloc::Global;
+use std::alloc::{AllocError, Global};
 use std::marker::Model;
 
 /// A store over another one. Its own calls are calls of that store; each of its readers numbers its calls
@@ -54,7 +53,7 @@ impl Keeper for FailKeeper {
 
     ghost bound = { λ k. Some (length k.failing) };
 
-    fn reader(&self, alloc: Global) -> Result<FailReader, Memory>
+    fn reader(&self, alloc: Global) -> Result<FailReader, AllocError>
         ensures whole { IfOk result (λ reader. reader ≡ record {
           held = self.now.inner.kept.held;
           script = record { failing = self.now.failing; calls = 0; faults = 0 };

@@ -3,8 +3,7 @@
 ghost use Rattle.std.specs.Prelude.{◌≡◌, ◌-◌, [], ◌∷◌, ◌++◌, length, take, OnOk, OnErr};
 ghost use Rattle.bx_io.specs.Stored.{change_of};
 
-use crate::fault::Memory;
-use std::alloc::Global;
+use std::alloc::{AllocError, Global};
 use std::marker::Model;
 
 /// A change of an in-memory store.
@@ -25,7 +24,7 @@ pub struct History {
 impl Model for History {
     ghost use Rattle.std.specs.Prelude.{List, map};
     ghost use Rattle.bx_io.specs.Holdings as specs;
-    ghost use Rattle.bx_io.specs.Kept.{changes_code};
+    ghost use Rattle.bx_io.specs.StoreCodes.{changes_code};
 
     ghost Value = { List specs.Change };
 
@@ -47,7 +46,7 @@ impl History {
     }
 
     /// Adds a change.
-    pub fn push(&mut self, change: Change) -> Result<(), Memory>
+    pub fn push(&mut self, change: Change) -> Result<(), AllocError>
         ensures added { OnOk result (self.new ≡ self.old ++ change_of change ∷ []) }
         ensures refused { OnErr result (self.new ≡ self.old) }
     {

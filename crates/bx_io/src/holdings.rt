@@ -9,9 +9,8 @@ ghost use Rattle.bx_io.specs.Answers.{Finds, Lists, ListsNames, MayBeHeld};
 ghost use Rattle.bx_io.specs.Holdings.{AreNames};
 ghost use Rattle.bx_io.specs.Names.{IsName};
 
-use crate::fault::Memory;
 use crate::keeper::{Got, Listed};
-use std::alloc::Global;
+use std::alloc::{AllocError, Global};
 use std::collections::BTreeMap;
 use std::marker::Model;
 
@@ -23,7 +22,7 @@ pub struct Holdings {
 
 impl Model for Holdings {
     ghost use Rattle.bx_io.specs.Holdings as specs;
-    ghost use Rattle.bx_io.specs.Kept.{holdings_code};
+    ghost use Rattle.bx_io.specs.StoreCodes.{holdings_code};
 
     ghost Value = { specs.Holdings };
 
@@ -54,7 +53,7 @@ impl Holdings {
     }
 
     /// Holds the bytes under the name, in place of what was held there.
-    pub fn put(&mut self, name: String, bytes: Vec<u8>) -> Result<(), Memory>
+    pub fn put(&mut self, name: String, bytes: Vec<u8>) -> Result<(), AllocError>
         requires { IsName (string_bytes name) }
         ensures held { OnOk result (self.new ≡ insert self.old (string_bytes name) bytes.items) }
         ensures refused { OnErr result (self.new ≡ self.old) }
@@ -71,7 +70,7 @@ impl Holdings {
     }
 
     /// The held names, rising by bytes.
-    pub fn names(&self, alloc: Global) -> Result<Vec<String>, Memory>
+    pub fn names(&self, alloc: Global) -> Result<Vec<String>, AllocError>
         ensures held { IfOk result (λ names. map string_bytes names.items ≡ keys self.now) }
         ensures names { IfOk result (λ names. All (λ name. IsName (string_bytes name)) names.items) }
         ensures rising { IfOk result
@@ -112,7 +111,7 @@ impl Holdings {
     }
 
     /// A copy of the holdings.
-    pub fn copy(&self) -> Result<Holdings, Memory>
+    pub fn copy(&self) -> Result<Holdings, AllocError>
         ensures same { IfOk result (λ copy. copy ≡ self.now) }
         ensures names { AreNames self.now }
     {

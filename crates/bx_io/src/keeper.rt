@@ -7,7 +7,6 @@ ghost use Rattle.bx_io.specs.Names.{IsName};
 ghost use Rattle.bx_io.specs.Holdings.{AreNames, Holdings, StoreState, Put, Drop, held_in, known_after};
 ghost use Rattle.bx_io.specs.Answers.{Finds, Lists, ListsNames, MayBeHeld};
 
-use crate::fault::Memory;
 use std::alloc::{AllocError, AllocFailed, Global};
 
 /// The answer to a look under a name.
@@ -84,7 +83,7 @@ pub trait Keeper {
     ghost bound: { Self → Option ℕ };
 
     /// A reader of what the store holds now. Only running out of memory is an error.
-    fn reader(&self, alloc: Global) -> Result<Self::Reader, Memory>
+    fn reader(&self, alloc: Global) -> Result<Self::Reader, AllocError>
         ensures held { IfOk result (λ reader. Self.Reader.held reader ≡ held_in (known self.now)) }
         ensures names { IfSome (held_in (known self.now)) AreNames }
         ensures bound { IfOk result (λ reader. Self.Reader.bound reader ≡ bound self.now) }

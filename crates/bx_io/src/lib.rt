@@ -1,11 +1,10 @@
-//! The engine's interface to the outside: sources, sinks and stores as traits with counted faults, and
-//! in-memory implementations for tests.
+//! The engine's interface to the outside: sources, sinks and stores as traits with counted faults, and in-memory
+//! implementations for tests.
 //!
-//! Each of these is a trait whose contract holds for streams, folders and memory alike. It counts its faults,
-//! and the count rises in every call that fails and in no other, so that no layer above can report a fault
-//! that never was. Objects in memory that meet the traits, and fail where a test asks them to, are here too.
-//! The crate depends on std alone. It carries the promise that every answer which blames the outside has its
-//! cause there.
+//! The contract of each trait holds for streams, folders and memory alike. An object counts its faults, and the
+//! count rises in every call that fails and in no other, so that no layer above can report a fault that never was.
+//! The objects in memory fail where a test asks them to. The crate depends on std alone. It carries the promise
+//! that every answer which blames the outside has its cause there.
 #![tactic(auto)]
 
 mod archive;
@@ -30,7 +29,7 @@ mod source;
 mod stop_keeper;
 
 pub use fail_keeper::FailKeeper;
-pub use fault::{Failed, Memory};
+pub use fault::{Failed, one_more};
 pub use gate::{Gate, OpenGate};
 pub use keeper::{Got, KeepReader, Keeper, Listed, PutFault};
 pub use laws::{changes_in_order, counts_with_a_bound};

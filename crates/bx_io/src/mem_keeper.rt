@@ -8,11 +8,10 @@ ghost use Rattle.bx_io.specs.Holdings.{Put, Drop, state_after};
 ghost use Rattle.bx_io.specs.Names.{IsName};
 
 use crate::archive::Archive;
-use crate::fault::Memory;
 use crate::fault_plan::FaultPlan;
 use crate::keeper::{Got, Keeper, Listed, PutFault};
 use crate::mem_reader::MemReader;
-use std::alloc::Global;
+use std::alloc::{AllocError, Global};
 use std::marker::Model;
 
 /// An in-memory store. Its calls `get`, `put`, `drop_name` and `names` are numbered together, and fail as its
@@ -61,7 +60,7 @@ impl MemKeeper {
     }
 
     /// Holds the bytes under the name, as a test wants them. This is a change, but no numbered call.
-    pub fn set_raw(&mut self, alloc: Global, name: &str, bytes: Vec<u8>) -> Result<(), Memory>
+    pub fn set_raw(&mut self, alloc: Global, name: &str, bytes: Vec<u8>) -> Result<(), AllocError>
         requires { IsName name.now }
         ensures made { OnOk result (self.new ≡ record self.old {
           kept = state_after self.old.kept (Put name.now bytes.items ∷ []);
@@ -91,7 +90,7 @@ impl Keeper for MemKeeper {
 
     ghost bound = { λ _. Some 0 };
 
-    fn reader(&self, _alloc: Global) -> Result<MemReader, Memory> {
+    fn reader(&self, _alloc: Global) -> Result<MemReader, AllocError> {
         Ok(MemReader::new(self.archive.held().copy()?))
     }
 

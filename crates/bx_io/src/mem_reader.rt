@@ -20,7 +20,7 @@ pub struct MemReader {
 
 impl Model for MemReader {
     ghost use Rattle.bx_io.specs.Holdings as specs;
-    ghost use Rattle.bx_io.specs.Kept.{holdings_code};
+    ghost use Rattle.bx_io.specs.StoreCodes.{holdings_code};
 
     ghost Value = { specs.Holdings };
 

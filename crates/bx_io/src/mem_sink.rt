@@ -5,10 +5,10 @@ ghost use Rattle.std.specs.Prelude.{IfOk, OnOk, OnErr};
 ghost use Rattle.bx_io.specs.Causes.{HasCause};
 ghost use Rattle.bx_io.specs.Numbered.{IsFaultDue, after_work, after_fault};
 
-use crate::fault::{Failed, Memory};
+use crate::fault::Failed;
 use crate::script::Script;
 use crate::sink::Sink;
-use std::alloc::Global;
+use std::alloc::{AllocError, Global};
 use std::marker::Model;
 
 /// A place in memory for a number of bytes, with the faults that its maker asked for.
@@ -42,7 +42,7 @@ impl MemSink {
         capacity: usize,
         chunk: usize,
         failing: Vec<u64>,
-    ) -> Result<MemSink, Memory>
+    ) -> Result<MemSink, AllocError>
         requires { 1 ≤ chunk }
         ensures whole { IfOk result (λ sink. sink ≡ record {
           taken = [];

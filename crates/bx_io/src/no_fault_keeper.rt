@@ -4,10 +4,9 @@ ghost use Rattle.std.specs.Prelude.{◌≡◌, [], Some};
 ghost use Rattle.std.specs.FinMap.{empty};
 
 use crate::archive::Archive;
-use crate::fault::Memory;
 use crate::keeper::{Got, Keeper, Listed, PutFault};
 use crate::mem_reader::MemReader;
-use std::alloc::Global;
+use std::alloc::{AllocError, Global};
 use std::marker::Model;
 
 /// An in-memory store that never fails.
@@ -18,11 +17,11 @@ pub struct NoFaultKeeper {
 
 impl Model for NoFaultKeeper {
     ghost use Rattle.bx_io.specs.Holdings.{StoreState};
-    ghost use Rattle.bx_io.specs.Kept.{kept_code};
+    ghost use Rattle.bx_io.specs.StoreCodes.{state_code};
 
     ghost Value = { StoreState };
 
-    ghost coded = { kept_code };
+    ghost coded = { state_code };
 
     ghost view = { λ k. k.archive };
 }
@@ -52,7 +51,7 @@ impl Keeper for NoFaultKeeper {
 
     ghost bound = { λ _. Some 0 };
 
-    fn reader(&self, _alloc: Global) -> Result<MemReader, Memory> {
+    fn reader(&self, _alloc: Global) -> Result<MemReader, AllocError> {
         Ok(MemReader::new(self.archive.held().copy()?))
     }
 

@@ -8,11 +8,10 @@ ghost use Rattle.bx_io.specs.Holdings.{Put, Drop, state_after};
 ghost use Rattle.bx_io.specs.Memories.{faults_in};
 ghost use Rattle.bx_io.specs.Names.{IsName};
 
-use crate::fault::Memory;
 use crate::keeper::{Got, Keeper, Listed, PutFault};
 use crate::mem_keeper::MemKeeper;
 use crate::mem_reader::MemReader;
-use std::alloc::Global;
+use std::alloc::{AllocError, Global};
 use std::marker::Model;
 
 /// What becomes of a call.
@@ -113,7 +112,7 @@ impl Keeper for StopKeeper {
 
     ghost bound = { λ _. Some 0 };
 
-    fn reader(&self, alloc: Global) -> Result<MemReader, Memory> {
+    fn reader(&self, alloc: Global) -> Result<MemReader, AllocError> {
         self.inner.reader(alloc)
     }
 

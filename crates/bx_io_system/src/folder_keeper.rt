@@ -1,12 +1,11 @@
 //! The store of the program: a folder of files.
 
-ghost use Rattle.std.specs.Prelude.{◌≡◌, IfOk};
+ghost use Rattle.std.specs.Prelude.{IfOk};
 ghost use Rattle.bx_io.specs.Answers.{ListsNames};
-ghost use Rattle.bx_io.specs.Causes.{counted};
 ghost use Rattle.bx_io_system.specs.FolderNames.{AreAllNames, IsOutcome};
 ghost use Rattle.bx_io.specs.declared.keeper.Listed.TheVariants as listed;
 
-use bx_io::{Got, KeepReader, Keeper, Listed, PutFault, is_name};
+use bx_io::{Got, KeepReader, Keeper, Listed, PutFault, is_name, one_more};
 use std::alloc::{AllocError, Global};
 use std::fs::{self, DirEntry, File, OpenFile};
 use std::io::{self, ErrorKind, Write};
@@ -215,13 +214,6 @@ fn all_names<R: Files + AllocGlobal + Clone + Drop>(
         }
     }
     Ok(names)
-}
-
-// A count of faults with one more, up to the greatest `u64`.
-fn one_more(faults: u64) -> u64
-    ensures { result ≡ counted faults }
-{
-    faults.saturating_add(1)
 }
 
 impl<R> FolderKeeper<R> {

@@ -1,3 +1,4 @@
 pub mod StepsOfTexts
 pub mod RowsMatch
 pub mod LastAtoms
+pub mod Ancestors

@@ -1,27 +1,21 @@
 -- The steps of a relative text lead where the definition says, and give short paths exactly.
 use Rattle.bx_tree.specs.declared.limits.TheConstants.{MAX_ATOM_BYTES}
 use Rattle.bx_tree.specs.declared.limits.TheConstants.{MAX_PATH_BYTES}
-use Rattle.std.proofs.Common.{inl, inr, ◌==◌, append_assoc, ◌≡◌, ◌≢◌, ℕ, ◌<◌, ◌≤◌, ◌+◌, true, false, not, cond, ◌&&◌, nat_le, IsTrue, List, [], ◌∷◌, ◌++◌, length, get_or, take, codes, Some, None, refl, ap, sym, ◌∙◌, subst, arith, lit≤}
+use Rattle.std.proofs.Common.{inl, inr, append_assoc, ◌≡◌, ◌≢◌, ℕ, ◌<◌, ◌≤◌, ◌+◌, true, false, not, cond, ◌&&◌, nat_le, List, [], ◌∷◌, ◌++◌, length, get_or, take, codes, Some, None, refl, ap, sym, ◌∙◌, subst, arith, append-nil}
 use Rattle.std.specs.Borrow.{Bor}
-use Rattle.std.specs.List.{AllByRecursion, join_with_byte, list_all, slice_split}
+use Rattle.std.specs.List.{AllByRecursion, join_with_byte, list_all}
 use Rattle.std.specs.Str.{bytes_eq}
 use Rattle.std.proofs.lemmas.Bool.{and_from, and_parts, cases_Bool, false≢true, le-leb, leb-true, lt-leb, not-true, cases_lt}
 use Rattle.std.proofs.lemmas.List.{take_more, map_push, length-map, length-take-le}
 use Rattle.std.proofs.lemmas.Slice.Eq.{bytes_eq-Decides}
-use Rattle.bx_tree.specs.Paths.{Atoms, IsAtom, IsPath, IsPathText, Names, is_atom_byte, path_text}
-use Rattle.bx_tree.proofs.PathTexts.{atoms_again, one_path, same_from_text, join-append}
-use Rattle.bx_path.specs.Joining.{is_atom, parent, step, if_short}
+use Rattle.std.specs.Prelude.{option_and_then}
+use Rattle.bx_tree.specs.Paths.{Atoms, IsAtom, IsPathText, Names, is_atom_byte, path_text}
+use Rattle.bx_tree.proofs.PathTexts.{one_path, join-append}
+use Rattle.bx_path.specs.Joining.{is_atom, parent, step, if_short, walk}
 use Rattle.bx_tree.specs.Lent.{texts_now}
+use Rattle.bx_tree.proofs.Lists.{all_true, texts_differ, true_all}
 
 -- ## Atoms by a test
-
-all_bytes : (bs : List ℕ) → AllByRecursion (λ b. IsTrue (is_atom_byte b)) bs → list_all is_atom_byte bs ≡ true
-all_bytes [] h = refl
-all_bytes (b ∷ bs) h = and_from (is_atom_byte b) (list_all is_atom_byte bs) h.0 (all_bytes bs h.1)
-
-bytes_all : (bs : List ℕ) → list_all is_atom_byte bs ≡ true → AllByRecursion (λ b. IsTrue (is_atom_byte b)) bs
-bytes_all [] h = tt
-bytes_all (b ∷ bs) h = let parts = and_parts (is_atom_byte b) (list_all is_atom_byte bs) h in (parts.0, bytes_all bs parts.1)
 
 differs : (a b : List ℕ) → a ≢ b → not (bytes_eq a b) ≡ true
 differs a b n = elim (cases_Bool (bytes_eq a b)) [
@@ -29,13 +23,13 @@ differs a b n = elim (cases_Bool (bytes_eq a b)) [
   | inr e ↦ ap not e
 ]
 
-other_bytes : (a b : List ℕ) → not (bytes_eq a b) ≡ true → a ≢ b
+pub other_bytes : (a b : List ℕ) → not (bytes_eq a b) ≡ true → a ≢ b
 other_bytes a b h e = false≢true (sym (not-true (bytes_eq a b) h) ∙ (bytes_eq-Decides a b).1 e)
 
 pub is_atom_true : (text : List ℕ) → IsAtom text → is_atom text ≡ true
 is_atom_true text h =
     and_from _ _ (and_from _ _ (and_from _ _ (and_from _ _
-    (le-leb 1 (length text) h.some) (le-leb (length text) MAX_ATOM_BYTES h.short)) (all_bytes text h.bytes))
+    (le-leb 1 (length text) h.some) (le-leb (length text) MAX_ATOM_BYTES h.short)) (true_all is_atom_byte text h.bytes))
     (differs text (codes ".") h.not_dot)) (differs text (codes "..") h.not_dots)
 
 pub is_atom_false : (text : List ℕ) → (IsAtom text → ⊥) → is_atom text ≡ false
@@ -48,7 +42,7 @@ is_atom_false text n = elim (cases_Bool (is_atom text)) [
       absurd (n (record {
         some = leb-true 1 (length text) f.0;
         short = leb-true (length text) MAX_ATOM_BYTES f.1;
-        bytes = bytes_all text d.1;
+        bytes = all_true is_atom_byte text d.1;
         not_dot = other_bytes text (codes ".") b.1;
         not_dots = other_bytes text (codes "..") a.1;
       }))
@@ -71,24 +65,14 @@ pub step_none : (path : Atoms) (part : List ℕ) → bytes_eq part (codes ".") �
     → step path part ≡ None
 step_none path part e f n = step_other path part e f ∙ ap (λ b. cond b (Some (path ++ part ∷ [])) None) (is_atom_false part n)
 
-pub prefix_valid : {X : Type 0} (P : X → Type 0) (xs ys : List X) → AllByRecursion P (xs ++ ys) → AllByRecursion P xs
-prefix_valid P [] ys h = tt
-prefix_valid P (x ∷ xs) ys h = (h.0, prefix_valid P xs ys h.1)
-
-pub push_valid : {X : Type 0} (P : X → Type 0) (xs : List X) (y : X) → AllByRecursion P xs → P y → AllByRecursion P (xs ++ y ∷ [])
-push_valid P [] y h p = (p, tt)
-push_valid P (x ∷ xs) y h p = (h.0, push_valid P xs y h.1 p)
-
--- ## The atoms of a path
-
-root_path : IsPath []
-root_path = record { atoms = tt; short = lit≤ tt }
-
-pub root_from_text : (path : Atoms) → IsPath path → path_text path ≡ codes "." → path ≡ []
-root_from_text path h e = same_from_text path [] h root_path e
-
-pub atoms_from_text : (path : Atoms) → IsPath path → path_text path ≢ codes "." → slice_split (λ b. b == 47) (path_text path) ≡ path
-atoms_from_text path h n = atoms_again (path_text path) path (record { is_path = h; not_root = λ e. n (ap path_text e); text_is = refl })
+-- atoms lead down, one after the other
+pub walk_down : (path atoms : Atoms) → AllByRecursion IsAtom atoms → walk path atoms ≡ Some (path ++ atoms)
+walk_down path [] h = ap Some (sym (append-nil path))
+walk_down path (atom ∷ atoms) h =
+    ap (option_and_then (λ next. walk next atoms))
+    (step_down path atom (texts_differ atom (codes ".") h.0.not_dot) (texts_differ atom (codes "..") h.0.not_dots) h.0)
+    ∙ walk_down (path ++ atom ∷ []) atoms h.1
+    ∙ ap Some (append_assoc path (atom ∷ []) atoms)
 
 -- ## The text of atoms
 

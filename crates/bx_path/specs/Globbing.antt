@@ -1,9 +1,9 @@
 -- Which atoms match a pattern, and which files of a tree a glob lists.
 use Rattle.std.specs.Prelude.{Bool, IsTrue, false, if◌then◌else◌, nat_le, true, ℕ, ◌&&◌, ◌<◌, ◌==◌, ◌||◌, ◌≤◌}
-use Rattle.std.specs.Prelude.{List, [], ◌∷◌, length, filter, Option, Some, None}
+use Rattle.std.specs.Prelude.{List, [], ◌∷◌, length, filter}
 use Rattle.std.specs.List.{AllByRecursion, list_all}
 use Rattle.std.specs.Option.{option_map_or}
-use Rattle.std.specs.Str.{bytes_eq}
+use Rattle.bx_tree.specs.Below.{strip_dir}
 use Rattle.bx_tree.specs.Paths.{Atoms, is_atom_byte}
 use Rattle.bx_tree.specs.Trees.{Files, paths_of}
 use Rattle.bx_path.specs.declared.globbing.TheConstants.{MAX_PATTERN_BYTES}
@@ -33,12 +33,6 @@ abbrev pub is_match : List ℕ → List ℕ → Bool
 is_match [] [] = true
 is_match [] (b ∷ bs) = false
 is_match (p ∷ ps) atom = if p == 42 then some_suffix (is_match ps) atom else one_byte p (is_match ps) atom
-
--- the atoms of a path after those of a directory, if the path starts with these
-abbrev pub strip_dir : Atoms → Atoms → Option Atoms
-strip_dir [] path = Some path
-strip_dir (d ∷ ds) [] = None
-strip_dir (d ∷ ds) (a ∷ as') = if bytes_eq d a then strip_dir ds as' else None
 
 -- the last of the atoms matches the pattern, and it is the only one unless the glob is deep
 abbrev pub last_is_match : List ℕ → Bool → Atoms → Bool

@@ -1,13 +1,13 @@
 //! Globs: the files of a tree whose last atom matches a pattern.
 
-ghost use Rattle.std.specs.Prelude.{◌≡◌, ◌≢◌, ◌==◌, ◌↔◌, ◌∷◌, ◌++◌, Some, IsTrue, MatchOption, MatchResult};
+ghost use Rattle.std.specs.Prelude.{◌≡◌, ◌==◌, ◌↔◌, Some, IsTrue, MatchResult};
 ghost use Rattle.std.specs.List.{AllByRecursion, slice_split};
-ghost use Rattle.bx_tree.specs.Paths.{IsAtom, IsBelow};
-ghost use Rattle.bx_path.specs.Globbing.{IsPattern, glob_of, is_pattern_byte as pattern_byte, strip_dir};
+ghost use Rattle.bx_tree.specs.Paths.{IsAtom};
+ghost use Rattle.bx_path.specs.Globbing.{IsPattern, glob_of, is_pattern_byte as pattern_byte};
 ghost use Rattle.bx_path.specs.Globbing.{is_hit as is_hit_of, last_is_match as last_pattern_match};
 
 use crate::matching::is_match;
-use bx_tree::{Memory, Path, Tree};
+use bx_tree::{Memory, Path, Tree, split_once, text_below};
 use std::alloc::{AllocFailed, Global};
 
 /// The largest number of bytes in a pattern.
@@ -65,20 +65,6 @@ fn is_pattern(text: &[u8]) -> bool
     has_pattern_bytes(text)
 }
 
-// The parts of a text before and after the first `/`.
-fn split_at_slash(text: &[u8]) -> Option<(&[u8], &[u8])>
-    ensures { MatchOption result
-        (AllByRecursion (λ b. b ≢ 47) text.now)
-        (λ parts. AllByRecursion (λ b. b ≢ 47) parts.0.now × (text.now ≡ parts.0.now ++ 47 ∷ parts.1.now)) }
-{
-    for (i, b) in text.iter().enumerate() {
-        if *b == b'/' {
-            return Some((&text[..i], &text[i + 1..]));
-        }
-    }
-    None
-}
-
 // Whether the last atom of a text matches a pattern, and is the only atom unless the glob is deep.
 fn last_is_match(text: &[u8], pattern: &[u8], deep: bool) -> bool
     requires { AllByRecursion IsAtom (slice_split (λ b. b == 47) text.now) }
@@ -86,7 +72,7 @@ fn last_is_match(text: &[u8], pattern: &[u8], deep: bool) -> bool
 {
     let mut rest = text;
     'parts: loop {
-        let Some((_, after)) = split_at_slash(rest) else {
+        let Some((_, after)) = split_once(rest, b'/') else {
             return is_match(pattern, rest);
         };
         if !deep {
@@ -94,21 +80,6 @@ fn last_is_match(text: &[u8], pattern: &[u8], deep: bool) -> bool
         }
         rest = after;
     }
-}
-
-// The part of a path's text after the text of a directory that contains it and a `/`.
-fn text_below<'a>(dir: &Path, path: &'a Path) -> &'a [u8]
-    requires { IsBelow path.now dir.now }
-    ensures rest { strip_dir dir.now path.entry.now ≡ Some (slice_split (λ b. b == 47) result.now) }
-    ensures atoms { AllByRecursion IsAtom (slice_split (λ b. b == 47) result.now) }
-{
-    let text = path.text().as_bytes();
-    let prefix = dir.text();
-    if prefix == "." {
-        return text;
-    }
-    let (_, rest) = text.split_at(prefix.len() + 1);
-    rest
 }
 
 // Whether a glob of this directory lists a path.

@@ -9,8 +9,8 @@ ghost use Rattle.bx_tree.specs.Lent.{texts_now};
 use bx_tree::{Memory, Path, PathFault, is_atom};
 use std::alloc::Global;
 
-// The parts of a text between its `/`.
-fn parts_of(alloc: Global, text: &[u8]) -> Result<Vec<&[u8]>, Memory>
+/// The parts of a text between its `/`.
+pub fn parts_of(alloc: Global, text: &[u8]) -> Result<Vec<&[u8]>, Memory>
     ensures { IfOk result (λ parts. texts_now parts.items ≡ slice_split (λ b. b == 47) text.entry.now) }
 {
     text.split(|byte| *byte == b'/').collect(alloc)

@@ -73,7 +73,7 @@ position_from_search fs text (Err i) t l h =
 
 -- ## The file at a path
 
-file_at-found : (fs : Files) (p : Atoms) (i : ℕ) (d : Atoms × List ℕ) → IsStrictlySortedBy path_cmp (paths_of fs) → i < length fs
+pub file_at-found : (fs : Files) (p : Atoms) (i : ℕ) (d : Atoms × List ℕ) → IsStrictlySortedBy path_cmp (paths_of fs) → i < length fs
     → (get_or fs i d).0 ≡ p → file_at fs p ≡ Some (get_or fs i d).1
 file_at-found [] p i d up l e = absurd (omega (arith, l))
 file_at-found (f ∷ fs) p zero d up l e = ap (λ b. cond b (Some f.1) (file_at fs p)) ((same_path_decides f.0 p).1 e)
@@ -121,7 +121,7 @@ no_file fs p h =
 
 -- ## A sort
 
-strict : (a b : Atoms) (o : Ordering) → path_cmp a b ≡ o → is_lt (path_cmp b a) ≡ false → same_path a b ≡ false → o ≡ Less
+pub strict : (a b : Atoms) (o : Ordering) → path_cmp a b ≡ o → is_lt (path_cmp b a) ≡ false → same_path a b ≡ false → o ≡ Less
 strict a b Less e h k = refl
 strict a b Equal e h k = absurd (false≢true (sym k ∙ path_cmp_matches a b ∙ ap is_eq e))
 strict a b Greater e h k = absurd (false≢true (sym h ∙ ap is_lt (path_cmp_total.antisymm b a ∙ ap ordering_reverse e)))

@@ -42,7 +42,7 @@ zero_alone (b ∷ []) e = (
 )
 zero_alone (b ∷ d ∷ bs) e = (λ l. absurd (omega (arith, l)), λ h. absurd (omega (arith, ap length (h.no_zero (d ∷ bs) (ap (λ x. x ∷ d ∷ bs) e)))))
 
-digit_is : (c : ℕ) → IsInRange 48 57 c → digit_value c ≡ c - 48
+pub digit_is : (c : ℕ) → IsInRange 48 57 c → digit_value c ≡ c - 48
 digit_is c h = omega (arith, digit_value_digit c h)
 
 pub at_least : (bs : List ℕ) (i : ℕ) → IsLength bs → i < length bs → 48 ≤ get_or bs i 0

@@ -1,4 +1,8 @@
+pub mod BelowPaths
 pub mod PathTexts
+pub mod Roots
+pub mod AtomsBelow
+pub mod SortedRanges
 pub mod AnyElement
 pub mod FileSearch
 pub mod HeaderParts
@@ -7,3 +11,11 @@ pub mod TreeGrowth
 pub mod OneReading
 pub mod TreeCheck
 pub mod SomeReading
+pub mod Sets
+pub mod FoundByTest
+pub mod TextTables
+pub mod InOrder
+pub mod Lists
+pub mod Members
+pub mod Lent
+pub mod Options

@@ -17,6 +17,7 @@ use Rattle.bx_tree.specs.Bundle.{Header, StartsWithHeader, Faults, HeaderFault, 
 use Rattle.bx_tree.proofs.PathTexts.{below_from_prefix, same_from_text}
 use Rattle.bx_tree.proofs.FileSearch.{less_texts}
 use Rattle.bx_tree.proofs.HeaderParts.{at_split, one_header}
+use Rattle.bx_tree.proofs.Lists.{all_append, all_front}
 
 -- ## The header of a file
 
@@ -45,10 +46,6 @@ no_line_byte b h e = false≢true (subst (λ x. IsTrue (is_atom_byte x)) e h)
 no_line : (bs : List ℕ) → AllByRecursion (λ b. IsTrue (is_atom_byte b)) bs → AllByRecursion (λ b. b ≢ 10) bs
 no_line [] h = tt
 no_line (b ∷ bs) h = (no_line_byte b h.0, no_line bs h.1)
-
-all_append : {X : Type 0} (P : X → Type 0) (xs ys : List X) → AllByRecursion P xs → AllByRecursion P ys → AllByRecursion P (xs ++ ys)
-all_append P [] ys h k = k
-all_append P (x ∷ xs) ys h k = (h.0, all_append P xs ys h.1 k)
 
 join_line : (a : List ℕ) (as' : Atoms) → AllByRecursion IsAtom (a ∷ as') → AllByRecursion (λ b. b ≢ 10) (join_with_byte 47 (a ∷ as'))
 join_line a [] h = no_line a h.0.bytes
@@ -187,14 +184,10 @@ Contains-middle : {X : Type 0} (xs : List X) (y : X) (ys : List X) → Contains 
 Contains-middle xs y ys =
     (length xs, omega (arith, length-append xs (y ∷ ys)), get_or_at xs y ys y (length xs) refl)
 
-prefix_sorted : {X : Type 0} (R : X → X → Ordering) (xs : List X) (y : X) (ys : List X) → IsStrictlySortedBy R (xs ++ y ∷ ys) → AllByRecursion (λ x. R x y ≡ Less) xs
+pub prefix_sorted : {X : Type 0} (R : X → X → Ordering) (xs : List X) (y : X) (ys : List X) → IsStrictlySortedBy R (xs ++ y ∷ ys) → AllByRecursion (λ x. R x y ≡ Less) xs
 unfolding IsStrictlySortedBy
 prefix_sorted R [] y ys h = tt
 prefix_sorted R (x ∷ xs) y ys h = (at_split (λ z. R x z ≡ Less) xs y ys h.0, prefix_sorted R xs y ys h.1)
-
-pub prefix_all : {X : Type 0} (P : X → Type 0) (xs ys : List X) → AllByRecursion P (xs ++ ys) → AllByRecursion P xs
-prefix_all P [] ys h = tt
-prefix_all P (x ∷ xs) ys h = (h.0, prefix_all P xs ys h.1)
 
 paths_on : (fs : Files) (g : Atoms × List ℕ) (more : Files) → paths_of (fs ++ g ∷ more) ≡ paths_of fs ++ g.0 ∷ paths_of more
 paths_on [] g more = refl
@@ -228,8 +221,8 @@ follows before g more t =
     let all_paths = subst (AllByRecursion IsPath) paths t.paths in
     let roots = subst (AllByRecursion (λ q. q ≢ [])) paths t.no_root in
     let is_path = at_split IsPath (paths_of before) g.0 (paths_of more) all_paths in
-    let before_paths = prefix_all IsPath (paths_of before) (g.0 ∷ paths_of more) all_paths in
-    let before_roots = prefix_all (λ q. q ≢ []) (paths_of before) (g.0 ∷ paths_of more) roots in
+    let before_paths = all_front IsPath (paths_of before) (g.0 ∷ paths_of more) all_paths in
+    let before_roots = all_front (λ q. q ≢ []) (paths_of before) (g.0 ∷ paths_of more) roots in
     record {
       is_path = is_path;
       not_root = at_split (λ q. q ≢ []) (paths_of before) g.0 (paths_of more) roots;

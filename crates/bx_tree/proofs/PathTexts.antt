@@ -1,6 +1,6 @@
 -- Splitting a path's text gives back its atoms, so paths are determined, ordered and nested by their texts.
 use Rattle.bx_tree.specs.declared.limits.TheConstants.{MAX_PATH_BYTES}
-use Rattle.std.proofs.Common.{leb, inl, inr, get_or, drop, ◌+◌, append_assoc, lit<, ◌≡◌, ◌≢◌, ℕ, ◌≤◌, ◌<◌, Bool, true, false, cond, eqb, IsTrue, List, [], ◌∷◌, ◌++◌, length, codes, refl, ap, sym, subst, ◌∙◌, arith}
+use Rattle.std.proofs.Common.{leb, inl, inr, get_or, drop, ◌+◌, append_assoc, lit<, lit≤, ◌≡◌, ◌≢◌, ℕ, ◌≤◌, ◌<◌, Bool, true, false, cond, eqb, IsTrue, List, [], ◌∷◌, ◌++◌, length, codes, refl, ap, sym, subst, ◌∙◌, arith}
 use Rattle.std.specs.List.{All, AllByRecursion, join_with_byte, slice_split, onto_first}
 use Rattle.std.specs.Cmp.Lexicographic.{slice_cmp, pointwise}
 use Rattle.std.specs.Ordering.{nat_cmp, ordering_then}
@@ -113,6 +113,17 @@ same_from_text (a ∷ as') [] h k e = absurd (dot_is_none (a ∷ as', record { i
 same_from_text (a ∷ as') (b ∷ bs) h k e = one_path (path_text (a ∷ as')) (a ∷ as') (b ∷ bs)
     (record { is_path = h; not_root = λ x. cc; text_is = refl })
     (record { is_path = k; not_root = λ x. cc; text_is = e })
+
+root_path : IsPath []
+root_path = record { atoms = tt; short = lit≤ tt }
+
+-- a path with the root's text is the root
+pub root_from_text : (path : Atoms) → IsPath path → path_text path ≡ codes "." → path ≡ []
+root_from_text path h e = same_from_text path [] h root_path e
+
+-- the parts of any other text of a path are its atoms
+pub atoms_from_text : (path : Atoms) → IsPath path → path_text path ≢ codes "." → slice_split is_slash (path_text path) ≡ path
+atoms_from_text path h n = atoms_again (path_text path) path (record { is_path = h; not_root = λ e. n (ap path_text e); text_is = refl })
 
 ordered_by_text : (p q : Atoms) (o : Ordering) → slice_cmp nat_cmp (path_text p) (path_text q) ≡ o → (o ≡ Equal → p ≡ q)
     → ordering_then o (slice_cmp (slice_cmp nat_cmp) p q) ≡ o

@@ -1,5 +1,5 @@
 -- The check that files are a tree is sound and complete, and sorting finds a tree if some order is one.
-use Rattle.std.proofs.Common.{◌≡◌, ◌≢◌, ℕ, ◌+◌, ◌<◌, Bool, false, List, [], ◌∷◌, ◌++◌, length, get_or, take, drop, ap, sym, ◌∙◌, subst, codes, lit≤}
+use Rattle.std.proofs.Common.{◌≡◌, ◌≢◌, ℕ, ◌+◌, ◌<◌, List, [], ◌∷◌, ◌++◌, length, get_or, take, drop, ap, sym, ◌∙◌, subst, codes, lit≤}
 use Rattle.std.specs.declared.cmp.Ordering.{Ordering}
 use Rattle.std.specs.declared.cmp.Ordering.TheVariants.{Less}
 use Rattle.std.specs.List.{AllByRecursion, IsDistinct}
@@ -18,14 +18,15 @@ use Rattle.bx_tree.proofs.FileSearch.{sorted_tree}
 use Rattle.bx_tree.specs.Bundle.{ComesAfterAll, HasNoAncestor}
 use Rattle.bx_tree.proofs.PathTexts.{same_from_text}
 use Rattle.bx_tree.proofs.TreeGrowth.{grow_tree}
-use Rattle.bx_tree.proofs.OneReading.{follows, prefix_all}
+use Rattle.bx_tree.proofs.OneReading.{follows}
+use Rattle.bx_tree.proofs.Lists.{all_front, distinct_by}
 
 -- ## A prefix of a tree
 
 prefix_rises : {X : Type 0} (R : X → X → Ordering) (xs ys : List X) → IsStrictlySortedBy R (xs ++ ys) → IsStrictlySortedBy R xs
 unfolding IsStrictlySortedBy
 prefix_rises R [] ys h = tt
-prefix_rises R (x ∷ xs) ys h = (prefix_all (λ y. R x y ≡ Less) xs ys h.0, prefix_rises R xs ys h.1)
+prefix_rises R (x ∷ xs) ys h = (all_front (λ y. R x y ≡ Less) xs ys h.0, prefix_rises R xs ys h.1)
 
 -- a prefix of a tree is a tree
 pub prefix_tree : (fs gs : Files) → IsTree (fs ++ gs) → IsTree fs
@@ -33,8 +34,8 @@ prefix_tree fs gs t =
     let e = map-append (λ (f : Atoms × List ℕ). f.0) fs gs in
     let nested = subst NoneNested e t.unnested in
     record {
-      paths = prefix_all IsPath (paths_of fs) (paths_of gs) (subst (AllByRecursion IsPath) e t.paths);
-      no_root = prefix_all (λ p. p ≢ []) (paths_of fs) (paths_of gs) (subst (AllByRecursion (λ p. p ≢ [])) e t.no_root);
+      paths = all_front IsPath (paths_of fs) (paths_of gs) (subst (AllByRecursion IsPath) e t.paths);
+      no_root = all_front (λ p. p ≢ []) (paths_of fs) (paths_of gs) (subst (AllByRecursion (λ p. p ≢ [])) e t.no_root);
       rising = prefix_rises path_cmp (paths_of fs) (paths_of gs) (subst (IsStrictlySortedBy path_cmp) e t.rising);
       unnested = λ dir path d p. nested dir path
           (Contains-append_left (paths_of fs) (paths_of gs) dir d) (Contains-append_left (paths_of fs) (paths_of gs) path p);
@@ -72,15 +73,6 @@ pub no_ancestor_among : (before : Files) (f : Atoms × List ℕ) (text : List �
 no_ancestor_among before f text e t = subst (HasNoAncestor before) (sym e) (follows before f [] t).no_ancestor
 
 -- ## A tree in some order
-
-every : {X : Type 0} (P Q : X → Type 0) → ((x : X) → P x → Q x) → (xs : List X) → AllByRecursion P xs → AllByRecursion Q xs
-every P Q f [] h = tt
-every P Q f (x ∷ xs) h = (f x h.0, every P Q f xs h.1)
-
-pub distinct_by : {K : Type 0} (E F : K → K → Bool) → ((x y : K) → E x y ≡ F x y) → (ks : List K) → IsDistinct F ks → IsDistinct E ks
-unfolding IsDistinct
-distinct_by E F same [] h = tt
-distinct_by E F same (k ∷ ks) h = (every (λ y. F k y ≡ false) (λ y. E k y ≡ false) (λ y e. same k y ∙ e) ks h.0, distinct_by E F same ks h.1)
 
 -- the paths of a tree are distinct
 pub distinct_paths : (files : Files) → IsTree files → IsDistinct same_path (paths_of files)

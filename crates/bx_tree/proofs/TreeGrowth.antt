@@ -19,6 +19,7 @@ use Rattle.bx_tree.specs.Headers.{StartsWithBytes}
 use Rattle.bx_tree.specs.Reading.{Announces, BodyStartsWithFiles}
 use Rattle.bx_tree.proofs.PathTexts.{prefix_from_below, path_cmp-is}
 use Rattle.bx_tree.proofs.HeaderParts.{decimal-length}
+use Rattle.bx_tree.proofs.Lists.{all_push}
 
 -- ## The bytes after a header
 
@@ -37,14 +38,10 @@ newline_at text size (bytes, more, l, e) =
 
 -- ## A tree with one more file
 
-push_all : {X : Type 0} (P : X → Type 0) (xs : List X) (y : X) → AllByRecursion P xs → P y → AllByRecursion P (xs ++ y ∷ [])
-push_all P [] y h p = (p, tt)
-push_all P (x ∷ xs) y h p = (h.0, push_all P xs y h.1 p)
-
 push_sorted : {X : Type 0} (R : X → X → Ordering) (xs : List X) (y : X) → IsStrictlySortedBy R xs → AllByRecursion (λ x. R x y ≡ Less) xs → IsStrictlySortedBy R (xs ++ y ∷ [])
 unfolding IsStrictlySortedBy
 push_sorted R [] y s h = (tt, tt)
-push_sorted R (x ∷ xs) y s h = (push_all (λ z. R x z ≡ Less) xs y s.0 h.0, push_sorted R xs y s.1 h.1)
+push_sorted R (x ∷ xs) y s h = (all_push (λ z. R x z ≡ Less) xs y s.0 h.0, push_sorted R xs y s.1 h.1)
 
 -- a property of each file's path holds of each path
 pub all_paths : (P : Atoms → Type 0) (fs : Files) → AllByRecursion (λ f. P f.0) fs → AllByRecursion P (paths_of fs)
@@ -101,8 +98,8 @@ grow_tree fs f text t n above apart =
     (subst (ComesAfterAll fs) n.text_is above) in
     let apart' = all_paths (λ q. (rest : List ℕ) → path_text f.0 ≡ path_text q ++ 47 ∷ rest → ⊥) fs (subst (HasNoAncestor fs) n.text_is apart) in
     record {
-      paths = subst (AllByRecursion IsPath) (sym paths) (push_all IsPath (paths_of fs) f.0 t.paths n.is_path);
-      no_root = subst (AllByRecursion (λ q. q ≢ [])) (sym paths) (push_all (λ q. q ≢ []) (paths_of fs) f.0 t.no_root n.not_root);
+      paths = subst (AllByRecursion IsPath) (sym paths) (all_push IsPath (paths_of fs) f.0 t.paths n.is_path);
+      no_root = subst (AllByRecursion (λ q. q ≢ [])) (sym paths) (all_push (λ q. q ≢ []) (paths_of fs) f.0 t.no_root n.not_root);
       rising = subst (IsStrictlySortedBy path_cmp) (sym paths)
           (push_sorted path_cmp (paths_of fs) f.0 t.rising (each_below (paths_of fs) f.0 t.paths n.is_path above'));
       unnested = subst NoneNested (sym paths) (push_unnested (paths_of fs) f.0 t.no_root t.unnested n.not_root above' apart');
@@ -141,7 +138,7 @@ push_file text rest before h f l b a = record {
   tree = grow_tree before f h.path l.tree a.names a.after a.no_ancestor;
   in_size = record {
     count = omega (arith, a.count, length-append before (f ∷ []));
-    sizes = push_all (λ g. length g.1 ≤ MAX_FILE_BYTES) before f l.in_size.sizes (omega (arith, a.size, a.in_size));
+    sizes = all_push (λ g. length g.1 ≤ MAX_FILE_BYTES) before f l.in_size.sizes (omega (arith, a.size, a.in_size));
   };
   text_is = l.text_is ∙ ap (λ r. body_text before ++ r) (announced_text rest before h f b a)
       ∙ sym (append_assoc (body_text before) (file_text f) a.bytes.0)

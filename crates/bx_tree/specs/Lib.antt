@@ -1,4 +1,5 @@
 pub mod Paths
+pub mod Below
 pub mod Trees
 pub mod Bundle
 pub mod Views
@@ -10,3 +11,5 @@ pub mod Lent
 pub mod FileInputs
 pub mod Ranges
 pub mod TextTables
+pub mod Members
+pub mod Sets

@@ -23,13 +23,13 @@ same_number x y Equal h e = h
 same_number x y Greater h e = cc
 
 -- a comparison by two orders answers Equal only if both do
-both_equal : (o p : Ordering) → ordering_then o p ≡ Equal → (o ≡ Equal) × (p ≡ Equal)
+pub both_equal : (o p : Ordering) → ordering_then o p ≡ Equal → (o ≡ Equal) × (p ≡ Equal)
 both_equal Less p e = cc
 both_equal Equal p e = (refl, e)
 both_equal Greater p e = cc
 
 -- if elements that compare as equal are equal, so are lists
-equal_lists : {X : Type 0} (R : X → X → Ordering) → ((x y : X) → R x y ≡ Equal → x ≡ y)
+pub equal_lists : {X : Type 0} (R : X → X → Ordering) → ((x y : X) → R x y ≡ Equal → x ≡ y)
     → (xs ys : List X) → slice_cmp R xs ys ≡ Equal → xs ≡ ys
 equal_lists R same [] [] e = refl
 equal_lists R same [] (y ∷ ys) e = cc

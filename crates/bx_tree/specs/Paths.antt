@@ -1,5 +1,5 @@
 -- Paths: lists of atoms, their texts, which path is below which, and their order.
-use Rattle.std.specs.Prelude.{◌≡◌, ◌≢◌, ℕ, ◌<◌, ◌≤◌, Bool, IsTrue, ◌&&◌, ◌||◌, ◌==◌, nat_le, nat_eq, cond}
+use Rattle.std.specs.Prelude.{◌≡◌, ◌≢◌, ℕ, ◌<◌, ◌≤◌, Bool, true, false, IsTrue, ◌&&◌, ◌||◌, ◌==◌, nat_le, nat_eq, cond}
 use Rattle.std.specs.Prelude.{List, [], ◌∷◌, ◌++◌, length, codes, ◌⊎◌}
 use Rattle.std.specs.List.{AllByRecursion, join_with_byte, list_any, slice_split}
 use Rattle.std.specs.Cmp.Lexicographic.{slice_cmp, pointwise}
@@ -45,16 +45,25 @@ pub record Names (text : List ℕ) (path : Atoms) : Type 0 where
 abbrev pub IsPathText : List ℕ → Type 0
 IsPathText text = (path : Atoms) × Names text path
 
+-- whether the path is the root, which has no atoms
+abbrev pub is_root : Atoms → Bool
+is_root [] = true
+is_root (atom ∷ rest) = false
+
 -- the path lies strictly below the directory
 abbrev pub IsBelow : Atoms → Atoms → Type 0
 IsBelow path dir = (rest : Atoms) × (rest ≢ []) × (path ≡ dir ++ rest)
+
+-- the text goes on after the directory's and a `/`
+abbrev pub TextGoesOn : List ℕ → List ℕ → Type 0
+TextGoesOn dir text = (rest : List ℕ) × (text ≡ dir ++ 47 ∷ rest)
 
 -- Which path is below which, by their texts: all but the root lie below the root, and a path below any other
 -- directory has a text that starts with the directory's text and a `/`.
 abbrev pub TextBelow : List ℕ → List ℕ → Type 0
 TextBelow dir text =
     ((dir ≡ codes ".") × (text ≢ codes "."))
-    ⊎ ((dir ≢ codes ".") × ((rest : List ℕ) × (text ≡ dir ++ 47 ∷ rest)))
+    ⊎ ((dir ≢ codes ".") × TextGoesOn dir text)
 
 -- The order of paths is that of the bytes of their texts. Paths with equal texts are equal; the second
 -- comparison makes the order total on lists of atoms that are no paths.

@@ -7,5 +7,5 @@ use Rattle.std.specs.Ordering.{nat_cmp}
 use Rattle.std.specs.Cmp.Lexicographic.{slice_cmp}
 
 -- what a table by text has at this text
-abbrev pub at_text : BTreeMap (Vec ℕ Global) ℕ → List ℕ → Option ℕ
+abbrev pub at_text : {X : Type 0} → BTreeMap (Vec ℕ Global) X → List ℕ → Option X
 at_text table x = get_by (λ k. slice_cmp nat_cmp x k.items) table

@@ -1,9 +1,9 @@
 -- Trees: files by path, in order, none a directory of another.
-use Rattle.std.specs.Prelude.{◌≡◌, ◌≢◌, ℕ, List, [], ◌∷◌, ◌++◌, map, Option, Some, None}
+use Rattle.std.specs.Prelude.{◌≡◌, ◌≢◌, ℕ, List, [], ◌∷◌, map, Option, Some, None}
 use Rattle.std.specs.Prelude.{if◌then◌else◌, codes, Contains, ◌⊎◌}
 use Rattle.std.specs.List.{AllByRecursion}
 use Rattle.std.specs.List.Sorted.{IsStrictlySortedBy}
-use Rattle.bx_tree.specs.Paths.{Atoms, IsPath, IsBelow, path_cmp, same_path}
+use Rattle.bx_tree.specs.Paths.{Atoms, TextGoesOn, IsBelow, IsPath, path_cmp, same_path}
 
 -- files: each a path with its bytes
 abbrev pub Files : Type 0
@@ -32,7 +32,7 @@ file_at (f ∷ fs) path = if same_path f.0 path then Some f.1 else file_at fs pa
 
 -- the text is the atom, or starts with the atom and a `/`
 abbrev pub IsFirstAtom : List ℕ → List ℕ → Type 0
-IsFirstAtom atom text = (text ≡ atom) ⊎ ((rest : List ℕ) × (text ≡ atom ++ 47 ∷ rest))
+IsFirstAtom atom text = (text ≡ atom) ⊎ TextGoesOn atom text
 
 -- the path has `out` or `report.txt` as its first atom
 abbrev pub IsReserved : Atoms → Type 0

@@ -27,8 +27,8 @@ pub(crate) fn after_prefix<'a>(text: &'a [u8], prefix: &[u8]) -> Option<&'a [u8]
     text.strip_prefix(prefix)
 }
 
-// The parts of a text before and after the first such byte.
-fn split_once(text: &[u8], byte: u8) -> Option<(&[u8], &[u8])>
+/// The parts of a text before and after the first such byte.
+pub fn split_once(text: &[u8], byte: u8) -> Option<(&[u8], &[u8])>
     ensures { MatchOption result
         (HasNo byte text.now)
         (λ parts. IsSplitOnce byte text.now parts.0.now parts.1.now) }

@@ -1,11 +1,12 @@
 //! Paths and their texts.
 
-ghost use Rattle.std.specs.Prelude.{◌≡◌, ◌==◌, ◌↔◌, ℕ, List, [], ◌∷◌, ◌++◌, IsTrue, IfOk, MatchResult};
+ghost use Rattle.std.specs.Prelude.{◌≡◌, ◌==◌, ◌↔◌, ℕ, List, [], IsTrue, IfOk, MatchResult};
 ghost use Rattle.std.specs.List.{AllByRecursion, slice_split};
 ghost use Rattle.std.specs.Ordering.{as_partial_cmp};
 ghost use Rattle.std.proofs.Common.{rules};
-ghost use Rattle.bx_tree.specs.Paths.{IsAtom, TextBelow, IsBelow, IsPath, IsPathText, Names};
-ghost use Rattle.bx_tree.specs.Paths.{is_atom_byte as atom_byte, path_cmp, path_text, same_path};
+ghost use Rattle.bx_tree.specs.Below.{is_below};
+ghost use Rattle.bx_tree.specs.Paths.{IsAtom, TextBelow, TextGoesOn, IsBelow, IsPath, IsPathText, Names};
+ghost use Rattle.bx_tree.specs.Paths.{is_atom_byte as atom_byte, is_root as has_no_atoms, path_cmp, path_text, same_path};
 ghost use Rattle.bx_tree.specs.Orders.{path_cmp_total, path_cmp_matches, path_cmp_partial};
 ghost use Rattle.bx_tree.specs.Orders.{same_path_equiv, same_path_partial};
 
@@ -91,9 +92,9 @@ pub fn is_path(text: &[u8]) -> bool
     has_atoms(text)
 }
 
-// Whether a text starts with a directory's text and a `/`.
-pub(crate) fn has_dir_prefix(text: &[u8], dir: &[u8]) -> bool
-    ensures { IsTrue result ↔ ((rest : List ℕ) × (text.now ≡ dir.now ++ 47 ∷ rest)) }
+/// Whether a text starts with a directory's text and a `/`.
+pub fn has_dir_prefix(text: &[u8], dir: &[u8]) -> bool
+    ensures { IsTrue result ↔ TextGoesOn dir.now text.now }
 {
     if text.len() <= dir.len() {
         return false;
@@ -169,9 +170,25 @@ impl Path {
         self.text.as_str()
     }
 
+    /// Whether the path is the root.
+    pub fn is_root(&self) -> bool
+        ensures root { IsTrue result ↔ (self.now ≡ []) }
+        ensures value { result ≡ has_no_atoms self.now }
+    {
+        self.text() == "."
+    }
+
+    /// Whether the path is the other one.
+    pub fn is_same(&self, other: &Path) -> bool
+        ensures { IsTrue result ↔ (self.now ≡ other.now) }
+    {
+        self == other
+    }
+
     /// Whether the path lies strictly below a directory.
     pub fn is_below(&self, dir: &Path) -> bool
-        ensures { IsTrue result ↔ IsBelow self.now dir.now }
+        ensures below { IsTrue result ↔ IsBelow self.now dir.now }
+        ensures value { result ≡ is_below self.now dir.now }
     {
         lies_below(self.text().as_bytes(), dir.text().as_bytes())
     }

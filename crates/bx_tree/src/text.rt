@@ -1,6 +1,8 @@
 //! Shared byte strings.
 
-ghost use Rattle.std.specs.Prelude.{◌≡◌, IfOk};
+ghost use Rattle.std.specs.Prelude.{◌≡◌, ◌==◌, IfOk};
+ghost use Rattle.std.specs.List.{slice_split};
+ghost use Rattle.bx_tree.specs.Lent.{texts_now};
 
 use crate::Memory;
 use std::alloc::Global;
@@ -47,4 +49,11 @@ impl Text {
             bytes: self.bytes.clone()?,
         })
     }
+}
+
+/// The lines of a text: its parts between newlines.
+pub fn lines_of(alloc: Global, text: &[u8]) -> Result<Vec<&[u8]>, Memory>
+    ensures { IfOk result (λ lines. texts_now lines.items ≡ slice_split (λ b. b == 10) text.entry.now) }
+{
+    text.split(|byte| *byte == b'\n').collect(alloc)
 }

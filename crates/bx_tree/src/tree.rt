@@ -100,8 +100,8 @@ impl Tree {
     }
 }
 
-// How a path's text compares to a text.
-pub(crate) fn text_order(path: &Path, text: &[u8]) -> Ordering
+/// How a path's text compares to a text.
+pub fn text_order(path: &Path, text: &[u8]) -> Ordering
     ensures { result ≡ slice_cmp nat_cmp (path_text path.now) text.now }
 {
     path.text().as_bytes().cmp(text)

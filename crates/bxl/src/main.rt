@@ -1,17 +1,14 @@
 //! The program `bxl`: the engine over standard input, output and error, and a cache folder.
 //!
-//! This crate makes the real outside and gives it to the engine. It depends on `bx_io_system` for the streams
-//! and the folder, on `bx_io`, whose traits they implement, and on `bx_engine`.
+//! This crate opens the real streams and the folder and passes them to the engine. It depends on `bx_io_system` for
+//! both, on `bx_io`, whose traits they implement, and on `bx_engine`.
 #![tactic(auto)]
 
 use bx_engine::{Status, command};
 use bx_io::OpenGate;
-use bx_io_system::{FolderKeeper, StdSink, StdSource};
+use bx_io_system::{FolderKeeper, StdSink, StdSource, program_words};
 use std::alloc::{AllocError, Global};
-use std::env;
-use std::io::ErrorKind;
 use std::process::ExitCode;
-use std::rt::Env;
 
 /// The folder of the working directory that holds results from one build to the next.
 const FOLDER: &str = ".bxl-cache";
@@ -21,18 +18,9 @@ fn keeper(rt: &HostRuntime, alloc: Global) -> Result<FolderKeeper<HostRuntime>, 
     Ok(FolderKeeper::new(rt.clone()?, String::from_str(alloc, FOLDER)?))
 }
 
-/// The words after the program's name. Where they are not all text, there are none, which is no command.
-fn words<R: Env + AllocGlobal>(rt: &R) -> Result<Vec<String>, AllocError> {
-    match env::args(rt) {
-        Ok(args) => args.skip(1).collect(rt.alloc()),
-        Err(error) if error.kind() == ErrorKind::OutOfMemory => Err(AllocError),
-        Err(_) => Ok(Vec::new(rt.alloc())),
-    }
-}
-
 fn main(rt: HostRuntime) -> ExitCode {
     let alloc = rt.alloc();
-    let Ok(words) = words(&rt) else {
+    let Ok(words) = program_words(&rt) else {
         return ExitCode::from(Status::OutOfMemory.code());
     };
     let Ok(mut keeper) = keeper(&rt, alloc) else {

@@ -1,6 +1,7 @@
 -- What is held under the name of an entry, and what a look under it answers.
 use Rattle.std.proofs.Common.{◌≡◌, ℕ, List, Option, Some, None, Vec, Global, sym, ap, ◌∙◌, subst}
 use Rattle.std.specs.FinMap.{get}
+use Rattle.std.proofs.lemmas.Option.{same_Some}
 use Rattle.bx_io.specs.Answers.{Finds}
 use Rattle.bx_io.specs.Holdings.{Holdings}
 use Rattle.bx_io.specs.declared.keeper.Got.TheVariants as got
@@ -11,17 +12,14 @@ use Rattle.content_store.specs.declared.entries.FetchedEntry.{FetchedEntry}
 use Rattle.content_store.specs.declared.entries.FetchedEntry.TheVariants as fetched
 use Rattle.content_store.specs.HeldEntries.{ChecksEntry, FetchesEntry, IsHeld}
 
-same_some : {X : Type 0} (x y : X) → Some x ≡ Some y → x ≡ y
-same_some x y e = cc
-
-none_and_some : {X : Type 0} (o : Option X) (x : X) → o ≡ None → o ≡ Some x → ⊥
+pub none_and_some : {X : Type 0} (o : Option X) (x : X) → o ≡ None → o ≡ Some x → ⊥
 none_and_some o x h k = let never : None ≡ Some x = sym h ∙ k in cc
 
 -- a text of an entry of one digest is not that of one of another
 pub another_entry : (text strong : List ℕ) (e other : Entry) → read_entry_text text ≡ Some e → (e.strong ≡ strong → ⊥)
     → read_entry_text text ≡ Some other → other.strong ≡ strong → ⊥
 another_entry text strong e other h apart k same =
-    apart (ap (λ (x : Entry). x.strong) (same_some e other (sym h ∙ k)) ∙ same)
+    apart (ap (λ (x : Entry). x.strong) (same_Some e other (sym h ∙ k)) ∙ same)
 
 pub no_entry : (text strong : List ℕ) (other : Entry) → read_entry_text text ≡ None
     → read_entry_text text ≡ Some other → other.strong ≡ strong → ⊥
@@ -37,7 +35,7 @@ held_text S strong text (fetched.Found e) h check = record {
 }
 held_text S strong text fetched.NotWell h check =
     λ e there. check e
-    (ap read_entry_text (same_some text there.held.0 (sym h ∙ subst (λ d. get S (at_entry d) ≡ Some there.held.0) there.strong_is there.held.1))
+    (ap read_entry_text (same_Some text there.held.0 (sym h ∙ subst (λ d. get S (at_entry d) ≡ Some there.held.0) there.strong_is there.held.1))
     ∙ there.held.2)
     there.strong_is
 held_text S strong text fetched.Fault h check = tt

@@ -1,20 +1,16 @@
 -- The letter of a kind, a slash and the text of a digest are a name.
-use Rattle.std.proofs.Common.{◌≡◌, ◌⊎◌, ℕ, zero, suc, ◌/◌, ◌%◌, ◌<◌, Bool, true, false, ◌&&◌, ◌||◌, List, [], ◌∷◌, length, slice_index, inl, inr, refl, arith}
+use Rattle.std.proofs.Common.{◌≡◌, ℕ, zero, suc, ◌/◌, ◌%◌, ◌<◌, true, ◌&&◌, ◌||◌, List, [], ◌∷◌, length, slice_index, inl, inr, refl, arith}
 use Rattle.std.specs.Bool.{nat_le}
 use Rattle.std.specs.List.{AllByRecursion, list_all}
-use Rattle.std.proofs.lemmas.Bool.{and_parts, leb-true}
+use Rattle.std.proofs.lemmas.Bool.{and_parts, leb-true, or_cases}
 use Rattle.std.proofs.lemmas.List.Elements.{All-from_recursion}
 use Rattle.hex.specs.Hex.{IsBytes, encode_lower, encode_with, lower_digits}
 use Rattle.hex.proofs.HexLemmas.{length-encode_with}
 use Rattle.bx_digest.specs.Digests.{IsDigest}
 use Rattle.bx_io.specs.Names.{IsKindLetter, IsLowerHexDigit, IsName}
 
-by_either : (a b : Bool) → (a || b) ≡ true → (a ≡ true) ⊎ (b ≡ true)
-by_either true b e = inl refl
-by_either false b e = inr e
-
 lower_is : (c : ℕ) → ((nat_le 48 c && nat_le c 57) || (nat_le 97 c && nat_le c 102)) ≡ true → IsLowerHexDigit c
-lower_is c e = elim (by_either (nat_le 48 c && nat_le c 57) (nat_le 97 c && nat_le c 102) e) [
+lower_is c e = elim (or_cases (nat_le 48 c && nat_le c 57) (nat_le 97 c && nat_le c 102) e) [
   | inl h ↦ let p = and_parts (nat_le 48 c) (nat_le c 57) h in inl (leb-true 48 c p.0, leb-true c 57 p.1)
   | inr h ↦ let p = and_parts (nat_le 97 c) (nat_le c 102) h in inr (leb-true 97 c p.0, leb-true c 102 p.1)
 ]

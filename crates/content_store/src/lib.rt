@@ -1,9 +1,9 @@
 //! The content-addressable store: contents by digest and cache entries by strong fingerprint.
 //!
-//! A content is held under the name that its digest gives, and an entry under that of its strong digest. This
-//! crate has those names, the calls that get a content and put one, and the call that gets an entry. It
-//! depends on `bx_io` for stores, on `bx_digest` for contents and on `memo_format` for entries and for which
-//! names are well. It carries the promise that what is found has the digest that was asked for.
+//! A content is stored under the name that its digest gives, and an entry under that of its strong digest. This
+//! crate has those names, the calls that get and put a content, and the call that gets an entry. It depends on
+//! `bx_io` for stores, on `bx_digest` for contents and on `memo_format` for entries and for well-formed names. It
+//! carries the promise that what is found has the requested digest.
 #![tactic(auto)]
 
 mod content;
@@ -13,6 +13,3 @@ mod names;
 pub use content::{Fetched, get_blob, put_blob};
 pub use entries::{FetchedEntry, get_entry};
 pub use names::{blob_name, entry_name, list_name};
-
-/// Out of memory, the one refusal that no contract ties to a cause.
-pub type Memory = std::alloc::AllocError;

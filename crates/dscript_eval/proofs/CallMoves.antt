@@ -16,6 +16,7 @@ use Rattle.dscript_value.specs.declared.value.Value.{Value}
 use Rattle.dscript_value.specs.declared.parts.Callee.TheVariants as callees
 use Rattle.dscript_program.specs.declared.ambient.Ambient.{Ambient}
 use Rattle.bx_tree.specs.Paths.{Atoms}
+use Rattle.bx_tree.proofs.Lists.{none_left}
 use Rattle.dscript_sdk_members.specs.Names.{member_named}
 use Rattle.dscript_sdk_pips.specs.States.{State as Calls}
 use Rattle.dscript_sdk.specs.Calls.{call_of}
@@ -53,7 +54,7 @@ use Rattle.dscript_eval_frames.specs.declared.work.Work.{Work}
 use Rattle.dscript_eval_frames.specs.declared.work.Work.TheVariants as works
 use Rattle.dscript_eval_frames.proofs.Opening.{acts_open}
 use Rattle.dscript_eval_exprs.proofs.Equations.{arguments-are, no_arguments-is}
-use Rattle.dscript_eval_frames.proofs.Followed.{empty_list, followed-followed, followed-same}
+use Rattle.dscript_eval_frames.proofs.Followed.{followed-followed, followed-same}
 
 -- ## Bodies
 
@@ -247,7 +248,7 @@ pub arguments_end
     ≡ comes_by (used v.program (acts_at v) use' (map plain_of done.items)) v
 arguments_end v es done use' none =
     ap (λ xs. comes_by (then_used v use' (map plain_of done.items) (arguments v.program (acts_at v) (to_exprs (map expr_data xs)))) v)
-    (empty_list es.now none)
+    (none_left es.now none)
     ∙ ap (λ r. followed (followed r (λ xs. used v.program (acts_at v) use' (map plain_of done.items ++ xs)))
     (λ x later. run v.program v.work On v.openable x later)) (no_arguments-is v.program (acts_at v) v.state)
     ∙ ap (λ xs. comes_by (used v.program (acts_at v) use' xs) v) (append-nil (map plain_of done.items))

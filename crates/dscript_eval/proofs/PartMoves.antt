@@ -3,6 +3,7 @@ use Rattle.std.proofs.Common.{◌≡◌, ℕ, Bool, true, false, cond, List, [],
 use Rattle.std.specs.Borrow.{Bor}
 use Rattle.std.specs.declared.alloc.Global.{Global}
 use Rattle.std.specs.declared.vec.Vec.{Vec}
+use Rattle.bx_tree.proofs.Lists.{none_left}
 use Rattle.dscript_program.specs.BoundTree as tree
 use Rattle.dscript_program.specs.BoundTree.{ExprRow, PartData, PartRow, more_parts, no_parts, to_exprs, to_parts}
 use Rattle.dscript_program.specs.ProgramData.{ProgramData}
@@ -30,7 +31,7 @@ use Rattle.dscript_eval_frames.specs.declared.work.Use.TheVariants as uses
 use Rattle.dscript_eval_frames.specs.declared.work.Work.TheVariants as works
 use Rattle.dscript_eval_exprs.specs.AtOnce.{IsGiven}
 use Rattle.dscript_eval_exprs.proofs.Equations.{call-is, index-is, member-is, no_parts-is}
-use Rattle.dscript_eval_frames.proofs.Followed.{empty_list, followed-end, followed-followed, followed-same}
+use Rattle.dscript_eval_frames.proofs.Followed.{followed-end, followed-followed, followed-same}
 
 -- ## Parts after a value
 
@@ -39,7 +40,7 @@ pub after_end
     → comes_with (works.Expr (expr.After parts)) v ≡ comes v
 after_end v parts none =
     ap (λ ps. followed (after v.program (acts_at v) (to_parts (map part_data ps)) (Whole v.given) v.state)
-    (λ x later. run v.program v.work On v.openable x later)) (empty_list parts.now none)
+    (λ x later. run v.program v.work On v.openable x later)) (none_left parts.now none)
     ∙ ap (λ r. followed r (λ x later. run v.program v.work On v.openable x later))
     (no_parts-is v.program (acts_at v) v.state (Whole v.given))
 

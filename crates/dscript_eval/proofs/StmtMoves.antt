@@ -2,6 +2,7 @@
 use Rattle.std.proofs.Common.{◌≡◌, ◌≢◌, ℕ, true, false, cond, List, [], ◌∷◌, length, drop, map, option_map, Option, Some, None, Ok, refl, ap, sym, ◌∙◌}
 use Rattle.std.specs.Prelude.{if◌then◌else◌}
 use Rattle.std.specs.Borrow.{Bor}
+use Rattle.bx_tree.proofs.Lists.{none_left}
 use Rattle.dscript_program.specs.BoundTree as tree
 use Rattle.dscript_program.specs.BoundTree.{StmtData, StmtRow, a_stmt, more_stmts, no_stmt, no_stmts, to_stmt, to_stmts}
 use Rattle.dscript_program.specs.ProgramData.{ProgramData}
@@ -30,7 +31,7 @@ use Rattle.dscript_eval_frames.specs.declared.frame.Frame.{Frame}
 use Rattle.dscript_eval_frames.specs.declared.work.Work.{Work}
 use Rattle.dscript_eval_frames.specs.declared.work.Work.TheVariants as works
 use Rattle.dscript_eval_frames.proofs.Forms.{no_steps}
-use Rattle.dscript_eval_frames.proofs.Followed.{empty_list, followed-followed, followed-same}
+use Rattle.dscript_eval_frames.proofs.Followed.{followed-followed, followed-same}
 
 -- the expression of a statement, and then what is left of the statement
 pub then_stmt
@@ -67,7 +68,7 @@ pub all_end
     → comes_with (works.Stmt (stmt.All ms)) v ≡ comes (record v { given = plain.Undefined })
 all_end v ms none =
     ap (λ xs. followed (all v.program (acts_at v) (to_stmts (map stmt_data xs)) v.state)
-    (λ way later. run v.program v.work way v.openable plain.Undefined later)) (empty_list ms.now none)
+    (λ way later. run v.program v.work way v.openable plain.Undefined later)) (none_left ms.now none)
     ∙ ap (λ r. followed r (λ way later. run v.program v.work way v.openable plain.Undefined later))
     (no_stmts-is v.program (acts_at v) v.state)
 

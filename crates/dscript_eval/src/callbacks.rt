@@ -20,10 +20,9 @@ ghost use Rattle.dscript_eval_frames.specs.declared.work.Callback.TheVariants as
 ghost use Rattle.dscript_eval_frames.specs.declared.work.CallWork.TheVariants as call;
 ghost use Rattle.dscript_eval_frames.specs.declared.work.Work.TheVariants as works;
 
-use crate::Memory;
 use crate::calls::{ambient, held_method, open_call};
 use crate::calls_now::call_at_once;
-use bx_tree::Text;
+use bx_tree::{Memory, Text};
 use dscript_eval_frames::{
     CallWork, Callback, Callbacks, Machine, Stop, Work, add_value, item_ref, push_item,
     shared_items, stop_of,

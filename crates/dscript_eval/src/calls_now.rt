@@ -1,5 +1,5 @@
 //! Callbacks that need no call: those of functions whose body is an expression of what they are called with.
-ghost use Rattle.std.specs.Prelude.{◌≡◌, ◌∷◌, [], false, map, pos, take, true};
+ghost use Rattle.std.specs.Prelude.{◌≡◌, ◌∷◌, [], false, map, pos, true};
 ghost use Rattle.dscript_program.specs.Views.{expr_data, function_data};
 ghost use Rattle.dscript_value.specs.Plain as plain;
 ghost use Rattle.dscript_value.specs.Plain.{plain_of};
@@ -9,19 +9,9 @@ ghost use Rattle.dscript_eval.specs.CallbackArgs.{args_of};
 
 use crate::callbacks::number_of;
 use dscript_eval_direct::{MAX_NESTING, value_now};
-use dscript_eval_frames::{Callback, Callbacks, Machine, item_ref};
+use dscript_eval_frames::{Callback, Callbacks, Machine, first_of, item_ref};
 use dscript_program::{Body, BoundExpr, Function};
 use dscript_value::{Callee, Value};
-
-fn first_of(values: &[Value], count: usize) -> &[Value]
-    ensures { map plain_of result.now ≡ take count (map plain_of values.now) }
-{
-    if count < values.len() {
-        &values[..count]
-    } else {
-        values
-    }
-}
 
 // The value of an expression in the frame in which a function begins that is called with these arguments.
 fn body_at_once(machine: &mut Machine<'_>, code: &Function, e: &BoundExpr, args: &[Value]) -> bool

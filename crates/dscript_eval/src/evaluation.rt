@@ -8,9 +8,8 @@ ghost use Rattle.dscript_eval.specs.Tops.{IsAnsweredAs, first_view};
 ghost use Rattle.dscript_eval_frames.specs.Codes.{code_data};
 ghost use Rattle.dscript_eval_frames.specs.Views.{seen};
 
-use crate::Memory;
 use crate::running::run;
-use bx_tree::Tree;
+use bx_tree::{Memory, Tree};
 use dscript_eval_frames::{
     Code, Frame, Machine, StmtWork, Stop, Work, all_waiting, codes_of, path_of,
 };

@@ -4,6 +4,7 @@ use Rattle.std.specs.Borrow.{Bor}
 use Rattle.std.specs.declared.alloc.Global.{Global}
 use Rattle.std.specs.declared.vec.Vec.{Vec}
 use Rattle.std.proofs.lemmas.List.{append-nil}
+use Rattle.bx_tree.proofs.Lists.{none_left}
 use Rattle.dscript_program.specs.BoundTree as tree
 use Rattle.dscript_program.specs.BoundTree.{ExprData, PropData, PropRow, more_elements, more_props, to_elements, to_props}
 use Rattle.dscript_program.specs.ProgramData.{ProgramData}
@@ -34,7 +35,7 @@ use Rattle.dscript_eval_direct.specs.Now.{name_and_value}
 use Rattle.dscript_eval_direct.proofs.Makes.{named_or_quoted}
 use Rattle.dscript_eval_exprs.proofs.Equations.{element-is, named-is, no_elements-is, no_fields-is}
 use Rattle.dscript_eval_exprs.proofs.Equations.{quoted-is, short-is, spread-is, spread_fields-are}
-use Rattle.dscript_eval_frames.proofs.Followed.{empty_list, followed-followed, followed-same}
+use Rattle.dscript_eval_frames.proofs.Followed.{followed-followed, followed-same}
 
 -- ## Elements
 
@@ -55,7 +56,7 @@ pub items_end
     ≡ comes_by (answered (list_answer (grown_items done))) v
 items_end v es done none =
     ap (λ xs. comes_by (then_list v (elements v.program (acts_at v) (to_elements (map element_data xs)) (grown_items done))) v)
-    (empty_list es.now none)
+    (none_left es.now none)
     ∙ ap (λ r. followed (followed r (λ items. answered (list_answer items))) (λ x later. run v.program v.work On v.openable x later))
     (no_elements-is v.program (acts_at v) v.state (grown_items done))
 
@@ -125,7 +126,7 @@ pub fields_end
     ≡ comes_by (answered (object_answer (map plain_field done.items))) v
 fields_end v ps done none =
     ap (λ xs. comes_by (then_object v (map plain_field done.items) (fields v.program (acts_at v) (to_props (map prop_data xs)))) v)
-    (empty_list ps.now none)
+    (none_left ps.now none)
     ∙ ap (λ r. followed (followed r (λ found. answered (object_answer (map plain_field done.items ++ found))))
     (λ x later. run v.program v.work On v.openable x later)) (no_fields-is v.program (acts_at v) v.state)
     ∙ ap (λ fs. comes_by (answered (object_answer fs)) v) (append-nil (map plain_field done.items))

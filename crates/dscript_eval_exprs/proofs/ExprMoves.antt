@@ -1,6 +1,7 @@
 -- What comes of expressions comes of the works in their places.
 use Rattle.std.proofs.Common.{◌≡◌, ℕ, Bool, true, false, cond, List, [], ◌∷◌, length, map, refl, ap, sym, ◌∙◌}
 use Rattle.std.specs.Borrow.{Bor}
+use Rattle.bx_tree.proofs.Lists.{none_left}
 use Rattle.dscript_ast.specs.declared.operator.BinaryOp.{BinaryOp}
 use Rattle.dscript_ast.specs.declared.operator.UnaryOp.{UnaryOp}
 use Rattle.dscript_program.specs.BoundTree as tree
@@ -23,7 +24,7 @@ use Rattle.dscript_eval_frames.specs.Works.{comes, comes_by, comes_with, run}
 use Rattle.dscript_eval_frames.specs.declared.work.ExprWork.TheVariants as expr
 use Rattle.dscript_eval_frames.specs.declared.work.Work.TheVariants as works
 use Rattle.dscript_eval_exprs.proofs.Equations.{no_operands-is, operands-are}
-use Rattle.dscript_eval_frames.proofs.Followed.{empty_list, followed-followed, followed-same}
+use Rattle.dscript_eval_frames.proofs.Followed.{followed-followed, followed-same}
 
 pub cond_move
     : (v : View) (c a b : Bor BoundExpr)
@@ -56,7 +57,7 @@ pub operands_end
     → comes_with (works.Expr (expr.Operands more)) v ≡ comes v
 operands_end v more none =
     ap (λ os. followed (operands v.program (acts_at v) (to_operands (map operand_data os)) v.given v.state)
-    (λ x later. run v.program v.work On v.openable x later)) (empty_list more.now none)
+    (λ x later. run v.program v.work On v.openable x later)) (none_left more.now none)
     ∙ ap (λ r. followed r (λ x later. run v.program v.work On v.openable x later))
     (no_operands-is v.program (acts_at v) v.state v.given)
 

@@ -5,6 +5,7 @@ use Rattle.std.specs.declared.alloc.Global.{Global}
 use Rattle.std.specs.declared.vec.Vec.{Vec}
 use Rattle.std.proofs.lemmas.List.{append-nil}
 use Rattle.bx_tree.specs.Paths.{Atoms}
+use Rattle.bx_tree.proofs.Lists.{none_left}
 use Rattle.dscript_ast.specs.declared.expr.PathKind.{PathKind}
 use Rattle.dscript_program.specs.BoundTree as tree
 use Rattle.dscript_program.specs.BoundTree.{ExprData, HoleRow, more_holes, no_holes, to_holes}
@@ -29,7 +30,7 @@ use Rattle.dscript_eval_frames.specs.declared.work.Literal.{Literal}
 use Rattle.dscript_eval_frames.specs.declared.work.Literal.TheVariants as literals
 use Rattle.dscript_eval_frames.specs.declared.work.Work.TheVariants as works
 use Rattle.dscript_eval_exprs.proofs.Equations.{holes-are, no_holes-is}
-use Rattle.dscript_eval_frames.proofs.Followed.{empty_list, followed-followed, followed-same}
+use Rattle.dscript_eval_frames.proofs.Followed.{followed-followed, followed-same}
 
 -- a literal begins with its text
 pub literal_move
@@ -43,7 +44,7 @@ pub holes_end
     : (v : View) (holes : Bor (List BoundHole)) (text : Vec ℕ Global) (literal : Literal) → length holes.now ≡ 0
     → comes_with (works.Expr (expr.Holes holes text literal)) v ≡ comes_by (ended v.program literal text.items) v
 holes_end v holes text literal none =
-    ap (λ hs. comes_by (literal_form v.program (acts_at v) literal text.items (to_holes (map hole_data hs))) v) (empty_list holes.now none)
+    ap (λ hs. comes_by (literal_form v.program (acts_at v) literal text.items (to_holes (map hole_data hs))) v) (none_left holes.now none)
     ∙ ap (λ r. followed (followed r (λ rest. ended v.program literal (text.items ++ rest))) (λ x later. run v.program v.work On v.openable x later))
     (no_holes-is v.program (acts_at v) v.state (reader literal))
     ∙ ap (λ t. comes_by (ended v.program literal t) v) (append-nil text.items)
@@ -141,13 +142,13 @@ pub path_alone
     → comes_by (path_holes v.program (acts_at v) letter text (to_holes (map hole_data holes.now))) v
     ≡ comes_by (literal_form v.program (acts_at v) (literals.Path letter None) text (to_holes (map hole_data holes.now))) v
 path_alone v letter text holes none =
-    ap (λ hs. comes_by (path_holes v.program (acts_at v) letter text (to_holes (map hole_data hs))) v) (empty_list holes.now none)
+    ap (λ hs. comes_by (path_holes v.program (acts_at v) letter text (to_holes (map hole_data hs))) v) (none_left holes.now none)
     ∙ ap (λ r. followed r (λ x later. run v.program v.work On v.openable x later)) (path_holes-none v.program (acts_at v) letter text v.state)
     ∙ ap (λ t. comes_by (path_value v.program letter None t) v) (sym (append-nil text))
     ∙ ap (λ r. followed (followed r (λ rest. path_value v.program letter None (text ++ rest))) (λ x later. run v.program v.work On v.openable x later))
     (sym (no_holes-is v.program (acts_at v) v.state literal_hole))
     ∙ ap (λ hs. comes_by (literal_form v.program (acts_at v) (literals.Path letter None) text (to_holes (map hole_data hs))) v)
-    (sym (empty_list holes.now none))
+    (sym (none_left holes.now none))
 
 first_at
     : (p : ProgramData) (act : Acts) (letter : PathKind) (following longer start : List ℕ) (base : Option Atoms) (more : HoleRow)

@@ -3,12 +3,11 @@ use Rattle.std.proofs.Common.{◌≡◌, ℕ, List, Result, map, ap, sym, ◌∙
 use Rattle.dscript_ast.specs.declared.expr.PathKind.{PathKind}
 use Rattle.dscript_ast.specs.declared.operator.UnaryOp.{UnaryOp}
 use Rattle.dscript_program.specs.BoundTree as tree
-use Rattle.dscript_program.specs.BoundTree.{ExprData, to_elements, to_holes, to_operands, to_parts, to_props}
-use Rattle.dscript_program.specs.Views.{element_data, expr_data, hole_data, operand_data, part_data, prop_data}
+use Rattle.dscript_program.specs.BoundTree.{ExprData, to_elements, to_holes, to_parts, to_props}
+use Rattle.dscript_program.specs.Views.{element_data, expr_data, hole_data, part_data, prop_data}
 use Rattle.dscript_program.specs.declared.bound.BoundElement.{BoundElement}
 use Rattle.dscript_program.specs.declared.bound.BoundExpr.{BoundExpr}
 use Rattle.dscript_program.specs.declared.bound.BoundHole.{BoundHole}
-use Rattle.dscript_program.specs.declared.bound.BoundOperand.{BoundOperand}
 use Rattle.dscript_program.specs.declared.bound.BoundPart.{BoundPart}
 use Rattle.dscript_program.specs.declared.bound.BoundProp.{BoundProp}
 use Rattle.dscript_value.specs.Plain.{Plain}
@@ -41,24 +40,6 @@ path_as result v w k letter text holes is kept =
     keeps_at result _ _ w (ap (λ l. comes_by (path_form v.program (acts_at v) l text holes) v) is) kept
 
 -- ## The parts of nodes, where they are read
-
-pub cond_from
-    : (t : ExprData) (a b d a' b' d' : BoundExpr) → t ≡ tree.Cond (expr_data a) (expr_data b) (expr_data d) → a' ≡ a
-    → b' ≡ b → d' ≡ d → t ≡ tree.Cond (expr_data a') (expr_data b') (expr_data d')
-cond_from t a b d a' b' d' e p q r =
-    e
-    ∙ ap (λ y. tree.Cond (expr_data y) (expr_data b) (expr_data d)) (sym p)
-    ∙ ap (λ y. tree.Cond (expr_data a') (expr_data y) (expr_data d)) (sym q)
-    ∙ ap (λ y. tree.Cond (expr_data a') (expr_data b') (expr_data y)) (sym r)
-
-pub chain_from
-    : (t : ExprData) (f d : BoundExpr) (v l : List BoundOperand)
-    → t ≡ tree.Chain (expr_data f) (to_operands (map operand_data v)) → d ≡ f → l ≡ v
-    → t ≡ tree.Chain (expr_data d) (to_operands (map operand_data l))
-chain_from t f d v l e p q =
-    e
-    ∙ ap (λ y. tree.Chain (expr_data y) (to_operands (map operand_data v))) (sym p)
-    ∙ ap (λ y. tree.Chain (expr_data d) (to_operands (map operand_data y))) (sym q)
 
 pub unary_from
     : (t : ExprData) (f d : BoundExpr) (v l : List UnaryOp) → t ≡ tree.Unary v (expr_data f) → d ≡ f → l ≡ v

@@ -1,7 +1,7 @@
 //! The evaluator's transitions for expressions and constants.
 //!
 //! Each call here does one work of the machine, or begins an expression. This crate depends on
-//! `dscript_eval_frames`, and carries the promise that what was to come of an expression still comes.
+//! `dscript_eval_frames`, and carries the promise that a transition preserves what the machine evaluates to.
 #![tactic(auto)]
 
 mod collections;
@@ -16,6 +16,3 @@ pub use constants::{demands, keep};
 pub use exprs::{choose, eval, operands, operated, prefix};
 pub use given::at_once;
 pub use literals::{first_hole, hole, other_holes};
-
-/// Out of memory, the one refusal that no contract ties to a cause.
-pub type Memory = std::alloc::AllocError;

@@ -15,9 +15,8 @@ ghost use Rattle.dscript_eval_frames.specs.Works.{ended, reader};
 ghost use Rattle.dscript_eval_frames.specs.declared.work.ExprWork.TheVariants as expr;
 ghost use Rattle.dscript_eval_frames.specs.declared.work.Work.TheVariants as works;
 
-use crate::Memory;
 use crate::given::at_once;
-use bx_tree::{Path, Text};
+use bx_tree::{Memory, Path, Text};
 use dscript_ast::PathKind;
 use dscript_eval_frames::{
     ExprWork, Literal, Machine, Stop, Work, directory_of, hole_parts, path_of, stop_of,

@@ -13,8 +13,8 @@ ghost use Rattle.dscript_eval_frames.specs.Forms.{acts_at};
 ghost use Rattle.dscript_eval_frames.specs.Keeps.{Comes};
 ghost use Rattle.dscript_eval_frames.specs.Views.{seen};
 
-use crate::Memory;
 use crate::constants::constant_value;
+use bx_tree::Memory;
 use dscript_eval_frames::{Machine, Stop, function_at, kind_at};
 use dscript_eval_meaning::EvalKind;
 use dscript_program::{DeclKind, Target};

@@ -97,16 +97,16 @@ below_or_not true k i is = inl (ltb-true k i is)
 below_or_not false k i is = inr (ltb-false k i is)
 
 -- the value of a local where a search found its place, or found none
-pub halved
+pub binary_found
     : (cs : List ℕ) (xs : List Plain) (n : ℕ) (r : Result ℕ ℕ) → is_increasing cs ≡ true
     → IsBinarySearchResult (λ y. nat_cmp y n) cs r
     → MatchResult r (λ i. captured_value cs xs n ≡ unwrap_or (slice_get xs i) Undefined)
     (λ _. captured_value cs xs n ≡ Undefined)
-halved cs xs n (Ok i) up found =
+binary_found cs xs n (Ok i) up found =
     let at = searched cs n (Ok i) found (upwards cs up) in
     passed cs xs i n (omega (arith, at.0)) (λ k less same. let strict = rises_by cs 0 k i 0 up less at.0 in omega (arith, strict, same, at.1))
     ∙ captured_found cs xs i n 0 at.0 at.1
-halved cs xs n (Err i) up found =
+binary_found cs xs n (Err i) up found =
     let at = searched cs n (Err i) found (upwards cs up) in
     passed cs xs (length cs) n (omega arith) (λ k less same. ⊎_elim
     (λ below. let small = at.1 k below in omega (arith, small, same))

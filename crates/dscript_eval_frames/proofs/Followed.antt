@@ -1,5 +1,5 @@
 -- One thing after another.
-use Rattle.std.proofs.Common.{◌≡◌, List, [], ◌∷◌, length, Result, Ok, Err, refl, arith}
+use Rattle.std.proofs.Common.{◌≡◌, Result, Ok, Err, refl}
 use Rattle.dscript_eval_meaning.specs.Evaluating.{Gives, Stop, followed}
 use Rattle.dscript_eval_meaning.specs.States.{State}
 
@@ -8,10 +8,6 @@ pub followed-followed
     → followed (followed r f) g ≡ followed r (λ x s. followed (f x s) g)
 followed-followed (Ok r) f g = refl
 followed-followed (Err stop) f g = refl
-
-pub empty_list : {A : Type 0} (xs : List A) → length xs ≡ 0 → xs ≡ []
-empty_list [] none = refl
-empty_list (x ∷ xs) none = absurd (omega (arith, none))
 
 pub followed-same
     : {A B : Type 0} (r : Result (A × State) Stop) (f g : A → Gives B) → ((x : A) (s : State) → f x s ≡ g x s)

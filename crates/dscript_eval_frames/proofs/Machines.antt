@@ -4,6 +4,7 @@ use Rattle.std.proofs.Common.{MatchOption, MatchResult, Option, Some, None, Resu
 use Rattle.std.specs.Prelude.{option_to_list}
 use Rattle.std.proofs.lemmas.Bool.{le-leb, lt-leb}
 use Rattle.std.proofs.lemmas.List.{append-nil, reverse-append}
+use Rattle.bx_tree.proofs.Lists.{none_left}
 use Rattle.dscript_eval_meaning.specs.Evaluating.{fails}
 use Rattle.dscript_eval_meaning.specs.States.{State}
 use Rattle.dscript_eval_meaning.specs.declared.fault.EvalKind.TheVariants as kinds
@@ -12,7 +13,6 @@ use Rattle.dscript_eval_frames.specs.Views.{View}
 use Rattle.dscript_eval_frames.specs.declared.stop.Stop.{Stop}
 use Rattle.dscript_eval_frames.specs.declared.stop.Stop.TheVariants as stops
 use Rattle.dscript_eval_frames.specs.declared.work.Work.{Work}
-use Rattle.dscript_eval_frames.proofs.Followed.{empty_list}
 
 -- what is added last is first from the end
 pub reversed_push : {A : Type 0} (xs ys : List A) (x : A) → ys ≡ xs ++ x ∷ [] → reverse ys ≡ x ∷ reverse xs
@@ -42,7 +42,7 @@ pub popped
     → MatchOption r ((reverse xs ≡ []) × (record v { work = reverse ys } ≡ record v { work = reverse xs }))
     (λ x. record v { work = reverse xs } ≡ record v { work = x ∷ reverse ys })
 popped None xs ys n m v is len none = (
-  ap reverse (empty_list xs (sym len ∙ none.0)),
+  ap reverse (none_left xs (sym len ∙ none.0)),
   ap (λ (l : List Work). record v { work = reverse l }) (sym (is ∙ append-nil ys)),
 )
 popped (Some x) xs ys n m v is len some = ap (λ (l : List Work). record v { work = l }) (reversed_push ys xs x is)

@@ -1,6 +1,6 @@
 -- The own locals of a body: those of its list, and those that are kept for places beyond it.
 use Rattle.std.proofs.Common.{◌≡◌, ℕ, zero, suc, ◌+◌, ◌-◌, ◌<◌, ◌≤◌, cond, List, [], ◌∷◌, ◌++◌, append_assoc}
-use Rattle.std.proofs.Common.{length, map, take, slice_get, slice_set, unwrap_or, option_map, Some, None, BTreeMap, nat_cmp, eqb}
+use Rattle.std.proofs.Common.{length, map, take, slice_get, slice_set, unwrap_or, option_map, Some, None, BTreeMap, nat_cmp}
 use Rattle.std.proofs.Common.{refl, ap, sym, ◌∙◌, arith, add-one, eq-eqb, ne_eqb, eq-or-lt_of_le, ⊎_elim}
 use Rattle.std.proofs.lemmas.List.{length-map, length_push, map-append, set_at, set_past, set-append_left, set-append_right}
 use Rattle.std.specs.BTreeMap.{get, is_at}
@@ -9,6 +9,7 @@ use Rattle.dscript_value.specs.Plain.{Plain, Undefined, plain_of}
 use Rattle.dscript_value.specs.declared.value.Value.{Value}
 use Rattle.dscript_eval_meaning.specs.Frames.{filled}
 use Rattle.dscript_eval_frames.specs.Own.{far_values, kept_at, own_values}
+use Rattle.dscript_eval_frames.proofs.Placings.{kept_by}
 
 -- ## What is found in a place
 
@@ -82,9 +83,6 @@ own_first own far count k x there =
     ∙ there
 
 -- ## Values that are put
-
-kept_by : (place q : ℕ) → is_at (nat_cmp place) q ≡ eqb place q
-kept_by place q = grind arith
 
 -- equal entries give equal values
 same_far

@@ -4,6 +4,7 @@ use Rattle.std.proofs.Common.{get_or, slice_get, unwrap_or, BTreeMap, nat_cmp, e
 use Rattle.std.proofs.lemmas.List.{at_drop_more, at_drop_all}
 use Rattle.std.specs.BTreeMap.{get, is_at}
 use Rattle.std.specs.Map.{lookup}
+use Rattle.bx_tree.proofs.Options.{none_both}
 use Rattle.dscript_value.specs.Plain.{Plain, Undefined}
 use Rattle.dscript_eval_meaning.specs.Frames.{captured_value}
 use Rattle.dscript_eval_frames.specs.Placed.{KeepPlaces, place_from}
@@ -14,7 +15,7 @@ pub none_kept : (places : BTreeMap ℕ ℕ) (locals : List ℕ) (i : ℕ) → pl
 none_kept places locals i none le n =
     ap (λ es. lookup (is_at (nat_cmp n)) es) none ∙ sym (at_drop_all (λ ls. place_from i ls n) locals i le)
 
-kept_by : (place q : ℕ) → is_at (nat_cmp place) q ≡ eqb place q
+pub kept_by : (place q : ℕ) → is_at (nat_cmp place) q ≡ eqb place q
 kept_by place q = grind arith
 
 -- the place before the first one is kept too
@@ -53,10 +54,6 @@ held_by false c cs (x ∷ xs) n i j o is h e = let at = h xs e in record {
 held_at : (cs : List ℕ) (xs : List Plain) (n i j : ℕ) → place_from i cs n ≡ Some j → IsHeldAt cs xs n i j
 held_at [] xs n i j e = cc
 held_at (c ∷ cs) xs n i j e = held_by (eqb c n) c cs xs n i j (place_from (i + 1) cs n) refl (λ ys. held_at cs ys n (i + 1) j) e
-
-none_both : (b : Bool) (i : ℕ) (o : Option ℕ) → cond b (Some i) o ≡ None → (b ≡ false) × (o ≡ None)
-none_both true i o e = cc
-none_both false i o e = (refl, e)
 
 not_held : (cs : List ℕ) (xs : List Plain) (n i : ℕ) → place_from i cs n ≡ None → captured_value cs xs n ≡ Undefined
 not_held [] xs n i e = refl

@@ -7,8 +7,8 @@ ghost use Rattle.dscript_eval_meaning.specs.Frames.{captured_value};
 ghost use Rattle.dscript_eval_frames.specs.Increasing.{is_increasing};
 ghost use Rattle.dscript_eval_frames.specs.Placed.{KeepPlaces};
 
-use crate::Memory;
 use crate::own::value_at;
+use bx_tree::Memory;
 use dscript_value::Value;
 use std::alloc::Global;
 use std::collections::BTreeMap;

@@ -7,8 +7,8 @@ ghost use Rattle.dscript_eval_frames.specs.Increasing.{is_increasing};
 ghost use Rattle.dscript_eval_frames.specs.Placed.{KeepPlaces};
 ghost use Rattle.dscript_eval_frames.specs.declared.code.Search.TheVariants as searches;
 
-use crate::Memory;
 use crate::captured::{Places, are_increasing, binary_searched, captured_at, placed, places_of};
+use bx_tree::Memory;
 use dscript_program::Function;
 use dscript_value::Value;
 use std::alloc::Global;

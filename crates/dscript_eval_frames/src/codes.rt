@@ -3,8 +3,8 @@ ghost use Rattle.std.specs.Prelude.{◌≡◌, map, IfOk};
 ghost use Rattle.dscript_program.specs.Views.{program_data};
 ghost use Rattle.dscript_eval_frames.specs.Codes.{code_data};
 
-use crate::Memory;
 use crate::code::Code;
+use bx_tree::Memory;
 use dscript_program::Program;
 use std::alloc::Global;
 

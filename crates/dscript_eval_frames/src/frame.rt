@@ -6,9 +6,9 @@ ghost use Rattle.dscript_eval_meaning.specs.Frames.{constant_frame, function_fra
 ghost use Rattle.dscript_eval_frames.specs.Codes.{code_data};
 ghost use Rattle.dscript_eval_frames.specs.Frames.{frame_of, held_by};
 
-use crate::Memory;
 use crate::code::Code;
 use crate::own::{own_arguments, put_after, put_at, put_far, value_in};
+use bx_tree::Memory;
 use dscript_value::{FunctionRef, Value};
 use std::alloc::Global;
 use std::collections::BTreeMap;

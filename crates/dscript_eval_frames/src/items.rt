@@ -6,8 +6,7 @@ ghost use Rattle.dscript_sdk_values.specs.Kinds.{items_in};
 ghost use Rattle.dscript_sdk_values.specs.Outcomes.{Refuses};
 ghost use Rattle.dscript_eval_frames.specs.ItemsFrom.{IsItemFrom};
 
-use crate::Memory;
-use bx_tree::Text;
+use bx_tree::{Memory, Text};
 use dscript_sdk_values::SdkFault;
 use dscript_value::{Field, GrowingList, Value, Values};
 

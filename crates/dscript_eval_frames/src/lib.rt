@@ -1,9 +1,9 @@
 //! The abstract machine of evaluation: its frames, its table of constants, and its stack of work.
 //!
-//! A frame is a running body with its locals; functions say how the locals that they captured are found. What is
-//! still to be done is a list in memory, so that deep calls take no stack. `specs/` says what each work comes to, by
-//! what the works after it do, and what a move of the machine keeps. This crate depends on `dscript_eval_meaning`, by
-//! whose words it is defined; the moves are in the crates above it.
+//! A frame is a running body with its locals; functions know how the locals that they captured are found. The
+//! continuation is a list in memory, so that deep calls take no stack. `specs/` says what each work on that list
+//! evaluates to, by the works after it, and what a transition of the machine preserves. This crate depends on
+//! `dscript_eval_meaning`, in whose words it is defined; the transitions are in the crates above it.
 #![tactic(auto)]
 
 mod captured;
@@ -30,9 +30,7 @@ pub use machine::Machine;
 pub use made::{directory_of, function_at, object_value, text_of};
 pub use nodes::{element_parts, expr_cost, hole_parts, operand_parts, stmt_cost};
 pub use outcomes::stop_of;
+pub use own::first_of;
 pub use status::{Status, all_waiting, set_status, status_at};
 pub use stop::Stop;
 pub use work::{CallWork, Callback, Callbacks, ExprWork, Literal, StmtWork, Use, Work};
-
-/// Out of memory, the one refusal that no contract ties to a cause.
-pub type Memory = std::alloc::AllocError;

@@ -4,8 +4,7 @@ ghost use Rattle.dscript_program.specs.Views.{expr_data, kind_data, program_data
 ghost use Rattle.dscript_eval_meaning.specs.Lookups.{declared_at, path_at};
 ghost use Rattle.dscript_eval_frames.specs.Consts.{const_in, const_of};
 
-use crate::Memory;
-use bx_tree::Path;
+use bx_tree::{Memory, Path};
 use dscript_program::{BoundExpr, DeclKind, Program};
 use std::alloc::Global;
 

@@ -7,7 +7,7 @@ ghost use Rattle.dscript_value.specs.Plain.{plain_of};
 ghost use Rattle.dscript_value.specs.declared.value.Value.{Value};
 ghost use Rattle.dscript_eval_frames.specs.Own.{own_values};
 
-use crate::Memory;
+use bx_tree::Memory;
 use dscript_value::Value;
 use std::alloc::Global;
 use std::collections::BTreeMap;
@@ -54,7 +54,8 @@ pub(crate) fn value_in(
     }
 }
 
-fn first_of(values: &[Value], count: usize) -> &[Value]
+/// The first values, as many as this, or all if there are fewer.
+pub fn first_of(values: &[Value], count: usize) -> &[Value]
     ensures { map plain_of result.now ≡ take count (map plain_of values.now) }
 {
     if count < values.len() {

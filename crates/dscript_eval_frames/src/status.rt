@@ -8,7 +8,7 @@ ghost use Rattle.dscript_eval_meaning.specs.States as meaning;
 ghost use Rattle.dscript_eval_meaning.specs.States.{Waiting};
 ghost use Rattle.dscript_eval_frames.specs.Statuses.{status_of, statuses};
 
-use crate::Memory;
+use bx_tree::Memory;
 use dscript_program::{BoundFile, Program};
 use dscript_value::Value;
 use std::alloc::Global;

@@ -1,10 +1,10 @@
 //! The semantics of evaluation: what each form of a program evaluates to, with its exact steps, and its laws.
 //!
-//! `specs/` has the meaning, form by form, as evaluation with a budget of steps and a limit on open calls. The laws
-//! say what both do. A program takes a number of steps: within a budget of as many steps it has its answer, and
-//! within a smaller one it runs out of them. A call that does not meet the limit on open calls comes to what it comes
-//! to under each higher limit. This crate depends on `dscript_program` for programs, on `dscript_value` for values,
-//! and on `dscript_sdk` and `dscript_eval_operators` for what calls, members and operators answer.
+//! `specs/` has the semantics, form by form, as evaluation with a step budget and a limit on open calls. The laws
+//! say what both do. A program takes a fixed number of steps: within a budget of as many steps it has its answer,
+//! and within a smaller one it runs out of them. A call that does not reach the limit on open calls evaluates the
+//! same under each higher limit. This crate depends on `dscript_program` for programs, on `dscript_value` for
+//! values, and on `dscript_sdk` and `dscript_eval_operators` for the results of calls, members and operators.
 #![tactic(auto)]
 
 mod fault;

@@ -6,8 +6,7 @@ ghost use Rattle.dscript_value.specs.Plain.{item_list, member_list, plain_fields
 ghost use Rattle.dscript_sdk_values.specs.Outcomes.{Refuses};
 ghost use Rattle.dscript_eval_operators.specs.Indexing.{indexed, item_at};
 
-use crate::Memory;
-use bx_tree::Text;
+use bx_tree::{Memory, Text};
 use dscript_sdk_values::SdkFault;
 use dscript_value::{Fields, Value, Values};
 

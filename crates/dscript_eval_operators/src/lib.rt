@@ -1,9 +1,8 @@
-//! Evaluation of operators, interpolation, indexing and spreads.
+//! Evaluation of operators, interpolation, indexing and spreads on values.
 //!
-//! Evaluation takes an expression apart, and these functions make its value of those of its parts. This
-//! crate depends on `dscript_value` and `dscript_ast`, on `dscript_sdk_values` for faults and limits, and on
-//! `bx_path`. It carries the promise that each function answers what its definition says, or its first
-//! fault.
+//! Evaluation takes an expression apart, and these functions compute its value from those of its parts. This crate
+//! depends on `dscript_value` and `dscript_ast`, on `dscript_sdk_values` for faults and limits, and on `bx_path`.
+//! It carries the promise that each function evaluates as defined, to its value or its first fault.
 #![tactic(auto)]
 
 mod callbacks;
@@ -27,6 +26,3 @@ pub use relative_literals::{atom_literal, relative_literal};
 pub use spreads::{add_fields, add_items};
 pub use texts::{add_literal_hole, add_template_hole};
 pub use truth::is_true;
-
-/// Out of memory, the one refusal that no contract ties to a cause.
-pub type Memory = std::alloc::AllocError;

@@ -5,7 +5,7 @@ ghost use Rattle.dscript_sdk_values.specs.Outcomes.{Refuses};
 ghost use Rattle.dscript_eval_operators.specs.PathLiterals as spec;
 ghost use Rattle.dscript_eval_operators.specs.PathLiterals.{first_hole, lettered, path_to};
 
-use crate::texts::{add_literal_hole, file_path};
+use crate::texts::add_literal_hole;
 use bx_path::join;
 use bx_tree::{FileInput, Path, PathFault};
 use dscript_ast::PathKind;
@@ -21,7 +21,7 @@ fn base_of(hole: &Value) -> Option<&Path>
 {
     match hole {
         Value::Path(path) | Value::Directory(path) => Some(path),
-        Value::File(file) => Some(file_path(file)),
+        Value::File(file) => Some(file.path()),
         _ => None,
     }
 }

@@ -1,24 +1,16 @@
 //! Relative path literals and atom literals.
-ghost use Rattle.std.specs.Prelude.{◌≡◌, ◌==◌, Ok, IfOk, MatchResult};
-ghost use Rattle.std.specs.List.{slice_split};
+ghost use Rattle.std.specs.Prelude.{◌≡◌, Ok, IfOk, MatchResult};
 ghost use Rattle.dscript_value.specs.Plain as plain;
 ghost use Rattle.dscript_value.specs.Plain.{plain_of};
 ghost use Rattle.dscript_sdk_values.specs.Outcomes.{Refuses};
 ghost use Rattle.dscript_eval_operators.specs.RelativeLiterals as spec;
 ghost use Rattle.bx_tree.specs.Lent.{texts_now};
 
-use crate::Memory;
-use bx_tree::{Text, is_atom};
+use bx_path::parts_of;
+use bx_tree::{Memory, Text, is_atom};
 use dscript_sdk_values::SdkFault;
 use dscript_value::{RelativePath, Value};
 use std::alloc::Global;
-
-// The parts of a text between its `/`.
-fn parts_of(alloc: Global, text: &[u8]) -> Result<Vec<&[u8]>, Memory>
-    ensures { IfOk result (λ parts. texts_now parts.items ≡ slice_split (λ b. b == 47) text.entry.now) }
-{
-    text.split(|byte| *byte == b'/').collect(alloc)
-}
 
 // The atoms among these parts, of which each is an atom or `.`.
 fn atoms_of(alloc: Global, parts: &[&[u8]]) -> Result<Vec<Text>, SdkFault>

@@ -5,7 +5,7 @@ ghost use Rattle.dscript_value.specs.Plain.{plain_field, plain_of};
 ghost use Rattle.dscript_sdk_values.specs.Outcomes.{Refuses};
 ghost use Rattle.dscript_eval_operators.specs.Spreads.{with_fields_of, with_items_of};
 
-use crate::Memory;
+use bx_tree::Memory;
 use dscript_sdk_values::{MAX_LIST_ITEMS, SdkFault, read_values};
 use dscript_value::{Field, GrowingList, Value};
 use std::alloc::Global;

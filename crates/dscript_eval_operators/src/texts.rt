@@ -5,11 +5,9 @@ ghost use Rattle.dscript_value.specs.Plain.{plain_of};
 ghost use Rattle.dscript_sdk_values.specs.Outcomes.{Refuses};
 ghost use Rattle.dscript_eval_operators.specs.Texts.{appended_hole, literal_hole, template_hole};
 ghost use Rattle.dscript_eval_operators.specs.Texts.{written_relative};
-ghost use Rattle.bx_tree.specs.FileInputs.{input_path as path_in_file};
 ghost use Rattle.dscript_sdk_values.specs.PathTexts.{path_argument};
 
-use crate::Memory;
-use bx_tree::{FileInput, Path, Text};
+use bx_tree::{Memory, Path, Text};
 use dscript_sdk_values::SdkFault;
 use dscript_value::Value;
 use std::alloc::Global;
@@ -19,15 +17,6 @@ pub(crate) fn number_text(alloc: Global, number: i32) -> Result<Vec<u8>, Memory>
     ensures { IfOk result (λ text. text.items ≡ signed_decimal number) }
 {
     Ok(format!(in alloc; "{number}")?.into_bytes())
-}
-
-// The path of a file.
-pub(crate) fn file_path(file: &FileInput) -> &Path
-    ensures { result.now ≡ path_in_file file.now }
-{
-    match file {
-        FileInput::Source(path) | FileInput::Made(path, _) => path,
-    }
 }
 
 fn add_path(text: &mut Vec<u8>, path: &Path) -> Result<(), Memory>
@@ -81,7 +70,7 @@ pub fn add_template_hole(alloc: Global, text: &mut Vec<u8>, hole: &Value) -> Res
         Value::Flag(true) => text.extend_from_slice(b"true")?,
         Value::Flag(false) => text.extend_from_slice(b"false")?,
         Value::Path(path) | Value::Directory(path) => add_path(text, path)?,
-        Value::File(file) => add_path(text, file_path(file))?,
+        Value::File(file) => add_path(text, file.path())?,
         _ => return add_literal_hole(alloc, text, hole),
     }
     Ok(())

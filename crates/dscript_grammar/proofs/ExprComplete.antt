@@ -1,7 +1,7 @@
 -- The readers of expressions and statements are complete: what is derived at the start is read.
 use Prim.Native.String.{String as Letters}
 use Rattle.std.proofs.Common.{◌≡◌, ℕ, zero, suc, ◌<◌, ◌≤◌, Bool, true, false, not, ◌||◌, ◌⊎◌, List, [], ◌∷◌, length, Option, Some, None, nat_eq, nat_le, codes, bytes_eq, refl, ap, sym, ◌∙◌, subst, inl, inr, arith}
-use Rattle.std.proofs.lemmas.Bool.{false≢true}
+use Rattle.std.proofs.lemmas.Bool.{false≢true, false_from_ne_true, or_left, or_right, or_from}
 use Rattle.std.proofs.lemmas.Bool.Decides.{nat_tests}
 use Rattle.dscript_lex.specs.declared.token.TokenKind.{TokenKind}
 use Rattle.dscript_lex.specs.declared.token.TokenKind.TheVariants as kinds
@@ -27,7 +27,7 @@ use Rattle.dscript_grammar.proofs.Combinators.{Reads, reads_done, reads_bind, ta
 use Rattle.dscript_ast.proofs.TreeLists.{to_exprs-of, to_operands-of, to_parts-of, to_elements-of, to_props-of, to_holes-of, to_stmts-of, to_expr-of}
 use Rattle.dscript_grammar.proofs.TypeComplete.{EndsType, ends_at, not_taken, at_first, flag_complete, reads_as, above_complete, type_complete}
 use Rattle.dscript_grammar.proofs.ExprLengths.{param_consumes, prefix_consumes, operand_consumes, part_consumes, holes_count, element_consumes, prop_consumes, expr_consumes, stmt_consumes}
-use Rattle.dscript_grammar.proofs.ExprFirst.{for_all_operators, no_operator_is, starts_expr, First, if_not_true, excluded_punctuator, not_first, not_first_word, keyword_not_taken, first_identifier, expr_first, choose_is, no_assign, no_arrow}
+use Rattle.dscript_grammar.proofs.ExprFirst.{for_all_operators, no_operator_is, starts_expr, First, excluded_punctuator, not_first, not_first_word, keyword_not_taken, first_identifier, expr_first, choose_is, no_assign, no_arrow}
 
 -- the tokens that continue an expression
 abbrev pub continues : TokenKind → Bool
@@ -65,7 +65,7 @@ unfolding operator_precedence read_operator choose
 operator_precedence_none ts none = ap (λ m. choose m 100 (λ o. precedence o.value)) (one_of_none _ ts none)
 
 quiet_punctuator : (s : Letters) (t : TokenKind) → continues (kinds.Punct (codes s)) ≡ true → continues t ≡ false → is_punctuator s t ≡ false
-quiet_punctuator s t is quiet = if_not_true _ (λ e. false≢true (sym quiet ∙ ap continues (is_punctuator-same s t e) ∙ is))
+quiet_punctuator s t is quiet = false_from_ne_true _ (λ e. false≢true (sym quiet ∙ ap continues (is_punctuator-same s t e) ∙ is))
 
 quiet_template : (t : TokenKind) (r : List TokenKind) → continues t ≡ false → at_template (t ∷ r) ≡ false
 unfolding at_template
@@ -147,7 +147,7 @@ stops_part p ts r e arrow ops = record {
 not_before_false : (s : Letters) (ts : List TokenKind) → ((more : List TokenKind) → ts ≡ kinds.Punct (codes s) ∷ more → ⊥) → at_punctuator s ts ≡ false
 unfolding at_punctuator_bytes
 not_before_false s [] none = refl
-not_before_false s (t ∷ r) none = if_not_true _ (λ e. none r (ap (λ u. u ∷ r) (is_punctuator-same s t e)))
+not_before_false s (t ∷ r) none = false_from_ne_true _ (λ e. none r (ap (λ u. u ∷ r) (is_punctuator-same s t e)))
 
 not_first_taken : (s : Letters) {ts : List TokenKind} → starts_expr (kinds.Punct (codes s)) ≡ false → First ts → take_punctuator s ts ≡ None
 not_first_taken s out f = not_taken s f.is (excluded_punctuator starts_expr s f.token out f.starts)
@@ -169,13 +169,6 @@ after_comma ts r e = record { note = after_note e refl refl refl refl refl; no_q
 
 after_params : (ts r : List TokenKind) → punctuator ")" ts r → AfterParam ts
 after_params ts r e = record { note = after_note e refl refl refl refl refl; no_question = not_taken "?" e refl }
-
-or_left : (a b : Bool) → a ≡ true → a || b ≡ true
-or_left a b e = ap (λ x. x || b) e
-
-or_right : (a b : Bool) → b ≡ true → a || b ≡ true
-or_right true b e = refl
-or_right false b e = e
 
 -- the tokens that may follow a parameter of an arrow function
 abbrev ParamEnd : List TokenKind → Type 0
@@ -248,7 +241,7 @@ first_stmt (suc h) Empty ts rest p = (ap not (at_first "}" p), keyword_not_taken
 same_after : {t : TokenKind} {ts m n : List TokenKind} → ts ≡ t ∷ m → ts ≡ t ∷ n → m ≡ n
 same_after {t = t} {ts = ts} {m = m} {n = n} e f = cc
 
-pick_false : {A : Type 0} {b : Bool} (x y : A) → b ≡ false → pick b x y ≡ y
+pub pick_false : {A : Type 0} {b : Bool} (x y : A) → b ≡ false → pick b x y ≡ y
 unfolding pick
 pick_false x y e = ap (λ c. pick c x y) e
 
@@ -257,12 +250,9 @@ unfolding read_many
 none_more go one zero ts e = refl
 none_more go one (suc n) ts e = pick_false _ _ e
 
-or_false : (a b : Bool) → a ≡ false → b ≡ false → a || b ≡ false
-or_false a b p q = ap (λ x. x || b) p ∙ q
-
 punctuator_prefix : (t : TokenKind) (ts r : List TokenKind) → ts ≡ t ∷ r → is_punctuator "!" t ≡ false → is_punctuator "-" t ≡ false → at_prefix ts ≡ false
 unfolding at_prefix
-punctuator_prefix t ts r e p q = or_false (at_punctuator "!" ts) (at_punctuator "-" ts) (at_first "!" e ∙ p) (at_first "-" e ∙ q)
+punctuator_prefix t ts r e p q = or_from (at_punctuator "!" ts) (at_punctuator "-" ts) (at_first "!" e ∙ p) (at_first "-" e ∙ q)
 
 -- an expression of at most the level POSTFIX begins with no prefix operator
 no_prefix : (h l : ℕ) (e : ExprTree) (ts rest : List TokenKind) → l ≤ 1 → expr_at h l e ts rest → at_prefix ts ≡ false

@@ -1,7 +1,7 @@
 -- The first tokens of expressions, by which one rule is chosen.
 use Prim.Native.String.{String as Letters}
 use Rattle.std.proofs.Common.{◌≡◌, ℕ, zero, suc, ◌≤◌, Bool, true, false, not, ◌||◌, List, [], ◌∷◌, Option, Some, None, codes, bytes_eq, refl, ap, sym, ◌∙◌, subst, inl, inr, arith}
-use Rattle.std.proofs.lemmas.Bool.{false≢true}
+use Rattle.std.proofs.lemmas.Bool.{false≢true, false_from_ne_true}
 use Rattle.dscript_lex.specs.declared.token.TokenKind.{TokenKind}
 use Rattle.dscript_lex.specs.declared.token.TokenKind.TheVariants as kinds
 use Rattle.dscript_grammar.specs.Language.{punctuator, identifier, is_one_of, is_reserved}
@@ -46,16 +46,12 @@ pub record First (ts : List TokenKind) : Type 0 where
   pub is : ts ≡ token ∷ rest
   pub starts : starts_expr token ≡ true
 
-pub if_not_true : (b : Bool) → (b ≡ true → ⊥) → b ≡ false
-if_not_true false n = refl
-if_not_true true n = absurd (n refl)
-
 -- a token that passes a test is none that fails it
 pub excluded_punctuator : (f : TokenKind → Bool) (s : Letters) (t : TokenKind) → f (kinds.Punct (codes s)) ≡ false → f t ≡ true → is_punctuator s t ≡ false
-excluded_punctuator f s t out in_set = if_not_true _ (λ e. false≢true (sym out ∙ ap f (sym (is_punctuator-same s t e)) ∙ in_set))
+excluded_punctuator f s t out in_set = false_from_ne_true _ (λ e. false≢true (sym out ∙ ap f (sym (is_punctuator-same s t e)) ∙ in_set))
 
 pub excluded_keyword : (f : TokenKind → Bool) (w : Letters) (t : TokenKind) → f (kinds.Word (codes w)) ≡ false → f t ≡ true → is_keyword w t ≡ false
-excluded_keyword f w t out in_set = if_not_true _ (λ e. false≢true (sym out ∙ ap f (sym (is_keyword-same w t e)) ∙ in_set))
+excluded_keyword f w t out in_set = false_from_ne_true _ (λ e. false≢true (sym out ∙ ap f (sym (is_keyword-same w t e)) ∙ in_set))
 
 pub not_first : (s : Letters) {ts : List TokenKind} → starts_expr (kinds.Punct (codes s)) ≡ false → First ts → at_punctuator s ts ≡ false
 not_first s out f = at_first s f.is ∙ excluded_punctuator starts_expr s f.token out f.starts

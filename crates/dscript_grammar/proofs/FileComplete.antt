@@ -24,7 +24,7 @@ use Rattle.dscript_grammar.proofs.ExprFirst.{keyword_not_taken}
 use Rattle.dscript_grammar.proofs.ExprComplete.{stops_at, after_note, expr_complete, stmt_complete, note_complete, params_complete, block_complete, value_complete}
 
 -- How many tokens declarations and items consume.
-import_name_consumes : (i : ImportTree) → Consumes (import_name i)
+pub import_name_consumes : (i : ImportTree) → Consumes (import_name i)
 import_name_consumes i ts rest p =
     consumes_then (identifier_consumes i.name) (optional_not_longer (λ x. keyword "as" ⋅ identifier x) (λ x us vs q. consumes_then (token_consumes _) (not_longer (identifier_consumes x)) us vs q) i.alias) ts rest p
 
@@ -33,11 +33,11 @@ mark_not_longer marks.Plain ts rest p = nothing_not_longer ts rest p
 mark_not_longer marks.Export ts rest p = not_longer (token_consumes _) ts rest p
 mark_not_longer marks.Public ts rest p = not_longer (consumes_then (token_consumes _) (not_longer (consumes_then (token_consumes _) (not_longer (token_consumes _))))) ts rest p
 
-type_params_not_longer : (xs : List (List ℕ)) → NotLonger (type_params xs)
+pub type_params_not_longer : (xs : List (List ℕ)) → NotLonger (type_params xs)
 type_params_not_longer [] ts rest p = nothing_not_longer ts rest p
 type_params_not_longer (x ∷ more) ts rest p = not_longer (consumes_then (token_consumes _) (not_longer (consumes_then (separated_consumes identifier identifier_consumes "," (x ∷ more)) (not_longer (token_consumes _))))) ts rest p
 
-extends_not_longer : (h : ℕ) (xs : List TypeTree) → NotLonger (extends h xs)
+pub extends_not_longer : (h : ℕ) (xs : List TypeTree) → NotLonger (extends h xs)
 extends_not_longer h [] ts rest p = nothing_not_longer ts rest p
 extends_not_longer h (x ∷ more) ts rest p = not_longer (consumes_then (token_consumes _) (not_longer (separated_consumes (type_at h any_type) (type_consumes h any_type) "," (x ∷ more)))) ts rest p
 

@@ -1,7 +1,7 @@
 -- The file that is read is the file that is derived, at one height and at all greater heights that count.
-use Rattle.std.proofs.Common.{◌≡◌, ℕ, ◌≤◌, Bool, true, false, ◌&&◌, List, [], ◌∷◌, Some, None, nat_le, refl, ap, sym, ◌∙◌, subst, arith}
+use Rattle.std.proofs.Common.{◌≡◌, ℕ, ◌≤◌, true, false, ◌&&◌, List, [], ◌∷◌, Some, None, nat_le, refl, ap, sym, ◌∙◌, subst, arith}
 use Rattle.std.proofs.lemmas.Bool.Decides.{nat_tests}
-use Rattle.std.proofs.lemmas.Bool.{false≢true}
+use Rattle.std.proofs.lemmas.Bool.{false≢true, and_parts}
 use Rattle.std.proofs.lemmas.Option.{same_Some}
 use Rattle.dscript_lex.specs.declared.token.TokenKind.{TokenKind}
 use Rattle.dscript_grammar.specs.Reading.{and_then, pick}
@@ -13,10 +13,6 @@ use Rattle.dscript_ast.specs.declared.file.Form.{Form}
 use Rattle.dscript_grammar.specs.declared.height.TheConstants.{MAX_HEIGHT}
 use Rattle.dscript_grammar.proofs.Combinators.{Found, found_some, found_none, found_bind, found_if}
 use Rattle.dscript_grammar.proofs.WholeFile.{file_sound, file_complete}
-
-and_parts : (a b : Bool) → a && b ≡ true → (a ≡ true) × (b ≡ true)
-and_parts true b e = (refl, e)
-and_parts false b e = absurd (false≢true e)
 
 nothing_left : (ts : List TokenKind) → at_end ts ≡ true → ts ≡ []
 unfolding at_end

@@ -1,10 +1,9 @@
-//! The grammar of DScript as a relation between tokens and syntax trees, with its reader and its laws.
+//! The grammar of DScript as a relation between tokens and syntax trees, with a reader and laws.
 //!
-//! `specs/` has the rules as a relation between trees and lists of tokens, and once more as a reader, which
-//! finds the one tree. docs/FORMATS.md has the rules in prose. This crate depends on
-//! `dscript_ast` for trees and on `dscript_lex` for tokens. It carries the promises that a list of tokens has
-//! one file at most, that the reader is sound and complete, and that a list of tokens without a file has one
-//! place where it is refused.
+//! `specs/` has the rules as a relation between trees and lists of tokens, and once more as a reader, a function
+//! that finds the one tree. docs/FORMATS.md has the rules in prose. This crate depends on `dscript_ast` for trees
+//! and on `dscript_lex` for tokens. It carries the promises that the grammar is unambiguous, that the reader is
+//! sound and complete, and that a list of tokens without a file has exactly one error position.
 #![tactic(auto)]
 
 mod height;

@@ -94,7 +94,7 @@ pub record Commented (a : ℕ) (r : List ℕ) (n : ℕ) : Type 0 where
   pub slash : eqb a 0x2f ≡ true
   pub is : is_comment (take n (a ∷ r)) ≡ true
 
-two_more : (n a b : ℕ) (xs : List ℕ) → take (2 + n) (a ∷ b ∷ xs) ≡ a ∷ b ∷ take n xs
+pub two_more : (n a b : ℕ) (xs : List ℕ) → take (2 + n) (a ∷ b ∷ xs) ≡ a ∷ b ∷ take n xs
 two_more n a b xs = let e : 2 + n ≡ suc (suc n) = omega arith in ap (λ k. take k (a ∷ b ∷ xs)) e
 
 line_taken : (a b : ℕ) (bs : List ℕ) → (eqb a 0x2f && eqb b 0x2f) ≡ true → Commented a (b ∷ bs) (2 + line_of bs)
@@ -132,11 +132,11 @@ comment_sound a [] n is = cc
 comment_sound a (b ∷ bs) n is = comment_step a b bs (eqb a 0x2f && eqb b 0x2f) refl n is
 
 -- no punctuator is empty, has four bytes, or goes on after a slash
-empty_is_no_punctuator : is_punctuator [] ≡ false
+pub empty_is_no_punctuator : is_punctuator [] ≡ false
 unfolding is_punctuator
 empty_is_no_punctuator = refl
 
-long_is_no_punctuator : (a b c d : ℕ) (r : List ℕ) → is_punctuator (a ∷ b ∷ c ∷ d ∷ r) ≡ false
+pub long_is_no_punctuator : (a b c d : ℕ) (r : List ℕ) → is_punctuator (a ∷ b ∷ c ∷ d ∷ r) ≡ false
 unfolding is_punctuator
 long_is_no_punctuator a b c d r = refl
 

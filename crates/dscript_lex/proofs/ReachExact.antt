@@ -5,6 +5,7 @@ use Rattle.dscript_lex.specs.declared.enclosed.Reach.{Reach}
 use Rattle.dscript_lex.specs.Bytes.{escape_of}
 use Rattle.dscript_lex.specs.Lexemes.{Enclosed, enclosed, with_byte}
 use Rattle.dscript_lex.specs.Scanning.{further, reach}
+use Rattle.dscript_lex.proofs.PunctuatorExact.{two_more}
 
 -- a value, with how many bytes it takes
 abbrev pub reaching : Enclosed → ℕ → Reach
@@ -71,9 +72,6 @@ taken_none d s = λ r no. cc
 
 taken_some : (d : ℕ) (s : List ℕ) (r : Reach) → Takes d s r → Taken d s (Some r)
 taken_some d s r takes = λ r' same. let inside : r ≡ r' = cc in subst (Takes d s) inside takes
-
-two_more : (n a b : ℕ) (xs : List ℕ) → take (2 + n) (a ∷ b ∷ xs) ≡ a ∷ b ∷ take n xs
-two_more n a b xs = let e : 2 + n ≡ suc (suc n) = omega arith in ap (λ k. take k (a ∷ b ∷ xs)) e
 
 same_escape : (d c n : ℕ) (xs : List ℕ) (e : Enclosed) → enclosed d (take n xs) ≡ Some e → escape_of c (take n xs) ≡ escape_of c xs
 unfolding enclosed

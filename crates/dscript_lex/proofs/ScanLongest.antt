@@ -18,7 +18,7 @@ use Rattle.dscript_lex.specs.Punctuators.{is_punctuator}
 use Rattle.dscript_lex.specs.Lexemes.{opening_of, Enclosed, enclosed, number_of, numeral_of, after_zero, hexadecimal_of, at_most_max, value_in, is_comment, string_lexeme, part_lexeme, part_kind, number_lexeme, lexeme_as, lexeme_of, may_precede}
 use Rattle.dscript_lex.specs.Scanning.{reach, comment_len, punctuator_len, scanned_string, scanned_part, scanned_number, scanned_punctuator, scanned_other, scan_as, scan_of}
 use Rattle.dscript_lex.specs.Tokens.{IsLexeme, IsLongest, NothingBegins}
-use Rattle.dscript_lex.proofs.PrefixLength.{take_one_more, prefix_passes, prefix_stops, prefix_covers, prefix_is}
+use Rattle.dscript_lex.proofs.PrefixLength.{take_one_more, prefix_passes, prefix_stops, prefix_covers, prefix_is, one_more}
 use Rattle.dscript_lex.proofs.ReachExact.{reach_complete, Takes, reach_sound}
 use Rattle.dscript_lex.proofs.PunctuatorExact.{Commented, comment_complete, comment_sound, one_slash, punctuator_complete, PunctuatorOf, punctuator_sound}
 
@@ -37,9 +37,6 @@ has o b bs f n scanned = λ f' same. let inside : f ≡ f' = cc in (n, subst (λ
 
 has_none : (o : Opening) (b : ℕ) (bs : List ℕ) → HasScanned o b bs None
 has_none o b bs = λ f' same. cc
-
-one_more : (n : ℕ) → 1 + n ≡ suc n
-one_more n = omega arith
 
 blank_scan_sound : (b : ℕ) (bs : List ℕ) → HasScanned openings.Blank b bs (Some (record { kind = Blank; len = 1 }))
 unfolding lexeme_as

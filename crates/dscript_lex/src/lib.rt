@@ -1,9 +1,8 @@
 //! The lexer of DScript.
 //!
-//! A text is cut into lexemes: blanks, comments and the spellings of tokens. This crate depends on
-//! `bx_tree` for its shared texts. It carries the promise that `lex` finds exactly the tokens that the
-//! lexical grammar gives a text, and refuses exactly a text that has none, at the first byte at which
-//! no lexeme begins.
+//! A text is split into lexemes: blanks, comments and the spellings of tokens. This crate depends on `bx_tree` for
+//! its shared texts. It carries the promise that `lex` finds exactly the tokens that the lexical grammar gives a
+//! text, and rejects exactly a text that has none, at the first byte at which no lexeme begins.
 #![tactic(auto)]
 
 mod brackets;

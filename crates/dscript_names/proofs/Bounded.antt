@@ -1,5 +1,6 @@
 -- What is counted in a file is at most its tokens.
-use Rattle.std.proofs.Common.{◌≡◌, ℕ, suc, ◌+◌, ◌<◌, ◌≤◌, List, [], ◌∷◌, length, map, Ok, refl, ap, subst, arith}
+use Rattle.std.proofs.Common.{◌≡◌, ℕ, ◌+◌, ◌<◌, ◌≤◌, List, [], ◌∷◌, length, map, Ok, subst, arith}
+use Rattle.std.proofs.lemmas.List.{length-map}
 use Rattle.dscript_ast.specs.FileTree.{ItemTree, Project}
 use Rattle.dscript_ast.specs.declared.file.Form.TheVariants as forms
 use Rattle.dscript_names_binding.specs.Binding.{bind_items}
@@ -30,15 +31,11 @@ rise_length from (t ∷ ts) to h =
     let ends : t.start < t.end = h.1 in
     let rest : t.end + length ts ≤ to = rise_length t.end ts to h.2 in omega (arith, begins, ends, rest)
 
-length_map : {X Y : Type 0} (f : X → Y) (xs : List X) → length (map f xs) ≡ length xs
-length_map f [] = refl
-length_map f (x ∷ xs) = ap suc (length_map f xs)
-
 -- a text has at most as many tokens as bytes
 pub kinds_within : (text : List ℕ) (tokens : List Token) → AreTokens text tokens → length (map (λ t. t.kind) tokens) ≤ length text
 kinds_within text tokens are =
     let l : 0 + length tokens ≤ length text = rise_length 0 tokens (length text) (places text tokens are).rise in
-    omega (arith, l, length_map (λ t. t.kind) tokens)
+    omega (arith, l, length-map tokens (λ t. t.kind))
 
 pub bounded_by_bytes : (text : List ℕ) (tokens : List Token) (items : List ItemTree) (height : ℕ) → AreTokens text tokens
     → Derives forms.Project (map (λ t. t.kind) tokens) (Project items) height

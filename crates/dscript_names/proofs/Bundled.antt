@@ -3,6 +3,7 @@ use Rattle.std.proofs.Common.{◌≡◌, ℕ, ◌≤◌, Bool, true, false, cond
 use Rattle.std.specs.Fmt.{decimal}
 use Rattle.std.specs.List.{AllByRecursion, filter}
 use Rattle.std.proofs.lemmas.List.Sums.{prefix_len-le-length}
+use Rattle.std.proofs.lemmas.List.{length-map, length-append}
 use Rattle.bx_tree.specs.Bundle.{IsBundle, body_text, file_text}
 use Rattle.bx_tree.specs.Paths.{Atoms, path_text}
 use Rattle.bx_tree.specs.Trees.{Files}
@@ -14,13 +15,12 @@ use Rattle.dscript_names_scopes.specs.Declarations.{ParsedData, module_of, names
 use Rattle.dscript_names.specs.Counted.{ProgramWithin, WorldWithin}
 use Rattle.dscript_names.specs.Texts.{AreProjects, AreProjectsAmong}
 use Rattle.dscript_names.proofs.Programs.{bytes_of, names_within, program_more, program_within}
-use Rattle.dscript_names.proofs.Steps.{length_append}
 
 -- ## Bytes
 
 within_file : (a b c d e bytes z : List ℕ) → length bytes ≤ length (a ++ b ++ c ++ d ++ e ++ bytes ++ z)
 within_file a b c d e bytes z =
-    omega (arith, length_append (a ++ b ++ c ++ d ++ e ++ bytes) z, length_append (a ++ b ++ c ++ d ++ e) bytes)
+    omega (arith, length-append (a ++ b ++ c ++ d ++ e ++ bytes) z, length-append (a ++ b ++ c ++ d ++ e) bytes)
 
 file_bytes : (f : Atoms × List ℕ) → length f.1 ≤ length (file_text f)
 file_bytes f =
@@ -31,10 +31,10 @@ body_bytes [] = omega arith
 body_bytes (f ∷ fs) =
     let first : length f.1 ≤ length (file_text f) = file_bytes f in
     let others : bytes_of fs ≤ length (body_text fs) = body_bytes fs in
-    omega (arith, first, others, length_append (file_text f) (body_text fs))
+    omega (arith, first, others, length-append (file_text f) (body_text fs))
 
 within_bundle : (a body z : List ℕ) → length body ≤ length (a ++ body ++ z)
-within_bundle a body z = omega (arith, length_append (a ++ body) z, length_append a body)
+within_bundle a body z = omega (arith, length-append (a ++ body) z, length-append a body)
 
 bundle_bytes : (text : List ℕ) (files : Files) → IsBundle text files → bytes_of files ≤ MAX_BUNDLE_BYTES
 bundle_bytes text files is =
@@ -81,10 +81,6 @@ program_bundled text files is chosen parsed are modules p means =
 module_within : (modules : List ModuleData) (path : Atoms) → module_of modules path ≤ length modules
 module_within modules path = prefix_len-le-length _ modules
 
-length_map : {X Y : Type 0} (f : X → Y) (xs : List X) → length (map f xs) ≡ length xs
-length_map f [] = omega arith
-length_map f (x ∷ xs) = let h = length_map f xs in omega (arith, h)
-
 owners_within : (modules : List ModuleData) (n : ℕ) → length modules ≤ n → (ps : List ParsedData)
     → AllByRecursion (λ f. f.module_number ≤ n) (map (names_of modules) ps)
 owners_within modules n le [] = tt
@@ -106,8 +102,8 @@ world_bundled text files is chosen parsed are modules =
     let count : length files ≤ MAX_FILES = is.in_size.count in
     let each : length (filter chosen files) ≡ length parsed =
     length_projects (filter chosen files) parsed are in
-    let same : length (map (names_of modules) parsed) ≡ length parsed = length_map (names_of modules) parsed in
-    let owners : length modules ≤ length (map (λ m. m.name) modules) = omega (arith, length_map (λ m. m.name) modules) in
+    let same : length (map (names_of modules) parsed) ≡ length parsed = length-map parsed (names_of modules) in
+    let owners : length modules ≤ length (map (λ m. m.name) modules) = omega (arith, length-map modules (λ m. m.name)) in
     record {
       few_files = omega (arith, some, count, each, same);
       few_decls = names_within modules (filter chosen files) parsed MAX_BUNDLE_BYTES are (chosen_bytes text files chosen is);

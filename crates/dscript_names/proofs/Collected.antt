@@ -7,7 +7,9 @@ use Rattle.dscript_ast.specs.FileTree.{to_marked}
 use Rattle.dscript_ast.specs.ExprTree.{to_stmts}
 use Rattle.dscript_ast.specs.Views.{item_tree, marked_tree, stmt_tree}
 use Rattle.dscript_ast.specs.declared.expr.Stmt.{Stmt}
+use Rattle.dscript_names_scopes.specs.Blocks.{block_locals, stmt_locals}
 use Rattle.dscript_names_scopes.specs.Duplicates.{block_names, stmt_names}
+use Rattle.dscript_names_scopes.specs.declared.local.Local.{Local}
 use Rattle.dscript_names.specs.Singles.{single}
 use Rattle.dscript_ast.specs.declared.file.Item.{Item}
 use Rattle.dscript_ast.specs.declared.file.Marked.{Marked}
@@ -61,5 +63,6 @@ pub names_listed : (xs : List Stmt) → map single (block_names (to_stmts (map s
     ≡ flat_map (λ x. map single (stmt_names (stmt_tree x))) xs
 names_listed [] = refl
 names_listed (x ∷ xs) =
-    map-append single (stmt_names (stmt_tree x)) (block_names (to_stmts (map stmt_tree xs)))
+    ap (map single) (map-append (λ (l : Local). l.name) (stmt_locals (stmt_tree x)) (block_locals (to_stmts (map stmt_tree xs))))
+    ∙ map-append single (stmt_names (stmt_tree x)) (block_names (to_stmts (map stmt_tree xs)))
     ∙ ap (λ ns. map single (stmt_names (stmt_tree x)) ++ ns) (names_listed xs)

@@ -1,7 +1,7 @@
 -- Where a sorted list is cut to one of each, its length shows whether an element was there twice.
 use Rattle.std.proofs.Common.{◌≡◌, suc, ◌<◌, ◌≤◌, Bool, true, false, ◌||◌, List, [], ◌∷◌, length, map, cond, refl, sym, ap, ◌∙◌, arith, inl, inr, nat_lt}
 use borrow.Author.Tests.{ltb-true, ltb-false}
-use Rattle.std.proofs.lemmas.Bool.{cases_Bool}
+use Rattle.std.proofs.lemmas.Bool.{cases_Bool, or_parts}
 use Rattle.std.proofs.lemmas.List.Kept.{IsStrictlySortedBy-dedup}
 use Rattle.std.proofs.lemmas.List.Sorted.{IsPermutation-sym, length_permutation}
 use Rattle.std.proofs.lemmas.Map.Keys.{IsDistinct-IsPermutation, IsDistinct-cons, IsDistinct-from_apart, IsDistinct-from_sorted}
@@ -11,6 +11,7 @@ use Rattle.std.specs.List.{AllByRecursion, IsDistinct, dedup, dedup_from, list_a
 use Rattle.std.specs.List.Sorted.{IsPermutation, IsSorted}
 use Rattle.std.specs.Ordering.{eq_by_cmp}
 use Rattle.std.specs.declared.cmp.Ordering.{Ordering}
+use Rattle.bx_tree.proofs.Lists.{distinct_by}
 use Rattle.dscript_names_scopes.specs.Duplicates.{has_repeat}
 
 -- ## No element is there twice
@@ -19,13 +20,9 @@ none_any : {X : Type 0} (p : X → Bool) (xs : List X) → AllByRecursion (λ y.
 none_any p [] h = refl
 none_any p (x ∷ xs) h = ap (λ b. b || list_any p xs) h.0 ∙ none_any p xs h.1
 
-neither : (a b : Bool) → (a || b) ≡ false → (a ≡ false) × (b ≡ false)
-neither true b e = cc
-neither false b e = (refl, e)
-
 any_none : {X : Type 0} (p : X → Bool) (xs : List X) → list_any p xs ≡ false → AllByRecursion (λ y. p y ≡ false) xs
 any_none p [] e = tt
-any_none p (x ∷ xs) e = let h = neither (p x) (list_any p xs) e in (h.0, any_none p xs h.1)
+any_none p (x ∷ xs) e = let h = or_parts (p x) (list_any p xs) e in (h.0, any_none p xs h.1)
 
 distinct_once : {X : Type 0} (same : X → X → Bool) (xs : List X) → IsDistinct same xs → has_repeat same xs ≡ false
 distinct_once same [] h = refl
@@ -39,20 +36,8 @@ none_distinct same = IsDistinct-from_apart same [] (λ i j d before within. absu
 once_distinct : {X : Type 0} (same : X → X → Bool) (xs : List X) → has_repeat same xs ≡ false → IsDistinct same xs
 once_distinct same [] e = none_distinct same
 once_distinct same (x ∷ xs) e =
-    let h = neither (list_any (same x) xs) (has_repeat same xs) e in
+    let h = or_parts (list_any (same x) xs) (has_repeat same xs) e in
     IsDistinct-cons same x xs (any_none (same x) xs h.0) (once_distinct same xs h.1)
-
-all_like : {X : Type 0} (p q : X → Bool) → ((y : X) → p y ≡ q y) → (xs : List X)
-    → AllByRecursion (λ y. q y ≡ false) xs → AllByRecursion (λ y. p y ≡ false) xs
-all_like p q like [] h = tt
-all_like p q like (x ∷ xs) h = (like x ∙ h.0, all_like p q like xs h.1)
-
-distinct_like : {X : Type 0} (same other : X → X → Bool) → ((x y : X) → same x y ≡ other x y) → (xs : List X)
-    → IsDistinct other xs → IsDistinct same xs
-distinct_like same other like [] h = none_distinct same
-distinct_like same other like (x ∷ xs) h =
-    IsDistinct-cons same x xs (all_like (same x) (other x) (like x) xs (IsDistinct-head other x xs h))
-    (distinct_like same other like xs (IsDistinct-tail other x xs h))
 
 -- ## One of each
 
@@ -120,7 +105,7 @@ whole_once same R total ties turned items sorted moved rising whole =
     let e = uncut same sorted (omega (arith, n, whole)) in
     let strictly = IsStrictlySortedBy-dedup total ties sorted rising in
     let apart = IsDistinct-from_sorted R sorted (rw e at strictly) in
-    let own = distinct_like same (eq_by_cmp R) ties sorted apart in
+    let own = distinct_by same (eq_by_cmp R) ties sorted apart in
     distinct_once same items
     (IsDistinct-IsPermutation same turned sorted items (IsPermutation-sym items sorted moved) own)
 

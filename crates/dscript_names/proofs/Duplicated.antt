@@ -1,8 +1,9 @@
 -- The names of files, and what their modules export, one file after the other.
 use Rattle.std.proofs.Common.{◌≡◌, ℕ, suc, ◌+◌, ◌<◌, ◌≤◌, Bool, true, false, ◌&&◌, ◌||◌, ◌==◌, cond, List, [], ◌∷◌, ◌++◌, map, length, take, drop, get_or, Option, Some, None, refl, sym, ◌∙◌, ap, drop-cons, add-one, arith}
 use Rattle.std.specs.List.{filter, flat_map, list_any}
-use Rattle.std.proofs.lemmas.List.{drop-map, drop_all, map-append, take_more}
+use Rattle.std.proofs.lemmas.List.{drop-map, drop_all, map-append, take_more, length-map}
 use Rattle.bx_tree.specs.Paths.{Atoms, same_path}
+use Rattle.bx_tree.proofs.Lists.{any_last, any_alike, none_any, any_swap}
 use Rattle.dscript_ast.specs.FileTree.{ItemTree}
 use Rattle.dscript_program.specs.Workspaces.{ModuleData}
 use Rattle.dscript_program.specs.ProgramData.{Dotted}
@@ -19,52 +20,25 @@ use Rattle.dscript_names.specs.declared.parsed.Parsed.{Parsed}
 use Rattle.dscript_names.specs.declared.collecting.Names.{Names}
 use Rattle.dscript_names.specs.declared.exported.Exports.{Exports}
 use Rattle.dscript_names.specs.declared.gathering.Gathering.{Gathering}
-use Rattle.dscript_names.proofs.Found.{any_last}
-use Rattle.dscript_names.proofs.Listed.{length_map}
 
 -- ## Names that are exported
 
-any_or : {X : Type 0} (f g : X → Bool) (xs : List X) → list_any (λ x. f x || g x) xs ≡ (list_any f xs || list_any g xs)
-any_or f g [] = refl
-any_or f g (x ∷ xs) =
-    ap (λ b. (f x || g x) || b) (any_or f g xs) ∙ swapped (f x) (g x) (list_any f xs) (list_any g xs)
-  where
-    swapped : (a b c d : Bool) → ((a || b) || (c || d)) ≡ ((a || c) || (b || d))
-    swapped true b c d = refl
-    swapped false true true d = refl
-    swapped false true false d = refl
-    swapped false false c d = refl
-
-any_false : {X : Type 0} (xs : List X) → list_any (λ x. false) xs ≡ false
-any_false [] = refl
-any_false (x ∷ xs) = any_false xs
-
-any_swap : {X Y : Type 0} (p : Y → X → Bool) (ys : List Y) (xs : List X)
-    → list_any (λ x. list_any (λ y. p y x) ys) xs ≡ list_any (λ y. list_any (p y) xs) ys
-any_swap p [] xs = any_false xs
-any_swap p (y ∷ ys) xs =
-    any_or (p y) (λ x. list_any (λ z. p z x) ys) xs ∙ ap (λ b. list_any (p y) xs || b) (any_swap p ys xs)
-
 any_and : {X : Type 0} (c : Bool) (g : X → Bool) (xs : List X) → list_any (λ x. c && g x) xs ≡ (c && list_any g xs)
 any_and true g xs = refl
-any_and false g xs = any_false xs
-
-any_alike : {X : Type 0} (f g : X → Bool) (xs : List X) → ((x : X) → f x ≡ g x) → list_any f xs ≡ list_any g xs
-any_alike f g [] same = refl
-any_alike f g (x ∷ xs) same = ap (λ b. b || list_any f xs) (same x) ∙ ap (λ b. g x || b) (any_alike f g xs same)
+any_and false g xs = none_any xs
 
 -- a file of the module exports one of the names
 one_exported : (names : List Dotted) (m : ℕ) (f : FileNames)
     → list_any (λ q. exports_name m q f) names ≡ exports_one_of names m f
 one_exported names m f =
     any_and (f.module_number == m) (λ q. list_any (λ x. same_path x q) (exported_names f)) names
-    ∙ ap (λ b. (f.module_number == m) && b) (any_swap (λ x q. same_path x q) (exported_names f) names)
+    ∙ ap (λ b. (f.module_number == m) && b) (sym (any_swap (λ x q. same_path x q) (exported_names f) names))
 
 pub clashes : (e : Exports) (earlier : List FileNames) (m : ℕ) (names : List Dotted) → HasExports earlier e
     → list_any (exported_at e m) names ≡ list_any (exports_one_of names m) earlier
 clashes e earlier m names h =
     any_alike (exported_at e m) (λ q. list_any (exports_name m q) earlier) names (h m)
-    ∙ any_swap (λ f q. exports_name m q f) earlier names
+    ∙ sym (any_swap (λ f q. exports_name m q f) earlier names)
     ∙ any_alike (λ f. list_any (λ q. exports_name m q f) names) (exports_one_of names m) earlier (one_exported names m)
 
 or_comm : (a b : Bool) → (a || b) ≡ (b || a)
@@ -209,7 +183,7 @@ pub first_none : (modules : List ModuleData) (xs : List Parsed) (i : ℕ) (g : G
     → (whole : Option Atoms) → whole ≡ first_from modules g (drop i (map parsed_data xs)) → whole ≡ None
 first_none modules xs i g past whole kept =
     let all : length (map parsed_data xs) ≤ i =
-    let same : length (map parsed_data xs) ≡ length xs = length_map parsed_data xs in omega (arith, same) in
+    let same : length (map parsed_data xs) ≡ length xs = length-map xs parsed_data in omega (arith, same) in
     kept ∙ ap (first_from modules g) (drop_all i (map parsed_data xs) all)
 
 pub duplicate_first : (modules : List ModuleData) (ps : List ParsedData) (path : Atoms) (fault : SpecFault)

@@ -2,6 +2,7 @@
 use Rattle.std.proofs.Common.{◌≡◌, ℕ, Bool, true, false, ◌||◌, ◌<◌, ◌+◌, List, [], ◌∷◌, ◌++◌, map, length, take, get_or, refl, sym, ◌∙◌, ap}
 use Rattle.std.specs.List.{list_any}
 use Rattle.std.proofs.lemmas.List.{take_more}
+use Rattle.bx_tree.proofs.Lists.{any_last}
 use Rattle.dscript_ast.specs.ExprTree.{to_elements, to_exprs, to_holes, to_operands, to_parts, to_props, to_stmts}
 use Rattle.dscript_ast.specs.FileTree.{to_marked}
 use Rattle.dscript_ast.specs.Views.{element_tree, expr_tree, hole_tree, item_tree, marked_tree, operand_tree, part_tree, prop_tree, stmt_tree}
@@ -40,10 +41,6 @@ pub none_found : {o k : Bool} → k ≡ false → o ≡ (o || k)
 none_found {o} {k} e = sym (or_none o) ∙ ap (λ z. o || z) (sym e)
 
 -- ## Lists
-
-pub any_last : {X : Type 0} (f : X → Bool) (xs : List X) (x : X) → list_any f (xs ++ x ∷ []) ≡ (list_any f xs || f x)
-any_last f [] x = or_none (f x)
-any_last f (y ∷ xs) x = ap (λ z. f y || z) (any_last f xs x) ∙ sym (or_assoc (f y) (list_any f xs) (f x))
 
 pub found_more : {X : Type 0} (all : List X → Bool) (f : X → Bool) → ((ys : List X) → all ys ≡ list_any f ys)
     → (xs : List X) (i : ℕ) (x : X) (o s n : Bool)

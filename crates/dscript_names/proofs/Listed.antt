@@ -1,13 +1,5 @@
 -- Lists, as they are in memory.
-use Rattle.std.proofs.Common.{◌≡◌, ℕ, ◌<◌, ◌+◌, List, [], ◌∷◌, suc, length, map, refl, ap, arith}
-
-pub none_left : {X : Type 0} (xs : List X) → length xs ≡ 0 → xs ≡ []
-none_left [] h = refl
-none_left (x ∷ xs) h = absurd (omega arith)
-
-pub length_map : {X Y : Type 0} (f : X → Y) (xs : List X) → length (map f xs) ≡ length xs
-length_map f [] = refl
-length_map f (x ∷ xs) = ap suc (length_map f xs)
+use Rattle.std.proofs.Common.{◌≡◌, ℕ, ◌<◌, ◌+◌, List, ◌∷◌, suc, length, ap, arith}
 
 -- a number of items so far, with those that are left
 pub length_after : {X : Type 0} {x : X} {left rest : List X} {k : ℕ} (n : ℕ) → k ≡ n + length left → left ≡ x ∷ rest

@@ -2,6 +2,8 @@
 use Rattle.std.proofs.Common.{◌≡◌, ℕ, ◌+◌, ◌-◌, ◌≤◌, List, [], ◌∷◌, ◌++◌, length, Some, Result, Ok, Err, refl, sym, ◌∙◌, ap, subst, arith, true, false}
 use Rattle.std.specs.Bool.{⊤}
 use Rattle.std.specs.List.{slice_get, AllByRecursion}
+use Rattle.std.proofs.lemmas.List.{length-append}
+use Rattle.bx_tree.proofs.Lists.{all_append}
 use Rattle.dscript_program.specs.ProgramData.{FunctionData}
 use Rattle.dscript_program.specs.Numbering.{Taker, Declares, Holds, FillRun, IsConsecutive, body_takers}
 use Rattle.dscript_program.specs.BoundTree.{BodyData}
@@ -46,15 +48,6 @@ at_split table n (f ∷ fs) gs h =
     let g = at_split table (n + 1) fs gs h.1 in
     ((h.0, g.0), subst (λ k. At table k gs) (omega arith) g.1)
 
-pub all_append : {X : Type 0} (P : X → Type 0) (xs ys : List X)
-    → AllByRecursion P xs → AllByRecursion P ys → AllByRecursion P (xs ++ ys)
-all_append P [] ys h g = g
-all_append P (x ∷ xs) ys h g = (h.0, all_append P xs ys h.1 g)
-
-pub length_append : {X : Type 0} (xs ys : List X) → length (xs ++ ys) ≡ length xs + length ys
-length_append [] ys = omega arith
-length_append (x ∷ xs) ys = let h = length_append xs ys in omega (arith, h)
-
 -- ## What is kept by a walk
 
 -- a function has consecutive locals, and captures what comes before them
@@ -95,7 +88,7 @@ good_after table RA RB here a (Ok c) first second = λ at.
       is = k.is;
       run = fill_append table here.locals n.takers a.after.locals k.takers c.after.locals n.run k.run;
       count = k.count ∙ ap (λ f. f + length c.functions) n.count ∙ omega
-          (arith, length_append a.functions c.functions);
+          (arith, length-append a.functions c.functions);
       inner = all_append (IsSound table) a.functions c.functions n.inner k.inner;
     }
 

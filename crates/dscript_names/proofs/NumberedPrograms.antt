@@ -2,7 +2,9 @@
 use Rattle.std.proofs.Common.{◌≡◌, ℕ, ◌+◌, List, [], ◌∷◌, ◌++◌, length, Option, Some, None, Result, Ok, Err, refl, sym, ◌∙◌, ap, subst, arith}
 use Rattle.std.specs.Bool.{⊤}
 use Rattle.std.specs.List.{slice_get, AllByRecursion}
+use Rattle.std.proofs.lemmas.List.{length-append}
 use Rattle.bx_tree.specs.Paths.{Atoms}
+use Rattle.bx_tree.proofs.Lists.{all_append}
 use Rattle.dscript_ast.specs.ExprTree.{ParamTree, StmtTree, to_stmts}
 use Rattle.dscript_ast.specs.FileTree as file
 use Rattle.dscript_ast.specs.FileTree.{MarkedTree, DeclTree, MarkedTrees, ImportTree, ItemTree, Marked}
@@ -20,11 +22,12 @@ use Rattle.dscript_names_scopes.specs.Declarations.{ParsedData, names_of, items_
 use Rattle.dscript_names_scopes.specs.Duplicates.{first_duplicate}
 use Rattle.dscript_names_scopes.specs.Lookup.{Site}
 use Rattle.dscript_names_binding.specs.Walk.{Here, Bound, Binds, chained, continued, ◌>>=◌, gives, no_fault, declaration}
-use Rattle.dscript_names_binding.specs.Binding.{block_locals, declared_function, site_in, bind_marked, bind_decl, bind_all_marked, check_import, imports_fault, bind_item, bind_items}
+use Rattle.dscript_names_scopes.specs.Blocks.{block_locals}
+use Rattle.dscript_names_binding.specs.Binding.{declared_function, site_in, bind_marked, bind_decl, bind_all_marked, check_import, imports_fault, bind_item, bind_items}
 use Rattle.dscript_names.specs.Captures.{AllCaptureOuter, HasOuterCaptures}
 use Rattle.dscript_names.specs.Counting.{CountsFromZero, HasLocalsFromZero}
 use Rattle.dscript_names.specs.Named.{named, before_others, file_first, bind_files, unless_duplicate}
-use Rattle.dscript_names.proofs.Numbered.{At, IsSound, at_split, all_append, length_append, Good, IsContained, Numbers, function_numbers}
+use Rattle.dscript_names.proofs.Numbered.{At, IsSound, at_split, Good, IsContained, Numbers, function_numbers}
 use Rattle.dscript_names.proofs.NumberedTrees.{IsExpr, body_numbers, expr_numbers, stmts_numbers}
 
 -- ## What is kept from one declaration to the next
@@ -56,7 +59,7 @@ count_after table Q P functions a (Ok c) first second = λ at.
     record {
       value = k.value;
       count = k.count ∙ ap (λ f. f + length c.functions) n.count ∙ omega
-          (arith, length_append a.functions c.functions);
+          (arith, length-append a.functions c.functions);
       inner = all_append (IsSound table) a.functions c.functions n.inner k.inner;
     }
 
@@ -246,7 +249,7 @@ at_own before (f ∷ fs) =
     let rest = at_own (before ++ f ∷ []) fs in
     let table = subst (λ t. At t (length (before ++ f ∷ [])) fs) (push_first before f fs) rest in (
       get_middle before f fs,
-      subst (λ n. At (before ++ f ∷ fs) n fs) (length_append before (f ∷ []) ∙ omega arith) table,
+      subst (λ n. At (before ++ f ∷ fs) n fs) (length-append before (f ∷ []) ∙ omega arith) table,
     )
 
 all_left : {X : Type 0} (P Q : X → Type 0) (xs : List X) → AllByRecursion (λ x. P x × Q x) xs → AllByRecursion P xs

@@ -1,18 +1,18 @@
 -- A table that is filled from the last module to the first has the first module of each file.
-use Rattle.std.proofs.Common.{◌≡◌, ℕ, suc, ◌<◌, ◌+◌, Bool, true, false, not, ◌||◌, cond, List, [], ◌∷◌, ◌++◌, Option, Some, None, length, take, get_or, refl, ap, sym, ◌∙◌, arith, add-zero}
+use Rattle.std.proofs.Common.{◌≡◌, ℕ, ◌<◌, ◌+◌, Bool, true, false, not, ◌||◌, cond, List, [], ◌∷◌, ◌++◌, Option, Some, length, take, get_or, refl, ap, sym, ◌∙◌, arith}
 use Rattle.std.specs.BTreeMap.{is_at}
 use Rattle.std.specs.List.{list_any, position_from, position_or_len}
 use Rattle.std.specs.Option.{option_or, unwrap_or}
-use Rattle.std.proofs.lemmas.List.{map-append, take_more}
+use Rattle.std.proofs.lemmas.List.{map-append, take_more, length-map}
 use Rattle.bx_tree.specs.Orders.{path_cmp_matches, same_path_equiv}
 use Rattle.bx_tree.specs.Paths.{Atoms, path_cmp, same_path}
+use Rattle.bx_tree.proofs.Lists.{any_last}
 use Rattle.dscript_program.specs.Workspaces.{module_data, modules_data}
 use Rattle.dscript_program.specs.declared.workspace.ModuleText.{ModuleText}
 use Rattle.dscript_names_scopes.specs.Declarations.{module_of}
+use Rattle.dscript_names_scopes.proofs.FirstValues.{position_last, either_then}
 use Rattle.dscript_names.specs.Owners.{HasOwners, has_file, owner_in}
 use Rattle.dscript_names.specs.declared.owners.Owners.{Owners}
-use Rattle.dscript_names.proofs.Found.{any_last}
-use Rattle.dscript_names.proofs.Listed.{length_map}
 
 either_cond : {X : Type 0} (a b : Bool) (x y : X) → cond (a || b) x y ≡ cond b x (cond a x y)
 either_cond true true x y = refl
@@ -33,25 +33,6 @@ owner_more q xs i x key n old mid new put before is l e =
     ∙ sym (either_cond done (same_path q x) (Some n) old)
     ∙ ap (λ b. cond b (Some n) old) (sym (ap (list_any (same_path q)) more ∙ any_last (same_path q) (take i xs) x))
 
-position_last : {X : Type 0} (p : X → Bool) (n : ℕ) (xs : List X) (x : X)
-    → position_from p n (xs ++ x ∷ []) ≡ option_or (position_from p n xs) (cond (p x) (Some (n + length xs)) None)
-position_last p n [] x = ap (λ k. cond (p x) (Some k) None) (sym (add-zero n))
-position_last p n (y ∷ xs) x =
-    let next : n + 1 + length xs ≡ n + suc (length xs) = omega arith in
-    elim (p y) as (λ b. cond b (Some n) (position_from p (n + 1) (xs ++ x ∷ []))
-    ≡ option_or (cond b (Some n) (position_from p (n + 1) xs)) (cond (p x) (Some (n + suc (length xs))) None)) [
-      | true ↦ refl
-      | false ↦
-          position_last p (n + 1) xs x
-          ∙ ap (λ k. option_or (position_from p (n + 1) xs) (cond (p x) (Some k) None)) next
-    ]
-
-either_then : {X : Type 0} (a : Option X) (b : Bool) (v : X) (c : Option X)
-    → option_or (option_or a (cond b (Some v) None)) c ≡ option_or a (cond b (Some v) c)
-either_then (Some x) b v c = refl
-either_then None true v c = refl
-either_then None false v c = refl
-
 -- one module more, before those in the table
 pub module_put : (q : Atoms) (left before : List ModuleText) (m : ModuleText) (n : ℕ) (old new whole : Option ℕ)
     → left ≡ before ++ m ∷ [] → n ≡ length before
@@ -62,7 +43,7 @@ module_put q left before m n old new whole split number put kept =
     let a = position_from (has_file q) 0 (modules_data before) in
     let test = has_file q (module_data m) in
     let place : n ≡ 0 + length (modules_data before) =
-    let same : length (modules_data before) ≡ length before = length_map module_data before in omega (arith, same, number) in
+    let same : length (modules_data before) ≡ length before = length-map before module_data in omega (arith, same, number) in
     let split_data : modules_data left ≡ modules_data before ++ module_data m ∷ [] =
     ap modules_data split ∙ map-append module_data before (m ∷ []) in
     ap (option_or a) (put ∙ ap (λ k. cond test (Some k) old) place)
@@ -91,7 +72,7 @@ pub owners_all : (q : Atoms) (modules left : List ModuleText) (d : ℕ) (at : Op
 owners_all q modules left d at none count kept =
     let all = modules_data modules in
     let length_is : d ≡ 0 + length all =
-    let same : length all ≡ length modules = length_map module_data modules in omega (arith, same, count) in
+    let same : length all ≡ length modules = length-map modules module_data in omega (arith, same, count) in
     let zero_and : 0 + position_or_len (has_file q) all ≡ position_or_len (has_file q) all = omega arith in
     ap (λ o. unwrap_or o d) (ap (λ ms. option_or (position_from (has_file q) 0 (modules_data ms)) at) (sym none) ∙ kept)
     ∙ place_or_len (has_file q) 0 all d length_is ∙ zero_and

@@ -2,6 +2,7 @@
 use Rattle.std.proofs.Common.{◌≡◌, ℕ, ◌+◌, ◌≤◌, List, [], ◌∷◌, length, map, Option, Some, None, Result, Ok, Err, subst, arith}
 use Rattle.std.specs.Bool.{⊤}
 use Rattle.std.specs.List.{AllByRecursion, flat_map}
+use Rattle.std.proofs.lemmas.List.{length-append}
 use Rattle.bx_tree.specs.Paths.{Atoms}
 use Rattle.bx_tree.specs.Trees.{Files}
 use Rattle.dscript_ast.specs.FileTree as file
@@ -21,7 +22,7 @@ use Rattle.dscript_names.specs.Sizes.{items_size}
 use Rattle.dscript_names.specs.Texts.{AreProjects, IsProject}
 use Rattle.dscript_names.proofs.Bounded.{kinds_within}
 use Rattle.dscript_names.proofs.Declared.{items_declare}
-use Rattle.dscript_names.proofs.Steps.{all_below_append, all_below_more, length_append}
+use Rattle.dscript_names.proofs.Steps.{all_below_append, all_below_more}
 use Rattle.dscript_names.proofs.TakesFiles.{size_within}
 use Rattle.dscript_names.proofs.WalksFiles.{FiledIfOk, filed_if, items_filed}
 
@@ -71,7 +72,7 @@ before_within m k path names b (Ok p) first second =
     let others : length p.functions ≤ k = second.functions in
     record {
       decls = (omega (arith, own, left), decls_more k (m + k) p.files right second.decls);
-      functions = omega (arith, some, others, length_append b.functions p.functions);
+      functions = omega (arith, some, others, length-append b.functions p.functions);
       locals = all_below_append (m + k) b.functions p.functions
           (all_below_more m (m + k) b.functions left first.locals)
           (all_below_more k (m + k) p.functions right second.locals);

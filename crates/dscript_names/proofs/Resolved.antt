@@ -14,10 +14,9 @@ use Rattle.dscript_program.specs.declared.spec_fault.SpecFault.{SpecFault}
 use Rattle.dscript_program.specs.declared.spec_fault.SpecFault.TheVariants as faults
 use Rattle.std.specs.declared.alloc.Global.{Global}
 use Rattle.std.specs.declared.vec.Vec.{Vec}
-use Rattle.std.proofs.lemmas.List.{map-append}
+use Rattle.std.proofs.lemmas.List.{map-append, length-map}
 use Rattle.dscript_program.specs.Views.{decl_data, file_data, function_data, program_data}
 use Rattle.dscript_program.specs.declared.program.Program.{Program}
-use Rattle.dscript_names.proofs.Listed.{length_map}
 use Rattle.std.specs.Prelude.{MatchResult}
 use Rattle.dscript_program.specs.declared.program.BoundDecl.{BoundDecl}
 use Rattle.dscript_program.specs.declared.program.BoundFile.{BoundFile}
@@ -67,7 +66,7 @@ pub resolved_first : (world : World) (files : List FileNames) (all left : List P
     → bind_each world 0 files all 0
     ≡ after_files (files_of r) (table_of r.binder.walker) (bind_each world 0 files left (count_of r))
 resolved_first world files all left r no_files no_table whole =
-    let none : count_of r ≡ 0 = sym (length_map function_data r.binder.walker.functions.items) ∙ ap length no_table in
+    let none : count_of r ≡ 0 = sym (length-map r.binder.walker.functions.items function_data) ∙ ap length no_table in
     sym (ap (λ fs. after_files fs (table_of r.binder.walker) (bind_each world 0 files left (count_of r))) no_files
     ∙ ap (λ gs. after_files [] gs (bind_each world 0 files left (count_of r))) no_table
     ∙ ap (λ k. after_files [] [] (bind_each world 0 files left k)) none

@@ -2,6 +2,7 @@
 use Rattle.std.proofs.Common.{◌≡◌, ℕ, ◌+◌, ◌-◌, ◌≤◌, true, false, List, [], ◌∷◌, ◌++◌, length, Result, Ok, Err, refl, arith}
 use Rattle.std.specs.Bool.{⊤}
 use Rattle.std.specs.List.{AllByRecursion}
+use Rattle.std.proofs.lemmas.List.{length-append}
 use Rattle.dscript_ast.specs.ExprTree.{ParamTree, PartTrees}
 use Rattle.dscript_names_binding.specs.Binding.{assigns, bind_name, names_target}
 use Rattle.dscript_names_binding.specs.Walk.{Here, Bound, Binds, chained, continued, ◌>>=◌, gives, next_local, declare, leave, within, closed, function_in, params_from, or_fault}
@@ -15,10 +16,6 @@ use Rattle.dscript_names_scopes.specs.declared.local.Local.{Local}
 use Rattle.dscript_names.specs.Counted.{IsNumberedBelow}
 
 -- ## Lists
-
-pub length_append : {X : Type 0} (xs ys : List X) → length (xs ++ ys) ≡ length xs + length ys
-length_append [] ys = omega arith
-length_append (x ∷ xs) ys = let h = length_append xs ys in omega (arith, h)
 
 -- no function numbers a local at this number or above
 abbrev pub AllBelow : ℕ → List FunctionData → Type 0
@@ -77,7 +74,7 @@ rises_after n k here a (Ok c) first second =
     let on : a.after.locals + k ≤ here.locals + (n + k) = omega (arith, one) in
     record {
       locals = omega (arith, one, two);
-      functions = omega (arith, some, others, length_append a.functions c.functions);
+      functions = omega (arith, some, others, length-append a.functions c.functions);
       below = all_below_append (here.locals + (n + k)) a.functions c.functions
           (all_below_more (here.locals + n) (here.locals + (n + k)) a.functions up first.below)
           (all_below_more (a.after.locals + k) (here.locals + (n + k)) c.functions on second.below);

@@ -3,36 +3,20 @@ use Rattle.std.proofs.Common.{◌≡◌, ℕ, zero, suc, ◌+◌, ◌≤◌, Lis
 use Rattle.dscript_lex.specs.declared.token.TokenKind.{TokenKind}
 use Rattle.dscript_ast.specs.ExprTree.{StmtTree, to_stmts}
 use Rattle.dscript_ast.specs.FileTree as file
-use Rattle.dscript_ast.specs.FileTree.{MarkedTree, DeclTree, MarkedTrees, ImportTree, ItemTree, Marked, marked_of}
-use Rattle.dscript_ast.specs.TypeTree.{TypeTree}
+use Rattle.dscript_ast.specs.FileTree.{MarkedTree, DeclTree, MarkedTrees, ItemTree, Marked, marked_of}
 use Rattle.dscript_ast.specs.declared.file.Form.TheVariants as forms
 use Rattle.dscript_ast.specs.declared.file.Mark.{Mark}
 use Rattle.dscript_ast.specs.declared.file.Mark.TheVariants as marks
 use Rattle.dscript_grammar.specs.ExprGrammar.{any_expr, stmt_at}
-use Rattle.dscript_grammar.specs.FileGrammar.{block_at, decl_node, extends, file_at, import_name, item_at, mark, marked_at, type_params}
-use Rattle.dscript_grammar.specs.Language.{Language, identifier, keyword, ◌⋅◌}
+use Rattle.dscript_grammar.specs.FileGrammar.{block_at, decl_node, file_at, import_name, item_at, mark, marked_at}
+use Rattle.dscript_grammar.specs.Language.{Language, identifier}
 use Rattle.dscript_grammar.specs.TypeGrammar.{any_type, type_at}
-use Rattle.dscript_grammar.proofs.Combinators.{NotLonger, Consumes, consumes_then, identifier_consumes, list_not_longer, not_longer, separated_consumes, token_consumes}
-use Rattle.dscript_grammar.proofs.TypeComplete.{body_consumes, nothing_not_longer, type_consumes}
-use Rattle.dscript_grammar.proofs.ExprLengths.{optional_not_longer}
+use Rattle.dscript_grammar.proofs.Combinators.{identifier_consumes, list_not_longer, not_longer, separated_consumes}
+use Rattle.dscript_grammar.proofs.TypeComplete.{body_consumes, type_consumes}
+use Rattle.dscript_grammar.proofs.FileComplete.{import_name_consumes, type_params_not_longer, extends_not_longer}
 use Rattle.dscript_names.specs.Sizes.{marked_size, decl_size, all_marked_size, expr_size, item_size, items_size, stmt_size, stmts_size}
 use Rattle.dscript_names.proofs.Takes.{Takes, total, takes_after, takes_before, takes_less, takes_many, takes_never, takes_none, takes_note, takes_nothing, takes_one, takes_params, takes_then, takes_token, takes_identifier}
 use Rattle.dscript_names.proofs.TakesTrees.{takes_expr, takes_stmt}
-
-type_params_not_longer : (xs : List (List ℕ)) → NotLonger (type_params xs)
-type_params_not_longer [] ts rest p = nothing_not_longer ts rest p
-type_params_not_longer (x ∷ more) ts rest p =
-    not_longer (consumes_then (token_consumes _) (not_longer (consumes_then (separated_consumes identifier identifier_consumes "," (x ∷ more)) (not_longer (token_consumes _))))) ts rest p
-
-extends_not_longer : (h : ℕ) (xs : List TypeTree) → NotLonger (extends h xs)
-extends_not_longer h [] ts rest p = nothing_not_longer ts rest p
-extends_not_longer h (x ∷ more) ts rest p =
-    not_longer (consumes_then (token_consumes _) (not_longer (separated_consumes (type_at h any_type) (type_consumes h any_type) "," (x ∷ more)))) ts rest p
-
-import_name_consumes : (i : ImportTree) → Consumes (import_name i)
-import_name_consumes i ts rest p =
-    consumes_then (identifier_consumes i.name) (optional_not_longer (λ x. keyword "as" ⋅ identifier x)
-    (λ x us vs q. consumes_then (token_consumes _) (not_longer (identifier_consumes x)) us vs q) i.alias) ts rest p
 
 takes_mark : (m : Mark) → Takes 0 (mark m)
 takes_mark marks.Plain = takes_nothing (λ ts rest e. e)

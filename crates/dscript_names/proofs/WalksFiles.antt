@@ -1,11 +1,13 @@
 -- A walk through the items of a file counts at most their size.
 use Rattle.std.proofs.Common.{◌≡◌, ℕ, ◌+◌, ◌≤◌, List, [], ◌∷◌, ◌++◌, length, Option, Some, None, Result, Ok, Err, refl, arith}
 use Rattle.std.specs.Bool.{⊤}
+use Rattle.std.proofs.lemmas.List.{length-append}
 use Rattle.dscript_ast.specs.ExprTree.{ParamTree, StmtTree, to_stmts}
 use Rattle.dscript_ast.specs.FileTree as file
 use Rattle.dscript_ast.specs.FileTree.{MarkedTree, DeclTree, MarkedTrees, ItemTree, Marked}
 use Rattle.dscript_ast.specs.declared.file.Mark.{Mark}
-use Rattle.dscript_names_binding.specs.Binding.{bind_marked, bind_decl, bind_all_marked, bind_item, bind_items, block_locals, declared_function, imports_fault, site_in}
+use Rattle.dscript_names_scopes.specs.Blocks.{block_locals}
+use Rattle.dscript_names_binding.specs.Binding.{bind_marked, bind_decl, bind_all_marked, bind_item, bind_items, declared_function, imports_fault, site_in}
 use Rattle.dscript_names_binding.specs.Walk.{Here, Bound, Binds, chained, continued, ◌>>=◌, gives, no_fault, declaration}
 use Rattle.dscript_program.specs.declared.spec_fault.SpecKind.{SpecKind}
 use Rattle.dscript_program.specs.BoundTree as bound
@@ -15,7 +17,7 @@ use Rattle.dscript_names_scopes.specs.Lookup.{Site}
 use Rattle.dscript_names_scopes.specs.Names.{FileNames, World}
 use Rattle.dscript_names.specs.Counted.{CountedWithin}
 use Rattle.dscript_names.specs.Sizes.{marked_size, decl_size, all_marked_size, expr_size, item_size, items_size, stmts_size}
-use Rattle.dscript_names.proofs.Steps.{AllBelow, Counts, RisesIfOk, all_below_append, all_below_more, function_counts, last, length_append}
+use Rattle.dscript_names.proofs.Steps.{AllBelow, Counts, RisesIfOk, all_below_append, all_below_more, function_counts, last}
 use Rattle.dscript_names.proofs.Walks.{expr_counts, stmts_counts}
 
 pub counted_more : (n k : ℕ) (b : Bound (List DeclData)) → n ≤ k → CountedWithin n b → CountedWithin k b
@@ -72,7 +74,7 @@ named_if n decl (Ok a) h =
     let up : n ≤ 1 + n = omega arith in
     record {
       decls = omega arith;
-      functions = omega (arith, functions, length_append a.functions []);
+      functions = omega (arith, functions, length-append a.functions []);
       locals = all_below_append (1 + n) a.functions [] (all_below_more n (1 + n) a.functions up h.1) tt;
     }
 
@@ -97,8 +99,8 @@ joined_after n k a (Ok c) first second =
     let left : n ≤ n + k = omega arith in
     let right : k ≤ n + k = omega arith in
     record {
-      decls = omega (arith, one, two, length_append a.value c.value);
-      functions = omega (arith, some, others, length_append a.functions (c.functions ++ []), length_append c.functions []);
+      decls = omega (arith, one, two, length-append a.value c.value);
+      functions = omega (arith, some, others, length-append a.functions (c.functions ++ []), length-append c.functions []);
       locals = all_below_append (n + k) a.functions (c.functions ++ []) (all_below_more n (n + k) a.functions left first.locals)
           (all_below_append (n + k) c.functions [] (all_below_more k (n + k) c.functions right second.locals) tt);
     }

@@ -1,14 +1,15 @@
 //! Name resolution: from the parsed files of a workspace to a program in which each name is resolved.
 //!
-//! `specs/Named.antt` says what each name stands for, by scanning lists of declarations outwards, and which fault of
-//! names comes first. The code looks for names that are declared twice, gathers the names of all files, and then
-//! resolves file by file, with tables in place of the lists. docs/FORMATS.md has the rules in prose.
-//! `specs/Sizes.antt` gives each tree a size, which is at least what a walk through it counts and at most the number
-//! of its tokens. This crate depends on `dscript_ast` for the trees that it takes, on `dscript_program` for modules,
-//! for faults and for the trees that it gives, on `dscript_names_scopes` for targets of names, on
-//! `dscript_names_binding` for walks through trees, and on `dscript_grammar` for what tokens derive. It carries the
-//! promises that a workspace has one program, or is refused with its first fault, and that no number of 32 bits is
-//! wanting in a program whose files are of one bundle.
+//! What a name stands for is defined in `dscript_names_scopes` (`specs/Lookup.antt`), and to what each part of a
+//! file is resolved in `dscript_names_binding` (`specs/Binding.antt`). `specs/Named.antt` joins the files of a
+//! workspace to one program, and says which fault of names over all files comes first. The code looks for duplicate
+//! names, collects the names of all files, and then resolves file by file, with tables in place of the lists.
+//! docs/FORMATS.md has the rules in prose. `specs/Sizes.antt` gives each tree a size, which is at least what its
+//! traversal counts and at most the number of its tokens. This crate also depends on `dscript_ast` for the trees
+//! that it takes, on `dscript_program` for modules, for faults and for the trees that it gives, on
+//! `dscript_grammar` for what tokens derive, and on `dscript_names_workspace`, whose one call it re-exports. It
+//! carries the promises that a workspace has one program, or fails with its first fault, and that all numbers of a
+//! program whose files are of one bundle fit into 32 bits.
 #![tactic(auto)]
 
 mod collecting;
@@ -23,6 +24,7 @@ mod resolving;
 mod seen;
 
 pub use counting_laws::{counts_are_bounded, program_counts_are_bounded};
+pub use dscript_names_workspace::find_workspace;
 pub use dscript_program::{
     BoundDecl, BoundExpr, BoundFile, BoundStmt, ModuleText, Program, SpecFault, SpecKind, Target,
     Workspace,

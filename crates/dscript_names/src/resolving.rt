@@ -14,10 +14,10 @@ use crate::gathering::gather;
 use crate::parsed::Parsed;
 use bx_tree::{Memory, Path, Text};
 use dscript_ast::{File, Item};
-use dscript_names_binding::{Binder, Scene, Walker};
+use dscript_names_binding::{Binder, Scene, Walker, number_of};
 use dscript_names_scopes::{FileNames, Scopes, Site, Stop, World};
 use dscript_program::{BoundFile, ModuleText, Program, SpecFault, Workspace};
-use std::alloc::{AllocError, Global};
+use std::alloc::Global;
 
 /// The names of modules.
 fn module_names(alloc: Global, modules: &[ModuleText]) -> Result<Vec<Text>, Memory>
@@ -38,13 +38,6 @@ fn into_items(file: File, alloc: Global) -> Vec<Item>
         File::Project(items) => items,
         _ => Vec::new(alloc),
     }
-}
-
-/// A number as the program has it.
-fn number_of(place: usize) -> Result<u32, Memory>
-    ensures { IfOk result (λ n. n ≡ place) }
-{
-    u32::try_from(place).ok().ok_or(AllocError)
 }
 
 /// A program of which some files are resolved.

@@ -1,9 +1,10 @@
 -- Functions, from their opening to their closing.
-use Rattle.std.proofs.Common.{◌≡◌, ℕ, ◌+◌, ◌-◌, ◌<◌, ◌≤◌, Bool, true, false, not, cond, ◌||◌, nat_eq, nat_lt, ◌⊎◌, inl, inr, List, [], ◌∷◌, ◌++◌, map, drop, length, zero, suc, Result, Ok, Err, refl, sym, ◌∙◌, ap, subst, append-nil, arith}
+use Rattle.std.proofs.Common.{◌≡◌, ℕ, ◌+◌, ◌-◌, ◌<◌, ◌≤◌, Bool, true, false, not, cond, ◌||◌, nat_eq, nat_lt, ◌⊎◌, inl, inr, List, [], ◌∷◌, ◌++◌, drop, length, zero, suc, Result, Ok, Err, refl, sym, ◌∙◌, ap, subst, append-nil, arith}
 use Rattle.std.proofs.Common.{length-append}
 use Rattle.std.specs.List.{filter, list_any}
 use Rattle.std.proofs.lemmas.Bool.{cases_Bool}
 use Rattle.std.proofs.Math.ListN.{set}
+use Rattle.std.proofs.lemmas.List.{length-map}
 use Rattle.dscript_ast.specs.ExprTree.{ParamTree}
 use Rattle.dscript_program.specs.BoundTree.{BodyData}
 use Rattle.dscript_program.specs.ProgramData.{FunctionData}
@@ -108,10 +109,6 @@ captured_same p taken more n old new grown is none made =
 
 -- ## Tables
 
-pub length_map : {X Y : Type 0} (f : X → Y) (xs : List X) → length (map f xs) ≡ length xs
-length_map f [] = refl
-length_map f (x ∷ xs) = ap suc (length_map f xs)
-
 length_end : (t : List FunctionData) (f : FunctionData) → length (t ++ f ∷ []) ≡ length t + 1
 length_end [] f = refl
 length_end (g ∷ t) f = let h = length_end t f in omega (arith, h)
@@ -131,7 +128,7 @@ drop_first_part [] ys = refl
 drop_first_part (x ∷ xs) ys = drop_first_part xs ys
 
 length_table : (w : Walker) → length (table_of w) ≡ length w.functions.items
-length_table w = length_map _ w.functions.items
+length_table w = length-map w.functions.items _
 
 -- a function is at its place as long as it is open
 pub still_open : {A X : Type 0} {view : X → A} {m : Binds A} {s0 s1 s2 : Walker} {x : X}

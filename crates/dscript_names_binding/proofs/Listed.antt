@@ -1,5 +1,5 @@
 -- Lists of parts, as they are in memory.
-use Rattle.std.proofs.Common.{◌≡◌, ℕ, List, [], ◌∷◌, map, drop, zero, suc, refl, ap, sym, ◌∙◌, ◌<◌, ◌-◌, length, arith}
+use Rattle.std.proofs.Common.{◌≡◌, ℕ, List, [], ◌∷◌, map, drop, zero, suc, refl, ap, sym, ◌∙◌, ◌<◌, ◌-◌, arith}
 use Rattle.dscript_ast.specs.ExprTree.{to_exprs, to_operands, to_parts, to_elements, to_props, to_holes, to_stmts}
 use Rattle.dscript_ast.specs.Views.{element_tree, expr_tree, hole_tree, operand_tree, part_tree, prop_tree, stmt_tree}
 use Rattle.dscript_ast.specs.declared.expr.Element.{Element}
@@ -12,10 +12,6 @@ use Rattle.dscript_ast.specs.declared.expr.Stmt.{Stmt}
 use Rattle.dscript_names_scopes.specs.Lookup.{Site}
 use Rattle.dscript_names_scopes.specs.Names.{World}
 use Rattle.dscript_names_binding.specs.Binding.{bind_element, bind_elements, bind_expr, bind_exprs, bind_hole, bind_holes, bind_operand, bind_operands, bind_part, bind_parts, bind_prop, bind_props, bind_stmt, bind_stmts}
-
-pub none_left : {X : Type 0} (xs : List X) → length xs ≡ 0 → xs ≡ []
-none_left [] h = refl
-none_left (x ∷ xs) h = absurd (omega arith)
 
 pub drop_map : {X Y : Type 0} (f : X → Y) (n : ℕ) (xs : List X) → drop n (map f xs) ≡ map f (drop n xs)
 drop_map f zero xs = refl

@@ -1,5 +1,6 @@
 -- A walk, step by step.
 use Rattle.std.proofs.Common.{◌≡◌, ℕ, List, [], ◌∷◌, ◌++◌, map, drop, Result, Ok, Err, refl, sym, ◌∙◌, ap, subst, append_assoc, append-nil}
+use Rattle.std.proofs.lemmas.List.{map_push}
 use Rattle.dscript_program.specs.declared.spec_fault.SpecKind.{SpecKind}
 use Rattle.dscript_program.specs.ProgramData.{FunctionData}
 use Rattle.dscript_names_scopes.specs.Blocks.{Block}
@@ -149,10 +150,6 @@ after_next {A} xs fs ns b (Ok c) =
       names = ms;
     })) (ap (λ ms. ns ++ (b.names ++ ms)) (append-nil c.names) ∙ sym (append_assoc ns b.names c.names))
 
-map_last : {X A : Type 0} (view : X → A) (xs : List X) (x : X) → map view (xs ++ x ∷ []) ≡ map view xs ++ view x ∷ []
-map_last view [] x = refl
-map_last view (y ∷ xs) x = ap (λ vs. view y ∷ vs) (map_last view xs x)
-
 pub turned_next : {X A : Type 0} {view : X → A} {all more rest : List (Binds A)} {m : Binds A}
     {old mid new : Walker} {xs ys : List X} {x : X}
     → Turned view all more old mid xs → more ≡ m ∷ rest → Walked view m mid new x → ys ≡ xs ++ x ∷ []
@@ -173,7 +170,7 @@ turned_next {X} {A} {view} {all} {more} {rest} {m} {old} {mid} {new} {xs} {ys} {
           (continued r (λ v. in_turn rest >>= λ vs. gives (v ∷ vs)))) w.is
           ∙ after_next (map view xs) t.functions t.names b (in_turn rest (here_of new))
           ∙ ap (λ vs. after_turns vs (t.functions ++ w.functions) (t.names ++ w.names)
-          (in_turn rest (here_of new))) (sym (map_last view xs x) ∙ ap (map view) (sym grown));
+          (in_turn rest (here_of new))) (sym (map_push view xs x) ∙ ap (map view) (sym grown));
       table = w.table ∙ ap (λ fs. fs ++ w.functions) t.table
           ∙ append_assoc (table_of old) t.functions w.functions;
       named = w.named ∙ ap (λ ns. ns ++ w.names) t.named

@@ -22,24 +22,13 @@ use Rattle.std.specs.Option.{option_or}
 use Rattle.dscript_names_scopes.specs.Names.{World, FileNames}
 use Rattle.dscript_names_scopes.specs.declared.found.Found.{Found}
 use Rattle.dscript_names_scopes.specs.declared.local.Local.{Local}
+use Rattle.dscript_names_scopes.specs.Blocks.{block_locals, stmt_locals}
 use Rattle.dscript_names_scopes.specs.Lookup.{Site, found_at, assigned, import_fault, unknown_module_fault}
 use Rattle.dscript_names_binding.specs.Walk.{Binds, ◌>>=◌, gives, in_turn, or_fault, no_fault, next_local, declare}
 use Rattle.dscript_names_binding.specs.Walk.{within, function_in, declaration}
 use Rattle.dscript_ast.specs.Literals.{name_of}
 
--- ## What a block declares
-
-abbrev pub undeclared : List ℕ → Bool → List Local
-undeclared x is_let = record { name = x; is_let = is_let; number = None } ∷ []
-
-abbrev pub stmt_locals : StmtTree → List Local
-stmt_locals (tree.Const x t e) = undeclared x false
-stmt_locals (tree.Let x t e) = undeclared x true
-stmt_locals _ = []
-
-abbrev pub block_locals : StmtTrees → List Local
-block_locals tree.no_stmts = []
-block_locals (tree.more_stmts s ss) = stmt_locals s ++ block_locals ss
+-- ## What a loop and a function declare
 
 -- the variable of a loop, which may be assigned where it is declared by `let`
 abbrev pub is_let : LoopKind → Bool

@@ -21,11 +21,12 @@ use Rattle.dscript_program.specs.declared.bound.BoundProp.{BoundProp}
 use Rattle.dscript_program.specs.declared.bound.BoundStmt.{BoundStmt}
 use Rattle.dscript_program.specs.BoundTree.{ExprData, to_operands}
 use Rattle.std.specs.Prelude.{ℕ, List, drop}
+use Rattle.dscript_names_scopes.specs.Blocks.{stmt_locals}
 use Rattle.dscript_names_scopes.specs.Lookup.{Site}
 use Rattle.dscript_names_scopes.specs.Names.{World}
 use Rattle.dscript_names_scopes.specs.Spaces.{site_data}
 use Rattle.dscript_names_binding.specs.Binding.{bind_expr, bind_maybe, bind_name, bind_operands, bind_parts}
-use Rattle.dscript_names_binding.specs.Binding.{bind_stmt, bind_stmts, loop_local, stmt_locals, with_parts}
+use Rattle.dscript_names_binding.specs.Binding.{bind_stmt, bind_stmts, loop_local, with_parts}
 use Rattle.dscript_names_binding.specs.Walk.{Binds, ◌>>=◌, declare, gives, in_turn, within}
 use Rattle.dscript_names_binding.specs.declared.scene.Scene.{Scene}
 

@@ -85,7 +85,7 @@ fn local_after(first: u32, count: usize) -> Result<u32, Memory>
 }
 
 /// A number as the program has it.
-fn number_of(place: usize) -> Result<u32, Memory>
+pub fn number_of(place: usize) -> Result<u32, Memory>
     ensures { IfOk result (λ n. n ≡ place) }
 {
     u32::try_from(place).ok().ok_or(AllocError)

@@ -1,11 +1,11 @@
 //! Name resolution of one file: from its syntax tree to bound trees.
 //!
-//! `specs/Binding.antt` says what each part of a tree comes to, in the steps of `specs/Walk.antt`: a walk
-//! from left to right that counts locals and functions and ends at the first fault. The code is that walk; it
-//! takes the parsed tree apart, so that texts and types are not copied. This crate depends on
+//! `specs/Binding.antt` says to what each part of a tree is resolved, in the steps of `specs/Walk.antt`: a
+//! traversal from left to right that counts locals and functions and ends at the first fault. The code is that
+//! traversal; it consumes the parsed tree, so that texts and types are not copied. This crate depends on
 //! `dscript_names_scopes` for targets of names, on `dscript_ast` for the trees that it takes and on
-//! `dscript_program` for those that it gives. It carries the promise that a file comes to what its names
-//! mean, or is refused with their first fault.
+//! `dscript_program` for those that it gives. It carries the promise that a file is resolved as defined, or fails
+//! with its first fault of names.
 #![tactic(auto)]
 
 mod decls;
@@ -17,5 +17,6 @@ mod stmts;
 mod walker;
 
 pub use decls::Binder;
+pub use functions::number_of;
 pub use scene::Scene;
 pub use walker::Walker;

@@ -4,8 +4,8 @@ ghost use Rattle.std.specs.Prelude.{◌≡◌, IfOk, map};
 ghost use Rattle.std.specs.Option.{option_to_list};
 ghost use Rattle.dscript_ast.specs.ExprTree.{to_stmts};
 ghost use Rattle.dscript_ast.specs.Views.{head_tree, param_tree, stmt_tree};
-ghost use Rattle.dscript_names_binding.specs.Binding.{block_locals, is_let, loop_local, params_of};
-ghost use Rattle.dscript_names_binding.specs.Binding.{stmt_locals, undeclared};
+ghost use Rattle.dscript_names_scopes.specs.Blocks.{block_locals, stmt_locals, undeclared};
+ghost use Rattle.dscript_names_binding.specs.Binding.{is_let, loop_local, params_of};
 ghost use Rattle.dscript_names_binding.specs.Walk.{params_from};
 
 use bx_tree::{Memory, Text};

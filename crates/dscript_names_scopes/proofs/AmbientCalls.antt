@@ -1,9 +1,8 @@
 -- Ambient calls are found by their written names, of which no two are equal.
-use Rattle.std.proofs.Common.{◌≡◌, ℕ, inl, inr, Bool, false, List, [], ◌∷◌, Some, None, cond, refl, ap, ◌∙◌, subst}
-use Rattle.std.proofs.lemmas.Bool.{cases_Bool}
-use Rattle.std.proofs.lemmas.Slice.Eq.{bytes_eq-Decides}
+use Rattle.std.proofs.Common.{◌≡◌, ℕ, Bool, false, List, [], ◌∷◌, Some, None, cond, refl, ap, ◌∙◌, subst}
 use Rattle.std.specs.List.{find}
 use Rattle.std.specs.Str.{bytes_eq}
+use Rattle.bx_tree.proofs.Lists.{texts_differ}
 use Rattle.dscript_program.specs.Ambient.{written_name}
 use Rattle.dscript_program.specs.declared.ambient.Ambient.{Ambient}
 use Rattle.dscript_program.specs.declared.ambient.Ambient.TheVariants as calls
@@ -42,12 +41,6 @@ find_none : {X : Type 0} (p : X → Bool) (xs : List X) → ((x : X) → p x ≡
 find_none p [] h = refl
 find_none p (x ∷ xs) h = ap (λ b. cond b (Some x) (find p xs)) (h x) ∙ find_none p xs h
 
-pub differs : (a b : List ℕ) → (a ≡ b → ⊥) → bytes_eq a b ≡ false
-differs a b h = elim (cases_Bool (bytes_eq a b)) [
-  | inl e ↦ absurd (h ((bytes_eq-Decides a b).0 e))
-  | inr e ↦ e
-]
-
 pub find_no_named : (text : List ℕ) → ((call : Ambient) → written_name call ≡ text → ⊥)
     → find (λ c. bytes_eq (written_name c) text) AMBIENT_CALLS ≡ None
-find_no_named text h = find_none (is_written text) AMBIENT_CALLS (λ call. differs (written_name call) text (h call))
+find_no_named text h = find_none (is_written text) AMBIENT_CALLS (λ call. texts_differ (written_name call) text (h call))

@@ -17,7 +17,7 @@ use Rattle.dscript_names_scopes.specs.declared.names.Declared.{Declared}
 
 -- ## The first that passes a test, where one more comes last
 
-position_last : {X : Type 0} (p : X → Bool) (n : ℕ) (xs : List X) (x : X)
+pub position_last : {X : Type 0} (p : X → Bool) (n : ℕ) (xs : List X) (x : X)
     → position_from p n (xs ++ x ∷ []) ≡ option_or (position_from p n xs) (cond (p x) (Some (n + length xs)) None)
 position_last p n [] x = ap (λ k. cond (p x) (Some k) None) (sym (add-zero n))
 position_last p n (y ∷ xs) x =
@@ -30,7 +30,7 @@ position_last p n (y ∷ xs) x =
           ∙ ap (λ k. option_or (position_from p (n + 1) xs) (cond (p x) (Some k) None)) next
     ]
 
-either_then : {X : Type 0} (a : Option X) (b : Bool) (v : X) (c : Option X)
+pub either_then : {X : Type 0} (a : Option X) (b : Bool) (v : X) (c : Option X)
     → option_or (option_or a (cond b (Some v) None)) c ≡ option_or a (cond b (Some v) c)
 either_then (Some x) b v c = refl
 either_then None true v c = refl

@@ -12,6 +12,8 @@ use Rattle.dscript_ast.specs.ExprTree.{to_stmts}
 use Rattle.dscript_ast.specs.FileTree as file
 use Rattle.dscript_ast.specs.FileTree.{MarkedTree, DeclTree, MarkedTrees, ItemTree, Marked}
 use Rattle.dscript_program.specs.ProgramData.{Dotted}
+use Rattle.dscript_names_scopes.specs.declared.local.Local.{Local}
+use Rattle.dscript_names_scopes.specs.Blocks.{block_locals, stmt_locals}
 use Rattle.dscript_names_scopes.specs.Names.{FileNames}
 use Rattle.dscript_names_scopes.specs.Declarations.{ParsedData, items_of, is_exported, names_of}
 use Rattle.dscript_program.specs.Workspaces.{ModuleData}
@@ -32,13 +34,11 @@ head_names (tree.Params ps) = param_names ps
 
 -- the name that a statement declares in its block
 abbrev pub stmt_names : StmtTree → List (List ℕ)
-stmt_names (tree.Const x t e) = x ∷ []
-stmt_names (tree.Let x t e) = x ∷ []
-stmt_names _ = []
+stmt_names s = map (λ (l : Local). l.name) (stmt_locals s)
 
+-- the names that a block declares
 abbrev pub block_names : StmtTrees → List (List ℕ)
-block_names tree.no_stmts = []
-block_names (tree.more_stmts s ss) = stmt_names s ++ block_names ss
+block_names ss = map (λ (l : Local). l.name) (block_locals ss)
 
 abbrev pub repeats : List (List ℕ) → Bool
 repeats = has_repeat bytes_eq

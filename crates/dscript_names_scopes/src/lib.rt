@@ -1,11 +1,11 @@
 //! Name lookup: what names stand for in blocks, namespaces, imports and modules, and among the ambient calls.
 //!
-//! `specs/Lookup.antt` says what a dotted name stands for, level by level, and which fault it has, by lists that it
-//! scans; `specs/Tables.antt` has the tables that the code searches in their place. Which names a tree declares and
+//! `specs/Lookup.antt` says what a dotted name stands for, level by level, and which fault it has, by scanning
+//! lists; `specs/Tables.antt` has the tables that the code searches instead. Which names a tree declares and
 //! imports (`specs/Declarations.antt`) and which are declared twice (`specs/Duplicates.antt`) are definitions for
 //! `dscript_names`, whose calls keep them. docs/FORMATS.md has the rules in prose. This crate depends on `bx_tree`
-//! for texts, on `dscript_ast` for trees, and on `dscript_program` for ambient calls, faults and targets. It carries
-//! the promise that a name stands for what the definition says, or is refused with its fault.
+//! for texts, on `dscript_ast` for trees, and on `dscript_program` for ambient calls, faults and targets. It
+//! carries the promise that a name resolves as defined, or fails with its fault.
 #![tactic(auto)]
 
 mod dotted;

@@ -5,8 +5,8 @@ use Rattle.std.proofs.lemmas.Bool.{cases_Bool, false≢true}
 use Rattle.std.proofs.lemmas.List.{length-append, length-drop, length-take, take-append-drop}
 use Rattle.bx_tree.specs.Paths.{Atoms, IsBelow}
 use Rattle.bx_path.specs.Joining.{parent}
-use Rattle.dscript_names_workspace.specs.Paths.{is_below}
-use Rattle.dscript_names_workspace.proofs.FilePaths.{below_decides}
+use Rattle.bx_tree.specs.Below.{is_below}
+use Rattle.bx_tree.proofs.BelowPaths.{below_decides}
 use Rattle.dscript_names_workspace.specs.PathSets.{IsDeepest}
 
 -- each directory above the path that the test holds of is this one or above it
@@ -118,9 +118,9 @@ goes_up test path dir (Some next) h lacks e = (
   ],
 )
 
-not_above : (dir path : Atoms) → (IsBelow path dir → ⊥) → is_below dir path ≡ false
-not_above dir path lacks = elim (cases_Bool (is_below dir path)) [
-  | inl yes' ↦ absurd (lacks ((below_decides dir path).0 yes'))
+not_above : (dir path : Atoms) → (IsBelow path dir → ⊥) → is_below path dir ≡ false
+not_above dir path lacks = elim (cases_Bool (is_below path dir)) [
+  | inl yes' ↦ absurd (lacks ((below_decides path dir).0 yes'))
   | inr none ↦ none
 ]
 
@@ -133,10 +133,10 @@ pub found : (test : Atoms → Bool) (path dir : Atoms) → IsUpTo test path (Som
     → IsDeepest test path (Some dir)
 found test path dir h t = (
   t,
-  (below_decides dir path).1 h.0,
-  λ d td. never_both (is_below dir d) (is_below d path) (λ a b.
-      let deeper = (below_decides dir d).0 a in
-      elim (h.1 d td ((below_decides d path).0 b)) [
+  (below_decides path dir).1 h.0,
+  λ d td. never_both (is_below d dir) (is_below path d) (λ a b.
+      let deeper = (below_decides d dir).0 a in
+      elim (h.1 d td ((below_decides path d).0 b)) [
         | inl same ↦ let l = below_longer d dir deeper in absurd (omega (arith, l, ap length same))
         | inr above ↦
             let l = below_longer d dir deeper in

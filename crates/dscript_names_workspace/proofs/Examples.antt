@@ -9,7 +9,8 @@ use Rattle.dscript_names_workspace.specs.Configs.{resolver_at}
 use Rattle.dscript_names_workspace.specs.Lists.{One, Many, files_listed, items_of}
 use Rattle.dscript_names_workspace.specs.Modules.{name_in}
 use Rattle.dscript_names_workspace.specs.Objects.{object_with}
-use Rattle.dscript_names_workspace.specs.Paths.{is_below, is_module_file, is_specification}
+use Rattle.dscript_names_workspace.specs.Paths.{is_module_file, is_specification}
+use Rattle.bx_tree.specs.Below.{is_below}
 
 abbrev a_name : ExprTree
 a_name = tree.Name (codes "a")

@@ -1,49 +1,18 @@
--- Paths below directories, and files of a tree by position.
-use Rattle.std.proofs.Common.{◌≡◌, ◌≢◌, ◌<◌, ℕ, suc, Bool, not, true, false, List, [], ◌∷◌, ◌++◌, Option, Some, None, length, get_or, refl, ap, sym, ◌∙◌, subst, inl, inr, arith}
-use Rattle.std.specs.Prelude.{MatchOption, cond, ◌||◌}
-use Rattle.std.specs.Bool.{Decides}
+-- Files of a tree by position.
+use Rattle.std.proofs.Common.{◌≡◌, ◌≢◌, ◌<◌, ℕ, suc, false, List, [], ◌∷◌, Option, Some, None, length, get_or, refl, ap, sym, ◌∙◌, subst, inl, inr, arith}
+use Rattle.std.specs.Prelude.{MatchOption, ◌||◌}
 use Rattle.std.specs.List.{All}
-use Rattle.std.specs.Option.{IfNone, IfSome, option_map_or}
-use Rattle.std.proofs.lemmas.Bool.{cases_Bool, false≢true}
+use Rattle.std.specs.Option.{IfNone, IfSome}
+use Rattle.std.proofs.lemmas.Bool.{cases_Bool}
 use Rattle.std.proofs.lemmas.List.{length-map}
-use Rattle.std.proofs.lemmas.Slice.Eq.{bytes_eq-Decides}
-use Rattle.bx_tree.specs.Paths.{Atoms, IsBelow, IsPath, has_path, path_text, same_path}
+use Rattle.bx_tree.specs.Paths.{Atoms, IsPath, has_path, path_text, same_path}
 use Rattle.bx_tree.specs.Trees.{paths_of}
 use Rattle.bx_tree.specs.Views.{IsPositionOf, files_of}
 use Rattle.bx_tree.specs.Orders.{same_path_decides}
 use Rattle.bx_tree.specs.declared.tree_file.TreeFile.{TreeFile}
 use Rattle.bx_tree.proofs.FileSearch as search_files
 use Rattle.bx_tree.proofs.PathTexts.{same_from_text}
-use Rattle.bx_path.specs.Globbing.{strip_dir}
-use Rattle.bx_path.proofs.LastAtoms.{strip_dir_is}
-use Rattle.dscript_names_workspace.specs.Paths.{IsAt, is_below, is_empty, is_source}
-
--- ## Below a directory
-
-strip_prefix : (dir rest : Atoms) → strip_dir dir (dir ++ rest) ≡ Some rest
-strip_prefix [] rest = refl
-strip_prefix (d ∷ ds) rest =
-    ap (λ b. cond b (strip_dir ds (ds ++ rest)) None) ((bytes_eq-Decides d d).1 refl) ∙ strip_prefix ds rest
-
-abbrev is_more : Option Atoms → Bool
-is_more o = option_map_or (λ rest. not (is_empty rest)) o false
-
-some_more : (rest : Atoms) → rest ≢ [] → not (is_empty rest) ≡ true
-some_more [] n = absurd (n refl)
-some_more (a ∷ as') n = refl
-
-more_is : (dir path : Atoms) (o : Option Atoms) → strip_dir dir path ≡ o → is_more o ≡ true → IsBelow path dir
-more_is dir path None e h = absurd (false≢true h)
-more_is dir path (Some []) e h = absurd (false≢true h)
-more_is dir path (Some (a ∷ as')) e h = (a ∷ as', (λ z. cc), strip_dir_is dir path (a ∷ as') e)
-
-pub below_decides : (dir path : Atoms) → Decides (is_below dir path) (IsBelow path dir)
-below_decides dir path = (
-  (λ e. more_is dir path (strip_dir dir path) refl e),
-  (λ b. ap (λ p. is_more (strip_dir dir p)) b.2 ∙ ap is_more (strip_prefix dir b.0) ∙ some_more b.0 b.1),
-)
-
--- ## Positions
+use Rattle.dscript_names_workspace.specs.Paths.{IsAt, is_source}
 
 pub length-tree : (files : List TreeFile) → length (files_of files) ≡ length files
 length-tree files = length-map files (λ (f : TreeFile). (f.path, f.bytes.items))

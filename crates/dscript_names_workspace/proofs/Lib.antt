@@ -1,6 +1,5 @@
 pub mod OneAnswer
 pub mod SomeAnswer
-pub mod Directories
 pub mod Deepest
 pub mod PathSets
 pub mod Owners

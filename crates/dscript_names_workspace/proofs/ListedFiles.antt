@@ -1,12 +1,11 @@
 -- Files at positions that rise are files in the order of the tree.
-use Rattle.std.proofs.Common.{◌≡◌, ◌⊎◌, ◌<◌, ℕ, zero, suc, Bool, true, false, List, [], ◌∷◌, ◌++◌, length, get_or, map, filter, cond, refl, ap, sym, subst, ◌∙◌, inl, inr, arith}
+use Rattle.std.proofs.Common.{◌≡◌, ◌<◌, ℕ, zero, suc, Bool, true, false, List, [], ◌∷◌, ◌++◌, length, get_or, map, filter, cond, refl, ap, sym, subst, ◌∙◌, inl, inr, arith}
 use Rattle.std.specs.Prelude.{◌&&◌, ◌||◌, ◌↔◌, Contains}
 use Rattle.std.specs.List.{AllByRecursion, list_all}
 use Rattle.std.specs.List.Sorted.{IsStrictlyIncreasing, IsStrictlySortedBy}
-use Rattle.std.specs.Ordering.{MatchOrdering, nat_cmp, ordering_reverse}
-use Rattle.std.specs.Cmp.{IsTotalOrder, both_ways}
-use Rattle.std.specs.declared.cmp.Ordering.{Ordering}
-use Rattle.std.specs.declared.cmp.Ordering.TheVariants.{Less, Greater}
+use Rattle.std.specs.Ordering.{MatchOrdering, nat_cmp}
+use Rattle.std.specs.Cmp.{both_ways}
+use Rattle.std.specs.declared.cmp.Ordering.TheVariants.{Less}
 use Rattle.std.proofs.lemmas.Bool.{cases_Bool, false≢true}
 use Rattle.std.proofs.lemmas.Cmp.{ranked}
 use Rattle.std.proofs.lemmas.List.{length-map}
@@ -15,112 +14,29 @@ use Rattle.std.proofs.lemmas.List.Folds.{list_any-append}
 use Rattle.std.proofs.lemmas.List.Kept.{IsStrictlySortedBy-filter}
 use Rattle.std.proofs.lemmas.Map.Keys.{Less-from_sorted, sorted_from_strictly_increasing}
 use Rattle.bx_tree.specs.Paths.{Atoms, has_path, path_cmp, same_path}
-use Rattle.bx_tree.specs.Orders.{path_cmp_total, same_path_decides}
+use Rattle.bx_tree.specs.Orders.{path_cmp_total}
 use Rattle.bx_tree.specs.Trees.{Files, IsTree, paths_of}
+use Rattle.bx_tree.specs.Members.{Has}
+use Rattle.bx_tree.proofs.Sets.{contains_has, has_contained, never_both, unique}
+use Rattle.bx_tree.proofs.Members.{has_map, from_map, has_found, found_has, has_filter}
 use Rattle.dscript_names_workspace.specs.Paths.{AreWithin, in_tree, paths_at}
 use Rattle.dscript_names_workspace.specs.ConfigViews.{ArePlaces}
 
 -- ## Members
 
-abbrev pub In : {X : Type 0} → List X → X → Type 0
-In [] q = ⊥
-In (x ∷ xs) q = (x ≡ q) ⊎ In xs q
-
-in_map : {X Y : Type 0} (f : X → Y) (xs : List X) (x : X) → In xs x → In (map f xs) (f x)
-in_map f [] x h = absurd h
-in_map f (y ∷ ys) x h = elim h [ inl e ↦ inl (ap f e) | inr k ↦ inr (in_map f ys x k) ]
-
-from_map : {X Y : Type 0} (f : X → Y) (xs : List X) (y : Y) → In (map f xs) y → (x : X) × In xs x × (f x ≡ y)
-from_map f [] y h = absurd h
-from_map f (x ∷ xs) y h = elim h [
-  | inl e ↦ (x, inl refl, e)
-  | inr k ↦ let rest = from_map f xs y k in (rest.0, inr rest.1, rest.2)
-]
-
-in_cond : {X : Type 0} (b : Bool) (x : X) (xs : List X) (q : X) → In (cond b (x ∷ xs) xs) q → In (x ∷ xs) q
-in_cond true x xs q h = h
-in_cond false x xs q h = inr h
-
-more_cond : {X : Type 0} (b : Bool) (x : X) (xs : List X) (q : X) → In xs q → In (cond b (x ∷ xs) xs) q
-more_cond true x xs q h = inr h
-more_cond false x xs q h = h
-
-passes : {X : Type 0} (test : X → Bool) (x : X) (b : Bool) (xs : List X) (q : X) → test x ≡ b → (In xs q → test q ≡ true)
-    → In (cond b (x ∷ xs) xs) q → test q ≡ true
+passes : {X : Type 0} (test : X → Bool) (x : X) (b : Bool) (xs : List X) (q : X) → test x ≡ b → (Has xs q → test q ≡ true)
+    → Has (cond b (x ∷ xs) xs) q → test q ≡ true
 passes test x true xs q e k h = elim h [ inl is ↦ ap test (sym is) ∙ e | inr m ↦ k m ]
 passes test x false xs q e k h = k h
 
-filter_passes : {X : Type 0} (test : X → Bool) (xs : List X) (q : X) → In (filter test xs) q → test q ≡ true
+filter_passes : {X : Type 0} (test : X → Bool) (xs : List X) (q : X) → Has (filter test xs) q → test q ≡ true
 filter_passes test [] q h = absurd h
 filter_passes test (x ∷ xs) q h = passes test x (test x) (filter test xs) q refl (filter_passes test xs q) h
 
-in_filter : {X : Type 0} (test : X → Bool) (xs : List X) (q : X) → In xs q → test q ≡ true → In (filter test xs) q
-in_filter test [] q h t = absurd h
-in_filter test (x ∷ xs) q h t = elim h [
-  | inl e ↦ subst (λ b. In (cond b (x ∷ filter test xs) (filter test xs)) q) (sym (ap test e ∙ t)) (inl e)
-  | inr k ↦ more_cond (test x) x (filter test xs) q (in_filter test xs q k t)
-]
-
-in_at : {X : Type 0} (xs : List X) (i : ℕ) (d : X) → i < length xs → In xs (get_or xs i d)
+in_at : {X : Type 0} (xs : List X) (i : ℕ) (d : X) → i < length xs → Has xs (get_or xs i d)
 in_at [] i d l = absurd (omega (arith, l))
 in_at (x ∷ xs) zero d l = inl refl
 in_at (x ∷ xs) (suc i) d l = inr (in_at xs i d (omega (arith, l)))
-
-in_one_of : (paths : List Atoms) (q : Atoms) → In paths q → has_path paths q ≡ true
-in_one_of [] q h = absurd h
-in_one_of (p ∷ ps) q h = elim h [
-  | inl e ↦ ap (λ b. b || has_path ps q) ((same_path_decides p q).1 e)
-  | inr k ↦ ap (λ b. same_path p q || b) (in_one_of ps q k) ∙ or_true (same_path p q)
-]
-  where
-    or_true : (b : Bool) → (b || true) ≡ true
-    or_true true = refl
-    or_true false = refl
-
-one_of_in : (paths : List Atoms) (q : Atoms) → has_path paths q ≡ true → In paths q
-one_of_in [] q h = absurd (false≢true h)
-one_of_in (p ∷ ps) q h = elim (cases_Bool (same_path p q)) [
-  | inl same ↦ inl ((same_path_decides p q).0 same)
-  | inr differ ↦ inr (one_of_in ps q (sym (ap (λ b. b || has_path ps q) differ) ∙ h))
-]
-
--- ## Lists that rise
-
-above : {K : Type 0} (R : K → K → Ordering) (x q : K) (xs : List K) → AllByRecursion (λ y. R x y ≡ Less) xs → In xs q → R x q ≡ Less
-above R x q [] all h = absurd h
-above R x q (y ∷ ys) all h = elim h [ inl e ↦ subst (λ z. R x z ≡ Less) e all.0 | inr k ↦ above R x q ys all.1 k ]
-
-one_way : (o p : Ordering) → o ≡ ordering_reverse p → o ≡ Less → p ≡ Less → ⊥
-one_way o p e h k = let r : Less ≡ Greater = sym h ∙ e ∙ ap ordering_reverse k in cc
-
-not_both : {K : Type 0} {R : K → K → Ordering} → IsTotalOrder R → (a b : K) → R a b ≡ Less → R b a ≡ Less → ⊥
-not_both {R = R} total a b h k = one_way (R a b) (R b a) (total.antisymm a b) h k
-
-heads : {K : Type 0} (R : K → K → Ordering) → IsTotalOrder R → (x y : K) (xs ys : List K)
-    → AllByRecursion (λ z. R x z ≡ Less) xs → AllByRecursion (λ z. R y z ≡ Less) ys → In (y ∷ ys) x → In (x ∷ xs) y → x ≡ y
-heads R total x y xs ys below below' h k = elim h [
-  | inl e ↦ sym e
-  | inr m ↦ elim k [ inl e ↦ e | inr n ↦ absurd (not_both total x y (above R x y xs below n) (above R y x ys below' m)) ]
-]
-
-tails : {K : Type 0} (R : K → K → Ordering) → IsTotalOrder R → (x y : K) (xs ys : List K)
-    → x ≡ y → AllByRecursion (λ z. R x z ≡ Less) xs → ((q : K) → In (x ∷ xs) q → In (y ∷ ys) q) → (q : K) → In xs q → In ys q
-tails R total x y xs ys same below into q h = elim (into q (inr h)) [
-  | inl e ↦ let self : R x x ≡ Less = subst (λ z. R x z ≡ Less) (sym (same ∙ e)) (above R x q xs below h) in absurd (not_both total x x self self)
-  | inr k ↦ k
-]
-
--- two strictly rising lists with equal members are equal
-one_rising : {K : Type 0} (R : K → K → Ordering) → IsTotalOrder R → (xs ys : List K)
-    → IsStrictlySortedBy R xs → IsStrictlySortedBy R ys → ((q : K) → In xs q → In ys q) → ((q : K) → In ys q → In xs q) → xs ≡ ys
-unfolding IsStrictlySortedBy
-one_rising R total [] [] s t into back = refl
-one_rising R total [] (y ∷ ys) s t into back = absurd (back y (inl refl))
-one_rising R total (x ∷ xs) [] s t into back = absurd (into x (inl refl))
-one_rising R total (x ∷ xs) (y ∷ ys) s t into back =
-    let same = heads R total x y xs ys s.0 t.0 (into x (inl refl)) (back y (inl refl)) in
-    ap (λ z. z ∷ xs) same
-    ∙ ap (λ zs. y ∷ zs) (one_rising R total xs ys s.1 t.1 (tails R total x y xs ys same s.0 into) (tails R total y x ys xs (sym same) t.0 back))
 
 -- ## Files at positions
 
@@ -145,47 +61,32 @@ within_paths files [] w = tt
 within_paths files (q ∷ qs) w =
     (subst (λ n. q < n) (sym (length-map files (λ f. f.0))) w.0, within_paths files qs w.1)
 
-in_within : (files : Files) (qs : List ℕ) (q : ℕ) → AreWithin files qs → In qs q → q < length files
+in_within : (files : Files) (qs : List ℕ) (q : ℕ) → AreWithin files qs → Has qs q → q < length files
 in_within files [] q w h = absurd h
 in_within files (x ∷ xs) q w h = elim h [ inl e ↦ subst (λ z. z < length files) e w.0 | inr k ↦ in_within files xs q w.1 k ]
 
 -- the files at rising positions are, in the order of the tree, the files at any list with these positions as members
 in_tree_at : (files : Files) (ps qs : List ℕ) → IsTree files → AreWithin files qs → IsStrictlySortedBy nat_cmp qs
-    → ((q : ℕ) → In ps q → In qs q) → ((q : ℕ) → In qs q → In ps q)
+    → ((q : ℕ) → Has ps q → Has qs q) → ((q : ℕ) → Has qs q → Has ps q)
     → paths_at files qs ≡ in_tree files (paths_at files ps)
 in_tree_at files ps qs tree w rises into back =
     let at = λ (q : ℕ). get_or (paths_of files) q [] in
-    one_rising path_cmp path_cmp_total (paths_at files qs) (in_tree files (paths_at files ps))
+    unique path_cmp (never_both path_cmp_total) (paths_at files qs) (in_tree files (paths_at files ps))
     (rising_at (paths_of files) qs tree.rising rises (within_paths files qs w))
     (IsStrictlySortedBy-filter path_cmp (has_path (paths_at files ps)) (paths_of files) tree.rising)
     (λ path h.
     let found = from_map at qs path h in
     let here = in_at (paths_of files) found.0 []
     (subst (λ n. found.0 < n) (sym (length-map files (λ f. f.0))) (in_within files qs found.0 w found.1)) in
-    in_filter (has_path (paths_at files ps)) (paths_of files) path
-    (subst (In (paths_of files)) found.2 here)
-    (in_one_of (paths_at files ps) path (subst (In (paths_at files ps)) found.2 (in_map at ps found.0 (back found.0 found.1)))))
+    has_filter (has_path (paths_at files ps)) (paths_of files) path
+    (subst (Has (paths_of files)) found.2 here)
+    (has_found (paths_at files ps) path (subst (Has (paths_at files ps)) found.2 (has_map at ps found.0 (back found.0 found.1)))))
     (λ path h.
-    let found = from_map at ps path (one_of_in (paths_at files ps) path
+    let found = from_map at ps path (found_has (paths_at files ps) path
     (filter_passes (has_path (paths_at files ps)) (paths_of files) path h)) in
-    subst (In (paths_at files qs)) found.2 (in_map at qs found.0 (into found.0 found.1)))
+    subst (Has (paths_at files qs)) found.2 (has_map at qs found.0 (into found.0 found.1)))
 
-contains_in : {X : Type 0} (xs : List X) (q : X) → In xs q → Contains xs q
-contains_in [] q h = absurd h
-contains_in (x ∷ xs) q h = elim h [
-  | inl e ↦ (0, omega arith, e)
-  | inr k ↦ let rest = contains_in xs q k in (suc rest.0, omega (arith, rest.1), rest.2)
-]
-
-from_place : {X : Type 0} (xs : List X) (q : X) (k : ℕ) → k < length xs → get_or xs k q ≡ q → In xs q
-from_place [] q k l e = absurd (omega (arith, l))
-from_place (x ∷ xs) q zero l e = inl e
-from_place (x ∷ xs) q (suc k) l e = inr (from_place xs q k (omega (arith, l)) e)
-
-in_contains : {X : Type 0} (xs : List X) (q : X) → Contains xs q → In xs q
-in_contains xs q h = from_place xs q h.0 h.1 h.2
-
-all_within : (files : Files) (qs : List ℕ) → ((q : ℕ) → In qs q → q < length files) → AreWithin files qs
+all_within : (files : Files) (qs : List ℕ) → ((q : ℕ) → Has qs q → q < length files) → AreWithin files qs
 all_within files [] h = tt
 all_within files (q ∷ qs) h = (h q (inl refl), all_within files qs (λ x k. h x (inr k)))
 
@@ -193,14 +94,14 @@ all_within files (q ∷ qs) h = (h q (inl refl), all_within files qs (λ x k. h 
 pub within_same : (files : Files) (ps qs : List ℕ) → AreWithin files ps
     → ((q : ℕ) → Contains ps q ↔ Contains qs q) → AreWithin files qs
 within_same files ps qs w same =
-    all_within files qs (λ q h. in_within files ps q w (in_contains ps q ((same q).1 (contains_in qs q h))))
+    all_within files qs (λ q h. in_within files ps q w (has_contained ps q ((same q).1 (contains_has qs q h))))
 
 pub in_tree_rising : (files : Files) (ps qs : List ℕ) → IsTree files → AreWithin files ps → IsStrictlyIncreasing qs
     → ((q : ℕ) → Contains ps q ↔ Contains qs q) → paths_at files qs ≡ in_tree files (paths_at files ps)
 in_tree_rising files ps qs tree w rises same =
     in_tree_at files ps qs tree (within_same files ps qs w same) (sorted_from_strictly_increasing qs rises)
-    (λ q h. in_contains qs q ((same q).0 (contains_in ps q h)))
-    (λ q h. in_contains ps q ((same q).1 (contains_in qs q h)))
+    (λ q h. has_contained qs q ((same q).0 (contains_has ps q h)))
+    (λ q h. has_contained ps q ((same q).1 (contains_has qs q h)))
 
 -- ## Places of files
 
@@ -208,10 +109,10 @@ members : (files : Files) (ps qs : List ℕ) → ((q : ℕ) → Contains ps q �
     → has_path (paths_at files ps) path ≡ true → has_path (paths_at files qs) path ≡ true
 members files ps qs into path h =
     let at = λ (q : ℕ). get_or (paths_of files) q [] in
-    let found = from_map at ps path (one_of_in (paths_at files ps) path h) in
-    in_one_of (paths_at files qs) path
-    (subst (In (paths_at files qs)) found.2 (in_map at qs found.0
-    (in_contains qs found.0 (into found.0 (contains_in ps found.0 found.1)))))
+    let found = from_map at ps path (found_has (paths_at files ps) path h) in
+    has_found (paths_at files qs) path
+    (subst (Has (paths_at files qs)) found.2 (has_map at qs found.0
+    (has_contained qs found.0 (into found.0 (contains_has ps found.0 found.1)))))
 
 -- two lists of positions with equal members are the places of equal sets of files
 pub places_same : (files : Files) (ps qs : List ℕ) → AreWithin files ps → ((q : ℕ) → Contains ps q ↔ Contains qs q)
@@ -247,14 +148,14 @@ pub in_tree_of : (files : Files) (paths : List Atoms) (ps qs : List ℕ) → Are
 in_tree_of files paths ps qs h e =
     filter_agree (has_path paths) (has_path (paths_at files ps)) (λ path. sym (h.same path)) (paths_of files) ∙ sym e
 
-all_at : (test : Atoms → Bool) (xs ys : List Atoms) → ((path : Atoms) → In ys path → In xs path) → list_all test xs ≡ true
+all_at : (test : Atoms → Bool) (xs ys : List Atoms) → ((path : Atoms) → Has ys path → Has xs path) → list_all test xs ≡ true
     → list_all test ys ≡ true
 all_at test xs [] into h = refl
 all_at test xs (y ∷ ys) into h =
     ap (λ b. b && list_all test ys) (one_at test xs y (into y (inl refl)) h)
     ∙ all_at test xs ys (λ path k. into path (inr k)) h
   where
-    one_at : (test : Atoms → Bool) (xs : List Atoms) (path : Atoms) → In xs path → list_all test xs ≡ true → test path ≡ true
+    one_at : (test : Atoms → Bool) (xs : List Atoms) (path : Atoms) → Has xs path → list_all test xs ≡ true → test path ≡ true
     one_at test [] path h e = absurd h
     one_at test (x ∷ xs) path h e = elim (cases_Bool (test x)) [
       | inl passes ↦ elim h [
@@ -269,6 +170,6 @@ pub all_places : (test : Atoms → Bool) (files : Files) (paths : List Atoms) (p
     → list_all test (paths_at files ps) ≡ list_all test paths
 all_places test files paths ps h = both_ways (list_all test (paths_at files ps)) (list_all test paths)
     (all_at test (paths_at files ps) paths
-    (λ path k. one_of_in (paths_at files ps) path (h.same path ∙ in_one_of paths path k)))
+    (λ path k. found_has (paths_at files ps) path (h.same path ∙ has_found paths path k)))
     (all_at test paths (paths_at files ps)
-    (λ path k. one_of_in paths path (sym (h.same path) ∙ in_one_of (paths_at files ps) path k)))
+    (λ path k. found_has paths path (sym (h.same path) ∙ has_found (paths_at files ps) path k)))

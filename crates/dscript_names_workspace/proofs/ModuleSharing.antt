@@ -1,12 +1,12 @@
 -- No file is in two of the modules that were found.
-use Rattle.std.proofs.Common.{◌≡◌, ◌⊎◌, ℕ, Bool, true, false, not, List, [], ◌∷◌, ◌++◌, map, filter, Option, Some, None, cond, refl, ap, sym, subst, ◌∙◌, inl, inr}
+use Rattle.std.proofs.Common.{◌≡◌, ℕ, Bool, true, false, not, List, [], ◌∷◌, ◌++◌, map, filter, Option, Some, None, cond, refl, ap, sym, subst, ◌∙◌, inl, inr}
 use Rattle.std.specs.Prelude.{◌&&◌, ◌||◌, option_and_then, option_map}
 use Rattle.std.specs.List.{AllByRecursion, AllZip, cons_option, list_all, list_any}
 use Rattle.std.specs.List.Sorted.{IsStrictlySortedBy}
 use Rattle.std.specs.Option.{is_some, option_map_or}
 use Rattle.std.specs.declared.cmp.Ordering.{Ordering}
 use Rattle.std.specs.declared.cmp.Ordering.TheVariants.{Less, Equal}
-use Rattle.std.proofs.lemmas.Bool.{cases_Bool, false≢true}
+use Rattle.std.proofs.lemmas.Bool.{cases_Bool, false≢true, and_from, or_parts}
 use Rattle.std.proofs.lemmas.Cmp.{tied_itself}
 use Rattle.std.proofs.lemmas.List.Kept.{IsStrictlySortedBy-filter}
 use Rattle.bx_tree.specs.Paths.{Atoms, IsPath, has_path, path_cmp, same_path}
@@ -17,8 +17,11 @@ use Rattle.dscript_ast.specs.FileTree as trees
 use Rattle.dscript_names_workspace.specs.Configs.{module_files, modules_list, resolver_at, resolvers, resolvers_list}
 use Rattle.dscript_names_workspace.specs.Lists.{ItemTree, One, Many, files_listed, items_of, concat_if_all, listed_by}
 use Rattle.dscript_names_workspace.specs.Modules.{DescriptionData, described}
-use Rattle.dscript_names_workspace.specs.Paths.{in_tree, is_below, is_empty, is_module_file, is_specification}
-use Rattle.dscript_names_workspace.proofs.FilePaths.{below_decides}
+use Rattle.dscript_names_workspace.specs.Paths.{in_tree, is_empty, is_module_file, is_specification}
+use Rattle.bx_tree.specs.Below.{is_below}
+use Rattle.bx_tree.proofs.BelowPaths.{below_decides}
+use Rattle.bx_tree.specs.Members.{Has}
+use Rattle.bx_tree.proofs.Members.{none_passes, has_front, has_last}
 use Rattle.dscript_program.specs.SpecFaults.{FaultData}
 use Rattle.dscript_program.specs.Workspaces.{ModuleData}
 use Rattle.dscript_parse.specs.Reading.{Reading, Read, NoTokens, NoFile}
@@ -34,41 +37,13 @@ use Rattle.dscript_names_workspace.proofs.ModuleSources.{kept_is}
 
 -- ## Tests of lists
 
-abbrev In : List ModuleFile → ModuleFile → Type 0
-In [] q = ⊥
-In (x ∷ xs) q = (x ≡ q) ⊎ In xs q
-
-in_more : (xs ys : List ModuleFile) (q : ModuleFile) → In xs q → In (xs ++ ys) q
-in_more [] ys q h = absurd h
-in_more (x ∷ xs) ys q h = elim h [ inl e ↦ inl e | inr k ↦ inr (in_more xs ys q k) ]
-
-in_last : (xs : List ModuleFile) (q : ModuleFile) → In (xs ++ q ∷ []) q
-in_last [] q = inl refl
-in_last (x ∷ xs) q = inr (in_last xs q)
-
-or_left : (a b : Bool) → (a || b) ≡ false → a ≡ false
-or_left true b e = cc
-or_left false b e = refl
-
-or_right : (a b : Bool) → (a || b) ≡ false → b ≡ false
-or_right true b e = cc
-or_right false b e = e
-
-none_here : (test : ModuleFile → Bool) (xs : List ModuleFile) (q : ModuleFile) → list_any test xs ≡ false → In xs q
-    → test q ≡ false
-none_here test [] q e h = absurd h
-none_here test (x ∷ xs) q e h = elim h [
-  | inl is ↦ ap test (sym is) ∙ or_left (test x) (list_any test xs) e
-  | inr k ↦ none_here test xs q (or_right (test x) (list_any test xs) e) k
-]
-
 none_of : (test : Atoms → Bool) (paths : List Atoms) (path : Atoms) → list_any test paths ≡ false
     → has_path paths path ≡ true → test path ≡ false
 none_of test [] path e h = absurd (false≢true h)
 none_of test (p ∷ ps) path e h = elim (cases_Bool (same_path p path)) [
-  | inl same ↦ ap test (sym ((same_path_decides p path).0 same)) ∙ or_left (test p) (list_any test ps) e
+  | inl same ↦ ap test (sym ((same_path_decides p path).0 same)) ∙ (or_parts (test p) (list_any test ps) e).0
   | inr differ ↦
-      none_of test ps path (or_right (test p) (list_any test ps) e) (sym (ap (λ b. b || has_path ps path) differ) ∙ h)
+      none_of test ps path (or_parts (test p) (list_any test ps) e).1 (sym (ap (λ b. b || has_path ps path) differ) ∙ h)
 ]
 
 some_of : (test : Atoms → Bool) (paths : List Atoms) (path : Atoms) → has_path paths path ≡ true → test path ≡ true
@@ -145,27 +120,22 @@ below_first true true false o d e = cc
 below_first true false c o d e = cc
 below_first false s c o d e = cc
 
-both_are : (a b : Bool) → a ≡ true → b ≡ true → (a && b) ≡ true
-both_are true true e f = refl
-both_are true false e f = cc
-both_are false b e f = cc
-
 not_both : (dirs : List Atoms) (d e path : Atoms) → has_path dirs d ≡ true → has_path dirs e ≡ true → (d ≡ e → ⊥)
     → is_implied dirs d path ≡ true → is_implied dirs e path ≡ true → ⊥
 not_both dirs d e path h k apart i j =
-    let a = below_first (is_below d path) (is_specification path) (not (is_config path)) (not (is_module_file path)) (is_deeper dirs d path) i in
-    let b = below_first (is_below e path) (is_specification path) (not (is_config path)) (not (is_module_file path)) (is_deeper dirs e path) j in
-    let above = (below_decides d path).0 a.0 in
-    let above' = (below_decides e path).0 b.0 in
+    let a = below_first (is_below path d) (is_specification path) (not (is_config path)) (not (is_module_file path)) (is_deeper dirs d path) i in
+    let b = below_first (is_below path e) (is_specification path) (not (is_config path)) (not (is_module_file path)) (is_deeper dirs e path) j in
+    let above = (below_decides path d).0 a.0 in
+    let above' = (below_decides path e).0 b.0 in
     elim (comparable path d e above.0 above'.0 above.2 above'.2) [
       | inl same ↦ apart same
       | inr other ↦ elim other [
         | inl under ↦
             false≢true (sym b.1 ∙ some_of (is_between e path) dirs d h
-            (both_are (is_below e d) (is_below d path) ((below_decides e d).1 under) a.0))
+            (and_from (is_below d e) (is_below path d) ((below_decides d e).1 under) a.0))
         | inr over ↦
             false≢true (sym a.1 ∙ some_of (is_between d path) dirs e k
-            (both_are (is_below d e) (is_below e path) ((below_decides d e).1 over) b.0))
+            (and_from (is_below e d) (is_below path e) ((below_decides e d).1 over) b.0))
       ]
     ]
 
@@ -182,7 +152,7 @@ implied_at files dirs path file m e h =
     kept_is (is_implied dirs (dir_of path)) (paths_of files) file (ap (λ ps. has_path ps file) (sym e) ∙ h)
 
 two_apart : (files : Files) (dirs : List Atoms) (all prefix before : List ModuleFile) (p q : Atoms) (m n : ModuleFile)
-    → IsFree (is_taken all prefix) m → IsFree (is_taken all before) n → In before m → In all n
+    → IsFree (is_taken all prefix) m → IsFree (is_taken all before) n → Has before m → Has all n
     → IsImplied files dirs p m → IsImplied files dirs q n → has_path dirs (dir_of p) ≡ true
     → has_path dirs (dir_of q) ≡ true → (dir_of p ≡ dir_of q → ⊥) → Apart m n
 two_apart files dirs all prefix before p q (Faulty fault) n f g i j a b h k d = tt
@@ -191,14 +161,14 @@ two_apart files dirs all prefix before p q (Described m lists) (Described n true
     elim (cases_Bool (has_path n.files file)) [
       | inl yes' ↦
           let free = none_of (is_taken all before) n.files file g yes' in
-          let own = none_here (has_file file) before (Described m lists)
-          (or_left (list_any (has_file file) before) (list_any (implies_file file) all) free) i in
+          let own = none_passes (has_file file) before (Described m lists)
+          (or_parts (list_any (has_file file) before) (list_any (implies_file file) all) free).0 i in
           absurd (false≢true (sym own ∙ t))
       | inr none ↦ none
     ]
 two_apart files dirs all prefix before p q (Described m true) (Described n false) f g i j a b h k d = λ file t.
-    none_here (implies_file file) all (Described n false)
-    (or_right (list_any (has_file file) prefix) (list_any (implies_file file) all) (none_of (is_taken all prefix) m.files file f t)) j
+    none_passes (implies_file file) all (Described n false)
+    (or_parts (list_any (has_file file) prefix) (list_any (implies_file file) all) (none_of (is_taken all prefix) m.files file f t)).1 j
 two_apart files dirs all prefix before p q (Described m false) (Described n false) f g i j a b h k d = λ file t.
     elim (cases_Bool (has_path n.files file)) [
       | inl yes' ↦
@@ -219,30 +189,30 @@ AllApart [] = Unit {0}
 AllApart (m ∷ ms) = AllByRecursion (Apart m) ms × AllApart ms
 
 later_apart : (files : Files) (dirs : List Atoms) (all prefix before : List ModuleFile) (p : Atoms) (m : ModuleFile)
-    (paths : List Atoms) (rest : List ModuleFile) → IsFree (is_taken all prefix) m → In before m → IsImplied files dirs p m
+    (paths : List Atoms) (rest : List ModuleFile) → IsFree (is_taken all prefix) m → Has before m → IsImplied files dirs p m
     → has_path dirs (dir_of p) ≡ true → AllByRecursion (λ q. dir_of p ≡ dir_of q → ⊥) paths
     → AllByRecursion (λ q. has_path dirs (dir_of q) ≡ true) paths → AllZip (IsImplied files dirs) paths rest
-    → file_fault all before rest ≡ None → ((n : ModuleFile) → In rest n → In all n) → AllByRecursion (Apart m) rest
+    → file_fault all before rest ≡ None → ((n : ModuleFile) → Has rest n → Has all n) → AllByRecursion (Apart m) rest
 later_apart files dirs all prefix before p m [] [] f i a h d w z e into = tt
 later_apart files dirs all prefix before p m [] (n ∷ ns) f i a h d w z e into = absurd z
 later_apart files dirs all prefix before p m (q ∷ qs) [] f i a h d w z e into = tt
 later_apart files dirs all prefix before p m (q ∷ qs) (n ∷ ns) f i a h d w z e into =
     let free = free_from (is_taken all before) n (file_fault all (before ++ n ∷ []) ns) e in (
       two_apart files dirs all prefix before p q m n f free.0 i (into n (inl refl)) a z.0 h w.0 d.0,
-      later_apart files dirs all prefix (before ++ n ∷ []) p m qs ns f (in_more before (n ∷ []) m i) a h d.1 w.1 z.1 free.1
+      later_apart files dirs all prefix (before ++ n ∷ []) p m qs ns f (has_front before (n ∷ []) m i) a h d.1 w.1 z.1 free.1
           (λ x k. into x (inr k)),
     )
 
 all_apart : (files : Files) (dirs : List Atoms) (all before : List ModuleFile) (paths : List Atoms) (rest : List ModuleFile)
     → HaveOwnDirs paths → AllByRecursion (λ q. has_path dirs (dir_of q) ≡ true) paths
     → AllZip (IsImplied files dirs) paths rest → file_fault all before rest ≡ None
-    → ((n : ModuleFile) → In rest n → In all n) → AllApart rest
+    → ((n : ModuleFile) → Has rest n → Has all n) → AllApart rest
 all_apart files dirs all before [] [] d w z e into = tt
 all_apart files dirs all before [] (m ∷ ms) d w z e into = absurd z
 all_apart files dirs all before (p ∷ ps) [] d w z e into = tt
 all_apart files dirs all before (p ∷ ps) (m ∷ ms) d w z e into =
     let free = free_from (is_taken all before) m (file_fault all (before ++ m ∷ []) ms) e in (
-      later_apart files dirs all before (before ++ m ∷ []) p m ps ms free.0 (in_last before m) z.0 w.0 d.0 w.1 z.1 free.1
+      later_apart files dirs all before (before ++ m ∷ []) p m ps ms free.0 (has_last before m) z.0 w.0 d.0 w.1 z.1 free.1
           (λ x k. into x (inr k)),
       all_apart files dirs all (before ++ m ∷ []) ps ms d.1 w.1 z.1 free.1 (λ x k. into x (inr k)),
     )
@@ -322,7 +292,7 @@ own_dirs (p ∷ ps) h s = (differ_after p ps h.0.0 h.0.1 h.1 s.0, own_dirs ps h.
 all_joined : (t : Atoms → Bool) (xs ys : List Atoms) → list_all t xs ≡ true → list_all t ys ≡ true → list_all t (xs ++ ys) ≡ true
 all_joined t [] ys h k = k
 all_joined t (x ∷ xs) ys h k =
-    both_are (t x) (list_all t (xs ++ ys)) (first (t x) (list_all t xs) h) (all_joined t xs ys (rest (t x) (list_all t xs) h) k)
+    and_from (t x) (list_all t (xs ++ ys)) (first (t x) (list_all t xs) h) (all_joined t xs ys (rest (t x) (list_all t xs) h) k)
   where
     first : (a b : Bool) → (a && b) ≡ true → a ≡ true
     first true b e = refl

@@ -5,7 +5,8 @@ use Rattle.std.specs.List.{AllByRecursion, AllZip, IsDistinct, cons_option}
 use Rattle.std.specs.Ordering.{eq_by_cmp}
 use Rattle.std.proofs.lemmas.Map.Keys.{IsDistinct-from_sorted}
 use Rattle.std.specs.Option.{option_map_or}
-use Rattle.std.proofs.lemmas.Bool.{cases_Bool, false≢true}
+use Rattle.std.proofs.lemmas.Bool.{cases_Bool, false≢true, and_parts}
+use Rattle.std.specs.Cmp.{both_ways}
 use Rattle.bx_tree.specs.Paths.{Atoms, has_path, path_cmp, same_path}
 use Rattle.bx_tree.specs.Orders.{path_cmp_matches, same_path_decides}
 use Rattle.bx_tree.specs.Trees.{Files, IsTree, file_at, paths_of}
@@ -15,7 +16,8 @@ use Rattle.dscript_names_workspace.specs.Lists.{files_listed}
 use Rattle.dscript_names_workspace.specs.Modules.{DescriptionData, are_projects, described, described_by, is_semantics, name_in, optional_projects}
 use Rattle.dscript_names_workspace.specs.Modules.{projects_in, projects_of}
 use Rattle.dscript_names_workspace.specs.Objects.{field_named, object_with}
-use Rattle.dscript_names_workspace.specs.Paths.{in_tree, is_below, is_module_file, is_specification}
+use Rattle.dscript_names_workspace.specs.Paths.{in_tree, is_module_file, is_specification}
+use Rattle.bx_tree.specs.Below.{is_below}
 use Rattle.dscript_program.specs.Workspaces.{ModuleData}
 use Rattle.dscript_parse.specs.Reading.{Reading, Read, NoTokens, NoFile}
 use Rattle.dscript_names_workspace.specs.Membership.{dir_of, files_of_module, implied_files, is_config, is_deeper, is_implied}
@@ -69,17 +71,11 @@ kept_in test (p ∷ ps) path h t = elim (cases_Bool (same_path p path)) [
     more true p ps path h = ap (λ b. same_path p path || b) h ∙ or_true (same_path p path)
     more false p ps path h = h
 
-both_true : (a b : Bool) → (a ≡ true → b ≡ true) → (b ≡ true → a ≡ true) → a ≡ b
-both_true true true f g = refl
-both_true true false f g = sym (f refl)
-both_true false true f g = g refl
-both_true false false f g = refl
-
 each_kept : (test : Atoms → Bool) (all paths : List Atoms) → ((path : Atoms) → has_path paths path ≡ true → has_path all path ≡ true)
     → AllByRecursion (λ path. has_path (filter test all) path ≡ test path) paths
 each_kept test all [] into = tt
 each_kept test all (p ∷ ps) into = (
-  both_true (has_path (filter test all) p) (test p) (kept_is test all p) (kept_in test all p (into p (is_here ps p))),
+  both_ways (has_path (filter test all) p) (test p) (kept_is test all p) (kept_in test all p (into p (is_here ps p))),
   each_kept test all ps (λ path h. into path (ap (λ b. same_path p path || b) h ∙ or_true (same_path p path))),
 )
   where
@@ -119,19 +115,15 @@ implied_named true true c m d e = refl
 implied_named true false c m d e = cc
 implied_named false s c m d e = cc
 
-projects_named : (below spec : Bool) → (below && spec) ≡ true → spec ≡ true
-projects_named true spec e = e
-projects_named false spec e = cc
-
 one_named : (dir : Atoms) (paths : List Atoms) (path : Atoms) → are_projects dir paths ≡ true → has_path paths path ≡ true
     → is_specification path ≡ true
 one_named dir [] path h k = absurd (false≢true k)
 one_named dir (p ∷ ps) path h k = elim (cases_Bool (same_path p path)) [
   | inl same ↦
       ap is_specification (sym ((same_path_decides p path).0 same))
-      ∙ projects_named (is_below dir p) (is_specification p) (first (is_below dir p && is_specification p) (are_projects dir ps) h)
+      ∙ (and_parts (is_below p dir) (is_specification p) (first (is_below p dir && is_specification p) (are_projects dir ps) h)).1
   | inr differ ↦
-      one_named dir ps path (rest (is_below dir p && is_specification p) (are_projects dir ps) h)
+      one_named dir ps path (rest (is_below p dir && is_specification p) (are_projects dir ps) h)
       (sym (ap (λ b. b || has_path ps path) differ) ∙ k)
 ]
   where
@@ -236,7 +228,7 @@ read_own files implied path (Read (trees.Module e)) h =
 implied_are : (files : Files) (dirs : List Atoms) (dir : Atoms) → AreSpecifications files (implied_files files dirs dir)
 implied_are files dirs dir =
     specifications_kept files (is_implied dirs dir) (λ path h.
-    implied_named (is_below dir path) (is_specification path) (not (is_config path)) (not (is_module_file path))
+    implied_named (is_below path dir) (is_specification path) (not (is_config path)) (not (is_module_file path))
     (not (is_deeper dirs dir path)) h)
 
 file_own : (files : Files) (dirs : List Atoms) (path : Atoms) (m : ModuleFile) → IsModuleFile files dirs path m → IsOwn files m

@@ -1,6 +1,7 @@
 -- Source files come to one answer at most.
 use Rattle.std.proofs.Common.{◌≡◌, ℕ, List, [], ◌∷◌, map, Option, Some, None, ap, sym, subst, ◌∙◌, refl}
 use Rattle.std.specs.List.{AllZip}
+use Rattle.std.proofs.lemmas.Option.{same_Some}
 use Rattle.bx_tree.specs.Paths.{Atoms}
 use Rattle.bx_tree.specs.Trees.{Files, file_at}
 use Rattle.dscript_ast.specs.FileTree as trees
@@ -12,13 +13,10 @@ use Rattle.dscript_names_workspace.specs.Membership.{config_path, dir_of, implie
 use Rattle.dscript_names_workspace.specs.Workspaces.{Answer, ModuleFile, answer_of}
 use Rattle.dscript_names_workspace.specs.Finding.{ComesTo, Finds, IsModuleFile, LeadsTo, Lists, Starts, module_file}
 
-same_some : {X : Type 0} (x y : X) → Some x ≡ Some y → x ≡ y
-same_some x y e = cc
-
 one_module_file : (files : Files) (dirs : List Atoms) (path : Atoms) (m n : ModuleFile)
     → IsModuleFile files dirs path m → IsModuleFile files dirs path n → m ≡ n
 one_module_file files dirs path m n h k =
-    let text : h.0 ≡ k.0 = same_some h.0 k.0 (sym h.1 ∙ k.1) in
+    let text : h.0 ≡ k.0 = same_Some h.0 k.0 (sym h.1 ∙ k.1) in
     let reading : h.2.0 ≡ k.2.0 = one_reading forms.Module k.0 h.2.0 k.2.0
     (subst (λ (t : List ℕ). ReadsAs forms.Module t h.2.0) text h.2.1) k.2.1 in
     h.2.2 ∙ ap (module_file files (implied_files files dirs (dir_of path)) path) reading ∙ sym k.2.2

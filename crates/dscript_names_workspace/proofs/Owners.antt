@@ -4,7 +4,7 @@ use Rattle.std.proofs.Common.{◌≡◌, ◌<◌, ◌+◌, ℕ, suc, Bool, true,
 use Rattle.std.specs.Prelude.{◌&&◌, ◌||◌, filter}
 use Rattle.std.specs.Bool.{MatchBool}
 use Rattle.std.specs.List.{list_any}
-use Rattle.std.proofs.lemmas.Bool.{cases_Bool, false≢true}
+use Rattle.std.proofs.lemmas.Bool.{cases_Bool, false≢true, and_left, and_from}
 use Rattle.std.proofs.Math.Seq.{take-suc}
 use Rattle.std.proofs.lemmas.List.{map-append}
 use Rattle.std.proofs.lemmas.List.Elements.{filter-append}
@@ -13,8 +13,9 @@ use Rattle.bx_tree.specs.Orders.{same_path_decides}
 use Rattle.bx_tree.specs.Trees.{paths_of}
 use Rattle.bx_tree.specs.Views.{files_of}
 use Rattle.bx_tree.specs.declared.tree_file.TreeFile.{TreeFile}
-use Rattle.dscript_names_workspace.specs.Paths.{is_below, is_module_file, is_specification}
-use Rattle.dscript_names_workspace.proofs.FilePaths.{below_decides}
+use Rattle.dscript_names_workspace.specs.Paths.{is_module_file, is_specification}
+use Rattle.bx_tree.specs.Below.{is_below}
+use Rattle.bx_tree.proofs.BelowPaths.{below_decides}
 use Rattle.dscript_names_workspace.specs.Membership.{is_between, is_config, is_deeper, is_implied}
 use Rattle.dscript_names_workspace.specs.PathSets.{IsDeepest, IsOwner, is_owner, may_belong}
 use Rattle.dscript_names_workspace.proofs.Deepest.{comparable}
@@ -57,51 +58,42 @@ and_not true true e = refl
 and_not false d e = refl
 and_not true false e = cc
 
-and_none : (b d : Bool) → b ≡ false → (b && d) ≡ false
-and_none false d e = refl
-and_none true d e = cc
-
-both : (a b : Bool) → a ≡ true → b ≡ true → (a && b) ≡ true
-both true true e f = refl
-both true false e f = cc
-both false b e f = cc
-
 other_dir : (dirs : List Atoms) (path own dir : Atoms) → has_path dirs own ≡ true → has_path dirs dir ≡ true
-    → is_below own path ≡ true → is_below dir path ≡ true → same_path own dir ≡ false
-    → (is_below own dir && is_below dir path) ≡ false → is_deeper dirs dir path ≡ true
+    → is_below path own ≡ true → is_below path dir ≡ true → same_path own dir ≡ false
+    → (is_below dir own && is_below path dir) ≡ false → is_deeper dirs dir path ≡ true
 other_dir dirs path own dir m n b c differ last =
-    let above = (below_decides own path).0 b in
-    let above' = (below_decides dir path).0 c in
+    let above = (below_decides path own).0 b in
+    let above' = (below_decides path dir).0 c in
     elim (comparable path own dir above.0 above'.0 above.2 above'.2) [
       | inl same ↦ absurd (false≢true (sym differ ∙ (same_path_decides own dir).1 same))
       | inr apart ↦ elim apart [
         | inl deeper ↦
             some_of dirs (is_between dir path) own m
-            (both (is_below dir own) (is_below own path) ((below_decides dir own).1 deeper) b)
+            (and_from (is_below own dir) (is_below path own) ((below_decides own dir).1 deeper) b)
         | inr higher ↦
-            absurd (false≢true (sym last ∙ both (is_below own dir) (is_below dir path) ((below_decides own dir).1 higher) c))
+            absurd (false≢true (sym last ∙ and_from (is_below dir own) (is_below path dir) ((below_decides dir own).1 higher) c))
       ]
     ]
 
 at_owner : (dirs : List Atoms) (path own dir : Atoms) → has_path dirs own ≡ true → has_path dirs dir ≡ true
-    → is_below own path ≡ true → ((q : Atoms) → has_path dirs q ≡ true → (is_below own q && is_below q path) ≡ false)
-    → (is_below dir path && not (is_deeper dirs dir path)) ≡ same_path own dir
+    → is_below path own ≡ true → ((q : Atoms) → has_path dirs q ≡ true → (is_below q own && is_below path q) ≡ false)
+    → (is_below path dir && not (is_deeper dirs dir path)) ≡ same_path own dir
 at_owner dirs path own dir m n b last = elim (cases_Bool (same_path own dir)) [
   | inl same ↦
       let is = (same_path_decides own dir).0 same in
-      below_and (is_below dir path) (is_deeper dirs dir path) (ap (λ d. is_below d path) (sym is) ∙ b)
+      below_and (is_below path dir) (is_deeper dirs dir path) (ap (λ d. is_below path d) (sym is) ∙ b)
       (ap (λ d. is_deeper dirs d path) (sym is) ∙ none_of dirs (is_between own path) last) ∙ sym same
-  | inr differ ↦ elim (cases_Bool (is_below dir path)) [
+  | inr differ ↦ elim (cases_Bool (is_below path dir)) [
     | inl c ↦
-        and_not (is_below dir path) (is_deeper dirs dir path) (other_dir dirs path own dir m n b c differ (last dir n))
+        and_not (is_below path dir) (is_deeper dirs dir path) (other_dir dirs path own dir m n b c differ (last dir n))
         ∙ sym differ
-    | inr c ↦ and_none (is_below dir path) (not (is_deeper dirs dir path)) c ∙ sym differ
+    | inr c ↦ and_left (is_below path dir) (not (is_deeper dirs dir path)) c ∙ sym differ
   ]
 ]
 
 at_deepest : (dirs : List Atoms) (path : Atoms) (owner : Option Atoms) (dir : Atoms) → IsDeepest (has_path dirs) path owner
-    → has_path dirs dir ≡ true → (is_below dir path && not (is_deeper dirs dir path)) ≡ is_owner owner dir
-at_deepest dirs path None dir h n = and_none (is_below dir path) (not (is_deeper dirs dir path)) (h dir n)
+    → has_path dirs dir ≡ true → (is_below path dir && not (is_deeper dirs dir path)) ≡ is_owner owner dir
+at_deepest dirs path None dir h n = and_left (is_below path dir) (not (is_deeper dirs dir path)) (h dir n)
 at_deepest dirs path (Some own) dir h n = at_owner dirs path own dir h.0 n h.1 h.2
 
 -- ## The files of a module
@@ -116,14 +108,14 @@ reordered false false c d e = refl
 
 implied_by_owner : (b : Bool) (dirs : List Atoms) (path : Atoms) (owner : Option Atoms) (dir : Atoms)
     → MatchBool b (IsDeepest (has_path dirs) path owner) (owner ≡ None) → has_path dirs dir ≡ true
-    → (b && (is_below dir path && not (is_deeper dirs dir path))) ≡ is_owner owner dir
+    → (b && (is_below path dir && not (is_deeper dirs dir path))) ≡ is_owner owner dir
 implied_by_owner true dirs path owner dir h n = at_deepest dirs path owner dir h n
 implied_by_owner false dirs path owner dir h n = ap (λ o. is_owner o dir) (sym h)
 
 pub is_implied_at : (dirs : List Atoms) (path : Atoms) (owner : Option Atoms) (dir : Atoms) → IsOwner (has_path dirs) path owner
     → has_path dirs dir ≡ true → is_implied dirs dir path ≡ is_owner owner dir
 is_implied_at dirs path owner dir h n =
-    reordered (is_below dir path) (is_specification path) (not (is_config path)) (not (is_module_file path))
+    reordered (is_below path dir) (is_specification path) (not (is_config path)) (not (is_module_file path))
     (not (is_deeper dirs dir path))
     ∙ implied_by_owner (may_belong path) dirs path owner dir h n
 

@@ -1,31 +1,16 @@
 -- The test of patterns decides what a pattern is.
-use Rattle.std.proofs.Common.{◌≡◌, ℕ, Bool, true, false, List, [], ◌∷◌, Option, Some, None, length, refl, ap, sym, ◌∙◌, inl, inr, arith}
-use Rattle.std.specs.Prelude.{◌&&◌, IsTrue, cond, nat_le, option_and_then}
-use Rattle.std.specs.List.{AllByRecursion, list_all}
-use Rattle.std.proofs.lemmas.Bool.{cases_Bool, false≢true}
+use Rattle.std.proofs.Common.{◌≡◌, ℕ, Bool, true, List, Option, Some, None, length, ap, sym, ◌∙◌, inl, inr, arith}
+use Rattle.std.specs.Prelude.{◌&&◌, cond, nat_le, option_and_then}
+use Rattle.std.specs.List.{list_all}
+use Rattle.std.proofs.lemmas.Bool.{cases_Bool, and_parts}
 use Rattle.std.proofs.lemmas.Bool.Decides.{nat_tests}
 use Rattle.bx_tree.specs.Paths.{Atoms}
 use Rattle.bx_tree.specs.Trees.{Files}
+use Rattle.bx_tree.proofs.Lists.{true_all, all_true}
 use Rattle.bx_path.specs.Joining.{join_of}
 use Rattle.bx_path.specs.Globbing.{IsPattern, glob_of, is_pattern, is_pattern_byte}
 use Rattle.bx_path.specs.declared.globbing.TheConstants.{MAX_PATTERN_BYTES}
 use Rattle.dscript_names_workspace.specs.Lists.{GlobData, glob_in}
-
-all_true : (p : ℕ → Bool) (bs : List ℕ) → AllByRecursion (λ b. IsTrue (p b)) bs → list_all p bs ≡ true
-all_true p [] h = refl
-all_true p (b ∷ bs) h = ap (λ t. t && list_all p bs) h.0 ∙ all_true p bs h.1
-
-and_left : (a b : Bool) → (a && b) ≡ true → a ≡ true
-and_left true b e = refl
-and_left false b e = e
-
-and_right : (a b : Bool) → (a && b) ≡ true → b ≡ true
-and_right true b e = e
-and_right false b e = absurd (false≢true e)
-
-true_all : (p : ℕ → Bool) (bs : List ℕ) → list_all p bs ≡ true → AllByRecursion (λ b. IsTrue (p b)) bs
-true_all p [] h = tt
-true_all p (b ∷ bs) h = (and_left (p b) (list_all p bs) h, true_all p bs (and_right (p b) (list_all p bs) h))
 
 passes : (a b c : Bool) → a ≡ true → b ≡ true → c ≡ true → (a && b && c) ≡ true
 passes a b c x y z = cc
@@ -34,7 +19,7 @@ pub pattern_passes : (text : List ℕ) → IsPattern text → is_pattern text �
 pattern_passes text h =
     let some : nat_le 1 (length text) ≡ true = let l = h.some in grind (arith, nat_tests) in
     let short : nat_le (length text) MAX_PATTERN_BYTES ≡ true = let l = h.short in grind (arith, nat_tests) in
-    let bytes = all_true is_pattern_byte text h.bytes in
+    let bytes = true_all is_pattern_byte text h.bytes in
     ap (λ t. t && nat_le (length text) MAX_PATTERN_BYTES && list_all is_pattern_byte text) some
     ∙ ap (λ t. t && list_all is_pattern_byte text) short ∙ bytes
 
@@ -43,13 +28,13 @@ pattern_is text e =
     let low = nat_le 1 (length text) in
     let high = nat_le (length text) MAX_PATTERN_BYTES in
     let bytes = list_all is_pattern_byte text in
-    let both = and_left (low && high) bytes e in
-    let some : low ≡ true = and_left low high both in
-    let short : high ≡ true = and_right low high both in
+    let both = (and_parts (low && high) bytes e).0 in
+    let some : low ≡ true = (and_parts low high both).0 in
+    let short : high ≡ true = (and_parts low high both).1 in
     record {
       some = grind (arith, nat_tests, some);
       short = grind (arith, nat_tests, short);
-      bytes = true_all is_pattern_byte text (and_right (low && high) bytes e);
+      bytes = all_true is_pattern_byte text (and_parts (low && high) bytes e).1;
     }
 
 abbrev if_pattern : Bool → List Atoms → Option (List Atoms)

@@ -46,7 +46,7 @@ keep_if : {X : Type 0} (P : X → Type 0) (b : Bool) (x : X) (xs : List X) → P
 keep_if P true x xs h k = (h, k)
 keep_if P false x xs h k = k
 
-kept : {X : Type 0} (P : X → Type 0) (test : X → Bool) (xs : List X) → AllByRecursion P xs
+pub kept : {X : Type 0} (P : X → Type 0) (test : X → Bool) (xs : List X) → AllByRecursion P xs
     → AllByRecursion P (filter test xs)
 kept P test [] h = tt
 kept P test (x ∷ xs) h = keep_if P (test x) x (filter test xs) h.0 (kept P test xs h.1)

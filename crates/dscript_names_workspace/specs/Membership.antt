@@ -5,7 +5,8 @@ use Rattle.std.specs.Str.{bytes_eq}
 use Rattle.bx_tree.specs.Paths.{Atoms, path_text}
 use Rattle.bx_tree.specs.Trees.{Files, paths_of}
 use Rattle.bx_path.specs.Joining.{parent}
-use Rattle.dscript_names_workspace.specs.Paths.{is_below, is_module_file, is_specification}
+use Rattle.dscript_names_workspace.specs.Paths.{is_module_file, is_specification}
+use Rattle.bx_tree.specs.Below.{is_below}
 
 -- the path of the configuration of a workspace, which is at the root of its tree
 abbrev pub config_path : Atoms
@@ -21,7 +22,7 @@ dir_of path = unwrap_or (parent path) []
 
 -- the directory of another listed module file is below this one and above the path
 abbrev pub is_between : Atoms → Atoms → Atoms → Bool
-is_between dir path other = is_below dir other && is_below other path
+is_between dir path other = is_below other dir && is_below path other
 
 -- the file is below a listed directory that is itself below this one
 abbrev pub is_deeper : List Atoms → Atoms → Atoms → Bool
@@ -31,7 +32,7 @@ is_deeper dirs dir path = list_any (is_between dir path) dirs
 -- and ends in `.dsc`, and is neither a configuration nor below the directory of a deeper listed module.
 abbrev pub is_implied : List Atoms → Atoms → Atoms → Bool
 is_implied dirs dir path =
-    is_below dir path && is_specification path && not (is_config path) && not (is_module_file path)
+    is_below path dir && is_specification path && not (is_config path) && not (is_module_file path)
     && not (is_deeper dirs dir path)
 
 -- the files that belong to a module in this directory which lists no files itself, in the order of the tree

@@ -8,7 +8,8 @@ use Rattle.bx_tree.specs.Paths.{Atoms}
 use Rattle.bx_tree.specs.Trees.{Files}
 use Rattle.dscript_ast.specs.ExprTree as tree
 use Rattle.dscript_ast.specs.ExprTree.{ExprTree, PartTree, PropTree, parts_of}
-use Rattle.dscript_names_workspace.specs.Paths.{in_tree, is_below, is_empty, is_specification}
+use Rattle.dscript_names_workspace.specs.Paths.{in_tree, is_empty, is_specification}
+use Rattle.bx_tree.specs.Below.{is_below}
 use Rattle.dscript_names_workspace.specs.Lists.{files_listed, only_of}
 use Rattle.dscript_names_workspace.specs.Objects.{object_with, field_named}
 use Rattle.dscript_ast.specs.Literals.{name_of, string_of}
@@ -24,7 +25,7 @@ name_in e = option_and_then (λ text. if is_empty text then None else Some text)
 
 -- all of the paths are below the directory and end in `.dsc`
 abbrev pub are_projects : Atoms → List Atoms → Bool
-are_projects dir paths = list_all (λ path. is_below dir path && is_specification path) paths
+are_projects dir paths = list_all (λ path. is_below path dir && is_specification path) paths
 
 -- the files of a list, in the order of the tree and each once, if all of them are allowed
 abbrev pub projects_in : Files → Atoms → ExprTree → Option (List Atoms)

@@ -11,7 +11,8 @@ use Rattle.std.specs.Cmp.Lexicographic.{slice_cmp}
 use Rattle.std.specs.Ordering.{nat_cmp}
 use Rattle.std.specs.Option.{option_map_or}
 use Rattle.bx_tree.specs.Paths.{Atoms, path_cmp, same_path}
-use Rattle.dscript_names_workspace.specs.Paths.{is_below, is_module_file, is_specification}
+use Rattle.dscript_names_workspace.specs.Paths.{is_module_file, is_specification}
+use Rattle.bx_tree.specs.Below.{is_below}
 use Rattle.dscript_names_workspace.specs.Membership.{is_config}
 
 -- the set has the path
@@ -28,10 +29,10 @@ files_in files dir = option_map_or (λ own. own.items) (get path_cmp files dir) 
 
 -- the deepest directory that the test holds of and that the path lies below, if there is one
 abbrev pub IsDeepest : (Atoms → Bool) → Atoms → Option Atoms → Type 0
-IsDeepest test path None = (dir : Atoms) → test dir ≡ true → is_below dir path ≡ false
+IsDeepest test path None = (dir : Atoms) → test dir ≡ true → is_below path dir ≡ false
 IsDeepest test path (Some deepest) =
-    (test deepest ≡ true) × (is_below deepest path ≡ true)
-    × ((dir : Atoms) → test dir ≡ true → (is_below deepest dir && is_below dir path) ≡ false)
+    (test deepest ≡ true) × (is_below path deepest ≡ true)
+    × ((dir : Atoms) → test dir ≡ true → (is_below dir deepest && is_below path dir) ≡ false)
 
 -- the file may belong to a module without being listed
 abbrev pub may_belong : Atoms → Bool

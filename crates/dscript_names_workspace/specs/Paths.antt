@@ -1,12 +1,10 @@
 -- What configurations ask of paths.
-use Rattle.std.specs.Prelude.{◌≡◌, ℕ, ◌<◌, Bool, true, false, not, ◌||◌, nat_eq}
+use Rattle.std.specs.Prelude.{◌≡◌, ℕ, ◌<◌, Bool, true, false, ◌||◌, nat_eq}
 use Rattle.std.specs.Prelude.{List, [], ◌∷◌, map, filter, length, codes, slice_index_or}
-use Rattle.std.specs.List.{AllByRecursion, ends_with, list_any}
-use Rattle.std.specs.Option.{option_map_or}
+use Rattle.std.specs.List.{AllByRecursion, ends_with}
 use Rattle.std.specs.Str.{bytes_eq}
-use Rattle.bx_tree.specs.Paths.{Atoms, has_path, path_text, same_path}
+use Rattle.bx_tree.specs.Paths.{Atoms, has_path, path_text}
 use Rattle.bx_tree.specs.Trees.{Files, paths_of}
-use Rattle.bx_path.specs.Globbing.{strip_dir}
 
 -- the path is that of a source file
 abbrev pub is_source : Files → Atoms → Bool
@@ -20,10 +18,6 @@ in_tree files paths = filter (has_path paths) (paths_of files)
 abbrev pub is_empty : {X : Type 0} → List X → Bool
 is_empty [] = true
 is_empty (x ∷ xs) = false
-
--- the path lies strictly below the directory
-abbrev pub is_below : Atoms → Atoms → Bool
-is_below dir path = option_map_or (λ rest. not (is_empty rest)) (strip_dir dir path) false
 
 -- the file is named `module.config.dsc`, whatever its directory
 abbrev pub is_module_file : Atoms → Bool

@@ -1,7 +1,6 @@
 //! Which files belong to a module.
 
 ghost use Rattle.std.specs.Prelude.{◌≡◌, ◌++◌, ◌∷◌, [], true, IfOk, OnOk, if◌then◌else◌};
-ghost use Rattle.bx_path.specs.Joining.{parent as parent_of};
 ghost use Rattle.bx_tree.specs.Paths.{Atoms, has_path, same_path};
 ghost use Rattle.dscript_names_workspace.specs.Membership.{dir_of as directory_of, implied_files as files_implied};
 ghost use Rattle.dscript_names_workspace.specs.Membership.{is_config as names_config};
@@ -9,23 +8,11 @@ ghost use Rattle.dscript_names_workspace.specs.PathSets.{AddsToOwner, IsDeepest,
 ghost use Rattle.dscript_names_workspace.specs.PathSets.{may_belong as is_open};
 
 use crate::path_set::set_of;
-use crate::paths::{is_below, is_module_file, is_specification};
-use bx_path::join;
-use bx_tree::{Path, PathFault, Tree};
+use crate::paths::{is_module_file, is_specification};
+use bx_path::parent;
+use bx_tree::{Path, Tree};
 use std::alloc::{AllocError, Global};
 use std::collections::{BTreeMap, BTreeSet};
-
-/// The directory of a path; the root has none.
-fn parent(alloc: Global, path: &Path) -> Result<Option<Path>, AllocError>
-    ensures { IfOk result (λ dir. dir ≡ parent_of path.now) }
-{
-    let _ = path.text();
-    match join(alloc, path, b"..") {
-        Ok(dir) => Ok(Some(dir)),
-        Err(PathFault::BadPath) => Ok(None),
-        Err(PathFault::Memory) => Err(AllocError),
-    }
-}
 
 /// The directory of a file.
 pub(crate) fn dir_of(alloc: Global, path: &Path) -> Result<Path, AllocError>

@@ -16,7 +16,7 @@ use crate::gathering::in_order;
 use crate::listed_files::files_listed;
 use crate::literal::{only_part, string};
 use crate::object::{field_named, object_with};
-use crate::paths::{is_below, is_specification, path_at};
+use crate::paths::{is_specification, path_at};
 use bx_tree::{Path, Text, Tree};
 use dscript_ast::{Expr, PostfixPart, Prop};
 use std::alloc::{AllocError, Global};
@@ -50,7 +50,7 @@ fn are_projects(tree: &Tree, dir: &Path, positions: &[usize]) -> bool
 {
     'positions: for position in positions {
         let path = path_at(tree, *position);
-        if !(is_below(dir, path) && is_specification(path)) {
+        if !(path.is_below(dir) && is_specification(path)) {
             return false;
         }
     }

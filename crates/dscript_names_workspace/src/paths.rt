@@ -1,15 +1,11 @@
 //! What configurations ask of paths, and files by their position in a tree.
 
 ghost use Rattle.std.specs.Prelude.{◌≡◌, ◌<◌, [], false, length, slice_index_or, MatchOption};
-ghost use Rattle.std.specs.Cmp.Lexicographic.{slice_cmp};
-ghost use Rattle.std.specs.Ordering.{nat_cmp};
-ghost use Rattle.bx_tree.specs.Paths.{path_text};
 ghost use Rattle.bx_tree.specs.Trees.{paths_of};
-ghost use Rattle.dscript_names_workspace.specs.Paths.{IsAt, is_below as lies_below, is_source};
+ghost use Rattle.dscript_names_workspace.specs.Paths.{IsAt, is_source};
 ghost use Rattle.dscript_names_workspace.specs.Paths.{is_module_file as names_module, is_specification as names_dsc};
 
-use bx_tree::{Path, Tree};
-use std::cmp::Ordering;
+use bx_tree::{Path, Tree, text_order};
 
 /// Whether a file is named `module.config.dsc`.
 pub fn is_module_file(path: &Path) -> bool
@@ -26,25 +22,12 @@ pub fn is_specification(path: &Path) -> bool
     path.text().as_bytes().ends_with(b".dsc".as_slice())
 }
 
-/// Whether a path lies strictly below a directory.
-pub fn is_below(dir: &Path, path: &Path) -> bool
-    ensures { result ≡ lies_below dir.now path.now }
-{
-    path.is_below(dir)
-}
-
 /// The path of the file at this position.
 pub fn path_at(tree: &Tree, position: usize) -> &Path
     requires { position < length tree.now }
     ensures { result.now ≡ slice_index_or (paths_of tree.entry.now) position [] }
 {
     &tree.files()[position].path
-}
-
-fn text_order(path: &Path, text: &[u8]) -> Ordering
-    ensures { result ≡ slice_cmp nat_cmp (path_text path.now) text.now }
-{
-    path.text().as_bytes().cmp(text)
 }
 
 /// The position of the file with this path.

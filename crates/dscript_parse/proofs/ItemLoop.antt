@@ -2,6 +2,7 @@
 use Rattle.std.proofs.Common.{◌≡◌, ℕ, suc, ◌-◌, ◌≤◌, ◌++◌, max, true, false, ◌==◌, List, [], ◌∷◌, length, map, Option, Some, None, refl, ap, sym, ◌∙◌, subst, arith}
 use Rattle.std.proofs.lemmas.Bool.{false≢true}
 use Rattle.std.proofs.lemmas.Bool.Decides.{nat_tests}
+use Rattle.std.proofs.lemmas.List.{map_push}
 use Rattle.dscript_lex.specs.declared.token.Token.{Token}
 use Rattle.dscript_lex.specs.declared.token.TokenKind.{TokenKind}
 use Rattle.dscript_ast.specs.FileTree.{Project}
@@ -16,7 +17,6 @@ use Rattle.dscript_grammar.proofs.Places.{project_of_items, refused_after_items}
 use Rattle.dscript_parse_tokens.specs.Gives.{kinds, Fails}
 use Rattle.dscript_parse_tokens.specs.declared.parsed.Refusal.{Refusal}
 use Rattle.dscript_parse_tokens.specs.declared.parsed.Refusal.TheVariants as refusals
-use Rattle.dscript_parse_tokens.proofs.Loops.{map_push}
 
 -- the items so far, and then those that are read from the rest, are the items that are read from the start
 pub record ItemsInvariant (items : List Item) (rest start : List TokenKind) : Type 0 where

@@ -1,5 +1,6 @@
 -- How the loop over the holes of a template begins, goes on and ends.
 use Rattle.std.proofs.Common.{◌≡◌, ℕ, zero, suc, ◌-◌, ◌<◌, max, List, [], ◌∷◌, ◌++◌, length, map, None, refl, ap, sym, ◌∙◌, subst, arith}
+use Rattle.std.proofs.lemmas.List.{map_push}
 use Rattle.dscript_lex.specs.declared.token.TokenKind.{TokenKind}
 use Rattle.dscript_grammar.specs.Reading.{got, and_then}
 use Rattle.dscript_ast.specs.ExprTree as tree
@@ -9,7 +10,7 @@ use Rattle.dscript_ast.specs.Views.{hole_tree}
 use Rattle.dscript_ast.specs.declared.expr.Hole.{Hole}
 use Rattle.dscript_parse_tokens.specs.LoopInvariants.{with_items}
 use Rattle.dscript_parse_exprs.specs.HolesInvariant.{HolesInvariant}
-use Rattle.dscript_parse_tokens.proofs.Loops.{map_push, length_push, items_none, items_one, items_fails, items_moves, then_some, then_none, choose_some, choose_none}
+use Rattle.dscript_parse_tokens.proofs.Loops.{length_push, items_none, items_one, items_fails, items_moves, then_some, then_none, choose_some, choose_none}
 
 module _ (depth : ℕ) where
   pub holes_init : {items : List Hole} {start : List TokenKind} → items ≡ [] → HolesInvariant depth items 0 start start

@@ -7,10 +7,11 @@ use Rattle.dscript_ast.specs.Views.{expr_tree}
 use Rattle.dscript_ast.specs.declared.expr.Expr.{Expr}
 use Rattle.dscript_grammar.specs.Reading.{got, read_many}
 use Rattle.dscript_grammar.specs.ExprReading.{as_chain, chain_level, operator_precedence, read_chain, read_unary}
+use Rattle.dscript_grammar.proofs.ExprComplete.{pick_false}
 use Rattle.dscript_parse_exprs.specs.Levels.{at_depth, read_level}
 use Rattle.dscript_parse_tokens.specs.Gives.{kinds, IsRead}
 use Rattle.dscript_parse_tokens.specs.declared.parsed.Parsed.{Parsed}
-use Rattle.dscript_parse_tokens.proofs.Loops.{pick_false, then_some, then_none}
+use Rattle.dscript_parse_tokens.proofs.Loops.{then_some, then_none}
 
 pub is_level : (c : ℕ) {a b : ℕ} → a ≡ b → a ≡ c → nat_eq b c ≡ true
 is_level c {b = b} e t = eq-eqb b c (sym e ∙ t)

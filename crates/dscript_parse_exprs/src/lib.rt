@@ -1,7 +1,8 @@
 //! The parser of expressions and statements.
 //!
-//! Expressions and statements contain each other, and so one cycle of functions reads them; the levels of nesting
-//! that are left bound its depth.
+//! Expressions and statements contain each other, and so one cycle of functions parses them; the levels of nesting
+//! that are left bound its depth. This crate depends on `dscript_parse_tokens`, and carries the same promise: each
+//! function gives what the reader of the grammar with its name gives.
 #![tactic(auto)]
 
 mod exprs;

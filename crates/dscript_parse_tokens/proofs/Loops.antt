@@ -1,17 +1,15 @@
 -- How the loops of the parser begin, go on and end.
 use Prim.Native.String.{String as Letters}
 use Rattle.std.proofs.Common.{◌≡◌, ℕ, zero, suc, ◌+◌, ◌-◌, ◌<◌, ◌≤◌, max, Bool, true, false, List, [], ◌∷◌, ◌++◌, length, map, Option, Some, None, refl, ap, sym, ◌∙◌, subst, arith, append_assoc}
+use Rattle.std.proofs.lemmas.List.{map_push}
 use Rattle.dscript_lex.specs.declared.token.TokenKind.{TokenKind}
 use Rattle.dscript_grammar.specs.Reading.{Read, Reader, got, and_then, choose, pick, at_punctuator, take_punctuator, read_many, read_separated, read_list}
+use Rattle.dscript_grammar.proofs.ExprComplete.{pick_false}
 use Rattle.dscript_parse_tokens.specs.LoopInvariants.{with_items, ManyInvariant, SeparatedInvariant, ListInvariant}
 
 pub append_nothing : {X : Type 0} (xs : List X) → xs ++ [] ≡ xs
 append_nothing [] = refl
 append_nothing (x ∷ xs) = ap (λ ys. x ∷ ys) (append_nothing xs)
-
-pub map_push : {S X : Type 0} (view : S → X) (xs : List S) (x : S) → map view (xs ++ x ∷ []) ≡ map view xs ++ view x ∷ []
-map_push view [] x = refl
-map_push view (y ∷ ys) x = ap (λ zs. view y ∷ zs) (map_push view ys x)
 
 pub length_push : {S : Type 0} (xs : List S) (x : S) → length (xs ++ x ∷ []) ≡ suc (length xs)
 length_push [] x = refl
@@ -53,10 +51,6 @@ items_moves xs x h k (Some r) =
 pub pick_true : {A : Type 0} {b : Bool} (x y : A) → b ≡ true → pick b x y ≡ x
 unfolding pick
 pick_true x y e = ap (λ c. pick c x y) e
-
-pub pick_false : {A : Type 0} {b : Bool} (x y : A) → b ≡ false → pick b x y ≡ y
-unfolding pick
-pick_false x y e = ap (λ c. pick c x y) e
 
 pub then_some : {A B : Type 0} {m : Option A} {x : A} (f : A → Option B) → m ≡ Some x → and_then m f ≡ f x
 unfolding and_then

@@ -1,20 +1,17 @@
 -- Lists of what is its own tree.
-use Rattle.std.proofs.Common.{◌≡◌, ℕ, ◌≤◌, List, [], ◌∷◌, map, Option, Result, Ok, Err, refl, ap, ◌∙◌, arith}
+use Rattle.std.proofs.Common.{ℕ, ◌≤◌, List, map, Option, Result, Ok, Err, ap, ◌∙◌, arith}
 use Rattle.std.specs.declared.alloc.Global.{Global}
 use Rattle.std.specs.declared.vec.Vec.{Vec}
+use Rattle.std.proofs.lemmas.List.{map-id}
 use Rattle.dscript_grammar.specs.Reading.{Read, got}
 use Rattle.dscript_parse_tokens.specs.Gives.{kinds, Gives}
 use Rattle.dscript_parse_tokens.specs.declared.parsed.Parsed.{Parsed}
 use Rattle.dscript_parse_tokens.specs.declared.parsed.Refusal.{Refusal}
 
-map_same : {A : Type 0} (xs : List A) → map (λ x. x) xs ≡ xs
-map_same [] = refl
-map_same (x ∷ xs) = ap (λ ys. x ∷ ys) (map_same xs)
-
 pub as_they_are : {X : Type 0} (read : Option (Read (List X))) (limit bound : ℕ) (result : Result (Parsed (Vec X Global)) Refusal)
     → Gives (λ v. map (λ x. x) v.items) read limit bound result → Gives (λ v. v.items) read limit bound result
 as_they_are read limit bound (Ok p) g = record {
-  is = g.is ∙ ap (λ xs. got xs p.height (kinds p.rest.now)) (map_same p.value.items);
+  is = g.is ∙ ap (λ xs. got xs p.height (kinds p.rest.now)) (map-id p.value.items);
   within = g.within;
   shorter = g.shorter;
 }

@@ -1,15 +1,17 @@
 -- How the loops over unions and `[]` begin, go on and end.
 use Rattle.std.proofs.Common.{◌≡◌, ℕ, zero, suc, ◌+◌, ◌-◌, ◌<◌, max, true, false, List, [], ◌∷◌, ◌++◌, length, map, Option, Some, None, refl, ap, sym, ◌∙◌, subst, arith}
 use Rattle.std.proofs.lemmas.Option.{same_Some, none-some}
+use Rattle.std.proofs.lemmas.List.{map_push}
 use Rattle.dscript_lex.specs.declared.token.TokenKind.{TokenKind}
 use Rattle.dscript_grammar.specs.Reading.{Read, Reader, got, and_then, choose, take_punctuator}
 use Rattle.dscript_ast.specs.TypeTree.{TypeTree}
 use Rattle.dscript_grammar.specs.TypeReading.{at_function, read_function, read_array, read_union, read_brackets}
+use Rattle.dscript_grammar.proofs.ExprComplete.{pick_false}
 use Rattle.dscript_ast.specs.Views.{type_tree}
 use Rattle.dscript_ast.specs.declared.type_node.TypeNode.{TypeNode}
 use Rattle.dscript_parse_tokens.specs.LoopInvariants.{with_items}
 use Rattle.dscript_parse_tokens.specs.UnionInvariants.{UnionInvariant, BracketsInvariant}
-use Rattle.dscript_parse_tokens.proofs.Loops.{map_push, length_push, items_none, items_one, items_fails, items_moves, pick_true, pick_false, then_some, then_none, choose_some, choose_none}
+use Rattle.dscript_parse_tokens.proofs.Loops.{length_push, items_none, items_one, items_fails, items_moves, pick_true, then_some, then_none, choose_some, choose_none}
 
 module _ (type : Reader TypeTree) (depth : ℕ) where
   pub union_init : {items : List TypeNode} {start : List TokenKind} → items ≡ [] → UnionInvariant type depth items 0 start start

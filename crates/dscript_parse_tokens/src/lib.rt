@@ -1,8 +1,9 @@
 //! The lowest layers of the parser of DScript: single tokens, lists, and types.
 //!
-//! A function of the parser reads from the start of a list of tokens, with as many levels of nesting as are left. It
-//! gives what the reader of the grammar that has its name gives, and refuses exactly where that one does:
-//! `specs/Gives.antt` says it once for all of them.
+//! A function of the parser reads from the start of a list of tokens, with as many levels of nesting as are left.
+//! It gives what the reader of the grammar with its name gives, and fails exactly where that one does:
+//! `specs/Gives.antt` says it once for all of them. This crate depends on `dscript_grammar` for the readers, on
+//! `dscript_ast` for trees and on `dscript_lex` for tokens.
 #![tactic(auto)]
 
 mod depth;

@@ -1,5 +1,6 @@
 -- The tokens of expressions and statements, step by step, and of lists of their parts.
-use Rattle.std.proofs.Common.{◌≡◌, ℕ, Bool, true, false, List, [], ◌∷◌, ◌++◌, map, length, refl, ap, sym, ◌∙◌, append_assoc, arith, zero, suc, ◌≤◌, take}
+use Rattle.std.proofs.Common.{◌≡◌, ℕ, Bool, true, false, List, [], ◌∷◌, ◌++◌, map, length, refl, ap, sym, ◌∙◌, append_assoc, arith, ◌≤◌, take}
+use Rattle.std.proofs.lemmas.List.{take_all}
 use Rattle.dscript_lex.specs.declared.token.TokenKind.{TokenKind}
 use Rattle.dscript_lex.specs.declared.token.TokenKind.TheVariants as kinds
 use Rattle.dscript_ast.specs.ExprTree.{ExprTree, Cond, Chain, Unary, Postfix, Path, StmtTree, For, Return, Value, MaybeExpr, HoleTree, Hole, to_exprs, to_operands, to_parts, to_elements, to_props, to_holes, to_stmts}
@@ -127,19 +128,13 @@ unfolding holes_kinds
 no_holes_run [] text e = refl
 no_holes_run (x ∷ xs) text e = absurd (omega (arith, e))
 
-take_whole : {X : Type 0} (xs : List X) (i : ℕ) → length xs ≤ i → take i xs ≡ xs
-take_whole [] zero l = refl
-take_whole [] (suc i) l = refl
-take_whole (x ∷ xs) zero l = absurd (omega (arith, l))
-take_whole (x ∷ xs) (suc i) l = ap (λ ys. x ∷ ys) (take_whole xs i (omega (arith, l)))
-
 pub template_run : (xs all : List holes.Hole) (x : holes.Hole) (text : List ℕ) (i : ℕ) (o s n m : List TokenKind)
     → all ≡ xs ++ (x ∷ []) → length xs ≤ i → s ≡ o ++ (kinds.Head text ∷ []) → n ≡ s ++ concat_tokens (map middle_run (take i xs)) → m ≡ n ++ tail_run x
     → m ≡ o ++ (first_text (to_holes (map hole_tree all)) text ∷ holes_kinds (to_holes (map hole_tree all)))
 template_run xs all x text i o s n m whole l p q r =
     three_steps o s n m (kinds.Head text ∷ []) (concat_tokens (map middle_run xs)) (tail_run x) _
     (ap (λ ys. first_text (to_holes (map hole_tree ys)) text ∷ holes_kinds (to_holes (map hole_tree ys))) whole ∙ ap (λ h. h ∷ holes_kinds (to_holes (map hole_tree (xs ++ (x ∷ []))))) (some_holes xs x text) ∙ ap (λ zs. kinds.Head text ∷ zs) (holes_listed xs x))
-    p (q ∙ ap (λ ys. s ++ concat_tokens (map middle_run ys)) (take_whole xs i l)) r
+    p (q ∙ ap (λ ys. s ++ concat_tokens (map middle_run ys)) (take_all i xs l)) r
 
 -- a tree is put together of equal parts
 pub chain_from : (t : ExprTree) (level : ℕ) (f d : Expr) (v l : List operands.Operand) → t ≡ Chain level (expr_tree f) (to_operands (map operand_tree v)) → d ≡ f → l ≡ v → t ≡ Chain level (expr_tree d) (to_operands (map operand_tree l))

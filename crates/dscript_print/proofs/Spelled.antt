@@ -1,6 +1,6 @@
 -- Tokens that have spellings, and lists of tokens that close each bracket that they open.
 use Rattle.std.proofs.Common.{◌≡◌, ℕ, Bool, true, false, not, ◌&&◌, ◌||◌, ◌==◌, List, [], ◌∷◌, ◌++◌, Option, Some, None, codes, refl, ap, sym, ◌∙◌, subst, arith, if◌then◌else◌}
-use Rattle.std.proofs.lemmas.Bool.{false≢true}
+use Rattle.std.proofs.lemmas.Bool.{false≢true, and_parts}
 use Rattle.std.proofs.lemmas.Option.{none-some}
 use Rattle.std.proofs.lemmas.Bool.Decides.{nat_tests}
 use Rattle.dscript_lex.specs.declared.token.TokenKind.{TokenKind}
@@ -57,14 +57,6 @@ abbrev kind_of : Option LexemeKind → TokenKind
 kind_of (Some (Spelled t)) = t
 kind_of _ = kinds.Word []
 
-and_second : (a b : Bool) → a && b ≡ true → b ≡ true
-and_second true b e = e
-and_second false b e = absurd (false≢true e)
-
-and_first : (a b : Bool) → a && b ≡ true → a ≡ true
-and_first true b e = refl
-and_first false b e = e
-
 movable_if_plain : (t : TokenKind) → is_plain t ≡ true → is_movable t ≡ true
 movable_if_plain (kinds.Word _) e = refl
 movable_if_plain (kinds.Number _) e = refl
@@ -74,7 +66,7 @@ movable_if_plain (kinds.Head _) e = refl
 movable_if_plain (kinds.Middle _) e = e
 movable_if_plain (kinds.Tail _) e = e
 movable_if_plain (kinds.Punct []) e = refl
-movable_if_plain (kinds.Punct (b ∷ [])) e = and_second (not (b == 0x7b)) (not (b == 0x7d)) e
+movable_if_plain (kinds.Punct (b ∷ [])) e = (and_parts (not (b == 0x7b)) (not (b == 0x7d)) e).1
 movable_if_plain (kinds.Punct (b ∷ c ∷ bs)) e = refl
 
 -- the lexeme that a byte begins, by whether it begins the next part of a template
@@ -170,7 +162,7 @@ balanced_append xs ys p q bs more a =
 after_punctuator_plain : (s : List ℕ) (bs : List Bracket) → is_plain_punctuator s ≡ true → after_punctuator s bs ≡ bs
 after_punctuator_plain [] bs e = refl
 after_punctuator_plain (b ∷ c ∷ s) bs e = refl
-after_punctuator_plain (b ∷ []) bs e = by (b == 0x7b) (b == 0x7d) (and_first (not (b == 0x7b)) (not (b == 0x7d)) e) (and_second (not (b == 0x7b)) (not (b == 0x7d)) e)
+after_punctuator_plain (b ∷ []) bs e = by (b == 0x7b) (b == 0x7d) (and_parts (not (b == 0x7b)) (not (b == 0x7d)) e).0 (and_parts (not (b == 0x7b)) (not (b == 0x7d)) e).1
   where
     by : (x y : Bool) → not x ≡ true → not y ≡ true → (if x then Brace ∷ bs else (if y then closed bs else bs)) ≡ bs
     by false false p q = refl

@@ -1,6 +1,6 @@
 -- Loops that write parts, step by step.
 use Rattle.std.proofs.Common.{◌≡◌, ℕ, zero, suc, ◌+◌, ◌<◌, ◌≤◌, List, [], ◌∷◌, ◌++◌, map, length, take, get_or, Result, Ok, Err, IfOk, refl, ap, sym, ◌∙◌, subst, append_assoc, add-one, arith}
-use Rattle.std.proofs.lemmas.List.{take_more, map-append}
+use Rattle.std.proofs.lemmas.List.{take_more, map-append, take_all}
 use Rattle.dscript_print.proofs.Spelled.{append_nil}
 use Rattle.dscript_lex.specs.declared.token.TokenKind.{TokenKind}
 use Prim.Native.String.{String}
@@ -116,16 +116,10 @@ pub if_ok : {R E : Type 0} {P Q : R → Type 0} (r : Result R E) → ((x : R) �
 if_ok (Ok x) f p = f x p
 if_ok (Err e) f p = p
 
-take_whole : {X : Type 0} (xs : List X) (i : ℕ) → length xs ≤ i → take i xs ≡ xs
-take_whole [] zero l = refl
-take_whole [] (suc i) l = refl
-take_whole (x ∷ xs) zero l = absurd (omega (arith, l))
-take_whole (x ∷ xs) (suc i) l = ap (λ ys. x ∷ ys) (take_whole xs i (omega (arith, l)))
-
 pub union_written : (xs all : List TypeNode) (x : TypeNode) (i : ℕ) (before now after : List TokenKind)
     → all ≡ xs ++ (x ∷ []) → length xs ≤ i → now ≡ before ++ concat_tokens (map earlier_run (take i xs)) → after ≡ now ++ type_kinds last_type (type_tree x) → after ≡ before ++ union_kinds (to_types (map type_tree all))
 union_written xs all x i before now after whole l p q =
-    q ∙ ap (λ ys. ys ++ type_kinds last_type (type_tree x)) (p ∙ ap (λ ys. before ++ concat_tokens (map earlier_run ys)) (take_whole xs i l))
+    q ∙ ap (λ ys. ys ++ type_kinds last_type (type_tree x)) (p ∙ ap (λ ys. before ++ concat_tokens (map earlier_run ys)) (take_all i xs l))
     ∙ append_assoc before (concat_tokens (map earlier_run xs)) (type_kinds last_type (type_tree x))
     ∙ ap (λ ys. before ++ ys) (sym (union_listed xs x)) ∙ ap (λ ys. before ++ union_kinds (to_types (map type_tree ys))) (sym whole)
 

@@ -5,7 +5,7 @@ use Rattle.std.proofs.lemmas.Bool.{cond-true, cond-false, and_parts, and_from, a
 use Rattle.dscript_lex.specs.Bytes.{is_blank, is_word_byte, begins_with}
 use Rattle.dscript_lex.specs.Punctuators.{spells, punctuators_of_one, punctuators_of_two, punctuators_of_three, is_punctuator}
 use Rattle.dscript_lex.specs.Scanning.{comment_len, punctuator_len}
-use Rattle.dscript_lex.proofs.PunctuatorExact.{comment_sound, one_slash}
+use Rattle.dscript_lex.proofs.PunctuatorExact.{comment_sound, one_slash, long_is_no_punctuator}
 use Rattle.dscript_print_tokens.specs.Sides.{goes_on}
 
 -- a test of two bytes that each spelling of two passes
@@ -54,11 +54,6 @@ any_of_one p a [] passes is = cc
 any_of_one p a (x ∷ all) passes is =
     let parts = and_parts (p x) (list_all p all) passes in
     ⊎_elim (λ here. ap p (sym (eqb-true x a here)) ∙ parts.0) (λ later. any_of_one p a all parts.1 later) (or_cases (eqb x a) (list_any (λ y. eqb y a) all) is)
-
--- the first byte of a punctuator
-long_is_no_punctuator : (a b c d : ℕ) (r : List ℕ) → is_punctuator (a ∷ b ∷ c ∷ d ∷ r) ≡ false
-unfolding is_punctuator
-long_is_no_punctuator a b c d r = refl
 
 first_of_more : (p : ℕ → Bool) → list_all (of_two (λ a _. p a)) punctuators_of_two ≡ true → list_all (of_three (λ a _ _. p a)) punctuators_of_three ≡ true → (a b : ℕ) (t : List ℕ) → is_punctuator (a ∷ b ∷ t) ≡ true → p a ≡ true
 unfolding is_punctuator

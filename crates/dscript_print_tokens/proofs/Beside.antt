@@ -8,6 +8,7 @@ use Rattle.dscript_lex.specs.declared.token.TokenKind.{TokenKind}
 use Rattle.dscript_lex.specs.declared.token.TokenKind.TheVariants.{Word, Number, Str, Whole, Head, Middle, Tail, Punct}
 use Rattle.dscript_lex.specs.Bytes.{is_word_start, is_word_byte, begins_with}
 use Rattle.dscript_lex.specs.Punctuators.{is_punctuator}
+use Rattle.dscript_lex.proofs.PunctuatorExact.{empty_is_no_punctuator}
 use Rattle.dscript_print_tokens.specs.declared.laid.Gap.{Gap}
 use Rattle.dscript_print_tokens.specs.declared.laid.Gap.TheVariants as gaps
 use Rattle.dscript_print_tokens.specs.declared.side.Side.{Side}
@@ -18,7 +19,7 @@ use Rattle.dscript_print_tokens.specs.Spellings.{spelling}
 use Rattle.dscript_print_tokens.specs.Layout.{blanks}
 use Rattle.dscript_print_tokens.proofs.Apart.{keeps_apart, apart_is_no_more, punctuator_begins}
 use Rattle.dscript_print_tokens.proofs.Decimals.{number_begins}
-use Rattle.dscript_print_tokens.proofs.Chosen.{no_empty_punctuator, is_a_punctuator}
+use Rattle.dscript_print_tokens.proofs.Chosen.{is_a_punctuator}
 
 -- nothing of these bytes joins such a token
 abbrev pub IsApart : Side → List ℕ → Type 0
@@ -47,7 +48,7 @@ no_word_byte : (b : ℕ) (bs : List ℕ) → is_punctuator (b ∷ bs) ≡ true �
 no_word_byte b bs punctuator = (or_parts _ _ (or_parts _ _ (or_parts _ _ (not-true _ (punctuator_begins b bs punctuator))).0).0).1
 
 punctuator_beside : (before : Side) (punctuator rest : List ℕ) → run_together before (punctuator_side punctuator) ≡ false → is_punctuator punctuator ≡ true → IsApart before (punctuator ++ rest)
-punctuator_beside before [] rest not_together punctuator = absurd (both_ways (is_punctuator []) no_empty_punctuator punctuator)
+punctuator_beside before [] rest not_together punctuator = absurd (both_ways (is_punctuator []) empty_is_no_punctuator punctuator)
 punctuator_beside sides.Word (b ∷ bs) rest not_together punctuator = no_word_byte b bs punctuator
 punctuator_beside (sides.Punctuator first) (b ∷ bs) rest not_together punctuator = not_together
 punctuator_beside sides.Other (b ∷ bs) rest not_together punctuator = refl

@@ -11,7 +11,7 @@ use Rattle.dscript_lex.specs.declared.opening.Opening.TheVariants as openings
 use Rattle.dscript_lex.specs.Bytes.{is_blank, is_word_start, is_word_byte}
 use Rattle.dscript_lex.specs.Punctuators.{is_punctuator}
 use Rattle.dscript_lex.specs.Lexemes.{opening_of, enclosed, is_comment, string_lexeme, part_lexeme, part_kind, lexeme_as, lexeme_of}
-use Rattle.dscript_lex.proofs.PunctuatorExact.{one_slash}
+use Rattle.dscript_lex.proofs.PunctuatorExact.{one_slash, empty_is_no_punctuator}
 use Rattle.dscript_print_tokens.specs.Spellable.{HasSpelling}
 use Rattle.dscript_print_tokens.specs.Writable.{is_word, is_closing_brace, IsWritable}
 use Rattle.dscript_print_tokens.specs.Spellings.{in_part, spelling}
@@ -51,16 +51,12 @@ opens_other hole b bs punctuator none =
     ∙ cond-false (eqb b 0x60) _ _ begins.1
     ∙ cond-false (hole && eqb b 0x7d) _ _ (no_part hole b bs punctuator none)
 
-pub no_empty_punctuator : is_punctuator [] ≡ false
-unfolding is_punctuator
-no_empty_punctuator = refl
-
 pub is_a_punctuator : (hole : Bool) (punctuator : List ℕ) → (is_punctuator punctuator && not (hole && is_closing_brace punctuator)) ≡ true → is_punctuator punctuator ≡ true
 is_a_punctuator hole punctuator is = (and_parts (is_punctuator punctuator) _ is).0
 
 punctuator_is : (hole : Bool) (punctuator : List ℕ) → (is_punctuator punctuator && not (hole && is_closing_brace punctuator)) ≡ true → lexeme_of hole punctuator ≡ Some (Spelled (Punct punctuator))
 unfolding lexeme_of lexeme_as
-punctuator_is hole [] is = absurd (both_ways (is_punctuator []) no_empty_punctuator (is_a_punctuator hole [] is))
+punctuator_is hole [] is = absurd (both_ways (is_punctuator []) empty_is_no_punctuator (is_a_punctuator hole [] is))
 punctuator_is hole (b ∷ bs) is =
     let parts = and_parts (is_punctuator (b ∷ bs)) _ is in
     ap (λ o. lexeme_as o b bs) (opens_other hole b bs parts.0 (not-true _ parts.1))

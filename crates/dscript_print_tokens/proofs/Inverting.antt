@@ -2,7 +2,7 @@
 use Rattle.std.proofs.Common.{◌≡◌, ℕ, ◌≤◌, Bool, true, false, cond, ◌&&◌, ◌||◌, eqb, leb, List, [], ◌∷◌, Option, Some, None, pos, subst, arith, refl}
 use Rattle.std.specs.List.{list_all}
 use Rattle.std.specs.Char.{is_ascii_digit}
-use Rattle.std.proofs.lemmas.Bool.{leb-true, and_from, and_right, not_from_false}
+use Rattle.std.proofs.lemmas.Bool.{leb-true, and_from, and_right, not_from_false, and_parts}
 use Rattle.dscript_lex.specs.declared.limits.TheConstants.{MAX_NUMBER}
 use Rattle.dscript_lex.specs.declared.token.TokenKind.{TokenKind}
 use Rattle.dscript_lex.specs.declared.token.TokenKind.TheVariants.{Word, Number, Str, Punct}
@@ -47,10 +47,6 @@ tests_part false false false false true y e = cc
 tests_part false false false false false true e = refl
 tests_part false false false false false false e = cc
 
-both_left : (x y : Bool) → (x && y) ≡ true → x ≡ true
-both_left true y e = refl
-both_left false y e = cc
-
 opens_word : (hole : Bool) (b : ℕ) → opening_of hole b ≡ openings.Word → is_word_start b ≡ true
 opens_word hole b e = tests_word (is_blank b) (is_word_start b) (is_ascii_digit b) (eqb b 0x22 || eqb b 0x27) (eqb b 0x60) (hole && eqb b 0x7d) e
 
@@ -58,13 +54,13 @@ opens_other : (hole : Bool) (b : ℕ) → opening_of hole b ≡ openings.Other �
 opens_other hole b e = tests_sign (is_blank b) (is_word_start b) (is_ascii_digit b) (eqb b 0x22 || eqb b 0x27) (eqb b 0x60) (hole && eqb b 0x7d) e
 
 opens_part : (hole : Bool) (b : ℕ) → opening_of hole b ≡ openings.Part → hole ≡ true
-opens_part hole b e = both_left hole (eqb b 0x7d) (tests_part (is_blank b) (is_word_start b) (is_ascii_digit b) (eqb b 0x22 || eqb b 0x27) (eqb b 0x60) (hole && eqb b 0x7d) e)
+opens_part hole b e = (and_parts hole (eqb b 0x7d) (tests_part (is_blank b) (is_word_start b) (is_ascii_digit b) (eqb b 0x22 || eqb b 0x27) (eqb b 0x60) (hole && eqb b 0x7d) e)).0
 
 -- the token that the bytes are can be written, and so the one that they are said to be
 as_said : (hole : Bool) (is said : TokenKind) → IsWritable hole is → Some (Spelled is) ≡ Some (Spelled said) → IsWritable hole said
 as_said hole is said fits e = let same : is ≡ said = cc in subst (IsWritable hole) same fits
 
-the_some : {A : Type 0} (t : Bool) (x y : A) → cond t (Some x) None ≡ Some y → Some x ≡ Some y
+pub the_some : {A : Type 0} (t : Bool) (x y : A) → cond t (Some x) None ≡ Some y → Some x ≡ Some y
 the_some true x y e = e
 the_some false x y e = cc
 

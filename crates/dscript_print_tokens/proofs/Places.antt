@@ -1,5 +1,5 @@
 -- A token's spelling is the longest lexeme at its place, where no byte follows that joins it.
-use Rattle.std.proofs.Common.{◌≡◌, ℕ, suc, ◌+◌, Bool, true, false, cond, List, [], ◌∷◌, ◌++◌, length, take, Option, Some, None, pos, refl, sym, ap, ◌∙◌, subst, arith}
+use Rattle.std.proofs.Common.{◌≡◌, ℕ, suc, ◌+◌, Bool, true, false, cond, List, [], ◌∷◌, ◌++◌, length, take, Option, Some, None, pos, refl, sym, ap, ◌∙◌, subst}
 use Rattle.std.specs.List.{prefix_len, list_all}
 use Rattle.std.proofs.lemmas.Bool.{cond-true}
 use Rattle.std.proofs.lemmas.List.{take_at, drop_at}
@@ -15,11 +15,12 @@ use Rattle.dscript_lex.specs.Punctuators.{is_punctuator}
 use Rattle.dscript_lex.specs.Lexemes.{opening_of, Enclosed, enclosed, number_of, is_comment, string_lexeme, part_lexeme, part_kind, number_lexeme, lexeme_as, lexeme_of}
 use Rattle.dscript_lex.specs.Scanning.{reach, scanned_string, scanned_part, scanned_number, scanned_punctuator, scanned_other, scan_as, scan_of}
 use Rattle.dscript_lex.specs.Tokens.{IsLongest}
-use Rattle.dscript_lex.proofs.PrefixLength.{take_one_more, prefix_is}
+use Rattle.dscript_lex.proofs.PrefixLength.{take_one_more, prefix_is, one_more}
 use Rattle.dscript_lex.proofs.ReachExact.{reach_complete}
 use Rattle.dscript_lex.proofs.ScanLongest.{scan_longest, number_digits}
 use Rattle.dscript_print_tokens.specs.Sides.{side_of, joins}
 use Rattle.dscript_print_tokens.proofs.Apart.{no_comment, same_len}
+use Rattle.dscript_print_tokens.proofs.Inverting.{the_some}
 
 -- the token is scanned, and takes the first byte and n more
 abbrev IsRead : Option Scanned → TokenKind → ℕ → Type 0
@@ -28,9 +29,6 @@ IsRead prefix kind n = prefix ≡ Some (record { kind = Spelled kind; len = suc 
 -- whether the rest may come directly after the token
 abbrev pub Apart : TokenKind → List ℕ → Type 0
 Apart kind rest = begins_with (joins (side_of kind)) rest ≡ false
-
-one_more : (n : ℕ) → 1 + n ≡ suc n
-one_more n = omega arith
 
 word_text : (b : ℕ) (bs rest : List ℕ) → list_all is_word_byte bs ≡ true → begins_with is_word_byte rest ≡ false → (n : ℕ) → n ≡ prefix_len is_word_byte (bs ++ rest) → (n ≡ length bs) × (take (1 + n) (b ∷ (bs ++ rest)) ≡ b ∷ bs)
 word_text b bs rest all apart n is =
@@ -77,10 +75,6 @@ as_said o b bs rest is said reads e = let same : is ≡ said = cc in subst (Read
 all_true : {A : Type 0} (t : Bool) (x y : A) → cond t (Some x) None ≡ Some y → t ≡ true
 all_true true x y e = refl
 all_true false x y e = cc
-
-the_some : {A : Type 0} (t : Bool) (x y : A) → cond t (Some x) None ≡ Some y → Some x ≡ Some y
-the_some true x y e = e
-the_some false x y e = cc
 
 number_as : (b : ℕ) (bs rest : List ℕ) (kind : TokenKind) (x : Option ℕ) → number_of (b ∷ bs) ≡ x → number_lexeme x ≡ Some (Spelled kind) → Reads openings.Number b bs rest kind
 number_as b bs rest kind None e is = cc

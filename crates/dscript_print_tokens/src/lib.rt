@@ -1,9 +1,8 @@
-//! Spelling a list of tokens as a text that lexes to just these tokens.
+//! Writes a list of tokens as a text that lexes back to exactly these tokens.
 //!
-//! Each token gets a spelling of its own, with the blanks between them that are asked for, and one where
-//! two would run together. This crate depends on `dscript_lex`, whose tokens these are, and on
-//! `bx_tree` for shared texts. It carries the promise that a text that is written has the tokens that
-//! were given, no others, and in their order.
+//! Each token gets a spelling of its own, with the blanks between them that are asked for, and one where two would
+//! run together. This crate depends on `dscript_lex`, whose tokens these are, and on `bx_tree` for shared texts. It
+//! carries the promise that a written text has the given tokens, no others, and in their order.
 #![tactic(auto)]
 
 mod enclosed;

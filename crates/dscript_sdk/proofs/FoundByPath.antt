@@ -1,5 +1,5 @@
 -- Where a binary search finds an output directory by its path.
-use Rattle.std.proofs.Common.{◌≡◌, ◌↔◌, ℕ, ◌<◌, ◌+◌, false, IsTrue, List, length, get_or, map, Result, Ok, Err, refl, ap, sym, ◌∙◌, subst, inl, inr, arith}
+use Rattle.std.proofs.Common.{◌≡◌, ◌↔◌, ℕ, ◌<◌, ◌+◌, false, IsTrue, List, length, get_or, map, Result, Ok, Err, refl, ap, sym, ◌∙◌, inl, inr, arith}
 use Rattle.std.specs.List.{Contains, list_any}
 use Rattle.std.specs.List.Sorted.{IsBinarySearchResult, IsSearchInRange, IsSortedBy, IsStrictlySortedBy}
 use Rattle.std.specs.Ordering.{is_lt, nat_cmp, ordering_reverse, ordering_then}
@@ -7,7 +7,6 @@ use Rattle.std.specs.Result.{is_ok}
 use Rattle.std.specs.declared.cmp.Ordering.{Ordering}
 use Rattle.std.specs.declared.cmp.Ordering.TheVariants.{Less, Equal, Greater}
 use Rattle.std.proofs.lemmas.Bool.{cases_lt, false≢true}
-use Rattle.std.proofs.lemmas.Cmp.{tied_itself}
 use Rattle.std.proofs.lemmas.List.{get_or-map, length-map}
 use Rattle.std.proofs.lemmas.List.Sorted.{searchable_from_sorted}
 use Rattle.std.proofs.lemmas.Map.Keys.{Less-from_sorted}
@@ -15,7 +14,8 @@ use Rattle.bx_tree.specs.Orders.{equal_paths, path_cmp_total}
 use Rattle.bx_tree.specs.Paths.{Atoms, path_cmp, same_path}
 use Rattle.pip_model_types.specs.Outputs.{outdir_cmp, sharing_rank}
 use Rattle.pip_model_types.specs.declared.outputs.OutDir.{OutDir}
-use Rattle.dscript_sdk_execute.proofs.FoundByTest.{path_found}
+use Rattle.pip_model_types.proofs.Placed.{not_level}
+use Rattle.bx_tree.proofs.FoundByTest.{path_found}
 
 abbrev dir_path : OutDir → Atoms
 dir_path d = d.path
@@ -39,9 +39,6 @@ sorted_paths ds up k d low l =
     (Less-from_sorted outdir_cmp ds k (k + 1) d up (omega arith) l)
 
 -- ## The search
-
-not_level : (p q : Atoms) (o : Ordering) → (o ≡ Equal → ⊥) → path_cmp p q ≡ o → p ≡ q → ⊥
-not_level p q o n h e = n (sym h ∙ subst (λ r. path_cmp p r ≡ Equal) e (tied_itself path_cmp_total p))
 
 has_at : (ds : List OutDir) (p : Atoms) (i : ℕ) (d : OutDir) → i < length ds → dir_path (get_or ds i d) ≡ p
     → Contains (map dir_path ds) p

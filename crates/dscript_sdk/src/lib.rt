@@ -1,9 +1,10 @@
-//! Dispatch of all ambient functions, methods and properties.
+//! Dispatch of all ambient calls, methods and properties.
 //!
-//! Evaluation calls them in order, and what they make is the list of pips. This crate joins `dscript_sdk_calls`,
-//! `dscript_sdk_pips` and `dscript_sdk_execute`, which have the calls, and `dscript_sdk_members`, which has the
-//! members of texts, lists and paths; those of processes and static directories are here. It carries the promise that
-//! each call and each member answers what its definition says, or its first fault, and that a fault changes nothing.
+//! Evaluation calls them in order, and the pips that they add are the list of pips. This crate joins
+//! `dscript_sdk_calls`, `dscript_sdk_pips` and `dscript_sdk_execute`, which have the calls, and
+//! `dscript_sdk_members`, which has the members of strings, lists and paths; those of processes and static
+//! directories are here. It carries the promise that each call and each member evaluates as defined, to its value
+//! or its first fault, and that a fault changes nothing.
 #![tactic(auto)]
 
 mod calling;

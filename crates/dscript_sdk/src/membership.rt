@@ -23,7 +23,6 @@ ghost use Rattle.dscript_value.specs.Plain.{Plain, plain_of};
 use crate::process_members::call_process;
 use crate::static_members::{call_static, member_of_static};
 use bx_tree::Text;
-use dscript_sdk_calls::file_path;
 use dscript_sdk_members::{
     Member, call_directory, call_list, call_path, call_text, member_of_file, member_of_list,
     member_of_path, member_of_text,
@@ -47,7 +46,7 @@ fn call_function(
         Value::Text(text) => call_text(alloc, text, member, args),
         Value::List(values) => call_list(alloc, values, member, args),
         Value::Path(path) => call_path(alloc, path, member, args),
-        Value::File(file) => call_path(alloc, file_path(file), member, args),
+        Value::File(file) => call_path(alloc, file.path(), member, args),
         Value::Directory(path) => call_directory(alloc, path, member, args),
         Value::Static(dir) => call_static(alloc, state, dir, member, args),
         Value::Process(number) => call_process(state, *number, member, args),
@@ -65,7 +64,7 @@ fn property(alloc: Global, value: &Value, member: Member) -> Result<Option<Value
         Value::Text(text) => member_of_text(text, member),
         Value::List(values) => member_of_list(values, member),
         Value::Path(path) | Value::Directory(path) => member_of_path(alloc, path, member),
-        Value::File(file) => member_of_file(alloc, file_path(file), member),
+        Value::File(file) => member_of_file(alloc, file.path(), member),
         Value::Static(dir) => member_of_static(dir, member),
         Value::Undefined | Value::Flag(_) | Value::Number(_) => Ok(None),
         Value::Relative(_) | Value::Atom(_) | Value::Object(_) => Ok(None),

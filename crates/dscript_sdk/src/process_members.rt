@@ -1,6 +1,5 @@
 //! The members of processes.
-ghost use Rattle.std.specs.Prelude.{◌≡◌, ◌↔◌, Ok, Some, None, IsTrue, Contains, map, slice_get, MatchOption};
-ghost use Rattle.std.specs.Prelude.{MatchResult};
+ghost use Rattle.std.specs.Prelude.{◌≡◌, Ok, MatchResult, map, slice_get};
 ghost use Rattle.std.specs.List.{list_any};
 ghost use Rattle.std.specs.List.Sorted.{IsStrictlySortedBy};
 ghost use Rattle.bx_tree.specs.Paths.{same_path};
@@ -14,17 +13,12 @@ ghost use Rattle.dscript_sdk.specs.ProcessMembers.{output_file as declared_file,
 ghost use Rattle.dscript_value.specs.Plain.{plain_of};
 
 use bx_tree::{FileInput, Path};
+use dscript_sdk_execute::has_output;
 use dscript_sdk_members::Member;
 use dscript_sdk_pips::SdkState;
 use dscript_sdk_values::{SdkFault, first_argument, read_directory, read_path};
 use dscript_value::{StaticDir, Value};
-use pip_model_types::{OutDir, Outputs, Pip, PipKind};
-
-fn has_output(outs: &Outputs, path: &Path) -> bool
-    ensures { result ≡ list_any (same_path path.now) outs.now }
-{
-    outs.has(path)
-}
+use pip_model_types::{OutDir, Pip, PipKind, pip_at};
 
 // Whether a path is that of one of some directories, which rise.
 fn has_directory(dirs: &[OutDir], path: &Path) -> bool
@@ -50,15 +44,6 @@ fn makes_directory(kind: &PipKind, path: &Path) -> bool
         PipKind::Process(process) => has_directory(process.outdirs.dirs(), path),
         PipKind::Copy(_) | PipKind::Write(_) | PipKind::Seal(_) => false,
     }
-}
-
-// The pip with a number, if there is one.
-pub(crate) fn pip_at(pips: &[Pip], number: u32) -> Option<&Pip>
-    ensures { MatchOption result
-        (slice_get pips.now number ≡ None)
-        (λ pip. slice_get pips.now number ≡ Some pip.now) }
-{
-    pips.get(number as usize)
 }
 
 fn declares_file(pips: &[Pip], number: u32, path: &Path) -> bool

@@ -13,14 +13,13 @@ ghost use Rattle.dscript_value.specs.Plain as plain;
 ghost use Rattle.dscript_value.specs.Plain.{plain_of};
 ghost use Rattle.bx_tree.specs.FileInputs.{input_path};
 
-use crate::process_members::pip_at;
 use bx_tree::{FileInput, Memory, Path, Tree};
-use dscript_sdk_calls::{file_path, find_below, find_directly_in, static_path};
+use dscript_sdk_calls::{find_below, find_directly_in};
 use dscript_sdk_members::Member;
 use dscript_sdk_pips::SdkState;
 use dscript_sdk_values::{SdkFault, first_argument, list_value, read_path, share_file};
-use dscript_value::{StaticDir, Value};
-use pip_model_types::{PipKind, SealDesc, SealForm};
+use dscript_value::{StaticDir, Value, static_path};
+use pip_model_types::{PipKind, SealDesc, SealForm, pip_at};
 use std::alloc::Global;
 
 // Files like these.
@@ -52,7 +51,7 @@ fn find_file<'a>(files: &'a [FileInput], path: &Path) -> Option<&'a FileInput>
         (λ file. file_with path.now files.now ≡ Some file.now) }
 {
     'files: for file in files {
-        if file_path(file) == path {
+        if file.path() == path {
             return Some(file);
         }
     }

@@ -1,14 +1,13 @@
 -- A path below a directory is directly in it where its text has no `/` after the directory's prefix.
-use Rattle.std.proofs.Common.{append_assoc, ◌≡◌, ◌≢◌, ℕ, ◌≤◌, nat_eq, Bool, true, false, not, ◌||◌, IsTrue, List, [], ◌∷◌, ◌++◌, length, length-append, drop, Some, codes, refl, ap, sym, ◌∙◌, subst, inl, inr, arith}
+use Rattle.std.proofs.Common.{append_assoc, ◌≡◌, ◌≢◌, ℕ, ◌≤◌, nat_eq, Bool, true, false, not, ◌||◌, IsTrue, List, [], ◌∷◌, ◌++◌, length, length-append, drop, codes, refl, ap, sym, ◌∙◌, subst, inl, inr, arith}
 use Rattle.std.specs.List.{AllByRecursion, join_with_byte, list_any}
+use Rattle.std.specs.Option.{option_map_or}
 use Rattle.std.proofs.Math.Seq.{drop-append_seam}
 use Rattle.std.proofs.lemmas.Bool.{cases_eq, false≢true, ne_eqb}
 use Rattle.bx_tree.specs.Paths.{Atoms, IsAtom, IsPath, is_atom_byte, path_text}
 use Rattle.bx_tree.proofs.PathTexts.{join-append}
-use Rattle.bx_path.specs.Globbing.{strip_dir}
-use Rattle.dscript_sdk_calls.specs.Sources.{is_one_further, lies_below, lies_directly_in}
-use Rattle.dscript_sdk_calls.proofs.Below.{strip_dir-append}
-use Rattle.dscript_sdk_calls.proofs.Together.{is_below}
+use Rattle.bx_tree.specs.Below.{is_below, is_directly_in, is_one_atom, strip_dir}
+use Rattle.bx_tree.proofs.BelowPaths.{below_decides, strip_dir-append}
 use Rattle.bx_tree.specs.Ranges.{prefix_below}
 
 text_after : (dir : Atoms) (atom : List ℕ) (more : Atoms) → path_text (dir ++ atom ∷ more) ≡ prefix_below dir ++ join_with_byte 47 (atom ∷ more)
@@ -39,12 +38,12 @@ no_slash [] h = refl
 no_slash (b ∷ bs) h = ap (λ found. found || list_any (λ b. nat_eq b 47) bs) (no_slash_byte b h.0) ∙ no_slash bs h.1
 
 by_atoms : (atom : List ℕ) (more : Atoms) → IsAtom atom
-    → not (list_any (λ b. nat_eq b 47) (join_with_byte 47 (atom ∷ more))) ≡ is_one_further (Some (atom ∷ more))
+    → not (list_any (λ b. nat_eq b 47) (join_with_byte 47 (atom ∷ more))) ≡ is_one_atom (atom ∷ more)
 by_atoms atom [] h = ap not (no_slash atom h.bytes)
 by_atoms atom (b ∷ bs) h = ap not (a_slash atom (join_with_byte 47 (b ∷ bs)))
 
 from_rest : (dir path rest : Atoms) → IsPath path → rest ≢ [] → path ≡ dir ++ rest
-    → not (list_any (λ b. nat_eq b 47) (drop (length (prefix_below dir)) (path_text path))) ≡ lies_directly_in dir path
+    → not (list_any (λ b. nat_eq b 47) (drop (length (prefix_below dir)) (path_text path))) ≡ is_directly_in path dir
 from_rest dir path [] h some is = absurd (some refl)
 from_rest dir path (atom ∷ more) h some is =
     let text : drop (length (prefix_below dir)) (path_text path) ≡ join_with_byte 47 (atom ∷ more) =
@@ -52,11 +51,11 @@ from_rest dir path (atom ∷ more) h some is =
     ∙ drop-append_seam (prefix_below dir) (join_with_byte 47 (atom ∷ more)) in
     let atoms = atoms_after dir (atom ∷ more) (subst (AllByRecursion IsAtom) is h.atoms) in
     ap (λ t. not (list_any (λ b. nat_eq b 47) t)) text ∙ by_atoms atom more atoms.0
-    ∙ sym (ap is_one_further (ap (strip_dir dir) is ∙ strip_dir-append dir (atom ∷ more)))
+    ∙ sym (ap (λ o. option_map_or is_one_atom o false) (ap (strip_dir dir) is ∙ strip_dir-append dir (atom ∷ more)))
 
-pub directly_in : (dir path : Atoms) → IsPath path → lies_below dir path ≡ true
-    → not (list_any (λ b. nat_eq b 47) (drop (length (prefix_below dir)) (path_text path))) ≡ lies_directly_in dir path
-directly_in dir path h below = let under = is_below dir path below in from_rest dir path under.0 h under.1 under.2
+pub directly_in : (dir path : Atoms) → IsPath path → is_below path dir ≡ true
+    → not (list_any (λ b. nat_eq b 47) (drop (length (prefix_below dir)) (path_text path))) ≡ is_directly_in path dir
+directly_in dir path h below = let under = (below_decides path dir).0 below in from_rest dir path under.0 h under.1 under.2
 
 prefix_of_rest : (dir path rest : Atoms) → rest ≢ [] → path ≡ dir ++ rest → length (prefix_below dir) ≤ length (path_text path)
 prefix_of_rest dir path [] some is = absurd (some refl)
@@ -67,5 +66,5 @@ prefix_of_rest dir path (atom ∷ more) some is =
       length-append (prefix_below dir) (join_with_byte 47 (atom ∷ more)),
     )
 
-pub prefix_fits : (dir path : Atoms) → lies_below dir path ≡ true → length (prefix_below dir) ≤ length (path_text path)
-prefix_fits dir path below = let under = is_below dir path below in prefix_of_rest dir path under.0 under.1 under.2
+pub prefix_fits : (dir path : Atoms) → is_below path dir ≡ true → length (prefix_below dir) ≤ length (path_text path)
+prefix_fits dir path below = let under = (below_decides path dir).0 below in prefix_of_rest dir path under.0 under.1 under.2

@@ -1,137 +1,18 @@
--- Paths below a directory are next to one another in a list that rises by path.
-use Rattle.std.proofs.Common.{append_assoc, ◌≡◌, ◌≢◌, ℕ, ◌<◌, zero, suc, true, false, cond, List, [], ◌∷◌, ◌++◌, length, filter, get_or, drop, Option, Some, None, codes, refl, ap, sym, ◌∙◌, subst, inl, inr, arith}
-use Rattle.std.specs.Cmp.Lexicographic.{slice_cmp}
+-- The source files below a directory are next to one another in a tree.
+use Rattle.std.proofs.Common.{◌≡◌, ◌≢◌, ℕ, ◌<◌, zero, suc, true, false, cond, List, [], ◌∷◌, length, filter, get_or, drop, refl, ap, sym, ◌∙◌, subst, inl, inr, arith}
 use Rattle.std.specs.List.{AllByRecursion, AllWithin}
 use Rattle.std.specs.List.Sorted.{IsPartitionPoint, IsPartitionedBy, IsStrictlySortedBy}
-use Rattle.std.specs.Ordering.{MatchOrdering, is_lt, nat_cmp, ordering_then}
-use Rattle.std.specs.declared.cmp.Ordering.{Ordering}
-use Rattle.std.specs.declared.cmp.Ordering.TheVariants.{Less, Equal, Greater}
-use Rattle.std.proofs.lemmas.Bool.{cases_Bool, cases_lt, false≢true}
-use Rattle.std.proofs.lemmas.Cmp.{nat_cmp_total, nat_list_cmp_total, ranked, tied_itself}
+use Rattle.std.proofs.lemmas.Bool.{cases_lt}
 use Rattle.std.proofs.lemmas.Map.Keys.{Less-from_sorted}
-use Rattle.bx_tree.specs.Orders.{equal_texts}
-use Rattle.bx_tree.specs.Paths.{Atoms, IsBelow, IsPath, path_cmp, path_text}
+use Rattle.bx_tree.specs.Below.{is_below}
+use Rattle.bx_tree.specs.Paths.{Atoms, IsPath, path_cmp}
+use Rattle.bx_tree.specs.Ranges.{comes_before, first_below, prefix_below}
 use Rattle.bx_tree.specs.Trees.{IsTree, paths_of}
 use Rattle.bx_tree.specs.Views.{files_of}
 use Rattle.bx_tree.specs.declared.tree_file.TreeFile.{TreeFile}
 use Rattle.bx_tree.proofs.FileSearch.{length-paths, path_at}
-use Rattle.bx_tree.proofs.PathTexts.{below_from_prefix, prefix_from_below}
-use Rattle.bx_path.proofs.LastAtoms.{strip_dir_is}
-use Rattle.bx_path.specs.Globbing.{strip_dir}
-use Rattle.dscript_sdk_calls.specs.Ranges.{first_below}
-use Rattle.dscript_sdk_calls.specs.Sources.{files_below, is_further, lies_below}
-use Rattle.dscript_sdk_calls.proofs.Below.{below_true}
-use Rattle.bx_tree.specs.Ranges.{comes_before, prefix_below}
-
--- ## Texts that begin with a prefix
-
--- a text with a prefix does not come before the prefix
-not_before_prefix : (prefix rest : List ℕ) → is_lt (slice_cmp nat_cmp (prefix ++ rest) prefix) ≡ false
-not_before_prefix [] [] = refl
-not_before_prefix [] (b ∷ bs) = refl
-not_before_prefix (p ∷ ps) rest =
-    ap (λ o. is_lt (ordering_then o (slice_cmp nat_cmp (ps ++ rest) ps))) (tied_itself nat_cmp_total p) ∙ not_before_prefix ps rest
-
-equal_number : (x y : ℕ) (o : Ordering) → MatchOrdering o (x < y) (x ≡ y) (y < x) → o ≡ Equal → x ≡ y
-equal_number x y Less h e = cc
-equal_number x y Equal h e = h
-equal_number x y Greater h e = cc
-
--- What comes before a text with a prefix, and not before the prefix, begins with it.
-between : (prefix text rest : List ℕ) → is_lt (slice_cmp nat_cmp text prefix) ≡ false
-    → (slice_cmp nat_cmp text (prefix ++ rest) ≡ Greater → ⊥) → (more : List ℕ) × (text ≡ prefix ++ more)
-between [] text rest after before = (text, refl)
-between (p ∷ ps) [] rest after before = absurd (false≢true (sym after))
-between (p ∷ ps) (b ∷ bs) rest after before = by_first (nat_cmp b p) refl (between ps bs rest)
-  where
-    by_first : (o : Ordering) → nat_cmp b p ≡ o
-        → (is_lt (slice_cmp nat_cmp bs ps) ≡ false → (slice_cmp nat_cmp bs (ps ++ rest) ≡ Greater → ⊥) → (more : List ℕ) × (bs ≡ ps ++ more))
-        → (more : List ℕ) × (b ∷ bs ≡ (p ∷ ps) ++ more)
-    by_first Less e tails = absurd (false≢true (sym after ∙ ap (λ o. is_lt (ordering_then o (slice_cmp nat_cmp bs ps))) e))
-    by_first Greater e tails = absurd (before (ap (λ o. ordering_then o (slice_cmp nat_cmp bs (ps ++ rest))) e))
-    by_first Equal e tails =
-        let same = equal_number b p (nat_cmp b p) (ranked b p (nat_cmp b p) refl) e in
-        let more = tails
-        (sym (ap (λ o. is_lt (ordering_then o (slice_cmp nat_cmp bs ps))) e) ∙ after)
-        (λ g. before (ap (λ o. ordering_then o (slice_cmp nat_cmp bs (ps ++ rest))) e ∙ g)) in
-        (more.0, ap (λ x. x ∷ bs) same ∙ ap (λ xs. p ∷ xs) more.1)
-
--- ## What lies below a directory begins with the directory's prefix
-
-starts_below : (dir path : Atoms) → IsBelow path dir → (rest : List ℕ) × (path_text path ≡ prefix_below dir ++ rest)
-starts_below [] path h = (path_text path, refl)
-starts_below (a ∷ as') path h =
-    let some : (a ∷ as') ≢ [] = λ e. cc in
-    let after = prefix_from_below path (a ∷ as') some h in
-    (after.0, after.1 ∙ sym (append_assoc (path_text (a ∷ as')) (codes "/") after.0))
-
-below_start : (dir path : Atoms) → IsPath dir → IsPath path → path ≢ [] → (rest : List ℕ) → path_text path ≡ prefix_below dir ++ rest → IsBelow path dir
-below_start [] path k h some rest e = (path, some, refl)
-below_start (a ∷ as') path k h some rest e =
-    below_from_prefix path (a ∷ as') h k (λ z. cc) rest (e ∙ append_assoc (path_text (a ∷ as')) (codes "/") rest)
-
-further_below : (dir path : Atoms) (o : Option Atoms) → strip_dir dir path ≡ o → is_further o ≡ true → IsBelow path dir
-further_below dir path None e h = absurd (false≢true h)
-further_below dir path (Some []) e h = absurd (false≢true h)
-further_below dir path (Some (atom ∷ rest)) e h = (atom ∷ rest, λ k. cc, strip_dir_is dir path (atom ∷ rest) e)
-
-pub is_below : (dir path : Atoms) → lies_below dir path ≡ true → IsBelow path dir
-is_below dir path e = further_below dir path (strip_dir dir path) refl e
-
--- what comes before the directory's prefix does not lie below the directory
-before_not_below : (dir path : Atoms) → comes_before (prefix_below dir) path ≡ true → lies_below dir path ≡ false
-before_not_below dir path e = elim (cases_Bool (lies_below dir path)) [
-  | inr outside ↦ outside
-  | inl inside ↦
-      let start = starts_below dir path (is_below dir path inside) in
-      absurd (false≢true (sym (not_before_prefix (prefix_below dir) start.0)
-      ∙ ap (λ t. is_lt (slice_cmp nat_cmp t (prefix_below dir))) (sym start.1) ∙ e))
-]
-
-text_first : (o p : Ordering) → ordering_then o p ≡ Less → o ≡ Greater → ⊥
-text_first o p e g = let level : Greater ≡ Less = sym (ap (λ q. ordering_then q p) g) ∙ e in cc
-
-not_greater : (path other : Atoms) → path_cmp path other ≡ Less → slice_cmp nat_cmp (path_text path) (path_text other) ≡ Greater → ⊥
-not_greater path other e =
-    text_first (slice_cmp nat_cmp (path_text path) (path_text other)) (slice_cmp (slice_cmp nat_cmp) path other) e
-
--- after a path that does not come before the prefix, and lies not below the directory, none lies below it
-later_not_below : (dir path other : Atoms) → IsPath dir → IsPath path → path ≢ [] → comes_before (prefix_below dir) path ≡ false
-    → lies_below dir path ≡ false → path_cmp path other ≡ Less → lies_below dir other ≡ false
-later_not_below dir path other k h some after outside less = elim (cases_Bool (lies_below dir other)) [
-  | inr n ↦ n
-  | inl inside ↦
-      let start = starts_below dir other (is_below dir other inside) in
-      let here = between (prefix_below dir) (path_text path) start.0 after
-      (λ g. not_greater path other less (ap (slice_cmp nat_cmp (path_text path)) start.1 ∙ g)) in
-      absurd (false≢true (sym outside ∙ below_true dir path (below_start dir path k h some here.0 here.1)))
-]
-
-none_below : (dir path : Atoms) (paths : List Atoms) → IsPath dir → IsPath path → path ≢ [] → comes_before (prefix_below dir) path ≡ false
-    → lies_below dir path ≡ false → AllByRecursion (λ other. path_cmp path other ≡ Less) paths → filter (lies_below dir) paths ≡ []
-none_below dir path [] k h some after outside less = refl
-none_below dir path (p ∷ ps) k h some after outside less =
-    ap (λ b. cond b (p ∷ filter (lies_below dir) ps) (filter (lies_below dir) ps))
-    (later_not_below dir path p k h some after outside less.0)
-    ∙ none_below dir path ps k h some after outside less.1
-
--- ## Lists that rise by path
-
-first_are_all : (dir : Atoms) (paths : List Atoms) → IsPath dir → AllByRecursion IsPath paths → AllByRecursion (λ path. path ≢ []) paths
-    → IsStrictlySortedBy path_cmp paths → AllByRecursion (λ path. comes_before (prefix_below dir) path ≡ false) paths
-    → first_below dir paths ≡ filter (lies_below dir) paths
-unfolding IsStrictlySortedBy
-first_are_all dir [] k are some up after = refl
-first_are_all dir (p ∷ ps) k are some up after = elim (cases_Bool (lies_below dir p)) [
-  | inl inside ↦
-      ap (λ b. cond b (p ∷ first_below dir ps) []) inside
-      ∙ ap (λ l. p ∷ l) (first_are_all dir ps k are.1 some.1 up.1 after.1)
-      ∙ sym (ap (λ b. cond b (p ∷ filter (lies_below dir) ps) (filter (lies_below dir) ps)) inside)
-  | inr outside ↦
-      ap (λ b. cond b (p ∷ first_below dir ps) []) outside
-      ∙ sym (none_below dir p ps k are.0 some.0 after.0 outside up.0)
-      ∙ sym (ap (λ b. cond b (p ∷ filter (lies_below dir) ps) (filter (lies_below dir) ps)) outside)
-]
+use Rattle.bx_tree.proofs.SortedRanges.{before_not_below, earlier_before, first_are_all}
+use Rattle.dscript_sdk_calls.specs.Sources.{files_below}
 
 all_after : (P : Atoms → Type 0) (files : List TreeFile) → AllWithin (λ (f : TreeFile). P f.path) files 0 (length files)
     → AllByRecursion P (paths_of (files_of files))
@@ -144,7 +25,7 @@ first_from : (dir : Atoms) (files : List TreeFile) (start : ℕ) → IsPath dir 
     → AllByRecursion (λ path. path ≢ []) (paths_of (files_of files)) → IsStrictlySortedBy path_cmp (paths_of (files_of files))
     → AllWithin (λ (f : TreeFile). comes_before (prefix_below dir) f.path ≡ true) files 0 start
     → AllWithin (λ (f : TreeFile). comes_before (prefix_below dir) f.path ≡ false) files start (length files)
-    → first_below dir (paths_of (files_of (drop start files))) ≡ filter (lies_below dir) (paths_of (files_of files))
+    → first_below dir (paths_of (files_of (drop start files))) ≡ filter (λ q. is_below q dir) (paths_of (files_of files))
 unfolding IsStrictlySortedBy
 first_from dir [] zero k are some up before after = refl
 first_from dir [] (suc n) k are some up before after = refl
@@ -154,7 +35,7 @@ first_from dir (f ∷ fs) zero k are some up before after =
 first_from dir (f ∷ fs) (suc n) k are some up before after =
     first_from dir fs n k are.1 some.1 up.1 (λ i d low high. before (suc i) d (omega arith) (omega (arith, high)))
     (λ i d low high. after (suc i) d (omega (arith, low)) (omega (arith, high)))
-    ∙ sym (ap (λ b. cond b (f.path ∷ filter (lies_below dir) (paths_of (files_of fs))) (filter (lies_below dir) (paths_of (files_of fs))))
+    ∙ sym (ap (λ b. cond b (f.path ∷ filter (λ q. is_below q dir) (paths_of (files_of fs))) (filter (λ q. is_below q dir) (paths_of (files_of fs))))
     (before_not_below dir f.path (before 0 f (omega arith) (omega arith))))
 
 pub all_below : (dir : Atoms) (files : List TreeFile) (start : ℕ) → IsPath dir → IsTree (files_of files)
@@ -163,24 +44,6 @@ pub all_below : (dir : Atoms) (files : List TreeFile) (start : ℕ) → IsPath d
 unfolding files_below
 all_below dir files start k tree point =
     first_from dir files start k tree.paths tree.no_root tree.rising point.0 point.1
-
--- ## What comes before the prefix comes first
-
-before_by : (prefix text other : List ℕ) (o : Ordering) → slice_cmp nat_cmp text other ≡ o → (o ≡ Greater → ⊥)
-    → slice_cmp nat_cmp other prefix ≡ Less → slice_cmp nat_cmp text prefix ≡ Less
-before_by prefix text other Less e n less = nat_list_cmp_total.trans text other prefix e less
-before_by prefix text other Equal e n less = ap (λ t. slice_cmp nat_cmp t prefix) (equal_texts text other e) ∙ less
-before_by prefix text other Greater e n less = absurd (n refl)
-
-less_from : (o : Ordering) → is_lt o ≡ true → o ≡ Less
-less_from Less e = refl
-less_from Equal e = absurd (false≢true e)
-less_from Greater e = absurd (false≢true e)
-
-earlier_before : (prefix : List ℕ) (path other : Atoms) → path_cmp path other ≡ Less → comes_before prefix other ≡ true → comes_before prefix path ≡ true
-earlier_before prefix path other less before =
-    ap is_lt (before_by prefix (path_text path) (path_text other) (slice_cmp nat_cmp (path_text path) (path_text other)) refl
-    (not_greater path other less) (less_from (slice_cmp nat_cmp (path_text other) prefix) before))
 
 pub partitioned : (prefix : List ℕ) (files : List TreeFile) → IsTree (files_of files)
     → IsPartitionedBy (λ (f : TreeFile). comes_before prefix f.path) files

@@ -9,7 +9,6 @@ ghost use Rattle.dscript_sdk_calls.specs.ArtifactOutput as outputs;
 ghost use Rattle.dscript_sdk_calls.specs.ArtifactOutput.{output_of};
 ghost use Rattle.dscript_value.specs.Plain.{plain_of};
 
-use crate::paths::file_path;
 use bx_tree::FileInput;
 use dscript_sdk_values::{FromValue, SdkFault, first_argument};
 use dscript_value::{Artifact, Value};
@@ -49,7 +48,7 @@ fn plain_path(value: &Value) -> Result<Value, SdkFault>
 {
     match value {
         Value::Path(path) => Ok(Value::Artifact(Artifact::Plain(path.share()?))),
-        Value::File(file) => Ok(Value::Artifact(Artifact::Plain(file_path(file).share()?))),
+        Value::File(file) => Ok(Value::Artifact(Artifact::Plain(file.path().share()?))),
         Value::Directory(path) => Ok(Value::Artifact(Artifact::Plain(path.share()?))),
         _ => Err(SdkFault::Kind),
     }

@@ -12,10 +12,10 @@ ghost use Rattle.dscript_sdk_calls.specs.CmdOption as options;
 ghost use Rattle.dscript_value.specs.Plain.{plain_of};
 ghost use Rattle.dscript_sdk_values.specs.PathTexts.{path_argument};
 
-use crate::paths::{artifact_path, file_path, path_bytes};
+use crate::paths::path_bytes;
 use bx_tree::{Memory, Path, Text};
 use dscript_sdk_values::{FromValue, MAX_TEXT_BYTES, SdkFault, first_argument, two_arguments};
-use dscript_value::{Argument, Artifact, Value};
+use dscript_value::{Argument, Artifact, Value, artifact_path};
 use std::alloc::Global;
 
 // A text with the one that follows it, if both together are short enough.
@@ -79,7 +79,7 @@ fn value_after(alloc: Global, before: &Text, value: &Value) -> Result<Value, Sdk
         Value::Text(text) => text_after(alloc, before, text.bytes()),
         Value::Number(number) => number_after(alloc, before, *number),
         Value::Path(path) | Value::Directory(path) => path_after(alloc, before, path),
-        Value::File(file) => path_after(alloc, before, file_path(file)),
+        Value::File(file) => path_after(alloc, before, file.path()),
         Value::Atom(atom) => text_after(alloc, before, atom.bytes()),
         Value::Artifact(artifact) => artifact_after(alloc, before, artifact),
         _ => Err(SdkFault::Kind),

@@ -1,8 +1,7 @@
-//! Ambient functions without side effects: `Cmd`, `Artifact`, `Contract` and globs.
+//! Ambient calls without side effects: `Cmd`, `Artifact`, `Contract` and globs.
 //!
-//! Arguments of processes, artifacts, assertions and globs. This crate depends on `dscript_sdk_values` and
-//! `bx_path`, and asks the source tree in one file, sources.rt. It carries the promise that each of these
-//! calls answers what its definition says, or its first fault.
+//! This crate depends on `dscript_sdk_values` and `bx_path`, and asks the source tree in one file, sources.rt. It
+//! carries the promise that each of these calls evaluates as defined, to its value or its first fault.
 #![tactic(auto)]
 
 mod artifacts;
@@ -16,5 +15,5 @@ pub use artifacts::{artifact_input, artifact_none, artifact_output};
 pub use assertions::{contract_assert, contract_fail};
 pub use cmd::{cmd_argument, cmd_flag, cmd_option};
 pub use globs::glob_files;
-pub use paths::{artifact_path, file_path, path_bytes, static_path};
-pub use sources::{find_below, find_directly_in, find_files, lies_below};
+pub use paths::path_bytes;
+pub use sources::{find_below, find_directly_in, find_files};

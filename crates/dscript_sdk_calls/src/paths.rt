@@ -1,42 +1,9 @@
-//! The paths of files, static directories and artifacts, and a path as an argument.
+//! A path as an argument.
 ghost use Rattle.std.specs.Prelude.{◌≡◌, IfOk};
-ghost use Rattle.dscript_value.specs.Equality.{artifact_path as path_of_artifact};
-ghost use Rattle.dscript_value.specs.Equality.{static_path as path_of_static};
-ghost use Rattle.bx_tree.specs.FileInputs.{input_path as path_of_file};
 ghost use Rattle.dscript_sdk_values.specs.PathTexts.{path_argument};
 
-use bx_tree::{FileInput, Memory, Path};
-use dscript_value::{Artifact, StaticDir};
+use bx_tree::{Memory, Path};
 use std::alloc::Global;
-
-/// The path of a file.
-pub fn file_path(file: &FileInput) -> &Path
-    ensures { result.now ≡ path_of_file file.now }
-{
-    match file {
-        FileInput::Source(path) | FileInput::Made(path, _) => path,
-    }
-}
-
-/// The path of a static directory.
-pub fn static_path(dir: &StaticDir) -> &Path
-    ensures { result.now ≡ path_of_static dir.now }
-{
-    match dir {
-        StaticDir::Seal(_, path) | StaticDir::Opaque(_, path) => path,
-    }
-}
-
-/// The path of an artifact.
-pub fn artifact_path(artifact: &Artifact) -> &Path
-    ensures { result.now ≡ path_of_artifact artifact.now }
-{
-    match artifact {
-        Artifact::Input(file) => file_path(file),
-        Artifact::InputDir(dir) => static_path(dir),
-        Artifact::Output(path) | Artifact::OutputDir(path) | Artifact::Plain(path) => path,
-    }
-}
 
 /// A path as an argument.
 pub fn path_bytes(alloc: Global, path: &Path) -> Result<Vec<u8>, Memory>

@@ -1,17 +1,16 @@
 //! What calls ask of the source tree: all that they know of it, they know from here.
 ghost use Rattle.std.specs.Prelude.{◌≡◌, ◌≢◌, ◌≤◌, true, false, length, IfOk, MatchResult};
 ghost use Rattle.std.specs.List.Sorted.{IsPartitionPoint};
-ghost use Rattle.bx_tree.specs.Paths.{IsPath};
+ghost use Rattle.bx_tree.specs.Below.{is_below, is_directly_in};
 ghost use Rattle.bx_tree.specs.Trees.{IsTree, paths_of};
 ghost use Rattle.bx_tree.specs.Views.{files_of};
-ghost use Rattle.dscript_sdk_calls.specs.Ranges.{first_below, first_directly_in};
-ghost use Rattle.dscript_sdk_calls.specs.Sources.{files_below, files_directly_in, files_found, lies_directly_in};
-ghost use Rattle.dscript_sdk_calls.specs.Sources.{lies_below as below};
+ghost use Rattle.dscript_sdk_calls.specs.Ranges.{first_directly_in};
+ghost use Rattle.dscript_sdk_calls.specs.Sources.{files_below, files_directly_in, files_found};
 ghost use Rattle.bx_path.specs.Globbing.{is_pattern};
-ghost use Rattle.bx_tree.specs.Ranges.{comes_before as path_before, prefix_below};
+ghost use Rattle.bx_tree.specs.Ranges.{comes_before, first_below, prefix_below};
 
 use bx_path::{GlobFault, glob};
-use bx_tree::{Memory, Path, Tree, TreeFile};
+use bx_tree::{Memory, Path, Tree, TreeFile, comes_before, prefix_of};
 use dscript_sdk_values::SdkFault;
 use std::alloc::Global;
 
@@ -37,34 +36,13 @@ pub fn find_files(
     }
 }
 
-// The bytes with which the text of each path below a directory begins.
-fn prefix_of(alloc: Global, dir: &Path) -> Result<Vec<u8>, Memory>
-    ensures prefix { IfOk result (λ prefix. prefix.items ≡ prefix_below dir.now) }
-    ensures is_path { IsPath dir.now }
-{
-    let text = dir.text();
-    if text == "." {
-        return Ok(Vec::new(alloc));
-    }
-    let mut prefix = text.as_bytes().to_vec(alloc)?;
-    prefix.push(b'/')?;
-    Ok(prefix)
-}
-
-// Whether a path comes before all paths whose texts begin with these bytes.
-fn comes_before(path: &Path, prefix: &[u8]) -> bool
-    ensures { result ≡ path_before prefix.now path.now }
-{
-    path.text().as_bytes().cmp(prefix).is_lt()
-}
-
 // How many files come before those whose paths' texts begin with these bytes.
 fn count_before(files: &[TreeFile], prefix: &[u8]) -> usize
     requires { IsTree (files_of files.now) }
     ensures bound { result ≤ length files.now }
     ensures before { IsPartitionPoint
-        (λ file. path_before prefix.now file.path ≡ true)
-        (λ file. path_before prefix.now file.path ≡ false)
+        (λ file. comes_before prefix.now file.path ≡ true)
+        (λ file. comes_before prefix.now file.path ≡ false)
         files.now result }
 {
     files.partition_point(|file| comes_before(&file.path, prefix))
@@ -76,7 +54,7 @@ fn share_first_below(alloc: Global, files: &[TreeFile], dir: &Path) -> Result<Ve
 {
     let mut paths = Vec::new(alloc);
     'files: for file in files {
-        if !lies_below(dir, &file.path) {
+        if !file.path.is_below(dir) {
             return Ok(paths);
         }
         paths.push(file.path.share()?)?;
@@ -94,18 +72,11 @@ pub fn find_below(alloc: Global, tree: &Tree, dir: &Path) -> Result<Vec<Path>, M
     share_first_below(alloc, &files[start..], dir)
 }
 
-/// Whether a path lies strictly below a directory.
-pub fn lies_below(dir: &Path, path: &Path) -> bool
-    ensures { result ≡ below dir.now path.now }
-{
-    path.is_below(dir)
-}
-
 // Whether a path below a directory is directly in it.
 fn is_directly_in(dir: &Path, prefix: &[u8], path: &Path) -> bool
     requires prefix { prefix.now ≡ prefix_below dir.now }
-    requires below { below dir.now path.now ≡ true }
-    ensures { result ≡ lies_directly_in dir.now path.now }
+    requires below { is_below path.now dir.now ≡ true }
+    ensures { result ≡ is_directly_in path.now dir.now }
 {
     let (_, rest) = path.text().as_bytes().split_at(prefix.len());
     !rest.contains(&b'/')
@@ -123,7 +94,7 @@ fn share_first_directly_in(
 {
     let mut paths = Vec::new(alloc);
     'files: for file in files {
-        if !lies_below(dir, &file.path) {
+        if !file.path.is_below(dir) {
             return Ok(paths);
         }
         if is_directly_in(dir, prefix, &file.path) {

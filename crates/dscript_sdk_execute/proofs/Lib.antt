@@ -2,7 +2,6 @@ pub mod Artifacts
 pub mod Fields
 pub mod Sets
 pub mod Searches
-pub mod Orders
 pub mod Names
-pub mod FoundByTest
+pub mod Sharing
 pub mod Examples

@@ -11,15 +11,15 @@ use Rattle.std.specs.Cmp.Lexicographic.{slice_cmp}
 use Rattle.std.specs.Ordering.{nat_cmp, is_eq, is_lt, ordering_reverse}
 use Rattle.std.specs.declared.cmp.Ordering.{Ordering}
 use Rattle.std.specs.declared.cmp.Ordering.TheVariants.{Less, Equal, Greater}
-use Rattle.std.proofs.lemmas.Bool.{cases_Bool, false≢true}
+use Rattle.std.proofs.lemmas.Bool.{cases_Bool, false≢true, and_parts, not-true}
 use Rattle.std.proofs.lemmas.Cmp.{nat_list_cmp_total, on_total}
 use Rattle.std.proofs.lemmas.List.Sorted.{Contains-permutation, IsPermutation-sym, ranks_by, sorted_far, sum_by-IsPermutation}
 use Rattle.std.proofs.lemmas.List.Sums.{sum_by-cons}
 use Rattle.std.proofs.lemmas.Map.Text.{is_eq-slice_cmp}
 use Rattle.std.proofs.lemmas.Slice.Eq.{bytes_eq-Decides}
+use Rattle.bx_tree.specs.Members.{Has}
 use Rattle.pip_model_types.specs.Args.{IsSortedByName}
 use Rattle.pip_model_types.specs.declared.args.EnvPair.{EnvPair}
-use Rattle.dscript_sdk_pips.proofs.OneSet.{Has}
 use Rattle.dscript_sdk_execute.specs.ExecuteObject.{has_distinct_names, name_cmp}
 use Rattle.dscript_sdk_execute.specs.Sets.{set_by}
 use Rattle.dscript_sdk_execute.proofs.Sets.{TiedAreEqual, only_set}
@@ -58,20 +58,12 @@ some_there n (x ∷ xs) e = elim (cases_Bool (bytes_eq n x.name)) [
       omega (arith, all, rest)
 ]
 
-both_true : (a b : Bool) → (a && b) ≡ true → (a ≡ true) × (b ≡ true)
-both_true true b e = (refl, e)
-both_true false b e = absurd (false≢true e)
-
-not_true : (a : Bool) → not a ≡ true → a ≡ false
-not_true true e = absurd (false≢true e)
-not_true false e = refl
-
 -- the parts of a distinct list: no later variable has the name of the first, and the rest is distinct
 distinct_parts : (x : EnvPair) (xs : List EnvPair) → has_distinct_names (x ∷ xs) ≡ true
     → (list_any (has_name x.name) xs ≡ false) × (has_distinct_names xs ≡ true)
 distinct_parts x xs e =
-    let parts = both_true (not (list_any (has_name x.name) xs)) (has_distinct_names xs) e in
-    (not_true (list_any (has_name x.name) xs) parts.0, parts.1)
+    let parts = and_parts (not (list_any (has_name x.name) xs)) (has_distinct_names xs) e in
+    (not-true (list_any (has_name x.name) xs) parts.0, parts.1)
 
 at_most_once : (xs : List EnvPair) → has_distinct_names xs ≡ true → (n : List ℕ) → times n xs ≤ 1
 at_most_once [] e n = omega arith

@@ -7,9 +7,9 @@ ghost use Rattle.dscript_sdk_execute.specs.Execute.{written};
 use crate::dependency::Dependency;
 use crate::output::Output;
 use bx_tree::{Memory, Text};
-use dscript_sdk_calls::{artifact_path, path_bytes};
+use dscript_sdk_calls::path_bytes;
 use dscript_sdk_values::share_file;
-use dscript_value::{Argument, Artifact};
+use dscript_value::{Argument, Artifact, artifact_path};
 use pip_model_types::OutDir;
 use std::alloc::Global;
 

@@ -66,7 +66,8 @@ fn has_path(dirs: &[OutDir], path: &Path) -> bool
     false
 }
 
-fn has_output(outs: &Outputs, path: &Path) -> bool
+/// Whether a path is one of the output files of a process.
+pub fn has_output(outs: &Outputs, path: &Path) -> bool
     ensures { result ≡ list_any (same_path path.now) outs.now }
 {
     outs.has(path)

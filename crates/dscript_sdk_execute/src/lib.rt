@@ -1,9 +1,9 @@
-//! The ambient function `Transformer.execute`.
+//! The ambient call `Transformer.execute`, which adds a process pip.
 //!
-//! What the object of the call says is read field by field, and then becomes a process pip: its arguments,
-//! what it takes and makes, each once, and no two outputs that clash. This crate depends on `dscript_sdk_pips`, whose
-//! state it extends. It carries the promise that the call answers what its definition says, or its first
-//! fault, and that a fault leaves the state as it was.
+//! The object of the call is read field by field, and then becomes a process: its arguments, its inputs and
+//! outputs, each once, and no two outputs that clash. This crate depends on `dscript_sdk_pips`, whose state it
+//! extends. It carries the promise that the call evaluates as defined, to its value or its first fault, and that a
+//! fault leaves the state as it was.
 #![tactic(auto)]
 
 mod arguments;
@@ -17,3 +17,4 @@ mod tool;
 mod variables;
 
 pub use calling::execute;
+pub use clashes::has_output;

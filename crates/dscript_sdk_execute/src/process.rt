@@ -98,15 +98,6 @@ fn output_files(alloc: Global, outputs: &[Output]) -> Result<Vec<Path>, Memory>
     Ok(paths)
 }
 
-fn share_directory(dir: &OutDir) -> Result<OutDir, Memory>
-    ensures { IfOk result (λ copy. copy ≡ dir.now) }
-{
-    Ok(OutDir {
-        path: dir.path.share()?,
-        shared: dir.shared,
-    })
-}
-
 // The directories among some outputs.
 fn output_directories(alloc: Global, outputs: &[Output]) -> Result<Vec<OutDir>, Memory>
     ensures { IfOk result (λ dirs. dirs.items ≡ filter_map directory_output outputs.now) }
@@ -114,7 +105,7 @@ fn output_directories(alloc: Global, outputs: &[Output]) -> Result<Vec<OutDir>, 
     let mut dirs = Vec::new(alloc);
     'outputs: for output in outputs {
         if let Output::Directory(dir) = output {
-            dirs.push(share_directory(dir)?)?;
+            dirs.push(dir.share()?)?;
         }
     }
     Ok(dirs)

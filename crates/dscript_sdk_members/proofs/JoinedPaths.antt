@@ -1,39 +1,14 @@
--- The directory of a path, and a path with another last atom, by joining.
-use Rattle.std.proofs.Common.{◌≡◌, ◌≢◌, ℕ, ◌≤◌, true, false, cond, List, [], ◌∷◌, ◌++◌, length, take, codes, refl, ap, sym, ◌∙◌, arith, Some, None, suc, zero, inl, inr, subst, IsTrue, length-append}
+-- A path with another last atom, by joining.
+use Rattle.std.proofs.Common.{◌≡◌, ◌≢◌, ℕ, true, false, cond, List, [], ◌∷◌, ◌++◌, codes, refl, ap, sym, ◌∙◌, Some, None, subst, IsTrue}
 use Rattle.std.specs.Prelude.{option_and_then}
-use Rattle.std.specs.List.{AllByRecursion, join_with_byte}
-use Rattle.std.proofs.lemmas.Bool.{cases_Bool, false≢true, le-leb}
-use Rattle.std.specs.Str.{bytes_eq}
-use Rattle.std.proofs.lemmas.Slice.Eq.{bytes_eq-Decides}
-use Rattle.bx_tree.specs.Paths.{Atoms, IsAtom, IsPath, is_atom_byte, path_text}
-use Rattle.bx_tree.specs.declared.limits.TheConstants.{MAX_PATH_BYTES}
+use Rattle.std.specs.List.{AllByRecursion}
+use Rattle.std.proofs.lemmas.Bool.{false≢true}
+use Rattle.bx_tree.specs.Paths.{Atoms, IsAtom, is_atom_byte}
 use Rattle.bx_path.specs.Joining.{if_short, join_of, parent, walk}
-use Rattle.bx_path.proofs.LastAtoms.{split_whole}
+use Rattle.bx_tree.proofs.AtomsBelow.{split_whole}
+use Rattle.bx_tree.proofs.Lists.{texts_differ}
 use Rattle.bx_path.proofs.StepsOfTexts.{is_atom_true, is_atom_false, step_down}
 use Rattle.dscript_sdk_members.specs.PathMembers.{with_last}
-
--- a path of the first atoms is no longer than one of all
-shorter : (n : ℕ) (xs : Atoms) → length (join_with_byte 47 (take n xs)) ≤ length (join_with_byte 47 xs)
-shorter zero xs = omega arith
-shorter (suc n) [] = omega arith
-shorter (suc zero) (x ∷ []) = omega arith
-shorter (suc (suc n)) (x ∷ []) = omega arith
-shorter (suc zero) (x ∷ y ∷ ys) = omega (arith, length-append x (47 ∷ join_with_byte 47 (y ∷ ys)))
-shorter (suc (suc n)) (x ∷ y ∷ ys) =
-    let rest = shorter (suc n) (y ∷ ys) in
-    omega (arith, rest, length-append x (47 ∷ join_with_byte 47 (y ∷ take n ys)), length-append x (47 ∷ join_with_byte 47 (y ∷ ys)))
-
-parent_short : (a : List ℕ) (rest : Atoms) → IsPath (a ∷ rest)
-    → if_short (take (length rest) (a ∷ rest)) ≡ Some (take (length rest) (a ∷ rest))
-parent_short a [] h = refl
-parent_short a (b ∷ bs) h =
-    let fits : length (path_text (a ∷ take (length bs) (b ∷ bs))) ≤ MAX_PATH_BYTES = omega (arith, shorter (suc (length bs)) (a ∷ b ∷ bs), h.short) in
-    ap (λ t. cond t (Some (a ∷ take (length bs) (b ∷ bs))) None) (le-leb (length (path_text (a ∷ take (length bs) (b ∷ bs)))) MAX_PATH_BYTES fits)
-
--- `..` leads to the directory of a path
-pub join_up : (path : Atoms) → IsPath path → path ≢ [] → join_of path (codes "..") ≡ parent path
-join_up [] h some = absurd (some refl)
-join_up (a ∷ rest) h some = parent_short a rest h
 
 pub parent_there : (path : Atoms) → path ≢ [] → parent path ≢ None
 parent_there [] some e = some refl
@@ -45,18 +20,12 @@ no_slash : (bs : List ℕ) → AllByRecursion (λ b. IsTrue (is_atom_byte b)) bs
 no_slash [] h = tt
 no_slash (b ∷ bs) h = (λ e. false≢true (subst (λ c. is_atom_byte c ≡ true) e h.0), no_slash bs h.1)
 
-pub differs : (x y : List ℕ) → x ≢ y → bytes_eq x y ≡ false
-differs x y n = elim (cases_Bool (bytes_eq x y)) [
-  | inl e ↦ absurd (n ((bytes_eq-Decides x y).0 e))
-  | inr e ↦ e
-]
-
 -- an atom leads to the path with it
 pub join_down : (dir : Atoms) (atom : List ℕ) → IsAtom atom → join_of dir atom ≡ if_short (dir ++ atom ∷ [])
 join_down dir atom h =
     ap (λ parts. option_and_then if_short (walk dir parts)) (split_whole atom (no_slash atom h.bytes))
     ∙ ap (λ o. option_and_then if_short (option_and_then (λ next. walk next []) o))
-    (step_down dir atom (differs atom (codes ".") h.not_dot) (differs atom (codes "..") h.not_dots) h)
+    (step_down dir atom (texts_differ atom (codes ".") h.not_dot) (texts_differ atom (codes "..") h.not_dots) h)
 
 pub with_last-atom : (path dir : Atoms) (atom : List ℕ) → IsAtom atom → parent path ≡ Some dir → with_last path atom ≡ join_of dir atom
 with_last-atom path dir atom h e =

@@ -5,7 +5,8 @@ use Rattle.std.specs.List.{AllByRecursion, last_or, slice_split}
 use Rattle.std.proofs.lemmas.Bool.{ne_eqb}
 use Rattle.std.proofs.lemmas.List.{at_drop_all, at_drop_more, take_more}
 use Rattle.std.proofs.lemmas.List.Splits.{length-slice_split}
-use Rattle.bx_path.proofs.LastAtoms.{is_slash, split_first, split_whole}
+use Rattle.bx_tree.proofs.AtomsBelow.{split_first, split_whole}
+use Rattle.bx_tree.proofs.PathTexts.{is_slash}
 use Rattle.dscript_sdk_members.specs.PathMembers.{before_dot, before_dot_or, is_dot}
 
 -- ## The last part of a text

@@ -3,7 +3,7 @@ ghost use Rattle.std.specs.Prelude.{◌≡◌, ◌+◌, ◌≤◌, IfOk, IfSome,
 ghost use Rattle.dscript_sdk_members.specs.FirstPlaces.{first_place};
 ghost use Rattle.dscript_sdk_members.specs.Periods.{ArePeriods};
 
-use dscript_sdk_values::Memory;
+use bx_tree::Memory;
 use std::alloc::Global;
 
 /// The least period of the first byte of a text, of its first two bytes, and so on.

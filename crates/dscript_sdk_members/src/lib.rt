@@ -1,9 +1,9 @@
-//! Methods and properties of strings, arrays and paths.
+//! Methods and properties of strings, lists, paths, files and directories.
 //!
-//! What `x.name` and `x.name(..)` come to where `x` is a text, a list, a path, a file or a directory. Members
-//! of processes and static directories, which need the list of pips, are in `dscript_sdk`. This crate depends
-//! on `dscript_sdk_values` and `bx_path`. It carries the promise that each of these members answers what its
-//! definition says.
+//! This crate evaluates `x.name` and `x.name(..)` where `x` is a text, a list, a path, a file or a directory.
+//! Members of processes and static directories, which need the list of pips, are in `dscript_sdk`. This crate
+//! depends on `dscript_sdk_values` and `bx_path`. It carries the promise that each of these members evaluates as
+//! defined.
 #![tactic(auto)]
 
 mod finding;

@@ -1,8 +1,8 @@
 //! The members of paths, files and directories.
-ghost use Rattle.std.specs.Prelude.{◌≡◌, ◌≢◌, ◌==◌, ◌≤◌, ◌<◌, ◌+◌, ◌++◌, ◌∷◌, [], map, take};
+ghost use Rattle.std.specs.Prelude.{◌≡◌, ◌≢◌, ◌==◌, ◌≤◌, ◌<◌, ◌+◌, [], map, take};
 ghost use Rattle.std.specs.Prelude.{IfOk, IfSome, Ok, Some, None};
 ghost use Rattle.std.specs.Prelude.{length, option_map, MatchOption, MatchResult};
-ghost use Rattle.std.specs.List.{AllByRecursion, last_or, slice_split};
+ghost use Rattle.std.specs.List.{last_or, slice_split};
 ghost use Rattle.bx_path.specs.Joining.{join_of, parent};
 ghost use Rattle.dscript_value.specs.Plain as plain;
 ghost use Rattle.dscript_value.specs.Plain.{plain_of};
@@ -16,24 +16,10 @@ ghost use Rattle.dscript_sdk_members.specs.PathMembers.{name_answer, parent_answ
 
 use crate::member::Member;
 use bx_path::join;
-use bx_tree::{Path, PathFault, Text, is_atom};
+use bx_tree::{Path, PathFault, Text, is_atom, split_once};
 use dscript_sdk_values::{SdkFault, first_argument, read_text};
 use dscript_value::Value;
 use std::alloc::Global;
-
-// The parts of a text before and after its first `/`.
-fn split_at_slash(text: &[u8]) -> Option<(&[u8], &[u8])>
-    ensures { MatchOption result
-        (AllByRecursion (λ b. b ≢ 47) text.now)
-        (λ parts. AllByRecursion (λ b. b ≢ 47) parts.0.now × (text.now ≡ parts.0.now ++ 47 ∷ parts.1.now)) }
-{
-    for (i, b) in text.iter().enumerate() {
-        if *b == b'/' {
-            return Some((&text[..i], &text[i + 1..]));
-        }
-    }
-    None
-}
 
 // The part of a text after its last `/`.
 fn last_part(text: &[u8]) -> &[u8]
@@ -41,7 +27,7 @@ fn last_part(text: &[u8]) -> &[u8]
 {
     let mut rest = text;
     'parts: loop {
-        match split_at_slash(rest) {
+        match split_once(rest, b'/') {
             Some((_, after)) => rest = after,
             None => return rest,
         }

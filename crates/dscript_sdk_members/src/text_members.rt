@@ -11,8 +11,8 @@ ghost use Rattle.dscript_sdk_members.specs.TextMembers.{text_test};
 
 use crate::finding::{find_text, periods_of};
 use crate::member::Member;
-use bx_tree::Text;
-use dscript_sdk_values::{Memory, SdkFault, first_argument, list_value, number_value, read_text};
+use bx_tree::{Memory, Text};
+use dscript_sdk_values::{SdkFault, first_argument, list_value, number_value, read_text};
 use dscript_value::Value;
 use std::alloc::Global;
 

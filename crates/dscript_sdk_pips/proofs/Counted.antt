@@ -10,6 +10,7 @@ use Rattle.std.specs.declared.cmp.Ordering.{Ordering}
 use Rattle.std.specs.declared.cmp.Ordering.TheVariants.{Less, Equal, Greater}
 use Rattle.std.proofs.lemmas.Bool.{cases_Bool, cases_lt, false≢true, le-leb, leb-true}
 use Rattle.std.proofs.lemmas.Cmp.{tied_itself}
+use Rattle.std.proofs.lemmas.Option.{same_Some}
 use Rattle.bx_tree.specs.Orders.{equal_paths, path_cmp_total}
 use Rattle.bx_tree.specs.Paths.{Atoms, path_cmp}
 use Rattle.bx_tree.specs.declared.file_input.FileInput.{FileInput}
@@ -17,8 +18,9 @@ use Rattle.bx_tree.specs.declared.file_input.FileInput.TheVariants.{Source, Made
 use Rattle.dscript_sdk_pips.specs.FileSets.{AreCounted, FileMap, MayCount, counted, counting, file_for, files_by_path, put_file}
 use Rattle.dscript_sdk_pips.proofs.FilesKept.{Own, files_rise, keys, own_from, rising_from, values}
 use Rattle.dscript_sdk_pips.proofs.Listed.{path_kept}
-use Rattle.dscript_sdk_pips.proofs.OneSet.{Has, contains_has, has_contained}
 use Rattle.bx_tree.specs.FileInputs.{input_path}
+use Rattle.bx_tree.specs.Members.{Has}
+use Rattle.bx_tree.proofs.Sets.{contains_has, has_contained}
 
 -- ## Which of two files counts
 
@@ -109,15 +111,12 @@ counted_new f (Some g) = counting_first f g
 counted_old : (f : FileInput) (o : Option FileInput) (g : FileInput) → o ≡ Some g → MayCount (counted f o) g
 counted_old f o g e = subst (λ p. MayCount (counted f p) g) (sym e) (counting_second f g)
 
-same_some : (x y : FileInput) → Some x ≡ Some y → x ≡ y
-same_some x y e = cc
-
 kept_here : (f : FileInput) (fs : List FileInput) (o : Option FileInput) (g : FileInput)
     → KeptFor (input_path f) (Some (counted f o)) fs g → KeptFor (input_path f) o (f ∷ fs) g
 kept_here f fs o g h = record {
   given = elim h.given [
     | inl put ↦
-        let is = same_some (counted f o) g put in
+        let is = same_Some (counted f o) g put in
         elim (counted_either f o) [ inl new ↦ inr (inl (sym new ∙ is)) | inr old ↦ inl (old ∙ ap Some is) ]
     | inr later ↦ inr (inr later)
   ];
@@ -144,7 +143,7 @@ kept_for : (files : List FileInput) (es : FileMap) (q : Atoms) (g : FileInput) �
 kept_for [] es q g e = record {
   given = inl e;
   least = λ other there path. absurd there;
-  over = λ other old. subst (MayCount g) (same_some g other (sym e ∙ old)) (may_count_itself g);
+  over = λ other old. subst (MayCount g) (same_Some g other (sym e ∙ old)) (may_count_itself g);
 }
   where
     may_count_itself : (f : FileInput) → MayCount f f

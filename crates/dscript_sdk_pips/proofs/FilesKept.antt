@@ -3,22 +3,21 @@ use Rattle.std.proofs.Common.{◌≡◌, ℕ, Bool, true, false, cond, nat_le, L
 use Rattle.std.specs.Prelude.{fold}
 use Rattle.std.specs.BTreeMap.{insert_entry}
 use Rattle.std.specs.BTreeSet.{insert_key}
-use Rattle.std.specs.List.{AllByRecursion, IsDistinct}
-use Rattle.std.specs.List.Sorted.{IsPermutation, IsStrictlySortedBy}
+use Rattle.std.specs.List.{AllByRecursion}
+use Rattle.std.specs.List.Sorted.{IsStrictlySortedBy}
 use Rattle.std.specs.Cmp.{Equal-is}
-use Rattle.std.specs.Ordering.{is_eq, match_ordering, on, ordering_reverse}
+use Rattle.std.specs.Ordering.{is_eq, match_ordering}
 use Rattle.std.specs.declared.cmp.Ordering.{Ordering}
 use Rattle.std.specs.declared.cmp.Ordering.TheVariants.{Less, Equal, Greater}
 use Rattle.std.proofs.lemmas.Bool.{cases_Bool}
-use Rattle.std.proofs.lemmas.List.Sorted.{Contains-permutation, IsPermutation-sym}
-use Rattle.bx_tree.specs.Orders.{equal_paths, path_cmp_matches, path_cmp_total}
-use Rattle.bx_tree.specs.Paths.{Atoms, path_cmp, same_path}
+use Rattle.bx_tree.specs.Orders.{equal_paths, path_cmp_total}
+use Rattle.bx_tree.specs.Paths.{Atoms, path_cmp}
 use Rattle.bx_tree.specs.declared.file_input.FileInput.{FileInput}
 use Rattle.bx_tree.specs.declared.file_input.FileInput.TheVariants.{Source, Made}
 use Rattle.pip_model_types.specs.Inputs.{RiseByPath}
 use Rattle.dscript_sdk_pips.specs.FileSets.{FileMap, counted, counting, file_for, files_by_path, put_file}
-use Rattle.dscript_sdk_pips.proofs.OneSet.{contains_has, has_contained, insert_sorted, unique}
 use Rattle.bx_tree.specs.FileInputs.{input_path}
+use Rattle.bx_tree.proofs.Sets.{insert_sorted}
 
 abbrev pub keys : FileMap → List Atoms
 keys es = map (λ (e : Atoms × FileInput). e.0) es
@@ -107,33 +106,3 @@ pub files_rise : (files : List FileInput) → RiseByPath (files_by_path files)
 files_rise files =
     subst (IsStrictlySortedBy path_cmp) (sym (own_paths (fold put_file [] files) (own_from files [] tt)))
     (rising_from files [] no_keys)
-
--- ## Rising paths are distinct, and one list of files has them
-
-other_paths : (x : Atoms) (ys : List Atoms) → AllByRecursion (λ y. path_cmp x y ≡ Less) ys → AllByRecursion (λ y. same_path x y ≡ false) ys
-other_paths x [] h = tt
-other_paths x (y ∷ ys) h = (path_cmp_matches x y ∙ ap is_eq h.0, other_paths x ys h.1)
-
-pub distinct_paths : (paths : List Atoms) → IsStrictlySortedBy path_cmp paths → IsDistinct same_path paths
-unfolding IsStrictlySortedBy IsDistinct
-distinct_paths [] h = tt
-distinct_paths (x ∷ xs) h = (other_paths x xs h.0, distinct_paths xs h.1)
-
-asymmetric : (a b : Atoms) → path_cmp a b ≡ Less → path_cmp b a ≡ Less → ⊥
-asymmetric a b e f = let back : path_cmp a b ≡ Greater = path_cmp_total.antisymm a b ∙ ap ordering_reverse f in cc
-
-all_by_path : (x : FileInput) (ys : List FileInput) → AllByRecursion (λ y. path_cmp (input_path x) y ≡ Less) (map input_path ys)
-    → AllByRecursion (λ y. on input_path path_cmp x y ≡ Less) ys
-all_by_path x [] h = tt
-all_by_path x (y ∷ ys) h = (h.0, all_by_path x ys h.1)
-
-by_path : (files : List FileInput) → RiseByPath files → IsStrictlySortedBy (on input_path path_cmp) files
-unfolding IsStrictlySortedBy
-by_path [] h = tt
-by_path (x ∷ xs) h = (all_by_path x xs h.0, by_path xs h.1)
-
-pub one_order : (files sorted : List FileInput) → RiseByPath files → RiseByPath sorted → IsPermutation files sorted → sorted ≡ files
-one_order files sorted h k same =
-    unique (on input_path path_cmp) (λ a b. asymmetric (input_path a) (input_path b)) sorted files (by_path sorted k) (by_path files h)
-    (λ q there. has_contained files q (Contains-permutation sorted files q (IsPermutation-sym files sorted same) (contains_has sorted q there)))
-    (λ q there. has_contained sorted q (Contains-permutation files sorted q same (contains_has files q there)))

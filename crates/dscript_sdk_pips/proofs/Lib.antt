@@ -1,5 +1,4 @@
 pub mod CountsKept
-pub mod OneSet
 pub mod FilesKept
 pub mod NewPips
 pub mod ShortPaths

@@ -1,22 +1,21 @@
 -- Which paths files have, before and after one of each path is kept.
-use Rattle.std.proofs.Common.{◌≡◌, ◌≢◌, ◌⊎◌, ◌↔◌, ℕ, ◌<◌, Bool, true, false, ◌||◌, ◌&&◌, IsTrue, List, [], ◌∷◌, length, get_or, map, Result, Ok, Err, refl, ap, sym, ◌∙◌, subst, inl, inr, arith}
+use Rattle.std.proofs.Common.{◌≡◌, ◌⊎◌, ◌↔◌, Bool, true, false, ◌||◌, ◌&&◌, IsTrue, List, [], ◌∷◌, map, refl, ap, sym, ◌∙◌, subst, inl, inr}
 use Rattle.std.specs.Prelude.{Contains, fold}
 use Rattle.std.specs.Cmp.{both_ways}
-use Rattle.std.specs.List.{All, HoldsAt, list_all}
-use Rattle.std.specs.Result.{MatchResult, is_ok}
-use Rattle.std.proofs.lemmas.List.{get_or-map, length-map}
+use Rattle.std.specs.List.{list_all}
 use Rattle.std.proofs.lemmas.Bool.{cases_Bool, false≢true}
 use Rattle.bx_tree.specs.Orders.{equal_paths, same_path_decides}
 use Rattle.bx_tree.specs.Paths.{Atoms, path_cmp, same_path}
 use Rattle.bx_tree.specs.Trees.{Files}
 use Rattle.bx_tree.specs.declared.file_input.FileInput.{FileInput}
-use Rattle.bx_tree.specs.declared.file_input.FileInput.TheVariants.{Source}
 use Rattle.dscript_sdk_calls.specs.Sources.{files_below}
 use Rattle.dscript_sdk_pips.specs.FileSets.{FileMap, counted, file_for, files_by_path, put_file}
 use Rattle.dscript_sdk_pips.specs.Seals.{is_listed, lists_sources}
 use Rattle.dscript_sdk_pips.proofs.FilesKept.{keys, keys_put, own_from, own_paths}
-use Rattle.dscript_sdk_pips.proofs.OneSet.{Has, contains_has, has_contained, has_insert, insert_has}
 use Rattle.bx_tree.specs.FileInputs.{input_path}
+use Rattle.bx_tree.specs.Members.{Has}
+use Rattle.bx_tree.proofs.Sets.{contains_has, has_contained, has_insert, insert_has}
+use Rattle.bx_tree.proofs.Members.{has_map}
 
 -- ## Listed by a test, and among the paths
 
@@ -46,24 +45,6 @@ listed_from_answer files path answer h =
     (λ e. has_listed files path (has_contained (map input_path files) path (h.0 e)))
     (λ e. h.1 (contains_has (map input_path files) path (listed_has files path e)))
 
--- ## Found by a search, and among the paths
-
-has_at : (files : List FileInput) (path : Atoms) (i : ℕ) → i < length files → input_path (get_or files i (Source path)) ≡ path
-    → Contains (map input_path files) path
-has_at files path i low same =
-    (i, omega (arith, low, length-map files input_path), get_or-map input_path files i (Source path) path low ∙ same)
-
-pub has_if_found : (files : List FileInput) (path : Atoms) (r : Result ℕ ℕ)
-    → MatchResult r (λ i. (i < length files) × HoldsAt (λ (f : FileInput). input_path f ≡ path) files i) (λ i. All (λ (f : FileInput). input_path f ≢ path) files)
-    → IsTrue (is_ok r) ↔ Contains (map input_path files) path
-has_if_found files path (Ok i) h = (λ e. has_at files path i h.0 (h.1 (Source path)), λ k. refl)
-has_if_found files path (Err i) h = (λ e. absurd (false≢true e), λ k. absurd (none k))
-  where
-    none : Contains (map input_path files) path → ⊥
-    none k =
-        let low : k.0 < length files = omega (arith, k.1, length-map files input_path) in
-        h k.0 (Source path) low (sym (get_or-map input_path files k.0 (Source path) path low) ∙ k.2)
-
 -- ## The files that count have the paths of all
 
 kept_has : (files : List FileInput) (es : FileMap) (q : Atoms) → Has (keys es) q ⊎ Has (map input_path files) q
@@ -89,22 +70,18 @@ has_kept (f ∷ fs) es q h = elim (has_kept fs (put_file es f) q h) [
 ]
   where
     taken : Has (keys (put_file es f)) q → (input_path f ≡ q) ⊎ Has (keys es) q
-    taken h = has_insert path_cmp equal_paths (keys es) (input_path f) q
+    taken h = has_insert path_cmp (keys es) (input_path f) q
         (subst (λ ks. Has ks q) (keys_put es (input_path f) (counted f (file_for es (input_path f)))) h)
 
 paths_kept : (files : List FileInput) → map input_path (files_by_path files) ≡ keys (fold put_file [] files)
 paths_kept files = own_paths (fold put_file [] files) (own_from files [] tt)
-
-has_path : (files : List FileInput) (file : FileInput) → Has files file → Has (map input_path files) (input_path file)
-has_path [] file h = absurd h
-has_path (f ∷ fs) file h = elim h [ inl here ↦ inl (ap input_path here) | inr more ↦ inr (has_path fs file more) ]
 
 pub path_kept : (files : List FileInput) (file : FileInput) → Contains files file
     → Contains (map input_path (files_by_path files)) (input_path file)
 path_kept files file h =
     contains_has (map input_path (files_by_path files)) (input_path file)
     (subst (λ ps. Has ps (input_path file)) (sym (paths_kept files))
-    (kept_has files [] (input_path file) (inr (has_path files file (has_contained files file h)))))
+    (kept_has files [] (input_path file) (inr (has_map input_path files file (has_contained files file h)))))
 
 listed_by_path : (files : List FileInput) (path : Atoms) → is_listed (files_by_path files) path ≡ is_listed files path
 listed_by_path files path =

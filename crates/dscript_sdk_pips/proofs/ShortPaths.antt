@@ -1,5 +1,5 @@
 -- Paths that are short enough, and atoms one after another.
-use Rattle.std.proofs.Common.{append_assoc, append-nil, ◌≡◌, ◌≢◌, ℕ, ◌+◌, ◌<◌, ◌≤◌, ◌^◌, Bool, true, false, cond, nat_le, IsTrue, List, [], ◌∷◌, ◌++◌, length, length-append, codes, Some, None, ap, sym, ◌∙◌, inl, inr, arith, lit<, ◌%◌}
+use Rattle.std.proofs.Common.{append-nil, ◌≡◌, ◌≢◌, ℕ, ◌+◌, ◌<◌, ◌≤◌, ◌^◌, Bool, true, false, cond, nat_le, IsTrue, List, [], ◌∷◌, ◌++◌, length, length-append, codes, Some, None, ap, sym, ◌∙◌, inl, inr, arith, lit<, ◌%◌}
 use Rattle.std.specs.Prelude.{option_and_then}
 use Rattle.std.specs.Fmt.{decimal}
 use Rattle.std.specs.List.{AllByRecursion, join_with_byte}
@@ -9,8 +9,8 @@ use Rattle.std.proofs.lemmas.Fmt.{decimal_by_steps, length-decimal-le}
 use Rattle.bx_tree.specs.Paths.{Atoms, IsAtom, IsPath, is_atom_byte, path_text}
 use Rattle.bx_tree.specs.declared.limits.TheConstants.{MAX_PATH_BYTES}
 use Rattle.bx_path.specs.Joining.{if_short, join_of, walk}
-use Rattle.bx_path.proofs.StepsOfTexts.{atoms_from_text, join-push, root_from_text, step_down}
-use Rattle.dscript_sdk_members.proofs.JoinedPaths.{differs}
+use Rattle.bx_path.proofs.StepsOfTexts.{join-push, walk_down}
+use Rattle.bx_tree.proofs.PathTexts.{atoms_from_text, root_from_text}
 
 -- ## Short paths
 
@@ -44,21 +44,13 @@ long_with_more path atom l e = elim (cases_Bool (nat_le (length (path_text (path
 
 -- ## Atoms one after another
 
-walk_atoms : (dir parts : Atoms) → AllByRecursion IsAtom parts → walk dir parts ≡ Some (dir ++ parts)
-walk_atoms dir [] h = ap Some (sym (append-nil dir))
-walk_atoms dir (part ∷ parts) h =
-    ap (option_and_then (λ next. walk next parts))
-    (step_down dir part (differs part (codes ".") h.0.not_dot) (differs part (codes "..") h.0.not_dots) h.0)
-    ∙ walk_atoms (dir ++ part ∷ []) parts h.1
-    ∙ ap Some (append_assoc dir (part ∷ []) parts)
-
 -- the text of a path leads to the path below
 pub join_text_of : (dir path : Atoms) → IsPath path → join_of dir (path_text path) ≡ if_short (dir ++ path)
 join_text_of dir [] h = ap if_short (sym (append-nil dir))
 join_text_of dir (a ∷ rest) h =
     let other : path_text (a ∷ rest) ≢ codes "." = λ e. let root = root_from_text (a ∷ rest) h e in cc in
     ap (λ parts. option_and_then if_short (walk dir parts)) (atoms_from_text (a ∷ rest) h other)
-    ∙ ap (option_and_then if_short) (walk_atoms dir (a ∷ rest) h.atoms)
+    ∙ ap (option_and_then if_short) (walk_down dir (a ∷ rest) h.atoms)
 
 -- ## Digits
 

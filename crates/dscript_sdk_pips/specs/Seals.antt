@@ -1,6 +1,7 @@
 -- Sealed directories: what may be sealed.
 use Rattle.std.specs.Prelude.{Bool, List, Ok}
 use Rattle.std.specs.List.{list_all, list_any}
+use Rattle.bx_tree.specs.Below.{is_below}
 use Rattle.bx_tree.specs.Paths.{Atoms, same_path}
 use Rattle.bx_tree.specs.Trees.{Files}
 use Rattle.bx_tree.specs.declared.file_input.FileInput.{FileInput}
@@ -12,7 +13,7 @@ use Rattle.dscript_value.specs.Plain.{Plain}
 use Rattle.dscript_sdk_values.specs.Arguments.{two_of}
 use Rattle.dscript_sdk_values.specs.Kinds.{directory_in, file_in, list_in}
 use Rattle.dscript_sdk_values.specs.Outcomes.{Outcome, ◌>>=◌}
-use Rattle.dscript_sdk_calls.specs.Sources.{files_below, lies_below}
+use Rattle.dscript_sdk_calls.specs.Sources.{files_below}
 use Rattle.dscript_sdk_pips.specs.States.{Change, State, with_pip}
 use Rattle.bx_tree.specs.FileInputs.{input_path}
 
@@ -26,7 +27,7 @@ sealed_in args =
 
 -- whether each file lies below the directory
 abbrev pub are_below : Atoms → List FileInput → Bool
-are_below dir files = list_all (λ file. lies_below dir (input_path file)) files
+are_below dir files = list_all (λ file. is_below (input_path file) dir) files
 
 -- whether a file has this path
 abbrev pub is_listed : List FileInput → Atoms → Bool

@@ -11,15 +11,6 @@ use pip_model_types::FileInputs;
 use std::alloc::Global;
 use std::collections::BTreeMap;
 
-// The path of a file.
-pub(crate) fn path_of(file: &FileInput) -> &Path
-    ensures { result.now ≡ input_path file.now }
-{
-    match file {
-        FileInput::Source(path) | FileInput::Made(path, _) => path,
-    }
-}
-
 // Of two files of one path the source file counts, and otherwise that of the lesser maker.
 fn which_counts<'a>(file: &'a FileInput, other: &'a FileInput) -> &'a FileInput
     ensures { result.now ≡ counting file.entry.now other.entry.now }
@@ -38,7 +29,7 @@ fn share_counted(files: &BTreeMap<Path, FileInput>, file: &FileInput) -> Result<
     ensures { IfOk result (λ kept.
         kept ≡ counted file.now (file_for files.now.entries (input_path file.now))) }
 {
-    match files.get(path_of(file)) {
+    match files.get(file.path()) {
         Some(other) => share_file(which_counts(file, other)),
         None => share_file(file),
     }
@@ -48,7 +39,7 @@ fn put_file(files: &mut BTreeMap<Path, FileInput>, file: &FileInput) -> Result<(
     ensures { OnOk result (files.new.entries ≡ spec.put_file files.old.entries file.now) }
 {
     let kept = share_counted(files, file)?;
-    let path = path_of(file).share()?;
+    let path = file.path().share()?;
     files.insert(path, kept)?;
     Ok(())
 }

@@ -1,9 +1,8 @@
-//! Ambient functions that add pips: writes, copies, seals and output directories.
+//! Ambient calls that add pips: writes, copies and seals; and those that name output directories.
 //!
-//! Written and copied files, sealed directories and numbered output directories. Processes are in
-//! `dscript_sdk_execute`. This crate depends on `pip_model_types`, `dscript_sdk_values`, `dscript_sdk_members` and
-//! `dscript_sdk_calls`. It carries the promise that each of these calls answers what its definition says, or its
-//! first fault, and that a fault leaves the state as it was.
+//! Processes are in `dscript_sdk_execute`. This crate depends on `pip_model_types`, `dscript_sdk_values`,
+//! `dscript_sdk_members` and `dscript_sdk_calls`. It carries the promise that each of these calls evaluates as
+//! defined, to its value or its first fault, and that a fault leaves the state as it was.
 #![tactic(auto)]
 
 mod counts;

@@ -1,9 +1,8 @@
 //! Calls that seal directories.
-ghost use Rattle.std.specs.Prelude.{◌≡◌, ◌↔◌, [], IsTrue, Contains, Ok, Err, map};
+ghost use Rattle.std.specs.Prelude.{◌≡◌, [], Ok, Err, map};
 ghost use Rattle.std.specs.Prelude.{IfOk, IfErr, OnErr, MatchResult};
 ghost use Rattle.std.specs.List.{list_all};
 ghost use Rattle.dscript_sdk_values.specs.Outcomes.{Refuses};
-ghost use Rattle.pip_model_types.specs.Inputs.{RiseByPath};
 ghost use Rattle.dscript_sdk_pips.specs.FileSets.{files_by_path as files_that_count};
 ghost use Rattle.dscript_sdk_pips.specs.SealDirectory as full;
 ghost use Rattle.dscript_sdk_pips.specs.SealDirectory.{full_seal as full_seal_of};
@@ -15,13 +14,12 @@ ghost use Rattle.dscript_sdk_pips.specs.Seals as seals;
 ghost use Rattle.dscript_sdk_pips.specs.Seals.{sealed_in, with_sealed};
 ghost use Rattle.dscript_sdk_calls.specs.Sources.{files_below};
 ghost use Rattle.dscript_value.specs.Plain.{plain_of};
-ghost use Rattle.bx_tree.specs.FileInputs.{input_path};
 
-use crate::file_sets::{files_by_path, path_of};
+use crate::file_sets::files_by_path;
 use crate::site::Site;
 use crate::state::SdkState;
 use bx_tree::{FileInput, Memory, Path, Tree};
-use dscript_sdk_calls::{find_below, lies_below};
+use dscript_sdk_calls::find_below;
 use dscript_sdk_values::{SdkFault, read_directory, read_list, two_arguments};
 use dscript_value::{StaticDir, Value};
 use pip_model_types::{FileInputs, PipKind, SealDesc, SealForm};
@@ -138,28 +136,18 @@ fn are_below(dir: &Path, files: &[FileInput]) -> bool
     ensures { result ≡ seals.are_below dir.now files.now }
 {
     'files: for file in files {
-        if !lies_below(dir, path_of(file)) {
+        if !file.path().is_below(dir) {
             return false;
         }
     }
     true
 }
 
-// Whether one of some files, which rise by path, has a path.
-fn has_path(files: &[FileInput], path: &Path) -> bool
-    requires { RiseByPath files.now }
-    ensures { IsTrue result ↔ Contains (map input_path files.now) path.now }
-{
-    files
-        .binary_search_by(|file| path_of(file).cmp(path))
-        .is_ok()
-}
-
 // Whether one of the files of a seal has a path.
 fn is_listed(files: &FileInputs, path: &Path) -> bool
     ensures { result ≡ seals.is_listed files.now path.now }
 {
-    has_path(files.files(), path)
+    files.has_path(path)
 }
 
 fn are_listed(files: &FileInputs, paths: &[Path]) -> bool

@@ -1,8 +1,8 @@
-//! Conversion between run-time values and the arguments and results of ambient functions.
+//! Conversion between run-time values and the arguments and results of ambient calls.
 //!
-//! The faults of a call, the kinds that its arguments must have, objects with known fields, and texts,
-//! numbers and lists within the limits. This crate depends on `dscript_value`. It carries the promise that a
-//! value is read as what it is, or refused with the first fault that it has.
+//! Here are the faults of a call, the kinds that its arguments must have, objects with known fields, and texts,
+//! numbers and lists within the limits. This crate depends on `dscript_value`. It carries the promise that a value
+//! is converted exactly where it has the kind, and gives its first fault otherwise.
 #![tactic(auto)]
 
 mod answers;
@@ -26,6 +26,3 @@ pub use reading::{
     FromValue, read_each, read_field, read_list, read_list_field, read_optional,
     read_optional_list, share_file,
 };
-
-/// Out of memory, the one refusal that no contract ties to a cause.
-pub type Memory = std::alloc::AllocError;

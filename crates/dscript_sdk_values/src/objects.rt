@@ -8,13 +8,7 @@ ghost use Rattle.dscript_sdk_values.specs.Objects.{fields_in, has_all as has_nam
 ghost use Rattle.bx_tree.specs.Lent.{texts_now};
 
 use crate::fault::SdkFault;
-use dscript_value::{Field, Fields, Value};
-
-fn name_of(field: &Field) -> &[u8]
-    ensures { result.now ≡ (plain_field field.now).0 }
-{
-    field.name.bytes()
-}
+use dscript_value::{Field, Fields, Value, field_name};
 
 fn is_name(names: &[&[u8]], name: &[u8]) -> bool
     ensures { result ≡ is_among (texts_now names.now) name.now }
@@ -31,7 +25,7 @@ fn is_known(field: &Field, required: &[&[u8]], optional: &[&[u8]]) -> bool
     ensures { result ≡ (is_among (texts_now required.now) (plain_field field.now).0
         || is_among (texts_now optional.now) (plain_field field.now).0) }
 {
-    let name = name_of(field);
+    let name = field_name(field);
     is_name(required, name) || is_name(optional, name)
 }
 

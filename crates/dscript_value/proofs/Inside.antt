@@ -1,5 +1,6 @@
 -- What is known of a list by its parts.
 use Rattle.std.proofs.Common.{◌≡◌, ◌∙◌, List, ◌++◌, ℕ, ◌+◌, ◌<◌, ◌^◌, max, length, slice_get, ap, sym, subst, arith, append_assoc, length-append}
+use Rattle.bx_tree.proofs.Lists.{slice_get-append}
 use Rattle.dscript_value.specs.declared.value.Parts.{Parts}
 use Rattle.dscript_value.specs.declared.value.Parts.TheVariants.{Flat, Joined}
 use Rattle.dscript_value.specs.declared.value.Join.{Join}
@@ -7,7 +8,7 @@ use Rattle.dscript_value.specs.Data.{Plain, PlainValues, item_list, item_list-to
 use Rattle.dscript_value.specs.Depths.{IsDeep}
 use Rattle.dscript_value.specs.Inner.{AreHalves, IsJoin, IsWhole, joined_items, values_of_parts}
 use Rattle.dscript_value.proofs.Deep.{deep_joined}
-use Rattle.dscript_value.proofs.Getting.{get_left, get_right}
+use Rattle.dscript_value.proofs.Getting.{get_right}
 
 pub deep_of_whole : (p : Parts) → IsWhole p → IsDeep (values_of_parts p)
 deep_of_whole (Flat values) whole = whole
@@ -63,7 +64,7 @@ right_smaller j v is e =
 pub item_on_left : (j : Join) (v : PlainValues) (i : ℕ) → joined_items j ≡ v → i < length (item_list j.left.items)
     → slice_get (item_list j.left.items) i ≡ slice_get (item_list v.items) i
 item_on_left j v i e l =
-    sym (get_left (item_list j.left.items) (item_list j.right.items) i l) ∙ ap (λ xs. slice_get xs i) (sym (items_joined j v e))
+    sym (slice_get-append (item_list j.left.items) (item_list j.right.items) i l) ∙ ap (λ xs. slice_get xs i) (sym (items_joined j v e))
 
 pub item_on_right : (j : Join) (v : PlainValues) (i n : ℕ) → joined_items j ≡ v → i ≡ length (item_list j.left.items) + n
     → slice_get (item_list j.right.items) n ≡ slice_get (item_list v.items) i

@@ -4,5 +4,4 @@ pub mod Finding
 pub mod Getting
 pub mod Inside
 pub mod Putting
-pub mod Tabled
 pub mod AtomByAtom

@@ -13,6 +13,7 @@ use Rattle.dscript_value.specs.Data.{PlainField}
 use Rattle.dscript_value.specs.Depths.{put_field}
 use Rattle.dscript_value.specs.Places.{KeepPlaces, KeepsToo, first_place}
 use Rattle.bx_tree.specs.TextTables.{at_text}
+use Rattle.bx_tree.proofs.Options.{none_both}
 
 -- whether a field has a name
 abbrev pub has : List ℕ → PlainField → Bool
@@ -29,10 +30,6 @@ pub put_last : (fs : List PlainField) (i : ℕ) (f : PlainField) → position_fr
 put_last [] i f e = refl
 put_last (g ∷ fs) i f e =
     last_by (bytes_eq g.0 f.0) g f fs (put_field fs f) i (position_from (has f.0) (i + 1) fs) (put_last fs (i + 1) f) e
-
-none_both : (b : Bool) (i : ℕ) (o : Option ℕ) → cond b (Some i) o ≡ None → (b ≡ false) × (o ≡ None)
-none_both true i o e = cc
-none_both false i o e = (refl, e)
 
 swap : (b c : Bool) (i j : ℕ) (o : Option ℕ) → (b ≡ true → c ≡ true → ⊥) → cond b (Some i) (cond c (Some j) o) ≡ cond c (Some j) (cond b (Some i) o)
 swap true true i j o apart = absurd (apart refl refl)

@@ -3,13 +3,12 @@ ghost use Rattle.std.specs.Prelude.{◌≡◌, Some, None, MatchResult};
 ghost use Rattle.std.specs.Str.{bytes_eq};
 ghost use Rattle.bx_tree.specs.Paths.{same_path};
 ghost use Rattle.dscript_value.specs.Equality as spec;
-ghost use Rattle.dscript_value.specs.Equality.{artifact_kind, artifact_path, artifact_pip, both_or_neither};
-ghost use Rattle.dscript_value.specs.Equality.{equal_of};
+ghost use Rattle.dscript_value.specs.Equality.{artifact_kind, artifact_path as path_of_artifact, artifact_pip};
+ghost use Rattle.dscript_value.specs.Equality.{both_or_neither, equal_of};
 ghost use Rattle.dscript_value.specs.Equality.{same_argument, same_artifact, same_file};
 ghost use Rattle.dscript_value.specs.Equality.{same_static};
-ghost use Rattle.dscript_value.specs.Equality.{static_kind, static_path, static_pip, unanswered};
+ghost use Rattle.dscript_value.specs.Equality.{static_kind, static_path as path_of_static, static_pip, unanswered};
 ghost use Rattle.dscript_value.specs.Plain.{plain_of};
-ghost use Rattle.bx_tree.specs.FileInputs.{input_path};
 
 use crate::parts::{Argument, Artifact, RelativePath, StaticDir};
 use crate::value::Value;
@@ -19,18 +18,10 @@ use bx_tree::{FileInput, Path, Text};
 #[derive(Clone, Copy, Debug, PartialEq, Eq)]
 pub struct NoOrder;
 
-fn path_of(file: &FileInput) -> &Path
-    ensures { result.now ≡ input_path file.now }
-{
-    match file {
-        FileInput::Source(path) | FileInput::Made(path, _) => path,
-    }
-}
-
 fn same_files(a: &FileInput, b: &FileInput) -> bool
     ensures { result ≡ same_file a.now b.now }
 {
-    path_of(a) == path_of(b)
+    a.path() == b.path()
 }
 
 fn kind_of(dir: &StaticDir) -> u8
@@ -50,8 +41,9 @@ fn pip_of(dir: &StaticDir) -> u32
     }
 }
 
-fn root_of(dir: &StaticDir) -> &Path
-    ensures { result.now ≡ static_path dir.now }
+/// The path of a static directory.
+pub fn static_path(dir: &StaticDir) -> &Path
+    ensures { result.now ≡ path_of_static dir.now }
 {
     match dir {
         StaticDir::Seal(_, path) | StaticDir::Opaque(_, path) => path,
@@ -61,7 +53,7 @@ fn root_of(dir: &StaticDir) -> &Path
 fn same_dirs(a: &StaticDir, b: &StaticDir) -> bool
     ensures { result ≡ same_static a.now b.now }
 {
-    kind_of(a) == kind_of(b) && pip_of(a) == pip_of(b) && root_of(a) == root_of(b)
+    kind_of(a) == kind_of(b) && pip_of(a) == pip_of(b) && static_path(a) == static_path(b)
 }
 
 fn kind_of_artifact(artifact: &Artifact) -> u8
@@ -85,12 +77,13 @@ fn pip_of_artifact(artifact: &Artifact) -> u32
     }
 }
 
-fn path_of_artifact(artifact: &Artifact) -> &Path
-    ensures { result.now ≡ artifact_path artifact.now }
+/// The path of an artifact.
+pub fn artifact_path(artifact: &Artifact) -> &Path
+    ensures { result.now ≡ path_of_artifact artifact.now }
 {
     match artifact {
-        Artifact::Input(file) => path_of(file),
-        Artifact::InputDir(dir) => root_of(dir),
+        Artifact::Input(file) => file.path(),
+        Artifact::InputDir(dir) => static_path(dir),
         Artifact::Output(path) | Artifact::OutputDir(path) | Artifact::Plain(path) => path,
     }
 }
@@ -100,7 +93,7 @@ fn same_artifacts(a: &Artifact, b: &Artifact) -> bool
 {
     kind_of_artifact(a) == kind_of_artifact(b)
         && pip_of_artifact(a) == pip_of_artifact(b)
-        && path_of_artifact(a) == path_of_artifact(b)
+        && artifact_path(a) == artifact_path(b)
 }
 
 fn same_texts(a: &Option<Text>, b: &Option<Text>) -> bool

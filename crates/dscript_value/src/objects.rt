@@ -10,7 +10,7 @@ ghost use Rattle.dscript_value.specs.Plain.{Object, plain_field, plain_of};
 ghost use Rattle.bx_tree.specs.TextTables.{at_text};
 
 use crate::makers::{DepthFault, MAX_DEPTH, larger};
-use crate::value::{Field, Fields, Value, has_name, name_of, value_of};
+use crate::value::{Field, Fields, Value, field_name, has_name, value_of};
 use std::alloc::{AllocError, Global};
 use std::collections::BTreeMap;
 use std::rc::Rc;
@@ -34,7 +34,7 @@ fn deepest_field(fields: &[Field]) -> u32
 fn copy_name(alloc: Global, field: &Field) -> Result<Vec<u8>, AllocError>
     ensures { IfOk result (λ name. name.items ≡ (plain_field field.now).0) }
 {
-    name_of(field).to_vec(alloc)
+    field_name(field).to_vec(alloc)
 }
 
 fn place_of(places: &Places, name: &[u8]) -> Option<usize>
@@ -69,7 +69,7 @@ fn put(
         ≡ put_field (map plain_field fields.old.items) (plain_field field)) }
     ensures places { IfOk result (λ _. KeepPlaces places.new (map plain_field fields.new.items)) }
 {
-    match place_of(places, name_of(&field)) {
+    match place_of(places, field_name(&field)) {
         Some(place) => put_at(fields, place, field),
         None => {
             keep(places, copy_name(alloc, &field)?, fields.len())?;
@@ -95,7 +95,7 @@ fn put_in_few(fields: &mut Vec<Field>, field: Field) -> Result<(), AllocError>
     ensures { IfOk result (λ _. map plain_field fields.new.items
         ≡ put_field (map plain_field fields.old.items) (plain_field field)) }
 {
-    match place_in(fields.as_slice(), name_of(&field)) {
+    match place_in(fields.as_slice(), field_name(&field)) {
         Some(place) => put_at(fields, place, field),
         None => fields.push(field)?,
     }

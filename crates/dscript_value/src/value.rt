@@ -410,8 +410,8 @@ impl Fields {
     }
 }
 
-// The name of a field.
-pub(crate) fn name_of(field: &Field) -> &[u8]
+/// The name of a field.
+pub fn field_name(field: &Field) -> &[u8]
     ensures { result.now ≡ (plain_field field.now).0 }
 {
     field.name.bytes()
@@ -421,7 +421,7 @@ pub(crate) fn name_of(field: &Field) -> &[u8]
 pub(crate) fn has_name(field: &Field, name: &[u8]) -> bool
     ensures { result ≡ bytes_eq (plain_field field.now).0 name.now }
 {
-    name_of(field) == name
+    field_name(field) == name
 }
 
 // The value of a field.

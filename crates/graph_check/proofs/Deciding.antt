@@ -6,12 +6,12 @@ use Rattle.std.specs.Bool.{Decides}
 use Rattle.std.specs.List.{Any, Contains, list_any}
 use Rattle.std.specs.Ordering.{is_eq}
 use Rattle.std.specs.Cmp.{Equal-is}
-use Rattle.std.specs.Cmp.Lexicographic.{pointwise}
 use Rattle.std.proofs.lemmas.Bool.{cases_lt, false≢true}
 use Rattle.std.proofs.lemmas.Bool.Decides.{Decides-and, Decides-or, Decides-not, Decides-eqb, Decides-ltb}
 use Rattle.std.proofs.lemmas.List.Folds.{Any-from_list_any, list_any-from_Any}
-use Rattle.std.proofs.lemmas.Slice.Eq.{bytes_eq-Decides}
+use Rattle.bx_tree.specs.Below.{IsAtOrBelow, is_at_or_below, is_below}
 use Rattle.bx_tree.specs.Paths.{Atoms, IsBelow, same_path}
+use Rattle.bx_tree.proofs.BelowPaths.{below_decides}
 use Rattle.bx_tree.specs.Orders.{same_path_decides}
 use Rattle.bx_tree.specs.Trees.{Files, paths_of}
 use Rattle.pip_model_types.specs.declared.dir_inputs.DirInput.{DirInput}
@@ -28,7 +28,7 @@ use Rattle.graph_check.specs.declared.fault.GraphKind.TheVariants as rules
 use Rattle.graph_check_outputs.specs.DoubleProducer.{DoubleProducerAt}
 use Rattle.graph_check.specs.NoSuchSource.{NoSuchSourceAt, named_sources}
 use Rattle.graph_check.specs.Orders.{described_alike, tied_processes}
-use Rattle.graph_check_outputs.specs.Outputs.{IsWithin, PipHas, declared_files, outputs}
+use Rattle.graph_check_outputs.specs.Outputs.{PipHas, declared_files, outputs}
 use Rattle.graph_check_outputs.specs.OutsideOut.{OutsideOutAt, out_dir}
 use Rattle.graph_check_outputs.specs.Overlap.{FileIsDir, IsUnlisted, NestedOutputs, OverlapAt, Overlaps, SealMeetsDir, UnlistedFile, UnsharedDir, full_seals}
 use Rattle.graph_check_outputs.specs.Overlap.Overlaps.{Nested, OnePath, Unshared, Unlisted, Meets}
@@ -86,26 +86,8 @@ Decides-any_below p P each (suc n) =
 
 -- ## Tests of paths
 
-abbrev pub below_test : Atoms → Atoms → Bool
-below_test [] dir = false
-below_test (a ∷ path) [] = true
-below_test (a ∷ path) (b ∷ dir) = pointwise nat_eq a b && below_test path dir
-
-Decides-below : (path dir : Atoms) → Decides (below_test path dir) (IsBelow path dir)
-Decides-below [] [] = (λ e. absurd (false≢true e), λ (rest, n, e). absurd (n (sym e)))
-Decides-below [] (b ∷ dir) = (λ e. absurd (false≢true e), λ (rest, n, e). cc)
-Decides-below (a ∷ path) [] = (λ e. (a ∷ path, λ n. cc, refl), λ h. refl)
-Decides-below (a ∷ path) (b ∷ dir) =
-    along (pointwise nat_eq a b && below_test path dir)
-    (Decides-and (pointwise nat_eq a b) (below_test path dir) (bytes_eq-Decides a b) (Decides-below path dir))
-    (λ (same, (rest, n, e)). (rest, n, let tail = e in cc))
-    (λ (rest, n, e). (let heads = e in cc, (rest, n, let tails = e in cc)))
-
-abbrev pub within_test : Atoms → Atoms → Bool
-within_test path dir = same_path path dir || below_test path dir
-
-Decides-within : (path dir : Atoms) → Decides (within_test path dir) (IsWithin path dir)
-Decides-within path dir = Decides-or (same_path path dir) (below_test path dir) (same_path_decides path dir) (Decides-below path dir)
+Decides-within : (path dir : Atoms) → Decides (is_at_or_below path dir) (IsAtOrBelow path dir)
+Decides-within path dir = Decides-or (same_path path dir) (is_below path dir) (same_path_decides path dir) (below_decides path dir)
 
 abbrev pub among_test : Atoms → List Atoms → Bool
 among_test path paths = list_any (same_path path) paths
@@ -122,13 +104,13 @@ Decides-among path paths = (
 -- ## Tests of each way to overlap
 
 abbrev pub nested_test : List Pip → ℕ → ℕ → Bool
-nested_test pips i j = any_item outputs (λ path. any_item outputs (λ dir. below_test path dir) pips j) pips i
+nested_test pips i j = any_item outputs (λ path. any_item outputs (λ dir. is_below path dir) pips j) pips i
 
 Decides-nested : (pips : List Pip) (i j : ℕ) → Decides (nested_test pips i j) (NestedOutputs pips i j)
 Decides-nested pips i j =
     along (nested_test pips i j)
-    (Decides-any_item outputs (λ path. any_item outputs (λ dir. below_test path dir) pips j) (λ path. (dir : Atoms) × PipHas outputs pips j dir × IsBelow path dir)
-    (λ path. Decides-any_item outputs (λ dir. below_test path dir) (λ dir. IsBelow path dir) (λ dir. Decides-below path dir) pips j) pips i)
+    (Decides-any_item outputs (λ path. any_item outputs (λ dir. is_below path dir) pips j) (λ path. (dir : Atoms) × PipHas outputs pips j dir × IsBelow path dir)
+    (λ path. Decides-any_item outputs (λ dir. is_below path dir) (λ dir. IsBelow path dir) (λ dir. below_decides path dir) pips j) pips i)
     (λ (path, h, (dir, k, b)). (path, dir, h, k, b)) (λ (path, dir, h, k, b). (path, h, (dir, k, b)))
 
 abbrev pub file_dir_test : List Pip → ℕ → ℕ → Bool
@@ -175,35 +157,35 @@ Decides-unshared pips i j =
 abbrev pub unlisted_test : List Pip → ℕ → ℕ → Bool
 unlisted_test pips i j =
     any_item declared_files
-    (λ file. any_item full_seals (λ (seal : SealDesc). within_test file seal.root && not (among_test file (map input_path seal.files))) pips j) pips i
+    (λ file. any_item full_seals (λ (seal : SealDesc). is_at_or_below file seal.root && not (among_test file (map input_path seal.files))) pips j) pips i
 
 Decides-unlisted : (pips : List Pip) (i j : ℕ) → Decides (unlisted_test pips i j) (UnlistedFile pips i j)
 Decides-unlisted pips i j =
     along (unlisted_test pips i j)
     (Decides-any_item declared_files
-    (λ file. any_item full_seals (λ (seal : SealDesc). within_test file seal.root && not (among_test file (map input_path seal.files))) pips j)
+    (λ file. any_item full_seals (λ (seal : SealDesc). is_at_or_below file seal.root && not (among_test file (map input_path seal.files))) pips j)
     (λ file. (seal : SealDesc) × PipHas full_seals pips j seal × IsUnlisted seal file)
-    (λ file. Decides-any_item full_seals (λ (seal : SealDesc). within_test file seal.root && not (among_test file (map input_path seal.files)))
+    (λ file. Decides-any_item full_seals (λ (seal : SealDesc). is_at_or_below file seal.root && not (among_test file (map input_path seal.files)))
     (λ seal. IsUnlisted seal file)
-    (λ (seal : SealDesc). Decides-and (within_test file seal.root) (not (among_test file (map input_path seal.files))) (Decides-within file seal.root)
+    (λ (seal : SealDesc). Decides-and (is_at_or_below file seal.root) (not (among_test file (map input_path seal.files))) (Decides-within file seal.root)
     (Decides-not (among_test file (map input_path seal.files)) (Decides-among file (map input_path seal.files)))) pips j) pips i)
     (λ (file, h, (seal, k, u)). (file, seal, h, k, u)) (λ (file, seal, h, k, u). (file, h, (seal, k, u)))
 
 abbrev pub seal_test : List Pip → ℕ → ℕ → Bool
 seal_test pips i j =
     any_item full_seals
-    (λ (seal : SealDesc). any_item outdirs_of (λ (dir : OutDir). within_test seal.root dir.path || below_test dir.path seal.root) pips j) pips i
+    (λ (seal : SealDesc). any_item outdirs_of (λ (dir : OutDir). is_at_or_below seal.root dir.path || is_below dir.path seal.root) pips j) pips i
 
 Decides-seal : (pips : List Pip) (i j : ℕ) → Decides (seal_test pips i j) (SealMeetsDir pips i j)
 Decides-seal pips i j =
     along (seal_test pips i j)
     (Decides-any_item full_seals
-    (λ (seal : SealDesc). any_item outdirs_of (λ (dir : OutDir). within_test seal.root dir.path || below_test dir.path seal.root) pips j)
-    (λ (seal : SealDesc). (dir : OutDir) × PipHas outdirs_of pips j dir × (IsWithin seal.root dir.path ⊎ IsBelow dir.path seal.root))
-    (λ (seal : SealDesc). Decides-any_item outdirs_of (λ (dir : OutDir). within_test seal.root dir.path || below_test dir.path seal.root)
-    (λ (dir : OutDir). IsWithin seal.root dir.path ⊎ IsBelow dir.path seal.root)
-    (λ (dir : OutDir). Decides-or (within_test seal.root dir.path) (below_test dir.path seal.root) (Decides-within seal.root dir.path)
-    (Decides-below dir.path seal.root)) pips j) pips i)
+    (λ (seal : SealDesc). any_item outdirs_of (λ (dir : OutDir). is_at_or_below seal.root dir.path || is_below dir.path seal.root) pips j)
+    (λ (seal : SealDesc). (dir : OutDir) × PipHas outdirs_of pips j dir × (IsAtOrBelow seal.root dir.path ⊎ IsBelow dir.path seal.root))
+    (λ (seal : SealDesc). Decides-any_item outdirs_of (λ (dir : OutDir). is_at_or_below seal.root dir.path || is_below dir.path seal.root)
+    (λ (dir : OutDir). IsAtOrBelow seal.root dir.path ⊎ IsBelow dir.path seal.root)
+    (λ (dir : OutDir). Decides-or (is_at_or_below seal.root dir.path) (is_below dir.path seal.root) (Decides-within seal.root dir.path)
+    (below_decides dir.path seal.root)) pips j) pips i)
     (λ (seal, h, (dir, k, m)). (seal, dir, h, k, m)) (λ (seal, dir, h, k, m). (seal, h, (dir, k, m)))
 
 abbrev pub overlaps_test : List Pip → ℕ → ℕ → Bool
@@ -267,12 +249,12 @@ Decides-source pips tree i =
     (λ path. Decides-not (among_test path (paths_of tree)) (Decides-among path (paths_of tree))) pips i
 
 abbrev pub outside_test : List Pip → ℕ → Bool
-outside_test pips i = any_item outputs (λ path. not (below_test path out_dir)) pips i
+outside_test pips i = any_item outputs (λ path. not (is_below path out_dir)) pips i
 
 Decides-outside : (pips : List Pip) (i : ℕ) → Decides (outside_test pips i) (OutsideOutAt pips i)
 Decides-outside pips i =
-    Decides-any_item outputs (λ path. not (below_test path out_dir)) (λ path. IsBelow path out_dir → ⊥)
-    (λ path. Decides-not (below_test path out_dir) (Decides-below path out_dir)) pips i
+    Decides-any_item outputs (λ path. not (is_below path out_dir)) (λ path. IsBelow path out_dir → ⊥)
+    (λ path. Decides-not (is_below path out_dir) (below_decides path out_dir)) pips i
 
 abbrev pub twin_test : List Pip → ℕ → Bool
 twin_test pips i = any_below (λ j. any_item descriptions (λ d. any_item descriptions (λ e. is_eq (process_cmp d e)) pips j) pips i) i

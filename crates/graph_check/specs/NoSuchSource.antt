@@ -5,8 +5,7 @@ use Rattle.bx_tree.specs.Paths.{Atoms}
 use Rattle.bx_tree.specs.Trees.{Files, paths_of}
 use Rattle.bx_tree.specs.declared.file_input.FileInput.{FileInput}
 use Rattle.bx_tree.specs.declared.file_input.FileInput.TheVariants.{Source, Made}
-use Rattle.pip_model_types.specs.declared.dir_inputs.SealForm.{SealForm}
-use Rattle.pip_model_types.specs.declared.dir_inputs.SealForm.TheVariants.{Full, Partial, SourceTop, SourceAll}
+use Rattle.pip_model_types.specs.Kinds.{form_files}
 use Rattle.pip_model_types.specs.declared.pip.Pip.{Pip}
 use Rattle.pip_model_types.specs.declared.pip.PipKind.{PipKind}
 use Rattle.pip_model_types.specs.declared.pip.PipKind.TheVariants.{Process, Copy, Write, Seal}
@@ -21,20 +20,13 @@ if_source (Made path maker) = []
 abbrev pub sources_among : List FileInput → List Atoms
 sources_among = flat_map if_source
 
--- the source files that a full or partial seal lists
-abbrev pub listed_sources : SealForm → List FileInput → List Atoms
-listed_sources Full files = sources_among files
-listed_sources Partial files = sources_among files
-listed_sources SourceTop files = []
-listed_sources SourceAll files = []
-
 -- the source files that a pip names: the executable and the declared files of a process, the file that is
 -- copied, and the listed files of a full or partial seal
 abbrev pub named_sources : PipKind → List Atoms
 named_sources (Process d) = d.exe ∷ sources_among d.files
 named_sources (Copy d) = if_source d.from
 named_sources (Write d) = []
-named_sources (Seal d) = listed_sources d.form d.files
+named_sources (Seal d) = sources_among (form_files d.form d.files)
 
 -- pip i names a source file that is not in the tree
 abbrev pub NoSuchSourceAt : List Pip → Files → ℕ → Type 0

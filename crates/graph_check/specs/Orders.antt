@@ -1,28 +1,28 @@
 -- Processes are in one total order, in which just those of one description tie.
-use Rattle.std.proofs.Common.{◌≡◌, ◌∙◌, ℕ, zero, suc, arith, Bool, true, false, List, [], ◌∷◌, Option, Some}
+use Rattle.std.proofs.Common.{◌≡◌, ◌∙◌, ℕ, zero, suc, arith, List, [], ◌∷◌, Option, Some}
 use Rattle.std.proofs.Common.{None, map, refl, ap, sym}
 use Rattle.std.specs.Option.{option_to_list}
 use Rattle.std.specs.Cmp.{IsTotalOrder}
 use Rattle.std.specs.Cmp.Lexicographic.{slice_cmp}
 use Rattle.std.specs.Ordering.{nat_cmp, ordering_then}
 use Rattle.std.specs.declared.cmp.Ordering.{Ordering}
-use Rattle.std.specs.declared.cmp.Ordering.TheVariants.{Less, Equal, Greater}
+use Rattle.std.specs.declared.cmp.Ordering.TheVariants.{Equal}
 use Rattle.std.proofs.lemmas.Cmp.{lists_total, nat_cmp_total, nat_list_cmp_total, on_total, then_total}
 use Rattle.std.proofs.lemmas.Cmp.{tied_itself}
 use Rattle.std.proofs.lemmas.Map.Lookups.{CmpEqualImpliesEq, exact_bytes, exact_unsigned}
-use Rattle.bx_tree.specs.Orders.{equal_paths, path_cmp_total}
+use Rattle.bx_tree.specs.Orders.{equal_paths, path_cmp_total, both_equal, equal_lists}
 use Rattle.bx_tree.specs.Paths.{Atoms, path_cmp}
 use Rattle.bx_tree.specs.declared.file_input.FileInput.{FileInput}
 use Rattle.bx_tree.specs.declared.file_input.FileInput.TheVariants.{Source, Made}
 use Rattle.pip_model_types.specs.Dirs.{dir_path, form_rank}
 use Rattle.pip_model_types.specs.Orders.{outdir_cmp_total}
-use Rattle.pip_model_types.specs.Outputs.{outdir_cmp, sharing_rank}
+use Rattle.pip_model_types.specs.Outputs.{outdir_cmp}
 use Rattle.pip_model_types.specs.declared.args.EnvPair.{EnvPair}
 use Rattle.pip_model_types.specs.declared.dir_inputs.DirInput.{DirInput}
 use Rattle.pip_model_types.specs.declared.dir_inputs.DirInput.TheVariants.{Sealed, Opaque}
 use Rattle.pip_model_types.specs.declared.dir_inputs.SealForm.TheVariants.{Full, Partial, SourceTop, SourceAll}
-use Rattle.pip_model_types.specs.declared.outputs.OutDir.{OutDir}
 use Rattle.pip_model_types.specs.declared.pip.ProcessDesc.{ProcessDesc}
+use Rattle.pip_model_types.proofs.SetsOf.{equal_outdirs}
 use Rattle.graph_check.specs.Descriptions.{description, without_pip}
 use Rattle.graph_check.specs.ProcessOrder.{call_cmp, env_cmp, file_cmp, form_cmp, inputs_cmp, maker_rank}
 use Rattle.graph_check.specs.ProcessOrder.{outputs_cmp, process_cmp, text_cmp}
@@ -53,12 +53,6 @@ call_cmp_total =
 pub process_cmp_total : IsTotalOrder process_cmp
 process_cmp_total = then_total outputs_cmp_total (then_total call_cmp_total inputs_cmp_total)
 
--- two orders one after the other tie only where both tie
-both_equal : (o p : Ordering) → ordering_then o p ≡ Equal → (o ≡ Equal) × (p ≡ Equal)
-both_equal Less p e = cc
-both_equal Equal p e = (refl, e)
-both_equal Greater p e = cc
-
 -- lists tie only where their elements do, and so where what ties of them is equal
 tied_lists : {X Y : Type 0} (f : X → Y) (R : X → X → Ordering) → ((x y : X) → R x y ≡ Equal → f x ≡ f y)
     → (xs ys : List X) → slice_cmp R xs ys ≡ Equal → map f xs ≡ map f ys
@@ -69,16 +63,6 @@ tied_lists f R same (x ∷ xs) (y ∷ ys) e =
     let parts = both_equal (R x y) (slice_cmp R xs ys) e in
     let heads = same x y parts.0 in
     let tails = tied_lists f R same xs ys parts.1 in
-    cc
-
-exact_lists : {X : Type 0} (R : X → X → Ordering) → CmpEqualImpliesEq R → CmpEqualImpliesEq (slice_cmp R)
-exact_lists R exact [] [] e = refl
-exact_lists R exact [] (y ∷ ys) e = cc
-exact_lists R exact (x ∷ xs) [] e = cc
-exact_lists R exact (x ∷ xs) (y ∷ ys) e =
-    let parts = both_equal (R x y) (slice_cmp R xs ys) e in
-    let heads = exact x y parts.0 in
-    let tails = exact_lists R exact xs ys parts.1 in
     cc
 
 exact_env : CmpEqualImpliesEq env_cmp
@@ -101,22 +85,6 @@ exact_file x y e =
     (nat_cmp (maker_rank x) (maker_rank y)) e in
     same_file x y (equal_paths (input_path x) (input_path y) parts.0)
     (exact_unsigned (maker_rank x) (maker_rank y) parts.1)
-
-same_sharing : (a b : Bool) → sharing_rank a ≡ sharing_rank b → a ≡ b
-same_sharing false false e = refl
-same_sharing false true e = absurd (omega (arith, e))
-same_sharing true false e = absurd (omega (arith, e))
-same_sharing true true e = refl
-
-exact_outdir : CmpEqualImpliesEq outdir_cmp
-exact_outdir x y e =
-    let parts = both_equal (path_cmp x.path y.path)
-    (nat_cmp (sharing_rank x.shared) (sharing_rank y.shared)) e in
-    let paths = equal_paths x.path y.path parts.0 in
-    let sharing = same_sharing x.shared y.shared
-    (exact_unsigned (sharing_rank x.shared) (sharing_rank y.shared) parts.1) in
-    let make : Atoms → Bool → OutDir = λ p b. record { path = p; shared = b } in
-    ap (λ p. make p x.shared) paths ∙ ap (make y.path) sharing
 
 -- a directory of no pip, by its path and its form's place
 dir_of : Atoms → ℕ → DirInput
@@ -163,15 +131,15 @@ tied_processes d e tie =
     (ordering_then (slice_cmp env_cmp d.env e.env) (path_cmp d.dir e.dir)) by_exe.1 in
     let by_env = both_equal (slice_cmp env_cmp d.env e.env) (path_cmp d.dir e.dir) by_args.1 in
     let by_files = both_equal (slice_cmp file_cmp d.files e.files) (slice_cmp form_cmp d.dirs e.dirs) two.1 in
-    let outs = exact_lists path_cmp equal_paths d.outs e.outs by_outs.0 in
-    let outdirs = exact_lists outdir_cmp exact_outdir d.outdirs e.outdirs by_dirs.0 in
+    let outs = equal_lists path_cmp equal_paths d.outs e.outs by_outs.0 in
+    let outdirs = equal_lists outdir_cmp equal_outdirs d.outdirs e.outdirs by_dirs.0 in
     let console = same_console d.console e.console
-    (exact_lists path_cmp equal_paths (option_to_list d.console) (option_to_list e.console) by_dirs.1) in
+    (equal_lists path_cmp equal_paths (option_to_list d.console) (option_to_list e.console) by_dirs.1) in
     let exe = equal_paths d.exe e.exe by_exe.0 in
-    let args = exact_lists text_cmp exact_bytes d.args e.args by_args.0 in
-    let env = exact_lists env_cmp exact_env d.env e.env by_env.0 in
+    let args = equal_lists text_cmp exact_bytes d.args e.args by_args.0 in
+    let env = equal_lists env_cmp exact_env d.env e.env by_env.0 in
     let dir = equal_paths d.dir e.dir by_env.1 in
-    let files = exact_lists file_cmp exact_file d.files e.files by_files.0 in
+    let files = equal_lists file_cmp exact_file d.files e.files by_files.0 in
     let dirs = tied_lists without_pip form_cmp tied_dirs d.dirs e.dirs by_files.1 in
     cc
 

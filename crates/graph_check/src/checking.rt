@@ -8,8 +8,9 @@ use crate::fault::{GraphFault, GraphKind};
 use crate::limit::limit;
 use crate::no_such_source::no_such_source;
 use crate::twin::twin;
+use bx_tree::Memory;
 use graph_check_outputs::{first_double_producer, first_outside, first_overlap};
-use pip_model::{Memory, Pip, PipList, Plan, Sources};
+use pip_model::{Pip, PipList, Plan, Sources};
 use std::alloc::Global;
 
 fn first_failure(

@@ -4,23 +4,13 @@ ghost use Rattle.std.specs.declared.cmp.Ordering.TheVariants as orderings;
 ghost use Rattle.std.specs.Cmp.Lexicographic.{slice_cmp};
 ghost use Rattle.std.specs.Option.{option_to_list};
 ghost use Rattle.bx_tree.specs.Paths.{path_cmp};
-ghost use Rattle.pip_model_types.specs.Dirs.{dir_path, form_rank};
 ghost use Rattle.graph_check.specs.Descriptions.{description};
 ghost use Rattle.graph_check.specs.ProcessOrder.{call_cmp, env_cmp, file_cmp, form_cmp, inputs_cmp};
 ghost use Rattle.graph_check.specs.ProcessOrder.{maker_rank, outputs_cmp, process_cmp, text_cmp};
-ghost use Rattle.bx_tree.specs.FileInputs.{input_path};
 
 use bx_tree::{FileInput, Path, Text};
-use pip_model_types::{DirInput, EnvPair, ProcessDesc, SealForm};
+use pip_model_types::{DirInput, EnvPair, ProcessDesc};
 use std::cmp::Ordering;
-
-fn file_path(file: &FileInput) -> &Path
-    ensures { result.now ≡ input_path file.now }
-{
-    match file {
-        FileInput::Source(path) | FileInput::Made(path, _) => path,
-    }
-}
 
 fn args_order(a: &[Text], b: &[Text]) -> Ordering
     ensures { result ≡ slice_cmp text_cmp a.now b.now }
@@ -52,39 +42,16 @@ fn files_order(a: &[FileInput], b: &[FileInput]) -> Ordering
     ensures { result ≡ slice_cmp file_cmp a.now b.now }
 {
     a.iter()
-        .map(|file| (file_path(file), file_maker(file)))
-        .cmp(b.iter().map(|file| (file_path(file), file_maker(file))))
-}
-
-// The path of a directory.
-fn dir_root(dir: &DirInput) -> &Path
-    ensures { result.now ≡ dir_path dir.now }
-{
-    match dir {
-        DirInput::Sealed(_, _, root) => root,
-        DirInput::Opaque(_, path) => path,
-    }
-}
-
-// The form of a directory, as a number.
-fn dir_form(dir: &DirInput) -> u8
-    ensures { result ≡ form_rank dir.now }
-{
-    match dir {
-        DirInput::Sealed(_, SealForm::Full, _) => 0,
-        DirInput::Sealed(_, SealForm::Partial, _) => 1,
-        DirInput::Sealed(_, SealForm::SourceTop, _) => 2,
-        DirInput::Sealed(_, SealForm::SourceAll, _) => 3,
-        DirInput::Opaque(_, _) => 4,
-    }
+        .map(|file| (file.path(), file_maker(file)))
+        .cmp(b.iter().map(|file| (file.path(), file_maker(file))))
 }
 
 fn dirs_order(a: &[DirInput], b: &[DirInput]) -> Ordering
     ensures { result ≡ slice_cmp form_cmp a.now b.now }
 {
     a.iter()
-        .map(|dir| (dir_root(dir), dir_form(dir)))
-        .cmp(b.iter().map(|dir| (dir_root(dir), dir_form(dir))))
+        .map(|dir| (dir.path(), dir.rank()))
+        .cmp(b.iter().map(|dir| (dir.path(), dir.rank())))
 }
 
 fn console_order(a: &Option<Path>, b: &Option<Path>) -> Ordering

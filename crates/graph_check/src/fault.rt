@@ -1,7 +1,6 @@
 //! Why pips give no plan.
 
-use bx_tree::Path;
-use pip_model::Memory;
+use bx_tree::{Memory, Path};
 use std::alloc::AllocFailed;
 
 /// A rule of the graph, in the order in which the rules are tried.

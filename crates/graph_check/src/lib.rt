@@ -1,9 +1,9 @@
-//! Checks the graph of pips: whether the pips of a build can be planned.
+//! Graph validation: all six rules in their order, which turns pips into a plan.
 //!
-//! Six rules are tried in an order, each over the pips by number. [`check`] gives the plan of the pips, or the first
-//! rule that fails, with its pip and that pip's specification file. The rules on what pips declare to make are those
-//! of `graph_check_outputs`; processes are compared by an order in which just those of one description tie. This
-//! crate also depends on `pip_model`, `pip_model_types`, `bx_tree` and `bx_digest`, and keeps no types with an
+//! Each rule is checked over the pips by number. [`check`] gives the plan of the pips, or the first rule that
+//! fails, with its pip and that pip's specification file. The rules on declared outputs are those of
+//! `graph_check_outputs`; twins are found by an order of processes in which exactly equal descriptions tie. This
+//! crate also depends on `pip_model`, `pip_model_types`, `bx_tree` and `bx_digest`, and has no types with an
 //! invariant of their own.
 #![tactic(auto)]
 

@@ -5,8 +5,8 @@ ghost use Rattle.graph_check_outputs.specs.Firsts.{IsFirst};
 ghost use Rattle.graph_check.specs.NoSuchSource.{NoSuchSourceAt, named_sources};
 
 use crate::named::add_named_sources;
-use bx_tree::Path;
-use pip_model::{Memory, Pip, PipKind, Sources};
+use bx_tree::{Memory, Path};
+use pip_model::{Pip, PipKind, Sources};
 use std::alloc::Global;
 
 // Whether some path is not that of a source file.

@@ -11,7 +11,8 @@ ghost use Rattle.graph_check.specs.Described.{described_cmp, described_total, de
 ghost use Rattle.graph_check.specs.Described.{described_equiv, described_partial_eq, described_partial};
 
 use crate::descriptions::process_order;
-use pip_model::{Memory, Pip, PipKind, ProcessDesc};
+use bx_tree::Memory;
+use pip_model::{Pip, PipKind, ProcessDesc};
 use std::alloc::{AllocError, Global};
 use std::cmp::Ordering;
 use std::collections::BTreeSet;

@@ -9,7 +9,7 @@ use Rattle.std.proofs.lemmas.List.{get_or_default, get_or-drop}
 use Rattle.std.proofs.lemmas.List.Sorted.{ranks_by, sorted_far}
 use Rattle.bx_tree.specs.Paths.{Atoms, IsBelow}
 use Rattle.pip_model_types.specs.declared.pip.SealDesc.{SealDesc}
-use Rattle.graph_check_outputs.specs.Outputs.{IsWithin}
+use Rattle.bx_tree.specs.Below.{IsAtOrBelow}
 use Rattle.graph_check_outputs.specs.Overlap.{IsUnlisted}
 use Rattle.graph_check_outputs.specs.TreeOrder.{IsInTreeOrder, tree_cmp}
 use Rattle.graph_check_outputs.proofs.TreeOrders.{tree_cmp_total, true≢false, within_between, within_not_before}
@@ -36,7 +36,7 @@ dir_first path dir (rest, n, e) = ap (λ p. is_lt (tree_cmp dir p)) e ∙ before
 -- the first path that does not come before the directory tells whether some path lies within it
 pub first_tells : (xs : List Atoms) (dir : Atoms) (n : ℕ) (d : Atoms) → IsInTreeOrder xs
     → IsPartitionPoint (λ p. is_lt (tree_cmp p dir) ≡ true) (λ p. is_lt (tree_cmp p dir) ≡ false) xs n
-    → Any (λ p. IsWithin p dir) xs → (n < length xs) × IsWithin (get_or xs n d) dir
+    → Any (λ p. IsAtOrBelow p dir) xs → (n < length xs) × IsAtOrBelow (get_or xs n d) dir
 first_tells xs dir n d up point (k, x, l, is, h) =
     let place : n ≤ k = at (cases_lt k n) in
     let below : n < length xs = omega arith in (
@@ -77,7 +77,7 @@ some_neighbours xs d up (i, dir, li, is_dir, (j, path, lj, is_path, h)) =
 -- where the first files are members and the next one lies elsewhere, or there is none, no file is unlisted
 pub none_unlisted : (xs : List Atoms) (seal : SealDesc) (i : ℕ) → IsInTreeOrder xs → All (λ p. is_lt (tree_cmp p seal.root) ≡ false) xs
     → ((k : ℕ) (d : Atoms) → k < i → Contains (map input_path seal.files) (get_or xs k d))
-    → ((d : Atoms) → i < length xs → IsWithin (get_or xs i d) seal.root → ⊥) → Any (IsUnlisted seal) xs → ⊥
+    → ((d : Atoms) → i < length xs → IsAtOrBelow (get_or xs i d) seal.root → ⊥) → Any (IsUnlisted seal) xs → ⊥
 none_unlisted xs seal i up after listed next (k, x, l, is, (within, out)) = elim (cases_lt k i) [
   | inl early ↦ out (subst (Contains (map input_path seal.files)) is (listed k x early))
   | inr late ↦
@@ -107,7 +107,7 @@ from_rest P xs n (k, x, l, is, p) =
     (n + k, x, omega (arith, l, long), sym (get_or-drop n xs k x) ∙ is, p)
 
 -- what lies within the directory is in the part that does not come before it
-pub in_rest : (P : Atoms → Type 0) (xs : List Atoms) (n : ℕ) (dir : Atoms) → ((p : Atoms) → P p → IsWithin p dir)
+pub in_rest : (P : Atoms → Type 0) (xs : List Atoms) (n : ℕ) (dir : Atoms) → ((p : Atoms) → P p → IsAtOrBelow p dir)
     → IsPartitionPoint (λ p. is_lt (tree_cmp p dir) ≡ true) (λ p. is_lt (tree_cmp p dir) ≡ false) xs n → Any P xs → Any P (drop n xs)
 in_rest P xs n dir within point (k, x, l, is, p) = elim (cases_lt k n) [
   | inl early ↦ absurd (true≢false (sym (subst (λ q. is_lt (tree_cmp q dir) ≡ true) is (point.0 k x (omega arith) early)) ∙ within_not_before x dir (within x p)))

@@ -8,7 +8,8 @@ use Rattle.bx_tree.specs.Paths.{Atoms, IsBelow}
 use Rattle.pip_model_types.specs.declared.pip.Pip.{Pip}
 use Rattle.pip_model_types.specs.declared.pip.SealDesc.{SealDesc}
 use Rattle.graph_check_outputs.specs.Gathered.{IsListOf}
-use Rattle.graph_check_outputs.specs.Outputs.{IsWithin, PipHas, declared_files, outputs}
+use Rattle.graph_check_outputs.specs.Outputs.{PipHas, declared_files, outputs}
+use Rattle.bx_tree.specs.Below.{IsAtOrBelow}
 use Rattle.graph_check_outputs.specs.Overlap.{IsUnlisted, full_seals}
 use Rattle.graph_check_outputs.specs.Overlap.Overlaps.{Nested, OnePath, Unshared, Unlisted, Meets}
 use Rattle.graph_check_outputs.specs.Sharing.{HasFileDir, HasNested, HasOverlap, HasSealedDir, HasUnlisted, HasUnshared, declared_dir_paths, full_roots}
@@ -65,9 +66,9 @@ nested_to pips xs all (i, j, (path, dir, h, k, below)) =
     pair_to IsBelow xs xs path dir ((all.members path).1 (i, h)) ((all.members dir).1 (j, k)) below
 
 pub file_dir_from : (pips : List Pip) (files dirs : List Atoms) → IsListOf declared_files pips files → IsListOf declared_dir_paths pips dirs
-    → SomePair IsWithin files dirs → HasNested pips ⊎ HasFileDir pips
+    → SomePair IsAtOrBelow files dirs → HasNested pips ⊎ HasFileDir pips
 file_dir_from pips files dirs fs ds some =
-    let pair = pair_from IsWithin files dirs some in
+    let pair = pair_from IsAtOrBelow files dirs some in
     let file = (fs.members pair.0).0 pair.2 in
     let path = (ds.members pair.1).0 pair.3 in
     let dir = path_dir pips path.0 pair.1 path.1 in
@@ -77,9 +78,9 @@ file_dir_from pips files dirs fs ds some =
     ]
 
 pub file_dir_to : (pips : List Pip) (files dirs : List Atoms) → IsListOf declared_files pips files → IsListOf declared_dir_paths pips dirs
-    → HasFileDir pips → SomePair IsWithin files dirs
+    → HasFileDir pips → SomePair IsAtOrBelow files dirs
 file_dir_to pips files dirs fs ds (i, j, (file, dir, h, k, same)) =
-    pair_to IsWithin files dirs file dir.path ((fs.members file).1 (i, h)) ((ds.members dir.path).1 (j, dir_path_of pips j dir k)) (inl same)
+    pair_to IsAtOrBelow files dirs file dir.path ((fs.members file).1 (i, h)) ((ds.members dir.path).1 (j, dir_path_of pips j dir k)) (inl same)
 
 -- where there are no directories, no file is one
 pub no_file_dir : (pips : List Pip) (dirs : List Atoms) → IsListOf declared_dir_paths pips dirs → length dirs ≡ 0 → HasFileDir pips → ⊥
@@ -89,9 +90,9 @@ no_file_dir pips dirs ds e (i, j, (file, dir, h, k, same)) =
 -- ## Seals
 
 pub sealed_from_below : (pips : List Pip) (dirs roots : List Atoms) → IsListOf declared_dir_paths pips dirs → IsListOf full_roots pips roots
-    → SomePair IsWithin dirs roots → HasSealedDir pips
+    → SomePair IsAtOrBelow dirs roots → HasSealedDir pips
 sealed_from_below pips dirs roots ds rs some =
-    let pair = pair_from IsWithin dirs roots some in
+    let pair = pair_from IsAtOrBelow dirs roots some in
     let path = (ds.members pair.0).0 pair.2 in
     let root = (rs.members pair.1).0 pair.3 in
     let dir = path_dir pips path.0 pair.0 path.1 in
@@ -111,9 +112,9 @@ sealed_from_below pips dirs roots ds rs some =
     )
 
 pub sealed_from_above : (pips : List Pip) (dirs roots : List Atoms) → IsListOf declared_dir_paths pips dirs → IsListOf full_roots pips roots
-    → SomePair IsWithin roots dirs → HasSealedDir pips
+    → SomePair IsAtOrBelow roots dirs → HasSealedDir pips
 sealed_from_above pips dirs roots ds rs some =
-    let pair = pair_from IsWithin roots dirs some in
+    let pair = pair_from IsAtOrBelow roots dirs some in
     let root = (rs.members pair.0).0 pair.2 in
     let path = (ds.members pair.1).0 pair.3 in
     let dir = path_dir pips path.0 pair.1 path.1 in
@@ -125,18 +126,18 @@ sealed_from_above pips dirs roots ds rs some =
         dir.0,
         seal.1,
         dir.1,
-        inl (subst (IsWithin seal.0.root) (sym dir.2) (subst (λ p. IsWithin p pair.1) (sym seal.2) pair.4)),
+        inl (subst (IsAtOrBelow seal.0.root) (sym dir.2) (subst (λ p. IsAtOrBelow p pair.1) (sym seal.2) pair.4)),
       ),
     )
 
 pub sealed_to : (pips : List Pip) (dirs roots : List Atoms) → IsListOf declared_dir_paths pips dirs → IsListOf full_roots pips roots
-    → HasSealedDir pips → SomePair IsWithin dirs roots ⊎ SomePair IsWithin roots dirs
+    → HasSealedDir pips → SomePair IsAtOrBelow dirs roots ⊎ SomePair IsAtOrBelow roots dirs
 sealed_to pips dirs roots ds rs (i, j, (seal, dir, h, k, meets)) =
     let root = (rs.members seal.root).1 (i, root_of pips i seal h) in
     let path = (ds.members dir.path).1 (j, dir_path_of pips j dir k) in
     elim meets [
-      | inl within ↦ inr (pair_to IsWithin roots dirs seal.root dir.path root path within)
-      | inr below ↦ inl (pair_to IsWithin dirs roots dir.path seal.root path root (inr below))
+      | inl within ↦ inr (pair_to IsAtOrBelow roots dirs seal.root dir.path root path within)
+      | inr below ↦ inl (pair_to IsAtOrBelow dirs roots dir.path seal.root path root (inr below))
     ]
 
 -- some file is left out by a full seal of some pip

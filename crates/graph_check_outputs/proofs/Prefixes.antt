@@ -1,8 +1,9 @@
 -- Overlaps among the first pips of a list.
-use Rattle.std.proofs.Common.{inl, inr, ◌≡◌, ℕ, zero, suc, ◌+◌, ◌<◌, List, [], ◌∷◌, length, length-take, take, Some, arith, refl, subst, sym}
-use Rattle.std.specs.Prelude.{IsSomeAnd, slice_get}
+use Rattle.std.proofs.Common.{inl, inr, ◌≡◌, ℕ, ◌+◌, ◌<◌, List, length, length-take, take, Some, arith, subst, sym}
+use Rattle.std.specs.Prelude.{IsSomeAnd}
 use Rattle.std.specs.List.{Contains}
 use Rattle.std.proofs.lemmas.Bool.{cases_lt}
+use Rattle.bx_tree.proofs.Lists.{slice_get-take}
 use Rattle.pip_model_types.specs.declared.pip.Pip.{Pip}
 use Rattle.pip_model_types.specs.declared.pip.PipKind.{PipKind}
 use Rattle.graph_check_outputs.specs.Firsts.{IsFirst}
@@ -12,13 +13,6 @@ use Rattle.graph_check_outputs.specs.Overlap.Overlaps.{Nested, OnePath, Unshared
 use Rattle.graph_check_outputs.specs.Sharing.{HasOverlap}
 use Rattle.graph_check_outputs.proofs.Has.{has_within}
 use Rattle.pip_model_types.specs.Kinds.{outdirs_of}
-
-slice_get-take : {X : Type 0} (xs : List X) (m i : ℕ) → i < m → slice_get (take m xs) i ≡ slice_get xs i
-slice_get-take [] zero i l = absurd (omega (arith, l))
-slice_get-take [] (suc m) i l = refl
-slice_get-take (x ∷ xs) zero i l = absurd (omega (arith, l))
-slice_get-take (x ∷ xs) (suc m) zero l = refl
-slice_get-take (x ∷ xs) (suc m) (suc i) l = slice_get-take xs m i (omega (arith, l))
 
 pub into : {X : Type 0} (items : PipKind → List X) (pips : List Pip) (m i : ℕ) (x : X) → i < m → PipHas items pips i x → PipHas items (take m pips) i x
 into items pips m i x l h = subst (λ o. IsSomeAnd o (λ (p : Pip). Contains (items p.kind) x)) (sym (slice_get-take pips m i l)) h

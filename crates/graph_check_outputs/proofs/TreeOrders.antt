@@ -10,7 +10,7 @@ use Rattle.std.proofs.lemmas.Cmp.{lists_total, nat_list_cmp_total, tied_itself}
 use Rattle.std.proofs.lemmas.List.Sorted.{searchable_from_sorted}
 use Rattle.std.proofs.lemmas.Map.Lookups.{exact_bytes}
 use Rattle.bx_tree.specs.Paths.{Atoms}
-use Rattle.graph_check_outputs.specs.Outputs.{IsWithin}
+use Rattle.bx_tree.specs.Below.{IsAtOrBelow}
 use Rattle.graph_check_outputs.specs.TreeOrder.{IsInTreeOrder, tree_cmp}
 use Rattle.std.specs.List.Sorted.{IsPartitionedBy}
 
@@ -29,16 +29,16 @@ not_before [] (r ∷ rest) = refl
 not_before (a ∷ d) rest = ap (λ o. is_lt (ordering_then o (tree_cmp (d ++ rest) d))) (tied_itself nat_list_cmp_total a) ∙ not_before d rest
 
 -- the part of a path below a directory that it is, or lies below
-pub rest_of : (path dir : Atoms) → IsWithin path dir → (rest : Atoms) × (path ≡ dir ++ rest)
+pub rest_of : (path dir : Atoms) → IsAtOrBelow path dir → (rest : Atoms) × (path ≡ dir ++ rest)
 rest_of path dir (inl e) = ([], e ∙ sym (append-nil dir))
 rest_of path dir (inr (rest, n, e)) = (rest, e)
 
-within_from_rest : (path dir rest : Atoms) → path ≡ dir ++ rest → IsWithin path dir
+within_from_rest : (path dir rest : Atoms) → path ≡ dir ++ rest → IsAtOrBelow path dir
 within_from_rest path dir [] e = inl (e ∙ append-nil dir)
 within_from_rest path dir (r ∷ rest) e = inr (r ∷ rest, λ n. cc, e)
 
 -- no path within a directory comes before it
-pub within_not_before : (path dir : Atoms) → IsWithin path dir → is_lt (tree_cmp path dir) ≡ false
+pub within_not_before : (path dir : Atoms) → IsAtOrBelow path dir → is_lt (tree_cmp path dir) ≡ false
 within_not_before path dir h = let r = rest_of path dir h in ap (λ p. is_lt (tree_cmp p dir)) r.1 ∙ not_before dir r.0
 
 by_head : (a b : List ℕ) (d p rest : Atoms) (o : Ordering) → atom_cmp b a ≡ o → is_lt (ordering_then (atom_cmp b a) (tree_cmp p d)) ≡ false
@@ -64,7 +64,7 @@ between (a ∷ d) [] rest low high = absurd (true≢false low)
 between (a ∷ d) (b ∷ p) rest low high = by_head a b d p rest (atom_cmp b a) refl low high (between d p rest)
 
 -- in the order, a path between a directory and a path within it lies within it
-pub within_between : (dir p path : Atoms) → is_lt (tree_cmp p dir) ≡ false → is_lt (tree_cmp path p) ≡ false → IsWithin path dir → IsWithin p dir
+pub within_between : (dir p path : Atoms) → is_lt (tree_cmp p dir) ≡ false → is_lt (tree_cmp path p) ≡ false → IsAtOrBelow path dir → IsAtOrBelow p dir
 within_between dir p path low high h =
     let r = rest_of path dir h in
     let s = between dir p r.0 low (sym (ap (λ q. is_lt (tree_cmp q p)) r.1) ∙ high) in

@@ -1,12 +1,12 @@
 -- What pips declare to make, and that the pip with a number has something among what it declares.
-use Rattle.std.specs.Prelude.{◌≡◌, ℕ, List, [], ◌∷◌, ◌++◌, map, Contains, IsSomeAnd, slice_get, ◌⊎◌}
+use Rattle.std.specs.Prelude.{ℕ, List, [], ◌∷◌, ◌++◌, Contains, IsSomeAnd, slice_get}
 use Rattle.std.specs.Option.{option_to_list}
-use Rattle.bx_tree.specs.Paths.{Atoms, IsBelow}
-use Rattle.pip_model_types.specs.declared.outputs.OutDir.{OutDir}
+use Rattle.bx_tree.specs.Paths.{Atoms}
 use Rattle.pip_model_types.specs.declared.pip.Pip.{Pip}
 use Rattle.pip_model_types.specs.declared.pip.PipKind.{PipKind}
 use Rattle.pip_model_types.specs.declared.pip.PipKind.TheVariants.{Process, Copy, Write, Seal}
 use Rattle.pip_model_types.specs.Kinds.{outdirs_of}
+use Rattle.pip_model_types.specs.Outputs.{outdir_paths}
 
 -- pip i has x among these items of it
 abbrev pub PipHas : {X : Type 0} → (PipKind → List X) → List Pip → ℕ → X → Type 0
@@ -22,8 +22,4 @@ declared_files (Seal d) = []
 
 -- the outputs of a pip: the files and directories that it declares
 abbrev pub outputs : PipKind → List Atoms
-outputs kind = declared_files kind ++ map (λ (dir : OutDir). dir.path) (outdirs_of kind)
-
--- the path is the directory or lies below it
-abbrev pub IsWithin : Atoms → Atoms → Type 0
-IsWithin path dir = (path ≡ dir) ⊎ IsBelow path dir
+outputs kind = declared_files kind ++ outdir_paths (outdirs_of kind)

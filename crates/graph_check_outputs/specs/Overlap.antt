@@ -8,7 +8,8 @@ use Rattle.pip_model_types.specs.declared.pip.Pip.{Pip}
 use Rattle.pip_model_types.specs.declared.pip.PipKind.{PipKind}
 use Rattle.pip_model_types.specs.declared.pip.PipKind.TheVariants.{Process, Copy, Write, Seal}
 use Rattle.pip_model_types.specs.declared.pip.SealDesc.{SealDesc}
-use Rattle.graph_check_outputs.specs.Outputs.{IsWithin, PipHas, declared_files, outputs}
+use Rattle.graph_check_outputs.specs.Outputs.{PipHas, declared_files, outputs}
+use Rattle.bx_tree.specs.Below.{IsAtOrBelow}
 use Rattle.pip_model_types.specs.Kinds.{outdirs_of}
 use Rattle.bx_tree.specs.FileInputs.{input_path}
 
@@ -45,7 +46,7 @@ UnsharedDir pips i j =
 
 -- the file lies at or below the root of the seal and is no member of it
 abbrev pub IsUnlisted : SealDesc → Atoms → Type 0
-IsUnlisted seal file = IsWithin file seal.root × (Contains (map input_path seal.files) file → ⊥)
+IsUnlisted seal file = IsAtOrBelow file seal.root × (Contains (map input_path seal.files) file → ⊥)
 
 -- an output file of pip i lies at or below the root of the full seal j and is no member of it
 abbrev pub UnlistedFile : List Pip → ℕ → ℕ → Type 0
@@ -57,7 +58,7 @@ UnlistedFile pips i j =
 abbrev pub SealMeetsDir : List Pip → ℕ → ℕ → Type 0
 SealMeetsDir pips i j =
     (seal : SealDesc) × (dir : OutDir) × PipHas full_seals pips i seal × PipHas outdirs_of pips j dir
-    × (IsWithin seal.root dir.path ⊎ IsBelow dir.path seal.root)
+    × (IsAtOrBelow seal.root dir.path ⊎ IsBelow dir.path seal.root)
 
 -- pips i and j, which may be one pip, overlap in one of these ways
 pub data Overlaps (pips : List Pip) (i j : ℕ) : Type 0 where

@@ -9,6 +9,7 @@ use Rattle.pip_model_types.specs.declared.pip.SealDesc.{SealDesc}
 use Rattle.graph_check_outputs.specs.Overlap.{FileIsDir, NestedOutputs, Overlaps, SealMeetsDir, UnlistedFile}
 use Rattle.graph_check_outputs.specs.Overlap.{UnsharedDir, full_seals}
 use Rattle.pip_model_types.specs.Kinds.{outdirs_of}
+use Rattle.pip_model_types.specs.Outputs.{outdir_paths}
 
 abbrev pub unless_shared : Bool → Atoms → List Atoms
 unless_shared true path = []
@@ -19,7 +20,7 @@ abbrev pub lone_among : List OutDir → List Atoms
 lone_among = flat_map (λ (dir : OutDir). unless_shared dir.shared dir.path)
 
 abbrev pub declared_dir_paths : PipKind → List Atoms
-declared_dir_paths kind = map (λ (dir : OutDir). dir.path) (outdirs_of kind)
+declared_dir_paths kind = outdir_paths (outdirs_of kind)
 
 abbrev pub lone_paths : PipKind → List Atoms
 lone_paths kind = lone_among (outdirs_of kind)

@@ -8,8 +8,8 @@ use bx_tree::Path;
 use pip_model_types::{OutDir, PipKind, SealForm};
 use std::alloc::{AllocError, Global};
 
-// Adds a path.
-pub(crate) fn add(paths: &mut Vec<Path>, path: &Path) -> Result<(), AllocError>
+/// Adds a path, shared.
+pub fn add_path(paths: &mut Vec<Path>, path: &Path) -> Result<(), AllocError>
     ensures { OnOk result (paths.new.items ≡ paths.old.items ++ path.now ∷ []) }
 {
     paths.push(path.share()?)?;
@@ -20,7 +20,7 @@ fn add_all(paths: &mut Vec<Path>, more: &[Path]) -> Result<(), AllocError>
     ensures { OnOk result (paths.new.items ≡ paths.old.items ++ more.now) }
 {
     'more: for path in more {
-        add(paths, path)?;
+        add_path(paths, path)?;
     }
     Ok(())
 }
@@ -31,7 +31,7 @@ fn add_dirs(paths: &mut Vec<Path>, dirs: &[OutDir]) -> Result<(), AllocError>
         (paths.new.items ≡ paths.old.items ++ map (λ (dir : AnyOutDir). dir.path) dirs.now) }
 {
     'dirs: for dir in dirs {
-        add(paths, &dir.path)?;
+        add_path(paths, &dir.path)?;
     }
     Ok(())
 }
@@ -44,7 +44,7 @@ fn add_unshared(paths: &mut Vec<Path>, dir: &OutDir) -> Result<(), AllocError>
     if dir.shared {
         Ok(())
     } else {
-        add(paths, &dir.path)
+        add_path(paths, &dir.path)
     }
 }
 
@@ -65,12 +65,12 @@ fn add_files(paths: &mut Vec<Path>, kind: &PipKind) -> Result<(), AllocError>
         PipKind::Process(process) => {
             add_all(paths, process.outs.paths())?;
             match &process.console {
-                Some(console) => add(paths, console),
+                Some(console) => add_path(paths, console),
                 None => Ok(()),
             }
         }
-        PipKind::Copy(copy) => add(paths, &copy.to),
-        PipKind::Write(write) => add(paths, &write.to),
+        PipKind::Copy(copy) => add_path(paths, &copy.to),
+        PipKind::Write(write) => add_path(paths, &write.to),
         PipKind::Seal(_) => Ok(()),
     }
 }
@@ -128,7 +128,7 @@ fn add_full_root(paths: &mut Vec<Path>, kind: &PipKind) -> Result<(), AllocError
 {
     match kind {
         PipKind::Seal(seal) => match seal.form {
-            SealForm::Full => add(paths, &seal.root),
+            SealForm::Full => add_path(paths, &seal.root),
             _ => Ok(()),
         },
         _ => Ok(()),

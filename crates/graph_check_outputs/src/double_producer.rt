@@ -5,7 +5,8 @@ ghost use Rattle.std.specs.Prelude.{IfOk};
 
 use crate::declared::files_of;
 use crate::seen::{is_any_seen, see_all};
-use pip_model_types::{Memory, Pip};
+use bx_tree::Memory;
+use pip_model_types::Pip;
 use std::alloc::Global;
 use std::collections::BTreeSet;
 

@@ -6,7 +6,7 @@ ghost use Rattle.graph_check_outputs.specs.Claims.{paths_among};
 ghost use Rattle.graph_check_outputs.specs.Claims.{wants, wanted_items};
 ghost use Rattle.graph_check_outputs.specs.Gathered.{IsListOf};
 
-use crate::declared::{add, dirs_of, files_of, roots_of};
+use crate::declared::{add_path, dirs_of, files_of, roots_of};
 use crate::tree_order::tree_order;
 use bx_tree::Path;
 use pip_model_types::{Pip, PipKind};
@@ -110,7 +110,7 @@ fn add_if_wanted(
     ensures { OnOk result (paths.new.items ≡ paths.old.items ++ if_wanted wanted count claim.now) }
 {
     if claim.pip < count && is_wanted(wanted, claim.role) {
-        add(paths, &claim.path)
+        add_path(paths, &claim.path)
     } else {
         Ok(())
     }

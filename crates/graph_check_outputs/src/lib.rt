@@ -1,8 +1,8 @@
 //! Graph validation: the rules on declared outputs.
 //!
-//! No two pips declare one file; files, output directories and full seals keep apart; all outputs lie below
+//! No two pips declare one file; files, output directories and full seals do not overlap; all outputs lie below
 //! `out`. Each call gives the first pip at which its rule fails. This crate depends on `pip_model_types`, `bx_tree`
-//! and `bx_digest`, and keeps no types with an invariant of their own.
+//! and `bx_digest`, and has no types with an invariant of their own.
 #![tactic(auto)]
 
 mod declared;
@@ -16,6 +16,7 @@ mod tree_order;
 mod unlisted;
 mod unshared;
 
+pub use declared::add_path;
 pub use double_producer::first_double_producer;
 pub use outside_out::first_outside;
 pub use overlap::first_overlap;

@@ -1,7 +1,7 @@
 //! Which paths of lists lie below others.
 ghost use Rattle.std.specs.Prelude.{◌↔◌, Any, IsTrue};
 ghost use Rattle.bx_tree.specs.Paths.{IsBelow};
-ghost use Rattle.graph_check_outputs.specs.Outputs.{IsWithin};
+ghost use Rattle.bx_tree.specs.Below.{IsAtOrBelow};
 ghost use Rattle.graph_check_outputs.specs.TreeOrder.{IsInTreeOrder};
 
 use crate::tree_order::{count_before, is_within};
@@ -10,7 +10,7 @@ use bx_tree::Path;
 // Whether some of these paths is this directory or lies below it.
 fn has_within(paths: &[Path], dir: &Path) -> bool
     requires { IsInTreeOrder paths.now }
-    ensures { IsTrue result ↔ Any (λ path. IsWithin path dir.now) paths.now }
+    ensures { IsTrue result ↔ Any (λ path. IsAtOrBelow path dir.now) paths.now }
 {
     let place = count_before(paths, dir);
     if place >= paths.len() {
@@ -23,7 +23,7 @@ fn has_within(paths: &[Path], dir: &Path) -> bool
 pub(crate) fn any_within(paths: &[Path], dirs: &[Path]) -> bool
     requires { IsInTreeOrder paths.now }
     ensures { IsTrue result
-        ↔ Any (λ dir. Any (λ path. IsWithin path dir) paths.now) dirs.now }
+        ↔ Any (λ dir. Any (λ path. IsAtOrBelow path dir) paths.now) dirs.now }
 {
     dirs.iter().any(|dir| has_within(paths, dir))
 }

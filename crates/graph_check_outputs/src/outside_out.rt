@@ -6,8 +6,8 @@ ghost use Rattle.graph_check_outputs.specs.Outputs.{outputs};
 ghost use Rattle.graph_check_outputs.specs.OutsideOut.{OutsideOutAt, out_dir};
 
 use crate::declared::add_outputs;
-use bx_tree::{Path, PathFault};
-use pip_model_types::{Memory, Pip, PipKind};
+use bx_tree::{Memory, Path, PathFault};
+use pip_model_types::{Pip, PipKind};
 use std::alloc::{AllocError, Global};
 
 // The directory that outputs lie strictly below.

@@ -12,8 +12,8 @@ use crate::gathered::{Claim, Wanted, all_claims, list_of};
 use crate::nesting::{any_nested, any_within};
 use crate::unlisted::has_unlisted;
 use crate::unshared::first_unshared;
-use bx_tree::Path;
-use pip_model_types::{Memory, Pip, PipKind, SealForm};
+use bx_tree::{Memory, Path};
+use pip_model_types::{Pip, PipKind, SealForm};
 use std::alloc::Global;
 
 // Whether outputs of these pips lie below each other, or a file is a directory.
@@ -120,7 +120,7 @@ fn least_overlap(
 {
     let mut apart = 0;
     let mut overlapping = pips.len();
-    'halves: while overlapping - apart > 1 {
+    'bounds: while overlapping - apart > 1 {
         let middle = apart + (overlapping - apart) / 2;
         if has_overlap(alloc, claims, unshared, &pips[..middle])? {
             overlapping = middle;

@@ -1,8 +1,8 @@
 //! Paths in the order in which what lies below a directory comes directly after it.
-ghost use Rattle.std.specs.Prelude.{◌≡◌, ◌↔◌, ◌≤◌, [], IsTrue, false, length, true};
+ghost use Rattle.std.specs.Prelude.{◌≡◌, ◌↔◌, ◌≤◌, IsTrue, false, length, true};
 ghost use Rattle.std.specs.List.Sorted.{IsPartitionPoint};
 ghost use Rattle.std.specs.Ordering.{is_lt};
-ghost use Rattle.graph_check_outputs.specs.Outputs.{IsWithin};
+ghost use Rattle.bx_tree.specs.Below.{IsAtOrBelow};
 ghost use Rattle.graph_check_outputs.specs.TreeOrder.{IsInTreeOrder, byte_rank, text_order, tree_cmp};
 
 use bx_tree::Path;
@@ -24,17 +24,11 @@ fn texts_order(a: &[u8], b: &[u8]) -> Ordering
         .cmp(b.iter().map(|byte| rank(*byte)))
 }
 
-fn is_root(path: &Path) -> bool
-    ensures { IsTrue result ↔ (path.now ≡ []) }
-{
-    path.text() == "."
-}
-
 // How two paths compare atom by atom.
 pub(crate) fn tree_order(a: &Path, b: &Path) -> Ordering
     ensures { result ≡ tree_cmp a.now b.now }
 {
-    match (is_root(a), is_root(b)) {
+    match (a.is_root(), b.is_root()) {
         (true, true) => Ordering::Equal,
         (true, false) => Ordering::Less,
         (false, true) => Ordering::Greater,
@@ -42,17 +36,11 @@ pub(crate) fn tree_order(a: &Path, b: &Path) -> Ordering
     }
 }
 
-fn is_same_path(a: &Path, b: &Path) -> bool
-    ensures { IsTrue result ↔ (a.now ≡ b.now) }
-{
-    a == b
-}
-
 // Whether a path is a directory or lies below it.
 pub(crate) fn is_within(path: &Path, dir: &Path) -> bool
-    ensures { IsTrue result ↔ IsWithin path.now dir.now }
+    ensures { IsTrue result ↔ IsAtOrBelow path.now dir.now }
 {
-    is_same_path(path, dir) || path.is_below(dir)
+    path.is_same(dir) || path.is_below(dir)
 }
 
 // How many of these paths come before a path.

@@ -1,38 +1,12 @@
 //! Which files lie in sealed directories without being members of them.
-ghost use Rattle.std.specs.Prelude.{◌≡◌, ◌↔◌, All, Any, Contains, IsTrue, false, map};
+ghost use Rattle.std.specs.Prelude.{◌≡◌, ◌↔◌, All, Any, IsTrue, false};
 ghost use Rattle.std.specs.Ordering.{is_lt};
-ghost use Rattle.pip_model_types.specs.Inputs.{RiseByPath};
 ghost use Rattle.graph_check_outputs.specs.Overlap.{IsUnlisted};
 ghost use Rattle.graph_check_outputs.specs.TreeOrder.{IsInTreeOrder, tree_cmp};
-ghost use Rattle.bx_tree.specs.FileInputs.{input_path};
 
 use crate::tree_order::{count_before, is_within};
-use bx_tree::{FileInput, Path};
+use bx_tree::Path;
 use pip_model_types::SealDesc;
-
-fn file_path(file: &FileInput) -> &Path
-    ensures { result.now ≡ input_path file.now }
-{
-    match file {
-        FileInput::Source(path) | FileInput::Made(path, _) => path,
-    }
-}
-
-// Whether a path is that of one of these files.
-fn is_listed(files: &[FileInput], path: &Path) -> bool
-    requires { RiseByPath files.now }
-    ensures { IsTrue result ↔ Contains (map input_path files.now) path.now }
-{
-    files
-        .binary_search_by(|file| file_path(file).cmp(path))
-        .is_ok()
-}
-
-fn is_member(seal: &SealDesc, path: &Path) -> bool
-    ensures { IsTrue result ↔ Contains (map input_path seal.now.files) path.now }
-{
-    is_listed(seal.files.files(), path)
-}
 
 // Whether a file lies at or below the root of the seal and is no member, among files of which none comes before
 // that root. The search ends at the first file that is
@@ -46,7 +20,7 @@ fn has_unlisted_among(files: &[Path], seal: &SealDesc) -> bool
         if !is_within(file, &seal.root) {
             return false;
         }
-        if !is_member(seal, file) {
+        if !seal.files.has_path(file) {
             return true;
         }
     }

@@ -4,8 +4,8 @@ ghost use Rattle.graph_check_outputs.specs.Sharing.{TellsUnshared};
 
 use crate::declared::{dirs_of, lone_dirs_of};
 use crate::seen::{is_any_seen, see_all};
-use bx_tree::Path;
-use pip_model_types::{Memory, Pip};
+use bx_tree::{Memory, Path};
+use pip_model_types::Pip;
 use std::alloc::Global;
 use std::collections::BTreeSet;
 

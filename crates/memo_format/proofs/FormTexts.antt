@@ -7,9 +7,9 @@ use Rattle.bx_tree.specs.Orders.{path_cmp_total}
 use Rattle.prints.specs.Forms.{IsForm}
 use Rattle.prints.specs.Lines.{begins, rises}
 use Rattle.prints.specs.Reading.{◌>>=◌}
-use Rattle.prints.proofs.Combining.{after_form, as_form, bind_some, form_of, only_form, pair_form, whole_again, whole_read}
+use Rattle.prints.specs.Combining.{after_form, as_form, bind_some, form_of, only_form, pair_form, whole_again, whole_read}
 use Rattle.prints.proofs.LineLists.{lines_form}
-use Rattle.prints.proofs.PartForms.{digest_form, newline}
+use Rattle.prints.specs.PartForms.{digest_form, newline}
 use Rattle.prints.proofs.Rising.{rising_sorted, sorted_rising}
 use Rattle.memo_format.specs.declared.entry.Entry.{Entry}
 use Rattle.memo_format.specs.declared.entry.OutputLine.{OutputLine}

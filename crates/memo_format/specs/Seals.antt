@@ -5,8 +5,8 @@ use Rattle.std.specs.Borrow.{Bor}
 use Rattle.std.specs.Str.{bytes_eq}
 use Rattle.sha2.specs.Sha256.{sha256}
 use Rattle.prints.specs.Parts.{digest_part}
-use Rattle.prints.specs.declared.text_fault.TextFault.{TextFault}
-use Rattle.prints.specs.declared.text_fault.TextFault.TheVariants as faults
+use Rattle.prints.specs.declared.fault.PrintFault.{PrintFault}
+use Rattle.prints.specs.declared.fault.PrintFault.TheVariants as faults
 use Rattle.memo_format.specs.declared.seal.TheConstants.{SEAL_BYTES}
 
 abbrev pub seal_line : List ℕ → List ℕ
@@ -25,7 +25,7 @@ abbrev pub unsealed : List ℕ → Option (List ℕ)
 unsealed text = if bytes_eq (sealed (body_of text)) text then Some (body_of text) else None
 
 -- A function of the program gives what comes before the seal, unless memory runs out.
-abbrev pub Unseals : Result (Bor (List ℕ)) TextFault → List ℕ → Type 0
+abbrev pub Unseals : Result (Bor (List ℕ)) PrintFault → List ℕ → Type 0
 Unseals (Ok body) text = unsealed text ≡ Some body.now
-Unseals (Err faults.Bad) text = unsealed text ≡ None
+Unseals (Err faults.BadPrint) text = unsealed text ≡ None
 Unseals (Err faults.Memory) text = Unit {0}

@@ -2,8 +2,8 @@
 -- definitions.
 use Rattle.std.proofs.Common.{codes, refl}
 use Rattle.prints.specs.Forms.{Anything, IsForm}
-use Rattle.prints.proofs.Combining.{after_form, as_form, pair_form}
-use Rattle.prints.proofs.PartForms.{digest_form, newline, path_form, space}
+use Rattle.prints.specs.Combining.{after_form, as_form, pair_form}
+use Rattle.prints.specs.PartForms.{digest_form, newline, path_form, space}
 use Rattle.memo_format.specs.Entries.{IsOutput, output_at, output_line, output_of}
 use Rattle.memo_format.specs.Selectors.{IsSelector, select_at, select_line, selector_from_parts}
 use Rattle.memo_format.specs.declared.entry.OutputLine.{OutputLine}

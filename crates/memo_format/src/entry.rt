@@ -14,7 +14,7 @@ use crate::fault::FormatFault;
 use crate::seal::{seal, unseal};
 use bx_digest::Digest;
 use bx_tree::Path;
-use prints::{Cursor, Line, TextFault, append_digest, append_lines, append_path, read_lines};
+use prints::{Cursor, Line, PrintFault, append_digest, append_lines, append_path, read_lines};
 use std::alloc::{AllocError, Global};
 use std::marker::Model;
 
@@ -95,7 +95,7 @@ impl Line<OutputLine, OutputLine> for OutputKind {
         cursor.begins(b"output ")
     }
 
-    fn read(alloc: Global, cursor: &mut Cursor) -> Result<OutputLine, TextFault> {
+    fn read(alloc: Global, cursor: &mut Cursor) -> Result<OutputLine, PrintFault> {
         cursor.word(b"output ")?;
         let path = cursor.path(alloc, b' ')?;
         let digest = cursor.digest(b'\n')?;
@@ -129,19 +129,19 @@ pub fn write_entry(alloc: Global, entry: &Entry) -> Result<Vec<u8>, AllocError>
 
 // The outputs, which rise by path.
 #[tactic(auto, unfolding(crate::specs::Entries::outputs_at))]
-fn outputs(alloc: Global, cursor: &mut Cursor) -> Result<OutputLines, TextFault>
+fn outputs(alloc: Global, cursor: &mut Cursor) -> Result<OutputLines, PrintFault>
     ensures { Takes result cursor.new (outputs_at cursor.old) }
 {
     let lines = read_lines::<OutputLine, OutputLine, OutputKind>(alloc, cursor)?;
     if !is_rising(lines.as_slice()) {
-        return Err(TextFault::Bad);
+        return Err(PrintFault::BadPrint);
     }
     Ok(OutputLines::of(lines))
 }
 
 // The entry of a body.
 #[tactic(auto, unfolding(crate::specs::Entries::body_entry))]
-fn in_body(alloc: Global, body: &[u8]) -> Result<Entry, TextFault>
+fn in_body(alloc: Global, body: &[u8]) -> Result<Entry, PrintFault>
     ensures { Gives result (body_entry body.now) }
 {
     let mut cursor = Cursor::of(body);
@@ -164,7 +164,7 @@ fn in_body(alloc: Global, body: &[u8]) -> Result<Entry, TextFault>
 
 // The entry of a text.
 #[tactic(auto, unfolding(crate::specs::Entries::read_entry_text))]
-fn entry_in(alloc: Global, bytes: &[u8]) -> Result<Entry, TextFault>
+fn entry_in(alloc: Global, bytes: &[u8]) -> Result<Entry, PrintFault>
     ensures { Gives result (read_entry_text bytes.now) }
 {
     let body = unseal(alloc, bytes)?;
@@ -180,7 +180,7 @@ pub fn read_entry(alloc: Global, bytes: &[u8]) -> Result<Entry, FormatFault>
 {
     match entry_in(alloc, bytes) {
         Ok(entry) => Ok(entry),
-        Err(TextFault::Bad) => Err(FormatFault::BadForm),
-        Err(TextFault::Memory) => Err(FormatFault::Memory),
+        Err(PrintFault::BadPrint) => Err(FormatFault::BadForm),
+        Err(PrintFault::Memory) => Err(FormatFault::Memory),
     }
 }

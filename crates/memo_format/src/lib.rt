@@ -1,10 +1,10 @@
 //! The cache's stored formats: selector lists and cache entries.
 //!
-//! A list of selectors names, for one weak text, the path sets that were met and the strong texts that their
-//! answers gave; an entry names the outputs of a run under its strong text. Each ends with a seal. This crate
-//! writes both and reads both, says which names of a store are well-formed, and has what a lookup finds. It depends
-//! on `prints` for the lines. It carries the promise that a form is read back as what it was written
-//! of, and that what is no form, or has another seal, is refused.
+//! A selector list has, for one weak text, path sets of earlier runs and the strong texts of their answers; an
+//! entry has the outputs of a run under its strong text. Each ends with a seal. This crate writes and parses both,
+//! says which names of a store are well-formed, and has the result of a lookup. It depends on `prints` for the
+//! lines. It carries the promise that a form parses back to what it was written of, and that a text which is no
+//! form, or has another seal, is rejected.
 #![tactic(auto)]
 
 mod entry;
@@ -14,11 +14,9 @@ mod laws;
 mod seal;
 mod selector;
 
+pub use bx_tree::Memory;
 pub use entry::{Entry, OutputLine, OutputLines, read_entry, write_entry};
 pub use fault::FormatFault;
 pub use found::Found;
 pub use laws::{entry_texts, selector_texts};
 pub use selector::{MAX_SELECTORS, Selector, read_selectors, write_selectors};
-
-/// Out of memory, the one refusal that no contract ties to a cause.
-pub type Memory = std::alloc::AllocError;

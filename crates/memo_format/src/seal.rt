@@ -3,7 +3,7 @@ ghost use Rattle.std.specs.Prelude.{◌≡◌, ◌++◌, IfOk, OnOk};
 ghost use Rattle.memo_format.specs.Seals.{Unseals, seal_line as line_of, sealed};
 
 use bx_digest::digest_of;
-use prints::{TextFault, append_digest};
+use prints::{PrintFault, append_digest};
 use std::alloc::{AllocError, Global};
 
 /// The bytes of the line of a seal: its word, a space, 64 digits and a newline.
@@ -26,15 +26,15 @@ pub(crate) fn seal(alloc: Global, text: &mut Vec<u8>) -> Result<(), AllocError>
 }
 
 // The body of a text whose seal fits.
-pub(crate) fn unseal(alloc: Global, text: &[u8]) -> Result<&[u8], TextFault>
+pub(crate) fn unseal(alloc: Global, text: &[u8]) -> Result<&[u8], PrintFault>
     ensures { Unseals result text.entry.now }
 {
     if text.len() < SEAL_BYTES {
-        return Err(TextFault::Bad);
+        return Err(PrintFault::BadPrint);
     }
     let (body, line) = text.split_at(text.len() - SEAL_BYTES);
     if line != seal_line(alloc, body)?.as_slice() {
-        return Err(TextFault::Bad);
+        return Err(PrintFault::BadPrint);
     }
     Ok(body)
 }

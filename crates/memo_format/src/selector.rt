@@ -12,7 +12,7 @@ ghost use Rattle.memo_format.specs.StoredForms.{select_form};
 use crate::fault::FormatFault;
 use crate::seal::{seal, unseal};
 use bx_digest::Digest;
-use prints::{Cursor, Line, TextFault, append_digest, append_lines, read_lines};
+use prints::{Cursor, Line, PrintFault, append_digest, append_lines, read_lines};
 use std::alloc::{AllocError, Global};
 
 /// The greatest number of selectors in a list.
@@ -55,7 +55,7 @@ impl Line<Selector, Selector> for SelectorLine {
         cursor.begins(b"select ")
     }
 
-    fn read(_alloc: Global, cursor: &mut Cursor) -> Result<Selector, TextFault> {
+    fn read(_alloc: Global, cursor: &mut Cursor) -> Result<Selector, PrintFault> {
         cursor.word(b"select ")?;
         let paths = cursor.digest(b' ')?;
         let strong = cursor.digest(b'\n')?;
@@ -77,14 +77,14 @@ pub fn write_selectors(alloc: Global, list: &[Selector]) -> Result<Vec<u8>, Allo
 
 // The selectors of a body.
 #[tactic(auto, unfolding(crate::specs::Selectors::body_selectors))]
-fn in_body(alloc: Global, body: &[u8]) -> Result<Vec<Selector>, TextFault>
+fn in_body(alloc: Global, body: &[u8]) -> Result<Vec<Selector>, PrintFault>
     ensures { GivesItems result (body_selectors body.now) }
 {
     let mut cursor = Cursor::of(body);
     cursor.word(b"selectors 1\n")?;
     let list = read_lines::<Selector, Selector, SelectorLine>(alloc, &mut cursor)?;
     if list.len() > MAX_SELECTORS {
-        return Err(TextFault::Bad);
+        return Err(PrintFault::BadPrint);
     }
     cursor.end()?;
     Ok(list)
@@ -92,7 +92,7 @@ fn in_body(alloc: Global, body: &[u8]) -> Result<Vec<Selector>, TextFault>
 
 // The selectors of a text.
 #[tactic(auto, unfolding(crate::specs::Selectors::read_selectors_text))]
-fn selectors_in(alloc: Global, bytes: &[u8]) -> Result<Vec<Selector>, TextFault>
+fn selectors_in(alloc: Global, bytes: &[u8]) -> Result<Vec<Selector>, PrintFault>
     ensures { GivesItems result (read_selectors_text bytes.now) }
 {
     let body = unseal(alloc, bytes)?;
@@ -108,7 +108,7 @@ pub fn read_selectors(alloc: Global, bytes: &[u8]) -> Result<Vec<Selector>, Form
 {
     match selectors_in(alloc, bytes) {
         Ok(list) => Ok(list),
-        Err(TextFault::Bad) => Err(FormatFault::BadForm),
-        Err(TextFault::Memory) => Err(FormatFault::Memory),
+        Err(PrintFault::BadPrint) => Err(FormatFault::BadForm),
+        Err(PrintFault::Memory) => Err(FormatFault::Memory),
     }
 }

@@ -1,5 +1,5 @@
 -- The text of a path set is read as the path set.
-use Rattle.std.proofs.Common.{Vec, Global, IfOk, OnOk, ◌≡◌, ◌≢◌, ◌↔◌, ℕ, ◌+◌, ◌<◌, ◌≤◌, zero, suc, true, false, Bool, not, ◌&&◌, ◌==◌, cond, List, [], ◌∷◌, ◌++◌, length, codes, drop, get_or, add-one, Option, Some, None, Result, Ok, Err, inl, inr, refl, ap, sym, ◌∙◌, subst, arith, append_assoc, IsTrue}
+use Rattle.std.proofs.Common.{Vec, Global, IfOk, OnOk, ◌≡◌, ◌≢◌, ◌↔◌, ℕ, ◌+◌, ◌<◌, ◌≤◌, true, false, Bool, not, ◌&&◌, ◌==◌, cond, List, [], ◌∷◌, ◌++◌, length, codes, drop, get_or, Option, Some, None, Result, Ok, Err, inl, inr, refl, ap, sym, ◌∙◌, subst, arith, append_assoc, IsTrue}
 use Rattle.std.specs.declared.alloc.AllocError.{AllocError}
 use Rattle.std.specs.Bool.{nat_le, nat_eq}
 use Rattle.std.specs.Borrow.{Bor}
@@ -9,19 +9,19 @@ use Rattle.std.specs.List.Sorted.{IsStrictlySortedBy}
 use Rattle.std.specs.Option.{MatchOption, option_and_then, option_copied}
 use Rattle.std.specs.Ordering.{is_lt}
 use Rattle.std.specs.Str.{bytes_eq}
-use Rattle.std.specs.declared.cmp.Ordering.{Ordering}
-use Rattle.std.specs.declared.cmp.Ordering.TheVariants.{Less, Equal, Greater}
+use Rattle.std.specs.declared.cmp.Ordering.TheVariants.{Less}
 use Rattle.std.proofs.lemmas.Bool.{and_from, and_parts, cases_Bool, le-leb, leb-true}
 use Rattle.std.proofs.lemmas.Bool.Decides.{Decides-eqb}
 use Rattle.std.proofs.lemmas.List.{append-nil}
 use Rattle.std.proofs.lemmas.List.Elements.{All-from_recursion}
 use Rattle.std.proofs.lemmas.List.Splits.{join_with_byte-slice_split, slice_split_at}
 use Rattle.std.proofs.lemmas.Slice.Eq.{bytes_eq-Decides}
+use Rattle.std.proofs.lemmas.Option.{same_Some}
 use Rattle.bx_tree.specs.Paths.{Atoms, IsAtom, IsPath, IsPathText, Names, is_atom_byte, path_of, path_text}
 use Rattle.bx_tree.specs.declared.limits.TheConstants.{MAX_ATOM_BYTES, MAX_PATH_BYTES}
 use Rattle.bx_tree.proofs.PathTexts.{named_by_parts, path_of-named}
 use Rattle.bx_path.specs.Joining.{is_atom}
-use Rattle.bx_path.proofs.StepsOfTexts.{is_atom_true}
+use Rattle.bx_path.proofs.StepsOfTexts.{is_atom_true, other_bytes}
 use Rattle.observed.specs.declared.ask.AskKind.{AskKind}
 use Rattle.observed.specs.declared.ask.AskKind.TheVariants as kinds
 use Rattle.observed.specs.declared.ask.Ask.{Ask}
@@ -32,28 +32,12 @@ use Rattle.observed.specs.Orders.{ask_cmp_total}
 use Rattle.observed.specs.PathSets.{IsPathSet}
 use Rattle.observed.specs.Texts.{ReadsPathSet, ReadsAsks, all_asks, after_asks, after_prefix, ask_after, ask_at, ask_line, first_line, if_rising, is_rising, kind_text, named_ask, named_asks, named_path, paths_text, read_lines, read_paths_text, with_ask}
 use Rattle.bx_tree.specs.Lent.{texts_now}
-
--- ## Options
-
-some_same : {X : Type 0} (a b : X) → Some a ≡ Some b → a ≡ b
-some_same a b e = cc
-
-if_some : {X : Type 0} (b : Bool) (o : Option X) (x : X) → cond b o None ≡ Some x → (b ≡ true) × (o ≡ Some x)
-if_some true o x e = (refl, e)
-if_some false o x e = cc
+use Rattle.bx_tree.proofs.Lists.{none_left, all_true}
+use Rattle.bx_tree.proofs.Lent.{texts_at, drop_whole}
+use Rattle.bx_tree.proofs.Options.{if_some}
+use Rattle.bx_tree.proofs.AncestorSearch.{less_from_is_lt}
 
 -- ## Paths
-
-bytes_all : (bs : List ℕ) → list_all is_atom_byte bs ≡ true → AllByRecursion (λ b. IsTrue (is_atom_byte b)) bs
-bytes_all [] h = tt
-bytes_all (b ∷ bs) h = let parts = and_parts (is_atom_byte b) (list_all is_atom_byte bs) h in (parts.0, bytes_all bs parts.1)
-
-other_text : (a b : List ℕ) → not (bytes_eq a b) ≡ true → a ≢ b
-other_text a b h e = not_both (bytes_eq a b) h ((bytes_eq-Decides a b).1 e)
-  where
-    not_both : (t : Bool) → not t ≡ true → t ≡ true → ⊥
-    not_both true h e = cc
-    not_both false h e = cc
 
 atom_sound : (text : List ℕ) → is_atom text ≡ true → IsAtom text
 atom_sound text e =
@@ -67,9 +51,9 @@ atom_sound text e =
     record {
       some = leb-true 1 (length text) f.0;
       short = leb-true (length text) MAX_ATOM_BYTES f.1;
-      bytes = bytes_all text d.1;
-      not_dot = other_text text (codes ".") b.1;
-      not_dots = other_text text (codes "..") a.1;
+      bytes = all_true is_atom_byte text d.1;
+      not_dot = other_bytes text (codes ".") b.1;
+      not_dots = other_bytes text (codes "..") a.1;
     }
 
 atoms_sound : (path : Atoms) → list_all is_atom path ≡ true → AllByRecursion IsAtom path
@@ -89,7 +73,7 @@ pub path_sound : (text : List ℕ) (path : Atoms) → named_path text ≡ Some p
 path_sound text path e =
     let named = if_some (list_all is_atom (path_of text) && nat_le (length text) MAX_PATH_BYTES) (Some (path_of text)) path e in
     let tests = and_parts (list_all is_atom (path_of text)) (nat_le (length text) MAX_PATH_BYTES) named.0 in
-    subst (IsTextOf text) (some_same (path_of text) path named.1)
+    subst (IsTextOf text) (same_Some (path_of text) path named.1)
     (by_dot (pointwise nat_eq text (codes ".")) refl tests.0 (leb-true (length text) MAX_PATH_BYTES tests.1))
   where
     by_dot : (t : Bool) → pointwise nat_eq text (codes ".") ≡ t → list_all is_atom (cond t [] (slice_split (λ b. b == 47) text)) ≡ true → length text ≤ MAX_PATH_BYTES
@@ -125,8 +109,8 @@ no_path text other none = by_option (named_path text) refl
 
 -- ## Lines
 
-prefix_sound : (prefix text rest : List ℕ) → after_prefix prefix text ≡ Some rest → text ≡ prefix ++ rest
-prefix_sound [] text rest e = some_same text rest e
+pub prefix_sound : (prefix text rest : List ℕ) → after_prefix prefix text ≡ Some rest → text ≡ prefix ++ rest
+prefix_sound [] text rest e = same_Some text rest e
 prefix_sound (p ∷ ps) [] rest e = cc
 prefix_sound (p ∷ ps) (b ∷ bs) rest e =
     let parts = if_some (p == b) (after_prefix ps bs) rest e in
@@ -147,7 +131,7 @@ at_sound kind line text ask is e = by_path (named_path text) refl e
     by_path None named e = cc
     by_path (Some path) named e =
         let h = path_sound text path named in
-        let same : record { kind = kind; path = path } ≡ ask = some_same (record { kind = kind; path = path }) ask e in
+        let same : record { kind = kind; path = path } ≡ ask = same_Some (record { kind = kind; path = path }) ask e in
         subst (IsLineOf line) same (record { is_path = h.is_path; line_is = is ∙ ap (λ t. kind_text kind ++ codes " " ++ t) h.text_is })
 
 pub ask_sound : (line : List ℕ) (ask : Ask) → named_ask line ≡ Some ask → IsLineOf line ask
@@ -214,11 +198,11 @@ with_sound : (o : Option Ask) (rest : Option (List Ask)) (asks : List Ask) → w
     → (a : Ask) × (more : List Ask) × (o ≡ Some a) × (rest ≡ Some more) × (a ∷ more ≡ asks)
 with_sound None rest asks e = cc
 with_sound (Some a) None asks e = cc
-with_sound (Some a) (Some more) asks e = (a, more, refl, refl, some_same (a ∷ more) asks e)
+with_sound (Some a) (Some more) asks e = (a, more, refl, refl, same_Some (a ∷ more) asks e)
 
 pub lines_sound : (lines : List (List ℕ)) (asks : List Ask) → named_asks lines ≡ Some asks → AreLinesOf lines asks
 lines_sound [] asks e = cc
-lines_sound ([] ∷ []) asks e = subst (AreLinesOf ([] ∷ [])) (some_same [] asks e) (record { paths = tt; joined = refl })
+lines_sound ([] ∷ []) asks e = subst (AreLinesOf ([] ∷ [])) (same_Some [] asks e) (record { paths = tt; joined = refl })
 lines_sound ((b ∷ bs) ∷ []) asks e = cc
 lines_sound (line ∷ more ∷ lines) asks e =
     let parts = with_sound (named_ask line) (named_asks (more ∷ lines)) asks e in
@@ -246,11 +230,6 @@ lines_complete (a ∷ as') h =
 
 -- ## Order
 
-is_less : (o : Ordering) → is_lt o ≡ true → o ≡ Less
-is_less Less e = refl
-is_less Equal e = cc
-is_less Greater e = cc
-
 all_above : (a b : Ask) (rest : List Ask) → ask_cmp a b ≡ Less → AllByRecursion (λ q. ask_cmp b q ≡ Less) rest → AllByRecursion (λ q. ask_cmp a q ≡ Less) rest
 all_above a b [] e h = tt
 all_above a b (c ∷ rest) e h = (ask_cmp_total.trans a b c e h.0, all_above a b rest e h.1)
@@ -261,7 +240,7 @@ rising_sound [] e = tt
 rising_sound (a ∷ []) e = (tt, tt)
 rising_sound (a ∷ b ∷ rest) e =
     let parts = and_parts (is_lt (ask_cmp a b)) (is_rising (b ∷ rest)) e in
-    let less = is_less (ask_cmp a b) parts.0 in
+    let less = less_from_is_lt (ask_cmp a b) parts.0 in
     let more = rising_sound (b ∷ rest) parts.1 in
     ((less, all_above a b rest less more.0), more)
 
@@ -290,7 +269,7 @@ text_sound text set e = by_lines (slice_split (λ b. b == 10) text) refl e
         let named = if_some (bytes_eq first first_line) (option_and_then if_rising (named_asks lines)) set e in
         let parts = then_some (named_asks lines) named.1 in
         let rising = if_some (is_rising parts.0) (Some parts.0) set parts.2 in
-        let same : parts.0 ≡ set = some_same parts.0 set rising.1 in
+        let same : parts.0 ≡ set = same_Some parts.0 set rising.1 in
         let read : named_asks lines ≡ Some set = parts.1 ∙ ap Some same in
         let h = lines_sound lines set read in (
           record { order = rising_sound set (ap is_rising (sym same) ∙ rising.0); paths = h.paths },
@@ -325,14 +304,6 @@ after_more : (earlier : List Ask) (ask : Ask) (read : Option (List Ask)) → aft
 after_more earlier ask None = refl
 after_more earlier ask (Some asks) = ap Some (append_assoc earlier (ask ∷ []) asks)
 
-texts_at : (lines : List (Bor (List ℕ))) (i : ℕ) (d : Bor (List ℕ)) → i < length lines → texts_now (drop i lines) ≡ (get_or lines i d).now ∷ texts_now (drop (i + 1) lines)
-texts_at lines i d l = at lines i l ∙ ap (λ n. (get_or lines i d).now ∷ texts_now (drop n lines)) (sym (add-one i))
-  where
-    at : (xs : List (Bor (List ℕ))) (k : ℕ) → k < length xs → texts_now (drop k xs) ≡ (get_or xs k d).now ∷ texts_now (drop (suc k) xs)
-    at [] k m = absurd (omega (arith, m))
-    at (x ∷ xs) zero m = refl
-    at (x ∷ xs) (suc k) m = at xs k (omega (arith, m))
-
 pub one_ask : (lines : List (Bor (List ℕ))) (i : ℕ) (d : Bor (List ℕ)) (earlier new : List Ask) (ask : Ask) (all : Option (List Ask)) → i < length lines
     → named_ask (get_or lines i d).now ≡ Some ask → new ≡ earlier ++ ask ∷ [] → after_asks earlier (all_asks (texts_now (drop i lines))) ≡ all
     → after_asks new (all_asks (texts_now (drop (i + 1) lines))) ≡ all
@@ -348,12 +319,6 @@ bad_ask lines i d earlier all l is so_far =
     sym so_far ∙ ap (λ ts. after_asks earlier (all_asks ts)) (texts_at lines i d l)
     ∙ ap (λ o. after_asks earlier (with_ask o (all_asks (texts_now (drop (i + 1) lines))))) is
 
-drop_whole : (lines : List (Bor (List ℕ))) (i : ℕ) → length lines ≡ i → drop i lines ≡ []
-drop_whole [] zero e = refl
-drop_whole [] (suc i) e = absurd (omega (arith, e))
-drop_whole (x ∷ xs) zero e = absurd (omega (arith, e))
-drop_whole (x ∷ xs) (suc i) e = drop_whole xs i (omega (arith, e))
-
 pub all_read : (lines : List (Bor (List ℕ))) (i : ℕ) (earlier : List Ask) (all : Option (List Ask)) → length lines ≡ i
     → after_asks earlier (all_asks (texts_now (drop i lines))) ≡ all → all ≡ Some earlier
 all_read lines i earlier all l so_far =
@@ -368,7 +333,7 @@ pub err_asks : (e : SetFault) (part all : Option (List Ask)) → ReadsAsks (Err 
 err_asks BadSet part all h f = f h
 err_asks Memory part all h f = tt
 
-prefix_complete : (prefix rest : List ℕ) → after_prefix prefix (prefix ++ rest) ≡ Some rest
+pub prefix_complete : (prefix rest : List ℕ) → after_prefix prefix (prefix ++ rest) ≡ Some rest
 prefix_complete [] rest = refl
 prefix_complete (p ∷ ps) rest = ap (λ t. cond t (after_prefix ps (ps ++ rest)) None) ((Decides-eqb p p).1 refl) ∙ prefix_complete ps rest
 
@@ -385,14 +350,10 @@ texts_push : (rest : List (Bor (List ℕ))) (last : Bor (List ℕ)) → texts_no
 texts_push [] last = refl
 texts_push (x ∷ xs) last = ap (λ ts. x.now ∷ ts) (texts_push xs last)
 
-no_bytes : (xs : List ℕ) → length xs ≡ 0 → xs ≡ []
-no_bytes [] e = refl
-no_bytes (x ∷ xs) e = absurd (omega (arith, e))
-
 pub asks_closed : (lines rest : List (Bor (List ℕ))) (last : Bor (List ℕ)) → lines ≡ rest ++ last ∷ [] → length last.now ≡ 0
     → all_asks (texts_now rest) ≡ named_asks (texts_now lines)
 asks_closed lines rest last is none =
-    sym (ap (λ ls. named_asks (texts_now ls)) is ∙ ap named_asks (texts_push rest last) ∙ ap (λ t. named_asks (texts_now rest ++ t ∷ [])) (no_bytes last.now none)
+    sym (ap (λ ls. named_asks (texts_now ls)) is ∙ ap named_asks (texts_push rest last) ∙ ap (λ t. named_asks (texts_now rest ++ t ∷ [])) (none_left last.now none)
     ∙ named_prefix (texts_now rest))
 
 pub asks_open : (lines rest : List (Bor (List ℕ))) (last : Bor (List ℕ)) → lines ≡ rest ++ last ∷ [] → length last.now ≢ 0 → named_asks (texts_now lines) ≡ None

@@ -2,14 +2,13 @@
 use Rattle.std.proofs.Common.{◌≡◌, ◌==◌, ◌∙◌, true, refl, ap, subst}
 use Rattle.std.specs.Cmp.{IsTotalOrder, IsEquivalence, IsPartialEquivalence, IsPartialOrder, po}
 use Rattle.std.specs.Cmp.{partial_equiv_from_equiv, Equal-is, both_ways}
-use Rattle.std.specs.Ordering.{eq_by_cmp, as_partial_cmp, nat_cmp, ordering_then, is_eq}
-use Rattle.std.specs.declared.cmp.Ordering.{Ordering}
-use Rattle.std.specs.declared.cmp.Ordering.TheVariants.{Less, Equal, Greater}
+use Rattle.std.specs.Ordering.{eq_by_cmp, as_partial_cmp, nat_cmp, is_eq}
+use Rattle.std.specs.declared.cmp.Ordering.TheVariants.{Equal}
 use Rattle.std.proofs.lemmas.Cmp.{then_total, on_total, on_equiv, and_equiv, nat_cmp_total, nat_eq_equiv}
 use Rattle.std.proofs.lemmas.Cmp.{tied_itself}
 use Rattle.std.proofs.lemmas.Bool.{and_parts}
 use Rattle.bx_tree.specs.Paths.{Atoms, path_cmp, same_path}
-use Rattle.bx_tree.specs.Orders.{path_cmp_total, same_path_equiv, same_path_decides, equal_paths}
+use Rattle.bx_tree.specs.Orders.{path_cmp_total, same_path_equiv, same_path_decides, equal_paths, both_equal}
 use Rattle.observed.specs.declared.ask.AskKind.{AskKind}
 use Rattle.observed.specs.declared.ask.AskKind.TheVariants as kinds
 use Rattle.observed.specs.declared.ask.Ask.{Ask}
@@ -27,12 +26,6 @@ same_ask_equiv =
 
 pub same_ask_partial : IsPartialEquivalence same_ask
 same_ask_partial = partial_equiv_from_equiv same_ask_equiv
-
--- a comparison by two orders answers Equal only if both do
-both_equal : (o p : Ordering) → ordering_then o p ≡ Equal → (o ≡ Equal) × (p ≡ Equal)
-both_equal Less p e = cc
-both_equal Equal p e = (refl, e)
-both_equal Greater p e = cc
 
 -- kinds at one place are one
 one_kind : (j k : AskKind) → nat_cmp (kind_place j) (kind_place k) ≡ Equal → j ≡ k

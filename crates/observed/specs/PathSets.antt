@@ -1,22 +1,16 @@
 -- Path sets: asks in order, each once.
-use Rattle.std.specs.Prelude.{List, [], ◌∷◌, ◌↔◌}
+use Rattle.std.specs.Prelude.{List, [], ◌∷◌}
 use Rattle.std.specs.List.{AllByRecursion}
 use Rattle.std.specs.List.Sorted.{IsStrictlySortedBy}
 use Rattle.std.specs.BTreeSet.{insert_key}
 use Rattle.bx_tree.specs.Paths.{IsPath}
 use Rattle.observed.specs.declared.ask.Ask.{Ask}
 use Rattle.observed.specs.Asks.{ask_cmp}
-use Rattle.observed.specs.Members.{Has}
 
 -- a path set: asks of paths, which strictly rise
 pub record IsPathSet (asks : List Ask) : Type 0 where
   pub order : IsStrictlySortedBy ask_cmp asks
   pub paths : AllByRecursion (λ (a : Ask). IsPath a.path) asks
-
--- the asks of the set are those of the list
-pub record IsPathSetOf (asks set : List Ask) : Type 0 where
-  pub order : IsStrictlySortedBy ask_cmp set
-  pub members : (q : Ask) → Has asks q ↔ Has set q
 
 -- the asks of a list, in order and each once
 abbrev pub set_of : List Ask → List Ask

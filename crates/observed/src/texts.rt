@@ -1,6 +1,6 @@
 //! The text of a path set, written and read.
-ghost use Rattle.std.specs.Prelude.{◌≡◌, ◌==◌, ◌++◌, IfOk, OnOk};
-ghost use Rattle.std.specs.List.{AllByRecursion, slice_split};
+ghost use Rattle.std.specs.Prelude.{◌≡◌, ◌++◌, IfOk, OnOk};
+ghost use Rattle.std.specs.List.{AllByRecursion};
 ghost use Rattle.std.specs.Option.{option_copied};
 ghost use Rattle.std.specs.Ordering.{is_lt};
 ghost use Rattle.observed.specs.Asks.{ask_cmp};
@@ -14,7 +14,7 @@ ghost use Rattle.bx_tree.specs.Lent.{texts_now};
 
 use crate::ask::{Ask, AskKind};
 use crate::path_set::SetFault;
-use bx_tree::{Path, PathFault};
+use bx_tree::{Path, PathFault, lines_of};
 use std::alloc::{AllocError, Global};
 
 fn word_of(kind: AskKind) -> &'static str
@@ -156,12 +156,6 @@ fn rising_asks(alloc: Global, lines: &[&[u8]]) -> Result<Vec<Ask>, SetFault>
         return Err(SetFault::BadSet);
     }
     Ok(asks)
-}
-
-fn lines_of(alloc: Global, text: &[u8]) -> Result<Vec<&[u8]>, AllocError>
-    ensures { IfOk result (λ lines. texts_now lines.items ≡ slice_split (λ b. b == 10) text.entry.now) }
-{
-    text.split(|byte| *byte == b'\n').collect(alloc)
 }
 
 // The asks of a text.

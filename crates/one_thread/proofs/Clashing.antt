@@ -1,53 +1,19 @@
 -- A process that does not clash shares no path that is nested in an earlier one's.
-use Rattle.std.proofs.Common.{◌≡◌, ℕ, ◌+◌, zero, suc, Bool, true, false, ◌&&◌, ◌||◌, cond, List, [], ◌∷◌, filter, Option, Some, None, refl, ap, sym, ◌∙◌, subst, inl, inr}
+use Rattle.std.proofs.Common.{◌≡◌, ℕ, ◌+◌, zero, suc, Bool, true, false, ◌&&◌, ◌||◌, List, [], ◌∷◌, Option, Some, None, refl, ap, sym, ◌∙◌, subst, inl, inr}
 use Rattle.std.specs.Prelude.{slice_get}
-use Rattle.std.specs.List.{list_any}
 use Rattle.std.proofs.lemmas.Bool.{false≢true}
 use Rattle.bx_tree.specs.Paths.{Atoms, IsBelow, same_path}
 use Rattle.bx_tree.specs.Trees.{Files, paths_of}
-use Rattle.observed.specs.Members.{Has}
-use Rattle.tool_run_writes.specs.Below.{is_below}
-use Rattle.tool_run_writes.proofs.BelowByAtoms.{below_decides}
+use Rattle.bx_tree.specs.Members.{Has}
+use Rattle.bx_tree.specs.Below.{is_below}
+use Rattle.bx_tree.proofs.BelowPaths.{below_decides}
+use Rattle.bx_tree.proofs.Members.{one_passes, none_passes, has_filter}
+use Rattle.bx_tree.proofs.Options.{none_both}
 use Rattle.pip_model_types.specs.declared.outputs.OutDir.{OutDir}
 use Rattle.pip_model_types.specs.declared.pip.Pip.{Pip}
 use Rattle.violations.specs.declared.verdict.Violation.{Violation}
 use Rattle.violations.specs.DoubleWrites.{clash_of, first_clash, has_clash, is_clash, is_shared, least_clash, or_next, shared_paths}
 use Rattle.pip_model_types.specs.Kinds.{outdirs_of}
-
--- ## Tests
-
-or_none : (a b : Bool) → (a || b) ≡ false → (a ≡ false) × (b ≡ false)
-or_none true b e = cc
-or_none false b e = (refl, e)
-
-none_passes : {X : Type 0} (p : X → Bool) (xs : List X) (x : X) → list_any p xs ≡ false → Has xs x → p x ≡ false
-none_passes p [] x e h = absurd h
-none_passes p (y ∷ xs) x e h = elim h [
-  | inl same ↦ ap p (sym same) ∙ (or_none (p y) (list_any p xs) e).0
-  | inr more ↦ none_passes p xs x (or_none (p y) (list_any p xs) e).1 more
-]
-
-one_passes : {X : Type 0} (p : X → Bool) (xs : List X) (x : X) → Has xs x → p x ≡ true → list_any p xs ≡ true
-one_passes p [] x h e = absurd h
-one_passes p (y ∷ xs) x h e = elim h [
-  | inl same ↦ ap (λ b. b || list_any p xs) (ap p same ∙ e)
-  | inr more ↦ by_first (p y) (one_passes p xs x more e)
-]
-  where
-    by_first : (b : Bool) → list_any p xs ≡ true → (b || list_any p xs) ≡ true
-    by_first true f = refl
-    by_first false f = f
-
-has_kept : (p : Atoms → Bool) (xs : List Atoms) (x : Atoms) → Has xs x → p x ≡ true → Has (filter p xs) x
-has_kept p [] x h e = absurd h
-has_kept p (y ∷ xs) x h e = elim h [
-  | inl same ↦ subst (λ b. Has (cond b (y ∷ filter p xs) (filter p xs)) x) (sym (ap p same ∙ e)) (inl same)
-  | inr more ↦ by_first (p y) (has_kept p xs x more e)
-]
-  where
-    by_first : (b : Bool) → Has (filter p xs) x → Has (cond b (y ∷ filter p xs) (filter p xs)) x
-    by_first true k = inr k
-    by_first false k = k
 
 -- ## Shared paths
 
@@ -55,7 +21,7 @@ has_kept p (y ∷ xs) x h e = elim h [
 pub shared_has : (dirs : List OutDir) (files : Files) (dir : OutDir) (path : Atoms) → Has dirs dir → dir.shared ≡ true → IsBelow path dir.path
     → Has (paths_of files) path → Has (shared_paths dirs files) path
 shared_has dirs files dir path h shared below there =
-    has_kept (is_shared dirs) (paths_of files) path there
+    has_filter (is_shared dirs) (paths_of files) path there
     (one_passes (λ (d : OutDir). d.shared && is_below path d.path) dirs dir h
     (ap (λ b. b && is_below path dir.path) shared ∙ (below_decides path dir.path).1 below))
 
@@ -65,10 +31,6 @@ no_clash_left : (path : Atoms) (o : Option ℕ) (next : Option Violation) → or
 no_clash_left path None next e = (refl, e)
 no_clash_left path (Some j) next e = cc
 
-no_least : (b : Bool) (j : ℕ) (rest : Option ℕ) → cond b (Some j) rest ≡ None → (b ≡ false) × (rest ≡ None)
-no_least true j rest e = cc
-no_least false j rest e = (refl, e)
-
 no_clash_at : (path : Atoms) (k : ℕ) (before : List Pip) (made : List Files) (j : ℕ) (pip : Pip) (files : Files) → least_clash path k before made ≡ None
     → slice_get before j ≡ Some pip → slice_get made j ≡ Some files → has_clash path pip.kind files ≡ false
 no_clash_at path k [] made j pip files e at there = cc
@@ -77,9 +39,9 @@ no_clash_at path k (p ∷ before) (f ∷ made) zero pip files e at there =
     let same : p ≡ pip = cc in let files_same : f ≡ files = cc in
     ap (λ (fs : Files). has_clash path pip.kind fs) (sym files_same)
     ∙ ap (λ (q : Pip). has_clash path q.kind f) (sym same)
-    ∙ (no_least (has_clash path p.kind f) k (least_clash path (k + 1) before made) e).0
+    ∙ (none_both (has_clash path p.kind f) k (least_clash path (k + 1) before made) e).0
 no_clash_at path k (p ∷ before) (f ∷ made) (suc j) pip files e at there =
-    no_clash_at path (k + 1) before made j pip files (no_least (has_clash path p.kind f) k (least_clash path (k + 1) before made) e).1 at there
+    no_clash_at path (k + 1) before made j pip files (none_both (has_clash path p.kind f) k (least_clash path (k + 1) before made) e).1 at there
 
 no_first_clash : (paths : List Atoms) (before : List Pip) (made : List Files) (path : Atoms) → first_clash paths before made ≡ None → Has paths path
     → least_clash path 0 before made ≡ None
@@ -99,11 +61,11 @@ no_clash_between before made dirs files j pip theirs p q e at there h k =
     none_passes (is_clash p) (shared_paths (outdirs_of pip.kind) theirs) q
     (no_clash_at p 0 before made j pip theirs (no_first_clash (shared_paths dirs files) before made p e h) at there) k
 
-below_clashes : (p q : Atoms) (a : Bool) → is_below p q ≡ true → (a || is_below p q || is_below q p) ≡ true
+below_clashes : (p q : Atoms) (a : Bool) → is_below p q ≡ true → (a || (is_below p q || is_below q p)) ≡ true
 below_clashes p q true e = refl
 below_clashes p q false e = ap (λ b. b || is_below q p) e
 
-above_clashes : (p q : Atoms) (a b : Bool) → is_below q p ≡ true → (a || b || is_below q p) ≡ true
+above_clashes : (p q : Atoms) (a b : Bool) → is_below q p ≡ true → (a || (b || is_below q p)) ≡ true
 above_clashes p q true b e = refl
 above_clashes p q false true e = refl
 above_clashes p q false false e = e

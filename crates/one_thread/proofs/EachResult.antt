@@ -8,8 +8,9 @@ use Rattle.std.proofs.lemmas.List.{length-map, map-append, take-append-drop, tak
 use Rattle.std.proofs.lemmas.Option.{slice_get_within}
 use Rattle.bx_tree.specs.Paths.{Atoms}
 use Rattle.bx_tree.specs.Trees.{Files}
-use Rattle.observed.proofs.OneSet.{contains_has}
-use Rattle.observed.specs.Members.{Has}
+use Rattle.bx_tree.specs.Members.{Has}
+use Rattle.bx_tree.proofs.Sets.{contains_has}
+use Rattle.bx_tree.proofs.Lists.{slice_get-append}
 use Rattle.pip_model_types.specs.Makers.{IsPipList}
 use Rattle.pip_model_types.specs.declared.pip.Pip.{Pip}
 use Rattle.pip_model_types.specs.declared.pip.PipKind.{PipKind}
@@ -24,11 +25,6 @@ use Rattle.violations.specs.DoubleWrites.{clash_at, first_clash, has_clash, leas
 use Rattle.one_thread.specs.OneThread.{Result, by_outcome, failed, inputs_are_good, is_good, made_by, on_from, one_thread, process_outcome, result_of, unless_clash, worked}
 
 -- ## Places in lists
-
-get_before : {X : Type 0} (xs ys : List X) (j : ℕ) → j < length xs → slice_get (xs ++ ys) j ≡ slice_get xs j
-get_before [] ys j l = absurd (omega (arith, l))
-get_before (x ∷ xs) ys zero l = refl
-get_before (x ∷ xs) ys (suc j) l = get_before xs ys j (omega (arith, l))
 
 get_last : {X : Type 0} (xs : List X) (y : X) (i : ℕ) → length xs ≡ i → slice_get (xs ++ y ∷ []) i ≡ Some y
 get_last [] y zero e = refl
@@ -93,7 +89,7 @@ module _ (pips : List Pip) (list : IsPipList pips) (tree : Files) (budget i : �
 
   goods : inputs_are_good pips pip.kind (first ++ more) ≡ inputs_are_good pips pip.kind first
   goods = all_alike (λ j. is_good (slice_get (first ++ more) j)) (λ j. is_good (slice_get first j)) (targets pips pip.kind)
-      (λ j h. let l = below j h in ap is_good (get_before first more j (omega (arith, l, long))))
+      (λ j h. let l = below j h in ap is_good (slice_get-append first more j (omega (arith, l, long))))
 
   made : made_by (first ++ more) ≡ made_by first ++ made_by more
   made = map-append (λ (r : Result). r.files) first more
@@ -136,7 +132,7 @@ unfolding AreSoFar
 one_more pips tree budget i pip results long at so_far j p here l = elim (cases_lt j i) [
   | inl less ↦
       let before : j < length results = omega (arith, less, long) in
-      get_before results (next ∷ []) j before ∙ so_far j p here before
+      slice_get-append results (next ∷ []) j before ∙ so_far j p here before
       ∙ ap (λ rs. Some (result_of pips tree budget rs j p.kind)) (sym (take-append-le j results (next ∷ []) (omega (arith, before))))
   | inr past ↦
       let same : j ≡ i = omega (arith, past, l, long, length-append results (next ∷ [])) in

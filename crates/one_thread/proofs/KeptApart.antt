@@ -8,10 +8,11 @@ use Rattle.std.proofs.lemmas.Bool.{cases_order}
 use Rattle.std.proofs.lemmas.Option.{same_Some, slice_get-map, slice_get_within}
 use Rattle.bx_tree.specs.Paths.{Atoms, IsBelow}
 use Rattle.bx_tree.specs.Trees.{Files, paths_of}
+use Rattle.bx_tree.specs.Members.{Has}
+use Rattle.bx_tree.proofs.Sets.{has_contained}
+use Rattle.bx_tree.proofs.Lists.{slice_get-take}
 use Rattle.graph_check.specs.Rules.{KeepsRules}
 use Rattle.graph_check_outputs.specs.OutsideOut.{out_dir}
-use Rattle.observed.specs.Members.{Has}
-use Rattle.observed.proofs.OneSet.{has_contained}
 use Rattle.one_thread.proofs.EachResult.{number_of_results, result_of_all}
 use Rattle.one_thread.specs.OneThread.{Result, all_made, made_by, one_thread, outputs_of, put_all, result_of}
 use Rattle.pip_model_types.specs.Made.{RisingFiles}
@@ -35,13 +36,6 @@ pip_at : (pips : List Pip) (i : ℕ) → i < length pips → (pip : Pip) × (sli
 pip_at [] i l = absurd (omega (arith, l))
 pip_at (pip ∷ pips) zero l = (pip, refl)
 pip_at (pip ∷ pips) (suc i) l = pip_at pips i (omega (arith, l))
-
-get_take : {X : Type 0} (xs : List X) (n i : ℕ) → i < n → slice_get (take n xs) i ≡ slice_get xs i
-get_take [] zero i l = refl
-get_take [] (suc n) i l = refl
-get_take (x ∷ xs) zero i l = absurd (omega (arith, l))
-get_take (x ∷ xs) (suc n) zero l = refl
-get_take (x ∷ xs) (suc n) (suc i) l = get_take xs n i (omega (arith, l))
 
 same_dirs : (kind : PipKind) → outdirs_of kind ≡ outdirs_of kind
 same_dirs (Process d) = refl
@@ -74,11 +68,11 @@ module _ (pips : List Pip) (made : List Files) (apart : Apart pips) (i j : ℕ) 
   between (inl less) =
       let h = shared (λ e. absurd (omega (arith, e, less))) in
       clash_above q p
-      (no_clash_between (take j pips) made (outdirs_of m.pip.kind) gs i k.pip fs q p m.keeps.unclashed (get_take pips j i less ∙ k.at) at_fs h.1 h.0) below
+      (no_clash_between (take j pips) made (outdirs_of m.pip.kind) gs i k.pip fs q p m.keeps.unclashed (slice_get-take pips j i less ∙ k.at) at_fs h.1 h.0) below
   between (inr more) =
       let h = shared (λ e. absurd (omega (arith, e, more))) in
       clash_below p q
-      (no_clash_between (take i pips) made (outdirs_of k.pip.kind) fs j m.pip gs p q k.keeps.unclashed (get_take pips i j more ∙ m.at) at_gs h.0 h.1) below
+      (no_clash_between (take i pips) made (outdirs_of k.pip.kind) fs j m.pip gs p q k.keeps.unclashed (slice_get-take pips i j more ∙ m.at) at_gs h.0 h.1) below
 
 -- two files of one pip
 within : (pips : List Pip) (made : List Files) (i j : ℕ) (fs gs : Files) → slice_get made i ≡ Some fs → slice_get made j ≡ Some gs

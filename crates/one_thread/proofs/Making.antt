@@ -1,17 +1,18 @@
 -- What the files of a process that succeeded are.
-use Rattle.std.proofs.Common.{◌≡◌, ◌⊎◌, ℕ, ◌==◌, Bool, true, false, ◌&&◌, ◌||◌, not, cond, List, [], ◌∷◌, ◌++◌, Option, Some, None, refl, sym, subst, inl, inr, IsTrue}
+use Rattle.std.proofs.Common.{◌≡◌, ◌⊎◌, ℕ, ◌==◌, Bool, true, false, ◌||◌, not, cond, List, [], ◌∷◌, Option, Some, None, refl, sym, subst, inl, inr, IsTrue}
 use Rattle.std.specs.List.{AllByRecursion, list_any}
 use Rattle.std.specs.Option.{option_to_list}
-use Rattle.std.proofs.lemmas.Bool.{or_cases}
-use Rattle.bx_tree.specs.Orders.{same_path_decides}
+use Rattle.std.proofs.lemmas.Bool.{or_cases, and_parts}
 use Rattle.bx_tree.specs.Paths.{Atoms, IsBelow, same_path}
 use Rattle.bx_tree.specs.Trees.{Files, paths_of}
-use Rattle.observed.specs.Members.{Has}
+use Rattle.bx_tree.specs.Members.{Has}
 use Rattle.observed.specs.declared.access.Access.{Access}
 use Rattle.observed.specs.declared.access.End.{End}
 use Rattle.observed.specs.declared.access.End.TheVariants as ends
-use Rattle.tool_run_writes.specs.Below.{is_below}
-use Rattle.tool_run_writes.proofs.BelowByAtoms.{below_decides}
+use Rattle.tool_run_writes.proofs.Unnested.{put_has}
+use Rattle.bx_tree.specs.Below.{is_below}
+use Rattle.bx_tree.proofs.BelowPaths.{below_decides}
+use Rattle.bx_tree.proofs.Members.{has_front, found_has}
 use Rattle.pip_model_types.specs.declared.desc.Desc.{Desc}
 use Rattle.pip_model_types.specs.declared.outputs.OutDir.{OutDir}
 use Rattle.pip_model_types.specs.declared.pip.PipKind.TheVariants.{Process}
@@ -22,25 +23,9 @@ use Rattle.tool_run.specs.Described.{described}
 use Rattle.tool_run.specs.Description.{Description, permits}
 use Rattle.tool_run.specs.Run.{Run}
 use Rattle.one_thread.specs.Keeping.{Makes}
-use Rattle.one_thread.proofs.PutAll.{has_put}
 use Rattle.pip_model_types.specs.Outputs.{is_console, outdir_paths}
 
 -- ## What a pip may make
-
-pub has_first : {X : Type 0} (xs ys : List X) (x : X) → Has xs x → Has (xs ++ ys) x
-has_first [] ys x h = absurd h
-has_first (y ∷ xs) ys x h = elim h [ inl e ↦ inl e | inr k ↦ inr (has_first xs ys x k) ]
-
-pub has_last : {X : Type 0} (xs ys : List X) (x : X) → Has ys x → Has (xs ++ ys) x
-has_last [] ys x h = h
-has_last (y ∷ xs) ys x h = inr (has_last xs ys x h)
-
-any_file : (outs : List Atoms) (path : Atoms) → list_any (λ out. same_path out path) outs ≡ true → Has outs path
-any_file [] path e = cc
-any_file (out ∷ outs) path e = elim (or_cases (same_path out path) (list_any (λ o. same_path o path) outs) e) [
-  | inl same ↦ inl ((same_path_decides out path).0 same)
-  | inr more ↦ inr (any_file outs path more)
-]
 
 any_dir : (dirs : List OutDir) (path : Atoms) → list_any (λ dir. is_below path dir) (outdir_paths dirs) ≡ true
     → (dir : OutDir) × Has dirs dir × IsBelow path dir.path
@@ -50,17 +35,13 @@ any_dir (dir ∷ dirs) path e = elim (or_cases (is_below path dir.path) (list_an
   | inr more ↦ let rest = any_dir dirs path more in (rest.0, inr rest.1, rest.2)
 ]
 
-both_true : (a b : Bool) → (a && b) ≡ true → a ≡ true
-both_true true b e = refl
-both_true false b e = e
-
 -- what a run may write its process makes
 permitted_makes : (x : Desc) (path : Atoms) → permits (described x) path ≡ true → Makes (Process x.process) path
 permitted_makes x path e =
     let files = list_any (λ out. same_path out path) x.process.outs in
     let dirs = list_any (λ dir. is_below path dir) (outdir_paths x.process.outdirs) in
-    elim (or_cases files dirs (both_true (files || dirs) (not (is_console x.process.console path)) e)) [
-      | inl out ↦ inl (has_first x.process.outs (option_to_list x.process.console) path (any_file x.process.outs path out))
+    elim (or_cases files dirs (and_parts (files || dirs) (not (is_console x.process.console path)) e).0) [
+      | inl out ↦ inl (has_front x.process.outs (option_to_list x.process.console) path (found_has x.process.outs path out))
       | inr dir ↦ inr (any_dir x.process.outdirs path dir)
     ]
 
@@ -82,7 +63,7 @@ written_makes x writes path all h = permitted_makes x path (permitted_at (descri
 pub with_console_has : (console : Option Atoms) (writes : Files) (said : List ℕ) (path : Atoms) → Has (paths_of (with_console console writes said)) path
     → Has (option_to_list console) path ⊎ Has (paths_of writes) path
 with_console_has None writes said path h = inr h
-with_console_has (Some file) writes said path h = elim (has_put writes file said path h) [ inl same ↦ inl (inl same) | inr more ↦ inr more ]
+with_console_has (Some file) writes said path h = elim (put_has writes file said path h) [ inl same ↦ inl (inl same) | inr more ↦ inr more ]
 
 same_files : (a b : Files) → Good a ≡ Good b → a ≡ b
 same_files a b e = cc

@@ -1,23 +1,23 @@
 -- Where files of pips that keep the rules of the graph can lie below one another.
-use Rattle.std.proofs.Common.{◌≡◌, ◌⊎◌, ℕ, true, false, List, [], ◌∷◌, map, Option, Some, ap, sym, ◌∙◌, subst, inl, inr, arith, IsTrue}
+use Rattle.std.proofs.Common.{◌≡◌, ◌⊎◌, ℕ, true, false, List, map, Option, Some, sym, ◌∙◌, subst, inl, inr, arith, IsTrue}
 use Rattle.std.specs.Prelude.{Contains, IsSomeAnd, slice_get}
 use Rattle.std.proofs.lemmas.Bool.{cases_Bool, cases_lt, false≢true}
 use Rattle.bx_tree.specs.Paths.{Atoms, IsBelow}
 use Rattle.bx_tree.specs.Trees.{Files}
+use Rattle.bx_tree.specs.Members.{Has}
+use Rattle.bx_tree.proofs.Sets.{contains_has}
 use Rattle.graph_check.specs.Rules.{KeepsRules}
 use Rattle.graph_check.specs.declared.fault.GraphKind.TheVariants as rules
 use Rattle.graph_check_outputs.specs.OutsideOut.{out_dir}
 use Rattle.graph_check_outputs.specs.Outputs.{declared_files, outputs, PipHas as At}
 use Rattle.graph_check_outputs.specs.Overlap.{Overlaps, Nested, OnePath, Unshared}
-use Rattle.observed.specs.Members.{Has}
-use Rattle.observed.proofs.OneSet.{contains_has}
-use Rattle.tool_run_writes.specs.Below.{is_below}
-use Rattle.tool_run_writes.proofs.BelowByAtoms.{below_decides}
+use Rattle.bx_tree.specs.Below.{is_below}
+use Rattle.bx_tree.proofs.BelowPaths.{below_decides}
+use Rattle.bx_tree.proofs.Members.{has_back, has_front, has_map}
 use Rattle.pip_model_types.specs.declared.outputs.OutDir.{OutDir}
 use Rattle.pip_model_types.specs.declared.pip.Pip.{Pip}
 use Rattle.pip_model_types.specs.declared.pip.PipKind.{PipKind}
 use Rattle.one_thread.specs.Keeping.{Makes}
-use Rattle.one_thread.proofs.Making.{has_first, has_last}
 use Rattle.one_thread.proofs.Prefixes.{Related, Below, Above, Same, below_above, both_above}
 use Rattle.pip_model_types.specs.Kinds.{outdirs_of}
 
@@ -54,17 +54,13 @@ declares items pips i pip x at h =
 file_output : (pips : List Pip) (i : ℕ) (pip : Pip) (path : Atoms) → slice_get pips i ≡ Some pip → Has (declared_files pip.kind) path
     → At outputs pips i path
 file_output pips i pip path at h =
-    declares outputs pips i pip path at (has_first (declared_files pip.kind) (map (λ (d : OutDir). d.path) (outdirs_of pip.kind)) path h)
-
-has_path : (dirs : List OutDir) (dir : OutDir) → Has dirs dir → Has (map (λ (d : OutDir). d.path) dirs) dir.path
-has_path [] dir h = absurd h
-has_path (d ∷ dirs) dir h = elim h [ inl e ↦ inl (ap (λ (x : OutDir). x.path) e) | inr k ↦ inr (has_path dirs dir k) ]
+    declares outputs pips i pip path at (has_front (declared_files pip.kind) (map (λ (d : OutDir). d.path) (outdirs_of pip.kind)) path h)
 
 dir_output : (pips : List Pip) (i : ℕ) (pip : Pip) (dir : OutDir) → slice_get pips i ≡ Some pip → Has (outdirs_of pip.kind) dir
     → At outputs pips i dir.path
 dir_output pips i pip dir at h =
     declares outputs pips i pip dir.path at
-    (has_last (declared_files pip.kind) (map (λ (d : OutDir). d.path) (outdirs_of pip.kind)) dir.path (has_path (outdirs_of pip.kind) dir h))
+    (has_back (declared_files pip.kind) (map (λ (d : OutDir). d.path) (outdirs_of pip.kind)) dir.path (has_map (λ (d : OutDir). d.path) (outdirs_of pip.kind) dir h))
 
 pub made_below : (pips : List Pip) (i : ℕ) (pip : Pip) (path : Atoms) → AllBelowOut pips → slice_get pips i ≡ Some pip → Makes pip.kind path
     → IsBelow path out_dir

@@ -2,13 +2,15 @@
 use Rattle.std.proofs.Common.{◌≡◌, ◌⊎◌, ℕ, Bool, true, false, cond, List, [], ◌∷◌, take, Option, Some, None, refl, ap, sym, ◌∙◌, subst, inl, inr}
 use Rattle.std.specs.Prelude.{slice_get}
 use Rattle.std.specs.Option.{option_to_list}
+use Rattle.tool_run_writes.proofs.Unnested.{not_itself}
 use Rattle.bx_tree.specs.Paths.{Atoms, IsBelow}
 use Rattle.bx_tree.specs.Trees.{Files, NoneNested, paths_of}
+use Rattle.bx_tree.specs.Members.{Has}
+use Rattle.bx_tree.proofs.Sets.{contains_has}
+use Rattle.bx_tree.proofs.Members.{has_back}
 use Rattle.graph_check_outputs.specs.Outputs.{declared_files}
-use Rattle.observed.specs.Members.{Has}
 use Rattle.observed.specs.declared.access.Answer.{Answer}
 use Rattle.observed.specs.declared.ask.Ask.{Ask}
-use Rattle.observed.proofs.OneSet.{contains_has}
 use Rattle.one_thread.specs.OneThread.{Result, by_cause, by_outcome, failed, inputs_are_good, made_by, process_outcome, ran, result_of, unless_clash, violated, worked}
 use Rattle.pip_view_inputs.specs.Contents.{input_bytes}
 use Rattle.pip_view_inputs.specs.Plain.{desc_of}
@@ -33,9 +35,8 @@ use Rattle.violations.specs.declared.verdict.Violation.{Violation}
 use Rattle.violations.specs.Classes.{class_of}
 use Rattle.violations.specs.DoubleWrites.{clash_at, clash_of, outdirs_in}
 use Rattle.one_thread.specs.Keeping.{AreOwnOutputs, Makes}
-use Rattle.one_thread.proofs.Making.{good_files, has_last, with_console_has, written_makes}
+use Rattle.one_thread.proofs.Making.{good_files, with_console_has, written_makes}
 use Rattle.one_thread.proofs.Meeting.{Apart, below_file, file_below}
-use Rattle.one_thread.proofs.Prefixes.{not_itself}
 use Rattle.pip_model_types.specs.Kinds.{outdirs_of}
 
 -- each run keeps to its description
@@ -63,7 +64,7 @@ one_makes kind to bytes there q (inr f) = absurd f
 -- a file of a process is its console file, or was written
 place_makes : (d : ProcessDesc) (writes : Files) → ((q : Atoms) → Has (paths_of writes) q → Makes (Process d) q) → (q : Atoms)
     → Has (option_to_list d.console) q ⊎ Has (paths_of writes) q → Makes (Process d) q
-place_makes d writes makes q (inl c) = inl (has_last d.outs (option_to_list d.console) q c)
+place_makes d writes makes q (inl c) = inl (has_back d.outs (option_to_list d.console) q c)
 place_makes d writes makes q (inr w) = makes q w
 
 module _ (pips : List Pip) (apart : Apart pips) (hold : AllHold) (tree : Files) (made : List Files) (i : ℕ) (pip : Pip)
@@ -76,11 +77,11 @@ module _ (pips : List Pip) (apart : Apart pips) (hold : AllHold) (tree : Files) 
       → Has (option_to_list d.console) q ⊎ Has (paths_of writes) q → IsBelow p q → ⊥
   unnested_pair d is writes none makes p q (inl c) m below =
       file_below pips apart i i pip pip at at p q below
-      (subst (λ (k : PipKind). Has (declared_files k) p) (sym is) (has_last d.outs (option_to_list d.console) p c))
+      (subst (λ (k : PipKind). Has (declared_files k) p) (sym is) (has_back d.outs (option_to_list d.console) p c))
       (subst (λ (k : PipKind). Makes k q) (sym is) (place_makes d writes makes q m))
   unnested_pair d is writes none makes p q (inr w) (inl c) below =
       below_file pips apart i i pip pip at at p q below (subst (λ (k : PipKind). Makes k p) (sym is) (makes p w))
-      (subst (λ (k : PipKind). Has (declared_files k) q) (sym is) (has_last d.outs (option_to_list d.console) q c))
+      (subst (λ (k : PipKind). Has (declared_files k) q) (sym is) (has_back d.outs (option_to_list d.console) q c))
   unnested_pair d is writes none makes p q (inr w) (inr v) below =
       none q p (contains_has (paths_of writes) q v) (contains_has (paths_of writes) p w) below
 

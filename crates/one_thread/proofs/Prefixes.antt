@@ -2,13 +2,6 @@
 use Rattle.std.proofs.Common.{◌≡◌, ◌≢◌, List, [], ◌∷◌, ◌++◌, refl, ap, sym, ◌∙◌, append_assoc}
 use Rattle.bx_tree.specs.Paths.{Atoms, IsBelow}
 
-longer : (path rest : Atoms) → rest ≢ [] → path ≡ path ++ rest → ⊥
-longer [] rest some e = some (sym e)
-longer (a ∷ as') rest some e = let f : as' ≡ as' ++ rest = cc in longer as' rest some f
-
-pub not_itself : (path : Atoms) → IsBelow path path → ⊥
-not_itself path h = longer path h.0 h.1 h.2
-
 not_empty : (rest more : Atoms) → more ≢ [] → rest ++ more ≡ [] → ⊥
 not_empty [] more some e = some e
 not_empty (a ∷ as') more some e = cc

@@ -4,14 +4,15 @@ use Rattle.std.specs.Prelude.{slice_get}
 use Rattle.std.specs.BTreeSet.{BTreeSet, contains}
 use Rattle.std.specs.BTreeMap.{is_at}
 use Rattle.std.specs.List.{list_any}
-use Rattle.std.proofs.lemmas.Bool.{cases_Bool, false≢true}
+use Rattle.std.proofs.lemmas.Bool.{cases_Bool, false≢true, or_parts}
 use Rattle.std.proofs.lemmas.List.{drop_all, take_more}
 use Rattle.std.proofs.Math.Seq.{drop-cons}
+use Rattle.std.proofs.lemmas.List.Folds.{list_any-append}
 use Rattle.bx_tree.specs.Orders.{path_cmp_matches, same_path_decides}
 use Rattle.bx_tree.specs.Paths.{Atoms, path_cmp, same_path}
 use Rattle.bx_tree.specs.Trees.{Files}
-use Rattle.tool_run_writes.specs.Below.{is_below}
-use Rattle.tool_run_writes.proofs.DirectorySets.{any_append}
+use Rattle.bx_tree.specs.Below.{is_below}
+use Rattle.bx_tree.proofs.Lists.{any_last, any_either, any_alike, any_swap}
 use Rattle.violations.specs.Slots.{slot_files}
 use Rattle.pip_model_types.specs.Made.{made_files}
 use Rattle.pip_model_types.specs.declared.made.MadeFile.{MadeFile}
@@ -24,44 +25,6 @@ use Rattle.one_thread.specs.Shared.{KeepsShared, all_shared, any_clash}
 use Rattle.pip_model_types.specs.Kinds.{outdirs_of}
 
 -- ## Tests of lists
-
-any_after : {X : Type 0} (p : X → Bool) (xs ys : List X) → list_any p (xs ++ ys) ≡ (list_any p xs || list_any p ys)
-any_after p [] ys = refl
-any_after p (x ∷ xs) ys = by_test (p x) (any_after p xs ys)
-  where
-    by_test : (t : Bool) → list_any p (xs ++ ys) ≡ (list_any p xs || list_any p ys) → (t || list_any p (xs ++ ys)) ≡ ((t || list_any p xs) || list_any p ys)
-    by_test true more = refl
-    by_test false more = more
-
-any_alike : {X : Type 0} (p q : X → Bool) (xs : List X) → ((x : X) → p x ≡ q x) → list_any p xs ≡ list_any q xs
-any_alike p q [] same = refl
-any_alike p q (x ∷ xs) same = ap (λ t. t || list_any p xs) (same x) ∙ ap (λ t. q x || t) (any_alike p q xs same)
-
-none_first : (a b : Bool) → (a || b) ≡ false → a ≡ false
-none_first true b e = e
-none_first false b e = refl
-
-none_second : (a b : Bool) → (a || b) ≡ false → b ≡ false
-none_second true b e = absurd (false≢true (sym e))
-none_second false b e = e
-
-none_any : {X : Type 0} (xs : List X) → list_any (λ (x : X). false) xs ≡ false
-none_any [] = refl
-none_any (x ∷ xs) = none_any xs
-
-either_later : (a b x y : Bool) → ((a || b) || (x || y)) ≡ ((a || x) || (b || y))
-either_later true b x y = refl
-either_later false true true y = refl
-either_later false true false y = refl
-either_later false false x y = refl
-
-any_either : {X : Type 0} (p q : X → Bool) (xs : List X) → list_any (λ x. p x || q x) xs ≡ (list_any p xs || list_any q xs)
-any_either p q [] = refl
-any_either p q (x ∷ xs) = ap (λ t. (p x || q x) || t) (any_either p q xs) ∙ either_later (p x) (q x) (list_any p xs) (list_any q xs)
-
-any_swap : {X Y : Type 0} (r : X → Y → Bool) (xs : List X) (ys : List Y) → list_any (λ x. list_any (r x) ys) xs ≡ list_any (λ y. list_any (λ x. r x y) xs) ys
-any_swap r [] ys = sym (none_any ys)
-any_swap r (x ∷ xs) ys = ap (λ t. list_any (r x) ys || t) (any_swap r xs ys) ∙ sym (any_either (r x) (λ y. list_any (λ z. r z y) xs) ys)
 
 same_swap : (p q : Atoms) → same_path p q ≡ same_path q p
 same_swap p q = elim (cases_Bool (same_path q p)) [
@@ -91,12 +54,12 @@ pub file_kept : (path q : Atoms) (paths : List Atoms) (k : Atoms) (old now : Boo
 file_kept path q paths k old now key put before =
     or_last (same_path path q) old now
     (put ∙ ap (λ (x : Atoms). cond (is_at (path_cmp x) q) true old) key ∙ ap (λ t. cond t true old) (sym (path_cmp_matches path q)))
-    ∙ ap (λ t. t || same_path path q) before ∙ sym (any_append (λ p. same_path p q) paths path)
+    ∙ ap (λ t. t || same_path path q) before ∙ sym (any_last (λ p. same_path p q) paths path)
 
 pub dirs_kept : (path q : Atoms) (paths : List Atoms) (old now : Bool) → now ≡ (is_below path q || old) → old ≡ list_any (λ p. is_below p q) paths
     → now ≡ list_any (λ p. is_below p q) (paths ++ path ∷ [])
 dirs_kept path q paths old now put before =
-    put ∙ or_swap (is_below path q) old ∙ ap (λ t. t || is_below path q) before ∙ sym (any_append (λ p. is_below p q) paths path)
+    put ∙ or_swap (is_below path q) old ∙ ap (λ t. t || is_below path q) before ∙ sym (any_last (λ p. is_below p q) paths path)
 
 -- ## The files of a pip, one after the other
 
@@ -161,7 +124,13 @@ clash_is files dirs paths path above h e =
     ∙ regroup (list_any (same_path path) paths) (list_any (λ p. is_below p path) paths) (list_any (λ p. is_below path p) paths)
     ∙ ap (λ t. t || list_any (λ p. is_below p path) paths) (sym (any_either (same_path path) (λ p. is_below path p) paths))
     ∙ sym (any_either (λ p. same_path path p || is_below path p) (λ p. is_below p path) paths)
+    ∙ any_alike (λ p. (same_path path p || is_below path p) || is_below p path) (is_clash path) paths
+    (λ p. grouped (same_path path p) (is_below path p) (is_below p path))
   where
+    grouped : (a b c : Bool) → ((a || b) || c) ≡ (a || (b || c))
+    grouped true b c = refl
+    grouped false b c = refl
+
     regroup : (a b c : Bool) → ((a || b) || c) ≡ ((a || c) || b)
     regroup true b c = refl
     regroup false true true = refl
@@ -209,7 +178,7 @@ pub next_clash : (dirs : List OutDir) (files : List MadeFile) (i : ℕ) (f : Mad
     → (t || list_any (any_clash paths) (shared_paths dirs (made_files (drop (i + 1) files)))) ≡ whole
 next_clash dirs files i f paths found t whole l is e same so_far =
     sym (ap (list_any (any_clash paths)) (shared_next dirs files i f l is)
-    ∙ any_after (any_clash paths) (shared_paths dirs (made_files (f ∷ []))) (shared_paths dirs (made_files (drop (i + 1) files)))
+    ∙ list_any-append (any_clash paths) (shared_paths dirs (made_files (f ∷ []))) (shared_paths dirs (made_files (drop (i + 1) files)))
     ∙ ap (λ b. b || list_any (any_clash paths) (shared_paths dirs (made_files (drop (i + 1) files)))) (sym e ∙ same)) ∙ so_far
 
 pub no_clash_left : (dirs : List OutDir) (files : List MadeFile) (i : ℕ) (paths : List Atoms) (whole : Bool) → length files ≤ i
@@ -224,17 +193,17 @@ least_none path j [] made e = refl
 least_none path j (pip ∷ pips) [] e = refl
 least_none path j (pip ∷ pips) (files ∷ made) e =
     let own = shared_paths (outdirs_of pip.kind) files in
-    let both = sym (any_after (is_clash path) own (all_shared pips made)) ∙ e in
-    ap (λ t. cond t (Some j) (least_clash path (j + 1) pips made)) (none_first (list_any (is_clash path) own) (any_clash (all_shared pips made) path) both)
-    ∙ least_none path (j + 1) pips made (none_second (list_any (is_clash path) own) (any_clash (all_shared pips made) path) both)
+    let both = sym (list_any-append (is_clash path) own (all_shared pips made)) ∙ e in
+    ap (λ t. cond t (Some j) (least_clash path (j + 1) pips made)) (or_parts (list_any (is_clash path) own) (any_clash (all_shared pips made) path) both).0
+    ∙ least_none path (j + 1) pips made (or_parts (list_any (is_clash path) own) (any_clash (all_shared pips made) path) both).1
 
 first_none : (paths : List Atoms) (before : List Pip) (made : List Files) → list_any (any_clash (all_shared before made)) paths ≡ false
     → first_clash paths before made ≡ None
 first_none [] before made e = refl
 first_none (path ∷ paths) before made e =
     ap (λ o. or_next path o (first_clash paths before made))
-    (least_none path 0 before made (none_first (any_clash (all_shared before made) path) (list_any (any_clash (all_shared before made)) paths) e))
-    ∙ first_none paths before made (none_second (any_clash (all_shared before made) path) (list_any (any_clash (all_shared before made)) paths) e)
+    (least_none path 0 before made (or_parts (any_clash (all_shared before made) path) (list_any (any_clash (all_shared before made)) paths) e).0)
+    ∙ first_none paths before made (or_parts (any_clash (all_shared before made) path) (list_any (any_clash (all_shared before made)) paths) e).1
 
 -- where no file that a pip shares clashes with one before, there is no violation
 pub no_clash : (pips : List Pip) (made : List Files) (i : ℕ) (files : Files) (t : Bool) → t ≡ false

@@ -1,13 +1,14 @@
 -- Whether the pips succeeded for which a pip waits.
-use Rattle.std.proofs.Common.{◌≡◌, ◌<◌, ◌≤◌, ℕ, zero, suc, ◌+◌, Bool, true, false, ◌&&◌, List, [], ◌∷◌, length, drop, get_or, Option, Some, None, refl, ap, sym, ◌∙◌, subst, inl, inr, add-one, arith}
+use Rattle.std.proofs.Common.{◌≡◌, ◌<◌, ◌≤◌, ℕ, ◌+◌, Bool, true, false, ◌&&◌, List, length, drop, get_or, Option, Some, None, refl, ap, sym, ◌∙◌, subst, inl, inr, add-one}
 use Rattle.std.specs.Prelude.{◌↔◌, Contains, IsSomeAnd, slice_get}
 use Rattle.std.specs.List.{list_all}
 use Rattle.std.proofs.lemmas.Bool.{cases_Bool, false≢true}
 use Rattle.std.proofs.lemmas.List.{drop_all}
 use Rattle.std.proofs.lemmas.Option.{slice_get-get_or}
 use Rattle.std.proofs.Math.Seq.{drop-cons}
-use Rattle.observed.proofs.OneSet.{contains_has, has_contained}
-use Rattle.observed.specs.Members.{Has}
+use Rattle.bx_tree.proofs.Sets.{contains_has, has_contained}
+use Rattle.bx_tree.proofs.Lists.{no_such_place}
+use Rattle.bx_tree.proofs.Members.{all_pass, passes_all}
 use Rattle.pip_model_types.specs.declared.made.Slot.{Slot}
 use Rattle.pip_model_types.specs.declared.pip.Pip.{Pip}
 use Rattle.pip_model.specs.Edges.{targets}
@@ -16,31 +17,14 @@ use Rattle.one_thread.specs.Views.{good_at, good_in, is_good_slot}
 
 -- ## Tests of all elements
 
-and_left : (a b : Bool) → (a && b) ≡ true → a ≡ true
-and_left true b e = refl
-and_left false b e = e
-
-and_right : (a b : Bool) → (a && b) ≡ true → b ≡ true
-and_right true b e = e
-and_right false b e = absurd (false≢true e)
-
-all_true : (p : ℕ → Bool) (xs : List ℕ) → list_all p xs ≡ true → (j : ℕ) → Has xs j → p j ≡ true
-all_true p [] e j h = absurd h
-all_true p (x ∷ xs) e j (inl same) = ap p (sym same) ∙ and_left (p x) (list_all p xs) e
-all_true p (x ∷ xs) e j (inr h) = all_true p xs (and_right (p x) (list_all p xs) e) j h
-
-true_all : (p : ℕ → Bool) (xs : List ℕ) → ((j : ℕ) → Has xs j → p j ≡ true) → list_all p xs ≡ true
-true_all p [] each = refl
-true_all p (x ∷ xs) each = ap (λ b. b && list_all p xs) (each x (inl refl)) ∙ true_all p xs (λ j h. each j (inr h))
-
 -- lists with one set of members pass a test together
 same_all : (p : ℕ → Bool) (xs ys : List ℕ) → ((j : ℕ) → Contains xs j ↔ Contains ys j) → list_all p xs ≡ list_all p ys
 same_all p xs ys same = elim (cases_Bool (list_all p xs)) [
-  | inl passes ↦ passes ∙ sym (true_all p ys (λ j h. all_true p xs passes j (has_contained xs j ((same j).1 (contains_has ys j h)))))
+  | inl passes ↦ passes ∙ sym (all_pass p ys (λ j h. passes_all p xs j passes (has_contained xs j ((same j).1 (contains_has ys j h)))))
   | inr fails ↦ elim (cases_Bool (list_all p ys)) [
     | inr both ↦ fails ∙ sym both
     | inl passes ↦
-        absurd (false≢true (sym fails ∙ true_all p xs (λ j h. all_true p ys passes j (has_contained ys j ((same j).0 (contains_has xs j h))))))
+        absurd (false≢true (sym fails ∙ all_pass p xs (λ j h. passes_all p ys j passes (has_contained ys j ((same j).0 (contains_has xs j h))))))
   ]
 ]
 
@@ -72,11 +56,6 @@ pub good_to_end : (ss : List Slot) (js : List ℕ) (n : ℕ) → length js ≤ n
 good_to_end ss js n l = ap (good_from ss) (drop_all n js l)
 
 -- ## The inputs of a pip
-
-no_such_place : {X : Type 0} (xs : List X) (i : ℕ) → i < length xs → slice_get xs i ≡ None → ⊥
-no_such_place [] i l e = absurd (omega (arith, l))
-no_such_place (x ∷ xs) zero l e = cc
-no_such_place (x ∷ xs) (suc i) l e = no_such_place xs i (omega (arith, l)) e
 
 -- the inputs that a plan keeps of a pip are those for which it waits
 pub inputs_good : (pips : List Pip) (i : ℕ) (ss : List Slot) (ins : List ℕ) → AreInputs pips i ins → i < length pips

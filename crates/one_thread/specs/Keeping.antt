@@ -2,8 +2,8 @@
 use Rattle.std.specs.Prelude.{◌≡◌, ◌⊎◌, ℕ, List, take, Some, None, slice_get}
 use Rattle.bx_tree.specs.Paths.{Atoms, IsBelow}
 use Rattle.bx_tree.specs.Trees.{Files, paths_of}
+use Rattle.bx_tree.specs.Members.{Has}
 use Rattle.graph_check_outputs.specs.Outputs.{declared_files}
-use Rattle.observed.specs.Members.{Has}
 use Rattle.pip_model_types.specs.declared.outputs.OutDir.{OutDir}
 use Rattle.pip_model_types.specs.declared.pip.Pip.{Pip}
 use Rattle.pip_model_types.specs.declared.pip.PipKind.{PipKind}

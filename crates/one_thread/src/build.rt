@@ -3,10 +3,10 @@ ghost use Rattle.std.specs.Prelude.{◌≡◌, IfOk, map};
 ghost use Rattle.violations.specs.Slots.{slot_files};
 ghost use Rattle.one_thread.specs.OneThread.{made_by, one_thread, verdicts_of};
 
-use crate::Memory;
 use crate::ended::{Frame, ended};
 use crate::shared::SharedFiles;
 use bx_io::Gate;
+use bx_tree::Memory;
 use pip_model::{Plan, Slot, Sources};
 use std::alloc::Global;
 use violations::Verdict;

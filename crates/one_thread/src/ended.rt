@@ -12,9 +12,9 @@ ghost use Rattle.one_thread.specs.Shared.{KeepsShared, all_shared};
 ghost use Rattle.one_thread.specs.Views.{Agrees, ended_in, ended_result, good_at, good_in, is_good_slot};
 ghost use Rattle.one_thread.specs.Views.{worked_in};
 
-use crate::Memory;
 use crate::shared::SharedFiles;
 use bx_io::Gate;
+use bx_tree::Memory;
 use observed::{Access, End};
 use pip_model::{Made, Plan, Slot, Sources};
 use pip_view::{Inputs, PipView, desc, plain};

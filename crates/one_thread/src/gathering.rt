@@ -4,11 +4,9 @@ ghost use Rattle.violations.specs.Slots.{slot_files};
 ghost use Rattle.pip_model_types.specs.Made.{made_files};
 ghost use Rattle.one_thread.specs.OneThread.{all_made, put_all};
 
-use crate::Memory;
 use bx_digest::Blob;
-use bx_tree::Path;
+use bx_tree::{Memory, Path};
 use pip_model::{Made, MadeFile, Slot};
-use pip_view::made_of;
 use std::alloc::Global;
 use std::collections::BTreeMap;
 
@@ -42,5 +40,5 @@ pub fn outputs(alloc: Global, slots: &[Slot]) -> Result<Made, Memory>
     'slots: for slot in slots {
         put_slot(&mut files, slot)?;
     }
-    made_of(alloc, files)
+    Made::of_map(alloc, files)
 }

@@ -1,11 +1,11 @@
 //! Executes all pips sequentially, without a cache: the reference build that every other build is compared with.
 //!
-//! Pip by pip, what each comes to is read off its inputs, what it sees, and the run of its tool. This crate depends
-//! on `pip_view`, `run_record` and `violations`, and on `graph_check` for the rules that the pips keep. It carries
-//! the promises that the build is its definition, and that no output file lies below another or is there twice.
+//! The result of each pip is determined by the results of its dependencies, by its view, and by the run of its
+//! tool. This crate depends on `pip_view`, `run_record` and `violations`, and on `graph_check` for the rules that
+//! the pips keep. It carries the promises that the build is as defined, and that no output lies below another or is
+//! there twice.
 #![tactic(auto)]
 
-mod above;
 mod build;
 mod ended;
 mod gathering;
@@ -20,6 +20,3 @@ pub use ended::{
 pub use gathering::outputs;
 pub use laws::each_result;
 pub use outputs_apart::{kept_files_keep_apart, outputs_keep_apart};
-
-/// Out of memory, the one refusal that no contract ties to a cause.
-pub type Memory = std::alloc::AllocError;

@@ -3,55 +3,18 @@ ghost use Rattle.std.specs.Prelude.{◌≡◌, ◌++◌, ◌∷◌, [], List, If
 ghost use Rattle.std.specs.BTreeSet.{contains};
 ghost use Rattle.std.specs.List.{list_any};
 ghost use Rattle.bx_tree.specs.Paths.{Atoms, path_cmp};
-ghost use Rattle.tool_run_writes.specs.Below.{is_below as lies_below};
+ghost use Rattle.bx_tree.specs.Below.{is_below};
 ghost use Rattle.violations.specs.Slots.{slot_files};
 ghost use Rattle.pip_model_types.specs.Made.{made_files};
-ghost use Rattle.violations.specs.DoubleWrites as double_writes;
 ghost use Rattle.violations.specs.DoubleWrites.{outdirs_in, shared_paths};
 ghost use Rattle.one_thread.specs.Shared.{KeepsShared, any_clash};
-ghost use Rattle.pip_model_types.specs.Kinds.{outdirs_of};
 
-use crate::Memory;
-use crate::above::{add_directories, directories};
-use bx_tree::Path;
-use pip_model::{Made, MadeFile, OutDir, Pip, PipKind, Plan, Slot};
+use bx_path::{add_directories, directories};
+use bx_tree::{Memory, Path};
+use pip_model::{Made, MadeFile, OutDir, Plan, Slot};
 use std::alloc::Global;
 use std::collections::BTreeSet;
-
-// The output directories of a pip.
-fn outdirs_of(kind: &PipKind) -> &[OutDir]
-    ensures { result.now ≡ outdirs_of kind.entry.now }
-{
-    match kind {
-        PipKind::Process(process) => process.outdirs.dirs(),
-        PipKind::Copy(_) | PipKind::Write(_) | PipKind::Seal(_) => &[],
-    }
-}
-
-// The output directories of the pip with a number.
-fn outdirs_at(pips: &[Pip], pip: u32) -> &[OutDir]
-    ensures { result.now ≡ outdirs_in (slice_get pips.entry.now pip) }
-{
-    match pips.get(pip as usize) {
-        Some(pip) => outdirs_of(&pip.kind),
-        None => &[],
-    }
-}
-
-// Whether a path lies strictly below a directory.
-fn is_below(path: &Path, dir: &Path) -> bool
-    ensures { result ≡ lies_below path.now dir.now }
-{
-    path.is_below(dir)
-}
-
-// Whether a path lies strictly below a directory that is shared.
-fn is_shared(dirs: &[OutDir], path: &Path) -> bool
-    ensures { result ≡ double_writes.is_shared dirs.now path.now }
-{
-    dirs.iter()
-        .any(|dir| dir.shared && is_below(path, &dir.path))
-}
+use violations::{is_shared, outdirs_at};
 
 // Whether one of these paths is in a set.
 fn has_any(files: &BTreeSet<Path>, paths: &[Path]) -> bool
@@ -150,7 +113,7 @@ impl SharedFiles {
     // Whether a path lies strictly below a file.
     fn has_above(&self, alloc: Global, path: &Path) -> Result<bool, Memory>
         ensures { IfOk result (λ yes. (paths : List Atoms) → KeepsShared self.now.files self.now.dirs paths
-            → yes ≡ list_any (λ p. lies_below path.now p) paths) }
+            → yes ≡ list_any (λ p. is_below path.now p) paths) }
     {
         let above = directories(alloc, path)?;
         Ok(has_any(&self.files, above.as_slice()))

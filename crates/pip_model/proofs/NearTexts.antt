@@ -9,7 +9,8 @@ use Rattle.std.proofs.lemmas.Slice.Eq.{bytes_eq-Decides}
 use Rattle.bx_tree.specs.declared.file_input.FileInput.{FileInput}
 use Rattle.bx_tree.specs.Paths.{path_text}
 use Rattle.pip_model_types.specs.declared.pip.Pip.{Pip}
-use Rattle.pip_model.specs.Listings.{HasNear, IsNear, KeepsFound, ListsNear, listed_files}
+use Rattle.pip_model_types.specs.Kinds.{listed_files}
+use Rattle.pip_model.specs.Listings.{HasNear, IsNear, KeepsFound, ListsNear}
 use Rattle.pip_model.specs.Outputs.{Table, found_in}
 use Rattle.pip_model.proofs.EdgesBack.{in_range}
 use Rattle.pip_model.proofs.Found.{there}
@@ -59,11 +60,11 @@ above_same text place number table not_here h m l e = elim (cases_lt m place) [
       absurd (not_here (ap (λ k. get_or text k 0) (sym same) ∙ e))
 ]
 
-take_before : (xs ys : List ℕ) → take (length xs) (xs ++ ys) ≡ xs
+pub take_before : (xs ys : List ℕ) → take (length xs) (xs ++ ys) ≡ xs
 take_before [] ys = refl
 take_before (x ∷ xs) ys = ap (λ zs. x ∷ zs) (take_before xs ys)
 
-at_slash : (xs ys : List ℕ) → get_or (xs ++ 47 ∷ ys) (length xs) 0 ≡ 47
+pub at_slash : (xs ys : List ℕ) → get_or (xs ++ 47 ∷ ys) (length xs) 0 ≡ 47
 at_slash [] ys = refl
 at_slash (x ∷ xs) ys = at_slash xs ys
 

@@ -1,5 +1,5 @@
 -- Which pips a pip waits for, what a pip can produce, and where walks along edges lead.
-use Rattle.std.specs.Prelude.{◌≡◌, ℕ, List, [], ◌∷◌, ◌++◌, Option, Some, None, Contains, Any, IsSomeAnd}
+use Rattle.std.specs.Prelude.{◌≡◌, ℕ, List, [], ◌∷◌, ◌++◌, Some, Contains, Any, IsSomeAnd}
 use Rattle.std.specs.Prelude.{slice_get, ◌⊎◌}
 use Rattle.std.specs.List.{flat_map}
 use Rattle.bx_tree.specs.Paths.{Atoms, IsBelow}
@@ -11,6 +11,7 @@ use Rattle.pip_model_types.specs.declared.outputs.OutDir.{OutDir}
 use Rattle.pip_model_types.specs.declared.pip.Pip.{Pip}
 use Rattle.pip_model_types.specs.declared.pip.PipKind.{PipKind}
 use Rattle.pip_model_types.specs.declared.pip.PipKind.TheVariants.{Process, Copy, Write, Seal}
+use Rattle.pip_model_types.specs.Kinds.{form_files, listed_in}
 use Rattle.pip_model.specs.Walks.{Walk}
 
 -- the pip that made a file; a source file has none
@@ -22,30 +23,20 @@ maker (Made path pip) = pip ∷ []
 abbrev pub makers : List FileInput → List ℕ
 makers = flat_map maker
 
--- the makers of the files that a pip seals
-abbrev pub kind_makers : PipKind → List ℕ
-kind_makers (Process d) = []
-kind_makers (Copy d) = []
-kind_makers (Write d) = []
-kind_makers (Seal d) = makers d.files
-
-abbrev pub sealed_makers : Option Pip → List ℕ
-sealed_makers None = []
-sealed_makers (Some pip) = kind_makers pip.kind
-
--- What a process waits for where it takes a directory: the pip whose directory it is, and the makers of
--- its members. The members of an opaque directory are made by its own process.
+-- What a process waits for where it takes a directory: the pip whose directory it is, and the makers of the
+-- files that this pip lists. The members of an opaque directory are made by its own process, and those of a
+-- seal of source files by none.
 abbrev pub dir_targets : List Pip → DirInput → List ℕ
-dir_targets pips (Sealed pip form root) = pip ∷ sealed_makers (slice_get pips pip)
+dir_targets pips (Sealed pip form root) = pip ∷ makers (listed_in (slice_get pips pip))
 dir_targets pips (Opaque pip path) = pip ∷ []
 
 -- The pips that a pip waits for: those that made its input files, the file that it copies or the files
--- that it seals, and the seals and processes whose directories it takes.
+-- that it lists as a seal, and the seals and processes whose directories it takes.
 abbrev pub targets : List Pip → PipKind → List ℕ
 targets pips (Process d) = makers d.files ++ flat_map (dir_targets pips) d.dirs
 targets pips (Copy d) = maker d.from
 targets pips (Write d) = []
-targets pips (Seal d) = makers d.files
+targets pips (Seal d) = makers (form_files d.form d.files)
 
 -- pip i has an edge to pip j
 abbrev pub Edge : List Pip → ℕ → ℕ → Type 0

@@ -1,24 +1,15 @@
 -- Which seals list a file at a path or below it, and whether a process takes many directories.
-use Rattle.std.specs.Prelude.{◌≡◌, ℕ, Bool, true, List, [], ◌∷◌, ◌++◌, ◌⊎◌, Any, Contains, IsSomeAnd}
+use Rattle.std.specs.Prelude.{◌≡◌, ℕ, Bool, true, List, ◌⊎◌, Any, Contains, IsSomeAnd}
 use Rattle.std.specs.Prelude.{length, nat_lt, slice_get}
 use Rattle.std.specs.List.{list_any}
-use Rattle.bx_tree.specs.Paths.{path_text}
+use Rattle.bx_tree.specs.Paths.{TextGoesOn, path_text}
 use Rattle.bx_tree.specs.declared.file_input.FileInput.{FileInput}
-use Rattle.pip_model_types.specs.declared.dir_inputs.DirInput.{DirInput}
 use Rattle.pip_model_types.specs.declared.pip.Pip.{Pip}
 use Rattle.pip_model_types.specs.declared.pip.PipKind.{PipKind}
-use Rattle.pip_model_types.specs.declared.pip.PipKind.TheVariants.{Process, Copy, Write, Seal}
 use Rattle.pip_model.specs.declared.listings.TheConstants.{FEW_DIRS}
 use Rattle.pip_model.specs.Outputs.{Table, found_in}
-use Rattle.pip_model_types.specs.Kinds.{taken_dirs}
+use Rattle.pip_model_types.specs.Kinds.{listed_files, taken_dirs}
 use Rattle.bx_tree.specs.FileInputs.{input_path}
-
--- the files that a pip lists, none but of a seal
-abbrev pub listed_files : PipKind → List FileInput
-listed_files (Process d) = []
-listed_files (Copy d) = []
-listed_files (Write d) = []
-listed_files (Seal d) = d.files
 
 -- whether a pip takes more than a few directories
 abbrev pub is_wide : PipKind → Bool
@@ -31,7 +22,7 @@ has_wide pips = list_any (λ (pip : Pip). is_wide pip.kind) pips
 -- the path with this text is that of the file, or the file lies below it
 abbrev pub IsNear : List ℕ → FileInput → Type 0
 IsNear text file =
-    (path_text (input_path file) ≡ text) ⊎ ((rest : List ℕ) × (path_text (input_path file) ≡ text ++ 47 ∷ rest))
+    (path_text (input_path file) ≡ text) ⊎ TextGoesOn text (path_text (input_path file))
 
 -- pip j is a seal that lists a file at the path with this text or below it
 abbrev pub ListsNear : List Pip → ℕ → List ℕ → Type 0

@@ -1,15 +1,13 @@
 -- Which pips have an output at a path.
-use Rattle.std.specs.Prelude.{◌≡◌, ℕ, ◌+◌, List, [], ◌∷◌, ◌++◌, map, if◌then◌else◌}
-use Rattle.std.specs.BTreeMap.{BTreeMap, get_by}
-use Rattle.std.specs.Cmp.Lexicographic.{slice_cmp}
+use Rattle.std.specs.Prelude.{◌≡◌, ℕ, ◌+◌, List, [], ◌∷◌, ◌++◌, if◌then◌else◌}
+use Rattle.std.specs.BTreeMap.{BTreeMap}
 use Rattle.std.specs.List.{flat_map}
 use Rattle.std.specs.Option.{option_map_or, option_to_list}
-use Rattle.std.specs.Ordering.{nat_cmp}
 use Rattle.std.specs.Str.{bytes_eq}
 use Rattle.std.specs.declared.alloc.Global.{Global}
 use Rattle.std.specs.declared.vec.Vec.{Vec}
 use Rattle.bx_tree.specs.Paths.{Atoms, path_text}
-use Rattle.pip_model_types.specs.declared.outputs.OutDir.{OutDir}
+use Rattle.bx_tree.specs.TextTables.{at_text}
 use Rattle.pip_model_types.specs.declared.pip.Pip.{Pip}
 use Rattle.pip_model_types.specs.declared.pip.PipKind.{PipKind}
 use Rattle.pip_model_types.specs.declared.pip.PipKind.TheVariants.{Process, Copy, Write, Seal}
@@ -42,8 +40,7 @@ Table = BTreeMap (Vec ℕ Global) (Vec ℕ Global)
 -- what the table has at the text
 abbrev pub found_in : Table → List ℕ → List ℕ
 found_in table text =
-    option_map_or (λ (numbers : Vec ℕ Global). numbers.items)
-    (get_by (λ k. slice_cmp nat_cmp text k.items) table) []
+    option_map_or (λ (numbers : Vec ℕ Global). numbers.items) (at_text table text) []
 
 -- the table has the pips by the texts of the paths of their outputs
 abbrev pub HasOutputsOf : List Pip → Table → Type 0

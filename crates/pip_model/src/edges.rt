@@ -1,12 +1,12 @@
 //! The pips that each pip waits for.
-ghost use Rattle.std.specs.Prelude.{◌≡◌, ◌++◌, MatchOption, OnOk, IfOk, Some, None, slice_get};
-ghost use Rattle.pip_model.specs.Edges.{dir_targets, kind_makers, maker, makers, targets};
+ghost use Rattle.std.specs.Prelude.{◌≡◌, ◌++◌, OnOk, IfOk};
+ghost use Rattle.pip_model.specs.Edges.{dir_targets, maker, makers, targets};
 ghost use Rattle.pip_model.specs.Inputs.{AreTargets};
 ghost use Rattle.pip_model.specs.Plans.{AreAllInputs};
 ghost use Rattle.std.specs.List.{flat_map};
 
 use bx_tree::FileInput;
-use pip_model_types::{DirInput, Pip, PipKind};
+use pip_model_types::{DirInput, Pip, PipKind, pip_at};
 use std::alloc::{AllocError, Global};
 use std::marker::Model;
 
@@ -32,15 +32,6 @@ impl Inputs {
     }
 }
 
-// The pip with a number, if there is one.
-fn pip_at(pips: &[Pip], number: u32) -> Option<&Pip>
-    ensures { MatchOption result
-        (slice_get pips.now number ≡ None)
-        (λ pip. slice_get pips.now number ≡ Some pip.now) }
-{
-    pips.get(number as usize)
-}
-
 // Adds the pip that made a file.
 fn add_maker(found: &mut Vec<u32>, file: &FileInput) -> Result<(), AllocError>
     ensures { OnOk result (found.new.items ≡ found.old.items ++ maker file.now) }
@@ -61,16 +52,6 @@ fn add_makers(found: &mut Vec<u32>, files: &[FileInput]) -> Result<(), AllocErro
     Ok(())
 }
 
-// Adds the makers of the files that a pip seals.
-fn add_sealed(found: &mut Vec<u32>, kind: &PipKind) -> Result<(), AllocError>
-    ensures { OnOk result (found.new.items ≡ found.old.items ++ kind_makers kind.now) }
-{
-    match kind {
-        PipKind::Seal(seal) => add_makers(found, seal.files.files()),
-        _ => Ok(()),
-    }
-}
-
 // Adds what a process waits for where it takes a directory.
 fn add_dir(found: &mut Vec<u32>, pips: &[Pip], dir: &DirInput) -> Result<(), AllocError>
     ensures { OnOk result (found.new.items ≡ found.old.items ++ dir_targets pips.now dir.now) }
@@ -79,7 +60,7 @@ fn add_dir(found: &mut Vec<u32>, pips: &[Pip], dir: &DirInput) -> Result<(), All
         DirInput::Sealed(number, _, _) => {
             found.push(*number)?;
             match pip_at(pips, *number) {
-                Some(pip) => add_sealed(found, &pip.kind),
+                Some(pip) => add_makers(found, pip.kind.listed()),
                 None => Ok(()),
             }
         }
@@ -108,7 +89,7 @@ fn add_targets(found: &mut Vec<u32>, pips: &[Pip], kind: &PipKind) -> Result<(),
         }
         PipKind::Copy(copy) => add_maker(found, &copy.from),
         PipKind::Write(_) => Ok(()),
-        PipKind::Seal(seal) => add_makers(found, seal.files.files()),
+        PipKind::Seal(seal) => add_makers(found, seal.listed()),
     }
 }
 

@@ -1,8 +1,7 @@
-//! The pip graph: the pips of a build with their dependency edges, reachability, and indexes of outputs and
-//! seals.
+//! The pip graph: the pips of a build with their dependency edges, reachability, and indexes of outputs and seals.
 //!
-//! This crate depends on `pip_model_types`, which it re-exports, on `bx_tree` and on `bx_digest`. Its invariant: the
-//! inputs, the outputs and the reachability that a `Plan` keeps are those of its list of pips, and each seal is
+//! This crate depends on `pip_model_types`, which it re-exports, on `bx_tree` and on `bx_digest`. Its invariant:
+//! the dependencies, the outputs and the reachability in a `Plan` are those of its list of pips, and each seal is
 //! found by the files that it lists, where a pip takes many directories.
 #![tactic(auto)]
 

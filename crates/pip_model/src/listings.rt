@@ -2,12 +2,12 @@
 //! going through all seals.
 ghost use Rattle.std.specs.Prelude.{◌≡◌, ◌++◌, ◌∷◌, [], ◌≤◌, ℕ, List, Contains, length, IfOk, OnOk};
 ghost use Rattle.pip_model.specs.Listings.{HasListingsOf, HasNear, KeepsFound, ListsNear, has_wide as any_wide};
-ghost use Rattle.pip_model.specs.Listings.{is_wide as kind_wide, listed_files};
+ghost use Rattle.pip_model.specs.Listings.{is_wide as kind_wide};
+ghost use Rattle.pip_model_types.specs.Kinds.{listed_files};
 ghost use Rattle.pip_model.specs.Outputs.{found_in};
-ghost use Rattle.bx_tree.specs.FileInputs.{input_path};
 
 use crate::outputs::ByText;
-use bx_tree::{FileInput, Path};
+use bx_tree::FileInput;
 use pip_model_types::{Pip, PipKind};
 use std::alloc::{AllocError, Global};
 
@@ -29,14 +29,6 @@ fn has_wide(pips: &[Pip]) -> bool
     ensures { result ≡ any_wide pips.now }
 {
     pips.iter().any(|pip| is_wide(&pip.kind))
-}
-
-fn path_of(file: &FileInput) -> &Path
-    ensures { result.now ≡ input_path file.entry.now }
-{
-    match file {
-        FileInput::Source(path) | FileInput::Made(path, _) => path,
-    }
 }
 
 // Notes a pip at the text of each path above that with this text.
@@ -63,7 +55,7 @@ fn add_file(
     ensures kept { OnOk result (KeepsFound found.old.table found.new.table) }
     ensures near { OnOk result (HasNear (file.now ∷ []) number found.new.table) }
 {
-    let text = path_of(file).text().as_bytes();
+    let text = file.path().text().as_bytes();
     add_above(found, alloc, number, text)?;
     found.note(alloc, number, text)?;
     Ok(())
@@ -90,10 +82,7 @@ fn add_pip(found: &mut ByText, alloc: Global, number: u32, kind: &PipKind) -> Re
     ensures kept { OnOk result (KeepsFound found.old.table found.new.table) }
     ensures near { OnOk result (HasNear (listed_files kind.now) number found.new.table) }
 {
-    match kind {
-        PipKind::Seal(seal) => add_files(found, alloc, number, seal.files.files()),
-        PipKind::Process(_) | PipKind::Copy(_) | PipKind::Write(_) => Ok(()),
-    }
+    add_files(found, alloc, number, kind.listed())
 }
 
 // The seals by the paths at and above the files that they list.

@@ -6,17 +6,11 @@ ghost use Rattle.pip_model.specs.Edges.{Produces};
 use bx_tree::Path;
 use pip_model_types::{OutDir, PipKind};
 
-fn is_same_path(a: &Path, b: &Path) -> bool
-    ensures { IsTrue result ↔ (a.now ≡ b.now) }
-{
-    a == b
-}
-
 fn is_console(console: &Option<Path>, path: &Path) -> bool
     ensures { IsTrue result ↔ (console.now ≡ Some path.now) }
 {
     match console {
-        Some(console) => is_same_path(console, path),
+        Some(console) => console.is_same(path),
         None => false,
     }
 }
@@ -37,8 +31,8 @@ pub(crate) fn produces(kind: &PipKind, path: &Path) -> bool
                 || is_console(&process.console, path)
                 || is_below_any(process.outdirs.dirs(), path)
         }
-        PipKind::Copy(copy) => is_same_path(&copy.to, path),
-        PipKind::Write(write) => is_same_path(&write.to, path),
+        PipKind::Copy(copy) => copy.to.is_same(path),
+        PipKind::Write(write) => write.to.is_same(path),
         PipKind::Seal(_) => false,
     }
 }

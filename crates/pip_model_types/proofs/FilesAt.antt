@@ -1,31 +1,15 @@
 -- The file at a path, in lists that rise by path.
 use Rattle.std.proofs.Common.{append_assoc, append-nil, length-append, ◌++◌, inl, inr, ◌≡◌, ◌≢◌, ℕ, ◌<◌, cond, List, [], ◌∷◌, length, get_or, map, refl, ap, sym, ◌∙◌, subst, arith, Some, None, zero, suc}
-use Rattle.std.specs.declared.cmp.Ordering.TheVariants.{Less}
 use Rattle.std.specs.List.{All, AllByRecursion, Contains, HoldsAt, zip}
-use Rattle.std.specs.List.Sorted.{IsStrictlySortedBy}
-use Rattle.std.specs.Ordering.{is_eq}
 use Rattle.std.proofs.lemmas.Bool.{cases_Bool}
 use Rattle.std.proofs.lemmas.List.{length-map, get_or-map}
 use Rattle.std.proofs.lemmas.List.Elements.{All-contains, All-map, recursion_from_All}
-use Rattle.std.proofs.lemmas.Map.Keys.{sorted_tail, Less-from_sorted}
-use Rattle.bx_tree.specs.Orders.{path_cmp_matches, same_path_decides}
-use Rattle.bx_tree.specs.Paths.{Atoms, path_cmp, same_path}
+use Rattle.bx_tree.specs.Orders.{same_path_decides}
+use Rattle.bx_tree.specs.Paths.{Atoms, same_path}
 use Rattle.bx_tree.specs.Trees.{Files, file_at, paths_of}
+use Rattle.bx_tree.proofs.FileSearch.{file_at-found}
 use Rattle.pip_model_types.specs.Made.{RisingFiles, made_files}
 use Rattle.pip_model_types.specs.declared.made.MadeFile.{MadeFile}
-
-file_at-found : (fs : Files) (p : Atoms) (i : ℕ) (d : Atoms × List ℕ) → IsStrictlySortedBy path_cmp (paths_of fs) → i < length fs
-    → (get_or fs i d).0 ≡ p → file_at fs p ≡ Some (get_or fs i d).1
-file_at-found [] p i d up l e = absurd (omega (arith, l))
-file_at-found (f ∷ fs) p zero d up l e = ap (λ b. cond b (Some f.1) (file_at fs p)) ((same_path_decides f.0 p).1 e)
-file_at-found (f ∷ fs) p (suc i) d up l e =
-    let in' : i < length fs = omega (arith, l) in
-    let in'' : suc i < length (paths_of (f ∷ fs)) = omega (arith, l, length-map fs (λ (g : Atoms × List ℕ). g.0)) in
-    let rises = Less-from_sorted path_cmp (paths_of (f ∷ fs)) 0 (suc i) d.0 up (omega arith) in'' in
-    let same = get_or-map (λ (g : Atoms × List ℕ). g.0) fs i d d.0 in' in
-    let less : path_cmp f.0 p ≡ Less = subst (λ q. path_cmp f.0 q ≡ Less) (same ∙ e) rises in
-    ap (λ b. cond b (Some f.1) (file_at fs p)) (path_cmp_matches f.0 p ∙ ap is_eq less)
-    ∙ file_at-found fs p i d (sorted_tail path_cmp f.0 (paths_of fs) up) in' e
 
 file_at-none : (fs : Files) (p : Atoms) → AllByRecursion (λ q. q ≢ p) (paths_of fs) → file_at fs p ≡ None
 file_at-none [] p h = refl

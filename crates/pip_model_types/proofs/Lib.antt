@@ -1,4 +1,4 @@
 pub mod Placed
 pub mod FilesAt
 pub mod SetsOf
-pub mod AnyOf
+pub mod SameFiles

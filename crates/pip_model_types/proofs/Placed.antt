@@ -8,14 +8,15 @@ use Rattle.std.specs.Result.{MatchResult, result_ok, is_ok}
 use Rattle.std.specs.Option.{MatchOption}
 use Rattle.std.specs.Prelude.{IsTrue, ◌↔◌}
 use Rattle.std.proofs.lemmas.List.Elements.{All-contains}
-use Rattle.std.specs.Ordering.{is_lt, is_eq, ordering_reverse}
+use Rattle.std.specs.Ordering.{is_lt, ordering_reverse}
 use Rattle.std.proofs.lemmas.Bool.{cases_lt, false≢true}
 use Rattle.std.proofs.lemmas.Cmp.{tied_itself}
 use Rattle.std.proofs.lemmas.List.{length-map, get_or-map}
 use Rattle.std.proofs.lemmas.List.Sorted.{searchable_from_sorted, IsPermutation-map}
 use Rattle.std.proofs.lemmas.Map.Keys.{Less-from_sorted, apart_from_distinct, sorted_from_all_adjacent, IsDistinct-IsPermutation}
-use Rattle.bx_tree.specs.Orders.{equal_paths, path_cmp_total, path_cmp_matches, same_path_equiv}
+use Rattle.bx_tree.specs.Orders.{equal_paths, path_cmp_total, same_path_equiv}
 use Rattle.bx_tree.specs.Paths.{Atoms, path_cmp, same_path}
+use Rattle.bx_tree.proofs.FileSearch.{strict}
 
 -- ## A search
 
@@ -28,7 +29,7 @@ sorted_keys key xs up k d low l =
     let less = rw (get_or-map key xs k d [] (omega arith), get_or-map key xs (k + 1) d [] l) at rises in
     ap is_lt (path_cmp_total.antisymm (key (get_or xs (k + 1) d)) (key (get_or xs k d)) ∙ ap ordering_reverse less)
 
-not_level : (p q : Atoms) (o : Ordering) → (o ≡ Equal → ⊥) → path_cmp p q ≡ o → p ≡ q → ⊥
+pub not_level : (p q : Atoms) (o : Ordering) → (o ≡ Equal → ⊥) → path_cmp p q ≡ o → p ≡ q → ⊥
 not_level p q o n h e = n (sym h ∙ subst (λ r. path_cmp p r ≡ Equal) e (tied_itself path_cmp_total p))
 
 pub place_from_search : {X : Type 0} (key : X → Atoms) (xs : List X) (p : Atoms) (r : Result ℕ ℕ) → IsStrictlySortedBy path_cmp (map key xs)
@@ -43,11 +44,6 @@ place_from_search key xs p (Err i) up l h =
     ]
 
 -- ## A sort
-
-strict : (a b : Atoms) (o : Ordering) → path_cmp a b ≡ o → is_lt (path_cmp b a) ≡ false → same_path a b ≡ false → o ≡ Less
-strict a b Less e h k = refl
-strict a b Equal e h k = absurd (false≢true (sym k ∙ path_cmp_matches a b ∙ ap is_eq e))
-strict a b Greater e h k = absurd (false≢true (sym h ∙ ap is_lt (path_cmp_total.antisymm b a ∙ ap ordering_reverse e)))
 
 adjacent : {X : Type 0} (key : X → Atoms) (ys : List X) → IsDistinct same_path (map key ys)
     → IsSortedBy (λ (a b : X). is_lt (path_cmp (key a) (key b))) ys
@@ -85,6 +81,8 @@ pub contains_if_found : (xs : List Atoms) (p : Atoms) (r : Result ℕ ℕ)
 contains_if_found xs p (Ok i) h = (λ e. (i, h.0, h.1 p), λ k. refl)
 contains_if_found xs p (Err i) h = (λ e. absurd (false≢true e), λ k. absurd (All-contains (λ (x : Atoms). x ≢ p) xs p h k refl))
 
-pub map_itself : (ps : List Atoms) → map (λ (p : Atoms). p) ps ≡ ps
-map_itself [] = refl
-map_itself (p ∷ ps) = ap (λ qs. p ∷ qs) (map_itself ps)
+-- ## No paths
+
+pub no_files_rise : IsStrictlySortedBy path_cmp []
+unfolding IsStrictlySortedBy
+no_files_rise = tt

@@ -3,16 +3,19 @@ use Rattle.std.proofs.Common.{◌≡◌, ◌==◌, true, false, Bool, List, refl
 use Rattle.std.specs.Prelude.{Contains}
 use Rattle.std.specs.declared.cmp.Ordering.{Ordering}
 use Rattle.std.proofs.lemmas.Bool.{and_parts, eqb-true}
+use Rattle.std.specs.Ordering.{is_eq}
+use Rattle.std.specs.declared.cmp.Ordering.TheVariants.{Equal}
 use Rattle.bx_tree.specs.Orders.{same_path_decides}
 use Rattle.bx_tree.specs.Paths.{Atoms, same_path}
-use Rattle.pip_model_types.specs.Sets.{IsSetOf, IsSetUpTo}
-use Rattle.pip_model_types.specs.Dirs.{same_dir, dir_path, dir_pip, form_rank, seal_rank}
-use Rattle.pip_model_types.specs.Outputs.{same_outdir, sharing_rank}
+use Rattle.bx_tree.specs.Sets.{IsSetOf, IsSetUpTo}
+use Rattle.pip_model_types.specs.Dirs.{same_dir, dir_path, dir_pip, form_rank, seal_rank, dir_cmp}
+use Rattle.pip_model_types.specs.Outputs.{same_outdir, sharing_rank, outdir_cmp}
 use Rattle.pip_model_types.specs.declared.dir_inputs.SealForm.{SealForm}
 use Rattle.pip_model_types.specs.declared.dir_inputs.SealForm.TheVariants.{Full, Partial, SourceTop, SourceAll}
 use Rattle.pip_model_types.specs.declared.dir_inputs.DirInput.{DirInput}
 use Rattle.pip_model_types.specs.declared.dir_inputs.DirInput.TheVariants.{Sealed, Opaque}
 use Rattle.pip_model_types.specs.declared.outputs.OutDir.{OutDir}
+use Rattle.pip_model_types.specs.Orders.{dir_cmp_matches, outdir_cmp_matches}
 
 pub set_from_up_to : {K : Type 0} (E : K → K → Bool) (R : K → K → Ordering) (given set : List K) → ((x y : K) → E x y ≡ true → x ≡ y)
     → IsSetUpTo E R given set → IsSetOf R given set
@@ -63,3 +66,11 @@ same_outdir_exact x y e =
     let shared = sharing_rank-injective x.shared y.shared (eqb-true _ _ h.1) in
     ap (λ (p : Atoms). let d : OutDir = record { path = p; shared = x.shared } in d) path
     ∙ ap (λ (s : Bool). let d : OutDir = record { path = y.path; shared = s } in d) shared
+
+-- directories that tie in their order are equal
+pub equal_dirs : (x y : DirInput) → dir_cmp x y ≡ Equal → x ≡ y
+equal_dirs x y e = same_dir_exact x y (dir_cmp_matches x y ∙ ap is_eq e)
+
+-- output directories that tie in their order are equal
+pub equal_outdirs : (x y : OutDir) → outdir_cmp x y ≡ Equal → x ≡ y
+equal_outdirs x y e = same_outdir_exact x y (outdir_cmp_matches x y ∙ ap is_eq e)

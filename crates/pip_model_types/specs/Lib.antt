@@ -1,7 +1,6 @@
 pub mod Args
 pub mod Inputs
 pub mod Dirs
-pub mod Sets
 pub mod Outputs
 pub mod Orders
 pub mod Makers

@@ -1,15 +1,16 @@
 //! The directories that a process takes.
-ghost use Rattle.std.specs.Prelude.{◌≡◌};
+ghost use Rattle.std.specs.Prelude.{◌≡◌, IfOk};
 ghost use Rattle.std.specs.Ordering.{as_partial_cmp};
 ghost use Rattle.std.proofs.Common.{rules};
+ghost use Rattle.bx_tree.specs.Sets.{IsSetOf};
 ghost use Rattle.pip_model_types.specs.Dirs.{RiseByForm, dir_cmp, dir_path, dir_pip, form_rank, same_dir};
 ghost use Rattle.pip_model_types.specs.Dirs.{seal_rank};
-ghost use Rattle.pip_model_types.specs.Sets.{IsSetOf};
 ghost use Rattle.pip_model_types.specs.Orders.{dir_cmp_matches, dir_cmp_partial, dir_cmp_total, same_dir_equiv};
 ghost use Rattle.pip_model_types.specs.Orders.{same_dir_partial};
 
 use crate::sets::in_order;
 use bx_tree::Path;
+use std::alloc::AllocError;
 use std::cmp::Ordering;
 use std::marker::Model;
 
@@ -50,25 +51,6 @@ impl Model for DirInputs {
     ghost invariant = { λ d. RiseByForm d.dirs.items };
 }
 
-// The path of a directory.
-fn path_of(dir: &DirInput) -> &Path
-    ensures { result.now ≡ dir_path dir.now }
-{
-    match dir {
-        DirInput::Sealed(_, _, root) => root,
-        DirInput::Opaque(_, path) => path,
-    }
-}
-
-// The pip whose directory this is.
-fn pip_of(dir: &DirInput) -> u32
-    ensures { result ≡ dir_pip dir.now }
-{
-    match dir {
-        DirInput::Sealed(pip, _, _) | DirInput::Opaque(pip, _) => *pip,
-    }
-}
-
 fn rank_of_form(form: SealForm) -> u8
     ensures { result ≡ seal_rank form }
 {
@@ -80,12 +62,44 @@ fn rank_of_form(form: SealForm) -> u8
     }
 }
 
-fn rank_of(dir: &DirInput) -> u8
-    ensures { result ≡ form_rank dir.now }
-{
-    match dir {
-        DirInput::Sealed(_, form, _) => rank_of_form(*form),
-        DirInput::Opaque(_, _) => 4,
+impl DirInput {
+    /// The path of the directory.
+    pub fn path(&self) -> &Path
+        ensures { result.now ≡ dir_path self.now }
+    {
+        match self {
+            DirInput::Sealed(_, _, root) => root,
+            DirInput::Opaque(_, path) => path,
+        }
+    }
+
+    /// The pip whose directory this is.
+    pub fn pip(&self) -> u32
+        ensures { result ≡ dir_pip self.now }
+    {
+        match self {
+            DirInput::Sealed(pip, _, _) | DirInput::Opaque(pip, _) => *pip,
+        }
+    }
+
+    /// The place of its form, from 0: full, partial, top, all, opaque.
+    pub fn rank(&self) -> u8
+        ensures { result ≡ form_rank self.now }
+    {
+        match self {
+            DirInput::Sealed(_, form, _) => rank_of_form(*form),
+            DirInput::Opaque(_, _) => 4,
+        }
+    }
+
+    /// The directory, with its path shared.
+    pub fn share(&self) -> Result<DirInput, AllocError>
+        ensures { IfOk result (λ shared. shared ≡ self.now) }
+    {
+        match self {
+            DirInput::Sealed(pip, form, root) => Ok(DirInput::Sealed(*pip, *form, root.share()?)),
+            DirInput::Opaque(pip, path) => Ok(DirInput::Opaque(*pip, path.share()?)),
+        }
     }
 }
 
@@ -95,9 +109,7 @@ impl PartialEq for DirInput {
     ghost laws = { same_dir_partial };
 
     fn eq(&self, other: &DirInput) -> bool {
-        path_of(self) == path_of(other)
-            && rank_of(self) == rank_of(other)
-            && pip_of(self) == pip_of(other)
+        self.path() == other.path() && self.rank() == other.rank() && self.pip() == other.pip()
     }
 }
 
@@ -115,10 +127,10 @@ impl Ord for DirInput {
     ghost matches_eq = { dir_cmp_matches };
 
     fn cmp(&self, other: &DirInput) -> Ordering {
-        path_of(self)
-            .cmp(path_of(other))
-            .then(rank_of(self).cmp(&rank_of(other)))
-            .then(pip_of(self).cmp(&pip_of(other)))
+        self.path()
+            .cmp(other.path())
+            .then(self.rank().cmp(&other.rank()))
+            .then(self.pip().cmp(&other.pip()))
     }
 }
 

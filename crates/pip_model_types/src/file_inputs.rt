@@ -1,5 +1,5 @@
 //! The files that a pip takes.
-ghost use Rattle.std.specs.Prelude.{◌≡◌, map};
+ghost use Rattle.std.specs.Prelude.{◌≡◌, ◌↔◌, [], IsTrue, Contains, map};
 ghost use Rattle.std.specs.List.{IsDistinct};
 ghost use Rattle.std.specs.List.Sorted.{IsPermutation};
 ghost use Rattle.bx_tree.specs.Paths.{same_path};
@@ -27,14 +27,6 @@ impl Model for FileInputs {
     ghost invariant = { λ f. RiseByPath f.files.items };
 }
 
-fn path_of(file: &FileInput) -> &Path
-    ensures { result.now ≡ input_path file.now }
-{
-    match file {
-        FileInput::Source(path) | FileInput::Made(path, _) => path,
-    }
-}
-
 // The files in the order of their paths.
 fn by_path(files: Vec<FileInput>) -> Vec<FileInput>
     requires { IsDistinct same_path (map input_path files.items) }
@@ -42,8 +34,24 @@ fn by_path(files: Vec<FileInput>) -> Vec<FileInput>
     ensures rising { RiseByPath result.items }
 {
     let mut files = files;
-    files.sort_unstable_by(|a, b| path_of(a).cmp(path_of(b)));
+    files.sort_unstable_by(|a, b| a.path().cmp(b.path()));
     files
+}
+
+/// No files.
+pub fn no_inputs<'a>() -> &'a [FileInput]
+    ensures files { result.now ≡ [] }
+    ensures rising { RiseByPath result.now }
+{
+    &[]
+}
+
+// Whether one of these files has a path.
+fn has_file(files: &[FileInput], path: &Path) -> bool
+    requires { RiseByPath files.now }
+    ensures { IsTrue result ↔ Contains (map input_path files.now) path.now }
+{
+    files.binary_search_by(|file| file.path().cmp(path)).is_ok()
 }
 
 impl FileInputs {
@@ -64,6 +72,13 @@ impl FileInputs {
         ensures rising { RiseByPath self.now }
     {
         self.files.as_slice()
+    }
+
+    /// Whether one of the files has a path.
+    pub fn has_path(&self, path: &Path) -> bool
+        ensures { IsTrue result ↔ Contains (map input_path self.now) path.now }
+    {
+        has_file(self.files(), path)
     }
 
     /// The files, in order, as a vector.

@@ -1,10 +1,10 @@
 //! Whether what a pip names as made is made by an earlier pip.
-ghost use Rattle.std.specs.Prelude.{◌≡◌, ◌↔◌, IsTrue, MatchOption, All, Any, slice_get};
+ghost use Rattle.std.specs.Prelude.{◌≡◌, ◌↔◌, IsTrue, All, Any};
 ghost use Rattle.pip_model_types.specs.Makers.{FitsAfter, HasOutDir, IsDirAmong, IsFileAmong, IsSealOf, MakesFile};
 
 use crate::dir_inputs::{DirInput, SealForm};
 use crate::outputs::OutDir;
-use crate::pip::{Pip, PipKind};
+use crate::pip::{Pip, PipKind, pip_at};
 use bx_tree::{FileInput, Path};
 
 fn makes_file(kind: &PipKind, path: &Path) -> bool
@@ -12,16 +12,10 @@ fn makes_file(kind: &PipKind, path: &Path) -> bool
 {
     match kind {
         PipKind::Process(process) => process.outs.has(path),
-        PipKind::Copy(copy) => is_same_path(&copy.to, path),
-        PipKind::Write(write) => is_same_path(&write.to, path),
+        PipKind::Copy(copy) => copy.to.is_same(path),
+        PipKind::Write(write) => write.to.is_same(path),
         PipKind::Seal(_) => false,
     }
-}
-
-fn is_same_path(a: &Path, b: &Path) -> bool
-    ensures { IsTrue result ↔ (a.now ≡ b.now) }
-{
-    a == b
 }
 
 fn is_same_form(a: SealForm, b: SealForm) -> bool
@@ -34,7 +28,7 @@ fn is_seal_of(kind: &PipKind, form: SealForm, root: &Path) -> bool
     ensures { IsTrue result ↔ IsSealOf form root.now kind.now }
 {
     match kind {
-        PipKind::Seal(seal) => is_same_form(seal.form, form) && is_same_path(&seal.root, root),
+        PipKind::Seal(seal) => is_same_form(seal.form, form) && seal.root.is_same(root),
         _ => false,
     }
 }
@@ -42,7 +36,7 @@ fn is_seal_of(kind: &PipKind, form: SealForm, root: &Path) -> bool
 fn is_outdir(dirs: &[OutDir], path: &Path) -> bool
     ensures { IsTrue result ↔ Any (λ dir. dir.path ≡ path.now) dirs.now }
 {
-    dirs.iter().any(|dir| is_same_path(&dir.path, path))
+    dirs.iter().any(|dir| dir.path.is_same(path))
 }
 
 fn has_outdir(kind: &PipKind, path: &Path) -> bool
@@ -52,15 +46,6 @@ fn has_outdir(kind: &PipKind, path: &Path) -> bool
         PipKind::Process(process) => is_outdir(process.outdirs.dirs(), path),
         _ => false,
     }
-}
-
-// The pip with a number, if there is one.
-fn pip_at(pips: &[Pip], number: u32) -> Option<&Pip>
-    ensures { MatchOption result
-        (slice_get pips.now number ≡ None)
-        (λ pip. slice_get pips.now number ≡ Some pip.now) }
-{
-    pips.get(number as usize)
 }
 
 fn is_file_among(pips: &[Pip], file: &FileInput) -> bool

@@ -1,10 +1,9 @@
 //! The data model of pips: processes, copies, writes and seals, with their inputs and outputs.
 //!
-//! A pip is one step of a build: a process, a copied file, a written file or a sealed directory. This
-//! crate has the types of pips, the list of all pips in the order in which they were made, the source
-//! files by path, the files that a pip made, and a process with the contents of its files. It depends on
-//! `bx_tree` and `bx_digest`. Its invariant: in a `PipList`, what a pip names as made is made by that
-//! smaller pip.
+//! This crate has the types of pips, the list of all pips in the order in which they were added, the source files
+//! by path, the outputs of a pip, and a process with the contents of its files. It depends on `bx_tree` and
+//! `bx_digest`. Its invariant: in a `PipList`, an output that a pip takes is produced by the earlier pip that it
+//! names.
 #![tactic(auto)]
 
 mod args;
@@ -20,14 +19,12 @@ mod sets;
 mod sources;
 
 pub use args::{Arguments, EnvPair, Variables};
+pub use bx_tree::Memory;
 pub use desc::Desc;
 pub use dir_inputs::{DirInput, DirInputs, SealForm};
-pub use file_inputs::FileInputs;
+pub use file_inputs::{FileInputs, no_inputs};
 pub use made::{Made, MadeFile, Slot};
-pub use outputs::{OutDir, OutDirs, Outputs};
-pub use pip::{CopyDesc, Pip, PipKind, ProcessDesc, SealDesc, WriteDesc};
+pub use outputs::{OutDir, OutDirs, Outputs, is_console};
+pub use pip::{CopyDesc, Pip, PipKind, ProcessDesc, SealDesc, WriteDesc, pip_at};
 pub use pip_list::PipList;
 pub use sources::Sources;
-
-/// Out of memory, the one refusal that no contract ties to a cause.
-pub type Memory = std::alloc::AllocError;

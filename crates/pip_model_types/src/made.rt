@@ -10,6 +10,7 @@ ghost use Rattle.pip_model_types.specs.Made.{RisingFiles, made_files};
 use bx_digest::Blob;
 use bx_tree::Path;
 use std::alloc::{AllocError, Global};
+use std::collections::BTreeMap;
 use std::marker::Model;
 use std::sync::Arc;
 
@@ -50,6 +51,13 @@ impl Made {
         })
     }
 
+    /// The files of a map by path.
+    pub fn of_map(alloc: Global, files: BTreeMap<Path, Blob>) -> Result<Made, AllocError>
+        ensures { IfOk result (λ made. made ≡ files.entries) }
+    {
+        Made::of(alloc, files_of(alloc, files)?)
+    }
+
     /// The files, in order.
     pub fn files(&self) -> &[MadeFile]
         ensures files { made_files result.now ≡ self.now }
@@ -78,6 +86,17 @@ impl Made {
             files: self.files.clone()?,
         })
     }
+}
+
+// The files of a map by path, in order.
+fn files_of(alloc: Global, files: BTreeMap<Path, Blob>) -> Result<Vec<MadeFile>, AllocError>
+    ensures files { IfOk result (λ made. made_files made.items ≡ files.entries) }
+    ensures rising { RisingFiles files.entries }
+{
+    files
+        .into_iter()
+        .map(|(path, blob)| MadeFile { path, blob })
+        .collect(alloc)
 }
 
 fn place_of(files: &[MadeFile], path: &Path) -> Option<usize>

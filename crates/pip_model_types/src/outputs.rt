@@ -1,16 +1,19 @@
 //! What a process declares to make.
-ghost use Rattle.std.specs.Prelude.{◌≡◌, ◌↔◌, IsTrue, Contains};
+ghost use Rattle.std.specs.Prelude.{◌≡◌, ◌↔◌, IsTrue, IfOk, Contains};
+ghost use Rattle.std.specs.List.{list_any};
 ghost use Rattle.std.specs.List.Sorted.{IsStrictlySortedBy};
 ghost use Rattle.std.specs.Ordering.{as_partial_cmp};
 ghost use Rattle.std.proofs.Common.{rules};
-ghost use Rattle.bx_tree.specs.Paths.{path_cmp};
-ghost use Rattle.pip_model_types.specs.Outputs.{outdir_cmp, same_outdir};
-ghost use Rattle.pip_model_types.specs.Sets.{IsSetOf};
+ghost use Rattle.bx_tree.specs.Below.{is_below};
+ghost use Rattle.bx_tree.specs.Paths.{has_path, path_cmp};
+ghost use Rattle.bx_tree.specs.Sets.{IsSetOf};
+ghost use Rattle.pip_model_types.specs.Outputs.{is_console, outdir_cmp, same_outdir};
 ghost use Rattle.pip_model_types.specs.Orders.{outdir_cmp_matches, outdir_cmp_partial, outdir_cmp_total};
 ghost use Rattle.pip_model_types.specs.Orders.{same_outdir_equiv, same_outdir_partial};
 
 use crate::sets::in_order;
 use bx_tree::Path;
+use std::alloc::AllocError;
 use std::cmp::Ordering;
 use std::marker::Model;
 
@@ -52,9 +55,20 @@ impl Outputs {
 
     /// Whether a path is one of these.
     pub fn has(&self, path: &Path) -> bool
-        ensures { IsTrue result ↔ Contains self.now path.now }
+        ensures member { IsTrue result ↔ Contains self.now path.now }
+        ensures value { result ≡ has_path self.now path.now }
     {
         self.paths().binary_search(path).is_ok()
+    }
+}
+
+/// Whether a path is that of the file of a console, if there is one.
+pub fn is_console(console: &Option<Path>, path: &Path) -> bool
+    ensures { result ≡ is_console console.now path.now }
+{
+    match console {
+        Some(file) => *file == *path,
+        None => false,
     }
 }
 
@@ -63,6 +77,18 @@ impl Outputs {
 pub struct OutDir {
     pub path: Path,
     pub shared: bool,
+}
+
+impl OutDir {
+    /// The directory, with its path shared.
+    pub fn share(&self) -> Result<OutDir, AllocError>
+        ensures { IfOk result (λ shared. shared ≡ self.now) }
+    {
+        Ok(OutDir {
+            path: self.path.share()?,
+            shared: self.shared,
+        })
+    }
 }
 
 impl PartialEq for OutDir {
@@ -124,6 +150,13 @@ impl Model for OutDirs {
     ghost invariant = { λ d. IsStrictlySortedBy outdir_cmp d.dirs.items };
 }
 
+// Whether a path lies strictly below one of these directories.
+fn is_below_any(dirs: &[OutDir], path: &Path) -> bool
+    ensures { result ≡ list_any (λ dir. is_below path.now dir.path) dirs.now }
+{
+    dirs.iter().any(|dir| path.is_below(&dir.path))
+}
+
 impl OutDirs {
     /// These directories, each once.
     pub fn of(dirs: Vec<OutDir>) -> OutDirs
@@ -132,6 +165,13 @@ impl OutDirs {
         OutDirs {
             dirs: in_order(dirs),
         }
+    }
+
+    /// Whether a path lies strictly below one of these directories.
+    pub fn any_above(&self, path: &Path) -> bool
+        ensures { result ≡ list_any (λ dir. is_below path.now dir.path) self.now }
+    {
+        is_below_any(self.dirs(), path)
     }
 
     /// The directories, in order.

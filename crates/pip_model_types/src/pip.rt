@@ -1,7 +1,11 @@
 //! Pips: the steps of a build.
+ghost use Rattle.std.specs.Prelude.{◌≡◌, None, Some, MatchOption, slice_get};
+ghost use Rattle.pip_model_types.specs.Inputs.{RiseByPath};
+ghost use Rattle.pip_model_types.specs.Kinds.{form_files, listed_files};
+
 use crate::args::{Arguments, Variables};
 use crate::dir_inputs::{DirInputs, SealForm};
-use crate::file_inputs::FileInputs;
+use crate::file_inputs::{FileInputs, no_inputs};
 use crate::outputs::{OutDirs, Outputs};
 use bx_tree::{FileInput, Path, Text};
 
@@ -43,6 +47,19 @@ pub struct SealDesc {
     pub files: FileInputs,
 }
 
+impl SealDesc {
+    /// The files that the seal lists, in order: none, where it is one of source files.
+    pub fn listed(&self) -> &[FileInput]
+        ensures files { result.now ≡ form_files self.now.form self.now.files }
+        ensures rising { RiseByPath result.now }
+    {
+        match self.form {
+            SealForm::Full | SealForm::Partial => self.files.files(),
+            SealForm::SourceTop | SealForm::SourceAll => no_inputs(),
+        }
+    }
+}
+
 /// What a pip does.
 #[derive(Drop)]
 pub enum PipKind {
@@ -52,9 +69,31 @@ pub enum PipKind {
     Seal(SealDesc),
 }
 
+impl PipKind {
+    /// The files that the pip lists, in order: none, where it is no full or partial seal.
+    pub fn listed(&self) -> &[FileInput]
+        ensures files { result.now ≡ listed_files self.now }
+        ensures rising { RiseByPath result.now }
+    {
+        match self {
+            PipKind::Seal(seal) => seal.listed(),
+            PipKind::Process(_) | PipKind::Copy(_) | PipKind::Write(_) => no_inputs(),
+        }
+    }
+}
+
 /// A step of a build, with the specification file that asked for it.
 #[derive(Drop)]
 pub struct Pip {
     pub spec: Path,
     pub kind: PipKind,
+}
+
+/// The pip with a number, if there is one.
+pub fn pip_at(pips: &[Pip], number: u32) -> Option<&Pip>
+    ensures { MatchOption result
+        (slice_get pips.now number ≡ None)
+        (λ pip. slice_get pips.now number ≡ Some pip.now) }
+{
+    pips.get(number as usize)
 }

@@ -1,6 +1,6 @@
 //! Vectors in rising order, each element once.
 ghost use Rattle.std.specs.Prelude.{◌≡◌, true};
-ghost use Rattle.pip_model_types.specs.Sets.{IsSetUpTo};
+ghost use Rattle.bx_tree.specs.Sets.{IsSetUpTo};
 
 // The elements in rising order, each once.
 pub(crate) fn in_order<T: Ord + Drop>(items: Vec<T>) -> Vec<T>

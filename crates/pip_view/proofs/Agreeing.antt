@@ -2,7 +2,7 @@
 use Rattle.std.proofs.Common.{◌≡◌, ℕ, Bool, ◌||◌, List, ◌∷◌, ◌++◌, filter, map, Option, Some, None, refl, ap, ◌∙◌}
 use Rattle.std.specs.Prelude.{is_some}
 use Rattle.std.specs.List.{flat_map}
-use Rattle.bx_tree.specs.Paths.{Atoms}
+use Rattle.bx_tree.specs.Paths.{Atoms, is_root}
 use Rattle.bx_tree.specs.Trees.{Files, file_at}
 use Rattle.observed.specs.declared.access.Answer.{Answer}
 use Rattle.observed.specs.declared.access.Answer.TheVariants as answers
@@ -18,7 +18,7 @@ use Rattle.pip_view.specs.Agreement.{ViewAgrees}
 use Rattle.pip_view_inputs.specs.Contents.{bytes_at, input_file}
 use Rattle.pip_view.specs.InputFiles.{by_pip, dir_members, is_listed, is_opaque, process_files, source_members}
 use Rattle.pip_view_inputs.specs.Results.{ByPip}
-use Rattle.pip_view.specs.Sees.{answer_at, is_root, kind_sees, looked, pip_sees}
+use Rattle.pip_view.specs.Sees.{answer_at, kind_sees, looked, pip_sees}
 use Rattle.pip_view.proofs.SourceMembers.{at_both, or_else}
 
 module _ (pips : List Pip) (tree : Files) (made : ByPip) (d : ProcessDesc) (path : Atoms) where

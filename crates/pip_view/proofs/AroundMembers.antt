@@ -3,16 +3,17 @@ use Rattle.std.proofs.Common.{◌≡◌, ℕ, ◌≤◌, Bool, true, false, ◌|
 use Rattle.std.specs.Prelude.{Any, Contains, IfSome, slice_get}
 use Rattle.std.specs.List.{AllByRecursion, cons_option, list_any}
 use Rattle.std.specs.Option.{unwrap_or}
-use Rattle.std.proofs.lemmas.Bool.{cases_Bool, false≢true, le-leb, leb-false, leb-true}
+use Rattle.std.proofs.lemmas.Bool.{cases_Bool, false≢true, le-leb, leb-false, leb-true, or_cases}
 use Rattle.std.proofs.lemmas.List.Folds.{Any-from_list_any, list_any-from_Any}
 use Rattle.std.proofs.lemmas.List.Kept.{IsStrictlySortedBy-filter}
+use Rattle.std.specs.Cmp.{both_ways}
 use Rattle.bx_tree.specs.Orders.{same_path_decides}
 use Rattle.bx_tree.specs.Paths.{Atoms, IsBelow, same_path}
 use Rattle.bx_tree.specs.Trees.{Files, file_at}
-use Rattle.tool_run_writes.specs.Below.{is_below, next_atom}
+use Rattle.bx_tree.specs.Below.{is_below, is_directly_in, next_atom}
 use Rattle.tool_run_writes.specs.Writes.{has_below, own_names}
-use Rattle.tool_run_writes.proofs.BelowByAtoms.{below_decides}
-use Rattle.tool_run_writes.proofs.NextAtoms.{none_next}
+use Rattle.bx_tree.proofs.BelowPaths.{below_decides}
+use Rattle.bx_tree.proofs.AtomsBelow.{none_next}
 use Rattle.pip_view_inputs.specs.Results.{ByPip, files_by}
 use Rattle.violations.specs.Producing.{dirs_at}
 use Rattle.pip_model_types.specs.Dirs.{RiseByForm, dir_cmp, dir_path, dir_pip}
@@ -23,7 +24,7 @@ use Rattle.pip_view_directories.specs.Around.{AreAround, IsAround}
 use Rattle.pip_view_directories.specs.Ranges.{AreOthers, is_other}
 use Rattle.pip_view_directories.proofs.Rising.{at_head, filter_from, filter_keeps, head_or_rest, in_decides, in_rest, is_in, some_by_test}
 use Rattle.pip_view.specs.Gathered.{members_of, opaque_members, opaque_of}
-use Rattle.pip_view.specs.InputFiles.{by_pip, insert_by_pip, is_directly_in, is_opaque, is_source_of}
+use Rattle.pip_view.specs.InputFiles.{by_pip, insert_by_pip, is_opaque, is_source_of}
 use Rattle.pip_view.specs.Seen.{KeepsView, SearchedAt, ViewData, is_sealed_at, lies_near, opaque_in}
 use Rattle.pip_view.proofs.ByPip.{insert_all}
 use Rattle.pip_view.proofs.NearFiles.{left_out, none_kept}
@@ -168,10 +169,6 @@ from_by_pip (d ∷ ds) x c = elim (head_or_rest d x (by_pip ds) (insert_from d x
 
 -- ## Which directories matter at a path
 
-either_way : (a b : Bool) → (a || b) ≡ true → (a ≡ true) ⊎ (b ≡ true)
-either_way true b e = inl refl
-either_way false b e = inr e
-
 around_from : (path : Atoms) (dir : DirInput) → (path ≡ dir_path dir) ⊎ (is_below path (dir_path dir) ≡ true) → IsAround path dir
 around_from path dir h = elim h [
   | inl same ↦ inl (sym same)
@@ -186,7 +183,7 @@ around_under path dir h = elim h [
 
 member_around : (path : Atoms) (j : ℕ) (root f : Atoms) → is_below f root ≡ true → (same_path f path || is_below f path) ≡ true
     → IsAround path (Opaque j root)
-member_around path j root f inside is = elim (either_way (same_path f path) (is_below f path) is) [
+member_around path j root f inside is = elim (or_cases (same_path f path) (is_below f path) is) [
   | inl same ↦ inr (inl (subst (λ p. IsBelow p root) ((same_path_decides f path).0 same) ((below_decides f root).0 inside)))
   | inr below ↦
       let a = (below_decides f root).0 inside in
@@ -254,15 +251,10 @@ any_into p xs ys into e =
     let (i, m, at) = into x (k, l, is) passes in
     list_any-from_Any p ys (i, x, m, at, passes)
 
-agree : (a b : Bool) → (a ≡ true → b ≡ true) → (b ≡ true → a ≡ true) → a ≡ b
-agree true b h k = sym (h refl)
-agree false true h k = k refl
-agree false false h k = refl
-
 around_sources : (path : Atoms) (dirs others found : List DirInput) → AreOthers dirs others → AreAround others path found
     → list_any (is_source_of path) found ≡ list_any (is_source_of path) dirs
 around_sources path dirs others found are around =
-    agree (list_any (is_source_of path) found) (list_any (is_source_of path) dirs)
+    both_ways (list_any (is_source_of path) found) (list_any (is_source_of path) dirs)
     (any_into (is_source_of path) found dirs (λ d c e. ((are.all d).0 (around.some d c)).0))
     (any_into (is_source_of path) dirs found
     (λ d c e. around.all d ((are.all d).1 (c, source_other path d e)) (source_around path d e)))

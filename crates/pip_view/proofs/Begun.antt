@@ -17,13 +17,13 @@ use Rattle.std.proofs.Math.Seq.{drop-cons}
 use Rattle.bx_tree.specs.Orders.{path_cmp_matches, same_path_decides}
 use Rattle.bx_tree.specs.Paths.{Atoms, path_cmp, path_text, same_path}
 use Rattle.bx_tree.specs.declared.file_input.FileInput.{FileInput}
-use Rattle.tool_run_writes.specs.Below.{is_below, next_atom}
-use Rattle.tool_run_writes.proofs.BelowByAtoms.{below_decides}
-use Rattle.tool_run_writes.proofs.NextAtoms.{none_next}
+use Rattle.bx_tree.specs.Below.{is_below, next_atom}
+use Rattle.bx_tree.proofs.BelowPaths.{below_decides}
+use Rattle.bx_tree.proofs.AtomsBelow.{none_next}
 use Rattle.pip_model_types.specs.Inputs.{RiseByPath}
 use Rattle.pip_view.specs.Taken.{any_below, begins, first_at, taken_names, while_begins}
 use Rattle.pip_view.proofs.TakenFiles.{names_after}
-use Rattle.pip_view.proofs.Together.{before_not_below, between, earlier_before, not_greater, starts_below}
+use Rattle.bx_tree.proofs.SortedRanges.{before_not_below, between, earlier_before, not_greater, starts_below}
 use Rattle.bx_tree.specs.FileInputs.{input_path}
 use Rattle.bx_tree.specs.Ranges.{comes_before, prefix_below}
 
@@ -231,7 +231,3 @@ none_at path (f ∷ fs) h = elim (cases_Bool (same_path (input_path f) path)) [
 
 pub none_found : (path : Atoms) (files : List FileInput) → All (λ f. input_path f ≢ path) files → None ≡ first_at path files
 none_found path files h = sym (none_at path files (recursion_from_All (λ f. input_path f ≢ path) files h))
-
-pub no_files_rise : RiseByPath []
-unfolding IsStrictlySortedBy
-no_files_rise = tt

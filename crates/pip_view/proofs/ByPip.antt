@@ -15,7 +15,8 @@ use Rattle.pip_model_types.specs.declared.dir_inputs.SealForm.TheVariants.{Full,
 use Rattle.pip_model_types.specs.declared.pip.Pip.{Pip}
 use Rattle.pip_view.specs.Gathered.{opaque_members, with_opaque}
 use Rattle.pip_model_types.specs.declared.pip.ProcessDesc.{ProcessDesc}
-use Rattle.pip_view.specs.InputFiles.{by_pip, dir_members, insert_by_pip, is_listed, is_opaque, listed_in, named_files}
+use Rattle.pip_model_types.specs.Kinds.{listed_in}
+use Rattle.pip_view.specs.InputFiles.{by_pip, dir_members, insert_by_pip, is_listed, is_opaque, named_files}
 use Rattle.pip_view.specs.Taken.{dirs_files, taken_bytes, taken_files}
 use Rattle.pip_view_inputs.specs.Contents.{bytes_at, input_file}
 use Rattle.pip_view_inputs.specs.Results.{ByPip}

@@ -5,8 +5,8 @@ use Rattle.std.specs.Option.{option_map_or}
 use Rattle.std.proofs.lemmas.List.{drop_all, map_push}
 use Rattle.std.proofs.Math.Seq.{drop-cons}
 use Rattle.bx_tree.specs.Paths.{Atoms}
-use Rattle.tool_run_writes.specs.Below.{is_below, next_atom}
-use Rattle.pip_view.specs.Ranges.{first_below}
+use Rattle.bx_tree.specs.Below.{is_below, next_atom}
+use Rattle.bx_tree.specs.Ranges.{first_below}
 use Rattle.bx_tree.specs.Lent.{texts_now}
 
 abbrev names_from : Atoms → List Atoms → List (List ℕ)

@@ -6,7 +6,7 @@ use Rattle.std.proofs.lemmas.List.{drop-map, drop_all, get_or-map, length-map}
 use Rattle.bx_tree.specs.Paths.{Atoms, path_cmp}
 use Rattle.bx_tree.specs.Trees.{paths_of}
 use Rattle.bx_tree.specs.declared.file_input.FileInput.{FileInput}
-use Rattle.tool_run_writes.specs.Below.{is_below, next_atom}
+use Rattle.bx_tree.specs.Below.{is_below, next_atom}
 use Rattle.tool_run_writes.specs.Writes.{has_below, own_names}
 use Rattle.pip_model_types.specs.Inputs.{RiseByPath}
 use Rattle.pip_model_types.specs.Made.{RisingFiles, made_files}

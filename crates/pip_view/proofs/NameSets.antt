@@ -6,10 +6,9 @@ use Rattle.std.specs.List.Sorted.{IsStrictlySortedBy}
 use Rattle.std.specs.Ordering.{nat_cmp}
 use Rattle.std.proofs.lemmas.Cmp.{nat_list_cmp_total}
 use Rattle.bx_tree.specs.Orders.{equal_texts}
-use Rattle.observed.proofs.OneSet.{has_insert, insert_has, insert_sorted, unique}
-use Rattle.observed.specs.Members.{Has}
+use Rattle.bx_tree.specs.Members.{Has}
+use Rattle.bx_tree.proofs.Sets.{has_insert, insert_has, insert_sorted, unique, never_both}
 use Rattle.tool_run.specs.Listings.{add_names}
-use Rattle.pip_view_inputs.proofs.InOrder.{never_both}
 
 abbrev pub IsNameSet : List (List ℕ) → Type 0
 IsNameSet set = IsStrictlySortedBy (slice_cmp nat_cmp) set
@@ -21,7 +20,7 @@ set_kept (name ∷ names) set up = set_kept names (insert_key (slice_cmp nat_cmp
 added_has : (names set : List (List ℕ)) (n : List ℕ) → Has (add_names set names) n → Has set n ⊎ Has names n
 added_has [] set n h = inl h
 added_has (name ∷ names) set n h = elim (added_has names (insert_key (slice_cmp nat_cmp) set name) n h) [
-  | inl old ↦ elim (has_insert (slice_cmp nat_cmp) equal_texts set name n old) [ inl e ↦ inr (inl e) | inr k ↦ inl k ]
+  | inl old ↦ elim (has_insert (slice_cmp nat_cmp) set name n old) [ inl e ↦ inr (inl e) | inr k ↦ inl k ]
   | inr new ↦ inr (inr new)
 ]
 

@@ -3,25 +3,22 @@ use Rattle.std.proofs.Common.{◌≡◌, ℕ, Bool, true, false, ◌||◌, cond,
 use Rattle.std.specs.Prelude.{Any, Contains, IfSome, IsSomeAnd, slice_get}
 use Rattle.std.specs.List.{cons_option, flat_map}
 use Rattle.std.specs.Option.{unwrap_or}
-use Rattle.std.proofs.lemmas.Bool.{cases_Bool, false≢true}
+use Rattle.std.proofs.lemmas.Bool.{cases_Bool, false≢true, or_cases}
 use Rattle.std.proofs.lemmas.List.Elements.{filter-append}
 use Rattle.bx_tree.specs.Orders.{same_path_decides}
 use Rattle.bx_tree.specs.Paths.{Atoms, IsBelow, same_path}
 use Rattle.bx_tree.specs.declared.file_input.FileInput.{FileInput}
-use Rattle.tool_run_writes.specs.Below.{is_below, next_atom}
-use Rattle.tool_run_writes.proofs.BelowByAtoms.{below_decides}
-use Rattle.tool_run_writes.proofs.NextAtoms.{none_next}
+use Rattle.bx_tree.specs.Below.{is_below, next_atom}
+use Rattle.bx_tree.proofs.BelowPaths.{below_decides}
+use Rattle.bx_tree.proofs.AtomsBelow.{none_next}
 use Rattle.pip_model_types.specs.Dirs.{RiseByForm, dir_pip}
 use Rattle.pip_model_types.specs.declared.dir_inputs.DirInput.{DirInput}
 use Rattle.pip_model_types.specs.declared.dir_inputs.DirInput.TheVariants.{Sealed, Opaque}
 use Rattle.pip_model_types.specs.declared.dir_inputs.SealForm.TheVariants.{Full, Partial, SourceTop, SourceAll}
 use Rattle.pip_model_types.specs.declared.pip.Pip.{Pip}
-use Rattle.pip_model_types.specs.declared.pip.PipKind.{PipKind}
-use Rattle.pip_model_types.specs.declared.pip.PipKind.TheVariants.{Process, Copy, Write, Seal}
-use Rattle.pip_model.specs.Listings.{listed_files}
+use Rattle.pip_model_types.specs.Kinds.{listed_files, listed_in}
 use Rattle.pip_view_directories.specs.Near.{AreNear, ListsAt}
 use Rattle.pip_view_directories.proofs.Rising.{at_head, in_decides, in_rest, is_in, none_there, some_by_test}
-use Rattle.pip_view.specs.InputFiles.{listed_by, listed_in}
 use Rattle.pip_view.specs.Taken.{any_below, dir_files, dirs_files, first_at, taken_names}
 use Rattle.pip_view.proofs.TakenFiles.{below_after, first_after, names_after, or_first}
 use Rattle.bx_tree.specs.FileInputs.{input_path}
@@ -31,12 +28,8 @@ use Rattle.bx_tree.specs.FileInputs.{input_path}
 abbrev pub at_or_below : Atoms → FileInput → Bool
 at_or_below path file = same_path (input_path file) path || is_below (input_path file) path
 
-either_way : (a b : Bool) → (a || b) ≡ true → (a ≡ true) ⊎ (b ≡ true)
-either_way true b e = inl refl
-either_way false b e = inr e
-
 lies_at : (path : Atoms) (file : FileInput) → at_or_below path file ≡ true → (input_path file ≡ path) ⊎ IsBelow (input_path file) path
-lies_at path file e = elim (either_way (same_path (input_path file) path) (is_below (input_path file) path) e) [
+lies_at path file e = elim (or_cases (same_path (input_path file) path) (is_below (input_path file) path) e) [
   | inl same ↦ inl ((same_path_decides (input_path file) path).0 same)
   | inr below ↦ inr ((below_decides (input_path file) path).0 below)
 ]
@@ -77,16 +70,10 @@ names_kept path (f ∷ fs) =
 -- ## Directories that list none of them
 
 -- what a directory lists, its pip lists
-kind_lists : (kind : PipKind) (f : FileInput) → Contains (listed_by kind) f → Contains (listed_files kind) f
-kind_lists (Process d) f c = c
-kind_lists (Copy d) f c = c
-kind_lists (Write d) f c = c
-kind_lists (Seal d) f c = c
-
 pip_lists : (P : FileInput → Type 0) (o : Option Pip) (f : FileInput) → Contains (listed_in o) f → P f
     → IsSomeAnd o (λ (pip : Pip). Any P (listed_files pip.kind))
 pip_lists P None f c p = absurd (none_there f c)
-pip_lists P (Some pip) f c p = let (k, l, is) = kind_lists pip.kind f c in (k, f, l, is, p)
+pip_lists P (Some pip) f (k, l, is) p = (k, f, l, is, p)
 
 dir_lists : (pips : List Pip) (dir : DirInput) (path : Atoms) (f : FileInput) → Contains (dir_files pips dir) f → at_or_below path f ≡ true
     → ListsAt pips (dir_pip dir) path

@@ -3,10 +3,8 @@ use Rattle.std.proofs.Common.{◌≡◌, ℕ, Bool, true, false, not, ◌||◌, 
 use Rattle.std.proofs.lemmas.Bool.{false≢true}
 use Rattle.std.specs.List.{list_any, onto_first, slice_split}
 use Rattle.std.specs.Option.{option_and_then, option_map_or}
-use Rattle.bx_path.specs.Globbing.{strip_dir}
+use Rattle.bx_tree.specs.Below.{first_atom, is_below, is_directly_in, is_one_atom, strip_dir}
 use Rattle.bx_tree.specs.Paths.{Atoms}
-use Rattle.tool_run_writes.specs.Below.{first_atom, is_below}
-use Rattle.pip_view.specs.InputFiles.{is_directly_in, is_one_atom}
 
 abbrev pub is_slash : ℕ → Bool
 is_slash b = nat_eq b 47

@@ -8,10 +8,10 @@ use Rattle.std.proofs.Math.Seq.{drop-cons}
 use Rattle.bx_tree.specs.Orders.{same_path_decides}
 use Rattle.bx_tree.specs.Paths.{Atoms, same_path}
 use Rattle.bx_tree.specs.Trees.{Files, file_at}
-use Rattle.tool_run_writes.specs.Below.{is_below, next_atom}
+use Rattle.bx_tree.specs.Below.{is_below, next_atom}
 use Rattle.tool_run_writes.specs.Writes.{has_below, own_names}
-use Rattle.tool_run_writes.proofs.BelowByAtoms.{below_decides}
-use Rattle.tool_run_writes.proofs.NextAtoms.{none_next}
+use Rattle.bx_tree.proofs.BelowPaths.{below_decides}
+use Rattle.bx_tree.proofs.AtomsBelow.{none_next}
 use Rattle.pip_view_inputs.specs.Plain.{kind_process, process_in}
 use Rattle.pip_view_inputs.specs.Results.{ByPip}
 use Rattle.violations.specs.Producing.{dirs_at}

@@ -1,19 +1,21 @@
 -- What a view answers, from what it keeps.
-use Rattle.std.proofs.Common.{◌≡◌, ◌⊎◌, ◌<◌, ℕ, zero, suc, Bool, true, false, ◌||◌, cond, List, [], ◌∷◌, ◌++◌, length, Option, Some, None, refl, ap, sym, ◌∙◌, subst, inl, inr, arith}
+use Rattle.std.proofs.Common.{◌≡◌, ◌⊎◌, ◌<◌, ℕ, Bool, true, false, ◌||◌, cond, List, [], ◌∷◌, ◌++◌, length, Option, Some, None, refl, ap, sym, ◌∙◌, subst, inl, inr}
 use Rattle.std.specs.Prelude.{is_some, slice_get}
 use Rattle.std.specs.List.{filter_map, list_any}
 use Rattle.std.specs.List.Sorted.{IsStrictlySortedBy}
 use Rattle.std.proofs.lemmas.Bool.{false≢true}
-use Rattle.bx_tree.specs.Paths.{Atoms}
+use Rattle.bx_tree.specs.Paths.{Atoms, is_root}
 use Rattle.bx_tree.specs.Trees.{Files, file_at, paths_of}
-use Rattle.observed.proofs.OneSet.{contains_has, has_contained}
-use Rattle.observed.specs.Members.{Has}
+use Rattle.bx_tree.specs.Members.{Has}
+use Rattle.bx_tree.proofs.Sets.{contains_has, has_contained}
 use Rattle.observed.specs.declared.access.Answer.{Answer}
 use Rattle.observed.specs.declared.access.Answer.TheVariants as answers
 use Rattle.observed.specs.declared.ask.Ask.{Ask}
 use Rattle.observed.specs.declared.ask.AskKind.{AskKind}
 use Rattle.observed.specs.declared.ask.AskKind.TheVariants as kinds
-use Rattle.tool_run_writes.specs.Below.{is_below, next_atom}
+use Rattle.bx_tree.specs.Below.{is_below, next_atom}
+use Rattle.bx_tree.proofs.Lists.{no_such_place}
+use Rattle.bx_tree.proofs.Members.{has_either}
 use Rattle.tool_run_writes.specs.Writes.{has_below, own_names}
 use Rattle.violations.specs.Producing.{dirs_at, least_unseen}
 use Rattle.pip_model_types.specs.declared.pip.Pip.{Pip}
@@ -22,13 +24,13 @@ use Rattle.pip_model_types.specs.declared.pip.ProcessDesc.{ProcessDesc}
 use Rattle.pip_model_types.specs.declared.pip.PipKind.TheVariants.{Process, Copy, Write, Seal}
 use Rattle.tool_run.specs.Listings.{add_names, names_text}
 use Rattle.pip_view.specs.InputFiles.{input_files, is_source_of}
-use Rattle.pip_view.specs.Sees.{as_input, as_source, is_root, looked, pip_sees}
+use Rattle.pip_view.specs.Sees.{as_input, as_source, looked, pip_sees}
 use Rattle.pip_view.specs.Seen.{AnswerAs, ViewData, answer_by_source, answer_elsewhere, answer_unnamed, is_sealed_at, is_unseen_at, named_by, named_in, opaque_by, opaque_in, taken_by, taken_in, view_answers}
 use Rattle.pip_view_inputs.specs.Plain.{kind_process, process_in}
 use Rattle.pip_view.proofs.ByPip.{named_split}
 use Rattle.pip_view.proofs.NameSets.{IsNameSet, added_after, one_addition, set_has, set_kept}
 use Rattle.pip_view.proofs.Together.{below_sources, names_sources}
-use Rattle.pip_view.proofs.SourceMembers.{at_both, below_both, has_both, names_both, or_else, sealed_at, sealed_below, sealed_names, sealed_sources}
+use Rattle.pip_view.proofs.SourceMembers.{at_both, below_both, names_both, or_else, sealed_at, sealed_below, sealed_names, sealed_sources}
 use Rattle.pip_model_types.specs.Kinds.{taken_dirs}
 
 -- the input files are the named ones, and the members of seals of source files
@@ -90,11 +92,6 @@ looked_is v kind path below dir e (Some bytes) = refl
 looked_is v kind path below dir e None = unnamed_is v kind path below dir e (file_at v.tree path)
 
 -- ## The pip of a view
-
-no_such_place : {X : Type 0} (xs : List X) (i : ℕ) → i < length xs → slice_get xs i ≡ None → ⊥
-no_such_place [] i l e = absurd (omega (arith, l))
-no_such_place (x ∷ xs) zero l e = cc
-no_such_place (x ∷ xs) (suc i) l e = no_such_place xs i (omega (arith, l)) e
 
 -- the files of a view answer as the input files of its pip that are named
 record Keeps (v : ViewData) (files : Files) (pip : Pip) : Type 0 where
@@ -158,7 +155,7 @@ module _ (v : ViewData) (files : Files) (pip : Pip) (h : Keeps v files pip) (pat
   -- ## A listing
 
   into : (n : List ℕ) → Has (own_names inputs path) n → Has (add_names [] (own_names v.tree path)) n ⊎ Has (own_names files path) n
-  into n m = elim (has_both (own_names (named_by v (kind_process pip.kind)) path) (own_names sealed path) n
+  into n m = elim (has_either (own_names (named_by v (kind_process pip.kind)) path) (own_names sealed path) n
       (subst (λ (ns : List (List ℕ)). Has ns n) (ap (λ (fs : Files). own_names fs path) (all_inputs v pip.kind) ∙ names_both (named_by v (kind_process pip.kind)) sealed path) m)) [
         | inl a ↦ inr (has_contained (own_names files path) n ((h.answer.names path n).1 (contains_has (own_names (named_by v (kind_process pip.kind)) path) n a)))
         | inr b ↦ inl (set_has (own_names v.tree path) n (sealed_names v.pips v.tree v.inputs (taken_dirs pip.kind) path n b))

@@ -1,18 +1,19 @@
 -- The members of seals of source files, which are source files themselves.
-use Rattle.std.proofs.Common.{◌≡◌, ◌⊎◌, ℕ, Bool, true, false, ◌||◌, cond, List, [], ◌∷◌, ◌++◌, filter, Option, Some, None, refl, ap, sym, ◌∙◌, subst, inl, inr}
+use Rattle.std.proofs.Common.{◌≡◌, ℕ, Bool, true, false, ◌||◌, cond, List, [], ◌∷◌, ◌++◌, filter, Option, Some, None, refl, ap, sym, ◌∙◌, subst, inl, inr}
 use Rattle.std.specs.List.{cons_option, flat_map, list_any}
 use Rattle.std.proofs.lemmas.Bool.{cases_Bool, false≢true}
 use Rattle.bx_tree.specs.Orders.{same_path_decides}
 use Rattle.bx_tree.specs.Paths.{Atoms, same_path}
 use Rattle.bx_tree.specs.Trees.{Files, file_at}
-use Rattle.observed.specs.Members.{Has}
-use Rattle.tool_run_writes.specs.Below.{is_below, next_atom}
+use Rattle.bx_tree.specs.Members.{Has}
+use Rattle.bx_tree.specs.Below.{is_below, next_atom, is_directly_in}
+use Rattle.bx_tree.proofs.Members.{has_either}
 use Rattle.tool_run_writes.specs.Writes.{has_below, own_names}
 use Rattle.pip_model_types.specs.declared.dir_inputs.DirInput.{DirInput}
 use Rattle.pip_model_types.specs.declared.dir_inputs.DirInput.TheVariants.{Sealed, Opaque}
 use Rattle.pip_model_types.specs.declared.dir_inputs.SealForm.TheVariants.{Full, Partial, SourceTop, SourceAll}
 use Rattle.pip_model_types.specs.declared.pip.Pip.{Pip}
-use Rattle.pip_view.specs.InputFiles.{dir_members, is_directly_in, is_source, is_source_of}
+use Rattle.pip_view.specs.InputFiles.{dir_members, is_source, is_source_of}
 use Rattle.pip_view_inputs.specs.Results.{ByPip}
 
 -- ## Files of two lists
@@ -170,14 +171,9 @@ sealed_below pips tree made dirs = sealed_all (Within tree) pips tree made (λ d
 abbrev Named : Files → Files → List DirInput → Type 0
 Named tree files dirs = (dir : Atoms) (n : List ℕ) → Has (own_names files dir) n → Has (own_names tree dir) n
 
-pub has_both : (xs ys : List (List ℕ)) (n : List ℕ) → Has (xs ++ ys) n → Has xs n ⊎ Has ys n
-has_both [] ys n h = inr h
-has_both (x ∷ xs) ys n (inl e) = inl (inl e)
-has_both (x ∷ xs) ys n (inr h) = elim (has_both xs ys n h) [ inl a ↦ inl (inr a) | inr b ↦ inr b ]
-
 pub sealed_names : (pips : List Pip) (tree : Files) (made : ByPip) (dirs : List DirInput) → Named tree (sealed_sources pips tree made dirs) dirs
 sealed_names pips tree made dirs = sealed_all (Named tree) pips tree made (λ d n h. absurd h)
-    (λ dir ds test is rest h d n m. elim (has_both (own_names (passing test tree) d) (own_names rest d) n (subst (λ ns. Has ns n) (names_both (passing test tree) rest d) m)) [
+    (λ dir ds test is rest h d n m. elim (has_either (own_names (passing test tree) d) (own_names rest d) n (subst (λ ns. Has ns n) (names_both (passing test tree) rest d) m)) [
       | inl a ↦ names_passing test tree d n a
       | inr b ↦ h d n b
     ])

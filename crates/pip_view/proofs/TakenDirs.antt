@@ -1,5 +1,5 @@
 -- The directories that a process takes are those of pips of its plan.
-use Rattle.std.proofs.Common.{◌≡◌, ℕ, zero, suc, ◌<◌, true, List, [], ◌∷◌, length, take, get_or, Option, Some, None, refl, ap, sym, subst, ◌∙◌, arith}
+use Rattle.std.proofs.Common.{◌≡◌, ℕ, zero, suc, true, List, [], ◌∷◌, length, take, get_or, Option, Some, None, refl, ap, sym, subst, ◌∙◌}
 use Rattle.std.specs.Borrow.{Bor}
 use Rattle.std.specs.List.Sorted.{IsStrictlySortedBy}
 use Rattle.std.specs.Option.{option_copied}
@@ -10,6 +10,7 @@ use Rattle.std.specs.List.{All}
 use Rattle.std.proofs.lemmas.Bool.{lt-ltb}
 use Rattle.std.proofs.lemmas.List.Elements.{All-weaker}
 use Rattle.std.proofs.lemmas.List.Folds.{list_any_at}
+use Rattle.std.proofs.lemmas.Option.{get_or_from_slice_get, slice_get_within}
 use Rattle.pip_model_types.specs.Makers.{HasOutDir, IsDirAmong, IsPipList, IsSealOf, NamesAmong}
 use Rattle.pip_model_types.specs.declared.dir_inputs.DirInput.{DirInput}
 use Rattle.pip_model_types.specs.declared.dir_inputs.DirInput.TheVariants.{Sealed, Opaque}
@@ -23,25 +24,15 @@ use Rattle.pip_model.specs.declared.listings.TheConstants.{FEW_DIRS}
 use Rattle.pip_view_directories.specs.Near.{AreTaken}
 use Rattle.pip_model_types.specs.Kinds.{taken_dirs}
 
-kind_is : (kind : PipKind) (d : ProcessDesc) → kind_process kind ≡ Some d → kind ≡ Process d
+pub kind_is : (kind : PipKind) (d : ProcessDesc) → kind_process kind ≡ Some d → kind ≡ Process d
 kind_is (Process e) d h = let same : e ≡ d = cc in ap Process same
 kind_is (Copy e) d h = absurd cc
 kind_is (Write e) d h = absurd cc
 kind_is (Seal e) d h = absurd cc
 
-process_is : (o : Option Pip) (d : ProcessDesc) → process_in o ≡ Some d → (pip : Pip) × (o ≡ Some pip) × (pip.kind ≡ Process d)
+pub process_is : (o : Option Pip) (d : ProcessDesc) → process_in o ≡ Some d → (pip : Pip) × (o ≡ Some pip) × (pip.kind ≡ Process d)
 process_is None d h = absurd cc
 process_is (Some pip) d h = (pip, refl, kind_is pip.kind d h)
-
-at_place : {X : Type 0} (xs : List X) (i : ℕ) (x d : X) → slice_get xs i ≡ Some x → get_or xs i d ≡ x
-at_place [] i x d e = cc
-at_place (y ∷ ys) zero x d e = cc
-at_place (y ∷ ys) (suc i) x d e = at_place ys i x d e
-
-place_in : {X : Type 0} (xs : List X) (i : ℕ) (x : X) → slice_get xs i ≡ Some x → i < length xs
-place_in [] i x e = cc
-place_in (y ∷ ys) zero x e = omega arith
-place_in (y ∷ ys) (suc i) x e = let l = place_in ys i x e in omega (arith, l)
 
 -- what holds of one of the first pips holds of it among all
 from_first : (P : Pip → Type 0) (pips : List Pip) (n m : ℕ) → IsSomeAnd (slice_get (take n pips) m) P → IsSomeAnd (slice_get pips m) P
@@ -58,8 +49,8 @@ among_all pips n (Opaque m path) h = from_first (λ (pip : Pip). HasOutDir path 
 process_takes : (pips : List Pip) (i : ℕ) (d : ProcessDesc) → IsPipList pips → process_in (slice_get pips i) ≡ Some d → AreTaken pips d.dirs
 process_takes pips i d list e =
     let (pip, there, is) = process_is (slice_get pips i) d e in
-    let within = place_in pips i pip there in
-    let here = at_place pips i pip pip there in
+    let within = slice_get_within pips i pip there in
+    let here = get_or_from_slice_get pips i pip pip there in
     let kind : (get_or pips i pip).kind ≡ Process d = ap (λ (p : Pip). p.kind) here ∙ is in
     let names : NamesAmong (take i pips) (Process d) = subst (NamesAmong (take i pips)) kind (list i within pip) in record {
       wide = λ long. list_any_at (λ (p : Pip). is_wide p.kind) pips i pip within (ap is_wide kind ∙ lt-ltb FEW_DIRS (length d.dirs) long);

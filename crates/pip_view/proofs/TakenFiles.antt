@@ -7,7 +7,7 @@ use Rattle.bx_tree.specs.Orders.{same_path_decides}
 use Rattle.bx_tree.specs.Paths.{Atoms, same_path}
 use Rattle.bx_tree.specs.Trees.{Files, file_at}
 use Rattle.bx_tree.specs.declared.file_input.FileInput.{FileInput}
-use Rattle.tool_run_writes.specs.Below.{is_below, next_atom}
+use Rattle.bx_tree.specs.Below.{is_below, next_atom}
 use Rattle.tool_run_writes.specs.Writes.{has_below, own_names}
 use Rattle.pip_view_inputs.specs.Contents.{bytes_at, input_bytes}
 use Rattle.pip_view_inputs.specs.Results.{ByPip}

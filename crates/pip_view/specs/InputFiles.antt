@@ -1,14 +1,14 @@
 -- The input files of a pip, with their bytes.
 use Rattle.std.specs.Prelude.{Bool, true, false, nat_le, not, if◌then◌else◌, List, [], ◌∷◌, ◌++◌, map}
 use Rattle.std.specs.Prelude.{filter}
-use Rattle.std.specs.Prelude.{Option, Some, None, slice_get}
+use Rattle.std.specs.Prelude.{slice_get}
 use Rattle.std.specs.List.{flat_map}
-use Rattle.std.specs.Option.{option_map_or}
 use Rattle.bx_tree.specs.Paths.{Atoms}
 use Rattle.bx_tree.specs.Trees.{Files}
 use Rattle.bx_tree.specs.declared.file_input.FileInput.{FileInput}
-use Rattle.bx_path.specs.Globbing.{strip_dir}
+use Rattle.bx_tree.specs.Below.{is_below, is_directly_in}
 use Rattle.pip_model_types.specs.Dirs.{dir_pip, is_source_form}
+use Rattle.pip_model_types.specs.Kinds.{listed_in}
 use Rattle.pip_model_types.specs.declared.dir_inputs.SealForm.{SealForm}
 use Rattle.pip_model_types.specs.declared.dir_inputs.SealForm.TheVariants.{Full, Partial, SourceTop, SourceAll}
 use Rattle.pip_model_types.specs.declared.dir_inputs.DirInput.{DirInput}
@@ -17,31 +17,10 @@ use Rattle.pip_model_types.specs.declared.pip.Pip.{Pip}
 use Rattle.pip_model_types.specs.declared.pip.PipKind.{PipKind}
 use Rattle.pip_model_types.specs.declared.pip.PipKind.TheVariants.{Process, Copy, Write, Seal}
 use Rattle.pip_model_types.specs.declared.pip.ProcessDesc.{ProcessDesc}
-use Rattle.tool_run_writes.specs.Below.{is_below}
 use Rattle.pip_view_inputs.specs.Contents.{bytes_at, input_file}
 use Rattle.pip_view_inputs.specs.Results.{ByPip, files_by}
 
 -- ## Members of directories
-
--- the files that a seal lists
-abbrev pub listed_by : PipKind → List FileInput
-listed_by (Process d) = []
-listed_by (Copy d) = []
-listed_by (Write d) = []
-listed_by (Seal d) = d.files
-
-abbrev pub listed_in : Option Pip → List FileInput
-listed_in None = []
-listed_in (Some pip) = listed_by pip.kind
-
-abbrev pub is_one_atom : Atoms → Bool
-is_one_atom [] = false
-is_one_atom (atom ∷ []) = true
-is_one_atom (atom ∷ next ∷ rest) = false
-
--- whether the path lies in the directory itself, and not in one below it
-abbrev pub is_directly_in : Atoms → Atoms → Bool
-is_directly_in path dir = option_map_or is_one_atom (strip_dir dir path) false
 
 -- the members of a seal: the files that it lists, or those source files directly in its root or below it
 abbrev pub sealed_members : List FileInput → Files → ByPip → SealForm → Atoms → Files

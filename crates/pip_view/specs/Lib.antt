@@ -1,6 +1,5 @@
 pub mod InputFiles
 pub mod Sees
-pub mod Ranges
 pub mod Seen
 pub mod Gathered
 pub mod Agreement

@@ -3,13 +3,13 @@ use Rattle.std.specs.Prelude.{◌≡◌, ◌↔◌, ℕ, Bool, ◌||◌, if◌th
 use Rattle.std.specs.Prelude.{Option, Some, None, is_some}
 use Rattle.std.specs.Prelude.{◌<◌, filter, length, slice_get}
 use Rattle.std.specs.List.{list_any}
-use Rattle.bx_tree.specs.Paths.{Atoms, same_path}
+use Rattle.bx_tree.specs.Paths.{Atoms, is_root}
 use Rattle.bx_tree.specs.Trees.{Files, file_at}
 use Rattle.observed.specs.declared.access.Answer.{Answer}
 use Rattle.observed.specs.declared.access.Answer.TheVariants as answers
 use Rattle.observed.specs.declared.ask.Ask.{Ask}
 use Rattle.observed.specs.declared.ask.AskKind.{AskKind}
-use Rattle.tool_run_writes.specs.Below.{is_below}
+use Rattle.bx_tree.specs.Below.{is_at_or_below}
 use Rattle.tool_run_writes.specs.Writes.{has_below, own_names}
 use Rattle.pip_view_directories.specs.Ranges.{AreOthers}
 use Rattle.pip_model_types.specs.Dirs.{RiseByForm}
@@ -21,7 +21,7 @@ use Rattle.pip_view.specs.Gathered.{members_of}
 use Rattle.pip_view.specs.InputFiles.{by_pip, is_opaque, is_source_of, named_files}
 use Rattle.pip_view_inputs.specs.Plain.{process_in}
 use Rattle.pip_view_inputs.specs.Results.{ByPip}
-use Rattle.pip_view.specs.Sees.{as_input, as_source, is_root, sees}
+use Rattle.pip_view.specs.Sees.{as_input, as_source, sees}
 use Rattle.pip_view.specs.Taken.{taken_bytes, taken_files}
 
 -- a view: the pips, the source files, what the inputs made, and the pip that sees
@@ -99,7 +99,7 @@ pub record KeepsView (v : ViewData) (kept others : List DirInput) : Type 0 where
 
 -- whether a file is at the path or below it
 abbrev pub lies_near : Atoms → Atoms × List ℕ → Bool
-lies_near path file = same_path file.0 path || is_below file.0 path
+lies_near path file = is_at_or_below file.0 path
 
 -- What is searched at a path in place of all directories that the pip takes: its opaque ones have the members
 -- at the path and below it that all have, and a source file at the path is a member of a seal as it is of all.

@@ -1,7 +1,7 @@
 -- What a pip sees.
-use Rattle.std.specs.Prelude.{ℕ, Bool, true, false, ◌||◌, if◌then◌else◌, List, [], ◌∷◌, ◌++◌, Option, Some}
+use Rattle.std.specs.Prelude.{ℕ, Bool, ◌||◌, if◌then◌else◌, List, [], ◌++◌, Option, Some}
 use Rattle.std.specs.Prelude.{None, is_some, slice_get}
-use Rattle.bx_tree.specs.Paths.{Atoms}
+use Rattle.bx_tree.specs.Paths.{Atoms, is_root}
 use Rattle.pip_view_inputs.specs.Results.{ByPip}
 use Rattle.bx_tree.specs.Trees.{Files, file_at}
 use Rattle.pip_model_types.specs.declared.pip.Pip.{Pip}
@@ -16,11 +16,6 @@ use Rattle.tool_run.specs.Listings.{add_names, names_text}
 use Rattle.pip_view.specs.InputFiles.{input_files}
 use Rattle.violations.specs.Producing.{least_unseen}
 use Rattle.pip_model_types.specs.Kinds.{taken_dirs}
-
--- whether the path is the root, which has no atoms
-abbrev pub is_root : Atoms → Bool
-is_root [] = true
-is_root (atom ∷ rest) = false
 
 -- an input file: its bytes are read, and a probe says that a file is there
 abbrev pub as_input : AskKind → List ℕ → Answer

@@ -5,27 +5,18 @@ use Rattle.std.specs.List.{filter_map, flat_map, list_any, starts_with}
 use Rattle.bx_tree.specs.Paths.{Atoms, path_text, same_path}
 use Rattle.bx_tree.specs.declared.file_input.FileInput.{FileInput}
 use Rattle.bx_tree.specs.declared.file_input.FileInput.TheVariants.{Source}
-use Rattle.tool_run_writes.specs.Below.{is_below, next_atom}
+use Rattle.bx_tree.specs.Below.{is_below, next_atom}
 use Rattle.pip_model_types.specs.declared.dir_inputs.DirInput.{DirInput}
 use Rattle.pip_model_types.specs.declared.dir_inputs.DirInput.TheVariants.{Sealed, Opaque}
-use Rattle.pip_model_types.specs.declared.dir_inputs.SealForm.{SealForm}
-use Rattle.pip_model_types.specs.declared.dir_inputs.SealForm.TheVariants.{Full, Partial, SourceTop, SourceAll}
 use Rattle.pip_model_types.specs.declared.pip.Pip.{Pip}
 use Rattle.pip_model_types.specs.declared.pip.ProcessDesc.{ProcessDesc}
 use Rattle.bx_tree.specs.Trees.{Files}
 use Rattle.pip_view_inputs.specs.Contents.{input_file}
 use Rattle.pip_view_inputs.specs.Results.{ByPip}
-use Rattle.pip_view.specs.InputFiles.{listed_in}
+use Rattle.pip_model_types.specs.Kinds.{form_files, listed_in}
 use Rattle.bx_tree.specs.FileInputs.{input_path}
 
--- the files that a seal of this form lists
-abbrev pub form_files : SealForm → List FileInput → List FileInput
-form_files Full files = files
-form_files Partial files = files
-form_files SourceTop files = []
-form_files SourceAll files = []
-
--- the files that a directory lists, none but of a seal
+-- the files that a directory lists, none but of a full or partial seal
 abbrev pub dir_files : List Pip → DirInput → List FileInput
 dir_files pips (Sealed pip form root) = form_files form (listed_in (slice_get pips pip))
 dir_files pips (Opaque pip path) = []

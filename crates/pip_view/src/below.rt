@@ -1,53 +1,21 @@
 //! Searches in source files: the paths below a directory are neighbours in their order.
-ghost use Rattle.std.specs.Prelude.{◌≡◌, ◌≤◌, ◌==◌, Some, true, false, IfOk, filter, length};
-ghost use Rattle.std.specs.List.{list_any, slice_split};
+ghost use Rattle.std.specs.Prelude.{◌≡◌, ◌≤◌, true, false, IfOk, filter, length};
+ghost use Rattle.std.specs.List.{list_any};
 ghost use Rattle.std.specs.List.Sorted.{IsPartitionPoint, IsStrictlySortedBy};
-ghost use Rattle.std.specs.Option.{option_copied};
-ghost use Rattle.bx_path.specs.Globbing.{strip_dir};
-ghost use Rattle.bx_tree.specs.Paths.{IsBelow, IsPath, path_cmp};
-ghost use Rattle.tool_run_writes.specs.Below.{first_atom, is_below as lies_below, next_atom as next_atom_of};
-ghost use Rattle.pip_view.specs.Ranges.{AreFilePaths, first_below};
-ghost use Rattle.bx_tree.specs.Ranges.{comes_before as path_before, prefix_below};
+ghost use Rattle.bx_tree.specs.Below.{is_below};
+ghost use Rattle.bx_tree.specs.Paths.{path_cmp};
+ghost use Rattle.bx_tree.specs.Ranges.{AreFilePaths, comes_before, first_below};
 
-use crate::Memory;
-use bx_tree::Path;
+use bx_tree::{Memory, Path, comes_before, prefix_of};
 use std::alloc::Global;
-
-// Whether a path lies strictly below a directory.
-pub(crate) fn is_below(path: &Path, dir: &Path) -> bool
-    ensures { result ≡ lies_below path.now dir.now }
-{
-    path.is_below(dir)
-}
-
-// The bytes with which the text of each path below a directory begins.
-pub(crate) fn prefix_of(alloc: Global, dir: &Path) -> Result<Vec<u8>, Memory>
-    ensures prefix { IfOk result (λ prefix. prefix.items ≡ prefix_below dir.now) }
-    ensures is_path { IsPath dir.now }
-{
-    let text = dir.text();
-    if text == "." {
-        return Ok(Vec::new(alloc));
-    }
-    let mut prefix = text.as_bytes().to_vec(alloc)?;
-    prefix.push(b'/')?;
-    Ok(prefix)
-}
-
-// Whether a path comes before all paths whose texts begin with these bytes.
-pub(crate) fn comes_before(path: &Path, prefix: &[u8]) -> bool
-    ensures { result ≡ path_before prefix.now path.now }
-{
-    path.text().as_bytes().cmp(prefix).is_lt()
-}
 
 // How many paths come before those whose texts begin with these bytes.
 fn count_before(paths: &[Path], prefix: &[u8]) -> usize
     requires { IsStrictlySortedBy path_cmp paths.now }
     ensures bound { result ≤ length paths.now }
     ensures before { IsPartitionPoint
-        (λ path. path_before prefix.now path ≡ true)
-        (λ path. path_before prefix.now path ≡ false)
+        (λ path. comes_before prefix.now path ≡ true)
+        (λ path. comes_before prefix.now path ≡ false)
         paths.now result }
 {
     paths.partition_point(|path| comes_before(path, prefix))
@@ -61,7 +29,7 @@ pub(crate) fn from_below<'a>(
 ) -> Result<&'a [Path], Memory>
     requires { AreFilePaths paths.now }
     ensures { IfOk result (λ rest.
-        first_below dir.now rest.now ≡ filter (λ p. lies_below p dir.now) paths.entry.now) }
+        first_below dir.now rest.now ≡ filter (λ p. is_below p dir.now) paths.entry.now) }
 {
     let prefix = prefix_of(alloc, dir)?;
     let start = count_before(paths, prefix.as_slice());
@@ -72,47 +40,11 @@ pub(crate) fn from_below<'a>(
 // Whether one of the paths lies strictly below a directory.
 pub(crate) fn has_below(alloc: Global, paths: &[Path], dir: &Path) -> Result<bool, Memory>
     requires { AreFilePaths paths.now }
-    ensures { IfOk result (λ yes. yes ≡ list_any (λ p. lies_below p dir.now) paths.now) }
+    ensures { IfOk result (λ yes. yes ≡ list_any (λ p. is_below p dir.now) paths.now) }
 {
     let rest = from_below(alloc, paths, dir)?;
     match rest.split_first() {
-        Some((path, _)) => Ok(is_below(path, dir)),
+        Some((path, _)) => Ok(path.is_below(dir)),
         None => Ok(false),
     }
-}
-
-// The part of a path's text after that of a directory that contains it and a `/`.
-pub(crate) fn text_below<'a>(dir: &Path, path: &'a Path) -> &'a [u8]
-    requires { IsBelow path.now dir.now }
-    ensures { strip_dir dir.now path.entry.now ≡ Some (slice_split (λ b. b == 47) result.now) }
-{
-    let text = path.text().as_bytes();
-    let prefix = dir.text();
-    if prefix == "." {
-        return text;
-    }
-    let (_, rest) = text.split_at(prefix.len() + 1);
-    rest
-}
-
-// What precedes the first `/` of a text, or all of it.
-fn first_part(text: &[u8]) -> &[u8]
-    ensures { first_atom (slice_split (λ b. b == 47) text.entry.now) ≡ Some result.now }
-{
-    for (at, byte) in text.iter().enumerate() {
-        if *byte == b'/' {
-            return &text[..at];
-        }
-    }
-    text
-}
-
-// The atom of a path that comes next after a directory, if the path lies strictly below it.
-pub(crate) fn next_atom<'a>(dir: &Path, path: &'a Path) -> Option<&'a [u8]>
-    ensures { option_copied result ≡ next_atom_of dir.now path.entry.now }
-{
-    if !is_below(path, dir) {
-        return None;
-    }
-    Some(first_part(text_below(dir, path)))
 }

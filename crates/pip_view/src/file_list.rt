@@ -5,24 +5,14 @@ ghost use Rattle.std.specs.List.{HoldsAt};
 ghost use Rattle.std.specs.List.Sorted.{IsPartitionPoint};
 ghost use Rattle.std.specs.Option.{option_copied};
 ghost use Rattle.bx_tree.specs.declared.file_input.FileInput.{FileInput as AnyFile};
-ghost use Rattle.tool_run_writes.specs.Below.{is_below as lies_below};
+ghost use Rattle.bx_tree.specs.Below.{is_below};
 ghost use Rattle.pip_model_types.specs.Inputs.{RiseByPath};
 ghost use Rattle.pip_view.specs.Taken.{any_below, begins as begins_with, first_at, taken_names, while_begins};
 ghost use Rattle.bx_tree.specs.Lent.{texts_now};
 ghost use Rattle.bx_tree.specs.FileInputs.{input_path};
-ghost use Rattle.bx_tree.specs.Ranges.{comes_before as path_before, prefix_below};
+ghost use Rattle.bx_tree.specs.Ranges.{comes_before, prefix_below};
 
-use crate::Memory;
-use crate::below::{comes_before, is_below, next_atom};
-use bx_tree::{FileInput, Path};
-
-pub(crate) fn path_of(file: &FileInput) -> &Path
-    ensures { result.now ≡ input_path file.entry.now }
-{
-    match file {
-        FileInput::Source(path) | FileInput::Made(path, _) => path,
-    }
-}
+use bx_tree::{FileInput, Memory, Path, comes_before, next_atom};
 
 fn place_of(files: &[FileInput], path: &Path) -> Option<usize>
     requires { RiseByPath files.now }
@@ -30,7 +20,7 @@ fn place_of(files: &[FileInput], path: &Path) -> Option<usize>
         (All (λ file. input_path file ≢ path.now) files.now)
         (λ place. (place < length files.now) × HoldsAt (λ file. input_path file ≡ path.now) files.now place) }
 {
-    files.binary_search_by(|file| path_of(file).cmp(path)).ok()
+    files.binary_search_by(|file| file.path().cmp(path)).ok()
 }
 
 // The file at a path.
@@ -49,19 +39,19 @@ fn count_before(files: &[FileInput], prefix: &[u8]) -> usize
     requires { RiseByPath files.now }
     ensures bound { result ≤ length files.now }
     ensures before { IsPartitionPoint
-        (λ (file : AnyFile). path_before prefix.now (input_path file) ≡ true)
-        (λ (file : AnyFile). path_before prefix.now (input_path file) ≡ false)
+        (λ (file : AnyFile). comes_before prefix.now (input_path file) ≡ true)
+        (λ (file : AnyFile). comes_before prefix.now (input_path file) ≡ false)
         files.now result }
 {
-    files.partition_point(|file| comes_before(path_of(file), prefix))
+    files.partition_point(|file| comes_before(file.path(), prefix))
 }
 
 // The files from the first that may lie below a directory on, whose paths begin with these bytes.
 fn from_prefix<'a>(files: &'a [FileInput], prefix: &[u8], dir: &Path) -> &'a [FileInput]
     requires rising { RiseByPath files.now }
     requires prefix { prefix.now ≡ prefix_below dir.now }
-    ensures { filter (λ (f : AnyFile). lies_below (input_path f) dir.now) (while_begins prefix.now result.now)
-        ≡ filter (λ (f : AnyFile). lies_below (input_path f) dir.now) files.entry.now }
+    ensures { filter (λ (f : AnyFile). is_below (input_path f) dir.now) (while_begins prefix.now result.now)
+        ≡ filter (λ (f : AnyFile). is_below (input_path f) dir.now) files.entry.now }
 {
     let start = count_before(files, prefix);
     &files[start..]
@@ -71,7 +61,7 @@ fn from_prefix<'a>(files: &'a [FileInput], prefix: &[u8], dir: &Path) -> &'a [Fi
 fn begins(file: &FileInput, prefix: &[u8]) -> bool
     ensures { result ≡ begins_with prefix.now file.now }
 {
-    path_of(file).text().as_bytes().starts_with(prefix)
+    file.path().text().as_bytes().starts_with(prefix)
 }
 
 // Whether one of the first files, whose paths begin with these bytes, lies below a directory.
@@ -82,7 +72,7 @@ fn any_first(files: &[FileInput], prefix: &[u8], dir: &Path) -> bool
         if !begins(file, prefix) {
             return false;
         }
-        if is_below(path_of(file), dir) {
+        if file.path().is_below(dir) {
             return true;
         }
     }
@@ -104,7 +94,7 @@ fn add_name<'a>(names: &mut Vec<&'a [u8]>, file: &'a FileInput, dir: &Path) -> R
     ensures { OnOk result (texts_now names.new.items
         ≡ texts_now names.old.items ++ taken_names dir.now (file.entry.now ∷ [])) }
 {
-    if let Some(name) = next_atom(dir, path_of(file)) {
+    if let Some(name) = next_atom(dir, file.path()) {
         names.push(name)?;
     }
     Ok(())

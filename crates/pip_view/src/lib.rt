@@ -1,13 +1,12 @@
-//! File access rules: what a process sees of the files around it.
+//! File access rules: what a process sees of the file system around it.
 //!
-//! The view of a process is the rule of its input files, of other source files, and of what other pips can produce.
-//! This crate depends on `pip_view_inputs` for the results of its inputs, on `violations` for what pips can produce,
-//! on `pip_view_directories` for the directories that matter at a path, and on `observed` and `tool_run_writes` for
-//! what runs ask and are answered. It carries the promise that a view answers as the rules of a build say.
+//! The view of a process is given by its input files, by other source files, and by what other pips can produce.
+//! This crate depends on `pip_view_inputs` for the results of dependencies, on `violations` for what pips can
+//! produce, on `pip_view_directories` for the directories that matter at a path, and on `observed`, `tool_run` and
+//! `tool_run_writes` for asks, answers and listings. It carries the promise that a view answers by these rules.
 #![tactic(auto)]
 
 mod below;
-mod by_path;
 mod file_list;
 mod laws;
 mod listing;
@@ -16,13 +15,10 @@ mod members;
 mod taken;
 mod view;
 
-pub use by_path::made_of;
+pub use bx_tree::Memory;
 pub use laws::view_agrees;
 pub use pip_view_inputs::{Inputs, desc, plain};
 pub use view::PipView;
-
-/// Out of memory, the one refusal that no contract ties to a cause.
-pub type Memory = std::alloc::AllocError;
 
 // The names of a listing.
 type Names = std::collections::BTreeSet<Vec<u8>>;

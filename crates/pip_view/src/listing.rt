@@ -1,13 +1,12 @@
 //! Names of what lies below a directory.
 ghost use Rattle.std.specs.Prelude.{◌≡◌, IfOk};
 ghost use Rattle.std.specs.List.{filter_map};
-ghost use Rattle.tool_run_writes.specs.Below.{next_atom as next_atom_of};
-ghost use Rattle.pip_view.specs.Ranges.{AreFilePaths, first_below};
+ghost use Rattle.bx_tree.specs.Below.{next_atom as next_atom_of};
+ghost use Rattle.bx_tree.specs.Ranges.{AreFilePaths, first_below};
 ghost use Rattle.bx_tree.specs.Lent.{texts_now};
 
-use crate::Memory;
-use crate::below::{from_below, next_atom};
-use bx_tree::Path;
+use crate::below::from_below;
+use bx_tree::{Memory, Path, next_atom};
 use std::alloc::Global;
 
 // The next atoms of the first paths, up to one that does not lie below a directory.

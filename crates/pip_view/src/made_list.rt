@@ -2,7 +2,7 @@
 ghost use Rattle.std.specs.Prelude.{◌≡◌, ◌≤◌, ◌++◌, ◌∷◌, [], true, false, OnOk, filter, length};
 ghost use Rattle.std.specs.List.Sorted.{IsPartitionPoint};
 ghost use Rattle.bx_tree.specs.declared.file_input.FileInput.{FileInput as AnyFile};
-ghost use Rattle.tool_run_writes.specs.Below.{is_below as lies_below};
+ghost use Rattle.bx_tree.specs.Below.{is_below};
 ghost use Rattle.tool_run_writes.specs.Writes.{has_below as file_below, own_names};
 ghost use Rattle.pip_model_types.specs.Made.{RisingFiles, made_files};
 ghost use Rattle.pip_model_types.specs.declared.made.MadeFile.{MadeFile as AnyMade};
@@ -10,11 +10,9 @@ ghost use Rattle.pip_view.specs.Gathered.{all_taken, as_taken, below_of, names_w
 ghost use Rattle.pip_view.specs.Taken.{any_below, begins as begins_with, taken_names, while_begins};
 ghost use Rattle.bx_tree.specs.Lent.{texts_now};
 ghost use Rattle.bx_tree.specs.FileInputs.{input_path};
-ghost use Rattle.bx_tree.specs.Ranges.{comes_before as path_before, prefix_below};
+ghost use Rattle.bx_tree.specs.Ranges.{comes_before, prefix_below};
 
-use crate::Memory;
-use crate::below::{comes_before, is_below, next_atom};
-use bx_tree::Path;
+use bx_tree::{Memory, Path, comes_before, next_atom};
 use pip_model::MadeFile;
 
 // How many files come before those whose paths begin with these bytes.
@@ -22,8 +20,8 @@ fn count_before(files: &[MadeFile], prefix: &[u8]) -> usize
     requires { RisingFiles (made_files files.now) }
     ensures bound { result ≤ length files.now }
     ensures before { IsPartitionPoint
-        (λ (file : AnyMade). path_before prefix.now file.path ≡ true)
-        (λ (file : AnyMade). path_before prefix.now file.path ≡ false)
+        (λ (file : AnyMade). comes_before prefix.now file.path ≡ true)
+        (λ (file : AnyMade). comes_before prefix.now file.path ≡ false)
         files.now result }
 {
     files.partition_point(|file| comes_before(&file.path, prefix))
@@ -33,8 +31,8 @@ fn count_before(files: &[MadeFile], prefix: &[u8]) -> usize
 fn from_prefix<'a>(files: &'a [MadeFile], prefix: &[u8], dir: &Path) -> &'a [MadeFile]
     requires rising { RisingFiles (made_files files.now) }
     requires prefix { prefix.now ≡ prefix_below dir.now }
-    ensures { filter (λ (f : AnyFile). lies_below (input_path f) dir.now) (while_begins prefix.now (all_taken result.now))
-        ≡ filter (λ (f : AnyFile). lies_below (input_path f) dir.now) (all_taken files.entry.now) }
+    ensures { filter (λ (f : AnyFile). is_below (input_path f) dir.now) (while_begins prefix.now (all_taken result.now))
+        ≡ filter (λ (f : AnyFile). is_below (input_path f) dir.now) (all_taken files.entry.now) }
 {
     let start = count_before(files, prefix);
     &files[start..]
@@ -55,7 +53,7 @@ fn any_first(files: &[MadeFile], prefix: &[u8], dir: &Path) -> bool
         if !begins(file, prefix) {
             return false;
         }
-        if is_below(&file.path, dir) {
+        if file.path.is_below(dir) {
             return true;
         }
     }
@@ -93,7 +91,7 @@ fn add_within<'a>(
     ensures { OnOk result (texts_now names.new.items
         ≡ texts_now names.old.items ++ names_within top.now dir.now (as_taken file.entry.now ∷ [])) }
 {
-    if is_below(&file.path, dir) {
+    if file.path.is_below(dir) {
         return add_name(names, file, top);
     }
     Ok(())

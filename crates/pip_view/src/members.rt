@@ -1,11 +1,10 @@
 //! The members of the opaque directories that a process takes, found in the lists of the pips that made them.
-ghost use Rattle.std.specs.Prelude.{◌≡◌, ◌||◌, ◌++◌, [], IfOk, OnOk, filter, nat_le};
+ghost use Rattle.std.specs.Prelude.{◌≡◌, ◌++◌, [], IfOk, OnOk, filter, nat_le};
 ghost use Rattle.std.specs.Borrow.{Bor};
 ghost use Rattle.std.specs.List.{position_or_len};
 ghost use Rattle.std.specs.Option.{option_copied};
-ghost use Rattle.bx_tree.specs.Paths.{same_path};
 ghost use Rattle.bx_tree.specs.Trees.{file_at};
-ghost use Rattle.tool_run_writes.specs.Below.{is_below as lies_below};
+ghost use Rattle.bx_tree.specs.Below.{is_at_or_below};
 ghost use Rattle.tool_run_writes.specs.Writes.{has_below as file_below, own_names};
 ghost use Rattle.pip_view_inputs.specs.Results.{files_by};
 ghost use Rattle.pip_model_types.specs.Dirs.{dir_pip};
@@ -18,24 +17,14 @@ ghost use Rattle.tool_run.specs.Listings.{add_names as with_names};
 ghost use Rattle.tool_run.specs.NameSets.{names_now};
 ghost use Rattle.bx_tree.specs.Lent.{texts_now};
 
-use crate::below::{is_below, prefix_of};
+use crate::Names;
 use crate::made_list::{add_below, has_below};
-use crate::{Memory, Names};
 use bx_digest::Blob;
-use bx_tree::Path;
+use bx_tree::{Memory, Path, prefix_of};
 use pip_model::{DirInput, DirInputs, MadeFile};
-use pip_view_inputs::Inputs;
+use pip_view_inputs::{Inputs, made_at};
 use std::alloc::Global;
 use tool_run::add_names;
-
-// The pip whose directory this is.
-fn pip_of(dir: &DirInput) -> u32
-    ensures { result ≡ dir_pip dir.now }
-{
-    match dir {
-        DirInput::Sealed(pip, _, _) | DirInput::Opaque(pip, _) => *pip,
-    }
-}
 
 fn is_opaque(dir: &DirInput) -> bool
     ensures { result ≡ opaque dir.now }
@@ -52,7 +41,7 @@ fn place_by_pip(sorted: &[&DirInput], pip: u32) -> usize
 {
     sorted
         .iter()
-        .position(|other| pip <= pip_of(other))
+        .position(|other| pip <= other.pip())
         .unwrap_or(sorted.len())
 }
 
@@ -61,7 +50,7 @@ fn insert_by_pip<'a>(sorted: &mut Vec<&'a DirInput>, dir: &'a DirInput) -> Resul
     ensures { OnOk result
         (dirs_now sorted.new.items ≡ with_dir dir.entry.now (dirs_now sorted.old.items)) }
 {
-    let place = place_by_pip(sorted.as_slice(), pip_of(dir));
+    let place = place_by_pip(sorted.as_slice(), dir.pip());
     sorted.insert(place, dir)?;
     Ok(())
 }
@@ -126,16 +115,16 @@ fn made_by(inputs: &Inputs, pip: u32) -> &[MadeFile]
 
 // Whether a path is a directory or lies below it.
 fn is_at_or_below(path: &Path, dir: &Path) -> bool
-    ensures { result ≡ (same_path path.now dir.now || lies_below path.now dir.now) }
+    ensures { result ≡ is_at_or_below path.now dir.now }
 {
-    *path == *dir || is_below(path, dir)
+    *path == *dir || path.is_below(dir)
 }
 
 // The deeper of two directories, if one contains the other or is the other.
 fn deeper<'a>(dir: &'a Path, other: &'a Path) -> Option<&'a Path>
     ensures { option_copied result ≡ deeper_of dir.entry.now other.entry.now }
 {
-    if is_below(other, dir) {
+    if other.is_below(dir) {
         return Some(other);
     }
     if is_at_or_below(dir, other) {
@@ -144,21 +133,12 @@ fn deeper<'a>(dir: &'a Path, other: &'a Path) -> Option<&'a Path>
     None
 }
 
-fn made_at<'a>(inputs: &'a Inputs, pip: u32, path: &Path) -> Option<&'a Blob>
-    ensures { option_copied result ≡ file_at (files_by inputs.entry.now pip) path.now }
-{
-    match inputs.find(pip) {
-        Some(made) => made.find(path),
-        None => None,
-    }
-}
-
 // The file at a path that a pip made below a directory.
 fn made_below<'a>(inputs: &'a Inputs, pip: u32, dir: &Path, path: &Path) -> Option<&'a Blob>
     ensures { option_copied result
         ≡ file_at (below_of dir.now (files_by inputs.entry.now pip)) path.now }
 {
-    if !is_below(path, dir) {
+    if !path.is_below(dir) {
         return None;
     }
     made_at(inputs, pip, path)

@@ -1,54 +1,36 @@
 //! The files that a process takes by name, found in its own list and in those of the seals that it takes.
 ghost use Rattle.std.specs.Prelude.{◌≡◌, ◌++◌, ◌∷◌, [], IfOk, OnOk, slice_get};
-ghost use Rattle.std.specs.Option.{option_copied, option_map_or};
+ghost use Rattle.std.specs.Option.{option_copied};
 ghost use Rattle.bx_tree.specs.Trees.{file_at as found_at};
 ghost use Rattle.tool_run.specs.Listings.{add_names as with_names};
 ghost use Rattle.tool_run.specs.NameSets.{names_now};
 ghost use Rattle.pip_view_inputs.specs.Contents.{input_bytes};
 ghost use Rattle.pip_view_directories.specs.Near.{AreTaken};
 ghost use Rattle.pip_model_types.specs.Inputs.{RiseByPath};
-ghost use Rattle.pip_view.specs.InputFiles.{listed_in};
+ghost use Rattle.pip_model_types.specs.Kinds.{listed_in};
 ghost use Rattle.pip_view.specs.Taken.{any_below, dir_files, dirs_files, executable, first_at};
 ghost use Rattle.pip_view.specs.Taken.{taken_bytes, taken_files, taken_names};
 ghost use Rattle.bx_tree.specs.Lent.{texts_now};
 ghost use Rattle.bx_tree.specs.Ranges.{prefix_below};
 
-use crate::below::{is_below, next_atom, prefix_of};
+use crate::Names;
 use crate::file_list::{add_below, file_at, has_below};
-use crate::{Memory, Names};
 use bx_digest::Blob;
-use bx_tree::{FileInput, Path};
-use pip_model::{DirInput, FileInputs, Pip, PipKind, Plan, ProcessDesc, SealForm, Sources};
+use bx_tree::{FileInput, Memory, Path, next_atom, prefix_of};
+use pip_model::{DirInput, Pip, Plan, ProcessDesc, SealForm, Sources};
+use pip_model_types::{no_inputs, pip_at};
 use pip_view_directories::{near_dirs, searched};
 use pip_view_inputs::{Inputs, input_file, source_blob};
 use std::alloc::Global;
 use tool_run::add_names;
-
-// The files that a pip lists, if it is a seal.
-fn listed(pips: &[Pip], pip: u32) -> Option<&FileInputs>
-    ensures { option_map_or (λ files. files.now) result [] ≡ listed_in (slice_get pips.entry.now pip) }
-{
-    match &pips.get(pip as usize)?.kind {
-        PipKind::Seal(seal) => Some(&seal.files),
-        PipKind::Process(_) | PipKind::Copy(_) | PipKind::Write(_) => None,
-    }
-}
-
-// No files.
-fn no_inputs<'a>() -> &'a [FileInput]
-    ensures files { result.now ≡ [] }
-    ensures rising { RiseByPath result.now }
-{
-    &[]
-}
 
 // The files that a pip lists, in order.
 fn listed_files(pips: &[Pip], pip: u32) -> &[FileInput]
     ensures files { result.now ≡ listed_in (slice_get pips.entry.now pip) }
     ensures rising { RiseByPath result.now }
 {
-    match listed(pips, pip) {
-        Some(files) => files.files(),
+    match pip_at(pips, pip) {
+        Some(pip) => pip.kind.listed(),
         None => no_inputs(),
     }
 }
@@ -179,7 +161,7 @@ fn has_among(
     let prefix = prefix_of(alloc, dir)?;
     let files = process.files.files();
     Ok(
-        is_below(&process.exe, dir)
+        process.exe.is_below(dir)
             || has_below(files, prefix.as_slice(), dir)
             || has_listed(pips, dirs, prefix.as_slice(), dir),
     )

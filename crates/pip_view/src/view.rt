@@ -1,8 +1,9 @@
 //! What a pip sees.
 ghost use Rattle.std.specs.Prelude.{◌≡◌, ◌≢◌, ◌<◌, ◌||◌, IfOk, IfSome, OnOk, if◌then◌else◌, length, slice_get};
 ghost use Rattle.std.specs.List.{filter_map, list_any};
-ghost use Rattle.tool_run_writes.specs.Below.{next_atom};
+ghost use Rattle.bx_tree.specs.Below.{is_directly_in, next_atom};
 ghost use Rattle.std.specs.Option.{option_copied};
+ghost use Rattle.bx_tree.specs.Paths.{is_root};
 ghost use Rattle.bx_tree.specs.Trees.{file_at};
 ghost use Rattle.tool_run_writes.specs.Writes.{has_below as file_below, own_names};
 ghost use Rattle.pip_view_inputs.specs.Plain.{process_in};
@@ -12,19 +13,19 @@ ghost use Rattle.tool_run.specs.Listings.{add_names as with_names};
 ghost use Rattle.tool_run.specs.NameSets.{names_now};
 ghost use Rattle.violations.specs.Producing.{dirs_at as dirs_of_pip};
 ghost use Rattle.pip_view.specs.InputFiles as files;
-ghost use Rattle.pip_view.specs.Ranges.{AreFilePaths};
+ghost use Rattle.bx_tree.specs.Ranges.{AreFilePaths};
 ghost use Rattle.pip_view.specs.Sees as seen;
 ghost use Rattle.pip_view.specs.Seen.{SearchedAt, answer_elsewhere, answer_unnamed, is_sealed_at, is_unseen_at};
 ghost use Rattle.pip_view.specs.Seen.{named_in, opaque_in, taken_in, view_answers};
 ghost use Rattle.pip_view.specs.Sees.{sees};
 
-use crate::below::{has_below, is_below, text_below};
+use crate::Names;
+use crate::below::has_below;
 use crate::listing::names_below;
 use crate::members::{add_members, find_member, has_member, opaque_by_pip, opaque_searched};
 use crate::taken::{add_taken, has_taken, taken_blob};
-use crate::{Memory, Names};
 use bx_digest::Blob;
-use bx_tree::Path;
+use bx_tree::{Memory, Path, text_below};
 use observed::{Answer, Ask, AskKind, View};
 use pip_model::{DirInput, DirInputs, Pip, Plan, ProcessDesc, SealForm, Sources};
 use pip_view_directories::{around_dirs, other_dirs, searched};
@@ -73,25 +74,19 @@ fn is_member(path: &Path, form: SealForm, root: &Path) -> bool
 {
     match form {
         SealForm::Full | SealForm::Partial => false,
-        SealForm::SourceAll => is_below(path, root),
+        SealForm::SourceAll => path.is_below(root),
         SealForm::SourceTop => is_directly_in(path, root),
     }
 }
 
 // Whether a path lies in a directory itself, and not in one below it.
 fn is_directly_in(path: &Path, dir: &Path) -> bool
-    ensures { result ≡ files.is_directly_in path.now dir.now }
+    ensures { result ≡ is_directly_in path.now dir.now }
 {
-    if !is_below(path, dir) {
+    if !path.is_below(dir) {
         return false;
     }
     !text_below(dir, path).contains(&b'/')
-}
-
-fn is_root(path: &Path) -> bool
-    ensures { result ≡ seen.is_root path.now }
-{
-    path.text() == "."
 }
 
 // Whether a source file is a member of a directory, which is a seal of source files.
@@ -333,9 +328,9 @@ impl<'a> PipView<'a> {
     // Whether a path is the root, or a file lies below it, where `below` says whether an input file does.
     fn is_directory(&self, alloc: Global, path: &Path, below: bool) -> Result<bool, Memory>
         ensures { IfOk result (λ yes. yes
-            ≡ (below || seen.is_root path.now || file_below self.now.tree path.now)) }
+            ≡ (below || is_root path.now || file_below self.now.tree path.now)) }
     {
-        if below || is_root(path) {
+        if below || path.is_root() {
             return Ok(true);
         }
         has_below(alloc, self.sources.paths(), path)

@@ -4,10 +4,11 @@ use Rattle.std.specs.Prelude.{Contains}
 use Rattle.std.proofs.lemmas.Bool.{cases_lt}
 use Rattle.std.proofs.lemmas.List.{take_more}
 use Rattle.std.proofs.lemmas.List.Elements.{filter-append}
+use Rattle.pip_model.proofs.NearTexts.{take_before, at_slash}
 use Rattle.bx_tree.specs.Paths.{Atoms, IsBelow, path_text}
 use Rattle.bx_tree.proofs.PathTexts.{prefix_from_below}
+use Rattle.bx_tree.specs.Sets.{IsSetOf}
 use Rattle.pip_model_types.specs.Dirs.{dir_cmp, dir_path}
-use Rattle.pip_model_types.specs.Sets.{IsSetOf}
 use Rattle.pip_model_types.specs.declared.dir_inputs.DirInput.{DirInput}
 use Rattle.pip_view_directories.specs.Around.{AreAround, HasText, IsAround, IsOver, IsPart, IsTextAround, IsUnder}
 use Rattle.pip_view_directories.specs.Ranges.{AddsAll, AreOthers, is_other}
@@ -34,14 +35,6 @@ over_more text place dirs old mid new h k =
           inr (subst (λ n. IsPart text n d) same is)
     ])
     (adds_both (IsFirst text place) (IsPart text place) dirs old mid new h k)
-
-take_before : (xs ys : List ℕ) → take (length xs) (xs ++ ys) ≡ xs
-take_before [] ys = refl
-take_before (x ∷ xs) ys = ap (λ zs. x ∷ zs) (take_before xs ys)
-
-at_slash : (xs ys : List ℕ) → get_or (xs ++ 47 ∷ ys) (length xs) 0 ≡ 47
-at_slash [] ys = refl
-at_slash (x ∷ xs) ys = at_slash xs ys
 
 pub over_all : (text : List ℕ) (place : ℕ) (dirs old new : List DirInput) → length text ≤ place → AddsAll dirs (IsFirst text place) old new
     → AddsAll dirs (IsOver text) old new

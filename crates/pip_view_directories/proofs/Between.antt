@@ -1,21 +1,22 @@
 -- Directories whose paths have texts in a range are neighbours in their order.
-use Rattle.std.proofs.Common.{◌≡◌, ℕ, zero, suc, ◌+◌, ◌-◌, ◌<◌, ◌≤◌, Bool, true, false, List, [], ◌∷◌, ◌++◌, ◌⊎◌, length, drop, take, get_or, refl, ap, sym, ◌∙◌, subst, inl, inr, arith}
+use Rattle.std.proofs.Common.{◌≡◌, ℕ, zero, suc, ◌+◌, ◌-◌, ◌<◌, ◌≤◌, true, false, List, [], ◌∷◌, ◌++◌, ◌⊎◌, length, drop, take, get_or, refl, ap, sym, ◌∙◌, subst, inl, inr, arith}
 use Rattle.std.specs.Prelude.{Contains}
 use Rattle.std.specs.Cmp.Lexicographic.{slice_cmp}
 use Rattle.std.specs.List.Sorted.{IsPartitionPoint, IsPartitionedBy}
 use Rattle.std.specs.Ordering.{is_lt, nat_cmp, ordering_then}
 use Rattle.std.specs.declared.cmp.Ordering.{Ordering}
 use Rattle.std.specs.declared.cmp.Ordering.TheVariants.{Less, Equal, Greater}
-use Rattle.std.proofs.lemmas.Bool.{cases_Bool, cases_lt, false≢true}
+use Rattle.std.proofs.lemmas.Bool.{cases_lt, false≢true}
 use Rattle.std.proofs.lemmas.Cmp.{nat_cmp_total, nat_list_cmp_total, tied_itself}
 use Rattle.std.proofs.lemmas.List.Elements.{Contains-append_cases, Contains-append_left, Contains-append_right}
 use Rattle.std.proofs.lemmas.Map.Keys.{Less-from_sorted, sorted_tail}
-use Rattle.bx_tree.specs.Orders.{equal_texts}
 use Rattle.bx_tree.specs.Paths.{path_text}
+use Rattle.bx_tree.specs.Ranges.{comes_before}
+use Rattle.bx_tree.proofs.SortedRanges.{earlier_text}
 use Rattle.pip_model_types.specs.Dirs.{RiseByForm, dir_cmp, dir_path}
 use Rattle.pip_model_types.specs.declared.dir_inputs.DirInput.{DirInput}
 use Rattle.pip_view_directories.specs.Around.{HasText, IsUnder}
-use Rattle.pip_view_directories.specs.Ranges.{AddsAll, IsBetween, comes_before}
+use Rattle.pip_view_directories.specs.Ranges.{AddsAll, IsBetween}
 use Rattle.pip_view_directories.proofs.Rising.{at_head, head_or_rest, in_rest}
 
 -- ## What comes before a text comes first
@@ -28,28 +29,16 @@ not_after Less p q e g = cc
 not_after Equal p q e g = cc
 not_after Greater p q e g = cc
 
-before_by : (bound text other : List ℕ) (o : Ordering) → slice_cmp nat_cmp text other ≡ o → (o ≡ Greater → ⊥)
-    → slice_cmp nat_cmp other bound ≡ Less → slice_cmp nat_cmp text bound ≡ Less
-before_by bound text other Less e n less = nat_list_cmp_total.trans text other bound e less
-before_by bound text other Equal e n less = ap (λ t. slice_cmp nat_cmp t bound) (equal_texts text other e) ∙ less
-before_by bound text other Greater e n less = absurd (n refl)
-
-less_from : (o : Ordering) → is_lt o ≡ true → o ≡ Less
-less_from Less e = refl
-less_from Equal e = absurd (false≢true e)
-less_from Greater e = absurd (false≢true e)
-
-earlier_before : (bound : List ℕ) (x y : DirInput) → dir_cmp x y ≡ Less → comes_before bound y ≡ true → comes_before bound x ≡ true
+earlier_before : (bound : List ℕ) (x y : DirInput) → dir_cmp x y ≡ Less → comes_before bound (dir_path y) ≡ true → comes_before bound (dir_path x) ≡ true
 earlier_before bound x y less before =
-    ap is_lt (before_by bound (text_of x) (text_of y) (slice_cmp nat_cmp (text_of x) (text_of y)) refl
-    (not_after (slice_cmp nat_cmp (text_of x) (text_of y)) _ _ less) (less_from (slice_cmp nat_cmp (text_of y) bound) before))
+    earlier_text bound (text_of x) (text_of y) (not_after (slice_cmp nat_cmp (text_of x) (text_of y)) _ _ less) before
 
-pub partitioned : (bound : List ℕ) (dirs : List DirInput) → RiseByForm dirs → IsPartitionedBy (comes_before bound) dirs
+pub partitioned : (bound : List ℕ) (dirs : List DirInput) → RiseByForm dirs → IsPartitionedBy (λ (d : DirInput). comes_before bound (dir_path d)) dirs
 partitioned bound dirs rising i j d low high before = elim (cases_lt i j) [
   | inl less ↦ earlier_before bound (get_or dirs i d) (get_or dirs j d) (Less-from_sorted dir_cmp dirs i j d rising less high) before
   | inr same ↦
       let level : i ≡ j = omega (arith, low, same) in
-      subst (λ k. comes_before bound (get_or dirs k d) ≡ true) (sym level) before
+      subst (λ k. comes_before bound (dir_path (get_or dirs k d)) ≡ true) (sym level) before
 ]
 
 -- ## Parts of a list
@@ -86,20 +75,20 @@ in_take (suc n) (suc k) (y ∷ ys) x low l e = in_rest y x (take n ys) (in_take 
 
 abbrev pub PointAt : List ℕ → List DirInput → ℕ → Type 0
 PointAt bound dirs n =
-    IsPartitionPoint (λ (d : DirInput). comes_before bound d ≡ true) (λ (d : DirInput). comes_before bound d ≡ false) dirs n
+    IsPartitionPoint (λ (d : DirInput). comes_before bound (dir_path d) ≡ true) (λ (d : DirInput). comes_before bound (dir_path d) ≡ false) dirs n
 
 pub from_point : (low : List ℕ) (dirs : List DirInput) (start : ℕ) (dir : DirInput) → PointAt low dirs start → Contains dirs dir
-    → comes_before low dir ≡ false → Contains (drop start dirs) dir
+    → comes_before low (dir_path dir) ≡ false → Contains (drop start dirs) dir
 from_point low dirs start dir point (k, l, e) after = elim (cases_lt k start) [
-  | inl first ↦ absurd (false≢true (sym after ∙ ap (comes_before low) (sym e) ∙ point.0 k dir (omega arith) first))
+  | inl first ↦ absurd (false≢true (sym after ∙ ap (λ (d : DirInput). comes_before low (dir_path d)) (sym e) ∙ point.0 k dir (omega arith) first))
   | inr past ↦ in_drop start k dirs dir past l e
 ]
 
 pub to_point : (high : List ℕ) (dirs : List DirInput) (end : ℕ) (dir : DirInput) → PointAt high dirs end → Contains dirs dir
-    → comes_before high dir ≡ true → Contains (take end dirs) dir
+    → comes_before high (dir_path dir) ≡ true → Contains (take end dirs) dir
 to_point high dirs end dir point (k, l, e) before = elim (cases_lt k end) [
   | inl first ↦ in_take end k dirs dir first l e
-  | inr past ↦ absurd (false≢true (sym (point.1 k dir past l) ∙ ap (comes_before high) e ∙ before))
+  | inr past ↦ absurd (false≢true (sym (point.1 k dir past l) ∙ ap (λ (d : DirInput). comes_before high (dir_path d)) e ∙ before))
 ]
 
 -- ## Directories that are added

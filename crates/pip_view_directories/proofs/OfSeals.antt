@@ -1,37 +1,25 @@
 -- The directories of the seals that are found by a path.
-use Rattle.std.proofs.Common.{◌≡◌, ◌≢◌, ℕ, ◌+◌, ◌<◌, ◌≤◌, Bool, List, [], ◌∷◌, ◌++◌, length, get_or, take, Option, Some, None, refl, ap, sym, ◌∙◌, subst, inl, inr, ◌⊎◌, arith}
+use Rattle.std.proofs.Common.{◌≡◌, ◌≢◌, ℕ, ◌+◌, ◌<◌, ◌≤◌, List, [], ◌∷◌, ◌++◌, length, get_or, take, Option, Some, None, refl, ap, ◌∙◌, subst, inl, inr, ◌⊎◌, arith}
 use Rattle.std.specs.Prelude.{Any, Contains, IsSomeAnd, slice_get}
-use Rattle.std.specs.Prelude.{◌↔◌, IsTrue, codes}
 use Rattle.std.specs.List.{All}
-use Rattle.std.specs.Str.{bytes_eq}
-use Rattle.std.proofs.lemmas.Slice.Eq.{bytes_eq-Decides}
-use Rattle.bx_path.proofs.StepsOfTexts.{root_from_text}
 use Rattle.std.proofs.lemmas.List.{take_more, take_all}
 use Rattle.std.proofs.lemmas.List.Elements.{All-contains, Contains-push, Contains-push_cases}
-use Rattle.bx_tree.specs.Paths.{Atoms, IsBelow, IsPath, path_text}
+use Rattle.bx_tree.specs.Paths.{Atoms, IsBelow, path_text}
 use Rattle.bx_tree.specs.declared.file_input.FileInput.{FileInput}
 use Rattle.bx_tree.proofs.PathTexts.{prefix_from_below}
 use Rattle.pip_model_types.specs.Dirs.{dir_cmp, dir_pip}
 use Rattle.pip_model_types.specs.Makers.{HasOutDir, IsDirAmong, IsSealOf}
-use Rattle.pip_model_types.specs.Sets.{IsSetOf}
 use Rattle.pip_model_types.specs.declared.dir_inputs.DirInput.{DirInput}
 use Rattle.pip_model_types.specs.declared.dir_inputs.DirInput.TheVariants.{Sealed, Opaque}
 use Rattle.pip_model_types.specs.declared.dir_inputs.SealForm.{SealForm}
 use Rattle.pip_model_types.specs.declared.pip.Pip.{Pip}
 use Rattle.pip_model_types.specs.declared.pip.PipKind.{PipKind}
 use Rattle.pip_model_types.specs.declared.pip.PipKind.TheVariants.{Process, Copy, Write, Seal}
-use Rattle.pip_model.specs.Listings.{IsNear, ListsNear, listed_files}
+use Rattle.pip_model_types.specs.Kinds.{listed_files}
+use Rattle.pip_model.specs.Listings.{IsNear, ListsNear}
 use Rattle.pip_view_directories.specs.Near.{AddsDir, AreNear, AreOfSeals, ListsAt, dir_in, kind_dir}
 use Rattle.bx_tree.specs.FileInputs.{input_path}
-
--- ## The root
-
-pub root_decides : (path : Atoms) (text : List ℕ) (r : Bool) → IsPath path → text ≡ path_text path → r ≡ bytes_eq text (codes ".")
-    → IsTrue r ↔ (path ≡ [])
-root_decides path text r k e is = (
-  λ t. root_from_text path k (sym e ∙ (bytes_eq-Decides text (codes ".")).0 (sym is ∙ t)),
-  λ none. is ∙ (bytes_eq-Decides text (codes ".")).1 (e ∙ ap path_text none),
-)
+use Rattle.bx_tree.specs.Sets.{IsSetOf}
 
 -- ## One seal more
 

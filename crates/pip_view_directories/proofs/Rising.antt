@@ -3,7 +3,7 @@ use Rattle.std.proofs.Common.{◌≡◌, ◌↔◌, ℕ, zero, suc, ◌+◌, Boo
 use Rattle.std.specs.Prelude.{Any}
 use Rattle.std.specs.List.{Contains, list_any}
 use Rattle.std.specs.List.Sorted.{IsBinarySearchResult, IsSearchInRange, IsSortedBy}
-use Rattle.std.specs.Ordering.{is_eq, is_lt, ordering_reverse}
+use Rattle.std.specs.Ordering.{is_lt, ordering_reverse}
 use Rattle.std.specs.Result.{is_ok}
 use Rattle.std.specs.declared.cmp.Ordering.{Ordering}
 use Rattle.std.specs.declared.cmp.Ordering.TheVariants.{Less, Equal, Greater}
@@ -15,13 +15,9 @@ use Rattle.std.proofs.lemmas.List.Kept.{IsStrictlySortedBy-filter}
 use Rattle.std.proofs.lemmas.List.Sorted.{searchable_from_sorted}
 use Rattle.std.proofs.lemmas.Map.Keys.{Less-from_sorted, sorted_head, sorted_tail}
 use Rattle.pip_model_types.specs.Dirs.{RiseByForm, dir_cmp, same_dir}
-use Rattle.pip_model_types.specs.Orders.{dir_cmp_matches, dir_cmp_total, same_dir_equiv}
+use Rattle.pip_model_types.specs.Orders.{dir_cmp_total, same_dir_equiv}
 use Rattle.pip_model_types.specs.declared.dir_inputs.DirInput.{DirInput}
-use Rattle.pip_model_types.proofs.SetsOf.{same_dir_exact}
-
--- directories that tie in their order are equal
-pub equal_dirs : (x y : DirInput) → dir_cmp x y ≡ Equal → x ≡ y
-equal_dirs x y e = same_dir_exact x y (dir_cmp_matches x y ∙ ap is_eq e)
+use Rattle.pip_model_types.proofs.SetsOf.{same_dir_exact, equal_dirs}
 
 -- ## A search
 

@@ -1,6 +1,6 @@
 -- Directories at, above and below a path.
-use Rattle.std.specs.Prelude.{◌≡◌, ◌⊎◌, ℕ, List, ◌∷◌, ◌++◌, Contains, codes, take, slice_index_or}
-use Rattle.bx_tree.specs.Paths.{Atoms, IsBelow, path_text}
+use Rattle.std.specs.Prelude.{◌≡◌, ◌⊎◌, ℕ, List, Contains, codes, take, slice_index_or}
+use Rattle.bx_tree.specs.Paths.{Atoms, TextGoesOn, IsBelow, path_text}
 use Rattle.pip_model_types.specs.Dirs.{RiseByForm, dir_path}
 use Rattle.pip_model_types.specs.declared.dir_inputs.DirInput.{DirInput}
 
@@ -22,11 +22,11 @@ HasText text dir = path_text (dir_path dir) ≡ text
 
 -- the text goes on after that of the directory's path and a `/`
 abbrev pub IsOver : List ℕ → DirInput → Type 0
-IsOver text dir = (rest : List ℕ) × (text ≡ path_text (dir_path dir) ++ 47 ∷ rest)
+IsOver text dir = TextGoesOn (path_text (dir_path dir)) text
 
 -- the text of the directory's path goes on after the text and a `/`
 abbrev pub IsUnder : List ℕ → DirInput → Type 0
-IsUnder text dir = (rest : List ℕ) × (path_text (dir_path dir) ≡ text ++ 47 ∷ rest)
+IsUnder text dir = TextGoesOn text (path_text (dir_path dir))
 
 -- a `/` is at this place of the text, and what precedes it is the text of the directory's path
 abbrev pub IsPart : List ℕ → ℕ → DirInput → Type 0

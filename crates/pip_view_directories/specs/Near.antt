@@ -1,7 +1,8 @@
 -- Directories of seals that list a file at a path or below it.
 use Rattle.std.specs.Prelude.{◌≡◌, ℕ, ◌<◌, Bool, true, List, ◌⊎◌, All, Any, Contains, IsSomeAnd}
 use Rattle.std.specs.Prelude.{Option, Some, None, length, slice_get}
-use Rattle.bx_tree.specs.Paths.{Atoms, IsBelow}
+use Rattle.bx_tree.specs.Below.{IsAtOrBelow}
+use Rattle.bx_tree.specs.Paths.{Atoms}
 use Rattle.bx_tree.specs.declared.file_input.FileInput.{FileInput}
 use Rattle.pip_model_types.specs.Dirs.{RiseByForm, dir_pip}
 use Rattle.pip_model_types.specs.Makers.{IsDirAmong}
@@ -10,7 +11,8 @@ use Rattle.pip_model_types.specs.declared.dir_inputs.DirInput.TheVariants.{Seale
 use Rattle.pip_model_types.specs.declared.pip.Pip.{Pip}
 use Rattle.pip_model_types.specs.declared.pip.PipKind.{PipKind}
 use Rattle.pip_model_types.specs.declared.pip.PipKind.TheVariants.{Process, Copy, Write, Seal}
-use Rattle.pip_model.specs.Listings.{has_wide, listed_files}
+use Rattle.pip_model_types.specs.Kinds.{listed_files}
+use Rattle.pip_model.specs.Listings.{has_wide}
 use Rattle.pip_model.specs.declared.listings.TheConstants.{FEW_DIRS}
 use Rattle.bx_tree.specs.FileInputs.{input_path}
 
@@ -34,7 +36,7 @@ pub record AreTaken (pips : List Pip) (dirs : List DirInput) : Type 0 where
 abbrev pub ListsAt : List Pip → ℕ → Atoms → Type 0
 ListsAt pips j path =
     IsSomeAnd (slice_get pips j) (λ (pip : Pip).
-    Any (λ (f : FileInput). (input_path f ≡ path) ⊎ IsBelow (input_path f) path) (listed_files pip.kind))
+    Any (λ (f : FileInput). IsAtOrBelow (input_path f) path) (listed_files pip.kind))
 
 -- some of the directories, in their order, with each of a seal that lists a file at the path or below it
 pub record AreNear (pips : List Pip) (dirs : List DirInput) (path : Atoms) (near : List DirInput)

@@ -1,8 +1,6 @@
 -- Directories that do not list their files, and which of them are in a range of texts.
 use Rattle.std.specs.Prelude.{◌≡◌, ◌↔◌, ◌⊎◌, Bool, true, false, ℕ, List, Contains}
-use Rattle.std.specs.Cmp.Lexicographic.{slice_cmp}
-use Rattle.std.specs.Ordering.{is_lt, nat_cmp}
-use Rattle.bx_tree.specs.Paths.{path_text}
+use Rattle.bx_tree.specs.Ranges.{comes_before}
 use Rattle.pip_model_types.specs.Dirs.{RiseByForm, dir_path, is_source_form}
 use Rattle.pip_model_types.specs.declared.dir_inputs.DirInput.{DirInput}
 use Rattle.pip_model_types.specs.declared.dir_inputs.DirInput.TheVariants.{Sealed, Opaque}
@@ -19,13 +17,9 @@ pub record AreOthers (dirs others : List DirInput) : Type 0 where
   pub rising : RiseByForm others
   pub all : (dir : DirInput) → Contains others dir ↔ (Contains dirs dir × (is_other dir ≡ true))
 
--- whether the text of a directory's path comes before a text
-abbrev pub comes_before : List ℕ → DirInput → Bool
-comes_before text dir = is_lt (slice_cmp nat_cmp (path_text (dir_path dir)) text)
-
 -- the text of the directory's path comes before one text, and not before another
 abbrev pub IsBetween : List ℕ → List ℕ → DirInput → Type 0
-IsBetween low high dir = (comes_before low dir ≡ false) × (comes_before high dir ≡ true)
+IsBetween low high dir = (comes_before low (dir_path dir) ≡ false) × (comes_before high (dir_path dir) ≡ true)
 
 -- some of the directories with all of which this holds, beside those that were there
 pub record AddsAll (dirs : List DirInput) (P : DirInput → Type 0) (old new : List DirInput) : Type 0 where

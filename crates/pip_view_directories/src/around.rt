@@ -4,10 +4,8 @@ ghost use Rattle.pip_model_types.specs.Dirs.{RiseByForm};
 ghost use Rattle.pip_view_directories.specs.Around.{AreAround, HasText, IsOver, IsPart, IsTextAround, IsUnder};
 ghost use Rattle.pip_view_directories.specs.Ranges.{AddsAll};
 
-use crate::Memory;
-use crate::near::is_root;
 use crate::ranges::add_between;
-use bx_tree::Path;
+use bx_tree::{Memory, Path};
 use pip_model::{DirInput, DirInputs};
 use std::alloc::Global;
 
@@ -133,7 +131,7 @@ pub fn around_dirs(
     ensures { IfOk result (λ found. IfSome found (AreAround dirs.now path.now)) }
 {
     let all = dirs.dirs();
-    if all.len() <= MANY_DIRS || is_root(path) {
+    if all.len() <= MANY_DIRS || path.is_root() {
         return Ok(None);
     }
     let mut found = Vec::new(alloc);

@@ -1,9 +1,9 @@
 //! Lookup of the directory dependencies of a process that can affect a path.
 //!
-//! Of a process that takes many directories not each is searched at each path: the seals that list a file at a
-//! path or below it are found in the plan, and opaque directories and seals of source files in the order of
-//! their paths. This crate depends on `pip_model` for pips and plans. It carries the promise that no directory
-//! which matters is left out.
+//! Of a process with many directory dependencies not each is searched at each path: the seals that list a file at a
+//! path or below it are found in the plan, and opaque directories and source seals by binary search over their
+//! paths. This crate depends on `pip_model` for pips and plans. It carries the promise that no directory which
+//! matters is left out.
 #![tactic(auto)]
 
 mod around;
@@ -13,6 +13,3 @@ mod ranges;
 pub use around::{MANY_DIRS, around_dirs};
 pub use near::{near_dirs, searched};
 pub use ranges::other_dirs;
-
-/// Out of memory, the one refusal that no contract ties to a cause.
-pub type Memory = std::alloc::AllocError;

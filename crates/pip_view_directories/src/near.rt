@@ -1,21 +1,13 @@
 //! The directories of seals that list a file near a path.
-ghost use Rattle.std.specs.Prelude.{◌≡◌, ◌↔◌, [], Contains, IsTrue, IfOk, OnOk, slice_get};
+ghost use Rattle.std.specs.Prelude.{◌≡◌, ◌↔◌, Contains, IsTrue, IfOk, OnOk, slice_get};
 ghost use Rattle.std.specs.Prelude.{IfSome};
 ghost use Rattle.std.specs.Option.{unwrap_or};
 ghost use Rattle.pip_model_types.specs.Dirs.{RiseByForm};
 ghost use Rattle.pip_view_directories.specs.Near.{AddsDir, AreNear, AreOfSeals, AreTaken, dir_in, kind_dir};
 
-use crate::Memory;
-use bx_tree::Path;
+use bx_tree::{Memory, Path};
 use pip_model::{DirInput, DirInputs, FEW_DIRS, Pip, PipKind, Plan};
 use std::alloc::Global;
-
-// Whether a path is the root.
-pub(crate) fn is_root(path: &Path) -> bool
-    ensures { IsTrue result ↔ (path.now ≡ []) }
-{
-    path.text() == "."
-}
 
 // The directory of a pip, if it is a seal.
 fn dir_of(number: u32, kind: &PipKind) -> Result<Option<DirInput>, Memory>
@@ -95,7 +87,7 @@ pub fn near_dirs(
     ensures { IfOk result (λ found. IfSome found (AreNear plan.now.pips dirs.now path.now)) }
 {
     let taken = dirs.dirs();
-    if taken.len() <= FEW_DIRS || is_root(path) {
+    if taken.len() <= FEW_DIRS || path.is_root() {
         return Ok(None);
     }
     let seals = plan.seals_near(path.text().as_bytes());

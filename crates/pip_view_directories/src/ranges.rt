@@ -2,25 +2,15 @@
 ghost use Rattle.std.specs.Prelude.{◌≡◌, ◌≤◌, ◌++◌, true, false, Contains, IfOk, OnOk, filter, length};
 ghost use Rattle.std.specs.Prelude.{◌∷◌, []};
 ghost use Rattle.std.specs.List.Sorted.{IsPartitionPoint};
+ghost use Rattle.bx_tree.specs.Ranges.{comes_before};
 ghost use Rattle.pip_model_types.specs.Dirs.{RiseByForm, dir_path, is_source_form as unlisted};
 ghost use Rattle.pip_model_types.specs.declared.dir_inputs.DirInput.{DirInput as AnyDir};
-ghost use Rattle.pip_view_directories.specs.Ranges.{AddsAll, AreOthers, IsBetween, comes_before as before_text};
+ghost use Rattle.pip_view_directories.specs.Ranges.{AddsAll, AreOthers, IsBetween};
 ghost use Rattle.pip_view_directories.specs.Ranges.{is_other as other};
 
-use crate::Memory;
-use bx_tree::Path;
+use bx_tree::{Memory, comes_before};
 use pip_model::{DirInput, DirInputs, SealForm};
 use std::alloc::Global;
-
-// The path of a directory.
-fn path_of(dir: &DirInput) -> &Path
-    ensures { result.now ≡ dir_path dir.entry.now }
-{
-    match dir {
-        DirInput::Sealed(_, _, root) => root,
-        DirInput::Opaque(_, path) => path,
-    }
-}
 
 // Whether a seal of this form does not list its files.
 fn is_unlisted(form: SealForm) -> bool
@@ -42,22 +32,12 @@ fn is_other(dir: &DirInput) -> bool
     }
 }
 
-// A directory, shared.
-fn share_dir(dir: &DirInput) -> Result<DirInput, Memory>
-    ensures { IfOk result (λ shared. shared ≡ dir.now) }
-{
-    match dir {
-        DirInput::Sealed(pip, form, root) => Ok(DirInput::Sealed(*pip, *form, root.share()?)),
-        DirInput::Opaque(pip, path) => Ok(DirInput::Opaque(*pip, path.share()?)),
-    }
-}
-
 // Adds a directory, if it does not list its files.
 fn add_other(others: &mut Vec<DirInput>, dir: &DirInput) -> Result<(), Memory>
     ensures { OnOk result (others.new.items ≡ others.old.items ++ filter other (dir.now ∷ [])) }
 {
     if is_other(dir) {
-        others.push(share_dir(dir)?)?;
+        others.push(dir.share()?)?;
     }
     Ok(())
 }
@@ -80,23 +60,16 @@ pub fn other_dirs(alloc: Global, dirs: &[DirInput]) -> Result<DirInputs, Memory>
     Ok(DirInputs::of(all_others(alloc, dirs)?))
 }
 
-// Whether the text of a directory's path comes before a text.
-fn comes_before(dir: &DirInput, text: &[u8]) -> bool
-    ensures { result ≡ before_text text.now dir.now }
-{
-    path_of(dir).text().as_bytes().cmp(text).is_lt()
-}
-
 // How many directories come before those whose paths have this text or a greater one.
 fn count_before(dirs: &[DirInput], text: &[u8]) -> usize
     requires { RiseByForm dirs.now }
     ensures bound { result ≤ length dirs.now }
     ensures before { IsPartitionPoint
-        (λ (dir : AnyDir). before_text text.now dir ≡ true)
-        (λ (dir : AnyDir). before_text text.now dir ≡ false)
+        (λ (dir : AnyDir). comes_before text.now (dir_path dir) ≡ true)
+        (λ (dir : AnyDir). comes_before text.now (dir_path dir) ≡ false)
         dirs.now result }
 {
-    dirs.partition_point(|dir| comes_before(dir, text))
+    dirs.partition_point(|dir| comes_before(dir.path(), text))
 }
 
 // The directories whose paths have this text or a greater one.
@@ -104,7 +77,7 @@ fn from_text<'a>(dirs: &'a [DirInput], low: &[u8]) -> &'a [DirInput]
     requires { RiseByForm dirs.now }
     ensures rising { RiseByForm result.now }
     ensures only { (dir : AnyDir) → Contains result.now dir → Contains dirs.entry.now dir }
-    ensures all { (dir : AnyDir) → Contains dirs.entry.now dir → before_text low.now dir ≡ false
+    ensures all { (dir : AnyDir) → Contains dirs.entry.now dir → comes_before low.now (dir_path dir) ≡ false
         → Contains result.now dir }
 {
     let start = count_before(dirs, low);
@@ -115,7 +88,7 @@ fn from_text<'a>(dirs: &'a [DirInput], low: &[u8]) -> &'a [DirInput]
 fn up_to_text<'a>(dirs: &'a [DirInput], high: &[u8]) -> &'a [DirInput]
     requires { RiseByForm dirs.now }
     ensures only { (dir : AnyDir) → Contains result.now dir → Contains dirs.entry.now dir }
-    ensures all { (dir : AnyDir) → Contains dirs.entry.now dir → before_text high.now dir ≡ true
+    ensures all { (dir : AnyDir) → Contains dirs.entry.now dir → comes_before high.now (dir_path dir) ≡ true
         → Contains result.now dir }
 {
     let end = count_before(dirs, high);
@@ -138,7 +111,7 @@ fn add_all(found: &mut Vec<DirInput>, dirs: &[DirInput]) -> Result<(), Memory>
     ensures { OnOk result (found.new.items ≡ found.old.items ++ dirs.now) }
 {
     'dirs: for dir in dirs {
-        found.push(share_dir(dir)?)?;
+        found.push(dir.share()?)?;
     }
     Ok(())
 }

@@ -6,7 +6,7 @@ use Rattle.std.proofs.lemmas.List.{map-append, take_more}
 use Rattle.bx_tree.specs.Paths.{path_cmp, same_path}
 use Rattle.bx_tree.specs.Trees.{Files, paths_of}
 use Rattle.bx_tree.specs.declared.file_input.FileInput.{FileInput}
-use Rattle.tool_run_writes.proofs.SameFiles.{distinct_paths}
+use Rattle.pip_model_types.proofs.SameFiles.{distinct_paths}
 use Rattle.pip_model_types.specs.Inputs.{RiseByPath}
 use Rattle.pip_model_types.specs.Made.{RisingFiles, made_files}
 use Rattle.pip_model_types.specs.declared.made.MadeFile.{MadeFile}
@@ -25,7 +25,7 @@ one_more tree made files n file items new f l at so_far is e =
     ∙ sym (map-append (input_file tree made) (take n files) (get_or files n file ∷ []))
     ∙ ap (map (input_file tree made)) (sym (take_more files n file l))
 
-paths_taken : (tree : Files) (made : ByPip) (files : List FileInput) → paths_of (map (input_file tree made) files) ≡ map input_path files
+pub paths_taken : (tree : Files) (made : ByPip) (files : List FileInput) → paths_of (map (input_file tree made) files) ≡ map input_path files
 paths_taken tree made [] = refl
 paths_taken tree made (f ∷ fs) = ap (λ ps. input_path f ∷ ps) (paths_taken tree made fs)
 

@@ -7,8 +7,8 @@ ghost use Rattle.violations.specs.Slots.{slot_files};
 ghost use Rattle.pip_view_inputs.specs.Results.{files_by, inputs_at};
 ghost use Rattle.pip_view_inputs.specs.Views.{input_by, made_pair};
 
-use crate::Memory;
 use crate::making::no_files;
+use bx_tree::Memory;
 use pip_model::{Made, Plan, Slot};
 use std::alloc::Global;
 use std::marker::Model;

@@ -7,13 +7,11 @@ ghost use Rattle.pip_model_types.specs.declared.pip.ProcessDesc.{ProcessDesc as 
 ghost use Rattle.pip_view_inputs.specs.Results.{files_by};
 ghost use Rattle.pip_view_inputs.specs.Contents.{bytes_at, input_bytes, input_file as file_of_input};
 ghost use Rattle.pip_view_inputs.specs.Plain.{desc_of, kind_process, plain_at, plain_of, process_in};
-ghost use Rattle.bx_tree.specs.FileInputs.{input_path};
 
-use crate::Memory;
 use crate::inputs::Inputs;
 use crate::sharing::share_process;
 use bx_digest::Blob;
-use bx_tree::{FileInput, Path};
+use bx_tree::{FileInput, Memory, Path};
 use pip_model::{Desc, FileInputs, Made, MadeFile, Pip, PipKind, Plan, ProcessDesc, Sources};
 use std::alloc::Global;
 use tool_run_writes::{Writes, with_file};
@@ -28,7 +26,8 @@ fn share_or_empty(alloc: Global, found: Option<&Blob>) -> Result<Blob, Memory>
     }
 }
 
-fn made_at<'a>(inputs: &'a Inputs, pip: u32, path: &Path) -> Option<&'a Blob>
+/// The bytes of the file at a path that an input made, if there is one.
+pub fn made_at<'a>(inputs: &'a Inputs, pip: u32, path: &Path) -> Option<&'a Blob>
     ensures { option_copied result ≡ file_at (files_by inputs.entry.now pip) path.now }
 {
     match inputs.find(pip) {
@@ -59,15 +58,6 @@ fn input_blob(
     }
 }
 
-fn path_of(file: &FileInput) -> &Path
-    ensures { result.now ≡ input_path file.now }
-{
-    match file {
-        FileInput::Source(path) => path,
-        FileInput::Made(path, _) => path,
-    }
-}
-
 /// A file that a pip takes, with its bytes.
 pub fn input_file(
     alloc: Global,
@@ -79,7 +69,7 @@ pub fn input_file(
         (taken.path, taken.blob) ≡ file_of_input sources.now inputs.now file.now) }
 {
     Ok(MadeFile {
-        path: path_of(file).share()?,
+        path: file.path().share()?,
         blob: input_blob(alloc, sources, inputs, file)?,
     })
 }

@@ -1,8 +1,7 @@
 //! Shared descriptions of processes: paths and texts are shared, and the lists of them are copied.
 ghost use Rattle.std.specs.Prelude.{◌≡◌, IfOk};
 
-use crate::Memory;
-use bx_tree::{FileInput, Path, Text};
+use bx_tree::{FileInput, Memory, Path, Text};
 use pip_model::{
     Arguments, DirInput, DirInputs, EnvPair, FileInputs, OutDir, OutDirs, Outputs, ProcessDesc,
     Variables,
@@ -80,21 +79,12 @@ fn share_files(alloc: Global, files: &FileInputs) -> Result<FileInputs, Memory>
     Ok(FileInputs::of(shared))
 }
 
-fn share_dir(dir: &DirInput) -> Result<DirInput, Memory>
-    ensures { IfOk result (λ shared. shared ≡ dir.now) }
-{
-    match dir {
-        DirInput::Sealed(pip, form, root) => Ok(DirInput::Sealed(*pip, *form, root.share()?)),
-        DirInput::Opaque(pip, path) => Ok(DirInput::Opaque(*pip, path.share()?)),
-    }
-}
-
 fn share_dir_list(alloc: Global, dirs: &[DirInput]) -> Result<Vec<DirInput>, Memory>
     ensures { IfOk result (λ shared. shared.items ≡ dirs.now) }
 {
     let mut shared = Vec::new(alloc);
     'dirs: for dir in dirs {
-        shared.push(share_dir(dir)?)?;
+        shared.push(dir.share()?)?;
     }
     Ok(shared)
 }
@@ -125,21 +115,12 @@ fn share_outputs(alloc: Global, outs: &Outputs) -> Result<Outputs, Memory>
     Ok(Outputs::of(shared))
 }
 
-fn share_outdir(dir: &OutDir) -> Result<OutDir, Memory>
-    ensures { IfOk result (λ shared. shared ≡ dir.now) }
-{
-    Ok(OutDir {
-        path: dir.path.share()?,
-        shared: dir.shared,
-    })
-}
-
 fn share_outdir_list(alloc: Global, dirs: &[OutDir]) -> Result<Vec<OutDir>, Memory>
     ensures { IfOk result (λ shared. shared.items ≡ dirs.now) }
 {
     let mut shared = Vec::new(alloc);
     'dirs: for dir in dirs {
-        shared.push(share_outdir(dir)?)?;
+        shared.push(dir.share()?)?;
     }
     Ok(shared)
 }

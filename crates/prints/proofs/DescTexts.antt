@@ -2,6 +2,7 @@
 use Rattle.std.proofs.Common.{◌≡◌, ℕ, List, [], ◌∷◌, ◌++◌, map, Some, refl, sym, ap, subst, ◌∙◌}
 use Rattle.std.specs.List.{AllByRecursion, flat_map}
 use Rattle.std.specs.List.Sorted.{IsStrictlySortedBy}
+use Rattle.std.proofs.lemmas.List.{length-map, map-id}
 use Rattle.sha2.specs.Sha256.{sha256}
 use Rattle.bx_tree.specs.Paths.{Atoms, IsPath, path_cmp}
 use Rattle.bx_tree.specs.Trees.{Files, paths_of}
@@ -17,14 +18,13 @@ use Rattle.pip_model_types.specs.declared.desc.Desc.{Desc}
 use Rattle.pip_model_types.specs.declared.dir_inputs.DirInput.{DirInput}
 use Rattle.pip_model_types.specs.declared.made.MadeFile.{MadeFile}
 use Rattle.pip_model_types.specs.declared.outputs.OutDir.{OutDir}
-use Rattle.prints.proofs.Rising.{map_same}
 use Rattle.prints.specs.declared.weak_lines.DirLine.{DirLine}
 use Rattle.prints.specs.declared.weak_lines.FileLine.{FileLine}
 use Rattle.prints.specs.declared.weak_parts.WeakParts.{WeakParts}
 use Rattle.prints.specs.Processes.{AreListsWeak, IsCountable, IsDirLine, IsFileLine, IsHeadWeak, IsOutDir, IsVariable, numbered_from, weak_parts, without_pips}
 use Rattle.prints.specs.ReadWeak.{read_weak_text}
 use Rattle.prints.specs.Weak.{arg_line, dir_line, env_line, file_lines, in_line, indir_line, line_of_file, lists_text, out_line, outdir_line, weak_text}
-use Rattle.prints.proofs.WeakTexts.{dir_paths, lines_of_numbered, map_length, numbered_again, numbered_rise, rising_itself, weak_again}
+use Rattle.prints.proofs.WeakTexts.{dir_paths, lines_of_numbered, numbered_again, numbered_rise, rising_itself, weak_again}
 use Rattle.bx_tree.specs.FileInputs.{input_path}
 
 -- ## Declared files
@@ -53,12 +53,12 @@ module _ (d : Desc) (ms : List MadeFile) (are : made_files ms ≡ d.files) where
       ++ (flat_map out_line (map (λ p. p) os) ++ flat_map outdir_line (map (λ o. o) ods)))))
       ≡ lists_text (weak_parts d)
   lists_written as' vs ds os ods a v e o p =
-      ap (λ xs. with_all xs (map (λ v. v) vs) (map line_of_file ms) (map dir_line ds) (map (λ p. p) os) (map (λ o. o) ods)) (map_same as' ∙ a)
-      ∙ ap (λ xs. with_all d.process.args xs (map line_of_file ms) (map dir_line ds) (map (λ p. p) os) (map (λ o. o) ods)) (map_same vs ∙ v)
+      ap (λ xs. with_all xs (map (λ v. v) vs) (map line_of_file ms) (map dir_line ds) (map (λ p. p) os) (map (λ o. o) ods)) (map-id as' ∙ a)
+      ∙ ap (λ xs. with_all d.process.args xs (map line_of_file ms) (map dir_line ds) (map (λ p. p) os) (map (λ o. o) ods)) (map-id vs ∙ v)
       ∙ ap (λ xs. with_all d.process.args d.process.env xs (map dir_line ds) (map (λ p. p) os) (map (λ o. o) ods)) (sym lines_are)
       ∙ ap (λ xs. with_all d.process.args d.process.env files xs (map (λ p. p) os) (map (λ o. o) ods)) (ap (map dir_line) e ∙ sym (lines_of_numbered 0 d.process.dirs))
-      ∙ ap (λ xs. with_all d.process.args d.process.env files dirs xs (map (λ o. o) ods)) (map_same os ∙ o)
-      ∙ ap (λ xs. with_all d.process.args d.process.env files dirs d.process.outs xs) (map_same ods ∙ p)
+      ∙ ap (λ xs. with_all d.process.args d.process.env files dirs xs (map (λ o. o) ods)) (map-id os ∙ o)
+      ∙ ap (λ xs. with_all d.process.args d.process.env files dirs d.process.outs xs) (map-id ods ∙ p)
     where
       files : List FileLine
       files = file_lines (map input_path (map Source (paths_of d.files))) (map (λ (f : Atoms × List ℕ). sha256 f.1) d.files)
@@ -76,17 +76,17 @@ module _ (d : Desc) (ms : List MadeFile) (are : made_files ms ≡ d.files) where
       → AllByRecursion IsPath (map (λ p. p) d.process.outs) → IsStrictlySortedBy path_cmp d.process.outs
       → AllByRecursion IsOutDir (map (λ o. o) d.process.outdirs) → IsStrictlySortedBy outdir_cmp d.process.outdirs → AreListsWeak (weak_parts d)
   lists_weak args env env_order files files_order dirs dirs_order outs outs_order outdirs outdirs_order = record {
-    args = subst (AllByRecursion IsCountable) (map_same d.process.args) args;
-    env = subst (AllByRecursion IsVariable) (map_same d.process.env) env;
+    args = subst (AllByRecursion IsCountable) (map-id d.process.args) args;
+    env = subst (AllByRecursion IsVariable) (map-id d.process.env) env;
     env_order = env_order;
     files = subst (AllByRecursion IsFileLine) (sym lines_are) files;
     files_order = subst (IsStrictlySortedBy path_cmp) (sym (source_inputs (paths_of d.files))) files_order;
-    one_each = map_length Source (paths_of d.files) ∙ map_length (λ f. f.0) d.files ∙ sym (map_length (λ (f : Atoms × List ℕ). sha256 f.1) d.files);
+    one_each = length-map (paths_of d.files) Source ∙ length-map d.files (λ f. f.0) ∙ sym (length-map d.files (λ (f : Atoms × List ℕ). sha256 f.1));
     dirs = dir_paths (numbered_from 0 d.process.dirs) (subst (AllByRecursion IsDirLine) (sym (lines_of_numbered 0 d.process.dirs)) dirs);
     dirs_order = rising_itself dir_cmp_total (numbered_from 0 d.process.dirs) (numbered_rise 0 d.process.dirs dirs_order);
-    outs = subst (AllByRecursion IsPath) (map_same d.process.outs) outs;
+    outs = subst (AllByRecursion IsPath) (map-id d.process.outs) outs;
     outs_order = outs_order;
-    outdirs = subst (AllByRecursion IsOutDir) (map_same d.process.outdirs) outdirs;
+    outdirs = subst (AllByRecursion IsOutDir) (map-id d.process.outdirs) outdirs;
     outdirs_order = outdirs_order;
   }
 

@@ -2,9 +2,7 @@ pub mod StrongTexts
 pub mod InOrder
 pub mod WeakTexts
 pub mod DescTexts
-pub mod Combining
 pub mod Joining
 pub mod LineLists
-pub mod PartForms
 pub mod PartReading
 pub mod Rising

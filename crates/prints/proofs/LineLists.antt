@@ -3,12 +3,13 @@ use Rattle.std.proofs.Common.{◌≡◌, ℕ, zero, suc, ◌≤◌, ◌<◌, Boo
 use Rattle.std.specs.List.{flat_map, AllByRecursion}
 use Rattle.std.proofs.lemmas.List.{append-nil}
 use Rattle.std.proofs.lemmas.List.Concat.{flat_map-cons}
-use Rattle.prints.specs.declared.text_fault.TextFault.{TextFault}
-use Rattle.prints.specs.declared.text_fault.TextFault.TheVariants as faults
+use Rattle.std.proofs.lemmas.Option.{same_Some}
+use Rattle.prints.specs.declared.fault.PrintFault.{PrintFault}
+use Rattle.prints.specs.declared.fault.PrintFault.TheVariants as faults
 use Rattle.prints.specs.Forms.{Anything, IsForm}
 use Rattle.prints.specs.Lines.{some_lines, lines_at}
 use Rattle.prints.specs.Reading.{Taken, Takes, TakesItems, ◌>>=◌}
-use Rattle.prints.proofs.Combining.{bind_some, some_same}
+use Rattle.prints.specs.Combining.{bind_some}
 
 -- the lines that were read before those that are still read
 abbrev pub with_prefix : {X : Type 0} → List X → Taken (List X) → Taken (List X)
@@ -40,18 +41,18 @@ module _ {X : Type 0} {G : X → Type 0} {w : X → List ℕ} {r : List ℕ → 
     where
       by_start : (b : Bool) → cond b None (Some ([], text)) ≡ Some taken → AreLinesOf text taken
       by_start true e = absurd cc
-      by_start false e = subst (AreLinesOf text) (some_same ([], text) taken e) (record { good = tt; written = refl })
+      by_start false e = subst (AreLinesOf text) (same_Some ([], text) taken e) (record { good = tt; written = refl })
   lines_read (suc n) text taken e = by_start (starts text) (λ t read. lines_read n t read) e
     where
       by_start : (b : Bool) → ((t : List ℕ) (read : List X × List ℕ) → some_lines starts r n t ≡ Some read → AreLinesOf t read)
           → cond b (r text >>= λ first. some_lines starts r n first.1 >>= λ more. Some (first.0 ∷ more.0, more.1)) (Some ([], text)) ≡ Some taken
           → AreLinesOf text taken
-      by_start false again e = subst (AreLinesOf text) (some_same ([], text) taken e) (record { good = tt; written = refl })
+      by_start false again e = subst (AreLinesOf text) (same_Some ([], text) taken e) (record { good = tt; written = refl })
       by_start true again e =
           let a = bind_some (r text) (λ first. some_lines starts r n first.1 >>= λ more. Some (first.0 ∷ more.0, more.1)) taken e in
           let b = bind_some (some_lines starts r n a.0.1) (λ more. Some (a.0.0 ∷ more.0, more.1)) taken a.2 in
           let others = again a.0.1 b.0 b.1 in
-          subst (AreLinesOf text) (some_same (a.0.0 ∷ b.0.0, b.0.1) taken b.2) (record {
+          subst (AreLinesOf text) (same_Some (a.0.0 ∷ b.0.0, b.0.1) taken b.2) (record {
             good = (form.good text a.0 a.1, others.good);
             written =
                 form.written text a.0 a.1 ∙ ap (λ t. w a.0.0 ++ t) others.written ∙ sym (append_assoc (w a.0.0) (flat_map w b.0.0) b.0.1)
@@ -147,6 +148,6 @@ module _ {X : Type 0} (starts : List ℕ → Bool) (r : List ℕ → Taken X) (p
           ∙ ap (λ xs. Some (xs, rest)) (append-nil prefix)
 
   -- what a fault in a line says of the lines
-  pub faulty : (after : List ℕ) (e : TextFault) → starts rest ≡ true → Takes (Err e) after (r rest) → IsUnderWay starts r prefix rest all → TakesItems {X = X} (Err e) after all
-  faulty after faults.Bad start e way = no_line start e way
+  pub faulty : (after : List ℕ) (e : PrintFault) → starts rest ≡ true → Takes (Err e) after (r rest) → IsUnderWay starts r prefix rest all → TakesItems {X = X} (Err e) after all
+  faulty after faults.BadPrint start e way = no_line start e way
   faulty after faults.Memory start e way = tt

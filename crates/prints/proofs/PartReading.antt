@@ -1,6 +1,8 @@
 -- What the reader of parts meets.
-use Rattle.std.proofs.Common.{◌≡◌, ◌≢◌, ◌⊎◌, ℕ, zero, suc, ◌+◌, ◌^◌, ◌<◌, Bool, true, false, cond, ◌&&◌, ◌||◌, ◌==◌, ltb, List, [], ◌∷◌, length, get_or, take, drop, Option, Some, None, Result, Ok, Err, inl, inr, refl, sym, ap, subst, ◌∙◌, arith}
+use Rattle.std.proofs.Common.{◌≡◌, ◌≢◌, ℕ, zero, suc, ◌^◌, ◌<◌, Bool, true, false, cond, ◌&&◌, ◌||◌, ◌==◌, ltb, List, [], ◌∷◌, length, get_or, Option, Some, None, Result, Ok, Err, inl, inr, refl, sym, ap, subst, ◌∙◌, arith}
+use Rattle.std.specs.Borrow.{Bor}
 use Rattle.std.specs.Fmt.{decimal}
+use Rattle.std.specs.Prelude.{MatchOption}
 use Rattle.std.specs.Result.{OkIff}
 use Rattle.std.specs.Str.{IsUtf8, bytes_eq}
 use Rattle.std.specs.Str.Parse.{AllDigits, ParsesUnsigned, digits_value}
@@ -11,42 +13,27 @@ use Rattle.std.proofs.lemmas.Slice.Eq.{bytes_eq-Decides}
 use Rattle.std.proofs.lemmas.Str.{IsUtf8-from_ascii}
 use Rattle.std.proofs.lemmas.Str.Parse.{IsNumeralModel, parse_plain}
 use Rattle.hex.specs.Hex.{encode_lower}
+use Rattle.bx_tree.specs.Headers.{HasNo, IsSplitOnce}
 use Rattle.bx_digest.specs.Digests.{IsDigest, IsHexText}
 use Rattle.bx_digest.proofs.HexTexts.{hex_text_of_digest}
-use Rattle.prints.specs.Parts.{named_digest, named_number, odd_start, part_at, with_first}
-use Rattle.prints.proofs.PartForms.{Lacks, digest_again, digest_sound, number_sound, no_part}
+use Rattle.prints.specs.Parts.{named_digest, named_number, odd_start, part_at}
+use Rattle.prints.specs.PartForms.{Lacks, digest_again, digest_sound, number_sound, no_part, part_again}
 
 -- ## Cuts
 
-found_at : (end : ℕ) (text : List ℕ) (i : ℕ) → i < length text → ((k : ℕ) → k < i → get_or text k 0 ≡ end → ⊥) → get_or text i 0 ≡ end
-    → part_at end text ≡ Some (take i text, drop (suc i) text)
-found_at end [] i l none is = absurd (omega (arith, l))
-found_at end (b ∷ bs) zero l none is = ap (λ t. cond t (Some ([], bs)) (with_first b (part_at end bs))) ((Decides-eqb b end).1 is)
-found_at end (b ∷ bs) (suc i) l none is =
-    ap (λ t. cond t (Some ([], bs)) (with_first b (part_at end bs))) (other (cases_Bool (b == end)))
-    ∙ ap (with_first b) (found_at end bs i (omega (arith, l)) (λ k m e. none (suc k) (omega (arith, m)) e) is)
+lacks : (end : ℕ) (text : List ℕ) → HasNo end text → Lacks end text
+lacks end [] h = tt
+lacks end (b ∷ bs) h = (differs, lacks end bs h.1)
   where
-    other : ((b == end) ≡ true) ⊎ ((b == end) ≡ false) → (b == end) ≡ false
-    other (inl same) = absurd (none 0 (omega arith) ((Decides-eqb b end).0 same))
-    other (inr e) = e
+    differs : (b == end) ≡ false
+    differs = elim (cases_Bool (b == end)) [ inl same ↦ absurd (h.0 ((Decides-eqb b end).0 same)) | inr e ↦ e ]
 
--- the first such byte of a text cuts it
-pub part_found : (end : ℕ) (text : List ℕ) (i : ℕ) → i < length text → ((k : ℕ) → k < i → get_or text k 0 ≡ end → ⊥) → get_or text i 0 ≡ end
-    → part_at end text ≡ Some (take i text, drop (i + 1) text)
-part_found end text i l none is =
-    let next : suc i ≡ i + 1 = omega arith in
-    found_at end text i l none is ∙ ap (λ n. Some (take i text, drop n text)) next
-
-pub part_missing : (end : ℕ) (text : List ℕ) → ((k : ℕ) → k < length text → get_or text k 0 ≡ end → ⊥) → part_at end text ≡ None
-part_missing end text none = no_part end text (lacks text none)
-  where
-    lacks : (text : List ℕ) → ((k : ℕ) → k < length text → get_or text k 0 ≡ end → ⊥) → Lacks end text
-    lacks [] none = tt
-    lacks (b ∷ bs) none = (other (cases_Bool (b == end)), lacks bs (λ k m e. none (suc k) (omega (arith, m)) e))
-      where
-        other : ((b == end) ≡ true) ⊎ ((b == end) ≡ false) → (b == end) ≡ false
-        other (inl same) = absurd (none 0 (omega arith) ((Decides-eqb b end).0 same))
-        other (inr e) = e
+-- the cut at the first such byte of a text
+pub part_by_cut : (end : ℕ) (text : List ℕ) (r : Option (Bor (List ℕ) × Bor (List ℕ)))
+    → MatchOption r (HasNo end text) (λ parts. IsSplitOnce end text parts.0.now parts.1.now)
+    → MatchOption r (part_at end text ≡ None) (λ parts. part_at end text ≡ Some (parts.0.now, parts.1.now))
+part_by_cut end text None h = no_part end text (lacks end text h)
+part_by_cut end text (Some parts) h = ap (part_at end) h.1 ∙ part_again end parts.0.now parts.1.now (lacks end parts.0.now h.0)
 
 -- ## Digests
 

@@ -5,14 +5,10 @@ use Rattle.std.specs.List.{AllByRecursion, IsAllAdjacentAnswer}
 use Rattle.std.specs.List.Sorted.{IsSortedBy, IsStrictlySortedBy}
 use Rattle.std.specs.Ordering.{is_lt}
 use Rattle.std.specs.declared.cmp.Ordering.{Ordering}
-use Rattle.std.specs.declared.cmp.Ordering.TheVariants.{Less, Equal, Greater}
-use Rattle.std.proofs.lemmas.Bool.{and_from, and_parts}
+use Rattle.std.specs.declared.cmp.Ordering.TheVariants.{Less}
+use Rattle.std.proofs.lemmas.Bool.{and_from, and_parts, not-true}
+use Rattle.bx_tree.proofs.AncestorSearch.{less_from_is_lt}
 use Rattle.prints.specs.Lines.{rises}
-
-is_less : (o : Ordering) → is_lt o ≡ true → o ≡ Less
-is_less Less e = refl
-is_less Equal e = cc
-is_less Greater e = cc
 
 module _ {X K : Type 0} {R : K → K → Ordering} (order : IsTotalOrder R) (key : X → K) where
   all_above : (k l : K) (rest : List K) → R k l ≡ Less → AllByRecursion (λ q. R l q ≡ Less) rest → AllByRecursion (λ q. R k q ≡ Less) rest
@@ -25,7 +21,7 @@ module _ {X K : Type 0} {R : K → K → Ordering} (order : IsTotalOrder R) (key
   rising_sorted (x ∷ []) e = (tt, tt)
   rising_sorted (x ∷ y ∷ rest) e =
       let parts = and_parts (is_lt (R (key x) (key y))) (rises (λ a b. is_lt (R (key a) (key b))) (y ∷ rest)) e in
-      let less = is_less (R (key x) (key y)) parts.0 in
+      let less = less_from_is_lt (R (key x) (key y)) parts.0 in
       let more = rising_sorted (y ∷ rest) parts.1 in
       ((less, all_above (key x) (key y) (map key rest) less more.0), more)
 
@@ -38,15 +34,11 @@ module _ {X K : Type 0} {R : K → K → Ordering} (order : IsTotalOrder R) (key
 
 -- ## Sorted, with equal elements
 
-not_true : (b : Bool) → not b ≡ true → b ≡ false
-not_true true e = cc
-not_true false e = refl
-
 module _ {X : Type 0} (lt : X → X → Bool) where
   step_by_step : (xs : List X) → rises (λ a b. not (lt b a)) xs ≡ true → (k : ℕ) (d : X) → k + 1 < length xs → lt (get_or xs (k + 1) d) (get_or xs k d) ≡ false
   step_by_step [] e k d l = absurd (omega (arith, l))
   step_by_step (x ∷ []) e k d l = absurd (omega (arith, l))
-  step_by_step (x ∷ y ∷ rest) e zero d l = not_true (lt y x) (and_parts (not (lt y x)) (rises (λ a b. not (lt b a)) (y ∷ rest)) e).0
+  step_by_step (x ∷ y ∷ rest) e zero d l = not-true (lt y x) (and_parts (not (lt y x)) (rises (λ a b. not (lt b a)) (y ∷ rest)) e).0
   step_by_step (x ∷ y ∷ rest) e (suc k) d l =
       subst (λ n. lt (get_or (x ∷ y ∷ rest) n d) (get_or (y ∷ rest) k d) ≡ false) (next k)
       (step_by_step (y ∷ rest) (and_parts (not (lt y x)) (rises (λ a b. not (lt b a)) (y ∷ rest)) e).1 k d (omega (arith, l)))
@@ -101,8 +93,3 @@ module _ {X : Type 0} (e : X → X → Bool) where
   pub neighbours_rise : (xs : List X) (r : Bool) → IsAllAdjacentAnswer (λ x y b. b ≡ e x y) xs r → r ≡ rises e xs
   neighbours_rise xs true h = sym (all_steps xs (λ k d l. h k d l))
   neighbours_rise xs false h = sym (a_step xs h.0 h.1 h.2)
-
--- a list of which each element stands for itself
-pub map_same : {X : Type 0} (xs : List X) → map (λ x. x) xs ≡ xs
-map_same [] = refl
-map_same (x ∷ xs) = ap (λ t. x ∷ t) (map_same xs)

@@ -1,9 +1,12 @@
 -- What a strong text is read as.
-use Rattle.std.proofs.Common.{◌≡◌, ◌↔◌, ℕ, false, List, codes, Some, None, refl, sym, ap, ◌∙◌}
+use Rattle.std.proofs.Common.{◌≡◌, ◌↔◌, ℕ, false, List, codes, Some, None, Result, Ok, Err, IfOk, refl, sym, ap, subst, ◌∙◌}
 use Rattle.prints.specs.Forms.{IsForm}
-use Rattle.prints.proofs.Combining.{after_form, as_form, pair_form, whole_again, whole_read}
+use Rattle.prints.specs.Combining.{after_form, as_form, pair_form, whole_again, whole_read}
 use Rattle.prints.proofs.LineLists.{lines_form}
-use Rattle.prints.proofs.PartForms.{digest_form, newline}
+use Rattle.prints.specs.PartForms.{digest_form, newline}
+use Rattle.prints.specs.Reading.{Gives}
+use Rattle.prints.specs.declared.fault.PrintFault.{PrintFault}
+use Rattle.prints.specs.declared.fault.PrintFault.TheVariants as faults
 use Rattle.prints.specs.declared.strong_parts.StrongParts.{StrongParts}
 use Rattle.prints.specs.Strong.{IsStrong, has_more, parts_of, read_strong_text, strong_at, strong_text}
 use Rattle.prints.specs.AnswerForms.{answer_form, answer_seen}
@@ -29,3 +32,13 @@ strong_law text s = (strong_sound text s, λ h. ap read_strong_text h.1 ∙ stro
 
 pub no_strong : (text : List ℕ) → read_strong_text text ≡ None → (s : StrongParts) → IsStrong s → text ≡ strong_text s → ⊥
 no_strong text none s h is = let clash : Some s ≡ None = sym (ap read_strong_text is ∙ strong_again s h) ∙ none in cc
+
+-- ## What a reader of strong texts gives
+
+pub strong_found : (text : List ℕ) (r : Result StrongParts PrintFault) → Gives r (read_strong_text text) → IfOk r (λ s. IsStrong s × (text ≡ strong_text s))
+strong_found text (Ok s) h = strong_sound text s h
+strong_found text (Err e) h = tt
+
+pub strong_refused : (text : List ℕ) (r : Result StrongParts PrintFault) → Gives r (read_strong_text text) → r ≡ Err faults.BadPrint
+    → (s : StrongParts) → IsStrong s → text ≡ strong_text s → ⊥
+strong_refused text r h bad s is same = no_strong text (subst (λ (x : Result StrongParts PrintFault). Gives x (read_strong_text text)) bad h) s is same

@@ -1,5 +1,5 @@
 -- What a weak text is read as.
-use Rattle.std.proofs.Common.{◌≡◌, ℕ, suc, ◌+◌, true, false, cond, ◌==◌, List, [], ◌∷◌, ◌++◌, length, map, codes, Option, Some, None, refl, sym, ap, subst, ◌∙◌, append_assoc, arith}
+use Rattle.std.proofs.Common.{◌≡◌, ℕ, suc, ◌+◌, true, false, cond, ◌==◌, List, [], ◌∷◌, ◌++◌, length, map, codes, Option, Some, None, Result, Ok, Err, IfOk, refl, sym, ap, subst, ◌∙◌, append_assoc, arith}
 use Rattle.std.specs.List.{AllByRecursion, flat_map}
 use Rattle.std.specs.List.Sorted.{IsStrictlySortedBy}
 use Rattle.std.specs.Cmp.Lexicographic.{slice_cmp}
@@ -8,7 +8,7 @@ use Rattle.std.specs.declared.cmp.Ordering.{Ordering}
 use Rattle.std.specs.declared.cmp.Ordering.TheVariants.{Less, Equal, Greater}
 use Rattle.std.specs.Cmp.{IsTotalOrder}
 use Rattle.std.proofs.lemmas.Bool.{and_from, lt-ltb}
-use Rattle.std.proofs.lemmas.List.{append-nil}
+use Rattle.std.proofs.lemmas.List.{append-nil, length-map, map-id}
 use Rattle.std.proofs.lemmas.List.Concat.{flat_map-cons}
 use Rattle.bx_tree.specs.Paths.{Atoms, IsPath, path_cmp}
 use Rattle.bx_tree.specs.Orders.{path_cmp_total}
@@ -24,10 +24,12 @@ use Rattle.pip_model_types.specs.declared.dir_inputs.DirInput.TheVariants.{Seale
 use Rattle.pip_model_types.specs.declared.outputs.OutDir.{OutDir}
 use Rattle.prints.specs.Forms.{IsForm}
 use Rattle.prints.specs.Lines.{begins, rises}
-use Rattle.prints.specs.Reading.{both_at}
-use Rattle.prints.proofs.Combining.{after_form, as_form, both_form, form_of, only_form, pair_form, whole_again, whole_read}
+use Rattle.prints.specs.Reading.{Gives, both_at}
+use Rattle.prints.specs.Combining.{after_form, as_form, both_form, form_of, only_form, pair_form, whole_again, whole_read}
 use Rattle.prints.proofs.LineLists.{lines_form}
-use Rattle.prints.proofs.Rising.{map_same, rising_sorted, rising_sorted_by, sorted_by_rising, sorted_rising}
+use Rattle.prints.proofs.Rising.{rising_sorted, rising_sorted_by, sorted_by_rising, sorted_rising}
+use Rattle.prints.specs.declared.fault.PrintFault.{PrintFault}
+use Rattle.prints.specs.declared.fault.PrintFault.TheVariants as faults
 use Rattle.prints.specs.declared.weak_reading.Head.{Head}
 use Rattle.prints.specs.declared.weak_reading.Lists.{Lists}
 use Rattle.prints.specs.declared.weak_lines.DirLine.{DirLine}
@@ -312,10 +314,6 @@ sources_map : (files : List FileInput) → map Source (map input_path files) ≡
 sources_map [] = refl
 sources_map (f ∷ fs) = ap (λ t. Source (input_path f) ∷ t) (sources_map fs)
 
-pub map_length : {X Y : Type 0} (f : X → Y) (xs : List X) → length (map f xs) ≡ length xs
-map_length f [] = refl
-map_length f (x ∷ xs) = ap suc (map_length f xs)
-
 -- ## What is read is well formed, and names no pips
 
 pub dir_paths : (dirs : List DirInput) → AllByRecursion IsDirLine (map dir_line dirs) → AllByRecursion (λ d. IsPath (dir_path d)) dirs
@@ -329,10 +327,10 @@ dir_lines (Sealed pip form root ∷ ds) h = (h.0, dir_lines ds h.1)
 dir_lines (Opaque pip path ∷ ds) h = (h.0, dir_lines ds h.1)
 
 pub rising_itself : {K : Type 0} {R : K → K → Ordering} → IsTotalOrder R → (xs : List K) → rises (λ a b. is_lt (R a b)) xs ≡ true → IsStrictlySortedBy R xs
-rising_itself {R = R} order xs e = subst (IsStrictlySortedBy R) (map_same xs) (rising_sorted order (λ x. x) xs e)
+rising_itself {R = R} order xs e = subst (IsStrictlySortedBy R) (map-id xs) (rising_sorted order (λ x. x) xs e)
 
 itself_rising : {K : Type 0} {R : K → K → Ordering} → IsTotalOrder R → (xs : List K) → IsStrictlySortedBy R xs → rises (λ a b. is_lt (R a b)) xs ≡ true
-itself_rising {R = R} order xs h = sorted_rising order (λ x. x) xs (subst (IsStrictlySortedBy R) (sym (map_same xs)) h)
+itself_rising {R = R} order xs h = sorted_rising order (λ x. x) xs (subst (IsStrictlySortedBy R) (sym (map-id xs)) h)
 
 abbrev with_lists : WeakParts → List FileInput → List DirInput → WeakParts
 with_lists w files dirs = record {
@@ -393,7 +391,7 @@ reads_lists : (w : WeakParts) → AreListsWeak w → AreReadLists (lists_of_part
 reads_lists w h =
     let paths = map input_path w.process.files in
     let sources = map (λ f. Source (input_path f)) w.process.files in
-    let many : length paths ≡ length w.files = map_length input_path w.process.files ∙ h.one_each in
+    let many : length paths ≡ length w.files = length-map w.process.files input_path ∙ h.one_each in
     let lines : file_lines (map input_path sources) w.files ≡ file_lines paths w.files = ap (λ ps. file_lines ps w.files) (same_paths w.process.files) in
     let rising : rises file_before (file_lines paths w.files) ≡ true =
     sorted_rising path_cmp_total (λ (f : FileLine). f.path) (file_lines paths w.files)
@@ -459,3 +457,17 @@ weak_again w h = ap read_weak_text (sym (same_text w)) ∙ whole_again weak_form
 
 pub no_weak : (text : List ℕ) → read_weak_text text ≡ None → (w : WeakParts) → IsWeak w → text ≡ weak_text w → ⊥
 no_weak text none w h is = let clash : Some (without_pips w) ≡ None = sym (ap read_weak_text is ∙ weak_again w h) ∙ none in cc
+
+-- ## What a reader of weak texts gives
+
+pub weak_found : (text : List ℕ) (r : Result WeakParts PrintFault) → Gives r (read_weak_text text) → IfOk r (λ w. IsWeak w × (text ≡ weak_text w))
+weak_found text (Ok w) h = let s = weak_sound text w h in (s.0, s.2)
+weak_found text (Err e) h = tt
+
+pub weak_pips : (text : List ℕ) (r : Result WeakParts PrintFault) → Gives r (read_weak_text text) → IfOk r (λ w. without_pips w ≡ w)
+weak_pips text (Ok w) h = (weak_sound text w h).1
+weak_pips text (Err e) h = tt
+
+pub weak_refused : (text : List ℕ) (r : Result WeakParts PrintFault) → Gives r (read_weak_text text) → r ≡ Err faults.BadPrint
+    → (w : WeakParts) → IsWeak w → text ≡ weak_text w → ⊥
+weak_refused text r h bad w is same = no_weak text (subst (λ (s : Result WeakParts PrintFault). Gives s (read_weak_text text)) bad h) w is same

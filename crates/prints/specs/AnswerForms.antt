@@ -2,14 +2,16 @@
 -- definitions.
 use Rattle.std.proofs.Common.{◌≡◌, ℕ, true, List, ◌++◌, codes, Option, Some, None, inl, inr, refl, ap, subst}
 use Rattle.std.proofs.Common.{◌∙◌}
+use Rattle.std.proofs.lemmas.Option.{same_Some}
 use Rattle.hex.specs.Hex.{encode_lower}
 use Rattle.observed.specs.Texts.{after_prefix}
+use Rattle.observed.proofs.ReadTexts.{prefix_sound}
 use Rattle.prints.specs.Forms.{Anything, IsForm}
 use Rattle.prints.specs.Parts.{named_digest}
 use Rattle.prints.specs.Reading.{◌>>=◌}
-use Rattle.prints.proofs.Combining.{bind_some, prefix_sound, some_same}
-use Rattle.prints.proofs.PartForms.{Lacks, digest_again, digest_sound, hex_lacks, lacks_append, newline}
-use Rattle.prints.proofs.PartForms.{part_form}
+use Rattle.prints.specs.Combining.{bind_some}
+use Rattle.prints.specs.PartForms.{Lacks, digest_again, digest_sound, hex_lacks, lacks_append, newline}
+use Rattle.prints.specs.PartForms.{part_form}
 use Rattle.prints.specs.declared.strong_parts.AnswerLine.{AnswerLine}
 use Rattle.prints.specs.declared.strong_parts.AnswerLine.TheVariants as lines
 use Rattle.prints.specs.Strong.{IsAnswerLine, answer_at, answer_line, answer_words, has_more, named_answer}
@@ -25,12 +27,12 @@ digest_line_sound : (text : List ℕ) (line : AnswerLine) (content names : Optio
 digest_line_sound text line (Some content) names is others e =
     let a = bind_some (named_digest content) (λ digest. Some (lines.Content digest)) line e in
     let d = digest_sound content a.0 a.1 in
-    subst (IsRead text) (some_same (lines.Content a.0) line a.2)
+    subst (IsRead text) (same_Some (lines.Content a.0) line a.2)
     (d.0, prefix_sound (codes "content ") text content is ∙ ap (λ t. codes "content " ++ t) d.1)
 digest_line_sound text line None (Some names) is others e =
     let a = bind_some (named_digest names) (λ digest. Some (lines.Names digest)) line e in
     let d = digest_sound names a.0 a.1 in
-    subst (IsRead text) (some_same (lines.Names a.0) line a.2)
+    subst (IsRead text) (same_Some (lines.Names a.0) line a.2)
     (d.0, prefix_sound (codes "names ") text names others ∙ ap (λ t. codes "names " ++ t) d.1)
 digest_line_sound text line None None is others e = absurd cc
 

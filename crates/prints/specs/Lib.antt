@@ -1,8 +1,9 @@
-pub mod Answers
 pub mod Processes
 pub mod Weak
 pub mod ReadWeak
 pub mod Strong
+pub mod Combining
+pub mod PartForms
 pub mod LineForms
 pub mod AnswerForms
 pub mod Reading

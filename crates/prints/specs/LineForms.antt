@@ -6,19 +6,20 @@ use Rattle.std.specs.List.{list_all}
 use Rattle.std.specs.Str.{bytes_eq}
 use Rattle.std.proofs.lemmas.Bool.{and_parts}
 use Rattle.std.proofs.lemmas.Slice.Eq.{bytes_eq-Decides}
+use Rattle.std.proofs.lemmas.Option.{same_Some}
 use Rattle.bx_tree.specs.Paths.{Atoms, IsPath, path_text}
 use Rattle.bx_digest.specs.Digests.{IsDigest}
 use Rattle.observed.specs.Texts.{after_prefix, named_path}
-use Rattle.observed.proofs.ReadTexts.{path_sound, path_complete}
+use Rattle.observed.proofs.ReadTexts.{path_sound, path_complete, prefix_sound}
 use Rattle.pip_model_types.specs.declared.args.EnvPair.{EnvPair}
 use Rattle.pip_model_types.specs.declared.dir_inputs.SealForm.{SealForm}
 use Rattle.pip_model_types.specs.declared.dir_inputs.SealForm.TheVariants.{Full, Partial, SourceTop, SourceAll}
 use Rattle.pip_model_types.specs.declared.outputs.OutDir.{OutDir}
 use Rattle.prints.specs.Forms.{Anything, IsForm}
 use Rattle.prints.specs.Reading.{◌>>=◌}
-use Rattle.prints.proofs.Combining.{after_form, as_form, bind_some, pair_form, prefix_sound, some_same}
-use Rattle.prints.proofs.PartForms.{Lacks, IsSmall, counted_form, digest_form, lacks_append, newline}
-use Rattle.prints.proofs.PartForms.{number_form, part_form, path_form, path_lacks, space}
+use Rattle.prints.specs.Combining.{after_form, as_form, bind_some, pair_form}
+use Rattle.prints.specs.PartForms.{Lacks, IsSmall, counted_form, digest_form, lacks_append, newline}
+use Rattle.prints.specs.PartForms.{number_form, part_form, path_form, path_lacks, space}
 use Rattle.prints.specs.declared.weak_reading.Head.{Head}
 use Rattle.prints.specs.declared.weak_lines.DirLine.{DirLine}
 use Rattle.prints.specs.declared.weak_lines.FileLine.{FileLine}
@@ -39,7 +40,7 @@ if_word {X = X} text word v rest x e = by_test (bytes_eq text word) refl e
   where
     by_test : (b : Bool) → bytes_eq text word ≡ b → cond b (Some v) rest ≡ Some x
         → ((text ≡ word) × (v ≡ x)) ⊎ (rest ≡ Some x)
-    by_test true same e = inl ((bytes_eq-Decides text word).0 same, some_same v x e)
+    by_test true same e = inl ((bytes_eq-Decides text word).0 same, same_Some v x e)
     by_test false other e = inr e
 
 -- a word of which a test says that it lacks the byte
@@ -153,7 +154,7 @@ console_sound text console e = elim (if_word text (codes "no-console") None _ co
       in
       let b = bind_some (after_prefix (codes "console ") text) named_path a.0 a.1 in
       let path = path_sound b.0 a.0 b.2 in
-      subst (λ c. IfSome c IsPath × (text ≡ console_words c)) (some_same (Some a.0) console a.2) (
+      subst (λ c. IfSome c IsPath × (text ≡ console_words c)) (same_Some (Some a.0) console a.2) (
         path.is_path,
         prefix_sound (codes "console ") text b.0 b.1 ∙ ap (λ t. codes "console " ++ t) path.text_is,
       )

@@ -3,8 +3,8 @@ use Rattle.std.specs.Prelude.{◌≡◌, ℕ, Bool, List, [], ◌∷◌, Option,
 use Rattle.std.proofs.Common.{Vec, Global}
 use Rattle.std.specs.Borrow.{Bor}
 use Rattle.observed.specs.Texts.{after_prefix}
-use Rattle.prints.specs.declared.text_fault.TextFault.{TextFault}
-use Rattle.prints.specs.declared.text_fault.TextFault.TheVariants as faults
+use Rattle.prints.specs.declared.fault.PrintFault.{PrintFault}
+use Rattle.prints.specs.declared.fault.PrintFault.TheVariants as faults
 
 -- what was read at the start of a text, and the text after it, if it could be read
 abbrev pub Taken : Type 0 → Type 0
@@ -43,43 +43,43 @@ whole_of part text = part text >>= λ x. if_ended x.0 x.1
 
 -- A function of the program reads what the function on lists reads and leaves the rest, unless memory runs
 -- out.
-abbrev pub Takes : {X : Type 0} → Result X TextFault → List ℕ → Taken X → Type 0
+abbrev pub Takes : {X : Type 0} → Result X PrintFault → List ℕ → Taken X → Type 0
 Takes (Ok x) rest taken = taken ≡ Some (x, rest)
-Takes (Err faults.Bad) rest taken = taken ≡ None
+Takes (Err faults.BadPrint) rest taken = taken ≡ None
 Takes (Err faults.Memory) rest taken = Unit {0}
 
 -- the items of a vector are what the function on lists reads, unless memory runs out
-abbrev pub TakesItems : {X : Type 0} → Result (Vec X Global) TextFault → List ℕ → Taken (List X) → Type 0
+abbrev pub TakesItems : {X : Type 0} → Result (Vec X Global) PrintFault → List ℕ → Taken (List X) → Type 0
 TakesItems (Ok xs) rest taken = taken ≡ Some (xs.items, rest)
-TakesItems (Err faults.Bad) rest taken = taken ≡ None
+TakesItems (Err faults.BadPrint) rest taken = taken ≡ None
 TakesItems (Err faults.Memory) rest taken = Unit {0}
 
 -- A function of the program gives what the function on lists gives, unless memory runs out.
-abbrev pub Gives : {X : Type 0} → Result X TextFault → Option X → Type 0
+abbrev pub Gives : {X : Type 0} → Result X PrintFault → Option X → Type 0
 Gives (Ok x) read = read ≡ Some x
-Gives (Err faults.Bad) read = read ≡ None
+Gives (Err faults.BadPrint) read = read ≡ None
 Gives (Err faults.Memory) read = Unit {0}
 
 -- a piece of the text
-abbrev pub TakesPart : Result (Bor (List ℕ)) TextFault → List ℕ → Taken (List ℕ) → Type 0
+abbrev pub TakesPart : Result (Bor (List ℕ)) PrintFault → List ℕ → Taken (List ℕ) → Type 0
 TakesPart (Ok part) rest taken = taken ≡ Some (part.now, rest)
-TakesPart (Err faults.Bad) rest taken = taken ≡ None
+TakesPart (Err faults.BadPrint) rest taken = taken ≡ None
 TakesPart (Err faults.Memory) rest taken = ⊥
 
 -- the items of a vector are what the function on lists gives
-abbrev pub GivesItems : {X : Type 0} → Result (Vec X Global) TextFault → Option (List X) → Type 0
+abbrev pub GivesItems : {X : Type 0} → Result (Vec X Global) PrintFault → Option (List X) → Type 0
 GivesItems (Ok xs) read = read ≡ Some xs.items
-GivesItems (Err faults.Bad) read = read ≡ None
+GivesItems (Err faults.BadPrint) read = read ≡ None
 GivesItems (Err faults.Memory) read = Unit {0}
 
 -- the text after a word
-abbrev pub TakesWord : Result (Unit {0}) TextFault → List ℕ → Option (List ℕ) → Type 0
+abbrev pub TakesWord : Result (Unit {0}) PrintFault → List ℕ → Option (List ℕ) → Type 0
 TakesWord (Ok done) rest left = left ≡ Some rest
-TakesWord (Err faults.Bad) rest left = left ≡ None
+TakesWord (Err faults.BadPrint) rest left = left ≡ None
 TakesWord (Err faults.Memory) rest left = ⊥
 
 -- Nothing is left, or some byte is.
-abbrev pub Ends : Result (Unit {0}) TextFault → List ℕ → Type 0
+abbrev pub Ends : Result (Unit {0}) PrintFault → List ℕ → Type 0
 Ends (Ok done) rest = rest ≡ []
-Ends (Err faults.Bad) rest = (b : ℕ) × (bs : List ℕ) × (rest ≡ b ∷ bs)
+Ends (Err faults.BadPrint) rest = (b : ℕ) × (bs : List ℕ) × (rest ≡ b ∷ bs)
 Ends (Err faults.Memory) rest = ⊥

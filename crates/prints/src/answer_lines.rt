@@ -10,15 +10,15 @@ ghost use Rattle.prints.specs.Strong.{with_digest};
 ghost use Rattle.prints.specs.AnswerForms.{answer_form, answer_seen};
 
 use crate::cursor::{Cursor, after_word, digest_of};
+use crate::fault::PrintFault;
 use crate::line::Line;
 use crate::part::append_digest;
 use crate::strong_parts::AnswerLine;
-use crate::text_fault::TextFault;
 use observed::Answer;
 use std::alloc::{AllocError, Global};
 
 // The answer that a line says.
-fn answer_of(line: &[u8]) -> Result<AnswerLine, TextFault>
+fn answer_of(line: &[u8]) -> Result<AnswerLine, PrintFault>
     ensures { Gives result (named_answer line.now) }
 {
     if line == b"absent".as_slice() {
@@ -36,7 +36,7 @@ fn answer_of(line: &[u8]) -> Result<AnswerLine, TextFault>
     digest_line(line)
 }
 
-fn digest_line(line: &[u8]) -> Result<AnswerLine, TextFault>
+fn digest_line(line: &[u8]) -> Result<AnswerLine, PrintFault>
     ensures { Gives result
         (with_digest (after_prefix (codes "content ") line.now) (after_prefix (codes "names ") line.now)) }
 {
@@ -46,7 +46,7 @@ fn digest_line(line: &[u8]) -> Result<AnswerLine, TextFault>
     if let Some(names) = after_word(b"names ", line) {
         return Ok(AnswerLine::Names(digest_of(names)?));
     }
-    Err(TextFault::Bad)
+    Err(PrintFault::BadPrint)
 }
 
 // The kind of line that says an answer.
@@ -90,7 +90,7 @@ impl Line<Answer, AnswerLine> for AnswerKind {
         !cursor.is_empty()
     }
 
-    fn read(_alloc: Global, cursor: &mut Cursor) -> Result<AnswerLine, TextFault> {
+    fn read(_alloc: Global, cursor: &mut Cursor) -> Result<AnswerLine, PrintFault> {
         let line = cursor.part(b'\n')?;
         answer_of(line)
     }

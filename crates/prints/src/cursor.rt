@@ -7,9 +7,9 @@ ghost use Rattle.prints.specs.Parts.{bytes_at, counted_at, digest_at, named_dige
 ghost use Rattle.prints.specs.Parts.{number_at, odd_start, part_at, path_at};
 ghost use Rattle.prints.specs.Reading.{Ends, Gives, Takes, TakesPart, TakesWord};
 
-use crate::text_fault::TextFault;
+use crate::fault::PrintFault;
 use bx_digest::Digest;
-use bx_tree::{Path, PathFault, Text};
+use bx_tree::{Path, PathFault, Text, split_once};
 use std::alloc::Global;
 use std::marker::Model;
 use std::str;
@@ -36,21 +36,16 @@ pub fn after_word<'a>(word: &[u8], text: &'a [u8]) -> Option<&'a [u8]>
 }
 
 // The parts of a text before and after the first such byte.
-fn split_once(text: &[u8], byte: u8) -> Option<(&[u8], &[u8])>
+fn cut_at(text: &[u8], byte: u8) -> Option<(&[u8], &[u8])>
     ensures { MatchOption result
         (part_at byte text.now ≡ None)
         (λ parts. part_at byte text.now ≡ Some (parts.0.now, parts.1.now)) }
 {
-    for (i, b) in text.iter().enumerate() {
-        if *b == byte {
-            return Some((&text[..i], &text[i + 1..]));
-        }
-    }
-    None
+    split_once(text, byte)
 }
 
 /// The path that a text stands for, the root for `.`.
-pub fn path_of(alloc: Global, text: &[u8]) -> Result<Path, TextFault>
+pub fn path_of(alloc: Global, text: &[u8]) -> Result<Path, PrintFault>
     ensures { Gives result (named_path text.now) }
 {
     if text == b".".as_slice() {
@@ -58,13 +53,13 @@ pub fn path_of(alloc: Global, text: &[u8]) -> Result<Path, TextFault>
     }
     match Path::read(alloc, text) {
         Ok(path) => Ok(path),
-        Err(PathFault::BadPath) => Err(TextFault::Bad),
-        Err(PathFault::Memory) => Err(TextFault::Memory),
+        Err(PathFault::BadPath) => Err(PrintFault::BadPrint),
+        Err(PathFault::Memory) => Err(PrintFault::Memory),
     }
 }
 
 /// The digest that has a text of 64 digits.
-pub fn digest_of(text: &[u8]) -> Result<Digest, TextFault>
+pub fn digest_of(text: &[u8]) -> Result<Digest, PrintFault>
     ensures { Gives result (named_digest text.now) }
 {
     match Digest::from_hex(text) {
@@ -72,7 +67,7 @@ pub fn digest_of(text: &[u8]) -> Result<Digest, TextFault>
             let _bytes = digest.bytes();
             Ok(digest)
         }
-        Err(_) => Err(TextFault::Bad),
+        Err(_) => Err(PrintFault::BadPrint),
     }
 }
 
@@ -86,18 +81,18 @@ fn has_odd_start(text: &[u8]) -> bool
     }
 }
 
-fn number_of(text: &[u8]) -> Result<u64, TextFault>
+fn number_of(text: &[u8]) -> Result<u64, PrintFault>
     ensures { Gives result (named_number text.now) }
 {
     let Ok(digits) = str::from_utf8(text) else {
-        return Err(TextFault::Bad);
+        return Err(PrintFault::BadPrint);
     };
     if has_odd_start(text) {
-        return Err(TextFault::Bad);
+        return Err(PrintFault::BadPrint);
     }
     match digits.parse::<u64>() {
         Ok(number) => Ok(number),
-        Err(_) => Err(TextFault::Bad),
+        Err(_) => Err(PrintFault::BadPrint),
     }
 }
 
@@ -124,7 +119,7 @@ impl<'a> Cursor<'a> {
     }
 
     /// Reads a word.
-    pub fn word(&mut self, word: &[u8]) -> Result<(), TextFault>
+    pub fn word(&mut self, word: &[u8]) -> Result<(), PrintFault>
         ensures { TakesWord result self.new (after_prefix word.now self.old) }
     {
         match after_word(word, self.bytes) {
@@ -132,25 +127,25 @@ impl<'a> Cursor<'a> {
                 self.bytes = rest;
                 Ok(())
             }
-            None => Err(TextFault::Bad),
+            None => Err(PrintFault::BadPrint),
         }
     }
 
     /// Reads the bytes before the first such byte, and that byte.
-    pub fn part(&mut self, end: u8) -> Result<&'a [u8], TextFault>
+    pub fn part(&mut self, end: u8) -> Result<&'a [u8], PrintFault>
         ensures { TakesPart result self.new (part_at end self.old) }
     {
-        match split_once(self.bytes, end) {
+        match cut_at(self.bytes, end) {
             Some((part, rest)) => {
                 self.bytes = rest;
                 Ok(part)
             }
-            None => Err(TextFault::Bad),
+            None => Err(PrintFault::BadPrint),
         }
     }
 
     /// Reads a path that ends before the given byte, and that byte.
-    pub fn path(&mut self, alloc: Global, end: u8) -> Result<Path, TextFault>
+    pub fn path(&mut self, alloc: Global, end: u8) -> Result<Path, PrintFault>
         ensures { Takes result self.new (path_at end self.old) }
     {
         let part = self.part(end)?;
@@ -158,7 +153,7 @@ impl<'a> Cursor<'a> {
     }
 
     /// Reads a digest that ends before the given byte, and that byte.
-    pub fn digest(&mut self, end: u8) -> Result<Digest, TextFault>
+    pub fn digest(&mut self, end: u8) -> Result<Digest, PrintFault>
         ensures { Takes result self.new (digest_at end self.old) }
     {
         let part = self.part(end)?;
@@ -166,7 +161,7 @@ impl<'a> Cursor<'a> {
     }
 
     /// Reads a number that ends before the given byte, and that byte.
-    pub fn number(&mut self, end: u8) -> Result<u64, TextFault>
+    pub fn number(&mut self, end: u8) -> Result<u64, PrintFault>
         ensures { Takes result self.new (number_at end self.old) }
     {
         let part = self.part(end)?;
@@ -174,12 +169,12 @@ impl<'a> Cursor<'a> {
     }
 
     // Reads that many bytes, and the given byte after them.
-    fn bytes(&mut self, alloc: Global, count: u64, end: u8) -> Result<Text, TextFault>
+    fn bytes(&mut self, alloc: Global, count: u64, end: u8) -> Result<Text, PrintFault>
         ensures { Takes result self.new (bytes_at count end self.old) }
     {
         let count = count as usize;
         if self.bytes.len() <= count || self.bytes[count] != end {
-            return Err(TextFault::Bad);
+            return Err(PrintFault::BadPrint);
         }
         let text = Text::new(alloc, Vec::from_slice(alloc, &self.bytes[..count])?)?;
         self.bytes = &self.bytes[count + 1..];
@@ -187,7 +182,7 @@ impl<'a> Cursor<'a> {
     }
 
     /// Reads counted bytes, and the given byte after them.
-    pub fn counted(&mut self, alloc: Global, end: u8) -> Result<Text, TextFault>
+    pub fn counted(&mut self, alloc: Global, end: u8) -> Result<Text, PrintFault>
         ensures { Takes result self.new (counted_at end self.old) }
     {
         let count = self.number(b' ')?;
@@ -196,11 +191,11 @@ impl<'a> Cursor<'a> {
 
     /// That nothing is left.
     #[tactic(auto, using(std::proofs::lemmas::List::nil_from_length))]
-    pub fn end(&self) -> Result<(), TextFault>
+    pub fn end(&self) -> Result<(), PrintFault>
         ensures { Ends result self.now }
     {
         match self.bytes.split_first() {
-            Some(_) => Err(TextFault::Bad),
+            Some(_) => Err(PrintFault::BadPrint),
             None => Ok(()),
         }
     }

@@ -1,7 +1,7 @@
-//! Why a text is no fingerprint's.
+//! Why a text of lines, of a fingerprint or another, could not be read.
 use std::alloc::{AllocError, AllocFailed};
 
-/// Why a text could not be read.
+/// Why a text gives nothing.
 #[derive(Clone, Copy, Debug, PartialEq, Eq)]
 pub enum PrintFault {
     /// Nothing has this text.

@@ -1,10 +1,10 @@
 //! Fingerprints: the weak and strong texts of a process, and the lines of all stored texts.
 //!
-//! A weak text says all of a process but what it observes, and a strong text what was observed; each is written and
-//! read back, and is known by its digest. Lines of words, paths, digests, numbers and counted bytes are those of
-//! every stored form. This crate depends on `bx_tree`, `bx_digest` and `pip_model_types` for what a text says, on
-//! `observed` for answers, and on `sha2` and `hex`. It carries the promises that each text is the one of its
-//! definition, and that a line is read back as it was written.
+//! A weak text has all of a process but what it observes, and a strong text what it observed; each is written and
+//! parsed back, and is named by its digest. Lines of words, paths, digests, numbers and counted bytes are those of
+//! every stored form. This crate depends on `bx_tree`, `bx_digest` and `pip_model_types` for the contents of a
+//! text, on `observed` for answers, and on `sha2` and `hex`. It carries the promises that each text is the one of
+//! its definition, and that a line parses back to what it was written of.
 #![tactic(auto)]
 
 mod answer_lines;
@@ -17,12 +17,12 @@ mod part;
 mod printed;
 mod strong_forms;
 mod strong_parts;
-mod text_fault;
 mod weak_lines;
 mod weak_parts;
 mod weak_reading;
 mod weak_writing;
 
+pub use bx_tree::Memory;
 pub use cursor::{Cursor, after_word, digest_of, path_of};
 pub use fault::PrintFault;
 pub use laws::{strong_texts, weak_texts};
@@ -31,10 +31,6 @@ pub use part::{append_counted, append_digest, append_number, append_path};
 pub use printed::Printed;
 pub use strong_forms::{read_strong, strong, strong_of};
 pub use strong_parts::{AnswerLine, AnswerLines, StrongParts};
-pub use text_fault::TextFault;
 pub use weak_parts::{Digests, WeakParts};
 pub use weak_reading::read_weak;
 pub use weak_writing::weak;
-
-/// Out of memory, the one refusal that no contract ties to a cause.
-pub type Memory = std::alloc::AllocError;

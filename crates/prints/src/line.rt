@@ -6,7 +6,7 @@ ghost use Rattle.prints.specs.Lines.{lines_at};
 ghost use Rattle.prints.specs.Reading.{Taken, Takes, TakesItems};
 
 use crate::cursor::Cursor;
-use crate::text_fault::TextFault;
+use crate::fault::PrintFault;
 use std::alloc::{AllocError, Global};
 
 /// A kind of line, which is written of a `W` and read as an `R`.
@@ -36,7 +36,7 @@ pub trait Line<W, R> {
         ensures { result ≡ starts cursor.now };
 
     /// Reads a line.
-    fn read(alloc: Global, cursor: &mut Cursor) -> Result<R, TextFault>
+    fn read(alloc: Global, cursor: &mut Cursor) -> Result<R, PrintFault>
         ensures { Takes result cursor.new (line_at cursor.old) };
 
     // A line is read back as it was written, whatever follows it, and no other text is read.
@@ -67,7 +67,7 @@ pub fn append_lines<W, R, L: Line<W, R>>(
 pub fn read_lines<W, R: Drop, L: Line<W, R>>(
     alloc: Global,
     cursor: &mut Cursor,
-) -> Result<Vec<R>, TextFault>
+) -> Result<Vec<R>, PrintFault>
     ensures { TakesItems result cursor.new (lines_at L.starts L.line_at cursor.old) }
 {
     let mut lines = Vec::new(alloc);

@@ -1,8 +1,7 @@
 //! The strong text of what asks are answered.
-ghost use Rattle.std.specs.Prelude.{◌≡◌, ◌++◌, Err, IfOk, OnOk, Some, map};
+ghost use Rattle.std.specs.Prelude.{◌≡◌, ◌++◌, Err, IfOk, OnOk, Some};
 ghost use Rattle.sha2.specs.Sha256.{sha256};
 ghost use Rattle.prints.specs.Reading.{Gives};
-ghost use Rattle.prints.specs.Answers.{ReadsPrint};
 ghost use Rattle.prints.specs.Strong.{IsStrong, asked_parts, read_strong_text, strong_parts, strong_text};
 ghost use Rattle.prints.specs.declared.strong_parts.StrongParts.{StrongParts as AnyParts};
 
@@ -13,9 +12,8 @@ use crate::line::{append_lines, read_lines};
 use crate::part::append_digest;
 use crate::printed::Printed;
 use crate::strong_parts::{AnswerLine, AnswerLines, StrongParts};
-use crate::text_fault::TextFault;
 use bx_digest::{Digest, digest_of};
-use observed::{Answer, PathSet, View};
+use observed::{Answer, PathSet, View, answers_to};
 use std::alloc::{AllocError, Global};
 
 /// The strong text of the answers to the asks of a path set, by the digests of the weak text and of the path
@@ -38,23 +36,6 @@ pub fn strong_of(
     append_digest(alloc, &mut text, paths, b'\n')?;
     append_lines::<Answer, AnswerLine, AnswerKind>(alloc, &mut text, answers)?;
     Ok(Printed::of(text))
-}
-
-// What a view answers to the asks of a path set, in their order.
-fn answers_to<V: View>(
-    alloc: Global,
-    paths: &PathSet,
-    view: &mut V,
-) -> Result<Vec<Answer>, AllocError>
-    ensures answers { IfOk result (λ answers. answers.items ≡ map (V.answers view.old) paths.now) }
-    ensures same { V.answers view.new ≡ V.answers view.old }
-{
-    let mut answers = Vec::new(alloc);
-    let asks = paths.asks();
-    'asks: for ask in asks {
-        answers.push(view.ask(alloc, ask)?)?;
-    }
-    Ok(answers)
 }
 
 /// The strong text of what a view answers now to the asks of a path set, with its digest. The path set's text
@@ -80,7 +61,7 @@ pub fn strong<V: View>(
 
 // The digests and answers of a text.
 #[tactic(auto, unfolding(crate::specs::Strong::read_strong_text))]
-fn parts_in(alloc: Global, bytes: &[u8]) -> Result<StrongParts, TextFault>
+fn parts_in(alloc: Global, bytes: &[u8]) -> Result<StrongParts, PrintFault>
     ensures { Gives result (read_strong_text bytes.now) }
 {
     let mut cursor = Cursor::of(bytes);
@@ -103,11 +84,7 @@ pub fn read_strong(alloc: Global, bytes: &[u8]) -> Result<StrongParts, PrintFaul
     ensures found { IfOk result (λ parts. IsStrong parts × (bytes.now ≡ strong_text parts)) }
     ensures none { result ≡ Err PrintFault.BadPrint → (parts : AnyParts) →
         IsStrong parts → bytes.now ≡ strong_text parts → ⊥ }
-    ensures read { ReadsPrint result (read_strong_text bytes.now) }
+    ensures read { Gives result (read_strong_text bytes.now) }
 {
-    match parts_in(alloc, bytes) {
-        Ok(parts) => Ok(parts),
-        Err(TextFault::Bad) => Err(PrintFault::BadPrint),
-        Err(TextFault::Memory) => Err(PrintFault::Memory),
-    }
+    parts_in(alloc, bytes)
 }

@@ -12,9 +12,9 @@ ghost use Rattle.prints.specs.Weak.{line_of_file, out_line, outdir_line, sharing
 ghost use Rattle.prints.specs.LineForms.{arg_form, env_form, in_form, indir_form, out_form, outdir_form};
 
 use crate::cursor::Cursor;
+use crate::fault::PrintFault;
 use crate::line::Line;
 use crate::part::{append_counted, append_digest, append_path};
-use crate::text_fault::TextFault;
 use bx_digest::Digest;
 use bx_tree::{Path, Text};
 use pip_model_types::{DirInput, EnvPair, MadeFile, OutDir, SealForm};
@@ -63,7 +63,7 @@ impl Line<Text, Text> for ArgKind {
         cursor.begins(b"arg ")
     }
 
-    fn read(alloc: Global, cursor: &mut Cursor) -> Result<Text, TextFault> {
+    fn read(alloc: Global, cursor: &mut Cursor) -> Result<Text, PrintFault> {
         cursor.word(b"arg ")?;
         cursor.counted(alloc, b'\n')
     }
@@ -99,7 +99,7 @@ impl Line<EnvPair, EnvPair> for EnvKind {
         cursor.begins(b"env ")
     }
 
-    fn read(alloc: Global, cursor: &mut Cursor) -> Result<EnvPair, TextFault> {
+    fn read(alloc: Global, cursor: &mut Cursor) -> Result<EnvPair, PrintFault> {
         cursor.word(b"env ")?;
         let name = cursor.counted(alloc, b' ')?;
         let value = cursor.counted(alloc, b'\n')?;
@@ -137,7 +137,7 @@ impl Line<MadeFile, FileLine> for InKind {
         cursor.begins(b"in ")
     }
 
-    fn read(alloc: Global, cursor: &mut Cursor) -> Result<FileLine, TextFault> {
+    fn read(alloc: Global, cursor: &mut Cursor) -> Result<FileLine, PrintFault> {
         cursor.word(b"in ")?;
         let path = cursor.path(alloc, b' ')?;
         let digest = cursor.digest(b'\n')?;
@@ -159,7 +159,7 @@ fn word_of(form: Option<SealForm>) -> &'static str
 }
 
 // The form that a word stands for.
-fn form_of(word: &[u8]) -> Result<Option<SealForm>, TextFault>
+fn form_of(word: &[u8]) -> Result<Option<SealForm>, PrintFault>
     ensures { Gives result (named_form word.now) }
 {
     if word == b"full".as_slice() {
@@ -177,10 +177,10 @@ fn form_of(word: &[u8]) -> Result<Option<SealForm>, TextFault>
     if word == b"opaque".as_slice() {
         return Ok(None);
     }
-    Err(TextFault::Bad)
+    Err(PrintFault::BadPrint)
 }
 
-fn read_form(cursor: &mut Cursor) -> Result<Option<SealForm>, TextFault>
+fn read_form(cursor: &mut Cursor) -> Result<Option<SealForm>, PrintFault>
     ensures { Takes result cursor.new (form_at cursor.old) }
 {
     let word = cursor.part(b' ')?;
@@ -229,7 +229,7 @@ impl Line<DirInput, DirLine> for IndirKind {
         cursor.begins(b"indir ")
     }
 
-    fn read(alloc: Global, cursor: &mut Cursor) -> Result<DirLine, TextFault> {
+    fn read(alloc: Global, cursor: &mut Cursor) -> Result<DirLine, PrintFault> {
         cursor.word(b"indir ")?;
         let form = read_form(cursor)?;
         let path = cursor.path(alloc, b'\n')?;
@@ -266,7 +266,7 @@ impl Line<Path, Path> for OutKind {
         cursor.begins(b"out ")
     }
 
-    fn read(alloc: Global, cursor: &mut Cursor) -> Result<Path, TextFault> {
+    fn read(alloc: Global, cursor: &mut Cursor) -> Result<Path, PrintFault> {
         cursor.word(b"out ")?;
         cursor.path(alloc, b'\n')
     }
@@ -279,7 +279,7 @@ fn sharing(shared: bool) -> &'static str
 }
 
 // Whether a word says that a directory is shared.
-fn is_shared(word: &[u8]) -> Result<bool, TextFault>
+fn is_shared(word: &[u8]) -> Result<bool, PrintFault>
     ensures { Gives result (named_sharing word.now) }
 {
     if word == b"exclusive".as_slice() {
@@ -288,10 +288,10 @@ fn is_shared(word: &[u8]) -> Result<bool, TextFault>
     if word == b"shared".as_slice() {
         return Ok(true);
     }
-    Err(TextFault::Bad)
+    Err(PrintFault::BadPrint)
 }
 
-fn read_sharing(cursor: &mut Cursor) -> Result<bool, TextFault>
+fn read_sharing(cursor: &mut Cursor) -> Result<bool, PrintFault>
     ensures { Takes result cursor.new (sharing_at cursor.old) }
 {
     let word = cursor.part(b' ')?;
@@ -329,7 +329,7 @@ impl Line<OutDir, OutDir> for OutdirKind {
         cursor.begins(b"outdir ")
     }
 
-    fn read(alloc: Global, cursor: &mut Cursor) -> Result<OutDir, TextFault> {
+    fn read(alloc: Global, cursor: &mut Cursor) -> Result<OutDir, PrintFault> {
         cursor.word(b"outdir ")?;
         let shared = read_sharing(cursor)?;
         let path = cursor.path(alloc, b'\n')?;

@@ -2,7 +2,6 @@
 ghost use Rattle.std.specs.Prelude.{◌≡◌, true, Err, IfOk, OnOk, Some};
 ghost use Rattle.prints.specs.Lines.{rises};
 ghost use Rattle.prints.specs.Reading.{Gives, GivesItems, Takes, TakesItems};
-ghost use Rattle.prints.specs.Answers.{ReadsPrint};
 ghost use Rattle.prints.specs.Processes.{IsWeak, without_pips};
 ghost use Rattle.prints.specs.ReadWeak.{args_at, console_at, dir_of as any_dir, digests_of, dir_before};
 ghost use Rattle.prints.specs.ReadWeak.{dirs_from, envs_at, file_before};
@@ -17,7 +16,6 @@ use crate::line::read_lines;
 use crate::order::{
     are_dirs_rising, are_files_rising, are_outdirs_rising, are_paths_rising, are_variables_sorted,
 };
-use crate::text_fault::TextFault;
 use crate::weak_lines::{
     ArgKind, DirLine, EnvKind, FileLine, InKind, IndirKind, OutKind, OutdirKind,
 };
@@ -53,7 +51,7 @@ pub(crate) struct Lists {
 }
 
 // The console file that a line names.
-fn named(alloc: Global, line: &[u8]) -> Result<Option<Path>, TextFault>
+fn named(alloc: Global, line: &[u8]) -> Result<Option<Path>, PrintFault>
     ensures { Gives result (named_console line.now) }
 {
     if line == b"no-console".as_slice() {
@@ -61,11 +59,11 @@ fn named(alloc: Global, line: &[u8]) -> Result<Option<Path>, TextFault>
     }
     match after_word(b"console ", line) {
         Some(path) => Ok(Some(path_of(alloc, path)?)),
-        None => Err(TextFault::Bad),
+        None => Err(PrintFault::BadPrint),
     }
 }
 
-fn console(alloc: Global, cursor: &mut Cursor) -> Result<Option<Path>, TextFault>
+fn console(alloc: Global, cursor: &mut Cursor) -> Result<Option<Path>, PrintFault>
     ensures { Takes result cursor.new (console_at cursor.old) }
 {
     let line = cursor.part(b'\n')?;
@@ -73,7 +71,7 @@ fn console(alloc: Global, cursor: &mut Cursor) -> Result<Option<Path>, TextFault
 }
 
 #[tactic(auto, unfolding(crate::specs::ReadWeak::head_at))]
-fn read_head(alloc: Global, cursor: &mut Cursor) -> Result<Head, TextFault>
+fn read_head(alloc: Global, cursor: &mut Cursor) -> Result<Head, PrintFault>
     ensures { Takes result cursor.new (head_at cursor.old) }
 {
     cursor.word(b"exe ")?;
@@ -94,7 +92,7 @@ fn read_head(alloc: Global, cursor: &mut Cursor) -> Result<Head, TextFault>
 }
 
 #[tactic(auto, unfolding(crate::specs::ReadWeak::args_at))]
-fn args(alloc: Global, cursor: &mut Cursor) -> Result<Arguments, TextFault>
+fn args(alloc: Global, cursor: &mut Cursor) -> Result<Arguments, PrintFault>
     ensures { Takes result cursor.new (args_at cursor.old) }
 {
     let texts = read_lines::<Text, Text, ArgKind>(alloc, cursor)?;
@@ -102,12 +100,12 @@ fn args(alloc: Global, cursor: &mut Cursor) -> Result<Arguments, TextFault>
 }
 
 #[tactic(auto, unfolding(crate::specs::ReadWeak::envs_at))]
-fn env(alloc: Global, cursor: &mut Cursor) -> Result<Variables, TextFault>
+fn env(alloc: Global, cursor: &mut Cursor) -> Result<Variables, PrintFault>
     ensures { Takes result cursor.new (envs_at cursor.old) }
 {
     let pairs = read_lines::<EnvPair, EnvPair, EnvKind>(alloc, cursor)?;
     if !are_variables_sorted(pairs.as_slice()) {
-        return Err(TextFault::Bad);
+        return Err(PrintFault::BadPrint);
     }
     Ok(Variables::in_order(pairs))
 }
@@ -143,13 +141,13 @@ fn digests(alloc: Global, lines: &[FileLine]) -> Result<Digests, AllocError>
 
 // The lines of declared files, which rise by path.
 #[tactic(auto, unfolding(crate::specs::ReadWeak::ins_at))]
-fn files(alloc: Global, cursor: &mut Cursor) -> Result<Vec<FileLine>, TextFault>
+fn files(alloc: Global, cursor: &mut Cursor) -> Result<Vec<FileLine>, PrintFault>
     ensures lines { TakesItems result cursor.new (ins_at cursor.old) }
     ensures order { IfOk result (λ lines. rises file_before lines.items ≡ true) }
 {
     let lines = read_lines::<MadeFile, FileLine, InKind>(alloc, cursor)?;
     if !are_files_rising(lines.as_slice()) {
-        return Err(TextFault::Bad);
+        return Err(PrintFault::BadPrint);
     }
     Ok(lines)
 }
@@ -167,13 +165,13 @@ fn dir_of(pip: u32, line: &DirLine) -> Result<DirInput, AllocError>
 
 // The directories of lines, numbered. Pip numbers have 32 bits; a longer list is answered by a lack of
 // memory.
-fn numbered(alloc: Global, lines: &[DirLine]) -> Result<Vec<DirInput>, TextFault>
+fn numbered(alloc: Global, lines: &[DirLine]) -> Result<Vec<DirInput>, PrintFault>
     ensures { GivesItems result (Some (dirs_from 0 lines.now)) }
 {
     let mut dirs = Vec::new(alloc);
     'lines: for line in lines {
         let Ok(pip) = u32::try_from(dirs.len()) else {
-            return Err(TextFault::Memory);
+            return Err(PrintFault::Memory);
         };
         dirs.push(dir_of(pip, line)?)?;
     }
@@ -202,41 +200,41 @@ fn out_dirs(dirs: Vec<OutDir>) -> OutDirs
 }
 
 #[tactic(auto, unfolding(crate::specs::ReadWeak::indirs_at))]
-fn dirs(alloc: Global, cursor: &mut Cursor) -> Result<DirInputs, TextFault>
+fn dirs(alloc: Global, cursor: &mut Cursor) -> Result<DirInputs, PrintFault>
     ensures { Takes result cursor.new (indirs_at cursor.old) }
 {
     let lines = read_lines::<DirInput, DirLine, IndirKind>(alloc, cursor)?;
     let dirs = numbered(alloc, lines.as_slice())?;
     if !are_dirs_rising(dirs.as_slice()) {
-        return Err(TextFault::Bad);
+        return Err(PrintFault::BadPrint);
     }
     Ok(dir_inputs(dirs))
 }
 
 #[tactic(auto, unfolding(crate::specs::ReadWeak::outs_at))]
-fn outs(alloc: Global, cursor: &mut Cursor) -> Result<Outputs, TextFault>
+fn outs(alloc: Global, cursor: &mut Cursor) -> Result<Outputs, PrintFault>
     ensures { Takes result cursor.new (outs_at cursor.old) }
 {
     let paths = read_lines::<Path, Path, OutKind>(alloc, cursor)?;
     if !are_paths_rising(paths.as_slice()) {
-        return Err(TextFault::Bad);
+        return Err(PrintFault::BadPrint);
     }
     Ok(outputs(paths))
 }
 
 #[tactic(auto, unfolding(crate::specs::ReadWeak::outdirs_at))]
-fn outdirs(alloc: Global, cursor: &mut Cursor) -> Result<OutDirs, TextFault>
+fn outdirs(alloc: Global, cursor: &mut Cursor) -> Result<OutDirs, PrintFault>
     ensures { Takes result cursor.new (outdirs_at cursor.old) }
 {
     let dirs = read_lines::<OutDir, OutDir, OutdirKind>(alloc, cursor)?;
     if !are_outdirs_rising(dirs.as_slice()) {
-        return Err(TextFault::Bad);
+        return Err(PrintFault::BadPrint);
     }
     Ok(out_dirs(dirs))
 }
 
 #[tactic(auto, unfolding(crate::specs::ReadWeak::lists_from))]
-fn read_lists_of(alloc: Global, cursor: &mut Cursor) -> Result<Lists, TextFault>
+fn read_lists_of(alloc: Global, cursor: &mut Cursor) -> Result<Lists, PrintFault>
     ensures { Takes result cursor.new (lists_from cursor.old) }
 {
     let args = args(alloc, cursor)?;
@@ -259,7 +257,7 @@ fn read_lists_of(alloc: Global, cursor: &mut Cursor) -> Result<Lists, TextFault>
 
 // The process of a text, and its steps and digests.
 #[tactic(auto, unfolding(crate::specs::ReadWeak::read_weak_text))]
-fn parts_in(alloc: Global, bytes: &[u8]) -> Result<WeakParts, TextFault>
+fn parts_in(alloc: Global, bytes: &[u8]) -> Result<WeakParts, PrintFault>
     ensures { Gives result (read_weak_text bytes.now) }
 {
     let mut cursor = Cursor::of(bytes);
@@ -292,11 +290,7 @@ pub fn read_weak(alloc: Global, bytes: &[u8]) -> Result<WeakParts, PrintFault>
     ensures no_pips { IfOk result (λ parts. without_pips parts ≡ parts) }
     ensures none { result ≡ Err PrintFault.BadPrint → (parts : AnyParts) →
         IsWeak parts → bytes.now ≡ weak_text parts → ⊥ }
-    ensures read { ReadsPrint result (read_weak_text bytes.now) }
+    ensures read { Gives result (read_weak_text bytes.now) }
 {
-    match parts_in(alloc, bytes) {
-        Ok(parts) => Ok(parts),
-        Err(TextFault::Bad) => Err(PrintFault::BadPrint),
-        Err(TextFault::Memory) => Err(PrintFault::Memory),
-    }
+    parts_in(alloc, bytes)
 }

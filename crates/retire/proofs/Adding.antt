@@ -1,6 +1,8 @@
 -- What one pip adds: nothing, or the record of a process that succeeds.
 use Rattle.std.proofs.Common.{◌≡◌, ◌⊎◌, ℕ, zero, suc, ◌+◌, ◌<◌, Bool, true, false, List, [], ◌∷◌, length, map, Option, Some, None, refl, sym, ap, ◌∙◌, subst, inl, inr, arith}
 use Rattle.std.specs.Prelude.{slice_get}
+use Rattle.std.proofs.lemmas.Option.{same_Some}
+use Rattle.std.proofs.lemmas.Bool.{both_ways}
 use Rattle.bx_tree.specs.Trees.{Files}
 use Rattle.bx_io.specs.Holdings.{Holdings}
 use Rattle.pip_model_types.specs.declared.desc.Desc.{Desc}
@@ -18,12 +20,13 @@ use Rattle.run_record.specs.declared.outcome.Outcome.TheVariants.{Good, Failed}
 use Rattle.run_record.specs.declared.outcome.Cause.{Cause}
 use Rattle.run_record.specs.declared.outcome.Cause.TheVariants as causes
 use Rattle.run_record.specs.Digests.{IsReadBack}
-use Rattle.two_phase_meaning.specs.Keeping.{outcome_files}
+use Rattle.two_phase_meaning.specs.Saving.{outcome_files}
 use Rattle.two_phase_meaning.specs.Usable.{Usable}
 use Rattle.pip_view_inputs.specs.Plain.{desc_of, kind_process, process_in}
 use Rattle.pip_view_inputs.specs.Results.{inputs_of}
 use Rattle.violations.specs.Slots.{slot_files}
 use Rattle.pip_view.specs.Sees.{sees}
+use Rattle.pip_view.proofs.TakenDirs.{process_is}
 use Rattle.violations.specs.Verdicts.{is_success}
 use Rattle.violations.specs.declared.verdict.Verdict.{Verdict}
 use Rattle.violations.specs.declared.verdict.Violation.{Violation}
@@ -33,18 +36,14 @@ use Rattle.one_thread.specs.Views.{ended_result, slots_are_good}
 use Rattle.one_thread.proofs.GoingThrough.{IsSoFar, all_good, made_is}
 use Rattle.retire.specs.Compared.{desc_after, view_after}
 use Rattle.retire.specs.Runs.{IsOfSuccess, RunsAs, SucceedsAt}
-use Rattle.retire.proofs.SoFar.{process_there}
 use Rattle.retire.specs.Deciding as deciding
 use Rattle.retire.specs.Deciding.{DecidedBy, Decides}
-use Rattle.retire.specs.Taking.{IsOfNow, TakesFrom, kept_if, outcome_in, record_in}
+use Rattle.retire.specs.Taking.{IsOfNow, TakesFrom, save_if, outcome_in, record_in}
 use Rattle.retire.specs.declared.deciding.Next.{Next}
 use Rattle.retire.specs.declared.taking.Taken.{Taken}
 use Rattle.retire.specs.declared.taking.Taken.TheVariants as takings
 use Rattle.retire.proofs.Along.{before_is, runs_as}
 use Rattle.retire.proofs.Spared.{hit_usable}
-
-pub same_some : {X : Type 0} (x y : X) → Some x ≡ Some y → x ≡ y
-same_some x y e = cc
 
 -- ## Numbers
 
@@ -71,10 +70,6 @@ all_verdicts pips tree budget = verdicts_of (one_thread pips tree budget)
 
 -- ## Outcomes of processes that succeed
 
-not_true : (b : Bool) → b ≡ false → b ≡ true → ⊥
-not_true true e k = cc
-not_true false e k = cc
-
 violated_fails : (o : Option Violation) → is_success (violated o).verdict ≡ true → ⊥
 violated_fails None e = cc
 violated_fails (Some violation) e = cc
@@ -96,9 +91,9 @@ pub success_good : (pips : List Pip) (tree : Files) (made : List Files) (i : ℕ
 success_good pips tree made i o r is good =
     outcome_good pips tree made i o (ap (λ (x : Result). is_success x.verdict) (sym is) ∙ good)
 
-pub kept_none : (b : Bool) → kept_if b None ≡ None
-kept_none true = refl
-kept_none false = refl
+pub save_none : (b : Bool) → save_if b None ≡ None
+save_none true = refl
+save_none false = refl
 
 -- ## One pip
 
@@ -123,8 +118,8 @@ module _ (pips : List Pip) (tree : Files) (budget : ℕ) (n : ℕ) (vs : List Ve
 
   kind_at : (pip : Pip) → slice_get pips n ≡ Some pip → (d : Desc) (see : Ask → Answer) (r : RunsAs pips tree budget n d see) → pip.kind ≡ Process r.process
   kind_at pip at d see r =
-      let t = process_there (slice_get pips n) r.process r.is_process in
-      ap (λ (p : Pip). p.kind) (same_some pip t.0 (sym at ∙ t.1)) ∙ t.2
+      let t = process_is (slice_get pips n) r.process r.is_process in
+      ap (λ (p : Pip). p.kind) (same_Some pip t.0 (sym at ∙ t.1)) ∙ t.2
 
   good_at : (d : Desc) (see : Ask → Answer) (r : RunsAs pips tree budget n d see) → slots_are_good pips (Process r.process) ss ≡ true
   good_at d see r =
@@ -151,7 +146,7 @@ module _ (pips : List Pip) (tree : Files) (budget : ℕ) (n : ℕ) (vs : List Ve
       (is_good : SucceedsAt pips tree budget n → is_success next.ended.verdict ≡ true) where
     by_run : (p : ProcessDesc) (f : Facts) → pip.kind ≡ Process p → slots_are_good pips (Process p) ss ≡ true → IsRun f (desc_now p) (view_now p) → Sound f
         → ended_result next.ended ≡ by_outcome pips tree (map slot_files ss) n f.outcome → (b : Bool) → is_success next.ended.verdict ≡ b
-        → next.kept ≡ kept_if b (Some f) → Adds pips tree budget S n next.kept
+        → next.saved ≡ save_if b (Some f) → Adds pips tree budget S n next.saved
     by_run p f is good run sound result true e kept =
         one f kept (record {
           pip = n;
@@ -163,13 +158,13 @@ module _ (pips : List Pip) (tree : Files) (budget : ℕ) (n : ℕ) (vs : List Ve
         }) refl sound
         (λ d see r. let same = only_run pip p at is d see r in (run.desc ∙ same.0, run.answers ∙ ap (λ (v : Ask → Answer). map v f.paths) same.1))
     by_run p f is good run sound result false e kept =
-        nothing kept (λ d see r yes. absurd (not_true (is_success next.ended.verdict) e (is_good yes)))
+        nothing kept (λ d see r yes. absurd (both_ways (is_success next.ended.verdict) e (is_good yes)))
 
     by_taken : (p : ProcessDesc) (t : Taken) → pip.kind ≡ Process p → slots_are_good pips (Process p) ss ≡ true → TakesFrom S (desc_now p) (view_now p) t → IsOfNow (desc_now p) (view_now p) t
         → ended_result next.ended ≡ by_outcome pips tree (map slot_files ss) n (outcome_in t)
-        → next.kept ≡ kept_if (is_success next.ended.verdict) (record_in t) → Adds pips tree budget S n next.kept
+        → next.saved ≡ save_if (is_success next.ended.verdict) (record_in t) → Adds pips tree budget S n next.saved
     by_taken p (takings.Hit found) is good takes now result kept =
-        nothing (kept ∙ kept_none (is_success next.ended.verdict)) (λ d see r yes.
+        nothing (kept ∙ save_none (is_success next.ended.verdict)) (λ d see r yes.
         let same = only_run pip p at is d see r in
         let there : Usable S (desc_now p) (view_now p) × IsReadBack (desc_now p) = (hit_usable S (desc_now p) (view_now p) found takes.0, takes.1) in
         subst (λ (v : Ask → Answer). Usable S d v × IsReadBack d) same.1
@@ -179,10 +174,10 @@ module _ (pips : List Pip) (tree : Files) (budget : ℕ) (n : ℕ) (vs : List Ve
     by_taken p (takings.Faulted f) is good takes now result kept =
         by_run p f is good now.1 now.0 result (is_success next.ended.verdict) refl kept
 
-    pub added_by : Decides pips tree budget (Some S) ss n pip.kind next → Adds pips tree budget S n next.kept
+    pub added_by : Decides pips tree budget (Some S) ss n pip.kind next → Adds pips tree budget S n next.saved
     added_by (deciding.skipped e d) =
         nothing d.record_is (λ x see r yes.
-        absurd (not_true (slots_are_good pips pip.kind ss) e
+        absurd (both_ways (slots_are_good pips pip.kind ss) e
         (subst (λ (k : PipKind). slots_are_good pips k ss ≡ true) (sym (kind_at pip at x see r)) (good_at x see r))))
     added_by (deciding.plain e none d) =
         nothing d.record_is (λ x see r yes.

@@ -1,9 +1,10 @@
 -- Where something is usable for each process that succeeds, and all pips succeed, all processes hit.
-use Rattle.std.proofs.Common.{◌≡◌, ◌⊎◌, ℕ, zero, suc, ◌+◌, Bool, true, false, ◌&&◌, cond, List, [], ◌∷◌, ◌++◌, length, take, Option, Some, refl, sym, ap, ◌∙◌, subst, inl, inr, arith, append_assoc, append-nil, length-append}
+use Rattle.std.proofs.Common.{◌≡◌, ◌⊎◌, ℕ, zero, suc, ◌+◌, Bool, true, false, cond, List, [], ◌∷◌, ◌++◌, length, take, Option, Some, refl, sym, ap, ◌∙◌, subst, inl, inr, arith, append_assoc, append-nil, length-append}
 use Rattle.std.specs.Prelude.{slice_get}
 use Rattle.std.specs.List.{list_all}
 use Rattle.std.proofs.lemmas.Option.{slice_get-map}
 use Rattle.std.specs.Option.{option_map}
+use Rattle.std.proofs.lemmas.Bool.{and_parts}
 use Rattle.bx_tree.specs.Trees.{Files}
 use Rattle.bx_io.specs.Holdings.{Holdings}
 use Rattle.pip_model_types.specs.declared.pip.Pip.{Pip}
@@ -20,6 +21,7 @@ use Rattle.retire.specs.HitSet.{HitsFrom, IsHitSet, PipHits}
 use Rattle.retire.specs.Compared.{desc_after, view_after}
 use Rattle.retire.specs.Runs.{AllUsable, results_before}
 use Rattle.retire.proofs.SoFar.{taken}
+use Rattle.retire.proofs.Records.{success_is}
 
 -- ## Results that are left
 
@@ -51,22 +53,10 @@ one_longer xs x i e = length-append xs (x ∷ []) ∙ ap (λ n. n + 1) e
 
 -- ## Successes
 
-both : (a b : Bool) → (a && b) ≡ true → (a ≡ true) × (b ≡ true)
-both true b e = (refl, e)
-both false b e = absurd cc
-
 -- a pip that succeeds is not skipped
 good_inputs : (b : Bool) (r : Result) → is_success (cond b r (failed verdicts.Skipped)).verdict ≡ true → b ≡ true
 good_inputs true r e = refl
 good_inputs false r e = absurd cc
-
-success_is : (v : Verdict) → is_success v ≡ true → v ≡ verdicts.Succeeded
-success_is verdicts.Succeeded e = refl
-success_is verdicts.Skipped e = absurd cc
-success_is (verdicts.Exit code) e = absurd cc
-success_is (verdicts.Tool end) e = absurd cc
-success_is (verdicts.MissingOutput path) e = absurd cc
-success_is (verdicts.Violated violation) e = absurd cc
 
 -- ## Hits
 
@@ -128,7 +118,7 @@ module _ (pips : List Pip) (tree : Files) (budget : ℕ) (S : Holdings) (usable 
   hits_from (pip ∷ left) results i before is long count all good =
       let next = result_of pips tree budget results i pip.kind in
       let vs = verdicts_of (rest_of pips tree budget (results ++ next ∷ []) (i + 1) left) in
-      let g = both (is_success next.verdict) (list_all is_success vs) good in
+      let g = and_parts (is_success next.verdict) (list_all is_success vs) good in
       let go = good_inputs (inputs_are_good pips pip.kind results) _ g.0 in
       let rest =
       hits_from left (results ++ next ∷ []) (i + 1) (before ++ pip ∷ []) (is ∙ sym (append_assoc before (pip ∷ []) left)) (one_longer before pip i long)

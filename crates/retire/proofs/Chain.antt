@@ -1,23 +1,21 @@
--- Keeps of several records leave an honest store honest, and add their entries alone.
+-- Saves of several records leave an honest store honest, and add their entries alone.
 use Rattle.std.proofs.Common.{◌≡◌, ◌⊎◌, ℕ, List, [], ◌∷◌, ◌++◌, Option, Some, refl, sym, ap, ◌∙◌, subst, inl, inr, append-nil}
 use Rattle.std.specs.List.{AllByRecursion}
-use Rattle.observed.specs.Members.{Has}
+use Rattle.std.proofs.lemmas.Option.{same_Some}
+use Rattle.bx_tree.specs.Members.{Has}
 use Rattle.bx_io.specs.Holdings.{Change, Holdings, IsPrefix, StoreState, holdings_after, state_after}
-use Rattle.bx_io.proofs.Changes.{after-append, known_after-append, known_after-nil}
+use Rattle.bx_io.proofs.Changes.{after-append, known_after-append, known_after-nil, nothing_before}
 use Rattle.run_record.specs.Facts.{Facts, Sound}
 use Rattle.memo_format.specs.StoreNames.{HoldsBlob, HoldsEntry}
 use Rattle.memo_format.specs.declared.entry.Entry.{Entry}
 use Rattle.run_record.specs.Collisions.{NoCollision}
 use Rattle.two_phase_meaning.specs.Honest.{Honest}
-use Rattle.two_phase_meaning.specs.Keeping.{ComparedInSave, IsGood, blobs_of, record_entry, record_selector, with_first}
+use Rattle.two_phase_meaning.specs.Saving.{ComparedInSave, IsGood, blobs_of, record_entry, record_selector, with_first}
 use Rattle.two_phase_meaning.proofs.Added.{contents_added, entries_added}
 use Rattle.two_phase.specs.Putting.{LeavesHonest, PutsUpTo}
 use Rattle.two_phase.proofs.Applied.{Made, made_of}
 use Rattle.two_phase.proofs.Prefixes.{leaves_honest}
-use Rattle.retire.specs.Keeping.{PutsEach}
-
-same_some : {X : Type 0} (x y : X) → Some x ≡ Some y → x ≡ y
-same_some x y e = cc
+use Rattle.retire.specs.Saving.{PutsEach}
 
 -- a prefix of two lists joined: of the first, or the first and a prefix of the next
 prefix_cases : (start xs ys : List Change) → IsPrefix start (xs ++ ys) → IsPrefix start xs ⊎ ((rest : List Change) × (start ≡ xs ++ rest) × IsPrefix rest ys)
@@ -46,10 +44,6 @@ IsOfOne fs e = (f : Facts) × Has fs f × (e ≡ record_entry f)
 pub record Leaves (before : StoreState) (fs : List Facts) (now : Option StoreState) : Type 0 where
   pub honest : LeavesHonest before now
   pub adds : (kept : StoreState) → now ≡ Some kept → (e : Entry) → HoldsEntry kept.held e → HoldsEntry before.held e ⊎ IsOfOne fs e
-
-nothing_before : (start : List Change) → IsPrefix start [] → start ≡ []
-nothing_before [] p = refl
-nothing_before (c ∷ cs) p = let joined : c ∷ (cs ++ p.rest) ≡ [] = p.joined in absurd cc
 
 module _ (M : List ℕ → Type 0) (apart : NoCollision M) where
   abbrev Within : StoreState → Type 0
@@ -88,14 +82,14 @@ module _ (M : List ℕ → Type 0) (apart : NoCollision M) where
       makes = p ∙ sym (known_after-nil (Some before));
       along = λ start q. subst (λ (cs : List Change). Honest (holdings_after before.held cs)) (sym (nothing_before start q)) honest;
     };
-    adds = λ kept is e h. inl (subst (λ (k : StoreState). HoldsEntry k.held e) (same_some kept before (sym is ∙ p)) h);
+    adds = λ kept is e h. inl (subst (λ (k : StoreState). HoldsEntry k.held e) (same_Some kept before (sym is ∙ p)) h);
   }
   chain (f ∷ fs) before now ready within honest p =
       let one : PutsUpTo (Some before) p.0 f = p.1 in
       let first : LeavesHonest before p.0 = leaves_honest before p.0 f ready.0.sound ready.0.good one honest (keep_apart before f within ready.0) in
       let done : Made before one.first p.0 = made_of one.first before p.0 one.applies in
       let same : state_after before done.made ≡ state_after before first.made =
-      same_some (state_after before done.made) (state_after before first.made) (sym done.makes ∙ first.makes) in
+      same_Some (state_after before done.made) (state_after before first.made) (sym done.makes ∙ first.makes) in
       let rest : Leaves (state_after before first.made) fs now =
       chain fs (state_after before first.made) now ready.1 (subst Within same (step_within before f p.0 within ready.0 one done))
       (first.along first.made (record { rest = []; joined = append-nil first.made }))

@@ -1,8 +1,9 @@
--- The ways in which pips came to their results, counted, and which records are kept.
+-- The ways in which pips came to their results, counted, and which records are saved.
 use Rattle.std.proofs.Common.{◌≡◌, ℕ, zero, suc, ◌+◌, ◌≤◌, Bool, true, false, cond, List, [], ◌∷◌, ◌++◌, length, map, Option, Some, None, refl, sym, ap, ◌∙◌, subst, arith, append-nil, length-append}
 use Rattle.std.specs.Prelude.{slice_get}
 use Rattle.std.specs.List.{AllByRecursion}
 use Rattle.std.specs.Option.{option_to_list}
+use Rattle.std.proofs.lemmas.Option.{same_Some}
 use Rattle.bx_tree.specs.Trees.{Files}
 use Rattle.bx_io.specs.Holdings.{Holdings}
 use Rattle.pip_model_types.specs.declared.desc.Desc.{Desc}
@@ -18,7 +19,7 @@ use Rattle.run_record.specs.declared.outcome.Outcome.{Outcome}
 use Rattle.run_record.specs.declared.outcome.Outcome.TheVariants.{Good, Failed}
 use Rattle.run_record.specs.declared.outcome.Cause.{Cause}
 use Rattle.run_record.specs.declared.outcome.Cause.TheVariants as causes
-use Rattle.two_phase_meaning.specs.Keeping.{IsGood}
+use Rattle.two_phase_meaning.specs.Saving.{IsGood}
 use Rattle.pip_view_inputs.specs.Plain.{desc_of, kind_process}
 use Rattle.pip_view_inputs.specs.Results.{inputs_of}
 use Rattle.pip_view.specs.Sees.{sees}
@@ -34,13 +35,13 @@ use Rattle.one_thread.specs.Views.{ended_result}
 use Rattle.retire.specs.Counting.{one_fault, one_hit, one_miss}
 use Rattle.retire.specs.Deciding as deciding
 use Rattle.retire.specs.Deciding.{DecidedBy, Decides, DecidesAt}
-use Rattle.retire.specs.Keeping.{IsSuccess}
-use Rattle.retire.specs.Taking.{IsOfNow, kept_if, outcome_in, record_in, way_of}
+use Rattle.retire.specs.Saving.{IsSuccess}
+use Rattle.retire.specs.Taking.{IsOfNow, save_if, outcome_in, record_in, way_of}
 use Rattle.retire.specs.declared.deciding.Next.{Next}
 use Rattle.retire.specs.declared.taking.Taken.{Taken}
 use Rattle.retire.specs.declared.taking.Taken.TheVariants as takings
 use Rattle.retire.specs.declared.taking.Way.{Way}
-use Rattle.retire.proofs.Adding.{kept_none, same_some, success_good}
+use Rattle.retire.proofs.Adding.{save_none, success_good}
 
 -- ## Processes that are not skipped
 
@@ -126,7 +127,7 @@ count_more [] vs v zero pip long at = absurd cc
 count_more [] vs v (suc n) pip long at = absurd cc
 count_more (p ∷ ps) [] v zero pip long at =
     first_counted (runs p.kind v) (run_count ps []) (none_counted ps)
-    ∙ ap (λ (q : Pip). 0 + one_run q.kind v) (same_some p pip at)
+    ∙ ap (λ (q : Pip). 0 + one_run q.kind v) (same_Some p pip at)
 count_more (p ∷ ps) [] v (suc n) pip long at = absurd (omega (arith, long))
 count_more (p ∷ ps) (w ∷ ws) v zero pip long at = absurd (omega (arith, long))
 count_more (p ∷ ps) (w ∷ ws) v (suc n) pip long at =
@@ -166,46 +167,46 @@ counted_sum h m f x y z r r' h' m' f' sum hs ms fs rs = omega (arith, sum, hs, m
 some_or_none : (o : Option Facts) (f : Facts) → o ≡ None → o ≡ Some f → ⊥
 some_or_none o f h k = let never : None ≡ Some f = sym h ∙ k in cc
 
-kept_good : (pips : List Pip) (tree : Files) (made : List Files) (i : ℕ) (t : Taken) (r : Result) → r ≡ by_outcome pips tree made i (outcome_in t)
-    → (b : Bool) → is_success r.verdict ≡ b → (f : Facts) → kept_if b (record_in t) ≡ Some f → IsGood f
-kept_good pips tree made i (takings.Hit found) r is b e f kept = absurd (some_or_none (kept_if b None) f (kept_none b) kept)
-kept_good pips tree made i (takings.Missed g) r is true e f kept = subst IsGood (same_some g f kept) (success_good pips tree made i g.outcome r is e)
-kept_good pips tree made i (takings.Missed g) r is false e f kept = absurd cc
-kept_good pips tree made i (takings.Faulted g) r is true e f kept = subst IsGood (same_some g f kept) (success_good pips tree made i g.outcome r is e)
-kept_good pips tree made i (takings.Faulted g) r is false e f kept = absurd cc
+saved_good : (pips : List Pip) (tree : Files) (made : List Files) (i : ℕ) (t : Taken) (r : Result) → r ≡ by_outcome pips tree made i (outcome_in t)
+    → (b : Bool) → is_success r.verdict ≡ b → (f : Facts) → save_if b (record_in t) ≡ Some f → IsGood f
+saved_good pips tree made i (takings.Hit found) r is b e f kept = absurd (some_or_none (save_if b None) f (save_none b) kept)
+saved_good pips tree made i (takings.Missed g) r is true e f kept = subst IsGood (same_Some g f kept) (success_good pips tree made i g.outcome r is e)
+saved_good pips tree made i (takings.Missed g) r is false e f kept = absurd cc
+saved_good pips tree made i (takings.Faulted g) r is true e f kept = subst IsGood (same_Some g f kept) (success_good pips tree made i g.outcome r is e)
+saved_good pips tree made i (takings.Faulted g) r is false e f kept = absurd cc
 
-kept_sound : (d : Desc) (see : Ask → Answer) (t : Taken) → IsOfNow d see t → (b : Bool) (f : Facts) → kept_if b (record_in t) ≡ Some f → Sound f
-kept_sound d see (takings.Hit found) now b f kept = absurd (some_or_none (kept_if b None) f (kept_none b) kept)
-kept_sound d see (takings.Missed g) now true f kept = subst Sound (same_some g f kept) now.0
-kept_sound d see (takings.Missed g) now false f kept = absurd cc
-kept_sound d see (takings.Faulted g) now true f kept = subst Sound (same_some g f kept) now.0
-kept_sound d see (takings.Faulted g) now false f kept = absurd cc
+saved_sound : (d : Desc) (see : Ask → Answer) (t : Taken) → IsOfNow d see t → (b : Bool) (f : Facts) → save_if b (record_in t) ≡ Some f → Sound f
+saved_sound d see (takings.Hit found) now b f kept = absurd (some_or_none (save_if b None) f (save_none b) kept)
+saved_sound d see (takings.Missed g) now true f kept = subst Sound (same_Some g f kept) now.0
+saved_sound d see (takings.Missed g) now false f kept = absurd cc
+saved_sound d see (takings.Faulted g) now true f kept = subst Sound (same_Some g f kept) now.0
+saved_sound d see (takings.Faulted g) now false f kept = absurd cc
 
 decided_good : (pips : List Pip) (tree : Files) (budget : ℕ) (held : Option Holdings) (ss : List Slot) (n : ℕ) (kind : PipKind) (next : Next)
-    → Decides pips tree budget held ss n kind next → (f : Facts) → next.kept ≡ Some f → IsSuccess f
-decided_good pips tree budget held ss n kind next (deciding.skipped e d) f kept = absurd (some_or_none next.kept f d.record_is kept)
-decided_good pips tree budget held ss n kind next (deciding.plain e none d) f kept = absurd (some_or_none next.kept f d.record_is kept)
+    → Decides pips tree budget held ss n kind next → (f : Facts) → next.saved ≡ Some f → IsSuccess f
+decided_good pips tree budget held ss n kind next (deciding.skipped e d) f kept = absurd (some_or_none next.saved f d.record_is kept)
+decided_good pips tree budget held ss n kind next (deciding.plain e none d) f kept = absurd (some_or_none next.saved f d.record_is kept)
 decided_good pips tree budget held ss n kind next (deciding.process p e is d) f kept =
     let inputs = inputs_of pips (Process p) (map slot_files ss) in (
-      kept_good pips tree (map slot_files ss) n d.taken (ended_result next.ended) d.result_is (is_success next.ended.verdict) refl f (sym d.record_is ∙ kept),
-      kept_sound (desc_of tree inputs budget p) (sees pips tree inputs n) d.taken d.now (is_success next.ended.verdict) f (sym d.record_is ∙ kept),
+      saved_good pips tree (map slot_files ss) n d.taken (ended_result next.ended) d.result_is (is_success next.ended.verdict) refl f (sym d.record_is ∙ kept),
+      saved_sound (desc_of tree inputs budget p) (sees pips tree inputs n) d.taken d.now (is_success next.ended.verdict) f (sym d.record_is ∙ kept),
     )
 
 all_and : (fs : List Facts) (f : Facts) → AllByRecursion IsSuccess fs → IsSuccess f → AllByRecursion IsSuccess (fs ++ f ∷ [])
 all_and [] f h good = (good, tt)
 all_and (g ∷ gs) f h good = (h.0, all_and gs f h.1 good)
 
-with_kept : (fs : List Facts) (kept : Option Facts) → AllByRecursion IsSuccess fs → ((f : Facts) → kept ≡ Some f → IsSuccess f)
+with_saved : (fs : List Facts) (kept : Option Facts) → AllByRecursion IsSuccess fs → ((f : Facts) → kept ≡ Some f → IsSuccess f)
     → AllByRecursion IsSuccess (fs ++ option_to_list kept)
-with_kept fs None h good = subst (AllByRecursion IsSuccess) (sym (append-nil fs)) h
-with_kept fs (Some f) h good = all_and fs f h (good f refl)
+with_saved fs None h good = subst (AllByRecursion IsSuccess) (sym (append-nil fs)) h
+with_saved fs (Some f) h good = all_and fs f h (good f refl)
 
 -- the records of one pip more are of successes
 pub good_at : (pips : List Pip) (tree : Files) (budget : ℕ) (held : Option Holdings) (ss : List Slot) (n : ℕ) (next : Next) (fs : List Facts) (o : Option Pip)
-    → DecidesAt pips tree budget held ss n o next → AllByRecursion IsSuccess fs → AllByRecursion IsSuccess (fs ++ option_to_list next.kept)
+    → DecidesAt pips tree budget held ss n o next → AllByRecursion IsSuccess fs → AllByRecursion IsSuccess (fs ++ option_to_list next.saved)
 good_at pips tree budget held ss n next fs None d h = absurd d
 good_at pips tree budget held ss n next fs (Some pip) d h =
-    with_kept fs next.kept h (decided_good pips tree budget held ss n pip.kind next d)
+    with_saved fs next.saved h (decided_good pips tree budget held ss n pip.kind next d)
 
 -- one pip adds one record at most
 pub few_more : (fs : List Facts) (kept : Option Facts) (n : ℕ) → length fs ≤ n → length (fs ++ option_to_list kept) ≤ n + 1

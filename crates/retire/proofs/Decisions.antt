@@ -7,7 +7,7 @@ use Rattle.pip_model_types.specs.declared.desc.Desc.{Desc}
 use Rattle.pip_model_types.specs.declared.made.Slot.{Slot}
 use Rattle.pip_model_types.specs.declared.pip.Pip.{Pip}
 use Rattle.pip_model_types.specs.declared.pip.PipKind.{PipKind}
-use Rattle.pip_model_types.specs.declared.pip.PipKind.TheVariants.{Process, Copy, Write, Seal}
+use Rattle.pip_model_types.specs.declared.pip.PipKind.TheVariants.{Process}
 use Rattle.pip_model_types.specs.declared.pip.ProcessDesc.{ProcessDesc}
 use Rattle.observed.specs.declared.ask.Ask.{Ask}
 use Rattle.observed.specs.declared.access.Answer.{Answer}
@@ -17,6 +17,7 @@ use Rattle.pip_view_inputs.specs.Plain.{desc_of, kind_process, plain_in, process
 use Rattle.pip_view_inputs.specs.Results.{ByPip, inputs_of, kind_inputs}
 use Rattle.violations.specs.Slots.{slot_files}
 use Rattle.pip_view.specs.Sees.{sees}
+use Rattle.pip_view.proofs.TakenDirs.{kind_is}
 use Rattle.violations.specs.Verdicts.{is_success}
 use Rattle.violations.specs.declared.verdict.Verdict.TheVariants as verdicts
 use Rattle.one_thread.specs.OneThread.{by_outcome, failed, succeeded}
@@ -26,7 +27,7 @@ use Rattle.two_phase.specs.Lookups.{LookupGives, LookupHitIsCurrent}
 use Rattle.two_phase.specs.declared.lookups.LookupResult.TheVariants as lookup_results
 use Rattle.retire.specs.Deciding as deciding
 use Rattle.retire.specs.Deciding.{DecidedBy, DecidedPlainly, Decides, DecidesAt}
-use Rattle.retire.specs.Taking.{IsOfNow, TakesFrom, kept_if, outcome_in, record_in, way_of}
+use Rattle.retire.specs.Taking.{IsOfNow, TakesFrom, save_if, outcome_in, record_in, way_of}
 use Rattle.retire.specs.declared.deciding.Next.{Next}
 use Rattle.retire.specs.declared.taking.Taken.{Taken}
 use Rattle.retire.specs.declared.taking.Taken.TheVariants as takings
@@ -36,12 +37,12 @@ use Rattle.retire.specs.declared.taking.Way.TheVariants as ways
 
 pub hit_taken : (held : Option Holdings) (S : Holdings) (d : Desc) (see : Ask → Answer) (f : FoundParts) → held ≡ Some S → LookupGives held d see (lookup_results.Hit f)
     → LookupHitIsCurrent d see (lookup_results.Hit f) → TakesFrom S d see (takings.Hit f)
-hit_taken held S d see f is seeks now = (subst (λ (o : Option Holdings). LookupGives o d see (lookup_results.Hit f)) is seeks, now.0)
+hit_taken held S d see f is gives now = (subst (λ (o : Option Holdings). LookupGives o d see (lookup_results.Hit f)) is gives, now.0)
 
 pub miss_taken : (held : Option Holdings) (S : Holdings) (d : Desc) (see view : Ask → Answer) (f : Facts) → held ≡ Some S → LookupGives held d see lookup_results.Miss
     → view ≡ see → IsRun f d view → TakesFrom S d see (takings.Missed f)
-miss_taken held S d see view f is seeks same run = (
-  subst (λ (o : Option Holdings). LookupGives o d see lookup_results.Miss) is seeks,
+miss_taken held S d see view f is gives same run = (
+  subst (λ (o : Option Holdings). LookupGives o d see lookup_results.Miss) is gives,
   subst (IsRun f d) same run,
 )
 
@@ -67,7 +68,7 @@ pub decided_by : (pips : List Pip) (tree : Files) (budget : ℕ) (held : Option 
     (t : Taken) (next : Next)
     → IfSome o (λ p. (S : Holdings) → held ≡ Some S → TakesFrom S (desc_of tree inputs budget p) (sees pips tree inputs i) t)
     → IfSome o (λ p. IsOfNow (desc_of tree inputs budget p) (sees pips tree inputs i) t) → ended_result next.ended ≡ by_outcome pips tree made i (outcome_in t) → next.way ≡ way_of t
-    → next.kept ≡ kept_if (is_success next.ended.verdict) (record_in t)
+    → next.saved ≡ save_if (is_success next.ended.verdict) (record_in t)
     → IfSome o (λ p. DecidedBy pips tree budget held made inputs i p next)
 decided_by pips tree budget held made inputs i None t next takes now result way kept = tt
 decided_by pips tree budget held made inputs i (Some p) t next takes now result way kept =
@@ -76,7 +77,7 @@ decided_by pips tree budget held made inputs i (Some p) t next takes now result 
 -- ## Pips
 
 pub decide_skipped : (pips : List Pip) (tree : Files) (budget : ℕ) (held : Option Holdings) (ss : List Slot) (i : ℕ) (o : Option Pip) (next : Next) → IsSome o
-    → good_at pips o ss ≡ false → ended_result next.ended ≡ failed verdicts.Skipped → next.way ≡ ways.Plain → next.kept ≡ None
+    → good_at pips o ss ≡ false → ended_result next.ended ≡ failed verdicts.Skipped → next.way ≡ ways.Plain → next.saved ≡ None
     → DecidesAt pips tree budget held ss i o next
 decide_skipped pips tree budget held ss i None next there bad result way kept = absurd cc
 decide_skipped pips tree budget held ss i (Some pip) next there bad result way kept =
@@ -84,7 +85,7 @@ decide_skipped pips tree budget held ss i (Some pip) next there bad result way k
 
 pub decide_plainly : (pips : List Pip) (tree : Files) (budget : ℕ) (held : Option Holdings) (ss : List Slot) (i : ℕ) (o : Option Pip) (inputs : ByPip) (next : Next)
     → IsSome o → good_at pips o ss ≡ true → process_in o ≡ None → inputs ≡ kind_inputs pips o (map slot_files ss)
-    → ended_result next.ended ≡ succeeded (plain_in tree inputs o) → next.way ≡ ways.Plain → next.kept ≡ None → DecidesAt pips tree budget held ss i o next
+    → ended_result next.ended ≡ succeeded (plain_in tree inputs o) → next.way ≡ ways.Plain → next.saved ≡ None → DecidesAt pips tree budget held ss i o next
 decide_plainly pips tree budget held ss i None inputs next there good none same result way kept = absurd cc
 decide_plainly pips tree budget held ss i (Some pip) inputs next there good none same result way kept =
     deciding.plain good none (record {
@@ -94,12 +95,6 @@ decide_plainly pips tree budget held ss i (Some pip) inputs next there good none
       way_is = way;
       record_is = kept;
     })
-
-process_kind : (kind : PipKind) (p : ProcessDesc) → kind_process kind ≡ Some p → kind ≡ Process p
-process_kind (Process d) p e = cc
-process_kind (Copy d) p e = absurd cc
-process_kind (Write d) p e = absurd cc
-process_kind (Seal d) p e = absurd cc
 
 pub decide_process : (pips : List Pip) (tree : Files) (budget : ℕ) (held : Option Holdings) (ss : List Slot) (i : ℕ) (o : Option Pip) (inputs : ByPip) (next : Next)
     → good_at pips o ss ≡ true → IsSome (process_in o) → inputs ≡ kind_inputs pips o (map slot_files ss)
@@ -111,7 +106,7 @@ decide_process pips tree budget held ss i (Some pip) inputs next good there same
         → IfSome x (λ q. DecidedBy pips tree budget held (map slot_files ss) inputs i q next) → DecidesAt pips tree budget held ss i (Some pip) next
     by_process None is some by = absurd cc
     by_process (Some p) is some by =
-        let kind : pip.kind ≡ Process p = process_kind pip.kind p is in
+        let kind : pip.kind ≡ Process p = kind_is pip.kind p is in
         let now : DecidedBy pips tree budget held (map slot_files ss) (inputs_of pips pip.kind (map slot_files ss)) i p next =
         subst (λ (m : ByPip). DecidedBy pips tree budget held (map slot_files ss) m i p next) same by in
         deciding.process p good kind

@@ -4,14 +4,16 @@ use Rattle.std.specs.Prelude.{slice_get}
 use Rattle.std.specs.List.{AllByRecursion}
 use Rattle.std.specs.Option.{option_to_list}
 use Rattle.std.proofs.lemmas.List.{drop_all}
-use Rattle.std.proofs.lemmas.Option.{slice_get-get_or}
+use Rattle.std.proofs.lemmas.Option.{slice_get-get_or, same_Some}
 use Rattle.std.proofs.Math.Seq.{drop-cons}
 use Rattle.bx_tree.specs.Trees.{Files}
+use Rattle.bx_tree.specs.Members.{Has}
+use Rattle.bx_tree.proofs.Lists.{all_push}
+use Rattle.bx_tree.proofs.Members.{has_front, has_last}
 use Rattle.bx_io.specs.Holdings.{Holdings}
 use Rattle.pip_model_types.specs.declared.desc.Desc.{Desc}
 use Rattle.pip_model_types.specs.declared.made.Slot.{Slot}
 use Rattle.pip_model_types.specs.declared.pip.Pip.{Pip}
-use Rattle.observed.specs.Members.{Has}
 use Rattle.observed.specs.declared.ask.Ask.{Ask}
 use Rattle.observed.specs.declared.access.Answer.{Answer}
 use Rattle.run_record.specs.Facts.{Facts, Sound}
@@ -45,22 +47,10 @@ pub record FollowsTo (pips : List Pip) (tree : Files) (budget : ℕ) (S : Holdin
 
 -- ## Records
 
-has_before : {X : Type 0} (xs ys : List X) (x : X) → Has xs x → Has (xs ++ ys) x
-has_before [] ys x h = absurd h
-has_before (y ∷ xs) ys x h = elim h [ inl e ↦ inl e | inr k ↦ inr (has_before xs ys x k) ]
-
-has_last : {X : Type 0} (xs : List X) (x : X) → Has (xs ++ x ∷ []) x
-has_last [] x = inl refl
-has_last (y ∷ xs) x = inr (has_last xs x)
-
-all_and : {X : Type 0} (P : X → Type 0) (xs : List X) (x : X) → AllByRecursion P xs → P x → AllByRecursion P (xs ++ x ∷ [])
-all_and P [] x h p = (p, tt)
-all_and P (y ∷ xs) x h p = (h.0, all_and P xs x h.1 p)
-
 there_before : (S : Holdings) (fs more : List Facts) (d : Desc) (see : Ask → Answer) → IsThere S fs d see → IsThere S (fs ++ more) d see
 there_before S fs more d see h = elim h [
   | inl usable ↦ inl usable
-  | inr kept ↦ inr (kept.0, has_before fs more kept.0 kept.1, kept.2, kept.3)
+  | inr kept ↦ inr (kept.0, has_front fs more kept.0 kept.1, kept.2, kept.3)
 ]
 
 -- ## At the start
@@ -109,7 +99,7 @@ module _ (pips : List Pip) (tree : Files) (budget : ℕ) (S : Holdings) (fair : 
     left_is : drop n pips ≡ pip ∷ drop (n + 1) pips
     left_is =
         drop-cons pips n pip within
-        ∙ ap (λ (p : Pip). p ∷ drop (suc n) pips) (adding.same_some (get_or pips n pip) pip (sym (slice_get-get_or pips n pip within) ∙ at))
+        ∙ ap (λ (p : Pip). p ∷ drop (suc n) pips) (same_Some (get_or pips n pip) pip (sym (slice_get-get_or pips n pip within) ∙ at))
         ∙ ap (λ k. pip ∷ drop k pips) (adding.one_more n)
 
     spares_more : (numbers : List ℕ) → IsHitSet pips tree budget S numbers
@@ -125,13 +115,13 @@ module _ (pips : List Pip) (tree : Files) (budget : ℕ) (S : Holdings) (fair : 
     last : slice_get (adding.all_verdicts pips tree budget) n ≡ Some next.ended.verdict
     last = verdict_last pips tree budget n vs ss next.ended.verdict next.ended.slot so.so_far.verdicts so.so_far.slots so_far_more
 
-    added : Adds pips tree budget S n next.kept
+    added : Adds pips tree budget S n next.saved
     added =
         added_by pips tree budget n vs ss so.so_far S pip next at (verdict_success pips tree budget n next.ended.verdict last)
         (success_verdict pips tree budget n next.ended.verdict last) d
 
-    step_by : Adds pips tree budget S n next.kept
-        → FollowsTo pips tree budget S (n + 1) new_vs new_ss (fs ++ option_to_list next.kept) (hits + one_hit next.way) (faults + one_fault next.way)
+    step_by : Adds pips tree budget S n next.saved
+        → FollowsTo pips tree budget S (n + 1) new_vs new_ss (fs ++ option_to_list next.saved) (hits + one_hit next.way) (faults + one_fault next.way)
     step_by (adding.nothing none there) = record {
       so_far = so_far_more;
       spares = spares_more;
@@ -140,7 +130,7 @@ module _ (pips : List Pip) (tree : Files) (budget : ℕ) (S : Holdings) (fair : 
           (between_more pips tree budget 0 n fs so.successes);
       sounds = subst (AllByRecursion Sound) (sym (append-nil fs) ∙ ap (λ (o : Option Facts). fs ++ option_to_list o) (sym none)) so.sounds;
       all_there = λ i d' see l runs succeeds. elim (adding.below_or_at i n l) [
-        | inl less ↦ there_before S fs (option_to_list next.kept) d' see (so.all_there i d' see less runs succeeds)
+        | inl less ↦ there_before S fs (option_to_list next.saved) d' see (so.all_there i d' see less runs succeeds)
         | inr same ↦
             inl (there d' see (subst (λ k. RunsAs pips tree budget k d' see) same runs) (subst (SucceedsAt pips tree budget) same succeeds))
       ];
@@ -151,9 +141,9 @@ module _ (pips : List Pip) (tree : Files) (budget : ℕ) (S : Holdings) (fair : 
       successes =
           subst (Between pips tree budget 0 (n + 1)) (ap (λ (o : Option Facts). fs ++ option_to_list o) (sym kept))
           (between_one pips tree budget 0 n fs f s number so.successes);
-      sounds = subst (AllByRecursion Sound) (ap (λ (o : Option Facts). fs ++ option_to_list o) (sym kept)) (all_and Sound fs f so.sounds sound);
+      sounds = subst (AllByRecursion Sound) (ap (λ (o : Option Facts). fs ++ option_to_list o) (sym kept)) (all_push Sound fs f so.sounds sound);
       all_there = λ i d' see l runs succeeds. elim (adding.below_or_at i n l) [
-        | inl less ↦ there_before S fs (option_to_list next.kept) d' see (so.all_there i d' see less runs succeeds)
+        | inl less ↦ there_before S fs (option_to_list next.saved) d' see (so.all_there i d' see less runs succeeds)
         | inr same ↦
             let is = there d' see (subst (λ k. RunsAs pips tree budget k d' see) same runs) in
             inr (f, subst (λ (gs : List Facts). Has gs f) (ap (λ (o : Option Facts). fs ++ option_to_list o) (sym kept)) (has_last fs f), is.0, is.1)
@@ -161,7 +151,7 @@ module _ (pips : List Pip) (tree : Files) (budget : ℕ) (S : Holdings) (fair : 
     }
 
   pub follows_more : (o : Option Pip) → slice_get pips n ≡ o → DecidesAt pips tree budget (Some S) ss n o next
-      → FollowsTo pips tree budget S (n + 1) new_vs new_ss (fs ++ option_to_list next.kept) (hits + one_hit next.way) (faults + one_fault next.way)
+      → FollowsTo pips tree budget S (n + 1) new_vs new_ss (fs ++ option_to_list next.saved) (hits + one_hit next.way) (faults + one_fault next.way)
   follows_more None at d = absurd d
   follows_more (Some pip) at d = step_by pip at d (added pip at d)
 

@@ -2,14 +2,17 @@
 use Rattle.std.proofs.Common.{◌≡◌, ◌⊎◌, ℕ, zero, suc, ◌+◌, List, [], ◌∷◌, map, take, Option, Some, refl, sym, ap, ◌∙◌, subst, inl, inr, arith}
 use Rattle.std.specs.Prelude.{slice_get}
 use Rattle.std.specs.List.{AllByRecursion}
+use Rattle.std.proofs.lemmas.Option.{same_Some}
+use Rattle.pip_view.proofs.TakenDirs.{process_is}
 use Rattle.bx_tree.specs.Trees.{Files}
+use Rattle.bx_tree.specs.Members.{Has}
+use Rattle.bx_tree.proofs.Members.{has_all}
 use Rattle.bx_io.specs.Holdings.{Holdings, StoreState}
 use Rattle.pip_model_types.specs.Makers.{IsPipList}
 use Rattle.pip_model_types.specs.declared.desc.Desc.{Desc}
 use Rattle.pip_model_types.specs.declared.made.Slot.{Slot}
 use Rattle.pip_model_types.specs.declared.pip.Pip.{Pip}
 use Rattle.pip_model_types.specs.declared.pip.PipKind.TheVariants.{Process}
-use Rattle.observed.specs.Members.{Has}
 use Rattle.observed.specs.declared.ask.Ask.{Ask}
 use Rattle.observed.specs.declared.access.Answer.{Answer}
 use Rattle.graph_check.specs.Rules.{KeepsRules}
@@ -18,25 +21,22 @@ use Rattle.memo_format.specs.declared.selector.Selector.{Selector}
 use Rattle.prints.specs.Strong.{strong_parts, strong_text}
 use Rattle.run_record.specs.Digests.{IsReadBack, weak_of}
 use Rattle.two_phase_meaning.specs.Contents.{HoldsPaths}
-use Rattle.two_phase_meaning.specs.Keeping.{answers_text, paths_digest, record_selector}
+use Rattle.two_phase_meaning.specs.Saving.{answers_text, paths_digest, record_selector}
 use Rattle.two_phase_meaning.specs.Compared as met
 use Rattle.two_phase_meaning.specs.Usable.{Usable, UsableAt, asked_text}
 use Rattle.two_phase_meaning.proofs.Stays.{at_one, usable_at}
 use Rattle.violations.specs.declared.verdict.Verdict.{Verdict}
 use Rattle.retire.specs.Compared.{Compared, desc_after, view_after}
 use Rattle.retire.specs.Runs.{IsOfSuccess, NoneReserved, RunsAs, results_before}
-use Rattle.retire.proofs.SoFar.{process_there, run_met, success_met}
+use Rattle.retire.proofs.SoFar.{run_met, success_met}
 use Rattle.retire.proofs.SuccessFits.{success_fits}
 use Rattle.retire.specs.Builds.{Between, IsFair, LeavesFair, LeavesUsable}
 use Rattle.retire.specs.Deciding.{FollowsAll, IsThere}
-use Rattle.retire.specs.Keeping.{PutsAllEach, PutsFirst}
+use Rattle.retire.specs.Saving.{PutsAllEach, PutsFirst}
 use Rattle.retire.proofs.Chain.{IsReady, Leaves, chain}
 use Rattle.retire.proofs.Others.{NoneAt, all_others, none_is, spelled_each}
 use Rattle.retire.proofs.Records.{all_successes}
-use Rattle.retire.proofs.Stay.{kept_stays, stay}
-
-same_some : {X : Type 0} (x y : X) → Some x ≡ Some y → x ≡ y
-same_some x y e = cc
+use Rattle.retire.proofs.Stay.{saved_stays, stay}
 
 -- ## Lists of records
 
@@ -44,10 +44,6 @@ all_first : (P : Facts → Type 0) (n : ℕ) (fs : List Facts) → AllByRecursio
 all_first P zero fs h = tt
 all_first P (suc n) [] h = tt
 all_first P (suc n) (f ∷ fs) h = (h.0, all_first P n fs h.1)
-
-one_of_all : (P : Facts → Type 0) (fs : List Facts) (f : Facts) → AllByRecursion P fs → Has fs f → P f
-one_of_all P [] f h has = absurd has
-one_of_all P (g ∷ gs) f h has = elim has [ inl same ↦ subst P same h.0 | inr later ↦ one_of_all P gs f h.1 later ]
 
 are_ready : (pips : List Pip) (tree : Files) (budget : ℕ) (S : Holdings) (fs : List Facts) → AllByRecursion (IsOfSuccess pips tree budget) fs → AllByRecursion Sound fs
     → AllByRecursion (IsReady (Compared pips tree budget S)) fs
@@ -78,7 +74,7 @@ module _ (pips : List Pip) (tree : Files) (budget : ℕ) (before : StoreState) (
         adds = λ kept is e h. elim (left.adds kept is e h) [
           | inl old ↦ inl old
           | inr new ↦
-              inr (new.0, one_of_all (IsOfSuccess pips tree budget) gs new.0 (all_first (IsOfSuccess pips tree budget) puts.number fs all_of) new.1, new.2)
+              inr (new.0, has_all (IsOfSuccess pips tree budget) gs new.0 (all_first (IsOfSuccess pips tree budget) puts.number fs all_of) new.1, new.2)
         ];
         puts = (fs, follows.high, follows.successes, puts);
       }
@@ -109,9 +105,9 @@ module _ (pips : List Pip) (tree : Files) (budget : ℕ) (before : StoreState) (
   -- what runs as one pip is one process on one view
   one_run : (i : ℕ) (d e : Desc) (see view : Ask → Answer) → RunsAs pips tree budget i d see → RunsAs pips tree budget i e view → (d ≡ e) × (see ≡ view)
   one_run i d e see view a b =
-      let s = process_there (slice_get pips i) a.process a.is_process in
-      let t = process_there (slice_get pips i) b.process b.is_process in
-      let pip : s.0 ≡ t.0 = same_some s.0 t.0 (sym s.1 ∙ t.1) in
+      let s = process_is (slice_get pips i) a.process a.is_process in
+      let t = process_is (slice_get pips i) b.process b.is_process in
+      let pip : s.0 ≡ t.0 = same_Some s.0 t.0 (sym s.1 ∙ t.1) in
       let kinds : Process a.process ≡ Process b.process = sym s.2 ∙ ap (λ (p : Pip). p.kind) pip ∙ t.2 in
       let same : a.process ≡ b.process = cc in (
         sym a.desc_is ∙ ap (desc_after pips tree budget (results_before pips tree budget i)) same ∙ b.desc_is,
@@ -123,15 +119,15 @@ module _ (pips : List Pip) (tree : Files) (budget : ℕ) (before : StoreState) (
     spelled : AllByRecursion (λ (f : Facts). IsReadBack f.desc) fs
     spelled = spelled_each (Some before) now fs puts
 
-    -- what was kept is usable
+    -- what was saved is usable
     by_record : (f : Facts) → Has fs f → IsOfSuccess pips tree budget f → (see : Ask → Answer) → f.answers ≡ map see f.paths → Usable kept.held f.desc see
     by_record f has s see answers =
         let text : answers_text f ≡ asked_text f.desc see (paths_digest f) f.paths =
         ap (λ (as' : List Answer). strong_text (strong_parts (weak_of f.desc) (paths_digest f) as')) answers in
         usable_at kept.held f.desc see (record_selector f) f.paths
-        (kept_stays (Compared pips tree budget before.held) fair.apart fs before now ready
+        (saved_stays (Compared pips tree budget before.held) fair.apart fs before now ready
         (all_others pips tree list keeps free budget before.held fair.apart fs 0 follows.high follows.successes spelled)
-        (λ x held. inl held) puts f has (success_fits pips tree budget list f s keeps (one_of_all Sound fs f follows.sounds has)) see answers
+        (λ x held. inl held) puts f has (success_fits pips tree budget list f s keeps (has_all Sound fs f follows.sounds has)) see answers
         (success_met pips tree budget before.held f s (asked_text f.desc see (paths_digest f) f.paths) (inr (inr (inl text)))) kept is)
 
     -- what was usable stays so, where no record is of its pip
@@ -162,7 +158,7 @@ module _ (pips : List Pip) (tree : Files) (budget : ℕ) (before : StoreState) (
         | inl usable ↦ by_store i d see runs usable.0 usable.1 none
         | inr own ↦
             let f : Facts = own.0 in
-            let s : IsOfSuccess pips tree budget f = one_of_all (IsOfSuccess pips tree budget) fs f all_of own.1 in
+            let s : IsOfSuccess pips tree budget f = has_all (IsOfSuccess pips tree budget) fs f all_of own.1 in
             subst (λ (x : Desc). Usable kept.held x see) own.2 (by_record f own.1 s see own.3)
       ]
     ]

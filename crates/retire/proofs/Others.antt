@@ -1,4 +1,4 @@
--- No two records that are kept in one build are of processes with one weak text.
+-- No two records that are saved in one build are of processes with one weak text.
 use Rattle.std.proofs.Common.{◌≡◌, ℕ, ◌+◌, ◌<◌, ◌≤◌, List, [], ◌∷◌, Option, arith}
 use Rattle.std.specs.List.{AllByRecursion}
 use Rattle.bx_tree.specs.Trees.{Files}
@@ -16,10 +16,10 @@ use Rattle.retire.specs.Compared.{Compared}
 use Rattle.retire.specs.Runs.{NoneReserved, RunsAs}
 use Rattle.retire.proofs.Twins.{one_process}
 use Rattle.retire.specs.Builds.{Between}
-use Rattle.retire.specs.Keeping.{PutsAllEach}
+use Rattle.retire.specs.Saving.{PutsAllEach}
 use Rattle.retire.proofs.Stay.{AreOthers, IsOther}
 
--- the weak texts of records that were kept whole are read back
+-- the weak texts of records that were saved whole are read back
 pub spelled_each : (before now : Option StoreState) (fs : List Facts) → PutsAllEach before fs now → AllByRecursion (λ (f : Facts). IsReadBack f.desc) fs
 spelled_each before now [] p = tt
 spelled_each before now (f ∷ fs) p = (p.1.spelled.weak, spelled_each p.0 now fs p.2)
@@ -50,7 +50,7 @@ module _ (pips : List Pip) (tree : Files) (list : IsPipList pips) (keeps : Keeps
     all_others fs (h.0.pip + 1) high h.2 r.1,
   )
 
-  -- a process of which no record was kept has another weak text than each of them
+  -- a process of which no record was saved has another weak text than each of them
   pub none_is : (i : ℕ) (d : Desc) (see : Ask → Answer) → RunsAs pips tree budget i d see → IsReadBack d → (fs : List Facts) (low high : ℕ)
       → (h : Between pips tree budget low high fs) → AllByRecursion (λ (f : Facts). IsReadBack f.desc) fs → NoneAt pips tree budget i low high fs h → AllByRecursion (IsOther d) fs
   none_is i d see runs read [] low high h r none = tt

@@ -6,15 +6,16 @@ use Rattle.std.specs.Option.{option_map_or, option_to_list}
 use Rattle.std.proofs.lemmas.Bool.{or_cases}
 use Rattle.std.proofs.lemmas.List.{length-map, map-append}
 use Rattle.bx_tree.specs.Orders.{same_path_decides}
-use Rattle.bx_tree.specs.Paths.{Atoms, IsBelow, has_path, same_path}
+use Rattle.bx_tree.specs.Paths.{Atoms, IsBelow, has_path}
 use Rattle.bx_tree.specs.Trees.{Files, paths_of}
+use Rattle.bx_tree.specs.Members.{Has}
+use Rattle.bx_tree.proofs.Sets.{contains_has}
 use Rattle.bx_io.specs.Holdings.{Holdings}
-use Rattle.observed.specs.Members.{Has}
 use Rattle.observed.specs.declared.ask.Ask.{Ask}
 use Rattle.observed.specs.declared.access.Answer.{Answer}
-use Rattle.observed.proofs.OneSet.{contains_has}
-use Rattle.tool_run_writes.specs.Below.{is_below}
-use Rattle.tool_run_writes.proofs.BelowByAtoms.{below_decides}
+use Rattle.bx_tree.specs.Below.{is_below}
+use Rattle.bx_tree.proofs.BelowPaths.{below_decides}
+use Rattle.bx_tree.proofs.Members.{has_back, has_front, passes_all, found_has}
 use Rattle.pip_model_types.specs.declared.desc.Desc.{Desc}
 use Rattle.pip_model_types.specs.declared.made.Slot.{Slot}
 use Rattle.pip_model_types.specs.declared.outputs.OutDir.{OutDir}
@@ -31,7 +32,6 @@ use Rattle.violations.specs.DoubleWrites.{clash_at}
 use Rattle.one_thread.specs.OneThread.{Result, by_outcome}
 use Rattle.one_thread.specs.Views.{ended_result}
 use Rattle.one_thread.specs.Keeping.{AreKept, AreOwnOutputs, KeptAt, Makes}
-use Rattle.one_thread.proofs.Making.{has_first, has_last}
 use Rattle.one_thread.proofs.Meeting.{Apart}
 use Rattle.one_thread.proofs.OneMore.{one_more_kept}
 use Rattle.one_thread.proofs.OneResult.{AllHold, none_kept, of_kind, of_outcome, of_unclashed}
@@ -56,23 +56,6 @@ last_true true true c e = e
 last_true true false c e = cc
 last_true false b c e = cc
 
-both_true : (a b : Bool) → (a && b) ≡ true → (a ≡ true) × (b ≡ true)
-both_true true b e = (refl, e)
-both_true false b e = cc
-
-all_at : {X : Type 0} (p : X → Bool) (xs : List X) (x : X) → list_all p xs ≡ true → Has xs x → p x ≡ true
-all_at p [] x e h = absurd h
-all_at p (y ∷ ys) x e h =
-    let both = both_true (p y) (list_all p ys) e in
-    elim h [ inl same ↦ subst (λ z. p z ≡ true) same both.0 | inr more ↦ all_at p ys x both.1 more ]
-
-has_file : (paths : List Atoms) (path : Atoms) → has_path paths path ≡ true → Has paths path
-has_file [] path e = cc
-has_file (p ∷ ps) path e = elim (or_cases (same_path p path) (has_path ps path) e) [
-  | inl same ↦ inl ((same_path_decides p path).0 same)
-  | inr more ↦ inr (has_file ps path more)
-]
-
 has_console : (console : Option Atoms) (path : Atoms) → is_console console path ≡ true → Has (option_to_list console) path
 has_console None path e = cc
 has_console (Some p) path e = inl ((same_path_decides p path).0 e)
@@ -87,9 +70,9 @@ has_dir (dir ∷ dirs) path e = elim (or_cases (is_below path dir.path) (list_an
 
 may_makes : (p : ProcessDesc) (path : Atoms) → may_make p path ≡ true → Makes (Process p) path
 may_makes p path e = elim (three_cases (has_path p.outs path) (is_console p.console path) (list_any (λ (dir : OutDir). is_below path dir.path) p.outdirs) e) [
-  | inl out ↦ inl (has_first p.outs (option_to_list p.console) path (has_file p.outs path out))
+  | inl out ↦ inl (has_front p.outs (option_to_list p.console) path (found_has p.outs path out))
   | inr other ↦ elim other [
-    | inl console ↦ inl (has_last p.outs (option_to_list p.console) path (has_console p.console path console))
+    | inl console ↦ inl (has_back p.outs (option_to_list p.console) path (has_console p.console path console))
     | inr dir ↦ inr (has_dir p.outdirs path dir)
   ]
 ]
@@ -97,7 +80,7 @@ may_makes p path e = elim (three_cases (has_path p.outs path) (is_console p.cons
 fit_makes : (p : ProcessDesc) (paths : List Atoms) (path : Atoms) → fits p paths ≡ true → Has paths path → Makes (Process p) path
 fit_makes p paths path e h =
     may_makes p path
-    (all_at (may_make p) paths path
+    (passes_all (may_make p) paths path
     (last_true (list_all (has_path paths) p.outs) (option_map_or (has_path paths) p.console true) (list_all (may_make p) paths) e) h)
 
 -- ## One pip

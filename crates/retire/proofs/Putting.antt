@@ -1,14 +1,14 @@
--- Keeps, one after another.
+-- Saves, one after another.
 use Rattle.std.proofs.Common.{◌≡◌, ℕ, zero, suc, ◌+◌, ◌<◌, ◌≤◌, List, [], ◌∷◌, ◌++◌, get_or, length, take, Option, refl, sym, ap, ◌∙◌, subst, arith}
 use Rattle.std.specs.Prelude.{IsSome}
 use Rattle.std.specs.List.{AllByRecursion}
-use Rattle.std.proofs.lemmas.List.{take_more}
+use Rattle.std.proofs.lemmas.List.{take_more, take_all}
 use Rattle.bx_io.specs.Holdings.{StoreState}
 use Rattle.bx_io.proofs.Changes.{rose_by_one}
 use Rattle.run_record.specs.Facts.{Facts}
 use Rattle.two_phase.specs.Calls.{KeeperCall}
 use Rattle.two_phase.specs.Putting.{PutsAll, PutsUpTo}
-use Rattle.retire.specs.Keeping.{PutsAllEach, PutsEach, PutsFirst}
+use Rattle.retire.specs.Saving.{PutsAllEach, PutsEach, PutsFirst}
 
 each_more : (fs : List Facts) (f : Facts) (before between now : Option StoreState) → PutsEach before fs between → PutsUpTo between now f → PutsEach before (fs ++ f ∷ []) now
 each_more [] f before between now same put = (now, subst (λ (k : Option StoreState). PutsUpTo k now f) same put, refl)
@@ -32,15 +32,8 @@ pub all_next : (fs : List Facts) (i : ℕ) (f : Facts) (before between now : Opt
 all_next fs i f before between now l is each put =
     subst (λ (gs : List Facts). PutsAllEach before gs now) (next_taken fs i f l is) (all_more (take i fs) f before between now each put)
 
--- at the end
-take_past : {X : Type 0} (xs : List X) (i : ℕ) → length xs ≤ i → take i xs ≡ xs
-take_past [] zero l = refl
-take_past [] (suc i) l = refl
-take_past (x ∷ xs) zero l = absurd (omega (arith, l))
-take_past (x ∷ xs) (suc i) l = ap (λ ys. x ∷ ys) (take_past xs i (omega (arith, l)))
-
 pub all_at_end : (fs : List Facts) (i : ℕ) (before now : Option StoreState) → length fs ≤ i → PutsAllEach before (take i fs) now → PutsAllEach before fs now
-all_at_end fs i before now l each = subst (λ (gs : List Facts). PutsAllEach before gs now) (take_past fs i l) each
+all_at_end fs i before now l each = subst (λ (gs : List Facts). PutsAllEach before gs now) (take_all i fs l) each
 
 pub first_of : (fs : List Facts) (i : ℕ) (before now : Option StoreState) → PutsEach before (take i fs) now → PutsFirst before fs now
 first_of fs i before now each = record { number = i; each = each }

@@ -1,10 +1,11 @@
--- The records that are kept are those of processes that succeed, in their order.
-use Rattle.std.proofs.Common.{◌≡◌, ℕ, ◌+◌, ◌<◌, zero, suc, true, List, [], ◌∷◌, ◌++◌, length, take, Option, Some, refl, sym, ap, ◌∙◌, arith}
+-- The records that are saved are those of processes that succeed, in their order.
+use Rattle.std.proofs.Common.{◌≡◌, ℕ, ◌+◌, zero, suc, true, List, [], ◌∷◌, ◌++◌, length, Option, Some, refl, sym, ap, ◌∙◌, arith}
 use Rattle.std.specs.Prelude.{slice_get}
 use Rattle.std.specs.List.{AllByRecursion}
 use Rattle.std.specs.Option.{option_map}
-use Rattle.std.proofs.lemmas.Option.{slice_get-map}
+use Rattle.std.proofs.lemmas.Option.{slice_get-map, same_Some}
 use Rattle.bx_tree.specs.Trees.{Files}
+use Rattle.bx_tree.proofs.Lists.{slice_get-take}
 use Rattle.pip_model_types.specs.declared.made.Slot.{Slot}
 use Rattle.pip_model_types.specs.declared.pip.Pip.{Pip}
 use Rattle.run_record.specs.Facts.{Facts}
@@ -18,25 +19,15 @@ use Rattle.retire.specs.Runs.{IsOfSuccess, SucceedsAt}
 use Rattle.retire.specs.Builds.{Between}
 use Rattle.retire.proofs.Along.{before_is}
 
-same_some : {X : Type 0} (x y : X) → Some x ≡ Some y → x ≡ y
-same_some x y e = cc
-
 -- ## Verdicts
 
-success_is : (v : Verdict) → is_success v ≡ true → v ≡ verdicts.Succeeded
+pub success_is : (v : Verdict) → is_success v ≡ true → v ≡ verdicts.Succeeded
 success_is verdicts.Succeeded e = refl
 success_is verdicts.Skipped e = absurd cc
 success_is (verdicts.Exit code) e = absurd cc
 success_is (verdicts.Tool end) e = absurd cc
 success_is (verdicts.MissingOutput path) e = absurd cc
 success_is (verdicts.Violated violation) e = absurd cc
-
-get_take : {X : Type 0} (xs : List X) (n i : ℕ) → i < n → slice_get (take n xs) i ≡ slice_get xs i
-get_take [] zero i l = absurd (omega (arith, l))
-get_take [] (suc n) i l = refl
-get_take (x ∷ xs) zero i l = absurd (omega (arith, l))
-get_take (x ∷ xs) (suc n) zero l = refl
-get_take (x ∷ xs) (suc n) (suc i) l = get_take xs n i (omega (arith, l))
 
 last_result : (vs : List Verdict) (ss : List Slot) (v : Verdict) (s : Slot) (n : ℕ) → length vs ≡ n → length ss ≡ n
     → slice_get (results_of (vs ++ v ∷ []) (ss ++ s ∷ [])) n ≡ Some (result_in v s)
@@ -56,7 +47,7 @@ pub verdict_last : (pips : List Pip) (tree : Files) (budget n : ℕ) (vs : List 
 verdict_last pips tree budget n vs ss v s e k so_far =
     let all : List Result = one_thread pips tree budget in
     let there : slice_get all n ≡ Some (result_in v s) =
-    sym (get_take all (n + 1) n (omega arith))
+    sym (slice_get-take all (n + 1) n (omega arith))
     ∙ ap (λ (rs : List Result). slice_get rs n) (before_is pips tree budget (n + 1) (vs ++ v ∷ []) (ss ++ s ∷ []) so_far)
     ∙ last_result vs ss v s n e k in
     slice_get-map (λ (r : Result). r.verdict) all n
@@ -69,7 +60,7 @@ verdict_success pips tree budget n v last good = last ∙ ap (λ (w : Verdict). 
 
 pub success_verdict : (pips : List Pip) (tree : Files) (budget n : ℕ) (v : Verdict) → slice_get (verdicts_of (one_thread pips tree budget)) n ≡ Some v
     → SucceedsAt pips tree budget n → is_success v ≡ true
-success_verdict pips tree budget n v last succeeds = ap is_success (same_some v verdicts.Succeeded (sym last ∙ succeeds))
+success_verdict pips tree budget n v last succeeds = ap is_success (same_Some v verdicts.Succeeded (sym last ∙ succeeds))
 
 -- ## Records in order
 

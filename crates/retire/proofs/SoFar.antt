@@ -1,41 +1,27 @@
 -- What is so at one process of a build, read off the results before it.
-use Rattle.std.proofs.Common.{◌≡◌, ℕ, zero, suc, ◌+◌, List, [], ◌∷◌, ◌++◌, length, take, Option, Some, None, refl, sym, ap, ◌∙◌, subst, inl, inr, arith, append_assoc, append-nil, length-append}
+use Rattle.std.proofs.Common.{◌≡◌, ℕ, zero, suc, ◌+◌, List, [], ◌∷◌, ◌++◌, length, take, Some, refl, sym, ap, ◌∙◌, subst, inl, inr, arith, append_assoc, append-nil, length-append}
 use Rattle.std.specs.Prelude.{slice_get}
 use Rattle.std.proofs.lemmas.List.{take-append-le, take_all}
+use Rattle.std.proofs.lemmas.Option.{same_Some}
+use Rattle.pip_view.proofs.TakenDirs.{process_is}
 use Rattle.bx_tree.specs.Trees.{Files}
+use Rattle.bx_tree.specs.Members.{Has}
 use Rattle.bx_io.specs.Holdings.{Holdings}
 use Rattle.pip_model_types.specs.declared.desc.Desc.{Desc}
 use Rattle.pip_model_types.specs.declared.pip.Pip.{Pip}
 use Rattle.pip_model_types.specs.declared.pip.PipKind.{PipKind}
-use Rattle.pip_model_types.specs.declared.pip.PipKind.TheVariants.{Process, Copy, Write, Seal}
-use Rattle.pip_model_types.specs.declared.pip.ProcessDesc.{ProcessDesc}
-use Rattle.observed.specs.Members.{Has}
 use Rattle.observed.specs.declared.ask.Ask.{Ask}
 use Rattle.observed.specs.declared.access.Answer.{Answer}
 use Rattle.run_record.specs.Facts.{Facts}
-use Rattle.two_phase_meaning.specs.Keeping.{blobs_of}
+use Rattle.two_phase_meaning.specs.Saving.{blobs_of}
 use Rattle.two_phase_meaning.specs.Compared.{ComparedInRun}
-use Rattle.pip_view_inputs.specs.Plain.{kind_process, process_in}
 use Rattle.one_thread.specs.OneThread.{Result, on_from, result_of}
 use Rattle.retire.specs.Compared.{Compared, compared_at_pip, compared_from, desc_after, view_after}
 use Rattle.retire.specs.HitSet.{HitsFrom}
 use Rattle.retire.specs.Runs.{IsOfSuccess, RunsAs, results_before}
 use Rattle.retire.proofs.RecordMet.{record_met}
 
-same_some : {X : Type 0} (x y : X) → Some x ≡ Some y → x ≡ y
-same_some x y e = cc
-
 -- ## Processes among pips
-
-process_kind : (kind : PipKind) (p : ProcessDesc) → kind_process kind ≡ Some p → kind ≡ Process p
-process_kind (Process d) p e = ap Process (same_some d p e)
-process_kind (Copy d) p e = absurd cc
-process_kind (Write d) p e = absurd cc
-process_kind (Seal d) p e = absurd cc
-
-pub process_there : (o : Option Pip) (p : ProcessDesc) → process_in o ≡ Some p → (pip : Pip) × (o ≡ Some pip) × (pip.kind ≡ Process p)
-process_there None p e = absurd cc
-process_there (Some pip) p e = (pip, refl, process_kind pip.kind p e)
 
 module _ (pips : List Pip) (tree : Files) (budget : ℕ) where
   -- ## Results so far
@@ -61,7 +47,7 @@ module _ (pips : List Pip) (tree : Files) (budget : ℕ) where
     met_at [] results i (suc j) n pip long e at m = absurd cc
     met_at (p ∷ ps) results i zero n pip long e at m =
         let here : n ≡ i = omega (arith, e) in
-        inl (subst (λ (q : Pip). compared_at_pip pips tree budget S results i q.kind x) (sym (same_some p pip at))
+        inl (subst (λ (q : Pip). compared_at_pip pips tree budget S results i q.kind x) (sym (same_Some p pip at))
         (subst (λ (rs : List Result). compared_at_pip pips tree budget S rs i pip.kind x) (taken (p ∷ ps) results i long)
         (subst (λ (k : ℕ). compared_at_pip pips tree budget S (take k (on_from pips tree budget results i (p ∷ ps))) k pip.kind x) here m)))
     met_at (p ∷ ps) results i (suc j) n pip long e at m =
@@ -71,7 +57,7 @@ module _ (pips : List Pip) (tree : Files) (budget : ℕ) where
     -- what is met at a process that runs is met in the build
     pub run_met : (i : ℕ) (d : Desc) (see : Ask → Answer) → RunsAs pips tree budget i d see → ComparedInRun S d see x → Compared pips tree budget S x
     run_met i d see runs m =
-        let there = process_there (slice_get pips i) runs.process runs.is_process in
+        let there = process_is (slice_get pips i) runs.process runs.is_process in
         let before : List Result = results_before pips tree budget i in
         let here : ComparedInRun S (desc_after pips tree budget before runs.process) (view_after pips tree before i runs.process) x =
         subst (λ (e : Desc). ComparedInRun S e (view_after pips tree before i runs.process) x) (sym runs.desc_is)

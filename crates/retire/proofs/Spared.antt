@@ -1,5 +1,6 @@
 -- Hits, and the processes that the store would spare.
-use Rattle.std.proofs.Common.{◌≡◌, ◌⊎◌, ℕ, ◌+◌, ◌≤◌, Bool, true, false, List, [], ◌∷◌, length, map, Some, None, refl, sym, ap, ◌∙◌, subst, inl, inr, arith}
+use Rattle.std.proofs.Common.{◌≡◌, ◌⊎◌, ℕ, ◌+◌, ◌≤◌, true, List, [], ◌∷◌, length, map, Some, None, refl, sym, ap, ◌∙◌, subst, inl, inr, arith}
+use Rattle.std.proofs.lemmas.Bool.{both_ways}
 use Rattle.bx_tree.specs.Trees.{Files}
 use Rattle.bx_io.specs.Holdings.{Holdings}
 use Rattle.pip_model_types.specs.declared.desc.Desc.{Desc}
@@ -98,10 +99,6 @@ tells_same P P' ways.Hit to back t = to t
 tells_same P P' ways.Ran to back t = λ p. t (back p)
 tells_same P P' ways.Faulted to back t = tt
 
-not_good : (b : Bool) → b ≡ false → b ≡ true → ⊥
-not_good true e k = cc
-not_good false e k = cc
-
 no_process_hits : (pips : List Pip) (tree : Files) (budget : ℕ) (S : Holdings) (vs : List Verdict) (ss : List Slot) (n : ℕ) (kind : PipKind) → kind_process kind ≡ None
     → WorkHits pips tree budget S (results_of vs ss) n kind → ⊥
 no_process_hits pips tree budget S vs ss n (Process p) e h = absurd cc
@@ -148,7 +145,7 @@ module _ (pips : List Pip) (tree : Files) (budget : ℕ) (n : ℕ) (vs : List Ve
       → Tells (PipHits pips tree budget S (results_of vs ss) n kind) next.way
   tells kind next (deciding.skipped e d) =
       subst (Tells (PipHits pips tree budget S (results_of vs ss) n kind)) (sym d.way_is)
-      (λ h. not_good (slots_are_good pips kind ss) e (sym (goods kind) ∙ h.0))
+      (λ h. both_ways (slots_are_good pips kind ss) e (sym (goods kind) ∙ h.0))
   tells kind next (deciding.plain e none d) =
       subst (Tells (PipHits pips tree budget S (results_of vs ss) n kind)) (sym d.way_is)
       (λ h. no_process_hits pips tree budget S vs ss n kind none h.1)

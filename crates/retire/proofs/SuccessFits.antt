@@ -4,14 +4,15 @@ use Rattle.std.specs.Prelude.{slice_get}
 use Rattle.std.specs.Option.{option_map}
 use Rattle.std.proofs.lemmas.List.{take-append-drop}
 use Rattle.std.proofs.lemmas.Option.{same_Some, slice_get-map, slice_get_within}
+use Rattle.pip_view.proofs.TakenDirs.{process_is}
 use Rattle.bx_tree.specs.Trees.{Files, NoneNested, paths_of}
+use Rattle.bx_tree.proofs.Sets.{has_contained}
 use Rattle.pip_model_types.specs.Makers.{IsPipList}
 use Rattle.pip_model_types.specs.declared.desc.Desc.{Desc}
 use Rattle.pip_model_types.specs.declared.pip.Pip.{Pip}
 use Rattle.pip_model_types.specs.declared.pip.PipKind.TheVariants.{Process}
 use Rattle.observed.specs.declared.ask.Ask.{Ask}
 use Rattle.observed.specs.declared.access.Answer.{Answer}
-use Rattle.observed.proofs.OneSet.{has_contained}
 use Rattle.graph_check.specs.Rules.{KeepsRules}
 use Rattle.tool_run.proofs.Accesses.{holds}
 use Rattle.run_record.specs.Facts.{Facts, Sound}
@@ -25,11 +26,10 @@ use Rattle.one_thread.proofs.EachResult.{number_of_results, result_of_all, resul
 use Rattle.one_thread.proofs.Meeting.{kept_apart}
 use Rattle.one_thread.specs.Keeping.{AreOwnOutputs}
 use Rattle.one_thread.proofs.OneResult.{kept_result}
-use Rattle.two_phase_meaning.specs.Keeping.{FilesFit, outcome_files}
+use Rattle.two_phase_meaning.specs.Saving.{FilesFit, outcome_files}
 use Rattle.two_phase_meaning.proofs.FilesFit.{files_fit, paths_lines}
 use Rattle.retire.specs.Compared.{view_after}
 use Rattle.retire.specs.Runs.{IsOfSuccess, results_before}
-use Rattle.retire.proofs.SoFar.{process_there}
 
 -- a success that clashes with nothing has the files of its run
 unclashed : (files : Files) (c : Option Violation) → (unless_clash files c).verdict ≡ verdicts.Succeeded → (unless_clash files c).files ≡ files
@@ -47,7 +47,7 @@ module _ (pips : List Pip) (tree : Files) (budget : ℕ) (list : IsPipList pips)
   files = outcome_files f.outcome
 
   there : (pip : Pip) × (slice_get pips s.pip ≡ Some pip) × (pip.kind ≡ Process s.runs.process)
-  there = process_there (slice_get pips s.pip) s.runs.process s.runs.is_process
+  there = process_is (slice_get pips s.pip) s.runs.process s.runs.is_process
 
   outcome_is : process_outcome pips tree budget (inputs_of pips (Process s.runs.process) (made_by before)) s.pip s.runs.process ≡ Good files
   outcome_is =

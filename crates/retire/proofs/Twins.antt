@@ -1,10 +1,12 @@
 -- The weak texts of two processes of a build have different digests.
-use Rattle.std.proofs.Common.{◌≡◌, ◌⊎◌, ℕ, ◌+◌, ◌<◌, zero, suc, List, [], ◌∷◌, ◌++◌, get_or, length, map, take, Option, Some, None, refl, sym, ap, ◌∙◌, subst, inl, inr, arith}
+use Rattle.std.proofs.Common.{◌≡◌, ◌⊎◌, ℕ, ◌+◌, zero, suc, List, [], ◌∷◌, ◌++◌, map, take, Option, Some, None, refl, sym, ap, ◌∙◌, subst, inl, inr}
 use Rattle.std.specs.Prelude.{IsSomeAnd, slice_get}
 use Rattle.std.specs.List.{Contains}
 use Rattle.std.specs.Option.{option_to_list}
 use Rattle.std.proofs.lemmas.Bool.{cases_Bool, cases_order, false≢true}
 use Rattle.std.proofs.lemmas.List.Elements.{All-contains}
+use Rattle.std.proofs.lemmas.Option.{same_Some, get_or_from_slice_get, slice_get_within}
+use Rattle.pip_view.proofs.TakenDirs.{process_is}
 use Rattle.bx_tree.specs.Orders.{same_path_decides}
 use Rattle.bx_tree.specs.Paths.{Atoms, IsBelow, same_path}
 use Rattle.bx_tree.specs.Trees.{Files, IsReserved, paths_of}
@@ -21,10 +23,8 @@ use Rattle.pip_model_types.specs.declared.pip.PipKind.{PipKind}
 use Rattle.pip_model_types.specs.declared.pip.PipKind.TheVariants.{Process, Copy, Write, Seal}
 use Rattle.pip_model_types.specs.declared.pip.ProcessDesc.{ProcessDesc}
 use Rattle.graph_check.specs.Descriptions.{description, without_pip}
-use Rattle.observed.specs.Members.{Has}
 use Rattle.observed.specs.declared.ask.Ask.{Ask}
 use Rattle.observed.specs.declared.access.Answer.{Answer}
-use Rattle.observed.proofs.OneSet.{contains_has, has_contained}
 use Rattle.graph_check_outputs.specs.OutsideOut.{out_dir}
 use Rattle.graph_check_outputs.specs.Outputs.{declared_files}
 use Rattle.graph_check_outputs.specs.Outputs as outputs
@@ -38,19 +38,20 @@ use Rattle.prints.specs.Weak.{weak_text}
 use Rattle.prints.specs.declared.weak_parts.WeakParts.{WeakParts}
 use Rattle.run_record.specs.Collisions.{NoCollision}
 use Rattle.run_record.specs.Digests.{IsReadBack, weak_of}
+use Rattle.run_record.proofs.Same.{one_list}
 use Rattle.pip_view_inputs.specs.Contents.{input_file}
 use Rattle.pip_view_inputs.specs.Plain.{desc_of}
 use Rattle.pip_view_inputs.specs.Results.{ByPip}
-use Rattle.one_thread.proofs.Making.{has_first}
+use Rattle.pip_view_inputs.proofs.TakenFiles.{paths_taken}
 use Rattle.one_thread.proofs.Meeting.{declares, kept_below, made_below}
 use Rattle.two_phase_meaning.specs.Compared as met
 use Rattle.retire.specs.Compared.{Compared, inputs_after}
 use Rattle.retire.specs.Runs.{RunsAs, results_before}
-use Rattle.retire.proofs.SoFar.{process_there, run_met}
+use Rattle.retire.proofs.SoFar.{run_met}
 use Rattle.bx_tree.specs.FileInputs.{input_path}
-
-same_some : {X : Type 0} (x y : X) → Some x ≡ Some y → x ≡ y
-same_some x y e = cc
+use Rattle.bx_tree.specs.Members.{Has}
+use Rattle.bx_tree.proofs.Sets.{contains_has, has_contained}
+use Rattle.bx_tree.proofs.Members.{has_front}
 
 -- ## Lists
 
@@ -66,32 +67,7 @@ some_there : {X : Type 0} (P : X → Type 0) (o : Option X) → IsSomeAnd o P �
 some_there P None h = absurd h
 some_there P (Some x) h = (x, refl, h)
 
-at_place : {X : Type 0} (xs : List X) (i : ℕ) (x d : X) → slice_get xs i ≡ Some x → get_or xs i d ≡ x
-at_place [] zero x d e = absurd cc
-at_place [] (suc i) x d e = absurd cc
-at_place (y ∷ ys) zero x d e = cc
-at_place (y ∷ ys) (suc i) x d e = at_place ys i x d e
-
-place_in : {X : Type 0} (xs : List X) (i : ℕ) (x : X) → slice_get xs i ≡ Some x → i < length xs
-place_in [] zero x e = absurd cc
-place_in [] (suc i) x e = absurd cc
-place_in (y ∷ ys) zero x e = omega arith
-place_in (y ∷ ys) (suc i) x e = let l = place_in ys i x e in omega (arith, l)
-
 -- ## What a weak text says of files and directories
-
-same_paths : (ps qs : List Atoms) → map Source ps ≡ map Source qs → ps ≡ qs
-same_paths [] [] e = refl
-same_paths [] (q ∷ qs) e = absurd cc
-same_paths (p ∷ ps) [] e = absurd cc
-same_paths (p ∷ ps) (q ∷ qs) e =
-    let first : p ≡ q = cc in
-    let rest : map Source ps ≡ map Source qs = cc in
-    ap (λ x. x ∷ ps) first ∙ ap (λ xs. q ∷ xs) (same_paths ps qs rest)
-
-input_paths : (tree : Files) (made : ByPip) (fs : List FileInput) → paths_of (map (input_file tree made) fs) ≡ map input_path fs
-input_paths tree made [] = refl
-input_paths tree made (f ∷ fs) = ap (λ ps. input_path f ∷ ps) (input_paths tree made fs)
 
 same_dir : (k : ℕ) (d e : DirInput) → with_pip k d ≡ with_pip k e → without_pip d ≡ without_pip e
 same_dir k (Sealed a form root) (Sealed b other at) e =
@@ -114,7 +90,7 @@ same_dirs k (d ∷ ds) (x ∷ es) e =
 -- ## Files
 
 makes_declared : (kind : PipKind) (path : Atoms) → MakesFile path kind → Has (declared_files kind) path
-makes_declared (Process d) path h = has_first d.outs (option_to_list d.console) path (has_contained d.outs path h)
+makes_declared (Process d) path h = has_front d.outs (option_to_list d.console) path (has_contained d.outs path h)
 makes_declared (Copy d) path h = inl h
 makes_declared (Write d) path h = inl h
 makes_declared (Seal d) path h = absurd h
@@ -185,7 +161,7 @@ module _ (pips : List Pip) (tree : Files) (list : IsPipList pips) (keeps : Keeps
   -- the files of process i are known
   names_before : (i : ℕ) (pip : Pip) → slice_get pips i ≡ Some pip → NamesAmong (take i pips) pip.kind
   names_before i pip at =
-      subst (λ (p : Pip). NamesAmong (take i pips) p.kind) (at_place pips i pip pip at) (list i (place_in pips i pip at) pip)
+      subst (λ (p : Pip). NamesAmong (take i pips) p.kind) (get_or_from_slice_get pips i pip pip at) (list i (slice_get_within pips i pip at) pip)
 
   in_tree : (i : ℕ) (pip : Pip) (path : Atoms) → slice_get pips i ≡ Some pip → Has (named_sources pip.kind) path → Contains (paths_of tree) path
   in_tree i pip path at h = elim (decided (paths_of tree) path) [
@@ -222,10 +198,10 @@ module _ (pips : List Pip) (tree : Files) (list : IsPipList pips) (keeps : Keeps
       let console : p.console ≡ q.console = ap (λ (x : WeakParts). x.process.console) w in
       let dirs : map without_pip p.dirs ≡ map without_pip q.dirs = same_dirs 0 p.dirs q.dirs (ap (λ (x : WeakParts). x.process.dirs) w) in
       let paths : paths_of (map (input_file tree made) p.files) ≡ paths_of (map (input_file tree others) q.files) =
-      same_paths (paths_of (map (input_file tree made) p.files)) (paths_of (map (input_file tree others) q.files)) (ap (λ (x : WeakParts). x.process.files) w) in
+      one_list (paths_of (map (input_file tree made) p.files)) (paths_of (map (input_file tree others) q.files)) (ap (λ (x : WeakParts). x.process.files) w) in
       let files : p.files ≡ q.files =
       same_inputs p.files q.files (known i a p at_i is_p) (known j b q at_j is_q)
-      (sym (input_paths tree made p.files) ∙ paths ∙ input_paths tree others q.files) in
+      (sym (paths_taken tree made p.files) ∙ paths ∙ paths_taken tree others q.files) in
       cc
 
   described : (i : ℕ) (a : Pip) (p : ProcessDesc) → slice_get pips i ≡ Some a → a.kind ≡ Process p → outputs.PipHas descriptions pips i (description p)
@@ -249,14 +225,14 @@ module _ (pips : List Pip) (tree : Files) (list : IsPipList pips) (keeps : Keeps
   pub one_process : (budget : ℕ) (S : Holdings) (i j : ℕ) (d e : Desc) (see view : Ask → Answer) → NoCollision (Compared pips tree budget S)
       → RunsAs pips tree budget i d see → RunsAs pips tree budget j e view → IsReadBack d → IsReadBack e → weak_of d ≡ weak_of e → i ≡ j
   one_process budget S i j d e see view apart runs others read_d read_e same =
-      let a = process_there (slice_get pips i) runs.process runs.is_process in
-      let b = process_there (slice_get pips j) others.process others.is_process in
+      let a = process_is (slice_get pips i) runs.process runs.is_process in
+      let b = process_is (slice_get pips j) others.process others.is_process in
       let text : weak_text (weak_parts d) ≡ weak_text (weak_parts e) =
       apart (weak_text (weak_parts d)) (weak_text (weak_parts e))
       (run_met pips tree budget S (weak_text (weak_parts d)) i d see runs (met.weak refl))
       (run_met pips tree budget S (weak_text (weak_parts e)) j e view others (met.weak refl)) same in
       let parts : weak_parts d ≡ weak_parts e =
-      same_some (weak_parts d) (weak_parts e) (sym read_d ∙ ap read_weak_text text ∙ read_e) in
+      same_Some (weak_parts d) (weak_parts e) (sym read_d ∙ ap read_weak_text text ∙ read_e) in
       twins i j a.0 b.0 runs.process others.process a.1 b.1 a.2 b.2
       (one_description i j a.0 b.0 runs.process others.process
       (inputs_after pips (Process runs.process) (results_before pips tree budget i))

@@ -1,11 +1,12 @@
 -- What a whole build gives and leaves, by what its steps say.
-use Rattle.std.proofs.Common.{◌≡◌, ℕ, ◌+◌, ◌≤◌, true, List, [], ◌∷◌, ◌++◌, map, Option, Some, None, refl, sym, ap, ◌∙◌, subst, inl, arith}
+use Rattle.std.proofs.Common.{◌≡◌, ℕ, ◌+◌, ◌≤◌, true, List, [], map, Option, Some, None, refl, sym, ap, ◌∙◌, subst, inl, arith}
 use Rattle.std.specs.Prelude.{IsSome}
 use Rattle.std.specs.List.{AllByRecursion}
+use Rattle.std.proofs.lemmas.Option.{same_Some}
 use Rattle.bx_tree.specs.Trees.{Files}
 use Rattle.bx_io.specs.Causes.{IsWithin}
-use Rattle.bx_io.specs.Holdings.{Change, Holdings, IsPrefix, StoreState, holdings_after}
-use Rattle.bx_io.proofs.Changes.{known_after-nil}
+use Rattle.bx_io.specs.Holdings.{Change, Holdings, StoreState, holdings_after}
+use Rattle.bx_io.proofs.Changes.{known_after-nil, nothing_before}
 use Rattle.pip_model_types.specs.Makers.{IsPipList}
 use Rattle.pip_model_types.specs.declared.made.Slot.{Slot}
 use Rattle.pip_model_types.specs.declared.pip.Pip.{Pip}
@@ -22,12 +23,9 @@ use Rattle.one_thread.specs.OneThread.{all_made, made_by, one_thread, outputs_of
 use Rattle.retire.specs.Runs.{NoneReserved}
 use Rattle.retire.specs.Builds.{Fair, IsFair, LeavesFair, LeavesUsable, RunsLate, Spares}
 use Rattle.retire.specs.Deciding.{FollowsAll}
-use Rattle.retire.specs.Keeping.{IsSuccess, OnlyPuts, PutsAllEach, PutsFirst}
+use Rattle.retire.specs.Saving.{IsSuccess, OnlyPuts, PutsAllEach, PutsFirst}
 use Rattle.retire.specs.Reading.{ReadsOn}
 use Rattle.retire.proofs.Leaving.{leaves_fair, leaves_usable}
-
-same_some : {X : Type 0} (x y : X) → Some x ≡ Some y → x ≡ y
-same_some x y e = cc
 
 -- ## What is given
 
@@ -65,10 +63,6 @@ late_of pips tree budget S hits faults more late vs s same sum =
 
 -- ## What is left
 
-nothing_before : (start : List Change) → IsPrefix start [] → start ≡ []
-nothing_before [] p = refl
-nothing_before (c ∷ cs) p = let joined : c ∷ (cs ++ p.rest) ≡ [] = p.joined in absurd cc
-
 -- where nothing was changed
 pub leaves_same : (pips : List Pip) (tree : Files) (budget : ℕ) (before : StoreState) (now : Option StoreState) → now ≡ Some before → IsFair pips tree budget before.held
     → LeavesFair pips tree budget before now
@@ -78,7 +72,7 @@ leaves_same pips tree budget before now is fair = record {
     makes = is ∙ sym (known_after-nil (Some before));
     along = λ start p. subst (λ (cs : List Change). Honest (holdings_after before.held cs)) (sym (nothing_before start p)) fair.honest;
   };
-  adds = λ kept here e h. inl (subst (λ (k : StoreState). HoldsEntry k.held e) (same_some kept before (sym here ∙ is)) h);
+  adds = λ kept here e h. inl (subst (λ (k : StoreState). HoldsEntry k.held e) (same_Some kept before (sym here ∙ is)) h);
   puts = ([], 0, omega arith, record { number = 0; each = is });
 }
 
@@ -86,14 +80,14 @@ leaves_same pips tree budget before now is fair = record {
 pub none_put : (known : Option StoreState) → OnlyPuts known known
 none_put known = ([], tt, record { number = 0; each = refl })
 
--- the records that are kept are of successes
+-- the records that are saved are of successes
 pub only_put : (old now : Option StoreState) (fs given : List Facts) → AllByRecursion IsSuccess fs → given ≡ fs → PutsFirst old given now → OnlyPuts old now
 only_put old now fs given good same puts = (fs, good, subst (λ (gs : List Facts). PutsFirst old gs now) same puts)
 
-pub leaves_kept : (pips : List Pip) (tree : Files) (budget : ℕ) (before : StoreState) (old now : Option StoreState) (vs : List Verdict) (ss : List Slot) (fs given : List Facts)
+pub leaves_saved : (pips : List Pip) (tree : Files) (budget : ℕ) (before : StoreState) (old now : Option StoreState) (vs : List Verdict) (ss : List Slot) (fs given : List Facts)
     (hits faults : ℕ) → old ≡ Some before → FollowsAll pips tree budget before.held vs ss fs hits faults → IsFair pips tree budget before.held → given ≡ fs
     → PutsFirst old given now → LeavesFair pips tree budget before now
-leaves_kept pips tree budget before old now vs ss fs given hits faults is follows fair same puts =
+leaves_saved pips tree budget before old now vs ss fs given hits faults is follows fair same puts =
     leaves_fair pips tree budget before vs ss fs hits faults follows fair now
     (subst (λ (k : Option StoreState). PutsFirst k fs now) is (subst (λ (gs : List Facts). PutsFirst old gs now) same puts))
 

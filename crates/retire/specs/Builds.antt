@@ -13,7 +13,7 @@ use Rattle.two_phase.specs.Putting.{LeavesHonest}
 use Rattle.retire.specs.HitSet.{IsHitSet}
 use Rattle.retire.specs.Compared.{Compared}
 use Rattle.retire.specs.Runs.{AddsSuccesses, AllUsable, IsOfSuccess}
-use Rattle.retire.specs.Keeping.{PutsFirst}
+use Rattle.retire.specs.Saving.{PutsFirst}
 
 -- These are the verdicts and the files of the sequential build, and all processes that are not skipped
 -- there hit or ran.
@@ -57,7 +57,7 @@ Between pips tree budget low high (f ∷ fs) =
     (s : IsOfSuccess pips tree budget f) × (low ≤ s.pip) × Between pips tree budget (s.pip + 1) high fs
 
 -- A fair store is left: it was honest before each change and after it, each entry that was added is that of a
--- process that succeeds, and nothing was done but that records of such processes were kept, by number.
+-- process that succeeds, and nothing was done but that records of such processes were saved, by number.
 pub record LeavesFair (pips : List Pip) (tree : Files) (budget : ℕ) (before : StoreState) (now : Option StoreState)
     : Type 0 where
   pub honest : LeavesHonest before now

@@ -3,6 +3,7 @@ use Rattle.std.specs.Prelude.{◌≡◌, ◌⊎◌, ℕ, true, false, List, map,
 use Rattle.std.specs.Prelude as prelude
 use Rattle.std.specs.List.{AllByRecursion}
 use Rattle.bx_tree.specs.Trees.{Files}
+use Rattle.bx_tree.specs.Members.{Has}
 use Rattle.bx_io.specs.Holdings.{Holdings}
 use Rattle.pip_model_types.specs.declared.desc.Desc.{Desc}
 use Rattle.pip_model_types.specs.declared.made.Slot.{Slot}
@@ -10,7 +11,6 @@ use Rattle.pip_model_types.specs.declared.pip.Pip.{Pip}
 use Rattle.pip_model_types.specs.declared.pip.PipKind.{PipKind}
 use Rattle.pip_model_types.specs.declared.pip.PipKind.TheVariants.{Process}
 use Rattle.pip_model_types.specs.declared.pip.ProcessDesc.{ProcessDesc}
-use Rattle.observed.specs.Members.{Has}
 use Rattle.observed.specs.declared.ask.Ask.{Ask}
 use Rattle.observed.specs.declared.access.Answer.{Answer}
 use Rattle.run_record.specs.Facts.{Facts, Sound}
@@ -30,13 +30,13 @@ use Rattle.retire.specs.Builds.{Between, Spares}
 use Rattle.retire.specs.declared.deciding.Next.{Next}
 use Rattle.retire.specs.declared.taking.Taken.{Taken}
 use Rattle.retire.specs.declared.taking.Way.TheVariants as ways
-use Rattle.retire.specs.Taking.{IsOfNow, TakesFrom, kept_if, outcome_in, record_in, way_of}
+use Rattle.retire.specs.Taking.{IsOfNow, TakesFrom, save_if, outcome_in, record_in, way_of}
 
 -- A pip is decided without the store: it is skipped, or no process.
 pub record DecidedPlainly (result : Result) (next : Next) : Type 0 where
   pub result_is : ended_result next.ended ≡ result
   pub way_is : next.way ≡ ways.Plain
-  pub record_is : next.kept ≡ prelude.None
+  pub record_is : next.saved ≡ prelude.None
 
 -- A process is decided by what it takes, where its inputs and the first pips made these files.
 pub record DecidedBy (pips : List Pip) (tree : Files) (budget : ℕ) (held : Option Holdings)
@@ -47,7 +47,7 @@ pub record DecidedBy (pips : List Pip) (tree : Files) (budget : ℕ) (held : Opt
   pub now : IsOfNow (desc_of tree inputs budget p) (sees pips tree inputs i) taken
   pub result_is : ended_result next.ended ≡ by_outcome pips tree made i (outcome_in taken)
   pub way_is : next.way ≡ way_of taken
-  pub record_is : next.kept ≡ kept_if (is_success next.ended.verdict) (record_in taken)
+  pub record_is : next.saved ≡ save_if (is_success next.ended.verdict) (record_in taken)
 
 -- how pip i of this kind is decided
 pub data Decides (pips : List Pip) (tree : Files) (budget : ℕ) (held : Option Holdings) (ss : List Slot)

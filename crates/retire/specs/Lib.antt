@@ -1,4 +1,4 @@
-pub mod Keeping
+pub mod Saving
 pub mod Builds
 pub mod Counting
 pub mod Reading

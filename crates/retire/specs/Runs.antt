@@ -13,7 +13,7 @@ use Rattle.observed.specs.declared.access.Answer.{Answer}
 use Rattle.run_record.specs.Facts.{Facts, IsRun}
 use Rattle.memo_format.specs.StoreNames.{HoldsEntry}
 use Rattle.memo_format.specs.declared.entry.Entry.{Entry}
-use Rattle.two_phase_meaning.specs.Keeping.{IsGood, record_entry}
+use Rattle.two_phase_meaning.specs.Saving.{IsGood, record_entry}
 use Rattle.two_phase_meaning.specs.Usable.{Usable}
 use Rattle.pip_view_inputs.specs.Plain.{process_in}
 use Rattle.violations.specs.declared.verdict.Verdict.TheVariants as verdicts

@@ -47,6 +47,6 @@ way_of (taken.Missed ran) = ways.Ran
 way_of (taken.Faulted ran) = ways.Faulted
 
 -- the record is for the store only where the process succeeded
-abbrev pub kept_if : Bool → Option Facts → Option Facts
-kept_if true ran = ran
-kept_if false ran = prelude.None
+abbrev pub save_if : Bool → Option Facts → Option Facts
+save_if true ran = ran
+save_if false ran = prelude.None

@@ -2,8 +2,8 @@
 ghost use Rattle.std.specs.Prelude.{◌≡◌, ℕ, List, length, true};
 ghost use Rattle.std.specs.List.{list_all};
 ghost use Rattle.bx_tree.specs.Trees.{Files};
+ghost use Rattle.bx_tree.specs.Members.{Has};
 ghost use Rattle.bx_io.specs.Holdings.{Holdings};
-ghost use Rattle.observed.specs.Members.{Has};
 ghost use Rattle.observed.specs.declared.ask.Ask.{Ask as AnyAsk};
 ghost use Rattle.observed.specs.declared.access.Answer.{Answer as AnyAnswer};
 ghost use Rattle.pip_model_types.specs.Makers.{IsPipList};
@@ -15,7 +15,7 @@ ghost use Rattle.run_record.specs.Digests.{IsReadBack, weak_of};
 ghost use Rattle.run_record.specs.Facts.{Facts, Sound};
 ghost use Rattle.one_thread.specs.OneThread.{one_thread, run_count, verdicts_of};
 ghost use Rattle.violations.specs.Verdicts.{is_success};
-ghost use Rattle.two_phase_meaning.specs.Keeping.{FilesFit, blobs_of};
+ghost use Rattle.two_phase_meaning.specs.Saving.{FilesFit, blobs_of};
 ghost use Rattle.two_phase_meaning.specs.Compared.{ComparedInRun};
 ghost use Rattle.retire.specs.HitSet.{IsHitSet};
 ghost use Rattle.retire.specs.Compared.{Compared};

@@ -14,13 +14,13 @@ ghost use Rattle.one_thread.specs.Views.{Agrees, ended_result, is_good_slot};
 ghost use Rattle.retire.specs.Builds.{IsFair};
 ghost use Rattle.retire.specs.Counting.{one_fault, one_hit, one_miss};
 ghost use Rattle.retire.specs.Deciding.{DecidedBy, DecidesAt, FollowsAll};
-ghost use Rattle.retire.specs.Keeping.{IsSuccess};
+ghost use Rattle.retire.specs.Saving.{IsSuccess};
 ghost use Rattle.retire.specs.Reading.{ReadsOn};
 ghost use Rattle.retire.specs.Taking as takes;
 
-use crate::Memory;
 use crate::taking::{Taken, Way, take};
 use bx_io::{Gate, KeepReader};
+use bx_tree::Memory;
 use one_thread::{
     Frame, PipResult, after_run, after_success, inputs_are_good, is_good, made_plainly, skipped,
 };
@@ -54,38 +54,38 @@ pub(crate) struct Decided {
 struct Next {
     ended: PipResult,
     way: Way,
-    kept: Option<Record>,
+    saved: Option<Record>,
 }
 
 fn record_if(good: bool, ran: Record) -> Option<Record>
-    ensures { result ≡ takes.kept_if good (Some ran) }
+    ensures { result ≡ takes.save_if good (Some ran) }
 {
     if good { Some(ran) } else { None }
 }
 
 // The record of a run is for the store only where its process succeeded.
-#[tactic(auto, using(crate::proofs::Adding::kept_none))]
+#[tactic(auto, using(crate::proofs::Adding::save_none))]
 fn next_of(ended: PipResult, taken: Taken) -> Next
     ensures ended { result.ended ≡ ended }
     ensures way { result.way ≡ takes.way_of taken }
-    ensures kept { result.kept ≡ takes.kept_if (is_good_slot ended.slot) (takes.record_in taken) }
+    ensures saved { result.saved ≡ takes.save_if (is_good_slot ended.slot) (takes.record_in taken) }
 {
     let good = is_good(&ended.slot);
     match taken {
         Taken::Hit(_) => Next {
             ended,
             way: Way::Hit,
-            kept: None,
+            saved: None,
         },
         Taken::Missed(ran) => Next {
             ended,
             way: Way::Ran,
-            kept: record_if(good, ran),
+            saved: record_if(good, ran),
         },
         Taken::Faulted(ran) => Next {
             ended,
             way: Way::Faulted,
-            kept: record_if(good, ran),
+            saved: record_if(good, ran),
         },
     }
 }
@@ -93,12 +93,12 @@ fn next_of(ended: PipResult, taken: Taken) -> Next
 fn plainly(ended: PipResult) -> Next
     ensures ended { result.ended ≡ ended }
     ensures way { result.way ≡ Way.Plain }
-    ensures kept { result.kept ≡ None }
+    ensures saved { result.saved ≡ None }
 {
     Next {
         ended,
         way: Way::Plain,
-        kept: None,
+        saved: None,
     }
 }
 
@@ -212,10 +212,10 @@ fn counted(ways: Ways, way: Way) -> Ways
     }
 }
 
-fn add_record(records: &mut Vec<Record>, kept: Option<Record>) -> Result<(), Memory>
-    ensures { OnOk result (records.new.items ≡ records.old.items ++ option_to_list kept) }
+fn add_record(records: &mut Vec<Record>, saved: Option<Record>) -> Result<(), Memory>
+    ensures { OnOk result (records.new.items ≡ records.old.items ++ option_to_list saved) }
 {
-    if let Some(ran) = kept {
+    if let Some(ran) = saved {
         records.push(ran)?;
     }
     Ok(())
@@ -258,7 +258,7 @@ pub(crate) fn decide_all<R: KeepReader, G: Gate>(
         let ended = next.ended;
         verdicts.push(ended.verdict)?;
         slots.push(ended.slot)?;
-        add_record(&mut records, next.kept)?;
+        add_record(&mut records, next.saved)?;
     }
     Ok(Decided {
         verdicts,

@@ -1,19 +1,19 @@
 //! What a whole build gives.
 ghost use Rattle.std.specs.Prelude.{◌≡◌, ℕ, ◌+◌, ◌≤◌, false, true, IfOk, Some, length};
-ghost use Rattle.bx_io.specs.Holdings.{Holdings, StoreState as KeptParts, held_in};
+ghost use Rattle.bx_io.specs.Holdings.{Holdings, StoreState as AnyStore, held_in};
 ghost use Rattle.one_thread.specs.Outputs.{AreOutputs};
 ghost use Rattle.graph_check.specs.Rules.{KeepsRules};
 ghost use Rattle.one_thread.specs.OneThread as builds;
 ghost use Rattle.retire.specs.Runs.{NoneReserved};
 ghost use Rattle.retire.specs.Builds.{Fair, IsBuild, IsFair, LeavesFair, LeavesUsable, RunsLate};
 ghost use Rattle.retire.specs.Builds.{Spares};
-ghost use Rattle.retire.specs.Keeping.{OnlyPuts};
+ghost use Rattle.retire.specs.Saving.{OnlyPuts};
 
-use crate::Memory;
 use crate::counting::run_count;
 use crate::deciding::decide_all;
-use crate::keeping::keep_all;
+use crate::saving::save_all;
 use bx_io::{Gate, Keeper};
+use bx_tree::Memory;
 use one_thread::{Frame, build_all, outputs, outputs_keep_apart};
 use pip_model::{Made, Plan, Sources};
 use std::alloc::Global;
@@ -42,7 +42,7 @@ pub struct Retired {
 
 /// Decides all pips, one after another, as the sequential build does. Where the store is used, what is
 /// usable for a process is taken in place of its run, and after all pips are decided the records of the runs
-/// that succeeded are kept, by number.
+/// that succeeded are saved, by number.
 pub fn retire_empty<K: Keeper, G: Gate>(
     alloc: Global,
     plan: &Plan,
@@ -68,10 +68,10 @@ pub fn retire_empty<K: Keeper, G: Gate>(
     ensures runs { cached ≡ true → (S : Holdings) → held_in (K.known keeper.old) ≡ Some S
         → IsFair plan.now.pips sources.now plan.now.tool_budget S → IfOk result (λ r.
         RunsLate plan.now.pips sources.now plan.now.tool_budget S r.tally.late r.tally.faults) }
-    ensures left { (before : KeptParts) → K.known keeper.old ≡ Some before
+    ensures left { (before : AnyStore) → K.known keeper.old ≡ Some before
         → IsFair plan.now.pips sources.now plan.now.tool_budget before.held
         → LeavesFair plan.now.pips sources.now plan.now.tool_budget before (K.known keeper.new) }
-    ensures usable { cached ≡ true → (before : KeptParts) → K.known keeper.old ≡ Some before
+    ensures usable { cached ≡ true → (before : AnyStore) → K.known keeper.old ≡ Some before
         → IsFair plan.now.pips sources.now plan.now.tool_budget before.held → NoneReserved sources.now
         → IfOk result (λ r. r.tally.faults ≡ 0
         → LeavesUsable plan.now.pips sources.now plan.now.tool_budget (K.known keeper.new)) }
@@ -122,7 +122,7 @@ fn retire_plain<G: Gate>(
     })
 }
 
-// Where the store is used, what is usable is taken, and records are kept after all pips are decided.
+// Where the store is used, what is usable is taken, and records are saved after all pips are decided.
 fn retire_cached<K: Keeper, G: Gate>(
     alloc: Global,
     plan: &Plan,
@@ -145,10 +145,10 @@ fn retire_cached<K: Keeper, G: Gate>(
     ensures runs { (S : Holdings) → held_in (K.known keeper.old) ≡ Some S
         → IsFair plan.now.pips sources.now plan.now.tool_budget S → IfOk result (λ r.
         RunsLate plan.now.pips sources.now plan.now.tool_budget S r.tally.late r.tally.faults) }
-    ensures left { (before : KeptParts) → K.known keeper.old ≡ Some before
+    ensures left { (before : AnyStore) → K.known keeper.old ≡ Some before
         → IsFair plan.now.pips sources.now plan.now.tool_budget before.held
         → LeavesFair plan.now.pips sources.now plan.now.tool_budget before (K.known keeper.new) }
-    ensures usable { (before : KeptParts) → K.known keeper.old ≡ Some before
+    ensures usable { (before : AnyStore) → K.known keeper.old ≡ Some before
         → IsFair plan.now.pips sources.now plan.now.tool_budget before.held → NoneReserved sources.now
         → IfOk result (λ r. r.tally.faults ≡ 0
         → LeavesUsable plan.now.pips sources.now plan.now.tool_budget (K.known keeper.new)) }
@@ -169,7 +169,7 @@ fn retire_cached<K: Keeper, G: Gate>(
     let mut reader = keeper.reader(alloc)?;
     let decided = decide_all(&frame, &mut reader)?;
     let outputs = outputs(alloc, decided.slots.as_slice())?;
-    let failed = keep_all(alloc, keeper, decided.records.as_slice())?;
+    let failed = save_all(alloc, keeper, decided.records.as_slice())?;
     let ways = decided.ways;
     Ok(Retired {
         verdicts: decided.verdicts,

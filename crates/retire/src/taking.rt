@@ -10,8 +10,8 @@ ghost use Rattle.retire.specs.Counting.{one_fault};
 ghost use Rattle.retire.specs.Reading.{ReadsOn};
 ghost use Rattle.retire.specs.Taking.{IsOfNow, TakesFrom, way_of};
 
-use crate::Memory;
 use bx_io::{Gate, KeepReader};
+use bx_tree::Memory;
 use memo_format::Found;
 use observed::View;
 use one_thread::Frame;

@@ -1,10 +1,10 @@
 -- Answers whose lines share a digest are equal, where contents and lines are apart.
 use Rattle.std.proofs.Common.{◌≡◌, inl, inr, List, [], ◌∷◌, ◌++◌, ℕ, map, refl, ap, sym, ◌∙◌}
+use Rattle.std.proofs.lemmas.Option.{same_Some}
 use Rattle.sha2.specs.Sha256.{sha256}
 use Rattle.observed.specs.declared.ask.Ask.{Ask}
 use Rattle.observed.specs.declared.access.Answer.{Answer}
 use Rattle.observed.specs.declared.access.Answer.TheVariants as answers
-use Rattle.prints.proofs.Combining.{some_same}
 use Rattle.prints.specs.AnswerForms.{answer_form}
 use Rattle.prints.specs.Strong.{IsAnswerLine, answer_at, answer_line, line_of}
 use Rattle.prints.specs.declared.strong_parts.AnswerLine.{AnswerLine}
@@ -14,7 +14,7 @@ use Rattle.run_record.proofs.Digest.{is_digest}
 
 -- ## Lines
 
-is_line : (answer : Answer) → IsAnswerLine (line_of answer)
+pub is_line : (answer : Answer) → IsAnswerLine (line_of answer)
 is_line answers.Absent = tt
 is_line (answers.Content bytes) = is_digest bytes
 is_line answers.File = tt
@@ -29,7 +29,7 @@ alone line = (line, [])
 -- a text is the line of one answer
 one_line : (a b : AnswerLine) → IsAnswerLine a → IsAnswerLine b → answer_line a ≡ answer_line b → a ≡ b
 one_line a b is_a is_b e =
-    ap (λ (p : AnswerLine × List ℕ). p.0) (some_same (alone a) (alone b)
+    ap (λ (p : AnswerLine × List ℕ). p.0) (same_Some (alone a) (alone b)
     (sym (answer_form.again a [] is_a tt) ∙ ap (λ (t : List ℕ). answer_at (t ++ [])) e ∙ answer_form.again b [] is_b tt))
 
 -- ## Answers

@@ -5,12 +5,11 @@ use Rattle.std.specs.Option.{option_map}
 use Rattle.std.specs.Str.{bytes_eq}
 use Rattle.std.proofs.lemmas.Bool.{cases_lt, not-false}
 use Rattle.std.proofs.lemmas.List.{map-append, take-map, take_all, take_more}
-use Rattle.std.proofs.lemmas.Option.{slice_get-get_or, slice_get-map}
+use Rattle.std.proofs.lemmas.Option.{slice_get-get_or, slice_get-map, same_Some}
 use Rattle.std.proofs.lemmas.Slice.Eq.{bytes_eq-Decides}
 use Rattle.pip_model_types.specs.declared.desc.Desc.{Desc}
 use Rattle.observed.specs.declared.ask.Ask.{Ask}
 use Rattle.observed.specs.declared.access.Answer.{Answer}
-use Rattle.prints.proofs.Combining.{some_same}
 use Rattle.run_record.specs.Facts.{Facts}
 use Rattle.run_record.specs.declared.matching.Match.{Match}
 use Rattle.run_record.specs.declared.matching.Match.TheVariants as matches
@@ -27,7 +26,7 @@ get_before (x ∷ xs) (suc i) (suc j) l = get_before xs i j (omega (arith, l))
 -- before the first place at which they differ, lists have the same items
 not_before : (xs ys : List (List ℕ)) (i j : ℕ) (x y v w : List ℕ) → FirstDiffer xs ys i x y → FirstDiffer xs ys j v w → i < j → ⊥
 not_before xs ys i j x y v w here later l =
-    here.other (some_same x y (sym here.left ∙ sym (get_before xs i j l) ∙ ap (λ zs. slice_get zs i) later.before ∙ get_before ys i j l ∙ here.right))
+    here.other (same_Some x y (sym here.left ∙ sym (get_before xs i j l) ∙ ap (λ zs. slice_get zs i) later.before ∙ get_before ys i j l ∙ here.right))
 
 one_place : (xs ys : List (List ℕ)) (i j : ℕ) (x y v w : List ℕ) → FirstDiffer xs ys i x y → FirstDiffer xs ys j v w → i ≡ j
 one_place xs ys i j x y v w one other = elim (cases_lt i j) [
@@ -41,12 +40,12 @@ one_place xs ys i j x y v w one other = elim (cases_lt i j) [
 one_change : (xs ys : List (List ℕ)) (i j : ℕ) (x y v w : List ℕ) → FirstDiffer xs ys i x y → FirstDiffer xs ys j v w → matches.Differs i x y ≡ matches.Differs j v w
 one_change xs ys i j x y v w one other =
     let place = one_place xs ys i j x y v w one other in
-    let left : x ≡ v = some_same x v (sym one.left ∙ ap (slice_get xs) place ∙ other.left) in
-    let right : y ≡ w = some_same y w (sym one.right ∙ ap (slice_get ys) place ∙ other.right) in
+    let left : x ≡ v = same_Some x v (sym one.left ∙ ap (slice_get xs) place ∙ other.left) in
+    let right : y ≡ w = same_Some y w (sym one.right ∙ ap (slice_get ys) place ∙ other.right) in
     cc
 
 not_same : (xs ys : List (List ℕ)) (i : ℕ) (x y : List ℕ) → xs ≡ ys → FirstDiffer xs ys i x y → ⊥
-not_same xs ys i x y same differ = differ.other (some_same x y (sym differ.left ∙ ap (λ zs. slice_get zs i) same ∙ differ.right))
+not_same xs ys i x y same differ = differ.other (same_Some x y (sym differ.left ∙ ap (λ zs. slice_get zs i) same ∙ differ.right))
 
 -- ## One answer
 

@@ -3,8 +3,8 @@ use Rattle.std.proofs.Common.{◌≡◌, ℕ, ◌<◌, ◌+◌, length, get_or, 
 use Rattle.std.specs.List.{AllByRecursion}
 use Rattle.std.proofs.lemmas.List.{take_more}
 use Rattle.std.specs.BTreeMap.{is_at}
+use Rattle.bx_tree.specs.Members.{Has}
 use Rattle.observed.specs.Asks.{ask_cmp, same_ask}
-use Rattle.observed.specs.Members.{Has}
 use Rattle.observed.specs.Orders.{ask_cmp_matches, same_ask_is, same_ask_itself}
 use Rattle.observed.specs.declared.ask.Ask.{Ask}
 use Rattle.observed.specs.declared.access.Access.{Access}

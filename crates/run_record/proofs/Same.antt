@@ -1,16 +1,16 @@
 -- Where no digest differs, and all is apart, the run of now is that of the record.
 use Rattle.std.proofs.Common.{◌≡◌, inl, inr, List, [], ◌∷◌, ℕ, map, refl, ap, sym, ◌∙◌, subst}
+use Rattle.std.proofs.lemmas.Option.{same_Some}
 use Rattle.sha2.specs.Sha256.{sha256}
 use Rattle.bx_tree.specs.Paths.{Atoms}
 use Rattle.bx_tree.specs.Trees.{Files, paths_of}
 use Rattle.bx_tree.specs.declared.file_input.FileInput.TheVariants.{Source}
+use Rattle.bx_tree.specs.Members.{Has}
 use Rattle.pip_model_types.specs.declared.desc.Desc.{Desc}
-use Rattle.observed.specs.Members.{Has}
 use Rattle.observed.specs.declared.ask.Ask.{Ask}
 use Rattle.observed.specs.declared.access.Answer.{Answer}
 use Rattle.tool_text.specs.Reading.{tool_of}
 use Rattle.tool_run.specs.Values.{variables}
-use Rattle.prints.proofs.Combining.{some_same}
 use Rattle.prints.specs.declared.weak_parts.WeakParts.{WeakParts}
 use Rattle.prints.specs.Processes.{weak_parts}
 use Rattle.prints.specs.ReadWeak.{read_weak_text}
@@ -29,7 +29,7 @@ use Rattle.pip_model_types.specs.Outputs.{outdir_paths}
 
 -- ## Processes
 
-one_list : (ps qs : List Atoms) → map Source ps ≡ map Source qs → ps ≡ qs
+pub one_list : (ps qs : List Atoms) → map Source ps ≡ map Source qs → ps ≡ qs
 one_list [] [] e = refl
 one_list [] (q ∷ qs) e = absurd cc
 one_list (p ∷ ps) [] e = absurd cc
@@ -91,7 +91,7 @@ pub same_desc : (M : List ℕ → Type 0) → NoCollision M → (d e : Desc) →
 same_desc M apart d e of_d of_e read_d read_e digests =
     let text = apart (weak_text (weak_parts d)) (weak_text (weak_parts e)) (of_d _ (inl refl)) (of_e _ (inl refl)) digests in
     same_parts M apart d e of_d of_e
-    (some_same (weak_parts d) (weak_parts e) (sym read_d ∙ ap read_weak_text text ∙ read_e))
+    (same_Some (weak_parts d) (weak_parts e) (sym read_d ∙ ap read_weak_text text ∙ read_e))
 
 -- ## Runs
 

@@ -2,7 +2,6 @@
 use Rattle.std.proofs.Common.{◌≡◌, Bool, true, false, List, [], ◌∷◌, length, map, cond, refl, ap, sym, ◌∙◌, subst, inl, inr}
 use Rattle.std.proofs.lemmas.List.{length-map}
 use Rattle.observed.specs.Asks.{same_ask}
-use Rattle.observed.specs.Members.{Has}
 use Rattle.observed.specs.Orders.{same_ask_is, same_ask_itself}
 use Rattle.observed.specs.declared.ask.Ask.{Ask}
 use Rattle.observed.specs.declared.access.Answer.{Answer}
@@ -10,6 +9,7 @@ use Rattle.pip_model_types.specs.declared.desc.Desc.{Desc}
 use Rattle.tool_run.specs.Description.{Description}
 use Rattle.tool_run.specs.Described.{described}
 use Rattle.std.specs.List.{AllByRecursion}
+use Rattle.bx_tree.specs.Members.{Has}
 use Rattle.tool_run.specs.Laws.{DependsOnPathSet, IsAnswered, RunInvariant}
 use Rattle.tool_run.specs.Run.{Run, path_set, run_of}
 use Rattle.run_record.specs.declared.outcome.Outcome.{Outcome}

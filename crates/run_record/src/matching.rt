@@ -43,8 +43,8 @@ struct Change {
     now: Digest,
 }
 
-// The digest of the weak text of a process.
-fn weak_digest(alloc: Global, desc: &Desc) -> Result<Digest, AllocError>
+/// The digest of the weak text of a process.
+pub fn weak_digest(alloc: Global, desc: &Desc) -> Result<Digest, AllocError>
     ensures digest { IfOk result (λ digest. digest ≡ weak_of desc.now) }
     ensures read { IfOk result (λ _. IsReadBack desc.now) }
 {

@@ -1,5 +1,5 @@
-//! Tests of `dscript_eval_direct`: that values are found at once. Where none is, evaluation goes its usual way and
-//! comes to the same, so that no build shows it.
+//! Tests of `dscript_eval_direct`: that the fast path gives values. Where it gives none, evaluation goes its usual
+//! way with the same result, so that no build shows it.
 #![tactic(auto)]
 
 #[cfg(test)]

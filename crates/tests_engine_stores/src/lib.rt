@@ -1,4 +1,4 @@
-//! Tests of `command` where each call of the store and of its reader fails in turn, and of builds that are cut off.
+//! Tests of `command` where each call of the store and of its reader fails in turn.
 #![tactic(auto)]
 
 #[cfg(test)]

@@ -1,109 +1,8 @@
-use bx_io::{FailKeeper, Keeper, MemKeeper, StopKeeper};
-use std::alloc::{AllocError, Global};
-use std::sync::Wait;
+use bx_io::FailKeeper;
 use std::test::Fail;
-use std::thread::Threads;
-use tests_with_engine::{CountGate, NO_FAULTS, add_build, empty_keeper, keeper_of};
-
-/// Two files in C that are compiled, and linked.
-const INPUT: &str = r#"bundle 1
-file 79 config.dsc
-config({resolvers: [{kind: "DScript", modules: [f`src/module.config.dsc`]}]});
-
-file 18 src/a.c
-include h.h
-int a
-
-file 6 src/b.c
-int b
-
-file 769 src/build.dsc
-import {Artifact, Cmd, Transformer} from "Sdk.Transformers";
-const src = Transformer.sealSourceDirectory(d`.`);
-function compile(name: string): File {
-    const obj = p`../out/${name}.o`;
-    return Transformer.execute({
-        tool: {exe: f`cc.tool`},
-        arguments: [Cmd.argument(Artifact.input(f`${name}.c`)), Cmd.argument(Artifact.output(obj))],
-        dependencies: [src],
-    }).getOutputFile(obj);
-}
-const a = compile("a");
-const b = compile("b");
-const app = Transformer.execute({
-    tool: {exe: f`link.tool`},
-    arguments: [Cmd.argument(Artifact.output(p`../out/app`)), Cmd.argument(Artifact.input(a)), Cmd.argument(Artifact.input(b))],
-}).getOutputFile(p`../out/app`);
-@@public export const pack = Transformer.sealPartialDirectory(d`../out`, [app]);
-
-file 280 src/cc.tool
-tool 1
-arg r0, 0, bad
-arg r1, 1, bad
-read r2, r0, bad
-loop: eq r2, "", done
-split r3, r2, r2, "\n"
-head r4, r3, 8
-eq r4, "include ", inc
-cat r5, r5, r3
-cat r5, r5, "\n"
-jump loop
-inc: tail r6, r3, 8
-read r7, r6, loop
-cat r5, r5, r7
-jump loop
-done: write r1, r5
-exit 0
-bad: exit 1
-
-file 6 src/h.h
-int h
-
-file 133 src/link.tool
-tool 1
-arg r0, 0, bad
-arg r1, 1, bad
-arg r2, 2, bad
-read r3, r1, bad
-read r4, r2, bad
-cat r5, r3, r4
-write r0, r5
-exit 0
-bad: exit 1
-
-file 23 src/module.config.dsc
-module({name: "App"});
-
-end
-"#;
-
-/// What its build gives.
-const OUTPUT: &str = "bundle 1
-file 12 out/a.o
-int h
-int a
-
-file 18 out/app
-int h
-int a
-int b
-
-file 6 out/b.o
-int b
-
-file 141 report.txt
-report 1
-verdict succeeded
-pip 0 seal succeeded
-pip 1 process succeeded
-pip 2 process succeeded
-pip 3 process succeeded
-pip 4 seal succeeded
-
-end
-";
-
-const ALL_RAN: &str = "notes hits 0\nran 3\nlate 3\nstore-faults 0\nstarved 0\nstatus 0";
+use tests_with_engine::{
+    ALL_HIT, ALL_RAN, CountGate, FIRST_CALLS, are_built, is_built, keeper_of, left_after,
+};
 
 const ALL_RAN_WITH_A_FAULT: &str =
     "notes hits 0\nran 3\nlate 3\nstore-faults 1\nstarved 0\nstatus 0";
@@ -112,46 +11,6 @@ const ONE_RAN: &str = "notes hits 2\nran 1\nlate 1\nstore-faults 0\nstarved 0\ns
 
 const ONE_RAN_WITH_A_FAULT: &str =
     "notes hits 2\nran 1\nlate 1\nstore-faults 1\nstarved 0\nstatus 0";
-
-const ALL_HIT: &str = "notes hits 3\nran 0\nlate 0\nstore-faults 0\nstarved 0\nstatus 0";
-
-/// How many calls of a store its first build makes. The first record is kept by ten: the list is read, and then
-/// put are the weak text, the path set, the strong text, the executable, the source file, the header, the object, the
-/// entry and the list. The second has another path set, the executable of the first and an object like its source
-/// file: seven. The third has the path set of the second, and reads the objects: seven.
-const FIRST_CALLS: u64 = 24;
-
-/// Whether a build over a store gives its files, and these notes if any are wanted.
-fn is_built<H: Threads + Wait + Sync, K: Keeper>(
-    rt: &H,
-    alloc: Global,
-    keeper: &mut K,
-    gate: &CountGate,
-    notes: &str,
-) -> Result<bool, AllocError> {
-    let mut seen = Vec::new(alloc);
-    add_build(rt, alloc, INPUT, NO_FAULTS, keeper, gate, &mut seen)?;
-    match seen.strip_prefix(OUTPUT.as_bytes()) {
-        Some(rest) => Ok(notes.is_empty() || rest == notes.as_bytes()),
-        None => Ok(false),
-    }
-}
-
-/// Whether builds over this keeper come to these notes, one after the other.
-fn are_built<H: Threads + Wait + Sync, K: Keeper>(
-    rt: &H,
-    alloc: Global,
-    keeper: &mut K,
-    gate: &CountGate,
-    series: &[&str],
-) -> Result<bool, AllocError> {
-    for notes in series {
-        if !is_built(rt, alloc, keeper, gate, notes)? {
-            return Ok(false);
-        }
-    }
-    Ok(true)
-}
 
 /// A record whose call fails is left out, and so is run once more.
 #[test]
@@ -170,26 +29,14 @@ fn leaves_out_a_record_where_a_call_of_the_keeper_fails(rt: HostRuntime) -> Resu
     Ok(())
 }
 
-/// What a build leaves that is cut off after this many calls of its keeper, if it gives its files.
-fn left_after<H: Threads + Wait + Sync>(
-    rt: &H,
-    alloc: Global,
-    calls: u64,
-    notes: &str,
-) -> Result<MemKeeper, Fail> {
-    let mut cut = StopKeeper::new(empty_keeper(alloc, 0)?, calls);
-    if !is_built(rt, alloc, &mut cut, &CountGate::new(), notes)? {
-        return Err("the build that is cut off gives something else".into());
-    }
-    Ok(cut.into_inner())
-}
-
 /// Each lookup reads the list, the path set, the entry and the file.
 #[test]
 fn runs_a_process_where_a_call_of_the_reader_fails(rt: HostRuntime) -> Result<(), Fail> {
     let alloc = rt.alloc();
     for number in 1..=13u64 {
-        let full = left_after(&rt, alloc, FIRST_CALLS, ALL_RAN)?;
+        let Some(full) = left_after(&rt, alloc, FIRST_CALLS, ALL_RAN)? else {
+            return Err("the first build gives something else".into());
+        };
         let mut keeper = FailKeeper::new(full, [number].to_vec(alloc)?);
         let notes = if number == 13 {
             ALL_HIT
@@ -197,17 +44,6 @@ fn runs_a_process_where_a_call_of_the_reader_fails(rt: HostRuntime) -> Result<()
             ONE_RAN_WITH_A_FAULT
         };
         assert!(rt; is_built(&rt, alloc, &mut keeper, &CountGate::new(), notes)?);
-    }
-    Ok(())
-}
-
-/// Whether builds over what a build leaves that is cut off give its files, the last of them from the store alone.
-#[test]
-fn goes_on_over_what_another_build_left_half_done(rt: HostRuntime) -> Result<(), Fail> {
-    let alloc = rt.alloc();
-    for calls in 0..=FIRST_CALLS {
-        let mut keeper = FailKeeper::new(left_after(&rt, alloc, calls, "")?, Vec::new(alloc));
-        assert!(rt; are_built(&rt, alloc, &mut keeper, &CountGate::new(), &["", ALL_HIT])?);
     }
     Ok(())
 }

@@ -1,6 +1,5 @@
-//! Tests of what no build prints: tokens as they are spelled, files as they are laid out, and the size of their nodes.
-//!
-//!
+//! Tests of what no build prints: tokens as they are written, files as they are formatted, and the size of their
+//! nodes.
 #![tactic(auto)]
 
 #[cfg(test)]

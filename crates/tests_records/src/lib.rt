@@ -1,5 +1,5 @@
-//! Tests of what no build does yet: runs that are made again, comparisons of records, and readers of
-//! fingerprints; and of gates, which no build shows.
+//! Tests of what no build does yet: replays, comparisons of records, and parsers of fingerprints; and of gates,
+//! which no build shows.
 #![tactic(auto)]
 
 #[cfg(test)]

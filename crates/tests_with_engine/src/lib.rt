@@ -1,8 +1,12 @@
-//! For tests: whole calls of `command` over an outside in memory. What each writes and answers is one text.
+//! For tests: whole calls of `command` with in-memory sources, sinks and stores. The outputs and answers of each
+//! are one text.
 #![tactic(auto)]
+
+mod over_stores;
 
 use bx_engine::command;
 use bx_io::{FailKeeper, Gate, Keeper, MemKeeper, MemSink, MemSource};
+pub use over_stores::{ALL_HIT, ALL_RAN, FIRST_CALLS, are_built, is_built, left_after};
 use std::alloc::{AllocError, Global};
 use std::sync::Wait;
 use std::sync::atomic::AtomicU32;

@@ -12,6 +12,7 @@ use Rattle.std.specs.declared.cmp.Ordering.{Ordering}
 use Rattle.std.specs.declared.cmp.Ordering.TheVariants.{Less, Equal, Greater}
 use Rattle.bx_tree.specs.Paths.{Atoms, path_cmp}
 use Rattle.bx_tree.specs.Trees.{Files, NoneNested, file_at, paths_of}
+use Rattle.bx_tree.proofs.Lists.{all_append}
 use Rattle.observed.specs.declared.ask.AskKind.{AskKind}
 use Rattle.observed.specs.declared.ask.AskKind.TheVariants as kinds
 use Rattle.observed.specs.declared.ask.Ask.{Ask}
@@ -288,10 +289,6 @@ pub record HoldsFrom (d : Description) (a : Ask → Answer) (left : ℕ) (r : Ru
   pub not_denied : r.end ≢ ends.Denied → NoneDenied r.accesses
   pub steps : r.steps ≤ left
   pub lawful : Lawful d r.writes
-
-all_append : {X : Type 0} (P : X → Type 0) (xs ys : List X) → AllByRecursion P xs → AllByRecursion P ys → AllByRecursion P (xs ++ ys)
-all_append P [] ys h k = k
-all_append P (x ∷ xs) ys h k = (h.0, all_append P xs ys h.1 k)
 
 denied_later : (xs ys : List Access) → NoneDenied xs → EndsDenied ys → EndsDenied (xs ++ ys)
 denied_later xs ys none h = record {

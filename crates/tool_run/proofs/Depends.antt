@@ -1,7 +1,7 @@
 -- A run depends on its description and on the answers in its path set alone.
 use Rattle.std.proofs.Common.{◌≡◌, ℕ, zero, suc, List, [], ◌∷◌, ◌++◌, Option, Some, None, refl, ap, sym, ◌∙◌, inl, inr}
 use Rattle.std.specs.Prelude.{slice_get}
-use Rattle.observed.specs.Members.{Has}
+use Rattle.bx_tree.specs.Members.{Has}
 use Rattle.observed.specs.declared.ask.Ask.{Ask}
 use Rattle.observed.specs.declared.access.Access.{Access}
 use Rattle.observed.specs.declared.access.Access.TheVariants.{Asked, Wrote, WriteDenied}

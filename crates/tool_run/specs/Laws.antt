@@ -2,7 +2,7 @@
 use Rattle.std.specs.Prelude.{◌≡◌, ◌≢◌, ◌≤◌, IsTrue, List, [], ◌∷◌, ◌++◌}
 use Rattle.std.specs.List.{AllByRecursion}
 use Rattle.bx_tree.specs.Trees.{NoneNested, paths_of}
-use Rattle.observed.specs.Members.{Has}
+use Rattle.bx_tree.specs.Members.{Has}
 use Rattle.observed.specs.declared.ask.AskKind.TheVariants as kinds
 use Rattle.observed.specs.declared.ask.Ask.{Ask}
 use Rattle.observed.specs.declared.access.Access.{Access}

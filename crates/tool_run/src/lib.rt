@@ -1,9 +1,10 @@
-//! Runs tools: interprets the instructions of a tool over a view of the files around it.
+//! The interpreter of tools: runs a tool's instructions over a view of the file system.
 //!
-//! A run sees its executable, the files that it declares and its own writes, and all others through a view; what it
-//! did is a list of accesses, the files that it wrote, what it said, how it ended and how many steps it took. This
-//! crate depends on `tool_text` for tools, on `observed` for accesses, and on `tool_run_writes` for the files that a
-//! run has written. It carries the promises that a run is as defined, and depends on nothing but its path set.
+//! A run sees its executable, the files that it declares and its own writes, and all others through a view. It
+//! gives the accesses, the written files, the console output, how the run ended and how many steps it took. This
+//! crate depends on `tool_text` for tools, on `observed` for accesses, and on `tool_run_writes` for the overlay of
+//! written files. It carries the promises that a run is as defined, and depends on nothing but its process and the
+//! answers in its path set.
 #![tactic(auto)]
 
 mod acting;

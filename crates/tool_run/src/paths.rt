@@ -1,18 +1,17 @@
 //! The paths that texts stand for, and which of them a run may write.
 ghost use Rattle.std.specs.Prelude.{◌≡◌, ◌||◌, [], IfOk};
 ghost use Rattle.std.specs.List.{list_any};
-ghost use Rattle.std.specs.Option.{option_copied};
 ghost use Rattle.bx_tree.specs.Paths.{same_path};
 ghost use Rattle.bx_path.specs.Joining.{join_of};
 ghost use Rattle.tool_run.specs.Described.{described};
-ghost use Rattle.tool_run_writes.specs.Below.{is_below as lies_below};
+ghost use Rattle.bx_tree.specs.Below.{is_below};
 ghost use Rattle.tool_run.specs.Description.{permits as permitted};
 ghost use Rattle.tool_run.specs.Description.{resolved as path_of_text};
-ghost use Rattle.pip_model_types.specs.Outputs.{is_console as console_at, outdir_paths};
+ghost use Rattle.pip_model_types.specs.Outputs.{outdir_paths};
 
 use bx_path::join;
 use bx_tree::{Path, PathFault};
-use pip_model_types::{Desc, OutDir, Outputs};
+use pip_model_types::{Desc, OutDirs, Outputs, is_console};
 use std::alloc::{AllocError, Global};
 
 // The path that a text leads to from another, if it is one.
@@ -66,42 +65,14 @@ pub(crate) fn resolved(alloc: Global, dir: &Path, text: &[u8]) -> Result<Option<
     }
 }
 
-// Whether a path lies strictly below a directory.
-fn is_below(path: &Path, dir: &Path) -> bool
-    ensures { result ≡ lies_below path.now dir.now }
-{
-    path.is_below(dir)
-}
-
-fn is_output(outputs: &Outputs, path: &Path) -> bool
-    ensures { result ≡ list_any (λ out. same_path out path.now) outputs.now }
-{
-    outputs.has(path)
-}
-
-fn is_below_any(dirs: &[OutDir], path: &Path) -> bool
-    ensures { result ≡ list_any (λ dir. lies_below path.now dir.path) dirs.now }
-{
-    dirs.iter().any(|dir| is_below(path, &dir.path))
-}
-
 // Whether a path is one of these files or lies strictly below one of these directories.
-fn is_declared(outputs: &Outputs, dirs: &[OutDir], path: &Path) -> bool
+fn is_declared(outputs: &Outputs, dirs: &OutDirs, path: &Path) -> bool
     ensures { result
         ≡ (list_any (λ out. same_path out path.now) outputs.now
-        || list_any (λ dir. lies_below path.now dir) (outdir_paths dirs.now)) }
+        || list_any (λ dir. is_below path.now dir) (outdir_paths dirs.now)) }
 {
-    let inside = is_below_any(dirs, path);
-    inside || is_output(outputs, path)
-}
-
-fn is_console(console: Option<&Path>, path: &Path) -> bool
-    ensures { result ≡ console_at (option_copied console.entry) path.now }
-{
-    match console {
-        Some(file) => *file == *path,
-        None => false,
-    }
+    let inside = dirs.any_above(path);
+    inside || outputs.has(path)
 }
 
 // Whether a run may write a path.
@@ -109,6 +80,5 @@ pub(crate) fn permits(desc: &Desc, path: &Path) -> bool
     ensures { result ≡ permitted (described desc.now) path.now }
 {
     let process = &desc.process;
-    is_declared(&process.outs, process.outdirs.dirs(), path)
-        && !is_console(process.console.as_ref(), path)
+    is_declared(&process.outs, &process.outdirs, path) && !is_console(&process.console, path)
 }

@@ -12,10 +12,10 @@ use Rattle.std.proofs.lemmas.List.{append-nil}
 use Rattle.bx_tree.specs.Paths.{Atoms, path_cmp, path_text}
 use Rattle.bx_tree.specs.Trees.{Files}
 use Rattle.bx_tree.proofs.PathTexts.{prefix_from_below}
-use Rattle.tool_run_writes.specs.Below.{is_below, next_atom}
+use Rattle.bx_tree.specs.Below.{is_below, next_atom}
 use Rattle.tool_run_writes.specs.Writes.{own_names}
-use Rattle.tool_run_writes.proofs.BelowByAtoms.{below_decides}
-use Rattle.tool_run_writes.proofs.NextAtoms.{none_next}
+use Rattle.bx_tree.proofs.BelowPaths.{below_decides}
+use Rattle.bx_tree.proofs.AtomsBelow.{none_next}
 
 -- ## Orders of texts
 

@@ -1,5 +1,5 @@
--- Sets of directories, and what was written below them or above them.
-use Rattle.std.proofs.Common.{◌≡◌, ℕ, ◌+◌, ◌<◌, Bool, true, false, ◌||◌, cond, List, [], ◌∷◌, ◌++◌, length, take, get_or, Option, Some, refl, ap, sym, ◌∙◌}
+-- What was written below directories or above them.
+use Rattle.std.proofs.Common.{◌≡◌, ℕ, Bool, true, false, ◌||◌, cond, List, [], ◌∷◌, Option, Some, refl, ap, sym, ◌∙◌}
 use Rattle.std.specs.Prelude.{is_some}
 use Rattle.std.specs.BTreeMap.{insert_entry, is_at}
 use Rattle.std.specs.List.{list_any}
@@ -7,66 +7,12 @@ use Rattle.std.specs.Map.{lookup}
 use Rattle.std.specs.Ordering.{match_ordering}
 use Rattle.std.specs.declared.cmp.Ordering.{Ordering}
 use Rattle.std.specs.declared.cmp.Ordering.TheVariants.{Less, Equal, Greater}
-use Rattle.std.proofs.lemmas.List.{take_more}
 use Rattle.bx_tree.specs.Paths.{Atoms, path_cmp, same_path}
 use Rattle.bx_tree.specs.Trees.{Files}
 use Rattle.bx_tree.specs.Orders.{equal_paths, path_cmp_matches}
-use Rattle.tool_run_writes.specs.Below.{is_below}
+use Rattle.bx_tree.specs.Below.{is_below}
+use Rattle.bx_tree.proofs.Lists.{any_either, any_alike, any_swap}
 use Rattle.tool_run_writes.specs.Writes.{clashes, has_below}
-
--- ## Tests of lists
-
-pub any_append : {X : Type 0} (p : X → Bool) (xs : List X) (x : X) → list_any p (xs ++ x ∷ []) ≡ (list_any p xs || p x)
-any_append p [] x = last (p x)
-  where
-    last : (t : Bool) → (t || false) ≡ t
-    last true = refl
-    last false = refl
-any_append p (y ∷ ys) x = ap (λ t. p y || t) (any_append p ys x) ∙ grouped (p y) (list_any p ys) (p x)
-  where
-    grouped : (a b c : Bool) → (a || (b || c)) ≡ ((a || b) || c)
-    grouped true b c = refl
-    grouped false b c = refl
-
-either_later : (a b x y : Bool) → ((a || b) || (x || y)) ≡ ((a || x) || (b || y))
-either_later true b x y = refl
-either_later false true true y = refl
-either_later false true false y = refl
-either_later false false x y = refl
-
-any_either : {X : Type 0} (p q : X → Bool) (xs : List X) → list_any (λ x. p x || q x) xs ≡ (list_any p xs || list_any q xs)
-any_either p q [] = refl
-any_either p q (x ∷ xs) = ap (λ t. (p x || q x) || t) (any_either p q xs) ∙ either_later (p x) (q x) (list_any p xs) (list_any q xs)
-
-any_alike : {X : Type 0} (p q : X → Bool) (xs : List X) → ((x : X) → p x ≡ q x) → list_any p xs ≡ list_any q xs
-any_alike p q [] same = refl
-any_alike p q (x ∷ xs) same = ap (λ t. t || list_any p xs) (same x) ∙ ap (λ t. q x || t) (any_alike p q xs same)
-
-none_any : {X : Type 0} (xs : List X) → list_any (λ (x : X). false) xs ≡ false
-none_any [] = refl
-none_any (x ∷ xs) = none_any xs
-
-any_swap : {X Y : Type 0} (r : X → Y → Bool) (xs : List X) (ys : List Y) → list_any (λ x. list_any (r x) ys) xs ≡ list_any (λ y. list_any (λ x. r x y) xs) ys
-any_swap r [] ys = sym (none_any ys)
-any_swap r (x ∷ xs) ys = ap (λ t. list_any (r x) ys || t) (any_swap r xs ys) ∙ sym (any_either (r x) (λ y. list_any (λ z. r z y) xs) ys)
-
--- ## A directory more in a set
-
-more_or : (t a old before now : Bool) → now ≡ cond t true before → before ≡ (a || old) → now ≡ ((a || t) || old)
-more_or true true old before now put so_far = put
-more_or true false old before now put so_far = put
-more_or false true old before now put so_far = put ∙ so_far
-more_or false false old before now put so_far = put ∙ so_far
-
-pub one_more : (above : List Atoms) (i : ℕ) (dir k q : Atoms) (old before now : Bool) → i < length above → dir ≡ get_or above i dir → k ≡ dir
-    → now ≡ cond (is_at (path_cmp k) q) true before → before ≡ (list_any (λ d. same_path d q) (take i above) || old)
-    → now ≡ (list_any (λ d. same_path d q) (take (i + 1) above) || old)
-one_more above i dir k q old before now l is key put so_far =
-    more_or (same_path dir q) (list_any (λ d. same_path d q) (take i above)) old before now
-    (put ∙ ap (λ (x : Atoms). cond (is_at (path_cmp x) q) true before) key ∙ ap (λ t. cond t true before) (sym (path_cmp_matches dir q)))
-    so_far
-    ∙ sym (ap (λ t. t || old) (ap (list_any (λ d. same_path d q)) (take_more above i dir l ∙ ap (λ (x : Atoms). take i above ++ x ∷ []) (sym is))
-    ∙ any_append (λ d. same_path d q) (take i above) dir))
 
 -- ## A file more
 

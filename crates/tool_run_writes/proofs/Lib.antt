@@ -1,9 +1,6 @@
-pub mod BelowByAtoms
 pub mod NextAtoms
 pub mod Found
-pub mod SameFiles
 pub mod PutInOrder
 pub mod DirectorySets
-pub mod Ancestors
 pub mod Bounds
 pub mod Unnested

@@ -18,7 +18,7 @@ below path [] i d l h = absurd (omega (arith, l))
 below path (f ∷ fs) zero d l h = h.0
 below path (f ∷ fs) (suc i) d l h = below path fs i d (omega (arith, l)) h.1
 
-greater : (a b : Atoms) → path_cmp a b ≡ Less → path_cmp b a ≡ Greater
+pub greater : (a b : Atoms) → path_cmp a b ≡ Less → path_cmp b a ≡ Greater
 greater a b less = turned (path_cmp b a) (path_cmp a b) (path_cmp_total.antisymm b a) less
   where
     turned : (o p : Ordering) → o ≡ ordering_reverse p → p ≡ Less → o ≡ Greater

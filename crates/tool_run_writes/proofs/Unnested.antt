@@ -9,26 +9,19 @@ use Rattle.std.specs.Map.{lookup}
 use Rattle.std.specs.Ordering.{match_ordering}
 use Rattle.std.specs.declared.cmp.Ordering.{Ordering}
 use Rattle.std.specs.declared.cmp.Ordering.TheVariants.{Less, Equal, Greater}
+use Rattle.std.proofs.lemmas.Bool.{or_parts, or_from}
 use Rattle.bx_tree.specs.Paths.{Atoms, IsBelow, path_cmp, same_path}
 use Rattle.bx_tree.specs.Trees.{Files, NoneNested, paths_of}
-use Rattle.bx_tree.specs.Orders.{equal_paths, path_cmp_total, same_path_decides}
-use Rattle.observed.specs.Members.{Has}
-use Rattle.observed.proofs.OneSet.{contains_has, has_contained, has_insert, insert_sorted}
+use Rattle.bx_tree.specs.Orders.{path_cmp_total, same_path_decides}
+use Rattle.bx_tree.specs.Members.{Has}
+use Rattle.bx_tree.proofs.Sets.{contains_has, has_contained, has_insert, insert_sorted}
 use Rattle.pip_model_types.specs.Made.{RisingFiles}
-use Rattle.tool_run_writes.specs.Below.{is_below}
+use Rattle.bx_tree.specs.Below.{is_below}
 use Rattle.tool_run_writes.specs.Writes.{clashes, has_below}
-use Rattle.tool_run_writes.proofs.BelowByAtoms.{below_decides}
+use Rattle.bx_tree.proofs.BelowPaths.{below_decides}
 use Rattle.tool_run_writes.proofs.DirectorySets.{either_swapped, either_twice, found_any}
 
 -- ## Tests
-
-neither : (a b : Bool) → (a || b) ≡ false → (a ≡ false) × (b ≡ false)
-neither true b e = cc
-neither false b e = (refl, e)
-
-both_false : (a b : Bool) → a ≡ false → b ≡ false → (a || b) ≡ false
-both_false true b e f = cc
-both_false false b e f = f
 
 not_below : (path dir : Atoms) → is_below path dir ≡ false → IsBelow path dir → ⊥
 not_below path dir e h = true≢false (sym ((below_decides path dir).1 h) ∙ e)
@@ -44,7 +37,7 @@ longer : (path rest : Atoms) → rest ≢ [] → path ≡ path ++ rest → ⊥
 longer [] rest some e = some (sym e)
 longer (a ∷ as') rest some e = let f : as' ≡ as' ++ rest = cc in longer as' rest some f
 
-not_itself : (path : Atoms) → IsBelow path path → ⊥
+pub not_itself : (path : Atoms) → IsBelow path path → ⊥
 not_itself path h = longer path h.0 h.1 h.2
 
 -- ## A file more
@@ -66,16 +59,16 @@ put_rising files path bytes h =
     subst (IsStrictlySortedBy path_cmp) (sym (put_paths files path bytes)) (insert_sorted path_cmp_total (paths_of files) path h)
 
 -- a path of the files with one more is that of the one, or one of theirs
-put_has : (files : Files) (path : Atoms) (bytes : List ℕ) (q : Atoms) → Has (paths_of (insert_entry path_cmp files path bytes)) q
+pub put_has : (files : Files) (path : Atoms) (bytes : List ℕ) (q : Atoms) → Has (paths_of (insert_entry path_cmp files path bytes)) q
     → (path ≡ q) ⊎ Has (paths_of files) q
-put_has files path bytes q h = has_insert path_cmp equal_paths (paths_of files) path q (subst (λ (ps : List Atoms). Has ps q) (put_paths files path bytes) h)
+put_has files path bytes q h = has_insert path_cmp (paths_of files) path q (subst (λ (ps : List Atoms). Has ps q) (put_paths files path bytes) h)
 
 -- a path that clashes with no file lies below none of them, and none below it
 no_clash : (files : Files) (path q : Atoms) → clashes files path ≡ false → Has (paths_of files) q → (is_below q path ≡ false) × (is_below path q ≡ false)
 no_clash [] path q e h = absurd h
 no_clash (f ∷ fs) path q e h =
-    let parts = neither (is_below f.0 path || is_below path f.0) (clashes fs path) e in
-    let here = neither (is_below f.0 path) (is_below path f.0) parts.0 in
+    let parts = or_parts (is_below f.0 path || is_below path f.0) (clashes fs path) e in
+    let here = or_parts (is_below f.0 path) (is_below path f.0) parts.0 in
     elim h [
       | inl same ↦ subst (λ (p : Atoms). (is_below p path ≡ false) × (is_below path p ≡ false)) same here
       | inr k ↦ no_clash fs path q parts.1 k
@@ -119,8 +112,8 @@ unclashed : (files : Files) (path : Atoms) → ((q : Atoms) → Has (paths_of fi
 unclashed [] path h = refl
 unclashed (f ∷ fs) path h =
     let here = h f.0 (inl refl) in
-    both_false (is_below f.0 path || is_below path f.0) (clashes fs path)
-    (both_false (is_below f.0 path) (is_below path f.0) (is_not_below f.0 path here.0) (is_not_below path f.0 here.1))
+    or_from (is_below f.0 path || is_below path f.0) (clashes fs path)
+    (or_from (is_below f.0 path) (is_below path f.0) (is_not_below f.0 path here.0) (is_not_below path f.0 here.1))
     (unclashed fs path (λ q k. h q (inr k)))
 
 -- the path of a file clashes with none

@@ -1,5 +1,5 @@
 -- The files that a run has written, and what they answer.
-use Rattle.std.specs.Prelude.{◌≡◌, ℕ, Bool, true, false, ◌||◌, List, [], Option, Some, None, if◌then◌else◌}
+use Rattle.std.specs.Prelude.{◌≡◌, ℕ, Bool, true, false, List, [], Option, Some, None, if◌then◌else◌}
 use Rattle.std.specs.List.{list_any, filter_map}
 use Rattle.std.specs.BTreeMap.{insert_entry}
 use Rattle.std.specs.BTreeSet.{BTreeSet, contains}
@@ -10,7 +10,7 @@ use Rattle.observed.specs.declared.ask.AskKind.TheVariants as kinds
 use Rattle.observed.specs.declared.ask.Ask.{Ask}
 use Rattle.observed.specs.declared.access.Answer.{Answer}
 use Rattle.observed.specs.declared.access.Answer.TheVariants as answers
-use Rattle.tool_run_writes.specs.Below.{is_below, next_atom}
+use Rattle.bx_tree.specs.Below.{is_below, is_nested, next_atom}
 
 -- the files, in the order of paths, with this one written
 abbrev pub with_file : Files → Atoms → List ℕ → Files
@@ -26,7 +26,7 @@ AreDirectories dirs writes = (q : Atoms) → contains path_cmp dirs q ≡ has_be
 
 -- whether a file was written strictly below the path, or the path lies strictly below one
 abbrev pub clashes : Files → Atoms → Bool
-clashes writes path = list_any (λ f. is_below f.0 path || is_below path f.0) writes
+clashes writes path = list_any (λ f. is_nested f.0 path) writes
 
 -- the files with this one written, and whether it was: they stay as they are where its path clashes with one
 abbrev pub put_file : Files → Atoms → List ℕ → Files × Bool

@@ -6,18 +6,17 @@ ghost use Rattle.std.specs.List.{list_any};
 ghost use Rattle.std.specs.Option.{option_copied};
 ghost use Rattle.bx_tree.specs.Paths.{Atoms, path_cmp};
 ghost use Rattle.bx_tree.specs.Trees.{NoneNested, file_at, paths_of};
-ghost use Rattle.pip_model_types.specs.Made.{RisingFiles, made_files};
-ghost use Rattle.tool_run_writes.specs.Below.{is_below as lies_below};
+ghost use Rattle.bx_tree.specs.Below.{is_below};
 ghost use Rattle.tool_run_writes.specs.Writes.{clashes as some_clash, has_below as some_below, own_names};
 ghost use Rattle.tool_run_writes.specs.Writes.{AreDirectories, own_answer, put_file, with_file as and_file};
 ghost use Rattle.bx_tree.specs.Lent.{texts_now};
 
-use crate::below::{bounds_below, next_atom};
-use crate::directories::{add_directories, directories};
+use crate::below::bounds_below;
 use bx_digest::Blob;
-use bx_tree::Path;
+use bx_path::{add_directories, directories};
+use bx_tree::{Path, next_atom};
 use observed::{Answer, Ask, AskKind};
-use pip_model_types::{Made, MadeFile};
+use pip_model_types::Made;
 use std::alloc::{AllocError, Global};
 use std::collections::{BTreeMap, BTreeSet};
 use std::marker::Model;
@@ -42,24 +41,6 @@ impl Model for Writes {
     ghost invariant = { λ w. AreDirectories w.dirs w.files.entries × NoneNested (paths_of w.files.entries) };
 }
 
-// The files of a map by path, in order.
-fn files_of(alloc: Global, files: BTreeMap<Path, Blob>) -> Result<Vec<MadeFile>, AllocError>
-    ensures files { IfOk result (λ made. made_files made.items ≡ files.entries) }
-    ensures rising { RisingFiles files.entries }
-{
-    files
-        .into_iter()
-        .map(|(path, blob)| MadeFile { path, blob })
-        .collect(alloc)
-}
-
-// The files of a map by path, as those that a pip made.
-fn made_of(alloc: Global, files: BTreeMap<Path, Blob>) -> Result<Made, AllocError>
-    ensures { IfOk result (λ made. made ≡ files.entries) }
-{
-    Made::of(alloc, files_of(alloc, files)?)
-}
-
 // Files that a pip made, as a map by path.
 fn map_of(alloc: Global, files: &Made) -> Result<BTreeMap<Path, Blob>, AllocError>
     ensures { IfOk result (λ map. map.entries ≡ files.now) }
@@ -78,7 +59,7 @@ pub fn with_file(alloc: Global, files: &Made, path: Path, blob: Blob) -> Result<
 {
     let mut map = map_of(alloc, files)?;
     map.insert(path, blob)?;
-    made_of(alloc, map)
+    Made::of_map(alloc, map)
 }
 
 fn is_any_file(files: &BTreeMap<Path, Blob>, paths: &[Path]) -> bool
@@ -96,7 +77,7 @@ fn add_new_directories(
 ) -> Result<(), AllocError>
     requires { AreDirectories dirs.old files.now.entries }
     ensures { OnOk result ((q : Atoms) →
-        contains path_cmp dirs.new q ≡ (lies_below path.now q || some_below files.now.entries q)) }
+        contains path_cmp dirs.new q ≡ (is_below path.now q || some_below files.now.entries q)) }
 {
     if files.contains_key(path) {
         return Ok(());
@@ -165,7 +146,7 @@ impl Writes {
 
     // Whether a path lies strictly below a file that was written.
     fn has_file_above(&self, alloc: Global, path: &Path) -> Result<bool, AllocError>
-        ensures { IfOk result (λ yes. yes ≡ list_any (λ f. lies_below path.now f.0) self.now) }
+        ensures { IfOk result (λ yes. yes ≡ list_any (λ f. is_below path.now f.0) self.now) }
     {
         let above = directories(alloc, path)?;
         Ok(is_any_file(&self.files, above.as_slice()))
@@ -217,6 +198,6 @@ impl Writes {
     pub fn into_made(self, alloc: Global) -> Result<Made, AllocError>
         ensures { IfOk result (λ made. made ≡ self) }
     {
-        made_of(alloc, self.files)
+        Made::of_map(alloc, self.files)
     }
 }

@@ -1,7 +1,7 @@
 -- Operands are read between the commas where the grammar has them.
 use Rattle.std.proofs.Common.{◌≡◌, ◌≢◌, ℕ, true, false, Bool, not, ◌&&◌, ◌==◌, cond, List, [], ◌∷◌, ◌++◌, map, reverse, inl, inr, refl, ap, sym, ◌∙◌, subst, arith, append_assoc, IsTrue}
 use Rattle.std.specs.List.{AllByRecursion, onto_first}
-use Rattle.std.proofs.lemmas.Bool.{and_parts, cases_Bool}
+use Rattle.std.proofs.lemmas.Bool.{and_parts, cases_Bool, not-true}
 use Rattle.std.proofs.lemmas.Bool.Decides.{Decides-eqb}
 use Rattle.std.proofs.lemmas.List.{append-nil, reverse-append, reverse-reverse}
 use Rattle.tool_text.specs.Grammar.{AreSeparated, AreSpaces, IsString, SpellsByte, SpellsBytes}
@@ -100,16 +100,12 @@ passes_append xs ys h k rest =
 abbrev pub is_plain : ℕ → Bool
 is_plain b = not (b == 34) && not (b == 44)
 
-not_true : (b : Bool) → not b ≡ true → b ≡ false
-not_true true e = cc
-not_true false e = refl
-
 pub plain_passes : (xs : List ℕ) → AllByRecursion (λ b. IsTrue (is_plain b)) xs → Passes xs
 plain_passes [] h rest = refl
 plain_passes (x ∷ xs) h rest =
     let parts = and_parts (not (x == 34)) (not (x == 44)) h.0 in
-    ap (λ t. cond t ([] ∷ separated Outside (xs ++ rest)) (onto_first x (separated (cond (x == 34) Inside Outside) (xs ++ rest)))) (not_true (x == 44) parts.1)
-    ∙ ap (λ t. onto_first x (separated (cond t Inside Outside) (xs ++ rest))) (not_true (x == 34) parts.0)
+    ap (λ t. cond t ([] ∷ separated Outside (xs ++ rest)) (onto_first x (separated (cond (x == 34) Inside Outside) (xs ++ rest)))) (not-true (x == 44) parts.1)
+    ∙ ap (λ t. onto_first x (separated (cond t Inside Outside) (xs ++ rest))) (not-true (x == 34) parts.0)
     ∙ ap (onto_first x) (plain_passes xs h.1 rest)
 
 spaces_plain : (xs : List ℕ) → AreSpaces xs → AllByRecursion (λ b. IsTrue (is_plain b)) xs

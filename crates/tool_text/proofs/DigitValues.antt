@@ -1,14 +1,13 @@
 -- The values of digits.
 use Rattle.std.proofs.Common.{lit≤, ◌≡◌, ℕ, ◌<◌, ◌≤◌, ◌+◌, ◌-◌, ◌*◌, true, List, [], ◌∷◌, length, get_or, take, ap, sym, arith}
 use Rattle.std.specs.Prelude.{nat_le, Some, None, cond}
-use Rattle.std.specs.Char.{digit_value}
 use Rattle.std.specs.Int.{IsInRange}
 use Rattle.std.specs.List.{list_all}
 use Rattle.std.specs.Str.Parse.{AllDigits, digits_value}
 use Rattle.std.proofs.lemmas.Bool.{and_parts, leb-true, le-ltb}
 use Rattle.std.proofs.lemmas.Int.Digits.{digits_value_more}
-use Rattle.std.proofs.lemmas.Str.{digit_value_digit}
 use Rattle.std.proofs.lemmas.Str.Parse.{tells_digits, digit_at, digits_value-take-le}
+use Rattle.bx_tree.proofs.HeaderParts.{digit_is}
 use Rattle.tool_text.specs.Grammar.{is_digit}
 use Rattle.tool_text.specs.Reading.{value_below}
 
@@ -21,9 +20,6 @@ digits_all [] h = tells_digits.empty
 digits_all (b ∷ bs) h =
     let parts = and_parts (is_digit b) (list_all is_digit bs) h in
     tells_digits.more b bs (digit_range b parts.0) (digits_all bs parts.1)
-
-digit_is : (c : ℕ) → IsInRange 48 57 c → digit_value c ≡ c - 48
-digit_is c h = omega (arith, digit_value_digit c h)
 
 pub at_least : (bs : List ℕ) (i : ℕ) → list_all is_digit bs ≡ true → i < length bs → 48 ≤ get_or bs i 0
 at_least bs i h l = (digit_at bs i (digits_all bs h) l).0

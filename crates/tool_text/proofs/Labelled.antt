@@ -9,7 +9,7 @@ use Rattle.std.specs.Ordering.{match_ordering, nat_cmp, is_eq}
 use Rattle.std.specs.Map.{lookup}
 use Rattle.std.specs.declared.cmp.Ordering.{Ordering}
 use Rattle.std.specs.declared.cmp.Ordering.TheVariants.{Less, Equal, Greater}
-use Rattle.std.proofs.lemmas.Bool.{and_from, and_parts, cases_Bool, false≢true}
+use Rattle.std.proofs.lemmas.Bool.{and_from, and_parts, cases_Bool, false≢true, and_right}
 use Rattle.std.proofs.lemmas.Cmp.{nat_list_cmp_total, tied_itself}
 use Rattle.std.proofs.lemmas.List.{take_more, length-take-le}
 use Rattle.std.proofs.lemmas.Slice.Eq.{bytes_eq-Decides}
@@ -203,10 +203,6 @@ any_later label (x ∷ ls) more = elim (cases_Bool (has_label label x)) [
   | inr n ↦ ap (λ b. b || list_any (has_label label) (ls ++ Some label ∷ more)) n ∙ any_later label ls more
 ]
 
-both_false : (a b : Bool) → b ≡ false → (a && b) ≡ false
-both_false true b e = e
-both_false false b e = refl
-
 -- a label that is taken is there twice
 taken_twice : (i : ℕ) (ls more : Labels) (label : List ℕ) → IsSome (place_from i ls label) → are_distinct (ls ++ Some label ∷ more) ≡ false
 taken_twice i [] more label h = cc
@@ -216,7 +212,7 @@ taken_twice i (Some x ∷ ls) more label h = elim (cases_Bool (bytes_eq x label)
       let one : x ≡ label = (bytes_eq-Decides x label).0 y in
       ap (λ b. not b && are_distinct (ls ++ Some label ∷ more)) (subst (λ t. list_any (has_label t) (ls ++ Some label ∷ more) ≡ true) (sym one) (any_later label ls more))
   | inr n ↦
-      both_false (not (list_any (has_label x) (ls ++ Some label ∷ more))) (are_distinct (ls ++ Some label ∷ more))
+      and_right (not (list_any (has_label x) (ls ++ Some label ∷ more))) (are_distinct (ls ++ Some label ∷ more))
       (taken_twice (i + 1) ls more label (subst IsSome (ap (λ b. cond b (Some i) (place_from (i + 1) ls label)) n) h))
 ]
 

@@ -1,20 +1,22 @@
 -- The reading of a tool is by its grammar, which gives a text one tool at most.
-use Rattle.std.proofs.Common.{◌≡◌, ℕ, ◌<◌, suc, true, false, Bool, not, ◌&&◌, ◌||◌, ◌==◌, cond, List, [], ◌∷◌, ◌++◌, ◌+◌, length, map, take, drop, filter, Option, Some, None, inl, inr, refl, ap, sym, ◌∙◌, subst, arith, append_assoc, length-append, IsTrue, ◌↔◌, ◌⊎◌, Result, Ok, Err, IfOk}
+use Rattle.std.proofs.Common.{◌≡◌, ℕ, ◌<◌, suc, true, false, Bool, not, ◌||◌, ◌==◌, cond, List, [], ◌∷◌, ◌++◌, ◌+◌, length, map, take, drop, filter, Option, Some, None, inl, inr, refl, ap, sym, ◌∙◌, subst, arith, append_assoc, length-append, IsTrue, ◌↔◌, ◌⊎◌, Result, Ok, Err, IfOk}
 use Rattle.std.specs.Bool.{nat_lt}
 use Rattle.std.specs.List.{AllByRecursion, slice_split, position_or_len}
 use Rattle.std.specs.Option.{option_and_then}
 use Rattle.std.specs.Str.{bytes_eq}
-use Rattle.std.proofs.lemmas.Bool.{and_from, and_parts}
+use Rattle.std.proofs.lemmas.Bool.{and_from, and_parts, and_right}
 use Rattle.std.proofs.lemmas.Bool.Decides.{Decides-ltb, nat_tests}
 use Rattle.std.proofs.lemmas.List.{append-nil}
 use Rattle.std.proofs.lemmas.Slice.Eq.{bytes_eq-Decides}
+use Rattle.std.proofs.lemmas.Option.{same_Some}
+use Rattle.bx_tree.proofs.Options.{if_some}
 use Rattle.tool_text.specs.declared.tool.Instr.{Instr}
 use Rattle.tool_text.specs.declared.tool.Instr.TheVariants as instrs
 use Rattle.tool_text.specs.declared.fault.ToolFault.{ToolFault}
 use Rattle.tool_text.specs.declared.fault.ToolFault.TheVariants.{BadTool}
 use Rattle.tool_text.specs.Grammar.{AreBlanks, AreDistinct, AreLines, AreOperands, IsInstr, IsLabel, IsLine, IsStart, IsTool, Labels, first_line, is_lower, says, word_of}
 use Rattle.tool_text.specs.Reading.{ReadsTool, op_of, after_byte, after_label, are_distinct, before_byte, instr_in, instr_of, is_label, is_label_byte, is_labelled, label_of, line_of, lines_of, operand_texts, place_of, skip_blanks, tool_from, tool_in, tool_of, with_line}
-use Rattle.tool_text.proofs.Values.{equal_numbers, if_some, some_same}
+use Rattle.tool_text.proofs.Values.{equal_numbers}
 use Rattle.tool_text.proofs.Places.{are_labels, distinct_complete, distinct_sound, label_complete, label_sound}
 use Rattle.tool_text.proofs.Commas.{separated_complete, separated_sound}
 use Rattle.tool_text.proofs.Wording.{HasLabels, are_parts, instr_complete, instr_sound, op_in, op_read, then_some, word_sound}
@@ -183,10 +185,6 @@ skip_start (x ∷ xs) rest h = one h.0 ∙ skip_start xs rest h.1
     one (inl e) = ap (λ b. skip_blanks (b ∷ xs ++ rest)) e
     one (inr e) = ap (λ b. skip_blanks (b ∷ xs ++ rest)) e
 
-and_false : (a b : Bool) → b ≡ false → (a && b) ≡ false
-and_false true b e = e
-and_false false b e = refl
-
 below_itself : (n : ℕ) → nat_lt n n ≡ true → ⊥
 below_itself n e = let l : n < n = (Decides-ltb n n).0 e in omega (arith, l)
 
@@ -252,7 +250,7 @@ begins : (line start rest after : List ℕ) (label : Option (List ℕ)) (instr :
     → Begins line label rest
 begins line start rest after None instr is word h =
     let none : is_labelled line ≡ false =
-    and_false (nat_lt (length (before_byte 58 line)) (length line)) (is_label (before_byte 58 line))
+    and_right (nat_lt (length (before_byte 58 line)) (length line)) (is_label (before_byte 58 line))
     (ap (λ t. is_label (before_byte 58 t)) (is ∙ ap (λ t. start ++ t) word) ∙ no_label start instr after h) in
     record {
       label_is = ap (λ t. cond t (Some (before_byte 58 line)) None) none;
@@ -288,11 +286,11 @@ with_sound : (o : Option Instr) (rest : Option (List Instr)) (tool : List Instr)
     → (instr : Instr) × (instrs : List Instr) × (o ≡ Some instr) × (rest ≡ Some instrs) × (instr ∷ instrs ≡ tool)
 with_sound None rest tool e = cc
 with_sound (Some instr) None tool e = cc
-with_sound (Some instr) (Some instrs) tool e = (instr, instrs, refl, refl, some_same (instr ∷ instrs) tool e)
+with_sound (Some instr) (Some instrs) tool e = (instr, instrs, refl, refl, same_Some (instr ∷ instrs) tool e)
 
 pub lines_sound : (labels : Labels) (lines : List (List ℕ)) (tool : List Instr) → HasLabels labels → lines_of (place_of labels) lines ≡ Some tool
     → AreLines labels lines (map label_of lines) tool
-lines_sound labels [] tool ok e = subst (λ t. AreLines labels [] [] t) (some_same [] tool e) tt
+lines_sound labels [] tool ok e = subst (λ t. AreLines labels [] [] t) (same_Some [] tool e) tt
 lines_sound labels (line ∷ lines) tool ok e =
     let parts = with_sound (line_of (place_of labels) line) (lines_of (place_of labels) lines) tool e in
     subst (λ t. AreLines labels (line ∷ lines) (map label_of (line ∷ lines)) t) parts.4
@@ -355,7 +353,7 @@ pub read : (text : List ℕ) (tool : List Instr) → (tool_of text ≡ Some tool
 read text tool = (tool_sound text tool, tool_complete text tool)
 
 pub only : (text : List ℕ) (s t : List Instr) → IsTool text s → IsTool text t → s ≡ t
-only text s t h k = some_same s t (sym (tool_complete text s h) ∙ tool_complete text t k)
+only text s t h k = same_Some s t (sym (tool_complete text s h) ∙ tool_complete text t k)
 
 -- what is read is a tool of the text, and where none is read there is none
 pub found : (text : List ℕ) (read : Result (List Instr) ToolFault) → ReadsTool read (tool_of text) → IfOk read (λ tool. IsTool text tool)

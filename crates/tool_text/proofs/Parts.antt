@@ -1,5 +1,5 @@
 -- The parts of a text between its commas, one after the other.
-use Rattle.std.proofs.Common.{◌≡◌, ℕ, suc, true, false, Bool, cond, List, [], ◌∷◌, ◌++◌, length, map, take, drop, refl, ap, sym, ◌∙◌, append_assoc, arith}
+use Rattle.std.proofs.Common.{◌≡◌, ℕ, suc, true, false, Bool, cond, List, [], ◌∷◌, ◌++◌, length, map, take, drop, refl, ap, sym, ◌∙◌, append_assoc}
 use Rattle.std.specs.Borrow.{Bor}
 use Rattle.std.specs.List.{onto_first}
 use Rattle.std.proofs.lemmas.List.{map_push}
@@ -7,6 +7,7 @@ use Rattle.tool_text.specs.declared.separating.Quoting.{Quoting}
 use Rattle.tool_text.specs.declared.separating.Quoting.TheVariants.{Outside}
 use Rattle.tool_text.specs.Reading.{is_cut, operand_texts, part_len, quoting_after, separated, trimmed}
 use Rattle.bx_tree.specs.Lent.{texts_now}
+use Rattle.bx_tree.proofs.Lists.{none_left}
 
 -- what follows the first part, by whether a byte ends it
 after_part : (t : Bool) (n : ℕ) (b : ℕ) (bs rest : List ℕ) → drop (cond t 0 (suc n)) (b ∷ bs) ≡ rest → cond t (b ∷ bs) (drop n bs) ≡ rest
@@ -40,10 +41,6 @@ parts_more q (b ∷ bs) x more e =
   where
     tails : (b x : ℕ) (bs more : List ℕ) → b ∷ bs ≡ x ∷ more → bs ≡ more
     tails b x bs more e = cc
-
-none_left : (xs : List ℕ) → length xs ≡ 0 → xs ≡ []
-none_left [] l = refl
-none_left (x ∷ xs) l = absurd (omega (arith, l))
 
 pub last_text : (texts now : List (Bor (List ℕ))) (text : Bor (List ℕ)) (rest part after whole : List ℕ) → now ≡ texts ++ text ∷ []
     → text.now ≡ trimmed part → part ≡ take (part_len Outside rest) rest → after ≡ drop (part_len Outside rest) rest → length after ≡ 0

@@ -4,9 +4,10 @@ use Rattle.std.specs.List.{list_all, list_any}
 use Rattle.std.specs.Str.{bytes_eq}
 use Rattle.std.proofs.lemmas.Bool.{and_from, and_parts}
 use Rattle.std.proofs.lemmas.Slice.Eq.{bytes_eq-Decides}
+use Rattle.std.proofs.lemmas.Option.{same_Some}
+use Rattle.bx_tree.proofs.Lists.{all_true, true_all}
 use Rattle.tool_text.specs.Grammar.{AreDistinct, IsLabel, IsTarget, Labels, is_lower}
 use Rattle.tool_text.specs.Reading.{are_distinct, has_label, is_label, is_label_byte, is_labelled, label_of, before_byte, place_from, place_of}
-use Rattle.tool_text.proofs.Values.{all_from, all_true, some_same}
 
 -- ## Labels
 
@@ -16,7 +17,7 @@ label_sound (b ∷ bs) e = let parts = and_parts (is_lower b) (list_all is_label
 
 pub label_complete : (text : List ℕ) → IsLabel text → is_label text ≡ true
 label_complete [] h = absurd h
-label_complete (b ∷ bs) h = and_from (is_lower b) (list_all is_label_byte bs) h.0 (all_from is_label_byte bs h.1)
+label_complete (b ∷ bs) h = and_from (is_lower b) (list_all is_label_byte bs) h.0 (true_all is_label_byte bs h.1)
 
 -- ## Places
 
@@ -36,7 +37,7 @@ place_found (Some own ∷ labels) text start place e = by_label (bytes_eq own te
     by_label : (t : Bool) → bytes_eq own text ≡ t → cond t (Some start) (place_from (start + 1) labels text) ≡ Some place
         → (place_from (start + 1) labels text ≡ Some place → Found labels text (start + 1) place) → Found (Some own ∷ labels) text start place
     by_label true same e more =
-        record { line = 0; there = ap (λ l. Some (Some l)) ((bytes_eq-Decides own text).0 same); place_is = let is : start ≡ place = some_same start place e in omega (arith, is) }
+        record { line = 0; there = ap (λ l. Some (Some l)) ((bytes_eq-Decides own text).0 same); place_is = let is : start ≡ place = same_Some start place e in omega (arith, is) }
     by_label false other e more = later (Some own) labels text start place (more e)
 
 pub target_sound : (labels : Labels) (text : List ℕ) (place : ℕ) → place_of labels text ≡ Some place → IsTarget labels text place
@@ -50,7 +51,7 @@ has_some_place [] text start line h = cc
 has_some_place (None ∷ labels) text start zero h = cc
 has_some_place (None ∷ labels) text start (suc line) h = has_some_place labels text (start + 1) line h
 has_some_place (Some own ∷ labels) text start zero h =
-    (start, ap (λ t. cond t (Some start) (place_from (start + 1) labels text)) ((bytes_eq-Decides own text).1 (some_same own text (some_same (Some own) (Some text) h))))
+    (start, ap (λ t. cond t (Some start) (place_from (start + 1) labels text)) ((bytes_eq-Decides own text).1 (same_Some own text (same_Some (Some own) (Some text) h))))
 has_some_place (Some own ∷ labels) text start (suc line) h = by_label (bytes_eq own text) (has_some_place labels text (start + 1) line h)
   where
     by_label : (t : Bool) → ((place : ℕ) × (place_from (start + 1) labels text ≡ Some place))
@@ -68,7 +69,7 @@ target_complete labels text place distinct h =
 any_there : (labels : Labels) (text : List ℕ) (line : ℕ) → IsTarget labels text line → list_any (has_label text) labels ≡ true
 any_there [] text line h = cc
 any_there (own ∷ labels) text zero h =
-    ap (λ o. has_label text o || list_any (has_label text) labels) (some_same own (Some text) h)
+    ap (λ o. has_label text o || list_any (has_label text) labels) (same_Some own (Some text) h)
     ∙ ap (λ b. b || list_any (has_label text) labels) ((bytes_eq-Decides text text).1 refl)
 any_there (own ∷ labels) text (suc line) h = ap (λ b. has_label text own || b) (any_there labels text line h) ∙ or_true (has_label text own)
   where
@@ -97,11 +98,11 @@ distinct_sound (None ∷ labels) e (suc i) zero label h k = cc
 distinct_sound (None ∷ labels) e (suc i) (suc j) label h k = ap suc (distinct_sound labels e i j label h k)
 distinct_sound (Some own ∷ labels) e zero zero label h k = refl
 distinct_sound (Some own ∷ labels) e zero (suc j) label h k =
-    let same : own ≡ label = some_same own label (some_same (Some own) (Some label) h) in
+    let same : own ≡ label = same_Some own label (same_Some (Some own) (Some label) h) in
     absurd (not_false (list_any (has_label own) labels) (and_parts (not (list_any (has_label own) labels)) (are_distinct labels) e).0
     (any_there labels own j (subst (λ l. IsTarget labels l j) (sym same) k)))
 distinct_sound (Some own ∷ labels) e (suc i) zero label h k =
-    let same : own ≡ label = some_same own label (some_same (Some own) (Some label) k) in
+    let same : own ≡ label = same_Some own label (same_Some (Some own) (Some label) k) in
     absurd (not_false (list_any (has_label own) labels) (and_parts (not (list_any (has_label own) labels)) (are_distinct labels) e).0
     (any_there labels own i (subst (λ l. IsTarget labels l i) (sym same) h)))
 distinct_sound (Some own ∷ labels) e (suc i) (suc j) label h k =
@@ -126,9 +127,9 @@ distinct_complete (Some own ∷ labels) distinct =
 -- the labels of lines are labels
 pub are_labels : (lines : List (List ℕ)) (text : List ℕ) (i : ℕ) → IsTarget (map label_of lines) text i → IsLabel text
 are_labels [] text i h = cc
-are_labels (line ∷ lines) text zero h = by_test (is_labelled line) refl (some_same (label_of line) (Some text) h)
+are_labels (line ∷ lines) text zero h = by_test (is_labelled line) refl (same_Some (label_of line) (Some text) h)
   where
     by_test : (t : Bool) → is_labelled line ≡ t → cond t (Some (before_byte 58 line)) None ≡ Some text → IsLabel text
-    by_test true e is = subst IsLabel (some_same (before_byte 58 line) text is) (label_sound (before_byte 58 line) (and_parts _ (is_label (before_byte 58 line)) e).1)
+    by_test true e is = subst IsLabel (same_Some (before_byte 58 line) text is) (label_sound (before_byte 58 line) (and_parts _ (is_label (before_byte 58 line)) e).1)
     by_test false e is = cc
 are_labels (line ∷ lines) text (suc i) h = are_labels lines text i h

@@ -1,5 +1,5 @@
 -- A tool from its lines.
-use Rattle.std.proofs.Common.{◌≡◌, ℕ, ◌+◌, ◌<◌, zero, suc, true, false, cond, List, [], ◌∷◌, ◌++◌, length, drop, get_or, Option, Some, None, refl, ap, sym, ◌∙◌, Err, arith, add-one, append_assoc}
+use Rattle.std.proofs.Common.{◌≡◌, ℕ, ◌+◌, ◌<◌, true, false, cond, List, [], ◌∷◌, ◌++◌, length, drop, get_or, Option, Some, None, refl, ap, sym, ◌∙◌, Err, append_assoc}
 use mathlib.Core.Path.{fun_ext}
 use Rattle.std.specs.Borrow.{Bor}
 use Rattle.tool_text.specs.declared.tool.Instr.{Instr}
@@ -8,6 +8,7 @@ use Rattle.tool_text.specs.declared.fault.ToolFault.TheVariants.{BadTool, Memory
 use Rattle.tool_text.specs.Reading.{Places, ReadsTool, after_lines, are_distinct, line_of, lines_of, place_of, tool_in, with_line}
 use Rattle.tool_text.proofs.Labelled.{labels_of}
 use Rattle.bx_tree.specs.Lent.{texts_now}
+use Rattle.bx_tree.proofs.Lent.{texts_at, drop_whole}
 
 pub tool_read : (lines : List (Bor (List ℕ))) (places : Places) (read : Option (List Instr)) → are_distinct (labels_of lines) ≡ true
     → ((q : List ℕ) → places q ≡ place_of (labels_of lines) q) → lines_of places (texts_now lines) ≡ read → tool_in (texts_now lines) ≡ read
@@ -21,14 +22,6 @@ no_tool lines twice = ap (λ b. cond b (lines_of (place_of (labels_of lines)) (t
 after_more : (prefix : List Instr) (instr : Instr) (read : Option (List Instr)) → after_lines (prefix ++ instr ∷ []) read ≡ after_lines prefix (with_line (Some instr) read)
 after_more prefix instr None = refl
 after_more prefix instr (Some tool) = ap Some (append_assoc prefix (instr ∷ []) tool)
-
-texts_at : (lines : List (Bor (List ℕ))) (i : ℕ) (d : Bor (List ℕ)) → i < length lines → texts_now (drop i lines) ≡ (get_or lines i d).now ∷ texts_now (drop (i + 1) lines)
-texts_at lines i d l = at lines i l ∙ ap (λ n. (get_or lines i d).now ∷ texts_now (drop n lines)) (sym (add-one i))
-  where
-    at : (xs : List (Bor (List ℕ))) (k : ℕ) → k < length xs → texts_now (drop k xs) ≡ (get_or xs k d).now ∷ texts_now (drop (suc k) xs)
-    at [] k m = absurd (omega (arith, m))
-    at (x ∷ xs) zero m = refl
-    at (x ∷ xs) (suc k) m = at xs k (omega (arith, m))
 
 pub one_instr : (lines : List (Bor (List ℕ))) (i : ℕ) (d : Bor (List ℕ)) (places : Places) (prefix new : List Instr) (instr : Instr) (all : Option (List Instr)) → i < length lines
     → line_of places (get_or lines i d).now ≡ Some instr → new ≡ prefix ++ instr ∷ [] → after_lines prefix (lines_of places (texts_now (drop i lines))) ≡ all
@@ -44,12 +37,6 @@ pub bad_line : (lines : List (Bor (List ℕ))) (i : ℕ) (d : Bor (List ℕ)) (p
 bad_line lines i d places prefix all l is so_far =
     sym so_far ∙ ap (λ ts. after_lines prefix (lines_of places ts)) (texts_at lines i d l)
     ∙ ap (λ o. after_lines prefix (with_line o (lines_of places (texts_now (drop (i + 1) lines))))) is
-
-drop_whole : (lines : List (Bor (List ℕ))) (i : ℕ) → length lines ≡ i → drop i lines ≡ []
-drop_whole [] zero e = refl
-drop_whole [] (suc i) e = absurd (omega (arith, e))
-drop_whole (x ∷ xs) zero e = absurd (omega (arith, e))
-drop_whole (x ∷ xs) (suc i) e = drop_whole xs i (omega (arith, e))
 
 pub all_instrs : (lines : List (Bor (List ℕ))) (i : ℕ) (places : Places) (prefix : List Instr) (all : Option (List Instr)) → length lines ≡ i
     → after_lines prefix (lines_of places (texts_now (drop i lines))) ≡ all → all ≡ Some prefix

@@ -1,11 +1,14 @@
 -- The texts of registers, values and exit codes are read as the grammar says.
 use Rattle.std.proofs.Common.{◌≡◌, ◌≢◌, ℕ, ◌+◌, ◌<◌, true, false, Bool, not, ◌||◌, ◌==◌, cond, List, [], ◌∷◌, ◌++◌, length, Option, Some, None, inl, inr, refl, ap, sym, ◌∙◌, subst, arith, append_assoc}
-use Rattle.std.specs.Bool.{nat_lt, nat_le, IsTrue}
-use Rattle.std.specs.List.{AllByRecursion, list_all}
+use Rattle.std.specs.Bool.{nat_lt, nat_le}
+use Rattle.std.specs.List.{list_all}
 use Rattle.std.specs.Option.{option_map}
 use Rattle.std.specs.Str.Parse.{digits_value}
 use Rattle.std.proofs.lemmas.Bool.{and_from, and_parts, cases_Bool, false≢true}
 use Rattle.std.proofs.lemmas.Bool.Decides.{Decides-eqb, Decides-ltb, nat_tests}
+use Rattle.std.proofs.lemmas.Option.{same_Some}
+use Rattle.bx_tree.proofs.Lists.{all_true, true_all}
+use Rattle.bx_tree.proofs.Options.{if_some}
 use Rattle.tool_text.specs.declared.limits.TheConstants.{REGISTERS, MAX_EXIT}
 use Rattle.tool_text.specs.declared.tool.Operand.{Operand}
 use Rattle.tool_text.specs.declared.tool.Operand.TheVariants.{Register, Constant}
@@ -15,16 +18,9 @@ use Rattle.tool_text.proofs.Strings.{one_escape, one_plain}
 
 -- ## Options
 
-pub some_same : {X : Type 0} (a b : X) → Some a ≡ Some b → a ≡ b
-some_same a b e = cc
-
-pub if_some : {X : Type 0} (b : Bool) (o : Option X) (x : X) → cond b o None ≡ Some x → (b ≡ true) × (o ≡ Some x)
-if_some true o x e = (refl, e)
-if_some false o x e = cc
-
 pub map_some : {X Y : Type 0} (f : X → Y) (o : Option X) (y : Y) → option_map f o ≡ Some y → (x : X) × (o ≡ Some x) × (f x ≡ y)
 map_some f None y e = cc
-map_some f (Some x) y e = (x, refl, some_same (f x) y e)
+map_some f (Some x) y e = (x, refl, same_Some (f x) y e)
 
 pub equal_numbers : (x y : ℕ) → (x == y) ≡ true → x ≡ y
 equal_numbers x y e = (Decides-eqb x y).0 e
@@ -34,14 +30,6 @@ other_numbers x y e = λ same. false≢true (sym e ∙ (Decides-eqb x y).1 same)
 
 -- ## Digits
 
-pub all_true : (p : ℕ → Bool) (xs : List ℕ) → list_all p xs ≡ true → AllByRecursion (λ b. IsTrue (p b)) xs
-all_true p [] e = tt
-all_true p (x ∷ xs) e = let parts = and_parts (p x) (list_all p xs) e in (parts.0, all_true p xs parts.1)
-
-pub all_from : (p : ℕ → Bool) (xs : List ℕ) → AllByRecursion (λ b. IsTrue (p b)) xs → list_all p xs ≡ true
-all_from p [] h = refl
-all_from p (x ∷ xs) h = and_from (p x) (list_all p xs) h.0 (all_from p xs h.1)
-
 pub digits_sound : (text : List ℕ) → is_digits text ≡ true → IsDigits text
 digits_sound [] e = cc
 digits_sound (b ∷ bs) e =
@@ -50,7 +38,7 @@ digits_sound (b ∷ bs) e =
 pub digits_complete : (text : List ℕ) → IsDigits text → is_digits text ≡ true
 digits_complete [] d = absurd (d.some refl)
 digits_complete (b ∷ bs) d =
-    and_from (nat_lt 0 (length (b ∷ bs))) (list_all is_digit (b ∷ bs)) ((Decides-ltb 0 (length (b ∷ bs))).1 (omega arith)) (all_from is_digit (b ∷ bs) d.digits)
+    and_from (nat_lt 0 (length (b ∷ bs))) (list_all is_digit (b ∷ bs)) ((Decides-ltb 0 (length (b ∷ bs))).1 (omega arith)) (true_all is_digit (b ∷ bs) d.digits)
 
 zero_alone : (b : ℕ) (bs : List ℕ) → (nat_le (length (b ∷ bs)) 1 || not (b == 48)) ≡ true → b ≡ 48 → bs ≡ []
 zero_alone b [] e is = refl
@@ -94,7 +82,7 @@ number_complete (b ∷ bs) n =
 below_sound : (limit : ℕ) (digits : List ℕ) (r : ℕ) → value_below limit digits ≡ Some r → (digits_value 10 digits ≡ r) × (r < limit)
 below_sound limit digits r e =
     let parts = if_some (nat_lt (digits_value 10 digits) limit) (Some (digits_value 10 digits)) r e in
-    let same : digits_value 10 digits ≡ r = some_same (digits_value 10 digits) r parts.1 in
+    let same : digits_value 10 digits ≡ r = same_Some (digits_value 10 digits) r parts.1 in
     let small : digits_value 10 digits < limit = (Decides-ltb (digits_value 10 digits) limit).0 parts.0 in
     (same, subst (λ n. n < limit) same small)
 
@@ -184,7 +172,7 @@ string_sound (b ∷ c ∷ bs) bytes e =
     by_byte false false true is-q is-s is-n later next e = cc
     by_byte false false false is-q is-s is-n later next e =
         let parts = with_sound (Some b) (string_rest (c ∷ bs)) bytes e in
-        let same : b ≡ parts.0 = some_same b parts.0 parts.2 in
+        let same : b ≡ parts.0 = same_Some b parts.0 parts.2 in
         one_more (b ∷ []) (c ∷ bs) bytes parts.1 b (ap (λ x. x ∷ parts.1) same ∙ parts.4)
         (inl (refl, other_numbers b 10 is-n, other_numbers b 34 is-q, other_numbers b 92 is-s)) (next parts.1 parts.3)
 
@@ -231,7 +219,7 @@ value_sound (b ∷ bs) x e = by_byte (b == 114) (b == 34) refl refl e
         inl (inside.0, ap (λ t. b ∷ t) inside.1 ∙ ap (λ c. c ∷ inside.0 ++ 34 ∷ []) (equal_numbers b 34 is-q), inside.2))
     by_byte false false is-r is-q e =
         let parts = if_some (is_digits (b ∷ bs)) (Some (Constant (b ∷ bs))) x e in
-        subst (λ y. IsValue (b ∷ bs) y) (some_same (Constant (b ∷ bs)) x parts.1) (inr (digits_sound (b ∷ bs) parts.0, refl))
+        subst (λ y. IsValue (b ∷ bs) y) (same_Some (Constant (b ∷ bs)) x parts.1) (inr (digits_sound (b ∷ bs) parts.0, refl))
 
 -- a digit is no `r` and no `"`
 digit_only : (b : ℕ) → is_digit b ≡ true → ((b == 114) ≡ false) × ((b == 34) ≡ false)

@@ -5,6 +5,7 @@ use Rattle.std.specs.Option.{option_map, option_and_then}
 use Rattle.std.specs.Str.{bytes_eq}
 use Rattle.std.proofs.lemmas.Bool.Decides.{nat_tests}
 use Rattle.std.proofs.lemmas.Slice.Eq.{bytes_eq-Decides}
+use Rattle.std.proofs.lemmas.Option.{same_Some}
 use Rattle.tool_text.specs.declared.tool.Operand.{Operand}
 use Rattle.tool_text.specs.declared.tool.Operand.TheVariants.{Register, Constant}
 use Rattle.tool_text.specs.declared.tool.Instr.{Instr}
@@ -13,7 +14,7 @@ use Rattle.tool_text.specs.declared.op.Op.{Op}
 use Rattle.tool_text.specs.declared.op.Op.TheVariants as ops
 use Rattle.tool_text.specs.Grammar.{AreDistinct, AreOperands, IsCode, IsDigits, IsLabel, IsRegister, IsTarget, IsValue, Labels, One, Three, Two, is_digit, is_lower, word_of}
 use Rattle.tool_text.specs.Reading.{all_three, both, code_of, instr_of, is_label_byte, lone, op_of, operand_of, pair, place_of, quadruple, register_of, register_operand, register_target, register_two, split_of, triple, two_operands, two_target, with_pair}
-use Rattle.tool_text.proofs.Values.{code_complete, code_sound, map_some, register_complete, register_sound, some_same, value_complete, value_sound}
+use Rattle.tool_text.proofs.Values.{code_complete, code_sound, map_some, register_complete, register_sound, value_complete, value_sound}
 use Rattle.tool_text.proofs.Places.{target_complete, target_sound}
 use Rattle.tool_text.proofs.Commas.{IsPart, is_solid, solid_part, string_part}
 
@@ -44,7 +45,7 @@ one_word : (word : List ℕ) (op found : Op) (rest : Option Op) → cond (bytes_
 one_word word op found rest e more = by_word (bytes_eq word (op_word op)) refl e
   where
     by_word : (t : Bool) → bytes_eq word (op_word op) ≡ t → cond t (Some op) rest ≡ Some found → word ≡ op_word found
-    by_word true same is = (bytes_eq-Decides word (op_word op)).0 same ∙ ap op_word (some_same op found is)
+    by_word true same is = (bytes_eq-Decides word (op_word op)).0 same ∙ ap op_word (same_Some op found is)
     by_word false other is = more is
 
 pub word_sound : (word : List ℕ) (op : Op) → op_of word ≡ Some op → word ≡ op_word op
@@ -114,20 +115,20 @@ op_read (instrs.Write x y) = refl
 
 lone_sound : (texts : List (List ℕ)) (a : List ℕ) → lone texts ≡ Some a → texts ≡ a ∷ []
 lone_sound [] a e = cc
-lone_sound (x ∷ []) a e = ap (λ t. t ∷ []) (some_same x a e)
+lone_sound (x ∷ []) a e = ap (λ t. t ∷ []) (same_Some x a e)
 lone_sound (x ∷ y ∷ rest) a e = cc
 
 pair_sound : (texts : List (List ℕ)) (p : List ℕ × List ℕ) → pair texts ≡ Some p → texts ≡ p.0 ∷ p.1 ∷ []
 pair_sound [] p e = cc
 pair_sound (x ∷ []) p e = cc
-pair_sound (x ∷ y ∷ []) p e = let same = some_same (x, y) p e in ap (λ (q : List ℕ × List ℕ). q.0 ∷ q.1 ∷ []) same
+pair_sound (x ∷ y ∷ []) p e = let same = same_Some (x, y) p e in ap (λ (q : List ℕ × List ℕ). q.0 ∷ q.1 ∷ []) same
 pair_sound (x ∷ y ∷ z ∷ rest) p e = cc
 
 triple_sound : (texts : List (List ℕ)) (p : List ℕ × List ℕ × List ℕ) → triple texts ≡ Some p → texts ≡ p.0 ∷ p.1 ∷ p.2 ∷ []
 triple_sound [] p e = cc
 triple_sound (x ∷ []) p e = cc
 triple_sound (x ∷ y ∷ []) p e = cc
-triple_sound (x ∷ y ∷ z ∷ []) p e = let same = some_same (x, y, z) p e in ap (λ (q : List ℕ × List ℕ × List ℕ). q.0 ∷ q.1 ∷ q.2 ∷ []) same
+triple_sound (x ∷ y ∷ z ∷ []) p e = let same = same_Some (x, y, z) p e in ap (λ (q : List ℕ × List ℕ × List ℕ). q.0 ∷ q.1 ∷ q.2 ∷ []) same
 triple_sound (x ∷ y ∷ z ∷ w ∷ rest) p e = cc
 
 quadruple_sound : (texts : List (List ℕ)) (p : List ℕ × List ℕ × List ℕ × List ℕ) → quadruple texts ≡ Some p → texts ≡ p.0 ∷ p.1 ∷ p.2 ∷ p.3 ∷ []
@@ -136,13 +137,13 @@ quadruple_sound (x ∷ []) p e = cc
 quadruple_sound (x ∷ y ∷ []) p e = cc
 quadruple_sound (x ∷ y ∷ z ∷ []) p e = cc
 quadruple_sound (x ∷ y ∷ z ∷ w ∷ []) p e =
-    let same = some_same (x, y, z, w) p e in ap (λ (q : List ℕ × List ℕ × List ℕ × List ℕ). q.0 ∷ q.1 ∷ q.2 ∷ q.3 ∷ []) same
+    let same = same_Some (x, y, z, w) p e in ap (λ (q : List ℕ × List ℕ × List ℕ × List ℕ). q.0 ∷ q.1 ∷ q.2 ∷ q.3 ∷ []) same
 quadruple_sound (x ∷ y ∷ z ∷ w ∷ v ∷ rest) p e = cc
 
 both_sound : {A B : Type 0} (a : Option A) (b : Option B) (p : A × B) → both a b ≡ Some p → (a ≡ Some p.0) × (b ≡ Some p.1)
 both_sound None b p e = cc
 both_sound (Some a) None p e = cc
-both_sound {A = A} {B = B} (Some a) (Some b) p e = let same = some_same (a, b) p e in (ap (λ (q : A × B). Some q.0) same, ap (λ (q : A × B). Some q.1) same)
+both_sound {A = A} {B = B} (Some a) (Some b) p e = let same = same_Some (a, b) p e in (ap (λ (q : A × B). Some q.0) same, ap (λ (q : A × B). Some q.1) same)
 
 three_sound : {A B C : Type 0} (a : Option A) (b : Option B) (c : Option C) (p : A × B × C) → all_three a b c ≡ Some p
     → (a ≡ Some p.0) × (b ≡ Some p.1) × (c ≡ Some p.2)
@@ -150,7 +151,7 @@ three_sound None b c p e = cc
 three_sound (Some a) None c p e = cc
 three_sound (Some a) (Some b) None p e = cc
 three_sound {A = A} {B = B} {C = C} (Some a) (Some b) (Some c) p e =
-    let same = some_same (a, b, c) p e in
+    let same = same_Some (a, b, c) p e in
     (ap (λ (q : A × B × C). Some q.0) same, ap (λ (q : A × B × C). Some q.1) same, ap (λ (q : A × B × C). Some q.2) same)
 
 pub then_some : {X Y : Type 0} (f : X → Option Y) (o : Option X) (y : Y) → option_and_then f o ≡ Some y → (x : X) × (o ≡ Some x) × (f x ≡ Some y)
@@ -209,7 +210,7 @@ with_pair_sound : (rs : Option (ℕ × ℕ)) (xs : Option (Operand × Operand)) 
     → (p : ℕ × ℕ) × (q : Operand × Operand) × (rs ≡ Some p) × (xs ≡ Some q) × (instrs.Split p.0 p.1 q.0 q.1 ≡ instr)
 with_pair_sound None xs instr e = cc
 with_pair_sound (Some p) None instr e = cc
-with_pair_sound (Some p) (Some q) instr e = (p, q, refl, refl, some_same (instrs.Split p.0 p.1 q.0 q.1) instr e)
+with_pair_sound (Some p) (Some q) instr e = (p, q, refl, refl, same_Some (instrs.Split p.0 p.1 q.0 q.1) instr e)
 
 split_sound : (labels : Labels) (texts : List (List ℕ)) (instr : Instr) → split_of texts ≡ Some instr → Made labels ops.Split texts instr
 split_sound labels texts instr e =

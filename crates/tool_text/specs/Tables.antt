@@ -1,19 +1,13 @@
 -- The table of labels as a function.
 use Rattle.std.specs.Prelude.{◌≡◌, ℕ, List, Option, Some, None, IsSome, if◌then◌else◌}
-use Rattle.std.proofs.Common.{Vec, Global}
-use Rattle.std.specs.BTreeMap.{BTreeMap, get_by}
-use Rattle.std.specs.Cmp.Lexicographic.{slice_cmp}
-use Rattle.std.specs.Ordering.{nat_cmp}
 use Rattle.std.specs.Str.{bytes_eq}
+use Rattle.bx_tree.specs.TextTables.{at_text}
 use Rattle.tool_text.specs.Reading.{Places}
 use Rattle.tool_text.specs.declared.labels.Table.{Table}
 
--- the place that a map has for a label
-abbrev pub place_at : BTreeMap (Vec ℕ Global) ℕ → Places
-place_at by_label label = get_by (λ k. slice_cmp nat_cmp label k.items) by_label
-
+-- the places of labels in a table
 abbrev pub place_in : Table → Places
-place_in table = place_at table.by_label
+place_in table = at_text table.by_label
 
 -- the places with one more, where the line has a label
 abbrev pub with_place : Option (List ℕ) → ℕ → Places → Places

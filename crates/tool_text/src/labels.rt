@@ -1,9 +1,10 @@
 //! The places of labels.
 ghost use Rattle.std.specs.Prelude.{◌≡◌, ℕ, List, true, false, map, MatchResult, OnOk};
 ghost use Rattle.tool_text.specs.declared.fault.ToolFault.TheVariants as tool_faults;
-ghost use Rattle.tool_text.specs.Tables.{IsFree, IsTaken, place_at, place_in, with_place};
+ghost use Rattle.tool_text.specs.Tables.{IsFree, IsTaken, place_in, with_place};
 ghost use Rattle.tool_text.specs.Reading.{ReadsTool, are_distinct, label_of, place_of as place_read};
 ghost use Rattle.bx_tree.specs.Lent.{texts_now};
+ghost use Rattle.bx_tree.specs.TextTables.{at_text};
 
 use crate::fault::ToolFault;
 use crate::lines::label_parts;
@@ -36,9 +37,9 @@ fn add_label(
     place: usize,
 ) -> Result<(), ToolFault>
     ensures added { OnOk result ((q : List ℕ) →
-        place_at by_label.new q ≡ with_place (label_of line.now) place (place_at by_label.old) q) }
-    ensures free { OnOk result (IsFree (label_of line.now) (place_at by_label.old)) }
-    ensures taken { result ≡ Err tool_faults.BadTool → IsTaken (label_of line.now) (place_at by_label.old) }
+        at_text by_label.new q ≡ with_place (label_of line.now) place (at_text by_label.old) q) }
+    ensures free { OnOk result (IsFree (label_of line.now) (at_text by_label.old)) }
+    ensures taken { result ≡ Err tool_faults.BadTool → IsTaken (label_of line.now) (at_text by_label.old) }
 {
     let (Some(label), _) = label_parts(line) else {
         return Ok(());

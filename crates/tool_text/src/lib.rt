@@ -1,9 +1,8 @@
 //! The parser of the tool language.
 //!
-//! A tool is a small program in a file. This crate reads its text, after a grammar, into
-//! a list of instructions whose jumps are places in that list. It depends on `bx_tree` for shared
-//! bytes. It carries the promise that a text is read exactly where the grammar gives it a tool, as
-//! the one tool that has that text.
+//! A tool is a small program in a file. This crate parses its text, after a grammar, into a list of instructions
+//! whose jumps are indices into that list. It depends on `bx_tree` for shared bytes. It carries the promise that a
+//! text is parsed exactly where the grammar gives it a tool, as the one tool that has that text.
 #![tactic(auto)]
 
 mod bytes;

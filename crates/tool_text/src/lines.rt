@@ -1,6 +1,6 @@
 //! Lines, their labels, and what follows them.
 ghost use Rattle.std.specs.Prelude.{◌≡◌, ◌==◌, ◌≤◌, length, filter, IfOk};
-ghost use Rattle.std.specs.List.{position_or_len, slice_split};
+ghost use Rattle.std.specs.List.{position_or_len};
 ghost use Rattle.std.specs.Option.{option_copied};
 ghost use Rattle.tool_text.specs.Grammar.{says as says_something};
 ghost use Rattle.tool_text.specs.Reading.{after_byte, after_label as rest_of, before_byte};
@@ -80,11 +80,4 @@ pub(crate) fn spoken<'a>(alloc: Global, lines: &[&'a [u8]]) -> Result<Vec<&'a [u
         }
     }
     Ok(spoken)
-}
-
-// The lines of a text.
-pub(crate) fn lines_of(alloc: Global, text: &[u8]) -> Result<Vec<&[u8]>, AllocError>
-    ensures { IfOk result (λ lines. texts_now lines.items ≡ slice_split (λ b. b == 10) text.entry.now) }
-{
-    text.split(|byte| *byte == b'\n').collect(alloc)
 }

@@ -9,8 +9,9 @@ ghost use Rattle.bx_tree.specs.Lent.{texts_now};
 use crate::fault::ToolFault;
 use crate::instr::line_of;
 use crate::labels::table_of;
-use crate::lines::{lines_of, spoken};
+use crate::lines::spoken;
 use crate::tool::Tool;
+use bx_tree::lines_of;
 use std::alloc::Global;
 
 // The tool of lines that say something.

@@ -4,7 +4,7 @@ use Rattle.std.specs.Prelude.{OnOk, OnErr}
 use Rattle.std.proofs.lemmas.List.{map-append, take_all, take_more, take-append-drop}
 use Rattle.bx_io.specs.Holdings.{Change, Holdings, IsPrefix, StoreState, changed, holdings_after, known_after, state_after}
 use Rattle.bx_io.specs.declared.keeper.PutFault.{PutFault}
-use Rattle.bx_io.proofs.Changes.{known_after-append, known_after-nil}
+use Rattle.bx_io.proofs.Changes.{known_after-append, known_after-nil, nothing_before}
 use Rattle.content_store.specs.Contents.{blob_put}
 use Rattle.two_phase.specs.Applying.{Applies, AppliesAll, AppliesPrefix}
 
@@ -101,10 +101,6 @@ pub blobs_whole : (start now : Option StoreState) (contents : List (List ℕ)) (
 blobs_whole start now contents i l so_far = subst (λ (cs : List (List ℕ)). AppliesAll start (map blob_put cs) now) (take_all i contents l) so_far
 
 -- ## What was made
-
-nothing_before : (start : List Change) → IsPrefix start [] → start ≡ []
-nothing_before [] p = refl
-nothing_before (c ∷ cs) p = let joined : c ∷ (cs ++ p.rest) ≡ [] = p.joined in absurd cc
 
 -- a prefix leads to what a prefix of all leads to
 abbrev pub LeadsBack : Holdings → List Change → List Change → Type 0

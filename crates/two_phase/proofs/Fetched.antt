@@ -1,6 +1,7 @@
 -- What is found under names, and that nothing else is.
 use Rattle.std.proofs.Common.{◌≡◌, ℕ, true, List, [], Option, Some, None, Result, Ok, Err, IfOk, Vec, Global, sym, ap, ◌∙◌, subst, inl, inr}
 use Rattle.std.specs.FinMap.{get}
+use Rattle.std.proofs.lemmas.Option.{same_Some}
 use Rattle.sha2.specs.Sha256.{sha256}
 use Rattle.bx_tree.specs.Trees.{Files}
 use Rattle.bx_io.specs.Answers as held_names
@@ -17,36 +18,31 @@ use Rattle.memo_format.specs.declared.entry.OutputLine.{OutputLine}
 use Rattle.memo_format.specs.declared.selector.Selector.{Selector}
 use Rattle.content_store.specs.Contents.{Fetches, IsContent}
 use Rattle.content_store.specs.HeldEntries.{FetchesEntry, IsHeld}
+use Rattle.content_store.proofs.HeldEntries.{none_and_some}
 use Rattle.content_store.specs.declared.content.Fetched.TheVariants as fetched
 use Rattle.content_store.specs.declared.entries.FetchedEntry.TheVariants as fetched_entries
 use Rattle.two_phase_meaning.specs.Contents.{HoldsPaths}
-use Rattle.two_phase_meaning.specs.Keeping.{or_none, selectors_in}
+use Rattle.two_phase_meaning.specs.Saving.{or_none, selectors_in}
 use Rattle.run_record.specs.Digests.{weak_of}
 use Rattle.two_phase_meaning.specs.Usable.{fits}
 use Rattle.two_phase.specs.Putting.{IsListAt}
 use Rattle.two_phase.specs.Finding.{AddsTo, FindsOne, IsEntryFor, PutsIn}
 
-pub same_some : {X : Type 0} (x y : X) → Some x ≡ Some y → x ≡ y
-same_some x y e = cc
-
-none_and_some : {X : Type 0} (o : Option X) (x : X) → o ≡ None → o ≡ Some x → ⊥
-none_and_some o x h k = let never : None ≡ Some x = sym h ∙ k in cc
-
 -- ## One thing is held under a name
 
 pub one_content : (S : Holdings) (digest x y : List ℕ) → IsContent S digest x → IsContent S digest y → x ≡ y
-one_content S digest x y h k = same_some x y (sym h.held ∙ ap (λ d. get S (at_blob d)) (h.digest_is ∙ sym k.digest_is) ∙ k.held)
+one_content S digest x y h k = same_Some x y (sym h.held ∙ ap (λ d. get S (at_blob d)) (h.digest_is ∙ sym k.digest_is) ∙ k.held)
 
 pub one_set : (S : Holdings) (digest : List ℕ) (a b : List Ask) → HoldsPaths S digest a → HoldsPaths S digest b → a ≡ b
-one_set S digest a b h k = same_some a b (sym h.2 ∙ ap read_paths_text (one_content S digest h.0 k.0 h.1 k.1) ∙ k.2)
+one_set S digest a b h k = same_Some a b (sym h.2 ∙ ap read_paths_text (one_content S digest h.0 k.0 h.1 k.1) ∙ k.2)
 
 pub one_list : (S : Holdings) (weak : List ℕ) (a b : List Selector) → HoldsList S weak a → HoldsList S weak b → a ≡ b
-one_list S weak a b h k = same_some a b (sym h.2 ∙ ap read_selectors_text (same_some h.0 k.0 (sym h.1 ∙ k.1)) ∙ k.2)
+one_list S weak a b h k = same_Some a b (sym h.2 ∙ ap read_selectors_text (same_Some h.0 k.0 (sym h.1 ∙ k.1)) ∙ k.2)
 
 pub one_entry : (S : Holdings) (strong : List ℕ) (a b : Entry) → IsHeld S strong a → IsHeld S strong b → a ≡ b
 one_entry S strong a b h k =
     let there : get S (at_entry a.strong) ≡ get S (at_entry b.strong) = ap (λ d. get S (at_entry d)) (h.strong_is ∙ sym k.strong_is) in
-    same_some a b (sym h.held.2 ∙ ap read_entry_text (same_some h.held.0 k.held.0 (sym h.held.1 ∙ there ∙ k.held.1)) ∙ k.held.2)
+    same_Some a b (sym h.held.2 ∙ ap read_entry_text (same_Some h.held.0 k.held.0 (sym h.held.1 ∙ there ∙ k.held.1)) ∙ k.held.2)
 
 -- ## Contents
 
@@ -123,7 +119,7 @@ pub list_read : (held : Option Holdings) (weak name : List ℕ) (text : Vec ℕ 
 list_read None weak name text list named h e = tt
 list_read (Some S) weak name text None named h e =
     λ l there.
-    let same : text.items ≡ there.0 = same_some text.items there.0 (sym h ∙ ap (get S) named ∙ there.1) in
+    let same : text.items ≡ there.0 = same_Some text.items there.0 (sym h ∙ ap (get S) named ∙ there.1) in
     none_and_some (read_selectors_text text.items) l e (ap read_selectors_text same ∙ there.2)
 list_read (Some S) weak name text (Some l) named h e = (text.items, ap (get S) (sym named) ∙ h, e)
 

@@ -8,7 +8,7 @@ use Rattle.std.proofs.lemmas.List.Elements.{All-contains, All-map}
 use Rattle.bx_tree.specs.Paths.{Atoms, has_path}
 use Rattle.memo_format.specs.Entries.{output_paths}
 use Rattle.memo_format.specs.declared.entry.OutputLine.{OutputLine}
-use Rattle.tool_run.proofs.Permitted.{any_contained}
+use Rattle.bx_tree.proofs.FoundByTest.{has_path_from_answer}
 
 contains : (outputs : List OutputLine) (p : Atoms) (r : Result ℕ ℕ)
     → MatchResult r (λ i. (i < length outputs) × HoldsAt (λ (o : OutputLine). o.path ≡ p) outputs i) (λ i. All (λ (o : OutputLine). o.path ≢ p) outputs)
@@ -30,4 +30,4 @@ contains outputs p (Err i) h = (
 pub output_found : (outputs : List OutputLine) (p : Atoms) (r : Result ℕ ℕ)
     → MatchResult r (λ i. (i < length outputs) × HoldsAt (λ (o : OutputLine). o.path ≡ p) outputs i) (λ i. All (λ (o : OutputLine). o.path ≢ p) outputs)
     → is_ok r ≡ has_path (output_paths outputs) p
-output_found outputs p r h = any_contained (output_paths outputs) p (is_ok r) (contains outputs p r h)
+output_found outputs p r h = has_path_from_answer (output_paths outputs) p (is_ok r) (contains outputs p r h)

@@ -1,60 +1,39 @@
 -- Contents that a store is known to hold.
 use Rattle.std.proofs.Common.{◌≡◌, ◌⊎◌, ℕ, Bool, true, false, List, [], ◌∷◌, Option, Some, None, Result, Ok, Err, cond, refl, sym, ap, ◌∙◌, subst, inl, inr}
 use Rattle.std.proofs.lemmas.Bool.{cases_Bool, cond-true, cond-false}
-use Rattle.std.proofs.lemmas.Cmp.{eq_by_cmp_equiv, nat_list_cmp_total}
-use Rattle.std.proofs.lemmas.Map.Text.{is_eq-slice_cmp}
+use Rattle.std.proofs.lemmas.Cmp.{nat_list_cmp_total}
 use Rattle.std.proofs.lemmas.Slice.Eq.{bytes_eq-Decides}
 use Rattle.std.specs.BTreeMap.{BTreeMap, UpdatesBy, get_by}
-use Rattle.std.specs.Cmp.{Equal-is}
 use Rattle.std.specs.Cmp.Lexicographic.{slice_cmp}
-use Rattle.std.specs.FinMap.{get, insert, get-insert, same_map, slice_cmp-IsAntisymmetric, nat_cmp-IsAntisymmetric}
-use Rattle.std.specs.Map.{AreApart, IsKeyTest, KeepsOthers, lookup}
+use Rattle.std.specs.FinMap.{get, insert, get-insert}
+use Rattle.std.specs.Map.{lookup}
 use Rattle.std.specs.Ordering.{eq_by_cmp, is_eq, nat_cmp}
 use Rattle.std.specs.Prelude.{OnErr, OnOk}
 use Rattle.std.specs.Str.{bytes_eq}
 use Rattle.std.specs.declared.alloc.Global.{Global}
 use Rattle.std.specs.declared.vec.Vec.{Vec}
+use Rattle.std.proofs.lemmas.Option.{same_Some}
+use Rattle.bx_tree.proofs.TextTables.{text_put}
+use Rattle.bx_tree.proofs.Lists.{texts_differ}
 use Rattle.sha2.specs.Sha256.{sha256}
 use Rattle.bx_io.specs.Holdings.{Holdings, Put, StoreState, known_after}
 use Rattle.bx_io.specs.declared.keeper.PutFault.{PutFault}
+use Rattle.bx_io.proofs.Mapped.{same_holdings}
 use Rattle.memo_format.specs.StoreNames.{HoldsBlob, at_blob, at_entry, at_list}
 use Rattle.content_store.specs.Contents.{IsContent, blob_put}
 use Rattle.run_record.proofs.Digest.{is_digest}
 use Rattle.two_phase_meaning.proofs.Digests.{blob_no_entry, blob_no_list, same_blob_name}
-use Rattle.two_phase_meaning.proofs.Puts.{still_there, there_now}
+use Rattle.two_phase_meaning.proofs.Puts.{still_there, there_now, same_name}
 use Rattle.two_phase.specs.Applying.{Applies, IsNoOp}
 use Rattle.two_phase.specs.Held.{AreHeld, Tracks, noted_at}
 use Rattle.two_phase.specs.declared.held.HeldContents.{HeldContents}
 
 -- ## The table
 
-other_entries : {K X : Type 0} (eq : K → K → Bool) (test : K → Bool) (old new : List (K × X)) → KeepsOthers eq test old new → (other : K → Bool) → IsKeyTest eq other
-    → AreApart test other → lookup other new ≡ lookup other old
-unfolding KeepsOthers
-other_entries eq test old new kept = kept
-
--- a digest that differs from that of an entry is not at it
-apart : (key q k : List ℕ) → bytes_eq key q ≡ false → is_eq (slice_cmp nat_cmp key k) ≡ true → is_eq (slice_cmp nat_cmp q k) ≡ false
-apart key q k n y =
-    let at = (bytes_eq-Decides key k).0 (sym (is_eq-slice_cmp key k) ∙ y) in
-    elim (cases_Bool (bytes_eq q k)) [
-      | inl t ↦
-          let same : key ≡ q = at ∙ sym ((bytes_eq-Decides q k).0 t) in
-          let both : bytes_eq key q ≡ true = (bytes_eq-Decides key q).1 same in
-          cc
-      | inr f ↦ is_eq-slice_cmp q k ∙ f
-    ]
-
 same_or_other : (a b : List ℕ) → (a ≡ b) ⊎ (a ≡ b → ⊥)
 same_or_other a b = elim (cases_Bool (bytes_eq a b)) [
   | inl t ↦ inl ((bytes_eq-Decides a b).0 t)
   | inr f ↦ inr (λ same. let both : bytes_eq a b ≡ true = (bytes_eq-Decides a b).1 same in absurd cc)
-]
-
-not_equal : (a b : List ℕ) → (a ≡ b → ⊥) → bytes_eq a b ≡ false
-not_equal a b other = elim (cases_Bool (bytes_eq a b)) [
-  | inl t ↦ absurd (other ((bytes_eq-Decides a b).0 t))
-  | inr f ↦ f
 ]
 
 abbrev Updated : List ℕ → HeldContents → HeldContents → Option (List ℕ) → Type 0
@@ -64,11 +43,7 @@ Updated key old new value =
 other_noted : (key : List ℕ) (old new : HeldContents) (value : Option (List ℕ)) → Updated key old new value → (q : List ℕ) → (key ≡ q → ⊥)
     → noted_at new q ≡ noted_at old q
 other_noted key old new value h q other =
-    other_entries _ _ old.contents.entries new.contents.entries h.3 _ (λ a b. (eq_by_cmp_equiv nat_list_cmp_total).congr q a.items b.items)
-    (λ k. apart key q k.items (not_equal key q other))
-
-same_some : {X : Type 0} (x y : X) → Some x ≡ Some y → x ≡ y
-same_some x y e = cc
+    text_put key old.contents new.contents value h q ∙ cond-false (bytes_eq key q) value (noted_at old q) (texts_differ key q other)
 
 pub forgotten : (digest key : List ℕ) (old new : HeldContents) → key ≡ digest → Updated key old new None → (content : List ℕ) → Tracks old new digest content
 forgotten digest key old new is h content = record {
@@ -79,7 +54,7 @@ forgotten digest key old new is h content = record {
 pub noted : (digest key content value : List ℕ) (old new : HeldContents) → key ≡ digest → value ≡ content → Updated key old new (Some value)
     → Tracks old new digest content
 noted digest key content value old new is same h = record {
-  here = λ other there. same_some other content (sym there ∙ ap (noted_at new) (sym is) ∙ h.1 ∙ ap Some same);
+  here = λ other there. same_Some other content (sym there ∙ ap (noted_at new) (sym is) ∙ h.1 ∙ ap Some same);
   others = λ q apart. other_noted key old new (Some value) h q (λ e. apart (sym is ∙ e));
 }
 
@@ -103,12 +78,6 @@ noted_or_none digest content old between new (Err e) first next same = record {
 }
 
 -- ## What is held
-
-same_holdings : (S T : Holdings) → ((q : List ℕ) → get S q ≡ get T q) → S ≡ T
-same_holdings = same_map nat_list_cmp_total (slice_cmp-IsAntisymmetric nat_cmp-IsAntisymmetric)
-
-same_name : (q name : List ℕ) → eq_by_cmp (slice_cmp nat_cmp) q name ≡ true → q ≡ name
-same_name q name e = slice_cmp-IsAntisymmetric nat_cmp-IsAntisymmetric q name ((Equal-is (slice_cmp nat_cmp q name)).0 e)
 
 held_there : (b : Bool) (S : Holdings) (name bytes q : List ℕ) → eq_by_cmp (slice_cmp nat_cmp) q name ≡ b → get S name ≡ Some bytes
     → cond b (Some bytes) (get S q) ≡ get S q

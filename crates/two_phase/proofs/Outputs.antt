@@ -4,28 +4,29 @@ use Rattle.std.proofs.Math.Seq.{drop-cons}
 use Rattle.std.specs.BTreeMap.{insert_entry}
 use Rattle.std.specs.List.{AllByRecursion}
 use Rattle.std.specs.List.Sorted.{IsStrictlySortedBy}
-use Rattle.std.specs.Ordering.{match_ordering, ordering_reverse}
-use Rattle.std.specs.declared.cmp.Ordering.{Ordering}
-use Rattle.std.specs.declared.cmp.Ordering.TheVariants.{Less, Greater}
+use Rattle.std.specs.Ordering.{match_ordering}
+use Rattle.std.specs.declared.cmp.Ordering.TheVariants.{Less}
+use Rattle.std.proofs.lemmas.Bool.{or_cases}
 use Rattle.sha2.specs.Sha256.{sha256}
 use Rattle.bx_io.specs.Holdings.{Holdings}
 use Rattle.bx_tree.specs.Paths.{Atoms, IsBelow, path_cmp}
 use Rattle.bx_tree.specs.Trees.{Files, NoneNested, paths_of}
-use Rattle.bx_tree.specs.Orders.{path_cmp_total}
+use Rattle.bx_tree.specs.Members.{Has}
+use Rattle.bx_tree.proofs.Sets.{contains_has}
 use Rattle.pip_model_types.specs.Made.{RisingFiles}
-use Rattle.observed.specs.Members.{Has}
-use Rattle.observed.proofs.OneSet.{contains_has}
-use Rattle.tool_run_writes.specs.Below.{is_below}
+use Rattle.bx_tree.specs.Below.{is_below}
 use Rattle.tool_run_writes.specs.Writes.{clashes, put_file}
-use Rattle.tool_run_writes.proofs.BelowByAtoms.{below_decides}
+use Rattle.bx_tree.proofs.BelowPaths.{below_decides}
+use Rattle.bx_tree.proofs.Lists.{all_append}
 use Rattle.tool_run_writes.proofs.Unnested.{none_unnested, put_unnested}
+use Rattle.tool_run_writes.proofs.PutInOrder.{greater}
 use Rattle.memo_format.specs.Entries.{OutputsRise, output_paths}
 use Rattle.memo_format.specs.Found.{output_lines}
 use Rattle.memo_format.specs.declared.entry.OutputLine.{OutputLine}
 use Rattle.content_store.specs.Contents.{IsContent}
 use Rattle.run_record.specs.Collisions.{contents_of}
 use Rattle.two_phase_meaning.specs.Contents.{HoldsAll}
-use Rattle.two_phase_meaning.proofs.Same.{all_both}
+use Rattle.two_phase_meaning.proofs.FilesFit.{paths_lines}
 use Rattle.two_phase.specs.Finding.{AddsTo, AreOutputs, FindsOne}
 
 abbrev pub line_for : Atoms → List ℕ → OutputLine
@@ -48,12 +49,6 @@ gathered_none None outputs = record { done = refl; are_held = tt; unnested = non
 gathered_none (Some S) outputs = record { done = refl; are_held = tt; unnested = none_unnested }
 
 -- ## One more
-
-greater : (a b : Atoms) → path_cmp a b ≡ Less → path_cmp b a ≡ Greater
-greater a b less = turned (path_cmp b a) (path_cmp a b) (path_cmp_total.antisymm b a) less
-  where
-    turned : (o p : Ordering) → o ≡ ordering_reverse p → p ≡ Less → o ≡ Greater
-    turned o p e less = e ∙ ap ordering_reverse less
 
 less_at : (path : Atoms) (before rest : List OutputLine) (o : OutputLine)
     → AllByRecursion (λ q. path_cmp path q ≡ Less) (output_paths (before ++ o ∷ rest)) → path_cmp path o.path ≡ Less
@@ -82,7 +77,7 @@ held_more : (held : Option Holdings) (files : Files) (path : Atoms) (digest byte
     → FindsOne held (λ S y. IsContent S digest y) (Some bytes) → AreHeld held (files ++ (path, bytes) ∷ [])
 held_more None files path digest bytes h k = tt
 held_more (Some S) files path digest bytes h k =
-    subst (HoldsAll S) (sym (contents-append files ((path, bytes) ∷ []))) (all_both _ (contents_of files) (bytes ∷ []) h (k.held, tt))
+    subst (HoldsAll S) (sym (contents-append files ((path, bytes) ∷ []))) (all_append _ (contents_of files) (bytes ∷ []) h (k.held, tt))
 
 -- where a file was put
 was_put : (t : Bool) (files now : Files) (path : Atoms) (bytes : List ℕ) → clashes files path ≡ t
@@ -112,12 +107,8 @@ gathered_more held outputs rest o files now path bytes rise g found digest path_
 
 -- ## The end
 
-pub paths-lines : (files : Files) → output_paths (output_lines files) ≡ paths_of files
-paths-lines [] = refl
-paths-lines (f ∷ fs) = ap (λ ps. f.0 ∷ ps) (paths-lines fs)
-
 pub lines_rise : (files : Files) (outputs : List OutputLine) → outputs ≡ output_lines files → RisingFiles files → OutputsRise outputs
-lines_rise files outputs is rising = subst (IsStrictlySortedBy path_cmp) (sym (ap output_paths is ∙ paths-lines files)) rising
+lines_rise files outputs is rising = subst (IsStrictlySortedBy path_cmp) (sym (ap output_paths is ∙ paths_lines files)) rising
 
 pub gathered_all : (held : Option Holdings) (outputs : List OutputLine) (files : Files) → Gathered held outputs [] files → output_lines files ≡ outputs
 gathered_all held outputs files g = sym (append-nil (output_lines files)) ∙ g.done
@@ -130,7 +121,7 @@ gathered_end (Some S) outputs files g =
     record {
       outputs_are = all;
       held = g.are_held;
-      unnested = subst NoneNested (sym (paths-lines files) ∙ ap output_paths all) g.unnested;
+      unnested = subst NoneNested (sym (paths_lines files) ∙ ap output_paths all) g.unnested;
     }
 
 -- ## What is not held, or clashes
@@ -149,14 +140,10 @@ not_held None outputs rest o files g none = tt
 not_held (Some S) outputs rest o files g none =
     λ fs are. let there = held_at S (output_lines files) rest o fs (are.outputs_are ∙ sym g.done) are.held in none there.0 there.1
 
-either : (a b : Bool) → (a || b) ≡ true → (a ≡ true) ⊎ (b ≡ true)
-either true b e = inl refl
-either false b e = inr e
-
 clash_at : (files : Files) (path : Atoms) → clashes files path ≡ true → (q : Atoms) × Has (paths_of files) q × (IsBelow q path ⊎ IsBelow path q)
 clash_at [] path e = absurd cc
-clash_at (f ∷ fs) path e = elim (either (is_below f.0 path || is_below path f.0) (clashes fs path) e) [
-  | inl here ↦ elim (either (is_below f.0 path) (is_below path f.0) here) [
+clash_at (f ∷ fs) path e = elim (or_cases (is_below f.0 path || is_below path f.0) (clashes fs path) e) [
+  | inl here ↦ elim (or_cases (is_below f.0 path) (is_below path f.0) here) [
     | inl h ↦ (f.0, inl refl, inl ((below_decides f.0 path).0 h))
     | inr h ↦ (f.0, inl refl, inr ((below_decides path f.0).0 h))
   ]

@@ -1,10 +1,11 @@
 -- Puts of records that are made one after another, up to some place.
-use Rattle.std.proofs.Common.{◌≡◌, ℕ, zero, suc, ◌≤◌, arith, append_assoc, List, [], ◌∷◌, ◌++◌, map, take, length, Option, Some, None, Result, Ok, Err, refl, sym, ap, ◌∙◌, subst, inl, inr}
+use Rattle.std.proofs.Common.{◌≡◌, ℕ, ◌≤◌, append_assoc, List, [], ◌∷◌, ◌++◌, map, length, Option, Some, None, Result, Ok, Err, refl, sym, ap, ◌∙◌, subst, inl, inr}
 use Rattle.std.specs.Prelude.{OnOk, filter, not}
 use Rattle.sha2.specs.Sha256.{sha256}
 use Rattle.observed.specs.Texts.{paths_text}
 use Rattle.bx_io.specs.Holdings.{Change, IsPrefix, Put, StoreState, holdings_after}
 use Rattle.bx_io.specs.declared.keeper.PutFault.{PutFault}
+use Rattle.bx_io.proofs.Changes.{nothing_before}
 use Rattle.run_record.specs.Facts.{Facts, Sound}
 use Rattle.memo_format.specs.Selectors.{selectors_text}
 use Rattle.memo_format.specs.StoreNames.{at_entry, at_list}
@@ -14,8 +15,9 @@ use Rattle.content_store.specs.Contents.{blob_put}
 use Rattle.two_phase_meaning.specs.Honest.{Honest}
 use Rattle.run_record.specs.Collisions.{NoCollision}
 use Rattle.run_record.specs.Digests.{weak_of}
-use Rattle.two_phase_meaning.proofs.Puts as keeping
-use Rattle.two_phase_meaning.specs.Keeping.{ComparedInSave, IsGood, list_at, record_selector, same_selector, with_first}
+use Rattle.two_phase_meaning.proofs.Puts as saving
+use Rattle.two_phase_meaning.specs.Saving.{ComparedInSave, IsGood, list_at, record_selector, same_selector, with_first}
+use Rattle.two_phase_meaning.proofs.Again.{few_taken}
 use Rattle.two_phase.specs.Applying.{AppliesAll, AppliesPrefix}
 use Rattle.two_phase.specs.Putting.{IsListAt, IsNextList, IsWritten, LeavesHonest, PutsAll, PutsUpTo, all_puts, planned, written_selector}
 use Rattle.two_phase.specs.declared.recording.Written.{Written}
@@ -94,11 +96,6 @@ record_cut before between now f w text same h next made =
     put_up_to before now f w next.old text (subst (λ d. IsListAt before d next.old) h.weak_digest next.old_is) h (plan_is f w next.old text h next.text_is)
     (subst (λ (k : Option StoreState). AppliesPrefix k now (all_puts w text)) same made)
 
-few_taken : {X : Type 0} (n : ℕ) (xs : List X) → length (take n xs) ≤ n
-few_taken zero xs = omega arith
-few_taken (suc n) [] = omega arith
-few_taken (suc n) (x ∷ xs) = let rest = few_taken n xs in omega (arith, rest)
-
 pub list_few : (s : Selector) (old list : List Selector) → list ≡ with_first s old → length list ≤ MAX_SELECTORS
 list_few s old list is =
     subst (λ (l : List Selector). length l ≤ MAX_SELECTORS) (sym is) (few_taken MAX_SELECTORS (s ∷ filter (λ other. not (same_selector s other)) old))
@@ -118,10 +115,6 @@ prefix_of_prefix start made all p q = record {
   joined = sym (append_assoc start p.rest q.rest) ∙ ap (λ cs. cs ++ q.rest) p.joined ∙ q.joined;
 }
 
-nothing_before : (start : List Change) → IsPrefix start [] → start ≡ []
-nothing_before [] p = refl
-nothing_before (c ∷ cs) p = let joined : c ∷ (cs ++ p.rest) ≡ [] = p.joined in absurd cc
-
 pub leaves_honest : (before : StoreState) (now : Option StoreState) (f : Facts) → Sound f → IsGood f → PutsUpTo (Some before) now f → Honest before.held
     → NoCollision (ComparedInSave before.held f) → LeavesHonest before now
 leaves_honest before now f sound good puts honest apart =
@@ -137,5 +130,5 @@ leaves_honest before now f sound good puts honest apart =
       | inl none ↦
           subst (λ (cs : List Change). Honest (holdings_after before.held cs)) (sym (nothing_before start (subst (IsPrefix start) none p))) honest
       | inr spelled ↦
-          keeping.keeps before.held f honest sound good spelled apart (with_first (record_selector f) puts.old) start (prefix_of_prefix start puts.first (planned f puts.old) p puts.is_first)
+          saving.puts_stay_honest before.held f honest sound good spelled apart (with_first (record_selector f) puts.old) start (prefix_of_prefix start puts.first (planned f puts.old) p puts.is_first)
     ]

@@ -19,7 +19,7 @@ use Rattle.memo_format.specs.Found.{output_lines}
 use Rattle.run_record.specs.Collisions.{contents_of}
 use Rattle.run_record.specs.Digests.{weak_of}
 use Rattle.two_phase_meaning.specs.Contents.{answer_contents, desc_contents, given_contents}
-use Rattle.two_phase_meaning.specs.Keeping.{answers_text, entry_with, outcome_files, paths_digest, record_entry}
+use Rattle.two_phase_meaning.specs.Saving.{answers_text, entry_with, outcome_files, paths_digest, record_entry}
 use Rattle.two_phase.specs.Putting.{IsWritten}
 use Rattle.two_phase.specs.declared.recording.Written.{Written}
 

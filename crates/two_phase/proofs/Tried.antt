@@ -16,11 +16,12 @@ use Rattle.memo_format.specs.declared.selector.Selector.{Selector}
 use Rattle.two_phase_meaning.specs.Contents.{HoldsPaths}
 use Rattle.run_record.specs.Digests.{IsReadBack, weak_of}
 use Rattle.two_phase_meaning.specs.Usable.{AnyUsable, UsableBy, asked_text, fits}
+use Rattle.two_phase_meaning.proofs.FilesFit.{paths_lines}
 use Rattle.two_phase.specs.Finding.{AreOutputs, FindsOne, HasParts, IsEntryFor, IsOf, IsOn, IsStrongMatch, IsWith}
 use Rattle.two_phase.specs.Lookups.{FindsFirst, FindsUsable, IsCurrentHit, LeadsTo, LookupGives, Onward}
 use Rattle.two_phase.specs.declared.lookups.LookupResult.TheVariants as lookup_results
 use Rattle.two_phase.proofs.Fetched.{one_entry, one_list, one_set}
-use Rattle.two_phase.proofs.Outputs.{drop_past, next_of, paths-lines}
+use Rattle.two_phase.proofs.Outputs.{drop_past, next_of}
 
 -- ## Found with one property, and so with another
 
@@ -276,7 +277,7 @@ parts_of d e asks given (Ok (Some f)) is fit h = record {
   weak_is = ap (λ (x : Entry). x.weak) h.entry_is ∙ is;
   asks_are = h.asks_are;
   given_are = h.given_are;
-  fit = subst (λ (ps : List Atoms). IsTrue (fits d.process ps)) (sym (ap output_paths h.lines_are) ∙ paths-lines f.made) fit;
+  fit = subst (λ (ps : List Atoms). IsTrue (fits d.process ps)) (sym (ap output_paths h.lines_are) ∙ paths_lines f.made) fit;
   unnested = h.unnested;
 }
 parts_of d e asks given (Ok None) is fit h = tt

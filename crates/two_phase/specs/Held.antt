@@ -1,15 +1,13 @@
 -- Contents that a store is known to hold.
 use Rattle.std.specs.Prelude.{◌≡◌, ℕ, List, Option, Some, None, ⊤}
-use Rattle.std.specs.BTreeMap.{get_by}
-use Rattle.std.specs.Cmp.Lexicographic.{slice_cmp}
-use Rattle.std.specs.Ordering.{nat_cmp}
+use Rattle.bx_tree.specs.TextTables.{at_text}
 use Rattle.bx_io.specs.Holdings.{StoreState}
 use Rattle.content_store.specs.Contents.{IsContent}
 use Rattle.two_phase.specs.declared.held.HeldContents.{HeldContents}
 
 -- the content that is noted at a digest
 abbrev pub noted_at : HeldContents → List ℕ → Option (List ℕ)
-noted_at h digest = get_by (λ k. slice_cmp nat_cmp digest k.items) h.contents
+noted_at h digest = at_text h.contents digest
 
 -- Each content that is noted at a digest has it, and is held under it, where what is held is known.
 abbrev pub AreHeld : Option StoreState → HeldContents → Type 0

@@ -15,7 +15,7 @@ use Rattle.run_record.specs.Collisions.{contents_of}
 use Rattle.run_record.specs.Digests.{weak_of}
 use Rattle.two_phase_meaning.specs.Contents.{desc_contents, given_contents}
 use Rattle.two_phase_meaning.specs.Honest.{Honest}
-use Rattle.two_phase_meaning.specs.Keeping.{Spelled, answers_text, list_at, outcome_files, puts_of, record_entry, record_selector, with_first}
+use Rattle.two_phase_meaning.specs.Saving.{Spelled, answers_text, list_at, outcome_files, puts_of, record_entry, record_selector, with_first}
 use Rattle.two_phase.specs.Applying.{AppliesAll}
 use Rattle.two_phase.specs.declared.recording.Written.{Written}
 

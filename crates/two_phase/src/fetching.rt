@@ -1,4 +1,4 @@
-//! What the names of a store hold, as far as they are well.
+//! What the names of a store hold, as far as that is well-formed.
 ghost use Rattle.std.specs.Prelude.{◌≡◌, ◌≢◌, Err, IfOk, IfSome};
 ghost use Rattle.sha2.specs.Sha256.{sha256};
 ghost use Rattle.bx_tree.specs.Trees.{NoneNested, paths_of};

@@ -1,16 +1,14 @@
 //! Whether outputs are what a process may make.
 ghost use Rattle.std.specs.Prelude.{◌≡◌, true};
-ghost use Rattle.std.specs.List.{list_all, list_any};
+ghost use Rattle.std.specs.List.{list_all};
 ghost use Rattle.std.specs.Option.{option_copied, option_map_or};
 ghost use Rattle.memo_format.specs.Entries.{OutputsRise, output_paths};
-ghost use Rattle.tool_run_writes.specs.Below.{is_below as lies_below};
 ghost use Rattle.two_phase_meaning.specs.Usable.{fits as all_fit, may_make as makes};
-ghost use Rattle.pip_model_types.specs.Outputs.{is_console as console_at};
 ghost use Rattle.bx_tree.specs.Paths.{has_path};
 
 use bx_tree::Path;
 use memo_format::OutputLine;
-use pip_model_types::{OutDir, Outputs, ProcessDesc};
+use pip_model_types::{ProcessDesc, is_console};
 
 // Whether one of the outputs, which rise by path, has a path.
 fn has_output(outputs: &[OutputLine], path: &Path) -> bool
@@ -46,40 +44,11 @@ fn have_console(outputs: &[OutputLine], console: Option<&Path>) -> bool
     }
 }
 
-fn is_below(path: &Path, dir: &Path) -> bool
-    ensures { result ≡ lies_below path.now dir.now }
-{
-    path.is_below(dir)
-}
-
-fn is_output(outs: &Outputs, path: &Path) -> bool
-    ensures { result ≡ has_path outs.now path.now }
-{
-    outs.has(path)
-}
-
-fn is_console(console: Option<&Path>, path: &Path) -> bool
-    ensures { result ≡ console_at (option_copied console.entry) path.now }
-{
-    match console {
-        Some(file) => *file == *path,
-        None => false,
-    }
-}
-
-fn is_below_any(dirs: &[OutDir], path: &Path) -> bool
-    ensures { result ≡ list_any (λ dir. lies_below path.now dir.path) dirs.now }
-{
-    dirs.iter().any(|dir| is_below(path, &dir.path))
-}
-
 // Whether a process may make a file at a path.
 fn may_make(process: &ProcessDesc, path: &Path) -> bool
     ensures { result ≡ makes process.now path.now }
 {
-    is_output(&process.outs, path)
-        || is_console(process.console.as_ref(), path)
-        || is_below_any(process.outdirs.dirs(), path)
+    process.outs.has(path) || is_console(&process.console, path) || process.outdirs.any_above(path)
 }
 
 fn may_make_all(process: &ProcessDesc, outputs: &[OutputLine]) -> bool

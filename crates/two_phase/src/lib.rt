@@ -1,26 +1,23 @@
 //! The two-phase cache lookup, and saving execution records to the store.
 //!
-//! A lookup goes through the selectors that a store has under the weak text of a process, and takes the first
-//! whose path set, asked now, gives its strong text, if the entry and all outputs are there. A save puts what
-//! a run made: its texts and contents, then its entry, then the list of selectors; contents that are held
-//! already are left out. This crate depends on `two_phase_meaning` for what is usable and what is put. It carries
-//! the promise that a hit is the first usable selector, that a miss says that there is none, and that a save
-//! that is cut off made a prefix of its puts, but for those that would change nothing.
+//! A lookup goes through the selectors that a store has under the weak text of a process, and takes the first whose
+//! path set, asked now, gives its strong text, if the entry and all outputs are there. A save writes a record: its
+//! texts and contents, then its entry, then the selector list; contents that are stored already are skipped. This
+//! crate depends on `two_phase_meaning` for usable selectors and the writes of a save. It carries the promise that
+//! a hit is the first usable selector, that a miss says that there is none, and that an interrupted save made a
+//! prefix of its writes, but for those that would change nothing.
 #![tactic(auto)]
 
 mod fetching;
 mod fitting;
 mod held;
-mod keeping;
 mod laws;
 mod lookups;
 mod recording;
+mod saving;
 mod store_fault;
 
 pub use held::HeldContents;
-pub use keeping::{SaveResult, keep};
-pub use laws::keeps_honest;
+pub use laws::saves_stay_honest;
 pub use lookups::{LookupResult, lookup};
-
-/// Out of memory, the one refusal that no contract ties to a cause.
-pub type Memory = std::alloc::AllocError;
+pub use saving::{SaveResult, keep};

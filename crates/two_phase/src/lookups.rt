@@ -1,5 +1,5 @@
 //! Lookups.
-ghost use Rattle.std.specs.Prelude.{◌≡◌, ◌↔◌, Err, IfOk, IfSome, IsTrue, length, map};
+ghost use Rattle.std.specs.Prelude.{◌≡◌, ◌↔◌, Err, IfOk, IfSome, IsTrue, length};
 ghost use Rattle.sha2.specs.Sha256.{sha256};
 ghost use Rattle.memo_format.specs.Entries.{OutputsRise, output_paths};
 ghost use Rattle.prints.specs.Strong.{strong_parts, strong_text};
@@ -15,9 +15,10 @@ use crate::store_fault::StoreFault;
 use bx_digest::Digest;
 use bx_io::KeepReader;
 use memo_format::{Entry, Found, Selector};
-use observed::{Answer, PathSet, View};
+use observed::{Answer, PathSet, View, answers_to};
 use pip_model_types::Desc;
-use prints::{strong_of, weak};
+use prints::strong_of;
+use run_record::weak_digest;
 use std::alloc::{AllocError, Global};
 
 /// The answer to a lookup.
@@ -31,32 +32,6 @@ pub enum LookupResult {
     Fault,
     /// There was no memory.
     Memory,
-}
-
-// The digest of the weak text of a process.
-fn weak_digest(alloc: Global, desc: &Desc) -> Result<Digest, AllocError>
-    ensures digest { IfOk result (λ digest. digest ≡ weak_of desc.now) }
-    ensures spells { IfOk result (λ _. IsReadBack desc.now) }
-{
-    let printed = weak(alloc, desc)?;
-    Ok(printed.digest)
-}
-
-// What a view answers to the asks of a path set, in their order.
-fn answers_to<V: View>(
-    alloc: Global,
-    paths: &PathSet,
-    view: &mut V,
-) -> Result<Vec<Answer>, AllocError>
-    ensures answers { IfOk result (λ answers. answers.items ≡ map (V.answers view.old) paths.now) }
-    ensures same { V.answers view.new ≡ V.answers view.old }
-{
-    let mut answers = Vec::new(alloc);
-    let asks = paths.asks();
-    'asks: for ask in asks {
-        answers.push(view.ask(alloc, ask)?)?;
-    }
-    Ok(answers)
 }
 
 // The digest of the strong text of answers.

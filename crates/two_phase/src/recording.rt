@@ -6,7 +6,7 @@ ghost use Rattle.observed.specs.Texts.{paths_text, read_paths_text};
 ghost use Rattle.pip_model_types.specs.Made.{made_files};
 ghost use Rattle.run_record.specs.Collisions.{contents_of};
 ghost use Rattle.two_phase_meaning.specs.Contents.{answer_contents, desc_contents, given_contents};
-ghost use Rattle.two_phase_meaning.specs.Keeping.{IsGood, entry_with, outcome_files as files_of};
+ghost use Rattle.two_phase_meaning.specs.Saving.{IsGood, entry_with, outcome_files as files_of};
 ghost use Rattle.two_phase.specs.Putting.{IsWritten};
 
 use bx_digest::{Blob, Digest};

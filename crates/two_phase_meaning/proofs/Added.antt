@@ -1,8 +1,10 @@
 -- What the puts of a record add to a store.
-use Rattle.std.proofs.Common.{◌≡◌, ◌⊎◌, ℕ, List, [], ◌∷◌, ◌++◌, map, Some, sym, ap, ◌∙◌, subst, inl, inr}
+use Rattle.std.proofs.Common.{◌≡◌, ◌⊎◌, ℕ, List, [], ◌∷◌, ◌++◌, map, sym, ap, ◌∙◌, subst, inl, inr}
 use Rattle.std.specs.FinMap.{insert}
+use Rattle.std.proofs.lemmas.Option.{same_Some}
+use Rattle.bx_tree.specs.Members.{Has}
+use Rattle.bx_tree.proofs.Members.{has_front}
 use Rattle.sha2.specs.Sha256.{sha256}
-use Rattle.observed.specs.Members.{Has}
 use Rattle.bx_io.specs.Holdings.{Change, Holdings, IsPrefix, holdings_after}
 use Rattle.bx_io.proofs.Changes.{after-append}
 use Rattle.run_record.specs.Facts.{Facts}
@@ -13,16 +15,9 @@ use Rattle.memo_format.specs.declared.entry.Entry.{Entry}
 use Rattle.memo_format.specs.declared.selector.Selector.{Selector}
 use Rattle.content_store.specs.Contents.{blob_put}
 use Rattle.run_record.specs.Digests.{weak_of}
-use Rattle.two_phase_meaning.specs.Keeping.{Spelled, answers_text, blobs_of, entry_put, list_put, puts_of, record_entry}
+use Rattle.two_phase_meaning.specs.Saving.{Spelled, answers_text, blobs_of, entry_put, list_put, puts_of, record_entry}
 use Rattle.two_phase_meaning.proofs.Digests.{blob_no_entry, blob_no_list, entry_no_blob, entry_no_list}
 use Rattle.two_phase_meaning.proofs.Puts.{cut, put_or_old}
-
-same_some : {X : Type 0} (x y : X) → Some x ≡ Some y → x ≡ y
-same_some x y e = cc
-
-has_append : {X : Type 0} (xs ys : List X) (x : X) → Has xs x → Has (xs ++ ys) x
-has_append [] ys x h = absurd h
-has_append (y ∷ xs) ys x h = elim h [ inl e ↦ inl e | inr k ↦ inr (has_append xs ys x k) ]
 
 -- ## Contents
 
@@ -69,7 +64,7 @@ no_entry_by_blobs (x ∷ xs) S e h = no_entry_by_blob S x e (no_entry_by_blobs x
 entry_added : (T : Holdings) (f : Facts) → Spelled f → (e : Entry) → HoldsEntry (insert T (at_entry (sha256 (answers_text f))) (entry_text (record_entry f))) e
     → HoldsEntry T e ⊎ (e ≡ record_entry f)
 entry_added T f spelled e h = elim (put_or_old T (at_entry (sha256 (answers_text f))) (entry_text (record_entry f)) (at_entry e.strong) h.0 h.1) [
-  | inl k ↦ inr (same_some e (record_entry f) (sym h.2 ∙ ap read_entry_text (sym k.1) ∙ spelled.entry))
+  | inl k ↦ inr (same_Some e (record_entry f) (sym h.2 ∙ ap read_entry_text (sym k.1) ∙ spelled.entry))
   | inr old ↦ inl (h.0, old, h.2)
 ]
 
@@ -99,7 +94,7 @@ pub contents_added : (S : Holdings) (f : Facts) (list : List Selector) (made : L
 contents_added S f list made p y h = elim (cut (blobs_of f) (entry_put f ∷ list_put f list ∷ []) made p) [
   | inl part ↦ elim (blobs_added part.0 S y (subst (λ (cs : List Change). HoldsBlob (holdings_after S cs) y) part.3 h)) [
     | inl old ↦ inl old
-    | inr new ↦ inr (subst (λ (xs : List (List ℕ)). Has xs y) part.2 (has_append part.0 part.1 y new))
+    | inr new ↦ inr (subst (λ (xs : List (List ℕ)). Has xs y) part.2 (has_front part.0 part.1 y new))
   ]
   | inr all ↦
       let T : Holdings = holdings_after S (map blob_put (blobs_of f)) in

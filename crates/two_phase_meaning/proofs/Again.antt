@@ -1,8 +1,10 @@
--- What was kept is usable.
+-- What was saved is usable.
 use Rattle.std.proofs.Common.{◌≡◌, ℕ, zero, suc, ◌≤◌, Bool, true, false, cond, List, [], ◌∷◌, ◌++◌, map, take, length, Option, Some, None, refl, sym, ap, subst, inl, inr, arith}
 use Rattle.std.specs.Prelude.{filter, not}
 use Rattle.std.specs.FinMap.{get, insert}
 use Rattle.std.specs.List.{AllByRecursion}
+use Rattle.bx_tree.proofs.Lists.{all_back}
+use Rattle.bx_tree.proofs.Members.{all_has}
 use Rattle.sha2.specs.Sha256.{sha256}
 use Rattle.observed.specs.Texts.{paths_text}
 use Rattle.observed.specs.declared.ask.Ask.{Ask}
@@ -22,11 +24,11 @@ use Rattle.run_record.proofs.Digest.{is_digest}
 use Rattle.run_record.specs.Collisions.{NoCollision, contents_of}
 use Rattle.run_record.specs.Digests.{weak_of}
 use Rattle.two_phase_meaning.specs.Contents.{HoldsAll, desc_contents, given_contents}
-use Rattle.two_phase_meaning.specs.Keeping.{ComparedInSave, FilesFit, Spelled, answers_text, blobs_of, entry_put, list_at, list_put, or_none, outcome_files, paths_digest, puts_of, record_entry, record_selector, same_selector, selectors_in, with_first}
+use Rattle.two_phase_meaning.specs.Saving.{ComparedInSave, FilesFit, Spelled, answers_text, blobs_of, entry_put, list_at, list_put, or_none, outcome_files, paths_digest, puts_of, record_entry, record_selector, same_selector, selectors_in, with_first}
 use Rattle.two_phase_meaning.specs.Usable.{UsableAt, UsableBy}
 use Rattle.two_phase_meaning.proofs.Digests.{entry_no_list}
 use Rattle.two_phase_meaning.proofs.Puts.{blobs_held, entry_grows, list_grows, still_there, there_now}
-use Rattle.two_phase_meaning.proofs.Same.{all_has, all_map, all_right}
+use Rattle.two_phase_meaning.proofs.Same.{all_map}
 
 -- ## Lists of selectors
 
@@ -51,7 +53,7 @@ list_selectors : (o : Option (List ℕ)) → AllByRecursion IsSelector (selector
 list_selectors None = tt
 list_selectors (Some text) = held_selectors (read_selectors_text text) (λ l e. (selectors_sound text l e).0)
 
-few_taken : {X : Type 0} (n : ℕ) (xs : List X) → length (take n xs) ≤ n
+pub few_taken : {X : Type 0} (n : ℕ) (xs : List X) → length (take n xs) ≤ n
 few_taken zero xs = omega arith
 few_taken (suc n) [] = omega arith
 few_taken (suc n) (x ∷ xs) = let rest = few_taken n xs in omega (arith, rest)
@@ -92,7 +94,7 @@ module _ (S : Holdings) (f : Facts) (spelled : Spelled f) (apart : NoCollision (
   first_usable : (see : Ask → Answer) → f.answers ≡ map see f.paths → (u : UsableBy whole f.desc see (record_selector f)) × (u.asks ≡ f.paths)
   first_usable see now =
       let more = blobs_stay.1.1.1 in
-      let later = all_right (HoldsBlob whole) (desc_contents f.desc) (given_contents f.answers ++ contents_of (outcome_files f.outcome)) more in
+      let later = all_back (HoldsBlob whole) (desc_contents f.desc) (given_contents f.answers ++ contents_of (outcome_files f.outcome)) more in
       let first : UsableBy whole f.desc see (record_selector f) = record {
         asks = f.paths;
         paths = (paths_text f.paths, record { held = blobs_stay.1.0; digest_is = refl }, spelled.paths);
@@ -105,7 +107,7 @@ module _ (S : Holdings) (f : Facts) (spelled : Spelled f) (apart : NoCollision (
         unnested = fit.unnested;
         files = outcome_files f.outcome;
         outputs = refl;
-        made = all_right (HoldsBlob whole) (given_contents f.answers) (contents_of (outcome_files f.outcome)) later;
+        made = all_back (HoldsBlob whole) (given_contents f.answers) (contents_of (outcome_files f.outcome)) later;
       } in
       (first, refl)
 
@@ -123,7 +125,7 @@ module _ (S : Holdings) (f : Facts) (spelled : Spelled f) (apart : NoCollision (
     asks_are = (first_usable see now).1;
   }
 
-  pub kept : (see : Ask → Answer) → f.answers ≡ map see f.paths → UsableAt (holdings_after S (puts_of f list)) f.desc see (record_selector f) f.paths
-  kept see now =
+  pub saved_is_usable : (see : Ask → Answer) → f.answers ≡ map see f.paths → UsableAt (holdings_after S (puts_of f list)) f.desc see (record_selector f) f.paths
+  saved_is_usable see now =
       subst (λ (T : Holdings). UsableAt T f.desc see (record_selector f) f.paths)
       (sym (after-append S (map blob_put (blobs_of f)) (entry_put f ∷ list_put f list ∷ []))) (usable see now)

@@ -1,5 +1,5 @@
 -- The files of a run that succeeded are what its process declares and may make.
-use Rattle.std.proofs.Common.{◌≡◌, ◌⊎◌, ℕ, Bool, true, false, cond, ◌&&◌, ◌||◌, ◌==◌, not, List, [], ◌∷◌, Option, Some, None, refl, sym, ap, ◌∙◌, subst, inl, inr}
+use Rattle.std.proofs.Common.{◌≡◌, ℕ, Bool, true, false, cond, ◌&&◌, ◌||◌, ◌==◌, not, List, [], ◌∷◌, Option, Some, None, refl, sym, ap, ◌∙◌, subst, inl, inr}
 use Rattle.std.specs.Prelude.{IsTrue, is_none}
 use Rattle.std.specs.BTreeMap.{insert_entry}
 use Rattle.std.specs.List.{AllByRecursion, list_all, list_any}
@@ -10,14 +10,16 @@ use Rattle.std.specs.declared.cmp.Ordering.TheVariants.{Less, Equal, Greater}
 use Rattle.bx_tree.specs.Paths.{Atoms, has_path, path_cmp, same_path}
 use Rattle.bx_tree.specs.Trees.{Files, file_at, paths_of}
 use Rattle.bx_tree.specs.Orders.{equal_paths, same_path_decides}
-use Rattle.observed.specs.Members.{Has}
+use Rattle.bx_tree.specs.Members.{Has}
 use Rattle.observed.specs.declared.access.Access.{Access}
 use Rattle.observed.specs.declared.access.End.{End}
 use Rattle.observed.specs.declared.access.End.TheVariants as ends
 use Rattle.pip_model_types.specs.declared.desc.Desc.{Desc}
 use Rattle.pip_model_types.specs.declared.outputs.OutDir.{OutDir}
 use Rattle.pip_model_types.specs.declared.pip.ProcessDesc.{ProcessDesc}
-use Rattle.tool_run_writes.specs.Below.{is_below}
+use Rattle.tool_run_writes.proofs.Unnested.{put_has}
+use Rattle.bx_tree.specs.Below.{is_below}
+use Rattle.bx_tree.proofs.Members.{all_pass, has_found}
 use Rattle.tool_run.specs.Description.{Description, permits}
 use Rattle.tool_run.specs.Described.{described}
 use Rattle.tool_run.specs.Laws.{RunInvariant}
@@ -31,7 +33,7 @@ use Rattle.run_record.specs.declared.outcome.Outcome.TheVariants.{Good, Failed}
 use Rattle.run_record.specs.declared.outcome.Cause.TheVariants as causes
 use Rattle.memo_format.specs.Entries.{output_paths}
 use Rattle.memo_format.specs.Found.{output_lines}
-use Rattle.two_phase_meaning.specs.Keeping.{IsGood, outcome_files}
+use Rattle.two_phase_meaning.specs.Saving.{IsGood, outcome_files}
 use Rattle.two_phase_meaning.specs.Usable.{fits, may_make}
 use Rattle.pip_model_types.specs.Outputs.{is_console, outdir_paths}
 
@@ -63,17 +65,6 @@ success d r ends.NotADirectory files e = absurd cc
 
 -- ## Paths of files
 
-or_true : (t : Bool) → (t || true) ≡ true
-or_true true = refl
-or_true false = refl
-
-found_path : (paths : List Atoms) (path : Atoms) → Has paths path → has_path paths path ≡ true
-found_path [] path h = absurd h
-found_path (p ∷ ps) path h = elim h [
-  | inl e ↦ ap (λ t. t || has_path ps path) ((same_path_decides p path).1 e)
-  | inr k ↦ ap (λ t. same_path p path || t) (found_path ps path k) ∙ or_true (same_path p path)
-]
-
 there_by : (t : Bool) (f : Atoms × List ℕ) (fs : Files) (q : Atoms) → same_path f.0 q ≡ t → (is_none (file_at fs q) ≡ false → Has (paths_of fs) q)
     → is_none (cond t (Some f.1) (file_at fs q)) ≡ false → Has (paths_of (f ∷ fs)) q
 there_by true f fs q same more h = inl ((same_path_decides f.0 q).0 same)
@@ -92,17 +83,6 @@ put_keeps (f ∷ fs) path bytes q h = by_order (path_cmp path f.0) (insert_entry
     by_order Less rest more h = inr h
     by_order Equal rest more h = h
     by_order Greater rest more h = elim h [ inl e ↦ inl e | inr k ↦ inr (more k) ]
-
--- a path of files with one more is that of the one, or one of theirs
-put_has : (files : Files) (path : Atoms) (bytes : List ℕ) (q : Atoms) → Has (paths_of (insert_entry path_cmp files path bytes)) q → (path ≡ q) ⊎ Has (paths_of files) q
-put_has [] path bytes q h = h
-put_has (f ∷ fs) path bytes q h = by_order (path_cmp path f.0) (insert_entry path_cmp fs path bytes) (put_has fs path bytes q) h
-  where
-    by_order : (o : Ordering) (rest : Files) → (Has (paths_of rest) q → (path ≡ q) ⊎ Has (paths_of fs) q)
-        → Has (paths_of (match_ordering o ((path, bytes) ∷ f ∷ fs) ((f.0, bytes) ∷ fs) (f ∷ rest))) q → (path ≡ q) ⊎ Has (paths_of (f ∷ fs)) q
-    by_order Less rest more h = h
-    by_order Equal rest more h = inr h
-    by_order Greater rest more h = elim h [ inl e ↦ inr (inl e) | inr k ↦ elim (more k) [ inl e ↦ inl e | inr m ↦ inr (inr m) ] ]
 
 put_there : (files : Files) (path : Atoms) (bytes : List ℕ) → Has (paths_of (insert_entry path_cmp files path bytes)) path
 put_there [] path bytes = inl refl
@@ -125,7 +105,7 @@ all_by : (t : Bool) (out : Atoms) (outs : List Atoms) (files : Files) (paths : L
     → cond t (Some out) (first_missing outs files) ≡ None → list_all (has_path paths) (out ∷ outs) ≡ true
 all_by true out outs files paths missing within more h = absurd cc
 all_by false out outs files paths held within more h =
-    ap (λ t. t && list_all (has_path paths) outs) (found_path paths out (within (there files out held))) ∙ more h
+    ap (λ t. t && list_all (has_path paths) outs) (has_found paths out (within (there files out held))) ∙ more h
 
 all_there : (outs : List Atoms) (files : Files) (paths : List Atoms) → ((q : Atoms) → Has (paths_of files) q → Has paths q) → first_missing outs files ≡ None
     → list_all (has_path paths) outs ≡ true
@@ -139,7 +119,7 @@ with_within (Some path) files said q h = put_keeps files path said q h
 
 console_there : (console : Option Atoms) (files : Files) (said : List ℕ) → option_map_or (has_path (paths_of (with_console console files said))) console true ≡ true
 console_there None files said = refl
-console_there (Some path) files said = found_path (paths_of (with_console (Some path) files said)) path (put_there files path said)
+console_there (Some path) files said = has_found (paths_of (with_console (Some path) files said)) path (put_there files path said)
 
 -- ## What may be made
 
@@ -177,10 +157,6 @@ made_with d (Some path) files said q is all h = elim (put_has files path said q 
   | inr k ↦ permitted_made d q (all q k)
 ]
 
-all_true : {X : Type 0} (p : X → Bool) (xs : List X) → ((x : X) → Has xs x → p x ≡ true) → list_all p xs ≡ true
-all_true p [] h = refl
-all_true p (x ∷ xs) h = ap (λ t. t && list_all p xs) (h x (inl refl)) ∙ all_true p xs (λ y k. h y (inr k))
-
 -- ## Records
 
 all_three : (a b c : Bool) → a ≡ true → b ≡ true → c ≡ true → (a && b && c) ≡ true
@@ -193,7 +169,7 @@ run_fits d r files permitted s =
     (all_three (list_all (has_path (paths_of (with_console d.process.console r.writes r.console))) d.process.outs) _ _
     (all_there d.process.outs r.writes (paths_of (with_console d.process.console r.writes r.console)) (with_within d.process.console r.writes r.console) s.0)
     (console_there d.process.console r.writes r.console)
-    (all_true (may_make d.process) (paths_of (with_console d.process.console r.writes r.console))
+    (all_pass (may_make d.process) (paths_of (with_console d.process.console r.writes r.console))
     (λ q h. made_with d d.process.console r.writes r.console q refl (λ p k. permitted_at (described d) r.writes p permitted k) h)))
 
 pub files_fit : (f : Facts) → Sound f → IsGood f → fits f.desc.process (output_paths (output_lines (outcome_files f.outcome))) ≡ true

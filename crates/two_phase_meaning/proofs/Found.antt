@@ -1,9 +1,11 @@
 -- What a usable selector of an honest store leads to is what the run would give.
-use Rattle.std.proofs.Common.{◌≡◌, ℕ, List, map, Some, refl, sym, ap, ◌∙◌, subst, inr}
+use Rattle.std.proofs.Common.{◌≡◌, ℕ, List, map, refl, sym, ap, ◌∙◌, subst, inr}
 use Rattle.std.specs.List.{AllByRecursion}
+use Rattle.std.proofs.lemmas.Option.{same_Some}
 use Rattle.bx_tree.specs.Trees.{Files}
+use Rattle.bx_tree.specs.Members.{Has}
+use Rattle.bx_tree.proofs.Members.{all_has}
 use Rattle.pip_model_types.specs.declared.desc.Desc.{Desc}
-use Rattle.observed.specs.Members.{Has}
 use Rattle.observed.specs.Texts.{read_paths_text}
 use Rattle.observed.specs.declared.ask.Ask.{Ask}
 use Rattle.observed.specs.declared.access.Answer.{Answer}
@@ -32,10 +34,7 @@ use Rattle.two_phase_meaning.specs.Honest.{Honest, HonestEntry, IsGoodRun}
 use Rattle.two_phase_meaning.specs.Compared.{ComparedInRun}
 use Rattle.two_phase_meaning.specs.Compared as met
 use Rattle.two_phase_meaning.specs.Usable.{UsableBy, asked_text}
-use Rattle.two_phase_meaning.proofs.Same.{all_has, all_map, lines_are, same_answers, same_described, same_files}
-
-same_some : {X : Type 0} (x y : X) → Some x ≡ Some y → x ≡ y
-same_some x y e = cc
+use Rattle.two_phase_meaning.proofs.Same.{all_map, lines_are, same_answers, same_described, same_files}
 
 -- a run that the answers to a path set's asks decide, over these answers alone and over all answers
 pub run_on_view : (d : Description) (see : Ask → Answer) (asks : List Ask) (files : Files) → IsGoodRun d (answered asks (map see asks)) asks files
@@ -59,12 +58,12 @@ module _ (S : Holdings) (d : Desc) (see : Ask → Answer) (honest : Honest S) (s
   found s u =
       let h : HonestEntry S u.entry = honest u.entry u.held.held in
       let weak_same : h.weak.0 ≡ weak_text (weak_parts d) = apart h.weak.0 (weak_text (weak_parts d)) (met.stored h.weak.1.held) (met.weak refl) (h.weak.1.digest_is ∙ u.weak_is) in
-      let parts : weak_parts h.desc ≡ weak_parts d = same_some (weak_parts h.desc) (weak_parts d) (sym h.weak.2 ∙ ap read_weak_text weak_same ∙ spells) in
+      let parts : weak_parts h.desc ≡ weak_parts d = same_Some (weak_parts h.desc) (weak_parts d) (sym h.weak.2 ∙ ap read_weak_text weak_same ∙ spells) in
       let desc : described h.desc ≡ described d =
       same_described M apart h.desc d parts (held (desc_contents h.desc) h.declared) (all_has M (desc_contents d) (λ x k. met.declared k)) in
       let set_same : h.paths.0 ≡ u.paths.0 =
       apart h.paths.0 u.paths.0 (met.stored h.paths.1.held) (met.stored u.paths.1.held) (h.paths.1.digest_is ∙ u.paths_are ∙ sym u.paths.1.digest_is) in
-      let asks : h.asks ≡ u.asks = same_some h.asks u.asks (sym h.paths.2 ∙ ap read_paths_text set_same ∙ u.paths.2) in
+      let asks : h.asks ≡ u.asks = same_Some h.asks u.asks (sym h.paths.2 ∙ ap read_paths_text set_same ∙ u.paths.2) in
       let asked : List ℕ = asked_text d see s.paths u.asks in
       let strong_same : h.strong.0 ≡ asked =
       apart h.strong.0 asked (met.stored h.strong.1.held) (met.strong s.paths u.asks (inr u.paths) refl) (h.strong.1.digest_is ∙ u.held.strong_is ∙ sym u.asked) in
@@ -75,7 +74,7 @@ module _ (S : Holdings) (d : Desc) (see : Ask → Answer) (honest : Honest S) (s
         lines = lines_are (map see u.asks);
       } in
       let said : strong_parts u.entry.weak u.entry.paths h.given ≡ now =
-      same_some (strong_parts u.entry.weak u.entry.paths h.given) now (sym h.strong.2 ∙ ap read_strong_text strong_same ∙ strong_again now is_strong) in
+      same_Some (strong_parts u.entry.weak u.entry.paths h.given) now (sym h.strong.2 ∙ ap read_strong_text strong_same ∙ strong_again now is_strong) in
       let given : h.given ≡ map see u.asks =
       same_answers M apart h.given (map see u.asks) (ap (λ (x : StrongParts). x.lines) said) (held (given_contents h.given) h.answers)
       (all_has M (given_contents (map see u.asks)) (λ x k. met.given s.paths u.asks (inr u.paths) k)) in

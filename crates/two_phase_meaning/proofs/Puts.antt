@@ -6,6 +6,9 @@ use Rattle.std.specs.Ordering.{nat_cmp, eq_by_cmp}
 use Rattle.std.specs.Cmp.{Equal-is}
 use Rattle.std.specs.Cmp.Lexicographic.{slice_cmp, nat_list_cmp_total}
 use Rattle.std.proofs.lemmas.Cmp.{eq_by_cmp_equiv}
+use Rattle.std.proofs.lemmas.Option.{same_Some}
+use Rattle.bx_tree.proofs.Lists.{all_front, all_back}
+use Rattle.bx_tree.proofs.Members.{all_has}
 use Rattle.sha2.specs.Sha256.{sha256}
 use Rattle.observed.specs.Texts.{paths_text}
 use Rattle.bx_io.specs.Holdings.{Change, Holdings, IsPrefix, holdings_after}
@@ -26,16 +29,13 @@ use Rattle.run_record.specs.Collisions.{NoCollision, contents_of}
 use Rattle.run_record.specs.Digests.{weak_of}
 use Rattle.two_phase_meaning.specs.Contents.{HoldsAll, desc_contents, given_contents}
 use Rattle.two_phase_meaning.specs.Honest.{Honest, HonestEntry}
-use Rattle.two_phase_meaning.specs.Keeping.{ComparedInSave, IsGood, Spelled, answers_text, blobs_of, entry_put, list_put, outcome_files, paths_digest, puts_of, record_entry}
+use Rattle.two_phase_meaning.specs.Saving.{ComparedInSave, IsGood, Spelled, answers_text, blobs_of, entry_put, list_put, outcome_files, paths_digest, puts_of, record_entry}
 use Rattle.two_phase_meaning.proofs.Digests.{blob_no_entry, blob_no_list, entry_no_blob, entry_no_list, same_blob_name}
-use Rattle.two_phase_meaning.proofs.Same.{all_has, all_left, all_map, all_right, lines_are}
-
-same_some : {X : Type 0} (x y : X) → Some x ≡ Some y → x ≡ y
-same_some x y e = cc
+use Rattle.two_phase_meaning.proofs.Same.{all_map, lines_are}
 
 -- ## What is held after a put
 
-same_name : (q name : List ℕ) → eq_by_cmp (slice_cmp nat_cmp) q name ≡ true → q ≡ name
+pub same_name : (q name : List ℕ) → eq_by_cmp (slice_cmp nat_cmp) q name ≡ true → q ≡ name
 same_name q name e = slice_cmp-IsAntisymmetric nat_cmp-IsAntisymmetric q name ((Equal-is (slice_cmp nat_cmp q name)).0 e)
 
 chosen : (b : Bool) (new old found : Option (List ℕ)) → cond b new old ≡ found → ((b ≡ true) × (new ≡ found)) ⊎ ((b ≡ false) × (old ≡ found))
@@ -46,7 +46,7 @@ chosen false new old found e = inr (refl, e)
 pub put_or_old : (S : Holdings) (name bytes q x : List ℕ) → get (insert S name bytes) q ≡ Some x → ((q ≡ name) × (bytes ≡ x)) ⊎ (get S q ≡ Some x)
 put_or_old S name bytes q x e =
     elim (chosen (eq_by_cmp (slice_cmp nat_cmp) q name) (Some bytes) (get S q) (Some x) (sym (get-insert nat_list_cmp_total S name bytes q) ∙ e)) [
-      | inl h ↦ inl (same_name q name h.0, same_some bytes x h.1)
+      | inl h ↦ inl (same_name q name h.0, same_Some bytes x h.1)
       | inr h ↦ inr h.1
     ]
 
@@ -150,7 +150,7 @@ module _ (M : List ℕ → Type 0) (apart : NoCollision M) where
 pub made_honest : (T : Holdings) (f : Facts) → Sound f → IsGood f → Spelled f → HoldsAll T (blobs_of f) → HonestEntry T (record_entry f)
 made_honest T f sound good spelled h =
     let rest = h.1.1.1 in
-    let later = all_right (HoldsBlob T) (desc_contents f.desc) (given_contents f.answers ++ contents_of (outcome_files f.outcome)) rest in
+    let later = all_back (HoldsBlob T) (desc_contents f.desc) (given_contents f.answers ++ contents_of (outcome_files f.outcome)) rest in
     record {
       desc = f.desc;
       asks = f.paths;
@@ -168,9 +168,9 @@ made_honest T f sound good spelled h =
         }),
       );
       one_each = sound.number;
-      declared = all_left (HoldsBlob T) (desc_contents f.desc) (given_contents f.answers ++ contents_of (outcome_files f.outcome)) rest;
-      answers = all_left (HoldsBlob T) (given_contents f.answers) (contents_of (outcome_files f.outcome)) later;
-      made = all_right (HoldsBlob T) (given_contents f.answers) (contents_of (outcome_files f.outcome)) later;
+      declared = all_front (HoldsBlob T) (desc_contents f.desc) (given_contents f.answers ++ contents_of (outcome_files f.outcome)) rest;
+      answers = all_front (HoldsBlob T) (given_contents f.answers) (contents_of (outcome_files f.outcome)) later;
+      made = all_back (HoldsBlob T) (given_contents f.answers) (contents_of (outcome_files f.outcome)) later;
       outputs = refl;
       run = record { paths_are = sound.run.paths; outcome = sound.run.outcome ∙ good };
     }
@@ -183,7 +183,7 @@ pub entry_honest : (T : Holdings) (f : Facts) → Honest T → Spelled f → Hon
     → Honest (insert T (at_entry (sha256 (answers_text f))) (entry_text (record_entry f)))
 entry_honest T f honest spelled made e h = elim (put_or_old T (at_entry (sha256 (answers_text f))) (entry_text (record_entry f)) (at_entry e.strong) h.0 h.1) [
   | inl k ↦
-      let same : record_entry f ≡ e = same_some (record_entry f) e (sym spelled.entry ∙ ap read_entry_text k.1 ∙ h.2) in
+      let same : record_entry f ≡ e = same_Some (record_entry f) e (sym spelled.entry ∙ ap read_entry_text k.1 ∙ h.2) in
       subst (λ (x : Entry). HonestEntry (insert T (at_entry (sha256 (answers_text f))) (entry_text (record_entry f))) x) same
       (still_honest T (insert T (at_entry (sha256 (answers_text f))) (entry_text (record_entry f)))
       (entry_grows T (sha256 (answers_text f)) (entry_text (record_entry f))) (record_entry f) made)
@@ -240,16 +240,16 @@ after_tail T f list honest spelled entry (a ∷ b ∷ []) p =
 after_tail T f list honest spelled entry (a ∷ b ∷ c ∷ more) p =
     let joined : a ∷ b ∷ c ∷ (more ++ p.rest) ≡ entry_put f ∷ list_put f list ∷ [] = p.joined in absurd cc
 
-pub keeps : (S : Holdings) (f : Facts) → Honest S → Sound f → IsGood f → Spelled f → NoCollision (ComparedInSave S f)
+pub puts_stay_honest : (S : Holdings) (f : Facts) → Honest S → Sound f → IsGood f → Spelled f → NoCollision (ComparedInSave S f)
     → (list : List Selector) (made : List Change) → IsPrefix made (puts_of f list) → Honest (holdings_after S made)
-keeps S f honest sound good spelled apart list made p =
+puts_stay_honest S f honest sound good spelled apart list made p =
     let M : List ℕ → Type 0 = ComparedInSave S f in
     let within : (x : List ℕ) → HoldsBlob S x → M x = λ x h. inl h in
     let met : AllByRecursion M (blobs_of f) = all_has M (blobs_of f) (λ x h. inr h) in
     elim (cut (blobs_of f) (entry_put f ∷ list_put f list ∷ []) made p) [
       | inl h ↦
           subst (λ (cs : List Change). Honest (holdings_after S cs)) (sym h.3)
-          (blobs_honest M apart h.0 (all_left M h.0 h.1 (subst (AllByRecursion M) (sym h.2) met)) S honest within)
+          (blobs_honest M apart h.0 (all_front M h.0 h.1 (subst (AllByRecursion M) (sym h.2) met)) S honest within)
       | inr h ↦
           let T : Holdings = holdings_after S (map blob_put (blobs_of f)) in
           subst (λ (cs : List Change). Honest (holdings_after S cs)) (sym h.1)

@@ -1,12 +1,12 @@
 -- Contents that are met are equal where their digests are, and so is all that names them by digest.
-use Rattle.std.proofs.Common.{◌≡◌, ℕ, List, [], ◌∷◌, ◌++◌, map, refl, ap, ◌∙◌, subst, inl, inr}
+use Rattle.std.proofs.Common.{◌≡◌, ℕ, List, [], ◌∷◌, map, refl, ap, ◌∙◌}
 use Rattle.std.specs.List.{AllByRecursion}
 use Rattle.sha2.specs.Sha256.{sha256}
 use Rattle.bx_tree.specs.Paths.{Atoms}
 use Rattle.bx_tree.specs.Trees.{Files, paths_of}
 use Rattle.bx_tree.specs.declared.file_input.FileInput.TheVariants.{Source}
+use Rattle.bx_tree.proofs.Lists.{all_front, all_back}
 use Rattle.pip_model_types.specs.declared.desc.Desc.{Desc}
-use Rattle.observed.specs.Members.{Has}
 use Rattle.observed.specs.declared.access.Answer.{Answer}
 use Rattle.observed.specs.declared.access.Answer.TheVariants as answers
 use Rattle.tool_text.specs.Reading.{tool_of}
@@ -17,53 +17,25 @@ use Rattle.prints.specs.Strong.{IsAnswerLine, line_of}
 use Rattle.prints.specs.declared.weak_parts.WeakParts.{WeakParts}
 use Rattle.memo_format.specs.Found.{output_lines}
 use Rattle.memo_format.specs.declared.entry.OutputLine.{OutputLine}
-use Rattle.run_record.proofs.Digest.{is_digest}
 use Rattle.run_record.specs.Collisions.{NoCollision, contents_of}
+use Rattle.run_record.proofs.AnswerLines.{is_line}
 use Rattle.two_phase_meaning.specs.Contents.{answer_contents, desc_contents, given_contents}
 use Rattle.pip_model_types.specs.Outputs.{outdir_paths}
 
 -- ## Lists
 
-pub all_has : {X : Type 0} (P : X → Type 0) (xs : List X) → ((x : X) → Has xs x → P x) → AllByRecursion P xs
-all_has P [] h = tt
-all_has P (x ∷ xs) h = (h x (inl refl), all_has P xs (λ y k. h y (inr k)))
-
-pub has_all : {X : Type 0} (P : X → Type 0) (xs : List X) (x : X) → AllByRecursion P xs → Has xs x → P x
-has_all P [] x h k = absurd k
-has_all P (y ∷ ys) x h k = elim k [ inl e ↦ subst P e h.0 | inr r ↦ has_all P ys x h.1 r ]
-
 pub all_map : {X : Type 0} (P Q : X → Type 0) (xs : List X) → ((x : X) → P x → Q x) → AllByRecursion P xs → AllByRecursion Q xs
 all_map P Q [] f h = tt
 all_map P Q (x ∷ xs) f h = (f x h.0, all_map P Q xs f h.1)
-
-pub all_left : {X : Type 0} (P : X → Type 0) (xs ys : List X) → AllByRecursion P (xs ++ ys) → AllByRecursion P xs
-all_left P [] ys h = tt
-all_left P (x ∷ xs) ys h = (h.0, all_left P xs ys h.1)
-
-pub all_right : {X : Type 0} (P : X → Type 0) (xs ys : List X) → AllByRecursion P (xs ++ ys) → AllByRecursion P ys
-all_right P [] ys h = h
-all_right P (x ∷ xs) ys h = all_right P xs ys h.1
-
-pub all_both : {X : Type 0} (P : X → Type 0) (xs ys : List X) → AllByRecursion P xs → AllByRecursion P ys → AllByRecursion P (xs ++ ys)
-all_both P [] ys h k = k
-all_both P (x ∷ xs) ys h k = (h.0, all_both P xs ys h.1 k)
 
 same_pair : {A B : Type 0} (p q : A × B) → p.0 ≡ q.0 → p.1 ≡ q.1 → p ≡ q
 same_pair (a, b) (c, d) e f = cc
 
 -- ## Lines of strong texts are of digests
 
-line_is : (a : Answer) → IsAnswerLine (line_of a)
-line_is answers.Absent = tt
-line_is (answers.Content bytes) = is_digest bytes
-line_is answers.File = tt
-line_is answers.Directory = tt
-line_is (answers.Names names) = is_digest names
-line_is answers.Denied = tt
-
 pub lines_are : (given : List Answer) → AllByRecursion IsAnswerLine (map line_of given)
 lines_are [] = tt
-lines_are (a ∷ rest) = (line_is a, lines_are rest)
+lines_are (a ∷ rest) = (is_line a, lines_are rest)
 
 -- ## What is met
 
@@ -85,8 +57,8 @@ module _ (M : List ℕ → Type 0) (apart : NoCollision M) where
   same_answers (a ∷ as') (b ∷ bs) e h k =
       let first : line_of a ≡ line_of b = cc in
       let rest : map line_of as' ≡ map line_of bs = cc in
-      let here = same_answer a b first (all_left M (answer_contents a) (given_contents as') h) (all_left M (answer_contents b) (given_contents bs) k) in
-      let more = same_answers as' bs rest (all_right M (answer_contents a) (given_contents as') h) (all_right M (answer_contents b) (given_contents bs) k) in
+      let here = same_answer a b first (all_front M (answer_contents a) (given_contents as') h) (all_front M (answer_contents b) (given_contents bs) k) in
+      let more = same_answers as' bs rest (all_back M (answer_contents a) (given_contents as') h) (all_back M (answer_contents b) (given_contents bs) k) in
       ap (λ x. x ∷ as') here ∙ ap (λ xs. b ∷ xs) more
 
   pub same_files : (fs gs : Files) → output_lines fs ≡ output_lines gs → AllByRecursion M (contents_of fs) → AllByRecursion M (contents_of gs) → fs ≡ gs

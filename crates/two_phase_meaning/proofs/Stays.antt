@@ -2,10 +2,12 @@
 use Rattle.std.proofs.Common.{◌≡◌, ℕ, List, [], ◌∷◌, map, Some, refl, sym, ap, ◌∙◌, subst, inl, inr}
 use Rattle.std.specs.FinMap.{get, insert}
 use Rattle.std.specs.List.{AllByRecursion}
+use Rattle.std.proofs.lemmas.Option.{same_Some}
+use Rattle.bx_tree.specs.Members.{Has}
+use Rattle.bx_tree.proofs.Members.{all_has}
 use Rattle.sha2.specs.Sha256.{sha256}
 use Rattle.bx_digest.specs.Digests.{IsDigest}
 use Rattle.pip_model_types.specs.declared.desc.Desc.{Desc}
-use Rattle.observed.specs.Members.{Has}
 use Rattle.observed.specs.Texts.{paths_text}
 use Rattle.observed.specs.declared.ask.Ask.{Ask}
 use Rattle.observed.specs.declared.access.Answer.{Answer}
@@ -25,14 +27,11 @@ use Rattle.content_store.specs.Contents.{blob_put}
 use Rattle.run_record.proofs.Digest.{is_digest}
 use Rattle.run_record.specs.Collisions.{NoCollision, contents_of}
 use Rattle.run_record.specs.Digests.{weak_of}
-use Rattle.two_phase_meaning.specs.Keeping.{ComparedInStay, answers_text, blobs_of, entry_put, list_put, paths_digest, puts_of, record_entry}
+use Rattle.two_phase_meaning.specs.Saving.{ComparedInStay, answers_text, blobs_of, entry_put, list_put, paths_digest, puts_of, record_entry}
 use Rattle.two_phase_meaning.specs.Usable.{AnyUsable, Usable, UsableAt, UsableBy, asked_text}
 use Rattle.two_phase_meaning.proofs.Digests.{entry_no_blob, entry_no_list, list_no_blob, list_no_entry, same_entry_name, same_list_name}
 use Rattle.two_phase_meaning.proofs.Puts.{Grows, blobs_grow, entry_grows, list_grows, still_there}
-use Rattle.two_phase_meaning.proofs.Same.{all_has, all_map, lines_are}
-
-same_some : {X : Type 0} (x y : X) → Some x ≡ Some y → x ≡ y
-same_some x y e = cc
+use Rattle.two_phase_meaning.proofs.Same.{all_map, lines_are}
 
 -- puts of contents leave the lists and entries
 blobs_leave : (xs : List (List ℕ)) (S : Holdings) (q bytes : List ℕ) → ((digest : List ℕ) → q ≡ at_blob digest → ⊥) → get S q ≡ Some bytes
@@ -49,7 +48,7 @@ one_weak d e p q as' bs hp hq same =
     let right : StrongParts = strong_parts (weak_of e) q bs in
     let is_left : IsStrong left = record { weak = is_digest (weak_text (weak_parts d)); paths = hp; lines = lines_are as' } in
     let is_right : IsStrong right = record { weak = is_digest (weak_text (weak_parts e)); paths = hq; lines = lines_are bs } in
-    ap (λ (x : StrongParts). x.weak) (same_some left right (sym (strong_again left is_left) ∙ ap read_strong_text same ∙ strong_again right is_right))
+    ap (λ (x : StrongParts). x.weak) (same_Some left right (sym (strong_again left is_left) ∙ ap read_strong_text same ∙ strong_again right is_right))
 
 -- ## What puts leave at other names
 

@@ -2,4 +2,4 @@ pub mod Contents
 pub mod Honest
 pub mod Usable
 pub mod Compared
-pub mod Keeping
+pub mod Saving

@@ -1,9 +1,9 @@
 //! What holds of all honest stores.
 ghost use Rattle.std.specs.Prelude.{◌≡◌, ◌≢◌, ◌⊎◌, ℕ, IsTrue, List, map};
 ghost use Rattle.std.specs.FinMap.{empty};
+ghost use Rattle.bx_tree.specs.Members.{Has};
 ghost use Rattle.bx_io.specs.Holdings.{Change, Holdings, IsPrefix, holdings_after};
 ghost use Rattle.pip_model_types.specs.declared.desc.Desc.{Desc as AnyDesc};
-ghost use Rattle.observed.specs.Members.{Has};
 ghost use Rattle.observed.specs.declared.ask.Ask.{Ask as AnyAsk};
 ghost use Rattle.observed.specs.declared.access.Answer.{Answer as AnyAnswer};
 ghost use Rattle.memo_format.specs.Entries.{output_paths};
@@ -16,8 +16,8 @@ ghost use Rattle.run_record.specs.Facts.{Facts, Sound};
 ghost use Rattle.two_phase_meaning.specs.Honest.{Honest, IsGoodRun};
 ghost use Rattle.run_record.specs.Collisions.{NoCollision};
 ghost use Rattle.run_record.specs.Digests.{IsReadBack, weak_of};
-ghost use Rattle.two_phase_meaning.specs.Keeping.{ComparedInSave, ComparedInStay, FilesFit, IsGood, Spelled, list_at};
-ghost use Rattle.two_phase_meaning.specs.Keeping.{blobs_of, outcome_files, puts_of, record_entry, record_selector, with_first};
+ghost use Rattle.two_phase_meaning.specs.Saving.{ComparedInSave, ComparedInStay, FilesFit, IsGood, Spelled, list_at};
+ghost use Rattle.two_phase_meaning.specs.Saving.{blobs_of, outcome_files, puts_of, record_entry, record_selector, with_first};
 ghost use Rattle.two_phase_meaning.specs.Compared.{ComparedInRun};
 ghost use Rattle.two_phase_meaning.specs.Usable.{Usable, UsableAt, UsableBy, fits};
 
@@ -29,7 +29,7 @@ pub fn hits()
 {}
 
 /// An honest store stays honest after each of the puts of a record of a success.
-pub fn keeps()
+pub fn puts_stay_honest()
     ensures { (S : Holdings) (f : Facts) → Honest S → Sound f → IsGood f → Spelled f → NoCollision (ComparedInSave S f)
         → (list : List AnySelector) (made : List Change) → IsPrefix made (puts_of f list)
         → Honest (holdings_after S made) }
@@ -46,9 +46,9 @@ pub fn puts_add()
         → HoldsEntry S e ⊎ (e ≡ record_entry f) }
 {}
 
-/// What was kept whole is usable at the record's selector on each view that answers as the record says, where
+/// What was saved whole is usable at the record's selector on each view that answers as the record says, where
 /// its files fit its process.
-pub fn kept()
+pub fn saved_is_usable()
     ensures { (S : Holdings) (f : Facts) → Spelled f → NoCollision (ComparedInSave S f) → FilesFit f
         → (see : AnyAsk → AnyAnswer) → f.answers ≡ map see f.paths
         → UsableAt (holdings_after S (puts_of f (with_first (record_selector f) (list_at S (weak_of f.desc)))))

@@ -1,27 +1,21 @@
 -- What can be produced where no directory is taken.
-use Rattle.std.proofs.Common.{◌≡◌, ℕ, Bool, true, false, not, ◌&&◌, ◌||◌, List, [], ◌∷◌, Option, Some, None, refl, ap, ◌∙◌, inl, inr}
+use Rattle.std.proofs.Common.{◌≡◌, ℕ, Bool, true, false, ◌&&◌, ◌||◌, List, [], Option, Some, None, refl, ap, inl, inr}
 use Rattle.std.specs.Bool.{Decides}
-use Rattle.std.specs.List.{Any, Contains, list_any}
+use Rattle.std.specs.List.{Any, list_any}
 use Rattle.std.specs.Prelude.{◌⊎◌}
 use Rattle.std.proofs.lemmas.Bool.Decides.{Decides-at, Decides-like, Decides-or}
 use Rattle.std.proofs.lemmas.List.Folds.{Any-from_list_any, list_any-from_Any}
-use Rattle.std.proofs.lemmas.Map.Views.{Contains-from_any, list_any-from_Contains}
-use Rattle.bx_tree.specs.Orders.{same_path_decides, same_path_equiv}
-use Rattle.bx_tree.specs.Paths.{Atoms, IsBelow, same_path}
+use Rattle.bx_tree.specs.Orders.{same_path_decides}
+use Rattle.bx_tree.specs.Paths.{Atoms, IsBelow, has_path}
 use Rattle.pip_model_types.specs.declared.outputs.OutDir.{OutDir}
 use Rattle.pip_model_types.specs.declared.pip.PipKind.{PipKind}
 use Rattle.pip_model_types.specs.declared.pip.PipKind.TheVariants.{Process, Copy, Write, Seal}
 use Rattle.pip_model.specs.Edges.{Produces}
-use Rattle.tool_run_writes.proofs.BelowByAtoms.{below_decides}
-use Rattle.tool_run_writes.specs.Below.{is_below}
+use Rattle.bx_tree.proofs.BelowPaths.{below_decides}
+use Rattle.bx_tree.proofs.FoundByTest.{has_path_decides}
+use Rattle.bx_tree.specs.Below.{is_below}
 use Rattle.violations.specs.Producing.{is_unseen_in, produces_unseen}
 use Rattle.pip_model_types.specs.Outputs.{is_console}
-
-pub output_decides : (path : Atoms) (outs : List Atoms) → Decides (list_any (same_path path) outs) (Contains outs path)
-output_decides path outs = (
-  λ e. Contains-from_any {eq = same_path} (λ x y h. (same_path_decides x y).0 h) path outs e,
-  λ h. list_any-from_Contains same_path_equiv path outs h,
-)
 
 any_decides : {X : Type 0} (p : X → Bool) (P : X → Type 0) → ((x : X) → Decides (p x) (P x)) → (xs : List X)
     → Decides (list_any p xs) (Any P xs)
@@ -54,12 +48,12 @@ to_left (inr (inr c)) = inr c
 
 pub produced : (j : ℕ) (path : Atoms) (kind : PipKind) → Decides (produces_unseen [] j path kind) (Produces path kind)
 produced j path (Process d) =
-    let named = list_any (same_path path) d.outs in
+    let named = has_path d.outs path in
     let console = is_console d.console path in
     let below = list_any (is_unseen_in [] j path) d.outdirs in
     Decides-like (named || console || below) to_right to_left
     (Decides-or (named || console) below
-    (Decides-or named console (output_decides path d.outs) (console_decides d.console path))
+    (Decides-or named console (has_path_decides d.outs path) (console_decides d.console path))
     (any_decides (is_unseen_in [] j path) (λ (out : OutDir). IsBelow path out.path) (dir_decides j path) d.outdirs))
 produced j path (Copy d) = same_path_decides d.to path
 produced j path (Write d) = same_path_decides d.to path

@@ -1,16 +1,15 @@
 -- Each pip that can produce a path has an output at the path or at a directory above it.
-use Rattle.std.proofs.Common.{◌≡◌, ℕ, zero, suc, ◌+◌, ◌<◌, ◌==◌, Bool, true, false, not, ◌&&◌, ◌||◌, List, [], ◌∷◌, ◌++◌, length, take, get_or, Option, Some, None, ap, arith, codes, sym, refl, ◌∙◌, inl, inr, ◌⊎◌, option_to_list, subst, length-append}
+use Rattle.std.proofs.Common.{◌≡◌, ℕ, zero, suc, ◌+◌, ◌<◌, ◌==◌, true, false, not, ◌&&◌, ◌||◌, List, [], ◌∷◌, ◌++◌, length, take, get_or, Option, Some, None, ap, arith, codes, sym, refl, ◌∙◌, inl, inr, ◌⊎◌, option_to_list, subst, length-append}
 use Rattle.std.specs.Prelude.{slice_get, Contains}
 use Rattle.std.specs.List.{list_any}
 use Rattle.std.specs.Option.{option_map_or}
 use Rattle.std.specs.Str.{bytes_eq}
-use Rattle.std.proofs.lemmas.Bool.{cases_Bool, cond-true}
+use Rattle.std.proofs.lemmas.Bool.{cases_Bool, cond-true, or_cases, and_parts}
 use Rattle.std.proofs.lemmas.List.{get_or_at, take_at}
 use Rattle.std.proofs.lemmas.List.Elements.{Contains-append_cases, Contains-append_left, Contains-append_right, Contains-push, Contains-push_cases, at_from_Contains}
-use Rattle.std.proofs.lemmas.Map.Views.{Contains-from_any}
 use Rattle.std.proofs.lemmas.Slice.Eq.{bytes_eq-Decides}
 use Rattle.bx_tree.specs.Orders.{same_path_decides}
-use Rattle.bx_tree.specs.Paths.{Atoms, IsBelow, path_text, same_path}
+use Rattle.bx_tree.specs.Paths.{Atoms, IsBelow, has_path, path_text}
 use Rattle.bx_tree.proofs.PathTexts.{prefix_from_below}
 use Rattle.pip_model_types.specs.declared.dir_inputs.DirInput.{DirInput}
 use Rattle.pip_model_types.specs.declared.outputs.OutDir.{OutDir}
@@ -18,9 +17,11 @@ use Rattle.pip_model_types.specs.declared.pip.Pip.{Pip}
 use Rattle.pip_model_types.specs.declared.pip.PipKind.{PipKind}
 use Rattle.pip_model_types.specs.declared.pip.PipKind.TheVariants.{Process, Copy, Write, Seal}
 use Rattle.pip_model.specs.Outputs.{number_at, numbers_at, numbers_from, output_paths}
-use Rattle.tool_run_writes.proofs.BelowByAtoms.{below_decides}
+use Rattle.bx_tree.proofs.BelowPaths.{below_decides}
+use Rattle.bx_tree.proofs.FoundByTest.{has_path_decides}
+use Rattle.bx_tree.specs.Below.{is_below}
 use Rattle.violations.specs.Least.{Covers, CoversAbove, IsAtMost, is_producer}
-use Rattle.violations.specs.Producing.{is_unseen_in, produces_unseen}
+use Rattle.violations.specs.Producing.{is_unseen_in, produces_unseen, takes_dir}
 use Rattle.pip_model_types.specs.Outputs.{is_console, outdir_paths}
 
 none_contained : {X : Type 0} (x : X) → Contains [] x → ⊥
@@ -79,19 +80,11 @@ numbered pips j pip q at c =
 abbrev At : List Atoms → Atoms → Type 0
 At paths path = (q : Atoms) × Contains paths q × ((q ≡ path) ⊎ IsBelow path q)
 
-left_true : (a b : Bool) → (a && b) ≡ true → a ≡ true
-left_true true b e = refl
-left_true false b e = absurd (cc)
-
-right_true : (a b : Bool) → (a && b) ≡ true → b ≡ true
-right_true true b e = e
-right_true false b e = absurd (cc)
-
 dir_at : (dirs : List DirInput) (j : ℕ) (path : Atoms) (outs : List OutDir) → list_any (is_unseen_in dirs j path) outs ≡ true
     → At (outdir_paths outs) path
 dir_at dirs j path [] e = absurd (cc)
 dir_at dirs j path (out ∷ outs) e = elim (cases_Bool (is_unseen_in dirs j path out)) [
-  | inl t ↦ (out.path, first_contained out.path (outdir_paths outs), inr ((below_decides path out.path).0 (left_true _ _ t)))
+  | inl t ↦ (out.path, first_contained out.path (outdir_paths outs), inr ((below_decides path out.path).0 (and_parts (is_below path out.path) (not (takes_dir dirs j out.path)) t).0))
   | inr f ↦
       let rest : list_any (is_unseen_in dirs j path) outs ≡ true = sym (ap (λ b. b || list_any (is_unseen_in dirs j path) outs) f) ∙ e in
       let (q, c, at) = dir_at dirs j path outs rest in
@@ -108,20 +101,16 @@ among_left xs ys path (q, c, at) = (q, Contains-append_left xs ys q c, at)
 among_right : (xs ys : List Atoms) (path : Atoms) → At ys path → At (xs ++ ys) path
 among_right xs ys path (q, c, at) = (q, Contains-append_right xs ys q c, at)
 
-or_cases : (a b : Bool) → (a || b) ≡ true → (a ≡ true) ⊎ (b ≡ true)
-or_cases true b e = inl refl
-or_cases false b e = inr e
-
 output_at : (dirs : List DirInput) (j : ℕ) (path : Atoms) (kind : PipKind) → produces_unseen dirs j path kind ≡ true
     → At (output_paths kind) path
 output_at dirs j path (Process d) e =
     let files = d.outs ++ option_to_list d.console in
-    elim (or_cases (list_any (same_path path) d.outs || is_console d.console path) (list_any (is_unseen_in dirs j path) d.outdirs) e) [
+    elim (or_cases (has_path d.outs path || is_console d.console path) (list_any (is_unseen_in dirs j path) d.outdirs) e) [
       | inl file ↦ among_left files (outdir_paths d.outdirs) path
-          (elim (or_cases (list_any (same_path path) d.outs) (is_console d.console path) file) [
+          (elim (or_cases (has_path d.outs path) (is_console d.console path) file) [
             | inl out ↦ among_left d.outs (option_to_list d.console) path (
               path,
-              Contains-from_any {eq = same_path} (λ x y h. (same_path_decides x y).0 h) path d.outs out,
+              (has_path_decides d.outs path).0 out,
               inl refl,
             )
             | inr said ↦ among_right d.outs (option_to_list d.console) path (console_at d.console path said)
@@ -158,7 +147,7 @@ producer_at : (dirs : List DirInput) (i : ℕ) (path : Atoms) (pips : List Pip) 
     → option_map_or (λ (pip : Pip). not (j == i) && produces_unseen dirs j path pip.kind) o false ≡ true → FoundAt pips path j
 producer_at dirs i path pips j None at e = absurd (cc)
 producer_at dirs i path pips j (Some pip) at e =
-    let right : produces_unseen dirs j path pip.kind ≡ true = right_true (not (j == i)) _ e in
+    let right : produces_unseen dirs j path pip.kind ≡ true = (and_parts (not (j == i)) (produces_unseen dirs j path pip.kind) e).1 in
     let (q, c, is) = output_at dirs j path pip.kind right in
     let found : Contains (numbers_from 0 (path_text q) pips) j = numbered pips j pip q at c in
     elim is [

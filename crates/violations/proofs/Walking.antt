@@ -1,10 +1,11 @@
 -- Walks of edges, found by a search along at most as many edges as there are pips.
-use Rattle.std.proofs.Common.{◌≡◌, ℕ, zero, suc, ◌<◌, ◌≤◌, ◌==◌, Bool, true, false, ◌||◌, List, [], length, get_or, Option, Some, None, refl, subst, arith, inl, inr}
+use Rattle.std.proofs.Common.{◌≡◌, ℕ, zero, suc, ◌<◌, ◌≤◌, ◌==◌, true, ◌||◌, List, [], length, get_or, Option, Some, None, refl, subst, arith, inl, inr}
 use Rattle.std.specs.Bool.{Decides}
-use Rattle.std.specs.Prelude.{◌⊎◌, IsSomeAnd, slice_get}
+use Rattle.std.specs.Prelude.{IsSomeAnd, slice_get}
 use Rattle.std.specs.List.{Contains, list_any}
 use Rattle.std.proofs.lemmas.Bool.Decides.{Decides-eqb}
 use Rattle.std.proofs.lemmas.List.Folds.{Any-from_list_any, list_any-from_Any}
+use Rattle.std.proofs.lemmas.Bool.{or_cases, or_left, or_right}
 use Rattle.pip_model_types.specs.declared.pip.Pip.{Pip}
 use Rattle.pip_model_types.specs.Makers.{IsPipList}
 use Rattle.pip_model.specs.Edges.{Edge, Leads, targets}
@@ -26,25 +27,13 @@ to_edge pips (Some pip) j h = h
 
 -- ## Walks
 
-either : (a b : Bool) → (a || b) ≡ true → (a ≡ true) ⊎ (b ≡ true)
-either true b e = inl refl
-either false b e = inr e
-
-either_left : (a b : Bool) → a ≡ true → (a || b) ≡ true
-either_left true b e = refl
-either_left false b e = cc
-
-either_right : (a b : Bool) → b ≡ true → (a || b) ≡ true
-either_right true b e = refl
-either_right false b e = e
-
 -- what the search finds is a walk
 found_walk : (edges : ℕ) (pips : List Pip) (i k : ℕ) → leads_within edges pips i k ≡ true → Leads pips i k
 found_walk zero pips i k e = cc
 found_walk (suc edges) pips i k e =
     let (at, j, l, is, h) = Any-from_list_any (λ j. j == k || leads_within edges pips j k) (targets_at pips (slice_get pips i)) e in
     let edge : Edge pips i j = edge_to pips (slice_get pips i) j (at, l, is) in
-    elim (either (j == k) (leads_within edges pips j k) h) [
+    elim (or_cases (j == k) (leads_within edges pips j k) h) [
       | inl same ↦ subst (Leads pips i) ((Decides-eqb j k).0 same) (One i j edge)
       | inr more ↦ Step i j k edge (found_walk edges pips j k more)
     ]
@@ -60,12 +49,12 @@ along edges pips i j k edge h =
 walk_found : (pips : List Pip) → IsPipList pips → (i k : ℕ) → Leads pips i k → (edges : ℕ) → i ≤ edges → leads_within edges pips i k ≡ true
 walk_found pips list i k (One a b e) zero l = let back = edge_back pips list a b e in absurd (omega (arith, l, back))
 walk_found pips list i k (One a b e) (suc edges) l =
-    along edges pips a b b e (either_left (b == b) (leads_within edges pips b b) ((Decides-eqb b b).1 refl))
+    along edges pips a b b e (or_left (b == b) (leads_within edges pips b b) ((Decides-eqb b b).1 refl))
 walk_found pips list i k (Step a b c e w) zero l = let back = edge_back pips list a b e in absurd (omega (arith, l, back))
 walk_found pips list i k (Step a b c e w) (suc edges) l =
     let back = edge_back pips list a b e in
     along edges pips a b c e
-    (either_right (b == c) (leads_within edges pips b c) (walk_found pips list b c w edges (omega (arith, l, back))))
+    (or_right (b == c) (leads_within edges pips b c) (walk_found pips list b c w edges (omega (arith, l, back))))
 
 -- a walk begins at a pip of the list
 begins : (pips : List Pip) (i k : ℕ) → Leads pips i k → i < length pips

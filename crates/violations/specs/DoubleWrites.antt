@@ -8,7 +8,7 @@ use Rattle.pip_model_types.specs.declared.outputs.OutDir.{OutDir}
 use Rattle.pip_model_types.specs.declared.pip.Pip.{Pip}
 use Rattle.pip_model_types.specs.declared.pip.PipKind.{PipKind}
 use Rattle.pip_model_types.specs.declared.pip.PipKind.TheVariants.{Process, Copy, Write, Seal}
-use Rattle.tool_run_writes.specs.Below.{is_below}
+use Rattle.bx_tree.specs.Below.{is_below, is_nested}
 use Rattle.violations.specs.Verdicts.{with_pip}
 use Rattle.violations.specs.declared.verdict.Violation.{Violation}
 use Rattle.violations.specs.declared.verdict.ViolationKind.TheVariants as violations
@@ -25,7 +25,7 @@ shared_paths dirs files = filter (is_shared dirs) (paths_of files)
 
 -- whether two paths cannot both be files: they are equal, or one lies below the other
 abbrev pub is_clash : Atoms → Atoms → Bool
-is_clash p q = same_path p q || is_below p q || is_below q p
+is_clash p q = same_path p q || is_nested p q
 
 -- whether a file of the pip, in a directory that it shares, clashes with the path
 abbrev pub has_clash : Atoms → PipKind → Files → Bool

@@ -3,14 +3,14 @@ use Rattle.std.specs.Prelude.{ℕ, ◌+◌, Bool, false, ◌&&◌, ◌||◌, not
 use Rattle.std.specs.Prelude.{List, [], ◌∷◌, Option, Some, None}
 use Rattle.std.specs.List.{list_any}
 use Rattle.std.specs.Option.{option_map_or}
-use Rattle.bx_tree.specs.Paths.{Atoms, same_path}
+use Rattle.bx_tree.specs.Paths.{Atoms, has_path, same_path}
 use Rattle.pip_model_types.specs.declared.dir_inputs.DirInput.{DirInput}
 use Rattle.pip_model_types.specs.declared.dir_inputs.DirInput.TheVariants.{Sealed, Opaque}
 use Rattle.pip_model_types.specs.declared.outputs.OutDir.{OutDir}
 use Rattle.pip_model_types.specs.declared.pip.Pip.{Pip}
 use Rattle.pip_model_types.specs.declared.pip.PipKind.{PipKind}
 use Rattle.pip_model_types.specs.declared.pip.PipKind.TheVariants.{Process, Copy, Write, Seal}
-use Rattle.tool_run_writes.specs.Below.{is_below}
+use Rattle.bx_tree.specs.Below.{is_below}
 use Rattle.pip_model_types.specs.Kinds.{taken_dirs}
 use Rattle.pip_model_types.specs.Outputs.{is_console}
 
@@ -35,7 +35,7 @@ is_unseen_in dirs j path out = is_below path out.path && not (takes_dir dirs j o
 -- by its console file, or by an output directory that is not among them.
 abbrev pub produces_unseen : List DirInput → ℕ → Atoms → PipKind → Bool
 produces_unseen dirs j path (Process d) =
-    list_any (same_path path) d.outs
+    has_path d.outs path
     || is_console d.console path
     || list_any (is_unseen_in dirs j path) d.outdirs
 produces_unseen dirs j path (Copy d) = same_path d.to path

@@ -1,7 +1,6 @@
 //! Writes of two processes in shared directories that clash.
 ghost use Rattle.std.specs.Prelude.{◌≡◌, ◌≤◌, ◌<◌, ◌&&◌, None, IfOk, if◌then◌else◌, length, map, slice_get};
 ghost use Rattle.std.specs.List.{list_any};
-ghost use Rattle.tool_run_writes.specs.Below.{is_below as lies_below};
 ghost use Rattle.violations.specs.Slots.{slot_files};
 ghost use Rattle.pip_model_types.specs.Made.{made_files};
 ghost use Rattle.pip_model_types.specs.declared.made.MadeFile.{MadeFile as AnyFile};
@@ -10,10 +9,9 @@ ghost use Rattle.violations.specs.Verdicts.{with_pip};
 ghost use Rattle.violations.specs.DoubleWrites as double_writes;
 ghost use Rattle.pip_model_types.specs.Kinds.{outdirs_of};
 
-use crate::Memory;
 use crate::classes::with_other;
 use crate::verdict::{DeedKind, Violation, ViolationKind};
-use bx_tree::Path;
+use bx_tree::{Memory, Path};
 use pip_model::{Made, MadeFile, OutDir, Pip, PipKind, Plan, Slot};
 
 fn outdirs_of(kind: &PipKind) -> &[OutDir]
@@ -25,21 +23,14 @@ fn outdirs_of(kind: &PipKind) -> &[OutDir]
     }
 }
 
-// The output directories of the pip with a number.
-fn outdirs_at(pips: &[Pip], pip: u32) -> &[OutDir]
+/// The output directories of the pip with a number, none if there is no such pip.
+pub fn outdirs_at(pips: &[Pip], pip: u32) -> &[OutDir]
     ensures { result.now ≡ double_writes.outdirs_in (slice_get pips.entry.now pip) }
 {
     match pips.get(pip as usize) {
         Some(pip) => outdirs_of(&pip.kind),
         None => &[],
     }
-}
-
-// Whether a path lies strictly below a directory.
-fn is_below(path: &Path, dir: &Path) -> bool
-    ensures { result ≡ lies_below path.now dir.now }
-{
-    path.is_below(dir)
 }
 
 // Whether one of the directories is shared.
@@ -49,19 +40,19 @@ fn shares_any(dirs: &[OutDir]) -> bool
     dirs.iter().any(|dir| dir.shared)
 }
 
-// Whether a path lies strictly below a directory that is shared.
-fn is_shared(dirs: &[OutDir], path: &Path) -> bool
+/// Whether a path lies strictly below one of the directories that is shared.
+pub fn is_shared(dirs: &[OutDir], path: &Path) -> bool
     ensures { result ≡ double_writes.is_shared dirs.now path.now }
 {
     dirs.iter()
-        .any(|dir| dir.shared && is_below(path, &dir.path))
+        .any(|dir| dir.shared && path.is_below(&dir.path))
 }
 
 // Whether two paths cannot both be those of files.
 fn is_clash(p: &Path, q: &Path) -> bool
     ensures { result ≡ double_writes.is_clash p.now q.now }
 {
-    *p == *q || is_below(p, q) || is_below(q, p)
+    *p == *q || p.is_below(q) || q.is_below(p)
 }
 
 // Whether one of the files, in a directory that is shared, clashes with a path.

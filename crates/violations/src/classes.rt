@@ -6,10 +6,9 @@ ghost use Rattle.violations.specs.Verdicts.{alone as lone, with_pip};
 ghost use Rattle.violations.specs.Classes as classes;
 ghost use Rattle.violations.specs.Leading.{leads as walks_lead};
 
-use crate::Memory;
 use crate::producing::least_unseen;
 use crate::verdict::{DeedKind, Violation, ViolationKind};
-use bx_tree::Path;
+use bx_tree::{Memory, Path};
 use observed::{Access, Answer, Ask, AskKind};
 use pip_model::{Plan, Sources};
 

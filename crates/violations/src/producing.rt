@@ -1,24 +1,15 @@
 //! Which pips can produce a path by an output that is no input of a process.
 ghost use Rattle.std.specs.Prelude.{◌≡◌, ◌<◌, ◌&&◌, ◌==◌, IfSome, not, length, slice_get, get_or, take};
 ghost use Rattle.std.specs.List.{list_any};
-ghost use Rattle.bx_tree.specs.Paths.{same_path};
-ghost use Rattle.tool_run_writes.specs.Below.{is_below as lies_below};
 ghost use Rattle.pip_model.specs.Outputs.{numbers_from};
 ghost use Rattle.violations.specs.Least as least;
 ghost use Rattle.violations.specs.Least.{Covers, CoversAbove, Passes, Stays};
 ghost use Rattle.violations.specs.Producing as producing;
 ghost use Rattle.pip_model_types.specs.Kinds.{taken_dirs};
-ghost use Rattle.pip_model_types.specs.Outputs.{is_console};
 
 use bx_tree::Path;
-use pip_model::{DirInput, OutDir, Outputs, Pip, PipKind, Plan};
-
-// Whether a path lies strictly below a directory.
-fn is_below(path: &Path, dir: &Path) -> bool
-    ensures { result ≡ lies_below path.now dir.now }
-{
-    path.is_below(dir)
-}
+use pip_model::{DirInput, OutDir, Pip, PipKind, Plan};
+use pip_model_types::is_console;
 
 fn is_dir_of(pip: u32, path: &Path, dir: &DirInput) -> bool
     ensures { result ≡ producing.is_dir_of pip path.now dir.now }
@@ -38,7 +29,7 @@ fn takes_dir(dirs: &[DirInput], pip: u32, path: &Path) -> bool
 fn is_unseen_in(dirs: &[DirInput], pip: u32, path: &Path, out: &OutDir) -> bool
     ensures { result ≡ producing.is_unseen_in dirs.now pip path.now out.now }
 {
-    is_below(path, &out.path) && !takes_dir(dirs, pip, &out.path)
+    path.is_below(&out.path) && !takes_dir(dirs, pip, &out.path)
 }
 
 fn is_unseen_in_any(dirs: &[DirInput], pip: u32, path: &Path, outs: &[OutDir]) -> bool
@@ -47,28 +38,13 @@ fn is_unseen_in_any(dirs: &[DirInput], pip: u32, path: &Path, outs: &[OutDir]) -
     outs.iter().any(|out| is_unseen_in(dirs, pip, path, out))
 }
 
-fn is_output(outs: &Outputs, path: &Path) -> bool
-    ensures { result ≡ list_any (same_path path.now) outs.now }
-{
-    outs.has(path)
-}
-
-fn is_console(console: &Option<Path>, path: &Path) -> bool
-    ensures { result ≡ is_console console.now path.now }
-{
-    match console {
-        Some(console) => *console == *path,
-        None => false,
-    }
-}
-
 // Whether a pip can produce a path by an output other than these directories.
 fn produces_unseen(dirs: &[DirInput], pip: u32, path: &Path, kind: &PipKind) -> bool
     ensures { result ≡ producing.produces_unseen dirs.now pip path.now kind.now }
 {
     match kind {
         PipKind::Process(process) => {
-            is_output(&process.outs, path)
+            process.outs.has(path)
                 || is_console(&process.console, path)
                 || is_unseen_in_any(dirs, pip, path, process.outdirs.dirs())
         }

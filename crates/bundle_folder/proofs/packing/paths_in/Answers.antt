@@ -2,13 +2,13 @@ use Rattle.std.proofs.Common.{◌≡◌, ◌+◌, ◌++◌, ◌∷◌, List, [],
 use Rattle.std.proofs.lemmas.List.{take_all, take_more}
 use Rattle.std.proofs.lemmas.Result.{err_from_is_err_and}
 use Rattle.bx_tree.specs.Paths.{Atoms}
-use Rattle.bundle_folder.specs.Steps.{AreFilePaths}
+use Rattle.bundle_folder.specs.Steps.{AreEntryPaths}
 use Rattle.bundle_folder.specs.declared.folder.Entry.{Entry}
 use Rattle.bundle_folder.proofs.Held.{no_paths, paths_more}
 use Rattle.bundle_folder.proofs.packing.paths_in.Goals as goal
 
 pub entries-init : goal.entries-init
-entries-init c = subst (λ (ps : List Atoms). AreFilePaths [] ps) (sym c.new-paths.ensures.items) no_paths
+entries-init c = subst (λ (ps : List Atoms). AreEntryPaths [] ps) (sym c.new-paths.ensures.items) no_paths
 
 pub entries-preserved : goal.entries-preserved
 entries-preserved c =
@@ -17,8 +17,8 @@ entries-preserved c =
     let entry = c.entry-item.result in
     let more : take (i + 1) entries ≡ take i entries ++ entry ∷ [] =
     take_more entries i entry c.entries-test.true ∙ ap (λ (e : Entry). take i entries ++ e ∷ []) (sym c.entry-item.is) in
-    subst (λ (ps : List Atoms). AreFilePaths (take (i + 1) entries) ps) (sym c.in_ok-push.ensures.items)
-    (subst (λ (es : List Entry). AreFilePaths es (c.entries.paths.items ++ c.in_ok-path_of.field-0 ∷ [])) (sym more)
+    subst (λ (ps : List Atoms). AreEntryPaths (take (i + 1) entries) ps) (sym c.in_ok-push.ensures.items)
+    (subst (λ (es : List Entry). AreEntryPaths es (c.entries.paths.items ++ c.in_ok-path_of.field-0 ∷ [])) (sym more)
     (paths_more (take i entries) c.entries.paths.items entry c.in_ok-path_of.field-0 c.entries.invariant c.in_ok-path_of.ensures))
 
 pub returns-in_err-path_of : goal.returns-in_err-path_of
@@ -33,5 +33,5 @@ returns-in_err-push c =
 
 pub returns : goal.returns
 returns c =
-    subst (λ (es : List Entry). AreFilePaths es c.entries.paths.items)
+    subst (λ (es : List Entry). AreEntryPaths es c.entries.paths.items)
     (take_all c.entries.entry-index c.args.entries.now c.entries-test.false) c.entries.invariant

@@ -2,7 +2,9 @@ use Rattle.std.proofs.Common.{◌&&◌, ap, sym, ◌∙◌, subst}
 use Rattle.std.specs.List.{AllByRecursion}
 use Rattle.bx_tree.specs.Paths.{IsAtom}
 use Rattle.bx_path.specs.Globbing.{last_is_match}
-use Rattle.bx_path.proofs.LastAtoms.{is_slash, split_whole, split_first, last_after_first}
+use Rattle.bx_path.proofs.LastAtoms.{last_after_first}
+use Rattle.bx_tree.proofs.AtomsBelow.{split_whole, split_first}
+use Rattle.bx_tree.proofs.PathTexts.{is_slash}
 use Rattle.std.specs.List.{slice_split}
 use Rattle.bx_path.proofs.globbing.last_is_match.Goals as goal
 

@@ -4,7 +4,7 @@ use Rattle.std.proofs.lemmas.Bool.{false≢true}
 use Rattle.std.proofs.lemmas.Result.{IfOk-weaker}
 use Rattle.std.proofs.lemmas.Slice.Eq.{bytes_eq-Decides}
 use Rattle.bx_tree.specs.Paths.{IsAtom, path_text}
-use Rattle.bx_path.proofs.StepsOfTexts.{root_from_text, atoms_from_text}
+use Rattle.bx_tree.proofs.PathTexts.{root_from_text, atoms_from_text}
 use Rattle.bx_path.proofs.joining.atoms_of.Goals as goal
 use Rattle.bx_tree.specs.Lent.{texts_now}
 

@@ -5,14 +5,15 @@ use Rattle.std.specs.Str.{bytes_eq}
 use Rattle.std.proofs.lemmas.Bool.{false≢true}
 use Rattle.std.proofs.lemmas.List.{map-append, map_push}
 use Rattle.bx_tree.specs.Paths.{IsAtom}
-use Rattle.bx_path.proofs.StepsOfTexts.{step_none, step_down, prefix_valid}
+use Rattle.bx_path.proofs.StepsOfTexts.{step_none, step_down}
 use Rattle.bx_path.proofs.joining.take_step.Goals as goal
 use Rattle.bx_tree.specs.Lent.{texts_now}
+use Rattle.bx_tree.proofs.Lists.{all_front}
 
 pub returns-in-Some-clause-valid : goal.returns-in-Some-clause-valid
 returns-in-Some-clause-valid c =
     let rest = c.in-Some.ensures.items in
-    prefix_valid IsAtom (texts_now c.pop.new.self.items) _
+    all_front IsAtom (texts_now c.pop.new.self.items) _
     (subst (AllByRecursion IsAtom) (ap texts_now rest ∙ map-append (λ (part : Bor (List ℕ)). part.now) c.pop.new.self.items _) c.requires)
 
 pub returns-then-not-is_atom-clause-bad : goal.returns-then-not-is_atom-clause-bad

@@ -1,4 +1,5 @@
 use Rattle.std.proofs.Common.{◌≡◌, rules, true, false, ap, sym, ◌∙◌}
+use Rattle.dscript_eval_direct.proofs.Steps.{cond_from, chain_from}
 use mir.Syntax.{w32}
 use mir.Val.{to_z, of_z}
 use Rattle.dscript_program.specs.Views.{expr_data}
@@ -9,7 +10,7 @@ use Rattle.dscript_value.specs.Plain as plain
 use Rattle.dscript_sdk_values.specs.Answers.{text_answer}
 use Rattle.dscript_sdk_values.proofs.Views.{plain-Flag, plain-Number, plain-Undefined}
 use Rattle.dscript_eval_frames.specs.Views.{seen}
-use Rattle.dscript_eval_exprs.proofs.Rests.{chain_from, cond_from, list_from, object_from, path_from, postfix_from, rest_as}
+use Rattle.dscript_eval_exprs.proofs.Rests.{list_from, object_from, path_from, postfix_from, rest_as}
 use Rattle.dscript_eval_exprs.proofs.Rests.{template_from, unary_from, value_as}
 use Rattle.dscript_eval_exprs.proofs.exprs.rest.Goals as goal
 

@@ -2,8 +2,8 @@ use Rattle.std.proofs.Common.{◌||◌, arith, ap, sym, ◌∙◌}
 use Rattle.std.specs.List.{list_any}
 use Rattle.std.specs.Vec.Iter.{into_iter_items}
 use Rattle.bx_tree.specs.Paths.{same_path}
+use Rattle.bx_tree.proofs.Lists.{none_left}
 use Rattle.dscript_names.specs.Exports.{seen_in}
-use Rattle.dscript_names.proofs.Listed.{none_left}
 use Rattle.dscript_names.proofs.SeenNames.{all_seen_more}
 use Rattle.dscript_names.proofs.exported.see_all.Goals as goal
 

@@ -1,8 +1,8 @@
 use Rattle.std.proofs.Common.{◌∙◌, Some, ap, cond, length, refl}
 use Rattle.std.specs.List.{list_any}
 use Rattle.bx_tree.specs.Paths.{same_path}
+use Rattle.bx_tree.proofs.Lists.{none_left}
 use Rattle.dscript_names.specs.Owners.{owner_at}
-use Rattle.dscript_names.proofs.Listed.{none_left}
 use Rattle.dscript_names.proofs.Owning.{module_put, owners_all}
 use Rattle.dscript_names.proofs.owners.owners_of.Goals as goal
 

@@ -1,8 +1,9 @@
 use Rattle.std.proofs.Common.{◌<◌, ◌∙◌, ap, arith, drop, get_or, length, map, sym}
 use Rattle.std.specs.Vec.Iter.{into_iter_items}
 use Rattle.std.proofs.lemmas.Result.{err_from_is_err_and}
+use Rattle.bx_tree.proofs.Lists.{none_left}
 use Rattle.dscript_names.specs.Views.{parsed_data}
-use Rattle.dscript_names.proofs.Listed.{length_after, length_before, none_left}
+use Rattle.dscript_names.proofs.Listed.{length_after, length_before}
 use Rattle.dscript_names.proofs.Resolved.{names_split, resolved_all, resolved_first, resolved_more, resolved_stop}
 use Rattle.dscript_names.proofs.resolving.bind.Goals as goal
 

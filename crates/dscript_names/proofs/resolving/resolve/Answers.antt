@@ -1,10 +1,10 @@
 use Rattle.std.proofs.Common.{◌∙◌, [], ap, length, map, sym}
 use Rattle.std.proofs.lemmas.Result.{err_from_is_err_and}
+use Rattle.std.proofs.lemmas.List.{length-map}
 use Rattle.dscript_program.specs.Workspaces.{modules_data, modules_of}
 use Rattle.dscript_names_scopes.specs.Declarations.{names_of}
 use Rattle.dscript_names_scopes.specs.Duplicates.{first_duplicate}
 use Rattle.dscript_names.specs.Views.{parsed_data}
-use Rattle.dscript_names.proofs.Listed.{length_map}
 use Rattle.dscript_names.proofs.Resolved.{named_is, refused_duplicate, resolved}
 use Rattle.dscript_names.proofs.resolving.resolve.Goals as goal
 
@@ -20,7 +20,7 @@ bind-requires c =
     let modules = modules_of c.args.work.now in
     let xs = c.as_slice.result.now in
     ap (λ w. length w.files) c.in_ok-world.ensures ∙ ap length c.in_ok-files.ensures.0
-    ∙ length_map (names_of modules) (map parsed_data xs) ∙ length_map parsed_data xs
+    ∙ length-map (map parsed_data xs) (names_of modules) ∙ length-map xs parsed_data
     ∙ ap length c.as_slice.ensures.value
 
 pub returns : goal.returns

@@ -1,7 +1,7 @@
 use Rattle.std.proofs.Common.{◌≡◌, ◌++◌, map, length}
 use Rattle.dscript_ast.specs.ExprTree.{to_stmts}
 use Rattle.dscript_ast.specs.Views.{stmt_tree}
-use Rattle.dscript_names_binding.specs.Binding.{block_locals}
+use Rattle.dscript_names_scopes.specs.Blocks.{block_locals}
 use Rattle.dscript_names_binding.proofs.locals.block_locals.Given as goal
 
 abbrev pub invariant-stmts : goal.invariant-stmts

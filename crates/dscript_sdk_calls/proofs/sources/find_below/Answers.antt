@@ -4,11 +4,10 @@ use Rattle.std.specs.List.Sorted.{IsPartitionPoint}
 use Rattle.bx_tree.specs.Trees.{IsTree}
 use Rattle.bx_tree.specs.Trees.{paths_of}
 use Rattle.bx_tree.specs.Views.{files_of}
-use Rattle.dscript_sdk_calls.specs.Ranges.{first_below}
 use Rattle.dscript_sdk_calls.specs.Sources.{files_below}
 use Rattle.dscript_sdk_calls.proofs.Together.{all_below}
 use Rattle.dscript_sdk_calls.proofs.sources.find_below.Goals as goal
-use Rattle.bx_tree.specs.Ranges.{comes_before}
+use Rattle.bx_tree.specs.Ranges.{comes_before, first_below}
 
 pub returns : goal.returns
 returns c =

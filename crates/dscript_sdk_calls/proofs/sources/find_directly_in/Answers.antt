@@ -5,7 +5,8 @@ use Rattle.bx_tree.specs.Trees.{IsTree}
 use Rattle.bx_tree.specs.Trees.{paths_of}
 use Rattle.bx_tree.specs.Views.{files_of}
 use Rattle.dscript_sdk_calls.specs.Ranges.{first_directly_in}
-use Rattle.dscript_sdk_calls.specs.Sources.{files_directly_in, lies_directly_in}
+use Rattle.bx_tree.specs.Below.{is_directly_in}
+use Rattle.dscript_sdk_calls.specs.Sources.{files_directly_in}
 use Rattle.dscript_sdk_calls.proofs.Together.{all_below}
 use Rattle.dscript_sdk_calls.proofs.sources.find_directly_in.Goals as goal
 use Rattle.bx_tree.specs.Ranges.{comes_before}
@@ -21,6 +22,6 @@ returns c =
     let rest = take_all (length files - start) (drop start files) (omega (arith, length-drop start files)) in
     subst (λ l. IfOk c.share_first_directly_in.result (λ paths. paths.items ≡ l))
     (ap (λ fs. first_directly_in c.args.dir.now (paths_of (files_of fs))) rest
-    ∙ ap (filter (lies_directly_in c.args.dir.now)) (all_below c.args.dir.now files start c.in_ok-prefix.ensures.is_path tree point)
+    ∙ ap (filter (λ path. is_directly_in path c.args.dir.now)) (all_below c.args.dir.now files start c.in_ok-prefix.ensures.is_path tree point)
     ∙ ap (λ fs. files_directly_in fs c.args.dir.now) c.files-files.ensures.files)
     c.share_first_directly_in.ensures

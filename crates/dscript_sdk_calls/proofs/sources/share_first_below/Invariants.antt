@@ -1,7 +1,7 @@
 use Rattle.std.proofs.Common.{◌≡◌, ◌++◌, drop}
 use Rattle.bx_tree.specs.Trees.{paths_of}
 use Rattle.bx_tree.specs.Views.{files_of}
-use Rattle.dscript_sdk_calls.specs.Ranges.{first_below}
+use Rattle.bx_tree.specs.Ranges.{first_below}
 use Rattle.dscript_sdk_calls.proofs.sources.share_first_below.Given as goal
 
 abbrev pub invariant-files : goal.invariant-files

@@ -1,6 +1,6 @@
 use Rattle.std.proofs.Common.{sym, ◌∙◌}
 use Rattle.pip_model_types.specs.Orders.{outdir_cmp_total}
-use Rattle.dscript_sdk_execute.proofs.Orders.{equal_outdirs}
+use Rattle.pip_model_types.proofs.SetsOf.{equal_outdirs}
 use Rattle.dscript_sdk_execute.proofs.Searches.{there_if_found}
 use Rattle.dscript_sdk_execute.proofs.clashes.has_directory.Goals as goal
 

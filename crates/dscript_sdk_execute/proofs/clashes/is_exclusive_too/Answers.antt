@@ -1,6 +1,6 @@
 use Rattle.std.proofs.Common.{◌↔◌, IsTrue, subst, sym}
 use Rattle.std.specs.List.{Contains}
-use Rattle.dscript_sdk_execute.proofs.FoundByTest.{exclusive_found, none_shared}
+use Rattle.dscript_sdk_execute.proofs.Sharing.{exclusive_found, none_shared}
 use Rattle.dscript_sdk_execute.proofs.clashes.is_exclusive_too.Goals as goal
 
 pub returns-then-not-dir : goal.returns-then-not-dir

@@ -1,5 +1,5 @@
 use Rattle.pip_model_types.specs.Orders.{outdir_cmp_total}
-use Rattle.dscript_sdk_execute.proofs.Orders.{equal_outdirs}
+use Rattle.pip_model_types.proofs.SetsOf.{equal_outdirs}
 use Rattle.dscript_sdk_execute.proofs.Sets.{only_set}
 use Rattle.dscript_sdk_execute.proofs.process.set_of_outdirs.Goals as goal
 

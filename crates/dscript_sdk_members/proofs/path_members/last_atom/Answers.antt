@@ -3,8 +3,7 @@ use Rattle.std.specs.List.{last_or, slice_split}
 use Rattle.std.proofs.lemmas.Bool.{false≢true}
 use Rattle.std.proofs.lemmas.Slice.Eq.{bytes_eq-Decides}
 use Rattle.bx_tree.specs.Paths.{path_text}
-use Rattle.bx_path.proofs.LastAtoms.{is_slash}
-use Rattle.bx_path.proofs.StepsOfTexts.{root_from_text, atoms_from_text}
+use Rattle.bx_tree.proofs.PathTexts.{root_from_text, atoms_from_text, is_slash}
 use Rattle.dscript_sdk_members.proofs.path_members.last_atom.Goals as goal
 
 pub returns-then-eq : goal.returns-then-eq

@@ -1,6 +1,6 @@
 use Rattle.std.proofs.Common.{◌≡◌, None, length}
 use Rattle.std.specs.List.{last_or, slice_split}
-use Rattle.bx_path.proofs.LastAtoms.{is_slash}
+use Rattle.bx_tree.proofs.PathTexts.{is_slash}
 use Rattle.dscript_sdk_members.proofs.path_members.last_part.Given as goal
 
 abbrev pub invariant-parts : goal.invariant-parts

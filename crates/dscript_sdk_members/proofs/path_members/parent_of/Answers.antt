@@ -3,8 +3,9 @@ use Rattle.std.proofs.lemmas.Bool.{false≢true}
 use Rattle.std.proofs.lemmas.Slice.Eq.{bytes_eq-Decides}
 use Rattle.bx_tree.specs.Paths.{path_text}
 use Rattle.bx_path.specs.Joining.{parent}
-use Rattle.bx_path.proofs.StepsOfTexts.{root_from_text}
-use Rattle.dscript_sdk_members.proofs.JoinedPaths.{join_up, parent_there}
+use Rattle.bx_tree.proofs.PathTexts.{root_from_text}
+use Rattle.bx_path.proofs.Ancestors.{join_up}
+use Rattle.dscript_sdk_members.proofs.JoinedPaths.{parent_there}
 use Rattle.dscript_sdk_members.proofs.path_members.parent_of.Goals as goal
 
 pub returns-then-eq : goal.returns-then-eq
@@ -17,4 +18,4 @@ pub returns-in-Err : goal.returns-in-Err
 returns-in-Err c e =
     let some : c.args.path.now ≢ [] =
     λ root. false≢true (sym c.if-eq.false ∙ c.eq.ensures ∙ (bytes_eq-Decides c.text.result.now (codes ".")).1 (c.text.ensures.text ∙ ap path_text root)) in
-    parent_there c.args.path.now some (sym (join_up c.args.path.now c.text.ensures.is_path some) ∙ c.in-Err.ensures e)
+    parent_there c.args.path.now some (sym (join_up c.args.path.now c.text.ensures.is_path) ∙ c.in-Err.ensures e)

@@ -18,7 +18,7 @@ places-preserved c = λ k d l h. elim (cases_lt (k + 1) c.places.place) [
       let path_is = subst (λ n. get_or paths n d ≡ path) (sym here) (at_default paths c.places.place d path c.places-test.true (sym c.index-paths-place.is)) in
       let dir_is = subst (λ n. get_or paths n d ≡ dir) (sym back) (at_default paths (c.places.place - 1) d dir before (sym c.index-paths-place-in-places.is)) in
       let below = subst (λ p. IsBelow p dir) path_is (subst (IsBelow (get_or paths (k + 1) d)) dir_is h) in
-      let t = c.is_below.ensures.1 below in
+      let t = c.is_below.ensures.below.1 below in
       let f = c.if-is_below.false in
       true≢false (sym t ∙ f)
 ]

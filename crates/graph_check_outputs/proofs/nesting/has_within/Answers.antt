@@ -1,5 +1,5 @@
 use Rattle.std.proofs.Common.{[], arith, sym, subst}
-use Rattle.graph_check_outputs.specs.Outputs.{IsWithin}
+use Rattle.bx_tree.specs.Below.{IsAtOrBelow}
 use Rattle.graph_check_outputs.proofs.InTree.{first_tells}
 use Rattle.graph_check_outputs.proofs.nesting.has_within.Goals as goal
 
@@ -19,5 +19,5 @@ returns c =
       λ t. (c.count_before-place.result, path, c.if-place-paths.false, sym c.index-paths-place.is, c.is_within.ensures.0 t),
       λ any.
           let tells = first_tells paths dir c.count_before-place.result path c.requires c.count_before-place.ensures.point any in
-          c.is_within.ensures.1 (subst (λ p. IsWithin p dir) (sym c.index-paths-place.is) tells.1),
+          c.is_within.ensures.1 (subst (λ p. IsAtOrBelow p dir) (sym c.index-paths-place.is) tells.1),
     )

@@ -7,8 +7,8 @@ use Rattle.graph_check_outputs.proofs.Prefixes.{first_from_prefixes, none_of_non
 use Rattle.graph_check_outputs.proofs.Telling.{tells_first}
 use Rattle.graph_check_outputs.proofs.overlap.least_overlap.Goals as goal
 
-pub halves-init : goal.halves-init
-halves-init c =
+pub bounds-init : goal.bounds-init
+bounds-init c =
     let pips = c.args.pips.now in record {
       between = some_pips pips c.requires.overlap;
       within = omega arith;
@@ -19,7 +19,7 @@ halves-init c =
 pub has_overlap-requires : goal.has_overlap-requires
 has_overlap-requires c =
     let pips = c.args.pips.now in
-    let middle = c.halves.apart + (c.halves.overlapping - c.halves.apart) / 2 in record {
+    let middle = c.bounds.apart + (c.bounds.overlapping - c.bounds.apart) / 2 in record {
       claims = claims_of_first pips middle c.args.claims.now c.requires.claims;
       unshared = tells_first pips middle c.args.unshared c.requires.unshared;
     }
@@ -27,6 +27,6 @@ has_overlap-requires c =
 pub returns : goal.returns
 returns c =
     let pips = c.args.pips.now in
-    let next : c.halves.overlapping ≡ c.halves.apart + 1 = omega (arith, c.halves.invariant.between, c.halves-test.false) in
-    first_from_prefixes pips c.halves.apart c.halves.invariant.none
-    (subst (λ (n : ℕ). HasOverlap (take n pips)) next c.halves.invariant.some)
+    let next : c.bounds.overlapping ≡ c.bounds.apart + 1 = omega (arith, c.bounds.invariant.between, c.bounds-test.false) in
+    first_from_prefixes pips c.bounds.apart c.bounds.invariant.none
+    (subst (λ (n : ℕ). HasOverlap (take n pips)) next c.bounds.invariant.some)

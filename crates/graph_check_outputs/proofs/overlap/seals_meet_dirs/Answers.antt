@@ -1,6 +1,6 @@
 use Rattle.std.proofs.Common.{inl, inr, ◌∙◌, List, refl, subst, sym}
 use Rattle.bx_tree.specs.Paths.{Atoms}
-use Rattle.graph_check_outputs.specs.Outputs.{IsWithin}
+use Rattle.bx_tree.specs.Below.{IsAtOrBelow}
 use Rattle.graph_check_outputs.specs.Gathered.{IsListOf}
 use Rattle.graph_check_outputs.specs.Sharing.{declared_dir_paths, full_roots}
 use Rattle.graph_check_outputs.proofs.Overlapping.{SomePair, sealed_from_above, sealed_from_below, sealed_to}
@@ -25,7 +25,7 @@ returns c =
       λ t. sealed_from_above pips c.as_slice-4.result.now c.as_slice-3.result.now dirs_again roots_again (c.any_within-2.ensures.0 t),
       λ h. elim (sealed_to pips c.as_slice.result.now c.as_slice-2.result.now dirs roots h) [
         | inl below ↦ let t = c.any_within.ensures.1 below in let f = c.if-any_within.false in cc
-        | inr above ↦ c.any_within-2.ensures.1 (subst (λ (rs : List Atoms). SomePair IsWithin rs c.as_slice-4.result.now) roots_same
-            (subst (SomePair IsWithin c.as_slice-2.result.now) dirs_same above))
+        | inr above ↦ c.any_within-2.ensures.1 (subst (λ (rs : List Atoms). SomePair IsAtOrBelow rs c.as_slice-4.result.now) roots_same
+            (subst (SomePair IsAtOrBelow c.as_slice-2.result.now) dirs_same above))
       ],
     )

@@ -11,8 +11,8 @@ root_first (x ∷ xs) n = refl
 
 pub returns-in-false-true : goal.returns-in-false-true
 returns-in-false-true c =
-    subst (λ (b : Atoms). Greater ≡ tree_cmp c.args.a.now b) (sym (c.in-false-true.ensures'.0 refl))
-    (root_first c.args.a.now (λ e. let f = c.in-false-true.ensures.1 e in cc))
+    subst (λ (b : Atoms). Greater ≡ tree_cmp c.args.a.now b) (sym (c.in-false-true.ensures'.root.0 refl))
+    (root_first c.args.a.now (λ e. let f = c.in-false-true.ensures.root.1 e in cc))
 
 pub returns-in-false-false : goal.returns-in-false-false
 returns-in-false-false c =
@@ -24,4 +24,4 @@ returns-in-false-false c =
     ∙ ap (λ t. text_order t c.as_bytes-in-false-false.result.now) a_text
     ∙ ap (text_order (path_text a)) b_text
     ∙ by_text a b c.text.ensures.is_path c.text-in-false-false.ensures.is_path
-    (λ e. let f = c.in-false-false.ensures.1 e in cc) (λ e. let f = c.in-false-false.ensures'.1 e in cc)
+    (λ e. let f = c.in-false-false.ensures.root.1 e in cc) (λ e. let f = c.in-false-false.ensures'.root.1 e in cc)

@@ -1,8 +1,8 @@
 use Rattle.std.proofs.Common.{◌≡◌, ◌++◌, ◌∙◌, List, ℕ, codes, map, ap, subst}
 use Rattle.std.specs.List.{AllByRecursion, flat_map}
+use Rattle.std.proofs.lemmas.List.{map-id}
 use Rattle.prints.specs.Parts.{digest_part}
 use Rattle.prints.proofs.Joining.{joined_six}
-use Rattle.prints.proofs.Rising.{map_same}
 use Rattle.memo_format.specs.declared.entry.OutputLine.{OutputLine}
 use Rattle.memo_format.specs.Entries.{IsOutput, entry_text, output_line, paths_line, read_entry_text, strong_line, weak_line}
 use Rattle.memo_format.specs.Seals.{sealed}
@@ -24,7 +24,7 @@ returns-clause-text c =
     c.in_ok-text.ensures.items c.in_ok-append_digest.ensures.text c.in_ok-extend_from_slice.ensures.items c.in_ok-append_digest-2.ensures.text c.in_ok-extend_from_slice-2.ensures.items
     c.in_ok-append_digest-3.ensures.text c.in_ok-append_lines.ensures.text c.in_ok-seal.ensures
     ∙ ap (λ (os : List OutputLine). entry_text (record { weak = c.args.entry.now.weak; paths = c.args.entry.now.paths; strong = c.args.entry.now.strong; outputs = os }))
-    (map_same c.lines.result.now ∙ c.lines.ensures)
+    (map-id c.lines.result.now ∙ c.lines.ensures)
 
 pub returns-clause-read : goal.returns-clause-read
 returns-clause-read c =
@@ -35,12 +35,12 @@ returns-clause-read c =
     c.in_ok-text.ensures.items c.in_ok-append_digest.ensures.text c.in_ok-extend_from_slice.ensures.items c.in_ok-append_digest-2.ensures.text c.in_ok-extend_from_slice-2.ensures.items
     c.in_ok-append_digest-3.ensures.text c.in_ok-append_lines.ensures.text c.in_ok-seal.ensures
     ∙ ap (λ (os : List OutputLine). entry_text (record { weak = c.args.entry.now.weak; paths = c.args.entry.now.paths; strong = c.args.entry.now.strong; outputs = os }))
-    (map_same c.lines.result.now ∙ c.lines.ensures) in
+    (map-id c.lines.result.now ∙ c.lines.ensures) in
     ap read_entry_text text
     ∙ entry_again c.args.entry.now (record {
       weak = c.in_ok-append_digest.ensures.digest;
       paths = c.in_ok-append_digest-2.ensures.digest;
       strong = c.in_ok-append_digest-3.ensures.digest;
-      outputs = subst (AllByRecursion IsOutput) (map_same c.lines.result.now ∙ c.lines.ensures) c.in_ok-append_lines.ensures.fit;
+      outputs = subst (AllByRecursion IsOutput) (map-id c.lines.result.now ∙ c.lines.ensures) c.in_ok-append_lines.ensures.fit;
       order = c.requires;
     })

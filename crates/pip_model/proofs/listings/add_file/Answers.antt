@@ -11,5 +11,5 @@ returns-clause-kept c =
 pub returns-clause-near : goal.returns-clause-near
 returns-clause-near c =
     near_one c.args.file.now c.as_bytes-text.result.now c.args.number c.note.new.self.table
-    (c.as_bytes-text.ensures.value ∙ c.text.ensures.text ∙ ap path_text c.path_of.ensures) c.in_ok-note.ensures.noted
+    (c.as_bytes-text.ensures.value ∙ c.text.ensures.text ∙ ap path_text c.path.ensures) c.in_ok-note.ensures.noted
     (λ dir rest e. c.in_ok-note.ensures.kept dir c.args.number (c.in_ok-add_above.ensures.above dir rest e))

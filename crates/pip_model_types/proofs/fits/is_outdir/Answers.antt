@@ -1,7 +1,7 @@
 use Rattle.std.proofs.Common.{◌≡◌, rules}
 use Rattle.std.proofs.lemmas.Iterator.{cases_from_any, YieldsList-from_slice}
+use Rattle.bx_tree.proofs.AnyElement.{any_or_none}
 use Rattle.pip_model_types.specs.declared.outputs.OutDir.{OutDir}
-use Rattle.pip_model_types.proofs.AnyOf.{any_or_none}
 use Rattle.pip_model_types.proofs.fits.is_outdir.Goals as goal
 
 pub returns : goal.returns

@@ -1,6 +1,6 @@
 use Rattle.std.proofs.Common.{rules}
 use Rattle.std.proofs.lemmas.List.Sorted.{IsPartitionPoint-from_clause}
-use Rattle.pip_view.proofs.Together.{partitioned}
+use Rattle.bx_tree.proofs.SortedRanges.{partitioned}
 use Rattle.pip_view.proofs.below.count_before.Goals as goal
 use Rattle.bx_tree.specs.Ranges.{comes_before}
 

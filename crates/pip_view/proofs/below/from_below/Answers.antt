@@ -1,10 +1,9 @@
 use Rattle.std.proofs.Common.{◌≡◌, ◌-◌, true, false, length, drop, ap, ◌∙◌, subst, arith}
 use Rattle.std.proofs.lemmas.List.{length-drop, take_all}
 use Rattle.std.specs.List.Sorted.{IsPartitionPoint}
-use Rattle.pip_view.specs.Ranges.{first_below}
-use Rattle.pip_view.proofs.Together.{all_below}
+use Rattle.bx_tree.proofs.SortedRanges.{all_below}
 use Rattle.pip_view.proofs.below.from_below.Goals as goal
-use Rattle.bx_tree.specs.Ranges.{comes_before}
+use Rattle.bx_tree.specs.Ranges.{comes_before, first_below}
 
 pub count_before-start-requires : goal.count_before-start-requires
 count_before-start-requires c = c.requires.rising

@@ -1,11 +1,11 @@
 use Rattle.std.proofs.Common.{ap, sym, ◌∙◌}
-use Rattle.pip_view.specs.Ranges.{first_below}
+use Rattle.bx_tree.specs.Ranges.{first_below}
 use Rattle.pip_view.proofs.Together.{none_from_below, some_below}
 use Rattle.pip_view.proofs.below.has_below.Goals as goal
 
 pub returns-in-Some : goal.returns-in-Some
 returns-in-Some c =
-    c.is_below.ensures
+    c.is_below.ensures.value
     ∙ some_below c.args.dir.now c.in-Some.path.now c.in-Some.field-0-1.now c.args.paths.now
     (ap (first_below c.args.dir.now) (sym c.in-Some.ensures.cases.0) ∙ c.in_ok-rest.ensures)
 

@@ -2,7 +2,7 @@ use Rattle.std.proofs.Common.{◌≡◌, ◌-◌, List, ℕ, true, false, length
 use Rattle.std.proofs.lemmas.List.{length-drop, take_all}
 use Rattle.std.specs.List.Sorted.{IsPartitionPoint}
 use Rattle.bx_tree.specs.declared.file_input.FileInput.{FileInput}
-use Rattle.tool_run_writes.specs.Below.{is_below}
+use Rattle.bx_tree.specs.Below.{is_below}
 use Rattle.pip_view.specs.Taken.{while_begins}
 use Rattle.pip_view.proofs.Begun.{begun_have_all}
 use Rattle.pip_view.proofs.file_list.from_prefix.Goals as goal

@@ -1,7 +1,7 @@
 use Rattle.std.proofs.Common.{◌≡◌, ◌++◌, drop}
 use Rattle.std.specs.List.{filter_map}
-use Rattle.tool_run_writes.specs.Below.{next_atom}
-use Rattle.pip_view.specs.Ranges.{first_below}
+use Rattle.bx_tree.specs.Below.{next_atom}
+use Rattle.bx_tree.specs.Ranges.{first_below}
 use Rattle.pip_view.proofs.listing.first_names.Given as goal
 use Rattle.bx_tree.specs.Lent.{texts_now}
 

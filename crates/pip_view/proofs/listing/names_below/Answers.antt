@@ -1,6 +1,6 @@
 use Rattle.std.proofs.Common.{◌≡◌, IfOk, List, ℕ, ap, ◌∙◌, subst}
 use Rattle.std.specs.List.{filter_map}
-use Rattle.tool_run_writes.specs.Below.{next_atom}
+use Rattle.bx_tree.specs.Below.{next_atom}
 use Rattle.pip_view.proofs.Together.{names_filtered}
 use Rattle.pip_view.proofs.listing.names_below.Goals as goal
 use Rattle.bx_tree.specs.Lent.{texts_now}

@@ -7,8 +7,8 @@ use Rattle.bx_tree.specs.Lent.{texts_now}
 pub returns-then-is_below : goal.returns-then-is_below
 returns-then-is_below c =
     subst (λ (ns : List (List ℕ)). OnOk c.add_name.result (texts_now c.add_name.new.names.items ≡ texts_now c.args.names.now.items ++ ns))
-    (name_within c.args.top.now c.args.dir.now (as_taken c.args.file.now) (sym c.is_below.ensures ∙ c.if-is_below.true)) c.add_name.ensures
+    (name_within c.args.top.now c.args.dir.now (as_taken c.args.file.now) (sym c.is_below.ensures.value ∙ c.if-is_below.true)) c.add_name.ensures
 
 pub returns : goal.returns
 returns c =
-    none_within c.args.top.now c.args.dir.now (as_taken c.args.file.now) (texts_now c.args.names.now.items) (sym c.is_below.ensures ∙ c.if-is_below.false)
+    none_within c.args.top.now c.args.dir.now (as_taken c.args.file.now) (texts_now c.args.names.now.items) (sym c.is_below.ensures.value ∙ c.if-is_below.false)

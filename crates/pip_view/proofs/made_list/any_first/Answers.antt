@@ -17,7 +17,7 @@ returns-then-is_below c =
     let at = c.files.file-index in
     any_next c.args.dir.now c.args.prefix.now (all_taken files) at (as_taken c.file-item.result) _ _ (in_taken files at c.files-test.true)
     (at_taken files at c.file-item.result c.files-test.true c.file-item.is) (sym c.begins.ensures ∙ c.if-not-begins.false)
-    (sym c.is_below.ensures ∙ c.if-is_below.true) c.files.invariant
+    (sym c.is_below.ensures.value ∙ c.if-is_below.true) c.files.invariant
 
 pub files-preserved : goal.files-preserved
 files-preserved c =
@@ -25,7 +25,7 @@ files-preserved c =
     let at = c.files.file-index in
     any_next c.args.dir.now c.args.prefix.now (all_taken files) at (as_taken c.file-item.result) _ _ (in_taken files at c.files-test.true)
     (at_taken files at c.file-item.result c.files-test.true c.file-item.is) (sym c.begins.ensures ∙ c.if-not-begins.false)
-    (sym c.is_below.ensures ∙ c.if-is_below.false) c.files.invariant
+    (sym c.is_below.ensures.value ∙ c.if-is_below.false) c.files.invariant
 
 pub returns : goal.returns
 returns c =

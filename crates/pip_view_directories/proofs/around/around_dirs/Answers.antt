@@ -10,7 +10,7 @@ pub returns : goal.returns
 returns c =
     let path = c.args.path.now in
     let text = c.as_bytes.result.now in
-    let some = λ (e : path ≡ []). false≢true (sym c.if-is_root.false ∙ c.is_root.ensures.1 e) in
+    let some = λ (e : path ≡ []). false≢true (sym c.if-is_root.false ∙ c.is_root.ensures.root.1 e) in
     around_found path text c.args.dirs.now c.new-found.result.items c.add_around.new.found.items c.of.result some
     (c.as_bytes.ensures.value ∙ c.text.ensures.text) c.new-found.ensures.items
     (subst (λ (ds : List DirInput). AddsAll ds (IsTextAround text) c.new-found.result.items c.add_around.new.found.items)

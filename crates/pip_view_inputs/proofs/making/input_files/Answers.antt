@@ -1,7 +1,7 @@
 use Rattle.std.proofs.Common.{IfOk, ap, map, subst, ◌∙◌}
 use Rattle.std.specs.List.Sorted.{IsPermutation}
 use Rattle.bx_tree.specs.Trees.{Files}
-use Rattle.tool_run_writes.proofs.SameFiles.{one_made}
+use Rattle.pip_model_types.proofs.SameFiles.{one_made}
 use Rattle.pip_model_types.specs.Made.{made_files}
 use Rattle.pip_view_inputs.specs.Contents.{input_file}
 use Rattle.pip_view_inputs.proofs.TakenFiles.{taken_distinct, taken_rise}

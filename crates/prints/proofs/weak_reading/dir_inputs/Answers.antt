@@ -1,5 +1,5 @@
+use Rattle.bx_tree.proofs.InOrder.{set_same}
 use Rattle.pip_model_types.specs.Orders.{dir_cmp_total}
-use Rattle.prints.proofs.InOrder.{set_same}
 use Rattle.prints.proofs.WeakTexts.{rising_itself}
 use Rattle.prints.proofs.weak_reading.dir_inputs.Goals as goal
 

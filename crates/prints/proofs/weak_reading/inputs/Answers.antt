@@ -5,9 +5,10 @@ use Rattle.bx_tree.specs.Orders.{path_cmp_total}
 use Rattle.bx_tree.specs.declared.file_input.FileInput.{FileInput}
 use Rattle.pip_model_types.specs.Inputs.{RiseByPath}
 use Rattle.prints.specs.ReadWeak.{sources_of}
-use Rattle.prints.proofs.InOrder.{moved_same, rising_distinct, sources_rise}
+use Rattle.prints.proofs.InOrder.{sources_rise}
 use Rattle.prints.proofs.weak_reading.inputs.Goals as goal
 use Rattle.bx_tree.specs.FileInputs.{input_path}
+use Rattle.bx_tree.proofs.InOrder.{moved_same, rising_distinct}
 
 pub of-requires : goal.of-requires
 of-requires c =

@@ -1,5 +1,5 @@
 use Rattle.bx_tree.specs.Orders.{path_cmp_total}
-use Rattle.prints.proofs.InOrder.{set_same}
+use Rattle.bx_tree.proofs.InOrder.{set_same}
 use Rattle.prints.proofs.WeakTexts.{rising_itself}
 use Rattle.prints.proofs.weak_reading.outputs.Goals as goal
 

@@ -17,7 +17,7 @@ returns-then-not-inputs_are_good-clause-decided g c =
     let pips = c.args.frame.now.plan.now.pips in
     decide_skipped pips c.args.frame.now.sources.now c.args.frame.now.plan.now.tool_budget (g.R.KeepReader.held c.args.reader.now) c.args.slots.now c.args.pip
     (slice_get pips c.args.pip) c.plainly.result (pip_there pips c.args.pip c.requires.pip) (sym c.inputs_are_good.ensures ∙ c.if-not-inputs_are_good.true)
-    (ap ended_result c.plainly.ensures.ended ∙ c.skipped.ensures.result) c.plainly.ensures.way c.plainly.ensures.kept
+    (ap ended_result c.plainly.ensures.ended ∙ c.skipped.ensures.result) c.plainly.ensures.way c.plainly.ensures.saved
 
 pub returns-then-not-inputs_are_good-clause-agrees : goal.returns-then-not-inputs_are_good-clause-agrees
 returns-then-not-inputs_are_good-clause-agrees g c = subst Agrees (sym c.plainly.ensures.ended) c.skipped.ensures.agrees
@@ -43,7 +43,7 @@ returns-clause-decided g c =
     (slice_get pips c.args.pip) c.in_ok-inputs.inputs c.plainly-in-None.result (pip_there pips c.args.pip c.requires.pip)
     (sym c.inputs_are_good.ensures ∙ c.if-not-inputs_are_good.false)
     (ap (λ (ps : List Pip). process_in (slice_get ps c.args.pip)) (sym c.pips.ensures.pips) ∙ sym c.in-None.ensures) c.in_ok-inputs.ensures
-    (ap ended_result c.plainly-in-None.ensures.ended ∙ c.in_ok-made_plainly-in-None.ensures.result) c.plainly-in-None.ensures.way c.plainly-in-None.ensures.kept
+    (ap ended_result c.plainly-in-None.ensures.ended ∙ c.in_ok-made_plainly-in-None.ensures.result) c.plainly-in-None.ensures.way c.plainly-in-None.ensures.saved
 
 pub returns-clause-reader : goal.returns-clause-reader
 returns-clause-reader g c = subst (ReadsOn _ _ _ _ _ _) (sym (ap one_fault c.plainly-in-None.ensures.way)) (on_none _ _ _)

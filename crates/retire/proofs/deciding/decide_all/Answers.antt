@@ -10,7 +10,7 @@ use Rattle.one_thread.proofs.Meeting.{kept_apart}
 use Rattle.one_thread.proofs.OneMore.{none_are_kept}
 use Rattle.one_thread.specs.OneThread.{run_count}
 use Rattle.retire.specs.Deciding.{DecidesAt}
-use Rattle.retire.specs.Keeping.{IsSuccess}
+use Rattle.retire.specs.Saving.{IsSuccess}
 use Rattle.retire.specs.Reading.{ReadsOn}
 use Rattle.retire.proofs.Counts.{count_at_most, count_few, counted_at, counted_sum, few_more, good_at, none_counted}
 use Rattle.retire.proofs.Following.{follows_all, follows_as, follows_more, follows_none}
@@ -81,7 +81,7 @@ pips-preserved g c =
           c.pips.invariant.slots_long decides c.pips.invariant.kept);
       few_records =
           let all = ap length c.in_ok-add_record.ensures in
-          let more = few_more c.pips.records.items next.kept n c.pips.invariant.few_records in
+          let more = few_more c.pips.records.items next.saved n c.pips.invariant.few_records in
           omega (arith, all, more);
       good =
           subst (AllByRecursion IsSuccess) (sym c.in_ok-add_record.ensures)

@@ -5,7 +5,7 @@ use Rattle.one_thread.specs.Keeping.{AreKept}
 use Rattle.violations.specs.Slots.{slot_files}
 use Rattle.one_thread.specs.OneThread.{run_count}
 use Rattle.retire.specs.Builds.{IsFair}
-use Rattle.retire.specs.Keeping.{IsSuccess}
+use Rattle.retire.specs.Saving.{IsSuccess}
 use Rattle.retire.specs.Reading.{ReadsOn}
 use Rattle.retire.proofs.Following.{FollowsTo}
 use Rattle.retire.proofs.deciding.decide_all.Given as goal

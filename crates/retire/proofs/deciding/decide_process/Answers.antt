@@ -7,7 +7,7 @@ use Rattle.one_thread.specs.Views.{Agrees, ended_result}
 use Rattle.one_thread.specs.declared.ended.PipResult.{PipResult}
 use Rattle.retire.specs.Counting.{one_fault}
 use Rattle.retire.specs.Reading.{ReadsOn}
-use Rattle.retire.specs.Taking.{kept_if, record_in}
+use Rattle.retire.specs.Taking.{save_if, record_in}
 use Rattle.retire.proofs.Decisions.{decided_by}
 use Rattle.retire.proofs.deciding.decide_process.Goals as goal
 
@@ -18,8 +18,8 @@ returns-clause-decided g c =
     decided_by c.args.frame.now.plan.now.pips c.args.frame.now.sources.now c.args.frame.now.plan.now.tool_budget (g.R.KeepReader.held c.args.reader.now)
     (map slot_files c.args.slots.now) c.args.inputs.now c.args.pip (process_in (slice_get c.args.frame.now.plan.now.pips c.args.pip)) taken c.next_of.result
     c.in_ok-taken.ensures.taken c.in_ok-taken.ensures.now (ap ended_result c.next_of.ensures.ended ∙ c.in_ok-ended.ensures.result) c.next_of.ensures.way
-    (c.next_of.ensures.kept
-    ∙ ap (λ b. kept_if b (record_in taken)) (c.in_ok-ended.ensures.agrees ∙ ap (λ (e : PipResult). is_success e.verdict) (sym c.next_of.ensures.ended)))
+    (c.next_of.ensures.saved
+    ∙ ap (λ b. save_if b (record_in taken)) (c.in_ok-ended.ensures.agrees ∙ ap (λ (e : PipResult). is_success e.verdict) (sym c.next_of.ensures.ended)))
 
 pub returns-clause-agrees : goal.returns-clause-agrees
 returns-clause-agrees g c = subst Agrees (sym c.next_of.ensures.ended) c.in_ok-ended.ensures.agrees

@@ -1,6 +1,6 @@
 use Rattle.std.proofs.Common.{◌∙◌, ap, arith}
 use Rattle.bx_io.specs.Holdings.{held_in}
-use Rattle.retire.proofs.Whole.{all_faults, fair_known, files_are, late_of, leaves_all, leaves_kept, leaves_same, none_put, only_put, placed, spares_more}
+use Rattle.retire.proofs.Whole.{all_faults, fair_known, files_are, late_of, leaves_all, leaves_saved, leaves_same, none_put, only_put, placed, spares_more}
 use Rattle.retire.proofs.retiring.retire_cached.Goals as goal
 
 pub returns-clause-build : goal.returns-clause-build
@@ -46,21 +46,21 @@ pub returns-in_err-failed-clause-left : goal.returns-in_err-failed-clause-left
 returns-in_err-failed-clause-left g c =
     λ before is fair.
     let follows = c.in_ok-decided.ensures.follows before.held (c.in_ok-reader.ensures.held ∙ ap held_in is) fair in
-    leaves_kept c.args.plan.now.pips c.args.sources.now c.args.plan.now.tool_budget before (g.K.Keeper.known c.args.keeper.now) (g.K.Keeper.known c.keep_all.new.keeper)
-    _ _ _ c.as_slice-2.result.now _ _ is follows fair c.as_slice-2.ensures.value c.keep_all.ensures.first
+    leaves_saved c.args.plan.now.pips c.args.sources.now c.args.plan.now.tool_budget before (g.K.Keeper.known c.args.keeper.now) (g.K.Keeper.known c.save_all.new.keeper)
+    _ _ _ c.as_slice-2.result.now _ _ is follows fair c.as_slice-2.ensures.value c.save_all.ensures.first
 
 pub returns-clause-left : goal.returns-clause-left
 returns-clause-left g c =
     λ before is fair.
     let follows = c.in_ok-decided.ensures.follows before.held (c.in_ok-reader.ensures.held ∙ ap held_in is) fair in
-    leaves_kept c.args.plan.now.pips c.args.sources.now c.args.plan.now.tool_budget before (g.K.Keeper.known c.args.keeper.now) (g.K.Keeper.known c.keep_all.new.keeper)
-    _ _ _ c.as_slice-2.result.now _ _ is follows fair c.as_slice-2.ensures.value c.keep_all.ensures.first
+    leaves_saved c.args.plan.now.pips c.args.sources.now c.args.plan.now.tool_budget before (g.K.Keeper.known c.args.keeper.now) (g.K.Keeper.known c.save_all.new.keeper)
+    _ _ _ c.as_slice-2.result.now _ _ is follows fair c.as_slice-2.ensures.value c.save_all.ensures.first
 
 pub returns-clause-usable : goal.returns-clause-usable
 returns-clause-usable g c =
     λ before is fair free none.
     let follows = c.in_ok-decided.ensures.follows before.held (c.in_ok-reader.ensures.held ∙ ap held_in is) fair in
-    leaves_all c.args.plan.now.pips c.args.sources.now c.args.plan.now.tool_budget before (g.K.Keeper.known c.args.keeper.now) (g.K.Keeper.known c.keep_all.new.keeper)
+    leaves_all c.args.plan.now.pips c.args.sources.now c.args.plan.now.tool_budget before (g.K.Keeper.known c.args.keeper.now) (g.K.Keeper.known c.save_all.new.keeper)
     _ _ _ c.as_slice-2.result.now _ _ is follows fair c.as_slice-2.ensures.value c.pips-pips.ensures.list c.requires free (c.in_ok-failed.ensures.all (omega (arith, none)))
 
 pub returns-clause-faults : goal.returns-clause-faults
@@ -88,10 +88,10 @@ returns-in_err-outputs-clause-puts g c = none_put (g.K.Keeper.known c.args.keepe
 
 pub returns-in_err-failed-clause-puts : goal.returns-in_err-failed-clause-puts
 returns-in_err-failed-clause-puts g c =
-    only_put (g.K.Keeper.known c.args.keeper.now) (g.K.Keeper.known c.keep_all.new.keeper) c.in_ok-decided.decided.records.items c.as_slice-2.result.now
-    c.in_ok-decided.ensures.records c.as_slice-2.ensures.value c.keep_all.ensures.first
+    only_put (g.K.Keeper.known c.args.keeper.now) (g.K.Keeper.known c.save_all.new.keeper) c.in_ok-decided.decided.records.items c.as_slice-2.result.now
+    c.in_ok-decided.ensures.records c.as_slice-2.ensures.value c.save_all.ensures.first
 
 pub returns-clause-puts : goal.returns-clause-puts
 returns-clause-puts g c =
-    only_put (g.K.Keeper.known c.args.keeper.now) (g.K.Keeper.known c.keep_all.new.keeper) c.in_ok-decided.decided.records.items c.as_slice-2.result.now
-    c.in_ok-decided.ensures.records c.as_slice-2.ensures.value c.keep_all.ensures.first
+    only_put (g.K.Keeper.known c.args.keeper.now) (g.K.Keeper.known c.save_all.new.keeper) c.in_ok-decided.decided.records.items c.as_slice-2.result.now
+    c.in_ok-decided.ensures.records c.as_slice-2.ensures.value c.save_all.ensures.first

@@ -2,7 +2,7 @@ use Rattle.std.proofs.Common.{◌≡◌, Option, IfOk, codes, subst, sym, ◌∙
 use Rattle.std.proofs.lemmas.Slice.Eq.{bytes_eq-Decides}
 use Rattle.bx_tree.specs.Paths.{Atoms, path_text}
 use Rattle.bx_path.specs.Joining.{join_of}
-use Rattle.bx_path.proofs.StepsOfTexts.{root_from_text}
+use Rattle.bx_tree.proofs.PathTexts.{root_from_text}
 use Rattle.tool_run.proofs.paths.from_dir.Goals as goal
 
 pub returns-then-eq : goal.returns-then-eq

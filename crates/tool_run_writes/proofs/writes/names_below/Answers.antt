@@ -6,7 +6,7 @@ use Rattle.std.specs.Option.{option_copied}
 use Rattle.std.specs.BTreeMap.Range.{range_contains}
 use Rattle.std.proofs.lemmas.Iterator.Consumers.{YieldsList-from_rest, YieldsList-end}
 use Rattle.bx_tree.specs.Paths.{Atoms, path_cmp}
-use Rattle.tool_run_writes.specs.Below.{next_atom}
+use Rattle.bx_tree.specs.Below.{next_atom}
 use Rattle.tool_run_writes.proofs.Bounds.{names_within}
 use Rattle.tool_run_writes.proofs.NextAtoms.{name_added, name_skipped, path_seen}
 use Rattle.tool_run_writes.proofs.writes.names_below.Goals as goal

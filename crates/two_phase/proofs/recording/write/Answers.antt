@@ -1,6 +1,6 @@
 use Rattle.std.proofs.Common.{◌∙◌, ap}
 use Rattle.run_record.specs.declared.outcome.Outcome.{Outcome}
-use Rattle.two_phase_meaning.specs.Keeping.{outcome_files}
+use Rattle.two_phase_meaning.specs.Saving.{outcome_files}
 use Rattle.two_phase.proofs.Recorded.{written_is}
 use Rattle.two_phase.proofs.recording.write.Goals as goal
 

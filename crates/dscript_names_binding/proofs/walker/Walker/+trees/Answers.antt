@@ -2,6 +2,7 @@ use Rattle.std.proofs.Common.{◌≡◌, ℕ, [], Err, Option, map, drop, refl, 
 use Rattle.std.specs.Option.{option_map}
 use Rattle.std.proofs.lemmas.Result.{err_from_is_err_and}
 use Rattle.std.specs.Vec.Iter.{into_iter_items}
+use Rattle.bx_tree.proofs.Lists.{none_left}
 use mir.Syntax.{w32}
 use mir.Val.{to_z, of_z}
 use Rattle.dscript_ast.specs.ExprTree as tree
@@ -10,11 +11,12 @@ use Rattle.dscript_ast.proofs.NodeViews.{part_tree-Member, part_tree-Index, part
 use Rattle.dscript_program.specs.BoundTree as bound
 use Rattle.dscript_program.specs.Views.{expr_data, part_data, prop_data, stmt_data}
 use Rattle.dscript_program.proofs.NodeViews.{part_data-Member, part_data-Index, part_data-Call, prop_data-Named, prop_data-Quoted, prop_data-Short, prop_data-Spread, stmt_data-Const, stmt_data-Let, stmt_data-Assign, stmt_data-If, stmt_data-For, stmt_data-Return, stmt_data-Value, stmt_data-Block, stmt_data-Empty, expr_data-Arrow, expr_data-Cond, expr_data-Chain, expr_data-Unary, expr_data-Number, expr_data-Str, expr_data-True, expr_data-False, expr_data-Undefined, expr_data-Template, expr_data-Path, expr_data-Name, expr_data-List, expr_data-Object}
-use Rattle.dscript_names_binding.specs.Binding.{assigns, bind_else, bind_maybe, bind_parts, block_locals, declared_function, loop_local, params_of, postfix, stmt_locals, with_parts, bind_element, bind_elements, bind_expr, bind_exprs, bind_hole, bind_holes, bind_name, bind_operand, bind_operands, bind_part, bind_prop, bind_props, bind_stmt, bind_stmts}
+use Rattle.dscript_names_scopes.specs.Blocks.{block_locals, stmt_locals}
+use Rattle.dscript_names_binding.specs.Binding.{assigns, bind_else, bind_maybe, bind_parts, declared_function, loop_local, params_of, postfix, with_parts, bind_element, bind_elements, bind_expr, bind_exprs, bind_hole, bind_holes, bind_name, bind_operand, bind_operands, bind_part, bind_prop, bind_props, bind_stmt, bind_stmts}
 use Rattle.dscript_names_binding.specs.Scenes.{boxed_stmt, chain_after, const_after, const_known, for_after, let_after, let_known, dotted_parts, else_data, expr_body, maybe_data, parts_after, parts_data, stmts_body, boxed_data, elements_data, exprs_data, holes_data, operands_data, props_data, site_at, stmts_data, world_at}
 use Rattle.dscript_names_binding.specs.Walk.{function_in, gives, in_turn, next_local, within}
 use Rattle.dscript_names_scopes.specs.declared.found.Found.{Found}
-use Rattle.dscript_names_binding.proofs.Listed.{drop_first, drop_map, drop_none, drop_passed, parts_listed, none_left, exprs_listed, operands_listed, elements_listed, props_listed, holes_listed, stmts_listed}
+use Rattle.dscript_names_binding.proofs.Listed.{drop_first, drop_map, drop_none, drop_passed, parts_listed, exprs_listed, operands_listed, elements_listed, props_listed, holes_listed, stmts_listed}
 use Rattle.dscript_names_binding.proofs.Steps.{out_of_memory, stop_as, turned_at, walked_as, stopped, stop_first, then_walks, turned_done, turned_init, turned_next, turned_stop, walked_at, walked_gives, walked_then, walks_at}
 use Rattle.dscript_names_binding.proofs.Closing.{function_stops, function_walked, opened_as, still_open}
 use Rattle.dscript_names_binding.proofs.Moves.{entered_with, within_stops, within_walked}

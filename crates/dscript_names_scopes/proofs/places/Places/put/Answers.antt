@@ -1,12 +1,12 @@
 use Rattle.std.proofs.Common.{Some, ap, cond, ◌∙◌}
 use Rattle.std.specs.Str.{bytes_eq}
-use Rattle.dscript_names_scopes.proofs.Placed.{text_put}
 use Rattle.dscript_names_scopes.proofs.places.Places.put.Goals as goal
 use Rattle.bx_tree.specs.TextTables.{at_text}
+use Rattle.bx_tree.proofs.TextTables.{text_put}
 
 pub returns : goal.returns
 returns c = λ x.
-    text_put c.in_ok-key.key c.args.self.now.table c.insert.new.self (Some c.args.place)
+    text_put c.in_ok-key.key.items c.args.self.now.table c.insert.new.self (Some c.args.place)
     c.in_ok-insert.ensures.updates x
     ∙ ap (λ k. cond (bytes_eq k x) (Some c.args.place) (at_text c.args.self.now.table x))
     (c.in_ok-key.ensures.items ∙ c.bytes.ensures)

@@ -1,7 +1,7 @@
 use Rattle.std.proofs.Common.{◌<◌, ap, length, subst, sym, ◌∙◌}
 use Rattle.bx_tree.specs.Trees.{paths_of}
 use Rattle.tool_run.specs.NameSets.{names_now}
-use Rattle.pip_view.specs.Ranges.{AreFilePaths}
+use Rattle.bx_tree.specs.Ranges.{AreFilePaths}
 use Rattle.pip_view.specs.Seen.{ViewData}
 use Rattle.pip_view.proofs.FilePaths.{tree_paths}
 use Rattle.pip_view.proofs.Seeing.{names_listed}

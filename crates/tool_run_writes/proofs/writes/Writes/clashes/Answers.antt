@@ -1,7 +1,7 @@
 use Rattle.std.proofs.Common.{◌≡◌, ◌∙◌, ◌||◌, IfOk, Bool, false, ap, sym, subst}
 use Rattle.std.specs.List.{list_any}
 use Rattle.bx_tree.specs.Trees.{Files}
-use Rattle.tool_run_writes.specs.Below.{is_below}
+use Rattle.bx_tree.specs.Below.{is_below}
 use Rattle.tool_run_writes.specs.Writes.{clashes as some_clash}
 use Rattle.tool_run_writes.proofs.DirectorySets.{clash_is}
 use Rattle.tool_run_writes.proofs.Unnested.{known_unclashed}

@@ -5,7 +5,7 @@ use Rattle.std.specs.List.{list_any}
 use Rattle.std.specs.Map.{lookup}
 use Rattle.bx_tree.specs.Paths.{Atoms, path_cmp}
 use Rattle.bx_tree.specs.Trees.{Files}
-use Rattle.tool_run_writes.specs.Below.{is_below}
+use Rattle.bx_tree.specs.Below.{is_below}
 use Rattle.tool_run_writes.proofs.DirectorySets.{file_above}
 use Rattle.tool_run_writes.proofs.writes.Writes.has_file_above.Goals as goal
 

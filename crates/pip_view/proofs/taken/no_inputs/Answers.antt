@@ -1,5 +1,0 @@
-use Rattle.pip_view.proofs.Begun.{no_files_rise}
-use Rattle.pip_view.proofs.taken.no_inputs.Goals as goal
-
-pub returns-clause-rising : goal.returns-clause-rising
-returns-clause-rising c = no_files_rise

@@ -1,5 +1,0 @@
-use Rattle.tool_run_writes.proofs.BelowByAtoms.{below_is}
-use Rattle.tool_run.proofs.paths.is_below.Goals as goal
-
-pub returns : goal.returns
-returns c = below_is c.args.path.now c.args.dir.now c.is_below.result c.is_below.ensures

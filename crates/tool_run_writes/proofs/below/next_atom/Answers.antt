@@ -1,6 +1,0 @@
-use Rattle.std.proofs.Common.{◌∙◌, sym}
-use Rattle.tool_run_writes.proofs.BelowByAtoms.{below_decides}
-use Rattle.tool_run_writes.proofs.below.next_atom.Goals as goal
-
-pub text_below-requires : goal.text_below-requires
-text_below-requires c = (below_decides c.args.path.now c.args.dir.now).0 (sym c.is_below.ensures ∙ c.if-not-is_below.false)
