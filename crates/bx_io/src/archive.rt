@@ -7,7 +7,7 @@ ghost use Rattle.bx_io.specs.Names.{IsName};
 
 use crate::history::{Change, History};
 use crate::holdings::Holdings;
-use std::alloc::{Global, AllocError};
+use std::alloc::{AllocError, Global};
 use std::marker::Model;
 
 /// Holdings with their history.
