@@ -1,18 +1,17 @@
 -- What contracts see of a board, a share and a job, and what a board keeps.
-use Rattle.std.specs.Prelude.{◌≡◌, ◌≢◌, ℕ, ◌+◌, ◌*◌, ◌<◌, ◌≤◌, ◌==◌, Bool, true, false, ◌&&◌, List, [], ◌∷◌, ◌++◌, length, map, set, Option, Some, None, slice_get, is_some}
+use Rattle.std.specs.Prelude.{◌≡◌, ℕ, ◌+◌, ◌*◌, ◌<◌, ◌≤◌, Bool, true, false, List, [], ◌∷◌, ◌++◌, length, set, Option, Some, None}
 use Rattle.bx_tree.specs.Trees.{Files}
-use Rattle.pip_model.specs.Plans.{AreInputs, PlanData}
-use Rattle.pip_view_inputs.specs.Plain.{process_in}
+use Rattle.pip_model.specs.Plans.{PlanData}
 use Rattle.sched_core.specs.Laws.{reached}
 use Rattle.sched_core.specs.Legal.{Legal}
 use Rattle.sched_core.specs.Table.{CoreState, are_settled, next_state, busy_of, node_at, pip_of, state_at}
 use Rattle.sched_core.specs.declared.event.Event.{Event}
 use Rattle.sched_core.specs.declared.event.Event.TheVariants as event
-use Rattle.sched_core.specs.declared.graph.Node.{Node}
 use Rattle.sched_core.specs.declared.state.PipState.{PipState}
 use Rattle.sched_core.specs.declared.state.PipState.TheVariants as state
-use Rattle.sched_board.specs.Slots.{AllFit}
-use Rattle.sched_board.specs.declared.held.Held.{Held}
+use Rattle.sched_board_slots.specs.Graphs.{IsGraphOf}
+use Rattle.sched_board_slots.specs.Slots.{AllFit}
+use Rattle.sched_board_slots.specs.declared.held.Held.{Held}
 
 -- ## What contracts see
 
@@ -22,6 +21,10 @@ pub record BoardData : Type 0 where
   pub core : CoreState
   pub history : List Event
   pub slots : List Held
+
+abbrev pub board_of : PlanData → Files → CoreState → List Event → List Held → BoardData
+board_of plan sources core history slots =
+    record { plan = plan; sources = sources; core = core; history = history; slots = slots }
 
 -- a share: its worker, how many events that made, and whether it is marked
 pub record ShareData : Type 0 where
@@ -46,20 +49,16 @@ one_more share = record share { events = share.events + 1 }
 abbrev pub with_mark : ShareData → ShareData
 with_mark share = record share { marked = true }
 
+abbrev pub with_looked : JobData → Bool → JobData
+with_looked job hit = record job { looked = Some hit }
+
+-- the share of a worker who made no event yet
+abbrev pub new_share : ℕ → ShareData
+new_share worker = record { worker = worker; events = 0; marked = false }
+
 abbrev pub mark_amount : Bool → ℕ
 mark_amount true = 1
 mark_amount false = 0
-
--- ## The graph of a plan
-
--- pip k of the plan is a process, and waits for these pips
-pub record IsNodeOf (plan : PlanData) (k : ℕ) (node : Node) : Type 0 where
-  pub kind : node.is_process ≡ is_some (process_in (slice_get plan.pips k))
-  pub inputs : AreInputs plan.pips k node.inputs
-
-pub record IsGraphOf (plan : PlanData) (nodes : List Node) : Type 0 where
-  pub size : length nodes ≡ length plan.pips
-  pub each : (k : ℕ) → k < length nodes → IsNodeOf plan k (node_at nodes k)
 
 -- ## What a board keeps
 

@@ -1,29 +1,25 @@
 -- What a publication answers, and what it changes.
-use Rattle.std.specs.Prelude.{◌≡◌, ◌≢◌, ℕ, ◌+◌, Bool, true, false, List, map, Option, Some, None, Result, Ok, Err, slice_get, ◌⊎◌}
+use Rattle.std.specs.Prelude.{◌≡◌, ◌≢◌, ◌⊎◌, ℕ, ◌+◌, Bool, true, false, not, List, map, Option, Some, None, Result, Ok, Err, slice_get}
 use Rattle.bx_tree.specs.Trees.{Files}
-use Rattle.observed.specs.declared.ask.Ask.{Ask}
-use Rattle.observed.specs.declared.access.Answer.{Answer}
-use Rattle.pip_model_types.specs.declared.desc.Desc.{Desc}
+use Rattle.pip_model.specs.Plans.{PlanData}
 use Rattle.pip_model_types.specs.declared.pip.ProcessDesc.{ProcessDesc}
 use Rattle.pip_view_inputs.specs.Plain.{process_in}
-use Rattle.run_record.specs.Digests.{digest_of_line, weak_of}
+use Rattle.run_record.specs.Digests.{digest_asked, digest_of_line, weak_of}
 use Rattle.run_record.specs.Matches.{FirstDiffer}
-use Rattle.sha2.specs.Sha256.{sha256}
-use Rattle.memo_format.specs.Found.{output_lines}
+use Rattle.memo_format.specs.Found.{output_lines, outputs_digest}
 use Rattle.sched_core.specs.declared.event.Event.TheVariants as event
 use Rattle.sched_board.specs.Board.{BoardData, CanComplete, ShareData, JobData, filled, one_more}
-use Rattle.sched_board.specs.Slots.{HoldsOwn, own_desc, own_plain, own_view, is_good_held}
-use Rattle.sched_board.specs.Texts.{outputs_text}
-use Rattle.sched_board.specs.declared.held.Held.{Held}
-use Rattle.sched_board.specs.declared.held.Held.TheVariants as held
-use Rattle.sched_board.specs.declared.publish.PublishFault.{PublishFault}
-use Rattle.sched_board.specs.declared.publish.PublishFault.TheVariants as fault
-use Rattle.sched_board.specs.declared.publish.Shown.{Shown}
-use Rattle.sched_board.specs.declared.publish.Shown.TheVariants as shown
+use Rattle.sched_board_slots.specs.Slots.{HoldsOwn, own_desc, own_plain, own_view, is_good_held}
+use Rattle.sched_board_slots.specs.declared.held.Held.{Held}
+use Rattle.sched_board_slots.specs.declared.held.Held.TheVariants as held
+use Rattle.sched_board.specs.declared.answers.PublishFault.{PublishFault}
+use Rattle.sched_board.specs.declared.answers.PublishFault.TheVariants as fault
+use Rattle.sched_board.specs.declared.shown.Shown.{Shown}
+use Rattle.sched_board.specs.declared.shown.Shown.TheVariants as shown
 
 -- the slot that holds what was shown
 abbrev pub slot_of : Shown → Held
-slot_of (shown.Ran record) = held.Ran record
+slot_of (shown.Ran facts) = held.Ran facts
 slot_of (shown.Hit found) = held.Hit found
 slot_of (shown.Plain made) = held.Plain made
 
@@ -33,9 +29,15 @@ fits_job job s = fits_told job.is_process job.looked s
 
 abbrev pub fits_told : Bool → Option Bool → Shown → Bool
 fits_told true (Some true) (shown.Hit found) = true
-fits_told true (Some false) (shown.Ran record) = true
+fits_told true (Some false) (shown.Ran facts) = true
 fits_told false None (shown.Plain made) = true
-fits_told process looked s = false
+fits_told is_process looked s = false
+
+-- what is shown fits the kind of a pip
+abbrev pub fits_kind : Bool → Shown → Bool
+fits_kind is_process (shown.Ran facts) = is_process
+fits_kind is_process (shown.Hit found) = is_process
+fits_kind is_process (shown.Plain made) = not is_process
 
 -- a difference: index 0 is the description or the plain result, and ask number k is k + 1
 pub record Difference : Type 0 where
@@ -50,21 +52,23 @@ DiffersAt weak weak' lines lines' d =
     ((weak ≢ weak') × (d ≡ record { index = 0; held = weak; own = weak' }))
     ⊎ ((weak ≡ weak') × (k : ℕ) × (d.index ≡ k + 1) × FirstDiffer lines lines' k d.held d.own)
 
-abbrev pub ShownDiffers : BoardData → ℕ → Shown → Difference → Option ProcessDesc → Type 0
-ShownDiffers b pip (shown.Ran record) d (Some process) =
-    DiffersAt (weak_of record.desc) (weak_of (own_desc b.plan b.sources b.slots pip process))
-    (map digest_of_line record.answers) (map (λ ask. digest_of_line (own_view b.plan b.sources b.slots pip ask)) record.paths) d
-ShownDiffers b pip (shown.Hit found) d (Some process) =
-    DiffersAt found.entry.weak (weak_of (own_desc b.plan b.sources b.slots pip process))
-    (map digest_of_line found.answers) (map (λ ask. digest_of_line (own_view b.plan b.sources b.slots pip ask)) found.paths) d
-ShownDiffers b pip (shown.Plain made) d None =
-    (output_lines made ≢ output_lines (own_plain b.plan b.sources b.slots pip))
-    × (d ≡ record {
-      index = 0;
-      held = sha256 (outputs_text (output_lines made));
-      own = sha256 (outputs_text (output_lines (own_plain b.plan b.sources b.slots pip)));
-    })
-ShownDiffers b pip s d process = ⊥
+-- What is shown of a pip differs from the board's own here, which is this process or none.
+abbrev pub ShownDiffers : PlanData → Files → List Held → ℕ → Shown → Difference → Option ProcessDesc → Type 0
+ShownDiffers plan tree slots pip (shown.Ran facts) d (Some process) =
+    DiffersAt (weak_of facts.desc) (weak_of (own_desc plan tree slots pip process))
+    (map digest_of_line facts.answers) (map (digest_asked (own_view plan tree slots pip)) facts.paths) d
+ShownDiffers plan tree slots pip (shown.Hit found) d (Some process) =
+    DiffersAt found.entry.weak (weak_of (own_desc plan tree slots pip process))
+    (map digest_of_line found.answers) (map (digest_asked (own_view plan tree slots pip)) found.paths) d
+ShownDiffers plan tree slots pip (shown.Plain made) d None =
+    (output_lines made ≢ output_lines (own_plain plan tree slots pip))
+    × (d ≡ record { index = 0; held = outputs_digest made; own = outputs_digest (own_plain plan tree slots pip) })
+ShownDiffers plan tree slots pip s d process = ⊥
+
+-- What is shown agrees with the board's own, or differs so.
+abbrev pub Compared : PlanData → Files → List Held → ℕ → Shown → Option Difference → Type 0
+Compared plan tree slots pip s None = HoldsOwn plan tree slots pip (is_good_held (slot_of s)) (slot_of s)
+Compared plan tree slots pip s (Some d) = ShownDiffers plan tree slots pip s d (process_in (slice_get plan.pips pip))
 
 -- Published: just what was shown stands in the pip's slot, and the event is made; refused: it differs, at the first place, with
 -- both digests, and nothing changes; or there was no memory, and nothing changes. A refusal hands the job back.
@@ -74,5 +78,5 @@ Publishes b share job s (Ok pip) b' share' =
     × (b' ≡ filled b (event.Publish job.pip share.worker (is_good_held (slot_of s))) (slot_of s))
     × (share' ≡ one_more share) × CanComplete b' share' pip
 Publishes b share job s (Err (fault.Refused job' unlike)) b' share' =
-    (job' ≡ job) × ShownDiffers b job.pip s unlike (process_in (slice_get b.plan.pips job.pip)) × (b' ≡ b) × (share' ≡ share)
+    (job' ≡ job) × ShownDiffers b.plan b.sources b.slots job.pip s unlike (process_in (slice_get b.plan.pips job.pip)) × (b' ≡ b) × (share' ≡ share)
 Publishes b share job s (Err (fault.Memory job')) b' share' = (job' ≡ job) × (b' ≡ b) × (share' ≡ share)

@@ -11,19 +11,19 @@ use Rattle.observed.specs.declared.access.Answer.{Answer}
 use Rattle.pip_view_inputs.specs.Plain.{desc_of, plain_at, process_in}
 use Rattle.pip_view_inputs.specs.Results.{ByPip, inputs_at}
 use Rattle.pip_view.specs.Sees.{sees}
-use Rattle.run_record.specs.Digests.{IsReadBack, digest_of_line, weak_of}
+use Rattle.run_record.specs.Digests.{IsReadBack, digest_asked, digest_of_line, weak_of}
 use Rattle.run_record.specs.Facts.{Facts, Sound}
 use Rattle.run_record.specs.Matches.{Compares}
 use Rattle.run_record.specs.declared.matching.Match.TheVariants as matching
-use Rattle.two_phase_meaning.specs.Keeping.{outcome_files}
+use Rattle.two_phase_meaning.specs.Saving.{outcome_files}
 use Rattle.run_record.specs.declared.outcome.Outcome.{Outcome}
 use Rattle.run_record.specs.declared.outcome.Outcome.TheVariants.{Good, Failed}
 use Rattle.memo_format.specs.Found.{FoundParts, output_lines}
 use Rattle.sched_core.specs.declared.state.PipState.{PipState}
 use Rattle.sched_core.specs.declared.state.PipState.TheVariants as state
 use Rattle.sched_core.specs.Table.{state_at}
-use Rattle.sched_board.specs.declared.held.Held.{Held}
-use Rattle.sched_board.specs.declared.held.Held.TheVariants as held
+use Rattle.sched_board_slots.specs.declared.held.Held.{Held}
+use Rattle.sched_board_slots.specs.declared.held.Held.TheVariants as held
 
 -- ## What slots say
 
@@ -35,10 +35,10 @@ abbrev pub is_good_outcome : Outcome → Bool
 is_good_outcome (Good files) = true
 is_good_outcome (Failed cause) = false
 
--- the files that a pip made whose slot this is
+-- the files that a pip made whose slot this is; one that did not succeed made none
 abbrev pub held_files : Held → Files
 held_files held.Empty = []
-held_files (held.Ran record) = outcome_files record.outcome
+held_files (held.Ran facts) = outcome_files facts.outcome
 held_files (held.Hit found) = found.made
 held_files (held.Plain made) = made
 held_files held.Skipped = []
@@ -46,7 +46,7 @@ held_files held.Skipped = []
 -- whether the slot is that of a pip that succeeded
 abbrev pub is_good_held : Held → Bool
 is_good_held held.Empty = false
-is_good_held (held.Ran record) = is_good_outcome record.outcome
+is_good_held (held.Ran facts) = is_good_outcome facts.outcome
 is_good_held (held.Hit found) = true
 is_good_held (held.Plain made) = true
 is_good_held held.Skipped = false
@@ -73,12 +73,12 @@ own_plain plan tree slots pip = plain_at plan.pips tree (own_inputs plan slots p
 
 -- A record agrees with a process and what it sees: its weak text and the lines of its answers have the same digests.
 abbrev pub RecordAgrees : Desc → (Ask → Answer) → Facts → Type 0
-RecordAgrees desc see record = Compares desc record see matching.Same
+RecordAgrees desc see facts = Compares desc facts see matching.Same
 
 -- What was found agrees: its entry is of the weak text, and the lines of its answers have the same digests.
 abbrev pub FoundAgrees : Desc → (Ask → Answer) → FoundParts → Type 0
 FoundAgrees desc see found =
-    (found.entry.weak ≡ weak_of desc) × (map digest_of_line found.answers ≡ map (λ ask. digest_of_line (see ask)) found.paths)
+    (found.entry.weak ≡ weak_of desc) × (map digest_of_line found.answers ≡ map (digest_asked see) found.paths)
 
 -- Files agree: they have the same paths, and contents of the same digests.
 abbrev pub FilesAgree : Files → Files → Type 0
@@ -89,10 +89,10 @@ FilesAgree files others = output_lines files ≡ output_lines others
 -- A sound record of the process of this pip that agrees with the board's own. The weak texts of both descriptions are read
 -- back as they were written, so that descriptions with one weak text are one.
 abbrev pub IsOwnRecord : PlanData → Files → List Held → ℕ → Facts → Option ProcessDesc → Type 0
-IsOwnRecord plan tree slots pip record None = ⊥
-IsOwnRecord plan tree slots pip record (Some process) =
-    Sound record × IsReadBack record.desc × IsReadBack (own_desc plan tree slots pip process)
-    × RecordAgrees (own_desc plan tree slots pip process) (own_view plan tree slots pip) record
+IsOwnRecord plan tree slots pip facts None = ⊥
+IsOwnRecord plan tree slots pip facts (Some process) =
+    Sound facts × IsReadBack facts.desc × IsReadBack (own_desc plan tree slots pip process)
+    × RecordAgrees (own_desc plan tree slots pip process) (own_view plan tree slots pip) facts
 
 abbrev pub IsOwnFound : PlanData → Files → List Held → ℕ → FoundParts → Option ProcessDesc → Type 0
 IsOwnFound plan tree slots pip found None = ⊥
@@ -107,8 +107,8 @@ IsOwnPlain plan tree slots pip made None = FilesAgree made (own_plain plan tree 
 -- The slot holds a result of the pip, of this goodness, that agrees with the board's own.
 abbrev pub HoldsOwn : PlanData → Files → List Held → ℕ → Bool → Held → Type 0
 HoldsOwn plan tree slots pip good held.Empty = ⊥
-HoldsOwn plan tree slots pip good (held.Ran record) =
-    (is_good_outcome record.outcome ≡ good) × IsOwnRecord plan tree slots pip record (process_in (slice_get plan.pips pip))
+HoldsOwn plan tree slots pip good (held.Ran facts) =
+    (is_good_outcome facts.outcome ≡ good) × IsOwnRecord plan tree slots pip facts (process_in (slice_get plan.pips pip))
 HoldsOwn plan tree slots pip good (held.Hit found) =
     (good ≡ true) × IsOwnFound plan tree slots pip found (process_in (slice_get plan.pips pip))
 HoldsOwn plan tree slots pip good (held.Plain made) =
