@@ -4,12 +4,13 @@ use Rattle.bx_tree.specs.Trees.{Files}
 use Rattle.pip_model.specs.Plans.{PlanData}
 use Rattle.pip_model_types.specs.declared.pip.ProcessDesc.{ProcessDesc}
 use Rattle.pip_view_inputs.specs.Plain.{process_in}
+use Rattle.pip_view_inputs.specs.Results.{ByPip}
 use Rattle.run_record.specs.Digests.{digest_asked, digest_of_line, weak_of}
 use Rattle.run_record.specs.Matches.{FirstDiffer}
 use Rattle.memo_format.specs.Found.{output_lines, outputs_digest}
 use Rattle.sched_core.specs.declared.event.Event.TheVariants as event
 use Rattle.sched_board.specs.Board.{BoardData, CanComplete, ShareData, JobData, filled, one_more}
-use Rattle.sched_board_slots.specs.Slots.{HoldsOwn, own_desc, own_plain, own_view, is_good_held}
+use Rattle.sched_board_slots.specs.Slots.{HoldsOn, HoldsOwn, is_good_held, own_desc, own_inputs, own_plain, own_view}
 use Rattle.sched_board_slots.specs.declared.held.Held.{Held}
 use Rattle.sched_board_slots.specs.declared.held.Held.TheVariants as held
 use Rattle.sched_board.specs.declared.answers.PublishFault.{PublishFault}
@@ -52,23 +53,23 @@ DiffersAt weak weak' lines lines' d =
     ((weak ≢ weak') × (d ≡ record { index = 0; held = weak; own = weak' }))
     ⊎ ((weak ≡ weak') × (k : ℕ) × (d.index ≡ k + 1) × FirstDiffer lines lines' k d.held d.own)
 
--- What is shown of a pip differs from the board's own here, which is this process or none.
-abbrev pub ShownDiffers : PlanData → Files → List Held → ℕ → Shown → Difference → Option ProcessDesc → Type 0
-ShownDiffers plan tree slots pip (shown.Ran facts) d (Some process) =
-    DiffersAt (weak_of facts.desc) (weak_of (own_desc plan tree slots pip process))
-    (map digest_of_line facts.answers) (map (digest_asked (own_view plan tree slots pip)) facts.paths) d
-ShownDiffers plan tree slots pip (shown.Hit found) d (Some process) =
-    DiffersAt found.entry.weak (weak_of (own_desc plan tree slots pip process))
-    (map digest_of_line found.answers) (map (digest_asked (own_view plan tree slots pip)) found.paths) d
-ShownDiffers plan tree slots pip (shown.Plain made) d None =
-    (output_lines made ≢ output_lines (own_plain plan tree slots pip))
-    × (d ≡ record { index = 0; held = outputs_digest made; own = outputs_digest (own_plain plan tree slots pip) })
-ShownDiffers plan tree slots pip s d process = ⊥
+-- What is shown of a pip, whose inputs made these files and which is this process or none, differs from the board's own here.
+abbrev pub ShownDiffers : PlanData → Files → ByPip → ℕ → Shown → Difference → Option ProcessDesc → Type 0
+ShownDiffers plan tree inputs pip (shown.Ran facts) d (Some process) =
+    DiffersAt (weak_of facts.desc) (weak_of (own_desc plan tree inputs process))
+    (map digest_of_line facts.answers) (map (digest_asked (own_view plan tree inputs pip)) facts.paths) d
+ShownDiffers plan tree inputs pip (shown.Hit found) d (Some process) =
+    DiffersAt found.entry.weak (weak_of (own_desc plan tree inputs process))
+    (map digest_of_line found.answers) (map (digest_asked (own_view plan tree inputs pip)) found.paths) d
+ShownDiffers plan tree inputs pip (shown.Plain made) d None =
+    (output_lines made ≢ output_lines (own_plain plan tree inputs pip))
+    × (d ≡ record { index = 0; held = outputs_digest made; own = outputs_digest (own_plain plan tree inputs pip) })
+ShownDiffers plan tree inputs pip s d process = ⊥
 
 -- What is shown agrees with the board's own, or differs so.
-abbrev pub Compared : PlanData → Files → List Held → ℕ → Shown → Option Difference → Type 0
-Compared plan tree slots pip s None = HoldsOwn plan tree slots pip (is_good_held (slot_of s)) (slot_of s)
-Compared plan tree slots pip s (Some d) = ShownDiffers plan tree slots pip s d (process_in (slice_get plan.pips pip))
+abbrev pub Compared : PlanData → Files → ByPip → ℕ → Shown → Option Difference → Type 0
+Compared plan tree inputs pip s None = HoldsOn plan tree inputs pip (is_good_held (slot_of s)) (slot_of s)
+Compared plan tree inputs pip s (Some d) = ShownDiffers plan tree inputs pip s d (process_in (slice_get plan.pips pip))
 
 -- Published: just what was shown stands in the pip's slot, and the event is made; refused: it differs, at the first place, with
 -- both digests, and nothing changes; or there was no memory, and nothing changes. A refusal hands the job back.
@@ -78,5 +79,5 @@ Publishes b share job s (Ok pip) b' share' =
     × (b' ≡ filled b (event.Publish job.pip share.worker (is_good_held (slot_of s))) (slot_of s))
     × (share' ≡ one_more share) × CanComplete b' share' pip
 Publishes b share job s (Err (fault.Refused job' unlike)) b' share' =
-    (job' ≡ job) × ShownDiffers b.plan b.sources b.slots job.pip s unlike (process_in (slice_get b.plan.pips job.pip)) × (b' ≡ b) × (share' ≡ share)
+    (job' ≡ job) × Compared b.plan b.sources (own_inputs b.plan b.slots job.pip) job.pip s (Some unlike) × (b' ≡ b) × (share' ≡ share)
 Publishes b share job s (Err (fault.Memory job')) b' share' = (job' ≡ job) × (b' ≡ b) × (share' ≡ share)

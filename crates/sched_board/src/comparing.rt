@@ -1,11 +1,10 @@
 //! What is shown of a pip against the board's own.
-ghost use Rattle.std.specs.Prelude.{◌≡◌, ◌<◌, ◌↔◌, List, IfOk, IsNone, IsSome, IsTrue, is_some, length, slice_get, true};
+ghost use Rattle.std.specs.Prelude.{◌≡◌, ◌<◌, ◌↔◌, IfOk, IsNone, IsSome, IsTrue, is_some, length, slice_get, true};
 ghost use Rattle.pip_model_types.specs.Made.{made_files};
 ghost use Rattle.memo_format.specs.Found.{output_lines};
 ghost use Rattle.pip_view_inputs.specs.Plain.{process_in};
 ghost use Rattle.sched_board_slots.specs.Slots.{own_inputs};
 ghost use Rattle.sched_board.specs.Publishing.{Compared, fits_kind};
-ghost use Rattle.sched_board_slots.specs.declared.held.Held.{Held as AnyHeld};
 
 use crate::answers::Unlike;
 use crate::shown::Shown;
@@ -47,8 +46,7 @@ fn compare_ran(
 ) -> Result<Option<Unlike>, Memory>
     requires there { pip < length plan.now.pips }
     requires process { IsSome (process_in (slice_get plan.now.pips pip)) }
-    ensures { (slots : List AnyHeld) → inputs.now ≡ own_inputs plan.now slots pip → IfOk result (λ found.
-        Compared plan.now sources.now slots pip (Shown.Ran ran.now) found) }
+    ensures { IfOk result (Compared plan.now sources.now inputs.now pip (Shown.Ran ran.now)) }
 {
     let own = desc(alloc, plan, sources, pip, inputs)?;
     let mut view = PipView::new(alloc, plan, sources, pip, inputs)?;
@@ -72,8 +70,7 @@ fn compare_hit(
 ) -> Result<Option<Unlike>, Memory>
     requires there { pip < length plan.now.pips }
     requires process { IsSome (process_in (slice_get plan.now.pips pip)) }
-    ensures { (slots : List AnyHeld) → inputs.now ≡ own_inputs plan.now slots pip → IfOk result (λ differs.
-        Compared plan.now sources.now slots pip (Shown.Hit found.now) differs) }
+    ensures { IfOk result (Compared plan.now sources.now inputs.now pip (Shown.Hit found.now)) }
 {
     let own = desc(alloc, plan, sources, pip, inputs)?;
     let weak = weak_digest(alloc, &own)?;
@@ -116,8 +113,7 @@ fn compare_plain(
     made: &Made,
 ) -> Result<Option<Unlike>, Memory>
     requires process { IsNone (process_in (slice_get plan.now.pips pip)) }
-    ensures { (slots : List AnyHeld) → inputs.now ≡ own_inputs plan.now slots pip → IfOk result (λ found.
-        Compared plan.now sources.now slots pip (Shown.Plain made.now) found) }
+    ensures { IfOk result (Compared plan.now sources.now inputs.now pip (Shown.Plain made.now)) }
 {
     let own = plain(alloc, plan, sources, pip, inputs)?;
     if are_alike(made.files(), own.files()) {
@@ -140,7 +136,7 @@ pub(crate) fn compare(
     requires there { pip < length plan.now.pips }
     requires size { length slots.now ≡ length plan.now.pips }
     requires kind { fits_kind (is_some (process_in (slice_get plan.now.pips pip))) shown.now ≡ true }
-    ensures { IfOk result (Compared plan.now sources.now slots.now pip shown.now) }
+    ensures { IfOk result (Compared plan.now sources.now (own_inputs plan.now slots.now pip) pip shown.now) }
 {
     let inputs = inputs_of(alloc, plan, slots, pip)?;
     match shown {

@@ -294,15 +294,6 @@ module _ (plan : PlanData) (tree : Files) (core : CoreState) (slots : List Held)
       (λ j h. input_files i j pip at good begun before h)
       ∙ ap (λ (o : Option Pip). kind_inputs plan.pips o (made_by all)) at
 
-  -- what agrees with what the slots give agrees with what the sequential build gives
-  abbrev RecordOn : ByPip → ℕ → ProcessDesc → Facts → Type 0
-  RecordOn inputs i d facts =
-      IsReadBack (desc_of tree inputs plan.tool_budget d) × RecordAgrees (desc_of tree inputs plan.tool_budget d) (sees plan.pips tree inputs i) facts
-
-  abbrev FoundOn : ByPip → ℕ → ProcessDesc → FoundParts → Type 0
-  FoundOn inputs i d found =
-      IsReadBack (desc_of tree inputs plan.tool_budget d) × FoundAgrees (desc_of tree inputs plan.tool_budget d) (sees plan.pips tree inputs i) found
-
   slot_of : (i : ℕ) (h : Held) → slot_at slots i ≡ h → (x : List ℕ) → IsOfSlot h x → M x
   slot_of i h e x k = closing.slot i (subst (λ (s : Held). IsOfSlot s x) (sym e) k)
 
@@ -339,14 +330,14 @@ module _ (plan : PlanData) (tree : Files) (core : CoreState) (slots : List Held)
   by_plain i kind pip held.Empty good o at is slot e inputs going own none plain outcome = absurd own
   by_plain i kind pip (held.Ran facts) good o at is slot e inputs going own none plain outcome =
       let process : process_in (slice_get plan.pips i) ≡ None = ap process_in at ∙ ap kind_process is ∙ none in
-      absurd (subst (λ (p : Option ProcessDesc). IsOwnRecord plan tree slots i facts p) process own.1)
+      absurd (subst (λ (p : Option ProcessDesc). IsOwnRecord plan tree (own_inputs plan slots i) i facts p) process own.1)
   by_plain i kind pip (held.Hit found) good o at is slot e inputs going own none plain outcome =
       let process : process_in (slice_get plan.pips i) ≡ None = ap process_in at ∙ ap kind_process is ∙ none in
-      absurd (subst (λ (p : Option ProcessDesc). IsOwnFound plan tree slots i found p) process own.1)
+      absurd (subst (λ (p : Option ProcessDesc). IsOwnFound plan tree (own_inputs plan slots i) i found p) process own.1)
   by_plain i kind pip (held.Plain made) good o at is slot e inputs going own none plain outcome =
       let process : process_in (slice_get plan.pips i) ≡ None = ap process_in at ∙ ap kind_process is ∙ none in
       let agrees : FilesAgree made (plain_in tree (own_inputs plan slots i) (slice_get plan.pips i)) =
-      subst (λ (p : Option ProcessDesc). IsOwnPlain plan tree slots i made p) process own.1 in
+      subst (λ (p : Option ProcessDesc). IsOwnPlain plan tree (own_inputs plan slots i) i made p) process own.1 in
       same_Some o (Good made) (sym e) ∙ ap Good (own_plain_files i kind pip made at is slot inputs plain going agrees) ∙ sym outcome
   by_plain i kind pip held.Skipped good o at is slot e inputs going own none plain outcome = absurd own
 
@@ -357,23 +348,25 @@ module _ (plan : PlanData) (tree : Files) (core : CoreState) (slots : List Held)
   by_kind i (Process d) pip held.Empty good o at is slot e inputs going own = absurd own
   by_kind i (Process d) pip (held.Ran facts) good o at is slot e inputs going own =
       let process : process_in (slice_get plan.pips i) ≡ Some d = ap process_in at ∙ ap kind_process is in
-      let mine : IsOwnRecord plan tree slots i facts (Some d) = subst (λ (p : Option ProcessDesc). IsOwnRecord plan tree slots i facts p) process own.1 in
-      let on : RecordOn (inputs_after plan.pips (Process d) all) i d facts =
-      subst (λ (ins : ByPip). RecordOn ins i d facts) inputs (mine.2.0, mine.2.1) in
+      let mine : IsOwnRecord plan tree (own_inputs plan slots i) i facts (Some d) =
+      subst (λ (p : Option ProcessDesc). IsOwnRecord plan tree (own_inputs plan slots i) i facts p) process own.1 in
+      let on : IsOwnRecord plan tree (inputs_after plan.pips (Process d) all) i facts (Some d) =
+      subst (λ (ins : ByPip). IsOwnRecord plan tree ins i facts (Some d)) inputs mine in
       same_Some o facts.outcome (sym e)
-      ∙ ran_outcome M apart (sequential_desc plan tree d) (sequential_view plan tree i d) facts mine.0 mine.1 on.0 on.1
+      ∙ ran_outcome M apart (sequential_desc plan tree d) (sequential_view plan tree i d) facts on.0 on.1 on.2.0 on.2.1
       (slot_of i (held.Ran facts) slot) (λ x k. closing.run i pip d at is going k)
   by_kind i (Process d) pip (held.Hit found) good o at is slot e inputs going own =
       let process : process_in (slice_get plan.pips i) ≡ Some d = ap process_in at ∙ ap kind_process is in
-      let mine : IsOwnFound plan tree slots i found (Some d) = subst (λ (p : Option ProcessDesc). IsOwnFound plan tree slots i found p) process own.1 in
-      let on : FoundOn (inputs_after plan.pips (Process d) all) i d found =
-      subst (λ (ins : ByPip). FoundOn ins i d found) inputs (mine.0, mine.1) in
+      let mine : IsOwnFound plan tree (own_inputs plan slots i) i found (Some d) =
+      subst (λ (p : Option ProcessDesc). IsOwnFound plan tree (own_inputs plan slots i) i found p) process own.1 in
+      let on : IsOwnFound plan tree (inputs_after plan.pips (Process d) all) i found (Some d) =
+      subst (λ (ins : ByPip). IsOwnFound plan tree ins i found (Some d)) inputs mine in
       same_Some o (Good found.made) (sym e)
       ∙ hit_outcome M apart S honest (λ x k. closing.build (inl k)) (sequential_desc plan tree d) (sequential_view plan tree i d) found (hits i found slot) on.0 on.1
       (slot_of i (held.Hit found) slot) (λ x k. closing.run i pip d at is going k)
   by_kind i (Process d) pip (held.Plain made) good o at is slot e inputs going own =
       let process : process_in (slice_get plan.pips i) ≡ Some d = ap process_in at ∙ ap kind_process is in
-      absurd (subst (λ (p : Option ProcessDesc). IsOwnPlain plan tree slots i made p) process own.1)
+      absurd (subst (λ (p : Option ProcessDesc). IsOwnPlain plan tree (own_inputs plan slots i) i made p) process own.1)
   by_kind i (Process d) pip held.Skipped good o at is slot e inputs going own = absurd own
   by_kind i (Copy d) pip h good o at is slot e inputs going own = by_plain i (Copy d) pip h good o at is slot e inputs going own refl refl refl
   by_kind i (Write d) pip h good o at is slot e inputs going own = by_plain i (Write d) pip h good o at is slot e inputs going own refl refl refl

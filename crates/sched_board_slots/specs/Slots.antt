@@ -57,17 +57,17 @@ is_good_held held.Skipped = false
 abbrev pub own_inputs : PlanData → List Held → ℕ → ByPip
 own_inputs plan slots pip = inputs_at plan.pips pip (map held_files slots)
 
--- the process that a pip is, with the contents of its files
-abbrev pub own_desc : PlanData → Files → List Held → ℕ → ProcessDesc → Desc
-own_desc plan tree slots pip process = desc_of tree (own_inputs plan slots pip) plan.tool_budget process
+-- the process that a pip is, with the contents of its files, where its inputs made these files
+abbrev pub own_desc : PlanData → Files → ByPip → ProcessDesc → Desc
+own_desc plan tree inputs process = desc_of tree inputs plan.tool_budget process
 
 -- what a process sees
-abbrev pub own_view : PlanData → Files → List Held → ℕ → Ask → Answer
-own_view plan tree slots pip = sees plan.pips tree (own_inputs plan slots pip) pip
+abbrev pub own_view : PlanData → Files → ByPip → ℕ → Ask → Answer
+own_view plan tree inputs pip = sees plan.pips tree inputs pip
 
 -- what a copy, write or seal pip makes
-abbrev pub own_plain : PlanData → Files → List Held → ℕ → Files
-own_plain plan tree slots pip = plain_at plan.pips tree (own_inputs plan slots pip) pip
+abbrev pub own_plain : PlanData → Files → ByPip → ℕ → Files
+own_plain plan tree inputs pip = plain_at plan.pips tree inputs pip
 
 -- ## Agreement by digest
 
@@ -88,32 +88,36 @@ FilesAgree files others = output_lines files ≡ output_lines others
 
 -- A sound record of the process of this pip that agrees with the board's own. The weak texts of both descriptions are read
 -- back as they were written, so that descriptions with one weak text are one.
-abbrev pub IsOwnRecord : PlanData → Files → List Held → ℕ → Facts → Option ProcessDesc → Type 0
-IsOwnRecord plan tree slots pip facts None = ⊥
-IsOwnRecord plan tree slots pip facts (Some process) =
-    Sound facts × IsReadBack facts.desc × IsReadBack (own_desc plan tree slots pip process)
-    × RecordAgrees (own_desc plan tree slots pip process) (own_view plan tree slots pip) facts
+abbrev pub IsOwnRecord : PlanData → Files → ByPip → ℕ → Facts → Option ProcessDesc → Type 0
+IsOwnRecord plan tree inputs pip facts None = ⊥
+IsOwnRecord plan tree inputs pip facts (Some process) =
+    Sound facts × IsReadBack facts.desc × IsReadBack (own_desc plan tree inputs process)
+    × RecordAgrees (own_desc plan tree inputs process) (own_view plan tree inputs pip) facts
 
-abbrev pub IsOwnFound : PlanData → Files → List Held → ℕ → FoundParts → Option ProcessDesc → Type 0
-IsOwnFound plan tree slots pip found None = ⊥
-IsOwnFound plan tree slots pip found (Some process) =
-    IsReadBack (own_desc plan tree slots pip process)
-    × FoundAgrees (own_desc plan tree slots pip process) (own_view plan tree slots pip) found
+abbrev pub IsOwnFound : PlanData → Files → ByPip → ℕ → FoundParts → Option ProcessDesc → Type 0
+IsOwnFound plan tree inputs pip found None = ⊥
+IsOwnFound plan tree inputs pip found (Some process) =
+    IsReadBack (own_desc plan tree inputs process)
+    × FoundAgrees (own_desc plan tree inputs process) (own_view plan tree inputs pip) found
 
-abbrev pub IsOwnPlain : PlanData → Files → List Held → ℕ → Files → Option ProcessDesc → Type 0
-IsOwnPlain plan tree slots pip made (Some process) = ⊥
-IsOwnPlain plan tree slots pip made None = FilesAgree made (own_plain plan tree slots pip)
+abbrev pub IsOwnPlain : PlanData → Files → ByPip → ℕ → Files → Option ProcessDesc → Type 0
+IsOwnPlain plan tree inputs pip made (Some process) = ⊥
+IsOwnPlain plan tree inputs pip made None = FilesAgree made (own_plain plan tree inputs pip)
 
--- The slot holds a result of the pip, of this goodness, that agrees with the board's own.
+-- The slot holds a result of the pip, of this goodness, that agrees with the board's own, where the pip's inputs made these files.
+abbrev pub HoldsOn : PlanData → Files → ByPip → ℕ → Bool → Held → Type 0
+HoldsOn plan tree inputs pip good held.Empty = ⊥
+HoldsOn plan tree inputs pip good (held.Ran facts) =
+    (is_good_outcome facts.outcome ≡ good) × IsOwnRecord plan tree inputs pip facts (process_in (slice_get plan.pips pip))
+HoldsOn plan tree inputs pip good (held.Hit found) =
+    (good ≡ true) × IsOwnFound plan tree inputs pip found (process_in (slice_get plan.pips pip))
+HoldsOn plan tree inputs pip good (held.Plain made) =
+    (good ≡ true) × IsOwnPlain plan tree inputs pip made (process_in (slice_get plan.pips pip))
+HoldsOn plan tree inputs pip good held.Skipped = ⊥
+
+-- the same by the slots of the pip's inputs
 abbrev pub HoldsOwn : PlanData → Files → List Held → ℕ → Bool → Held → Type 0
-HoldsOwn plan tree slots pip good held.Empty = ⊥
-HoldsOwn plan tree slots pip good (held.Ran facts) =
-    (is_good_outcome facts.outcome ≡ good) × IsOwnRecord plan tree slots pip facts (process_in (slice_get plan.pips pip))
-HoldsOwn plan tree slots pip good (held.Hit found) =
-    (good ≡ true) × IsOwnFound plan tree slots pip found (process_in (slice_get plan.pips pip))
-HoldsOwn plan tree slots pip good (held.Plain made) =
-    (good ≡ true) × IsOwnPlain plan tree slots pip made (process_in (slice_get plan.pips pip))
-HoldsOwn plan tree slots pip good held.Skipped = ⊥
+HoldsOwn plan tree slots pip good slot = HoldsOn plan tree (own_inputs plan slots pip) pip good slot
 
 -- The slot of a pip in this state: a result where it is published or done, Skipped where it is skipped, and Empty elsewhere.
 abbrev pub FitsState : PlanData → Files → List Held → ℕ → PipState → Held → Type 0
