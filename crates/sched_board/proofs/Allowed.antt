@@ -1,11 +1,10 @@
 -- What a worker may do with a pip that it holds, by its share and its job.
-use Rattle.std.proofs.Common.{◌≡◌, ℕ, ◌==◌, ◌<◌, Bool, true, false, not, ◌&&◌, ◌||◌, Option, Some, None, is_none, List, refl, ap, sym, ◌∙◌, subst}
-use Rattle.std.specs.Prelude.{slice_get}
+use Rattle.std.proofs.Common.{◌≡◌, ℕ, ◌==◌, Bool, true, false, not, ◌&&◌, Option, Some, None, is_none, refl, ap, sym, ◌∙◌, subst}
 use Rattle.std.proofs.lemmas.Bool.{and_from}
 use Rattle.std.proofs.lemmas.Bool.Decides.{Decides-eqb}
 use Rattle.sched_core.specs.Sound.{IsSound}
-use Rattle.sched_core.specs.States.{holds, is_claimed_by, is_waiting, may_complete, may_look, may_publish, may_publish_looked, may_release}
-use Rattle.sched_core.specs.Table.{CoreState, allows, busy_of, fits_table, has_left, holds_none, may_skip, may_start, node_at, state_after_event, state_at}
+use Rattle.sched_core.specs.States.{holds, is_claimed_by, may_complete, may_look, may_release}
+use Rattle.sched_core.specs.Table.{CoreState, allows, has_left, holds_none, may_skip, may_start, node_at, state_at}
 use Rattle.sched_core.specs.declared.event.Event.TheVariants as event
 use Rattle.sched_core.specs.declared.state.PipState.{PipState}
 use Rattle.sched_core.specs.declared.state.PipState.TheVariants as state

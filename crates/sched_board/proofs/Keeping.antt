@@ -1,6 +1,5 @@
 -- An event that is allowed leaves a board what it keeps.
-use Rattle.std.proofs.Common.{◌≡◌, ◌≢◌, ℕ, ◌+◌, ◌*◌, ◌<◌, ◌≤◌, Bool, true, false, List, [], ◌∷◌, ◌++◌, length, get_or, set, Some, refl, ap, sym, ◌∙◌, subst, inl, inr, arith, length-append, length-set}
-use Rattle.std.specs.List.{list_all}
+use Rattle.std.proofs.Common.{◌≡◌, ◌≢◌, ℕ, ◌+◌, ◌<◌, Bool, true, false, List, [], ◌∷◌, ◌++◌, length, set, refl, ap, sym, ◌∙◌, subst, inl, inr, arith, length-append, length-set}
 use Rattle.std.proofs.lemmas.Bool.{both_ways, cases_Bool, cases_eq, cases_lt}
 use Rattle.std.proofs.lemmas.List.{get_or-set_same, get_or-set_other, get_or_past, set-get_or}
 use Rattle.std.proofs.lemmas.List.Folds.{list_all_at}
@@ -11,10 +10,10 @@ use Rattle.pip_model_types.specs.Makers.{IsPipList}
 use Rattle.pip_model.specs.Plans.{PlanData}
 use Rattle.pip_view_inputs.specs.Results.{ByPip}
 use Rattle.sched_core.specs.Laws.{FewEvents, reached}
-use Rattle.sched_core.specs.Legal.{Legal, initial_state, is_legal, state_after}
+use Rattle.sched_core.specs.Legal.{Legal, initial_state}
 use Rattle.sched_core.specs.Sound.{IsSound}
-use Rattle.sched_core.specs.States.{is_bad, is_begun, is_done_well, is_settled, is_skipped}
-use Rattle.sched_core.specs.Table.{CoreState, all_good, allows, are_settled, left_after, next_state, node_inputs, pip_of, state_after_event, state_at, worker_of}
+use Rattle.sched_core.specs.States.{is_bad, is_begun, is_done_well, is_settled}
+use Rattle.sched_core.specs.Table.{CoreState, allows, are_settled, left_after, next_state, node_inputs, pip_of, state_after_event, state_at}
 use Rattle.sched_core.specs.declared.event.Event.{Event}
 use Rattle.sched_core.specs.declared.event.Event.TheVariants as event
 use Rattle.sched_core.specs.declared.state.PipState.{PipState}
@@ -22,7 +21,7 @@ use Rattle.sched_core.specs.declared.state.PipState.TheVariants as state
 use Rattle.sched_core.proofs.EventLaws.{reaches_sound}
 use Rattle.sched_core.proofs.Histories.{legal_push, state_after-append}
 use Rattle.sched_core.proofs.Places.{state_at-other, state_at-same}
-use Rattle.sched_core.proofs.SoundSteps.{Steps, steps_of}
+use Rattle.sched_core.proofs.SoundSteps.{steps_of}
 use Rattle.sched_board_slots.specs.Graphs.{IsGraphOf}
 use Rattle.sched_board_slots.specs.Slots.{AllFit, FitsState, HoldsOn, own_inputs, slot_at}
 use Rattle.sched_board_slots.specs.declared.held.Held.{Held}

@@ -3,7 +3,7 @@ use Rattle.std.specs.Prelude.{◌≡◌, true, false, None}
 use Rattle.sched_core.specs.Sets.{IsLeast, IsNever}
 use Rattle.sched_core.specs.Table.{are_settled, has_left, is_idle, may_skip, may_start, node_at}
 use Rattle.sched_core.specs.declared.event.Event.TheVariants as event
-use Rattle.sched_board.specs.Board.{BoardData, IsBusy, ShareData, JobData, filled, one_more, stepped, with_mark}
+use Rattle.sched_board.specs.Board.{BoardData, IsBusy, ShareData, filled, one_more, stepped, with_mark}
 use Rattle.sched_board.specs.declared.answers.Claim.{Claim}
 use Rattle.sched_board.specs.declared.answers.Claim.TheVariants as claim
 use Rattle.sched_board_slots.specs.declared.held.Held.TheVariants as held

@@ -1,30 +1,25 @@
 -- Slots that agree with one another hold what the sequential build gives.
-use Rattle.std.proofs.Common.{◌≡◌, ◌≢◌, ◌⊎◌, ℕ, zero, suc, ◌+◌, ◌<◌, ◌≤◌, Bool, true, false, cond, List, [], ◌∷◌, length, map, get_or, take, Option, Some, None, refl, ap, sym, ◌∙◌, subst, inl, inr, arith}
+use Rattle.std.proofs.Common.{◌≡◌, ◌⊎◌, ℕ, zero, suc, ◌+◌, ◌<◌, Bool, true, false, cond, List, [], ◌∷◌, length, map, get_or, take, Option, Some, None, refl, ap, sym, ◌∙◌, subst, inl, inr, arith}
 use Rattle.std.specs.Prelude.{slice_get}
-use Rattle.std.specs.List.{list_all, list_any}
+use Rattle.std.specs.List.{list_any}
 use Rattle.std.proofs.lemmas.Bool.{both_ways, cases_Bool, or_cases}
 use Rattle.std.proofs.lemmas.List.{length-map}
 use Rattle.std.proofs.lemmas.Option.{get_or_from_slice_get, slice_get-get_or, slice_get_within, same_Some}
 use Rattle.bx_tree.specs.Members.{Has}
 use Rattle.bx_tree.specs.Paths.{Atoms}
 use Rattle.bx_tree.specs.Trees.{Files}
-use Rattle.bx_tree.proofs.Members.{none_passes, passes_all}
+use Rattle.bx_tree.proofs.Members.{passes_all}
 use Rattle.bx_io.specs.Holdings.{Holdings}
 use Rattle.pip_model_types.specs.Makers.{IsPipList}
-use Rattle.pip_model_types.specs.declared.desc.Desc.{Desc}
 use Rattle.pip_model_types.specs.declared.pip.Pip.{Pip}
 use Rattle.pip_model_types.specs.declared.pip.PipKind.{PipKind}
 use Rattle.pip_model_types.specs.declared.pip.PipKind.TheVariants.{Process, Copy, Write, Seal}
 use Rattle.pip_model_types.specs.declared.pip.ProcessDesc.{ProcessDesc}
 use Rattle.pip_model.specs.Edges.{targets}
 use Rattle.pip_model.specs.Plans.{PlanData}
-use Rattle.pip_view_inputs.specs.Plain.{desc_of, kind_process, plain_in, plain_of, process_in}
+use Rattle.pip_view_inputs.specs.Plain.{kind_process, plain_in, plain_of, process_in}
 use Rattle.pip_view_inputs.specs.Results.{ByPip, kind_inputs}
-use Rattle.pip_view.specs.Sees.{sees}
-use Rattle.memo_format.specs.Found.{FoundParts}
 use Rattle.run_record.specs.Collisions.{NoCollision, contents_of}
-use Rattle.run_record.specs.Digests.{IsReadBack}
-use Rattle.run_record.specs.Facts.{Facts, Sound}
 use Rattle.run_record.specs.declared.outcome.Cause.{Cause}
 use Rattle.run_record.specs.declared.outcome.Cause.TheVariants as causes
 use Rattle.run_record.specs.declared.outcome.Outcome.{Outcome}
@@ -33,26 +28,26 @@ use Rattle.two_phase_meaning.specs.Honest.{Honest}
 use Rattle.two_phase_meaning.specs.Saving.{outcome_files}
 use Rattle.violations.specs.Classes.{class_of}
 use Rattle.violations.specs.DoubleWrites.{clash_at, first_clash, least_clash, or_next, outdirs_in, shared_paths}
-use Rattle.violations.specs.Verdicts.{is_skip, is_success, with_pip}
+use Rattle.violations.specs.Verdicts.{is_success, with_pip}
 use Rattle.violations.specs.declared.verdict.DeedKind.TheVariants as deeds
 use Rattle.violations.specs.declared.verdict.Verdict.TheVariants as verdicts
 use Rattle.violations.specs.declared.verdict.Violation.{Violation}
 use Rattle.violations.specs.declared.verdict.ViolationKind.TheVariants as violations
-use Rattle.one_thread.specs.OneThread.{Result, by_cause, by_outcome, failed, inputs_are_good, is_good, made_by, process_outcome, result_of, succeeded, unless_clash, violated, worked}
+use Rattle.one_thread.specs.OneThread.{Result, by_cause, by_outcome, failed, inputs_are_good, is_good, made_by, result_of, succeeded, unless_clash, violated, worked}
 use Rattle.one_thread.proofs.EachResult.{number_of_results, result_of_all}
 use Rattle.retire_compared.specs.Compared.{inputs_after}
 use Rattle.sched_core.specs.Sound.{IsSound}
 use Rattle.sched_core.specs.States.{is_bad, is_begun, is_done_well, is_skipped}
-use Rattle.sched_core.specs.Table.{CoreState, all_good, node_inputs, some_bad, state_at}
+use Rattle.sched_core.specs.Table.{CoreState, all_good, node_inputs, state_at}
 use Rattle.sched_core.specs.declared.state.PipState.{PipState}
 use Rattle.sched_core.specs.declared.state.PipState.TheVariants as state
 use Rattle.sched_board_slots.specs.Closing.{ComparedWithSlots, FailsByDoubleWrite, FollowsSequential, HitsAreOf, IsNotSkipped, IsOfSlot, IsResultOf, held_outcome, sequential, sequential_desc, sequential_outcome, sequential_view}
 use Rattle.sched_board_slots.specs.Closing as closing
 use Rattle.sched_board_slots.specs.Graphs.{IsGraphOf}
-use Rattle.sched_board_slots.specs.Slots.{AllFit, FilesAgree, FitsState, FoundAgrees, HoldsOwn, IsOwnFound, IsOwnPlain, IsOwnRecord, RecordAgrees, held_files, is_good_outcome, own_inputs, slot_at}
+use Rattle.sched_board_slots.specs.Slots.{AllFit, FilesAgree, FitsState, HoldsOwn, IsOwnFound, IsOwnPlain, IsOwnRecord, held_files, is_good_outcome, own_inputs, slot_at}
 use Rattle.sched_board_slots.specs.declared.held.Held.{Held}
 use Rattle.sched_board_slots.specs.declared.held.Held.TheVariants as held
-use Rattle.sched_board_slots.proofs.Inputs.{edge_of, files_at, input_below, is_target, same_inputs}
+use Rattle.sched_board_slots.proofs.Inputs.{files_at, input_below, is_target, same_inputs}
 use Rattle.sched_board_slots.proofs.SlotRuns.{hit_outcome, plain_files, ran_outcome}
 
 -- ## Outcomes

@@ -12,7 +12,7 @@ use Rattle.pip_model_types.specs.declared.pip.Pip.{Pip}
 use Rattle.pip_model.specs.Edges.{Edge, targets}
 use Rattle.pip_model.specs.Plans.{AreInputs, PlanData}
 use Rattle.pip_model.proofs.EdgesBack.{edge_back}
-use Rattle.pip_view_inputs.specs.Results.{ByPip, inputs_at, inputs_of, kind_inputs}
+use Rattle.pip_view_inputs.specs.Results.{ByPip, inputs_at}
 use Rattle.pip_view_inputs.proofs.KeptInputs.{inputs_each}
 use Rattle.sched_core.specs.Table.{node_inputs}
 use Rattle.sched_core.specs.declared.graph.Node.{Node}

@@ -1,6 +1,5 @@
 -- What a slot holds that agrees with a process and what it sees is what the process comes to.
-use Rattle.std.proofs.Common.{◌≡◌, ℕ, List, [], ◌∷◌, map, refl, ap, sym, ◌∙◌, subst, inl, inr}
-use Rattle.std.specs.List.{AllByRecursion}
+use Rattle.std.proofs.Common.{◌≡◌, ℕ, List, [], ◌∷◌, refl, ap, sym, ◌∙◌, subst, inl, inr}
 use Rattle.std.proofs.lemmas.Option.{same_Some}
 use Rattle.bx_tree.specs.Members.{Has}
 use Rattle.bx_tree.specs.Trees.{Files}
@@ -13,7 +12,7 @@ use Rattle.observed.specs.declared.access.Answer.{Answer}
 use Rattle.observed.specs.declared.access.Answer.TheVariants as answers
 use Rattle.tool_run.specs.Described.{described}
 use Rattle.tool_run.specs.Description.{Description}
-use Rattle.tool_run.specs.Run.{Run, path_set, run_of}
+use Rattle.tool_run.specs.Run.{path_set, run_of}
 use Rattle.prints.specs.Processes.{weak_parts}
 use Rattle.prints.specs.ReadWeak.{read_weak_text}
 use Rattle.prints.specs.Strong.{read_strong_text, strong_parts}
@@ -26,10 +25,9 @@ use Rattle.run_record.specs.Collisions.{AreOfAnswers, IsIn, NoCollision, content
 use Rattle.run_record.specs.Digests.{IsReadBack}
 use Rattle.run_record.specs.Facts.{Facts, Sound}
 use Rattle.run_record.specs.Outcomes.{outcome_of}
-use Rattle.run_record.specs.declared.outcome.Outcome.{Outcome}
 use Rattle.run_record.specs.declared.outcome.Outcome.TheVariants.{Good}
 use Rattle.run_record.proofs.Same.{same_desc}
-use Rattle.two_phase_meaning.specs.Contents.{HoldsAll, answer_contents, desc_contents, given_contents}
+use Rattle.two_phase_meaning.specs.Contents.{answer_contents, desc_contents, given_contents}
 use Rattle.two_phase_meaning.specs.Honest.{Honest, HonestEntry, IsGoodRun}
 use Rattle.two_phase_meaning.proofs.Same.{all_map, same_answers, same_described, same_files}
 use Rattle.one_thread.specs.OneThread.{ran}

@@ -1,5 +1,5 @@
 -- What the slots of a board come to against the sequential build.
-use Rattle.std.specs.Prelude.{◌≡◌, ◌⊎◌, ℕ, ◌<◌, true, List, map, length, Option, Some, None, slice_get}
+use Rattle.std.specs.Prelude.{◌≡◌, ◌⊎◌, ℕ, true, List, map, Option, Some, None, slice_get}
 use Rattle.bx_tree.specs.Trees.{Files}
 use Rattle.bx_tree.specs.Members.{Has}
 use Rattle.bx_io.specs.Holdings.{Holdings}
@@ -25,7 +25,7 @@ use Rattle.pip_view_inputs.specs.Plain.{plain_of}
 use Rattle.violations.specs.declared.verdict.Verdict.TheVariants as verdicts
 use Rattle.violations.specs.declared.verdict.Violation.{Violation}
 use Rattle.violations.specs.declared.verdict.ViolationKind.TheVariants as violations
-use Rattle.one_thread.specs.OneThread.{Result, by_cause, failed, inputs_are_good, made_by, one_thread, process_outcome, succeeded}
+use Rattle.one_thread.specs.OneThread.{Result, by_cause, failed, inputs_are_good, one_thread, process_outcome, succeeded}
 use Rattle.retire_compared.specs.Compared.{Compared, desc_after, inputs_after, view_after}
 use Rattle.sched_core.specs.declared.state.PipState.{PipState}
 use Rattle.sched_core.specs.declared.state.PipState.TheVariants as state

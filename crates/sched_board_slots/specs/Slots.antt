@@ -1,9 +1,8 @@
 -- What the slot of a pip may hold, by the board's own description, view and plain results.
-use Rattle.std.specs.Prelude.{◌≡◌, ◌≢◌, ℕ, Bool, true, false, List, [], ◌∷◌, map, Option, Some, None, slice_get, IfSome}
+use Rattle.std.specs.Prelude.{◌≡◌, ℕ, Bool, true, false, List, [], map, Option, Some, None, slice_get}
 use Rattle.std.specs.List.{slice_index_or}
 use Rattle.bx_tree.specs.Trees.{Files}
 use Rattle.pip_model_types.specs.declared.desc.Desc.{Desc}
-use Rattle.pip_model_types.specs.declared.pip.Pip.{Pip}
 use Rattle.pip_model_types.specs.declared.pip.ProcessDesc.{ProcessDesc}
 use Rattle.pip_model.specs.Plans.{PlanData}
 use Rattle.observed.specs.declared.ask.Ask.{Ask}
