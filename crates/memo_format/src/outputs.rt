@@ -1,6 +1,5 @@
 //! Files that pips made, as the lines of an entry have them.
-ghost use Rattle.std.specs.Prelude.{◌≡◌, IfOk, map};
-ghost use Rattle.memo_format.specs.Entries.{output_line};
+ghost use Rattle.std.specs.Prelude.{◌≡◌, IfOk};
 ghost use Rattle.memo_format.specs.Found.{output_lines, outputs_digest};
 ghost use Rattle.pip_model_types.specs.Made.{made_files};
 

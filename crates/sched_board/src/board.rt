@@ -1,14 +1,14 @@
 //! The value under the lock.
-ghost use Rattle.std.specs.Prelude.{◌≡◌, ◌≢◌, ◌<◌, ◌↔◌, ◌∷◌, ℕ, All, Any, IfErr, IfOk, IsOk, MatchOption, None, Some, length, set, slice_get, true};
-ghost use Rattle.std.specs.Vec.{vec_capacity, vec_len};
+ghost use Rattle.std.specs.Prelude.{◌≡◌, ◌≢◌, ◌<◌, ◌≤◌, ◌↔◌, All, Any, IfErr, IfOk, IsOk, MatchOption, None, false, length, slice_get, true};
+ghost use Rattle.std.specs.Vec.{vec_len};
 ghost use Rattle.std.specs.List.{sum_by};
 ghost use Rattle.std.specs.Option.{option_and_then};
 ghost use Rattle.sched_core.specs.Laws.{NothingAfterRelease, OneHolder, OnePip, PublishedOnce, ReleasedBetween, StartsAfterInputs};
 ghost use Rattle.sched_core.specs.Sound.{IsSound};
-ghost use Rattle.sched_core.specs.Table.{allows, are_settled, busy_of, has_left, next_state, pip_of, state_after_event, state_at, worker_of};
+ghost use Rattle.sched_core.specs.Table.{allows, are_settled, busy_of, has_left, next_state, node_at, pip_of, state_after_event, state_at, worker_of};
 ghost use Rattle.sched_board_slots.specs.Closing.{HoldsOneThread};
 ghost use Rattle.sched_board_slots.specs.Slots.{FitsState, own_inputs, slot_at};
-ghost use Rattle.sched_board.specs.Board.{CanComplete, IsBoard, IsBusy, IsFree, ShareData, filled, one_more, stepped, tells, with_looked, with_mark};
+ghost use Rattle.sched_board.specs.Board.{CanComplete, IsBoard, IsBusy, IsFree, ShareData, filled, mark_amount, one_more, stepped, tells, with_looked, with_mark};
 ghost use Rattle.sched_board.specs.Claiming.{Claims};
 ghost use Rattle.sched_board.specs.Publishing.{Publishes, fits_job};
 
@@ -102,6 +102,7 @@ impl<L: Ledger, E: Ledger> Board<L, E> {
         ensures share { share.new ≡ one_more share.old }
     {
         legal_events();
+        let _pips = self.plan.pips();
         let Board {
             core,
             history,
@@ -123,6 +124,7 @@ impl<L: Ledger, E: Ledger> Board<L, E> {
         ensures share { share.new ≡ one_more share.old }
     {
         legal_events();
+        let _pips = self.plan.pips();
         let Board {
             core,
             history,
@@ -327,7 +329,6 @@ impl<L: Ledger, E: Ledger> Board<L, E> {
     /// The history and the slots, by the shares of all workers. Takes no memory.
     pub fn finish(self, shares: Vec<Share<L, E>>) -> Finished
         requires all { vec_len shares ≡ L.parts }
-        requires marks { vec_len shares ≡ E.parts }
         requires some { 0 < vec_len shares }
         ensures history { result.history.items ≡ self.history }
         ensures slots { result.slots.items ≡ self.slots }
@@ -365,12 +366,11 @@ fn audit_all<L: Ledger, E: Ledger>(
     shares: Vec<Share<L, E>>,
 )
     requires all { vec_len shares ≡ L.parts }
-    requires marks { vec_len shares ≡ E.parts }
     requires some { 0 < vec_len shares }
     ensures events { events.new.total ≡ events.old.total }
     ensures marks { marks.new.total ≡ marks.old.total }
     ensures counted { events.old.total ≡ sum_by (λ (share : ShareData). share.events) shares.items }
-    ensures marked { marks.old.total ≡ sum_by (λ (share : ShareData). mark_amount share.marked) shares.items }
+    ensures marked { sum_by (λ (share : ShareData). mark_amount share.marked) shares.items ≤ marks.old.total }
 {
     let mut shares = shares;
     let Some(first) = shares.pop() else {

@@ -1,7 +1,5 @@
 //! The graph of a plan, as the scheduler's core takes it.
-ghost use Rattle.std.specs.Prelude.{◌≡◌, ◌<◌, ◌≤◌, ◌^◌, All, IfOk, is_some, length, slice_get};
-ghost use Rattle.pip_model.specs.Plans.{AreInputs};
-ghost use Rattle.pip_view_inputs.specs.Plain.{process_in};
+ghost use Rattle.std.specs.Prelude.{◌<◌, All, IfOk, length};
 ghost use Rattle.sched_board_slots.specs.Graphs.{IsGraphOf, IsNodeOf};
 
 use bx_tree::Memory;
