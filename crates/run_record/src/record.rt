@@ -70,7 +70,7 @@ impl Model for Record {
 impl Record {
     /// The record, shared.
     pub fn share(&self) -> Result<Record, AllocError>
-        ensures { IfOk result (λ record. record ≡ self.now) }
+        ensures { IfOk result (λ shared. shared ≡ self.now) }
     {
         Ok(Record {
             parts: self.parts.clone()?,
@@ -134,11 +134,7 @@ fn run_process<V: View>(alloc: Global, desc: &Desc, view: &mut V) -> Result<Ran,
 }
 
 // The parts of the record of a run on a view.
-fn run_parts<V: View>(
-    alloc: Global,
-    desc: Desc,
-    view: &mut V,
-) -> Result<RecordParts, AllocError>
+fn run_parts<V: View>(alloc: Global, desc: Desc, view: &mut V) -> Result<RecordParts, AllocError>
     ensures ran { IfOk result (λ made. IsRun made desc (V.answers view.old)) }
     ensures meaning { V.answers view.new ≡ V.answers view.old }
 {

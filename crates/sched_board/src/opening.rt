@@ -13,9 +13,8 @@ use pip_model::{Plan, Sources};
 use sched_board_slots::{Held, graph_of};
 use sched_core::{Core, Event, MAX_WORKERS};
 use std::alloc::Global;
-use std::sync::Arc;
-use std::sync::ledger;
 use std::sync::ledger::{Book, Ledger};
+use std::sync::{Arc, ledger};
 
 /// The books of two new ledgers, of events and of marks, with one part of each for each worker.
 #[derive(Drop)]

@@ -28,11 +28,7 @@ impl<L: Ledger, E: Ledger> Model for Share<L, E> {
 
 impl<L: Ledger, E: Ledger> Share<L, E> {
     // The share of a worker, of one part of each ledger that counted nothing yet.
-    pub(crate) fn new(
-        worker: u32,
-        events: ledger::Share<L>,
-        mark: ledger::Share<E>,
-    ) -> Share<L, E>
+    pub(crate) fn new(worker: u32, events: ledger::Share<L>, mark: ledger::Share<E>) -> Share<L, E>
         requires events { (events.parts ≡ 1) × (events.amount ≡ 0) }
         requires mark { (mark.parts ≡ 1) × (mark.amount ≡ 0) }
         ensures { result ≡ new_share worker }

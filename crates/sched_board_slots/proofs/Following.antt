@@ -4,7 +4,7 @@ use Rattle.std.specs.Prelude.{slice_get}
 use Rattle.std.specs.List.{list_any}
 use Rattle.std.proofs.lemmas.Bool.{both_ways, cases_Bool, or_cases}
 use Rattle.std.proofs.lemmas.List.{length-map}
-use Rattle.std.proofs.lemmas.Option.{get_or_from_slice_get, slice_get-get_or, slice_get_within, same_Some}
+use Rattle.std.proofs.lemmas.Option.{get_or_from_slice_get, slice_get_within, same_Some}
 use Rattle.bx_tree.specs.Members.{Has}
 use Rattle.bx_tree.specs.Paths.{Atoms}
 use Rattle.bx_tree.specs.Trees.{Files}
@@ -173,7 +173,25 @@ filled plan tree slots i h (state.Published w good) o e f = record { good = good
 filled plan tree slots i h (state.Done good) o e f = record { good = good; own = f; begun = refl }
 filled plan tree slots i h state.Skipped o e f = absurd (not_skipped h o e f)
 
+-- ## Places
+
+some_at : {X : Type 0} (xs : List X) (j : ℕ) → j < length xs → (x : X) × (slice_get xs j ≡ Some x)
+some_at [] j l = absurd (omega (arith, l))
+some_at (x ∷ xs) zero l = (x, refl)
+some_at (x ∷ xs) (suc j) l = some_at xs j (omega (arith, l))
+
+made_at : (rs : List Result) (k : ℕ) (r : Result) → slice_get rs k ≡ Some r → slice_get (made_by rs) k ≡ Some r.files
+made_at [] k r e = absurd cc
+made_at (x ∷ xs) zero r e = ap (λ (y : Result). Some y.files) (same_Some x r e)
+made_at (x ∷ xs) (suc k) r e = made_at xs k r e
+
 -- ## All slots
+
+-- what is to be shown of each pip
+record At (plan : PlanData) (tree : Files) (core : CoreState) (slots : List Held) (i : ℕ) : Type 0 where
+  outcome : (pip : Pip) (o : Outcome) → slice_get plan.pips i ≡ Some pip → IsNotSkipped plan tree pip.kind → held_outcome (slot_at slots i) ≡ Some o
+      → o ≡ sequential_outcome plan tree i pip.kind
+  skipped : (r : Result) → slice_get (sequential plan tree) i ≡ Some r → state_at core.states i ≡ state.Skipped → r.verdict ≡ verdicts.Skipped
 
 module _ (plan : PlanData) (tree : Files) (core : CoreState) (slots : List Held) (list : IsPipList plan.pips) (graph : IsGraphOf plan core.nodes)
     (sound : IsSound core) (size : length slots ≡ length plan.pips) (fit : AllFit plan tree core.states slots) (S : Holdings) (honest : Honest S)
@@ -183,12 +201,6 @@ module _ (plan : PlanData) (tree : Files) (core : CoreState) (slots : List Held)
 
   abbrev all : List Result
   all = sequential plan tree
-
-  -- what is to be shown of each pip
-  record At (i : ℕ) : Type 0 where
-    outcome : (pip : Pip) (o : Outcome) → slice_get plan.pips i ≡ Some pip → IsNotSkipped plan tree pip.kind → held_outcome (slot_at slots i) ≡ Some o
-        → o ≡ sequential_outcome plan tree i pip.kind
-    skipped : (r : Result) → slice_get all i ≡ Some r → state_at core.states i ≡ state.Skipped → r.verdict ≡ verdicts.Skipped
 
   -- what a pip comes to whose inputs succeeded
   abbrev works : ℕ → PipKind → Result
@@ -232,19 +244,7 @@ module _ (plan : PlanData) (tree : Files) (core : CoreState) (slots : List Held)
   -- ## One pip, where all before it are as shown
 
   pip_at : (j : ℕ) → j < length plan.pips → (pip : Pip) × (slice_get plan.pips j ≡ Some pip)
-  pip_at j l = by_option (slice_get plan.pips j) refl
-    where
-      some : (d : Pip) → slice_get plan.pips j ≡ Some (get_or plan.pips j d)
-      some d = slice_get-get_or plan.pips j d l
-
-      by_option : (o : Option Pip) → slice_get plan.pips j ≡ o → (pip : Pip) × (slice_get plan.pips j ≡ Some pip)
-      by_option (Some pip) e = (pip, e)
-      by_option None e = absurd (in_range plan.pips j l e)
-
-      in_range : (pips : List Pip) (k : ℕ) → k < length pips → slice_get pips k ≡ None → ⊥
-      in_range [] k w n = absurd (omega (arith, w))
-      in_range (p ∷ ps) zero w n = absurd cc
-      in_range (p ∷ ps) (suc k) w n = in_range ps k (omega (arith, w)) n
+  pip_at j l = some_at plan.pips j l
 
   result_at : (j : ℕ) → j < length plan.pips → (r : Result) × (slice_get all j ≡ Some r)
   result_at j l =
@@ -253,7 +253,7 @@ module _ (plan : PlanData) (tree : Files) (core : CoreState) (slots : List Held)
 
   -- the files of an input are those of its slot
   input_files : (i j : ℕ) (pip : Pip) → slice_get plan.pips i ≡ Some pip → IsNotSkipped plan tree pip.kind
-      → all_good core.states (node_inputs core.nodes i) ≡ true → ((k : ℕ) → k < i → At k) → Has (node_inputs core.nodes i) j
+      → all_good core.states (node_inputs core.nodes i) ≡ true → ((k : ℕ) → k < i → At plan tree core slots k) → Has (node_inputs core.nodes i) j
       → get_or (map held_files slots) j [] ≡ get_or (made_by all) j []
   input_files i j pip at good begun before h =
       let l : i < length plan.pips = slice_get_within plan.pips i pip at in
@@ -271,15 +271,10 @@ module _ (plan : PlanData) (tree : Files) (core : CoreState) (slots : List Held)
       ∙ work_files j p.0.kind (held_files (slot_at slots j)) outcome (ap (λ (r : Result). is_success r.verdict) (sym work.1) ∙ result.2) in
       files_at slots j ∙ sym files
       ∙ sym (get_or_from_slice_get (made_by all) j result.0.files [] (made_at all j result.0 result.1))
-    where
-      made_at : (rs : List Result) (k : ℕ) (r : Result) → slice_get rs k ≡ Some r → slice_get (made_by rs) k ≡ Some r.files
-      made_at [] k r e = absurd cc
-      made_at (x ∷ xs) zero r e = ap (λ (y : Result). Some y.files) (same_Some x r e)
-      made_at (x ∷ xs) (suc k) r e = made_at xs k r e
 
   -- so the pip is given what the sequential build gives it
   own_is : (i : ℕ) (pip : Pip) → slice_get plan.pips i ≡ Some pip → IsNotSkipped plan tree pip.kind
-      → all_good core.states (node_inputs core.nodes i) ≡ true → ((k : ℕ) → k < i → At k)
+      → all_good core.states (node_inputs core.nodes i) ≡ true → ((k : ℕ) → k < i → At plan tree core slots k)
       → own_inputs plan slots i ≡ inputs_after plan.pips pip.kind all
   own_is i pip at good begun before =
       let l : i < length plan.pips = slice_get_within plan.pips i pip at in
@@ -305,17 +300,11 @@ module _ (plan : PlanData) (tree : Files) (core : CoreState) (slots : List Held)
       ∙ ap (λ (k : PipKind). cond (inputs_are_good plan.pips k all) (works i k) (failed verdicts.Skipped)) is
       ∙ ap (λ t. cond t (works i kind) (failed verdicts.Skipped)) good ∙ plain in
       let same : FilesAgree made own =
-      agrees_on i kind pip made at is inputs agrees in
+      subst (λ (ins : ByPip). FilesAgree made (plain_of tree ins kind)) inputs
+      (subst (λ (k : PipKind). FilesAgree made (plain_of tree (own_inputs plan slots i) k)) is
+      (subst (λ (o : Option Pip). FilesAgree made (plain_in tree (own_inputs plan slots i) o)) at agrees)) in
       plain_files M apart made own same (λ x h. slot_of i (held.Plain made) slot x h)
       (λ x h. closing.made i r.0 r.1 (subst (λ (fs : Files). Has (contents_of fs) x) (sym (ap (λ (y : Result). y.files) result)) h))
-    where
-      agrees_on : (i : ℕ) (kind : PipKind) (pip : Pip) (made : Files) → slice_get plan.pips i ≡ Some pip → pip.kind ≡ kind
-          → own_inputs plan slots i ≡ inputs_after plan.pips kind all → FilesAgree made (plain_in tree (own_inputs plan slots i) (slice_get plan.pips i))
-          → FilesAgree made (plain_of tree (inputs_after plan.pips kind all) kind)
-      agrees_on i kind pip made at is inputs agrees =
-          subst (λ (ins : ByPip). FilesAgree made (plain_of tree ins kind)) inputs
-          (subst (λ (k : PipKind). FilesAgree made (plain_of tree (own_inputs plan slots i) k)) is
-          (subst (λ (o : Option Pip). FilesAgree made (plain_in tree (own_inputs plan slots i) o)) at agrees))
 
   -- what a filled slot says of a pip that is no process
   by_plain : (i : ℕ) (kind : PipKind) (pip : Pip) (h : Held) (good : Bool) (o : Outcome) → slice_get plan.pips i ≡ Some pip → pip.kind ≡ kind
@@ -348,7 +337,7 @@ module _ (plan : PlanData) (tree : Files) (core : CoreState) (slots : List Held)
       let on : IsOwnRecord plan tree (inputs_after plan.pips (Process d) all) i facts (Some d) =
       subst (λ (ins : ByPip). IsOwnRecord plan tree ins i facts (Some d)) inputs mine in
       same_Some o facts.outcome (sym e)
-      ∙ ran_outcome M apart (sequential_desc plan tree d) (sequential_view plan tree i d) facts on.0 on.1 on.2.0 on.2.1
+      ∙ ran_outcome M apart (sequential_desc plan tree d) (sequential_view plan tree i d) facts on.0 on.1 on.2 on.3
       (slot_of i (held.Ran facts) slot) (λ x k. closing.run i pip d at is going k)
   by_kind i (Process d) pip (held.Hit found) good o at is slot e inputs going own =
       let process : process_in (slice_get plan.pips i) ≡ Some d = ap process_in at ∙ ap kind_process is in
@@ -367,14 +356,14 @@ module _ (plan : PlanData) (tree : Files) (core : CoreState) (slots : List Held)
   by_kind i (Write d) pip h good o at is slot e inputs going own = by_plain i (Write d) pip h good o at is slot e inputs going own refl refl refl
   by_kind i (Seal d) pip h good o at is slot e inputs going own = by_plain i (Seal d) pip h good o at is slot e inputs going own refl refl refl
 
-  slot_outcome : (i : ℕ) → ((k : ℕ) → k < i → At k) → (pip : Pip) (o : Outcome) → slice_get plan.pips i ≡ Some pip → IsNotSkipped plan tree pip.kind
+  slot_outcome : (i : ℕ) → ((k : ℕ) → k < i → At plan tree core slots k) → (pip : Pip) (o : Outcome) → slice_get plan.pips i ≡ Some pip → IsNotSkipped plan tree pip.kind
       → held_outcome (slot_at slots i) ≡ Some o → o ≡ sequential_outcome plan tree i pip.kind
   slot_outcome i before pip o at going e =
       let is = filled plan tree slots i (slot_at slots i) (state_at core.states i) o e (fit i) in
       by_kind i pip.kind pip (slot_at slots i) is.good o at refl refl e (own_is i pip at going (sound.begun i is.begun) before) going is.own
 
   -- an input that failed or was skipped has no good result
-  bad_input : (j : ℕ) → j < length plan.pips → At j → is_bad (state_at core.states j) ≡ true → is_good (slice_get all j) ≡ true → ⊥
+  bad_input : (j : ℕ) → j < length plan.pips → At plan tree core slots j → is_bad (state_at core.states j) ≡ true → is_good (slice_get all j) ≡ true → ⊥
   bad_input j l here bad good =
       let p = pip_at j l in
       let result = some_result (slice_get all j) good in
@@ -388,7 +377,7 @@ module _ (plan : PlanData) (tree : Files) (core : CoreState) (slots : List Held)
             (ap (λ (r : Result). is_success r.verdict) work.1 ∙ work_fails j p.0.kind failure.0 outcome) result.2
       ]
 
-  slot_skipped : (i : ℕ) → ((k : ℕ) → k < i → At k) → (r : Result) → slice_get all i ≡ Some r → state_at core.states i ≡ state.Skipped
+  slot_skipped : (i : ℕ) → ((k : ℕ) → k < i → At plan tree core slots k) → (r : Result) → slice_get all i ≡ Some r → state_at core.states i ≡ state.Skipped
       → r.verdict ≡ verdicts.Skipped
   slot_skipped i before r has is =
       let within : i < length all = slice_get_within all i r has in
@@ -408,10 +397,10 @@ module _ (plan : PlanData) (tree : Files) (core : CoreState) (slots : List Held)
 
   -- ## All pips
 
-  below : (n i : ℕ) → i < n → At i
+  below : (n i : ℕ) → i < n → At plan tree core slots i
   below zero i l = absurd (omega (arith, l))
   below (suc n) i l =
-      let before : (k : ℕ) → k < i → At k = λ k w. below n k (omega (arith, w, l)) in
+      let before : (k : ℕ) → k < i → At plan tree core slots k = λ k w. below n k (omega (arith, w, l)) in
       record { outcome = slot_outcome i before; skipped = slot_skipped i before }
 
   result_by : (i : ℕ) (kind : PipKind) (o : Outcome) → o ≡ sequential_outcome plan tree i kind → IsResultOf plan tree i o (works i kind)
