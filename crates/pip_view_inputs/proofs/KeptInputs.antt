@@ -1,5 +1,5 @@
 -- The files of the pips for which a pip waits, by number.
-use Rattle.std.proofs.Common.{◌≡◌, ◌≢◌, ◌+◌, ◌<◌, ◌≤◌, ◌==◌, ℕ, zero, suc, true, false, cond, List, [], ◌∷◌, length, map, get_or, Option, Some, None, refl, ap, sym, ◌∙◌, subst, inl, inr, arith}
+use Rattle.std.proofs.Common.{◌≡◌, ◌≢◌, ◌+◌, ◌<◌, ◌≤◌, ◌==◌, ℕ, zero, suc, true, false, cond, List, [], ◌∷◌, ◌++◌, length, map, get_or, Option, Some, None, refl, ap, sym, ◌∙◌, subst, inl, inr, arith}
 use Rattle.std.specs.Prelude.{◌↔◌, Contains, IsSomeAnd, slice_get}
 use Rattle.std.specs.List.{All, AllByRecursion, list_any}
 use Rattle.std.specs.List.Sorted.{IsStrictlyIncreasing, IsStrictlySortedBy}
@@ -8,7 +8,7 @@ use Rattle.std.specs.declared.cmp.Ordering.TheVariants.{Less}
 use Rattle.std.proofs.lemmas.Bool.{cases_Bool, cases_lt, false≢true}
 use Rattle.std.proofs.lemmas.Bool.Decides.{Decides-eqb}
 use Rattle.std.proofs.lemmas.Cmp.{ranked}
-use Rattle.std.proofs.lemmas.List.{length-map}
+use Rattle.std.proofs.lemmas.List.{get_or-append-add, get_or_append_left, length-append, length-map}
 use Rattle.std.proofs.lemmas.List.Elements.{All-contains}
 use Rattle.std.proofs.lemmas.List.Folds.{Any-from_list_any, list_any-from_Any}
 use Rattle.std.proofs.lemmas.Map.Keys.{sorted_from_strictly_increasing}
@@ -204,6 +204,22 @@ numbers_by ss (i ∷ is) = ap (λ js. i ∷ js) (numbers_by ss is)
 pub numbers_rise : (ss : List Slot) (ins : List ℕ) (made : List MadeBy) → made ≡ map (input_by ss) ins → IsStrictlyIncreasing ins
     → IsStrictlyIncreasing (map (λ (m : MadeBy). m.pip) made)
 numbers_rise ss ins made e up = subst IsStrictlyIncreasing (sym (ap (map (λ (m : MadeBy). m.pip)) e ∙ numbers_by ss ins)) up
+
+-- numbers that rise go on rising with a greater one at the end
+pub rises_on : (xs : List ℕ) (x : ℕ) → IsStrictlyIncreasing xs → All (λ j. j < x) xs → IsStrictlyIncreasing (xs ++ x ∷ [])
+rises_on xs x up below k l = elim (cases_lt (k + 1) (length xs)) [
+  | inl within ↦
+      let here : get_or (xs ++ x ∷ []) k 0 ≡ get_or xs k 0 = get_or_append_left xs (x ∷ []) 0 k (omega (arith, within)) in
+      let next : get_or (xs ++ x ∷ []) (k + 1) 0 ≡ get_or xs (k + 1) 0 = get_or_append_left xs (x ∷ []) 0 (k + 1) within in
+      let less : get_or xs k 0 < get_or xs (k + 1) 0 = up k within in
+      omega (arith, here, next, less)
+  | inr past ↦
+      let last : k + 1 ≡ length xs + 0 = omega (arith, past, l, length-append xs (x ∷ [])) in
+      let here : get_or (xs ++ x ∷ []) k 0 ≡ get_or xs k 0 = get_or_append_left xs (x ∷ []) 0 k (omega (arith, last)) in
+      let next : get_or (xs ++ x ∷ []) (k + 1) 0 ≡ x = ap (λ n. get_or (xs ++ x ∷ []) n 0) last ∙ get_or-append-add xs (x ∷ []) 0 0 in
+      let less : get_or xs k 0 < x = below k 0 (omega (arith, last)) in
+      omega (arith, here, next, less)
+]
 
 -- a pip that is not among them made nothing
 pub none_by : (made : List MadeBy) (j : ℕ) → All (λ (m : MadeBy). m.pip ≢ j) made → files_by (map made_pair made) j ≡ []
