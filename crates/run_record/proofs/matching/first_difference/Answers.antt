@@ -3,10 +3,10 @@ use Rattle.observed.specs.declared.ask.Ask.{Ask}
 use Rattle.observed.specs.declared.access.Answer.{Answer}
 use Rattle.run_record.specs.Digests.{digest_asked, digest_of_line}
 use Rattle.run_record.proofs.Differ.{first_differ, is_other, is_same, one_more}
-use Rattle.run_record.proofs.matching.first_change.Goals as goal
+use Rattle.run_record.proofs.matching.first_difference.Goals as goal
 
-pub returns-then-ne-clause-change : goal.returns-then-ne-clause-change
-returns-then-ne-clause-change g c =
+pub returns-then-ne-clause-difference : goal.returns-then-ne-clause-difference
+returns-then-ne-clause-difference g c =
     let see = g.V.View.answers c.args.view.now in
     let ask = c.index-asks-index.result in
     first_differ digest_of_line (digest_asked see) c.args.stored.now c.args.asks.now c.asks.index c.index-stored-index.result ask c.in_ok-held.held c.in_ok-now.now

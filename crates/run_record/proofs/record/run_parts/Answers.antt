@@ -5,7 +5,7 @@ use Rattle.tool_run.specs.Run.{path_set}
 use Rattle.tool_run.specs.Seen.{seen}
 use Rattle.run_record.specs.Answered.{given_in}
 use Rattle.run_record.proofs.Stored.{made_run, sound}
-use Rattle.run_record.proofs.record.execute.Goals as goal
+use Rattle.run_record.proofs.record.run_parts.Goals as goal
 
 pub invariant_of-result : goal.invariant_of-result
 invariant_of-result g c =

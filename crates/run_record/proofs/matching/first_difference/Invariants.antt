@@ -1,6 +1,6 @@
 use Rattle.std.proofs.Common.{◌≡◌, map, take}
 use Rattle.run_record.specs.Digests.{digest_asked, digest_of_line}
-use Rattle.run_record.proofs.matching.first_change.Given as goal
+use Rattle.run_record.proofs.matching.first_difference.Given as goal
 
 abbrev pub invariant-asks : goal.invariant-asks
 invariant-asks g l = record {

@@ -1,0 +1,4 @@
+pub mod OneRun
+pub mod SlotRuns
+pub mod Inputs
+pub mod Following
