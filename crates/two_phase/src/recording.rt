@@ -35,7 +35,7 @@ fn print_paths(alloc: Global, paths: &PathSet) -> Result<Blob, AllocError>
     ensures read { IfOk result (λ text. read_paths_text text ≡ Some paths.now) }
 {
     let text = paths.text(alloc)?;
-    let blob = Blob::hashed(alloc, text)?;
+    let blob = Blob::new(alloc, text)?;
     Ok(blob)
 }
 
