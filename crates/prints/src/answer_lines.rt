@@ -86,6 +86,8 @@ impl Line<Answer, AnswerLine> for AnswerKind {
         }
     }
 
+    fn has_line(_value: &Answer) {}
+
     fn is_next(cursor: &Cursor) -> bool {
         !cursor.is_empty()
     }

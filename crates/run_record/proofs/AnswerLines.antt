@@ -10,7 +10,7 @@ use Rattle.prints.specs.Strong.{IsAnswerLine, answer_at, answer_line, line_of}
 use Rattle.prints.specs.declared.strong_parts.AnswerLine.{AnswerLine}
 use Rattle.run_record.specs.Collisions.{AreOfAnswers, IsIn, IsOfAnswer, NoCollision}
 use Rattle.run_record.specs.Digests.{digest_asked, digest_of_line}
-use Rattle.run_record.proofs.Digest.{is_digest}
+use Rattle.bx_digest.proofs.HashesAreDigests.{is_digest}
 
 -- ## Lines
 
