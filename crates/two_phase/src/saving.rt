@@ -273,11 +273,11 @@ fn put_record<K: Keeper>(
     keeper: &mut K,
     held: &mut HeldContents,
     ran: &Record,
-    weak: Printed,
+    printed: Printed,
 ) -> Result<(), PutFault>
     requires good { IsGood ran.now }
-    requires text { weak.text.items ≡ weak_text (weak_parts ran.now.desc) }
-    requires digest { weak.digest ≡ weak_of ran.now.desc }
+    requires text { printed.text.items ≡ weak_text (weak_parts ran.now.desc) }
+    requires digest { printed.digest ≡ weak_of ran.now.desc }
     requires held { AreHeld (held_in (K.known keeper.old)) held.old }
     ensures made { OnOk result (PutsAll (K.known keeper.old) (K.known keeper.new) ran.now) }
     ensures first { PutsUpTo (K.known keeper.old) (K.known keeper.new) ran.now }
@@ -285,7 +285,7 @@ fn put_record<K: Keeper>(
     ensures keeper { KeeperCall (K.bound keeper.old) (K.bound keeper.new) (K.faults keeper.old)
         (K.faults keeper.new) (result ≡ Err PutFault.Failed) }
 {
-    let written = write(alloc, ran, weak)?;
+    let written = write(alloc, ran, printed)?;
     let list = next_list(alloc, keeper, &written)?;
     put_all(alloc, keeper, held, &written, list.as_slice())
 }
@@ -298,11 +298,11 @@ pub fn keep_with<K: Keeper>(
     keeper: &mut K,
     held: &mut HeldContents,
     ran: &Record,
-    weak: Printed,
+    printed: Printed,
 ) -> SaveResult
     requires good { IsGood ran.now }
-    requires text { weak.text.items ≡ weak_text (weak_parts ran.now.desc) }
-    requires digest { weak.digest ≡ weak_of ran.now.desc }
+    requires text { printed.text.items ≡ weak_text (weak_parts ran.now.desc) }
+    requires digest { printed.digest ≡ weak_of ran.now.desc }
     requires held { AreHeld (held_in (K.known keeper.old)) held.old }
     ensures saved { result ≡ SaveResult.Saved → PutsAll (K.known keeper.old) (K.known keeper.new) ran.now }
     ensures first { PutsUpTo (K.known keeper.old) (K.known keeper.new) ran.now }
@@ -310,7 +310,7 @@ pub fn keep_with<K: Keeper>(
     ensures keeper { KeeperCall (K.bound keeper.old) (K.bound keeper.new) (K.faults keeper.old)
         (K.faults keeper.new) (result ≡ SaveResult.Fault) }
 {
-    match put_record(alloc, keeper, held, ran, weak) {
+    match put_record(alloc, keeper, held, ran, printed) {
         Ok(()) => SaveResult::Saved,
         Err(PutFault::Failed) => SaveResult::Fault,
         Err(PutFault::Memory) => SaveResult::Memory,
