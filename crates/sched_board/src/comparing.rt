@@ -13,8 +13,9 @@ use memo_format::{Found, digest_of_outputs};
 use pip_model::{Made, MadeFile, Plan, Sources};
 use pip_view::PipView;
 use pip_view_inputs::{Inputs, desc, plain};
-use run_record::{Match, Record, first_difference, matches, weak_digest};
-use sched_board_slots::Held;
+use prints::reads_back;
+use run_record::{Match, Record, first_difference, matches, weak_digest, what_holds_is_run};
+use sched_board_slots::{Held, holds_now};
 use std::alloc::{AllocError, Global};
 
 /// What the inputs of a pip made, by the slots.
@@ -35,8 +36,8 @@ pub(crate) fn inputs_of(
     Ok(inputs)
 }
 
-// How the record of a run differs from the process and what it sees.
-fn compare_ran(
+// How the record of a run differs by digest from the process and what it sees.
+fn compare_digests(
     alloc: Global,
     plan: &Plan,
     sources: &Sources,
@@ -57,6 +58,28 @@ fn compare_ran(
         Match::Differs { index, held, now } => Ok(Some(Unlike::new(index + 1, held, now))),
         Match::Memory => Err(AllocError),
     }
+}
+
+// How the record of a run differs from the process and what it sees. One that holds byte by byte differs in no digest, so
+// nothing is written or hashed for it.
+fn compare_ran(
+    alloc: Global,
+    plan: &Plan,
+    sources: &Sources,
+    pip: u32,
+    inputs: &Inputs,
+    ran: &Record,
+) -> Result<Option<Unlike>, Memory>
+    requires there { pip < length plan.now.pips }
+    requires process { IsSome (process_in (slice_get plan.now.pips pip)) }
+    ensures { IfOk result (Compared plan.now sources.now inputs.now pip (Shown.Ran ran.now)) }
+{
+    what_holds_is_run();
+    reads_back(ran.desc());
+    if holds_now(alloc, plan, sources, pip, inputs, ran)? {
+        return Ok(None);
+    }
+    compare_digests(alloc, plan, sources, pip, inputs, ran)
 }
 
 // How what a lookup found differs from the process and what it sees.

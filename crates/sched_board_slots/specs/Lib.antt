@@ -1,3 +1,4 @@
-pub mod Slots
 pub mod Graphs
+pub mod Slots
 pub mod Closing
+pub mod Finished
