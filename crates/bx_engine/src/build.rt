@@ -10,6 +10,7 @@ ghost use Rattle.bx_engine.specs.Headline.{Headline};
 ghost use Rattle.bx_engine.specs.Known.{Appends, AppendsPrefix, IsInput, IsReadOut};
 ghost use Rattle.bx_engine.specs.Statuses.{HasNoBuild, HasNoNotes, IsSilent, IsWhole};
 ghost use Rattle.bx_engine.specs.Stores.{FairStore, uses_store};
+ghost use Rattle.bx_engine_words.specs.Words.{HasCrew};
 
 use crate::limits::READ_LIMIT;
 use crate::reading::{ReadFault, read_all};
@@ -19,6 +20,8 @@ use crate::writing::write_all;
 use bx_engine_words::Order;
 use bx_io::{Gate, Keeper, Sink, Source};
 use std::alloc::Global;
+use std::sync::Wait;
+use std::thread::Threads;
 
 /// Writes the output, and then the notes.
 fn deliver<O: Sink, N: Sink>(out: &mut O, notes: &mut N, response: &Response) -> Status
@@ -45,7 +48,8 @@ fn deliver<O: Sink, N: Sink>(out: &mut O, notes: &mut N, response: &Response) ->
 }
 
 /// Builds what the source gives.
-pub(crate) fn build<S: Source, O: Sink, N: Sink, K: Keeper, G: Gate>(
+pub(crate) fn build<H: Threads + Wait + Sync, S: Source, O: Sink, N: Sink, K: Keeper, G: Gate>(
+    rt: &H,
     alloc: Global,
     order: &Order,
     source: &mut S,
@@ -54,6 +58,7 @@ pub(crate) fn build<S: Source, O: Sink, N: Sink, K: Keeper, G: Gate>(
     keeper: &mut K,
     gate: &G,
 ) -> Status
+    requires { HasCrew order.now }
     ensures status { IsWhole result
         ⊎ (result ≡ Status.SourceFailed) ⊎ (result ≡ Status.OutFailed) ⊎ (result ≡ Status.OutOfMemory) }
     ensures headline { (input : List ℕ)
@@ -106,7 +111,7 @@ pub(crate) fn build<S: Source, O: Sink, N: Sink, K: Keeper, G: Gate>(
         Err(ReadFault::Failed) => return Status::SourceFailed,
         Err(ReadFault::Memory) => return Status::OutOfMemory,
     };
-    match respond(alloc, &input, order, keeper, gate) {
+    match respond(rt, alloc, &input, order, keeper, gate) {
         Err(_) => Status::OutOfMemory,
         Ok(response) => deliver(out, notes, &response),
     }

@@ -1,7 +1,9 @@
 -- Which words are a command.
-use Rattle.std.specs.Prelude.{◌≡◌, ℕ, List, ◌∷◌, codes}
+use Rattle.std.specs.Prelude.{◌≡◌, ◌<◌, ◌≤◌, ℕ, List, ◌∷◌, codes}
 use Rattle.std.specs.List.{IsDistinct}
 use Rattle.bx_engine_words.specs.declared.order.Order.{Order}
+use Rattle.bx_engine_words.specs.declared.order.Order.TheVariants.{Build}
+use Rattle.bx_engine_words.specs.declared.order.TheConstants.{MAX_WORKERS}
 use Rattle.bx_engine_words.specs.declared.setting.Setting.{Setting}
 use Rattle.bx_engine_words.specs.Settings.{AreSettings, build_of, is_same}
 
@@ -17,3 +19,12 @@ pub record Orders (words : List (List ℕ)) (order : Order) : Type 0 where
   pub options : List (List ℕ)
   pub words_are : words ≡ codes "build" ∷ options
   pub options_are : AreOptions options order
+
+-- how many workers an order asks for
+abbrev pub workers_in : Order → ℕ
+workers_in (Build workers cached eval_budget tool_budget) = workers
+
+-- it asks for some, and for no more than there may be
+pub record HasCrew (order : Order) : Type 0 where
+  pub some : 0 < workers_in order
+  pub few : workers_in order ≤ MAX_WORKERS
