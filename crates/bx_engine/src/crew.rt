@@ -115,7 +115,13 @@ fn crew_of<L: Ledger, E: Ledger, K: Keeper>(
 }
 
 // All work at the same time, until each is through.
-fn work_all<R: KeepReader, L: Ledger + Send + Sync, E: Ledger + Send + Sync, H: Threads + Wait + Sync, G: Gate>(
+fn work_all<
+    R: KeepReader,
+    L: Ledger + Send + Sync,
+    E: Ledger + Send + Sync,
+    H: Threads + Wait + Sync,
+    G: Gate,
+>(
     rt: &H,
     alloc: Global,
     plan: &Plan,
@@ -131,9 +137,12 @@ fn work_all<R: KeepReader, L: Ledger + Send + Sync, E: Ledger + Send + Sync, H: 
 {
     let bell = Condvar::new();
     let threads = crew.len();
-    thread::for_each_mut(rt, crew, threads, &|_, worker| {
-        worker.work(rt, alloc, plan, sources, board, &bell, gate)
-    });
+    thread::for_each_mut(
+        rt,
+        crew,
+        threads,
+        &|_, worker| { worker.work(rt, alloc, plan, sources, board, &bell, gate) },
+    );
 }
 
 // What workers counted together.
@@ -202,7 +211,13 @@ fn finish_if_fit<L: Ledger, E: Ledger>(
 }
 
 // What the workers left, on a board of these two ledgers.
-fn work_with<L: Ledger + Send + Sync, E: Ledger + Send + Sync, H: Threads + Wait + Sync, K: Keeper, G: Gate>(
+fn work_with<
+    L: Ledger + Send + Sync,
+    E: Ledger + Send + Sync,
+    H: Threads + Wait + Sync,
+    K: Keeper,
+    G: Gate,
+>(
     rt: &H,
     alloc: Global,
     events: ledger::Blank,
@@ -227,7 +242,15 @@ fn work_with<L: Ledger + Send + Sync, E: Ledger + Send + Sync, H: Threads + Wait
     let NewBoard { board, shares } = Board::new(alloc, blank, ours, theirs, workers)?;
     let mut crew = crew_of(alloc, shares, keeper, cached)?;
     let lock = Mutex::new(board);
-    work_all(rt, alloc, &**plan, &**sources, &lock, gate, crew.as_mut_slice());
+    work_all(
+        rt,
+        alloc,
+        &**plan,
+        &**sources,
+        &lock,
+        gate,
+        crew.as_mut_slice(),
+    );
     let worked = worked_by(crew.as_slice());
     let shares = shares_of(alloc, crew)?;
     let finished = finish_if_fit(alloc, lock.into_inner(), shares, plan.pips().len())?;

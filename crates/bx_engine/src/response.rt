@@ -116,12 +116,7 @@ fn counts(tally: RetireTally, worked: Worked) -> Counts
 }
 
 // The response of a build whose pips were gone through.
-fn show(
-    alloc: Global,
-    plan: &Plan,
-    retired: &Retired,
-    worked: Worked,
-) -> Result<Response, Memory>
+fn show(alloc: Global, plan: &Plan, retired: &Retired, worked: Worked) -> Result<Response, Memory>
     requires { length retired.now.verdicts.items ≡ length plan.now.pips }
     ensures shown { IfOk result (IsResponseOf plan.now.pips retired.now worked) }
     ensures paths { OnOk result (AllByRecursion IsPath (paths_of (given_files retired.now.verdicts.items
@@ -167,9 +162,7 @@ fn build_plan<H: Threads + Wait + Sync, K: Keeper, G: Gate>(
 {
     let plan = Arc::new(alloc, plan)?;
     let sources = Arc::new(alloc, sources)?;
-    let crewed = work_ahead(
-        rt, alloc, &plan, &sources, workers, &*keeper, gate, cached,
-    )?;
+    let crewed = work_ahead(rt, alloc, &plan, &sources, workers, &*keeper, gate, cached)?;
     let Crewed { finished, worked } = crewed;
     let retired = retire(alloc, &*plan, &*sources, keeper, finished, gate, cached)?;
     show(alloc, &*plan, &retired, worked)

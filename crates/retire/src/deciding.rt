@@ -28,7 +28,9 @@ use crate::savable::Savable;
 use crate::taking::{Taken, Way, taken_for};
 use bx_io::{Gate, KeepReader};
 use bx_tree::Memory;
-use one_thread::{Frame, PipResult, SharedFiles, Started, after_outcome, after_success, is_good, start};
+use one_thread::{
+    Frame, PipResult, SharedFiles, Started, after_outcome, after_success, is_good, start,
+};
 use pip_model::{MAX_PIPS, Slot};
 use pip_view::Inputs;
 use run_record::{Tools, what_holds_is_run};
