@@ -1,6 +1,6 @@
 //! Deciding the pips of a build, one after another, by their slots, over a store or without one.
 ghost use Rattle.std.specs.Prelude.{◌≡◌, ◌++◌, ◌∷◌, ◌+◌, ◌<◌, ◌≤◌, ◌&&◌, [], ℕ, IfOk, IfSome, IsNone, IsSome, None, OnOk, Some};
-ghost use Rattle.std.specs.Prelude.{is_some, length, map, option_map, slice_get, take};
+ghost use Rattle.std.specs.Prelude.{List, is_some, length, map, option_map, slice_get, take};
 ghost use Rattle.std.specs.List.{AllByRecursion, slice_index_or};
 ghost use Rattle.std.specs.Option.{option_to_list};
 ghost use Rattle.bx_io.specs.Holdings.{Holdings};
