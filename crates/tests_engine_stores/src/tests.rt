@@ -1,16 +1,22 @@
 use bx_io::FailKeeper;
+use std::alloc::Global;
+use std::sync::Wait;
 use std::test::Fail;
+use std::thread::Threads;
 use tests_with_engine::{
     ALL_HIT, ALL_RAN, CountGate, FIRST_CALLS, are_built, is_built, keeper_of, left_after,
 };
 
 const ALL_RAN_WITH_A_FAULT: &str =
-    "notes hits 0\nran 3\nlate 3\nstore-faults 1\nstarved 0\nstatus 0";
+    "notes hits 0\nran 3\nlate 0\nstore-faults 1\nstarved 0\nstatus 0";
 
-const ONE_RAN: &str = "notes hits 2\nran 1\nlate 1\nstore-faults 0\nstarved 0\nstatus 0";
+const ONE_RAN: &str = "notes hits 2\nran 1\nlate 0\nstore-faults 0\nstarved 0\nstatus 0";
 
 const ONE_RAN_WITH_A_FAULT: &str =
-    "notes hits 2\nran 1\nlate 1\nstore-faults 1\nstarved 0\nstatus 0";
+    "notes hits 2\nran 1\nlate 0\nstore-faults 1\nstarved 0\nstatus 0";
+
+const TWO_RAN_WITH_TWO_FAULTS: &str =
+    "notes hits 1\nran 2\nlate 1\nstore-faults 2\nstarved 0\nstatus 0";
 
 /// A record whose call fails is left out, and so is run once more.
 #[test]
@@ -29,21 +35,50 @@ fn leaves_out_a_record_where_a_call_of_the_keeper_fails(rt: HostRuntime) -> Resu
     Ok(())
 }
 
-/// Each lookup reads the list, the path set, the entry and the file.
+/// A full store, of which each reader fails at its call with this number.
+fn full_keeper<H: Threads + Wait + Sync>(
+    rt: &H,
+    alloc: Global,
+    number: u64,
+) -> Result<FailKeeper, Fail> {
+    let Some(full) = left_after(rt, alloc, FIRST_CALLS, ALL_RAN)? else {
+        return Err("the first build gives something else".into());
+    };
+    Ok(FailKeeper::new(full, [number].to_vec(alloc)?))
+}
+
+/// The notes of a build by one worker where the calls with this number fail. Each lookup reads the list, the path set,
+/// the entry and the file. The process that the worker runs after its fault is looked up by nobody else; so where the
+/// results are collected the reader makes eight calls alone.
+fn notes_of(number: u64) -> &'static str {
+    match number {
+        0..=8 => TWO_RAN_WITH_TWO_FAULTS,
+        9..=12 => ONE_RAN_WITH_A_FAULT,
+        _ => ALL_HIT,
+    }
+}
+
 #[test]
-fn runs_a_process_where_a_call_of_the_reader_fails(rt: HostRuntime) -> Result<(), Fail> {
+fn runs_a_process_where_a_call_of_a_reader_fails(rt: HostRuntime) -> Result<(), Fail> {
     let alloc = rt.alloc();
+    let gate = CountGate::new();
     for number in 1..=13u64 {
-        let Some(full) = left_after(&rt, alloc, FIRST_CALLS, ALL_RAN)? else {
-            return Err("the first build gives something else".into());
-        };
-        let mut keeper = FailKeeper::new(full, [number].to_vec(alloc)?);
-        let notes = if number == 13 {
-            ALL_HIT
-        } else {
-            ONE_RAN_WITH_A_FAULT
-        };
-        assert!(rt; is_built(&rt, alloc, &mut keeper, &CountGate::new(), notes)?);
+        let mut keeper = full_keeper(&rt, alloc, number)?;
+        assert!(rt; is_built(&rt, alloc, "1", &mut keeper, &gate, notes_of(number))?);
+    }
+    Ok(())
+}
+
+/// With several workers it is open who looks up what.
+#[test]
+fn builds_the_same_where_calls_of_several_readers_fail(rt: HostRuntime) -> Result<(), Fail> {
+    let alloc = rt.alloc();
+    let gate = CountGate::new();
+    for workers in ["2", "4"] {
+        for number in 1..=13u64 {
+            let mut keeper = full_keeper(&rt, alloc, number)?;
+            assert!(rt; is_built(&rt, alloc, workers, &mut keeper, &gate, "")?);
+        }
     }
     Ok(())
 }
