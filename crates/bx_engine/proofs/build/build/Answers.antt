@@ -13,7 +13,7 @@ use Rattle.bx_engine.proofs.StoresLeft.{left_same, none_put}
 use Rattle.bx_engine.proofs.build.build.Goals as goal
 
 pub deliver-requires : goal.deliver-requires
-deliver-requires g c = c.in-Ok-2.ensures.response.whole
+deliver-requires g c = c.in-Ok-respond.ensures.response.whole
 
 -- ## Nothing was read
 
@@ -30,7 +30,7 @@ returns-in-Err-Failed g c =
     let u : Unanswered call = record {
       silent = inr (inl refl);
       out = refl;
-      source_cause = record { later = c.in-Err-Failed.ensures.cause.later; rose = λ e. c.in-Err-Failed.ensures.cause.rose refl };
+      source_cause = record { later = c.in-Err-Failed.ensures.cause.later; rose = λ e. c.in-Err-Failed.ensures.cause.rose (cc) };
       source_no_fault = λ n. absurd (n refl);
       out_faults = refl;
       puts = none_put known known (keeps_all known);
@@ -131,8 +131,8 @@ returns-in-Err g c =
 
 -- ## An answer
 
-pub returns-in-Ok : goal.returns-in-Ok
-returns-in-Ok g c =
+pub returns : goal.returns
+returns g c =
     let order = c.args.order.now in
     let call : Call =
     call_of c.deliver.result (counted_of (g.S.Source.faults c.args.source.now) (g.S.Source.faults c.read_all.new.source))
@@ -143,10 +143,10 @@ returns-in-Ok g c =
     let bytes = c.deref.result.now in
     let given = c.in-Ok.ensures in
     let same = given.no_fault (λ e. cc) in
-    let response = c.in-Ok-2.ensures.response in
-    let came = answered_status c.in-Ok-2.response.status c.deliver.result response.whole c.deliver.ensures.status in
+    let response = c.in-Ok-respond.ensures.response in
+    let came = answered_status c.in-Ok-respond.response.status c.deliver.result response.whole c.deliver.ensures.status in
     let a : Answered call bytes order = record {
-      response = c.in-Ok-2.response;
+      response = c.in-Ok-respond.response;
       responds = response;
       status = c.deliver.ensures.status;
       written = c.deliver.ensures.written;
@@ -176,7 +176,7 @@ returns-in-Ok g c =
         | inr cut ↦ c.deliver.ensures.cut cut
       ];
       kept = λ none.
-          c.in-Ok-2.ensures.kept (refused_status _ _ c.deliver.ensures.status (not_begun c.deliver.result (answered_or_memory came) none));
+          c.in-Ok-respond.ensures.kept (refused_status _ _ c.deliver.ensures.status (not_begun c.deliver.result (answered_or_memory came) none));
       untouched = c.respond.ensures.untouched;
       bound = c.respond.ensures.bound;
       read = λ done. read_out _ _ _ c.in-Ok.input.items _ long given.gave given.bound given.end;
