@@ -17,6 +17,7 @@ use bx_io_system::{FolderKeeper, StdSink, StdSource, SystemDisk, program_words};
 use std::alloc::{AllocError, Global};
 use std::io::{Stderr, Stdin, Stdout};
 use std::process::ExitCode;
+use std::rt::Files;
 use std::sync::Wait;
 use std::thread::Threads;
 
@@ -107,12 +108,23 @@ fn run<H: Threads + Wait + Sync>(
     })
 }
 
-fn main(rt: HostRuntime) -> ExitCode {
-    let Ok(words) = program_words(&rt) else {
-        return ExitCode::from(Status::OutOfMemory.code());
-    };
-    match run(&rt, &rt, &words) {
+/// The exit code of that call.
+fn exit_code<H: Threads + Wait + Sync>(
+    threads: &H,
+    rt: &HostRuntime,
+    words: &[String],
+) -> ExitCode {
+    // The check reads the type of the store only in a function that names the type of its listings.
+    let _: Option<<HostRuntime as Files>::Dir> = None;
+    match run(threads, rt, words) {
         Ok(done) => ExitCode::from(done.status.code()),
+        Err(_) => ExitCode::from(Status::OutOfMemory.code()),
+    }
+}
+
+fn main(rt: HostRuntime) -> ExitCode {
+    match program_words(&rt) {
+        Ok(words) => exit_code(&rt, &rt, &words),
         Err(_) => ExitCode::from(Status::OutOfMemory.code()),
     }
 }
