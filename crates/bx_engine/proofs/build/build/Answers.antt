@@ -14,7 +14,7 @@ use Rattle.bx_engine.proofs.StoresLeft.{left_same, none_put}
 use Rattle.bx_engine.proofs.build.build.Goals as goal
 
 pub deliver-requires : goal.deliver-requires
-deliver-requires g c = c.in-Ok-2.ensures.response.whole
+deliver-requires g c = c.in-Ok-respond.ensures.response.whole
 
 -- ## Nothing was read
 
@@ -36,7 +36,7 @@ returns-in-Err-Failed g c =
       silent = inr (inl refl);
       gives = record { piece = gave.0; gave = gave.1; moved = gave.2 };
       out = refl;
-      source_cause = record { later = c.in-Err-Failed.ensures.cause.later; rose = λ e. c.in-Err-Failed.ensures.cause.rose refl };
+      source_cause = record { later = c.in-Err-Failed.ensures.cause.later; rose = λ e. c.in-Err-Failed.ensures.cause.rose (cc) };
       source_no_fault = λ n. absurd (n refl);
       out_faults = refl;
       puts = none_put known known (keeps_all known);
@@ -127,8 +127,8 @@ returns-in-Err g c =
 
 -- ## An answer
 
-pub returns-in-Ok : goal.returns-in-Ok
-returns-in-Ok g c =
+pub returns : goal.returns
+returns g c =
     let order = c.args.order.now in
     let source : Given =
     given_of (g.S.Source.given c.args.source.now) (g.S.Source.given c.read_all.new.source) (g.S.Source.left c.args.source.now) (g.S.Source.left c.read_all.new.source)
@@ -142,8 +142,8 @@ returns-in-Ok g c =
     let given = c.in-Ok.ensures in
     let gave = c.read_all.ensures.piece in
     let same = given.no_fault (λ e. cc) in
-    let response = c.in-Ok-2.ensures.response in
-    let came = answered_status c.in-Ok-2.response.status c.deliver.result response.whole c.deliver.ensures.status in
+    let response = c.in-Ok-respond.ensures.response in
+    let came = answered_status c.in-Ok-respond.response.status c.deliver.result response.whole c.deliver.ensures.status in
     let long : length c.in-Ok.input.items ≡ vec_len c.in-Ok.input = ap length (sym c.deref.ensures.value) ∙ c.deref.ensures.len in
     let a : Answered order call = record {
       bytes = c.deref.result.now;
@@ -151,7 +151,7 @@ returns-in-Ok g c =
       gives = record { piece = gave.0; gave = gave.1; moved = gave.2 };
       read_out = read_out source c.in-Ok.input.items _ long given.gave given.bound given.end;
       rest = left_slice source _ _ long given.moved given.bound given.none_left;
-      response = c.in-Ok-2.response;
+      response = c.in-Ok-respond.response;
       responds = response;
       status = c.deliver.ensures.status;
       written = c.deliver.ensures.written;
@@ -173,7 +173,7 @@ returns-in-Ok g c =
         | inr cut ↦ c.deliver.ensures.cut cut
       ];
       kept = λ none.
-          c.in-Ok-2.ensures.kept (refused_status _ _ c.deliver.ensures.status (not_begun c.deliver.result (answered_or_memory came) none));
+          c.in-Ok-respond.ensures.kept (refused_status _ _ c.deliver.ensures.status (not_begun c.deliver.result (answered_or_memory came) none));
       untouched = c.respond.ensures.untouched;
       bound = c.respond.ensures.bound;
     }
