@@ -87,7 +87,8 @@ Drops before now name (Err e) = SameNames before now
 
 -- ## The order of changes and syncs
 --
--- After a loss of power an entry of a folder may stand without what was put before it, unless that was synced.
+-- After a loss of power a file or folder may stand without what was put or made before it, unless that was
+-- synced.
 
 -- the letters of contents, entries and lists of selectors
 abbrev pub blob_letter : ℕ
@@ -133,10 +134,33 @@ abbrev pub is_stored : List ℕ → List Event → Bool
 is_stored path [] = false
 is_stored path (e ∷ earlier) = is_sync_of e.0 e.1 path
 
--- A call may come now. A file gets a path once its bytes are stored and what has to be there before it; and a
--- content is removed once the changes of entries before that are stored.
+-- the path of the folder that the folder is in
+abbrev pub above : List ℕ
+above = 46 ∷ 46 ∷ []
+
+-- where a folder is made: the folder itself in the one above it, and that of a kind in the folder itself
+abbrev pub made_in : List ℕ → List ℕ
+made_in [] = above
+made_in (letter ∷ path) = []
+
+abbrev pub has_new_next : List ℕ → Kind → List ℕ → Bool → Bool
+has_new_next folder kinds.Made path before = bytes_eq (made_in path) folder || before
+has_new_next folder kinds.Synced path before = not (bytes_eq path folder) && before
+has_new_next folder _ path before = before
+
+-- A folder was made in this one since it was synced. The calls are the newest first.
+abbrev pub has_new : List ℕ → List Event → Bool
+has_new folder [] = false
+has_new folder (e ∷ earlier) = has_new_next folder e.0 e.1 (has_new folder earlier)
+
+-- each folder that was made is stored
+abbrev pub has_folders : List Event → Bool
+has_folders earlier = not (has_new above earlier) && not (has_new [] earlier)
+
+-- A call may come now. A file gets a path once its bytes are stored, what has to be there before it and the
+-- folders that were made; and a content is removed once the changes of entries before that are stored.
 abbrev pub may_come : Kind → List ℕ → List ℕ → List Event → Bool
-may_come kinds.Renamed path old earlier = is_stored old earlier && is_ready path earlier
+may_come kinds.Renamed path old earlier = is_stored old earlier && is_ready path earlier && has_folders earlier
 may_come kinds.Removed path old earlier = is_after blob_letter entry_letter path earlier
 may_come _ path old earlier = true
 

@@ -17,7 +17,7 @@ pub trait Disk: Drop {
     // The bytes of each file by its path, where that is known.
     ghost files: { Self → Files };
 
-    // The calls that change or sync a file, the newest first.
+    // The calls that change or sync a file or a folder, the newest first.
     ghost calls: { Self → List Event };
 
     /// Another handle of the same files.
@@ -58,7 +58,7 @@ pub trait Disk: Drop {
     /// Makes a folder. The path of the folder itself is empty.
     fn make_folder(&mut self, alloc: Global, path: &str) -> io::Result<()>
         ensures files { files self.new ≡ files self.old }
-        ensures calls { calls self.new ≡ calls self.old };
+        ensures calls { calls self.new ≡ (kinds.Made, path.now, []) ∷ calls self.old };
 
     /// The names of the plain files in a folder. A disk of which it is known what it holds lists nothing, and
     /// fails.

@@ -102,6 +102,7 @@ impl<R: Files + AllocGlobal + Clone + Drop> Disk for SystemDisk<R> {
     }
 
     fn make_folder(&mut self, alloc: Global, path: &str) -> io::Result<()> {
+        self.log = Record::noted(&self.log, &Kind::Made, path.as_bytes(), &[]);
         let path = path_of(alloc, self.folder.as_str(), path)?;
         fs::create_dir(&self.rt, path.as_str())
     }
