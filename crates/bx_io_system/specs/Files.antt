@@ -1,5 +1,5 @@
 -- The files of a folder by path, and the order in which they are changed and stored.
-use Rattle.std.specs.Prelude.{◌≡◌, ◌<◌, ℕ, Bool, true, false, ◌&&◌, ◌||◌, not, ◌==◌, List, [], ◌∷◌, length, slice_index, bytes_eq, Option, Some, None, Result, Ok, Err, Vec, String, string_bytes, All, option_map}
+use Rattle.std.specs.Prelude.{◌≡◌, ◌<◌, ℕ, Bool, true, false, ◌&&◌, ◌||◌, not, ◌==◌, nat_lt, List, [], ◌∷◌, length, slice_index, bytes_eq, Option, Some, None, Result, Ok, Err, Vec, String, string_bytes, All, option_map}
 use Rattle.std.specs.FinMap.{get}
 use Rattle.std.specs.IoError.{error_kind}
 use Rattle.std.specs.declared.alloc.Global.{Global}
@@ -108,12 +108,13 @@ abbrev pub unsynced_next : ℕ → Kind → List ℕ → Bool → Bool
 unsynced_next letter kinds.Renamed path before = is_name_in letter path || before
 unsynced_next letter kinds.Removed path before = is_name_in letter path || before
 unsynced_next letter kinds.Synced path before = not (bytes_eq path (letter ∷ [])) && before
+unsynced_next letter kinds.Absent path before = not (bytes_eq path (letter ∷ [])) && before
 unsynced_next letter _ path before = before
 
--- A name of this kind was put or dropped since the folder of its kind was synced. The calls are the newest
--- first.
+-- A name of this kind may have been put or dropped since the folder of its kind was synced, or was not there.
+-- Before the first call anything may have been. The calls are the newest first.
 abbrev pub unsynced : ℕ → List Event → Bool
-unsynced letter [] = false
+unsynced letter [] = true
 unsynced letter (e ∷ earlier) = unsynced_next letter e.0 e.1 (unsynced letter earlier)
 
 -- where the path is of the first kind, nothing of the other kind is unsynced
@@ -148,20 +149,23 @@ has_new_next folder kinds.Made path before = bytes_eq (made_in path) folder || b
 has_new_next folder kinds.Synced path before = not (bytes_eq path folder) && before
 has_new_next folder _ path before = before
 
--- A folder was made in this one since it was synced. The calls are the newest first.
+-- A folder may have been made in this one since it was synced. Before the first call anything may have been. The
+-- calls are the newest first.
 abbrev pub has_new : List ℕ → List Event → Bool
-has_new folder [] = false
+has_new folder [] = true
 has_new folder (e ∷ earlier) = has_new_next folder e.0 e.1 (has_new folder earlier)
 
--- each folder that was made is stored
+-- each folder that may have been made is stored
 abbrev pub has_folders : List Event → Bool
 has_folders earlier = not (has_new above earlier) && not (has_new [] earlier)
 
 -- A call may come now. A file gets a path once its bytes are stored, what has to be there before it and the
--- folders that were made; and a content is removed once the changes of entries before that are stored.
+-- folders that were made; a content is removed once the changes of entries before that are stored; and no file of a
+-- name is written in place.
 abbrev pub may_come : Kind → List ℕ → List ℕ → List Event → Bool
 may_come kinds.Renamed path old earlier = is_stored old earlier && is_ready path earlier && has_folders earlier
 may_come kinds.Removed path old earlier = is_after blob_letter entry_letter path earlier
+may_come kinds.Wrote path old earlier = nat_lt NAME_LENGTH (length path)
 may_come _ path old earlier = true
 
 -- Each call came when it might.

@@ -14,7 +14,8 @@ use std::io::{self, ErrorKind};
 
 /// The files of a folder, with what has to be synced before the next change: the folder of the contents before an
 /// entry that follows them; that of the entries before a list, and before a content is dropped; and before a file
-/// gets its name the folders in which one was made.
+/// gets its name the folders in which one was made. At first each of them has to be, as another process may have
+/// stopped in the midst of its changes.
 #[derive(Drop)]
 pub struct OrderedDisk<D: Disk> {
     disk: D,
@@ -78,16 +79,16 @@ fn in_order(names: Vec<String>) -> Vec<String>
 }
 
 impl<D: Disk> OrderedDisk<D> {
-    /// The files of this folder, of which nothing was changed yet.
+    /// The files of this folder, of which anything may wait to be stored.
     pub(crate) fn new(disk: D) -> OrderedDisk<D>
         requires { D.calls disk ≡ [] }
         ensures { result.disk ≡ disk }
     {
         OrderedDisk {
             disk,
-            blobs: false,
-            entries: false,
-            folders: false,
+            blobs: true,
+            entries: true,
+            folders: true,
         }
     }
 
@@ -106,28 +107,46 @@ impl<D: Disk> OrderedDisk<D> {
         self.disk.read(alloc, name)
     }
 
-    // Syncs the folder of the contents, if something was changed there.
+    // Syncs the folder of the contents, if something may have been changed there. One that is not there needs none.
     fn sync_blobs(&mut self, alloc: Global) -> io::Result<()>
         ensures synced { OnOk result (unsynced blob_letter (D.calls self.new.disk) ≡ false) }
         ensures files { D.files self.new.disk ≡ D.files self.old.disk }
     {
-        if self.blobs {
-            self.disk.sync(alloc, "b")?;
-            self.blobs = false;
+        if !self.blobs {
+            return Ok(());
         }
-        Ok(())
+        match self.disk.sync(alloc, "b") {
+            Ok(()) => {
+                self.blobs = false;
+                Ok(())
+            }
+            Err(error) if error.kind() == ErrorKind::NotFound => {
+                self.blobs = false;
+                Ok(())
+            }
+            failed => failed,
+        }
     }
 
-    // Syncs the folder of the entries, if something was changed there.
+    // Syncs the folder of the entries, if something may have been changed there. One that is not there needs none.
     fn sync_entries(&mut self, alloc: Global) -> io::Result<()>
         ensures synced { OnOk result (unsynced entry_letter (D.calls self.new.disk) ≡ false) }
         ensures files { D.files self.new.disk ≡ D.files self.old.disk }
     {
-        if self.entries {
-            self.disk.sync(alloc, "e")?;
-            self.entries = false;
+        if !self.entries {
+            return Ok(());
         }
-        Ok(())
+        match self.disk.sync(alloc, "e") {
+            Ok(()) => {
+                self.entries = false;
+                Ok(())
+            }
+            Err(error) if error.kind() == ErrorKind::NotFound => {
+                self.entries = false;
+                Ok(())
+            }
+            failed => failed,
+        }
     }
 
     // Syncs what has to be stored before the file of a name is put.
@@ -166,7 +185,7 @@ impl<D: Disk> OrderedDisk<D> {
         self.make_folder(alloc, name.get(..1).unwrap_or(""))
     }
 
-    // Syncs the folders in which a folder was made, if one was.
+    // Syncs the folders in which a folder was made, if one may have been.
     fn sync_folders(&mut self, alloc: Global) -> io::Result<()>
         ensures synced { OnOk result (has_folders (D.calls self.new.disk) ≡ true) }
         ensures ready { (path : List ℕ) → is_ready path (D.calls self.old.disk) ≡ true
@@ -183,6 +202,7 @@ impl<D: Disk> OrderedDisk<D> {
 
     // Writes a file, and makes the folders for it where they are missing.
     fn write(&mut self, alloc: Global, name: &str, begun: &str, bytes: &[u8]) -> io::Result<()>
+        requires { IsBegun begun.now }
         ensures written { D.is_known ≡ true
             → Writes (D.files self.old.disk) (D.files self.new.disk) begun.now bytes.now result }
         ensures ready { (path : List ℕ) → is_ready path (D.calls self.old.disk) ≡ true
@@ -199,6 +219,7 @@ impl<D: Disk> OrderedDisk<D> {
 
     // Writes a file, and waits until its bytes are stored, and the folders that were made.
     fn store(&mut self, alloc: Global, name: &str, begun: &str, bytes: &[u8]) -> io::Result<()>
+        requires { IsBegun begun.now }
         ensures written { D.is_known ≡ true
             → Writes (D.files self.old.disk) (D.files self.new.disk) begun.now bytes.now result }
         ensures stored { OnOk result (is_stored begun.now (D.calls self.new.disk) ≡ true) }

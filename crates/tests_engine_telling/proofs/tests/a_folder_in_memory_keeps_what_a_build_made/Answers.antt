@@ -5,8 +5,7 @@ use Rattle.bx_io_system.proofs.mem_disk.MemDisk.TheSendSync.{the_send as disk}
 use Rattle.tests_engine_telling.proofs.tests.a_folder_in_memory_keeps_what_a_build_made.Goals as goal
 
 pub new-keeper-requires-send-D : goal.new-keeper-requires-send-D
-new-keeper-requires-send-D g c κs =
-    (
-      (λ a is. absurd (not-mem-nil is)),
-      (search (sendable, disk), (c.new.ensures.calls, (none_named, λ known name named. cc (c.new.ensures.files)))),
-    )
+new-keeper-requires-send-D g c κs = (
+  (λ a is. absurd (not-mem-nil is)),
+  (search (sendable, disk), (c.new.ensures.calls, (none_named, λ known name named. cc (c.new.ensures.files)))),
+)
