@@ -1,3 +1,9 @@
+pub mod GivenFiles
 pub mod Keeping
 pub mod Allowed
 pub mod After
+pub mod ShownPips
+pub mod Merged
+pub mod Beginning
+pub mod Closings
+pub mod Comparisons
