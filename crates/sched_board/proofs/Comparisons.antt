@@ -14,7 +14,8 @@ use Rattle.run_record.specs.Matches.{Compares, FirstDiffer}
 use Rattle.run_record.specs.declared.matching.Match.TheVariants as matching
 use Rattle.memo_format.specs.Found.{FoundParts, outputs_digest}
 use Rattle.sched_board_slots.specs.Slots.{FilesAgree, IsOwnFound, IsOwnPlain, IsOwnRecord, own_desc, own_plain, own_view}
-use Rattle.sched_board.specs.Publishing.{Difference, ShownDiffers}
+use Rattle.sched_board.specs.Board.{Difference}
+use Rattle.sched_board.specs.Publishing.{ShownDiffers}
 use Rattle.sched_board.specs.declared.shown.Shown.TheVariants as shown
 
 abbrev pub differ : ℕ → List ℕ → List ℕ → Difference

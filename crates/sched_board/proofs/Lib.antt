@@ -7,3 +7,4 @@ pub mod Merged
 pub mod Beginning
 pub mod Closings
 pub mod Comparisons
+pub mod Moves
