@@ -7,4 +7,5 @@ pub mod Merged
 pub mod Beginning
 pub mod Closings
 pub mod Comparisons
+pub mod Alike
 pub mod Moves
