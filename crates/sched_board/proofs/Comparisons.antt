@@ -24,6 +24,9 @@ differ index held own = record { index = index; held = held; own = own }
 same_difference : (index : ℕ) (held held' own own' : List ℕ) → held ≡ held' → own ≡ own' → differ index held own ≡ differ index held' own'
 same_difference index held held' own own' eh eo = ap (λ (h : List ℕ). differ index h own) eh ∙ ap (differ index held') eo
 
+pub is_difference : (d : Difference) (index : ℕ) (held own : List ℕ) → d.index ≡ index → d.held ≡ held → d.own ≡ own → d ≡ differ index held own
+is_difference d index held own ei eh eo = ap (λ (i : ℕ). differ i d.held d.own) ei ∙ same_difference index d.held held d.own own eh eo
+
 module _ (plan : PlanData) (tree : Files) (inputs : ByPip) (pip : ℕ) (own : Desc) (see : Ask → Answer) (view : see ≡ own_view plan tree inputs pip) where
   abbrev IsOwn : Option ProcessDesc → Type 0
   IsOwn o = IsSomeAnd o (λ (process : ProcessDesc). own ≡ own_desc plan tree inputs process)
@@ -54,8 +57,12 @@ module _ (plan : PlanData) (tree : Files) (inputs : ByPip) (pip : ℕ) (own : De
       → ShownDiffers plan tree inputs pip (shown.Ran facts) (differ (index + 1) held now) o
   ran_differs facts index held now None is c = absurd is
   ran_differs facts index held now (Some process) is c =
-      inr (c.0 ∙ ap weak_of is, index, refl,
-      subst (λ (a : Ask → Answer). FirstDiffer (map digest_of_line facts.answers) (lines_of a facts.paths) index held now) view c.1)
+      inr (
+        c.0 ∙ ap weak_of is,
+        index,
+        refl,
+        subst (λ (a : Ask → Answer). FirstDiffer (map digest_of_line facts.answers) (lines_of a facts.paths) index held now) view c.1,
+      )
 
   -- ## Hits
 
@@ -70,16 +77,22 @@ module _ (plan : PlanData) (tree : Files) (inputs : ByPip) (pip : ℕ) (own : De
   hit_other found weak None is e other = absurd is
   hit_other found weak (Some process) is e other =
       let mine : weak ≡ weak_of (own_desc plan tree inputs process) = e ∙ ap weak_of is in
-      inl (λ same. other (same ∙ sym mine),
-      same_difference 0 found.entry.weak found.entry.weak weak (weak_of (own_desc plan tree inputs process)) refl mine)
+      inl (
+        λ same. other (same ∙ sym mine),
+        same_difference 0 found.entry.weak found.entry.weak weak (weak_of (own_desc plan tree inputs process)) refl mine,
+      )
 
   pub hit_differs : (found : FoundParts) (index : ℕ) (held now : List ℕ) (o : Option ProcessDesc) → IsOwn o → found.entry.weak ≡ weak_of own
       → FirstDiffer (map digest_of_line found.answers) (lines_of see found.paths) index held now
       → ShownDiffers plan tree inputs pip (shown.Hit found) (differ (index + 1) held now) o
   hit_differs found index held now None is weak d = absurd is
   hit_differs found index held now (Some process) is weak d =
-      inr (weak ∙ ap weak_of is, index, refl,
-      subst (λ (a : Ask → Answer). FirstDiffer (map digest_of_line found.answers) (lines_of a found.paths) index held now) view d)
+      inr (
+        weak ∙ ap weak_of is,
+        index,
+        refl,
+        subst (λ (a : Ask → Answer). FirstDiffer (map digest_of_line found.answers) (lines_of a found.paths) index held now) view d,
+      )
 
 -- ## Plain results
 

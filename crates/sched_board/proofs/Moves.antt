@@ -100,14 +100,13 @@ published_is b b' share share' job s pip worker good slot is busy own ep ew es e
     ∙ ap (λ (h : Held). filled b (event.Publish job.pip share.worker (is_good_held (slot_of s))) h) es in
     let sound : IsSound b.core = sound_board b is in
     let can : CanComplete made (one_more share) job.pip =
-    published_can b share job.pip (is_good_held (slot_of s)) (slot_of s) busy.worker (omega (arith, busy.there, sound.same_size)) in
-    (
+    published_can b share job.pip (is_good_held (slot_of s)) (slot_of s) busy.worker (omega (arith, busy.there, sound.same_size)) in (
       ep,
       own,
       now,
       esh,
       subst (λ (x : BoardData). CanComplete x share' pip) (sym now)
-      (subst (λ (x : ShareData). CanComplete made x pip) (sym esh) (subst (λ (p : ℕ). CanComplete made (one_more share) p) (sym ep) can)),
+          (subst (λ (x : ShareData). CanComplete made x pip) (sym esh) (subst (λ (p : ℕ). CanComplete made (one_more share) p) (sym ep) can)),
     )
 
 -- the same where the pip and the worker are written in another way

@@ -15,15 +15,17 @@ returns-then-ne c =
     let l : k < length files = c.files-test.true in
     let l' : k < length others = omega (arith, c.files-test.true, c.if-made-own.false) in
     elim c.then-ne.branch [
-      | then-ne-via-then-ne w ↦
-          (λ (yes : false ≡ true). absurd cc,
-          λ same. absurd (other_path files others k mine other c.ne.result l l' c.index-made-place.is c.index-own-place.is c.ne.ensures w.if-ne.true same))
-      | then-ne-via-else-ne+then-ne-2 w ↦
-          (λ (yes : false ≡ true). absurd cc,
-          λ same. absurd (other_digest files others k mine other l l' c.index-made-place.is c.index-own-place.is
-          (λ (e : (line_of mine).digest ≡ (line_of other).digest).
-          is_other w.digest.result w.digest-else-ne.result w.ne-else-ne.result w.ne-else-ne.ensures w.if-ne-2.true
-          (w.digest.ensures ∙ e ∙ sym w.digest-else-ne.ensures)) same))
+      | then-ne-via-then-ne w ↦ (
+        λ (yes : false ≡ true). absurd cc,
+        λ same. absurd (other_path files others k mine other c.ne.result l l' c.index-made-place.is c.index-own-place.is c.ne.ensures w.if-ne.true same),
+      )
+      | then-ne-via-else-ne+then-ne-2 w ↦ (
+        λ (yes : false ≡ true). absurd cc,
+        λ same. absurd (other_digest files others k mine other l l' c.index-made-place.is c.index-own-place.is
+            (λ (e : (line_of mine).digest ≡ (line_of other).digest).
+            is_other w.digest.result w.digest-else-ne.result w.ne-else-ne.result w.ne-else-ne.ensures w.if-ne-2.true
+            (w.digest.ensures ∙ e ∙ sym w.digest-else-ne.ensures)) same),
+      )
     ]
 
 pub files-preserved : goal.files-preserved

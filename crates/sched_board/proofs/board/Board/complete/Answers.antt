@@ -12,7 +12,7 @@ append-requires g c =
     let b : BoardData = c.args.self.now in
     let board : IsBoard b = subst IsBoard c.self.view_is c.self.invariant.board in
     let can = at_pip b (λ (p w : ℕ). event.Complete p w) c.args.shut c.into_pip.result c.args.share.now.worker c.worker.result c.into_pip.ensures c.worker.ensures
-        (complete_can b c.args.share.now c.args.shut board c.requires.published) in
+    (complete_can b c.args.share.now c.args.shut board c.requires.published) in
     record { allowed = can.allowed; worker = can.worker; fits = can.fits }
 
 pub returns-clause-free : goal.returns-clause-free

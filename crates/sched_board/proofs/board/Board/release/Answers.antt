@@ -10,5 +10,5 @@ append-requires g c =
     let b : BoardData = c.args.self.now in
     let board : IsBoard b = subst IsBoard c.self.view_is c.self.invariant.board in
     let can = at_pip b (λ (p w : ℕ). event.Release p w) c.args.job.pip c.pip.result c.args.share.now.worker c.worker.result c.pip.ensures c.worker.ensures
-        (release_can b c.args.share.now c.args.job board c.requires.busy) in
+    (release_can b c.args.share.now c.args.job board c.requires.busy) in
     record { allowed = can.allowed; worker = can.worker; fits = can.fits }
