@@ -68,7 +68,7 @@ fn is_file(slot: &Held, at: &str, text: &str) -> bool {
         Held::Plain(made) => {
             let files = made.files();
             files.len() == 1
-                && files[0].path.text() == at.as_bytes()
+                && files[0].path.text() == at
                 && files[0].blob.bytes() == text.as_bytes()
         }
         Held::Empty | Held::Ran(_) | Held::Hit(_) | Held::Skipped => false,
