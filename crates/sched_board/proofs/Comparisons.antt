@@ -11,6 +11,7 @@ use Rattle.pip_view_inputs.specs.Results.{ByPip}
 use Rattle.run_record.specs.Digests.{IsReadBack, digest_asked, digest_of_line, weak_of}
 use Rattle.run_record.specs.Facts.{Facts, Sound}
 use Rattle.run_record.specs.Matches.{Compares, FirstDiffer}
+use Rattle.run_record.specs.declared.matching.LineDifference.{LineDifference}
 use Rattle.run_record.specs.declared.matching.Match.TheVariants as matching
 use Rattle.memo_format.specs.Found.{FoundParts, outputs_digest}
 use Rattle.sched_board_slots.specs.Slots.{FilesAgree, IsOwnFound, IsOwnPlain, IsOwnRecord, own_desc, own_plain, own_view}
@@ -93,6 +94,30 @@ module _ (plan : PlanData) (tree : Files) (inputs : ByPip) (pip : ℕ) (own : De
         refl,
         subst (λ (a : Ask → Answer). FirstDiffer (map digest_of_line found.answers) (lines_of a found.paths) index held now) view d,
       )
+
+  -- what looking for the first difference says
+  pub hit_first : (found : FoundParts) (o : Option ProcessDesc) (stored : List Answer) (asks : List Ask) (r : Option LineDifference) (at : LineDifference) → IsOwn o
+      → found.entry.weak ≡ weak_of own → stored ≡ found.answers → asks ≡ found.paths → r ≡ Some at
+      → MatchOption r (map digest_of_line stored ≡ lines_of see asks)
+      (λ (x : LineDifference). FirstDiffer (map digest_of_line stored) (lines_of see asks) x.index x.held x.now)
+      → ShownDiffers plan tree inputs pip (shown.Hit found) (differ (at.index + 1) at.held at.now) o
+  hit_first found o stored asks r at is weak es ea er m =
+      hit_differs found at.index at.held at.now o is weak
+      (subst (λ (s : List Answer). FirstDiffer (map digest_of_line s) (lines_of see found.paths) at.index at.held at.now) es
+      (subst (λ (q : List Ask). FirstDiffer (map digest_of_line stored) (lines_of see q) at.index at.held at.now) ea
+      (subst (λ (x : Option LineDifference). MatchOption x (map digest_of_line stored ≡ lines_of see asks)
+      (λ (y : LineDifference). FirstDiffer (map digest_of_line stored) (lines_of see asks) y.index y.held y.now)) er m)))
+
+  pub hit_none : (found : FoundParts) (o : Option ProcessDesc) (stored : List Answer) (asks : List Ask) (r : Option LineDifference) → IsOwn o → IsReadBack own
+      → found.entry.weak ≡ weak_of own → stored ≡ found.answers → asks ≡ found.paths → r ≡ None
+      → MatchOption r (map digest_of_line stored ≡ lines_of see asks)
+      (λ (x : LineDifference). FirstDiffer (map digest_of_line stored) (lines_of see asks) x.index x.held x.now)
+      → IsOwnFound plan tree inputs pip found o
+  hit_none found o stored asks r is read weak es ea er m =
+      let same : map digest_of_line stored ≡ lines_of see asks =
+      subst (λ (x : Option LineDifference). MatchOption x (map digest_of_line stored ≡ lines_of see asks)
+      (λ (y : LineDifference). FirstDiffer (map digest_of_line stored) (lines_of see asks) y.index y.held y.now)) er m in
+      hit_same found o is read weak (ap (map digest_of_line) (sym es) ∙ same ∙ ap (lines_of see) ea)
 
 -- ## Plain results
 
