@@ -1,6 +1,6 @@
 -- What comparing by digest says of what is shown.
-use Rattle.std.proofs.Common.{◌≡◌, ◌≢◌, ℕ, ◌+◌, Bool, true, false, List, map, Option, Some, None, refl, ap, sym, ◌∙◌, subst, inl, inr}
-use Rattle.std.specs.Prelude.{IsNone, IsSome, IsSomeAnd, MatchOption, slice_get}
+use Rattle.std.proofs.Common.{◌≡◌, ◌≢◌, ℕ, ◌+◌, List, map, Option, Some, None, refl, ap, sym, ◌∙◌, subst, inl, inr}
+use Rattle.std.specs.Prelude.{IsSomeAnd, MatchOption}
 use Rattle.bx_tree.specs.Trees.{Files}
 use Rattle.pip_model_types.specs.declared.desc.Desc.{Desc}
 use Rattle.pip_model_types.specs.declared.pip.ProcessDesc.{ProcessDesc}
@@ -13,8 +13,8 @@ use Rattle.run_record.specs.Facts.{Facts, Sound}
 use Rattle.run_record.specs.Matches.{Compares, FirstDiffer}
 use Rattle.run_record.specs.declared.matching.LineDifference.{LineDifference}
 use Rattle.run_record.specs.declared.matching.Match.TheVariants as matching
-use Rattle.memo_format.specs.Found.{FoundParts, outputs_digest}
-use Rattle.sched_board_slots.specs.Slots.{FilesAgree, IsOwnFound, IsOwnPlain, IsOwnRecord, own_desc, own_plain, own_view}
+use Rattle.memo_format.specs.Found.{FoundParts}
+use Rattle.sched_board_slots.specs.Slots.{IsOwnFound, IsOwnRecord, own_desc, own_view}
 use Rattle.sched_board.specs.Board.{Difference}
 use Rattle.sched_board.specs.Publishing.{ShownDiffers}
 use Rattle.sched_board.specs.declared.shown.Shown.TheVariants as shown
@@ -118,16 +118,3 @@ module _ (plan : PlanData) (tree : Files) (inputs : ByPip) (pip : ℕ) (own : De
       subst (λ (x : Option LineDifference). MatchOption x (map digest_of_line stored ≡ lines_of see asks)
       (λ (y : LineDifference). FirstDiffer (map digest_of_line stored) (lines_of see asks) y.index y.held y.now)) er m in
       hit_same found o is read weak (ap (map digest_of_line) (sym es) ∙ same ∙ ap (lines_of see) ea)
-
--- ## Plain results
-
-pub plain_same : (plan : PlanData) (tree : Files) (inputs : ByPip) (pip : ℕ) (made : Files) (o : Option ProcessDesc) → IsNone o
-    → FilesAgree made (own_plain plan tree inputs pip) → IsOwnPlain plan tree inputs pip made o
-plain_same plan tree inputs pip made None is same = same
-plain_same plan tree inputs pip made (Some process) is same = absurd is
-
-pub plain_differs : (plan : PlanData) (tree : Files) (inputs : ByPip) (pip : ℕ) (made : Files) (o : Option ProcessDesc) → IsNone o
-    → (FilesAgree made (own_plain plan tree inputs pip) → ⊥)
-    → ShownDiffers plan tree inputs pip (shown.Plain made) (differ 0 (outputs_digest made) (outputs_digest (own_plain plan tree inputs pip))) o
-plain_differs plan tree inputs pip made None is other = (other, refl)
-plain_differs plan tree inputs pip made (Some process) is other = absurd is
