@@ -14,7 +14,7 @@ pub same_number : (n : ℕ) → (n == n) ≡ true
 same_number n = (Decides-eqb n n).1 refl
 
 -- an event of a worker that is here and that fits the table is allowed
-here_and : (s : CoreState) (w : ℕ) (fits : Bool) → has_left s.left w ≡ false → fits ≡ true → (not (has_left s.left w) && fits) ≡ true
+pub here_and : (s : CoreState) (w : ℕ) (fits : Bool) → has_left s.left w ≡ false → fits ≡ true → (not (has_left s.left w) && fits) ≡ true
 here_and s w fits stays fit = and_from (not (has_left s.left w)) fits (ap not stays) fit
 
 -- ## A pip that is held

@@ -43,6 +43,13 @@ pub record UnfitData : Type 0 where
   pub state : Option PipState
   pub busy : Option ℕ
 
+-- where something shown differs from the board's own, with both digests: index 0 is the description or the plain result, and ask
+-- number k is k + 1
+pub record Difference : Type 0 where
+  pub index : ℕ
+  pub held : List ℕ
+  pub own : List ℕ
+
 abbrev pub one_more : ShareData → ShareData
 one_more share = record share { events = share.events + 1 }
 

@@ -9,7 +9,7 @@ use Rattle.run_record.specs.Digests.{digest_asked, digest_of_line, weak_of}
 use Rattle.run_record.specs.Matches.{FirstDiffer}
 use Rattle.memo_format.specs.Found.{output_lines, outputs_digest}
 use Rattle.sched_core.specs.declared.event.Event.TheVariants as event
-use Rattle.sched_board.specs.Board.{BoardData, CanComplete, ShareData, JobData, filled, one_more}
+use Rattle.sched_board.specs.Board.{BoardData, CanComplete, Difference, JobData, ShareData, filled, one_more}
 use Rattle.sched_board_slots.specs.Slots.{HoldsOn, HoldsOwn, is_good_held, own_desc, own_inputs, own_plain, own_view}
 use Rattle.sched_board_slots.specs.declared.held.Held.{Held}
 use Rattle.sched_board_slots.specs.declared.held.Held.TheVariants as held
@@ -24,27 +24,22 @@ slot_of (shown.Ran facts) = held.Ran facts
 slot_of (shown.Hit found) = held.Hit found
 slot_of (shown.Plain made) = held.Plain made
 
--- what is shown fits the kind of the pip and what was said of its lookup
-abbrev pub fits_job : JobData → Shown → Bool
-fits_job job s = fits_told job.is_process job.looked s
-
+-- what is shown fits the kind of a pip and what was said of its lookup
 abbrev pub fits_told : Bool → Option Bool → Shown → Bool
 fits_told true (Some true) (shown.Hit found) = true
 fits_told true (Some false) (shown.Ran facts) = true
 fits_told false None (shown.Plain made) = true
 fits_told is_process looked s = false
 
+-- what is shown fits what the job tells
+abbrev pub fits_job : JobData → Shown → Bool
+fits_job job s = fits_told job.is_process job.looked s
+
 -- what is shown fits the kind of a pip
 abbrev pub fits_kind : Bool → Shown → Bool
 fits_kind is_process (shown.Ran facts) = is_process
 fits_kind is_process (shown.Hit found) = is_process
 fits_kind is_process (shown.Plain made) = not is_process
-
--- a difference: index 0 is the description or the plain result, and ask number k is k + 1
-pub record Difference : Type 0 where
-  pub index : ℕ
-  pub held : List ℕ
-  pub own : List ℕ
 
 -- What is shown first differs from the board's own here: in the digest of the description; else at the first ask whose
 -- answer has a line of another digest.

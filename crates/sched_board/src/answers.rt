@@ -70,7 +70,7 @@ pub struct Unlike {
 }
 
 impl Model for Unlike {
-    ghost use Rattle.sched_board.specs.Publishing.{Difference};
+    ghost use Rattle.sched_board.specs.Board.{Difference};
 
     ghost Value = { Difference };
 

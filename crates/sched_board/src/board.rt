@@ -1,11 +1,12 @@
 //! The value under the lock.
-ghost use Rattle.std.specs.Prelude.{◌≡◌, ◌≢◌, ◌<◌, ◌≤◌, ◌↔◌, All, Any, IfErr, IfOk, IsOk, MatchOption, None, false, length, slice_get, true};
+ghost use Rattle.std.specs.Prelude.{◌≡◌, ◌≢◌, ◌<◌, ◌≤◌, ◌↔◌, All, Any, IfErr, IfNone, IfOk, IfSome, IsOk, MatchOption, None, false, length, slice_get, true};
 ghost use Rattle.std.specs.Vec.{vec_len};
 ghost use Rattle.std.specs.List.{sum_by};
 ghost use Rattle.std.specs.Option.{option_and_then};
 ghost use Rattle.sched_core.specs.Laws.{NothingAfterRelease, OneHolder, OnePip, PublishedOnce, ReleasedBetween, StartsAfterInputs};
+ghost use Rattle.sched_core.specs.Sets.{IsLeast, IsNever};
 ghost use Rattle.sched_core.specs.Sound.{IsSound};
-ghost use Rattle.sched_core.specs.Table.{allows, are_settled, busy_of, has_left, next_state, node_at, pip_of, state_after_event, state_at, worker_of};
+ghost use Rattle.sched_core.specs.Table.{allows, are_settled, busy_of, has_left, may_skip, may_start, next_state, node_at, pip_of, state_after_event, state_at, worker_of};
 ghost use Rattle.sched_board_slots.specs.Closing.{HoldsOneThread};
 ghost use Rattle.sched_board_slots.specs.Finished.{AreSettledSlots};
 ghost use Rattle.sched_board_slots.specs.Slots.{FitsState, own_inputs, slot_at};
@@ -182,18 +183,38 @@ impl<L: Ledger, E: Ledger> Board<L, E> {
         Err(Unfit::new(self.state_of(job), self.core.busy(worker)))
     }
 
+    // The least pip that may be skipped.
+    fn least_skip(&mut self) -> Option<u32>
+        ensures same { self.new ≡ self.old }
+        ensures some { IfSome result (IsLeast (may_skip self.old.core)) }
+        ensures none { IfNone result (IsNever (may_skip self.old.core)) }
+    {
+        self.core.least_skip()
+    }
+
+    // The least pip that may start.
+    fn least_start(&mut self) -> Option<u32>
+        ensures same { self.new ≡ self.old }
+        ensures some { IfSome result (IsLeast (may_start self.old.core)) }
+        ensures none { IfNone result (IsNever (may_start self.old.core)) }
+    {
+        self.core.least_start()
+    }
+
     // A pip for the worker to skip or to start, where it has not left.
     fn claim_next(&mut self, share: &mut Share<L, E>) -> Claim<L, E>
         requires free { IsFree self.old share.old }
         requires here { has_left self.old.core.left share.old.worker ≡ false }
         ensures claims { Claims self.old share.old result self.new share.new }
     {
+        settled_at_the_end();
+        self.core.keeps();
         let worker = share.worker();
-        if let Some(pip) = self.core.least_skip() {
+        if let Some(pip) = self.least_skip() {
             self.fill(Event::Skip { pip, worker }, Held::Skipped, share);
             return Claim::Skipped(pip);
         }
-        if let Some(pip) = self.core.least_start() {
+        if let Some(pip) = self.least_start() {
             let job = Job::new(pip, self.core.is_process(pip));
             self.append(Event::Start { pip, worker }, share);
             return Claim::Job(job);
@@ -223,7 +244,6 @@ impl<L: Ledger, E: Ledger> Board<L, E> {
         requires free { IsFree self.old share.old }
         ensures claims { Claims self.old share.old result self.new share.new }
     {
-        settled_at_the_end();
         if self.core.has_left(share.worker()) {
             return Claim::Left;
         }

@@ -51,6 +51,7 @@ fn compare_digests(
 {
     let own = desc(alloc, plan, sources, pip, inputs)?;
     let mut view = PipView::new(alloc, plan, sources, pip, inputs)?;
+    let _process = ran.desc();
     let _answers = ran.answers();
     match matches(alloc, &own, ran, &mut view) {
         Match::Same => Ok(None),

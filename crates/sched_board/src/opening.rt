@@ -44,14 +44,17 @@ fn shares_of<L: Ledger, E: Ledger>(
     requires marks { All (λ s. (s.parts ≡ 1) × (s.amount ≡ 0)) mark_parts.items }
     ensures { IfOk result (λ shares. shares.items ≡ map new_share (range_with_len 0 workers)) }
 {
-    let mut shares = Vec::with_capacity(alloc, workers as usize)?;
-    let mut events = event_parts.into_iter();
-    let mut marks = mark_parts.into_iter();
+    let mut event_parts = event_parts;
+    let mut mark_parts = mark_parts;
+    let mut shares = Vec::new(alloc);
     'workers: for worker in 0..workers {
-        let (Some(event), Some(mark)) = (events.next(), marks.next()) else {
+        let Some(event) = event_parts.pop() else {
             unreachable!()
         };
-        shares.push_reserved(Share::new(worker, event, mark));
+        let Some(mark) = mark_parts.pop() else {
+            unreachable!()
+        };
+        shares.push(Share::new(worker, event, mark))?;
     }
     Ok(shares)
 }

@@ -215,7 +215,7 @@ module _ (plan : PlanData) (tree : Files) (core : CoreState) (slots : List Held)
   works_if_good : (i : ℕ) (pip : Pip) (r : Result) → slice_get plan.pips i ≡ Some pip → slice_get all i ≡ Some r → is_success r.verdict ≡ true
       → IsNotSkipped plan tree pip.kind × (r ≡ works i pip.kind)
   works_if_good i pip r at has success = elim (cases_Bool (inputs_are_good plan.pips pip.kind all)) [
-    | inl yes ↦ (yes, result_is i pip r at has ∙ ap (λ t. cond t (works i pip.kind) (failed verdicts.Skipped)) yes)
+    | inl going ↦ (going, result_is i pip r at has ∙ ap (λ t. cond t (works i pip.kind) (failed verdicts.Skipped)) going)
     | inr bad ↦
         let skipped : r ≡ failed verdicts.Skipped = result_is i pip r at has ∙ ap (λ t. cond t (works i pip.kind) (failed verdicts.Skipped)) bad in
         absurd (both_ways (is_success r.verdict) (ap (λ (x : Result). is_success x.verdict) skipped) success)
@@ -390,9 +390,9 @@ module _ (plan : PlanData) (tree : Files) (core : CoreState) (slots : List Held)
         | inl good ↦
             absurd (bad_input bad.0 (omega (arith, less, l)) (before bad.0 less) bad.2
             (passes_all (λ k. is_good (slice_get all k)) (targets plan.pips p.0.kind) bad.0 good target))
-        | inr no ↦
+        | inr stopped ↦
             ap (λ (x : Result). x.verdict)
-            (result_is i p.0 r p.1 has ∙ ap (λ t. cond t (works i p.0.kind) (failed verdicts.Skipped)) no)
+            (result_is i p.0 r p.1 has ∙ ap (λ t. cond t (works i p.0.kind) (failed verdicts.Skipped)) stopped)
       ]
 
   -- ## All pips

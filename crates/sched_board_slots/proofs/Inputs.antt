@@ -28,10 +28,10 @@ files_at (s ∷ ss) zero = refl
 files_at (s ∷ ss) (suc j) = files_at ss j
 
 -- pairs of numbers with what is read at them
-pub pairs_alike : (f g : ℕ → Files) (js : List ℕ) → ((j : ℕ) → Has js j → f j ≡ g j) → map (λ j. (j, f j)) js ≡ map (λ j. (j, g j)) js
+pub pairs_alike : (f g : ℕ → Files) (js : List ℕ) → ((j : ℕ) → Has js j → f j ≡ g j) → map {B = ℕ × Files} (λ j. (j, f j)) js ≡ map {B = ℕ × Files} (λ j. (j, g j)) js
 pairs_alike f g [] same = refl
 pairs_alike f g (j ∷ js) same =
-    ap (λ (files : Files). (j, files) ∷ map (λ k. (k, f k)) js) (same j (inl refl))
+    ap (λ (files : Files). (j, files) ∷ map {B = ℕ × Files} (λ k. (k, f k)) js) (same j (inl refl))
     ∙ ap (λ (ps : ByPip). (j, g j) ∷ ps) (pairs_alike f g js (λ k h. same k (inr h)))
 
 module _ (plan : PlanData) (nodes : List Node) (list : IsPipList plan.pips) (graph : IsGraphOf plan nodes) where
@@ -56,7 +56,7 @@ module _ (plan : PlanData) (nodes : List Node) (list : IsPipList plan.pips) (gra
 
   -- the inputs of a pip, each with what is read at its number
   pub each_input : (i : ℕ) (files : List Files) → i < length plan.pips → i ≤ length files
-      → inputs_at plan.pips i files ≡ map (λ j. (j, get_or files j [])) (node_inputs nodes i)
+      → inputs_at plan.pips i files ≡ map {B = ℕ × Files} (λ j. (j, get_or files j [])) (node_inputs nodes i)
   each_input i files l long = inputs_each plan.pips i files (node_inputs nodes i) (are_inputs i l) (all_below i l) long
 
   -- what is read of two lists of files is one where they agree at the inputs

@@ -2,3 +2,4 @@ pub mod OneRun
 pub mod SlotRuns
 pub mod Inputs
 pub mod Following
+pub mod GraphNodes

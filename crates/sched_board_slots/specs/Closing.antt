@@ -106,7 +106,7 @@ abbrev pub held_outcome : Held → Option Outcome
 held_outcome held.Empty = None
 held_outcome (held.Ran facts) = Some facts.outcome
 held_outcome (held.Hit found) = Some (Good found.made)
-held_outcome (held.Plain made) = Some (Good made)
+held_outcome (held.Plain files) = Some (Good files)
 held_outcome held.Skipped = None
 
 abbrev pub FailsByDoubleWrite : Result → Type 0
