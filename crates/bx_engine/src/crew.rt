@@ -1,9 +1,11 @@
 //! The workers of a build: they are made, work on one board in threads of their own, and leave what they came to.
 
-ghost use Rattle.std.specs.Prelude.{◌≡◌, ◌<◌, ◌≤◌, ℕ, All, Bool, IfOk, IfSome, Option, is_some, length, true};
+ghost use Rattle.std.specs.Prelude.{◌≡◌, ◌<◌, ◌≤◌, ◌↔◌, ◌-◌, ◌^◌, ℕ, ⊥, All, Bool, IfOk, IfSome, Option, count_by, is_some, length, min};
+ghost use Rattle.std.specs.Prelude.{replicate, sum_by, true};
 ghost use Rattle.std.specs.Arc.{arc_value};
 ghost use Rattle.std.specs.Vec.{vec_len};
 ghost use Rattle.sched_board.specs.Board.{IsFree};
+ghost use Rattle.worker.specs.Workers.{WorkerData};
 ghost use Rattle.bx_engine.specs.Crews.{AreThrough, IsFresh, IsThrough};
 
 use bx_io::{Gate, KeepReader, Keeper};
@@ -147,7 +149,9 @@ fn work_all<
 
 // What workers counted together.
 fn worked_by<R: KeepReader, L: Ledger, E: Ledger>(crew: &[Worker<R, L, E>]) -> Worked
-    ensures { (cached : Bool) (bound : Option ℕ) → All (IsThrough cached bound) crew.now
+    ensures faults { result.faults ≡ min (sum_by (λ (w : WorkerData). w.tally.faults) crew.now) (2 ^ 64 - 1) }
+    ensures starved { result.starved ≡ count_by (λ (w : WorkerData). w.tally.starved) crew.now }
+    ensures through { (cached : Bool) (bound : Option ℕ) → All (IsThrough cached bound) crew.now
         → AreThrough cached bound (length crew.now) result.faults result.starved }
 {
     let mut faults: u64 = 0;
@@ -178,7 +182,7 @@ fn shares_of<R: KeepReader, L: Ledger, E: Ledger>(
 
 // Whether no worker holds a pip of the board, and each is one of its own.
 fn all_fit<L: Ledger, E: Ledger>(board: &Board<L, E>, shares: &[Share<L, E>]) -> bool
-    ensures { result ≡ true → All (IsFree board.now) shares.now }
+    ensures { result ≡ true ↔ All (IsFree board.now) shares.now }
 {
     'shares: for share in shares {
         if board.fits(share, None).is_err() {
@@ -198,7 +202,11 @@ fn finish_if_fit<L: Ledger, E: Ledger>(
 ) -> Result<Finished, Memory>
     requires all { vec_len shares ≡ L.parts }
     requires some { 0 < vec_len shares }
-    ensures { IfOk result (λ finished. length finished.slots.items ≡ pips) }
+    ensures number { IfOk result (λ finished. length finished.slots.items ≡ pips) }
+    ensures fits { All (IsFree board) shares.items → length board.slots ≡ pips
+        → IfOk result (λ finished. finished.slots.items ≡ board.slots) }
+    ensures unfit { (All (IsFree board) shares.items → length board.slots ≡ pips → ⊥)
+        → IfOk result (λ finished. finished.slots.items ≡ replicate pips Held.Empty) }
 {
     if !all_fit(&board, shares.as_slice()) {
         return Finished::empty(alloc, pips);

@@ -86,6 +86,7 @@ impl Line<Answer, AnswerLine> for AnswerKind {
         }
     }
 
+    #[tactic(auto, using(crate::proofs::AnswersHaveLines::is_line))]
     fn has_line(_value: &Answer) {}
 
     fn is_next(cursor: &Cursor) -> bool {

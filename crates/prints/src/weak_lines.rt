@@ -239,7 +239,14 @@ impl Line<DirInput, DirLine> for IndirKind {
     }
 
     fn has_line(value: &DirInput) {
-        let _path = value.path().text();
+        match value {
+            DirInput::Sealed(_, _, root) => {
+                let _root = root.text();
+            }
+            DirInput::Opaque(_, path) => {
+                let _path = path.text();
+            }
+        }
     }
 
     fn is_next(cursor: &Cursor) -> bool {

@@ -66,16 +66,27 @@ fn append_lists(alloc: Global, text: &mut Vec<u8>, desc: &Desc) -> Result<(), Al
     Ok(())
 }
 
+// What is known of the console file.
+fn known_console(console: Option<&Path>)
+    ensures { IfSome (option_copied console.entry) IsPath }
+{
+    match console {
+        Some(path) => {
+            let _path = path.text();
+        }
+        None => {}
+    }
+}
+
 // What is known of the parts of a process that are there once.
+#[tactic(auto, using(bx_digest::proofs::HashesAreDigests::is_digest))]
 fn known_head(desc: &Desc)
     ensures { IsHeadWeak (weak_parts desc.now) }
 {
     let _exe = desc.process.exe.text();
     let _dir = desc.process.dir.text();
     let _budget = desc.budget;
-    if let Some(path) = desc.process.console.as_ref() {
-        let _path = path.text();
-    }
+    known_console(desc.process.console.as_ref());
 }
 
 // What is known of its lists.

@@ -18,3 +18,4 @@ pub mod SoFar
 pub mod SuccessFits
 pub mod Twins
 pub mod AllHits
+mod Masks

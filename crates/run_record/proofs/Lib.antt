@@ -5,3 +5,5 @@ pub mod LastAccess
 pub mod AnswerLines
 pub mod Same
 pub mod Differ
+pub mod SameWork
+pub mod SameAnswers

@@ -6,8 +6,9 @@ use Rattle.observed.specs.declared.access.Answer.{Answer}
 use Rattle.prints.specs.Processes.{with_sources}
 use Rattle.run_record.specs.Facts.{Facts}
 
--- Two descriptions are the same work: all that their weak texts say is the same, and so are the contents that these name by digest. Which
--- pips made the files and the directories no weak text says, and no run asks.
+-- Two descriptions are the same work: all that their weak texts say is the same, and so are the contents that these name by digest. Nothing else is
+-- compared: which pips made the files and the directories no weak text says and no run asks; and of the declared files a weak text and a run take
+-- those with contents (`files`), so the list in the process itself is not looked at.
 pub record IsSameWork (d e : Desc) : Type 0 where
   pub process : with_sources d.files d.process ≡ with_sources e.files e.process
   pub exe : d.exe ≡ e.exe

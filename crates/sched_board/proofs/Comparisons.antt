@@ -1,6 +1,6 @@
 -- What comparing by digest says of what is shown.
-use Rattle.std.proofs.Common.{◌≡◌, ◌≢◌, ℕ, ◌+◌, List, map, Option, Some, None, refl, ap, sym, ◌∙◌, subst, inl, inr}
-use Rattle.std.specs.Prelude.{IsSomeAnd, MatchOption}
+use Rattle.std.proofs.Common.{◌≡◌, ◌≢◌, ◌↔◌, ℕ, ◌+◌, true, List, map, Option, Some, None, refl, ap, sym, ◌∙◌, subst, inl, inr}
+use Rattle.std.specs.Prelude.{IfSome, IsSome, IsSomeAnd, MatchOption}
 use Rattle.bx_tree.specs.Trees.{Files}
 use Rattle.pip_model_types.specs.declared.desc.Desc.{Desc}
 use Rattle.pip_model_types.specs.declared.pip.ProcessDesc.{ProcessDesc}
@@ -10,11 +10,14 @@ use Rattle.observed.specs.declared.access.Answer.{Answer}
 use Rattle.pip_view_inputs.specs.Results.{ByPip}
 use Rattle.run_record.specs.Digests.{IsReadBack, digest_asked, digest_of_line, weak_of}
 use Rattle.run_record.specs.Facts.{Facts, Sound}
+use Rattle.run_record.specs.Holding.{HoldsNow}
 use Rattle.run_record.specs.Matches.{Compares, FirstDiffer}
 use Rattle.run_record.specs.declared.matching.LineDifference.{LineDifference}
 use Rattle.run_record.specs.declared.matching.Match.TheVariants as matching
 use Rattle.memo_format.specs.Found.{FoundParts}
 use Rattle.sched_board_slots.specs.Slots.{IsOwnFound, IsOwnRecord, own_desc, own_view}
+use Rattle.run_record.proofs.SameWork.{read_both}
+use Rattle.sched_board_slots.proofs.Accepted.{holds_agrees}
 use Rattle.sched_board.specs.Board.{Difference}
 use Rattle.sched_board.specs.Publishing.{ShownDiffers}
 use Rattle.sched_board.specs.declared.shown.Shown.TheVariants as shown
@@ -118,3 +121,14 @@ module _ (plan : PlanData) (tree : Files) (inputs : ByPip) (pip : ℕ) (own : De
       subst (λ (x : Option LineDifference). MatchOption x (map digest_of_line stored ≡ lines_of see asks)
       (λ (y : LineDifference). FirstDiffer (map digest_of_line stored) (lines_of see asks) y.index y.held y.now)) er m in
       hit_same found o is read weak (ap (map digest_of_line) (sym es) ∙ same ∙ ap (lines_of see) ea)
+
+-- a record that holds now is the board's own
+pub ran_holds : (plan : PlanData) (tree : Files) (inputs : ByPip) (pip : ℕ) (facts : Facts) (o : Option ProcessDesc) → IsSome o → Sound facts → IsReadBack facts.desc
+    → IfSome o (λ (process : ProcessDesc). true ≡ true ↔ HoldsNow (own_desc plan tree inputs process) (own_view plan tree inputs pip) facts)
+    → IsOwnRecord plan tree inputs pip facts o
+ran_holds plan tree inputs pip facts None some sound read holds = absurd some
+ran_holds plan tree inputs pip facts (Some process) some sound read holds =
+    let own : Desc = own_desc plan tree inputs process in
+    let see : Ask → Answer = own_view plan tree inputs pip in
+    let now : HoldsNow own see facts = holds.0 refl in
+    (sound, read, read_both facts.desc own now.work read, holds_agrees own see facts now)

@@ -9,7 +9,7 @@ use Rattle.sched_board_slots.specs.Slots.{AllFit}
 use Rattle.sched_board_slots.specs.declared.held.Held.{Held}
 
 -- These are the slots of a board of this plan and these sources whose pips are all completed or skipped: they fit the states of
--- a core with the plan's graph, as legal events lead to.
+-- a sound core with the plan's graph, as that of each legal history is.
 pub record AreSettledSlots (plan : PlanData) (tree : Files) (slots : List Held) : Type 0 where
   pub core : CoreState
   pub graph : IsGraphOf plan core.nodes

@@ -17,9 +17,9 @@ pub struct Finished {
 pub fn empty_slots(alloc: Global, pips: usize) -> Result<Vec<Held>, Memory>
     ensures { IfOk result (λ slots. slots.items ≡ replicate pips Held.Empty) }
 {
-    let mut slots = Vec::with_capacity(alloc, pips)?;
+    let mut slots = Vec::new(alloc);
     'pips: for _ in 0..pips {
-        slots.push_reserved(Held::Empty);
+        slots.push(Held::Empty)?;
     }
     Ok(slots)
 }

@@ -5,7 +5,7 @@ ghost use Rattle.pip_model_types.specs.declared.pip.ProcessDesc.{ProcessDesc as 
 ghost use Rattle.pip_view_inputs.specs.Contents.{bytes_at, input_bytes, input_file};
 ghost use Rattle.pip_view_inputs.specs.Plain.{desc_of, process_in};
 ghost use Rattle.pip_view_inputs.specs.Results.{files_by};
-ghost use Rattle.prints.specs.Processes.{numbered_from};
+ghost use Rattle.prints.specs.Processes.{numbered_from, with_pip};
 ghost use Rattle.run_record.specs.Holding.{HoldsNow, IsSameWork};
 ghost use Rattle.sched_board_slots.specs.Slots.{own_desc, own_view};
 
@@ -72,6 +72,13 @@ fn are_taken(sources: &Sources, inputs: &Inputs, files: &[FileInput], shown: &[M
 
 // ## What a process declares
 
+// Whether a text has the same bytes as another.
+fn is_same_text(a: &Text, b: &Text) -> bool
+    ensures { IsTrue result ↔ a.now ≡ b.now }
+{
+    a.bytes() == b.bytes()
+}
+
 // Whether texts have the same bytes.
 fn are_same_texts(a: &[Text], b: &[Text]) -> bool
     ensures { IsTrue result ↔ a.now ≡ b.now }
@@ -80,11 +87,18 @@ fn are_same_texts(a: &[Text], b: &[Text]) -> bool
         return false;
     }
     'texts: for place in 0..a.len() {
-        if a[place].bytes() != b[place].bytes() {
+        if !is_same_text(&a[place], &b[place]) {
             return false;
         }
     }
     true
+}
+
+// Whether a variable has the same name and value as another.
+fn is_same_variable(a: &EnvPair, b: &EnvPair) -> bool
+    ensures { IsTrue result ↔ a.now ≡ b.now }
+{
+    is_same_text(&a.name, &b.name) && is_same_text(&a.value, &b.value)
 }
 
 // Whether variables have the same names and values.
@@ -95,13 +109,18 @@ fn are_same_variables(a: &[EnvPair], b: &[EnvPair]) -> bool
         return false;
     }
     'pairs: for place in 0..a.len() {
-        if a[place].name.bytes() != b[place].name.bytes()
-            || a[place].value.bytes() != b[place].value.bytes()
-        {
+        if !is_same_variable(&a[place], &b[place]) {
             return false;
         }
     }
     true
+}
+
+// Whether a directory that is taken has the same form and path as another, whichever pips they are of.
+fn is_same_dir(a: &DirInput, b: &DirInput) -> bool
+    ensures { IsTrue result ↔ with_pip 0 a.now ≡ with_pip 0 b.now }
+{
+    a.rank() == b.rank() && a.path() == b.path()
 }
 
 // Whether directories that are taken have the same forms and paths, whichever pips they are of.
@@ -112,7 +131,7 @@ fn are_same_dirs(a: &[DirInput], b: &[DirInput]) -> bool
         return false;
     }
     'dirs: for place in 0..a.len() {
-        if a[place].rank() != b[place].rank() || a[place].path() != b[place].path() {
+        if !is_same_dir(&a[place], &b[place]) {
             return false;
         }
     }

@@ -1,5 +1,5 @@
 -- What contracts see of a worker.
-use Rattle.std.specs.Prelude.{◌≡◌, ◌+◌, ◌≤◌, ℕ, true, false, Option, Some, None}
+use Rattle.std.specs.Prelude.{◌≡◌, ◌+◌, ◌-◌, ◌^◌, ◌<◌, ◌≤◌, ℕ, true, false, Option, Some, None}
 use Rattle.two_phase.specs.Reading.{ReaderData, ReadsIfAny}
 use Rattle.sched_board.specs.Board.{ShareData}
 use Rattle.worker.specs.declared.tally.Leave.{Leave}
@@ -29,11 +29,12 @@ starving w = record w { tally = record { faults = w.tally.faults; starved = true
 abbrev pub leaving : WorkerData → Leave → WorkerData
 leaving w why = record w { tally = record { faults = w.tally.faults; starved = w.tally.starved; left = Some why } }
 
--- A worker goes on: it is the same worker of its board, of which it may have made more events; and it counts as many more faults than
--- before at most as its reader counts more, where that has a bound, and without a reader none.
+-- A worker goes on: it is the same worker of its board, of which it may have made more events; and it counts each lookup that failed, as long as
+-- its count has 64 bits, and nothing else: its reader counts as many at least, where that has a bound, and without a reader there are none.
 pub record GoesOn (before now : WorkerData) : Type 0 where
   pub worker : now.share.worker ≡ before.share.worker
   pub events : before.share.events ≤ now.share.events
   pub counted : ℕ
   pub faults : now.tally.faults ≤ before.tally.faults + counted
+  pub all_counted : now.tally.faults < 2 ^ 64 - 1 → now.tally.faults ≡ before.tally.faults + counted
   pub reads : ReadsIfAny before.reader now.reader counted

@@ -1,9 +1,10 @@
 //! What a worker does with the board while it has the lock: each function begins by asking whether the board fits.
 ghost use Rattle.std.specs.Prelude.{◌≡◌, None, false, true};
-ghost use Rattle.sched_board.specs.Board.{IsBusy};
+ghost use Rattle.sched_core.specs.Table.{has_left};
+ghost use Rattle.sched_board.specs.Board.{IsBusy, IsFree};
 ghost use Rattle.sched_board.specs.Publishing.{fits_job, fits_kind};
 ghost use Rattle.worker.specs.Ended.{has_ended};
-ghost use Rattle.worker.specs.Steps.{MayGo, is_hit as shows_hit};
+ghost use Rattle.worker.specs.Steps.{MayGo, Opens, is_hit as shows_hit};
 ghost use Rattle.worker.specs.Workers.{GoesOn};
 
 use crate::tally::Leave;
@@ -42,6 +43,7 @@ impl<R: KeepReader, L: Ledger, E: Ledger> Worker<R, L, E> {
         requires busy { IsBusy board.old self.old.share job }
         requires first { job.looked ≡ None }
         ensures next { MayGo result self.new }
+        ensures opens { Opens result board.new self.new.share }
         ensures goes { GoesOn self.old self.new }
     {
         match board.inputs(alloc, &job) {
@@ -59,7 +61,7 @@ impl<R: KeepReader, L: Ledger, E: Ledger> Worker<R, L, E> {
         ensures ended { has_ended self.new ≡ true }
         ensures goes { GoesOn self.old self.new }
     {
-        if !self.tally.starved && self.tally.left.is_none() {
+        if self.tally.left.is_none() {
             self.starve();
         }
     }
@@ -88,6 +90,8 @@ impl<R: KeepReader, L: Ledger, E: Ledger> Worker<R, L, E> {
     // Gives a job back: there was no memory for it, or it is none of the worker's own plan.
     pub(crate) fn give_back(&mut self, board: &mut Board<L, E>, job: Job<L, E>)
         ensures ended { has_ended self.new ≡ true }
+        ensures released { IsBusy board.old self.old.share job
+            → has_left board.new.core.left self.old.share.worker ≡ true }
         ensures goes { GoesOn self.old self.new }
     {
         if let Err(unfit) = board.fits(&self.share, Some(&job)) {
@@ -110,6 +114,8 @@ impl<R: KeepReader, L: Ledger, E: Ledger> Worker<R, L, E> {
         requires busy { IsBusy board.old self.old.share job }
         requires shown { fits_job job shown ≡ true }
         ensures ended { result ≡ false → has_ended self.new ≡ true }
+        ensures released { result ≡ false → has_left board.new.core.left self.old.share.worker ≡ true }
+        ensures free { result ≡ true → IsFree board.new self.new.share }
         ensures goes { GoesOn self.old self.new }
     {
         match board.publish(alloc, job, shown, &mut self.share) {
@@ -141,6 +147,9 @@ impl<R: KeepReader, L: Ledger, E: Ledger> Worker<R, L, E> {
         requires first { job.looked ≡ None }
         requires kind { fits_kind job.is_process shown ≡ true }
         ensures ended { result ≡ false → has_ended self.new ≡ true }
+        ensures released { IsBusy board.old self.old.share job → result ≡ false
+            → has_left board.new.core.left self.old.share.worker ≡ true }
+        ensures free { IsBusy board.old self.old.share job → result ≡ true → IsFree board.new self.new.share }
         ensures goes { GoesOn self.old self.new }
     {
         let mut job = job;

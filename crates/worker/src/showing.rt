@@ -13,12 +13,11 @@ use observed::View;
 use pip_model::{Desc, Plan, Sources};
 use pip_view::PipView;
 use pip_view_inputs::{Inputs, desc, plain, process_at};
-use prints::weak;
 use run_record::execute_with;
 use sched_board::Shown;
 use std::alloc::{AllocError, Global};
 use std::sync::ledger::Ledger;
-use two_phase::{LookupResult, lookup_by};
+use two_phase::{LookupResult, lookup};
 
 // What a worker works with.
 #[derive(Clone, Copy)]
@@ -51,8 +50,7 @@ impl<R: KeepReader, L: Ledger, E: Ledger> Worker<R, L, E> {
         let Some(reader) = &mut self.reader else {
             return Ok(None);
         };
-        let weak = weak(alloc, desc)?;
-        match lookup_by(alloc, reader, desc, &weak.digest, view) {
+        match lookup(alloc, reader, desc, view) {
             LookupResult::Hit(found) => Ok(Some(found)),
             LookupResult::Miss => Ok(None),
             LookupResult::Fault => {

@@ -17,7 +17,8 @@ pub enum Leave {
 pub struct Tally {
     /// How many of its lookups failed; at its end the count stays.
     pub faults: u64,
-    /// It left for want of memory, or as its own plan lacks a pip of the board, or has it of another kind.
+    /// It left for want of memory; or its own plan lacks a pip of the board, or has it of another kind; or it had left before,
+    /// and its tally said nothing.
     pub starved: bool,
     /// The refusal for which it left, if it was refused.
     pub left: Option<Leave>,

@@ -55,13 +55,6 @@ impl<R: KeepReader, L: Ledger, E: Ledger> Worker<R, L, E> {
         self.tally.copy()
     }
 
-    /// Its share, as it stands now.
-    pub fn share_now(&self) -> &Share<L, E>
-        ensures { result.now ≡ self.now.share }
-    {
-        &self.share
-    }
-
     /// Its share. The reader is let go.
     pub fn share(self) -> Share<L, E>
         ensures { result ≡ self.share }

@@ -1,5 +1,5 @@
 use Rattle.two_phase.proofs.Tried.{fault, hit, memory, miss}
-use Rattle.two_phase.proofs.lookups.lookup.Goals as goal
+use Rattle.two_phase.proofs.lookups.lookup_by.Goals as goal
 
 pub returns-in-Ok-Some-clause-answer : goal.returns-in-Ok-Some-clause-answer
 returns-in-Ok-Some-clause-answer g c =
