@@ -1,10 +1,12 @@
 //! The workers of a build: they are made, work on one board in threads of their own, and leave what they came to.
 
-ghost use Rattle.std.specs.Prelude.{◌≡◌, ◌<◌, ◌≤◌, ◌↔◌, ◌-◌, ◌^◌, ℕ, ⊥, All, Bool, IfOk, IfSome, Option, count_by, is_some, length, min};
-ghost use Rattle.std.specs.Prelude.{replicate, sum_by, true};
+ghost use Rattle.std.specs.Prelude.{◌≡◌, ◌<◌, ◌≤◌, ◌↔◌, ◌-◌, ◌^◌, ℕ, All, Bool, IfOk, IfSome, Option, count_by, is_some, length, min};
+ghost use Rattle.std.specs.Prelude.{replicate, true};
 ghost use Rattle.std.specs.Arc.{arc_value};
+ghost use Rattle.std.specs.List.{sum_by};
 ghost use Rattle.std.specs.Vec.{vec_len};
 ghost use Rattle.sched_board.specs.Board.{IsFree};
+ghost use Rattle.sched_board_slots.specs.declared.held.Held.TheVariants as held;
 ghost use Rattle.worker.specs.Workers.{WorkerData};
 ghost use Rattle.bx_engine.specs.Crews.{AreThrough, IsFresh, IsThrough};
 
@@ -206,7 +208,7 @@ fn finish_if_fit<L: Ledger, E: Ledger>(
     ensures fits { All (IsFree board) shares.items → length board.slots ≡ pips
         → IfOk result (λ finished. finished.slots.items ≡ board.slots) }
     ensures unfit { (All (IsFree board) shares.items → length board.slots ≡ pips → ⊥)
-        → IfOk result (λ finished. finished.slots.items ≡ replicate pips Held.Empty) }
+        → IfOk result (λ finished. finished.slots.items ≡ replicate pips held.Empty) }
 {
     if !all_fit(&board, shares.as_slice()) {
         return Finished::empty(alloc, pips);

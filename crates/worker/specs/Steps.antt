@@ -1,5 +1,5 @@
 -- What a worker does next, and what that says of it.
-use Rattle.std.specs.Prelude.{◌≡◌, ◌<◌, ℕ, Bool, true, false, None, ⊤, ⊥, is_some, length, slice_get}
+use Rattle.std.specs.Prelude.{◌≡◌, ◌<◌, ℕ, Bool, true, false, None, ⊤, is_some, length, slice_get}
 use Rattle.pip_model.specs.Plans.{PlanData}
 use Rattle.pip_view_inputs.specs.Plain.{process_in}
 use Rattle.sched_core.specs.Table.{has_left}
