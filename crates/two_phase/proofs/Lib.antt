@@ -7,4 +7,4 @@ pub mod Applied
 pub mod Noted
 pub mod Prefixes
 pub mod Recorded
-pub mod Reads
+pub mod ReaderCalls

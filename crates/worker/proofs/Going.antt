@@ -2,7 +2,7 @@
 use Rattle.std.proofs.Common.{◌≡◌, ℕ, ◌+◌, ◌-◌, ◌^◌, ◌<◌, ◌≤◌, min, Bool, true, false, ◌||◌, Option, Some, refl, ap, sym, ◌∙◌, subst, arith}
 use Rattle.std.specs.Prelude.{is_some}
 use Rattle.two_phase.specs.Reading.{ReaderData, ReadsIfAny, ReadsOn}
-use Rattle.two_phase.proofs.Reads.{more_read, none_read}
+use Rattle.two_phase.proofs.ReaderCalls.{more_read, none_read}
 use Rattle.sched_board.specs.Board.{ShareData}
 use Rattle.worker.specs.Ended.{has_ended}
 use Rattle.worker.specs.Workers.{GoesOn, WorkerData}
