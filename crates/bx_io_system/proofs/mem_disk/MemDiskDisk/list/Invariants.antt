@@ -1,0 +1,10 @@
+use Rattle.std.proofs.Common.{◌≡◌, ◌||◌, ◌++◌, ℕ, List, String, Global, string_bytes}
+use Rattle.std.specs.List.{list_any}
+use Rattle.std.specs.Str.{bytes_eq}
+use Rattle.bx_io_system.specs.Files.{is_among}
+use Rattle.bx_io_system.proofs.mem_disk.MemDiskDisk.list.Given as goal
+
+abbrev pub invariant-loop-file : goal.invariant-loop-file
+invariant-loop-file l =
+    (q : List ℕ)
+    → (is_among q l.names.items || is_among (string_bytes l.inside ++ q) l.file-iterator) ≡ is_among (string_bytes l.inside ++ q) l.initial.file-iterator
