@@ -15,9 +15,8 @@ use Rattle.std.specs.declared.io.Error.{Error}
 use Rattle.bx_io.specs.Names.{IsName}
 use Rattle.bx_io_system.specs.Files.{Files, IsBegun, IsFault, IsFaultBut, Renames, Writes, SameBut}
 use Rattle.std.proofs.Common.{[], ◌∷◌, IsSome, ◌≤◌}
-use Rattle.std.specs.IoError.{error_kind}
 use Rattle.std.specs.declared.io.ErrorKind.{ErrorKind}
-use Rattle.std.specs.declared.io.ErrorKind.TheVariants.{NotFound, OutOfMemory}
+use Rattle.std.specs.declared.io.ErrorKind.TheVariants.{NotFound}
 use Rattle.bx_io.specs.Causes.{HasCause, counted, last_count}
 use Rattle.bx_io.specs.declared.keeper.Got.TheVariants as got
 use Rattle.bx_io.specs.declared.keeper.Listed.TheVariants as listed

@@ -1,6 +1,6 @@
 -- What listings of a folder say of its files.
-use Rattle.std.proofs.Common.{◌≡◌, ℕ, Bool, true, false, cond, List, [], ◌∷◌, ◌++◌, append_assoc, length, take, drop, Option, Some, None, map, refl, sym, ap, subst, ◌∙◌, arith, String, Vec, Global, string_bytes, T, Result, Ok, Err, OnOk, IfOk}
-use Rattle.std.specs.Prelude.{◌||◌, ◌&&◌, All, is_some, IsTrue, slice_index}
+use Rattle.std.proofs.Common.{◌≡◌, ℕ, Bool, true, false, cond, List, [], ◌∷◌, ◌++◌, length, take, Some, None, map, refl, sym, ap, subst, ◌∙◌, arith, String, Vec, Global, string_bytes, T, Result, Ok, Err, OnOk}
+use Rattle.std.specs.Prelude.{◌||◌, ◌&&◌, All, is_some}
 use Rattle.std.specs.List.{AllByRecursion, dedup, dedup_from, list_any}
 use Rattle.std.specs.List.Sorted.{IsStrictlySortedBy}
 use Rattle.std.specs.declared.cmp.Ordering.TheVariants.{Equal, Less}
@@ -27,8 +27,6 @@ use Rattle.bx_io.proofs.Mapped.{keys-holdings_of}
 use Rattle.bx_io.specs.Holdings.{AreNames, Holdings}
 use Rattle.bx_io.specs.Names.{IsKindLetter, IsLowerHexDigit, IsName}
 use Rattle.bx_io.specs.Stored.{holdings_of}
-use Rattle.bx_io.specs.Answers.{ListsNames}
-use Rattle.bx_io.specs.declared.keeper.Listed.TheVariants as listed
 use Rattle.bx_io_system.specs.Events.{in_a_row}
 use Rattle.bx_io_system.specs.Files.{Files, IsPlain, ListsFiles, ListsHeld, has_file, is_among, is_below, path_in}
 

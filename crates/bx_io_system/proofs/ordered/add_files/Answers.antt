@@ -1,4 +1,4 @@
-use Rattle.std.proofs.Common.{◌≡◌, ◌∙◌, ◌++◌, arith, string_bytes}
+use Rattle.std.proofs.Common.{◌≡◌, arith, string_bytes}
 use Rattle.std.proofs.lemmas.Grind.{common_steps}
 use Rattle.bx_io_system.specs.Files.{is_among, path_in}
 use Rattle.bx_io_system.proofs.Listing.{below_all_files, below_more, below_none}

@@ -1,6 +1,4 @@
-use Rattle.std.proofs.Common.{◌≡◌, ◌||◌, ◌++◌, ℕ, List, String, Global, string_bytes}
-use Rattle.std.specs.List.{list_any}
-use Rattle.std.specs.Str.{bytes_eq}
+use Rattle.std.proofs.Common.{◌≡◌, ◌||◌, ◌++◌, ℕ, List, string_bytes}
 use Rattle.bx_io_system.specs.Files.{is_among}
 use Rattle.bx_io_system.proofs.mem_disk.MemDiskDisk.list.Given as goal
 
