@@ -21,11 +21,15 @@ pub struct Worker<R: KeepReader, L: Ledger, E: Ledger> {
 }
 
 impl<R: KeepReader, L: Ledger, E: Ledger> Model for Worker<R, L, E> {
+    ghost use Rattle.std.specs.Coded.{codes};
     ghost use Rattle.std.specs.Prelude.{option_map};
+    ghost use Rattle.bx_io.specs.StoreCodes.{holdings_code};
     ghost use Rattle.two_phase.specs.Reading.{reader_data};
     ghost use Rattle.worker.specs.Workers.{WorkerData, worker_data};
 
     ghost Value = { WorkerData };
+
+    ghost coded = { Prim.hlevel (codes, holdings_code) };
 
     ghost view = { λ w. worker_data w.share w.tally (option_map (λ r. reader_data (R.held r) (R.bound r) (R.faults r)) w.reader) };
 }
