@@ -104,7 +104,8 @@ fn files_if(good: bool, outputs: &Made) -> &[MadeFile]
 
 // The counts of a build, of its workers and of what came after them.
 fn counts(tally: RetireTally, worked: Worked) -> Counts
-    ensures { result ≡ counts_in tally worked }
+    ensures counts { result ≡ counts_in tally worked }
+    ensures more { tally.faults ≤ (counts_in tally worked).faults }
 {
     Counts {
         hits: tally.hits,
@@ -119,14 +120,16 @@ fn counts(tally: RetireTally, worked: Worked) -> Counts
 fn show(alloc: Global, plan: &Plan, retired: &Retired, worked: Worked) -> Result<Response, Memory>
     requires { length retired.now.verdicts.items ≡ length plan.now.pips }
     ensures shown { IfOk result (IsResponseOf plan.now.pips retired.now worked) }
+    ensures faults { retired.now.tally.faults ≤ (counts_in retired.now.tally worked).faults }
     ensures paths { OnOk result (AllByRecursion IsPath (paths_of (given_files retired.now.verdicts.items
         retired.now.outputs))) }
 {
+    let counts = counts(retired.tally, worked);
     let verdicts = retired.verdicts.as_slice();
     let good = all_succeeded(verdicts);
     let report = report(alloc, plan, verdicts)?;
     let bytes = output(alloc, files_if(good, &retired.outputs), report.as_slice())?;
-    let notes = notes(alloc, &counts(retired.tally, worked))?;
+    let notes = notes(alloc, &counts)?;
     Ok(Response {
         status: status_if(good),
         bytes,

@@ -6,22 +6,23 @@ pub returns-clause-response : goal.returns-clause-response
 returns-clause-response g c =
     let r = c.in_ok-retired.ensures in
     let change : StoreChange =
-    change_of (g.K.Keeper.known c.args.keeper.now) (g.K.Keeper.known c.retire_empty.new.keeper) (g.K.Keeper.bound c.args.keeper.now)
-    (g.K.Keeper.faults c.args.keeper.now) (g.K.Keeper.faults c.retire_empty.new.keeper) in
+    change_of (g.K.Keeper.known c.args.keeper.now) (g.K.Keeper.known c.retire.new.keeper) (g.K.Keeper.bound c.args.keeper.now)
+    (g.K.Keeper.faults c.args.keeper.now) (g.K.Keeper.faults c.retire.new.keeper) in
     both_ok c.show.result _ _ _
     (λ response shown paths.
-    build_response c.args.plan.now.pips c.args.sources.now c.args.plan.now.tool_budget c.args.cached change c.in_ok-retired.retired response
+    build_response c.args.plan.pips c.args.sources c.args.plan.tool_budget c.args.cached c.args.workers change c.in_ok-retired.retired c.in_ok-crewed.crewed.worked response
     (record {
       build = r.build;
       number = r.number;
       counted = r.counted;
       places = r.places;
       late = r.late;
-      unused = r.no_hits;
-      spared = r.spared;
-      runs = r.runs;
+      unused = λ off. let none = r.alone off in (none.no_hits, none.no_faults);
+      within = r.within;
       usable = r.usable;
       faults = r.faults;
       seen = r.seen;
+      through = c.in_ok-crewed.ensures.through;
+      more = c.show.ensures.faults;
     }) shown paths)
     c.show.ensures.shown c.show.ensures.paths
