@@ -11,5 +11,6 @@ mod BuildsAreShown
 mod ExpectedIsWritten
 mod ResponsesAreExpected
 mod CallsEnd
+mod Crews
 mod OneEnding
 mod SomeEnding

@@ -62,18 +62,18 @@ told_to_end store closed bound (Some x) (Some y) n cached S was used there begun
     let last = some_of y.held (told tells) in
     record { data = y; is = refl; held = last.1 ∙ sym (reads.held_is last.0 last.1) ∙ begun.0 ∙ was }
 
-pub counted_over : (pips : List Pip) (tree : Files) (budget : ℕ) (S : Holdings) (slots : List Held) (accepted : List Bool) (hits missed faulted failed late faults : ℕ)
+pub counted_over : (pips : List Pip) (tree : Files) (budget : ℕ) (S : Holdings) (slots : List Held) (accepted : List Bool) (h missed faulted failed hits late faults : ℕ)
     → AreAccepted pips tree budget slots accepted
-    → ((numbers : List ℕ) → IsHitSet pips tree budget S numbers → CountsAgainst pips (verdicts_there pips tree budget) accepted numbers hits (missed + faulted) faulted)
-    → late ≡ missed + faulted → faults ≡ faulted + failed → CountsOver pips tree budget S slots hits late faults
-counted_over pips tree budget S slots accepted hits missed faulted failed late faults are counts late_is faults_are = record {
+    → ((numbers : List ℕ) → IsHitSet pips tree budget S numbers → CountsAgainst pips (verdicts_there pips tree budget) accepted numbers h (missed + faulted) faulted)
+    → hits ≡ h → late ≡ missed + faulted → faults ≡ faulted + failed → CountsOver pips tree budget S slots hits late faults
+counted_over pips tree budget S slots accepted h missed faulted failed hits late faults are counts hits_are late_is faults_are = record {
   accepted = accepted;
   are_accepted = are;
   counts = λ numbers set.
       let c = counts numbers set in
       record {
-        hits_at_most = c.hits_at_most;
-        hits_at_least = omega (arith, c.hits_at_least, faults_are);
+        hits_at_most = omega (arith, c.hits_at_most, hits_are);
+        hits_at_least = omega (arith, c.hits_at_least, hits_are, faults_are);
         late_at_least = omega (arith, c.late_at_least, late_is);
         late_at_most = omega (arith, c.late_at_most, late_is, faults_are);
       };

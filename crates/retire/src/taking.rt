@@ -161,7 +161,8 @@ fn found_or_run<R: KeepReader, G: Gate>(
 {
     let described = desc(frame.alloc, frame.plan, frame.sources, pip, inputs)?;
     let mut view = PipView::new(frame.alloc, frame.plan, frame.sources, pip, inputs)?;
-    match seek(frame.alloc, reader, &described, &mut view)? {
+    let sought = seek(frame.alloc, reader, &described, &mut view)?;
+    match sought {
         Sought::Hit(found) => Ok(Taken::Hit(found)),
         Sought::Unused => {
             let ran = run_on(frame, tools, described, pip, &mut view, None)?;

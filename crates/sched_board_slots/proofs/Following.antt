@@ -468,9 +468,12 @@ module _ (plan : PlanData) (tree : Files) (core : CoreState) (slots : List Held)
       subst (λ (p : Option ProcessDesc). IsOwnRecord plan tree (own_inputs plan slots i) i facts p) process own.1 in
       let on : IsOwnRecord plan tree (inputs_after plan.pips (Process d) all) i facts (Some d) =
       subst (λ (ins : ByPip). IsOwnRecord plan tree ins i facts (Some d)) inputs mine in
-      inl (facts, slot,
-      run_is_accepted M apart (sequential_desc plan tree d) (sequential_view plan tree i d) facts on.0 on.1 on.2 on.3
-      (slot_of i (held.Ran facts) slot) (λ x k. closing.run i pip d at is going k))
+      inl (
+        facts,
+        slot,
+        run_is_accepted M apart (sequential_desc plan tree d) (sequential_view plan tree i d) facts on.0 on.1 on.2 on.3
+            (slot_of i (held.Ran facts) slot) (λ x k. closing.run i pip d at is going k),
+      )
   by_slot i pip d (held.Hit found) good at is going inputs slot own = inr (found, slot)
   by_slot i pip d (held.Plain made) good at is going inputs slot own =
       let process : process_in (slice_get plan.pips i) ≡ Some d = ap process_in at ∙ ap kind_process is in

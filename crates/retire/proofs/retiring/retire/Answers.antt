@@ -54,7 +54,7 @@ returns-clause-counts g c =
     let last_told : IsTold last S = tells_of S is used there begun c.in_ok-decided.ensures.reader told tells_closed in
     let follows = c.in_ok-decided.ensures.follows S (told_some last S last_told) (sym (some_mapped f c.decide_all.new.reader) ∙ told_there last S last_told) fair in
     counted_over c.args.plan.now.pips c.args.sources.now c.args.plan.now.tool_budget S c.args.finished.slots.items c.in_ok-decided.decided.accepted.items
-    c.in_ok-decided.decided.ways.hits c.in_ok-decided.decided.ways.missed c.in_ok-decided.decided.ways.faulted c.in_ok-failed.failed _ _ follows.2
+    c.in_ok-decided.decided.ways.hits c.in_ok-decided.decided.ways.missed c.in_ok-decided.decided.ways.faulted c.in_ok-failed.failed _ _ _ follows.2
     (λ numbers set. follows.3 numbers set) c.tally_of.ensures.hits c.tally_of.ensures.late c.tally_of.ensures.faults
 
 pub returns-clause-within : goal.returns-clause-within
@@ -247,4 +247,3 @@ pub returns-clause-puts : goal.returns-clause-puts
 returns-clause-puts g c =
     only_put (g.K.Keeper.known c.args.keeper.now) (g.K.Keeper.known c.close_if.new.keeper) (g.K.Keeper.known c.save_if.new.keeper) c.in_ok-decided.decided.records.items c.as_slice-2.result.now
     c.close_if.ensures.known c.in_ok-decided.ensures.records c.as_slice-2.ensures.value c.save_if.ensures.first
-
