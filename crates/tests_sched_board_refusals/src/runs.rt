@@ -1,5 +1,5 @@
 //! A process that looks at two paths, and records of its runs.
-use crate::plans::blob;
+use bx_digest::Blob;
 use observed::{Answer, PathSet};
 use pip_model::{Desc, ProcessDesc};
 use pip_view_inputs::no_files;
@@ -53,7 +53,7 @@ pub(crate) fn process(alloc: Global) -> Result<ProcessDesc, Fail> {
 
 // The process of a weak text, with that tool.
 fn desc(alloc: Global, weak: &str) -> Result<Desc, Fail> {
-    let exe = blob(alloc, TOOL)?;
+    let exe = Blob::new(alloc, TOOL.as_bytes().to_vec(alloc)?)?;
     let files = no_files(alloc)?;
     let parts = read_weak(alloc, weak.as_bytes())?;
     Ok(Desc {
@@ -64,11 +64,16 @@ fn desc(alloc: Global, weak: &str) -> Result<Desc, Fail> {
     })
 }
 
+fn add(answers: &mut Vec<Answer>, answer: &Answer) -> Result<(), Fail> {
+    answers.push(answer.share()?)?;
+    Ok(())
+}
+
 // That nothing is at the first path, and this at the second.
 fn answers(alloc: Global, second: &Answer) -> Result<Vec<Answer>, Fail> {
     let mut answers = Vec::new(alloc);
-    answers.push(Answer::Absent)?;
-    answers.push(second.share()?)?;
+    add(&mut answers, &Answer::Absent)?;
+    add(&mut answers, second)?;
     Ok(answers)
 }
 

@@ -1,8 +1,6 @@
 //! What a worker shows that the board does not find.
 ghost use Rattle.std.specs.Prelude.{◌≡◌};
 
-use crate::boards::{board_for, claimed, give_back, look, told};
-use crate::plans::{NO_FILES, one_file, run_and_copy, sources, write_and_copy};
 use crate::runs::{SMALLER, TOOL_FILE, WEAK, process, record};
 use bx_digest::Digest;
 use observed::Answer;
@@ -16,6 +14,10 @@ use std::process::Abort;
 use std::sync::ledger;
 use std::sync::ledger::Ledger;
 use std::test::Fail;
+use tests_with_board::{
+    NO_FILES, board_for, claimed, give_back, look, made_by, run_and_copy, sources, told,
+    write_and_copy,
+};
 
 fn is_digest(digest: Digest, text: &str) -> bool {
     Digest::from_hex(text.as_bytes()) == Ok(digest)
@@ -111,10 +113,11 @@ fn another_text<L: Ledger, E: Ledger, R: Abort>(
     requires events { (events.name ≡ L.name) × (events.parts ≡ L.parts) × (L.parts ≡ 1) }
     requires marks { (marks.name ≡ E.name) × (marks.parts ≡ E.parts) × (E.parts ≡ 1) }
 {
-    let other = one_file(alloc, "out/a", "y")?;
+    let other = write_and_copy(alloc, "y")?;
+    let files = sources(alloc, NO_FILES)?;
     let new = board_for::<L, E>(
         alloc,
-        write_and_copy(alloc)?,
+        write_and_copy(alloc, "x")?,
         sources(alloc, NO_FILES)?,
         1,
         events,
@@ -130,7 +133,14 @@ fn another_text<L: Ledger, E: Ledger, R: Abort>(
         Ok(()) => assert!(rt; false),
         Err(unfit) => assert!(rt; unfit.state().is_none() && unfit.busy() == Some(0)),
     }
-    let (job, unlike) = files_are_refused(rt, alloc, &mut board, &mut shares[0], job, other);
+    let made = match made_by(rt, alloc, &*other, &*files, &board, &shares[0], &job) {
+        Ok(made) => made,
+        Err(_) => {
+            job.drop_unfit();
+            rt.abort()
+        }
+    };
+    let (job, unlike) = files_are_refused(rt, alloc, &mut board, &mut shares[0], job, made);
     expect(rt, &unlike, 0, OF_Y, OF_X);
     give_back(rt, &mut board, &mut shares[0], job);
     assert!(rt; shares.len() == 1);

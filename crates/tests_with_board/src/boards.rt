@@ -1,4 +1,4 @@
-//! Boards, and what their workers do there. What may not happen ends the program.
+//! Boards, and what their workers do there.
 ghost use Rattle.std.specs.Prelude.{◌≡◌, ◌<◌, ◌≤◌, All, IfOk};
 ghost use Rattle.std.specs.Vec.{vec_len};
 
@@ -30,8 +30,8 @@ fn parts_of<L: Ledger>(
     Ok(parts)
 }
 
-// A board of a plan, with the shares of its workers.
-pub(crate) fn board_for<L: Ledger, E: Ledger>(
+/// A board of a plan, with the shares of its workers.
+pub fn board_for<L: Ledger, E: Ledger>(
     alloc: Global,
     plan: Arc<Plan>,
     sources: Arc<Sources>,
@@ -56,8 +56,8 @@ pub(crate) fn board_for<L: Ledger, E: Ledger>(
     Ok(Board::new(alloc, blank, plan, sources, workers)?)
 }
 
-// A job of the least pip that may start.
-pub(crate) fn claimed<L: Ledger, E: Ledger>(
+/// A job of the least pip that may start.
+pub fn claimed<L: Ledger, E: Ledger>(
     rt: &impl Abort,
     board: &mut Board<L, E>,
     share: &mut Share<L, E>,
@@ -69,8 +69,8 @@ pub(crate) fn claimed<L: Ledger, E: Ledger>(
     }
 }
 
-// What a worker is told that is given no pip.
-pub(crate) fn told<L: Ledger, E: Ledger>(
+/// What a worker is told that is given no pip.
+pub fn told<L: Ledger, E: Ledger>(
     rt: &impl Abort,
     board: &mut Board<L, E>,
     share: &mut Share<L, E>,
@@ -88,8 +88,8 @@ pub(crate) fn told<L: Ledger, E: Ledger>(
     }
 }
 
-// What the job's pip makes, of what the slots of its inputs hold.
-fn made_by<L: Ledger, E: Ledger>(
+/// What the job's pip makes, of what the slots of its inputs hold.
+pub fn made_by<L: Ledger, E: Ledger>(
     rt: &impl Abort,
     alloc: Global,
     plan: &Plan,
@@ -123,8 +123,8 @@ fn complete<L: Ledger, E: Ledger>(
     }
 }
 
-// Makes the job's pip, publishes its files and completes it.
-pub(crate) fn make<L: Ledger, E: Ledger>(
+/// Makes the job's pip, publishes its files and completes it.
+pub fn make<L: Ledger, E: Ledger>(
     rt: &impl Abort,
     alloc: Global,
     plan: &Plan,
@@ -142,8 +142,8 @@ pub(crate) fn make<L: Ledger, E: Ledger>(
     }
 }
 
-// Gives the job's pip back.
-pub(crate) fn give_back<L: Ledger, E: Ledger>(
+/// Gives the job's pip back.
+pub fn give_back<L: Ledger, E: Ledger>(
     rt: &impl Abort,
     board: &mut Board<L, E>,
     share: &mut Share<L, E>,
@@ -153,8 +153,8 @@ pub(crate) fn give_back<L: Ledger, E: Ledger>(
     board.release(job, share);
 }
 
-// The job's process is not found in the store.
-pub(crate) fn look<L: Ledger, E: Ledger>(
+/// The job's process is not found in the store.
+pub fn look<L: Ledger, E: Ledger>(
     rt: &impl Abort,
     board: &mut Board<L, E>,
     share: &mut Share<L, E>,
