@@ -1,12 +1,13 @@
 -- What comparing by digest says of what is shown.
 use Rattle.std.proofs.Common.{◌≡◌, ◌≢◌, ℕ, ◌+◌, List, map, Option, Some, None, refl, ap, sym, ◌∙◌, subst, inl, inr}
-use Rattle.std.specs.Prelude.{IsSomeAnd, MatchOption}
+use Rattle.std.specs.Prelude.{IfOk, IsSomeAnd, MatchOption, Result, Ok, Err, slice_get}
 use Rattle.bx_tree.specs.Trees.{Files}
 use Rattle.pip_model_types.specs.declared.desc.Desc.{Desc}
 use Rattle.pip_model_types.specs.declared.pip.ProcessDesc.{ProcessDesc}
 use Rattle.pip_model.specs.Plans.{PlanData}
 use Rattle.observed.specs.declared.ask.Ask.{Ask}
 use Rattle.observed.specs.declared.access.Answer.{Answer}
+use Rattle.pip_view_inputs.specs.Plain.{process_in}
 use Rattle.pip_view_inputs.specs.Results.{ByPip}
 use Rattle.run_record.specs.Digests.{IsReadBack, digest_asked, digest_of_line, weak_of}
 use Rattle.run_record.specs.Facts.{Facts, Sound}
@@ -14,9 +15,9 @@ use Rattle.run_record.specs.Matches.{Compares, FirstDiffer}
 use Rattle.run_record.specs.declared.matching.LineDifference.{LineDifference}
 use Rattle.run_record.specs.declared.matching.Match.TheVariants as matching
 use Rattle.memo_format.specs.Found.{FoundParts}
-use Rattle.sched_board_slots.specs.Slots.{IsOwnFound, IsOwnRecord, own_desc, own_view}
+use Rattle.sched_board_slots.specs.Slots.{IsOwnFound, IsOwnRecord, is_good_outcome, own_desc, own_view}
 use Rattle.sched_board.specs.Board.{Difference}
-use Rattle.sched_board.specs.Publishing.{ShownDiffers}
+use Rattle.sched_board.specs.Publishing.{Compared, ComparedRun, ShownDiffers}
 use Rattle.sched_board.specs.declared.shown.Shown.TheVariants as shown
 
 abbrev pub differ : ℕ → List ℕ → List ℕ → Difference
@@ -27,6 +28,12 @@ same_difference index held held' own own' eh eo = ap (λ (h : List ℕ). differ 
 
 pub is_difference : (d : Difference) (index : ℕ) (held own : List ℕ) → d.index ≡ index → d.held ≡ held → d.own ≡ own → d ≡ differ index held own
 is_difference d index held own ei eh eo = ap (λ (i : ℕ). differ i d.held d.own) ei ∙ same_difference index d.held held d.own own eh eo
+
+-- what a comparison of a record says, where the pip is this process or none
+abbrev pub RanCompared : PlanData → Files → ByPip → ℕ → Facts → Option ProcessDesc → Option Difference → Type 0
+RanCompared plan tree inputs pip facts o None =
+    (is_good_outcome facts.outcome ≡ is_good_outcome facts.outcome) × IsOwnRecord plan tree inputs pip facts o
+RanCompared plan tree inputs pip facts o (Some d) = ShownDiffers plan tree inputs pip (shown.Ran facts) d o
 
 module _ (plan : PlanData) (tree : Files) (inputs : ByPip) (pip : ℕ) (own : Desc) (see : Ask → Answer) (view : see ≡ own_view plan tree inputs pip) where
   abbrev IsOwn : Option ProcessDesc → Type 0
@@ -64,6 +71,22 @@ module _ (plan : PlanData) (tree : Files) (inputs : ByPip) (pip : ℕ) (own : De
         refl,
         subst (λ (a : Ask → Answer). FirstDiffer (map digest_of_line facts.answers) (lines_of a facts.paths) index held now) view c.1,
       )
+
+  pub ran_compared : (facts : Facts) (o : Option ProcessDesc) (d : Option Difference) → IsOwn o → ComparedRun own see facts d
+      → RanCompared plan tree inputs pip facts o d
+  ran_compared facts o None is (sound, read, read_held, same) = (refl, ran_same facts o is sound read read_held same)
+  ran_compared facts o (Some d) is (inl (first, other)) =
+      subst (λ (x : Difference). ShownDiffers plan tree inputs pip (shown.Ran facts) x o) (sym (is_difference d 0 d.held d.own first refl refl))
+      (ran_other facts d.held d.own o is other)
+  ran_compared facts o (Some d) is (inr (k, place, differs)) =
+      subst (λ (x : Difference). ShownDiffers plan tree inputs pip (shown.Ran facts) x o) (sym (is_difference d (k + 1) d.held d.own place refl refl))
+      (ran_differs facts k d.held d.own o is differs)
+
+  pub ran_answer : {M : Type 0} (facts : Facts) (r : Result (Option Difference) M) → IsOwn (process_in (slice_get plan.pips pip))
+      → IfOk r (ComparedRun own see facts) → IfOk r (Compared plan tree inputs pip (shown.Ran facts))
+  ran_answer facts (Err e) is h = h
+  ran_answer facts (Ok None) is h = ran_compared facts (process_in (slice_get plan.pips pip)) None is h
+  ran_answer facts (Ok (Some d)) is h = ran_compared facts (process_in (slice_get plan.pips pip)) (Some d) is h
 
   -- ## Hits
 
