@@ -12,7 +12,7 @@ use Rattle.run_record.specs.Digests.{IsReadBack, digest_asked, digest_of_line, w
 use Rattle.run_record.specs.Facts.{Facts, Sound}
 use Rattle.run_record.specs.Matches.{Compares, FirstDiffer}
 use Rattle.run_record.specs.declared.matching.Match.TheVariants as matching
-use Rattle.memo_format.specs.Found.{output_lines, outputs_digest}
+use Rattle.memo_format.specs.Found.{FoundParts, output_lines, outputs_digest}
 use Rattle.sched_core.specs.declared.event.Event.TheVariants as event
 use Rattle.sched_board.specs.Board.{BoardData, CanComplete, Difference, JobData, ShareData, filled, one_more}
 use Rattle.sched_board_slots.specs.Slots.{HoldsOn, HoldsOwn, is_good_held, own_desc, own_inputs, own_plain, own_view}
@@ -72,6 +72,13 @@ ComparedRun own see facts None = Sound facts × IsReadBack own × IsReadBack fac
 ComparedRun own see facts (Some d) =
     ((d.index ≡ 0) × Compares own facts see (matching.OtherDesc d.held d.own))
     ⊎ ((k : ℕ) × (d.index ≡ k + 1) × Compares own facts see (matching.Differs k d.held d.own))
+
+-- How what a lookup found compares with a process and a view: it agrees, and the process's weak text reads back, or it differs so.
+abbrev pub ComparedHit : Desc → (Ask → Answer) → FoundParts → Option Difference → Type 0
+ComparedHit own see found None =
+    IsReadBack own × (found.entry.weak ≡ weak_of own) × (map digest_of_line found.answers ≡ map (digest_asked see) found.paths)
+ComparedHit own see found (Some d) =
+    DiffersAt found.entry.weak (weak_of own) (map digest_of_line found.answers) (map (digest_asked see) found.paths) d
 
 -- What is shown agrees with the board's own, or differs so.
 abbrev pub Compared : PlanData → Files → ByPip → ℕ → Shown → Option Difference → Type 0

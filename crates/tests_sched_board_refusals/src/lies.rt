@@ -1,23 +1,19 @@
 //! What a worker shows that the board does not find.
 ghost use Rattle.std.specs.Prelude.{◌≡◌};
 
-use crate::runs::{SMALLER, TOOL_FILE, WEAK, process, record};
+use crate::runs::{SMALLER, TOOL_FILE, WEAK, must, process, record};
 use bx_digest::Digest;
 use observed::Answer;
-use pip_model::Made;
-use run_record::Record;
-use sched_board::{Board, Finished, Held, Job, NewBoard, PublishFault, Share, Shown, Unlike};
+use pip_model::{Made, Plan};
+use pip_view_inputs::{Inputs, plain};
+use sched_board::{Finished, Held, Job, Unlike};
 use sched_core::Event;
 use std::alloc::Global;
 use std::marker::Brand;
 use std::process::Abort;
 use std::sync::ledger;
 use std::sync::ledger::Ledger;
-use std::test::Fail;
-use tests_with_board::{
-    NO_FILES, board_for, claimed, give_back, look, made_by, run_and_copy, sources, told,
-    write_and_copy,
-};
+use tests_with_board::{Bench, Fate, NO_FILES, run_and_copy, sources, write_and_copy};
 
 fn is_digest(digest: Digest, text: &str) -> bool {
     Digest::from_hex(text.as_bytes()) == Ok(digest)
@@ -30,71 +26,23 @@ fn expect(rt: &impl Abort, unlike: &Unlike, index: u64, held: &str, own: &str) {
     assert!(rt; is_digest(unlike.now(), own));
 }
 
-// Shows files of the job's pip, which are refused.
-fn files_are_refused<L: Ledger, E: Ledger>(
-    rt: &impl Abort,
-    alloc: Global,
-    board: &mut Board<L, E>,
-    share: &mut Share<L, E>,
-    job: Job<L, E>,
-    made: Made,
-) -> (Job<L, E>, Unlike) {
-    assert!(rt; board.fits(share, Some(&job)).is_ok());
-    assert!(rt; !job.is_process() && job.looked().is_none());
-    match board.publish(alloc, job, Shown::Plain(made), share) {
-        Ok(shut) => {
-            board.complete(shut, share);
-            rt.abort()
-        }
-        Err(PublishFault::Memory { job }) => {
-            job.drop_unfit();
-            rt.abort()
-        }
-        Err(PublishFault::Refused { job, unlike }) => (job, unlike),
+// What is shown is refused.
+fn refused<L: Ledger, E: Ledger>(rt: &impl Abort, fate: Fate<L, E>) -> (Job<L, E>, Unlike) {
+    match fate {
+        Fate::Refused(job, unlike) => (job, unlike),
+        Fate::Done | Fate::Gone(_) => rt.abort(),
     }
 }
 
-// Shows the record of a run of the job's pip, which is refused.
-fn run_is_refused<L: Ledger, E: Ledger>(
-    rt: &impl Abort,
-    alloc: Global,
-    board: &mut Board<L, E>,
-    share: &mut Share<L, E>,
-    job: Job<L, E>,
-    ran: Record,
-) -> (Job<L, E>, Unlike) {
-    assert!(rt; board.fits(share, Some(&job)).is_ok());
-    assert!(rt; job.is_process() && job.looked() == Some(false));
-    match board.publish(alloc, job, Shown::Ran(ran), share) {
-        Ok(shut) => {
-            board.complete(shut, share);
-            rt.abort()
-        }
-        Err(PublishFault::Memory { job }) => {
+// What is shown is published.
+fn done<L: Ledger, E: Ledger>(rt: &impl Abort, fate: Fate<L, E>) {
+    match fate {
+        Fate::Done => {}
+        Fate::Refused(job, _) => {
             job.drop_unfit();
             rt.abort()
         }
-        Err(PublishFault::Refused { job, unlike }) => (job, unlike),
-    }
-}
-
-// Shows the record of a run of the job's pip, which is done then.
-fn run_is_done<L: Ledger, E: Ledger>(
-    rt: &impl Abort,
-    alloc: Global,
-    board: &mut Board<L, E>,
-    share: &mut Share<L, E>,
-    job: Job<L, E>,
-    ran: Record,
-) {
-    assert!(rt; board.fits(share, Some(&job)).is_ok());
-    assert!(rt; job.is_process() && job.looked() == Some(false));
-    match board.publish(alloc, job, Shown::Ran(ran), share) {
-        Ok(shut) => board.complete(shut, share),
-        Err(PublishFault::Refused { job, unlike: _ } | PublishFault::Memory { job }) => {
-            job.drop_unfit();
-            rt.abort()
-        }
+        Fate::Gone(_) => rt.abort(),
     }
 }
 
@@ -103,62 +51,50 @@ const OF_X: &str = "1efcbe8c45bfaa34b977209334574153357e06b87ff1d6eccc3f00090624
 
 const OF_Y: &str = "dcf400899cf302ec95d285393d410309617c2073b4f612f264cc03d56a5135ef";
 
+// What pip 0 writes where it writes `y`.
+fn other_file(rt: &impl Abort, alloc: Global) -> Made {
+    let plan = must(rt, write_and_copy(alloc, "y"));
+    let files = must(rt, sources(alloc, NO_FILES));
+    let inputs = Inputs::new(alloc);
+    must(rt, plain(alloc, &*plan, &*files, 0, &inputs))
+}
+
 // Shows another text of pip 0 than it writes, and gives the pip back.
 fn another_text<L: Ledger, E: Ledger, R: Abort>(
     rt: &R,
     alloc: Global,
     events: ledger::Blank,
     marks: ledger::Blank,
-) -> Result<Finished, Fail>
+) -> Finished
     requires events { (events.name ≡ L.name) × (events.parts ≡ L.parts) × (L.parts ≡ 1) }
     requires marks { (marks.name ≡ E.name) × (marks.parts ≡ E.parts) × (E.parts ≡ 1) }
 {
-    let other = write_and_copy(alloc, "y")?;
-    let files = sources(alloc, NO_FILES)?;
-    let new = board_for::<L, E>(
-        alloc,
-        write_and_copy(alloc, "x")?,
-        sources(alloc, NO_FILES)?,
-        1,
-        events,
-        marks,
-    )?;
-    let NewBoard {
-        mut board,
-        mut shares,
-    } = new;
-    assert!(rt; shares.len() == 1);
-    let job = claimed(rt, &mut board, &mut shares[0]);
-    match board.fits(&shares[0], None) {
-        Ok(()) => assert!(rt; false),
-        Err(unfit) => assert!(rt; unfit.state().is_none() && unfit.busy() == Some(0)),
+    let plan = must(rt, write_and_copy(alloc, "x"));
+    let files = must(rt, sources(alloc, NO_FILES));
+    let mut bench = must(rt, Bench::<L, E>::new(alloc, plan, files, 1, events, marks));
+    let job = must(rt, bench.claimed(0));
+    match bench.unfit(0) {
+        None => rt.abort(),
+        Some(unfit) => assert!(rt; unfit.state().is_none() && unfit.busy() == Some(0)),
     }
-    let made = match made_by(rt, alloc, &*other, &*files, &board, &shares[0], &job) {
-        Ok(made) => made,
-        Err(_) => {
-            job.drop_unfit();
-            rt.abort()
-        }
-    };
-    let (job, unlike) = files_are_refused(rt, alloc, &mut board, &mut shares[0], job, made);
+    let fate = bench.show_files(alloc, 0, job, other_file(rt, alloc));
+    let (job, unlike) = refused(rt, fate);
     expect(rt, &unlike, 0, OF_Y, OF_X);
-    give_back(rt, &mut board, &mut shares[0], job);
-    assert!(rt; shares.len() == 1);
-    Ok(board.finish(shares))
+    must(rt, bench.give_back(0, job));
+    must(rt, bench.finish(1))
 }
 
 #[test]
-fn another_text_is_refused(rt: HostRuntime) -> Result<(), Fail> {
+fn another_text_is_refused(rt: HostRuntime) {
     let made = another_text::<Brand, Brand, _>(
         &rt,
         rt.alloc(),
         ledger::Blank::new(1),
         ledger::Blank::new(1),
-    )?;
+    );
     let (pip, worker) = (0, 0);
     let events: &[Event] = &[Event::Start { pip, worker }, Event::Release { pip, worker }];
     assert!(rt; made.history.as_slice() == events);
-    Ok(())
 }
 
 // The digests of both weak texts.
@@ -177,41 +113,36 @@ fn another_run<L: Ledger, E: Ledger, R: Abort>(
     alloc: Global,
     events: ledger::Blank,
     marks: ledger::Blank,
-) -> Result<Finished, Fail>
+) -> Finished
     requires events { (events.name ≡ L.name) × (events.parts ≡ L.parts) × (L.parts ≡ 1) }
     requires marks { (marks.name ≡ E.name) × (marks.parts ≡ E.parts) × (E.parts ≡ 1) }
 {
-    let other = record(alloc, SMALLER, &Answer::Absent)?;
-    let lie = record(alloc, WEAK, &Answer::File)?;
-    let ran = record(alloc, WEAK, &Answer::Absent)?;
-    let plan = run_and_copy(alloc, process(alloc)?)?;
-    let new = board_for::<L, E>(alloc, plan, sources(alloc, TOOL_FILE)?, 1, events, marks)?;
-    let NewBoard {
-        mut board,
-        mut shares,
-    } = new;
-    assert!(rt; shares.len() == 1);
-    let mut job = claimed(rt, &mut board, &mut shares[0]);
-    look(rt, &mut board, &mut shares[0], &mut job);
-    let (job, unlike) = run_is_refused(rt, alloc, &mut board, &mut shares[0], job, other);
+    let plan = must(rt, run_and_copy(alloc, process(rt, alloc)));
+    let files = must(rt, sources(alloc, TOOL_FILE));
+    let mut bench = must(rt, Bench::<L, E>::new(alloc, plan, files, 1, events, marks));
+    let mut job = must(rt, bench.claimed(0));
+    must(rt, bench.look(0, &mut job));
+    let other = record(rt, alloc, SMALLER, &Answer::Absent);
+    let (job, unlike) = refused(rt, bench.show_run(alloc, 0, job, other));
     expect(rt, &unlike, 0, OF_SMALLER, OF_WEAK);
-    let (job, unlike) = run_is_refused(rt, alloc, &mut board, &mut shares[0], job, lie);
+    let lie = record(rt, alloc, WEAK, &Answer::File);
+    let (job, unlike) = refused(rt, bench.show_run(alloc, 0, job, lie));
     expect(rt, &unlike, 2, OF_FILE, OF_ABSENT);
-    run_is_done(rt, alloc, &mut board, &mut shares[0], job, ran);
-    assert!(rt; told(rt, &mut board, &mut shares[0]) == "skipped");
-    assert!(rt; told(rt, &mut board, &mut shares[0]) == "over");
-    assert!(rt; shares.len() == 1);
-    Ok(board.finish(shares))
+    let ran = record(rt, alloc, WEAK, &Answer::Absent);
+    done(rt, bench.show_run(alloc, 0, job, ran));
+    assert!(rt; bench.told(0) == "skipped");
+    assert!(rt; bench.told(0) == "over");
+    must(rt, bench.finish(1))
 }
 
 #[test]
-fn another_run_is_refused(rt: HostRuntime) -> Result<(), Fail> {
+fn another_run_is_refused(rt: HostRuntime) {
     let made = another_run::<Brand, Brand, _>(
         &rt,
         rt.alloc(),
         ledger::Blank::new(1),
         ledger::Blank::new(1),
-    )?;
+    );
     let (pip, worker, hit, good) = (0, 0, false, false);
     let events: &[Event] = &[
         Event::Start { pip, worker },
@@ -224,5 +155,4 @@ fn another_run_is_refused(rt: HostRuntime) -> Result<(), Fail> {
     let slots = made.slots.as_slice();
     assert!(rt; slots.len() == 2);
     assert!(rt; matches!(&slots[0], Held::Ran(_)) && matches!(&slots[1], Held::Skipped));
-    Ok(())
 }

@@ -21,6 +21,19 @@ pub(crate) fn add(
     Ok(())
 }
 
+// The graph of these pips: whether each is a process, and its inputs.
+pub(crate) fn graph_of(
+    rt: &impl Abort,
+    alloc: Global,
+    pips: &[(bool, &[u32])],
+) -> Result<Graph, Fail> {
+    let mut graph = Graph::new(alloc);
+    for (is_process, inputs) in pips {
+        add(rt, alloc, &mut graph, *is_process, inputs)?;
+    }
+    Ok(graph)
+}
+
 #[derive(Drop)]
 pub(crate) struct Both {
     core: Core,
