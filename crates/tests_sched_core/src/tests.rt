@@ -1,9 +1,8 @@
 use crate::both::{Both, graph_of};
 use crate::dice::{some_event, some_graph};
 use sched_core::{Event, PipState};
-use std::alloc::Global;
+use std::alloc::{AllocError, Global};
 use std::process::Abort;
-use std::test::Fail;
 
 // A process, a pip that is none, one that waits for both, and one that waits for that.
 const FOUR_PIPS: &[(bool, &[u32])] = &[(true, &[]), (false, &[]), (false, &[0, 1]), (false, &[2])];
@@ -11,15 +10,18 @@ const FOUR_PIPS: &[(bool, &[u32])] = &[(true, &[]), (false, &[]), (false, &[0, 1
 // Two pips that wait for nothing, and are no processes.
 const TWO_PIPS: &[(bool, &[u32])] = &[(false, &[]), (false, &[])];
 
-fn both_of(
-    rt: &impl Abort,
-    alloc: Global,
-    pips: &[(bool, &[u32])],
-    workers: u32,
-) -> Result<Both, Fail> {
-    let graph = graph_of(rt, alloc, pips)?;
-    let same = graph_of(rt, alloc, pips)?;
-    Both::new(rt, alloc, graph, same, workers)
+// What is there, or else the test ends.
+fn must<T>(rt: &impl Abort, answer: Result<T, AllocError>) -> T {
+    match answer {
+        Ok(value) => value,
+        Err(_) => rt.abort(),
+    }
+}
+
+fn both_of(rt: &impl Abort, alloc: Global, pips: &[(bool, &[u32])], workers: u32) -> Both {
+    let graph = must(rt, graph_of(rt, alloc, pips));
+    let same = must(rt, graph_of(rt, alloc, pips));
+    must(rt, Both::new(rt, alloc, graph, same, workers))
 }
 
 // The letters of the eight events: a start, a lookup that hits or misses, a publication of a success or a failure,
@@ -88,22 +90,14 @@ fn expect(rt: &impl Abort, both: &mut Both, pip: u32, worker: u32, allowed: &[u8
 }
 
 // After the events of a row just these of the eight are allowed of the pip and the worker. Worker 2 has left before.
-fn expect_cells(
-    rt: &impl Abort,
-    alloc: Global,
-    row: &str,
-    pip: u32,
-    worker: u32,
-    allowed: &str,
-) -> Result<(), Fail> {
+fn expect_cells(rt: &impl Abort, alloc: Global, row: &str, pip: u32, worker: u32, allowed: &str) {
     for letter in LETTERS {
-        let mut both = both_of(rt, alloc, FOUR_PIPS, 3)?;
+        let mut both = both_of(rt, alloc, FOUR_PIPS, 3);
         make_row(rt, &mut both, "12s 12r");
         make_row(rt, &mut both, row);
         let is_allowed = both.step(rt, &event_of(pip, worker, *letter)).is_ok();
         assert!(rt; is_allowed == allowed.as_bytes().contains(letter));
     }
-    Ok(())
 }
 
 // Events, a pip, and the events of it that are then allowed of worker 0, and of worker 1.
@@ -137,18 +131,17 @@ const CELLS: &[(&str, u32, &str, &str)] = &[
 ];
 
 #[test]
-fn all_cells_of_the_table(rt: HostRuntime) -> Result<(), Fail> {
+fn all_cells_of_the_table(rt: HostRuntime) {
     for (row, pip, first, second) in CELLS {
-        expect_cells(&rt, rt.alloc(), row, *pip, 0, first)?;
-        expect_cells(&rt, rt.alloc(), row, *pip, 1, second)?;
-        expect_cells(&rt, rt.alloc(), row, *pip, 2, "")?;
+        expect_cells(&rt, rt.alloc(), row, *pip, 0, first);
+        expect_cells(&rt, rt.alloc(), row, *pip, 1, second);
+        expect_cells(&rt, rt.alloc(), row, *pip, 2, "");
     }
-    Ok(())
 }
 
 #[test]
-fn a_pip_waits_for_both_of_its_inputs(rt: HostRuntime) -> Result<(), Fail> {
-    let mut both = both_of(&rt, rt.alloc(), FOUR_PIPS, 3)?;
+fn a_pip_waits_for_both_of_its_inputs(rt: HostRuntime) {
+    let mut both = both_of(&rt, rt.alloc(), FOUR_PIPS, 3);
     make(&rt, &mut both, 0, 0, b"shgc");
     expect(&rt, &mut both, 2, 0, b"");
     make(&rt, &mut both, 1, 1, b"sr");
@@ -157,30 +150,29 @@ fn a_pip_waits_for_both_of_its_inputs(rt: HostRuntime) -> Result<(), Fail> {
     make(&rt, &mut both, 1, 2, b"c");
     expect(&rt, &mut both, 2, 1, b"");
     expect(&rt, &mut both, 2, 2, b"s");
-    Ok(())
 }
 
 #[test]
-fn a_pip_of_another_worker_does_not_start(rt: HostRuntime) -> Result<(), Fail> {
-    let mut both = both_of(&rt, rt.alloc(), TWO_PIPS, 2)?;
+fn a_pip_of_another_worker_does_not_start(rt: HostRuntime) {
+    let mut both = both_of(&rt, rt.alloc(), TWO_PIPS, 2);
     make(&rt, &mut both, 0, 0, b"s");
-    let Err(illegal) = both.step(&rt, &event_of(0, 1, b's')) else {
-        return Ok(assert!(rt; false));
-    };
-    assert_eq!(rt; illegal.state(), Some(PipState::Held(0)));
-    assert_eq!(rt; illegal.busy(), None);
-    assert_eq!(rt; illegal.left(), false);
+    match both.step(&rt, &event_of(0, 1, b's')) {
+        Ok(()) => assert!(rt; false),
+        Err(illegal) => {
+            assert!(rt; illegal.state() == Some(PipState::Held(0)));
+            assert!(rt; illegal.busy() == None && !illegal.left());
+        }
+    }
     make(&rt, &mut both, 0, 0, b"gc");
-    assert_eq!(rt; both.state(0), Some(PipState::Done(true)));
-    assert_eq!(rt; both.state(1), Some(PipState::Waiting));
-    Ok(())
+    assert!(rt; both.state(0) == Some(PipState::Done(true)));
+    assert!(rt; both.state(1) == Some(PipState::Waiting));
 }
 
 // Four workers, and pips by chance.
-fn some_pips(rt: &impl Abort, alloc: Global, seed: u64, pips: u32) -> Result<Both, Fail> {
-    let graph = some_graph(rt, alloc, seed, pips)?;
-    let same = some_graph(rt, alloc, seed, pips)?;
-    Both::new(rt, alloc, graph, same, 4)
+fn some_pips(rt: &impl Abort, alloc: Global, seed: u64, pips: u32) -> Both {
+    let graph = must(rt, some_graph(rt, alloc, seed, pips));
+    let same = must(rt, some_graph(rt, alloc, seed, pips));
+    must(rt, Both::new(rt, alloc, graph, same, 4))
 }
 
 // Gives both 200 events, allowed or not.
@@ -206,18 +198,16 @@ fn allowed_events(rt: &impl Abort, both: &mut Both, seed: u64) -> u32 {
 }
 
 #[test]
-fn random_events_are_taken_as_the_table_says(rt: HostRuntime) -> Result<(), Fail> {
+fn random_events_are_taken_as_the_table_says(rt: HostRuntime) {
     for seed in 0..4 {
-        let mut both = some_pips(&rt, rt.alloc(), seed, 30)?;
+        let mut both = some_pips(&rt, rt.alloc(), seed, 30);
         any_events(&rt, &mut both, seed);
     }
-    Ok(())
 }
 
 #[test]
-fn a_long_legal_list_is_taken(rt: HostRuntime) -> Result<(), Fail> {
-    let mut both = some_pips(&rt, rt.alloc(), 1, 60)?;
+fn a_long_legal_list_is_taken(rt: HostRuntime) {
+    let mut both = some_pips(&rt, rt.alloc(), 1, 60);
     let made = allowed_events(&rt, &mut both, 7);
     assert!(rt; 100 <= made);
-    Ok(())
 }

@@ -2,7 +2,7 @@
 ghost use Rattle.std.specs.Prelude.{◌≡◌, ◌<◌, ◌≤◌, All, IfOk};
 ghost use Rattle.std.specs.Vec.{vec_len};
 
-use crate::Fault;
+use bx_tree::Memory;
 use pip_model::{Plan, Sources};
 use sched_board::{Blank, Board, NewBoard};
 use sched_core::MAX_WORKERS;
@@ -15,7 +15,7 @@ fn parts_of<L: Ledger>(
     alloc: Global,
     whole: ledger::Share<L>,
     workers: u32,
-) -> Result<Vec<ledger::Share<L>>, Fault>
+) -> Result<Vec<ledger::Share<L>>, Memory>
     requires { (whole.parts ≡ workers) × (whole.amount ≡ 0) }
     ensures { IfOk result (λ parts. (vec_len parts ≡ workers)
         × All (λ s. (s.parts ≡ 1) × (s.amount ≡ 0)) parts.items) }
@@ -36,7 +36,7 @@ pub(crate) fn board_for<L: Ledger, E: Ledger>(
     workers: u32,
     events: ledger::Blank,
     marks: ledger::Blank,
-) -> Result<NewBoard<L, E>, Fault>
+) -> Result<NewBoard<L, E>, Memory>
     requires workers { (0 < workers) × (workers ≤ MAX_WORKERS) }
     requires events { (events.name ≡ L.name) × (events.parts ≡ L.parts) × (L.parts ≡ workers) }
     requires marks { (marks.name ≡ E.name) × (marks.parts ≡ E.parts) × (E.parts ≡ workers) }

@@ -1,6 +1,6 @@
 //! Plans of two pips.
 use crate::Fault;
-use bx_tree::{FileInput, Path, Text, read_bundle};
+use bx_tree::{FileInput, Memory, Path, Text, Tree, read_bundle};
 use pip_model::{CopyDesc, MAX_PIPS, Pip, PipKind, PipList, Plan, ProcessDesc, Sources, WriteDesc};
 use std::alloc::Global;
 use std::sync::Arc;
@@ -53,7 +53,10 @@ pub fn plan_of(alloc: Global, pips: PipList) -> Result<Arc<Plan>, Fault> {
         return Err(Fault::Pip);
     }
     let plan = Plan::build(alloc, pips, 9)?;
-    Ok(Arc::new(alloc, plan)?)
+    match Arc::new(alloc, plan) {
+        Ok(plan) => Ok(plan),
+        Err(_) => Err(Fault::Memory),
+    }
 }
 
 /// Pip 0 writes `x` to `out/a`, and pip 1 to `out/b`.
@@ -80,10 +83,15 @@ pub fn run_and_copy(alloc: Global, process: ProcessDesc) -> Result<Arc<Plan>, Fa
     plan_of(alloc, pips)
 }
 
+fn shared(alloc: Global, tree: Tree) -> Result<Arc<Sources>, Memory> {
+    let sources = Sources::new(alloc, tree)?;
+    Ok(Arc::new(alloc, sources)?)
+}
+
 /// The files of a bundle.
 pub fn sources(alloc: Global, bundle: &str) -> Result<Arc<Sources>, Fault> {
     match read_bundle(alloc, bundle.as_bytes()) {
-        Ok(tree) => Ok(Arc::new(alloc, Sources::new(alloc, tree)?)?),
+        Ok(tree) => Ok(shared(alloc, tree)?),
         Err(_) => Err(Fault::Bundle),
     }
 }
