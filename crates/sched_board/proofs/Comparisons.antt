@@ -100,7 +100,7 @@ module _ (plan : PlanData) (tree : Files) (inputs : ByPip) (pip : ℕ) (own : De
   hit_compared found None None is h = absurd is
   hit_compared found None (Some d) is h = absurd is
   hit_compared found (Some process) None is (read, weak, lines) =
-      (refl, subst IsReadBack is read, (weak ∙ ap weak_of is, lines ∙ ap (λ (a : Ask → Answer). lines_of a found.paths) view))
+      (refl, (subst IsReadBack is read, (weak ∙ ap weak_of is, lines ∙ ap (λ (a : Ask → Answer). lines_of a found.paths) view)))
   hit_compared found (Some process) (Some d) is h =
       subst (λ (a : Ask → Answer). DiffersAt found.entry.weak (weak_of (own_desc plan tree inputs process)) (map digest_of_line found.answers) (lines_of a found.paths) d) view
       (subst (λ (x : Desc). DiffersAt found.entry.weak (weak_of x) (map digest_of_line found.answers) (lines_of see found.paths) d) is h)
@@ -146,7 +146,3 @@ module _ (own : Desc) (see : Ask → Answer) (found : FoundParts) (held weak : L
             (subst (λ (x : List ℕ). FirstDiffer (stored_lines found.answers) (seen_lines found.paths) at.index at.held x) (sym second)
             (first_of stored asks r (Some at) es ea er h)),
       )
-
-  pub no_other_line : (stored : List Answer) (asks : List Ask) (r : Option LineDifference) → IsReadBack own → held ≡ weak
-      → stored ≡ found.answers → asks ≡ found.paths → r ≡ None → First stored asks r → ComparedHit own see found None
-  no_other_line stored asks r read same es ea er h = (read, sym mine ∙ same ∙ other, first_of stored asks r None es ea er h)
