@@ -63,6 +63,24 @@ impl<R: KeepReader, L: Ledger, E: Ledger> Worker<R, L, E> {
         }
     }
 
+    // Claims what is next, and works on it if it is a pip; whether it goes on.
+    fn turn<H: Wait, G: Gate>(
+        &mut self,
+        rt: &H,
+        site: &Site<'_, G>,
+        board: &Mutex<Board<L, E>>,
+        bell: &Condvar,
+    ) -> bool
+        ensures ended { result ≡ false → has_ended self.new ≡ true }
+        ensures goes { GoesOn self.old self.new }
+    {
+        match self.next(rt, site.alloc, board, bell) {
+            Next::Job(job, inputs) => self.run(rt, site, board, job, &inputs),
+            Next::Skipped | Next::NotYet => true,
+            Next::Stop => false,
+        }
+    }
+
     /// Claims pips and works on them, until nothing is left to do, it is refused, or memory is wanting: in the last two cases
     /// it gives its pip back, for another worker. Whoever waits is woken after each pip that it skips, completes or gives
     /// back. Other workers may work on the same board at the same time, each with the same plan and sources; one with
@@ -87,11 +105,7 @@ impl<R: KeepReader, L: Ledger, E: Ledger> Worker<R, L, E> {
             gate,
         };
         'pips: for _ in rt.forever() {
-            let goes_on = match self.next(rt, alloc, board, bell) {
-                Next::Job(job, inputs) => self.run(rt, &site, board, job, &inputs),
-                Next::Skipped | Next::NotYet => true,
-                Next::Stop => false,
-            };
+            let goes_on = self.turn(rt, &site, board, bell);
             bell.notify_all();
             if !goes_on {
                 return;
