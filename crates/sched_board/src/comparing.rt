@@ -90,7 +90,8 @@ fn compare_ran(
 {
     what_holds_is_run();
     reads_back(ran.desc());
-    if holds_now(alloc, plan, sources, pip, inputs, ran)? {
+    let holds = holds_now(alloc, plan, sources, pip, inputs, ran)?;
+    if holds {
         return Ok(None);
     }
     compare_digests(alloc, plan, sources, pip, inputs, ran)

@@ -33,6 +33,20 @@ goes_read w now before after n share was is reads faults = record {
       (subst (λ (r : Option ReaderData). ReadsIfAny r (Some after) n) (sym was) reads);
 }
 
+-- it looked up once, and that did not fail
+pub goes_well : (w now : WorkerData) (before after : ReaderData) → now.share ≡ w.share → now.tally.faults ≡ w.tally.faults → w.reader ≡ Some before → now.reader ≡ Some after
+    → ReadsOn before after 0 → GoesOn w now
+goes_well w now before after share faults was is reads = record {
+  worker = ap (λ (s : ShareData). s.worker) share;
+  events = omega (arith, ap (λ (s : ShareData). s.events) share);
+  counted = 0;
+  faults = omega (arith, faults);
+  all_counted = λ l. omega (arith, faults);
+  reads =
+      subst (λ (r : Option ReaderData). ReadsIfAny w.reader r 0) (sym is)
+      (subst (λ (r : Option ReaderData). ReadsIfAny r (Some after) 0) (sym was) reads);
+}
+
 -- ## When it is through
 
 or_true : (b : Bool) → (b || true) ≡ true

@@ -66,13 +66,13 @@ pips-init g c =
 pub decide-requires-clause-slots : goal.decide-requires-clause-slots
 decide-requires-clause-slots g c =
     let long = c.pips.invariant.slots_long in
-    let same = ap length c.as_slice.ensures.value in
+    let same = ap length c.as_slice-slots.ensures.value in
     omega (arith, long, same)
 
 pub decide-requires-clause-shared : goal.decide-requires-clause-shared
 decide-requires-clause-shared g c =
     subst (λ (ts : List Slot). KeepsShared c.pips.shared.files c.pips.shared.dirs (all_shared (take c.pips.number c.args.frame.now.plan.now.pips) (map slot_files ts)))
-    (sym c.as_slice.ensures.value) c.pips.invariant.shared
+    (sym c.as_slice-slots.ensures.value) c.pips.invariant.shared
 
 pub add-requires : goal.add-requires
 add-requires g c =
@@ -102,7 +102,7 @@ pips-preserved g c =
     let slot_is : slot_at held n ≡ c.in-Some.slot = front_is held n c.in-Some.slot (into_iter_items c.next.new.self) front in
     let decides : DecidesAt pips tree budget now (slot_at held n) d.slots.items n (slice_get pips n) next =
     subst (λ (s : Held). DecidesAt pips tree budget now s d.slots.items n (slice_get pips n) next) (sym slot_is)
-    (subst (λ (ts : List Slot). DecidesAt pips tree budget now c.in-Some.slot ts n (slice_get pips n) next) c.as_slice.ensures.value c.in_ok-next.ensures.decided) in
+    (subst (λ (ts : List Slot). DecidesAt pips tree budget now c.in-Some.slot ts n (slice_get pips n) next) c.as_slice-slots.ensures.value c.in_ok-next.ensures.decided) in
     let reads = c.in_ok-next.ensures.reader in
     let one = counted_at pips tree budget now (slot_at held n) d.slots.items d.verdicts.items n next (slice_get pips n) refl inv.verdicts_long decides in
     let add = c.in_ok-add.ensures in
