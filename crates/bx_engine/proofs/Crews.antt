@@ -6,7 +6,7 @@ use Rattle.std.proofs.lemmas.List.Sums.{sum_by-cons}
 use Rattle.bx_io.specs.Causes.{IsWithin}
 use Rattle.two_phase.specs.Reading.{ReaderData, ReadsIfAny, ReadsOn}
 use Rattle.worker.specs.Ended.{has_ended}
-use Rattle.worker.specs.Workers.{GoesOn, WorkerData, new_tally}
+use Rattle.worker.specs.Workers.{GoesOn, WorkerData}
 use Rattle.worker.specs.declared.tally.Tally.{Tally}
 use Rattle.bx_engine.specs.Crews.{AreThrough, IsFresh, IsThrough}
 

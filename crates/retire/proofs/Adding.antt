@@ -41,7 +41,7 @@ use Rattle.one_thread.proofs.GoingThrough.{IsSoFar, all_good, made_is}
 use Rattle.retire_compared.specs.Compared.{desc_after, view_after}
 use Rattle.retire.specs.Runs.{IsOfSuccess, RunsAs, SucceedsAt}
 use Rattle.retire.specs.Deciding as deciding
-use Rattle.retire.specs.Deciding.{DecidedBy, Decides}
+use Rattle.retire.specs.Deciding.{Decides}
 use Rattle.retire.specs.Accepting.{IsAccepted}
 use Rattle.retire.specs.Counting.{is_accepted}
 use Rattle.retire.specs.Taking.{IsOfNow, TakesFrom, save_if, outcome_in, record_in, way_of}

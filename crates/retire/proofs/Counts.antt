@@ -30,7 +30,7 @@ use Rattle.one_thread.proofs.NotSkipped.{outcome_ran}
 use Rattle.one_thread.specs.Views.{ended_result}
 use Rattle.retire.specs.Counting.{one_accepted, one_fault, one_hit, one_miss}
 use Rattle.retire.specs.Deciding as deciding
-use Rattle.retire.specs.Deciding.{DecidedBy, Decides, DecidesAt}
+use Rattle.retire.specs.Deciding.{Decides, DecidesAt}
 use Rattle.retire.specs.Saving.{IsSuccess}
 use Rattle.retire.specs.Taking.{IsOfNow, save_if, outcome_in, record_in, way_of}
 use Rattle.retire.specs.declared.deciding.Next.{Next}

@@ -30,7 +30,7 @@ use Rattle.one_thread.proofs.OnePip.{not_skipped, skipped}
 use Rattle.retire.specs.Accepting.{IsAccepted}
 use Rattle.retire.specs.declared.taking.Sought.TheVariants as sought
 use Rattle.retire.specs.Deciding as deciding
-use Rattle.retire.specs.Deciding.{DecidedBy, DecidedPlainly, Decides, DecidesAt}
+use Rattle.retire.specs.Deciding.{DecidedBy, DecidesAt}
 use Rattle.retire.specs.Taking.{IsOfNow, SeeksBy, TakesBy, save_if, outcome_in, record_in, way_of}
 use Rattle.retire.specs.declared.deciding.Next.{Next}
 use Rattle.retire.specs.declared.taking.Taken.{Taken}

@@ -7,7 +7,6 @@ use Rattle.std.proofs.lemmas.List.{drop_all}
 use Rattle.std.proofs.lemmas.Option.{slice_get-get_or, same_Some}
 use Rattle.std.proofs.Math.Seq.{drop-cons}
 use Rattle.bx_tree.specs.Trees.{Files}
-use Rattle.bx_tree.specs.Members.{Has}
 use Rattle.bx_tree.proofs.Lists.{all_push}
 use Rattle.bx_tree.proofs.Members.{has_front, has_last}
 use Rattle.bx_io.specs.Holdings.{Holdings}

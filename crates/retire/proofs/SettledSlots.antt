@@ -11,7 +11,6 @@ use Rattle.pip_model_types.specs.declared.made.Slot.{Slot}
 use Rattle.pip_model_types.specs.declared.pip.Pip.{Pip}
 use Rattle.pip_model_types.specs.declared.pip.PipKind.{PipKind}
 use Rattle.pip_model_types.specs.declared.pip.PipKind.TheVariants.{Process}
-use Rattle.pip_model_types.specs.declared.pip.ProcessDesc.{ProcessDesc}
 use Rattle.pip_model.specs.Plans.{PlanData}
 use Rattle.observed.specs.declared.ask.Ask.{Ask}
 use Rattle.observed.specs.declared.access.Answer.{Answer}
@@ -28,7 +27,6 @@ use Rattle.one_thread.specs.OneThread.{Result, inputs_are_good, made_by, one_thr
 use Rattle.one_thread.specs.Views.{slots_are_good}
 use Rattle.one_thread.proofs.EachResult.{goods, inputs, number_of_results}
 use Rattle.one_thread.proofs.GoingThrough.{IsSoFar}
-use Rattle.retire_compared.specs.Compared.{desc_after, view_after}
 use Rattle.sched_board_slots.specs.Closing as closing
 use Rattle.sched_board_slots.specs.Slots.{slot_at}
 use Rattle.sched_board_slots.specs.declared.held.Held.{Held}
@@ -38,7 +36,7 @@ use Rattle.retire.specs.Builds.{IsFair}
 use Rattle.retire.specs.Counting.{one_miss}
 use Rattle.retire.specs.Deciding as deciding
 use Rattle.retire.specs.Deciding.{Decides, DecidesAt}
-use Rattle.retire.specs.Runs.{RunsAs, results_before}
+use Rattle.retire.specs.Runs.{RunsAs}
 use Rattle.retire.specs.Settled.{IsSettledOver}
 use Rattle.retire.specs.Taking.{IsOfNow, TakesBy, way_of}
 use Rattle.retire.specs.declared.deciding.Next.{Next}
@@ -56,7 +54,7 @@ module _ (plan : PlanData) (tree : Files) (S : Holdings) (cached : Bool) (slots 
 
   pub settled_right : (reader : Option ReaderData) → IfSome reader (λ r. r.held ≡ Some S) → IsRight plan.pips tree plan.tool_budget reader
   settled_right None held = inl refl
-  settled_right (Some r) held = inr (S, record { data = r; is = refl; held = held }, settled_fair)
+  settled_right (Some r) held = inr (S, record { seen = r; is = refl; held = held }, settled_fair)
 
   -- ## One process
 

@@ -1,5 +1,5 @@
 -- The processes that a store would spare run: they and the others are at most all that run.
-use Rattle.std.proofs.Common.{◌≡◌, ℕ, ◌+◌, ◌<◌, ◌≤◌, ◌&&◌, Bool, true, false, not, cond, List, [], ◌∷◌, ◌++◌, length, refl, sym, ap, ◌∙◌, subst, inl, inr, arith, append_assoc}
+use Rattle.std.proofs.Common.{◌≡◌, ℕ, ◌+◌, ◌<◌, ◌≤◌, ◌&&◌, Bool, true, false, not, cond, List, [], ◌∷◌, ◌++◌, length, sym, ap, ◌∙◌, subst, inl, inr, arith, append_assoc}
 use Rattle.std.specs.List.{AllByRecursion}
 use Rattle.std.proofs.lemmas.List.Sums.{sum_by-cons}
 use Rattle.bx_tree.specs.Trees.{Files}
@@ -8,9 +8,8 @@ use Rattle.pip_model_types.specs.declared.pip.Pip.{Pip}
 use Rattle.pip_model_types.specs.declared.pip.PipKind.{PipKind}
 use Rattle.pip_model_types.specs.declared.pip.PipKind.TheVariants.{Process, Copy, Write, Seal}
 use Rattle.violations.specs.Verdicts.{is_skip}
-use Rattle.violations.specs.declared.verdict.Verdict.{Verdict}
 use Rattle.violations.specs.declared.verdict.Verdict.TheVariants as verdicts
-use Rattle.one_thread.specs.OneThread.{Result, failed, inputs_are_good, made_by, one_thread, process_outcome, result_of, run_count, runs, verdicts_of, worked}
+use Rattle.one_thread.specs.OneThread.{Result, failed, made_by, one_thread, process_outcome, result_of, run_count, runs, verdicts_of, worked}
 use Rattle.one_thread.proofs.NotSkipped.{outcome_ran}
 use Rattle.retire_compared.specs.Compared.{inputs_after}
 use Rattle.retire.specs.Accepting.{is_among, is_marked, others_from, without_run}

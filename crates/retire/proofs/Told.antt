@@ -15,9 +15,9 @@ use Rattle.retire.specs.declared.taking.Taken.{Taken}
 
 -- There is a reader, which tells that this is held.
 pub record IsTold (reader : Option ReaderData) (S : Holdings) : Type 0 where
-  pub data : ReaderData
-  pub is : reader ≡ Some data
-  pub held : data.held ≡ Some S
+  pub seen : ReaderData
+  pub is : reader ≡ Some seen
+  pub held : seen.held ≡ Some S
 
 -- nothing is read, or what is held is fair
 abbrev pub IsRight : List Pip → Files → ℕ → Option ReaderData → Type 0
@@ -28,12 +28,12 @@ told_takes reader S d see t told takes = (subst (λ (r : Option ReaderData). Tak
 
 -- what is told now was told before
 pub told_before : (a b : Option ReaderData) (n : ℕ) (S : Holdings) → ReadsIfAny a b n → IsTold b S → IsTold a S
-told_before a None n S reads told = let never : None ≡ Some told.data = told.is in absurd cc
+told_before a None n S reads told = let never : None ≡ Some told.seen = told.is in absurd cc
 told_before None (Some y) n S reads told = absurd reads
 told_before (Some x) (Some y) n S reads told = record {
-  data = x;
+  seen = x;
   is = refl;
-  held = reads.held_is S (ap (λ (r : ReaderData). r.held) (same_Some y told.data told.is) ∙ told.held);
+  held = reads.held_is S (ap (λ (r : ReaderData). r.held) (same_Some y told.seen told.is) ∙ told.held);
 }
 
 pub none_before : (a b : Option ReaderData) (n : ℕ) → ReadsIfAny a b n → b ≡ None → a ≡ None
@@ -67,7 +67,7 @@ right_before pips tree budget a b n reads right = elim right [
 -- by the words of clauses
 pub told_of : (reader : Option ReaderData) (S : Holdings) → IfSome reader (λ r. r.held ≡ Some S) → IsSome reader → IsTold reader S
 told_of None S held some = let never : false ≡ true = some in absurd cc
-told_of (Some r) S held some = record { data = r; is = refl; held = held }
+told_of (Some r) S held some = record { seen = r; is = refl; held = held }
 
 pub there_is : (reader : Option ReaderData) → is_some reader ≡ true → (r : ReaderData) × (reader ≡ Some r)
 there_is None e = absurd cc
@@ -100,10 +100,10 @@ none_is f (Some r) e = let never : true ≡ false = e in absurd cc
 
 pub told_some : (reader : Option ReaderData) (S : Holdings) → IsTold reader S → IfSome reader (λ r. r.held ≡ Some S)
 told_some None S told = tt
-told_some (Some r) S told = ap (λ (x : ReaderData). x.held) (same_Some r told.data told.is) ∙ told.held
+told_some (Some r) S told = ap (λ (x : ReaderData). x.held) (same_Some r told.seen told.is) ∙ told.held
 
 pub told_there : (reader : Option ReaderData) (S : Holdings) → IsTold reader S → is_some reader ≡ true
-told_there None S told = let never : None ≡ Some told.data = told.is in absurd cc
+told_there None S told = let never : None ≡ Some told.seen = told.is in absurd cc
 told_there (Some r) S told = refl
 
 pub none_given : (reader : Option ReaderData) (P : ReaderData → Type 0) → reader ≡ None → IfSome reader P

@@ -6,7 +6,6 @@ use Rattle.std.proofs.lemmas.Option.{same_Some}
 use Rattle.bx_tree.specs.Trees.{Files}
 use Rattle.bx_io.specs.Causes.{IsWithin}
 use Rattle.bx_io.specs.Holdings.{Change, Holdings, Keeps, StoreTold, held_in, holdings_after}
-use Rattle.bx_io.specs.Told.{Stays}
 use Rattle.bx_io.proofs.Changes.{makes_none, nothing_before}
 use Rattle.pip_model_types.specs.Makers.{IsPipList}
 use Rattle.pip_model_types.specs.declared.made.Slot.{Slot}
@@ -20,7 +19,7 @@ use Rattle.violations.specs.declared.verdict.Verdict.{Verdict}
 use Rattle.one_thread.specs.Keeping.{AreKept}
 use Rattle.one_thread.specs.Outputs.{AreOutputs}
 use Rattle.one_thread.proofs.KeptApart.{are_outputs}
-use Rattle.one_thread.specs.OneThread.{all_made, made_by, one_thread, outputs_of, put_all, run_count, verdicts_of}
+use Rattle.one_thread.specs.OneThread.{all_made, made_by, one_thread, outputs_of, put_all, run_count}
 use Rattle.retire.specs.Runs.{NoneReserved}
 use Rattle.retire.specs.Accepting.{AreAccepted}
 use Rattle.retire.specs.Builds.{Fair, IsBuild, IsFair, LeavesFair, LeavesUsable}
@@ -60,7 +59,7 @@ told_to_end store closed bound None last n cached S was used there begun reads t
 told_to_end store closed bound (Some x) None n cached S was used there begun reads told tells = absurd reads
 told_to_end store closed bound (Some x) (Some y) n cached S was used there begun reads told tells =
     let last = some_of y.held (told tells) in
-    record { data = y; is = refl; held = last.1 ∙ sym (reads.held_is last.0 last.1) ∙ begun.0 ∙ was }
+    record { seen = y; is = refl; held = last.1 ∙ sym (reads.held_is last.0 last.1) ∙ begun.0 ∙ was }
 
 pub counted_over : (pips : List Pip) (tree : Files) (budget : ℕ) (S : Holdings) (slots : List Held) (accepted : List Bool) (h missed faulted failed hits late faults : ℕ)
     → AreAccepted pips tree budget slots accepted

@@ -41,8 +41,8 @@ use Rattle.one_thread.proofs.EachResult.{number_of_results, result_of_all}
 use Rattle.one_thread.proofs.NotSkipped.{outcome_ran}
 use Rattle.retire_compared.specs.Compared.{inputs_after}
 use Rattle.sched_core.specs.Sound.{IsSound}
-use Rattle.sched_core.specs.States.{is_bad, is_begun, is_done_well, is_skipped}
-use Rattle.sched_core.specs.Table.{CoreState, all_good, are_settled, is_settled, node_inputs, state_at}
+use Rattle.sched_core.specs.States.{is_bad, is_begun, is_done_well, is_settled, is_skipped}
+use Rattle.sched_core.specs.Table.{CoreState, all_good, are_settled, node_inputs, state_at}
 use Rattle.sched_core.specs.declared.state.PipState.{PipState}
 use Rattle.sched_core.specs.declared.state.PipState.TheVariants as state
 use Rattle.sched_board_slots.specs.Closing.{ComparedWithSlots, FailsByDoubleWrite, FollowsSequential, HitsAreOf, IsNotSkipped, IsOfSlot, IsResultOf, held_outcome, sequential, sequential_desc, sequential_outcome, sequential_view}

@@ -3,7 +3,6 @@ use Rattle.std.specs.Prelude.{is_some, option_map, slice_get}
 use Rattle.std.specs.List.{AllByRecursion}
 use Rattle.std.specs.Option.{option_to_list}
 use Rattle.std.specs.Vec.Iter.{into_iter_items}
-use Rattle.bx_io.specs.Holdings.{Holdings}
 use Rattle.pip_model_types.specs.declared.made.Slot.{Slot}
 use Rattle.pip_model_types.specs.declared.pip.Pip.{Pip}
 use Rattle.violations.specs.Slots.{slot_files}
@@ -23,7 +22,7 @@ use Rattle.retire.specs.declared.deciding.Ways.{Ways}
 use Rattle.retire.proofs.Counts.{count_at_most, count_few, counted_at, counted_sum, few_more, good_at, none_counted}
 use Rattle.retire.proofs.Following.{are_accepted, counts_all, counts_as, counts_more, counts_none, counts_over, follows_all, follows_as, follows_more, follows_none, keeps_as, keeps_more, keeps_none, records_all}
 use Rattle.retire.proofs.Placed.{kept_next}
-use Rattle.retire.proofs.SettledSlots.{missed_none, settled_fair, settled_right}
+use Rattle.retire.proofs.SettledSlots.{missed_none, settled_right}
 use Rattle.retire.proofs.Slots.{front_is, no_numbers, rest_is}
 use Rattle.retire.specs.Accepting.{without_run}
 use Rattle.retire.specs.Settled.{IsSettledOver}

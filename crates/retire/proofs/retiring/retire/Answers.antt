@@ -1,4 +1,4 @@
-use Rattle.std.proofs.Common.{◌≡◌, ◌+◌, ◌∙◌, Option, ap, arith, false, true, length, refl, subst, sym}
+use Rattle.std.proofs.Common.{◌≡◌, ◌+◌, ◌∙◌, Option, arith, refl, subst, sym}
 use Rattle.std.specs.Prelude.{IfSome, IsSome, Some, is_some, option_map}
 use Rattle.bx_io.specs.Holdings.{Holdings, Keeps}
 use Rattle.bx_io.proofs.Changes.{keeps_all, keeps_on}

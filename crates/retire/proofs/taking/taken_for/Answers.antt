@@ -1,9 +1,7 @@
 use Rattle.std.specs.Prelude.{slice_get}
-use Rattle.pip_view.specs.Sees.{sees}
 use Rattle.pip_view_inputs.specs.Plain.{process_in}
 use Rattle.two_phase.proofs.ReaderCalls.{none_read}
-use Rattle.std.proofs.lemmas.Result.{IfOk-weaker}
-use Rattle.retire.proofs.Decisions.{accepted_in, else_in}
+use Rattle.retire.proofs.Decisions.{accepted_in}
 use Rattle.retire.proofs.taking.taken_for.Goals as goal
 
 pub returns-in-Some-clause-taken : goal.returns-in-Some-clause-taken

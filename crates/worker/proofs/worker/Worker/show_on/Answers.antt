@@ -1,4 +1,4 @@
-use Rattle.std.proofs.Common.{◌≡◌, ◌+◌, ◌≤◌, ◌∙◌, Err, ap, arith, refl, subst}
+use Rattle.std.proofs.Common.{◌≡◌, ◌+◌, ◌≤◌, ◌∙◌, Err, ap, arith, subst}
 use Rattle.sched_board.specs.Board.{ShareData, one_more}
 use Rattle.sched_board.specs.Publishing.{Publishes}
 use Rattle.worker.specs.Workers.{WorkerData}
