@@ -2,6 +2,7 @@
 use Rattle.std.proofs.Common.{◌≡◌, ◌++◌, ℕ, List, length, take, drop, refl, sym, ap, ◌∙◌, append_assoc, subst}
 use Rattle.std.specs.Prelude.{[], ◌∷◌, ◌==◌, Bool, false, Result, Ok, Err, OnOk, OnErr, IsErr}
 use Rattle.std.proofs.Common.{inl, inr}
+use Rattle.std.proofs.lemmas.Bool.{false≢true}
 use Rattle.bx_io.specs.Causes.{HasCause}
 use Rattle.bx_engine.specs.Known.{Appends, AppendsPrefix}
 use Rattle.bx_engine.specs.Expected.{AppendsOrFails}

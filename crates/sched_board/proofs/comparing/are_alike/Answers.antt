@@ -3,7 +3,7 @@ use Rattle.pip_model_types.specs.declared.made.MadeFile.{MadeFile}
 use Rattle.run_record.proofs.Differ.{is_other, is_same}
 use Rattle.sched_board.proofs.Alike.{alike_more, line_of, other_digest, other_path, path_same}
 use Rattle.sched_board.proofs.comparing.are_alike.Goals as goal
-use Rattle.sched_board.proofs.comparing.are_alike.Goals.{then-ne-via-then-ne}
+use Rattle.sched_board.proofs.comparing.are_alike.Goals.{then-ne-via-then-ne, then-ne-via-else-ne+then-ne-2}
 
 pub returns-then-ne : goal.returns-then-ne
 returns-then-ne c =

@@ -1,5 +1,5 @@
 -- The files before this place have the same lines.
-use Rattle.std.proofs.Common.{◌≡◌, take}
+use Rattle.std.proofs.Common.{◌≡◌, length, take}
 use Rattle.memo_format.specs.Found.{output_lines}
 use Rattle.pip_model_types.specs.Made.{made_files}
 use Rattle.sched_board.proofs.comparing.are_alike.Given as goal

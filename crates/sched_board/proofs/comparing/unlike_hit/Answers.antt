@@ -1,4 +1,4 @@
-use Rattle.std.proofs.Common.{◌≡◌, ◌≢◌, ℕ, ap, ◌∙◌}
+use Rattle.std.proofs.Common.{◌≡◌, ◌≢◌, List, ℕ, ap, ◌∙◌}
 use Rattle.run_record.proofs.Differ.{is_other, is_same}
 use Rattle.memo_format.specs.declared.entry.Entry.{Entry}
 use Rattle.sched_board.proofs.Comparisons.{another_line, another_weak}
