@@ -41,4 +41,4 @@ returns-in-Fault-clause-goes g c =
     goes_read c.args.self.now _ before after 1 (ap (λ (w : WorkerData). w.share) was)
     (sym (ap (λ (w : WorkerData). w.reader) was) ∙ ap (option_map (λ r. reader_data (g.R.KeepReader.held r) (g.R.KeepReader.bound r) (g.R.KeepReader.faults r))) c.in-Some.is) refl
     (reads_fault before after _ c.in-Fault.ensures.reader refl)
-    (let sum = c.saturating_add.ensures in let one = ap (λ (w : WorkerData). w.tally.faults) was in omega (arith, sum, one))
+    (let sum = c.saturating_add-self-inside.ensures in let one = ap (λ (w : WorkerData). w.tally.faults) was in omega (arith, sum, one))

@@ -17,7 +17,7 @@ returns-in-Ok-clause-goes g c =
 pub returns-in-Err-Refused-clause-goes : goal.returns-in-Err-Refused-clause-goes
 returns-in-Err-Refused-clause-goes g c =
     let kept : c.publish.new.share ≡ c.self.inside.share =
-    (subst (λ r. Publishes _ _ _ _ (Err r) _ _) c.in-Err-Refused.field-0-is c.in-Err-Refused.ensures.publishes).3 in
+    (subst (λ r. Publishes c.args.board.now c.self.inside.share c.args.job c.args.shown (Err r) c.publish.new.self c.publish.new.share) c.in-Err-Refused.field-0-is c.in-Err-Refused.ensures.publishes).3 in
     let after : c.release.new.share ≡ one_more c.self.inside.share = c.release.ensures.share ∙ ap one_more kept in
     let was = c.self.view_is in
     let last = c.leave.ensures in
@@ -33,7 +33,7 @@ returns-in-Err-Refused-clause-goes g c =
 pub returns-in-Err-Memory-clause-goes : goal.returns-in-Err-Memory-clause-goes
 returns-in-Err-Memory-clause-goes g c =
     let kept : c.publish.new.share ≡ c.self.inside.share =
-    (subst (λ r. Publishes _ _ _ _ (Err r) _ _) c.in-Err-Memory.field-0-is c.in-Err-Memory.ensures.publishes).2 in
+    (subst (λ r. Publishes c.args.board.now c.self.inside.share c.args.job c.args.shown (Err r) c.publish.new.self c.publish.new.share) c.in-Err-Memory.field-0-is c.in-Err-Memory.ensures.publishes).2 in
     let after : c.release-in-Err-Memory.new.share ≡ one_more c.self.inside.share = c.release-in-Err-Memory.ensures.share ∙ ap one_more kept in
     let was = c.self.view_is in
     let last = c.starve.ensures in
