@@ -15,13 +15,14 @@ ghost use Rattle.violations.specs.Producing.{dirs_at as dirs_of_pip};
 ghost use Rattle.pip_view.specs.InputFiles as files;
 ghost use Rattle.bx_tree.specs.Ranges.{AreFilePaths};
 ghost use Rattle.pip_view.specs.Sees as seen;
+ghost use Rattle.observed.specs.Asks.{is_listing};
 ghost use Rattle.pip_view.specs.Seen.{SearchedAt, answer_elsewhere, answer_unnamed, is_sealed_at, is_unseen_at};
-ghost use Rattle.pip_view.specs.Seen.{named_in, opaque_in, taken_in, view_answers};
+ghost use Rattle.pip_view.specs.Seen.{named_in, names_in, opaque_in, taken_in, view_answers};
 ghost use Rattle.pip_view.specs.Sees.{sees};
 
 use crate::Names;
 use crate::below::has_below;
-use crate::listing::names_below;
+use crate::listing::{asked_lines, names_below};
 use crate::members::{add_members, find_member, has_member, opaque_by_pip, opaque_searched};
 use crate::taken::{add_taken, has_taken, taken_blob};
 use bx_digest::Blob;
@@ -33,7 +34,7 @@ use pip_view_inputs::{Inputs, process_at};
 use std::alloc::Global;
 use std::collections::BTreeSet;
 use std::marker::Model;
-use tool_run::{add_names, lines};
+use tool_run::add_names;
 use violations::least_unseen;
 
 /// What a pip sees of the source files and of what its inputs made, without what its own run writes.
@@ -117,24 +118,24 @@ fn share_found(found: Option<&Blob>) -> Result<Option<Blob>, Memory>
 }
 
 // A file that may be read and is there.
-fn as_input(kind: AskKind, blob: &Blob) -> Result<Answer, Memory>
-    ensures { IfOk result (λ answer. answer ≡ seen.as_input kind blob.now) }
+fn as_input(kind: &AskKind, blob: &Blob) -> Result<Answer, Memory>
+    ensures { IfOk result (λ answer. answer ≡ seen.as_input kind.now blob.now) }
 {
     match kind {
         AskKind::Read => Ok(Answer::Content(blob.share()?)),
         AskKind::Probe => Ok(Answer::File),
-        AskKind::List => Ok(Answer::Absent),
+        AskKind::List | AskKind::Match(_) => Ok(Answer::Absent),
     }
 }
 
 // The answer of a source file that is no input: it may be probed and not read.
-fn as_source(kind: AskKind) -> Answer
-    ensures { result ≡ seen.as_source kind }
+fn as_source(kind: &AskKind) -> Answer
+    ensures { result ≡ seen.as_source kind.now }
 {
     match kind {
         AskKind::Read => Answer::Denied,
         AskKind::Probe => Answer::File,
-        AskKind::List => Answer::Absent,
+        AskKind::List | AskKind::Match(_) => Answer::Absent,
     }
 }
 
@@ -313,16 +314,26 @@ impl<'a> PipView<'a> {
         Ok(is_sealed(path, searched(&near, all)))
     }
 
-    // The names of a listing.
-    fn names(&self, alloc: Global, dir: &Path) -> Result<Answer, Memory>
-        ensures { IfOk result (λ answer. answer
-            ≡ view_answers self.now (record { kind = AskKind.List; path = dir.now })) }
+    // The names in a directory.
+    fn gather(&self, alloc: Global, dir: &Path) -> Result<Names, Memory>
+        ensures names { IfOk result (λ names. names_now names.keys ≡ names_in self.now dir.now) }
+        ensures there { IfOk result (λ names. self.now.pip < length self.now.pips) }
     {
         let mut names = BTreeSet::new(alloc);
         add_below(alloc, &mut names, self.sources.paths(), dir)?;
         self.add_taken(alloc, &mut names, dir)?;
         self.add_members(alloc, &mut names, dir)?;
-        Ok(Answer::Names(Blob::new(alloc, lines(alloc, &names)?)?))
+        Ok(names)
+    }
+
+    // The names of a listing, those that its pattern matches if it has one.
+    fn names(&self, alloc: Global, ask: &Ask) -> Result<Answer, Memory>
+        requires { is_listing ask.now.kind ≡ true }
+        ensures { IfOk result (λ answer. answer ≡ view_answers self.now ask.now) }
+    {
+        let names = self.gather(alloc, &ask.path)?;
+        let text = asked_lines(alloc, &ask.kind, &names)?;
+        Ok(Answer::Names(Blob::new(alloc, text)?))
     }
 
     // Whether a path is the root, or a file lies below it, where `below` says whether an input file does.
@@ -355,9 +366,9 @@ impl<'a> PipView<'a> {
             else seen.as_source ask.now.kind)) }
     {
         if self.is_sealed(alloc, &ask.path)? {
-            return as_input(ask.kind, blob);
+            return as_input(&ask.kind, blob);
         }
-        Ok(as_source(ask.kind))
+        Ok(as_source(&ask.kind))
     }
 
     // What is answered of a path at which no named input file is.
@@ -373,12 +384,12 @@ impl<'a> PipView<'a> {
 
     // What a read or a probe is answered.
     fn looked(&self, alloc: Global, ask: &Ask) -> Result<Answer, Memory>
-        requires { ask.now.kind ≢ AskKind.List }
+        requires { is_listing ask.now.kind ≡ false }
         ensures { IfOk result (λ answer. answer ≡ view_answers self.now ask.now) }
     {
         let named = self.named(alloc, &ask.path)?;
         match named {
-            Some(blob) => as_input(ask.kind, &blob),
+            Some(blob) => as_input(&ask.kind, &blob),
             None => self.unnamed(alloc, ask),
         }
     }
@@ -390,9 +401,9 @@ impl<'a> View for PipView<'a> {
     ghost answers = { view_answers };
 
     fn ask(&mut self, alloc: Global, ask: &Ask) -> Result<Answer, Memory> {
-        match ask.kind {
-            AskKind::List => self.names(alloc, &ask.path),
-            AskKind::Read | AskKind::Probe => self.looked(alloc, ask),
+        if ask.kind.is_listing() {
+            return self.names(alloc, ask);
         }
+        self.looked(alloc, ask)
     }
 }

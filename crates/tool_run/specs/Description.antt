@@ -41,6 +41,7 @@ file_answer kind None = None
 file_answer kinds.Read (Some bytes) = Some (answers.Content bytes)
 file_answer kinds.Probe (Some bytes) = Some answers.File
 file_answer kinds.List (Some bytes) = None
+file_answer (kinds.Match pattern) (Some bytes) = None
 
 abbrev pub given : Description → Ask → Option Answer
 given d ask = file_answer ask.kind (declared_at d ask.path)

@@ -13,9 +13,9 @@ use std::alloc::{AllocError, Global};
 fn is_given(desc: &Desc, ask: &Ask) -> bool
     ensures { result ≡ is_some (given (described desc.now) ask.now) }
 {
-    match ask.kind {
+    match &ask.kind {
         AskKind::Read | AskKind::Probe => declared(desc, &ask.path).is_some(),
-        AskKind::List => false,
+        AskKind::List | AskKind::Match(_) => false,
     }
 }
 

@@ -150,7 +150,13 @@ pub(crate) fn write(alloc: Global, ran: &Record) -> Result<Written, AllocError>
     let weak = weak(alloc, ran.desc())?;
     let paths = print_paths(alloc, ran.paths())?;
     let paths_digest = paths.digest();
-    let strong = strong_of(alloc, &weak.digest, &paths_digest, ran.answers())?;
+    let strong = strong_of(
+        alloc,
+        ran.paths().has_match(),
+        &weak.digest,
+        &paths_digest,
+        ran.answers(),
+    )?;
     let entry = entry_text_of(alloc, weak.digest, paths_digest, strong.digest, made)?;
     let contents = all_contents(alloc, ran.desc(), ran.answers(), made)?;
     Ok(Written {
