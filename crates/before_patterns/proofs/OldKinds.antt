@@ -1,5 +1,5 @@
 -- A run of a tool that there was puts only asks that there were.
-use Rattle.std.proofs.Common.{◌≡◌, ℕ, zero, suc, ◌+◌, ◌++◌, Bool, true, false, ◌||◌, cond, List, [], ◌∷◌, length, take, drop, Option, Some, None, refl, ap, sym, ◌∙◌, subst}
+use Rattle.std.proofs.Common.{◌≡◌, ℕ, zero, suc, ◌+◌, ◌++◌, Bool, true, false, ◌||◌, cond, List, [], ◌∷◌, length, take, drop, Option, Some, None, refl, ap, sym, ◌∙◌, subst, true≢false}
 use Rattle.std.specs.Prelude.{nat_lt, slice_get}
 use Rattle.std.specs.Fmt.{decimal}
 use Rattle.std.specs.List.{AllByRecursion, list_any}
@@ -87,7 +87,7 @@ act_puts d m (instrs.Say x) h = either_puts (nat_lt MAX_OUTPUT (m.spent + length
 act_puts d m (instrs.Read r x label) h = looks_puts m (instrs.Read r x label) kinds.Read (resolved d.dir (value m x)) tt
 act_puts d m (instrs.Probe r x) h = looks_puts m (instrs.Probe r x) kinds.Probe (resolved d.dir (value m x)) tt
 act_puts d m (instrs.List r x) h = looks_puts m (instrs.List r x) kinds.List (resolved d.dir (value m x)) tt
-act_puts d m (instrs.Match r x y) h = cc
+act_puts d m (instrs.Match r x y) h = absurd (true≢false h)
 act_puts d m (instrs.Write x y) h = write_puts d m (value m y) (resolved d.dir (value m x))
 
 -- ## Accesses
@@ -128,7 +128,7 @@ one_old (x ∷ xs) k i h e = by_first (is_of_second x) refl h (λ j g f. one_old
 
     by_first : (t : Bool) → is_of_second x ≡ t → cond t true (list_any is_of_second xs) ≡ false
         → ((k : ℕ) → list_any is_of_second xs ≡ false → slice_get xs k ≡ Some i → is_of_second i ≡ false) → is_of_second i ≡ false
-    by_first true first h later = cc
+    by_first true first h later = absurd (true≢false h)
     by_first false first h later = by_place k first h e later
 
 step_were : (m : Machine) (tool : List Instr) (o : Option Instr) (rest : Instr → Run) → slice_get tool m.place ≡ o

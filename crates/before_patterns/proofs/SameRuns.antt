@@ -1,5 +1,5 @@
 -- Runs of tools that there were, and their path sets, are what they were.
-use Rattle.std.proofs.Common.{◌≡◌, ℕ, zero, suc, Bool, false, List, [], ◌∷◌, Option, Some, None, refl, ap, sym, ◌∙◌, subst}
+use Rattle.std.proofs.Common.{◌≡◌, ℕ, zero, suc, Bool, false, List, [], ◌∷◌, Option, Some, None, refl, ap, sym, ◌∙◌, subst, true≢false}
 use Rattle.std.specs.Prelude.{slice_get}
 use Rattle.std.specs.List.{list_any}
 use Rattle.bx_tree.specs.Paths.{Atoms}
@@ -72,12 +72,12 @@ effect_same see i (m, Some end) = refl
 
 -- an instruction that looks at no path
 plain : (see : Ask → Answer) (i : Instr) → ((m : Machine) (ask : Ask) (answer : Answer) → old.with_answer m i ask answer ≡ now_instrs.with_answer m i ask answer)
-    → (m : Machine) (effect : Effect) → old.turned see i (m, effect) ≡ now.turned see i (m, effect)
-plain see i h m effects.Goes = refl
-plain see i h m (effects.Asks ask) = ap (λ t. asked t ask (see ask)) (h m ask (see ask))
-plain see i h m (effects.Wrote path) = refl
-plain see i h m (effects.Refused path) = refl
-plain see i h m (effects.Stops end) = refl
+    → (done : Machine × Effect) → old.turned see i done ≡ now.turned see i done
+plain see i h (m, effects.Goes) = refl
+plain see i h (m, effects.Asks ask) = ap (λ t. asked t ask (see ask)) (h m ask (see ask))
+plain see i h (m, effects.Wrote path) = refl
+plain see i h (m, effects.Refused path) = refl
+plain see i h (m, effects.Stops end) = refl
 
 look_same : (see : Ask → Answer) (m : Machine) (i : Instr) (ask : Ask) (o : Option Answer)
     → ((answer : Answer) → old.with_answer m i ask answer ≡ now_instrs.with_answer m i ask answer)
@@ -96,24 +96,24 @@ looks_same see m i kind (Some path) was h =
 
 acted : (d : Description) (see : Ask → Answer) (m : Machine) (i : Instr) → is_of_second i ≡ false
     → old.turned see i (old.act d m i) ≡ now.turned see i (now_instrs.act d m i)
-acted d see m (instrs.Set r x) h = let i : Instr = instrs.Set r x in plain see i (λ m' ask answer. refl) (now_instrs.act d m i).0 (now_instrs.act d m i).1
-acted d see m (instrs.Cat r x y) h = let i : Instr = instrs.Cat r x y in plain see i (λ m' ask answer. refl) (now_instrs.act d m i).0 (now_instrs.act d m i).1
-acted d see m (instrs.Len r x) h = let i : Instr = instrs.Len r x in plain see i (λ m' ask answer. refl) (now_instrs.act d m i).0 (now_instrs.act d m i).1
-acted d see m (instrs.Head r x n) h = let i : Instr = instrs.Head r x n in plain see i (λ m' ask answer. refl) (now_instrs.act d m i).0 (now_instrs.act d m i).1
-acted d see m (instrs.Tail r x n) h = let i : Instr = instrs.Tail r x n in plain see i (λ m' ask answer. refl) (now_instrs.act d m i).0 (now_instrs.act d m i).1
-acted d see m (instrs.Split r s x y) h = let i : Instr = instrs.Split r s x y in plain see i (λ m' ask answer. refl) (now_instrs.act d m i).0 (now_instrs.act d m i).1
-acted d see m (instrs.Arg r n label) h = let i : Instr = instrs.Arg r n label in plain see i (λ m' ask answer. refl) (now_instrs.act d m i).0 (now_instrs.act d m i).1
-acted d see m (instrs.Args r) h = let i : Instr = instrs.Args r in plain see i (λ m' ask answer. refl) (now_instrs.act d m i).0 (now_instrs.act d m i).1
-acted d see m (instrs.Env r x label) h = let i : Instr = instrs.Env r x label in plain see i (λ m' ask answer. refl) (now_instrs.act d m i).0 (now_instrs.act d m i).1
+acted d see m (instrs.Set r x) h = plain see (instrs.Set r x) (λ m' ask answer. refl) (now_instrs.act d m (instrs.Set r x))
+acted d see m (instrs.Cat r x y) h = plain see (instrs.Cat r x y) (λ m' ask answer. refl) (now_instrs.act d m (instrs.Cat r x y))
+acted d see m (instrs.Len r x) h = plain see (instrs.Len r x) (λ m' ask answer. refl) (now_instrs.act d m (instrs.Len r x))
+acted d see m (instrs.Head r x n) h = plain see (instrs.Head r x n) (λ m' ask answer. refl) (now_instrs.act d m (instrs.Head r x n))
+acted d see m (instrs.Tail r x n) h = plain see (instrs.Tail r x n) (λ m' ask answer. refl) (now_instrs.act d m (instrs.Tail r x n))
+acted d see m (instrs.Split r s x y) h = plain see (instrs.Split r s x y) (λ m' ask answer. refl) (now_instrs.act d m (instrs.Split r s x y))
+acted d see m (instrs.Arg r n label) h = plain see (instrs.Arg r n label) (λ m' ask answer. refl) (now_instrs.act d m (instrs.Arg r n label))
+acted d see m (instrs.Args r) h = plain see (instrs.Args r) (λ m' ask answer. refl) (now_instrs.act d m (instrs.Args r))
+acted d see m (instrs.Env r x label) h = plain see (instrs.Env r x label) (λ m' ask answer. refl) (now_instrs.act d m (instrs.Env r x label))
 acted d see m (instrs.Eq x y label) h = refl
 acted d see m (instrs.Jump label) h = refl
 acted d see m (instrs.Exit n) h = refl
-acted d see m (instrs.Say x) h = let i : Instr = instrs.Say x in plain see i (λ m' ask answer. refl) (now_instrs.act d m i).0 (now_instrs.act d m i).1
+acted d see m (instrs.Say x) h = plain see (instrs.Say x) (λ m' ask answer. refl) (now_instrs.act d m (instrs.Say x))
 acted d see m (instrs.Read r x label) h = looks_same see m (instrs.Read r x label) kinds.Read (resolved d.dir (value m x)) tt (λ path answer. refl)
 acted d see m (instrs.Probe r x) h = looks_same see m (instrs.Probe r x) kinds.Probe (resolved d.dir (value m x)) tt (λ path answer. refl)
 acted d see m (instrs.List r x) h = looks_same see m (instrs.List r x) kinds.List (resolved d.dir (value m x)) tt (λ path answer. refl)
-acted d see m (instrs.Match r x y) h = cc
-acted d see m (instrs.Write x y) h = let i : Instr = instrs.Write x y in plain see i (λ m' ask answer. refl) (now_instrs.act d m i).0 (now_instrs.act d m i).1
+acted d see m (instrs.Match r x y) h = absurd (true≢false h)
+acted d see m (instrs.Write x y) h = plain see (instrs.Write x y) (λ m' ask answer. refl) (now_instrs.act d m (instrs.Write x y))
 
 turn_same : (d : Description) (a : Ask → Answer) (m : Machine) (i : Instr) → is_of_second i ≡ false → old.turn d a m i ≡ now.turn d a m i
 turn_same d a m i h = ap (λ see. old.turned see i (old.act d m i)) (answers_same d a) ∙ acted d (now_desc.answer_of d a) m i h
@@ -161,7 +161,7 @@ pub run_same : (d : Desc) (a : Ask → Answer) → IsNoSecond d.exe → now.run_
 run_same d a none = sym (old_run d a ∙ ap (λ (x : Description). now.run_of x a) (described_same d none))
 
 -- the asks of a run
-own_asks : Desc → (Ask → Answer) → List Ask
+abbrev own_asks : Desc → (Ask → Answer) → List Ask
 own_asks d a = now.asks_of (old.described d) (now.run_of (old.described d) a).accesses
 
 own_were : (d : Desc) (a : Ask → Answer) → WereAsks (own_asks d a)

@@ -21,12 +21,13 @@ use Rattle.prints.specs.Lines.{lines_at}
 use Rattle.prints.specs.Parts.{digest_at}
 use Rattle.prints.specs.Reading.{Taken, ◌>>=◌, after_word, both_at, if_ended, whole_of}
 use Rattle.prints.specs.Strong as now_strong
-use Rattle.prints.specs.Strong.{answer_at, has_more}
+use Rattle.prints.specs.Strong.{answer_at, has_more, read_strong_text as read_now}
 use Rattle.prints.specs.declared.strong_parts.AnswerLine.{AnswerLine}
 use Rattle.prints.specs.declared.strong_parts.StrongParts.{StrongParts}
 use Rattle.before_patterns.specs.Asks.{WasKind, WereAsks}
 use Rattle.before_patterns.specs.PathTexts as old
 use Rattle.before_patterns.specs.StrongTexts as old_strong
+use Rattle.before_patterns.specs.StrongTexts.{read_strong_text as read_before}
 use Rattle.before_patterns.proofs.SameAsks.{cmp_same}
 
 -- ## Written
@@ -162,8 +163,8 @@ one_reading : (o : Taken (List ℕ × (List ℕ × List AnswerLine)))
 one_reading None = refl
 one_reading (Some y) = refl
 
-pub strong_read : (text : List ℕ) (parts : StrongParts) → old_strong.read_strong_text text ≡ Some parts → now_strong.read_strong_text text ≡ Some parts
-unfolding old_strong.read_strong_text, now_strong.read_strong_text
+pub strong_read : (text : List ℕ) (parts : StrongParts) → read_before text ≡ Some parts → read_now text ≡ Some parts
+unfolding read_before read_now
 strong_read text parts e = by_head (after_prefix (codes "strong 1\n") text) refl e
   where
     by_head : (o : Option (List ℕ)) → after_prefix (codes "strong 1\n") text ≡ o

@@ -17,7 +17,7 @@ use Rattle.before_patterns.specs.Tools as old
 use Rattle.before_patterns.specs.Tools.{IsNoSecond}
 
 -- an instruction that there was
-was : Instr → Option Instr
+abbrev was : Instr → Option Instr
 was i = cond (is_of_second i) None (Some i)
 
 -- ## Instructions
