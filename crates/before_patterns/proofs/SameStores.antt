@@ -58,8 +58,8 @@ good_run d a asks files h =
     record {
       paths_are = paths_same d a none ∙ h.paths_are;
       outcome =
-        ap (λ (r : Run). outcome_of (described d) r) (run_same d a none)
-        ∙ ap (λ (x : Description). outcome_of x (old_runs.run_of (old_runs.described d) a)) (sym (described_same d none)) ∙ h.outcome;
+          ap (λ (r : Run). outcome_of (described d) r) (run_same d a none)
+          ∙ ap (λ (x : Description). outcome_of x (old_runs.run_of (old_runs.described d) a)) (sym (described_same d none)) ∙ h.outcome;
     }
 
 -- ## Honest stores
@@ -78,7 +78,7 @@ entry_stays S e h =
         h.strong.0,
         h.strong.1,
         strong_read h.strong.0 (old_strong.strong_parts e.weak e.paths h.given) h.strong.2
-        ∙ ap (λ v. Some (now_strong.strong_parts v e.weak e.paths h.given)) (sym (no_match h.asks read.0)),
+            ∙ ap (λ v. Some (now_strong.strong_parts v e.weak e.paths h.given)) (sym (no_match h.asks read.0)),
       );
       one_each = h.one_each;
       declared = h.declared;

@@ -127,13 +127,12 @@ set_stays : (lines : List (List ℕ)) (asks : List Ask) (o : Option (List Ask)) 
 set_stays lines asks None is e = cc
 set_stays lines asks (Some xs) is e =
     let stay = asks_stay lines xs is in
-    let rising = if_some (old.is_rising xs) (Some xs) asks e in
-    (
+    let rising = if_some (old.is_rising xs) (Some xs) asks e in (
       subst WereAsks (same_Some xs asks rising.1) stay.were,
       ap (option_and_then (now.if_set false)) stay.read
-      ∙ ap (λ t. cond (now.is_rising xs && not t) (Some xs) None) (no_match xs stay.were)
-      ∙ ap (λ t. cond (t && true) (Some xs) None) (sym (rising_same xs stay.were) ∙ rising.0)
-      ∙ rising.1,
+          ∙ ap (λ t. cond (now.is_rising xs && not t) (Some xs) None) (no_match xs stay.were)
+          ∙ ap (λ t. cond (t && true) (Some xs) None) (sym (rising_same xs stay.were) ∙ rising.0)
+          ∙ rising.1,
     )
 
 pub paths_read : (text : List ℕ) (asks : List Ask) → old.read_paths_text text ≡ Some asks → WereAsks asks × (now.read_paths_text text ≡ Some asks)
