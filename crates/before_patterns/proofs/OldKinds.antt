@@ -126,7 +126,7 @@ one_old (x ∷ xs) k i h e = by_first (is_of_second x) refl h (λ j g f. one_old
     by_place zero first rest e later = ap is_of_second (sym (same_Some x i e)) ∙ first
     by_place (suc j) first rest e later = later j rest e
 
-    by_first : (t : Bool) → is_of_second x ≡ t → cond t true (list_any is_of_second xs) ≡ false
+    by_first : (t : Bool) → is_of_second x ≡ t → (t || list_any is_of_second xs) ≡ false
         → ((k : ℕ) → list_any is_of_second xs ≡ false → slice_get xs k ≡ Some i → is_of_second i ≡ false) → is_of_second i ≡ false
     by_first true first h later = absurd (true≢false h)
     by_first false first h later = by_place k first h e later

@@ -1,5 +1,5 @@
 -- Asks that there were stand in the order in which they stood, and a set of them is the set that it was.
-use Rattle.std.proofs.Common.{◌≡◌, Bool, false, cond, List, [], ◌∷◌, refl, ap, ◌∙◌}
+use Rattle.std.proofs.Common.{◌≡◌, Bool, ◌&&◌, List, [], ◌∷◌, refl, ap, ◌∙◌}
 use Rattle.std.specs.Cmp.Lexicographic.{slice_cmp}
 use Rattle.std.specs.BTreeSet.{insert_key}
 use Rattle.std.specs.Ordering.{match_ordering, nat_cmp, ordering_then}
@@ -64,8 +64,8 @@ pub one_same : (a b : Ask) → WasKind a.kind → same_ask a b ≡ now.same_ask 
 one_same a b h = by_kinds (same_path a.path b.path) a.kind b.kind h
   where
     by_kinds : (p : Bool) (j k : AskKind) → WasKind j
-        → cond p (nat_eq (kind_place j) (kind_place k)) false
-        ≡ cond p (cond (nat_eq (now.kind_place j) (now.kind_place k)) (bytes_eq (now.kind_pattern j) (now.kind_pattern k)) false) false
+        → (p && nat_eq (kind_place j) (kind_place k))
+        ≡ (p && (nat_eq (now.kind_place j) (now.kind_place k) && bytes_eq (now.kind_pattern j) (now.kind_pattern k)))
     by_kinds p kinds.Read kinds.Read h = refl
     by_kinds p kinds.Read kinds.Probe h = refl
     by_kinds p kinds.Read kinds.List h = refl

@@ -1,5 +1,5 @@
 -- The texts of asks and answers that there were are what they were, and what was read is read.
-use Rattle.std.proofs.Common.{◌≡◌, ◌≢◌, ℕ, Bool, true, false, not, ◌&&◌, cond, List, [], ◌∷◌, ◌++◌, codes, Option, Some, None, ◌==◌, refl, ap, sym, subst, ◌∙◌}
+use Rattle.std.proofs.Common.{◌≡◌, ◌≢◌, ℕ, Bool, true, false, not, ◌&&◌, ◌||◌, cond, List, [], ◌∷◌, ◌++◌, codes, Option, Some, None, ◌==◌, refl, ap, sym, subst, ◌∙◌}
 use Rattle.std.specs.List.{flat_map, slice_split}
 use Rattle.std.specs.Str.{bytes_eq}
 use Rattle.std.specs.Option.{option_and_then}
@@ -46,7 +46,7 @@ no_pattern (kinds.Match p) h = absurd h
 
 pub no_match : (asks : List Ask) → WereAsks asks → now.has_match asks ≡ false
 no_match [] h = refl
-no_match (a ∷ as') h = ap (λ t. cond t true (now.has_match as')) (no_pattern a.kind h.0) ∙ no_match as' h.1
+no_match (a ∷ as') h = ap (λ t. t || now.has_match as') (no_pattern a.kind h.0) ∙ no_match as' h.1
 
 lines_same : (asks : List Ask) → WereAsks asks → flat_map now.ask_line asks ≡ flat_map old.ask_line asks
 lines_same [] h = refl
@@ -151,14 +151,28 @@ pub strong_same : (asks : List Ask) (weak paths : List ℕ) (given : List Answer
     → now_strong.strong_text (now_strong.strong_parts (now.has_match asks) weak paths given) ≡ old_strong.strong_text (old_strong.strong_parts weak paths given)
 strong_same asks weak paths given h = ap (λ v. now_strong.strong_text (now_strong.strong_parts v weak paths given)) (no_match asks h)
 
--- what follows the first line
-abbrev rest_at : List ℕ → Taken (List ℕ × (List ℕ × List AnswerLine))
+-- what follows the first line: two digests and lines
+abbrev Rest : Type 0
+Rest = List ℕ × (List ℕ × List AnswerLine)
+
+abbrev rest_at : List ℕ → Taken Rest
 rest_at =
     both_at (after_word (codes "weak ") (digest_at 10)) (both_at (after_word (codes "paths ") (digest_at 10)) (lines_at has_more answer_at))
 
-one_reading : (o : Taken (List ℕ × (List ℕ × List AnswerLine)))
-    → (((o >>= λ y. Some ((false, y.0), y.1)) >>= λ x. Some (now_strong.parts_of x.0, x.1)) >>= λ x. if_ended x.0 x.1)
-    ≡ ((o >>= λ x. Some (old_strong.parts_of x.0, x.1)) >>= λ x. if_ended x.0 x.1)
+-- the parts of now and of then, and what is at the end of a text
+abbrev of_first : Rest × List ℕ → Taken (Bool × Rest)
+of_first y = Some ((false, y.0), y.1)
+
+abbrev parts_now : (Bool × Rest) × List ℕ → Taken StrongParts
+parts_now x = Some (now_strong.parts_of x.0, x.1)
+
+abbrev parts_before : Rest × List ℕ → Taken StrongParts
+parts_before x = Some (old_strong.parts_of x.0, x.1)
+
+abbrev at_end : StrongParts × List ℕ → Option StrongParts
+at_end x = if_ended x.0 x.1
+
+one_reading : (o : Taken Rest) → (((o >>= of_first) >>= parts_now) >>= at_end) ≡ ((o >>= parts_before) >>= at_end)
 one_reading None = refl
 one_reading (Some y) = refl
 
@@ -166,8 +180,7 @@ pub strong_read : (text : List ℕ) (parts : StrongParts) → read_before text �
 unfolding read_before read_now
 strong_read text parts e = by_head (after_prefix (codes "strong 1\n") text) refl e
   where
-    by_head : (o : Option (List ℕ)) → after_prefix (codes "strong 1\n") text ≡ o
-        → (((o >>= rest_at) >>= λ x. Some (old_strong.parts_of x.0, x.1)) >>= λ x. if_ended x.0 x.1) ≡ Some parts
+    by_head : (o : Option (List ℕ)) → after_prefix (codes "strong 1\n") text ≡ o → (((o >>= rest_at) >>= parts_before) >>= at_end) ≡ Some parts
         → whole_of now_strong.strong_at text ≡ Some parts
     by_head None is e = cc
     by_head (Some rest) is e =

@@ -94,7 +94,7 @@ with_same (Some i) None = first_only (is_of_second i)
     first_only false = refl
 with_same (Some i) (Some tool) = by_tests (is_of_second i) (list_any is_of_second tool)
   where
-    by_tests : (s t : Bool) → with_line (cond s None (Some i)) (cond (not t) (Some tool) None) ≡ cond (not (cond s true t)) (Some (i ∷ tool)) None
+    by_tests : (s t : Bool) → with_line (cond s None (Some i)) (cond (not t) (Some tool) None) ≡ cond (not (s || t)) (Some (i ∷ tool)) None
     by_tests true true = refl
     by_tests true false = refl
     by_tests false true = refl

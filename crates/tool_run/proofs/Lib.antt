@@ -2,7 +2,7 @@ pub mod Depends
 pub mod Accesses
 pub mod Permitted
 pub mod AskPlaces
-pub mod Looking
+pub mod PatternListings
 pub mod Turns
 pub mod Appended
 pub mod FromRoot

@@ -19,7 +19,7 @@ fn asked_names<'a>(
     kind: &AskKind,
     names: Vec<&'a [u8]>,
 ) -> Result<Vec<&'a [u8]>, AllocError>
-    ensures { IfOk result (λ asked. texts_now asked.items ≡ names_asked kind.now (texts_now names.items)) }
+    ensures { IfOk result (λ asked. texts_now asked.items ≡ names_asked kind.now (texts_now names.entry.items)) }
 {
     match kind {
         AskKind::Read | AskKind::Probe | AskKind::List => Ok(names),
