@@ -89,7 +89,7 @@ module _ (M : List ℕ → Type 0) (apart : NoCollision M) where
       let strong_same : h.strong.0 ≡ hit.strong.0 =
       apart h.strong.0 hit.strong.0 (stored h.strong.0 h.strong.1.held) (stored hit.strong.0 hit.strong.1.held) (h.strong.1.digest_is ∙ sym hit.strong.1.digest_is) in
       let said : strong_parts (has_match h.asks) found.entry.weak found.entry.paths h.given
-          ≡ strong_parts (has_match found.paths) found.entry.weak found.entry.paths found.answers =
+      ≡ strong_parts (has_match found.paths) found.entry.weak found.entry.paths found.answers =
       same_Some (strong_parts (has_match h.asks) found.entry.weak found.entry.paths h.given)
       (strong_parts (has_match found.paths) found.entry.weak found.entry.paths found.answers)
       (sym h.strong.2 ∙ ap read_strong_text strong_same ∙ hit.strong.2) in
