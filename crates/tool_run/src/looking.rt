@@ -154,7 +154,6 @@ impl State {
 
     // An instruction looks at a path for the names that a pattern matches.
     #[inline(never)]
-    #[tactic(auto, using(crate::proofs::PatternListings::by_none, crate::proofs::PatternListings::by_pattern))]
     pub(crate) fn look_by(
         &mut self,
         alloc: Global,
