@@ -1,5 +1,5 @@
 -- A store that was honest is honest, and what was usable is usable.
-use Rattle.std.proofs.Common.{◌≡◌, ℕ, cond, List, [], ◌∷◌, map, Option, Some, None, refl, ap, sym, ◌∙◌, subst, inl, inr}
+use Rattle.std.proofs.Common.{◌≡◌, cond, List, [], ◌∷◌, map, Option, Some, None, refl, ap, sym, ◌∙◌, subst, inl, inr}
 use Rattle.sha2.specs.Sha256.{sha256}
 use Rattle.bx_tree.specs.Trees.{Files}
 use Rattle.bx_io.specs.Holdings.{Holdings}
@@ -17,7 +17,6 @@ use Rattle.run_record.specs.Outcomes.{outcome_of}
 use Rattle.run_record.specs.declared.outcome.Outcome.TheVariants.{Good}
 use Rattle.prints.specs.Strong as now_strong
 use Rattle.memo_format.specs.declared.entry.Entry.{Entry}
-use Rattle.memo_format.specs.StoreNames.{HoldsEntry}
 use Rattle.memo_format.specs.declared.selector.Selector.{Selector}
 use Rattle.two_phase_meaning.specs.Honest as now_honest
 use Rattle.two_phase_meaning.specs.Usable as now_usable

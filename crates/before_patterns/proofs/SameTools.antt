@@ -1,5 +1,5 @@
 -- A text that is no tool of the second version is the tool that it was.
-use Rattle.std.proofs.Common.{◌≡◌, ◌≢◌, ℕ, Bool, true, false, not, ◌||◌, ◌==◌, cond, List, [], ◌∷◌, map, codes, filter, length, Option, Some, None, refl, ap, sym, ◌∙◌, subst, true≢false}
+use Rattle.std.proofs.Common.{◌≡◌, ℕ, Bool, true, false, not, ◌||◌, ◌==◌, cond, List, [], ◌∷◌, map, codes, filter, length, Option, Some, None, refl, ap, sym, ◌∙◌, subst, true≢false}
 use Rattle.std.specs.List.{list_any, slice_split}
 use Rattle.std.specs.Option.{option_and_then, option_map}
 use Rattle.std.specs.Str.{bytes_eq}
@@ -9,7 +9,7 @@ use Rattle.tool_text.specs.declared.tool.Instr.TheVariants as instrs
 use Rattle.tool_text.specs.declared.tool.Operand.{Operand}
 use Rattle.tool_text.specs.declared.op.Op.{Op}
 use Rattle.tool_text.specs.declared.op.Op.TheVariants as ops
-use Rattle.tool_text.specs.Grammar.{IsTool, first_line, is_in_version, is_of_second, says}
+use Rattle.tool_text.specs.Grammar.{IsTool, first_line, is_of_second, says}
 use Rattle.tool_text.specs.Reading as now
 use Rattle.tool_text.specs.Reading.{Places, after_byte, after_label, are_distinct, before_byte, both, code_of, full_listing, if_in_version, label_of, lone, matching_listing, op_of, operand_of, operand_texts, place_of, quadruple, register_of, register_operand, register_target, register_two, skip_blanks, split_of, tool_after, tool_in, two_operands, two_target, with_line, with_pair}
 use Rattle.tool_text.proofs.OneTool.{read}
