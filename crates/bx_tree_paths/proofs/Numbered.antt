@@ -209,3 +209,11 @@ contains_with paths path p = by_test (has_path paths path) refl
         | inr same ↦ subst (Contains (paths ++ path ∷ [])) same (Contains-push paths path)
       ],
     )
+
+-- one path more at most
+pub with_longer : (paths : List Atoms) (path : Atoms) → length (with_path paths path) < length paths + 2
+with_longer paths path = by_test (has_path paths path)
+  where
+    by_test : (b : Bool) → length (cond b paths (paths ++ path ∷ [])) < length paths + 2
+    by_test true = omega arith
+    by_test false = omega (arith, length-append paths (path ∷ []))

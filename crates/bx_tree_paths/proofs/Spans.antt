@@ -1,6 +1,6 @@
 -- The items below a directory are next to one another in a list that rises by path.
 use Rattle.std.proofs.Common.{append_assoc, ◌≡◌, ◌≢◌, ℕ, ◌+◌, ◌-◌, ◌<◌, ◌≤◌, zero, suc, Bool, true, false, cond, List, [], ◌∷◌, ◌++◌, length, filter, get_or, take, drop, codes, refl, ap, sym, ◌∙◌, subst, inl, inr, arith, ◌⊎◌}
-use Rattle.std.specs.Prelude.{slice_range}
+use Rattle.std.specs.Prelude.{All, slice_range}
 use Rattle.std.specs.Cmp.Lexicographic.{slice_cmp}
 use Rattle.std.specs.List.{AllWithin}
 use Rattle.std.specs.Ordering.{MatchOrdering, is_lt, nat_cmp, ordering_then}
@@ -185,22 +185,28 @@ filter_span {X = X} S p xs from to only h =
 pub starts : (dir path : Atoms) → is_below path dir ≡ true → StartsBelow dir path
 starts dir path e = starts_below dir path ((below_decides path dir).0 e)
 
+range_size : {X : Type 0} (S : X → Type 0) (xs : List X) (from to : ℕ) → IsSpanOf S xs from to → length (slice_range xs from to) ≡ to - from
+range_size S xs from to h = omega (arith, length-take (to - from) (drop from xs), length-drop from xs, h.order, h.within)
+
+-- the items of the range are such
+pub only_span : {X : Type 0} (S : X → Type 0) (xs : List X) (from to : ℕ) → IsSpanOf S xs from to → All S (slice_range xs from to)
+only_span S xs from to h k d less =
+    let size = range_size S xs from to h in
+    subst S (sym (get_or-take (to - from) (drop from xs) k d (omega (arith, less, size)) ∙ get_or-drop from xs k d))
+    (h.inside (from + k) d (omega arith) (omega (arith, less, size, h.order)))
+
+all_kept : {X : Type 0} (p : X → Bool) (ys : List X) → ((k : ℕ) (d : X) → k < length ys → p (get_or ys k d) ≡ true) → filter p ys ≡ ys
+all_kept p [] h = refl
+all_kept p (y ∷ ys) h =
+    ap (λ b. cond b (y ∷ filter p ys) (filter p ys)) (h 0 y (omega arith))
+    ∙ ap (λ zs. y ∷ zs) (all_kept p ys (λ k d less. h (suc k) d (omega (arith, less))))
+
 -- a range of which all pass a test that only they pass
 pub exact_span : {X : Type 0} (S : X → Type 0) (p : X → Bool) (xs : List X) (from to : ℕ) → ((x : X) → p x ≡ true → S x) → ((x : X) → S x → p x ≡ true)
     → IsSpanOf S xs from to → slice_range xs from to ≡ filter p xs
-exact_span {X = X} S p xs from to only all h =
-    sym (kept p (slice_range xs from to) (λ k d less. all (get_or (slice_range xs from to) k d) (subst S (place k d less)
-    (h.inside (from + k) d (omega arith) (omega (arith, less, size, h.order)))))) ∙ filter_span S p xs from to only h
-  where
-    size : length (slice_range xs from to) ≡ to - from
-    size = omega (arith, length-take (to - from) (drop from xs), length-drop from xs, h.order, h.within)
-
-    place : (k : ℕ) (d : X) → k < length (slice_range xs from to) → get_or xs (from + k) d ≡ get_or (slice_range xs from to) k d
-    place k d less = sym (get_or-take (to - from) (drop from xs) k d (omega (arith, less, size)) ∙ get_or-drop from xs k d)
-
-    kept : (q : X → Bool) (ys : List X) → ((k : ℕ) (d : X) → k < length ys → q (get_or ys k d) ≡ true) → filter q ys ≡ ys
-    kept q [] h = refl
-    kept q (y ∷ ys) h = ap (λ b. cond b (y ∷ filter q ys) (filter q ys)) (h 0 y (omega arith)) ∙ ap (λ zs. y ∷ zs) (kept q ys (λ k d less. h (suc k) d (omega (arith, less))))
+exact_span S p xs from to only all h =
+    sym (all_kept p (slice_range xs from to) (λ k d less. all (get_or (slice_range xs from to) k d) (only_span S xs from to h k d less)))
+    ∙ filter_span S p xs from to only h
 
 -- ## Paths
 

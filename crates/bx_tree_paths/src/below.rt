@@ -1,5 +1,5 @@
 //! Where the items below a directory are in a list that rises by path: they are neighbours.
-ghost use Rattle.std.specs.Prelude.{◌≡◌, ◌+◌, ◌*◌, ◌<◌, filter, length};
+ghost use Rattle.std.specs.Prelude.{◌≡◌, ◌+◌, ◌*◌, ◌<◌, filter, length, All};
 ghost use Rattle.bx_tree.specs.Below.{is_below};
 ghost use Rattle.bx_tree_paths.specs.Searches.{RiseByText};
 ghost use Rattle.bx_tree_paths.specs.Spans.{IsSpanOf, StartsBelow};
@@ -42,26 +42,28 @@ pub(crate) fn span_below<T: HasPath, L: Ledger>(
     Span { from, to }
 }
 
-// The same, with the steps counted in a new ledger.
+// The part of a list in which its items below a directory are, with the steps counted in a new ledger.
 fn items_from<'a, T: HasPath, L: Ledger>(items: &'a [T], dir: &Path, blank: Blank) -> &'a [T]
     requires rising { RiseByText T.path_in items.now }
     requires name { blank.name ≡ L.name }
     requires parts { blank.parts ≡ L.parts }
     requires some { 0 < L.parts }
-    ensures { filter (λ x. is_below (T.path_in x) dir.now) result.now
+    ensures all { filter (λ x. is_below (T.path_in x) dir.now) result.now
         ≡ filter (λ x. is_below (T.path_in x) dir.now) items.entry.now }
+    ensures only { All (λ x. StartsBelow dir.now (T.path_in x)) result.now }
 {
     let mut steps: Steps<L> = Steps::new(blank);
     let span = span_below(items, dir, &mut steps);
     &items[span.from..span.to]
 }
 
-/// A part of a list that rises by path, which has all its items that lie strictly below a directory. It has no
-/// others but one at the root, where the directory is the root.
+/// The part of a list that rises by path in which the items strictly below a directory are. It has no others, but
+/// for the root below the root.
 pub fn items_below<'a, T: HasPath>(items: &'a [T], dir: &Path) -> &'a [T]
     requires { RiseByText T.path_in items.now }
-    ensures { filter (λ x. is_below (T.path_in x) dir.now) result.now
+    ensures all { filter (λ x. is_below (T.path_in x) dir.now) result.now
         ≡ filter (λ x. is_below (T.path_in x) dir.now) items.entry.now }
+    ensures only { All (λ x. StartsBelow dir.now (T.path_in x)) result.now }
 {
     items_from::<T, Brand>(items, dir, Blank::new(1))
 }

@@ -92,7 +92,7 @@ pub(crate) fn find_place<T: HasPath, L: Ledger>(
     Some(slot.place)
 }
 
-// The same, with the steps counted in a new ledger.
+// The place of an item at a path, with the steps counted in a new ledger.
 fn place_from<T: HasPath, L: Ledger>(items: &[T], path: &Path, blank: Blank) -> Option<usize>
     requires rising { RiseByText T.path_in items.now }
     requires name { blank.name ≡ L.name }
