@@ -1,32 +1,22 @@
 -- What is promised of a call, by how it ended.
-use Rattle.std.proofs.Common.{◌≡◌, ◌≢◌, ◌⊎◌, ◌≤◌, inl, inr, ℕ, List, Some, sym, subst, arith}
-use Rattle.bx_io.specs.Causes.{HasCause}
+use Rattle.std.proofs.Common.{◌≡◌, ◌≢◌, ◌⊎◌, inl, inr, ℕ, List, Some, subst, sym, arith}
 use Rattle.bx_io.specs.Holdings.{Holdings, held_in}
 use Rattle.bx_engine_words.specs.declared.order.Order.{Order}
 use Rattle.two_phase_meaning.specs.Honest.{Honest}
-use Rattle.retire.specs.Saving.{OnlyPuts}
-use Rattle.bx_engine.specs.Beyond.{Beyond, OfEachCall, OfInput}
+use Rattle.bx_engine.specs.Beyond.{Beyond, GoesBeyond, OfEachCall, OfInput}
 use Rattle.bx_engine.specs.Calls.{Call}
-use Rattle.bx_engine.specs.Counting.{AppendsNoted}
+use Rattle.bx_engine.specs.Ended.{Answered, Ended, Left, Unanswered}
 use Rattle.bx_engine.specs.Expected.{limits_of}
-use Rattle.bx_engine.specs.Headline.{Headline}
-use Rattle.bx_engine.specs.Known.{Appends, AppendsPrefix}
-use Rattle.bx_engine.specs.Responses.{Responds}
+use Rattle.bx_engine.specs.Headline.{Headline, KeepsHeadline}
+use Rattle.bx_engine.specs.Known.{IsInput, ReadOf}
 use Rattle.bx_engine.specs.Statuses.{IsSilent, IsWhole}
-use Rattle.bx_engine.specs.Stores.{FairStore, StoreLeft, uses_store}
-use Rattle.bx_engine.specs.declared.response.Response.{Response}
+use Rattle.bx_engine.specs.Stores.{FairStore, uses_store}
 use Rattle.bx_engine.specs.declared.status.Status.{Status}
 use Rattle.bx_engine.specs.declared.status.Status.TheVariants as statuses
 use Rattle.bx_engine.proofs.ExpectedIsWritten as written
-use Rattle.bx_engine.proofs.ReadingKeepsEnding.{ReadOf, answers_whole, begins_whole, fair_read, left_whole, notes_whole, shown_whole}
+use Rattle.bx_engine.proofs.ReadingKeepsEnding.{answers_whole, begins_whole, fair_read, left_whole, notes_whole, shown_whole}
 use Rattle.bx_engine.proofs.StatusesDiffer.{answered_status, gone_whole, not_silent, refusal_whole}
 use Rattle.bx_engine.proofs.StoresLeft.{left_honest}
-
--- the store that a call over a fair store leaves
-abbrev pub Left : Call → List ℕ → Order → Type 0
-Left call input order =
-    (held : Holdings) → held_in call.store.before ≡ Some held → Honest held
-    → FairStore order input (held_in call.store.before) (held_in call.store.now) → StoreLeft (limits_of order) input held call.store.before call.store.now
 
 -- what is left by what was read of an input is left by the input
 pub left_read : (call : Call) (input bytes : List ℕ) (order : Order) → ReadOf input bytes → Left call bytes order → Left call input order
@@ -42,16 +32,6 @@ honest_left call input order left fair held now is honest told =
 
 -- ## Calls that answered nothing
 
--- What is known of a call that read nothing or answered nothing.
-pub record Unanswered (call : Call) : Type 0 where
-  pub silent : IsSilent call.status
-  pub out : call.out.now ≡ call.out.before
-  pub source_cause : HasCause call.source.before call.source.now (call.status ≡ statuses.SourceFailed)
-  pub source_no_fault : call.status ≢ statuses.SourceFailed → call.source.now ≡ call.source.before
-  pub out_faults : call.out.faults_now ≡ call.out.faults_before
-  pub puts : OnlyPuts call.store.before call.store.now
-  pub later : call.store.faults_before ≤ call.store.faults_now
-
 -- a status that is silent, and not that of words that are no command
 silent_status : (status : Status) → status ≢ statuses.NoCommand → IsSilent status
     → IsWhole status ⊎ (status ≡ statuses.OutOfMemory) ⊎ (status ≡ statuses.SourceFailed) ⊎ (status ≡ statuses.OutFailed)
@@ -63,6 +43,7 @@ silent_status status begun silent = elim silent [
 pub headline_unanswered : (call : Call) (input : List ℕ) (order : Order) → Unanswered call → call.status ≢ statuses.NoCommand → Left call input order
     → (fair : FairStore order input (held_in call.store.before) (held_in call.store.now)) → Headline call input order fair
 headline_unanswered call input order u begun left fair = record {
+  read = λ came. absurd (not_silent call.status came u.silent);
   same = λ whole. absurd (not_silent call.status (inl whole) u.silent);
   memory = λ m. u.out;
   source = λ s. (u.source_cause.rose s, u.out);
@@ -87,6 +68,9 @@ input_unanswered call input order u = record {
 pub each_unanswered : (call : Call) → Unanswered call → OfEachCall call
 each_unanswered call u = record {
   status = inr (inl u.silent);
+  gives = u.gives;
+  read = λ came. absurd (not_silent call.status came u.silent);
+  rest = λ came. absurd (not_silent call.status came u.silent);
   tree = λ whole. absurd (not_silent call.status (inl whole) u.silent);
   tree_begun = λ cut. absurd (not_silent call.status (inr cut) u.silent);
   silent = λ s. u.out;
@@ -100,71 +84,60 @@ each_unanswered call u = record {
 
 -- ## Calls that answered
 
--- What is known of a call that read these bytes and answered them.
-pub record Answered (call : Call) (bytes : List ℕ) (order : Order) : Type 0 where
-  pub response : Response
-  pub responds : Responds order bytes call.store response
-  pub status : (call.status ≡ response.status) ⊎ (call.status ≡ statuses.OutFailed)
-  pub written : IsWhole call.status → Appends call.out.before call.out.now response.bytes.items
-  pub begun : call.status ≡ statuses.OutFailed → AppendsPrefix call.out.before call.out.now response.bytes.items
-  pub noted : IsWhole call.status → AppendsNoted response.notes.items call.notes
-  pub left : Left call bytes order
-  pub source : call.source.now ≡ call.source.before
-  pub out_cause : HasCause call.out.faults_before call.out.faults_now (call.status ≡ statuses.OutFailed)
-  pub out_no_fault : call.status ≢ statuses.OutFailed → call.out.faults_now ≡ call.out.faults_before
-  pub puts : OnlyPuts call.store.before call.store.now
-  pub later : call.store.faults_before ≤ call.store.faults_now
+came_to : (order : Order) (call : Call) → Answered order call → IsWhole call.status ⊎ (call.status ≡ statuses.OutFailed)
+came_to order call a = answered_status a.response.status call.status a.responds.whole a.status
 
-came_to : (call : Call) (bytes : List ℕ) (order : Order) → Answered call bytes order → IsWhole call.status ⊎ (call.status ≡ statuses.OutFailed)
-came_to call bytes order a = answered_status a.response.status call.status a.responds.whole a.status
-
-pub headline_answered : (call : Call) (input bytes : List ℕ) (order : Order) → ReadOf input bytes → Answered call bytes order
+pub headline_answered : (call : Call) (input : List ℕ) (order : Order) (a : Answered order call) → ReadOf input a.bytes
     → (fair : FairStore order input (held_in call.store.before) (held_in call.store.now)) → Headline call input order fair
-headline_answered call input bytes order read a fair =
-    let came = came_to call bytes order a in
-    let here : FairStore order bytes (held_in call.store.before) (held_in call.store.now) =
-    fair_read (uses_store order) (limits_of order) input bytes (held_in call.store.before) (held_in call.store.now) read fair in
+headline_answered call input order a read fair =
+    let came = came_to order call a in
+    let here : FairStore order a.bytes (held_in call.store.before) (held_in call.store.now) =
+    fair_read (uses_store order) (limits_of order) input a.bytes (held_in call.store.before) (held_in call.store.now) read fair in
     record {
+      read = λ done. a.read_out;
       same = λ whole.
-          answers_whole order input bytes call.status call.out.before call.out.now read
-          (written.answered order bytes a.response.status call.status a.response.bytes.items call.out.before call.out.now (a.responds.expected here) a.status whole
+          answers_whole order input a.bytes call.status call.out.before call.out.now read
+          (written.answered order a.bytes a.response.status call.status a.response.bytes.items call.out.before call.out.now (a.responds.expected here) a.status whole
           (a.written whole));
       memory = λ m. absurd (not_silent call.status came (inr (inr m)));
       source = λ s. absurd (not_silent call.status came (inr (inl s)));
       sink = λ cut. (
         a.out_cause.rose cut,
-        begins_whole order input bytes call.out.before call.out.now read
-            (written.begun order bytes a.response.status a.response.bytes.items call.out.before call.out.now (a.responds.expected here) (a.begun cut)),
+        begins_whole order input a.bytes call.out.before call.out.now read
+            (written.begun order a.bytes a.response.status a.response.bytes.items call.out.before call.out.now (a.responds.expected here) (a.begun cut)),
       );
       status = elim came [ inl whole ↦ inl whole | inr cut ↦ inr (inr (inr cut)) ];
-      honest = honest_left call input order (left_read call input bytes order read a.left) fair;
+      honest = honest_left call input order (left_read call input a.bytes order read a.left) fair;
     }
 
-pub beyond_answered : (call : Call) (input bytes : List ℕ) (order : Order) → ReadOf input bytes → Answered call bytes order
+pub beyond_answered : (call : Call) (input : List ℕ) (order : Order) (a : Answered order call) → ReadOf input a.bytes
     → (fair : FairStore order input (held_in call.store.before) (held_in call.store.now)) → Beyond call input order fair
-beyond_answered call input bytes order read a fair =
-    let here : FairStore order bytes (held_in call.store.before) (held_in call.store.now) =
-    fair_read (uses_store order) (limits_of order) input bytes (held_in call.store.before) (held_in call.store.now) read fair in
+beyond_answered call input order a read fair =
+    let here : FairStore order a.bytes (held_in call.store.before) (held_in call.store.now) =
+    fair_read (uses_store order) (limits_of order) input a.bytes (held_in call.store.before) (held_in call.store.now) read fair in
     record {
       notes = λ whole.
-          notes_whole call input bytes order read
-          (written.noted call bytes order a.response.status a.response.notes.items (a.responds.noted here) a.status whole (a.noted whole));
-      left = λ held is honest. left_read call input bytes order read a.left held is honest fair;
+          notes_whole call input a.bytes order read
+          (written.noted call a.bytes order a.response.status a.response.notes.items (a.responds.noted here) a.status whole (a.noted whole));
+      left = λ held is honest. left_read call input a.bytes order read a.left held is honest fair;
     }
 
-pub input_answered : (call : Call) (input bytes : List ℕ) (order : Order) → ReadOf input bytes → Answered call bytes order → OfInput call input order
-input_answered call input bytes order read a = record {
+pub input_answered : (call : Call) (input : List ℕ) (order : Order) (a : Answered order call) → ReadOf input a.bytes → OfInput call input order
+input_answered call input order a read = record {
   refused = λ r.
-      answers_whole order input bytes call.status call.out.before call.out.now read
-      (written.refused order bytes a.response.status call.status a.response.bytes.items call.out.before call.out.now a.responds.refused a.status r a.written);
-  shown = λ gone. shown_whole call input bytes order read (written.shown call bytes order a.response a.responds.went a.status gone a.written a.noted);
+      answers_whole order input a.bytes call.status call.out.before call.out.now read
+      (written.refused order a.bytes a.response.status call.status a.response.bytes.items call.out.before call.out.now a.responds.refused a.status r a.written);
+  shown = λ gone. shown_whole call input a.bytes order read (written.shown call a.bytes order a.response a.responds.went a.status gone a.written a.noted);
 }
 
-pub each_answered : (call : Call) (bytes : List ℕ) (order : Order) → Answered call bytes order → OfEachCall call
-each_answered call bytes order a =
-    let came = came_to call bytes order a in
+pub each_answered : (order : Order) (call : Call) → Answered order call → OfEachCall call
+each_answered order call a =
+    let came = came_to order call a in
     record {
       status = elim came [ inl whole ↦ inl whole | inr cut ↦ inr (inr cut) ];
+      gives = a.gives;
+      read = λ done. a.read_out;
+      rest = λ done. a.rest;
       tree = λ whole. written.tree_written a.response.bytes.items call.out.before call.out.now a.responds.text (a.written whole);
       tree_begun = λ cut. written.tree_begun a.response.bytes.items call.out.before call.out.now a.responds.text (a.begun cut);
       silent = λ s. absurd (not_silent call.status came s);
@@ -176,19 +149,50 @@ each_answered call bytes order a =
       later = a.later;
     }
 
+-- ## Builds
+
+pub headline_ended : (order : Order) (call : Call) → call.status ≢ statuses.NoCommand → Ended order call → (input : List ℕ) → IsInput call.source input
+    → (fair : FairStore order input (held_in call.store.before) (held_in call.store.now)) → Headline call input order fair
+headline_ended order call begun (inl u) input asked fair = headline_unanswered call input order u.0 begun (u.1 input asked) fair
+headline_ended order call begun (inr a) input asked fair = headline_answered call input order a (a.read input asked) fair
+
+pub beyond_ended : (order : Order) (call : Call) → Ended order call → GoesBeyond (λ o. o ≡ order) call
+beyond_ended order call (inl u) = record {
+  fair = λ o input same asked fair.
+      beyond_unanswered call input o u.0 (subst (λ (x : Order). Left call input x) (sym same) (u.1 input asked)) fair;
+  of_input = λ o input same asked. input_unanswered call input o u.0;
+  of_each_call = each_unanswered call u.0;
+}
+beyond_ended order call (inr a) = record {
+  fair = λ o input same asked fair.
+      subst (λ (x : Order). (f : FairStore x input (held_in call.store.before) (held_in call.store.now)) → Beyond call input x f) (sym same)
+      (beyond_answered call input order a (a.read input asked)) fair;
+  of_input = λ o input same asked. subst (λ (x : Order). OfInput call input x) (sym same) (input_answered call input order a (a.read input asked));
+  of_each_call = each_answered order call a;
+}
+
 -- ## Orders
 
-pub same_headline : (call : Call) (input : List ℕ) (a b : Order) → a ≡ b
-    → ((fair : FairStore a input (held_in call.store.before) (held_in call.store.now)) → Headline call input a fair)
-    → (fair : FairStore b input (held_in call.store.before) (held_in call.store.now)) → Headline call input b fair
-same_headline call input a b e h =
-    subst (λ (o : Order). (fair : FairStore o input (held_in call.store.before) (held_in call.store.now)) → Headline call input o fair) e h
+-- what is so of one order is so of the orders that words come to, where they come to that one alone
+pub headline_of : (asked : Order → Type 0) (order : Order) (call : Call) → ((o : Order) → asked o → order ≡ o) → call.status ≢ statuses.NoCommand → Ended order call
+    → KeepsHeadline asked call
+headline_of asked order call one begun ended = λ o input is given fair.
+    subst (λ (x : Order). (f : FairStore x input (held_in call.store.before) (held_in call.store.now)) → Headline call input x f) (one o is)
+    (headline_ended order call begun ended input given) fair
 
-pub same_beyond : (call : Call) (input : List ℕ) (a b : Order) → a ≡ b
-    → ((fair : FairStore a input (held_in call.store.before) (held_in call.store.now)) → Beyond call input a fair)
-    → (fair : FairStore b input (held_in call.store.before) (held_in call.store.now)) → Beyond call input b fair
-same_beyond call input a b e h =
-    subst (λ (o : Order). (fair : FairStore o input (held_in call.store.before) (held_in call.store.now)) → Beyond call input o fair) e h
+pub beyond_of : (asked : Order → Type 0) (order : Order) (call : Call) → ((o : Order) → asked o → order ≡ o) → Ended order call → GoesBeyond asked call
+beyond_of asked order call one ended =
+    let b : GoesBeyond (λ o. o ≡ order) call = beyond_ended order call ended in
+    record {
+      fair = λ o input is given fair. b.fair o input (sym (one o is)) given fair;
+      of_input = λ o input is given. b.of_input o input (sym (one o is)) given;
+      of_each_call = b.of_each_call;
+    }
 
-pub same_input : (call : Call) (input : List ℕ) (a b : Order) → a ≡ b → OfInput call input a → OfInput call input b
-same_input call input a b e h = subst (λ (o : Order). OfInput call input o) e h
+-- words that are no command come to no order
+pub beyond_none : (asked : Order → Type 0) (call : Call) → ((o : Order) → asked o → ⊥) → Unanswered call → GoesBeyond asked call
+beyond_none asked call none u = record {
+  fair = λ o input is given fair. absurd (none o is);
+  of_input = λ o input is given. absurd (none o is);
+  of_each_call = each_unanswered call u;
+}

@@ -1,10 +1,10 @@
 -- An input that is read up to one byte past the limit ends as the whole input does.
-use Rattle.std.proofs.Common.{◌≡◌, ℕ, Bool, true, false, ◌<◌, ◌≤◌, ◌⊎◌, inl, inr, List, [], ◌++◌, length, drop}
-use Rattle.std.proofs.Common.{refl, sym, ap, subst, ◌∙◌, arith}
+use Rattle.std.proofs.Common.{◌≡◌, ℕ, Bool, true, false, ◌<◌, ◌≤◌, inl, inr, List, [], ◌++◌, length, drop}
+use Rattle.std.proofs.Common.{refl, sym, ap, append_assoc, subst, ◌∙◌, arith}
 use Rattle.std.specs.Prelude.{Some, None, IsSome}
 use Rattle.std.specs.declared.option.Option.{Option}
 use Rattle.bx_io.specs.Told.{Moves, NoneLeft}
-use Rattle.bx_engine.specs.Known.{IsInput, IsReadOut}
+use Rattle.bx_engine.specs.Known.{GivesPiece, IsInput, IsLong, IsReadOut, LeavesRest, ReadOf}
 use Rattle.std.proofs.lemmas.List.{append-nil, append_cancel_left, drop_all, drop_at, length-append}
 use Rattle.std.proofs.lemmas.Bool.{cases_lt}
 use Rattle.bx_tree.specs.Bundle.{Faults}
@@ -17,17 +17,13 @@ use Rattle.bx_engine.specs.declared.limits.TheConstants.{READ_LIMIT}
 use Rattle.bx_tree.specs.declared.limits.TheConstants.{MAX_BUNDLE_BYTES}
 use Rattle.bx_engine.specs.Ends.{Ends}
 use Rattle.bx_io.specs.Holdings.{Holdings, StoreTold}
-use Rattle.bx_engine.specs.Calls.{Call, StoreChange}
+use Rattle.bx_engine.specs.Calls.{Call, Given, StoreChange}
 use Rattle.bx_engine.specs.Counting.{AppendsNotes, IsNoted, IsShown, NotesOf}
 use Rattle.bx_engine.specs.Expected.{IsExpected, Answers, Begins, limits_of}
 use Rattle.bx_engine.specs.Stores.{AsksFor, FairWhere, LeftOfBuild, StoreLeft}
 use Rattle.bx_engine.specs.Ending.{Ending, InputRefused, SpecificationRefused, Built}
 use Rattle.bx_engine_front.specs.declared.limits.Limits.{Limits}
 use Rattle.pip_model_types.specs.declared.pip.Pip.{Pip}
-
--- the input is longer than an input may be
-abbrev pub IsLong : List ℕ → Type 0
-IsLong input = MAX_BUNDLE_BYTES < length input
 
 not_long : (input : List ℕ) → IsLong input → length input ≤ MAX_BUNDLE_BYTES → ⊥
 not_long input h k = omega arith
@@ -50,10 +46,6 @@ long_ends limits a b (InputRefused input_faults.TooLarge) h k e = long_fault a b
 long_ends limits a b (InputRefused input_faults.Reserved) h k e = absurd (not_long a h e.1.whole)
 long_ends limits a b (SpecificationRefused fault) h k e = absurd (not_long a h e.1.bundle.whole)
 long_ends limits a b (Built pips results) h k e = absurd (not_long a h e.1.bundle.whole)
-
--- these bytes were read of an input
-pub record ReadOf (input bytes : List ℕ) : Type 0 where
-  pub whole : (bytes ≡ input) ⊎ (IsLong bytes × IsLong input)
 
 -- an input is over the limit where a prefix of it is
 long_prefix : (input bytes rest : List ℕ) → input ≡ bytes ++ rest → IsLong bytes → IsLong input
@@ -112,25 +104,24 @@ left_told left now input bytes told tells moved bound end =
     ]
 
 -- what reading an input gives: it is what was given, or all that was left
-pub read_input : (given now_given : List ℕ) (left now : Option (List ℕ)) (input bytes : List ℕ) → IsInput given now_given left now input
-    → now_given ≡ given ++ bytes → Moves left now bytes → length bytes ≤ READ_LIMIT → (length bytes ≤ MAX_BUNDLE_BYTES → NoneLeft now) → ReadOf input bytes
-read_input given now_given left now input bytes (inl gave) was moved bound end =
-    record { whole = inl (append_cancel_left given bytes input (sym was ∙ gave)) }
-read_input given now_given left now input bytes (inr told) was moved bound end = read_told left now input bytes told.0 told.1 moved bound end
+pub read_input : (source : Given) (input bytes : List ℕ) → IsInput source input → source.now ≡ source.before ++ bytes
+    → Moves source.left_before source.left_now bytes → length bytes ≤ READ_LIMIT → (length bytes ≤ MAX_BUNDLE_BYTES → NoneLeft source.left_now) → ReadOf input bytes
+read_input source input bytes (inl gave) was moved bound end = record { whole = inl (append_cancel_left source.before bytes input (sym was ∙ gave)) }
+read_input source input bytes (inr told) was moved bound end = read_told source.left_before source.left_now input bytes told.0 told.1 moved bound end
 
 -- the same where the bytes are a slice of a vector
-pub read_slice : (given now_given : List ℕ) (left now : Option (List ℕ)) (input items slice : List ℕ) (count : ℕ) → slice ≡ items → length slice ≡ count
-    → IsInput given now_given left now input → now_given ≡ given ++ items → Moves left now items → count ≤ READ_LIMIT
-    → (count ≤ MAX_BUNDLE_BYTES → NoneLeft now) → ReadOf input slice
-read_slice given now_given left now input items slice count is long asked was moved bound end =
-    read_input given now_given left now input slice asked (subst (λ (b : List ℕ). now_given ≡ given ++ b) (sym is) was)
-    (subst (λ (b : List ℕ). Moves left now b) (sym is) moved) (subst (λ n. n ≤ READ_LIMIT) (sym long) bound)
+pub read_slice : (source : Given) (input items slice : List ℕ) (count : ℕ) → slice ≡ items → length slice ≡ count
+    → IsInput source input → source.now ≡ source.before ++ items → Moves source.left_before source.left_now items → count ≤ READ_LIMIT
+    → (count ≤ MAX_BUNDLE_BYTES → NoneLeft source.left_now) → ReadOf input slice
+read_slice source input items slice count is long asked was moved bound end =
+    read_input source input slice asked (subst (λ (b : List ℕ). source.now ≡ source.before ++ b) (sym is) was)
+    (subst (λ (b : List ℕ). Moves source.left_before source.left_now b) (sym is) moved) (subst (λ n. n ≤ READ_LIMIT) (sym long) bound)
     (λ short. end (subst (λ n. n ≤ MAX_BUNDLE_BYTES) long short))
 
-pub left_slice : (left now : Option (List ℕ)) (input items : List ℕ) (count : ℕ) → length items ≡ count → left ≡ Some input → IsSome now → Moves left now items
-    → count ≤ READ_LIMIT → (count ≤ MAX_BUNDLE_BYTES → NoneLeft now) → now ≡ Some (drop READ_LIMIT input)
-left_slice left now input items count long told tells moved bound end =
-    left_told left now input items told tells moved (subst (λ n. n ≤ READ_LIMIT) (sym long) bound)
+pub left_slice : (source : Given) (items : List ℕ) (count : ℕ) → length items ≡ count → Moves source.left_before source.left_now items
+    → count ≤ READ_LIMIT → (count ≤ MAX_BUNDLE_BYTES → NoneLeft source.left_now) → LeavesRest source
+left_slice source items count long moved bound end = λ input told tells.
+    left_told source.left_before source.left_now input items told tells moved (subst (λ n. n ≤ READ_LIMIT) (sym long) bound)
     (λ short. end (subst (λ n. n ≤ MAX_BUNDLE_BYTES) long short))
 
 -- how the input ends
@@ -247,9 +238,9 @@ shown_whole call input bytes order read s = record {
 -- ## What was read
 
 -- to its end, or to one byte past the limit
-pub read_out : (given now_given : List ℕ) (ended : Bool) (bytes : List ℕ) (count : ℕ) → length bytes ≡ count → now_given ≡ given ++ bytes → count ≤ READ_LIMIT
-    → (count ≤ MAX_BUNDLE_BYTES → ended ≡ true) → IsReadOut given now_given ended
-read_out given now_given ended bytes count long gave bound end = record {
+pub read_out : (source : Given) (bytes : List ℕ) (count : ℕ) → length bytes ≡ count → source.now ≡ source.before ++ bytes → count ≤ READ_LIMIT
+    → (count ≤ MAX_BUNDLE_BYTES → source.ended ≡ true) → IsReadOut source
+read_out source bytes count long gave bound end = record {
   input = bytes;
   gave = gave;
   out = elim (cases_lt MAX_BUNDLE_BYTES count) [
@@ -257,3 +248,17 @@ read_out given now_given ended bytes count long gave bound end = record {
     | inr within ↦ inl (end within)
   ];
 }
+
+-- ## Pieces that were given
+
+-- a source that was not asked gave nothing
+pub gives_none : (source : Given) → source.now ≡ source.before → source.left_now ≡ source.left_before → GivesPiece source
+gives_none source gave left = record {
+  piece = [];
+  gave = gave ∙ sym (append-nil source.before);
+  moved = λ rest is. sym left ∙ is;
+}
+
+-- one piece after another
+pub moves_both : (a b c : Option (List ℕ)) (xs ys : List ℕ) → Moves a b xs → Moves b c ys → Moves a c (xs ++ ys)
+moves_both a b c xs ys h k = λ rest is. h (ys ++ rest) (k rest is) ∙ ap (λ (zs : List ℕ). Some zs) (sym (append_assoc xs ys rest))

@@ -1,8 +1,8 @@
 pub mod Ending
 pub mod Ends
 pub mod Expected
-pub mod Known
 pub mod Calls
+pub mod Known
 pub mod Stores
 pub mod Counting
 pub mod OutputTrees
@@ -10,3 +10,4 @@ pub mod Responses
 pub mod Statuses
 pub mod Headline
 pub mod Beyond
+pub mod Ended

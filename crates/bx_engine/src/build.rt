@@ -1,17 +1,14 @@
 //! A build, from the source's bytes to the sinks'.
 
-ghost use Rattle.std.specs.Prelude.{◌≡◌, ◌≢◌, ◌⊎◌, [], ℕ, List, Some, IsSome, drop, false};
+ghost use Rattle.std.specs.Prelude.{◌≡◌, ◌≢◌, ◌⊎◌, [], false};
 ghost use Rattle.bx_io.specs.Causes.{HasCause};
-ghost use Rattle.bx_io.specs.Holdings.{held_in};
-ghost use Rattle.bx_engine.specs.Beyond.{Beyond, OfEachCall, OfInput};
-ghost use Rattle.bx_engine.specs.Calls.{call_of, change_of, counted_of, written_of};
+ghost use Rattle.bx_engine.specs.Calls.{call_of, change_of, given_of, written_of};
+ghost use Rattle.bx_engine.specs.Ended.{Ended};
 ghost use Rattle.bx_engine.specs.Expected.{AppendsOrFails};
-ghost use Rattle.bx_engine.specs.Headline.{Headline};
-ghost use Rattle.bx_engine.specs.Known.{Appends, AppendsPrefix, IsInput, IsReadOut};
+ghost use Rattle.bx_engine.specs.Known.{Appends, AppendsPrefix};
 ghost use Rattle.bx_engine.specs.Statuses.{HasNoBuild, HasNoNotes, IsSilent, IsWhole};
-ghost use Rattle.bx_engine.specs.Stores.{FairStore, uses_store};
+ghost use Rattle.bx_engine.specs.Stores.{uses_store};
 
-use crate::limits::READ_LIMIT;
 use crate::reading::{ReadFault, read_all};
 use crate::response::{Response, respond};
 use crate::status::Status;
@@ -44,7 +41,7 @@ fn deliver<O: Sink, N: Sink>(out: &mut O, notes: &mut N, response: &Response) ->
     }
 }
 
-/// Builds what the source gives.
+/// Builds what the source gives. How it ends is said once, and what `command` promises follows from that.
 pub(crate) fn build<S: Source, O: Sink, N: Sink, K: Keeper, G: Gate>(
     alloc: Global,
     order: &Order,
@@ -54,35 +51,10 @@ pub(crate) fn build<S: Source, O: Sink, N: Sink, K: Keeper, G: Gate>(
     keeper: &mut K,
     gate: &G,
 ) -> Status
-    ensures status { IsWhole result
-        ⊎ (result ≡ Status.SourceFailed) ⊎ (result ≡ Status.OutFailed) ⊎ (result ≡ Status.OutOfMemory) }
-    ensures headline { (input : List ℕ)
-        → IsInput (S.given source.old) (S.given source.new) (S.left source.old) (S.left source.new) input
-        → (fair : FairStore order.now input (held_in (K.known keeper.old)) (held_in (K.known keeper.new)))
-        → Headline (call_of result (counted_of (S.faults source.old) (S.faults source.new))
-        (written_of (O.taken out.old) (O.taken out.new) (O.faults out.old) (O.faults out.new))
-        (written_of (N.taken notes.old) (N.taken notes.new) (N.faults notes.old) (N.faults notes.new))
-        (change_of (K.known keeper.old) (K.known keeper.new) (K.bound keeper.old) (K.faults keeper.old)
-        (K.faults keeper.new)))
-        input order.now fair }
-    ensures beyond { (input : List ℕ)
-        → IsInput (S.given source.old) (S.given source.new) (S.left source.old) (S.left source.new) input
-        → (fair : FairStore order.now input (held_in (K.known keeper.old)) (held_in (K.known keeper.new)))
-        → Beyond (call_of result (counted_of (S.faults source.old) (S.faults source.new))
-        (written_of (O.taken out.old) (O.taken out.new) (O.faults out.old) (O.faults out.new))
-        (written_of (N.taken notes.old) (N.taken notes.new) (N.faults notes.old) (N.faults notes.new))
-        (change_of (K.known keeper.old) (K.known keeper.new) (K.bound keeper.old) (K.faults keeper.old)
-        (K.faults keeper.new)))
-        input order.now fair }
-    ensures of_input { (input : List ℕ)
-        → IsInput (S.given source.old) (S.given source.new) (S.left source.old) (S.left source.new) input
-        → OfInput (call_of result (counted_of (S.faults source.old) (S.faults source.new))
-        (written_of (O.taken out.old) (O.taken out.new) (O.faults out.old) (O.faults out.new))
-        (written_of (N.taken notes.old) (N.taken notes.new) (N.faults notes.old) (N.faults notes.new))
-        (change_of (K.known keeper.old) (K.known keeper.new) (K.bound keeper.old) (K.faults keeper.old)
-        (K.faults keeper.new)))
-        input order.now }
-    ensures of_each_call { OfEachCall (call_of result (counted_of (S.faults source.old) (S.faults source.new))
+    ensures begun { result ≢ Status.NoCommand }
+    ensures ended { Ended order.now (call_of result
+        (given_of (S.given source.old) (S.given source.new) (S.left source.old) (S.left source.new)
+        (S.ended source.new) (S.faults source.old) (S.faults source.new))
         (written_of (O.taken out.old) (O.taken out.new) (O.faults out.old) (O.faults out.new))
         (written_of (N.taken notes.old) (N.taken notes.new) (N.faults notes.old) (N.faults notes.new))
         (change_of (K.known keeper.old) (K.known keeper.new) (K.bound keeper.old) (K.faults keeper.old)
@@ -94,12 +66,6 @@ pub(crate) fn build<S: Source, O: Sink, N: Sink, K: Keeper, G: Gate>(
     ensures kept { HasNoBuild result → keeper.new ≡ keeper.old }
     ensures untouched { uses_store order.now ≡ false → keeper.new ≡ keeper.old }
     ensures bound { K.bound keeper.new ≡ K.bound keeper.old }
-
-    // What was read.
-    ensures read { (IsWhole result ⊎ (result ≡ Status.OutFailed))
-        → IsReadOut (S.given source.old) (S.given source.new) (S.ended source.new) }
-    ensures left { (input : List ℕ) → S.left source.old ≡ Some input → IsSome (S.left source.new)
-        → (IsWhole result ⊎ (result ≡ Status.OutFailed)) → S.left source.new ≡ Some (drop READ_LIMIT input) }
 {
     let input = match read_all(alloc, source) {
         Ok(input) => input,

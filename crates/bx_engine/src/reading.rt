@@ -1,6 +1,6 @@
 //! Reads the source to its end, or to one byte past the limit on an input.
 
-ghost use Rattle.std.specs.Prelude.{◌≡◌, ◌≢◌, ◌≤◌, ◌<◌, ◌++◌, true, IfOk, IsErrOf, length, vec_len};
+ghost use Rattle.std.specs.Prelude.{◌≡◌, ◌≢◌, ◌≤◌, ◌<◌, ◌++◌, ℕ, List, true, IfOk, IsErrOf, length, vec_len};
 ghost use Rattle.bx_io.specs.Told.{Moves, NoneLeft};
 ghost use Rattle.bx_io.specs.Causes.{HasCause};
 ghost use Rattle.bx_engine.specs.Known.{MovesPiece};
@@ -59,6 +59,8 @@ fn read_piece<S: Source>(
         MovesPiece (S.given source.old) (S.given source.new) (S.left source.old) (S.left source.new)
         held.old.items held.new.items count) }
     ensures count { IfOk result (λ count. count ≤ length buffer.old) }
+    ensures gave { (piece : List ℕ) × (S.given source.new ≡ S.given source.old ++ piece)
+        × Moves (S.left source.old) (S.left source.new) piece }
     ensures end { result ≡ Ok 0 → 0 < length buffer.old → S.ended source.new ≡ true }
     ensures none_left { result ≡ Ok 0 → 0 < length buffer.old → NoneLeft (S.left source.new) }
     ensures cause { HasCause (S.faults source.old) (S.faults source.new) (IsErrOf result ReadFault.Failed) }
@@ -71,6 +73,8 @@ fn read_piece<S: Source>(
 
 /// Reads up to the source's end, or until one byte more is held than a bundle may have.
 pub(crate) fn read_all<S: Source>(alloc: Global, source: &mut S) -> Result<Vec<u8>, ReadFault>
+    ensures piece { (piece : List ℕ) × (S.given source.new ≡ S.given source.old ++ piece)
+        × Moves (S.left source.old) (S.left source.new) piece }
     ensures gave { IfOk result (λ bytes. S.given source.new ≡ S.given source.old ++ bytes.items) }
     ensures moved { IfOk result (λ bytes. Moves (S.left source.old) (S.left source.new) bytes.items) }
     ensures bound { IfOk result (λ bytes. vec_len bytes ≤ READ_LIMIT) }

@@ -1,20 +1,17 @@
 //! The top call.
 
-ghost use Rattle.std.specs.Prelude.{◌≡◌, ◌≢◌, ◌⊎◌, ℕ, List, Some, IsSome, drop, false, map, string_bytes};
-ghost use Rattle.bx_io.specs.Holdings.{held_in};
-ghost use Rattle.bx_engine.specs.Beyond.{Beyond, OfEachCall, OfInput};
-ghost use Rattle.bx_engine.specs.Calls.{call_of, change_of, counted_of, written_of};
+ghost use Rattle.std.specs.Prelude.{◌≡◌, ◌≢◌, false, map, string_bytes};
+ghost use Rattle.bx_engine.specs.Beyond.{GoesBeyond};
+ghost use Rattle.bx_engine.specs.Calls.{call_of, change_of, given_of, written_of};
 ghost use Rattle.bx_engine.specs.Ending.{usage_text};
 ghost use Rattle.bx_engine.specs.Expected.{AppendsOrFails};
-ghost use Rattle.bx_engine.specs.Headline.{Headline};
-ghost use Rattle.bx_engine.specs.Known.{IsInput, IsReadOut};
-ghost use Rattle.bx_engine.specs.Statuses.{HasNoBuild, HasNoNotes, IsSilent, IsWhole};
-ghost use Rattle.bx_engine.specs.Stores.{FairStore, uses_store};
+ghost use Rattle.bx_engine.specs.Headline.{KeepsHeadline};
+ghost use Rattle.bx_engine.specs.Statuses.{HasNoBuild, HasNoNotes, IsSilent};
+ghost use Rattle.bx_engine.specs.Stores.{uses_store};
 ghost use Rattle.bx_engine_words.specs.Words.{Orders};
 ghost use Rattle.bx_engine_words.specs.declared.order.Order.{Order as TheOrder};
 
 use crate::build::build;
-use crate::limits::READ_LIMIT;
 use crate::status::Status;
 use crate::writing::write_all;
 use bx_engine_words::{WordFault, one_order, read_words};
@@ -52,35 +49,18 @@ pub fn command<H: Threads + Wait + Sync, S: Source, O: Sink, N: Sink, K: Keeper,
         → (order : TheOrder) × Orders (map string_bytes words.now) order }
 
     // The promise of the program: of every input that the source gives, and of every order of the words.
-    ensures headline { (order : TheOrder) (input : List ℕ) → Orders (map string_bytes words.now) order
-        → IsInput (S.given source.old) (S.given source.new) (S.left source.old) (S.left source.new) input
-        → (fair : FairStore order input (held_in (K.known keeper.old)) (held_in (K.known keeper.new)))
-        → Headline (call_of result (counted_of (S.faults source.old) (S.faults source.new))
+    ensures headline { KeepsHeadline (Orders (map string_bytes words.now)) (call_of result
+        (given_of (S.given source.old) (S.given source.new) (S.left source.old) (S.left source.new)
+        (S.ended source.new) (S.faults source.old) (S.faults source.new))
         (written_of (O.taken out.old) (O.taken out.new) (O.faults out.old) (O.faults out.new))
         (written_of (N.taken notes.old) (N.taken notes.new) (N.faults notes.old) (N.faults notes.new))
         (change_of (K.known keeper.old) (K.known keeper.new) (K.bound keeper.old) (K.faults keeper.old)
-        (K.faults keeper.new)))
-        input order fair }
+        (K.faults keeper.new))) }
 
     // What goes beyond it.
-    ensures beyond { (order : TheOrder) (input : List ℕ) → Orders (map string_bytes words.now) order
-        → IsInput (S.given source.old) (S.given source.new) (S.left source.old) (S.left source.new) input
-        → (fair : FairStore order input (held_in (K.known keeper.old)) (held_in (K.known keeper.new)))
-        → Beyond (call_of result (counted_of (S.faults source.old) (S.faults source.new))
-        (written_of (O.taken out.old) (O.taken out.new) (O.faults out.old) (O.faults out.new))
-        (written_of (N.taken notes.old) (N.taken notes.new) (N.faults notes.old) (N.faults notes.new))
-        (change_of (K.known keeper.old) (K.known keeper.new) (K.bound keeper.old) (K.faults keeper.old)
-        (K.faults keeper.new)))
-        input order fair }
-    ensures of_input { (order : TheOrder) (input : List ℕ) → Orders (map string_bytes words.now) order
-        → IsInput (S.given source.old) (S.given source.new) (S.left source.old) (S.left source.new) input
-        → OfInput (call_of result (counted_of (S.faults source.old) (S.faults source.new))
-        (written_of (O.taken out.old) (O.taken out.new) (O.faults out.old) (O.faults out.new))
-        (written_of (N.taken notes.old) (N.taken notes.new) (N.faults notes.old) (N.faults notes.new))
-        (change_of (K.known keeper.old) (K.known keeper.new) (K.bound keeper.old) (K.faults keeper.old)
-        (K.faults keeper.new)))
-        input order }
-    ensures of_each_call { OfEachCall (call_of result (counted_of (S.faults source.old) (S.faults source.new))
+    ensures beyond { GoesBeyond (Orders (map string_bytes words.now)) (call_of result
+        (given_of (S.given source.old) (S.given source.new) (S.left source.old) (S.left source.new)
+        (S.ended source.new) (S.faults source.old) (S.faults source.new))
         (written_of (O.taken out.old) (O.taken out.new) (O.faults out.old) (O.faults out.new))
         (written_of (N.taken notes.old) (N.taken notes.new) (N.faults notes.old) (N.faults notes.new))
         (change_of (K.known keeper.old) (K.known keeper.new) (K.bound keeper.old) (K.faults keeper.old)
@@ -95,12 +75,6 @@ pub fn command<H: Threads + Wait + Sync, S: Source, O: Sink, N: Sink, K: Keeper,
     ensures untouched { (order : TheOrder) → Orders (map string_bytes words.now) order
         → uses_store order ≡ false → keeper.new ≡ keeper.old }
     ensures bound { K.bound keeper.new ≡ K.bound keeper.old }
-
-    // The source is read to its end, or to one byte past the limit.
-    ensures read { (IsWhole result ⊎ (result ≡ Status.OutFailed))
-        → IsReadOut (S.given source.old) (S.given source.new) (S.ended source.new) }
-    ensures left { (input : List ℕ) → S.left source.old ≡ Some input → IsSome (S.left source.new)
-        → (IsWhole result ⊎ (result ≡ Status.OutFailed)) → S.left source.new ≡ Some (drop READ_LIMIT input) }
 
     // Words that are no command are answered by the usage.
     ensures usage { result ≡ Status.NoCommand

@@ -16,7 +16,7 @@ use Rattle.std.specs.Prelude.{IfSome}
 use Rattle.std.proofs.lemmas.List.Elements.{All-nil, All-cons}
 use Rattle.bx_io.specs.Told.{Stays}
 use Rattle.bx_io_system.specs.declared.kind.Kind.TheVariants as kinds
-use Rattle.std.proofs.Common.{sym, cond, ◌++◌, append-nil, OnOk, OnErr, Vec, Global}
+use Rattle.std.proofs.Common.{sym, cond, ◌++◌, append-nil, OnOk, OnErr, Vec, Global, String}
 use Rattle.std.specs.IoError.{error_kind}
 use Rattle.std.specs.declared.io.Error.{Error}
 use Rattle.std.specs.declared.io.ErrorKind.{ErrorKind}
@@ -24,13 +24,13 @@ use Rattle.std.specs.declared.io.ErrorKind.TheVariants.{NotFound, OutOfMemory}
 use Rattle.bx_io.specs.Answers.{IsAnswer, IsListing}
 use Rattle.bx_io.specs.declared.keeper.Listed.{Listed}
 use Rattle.bx_io.specs.declared.keeper.Listed.TheVariants as listed
-use Rattle.bx_io_system.specs.Files.{Reads, told_at}
+use Rattle.bx_io_system.specs.Files.{Drops, IsUnlisted, Puts, Reads, told_at}
 use Rattle.bx_io.specs.declared.keeper.Got.{Got}
 use Rattle.bx_io.specs.declared.keeper.Got.TheVariants as got
 use Rattle.bx_io.specs.declared.keeper.PutFault.{PutFault}
 use Rattle.bx_io.specs.declared.keeper.PutFault.TheVariants as put_faults
 use Rattle.bx_io_system.specs.Events.{Event, keep_if}
-use Rattle.bx_io_system.specs.Answers.{event_for, change_event, fault_of, got_of, listed_event}
+use Rattle.bx_io_system.specs.Answers.{event_for, change_event, fault_of, got_of, list_fault_of, listed_event, listed_of, put_fault_of, put_of}
 use Rattle.bx_io_system.specs.Telling.{has_bytes, is_absent, next, seen, tells, gate, told, made_of}
 
 pub keep_if_some : {X : Type 0} (b : Bool) (x y : X) → keep_if b x ≡ Some y → (b ≡ true) × (x ≡ y)
@@ -132,6 +132,14 @@ pub joined_stays : (first : Holdings) (events : List Event) (closed theirs : Boo
 joined_stays first events closed theirs held h =
     let parts = gate_some (theirs && closed) (seen first events) held h in
     gate_open closed (seen first events) (and_true theirs closed parts.0).1 ∙ parts.1
+
+joined_open : (was other : Option Holdings) (closed : Bool) → IsSome other → gate (tells other && closed) was ≡ gate closed was
+joined_open was None closed is = absurd (cc)
+joined_open was (Some held) closed is = refl
+
+-- a reader that tells leaves what is told
+pub joined_on : (first : Holdings) (events : List Event) (closed : Bool) (other : Option Holdings) → IsSome other → told first events (tells other && closed) ≡ told first events closed
+joined_on first events closed other is = joined_open (seen first events) other closed is
 
 pub joined_tells : (first : Holdings) (events : List Event) (closed : Bool) (other : Option Holdings) → IsSome (told first events (tells other && closed)) → IsSome other
 joined_tells first events closed other is =
@@ -361,6 +369,66 @@ agrees_drop_noted before now files after name noted q is same agrees here others
     subst (λ (log : Record). told_at (told log.held log.events log.closed) q ≡ Some (get after q)) (sym is)
     (subst (λ (n : List ℕ). told_at (told before.held ((kinds.Dropped, n, []) ∷ before.events) before.closed) q ≡ Some (get after q)) (sym same)
     (agrees_drop before.held files after before.events before.closed name q agrees here others))
+
+-- the files agree after a change that failed
+agrees_refused : (before now : Record) (files after : Holdings) (change : Change) (fault : PutFault) (q : List ℕ) → now ≡ record before { events = change_event change (Err fault) ∷ before.events }
+    → get after q ≡ get files q → told_at (told before.held before.events before.closed) q ≡ Some (get files q) → told_at (told now.held now.events now.closed) q ≡ Some (get after q)
+agrees_refused before now files after change fault q is same agrees =
+    subst (λ (log : Record). told_at (told log.held log.events log.closed) q ≡ Some (get after q)) (sym is)
+    (ap (λ (t : Option Holdings). told_at t q) (told_refused before.held before.events before.closed change fault) ∙ agrees ∙ ap Some (sym same))
+
+-- how a record goes on with what became of a change
+noted_as : (before now : Record) (change : Change) (r other : Result (Unit {0}) PutFault) → now ≡ record before { events = change_event change r ∷ before.events } → r ≡ other
+    → now ≡ record before { events = change_event change other ∷ before.events }
+noted_as before now change r other is same = subst (λ (s : Result (Unit {0}) PutFault). now ≡ record before { events = change_event change s ∷ before.events }) same is
+
+-- the files agree after a put, whatever became of it
+pub agrees_after_put : (before now : Record) (files after : Holdings) (name bytes q : List ℕ) (done : Result (Unit {0}) Error) (r : Result (Unit {0}) PutFault)
+    → now ≡ record before { events = change_event (Put name bytes) r ∷ before.events } → r ≡ put_of done → Puts files after name bytes done → IsName q
+    → told_at (told before.held before.events before.closed) q ≡ Some (get files q) → told_at (told now.held now.events now.closed) q ≡ Some (get after q)
+agrees_after_put before now files after name bytes q (Ok x) r is same puts named agrees =
+    agrees_put_noted before now files after name name bytes q (noted_as before now (Put name bytes) r (Ok x) is same) refl agrees puts.0 (puts.1 q named)
+agrees_after_put before now files after name bytes q (Err e) r is same puts named agrees =
+    agrees_refused before now files after (Put name bytes) (put_fault_of (error_kind e)) q (noted_as before now (Put name bytes) r (Err (put_fault_of (error_kind e))) is same) (puts q named) agrees
+
+-- the files agree after a drop, whatever became of it
+pub agrees_after_drop : (before now : Record) (files after : Holdings) (name q : List ℕ) (done : Result (Unit {0}) Error) (r : Result (Unit {0}) PutFault)
+    → now ≡ record before { events = change_event (Drop name) r ∷ before.events } → r ≡ put_of done → Drops files after name done → IsName q
+    → told_at (told before.held before.events before.closed) q ≡ Some (get files q) → told_at (told now.held now.events now.closed) q ≡ Some (get after q)
+agrees_after_drop before now files after name q (Ok x) r is same drops named agrees =
+    agrees_drop_noted before now files after name name q (noted_as before now (Drop name) r (Ok x) is same) refl agrees drops.0 (drops.1 q named)
+agrees_after_drop before now files after name q (Err e) r is same drops named agrees =
+    agrees_refused before now files after (Drop name) (put_fault_of (error_kind e)) q (noted_as before now (Drop name) r (Err (put_fault_of (error_kind e))) is same) (drops q named) agrees
+
+telling_after : (first : Holdings) (events : List Event) (closed : Bool) (change : Change) (r : Result (Unit {0}) PutFault) → IsSome (told first events closed)
+    → IsSome (told first (change_event change r ∷ events) closed)
+telling_after first events closed change (Ok x) telling = telling_change first events closed change telling
+telling_after first events closed change (Err fault) telling = subst IsSome (sym (told_refused first events closed change fault)) telling
+
+-- after a change it tells on, whatever became of it
+pub telling_noted : (before now : Record) (change : Change) (r : Result (Unit {0}) PutFault) → now ≡ record before { events = change_event change r ∷ before.events }
+    → IsSome (told before.held before.events before.closed) → IsSome (told now.held now.events now.closed)
+telling_noted before now change r is telling =
+    subst (λ (log : Record). IsSome (told log.held log.events log.closed)) (sym is) (telling_after before.held before.events before.closed change r telling)
+
+next_unlisted : (kind : ErrorKind) (was : Option Holdings) → next (listed_event (list_fault_of kind)) was ≡ was
+next_unlisted OutOfMemory None = refl
+next_unlisted OutOfMemory (Some held) = refl
+next_unlisted _ None = refl
+next_unlisted _ (Some held) = refl
+
+told_unlisted : (first : Holdings) (events : List Event) (closed : Bool) (done : Result (Vec (String Global) Global) Error) → IsUnlisted done
+    → told first (listed_event (listed_of done) ∷ events) closed ≡ told first events closed
+told_unlisted first events closed (Ok names) unlisted = absurd unlisted
+told_unlisted first events closed (Err e) unlisted = ap (gate closed) (next_unlisted (error_kind e) (seen first events))
+
+-- a listing that failed leaves what is told
+pub unlisted_noted : (before now : Record) (done : Result (Vec (String Global) Global) Error) (answer : Listed) → now ≡ record before { events = listed_event answer ∷ before.events }
+    → answer ≡ listed_of done → IsUnlisted done → told now.held now.events now.closed ≡ told before.held before.events before.closed
+unlisted_noted before now done answer is same unlisted =
+    subst (λ (log : Record). told log.held log.events log.closed ≡ told before.held before.events before.closed) (sym is)
+    (subst (λ (a : Listed). told before.held (listed_event a ∷ before.events) before.closed ≡ told before.held before.events before.closed) (sym same)
+    (told_unlisted before.held before.events before.closed done unlisted))
 
 -- a change of a name that was noted leaves names
 pub noted_names : (before now : Record) (change : Change) (r : Result (Unit {0}) PutFault) → now ≡ record before { events = change_event change r ∷ before.events }

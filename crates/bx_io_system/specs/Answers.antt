@@ -1,5 +1,5 @@
 -- What the answers of the system come to, and how they are recorded.
-use Rattle.std.specs.Prelude.{ℕ, List, [], Result, Ok, Err, Vec}
+use Rattle.std.specs.Prelude.{ℕ, List, [], Result, Ok, Err, Vec, String}
 use Rattle.std.specs.IoError.{error_kind}
 use Rattle.std.specs.declared.alloc.Global.{Global}
 use Rattle.std.specs.declared.io.Error.{Error}
@@ -30,10 +30,19 @@ abbrev pub put_fault_of : ErrorKind → PutFault
 put_fault_of OutOfMemory = put_faults.Memory
 put_fault_of _ = put_faults.Failed
 
--- what became of a put
+-- what became of a put or a drop
 abbrev pub put_of : Result (Unit {0}) Error → Result (Unit {0}) PutFault
 put_of (Ok x) = Ok x
 put_of (Err e) = Err (put_fault_of (error_kind e))
+
+abbrev pub list_fault_of : ErrorKind → Listed
+list_fault_of OutOfMemory = listed.Memory
+list_fault_of _ = listed.Failed
+
+-- what a listing of a folder says of all names
+abbrev pub listed_of : Result (Vec (String Global) Global) Error → Listed
+listed_of (Ok names) = listed.Names names
+listed_of (Err e) = list_fault_of (error_kind e)
 
 -- how an answer for a name is recorded
 abbrev pub event_for : List ℕ → Got → Event

@@ -26,6 +26,16 @@ abbrev pub taken_next : Kind → List ℕ → List ℕ → List ℕ
 taken_next kinds.Took bytes before = before ++ bytes
 taken_next _ bytes before = before
 
+-- what a stream took of a piece with bytes; that it took none is a fault
+abbrev pub took_bytes : List ℕ → Event
+took_bytes [] = (kinds.Failed, [], [])
+took_bytes (b ∷ bytes) = (kinds.Took, [], b ∷ bytes)
+
+-- what a stream took of a piece of this many bytes
+abbrev pub took : ℕ → List ℕ → Event
+took zero bytes = (kinds.Took, [], bytes)
+took (suc n) bytes = took_bytes bytes
+
 -- the bytes that were taken
 abbrev pub taken_of : List Event → List ℕ
 taken_of [] = []

@@ -1,5 +1,5 @@
 -- The files of a folder by path, and the order in which they are changed and stored.
-use Rattle.std.specs.Prelude.{◌≡◌, ◌<◌, ℕ, Bool, true, false, ◌&&◌, ◌||◌, not, ◌==◌, List, [], ◌∷◌, length, slice_index, bytes_eq, Option, Some, None, Result, Ok, Err, Vec, String, string_bytes, All, option_map}
+use Rattle.std.specs.Prelude.{◌≡◌, ◌<◌, ℕ, Bool, true, false, ◌&&◌, ◌||◌, not, ◌==◌, nat_lt, List, [], ◌∷◌, length, slice_index, bytes_eq, Option, Some, None, Result, Ok, Err, Vec, String, string_bytes, All, option_map}
 use Rattle.std.specs.FinMap.{get}
 use Rattle.std.specs.IoError.{error_kind}
 use Rattle.std.specs.declared.alloc.Global.{Global}
@@ -87,7 +87,8 @@ Drops before now name (Err e) = SameNames before now
 
 -- ## The order of changes and syncs
 --
--- After a loss of power an entry of a folder may stand without what was put before it, unless that was synced.
+-- After a loss of power a file or folder may stand without what was put or made before it, unless that was
+-- synced.
 
 -- the letters of contents, entries and lists of selectors
 abbrev pub blob_letter : ℕ
@@ -107,12 +108,13 @@ abbrev pub unsynced_next : ℕ → Kind → List ℕ → Bool → Bool
 unsynced_next letter kinds.Renamed path before = is_name_in letter path || before
 unsynced_next letter kinds.Removed path before = is_name_in letter path || before
 unsynced_next letter kinds.Synced path before = not (bytes_eq path (letter ∷ [])) && before
+unsynced_next letter kinds.Absent path before = not (bytes_eq path (letter ∷ [])) && before
 unsynced_next letter _ path before = before
 
--- A name of this kind was put or dropped since the folder of its kind was synced. The calls are the newest
--- first.
+-- A name of this kind may have been put or dropped since the folder of its kind was synced, or was not there.
+-- Before the first call anything may have been. The calls are the newest first.
 abbrev pub unsynced : ℕ → List Event → Bool
-unsynced letter [] = false
+unsynced letter [] = true
 unsynced letter (e ∷ earlier) = unsynced_next letter e.0 e.1 (unsynced letter earlier)
 
 -- where the path is of the first kind, nothing of the other kind is unsynced
@@ -133,11 +135,37 @@ abbrev pub is_stored : List ℕ → List Event → Bool
 is_stored path [] = false
 is_stored path (e ∷ earlier) = is_sync_of e.0 e.1 path
 
--- A call may come now. A file gets a path once its bytes are stored and what has to be there before it; and a
--- content is removed once the changes of entries before that are stored.
+-- the path of the folder that the folder is in
+abbrev pub above : List ℕ
+above = 46 ∷ 46 ∷ []
+
+-- where a folder is made: the folder itself in the one above it, and that of a kind in the folder itself
+abbrev pub made_in : List ℕ → List ℕ
+made_in [] = above
+made_in (letter ∷ path) = []
+
+abbrev pub has_new_next : List ℕ → Kind → List ℕ → Bool → Bool
+has_new_next folder kinds.Made path before = bytes_eq (made_in path) folder || before
+has_new_next folder kinds.Synced path before = not (bytes_eq path folder) && before
+has_new_next folder _ path before = before
+
+-- A folder may have been made in this one since it was synced. Before the first call anything may have been. The
+-- calls are the newest first.
+abbrev pub has_new : List ℕ → List Event → Bool
+has_new folder [] = true
+has_new folder (e ∷ earlier) = has_new_next folder e.0 e.1 (has_new folder earlier)
+
+-- each folder that may have been made is stored
+abbrev pub has_folders : List Event → Bool
+has_folders earlier = not (has_new above earlier) && not (has_new [] earlier)
+
+-- A call may come now. A file gets a path once its bytes are stored, what has to be there before it and the
+-- folders that were made; a content is removed once the changes of entries before that are stored; and no file of a
+-- name is written in place.
 abbrev pub may_come : Kind → List ℕ → List ℕ → List Event → Bool
-may_come kinds.Renamed path old earlier = is_stored old earlier && is_ready path earlier
+may_come kinds.Renamed path old earlier = is_stored old earlier && is_ready path earlier && has_folders earlier
 may_come kinds.Removed path old earlier = is_after blob_letter entry_letter path earlier
+may_come kinds.Wrote path old earlier = nat_lt NAME_LENGTH (length path)
 may_come _ path old earlier = true
 
 -- Each call came when it might.

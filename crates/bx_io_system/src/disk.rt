@@ -1,6 +1,8 @@
 //! The calls on the files of one folder.
 
-ghost use Rattle.std.specs.Prelude.{◌≡◌, Bool, true, List, [], ◌∷◌, IfOk, OnOk, OnErr};
+ghost use Rattle.std.specs.Prelude.{◌≡◌, ◌≢◌, Bool, true, List, [], ◌∷◌, IfErr, IfOk, OnOk};
+ghost use Rattle.std.specs.IoError.{error_kind};
+ghost use Rattle.std.specs.declared.io.ErrorKind.TheVariants.{NotFound};
 ghost use Rattle.bx_io_system.specs.Events.{Event};
 ghost use Rattle.bx_io_system.specs.Files.{Files, IsUnlisted, Reads, Removes, Renames, Writes};
 ghost use Rattle.bx_io_system.specs.declared.kind.Kind.TheVariants as kinds;
@@ -17,7 +19,7 @@ pub trait Disk: Drop {
     // The bytes of each file by its path, where that is known.
     ghost files: { Self → Files };
 
-    // The calls that change or sync a file, the newest first.
+    // The calls that change or sync a file or a folder, the newest first.
     ghost calls: { Self → List Event };
 
     /// Another handle of the same files.
@@ -39,11 +41,12 @@ pub trait Disk: Drop {
         ensures calls { calls self.new ≡ (kinds.Wrote, path.now, []) ∷ calls self.old };
 
     /// Waits until what lies at a path is stored: the bytes of a file, or which names a folder has. The path of
-    /// the folder itself is empty.
+    /// the folder itself is empty. What is not there has nothing to store.
     fn sync(&mut self, alloc: Global, path: &str) -> io::Result<()>
         ensures files { files self.new ≡ files self.old }
         ensures synced { OnOk result (calls self.new ≡ (kinds.Synced, path.now, []) ∷ calls self.old) }
-        ensures failed { OnErr result (calls self.new ≡ calls self.old) };
+        ensures missing { IfErr result (λ e. error_kind e ≡ NotFound → calls self.new ≡ (kinds.Absent, path.now, []) ∷ calls self.old) }
+        ensures failed { IfErr result (λ e. error_kind e ≢ NotFound → calls self.new ≡ calls self.old) };
 
     /// Gives a file another path, in place of what was there.
     fn rename(&mut self, alloc: Global, old: &str, path: &str) -> io::Result<()>
@@ -58,7 +61,7 @@ pub trait Disk: Drop {
     /// Makes a folder. The path of the folder itself is empty.
     fn make_folder(&mut self, alloc: Global, path: &str) -> io::Result<()>
         ensures files { files self.new ≡ files self.old }
-        ensures calls { calls self.new ≡ calls self.old };
+        ensures calls { calls self.new ≡ (kinds.Made, path.now, []) ∷ calls self.old };
 
     /// The names of the plain files in a folder. A disk of which it is known what it holds lists nothing, and
     /// fails.

@@ -33,4 +33,6 @@ pub enum Kind {
     Removed,
     /// What lies at this path was stored by the disk.
     Synced,
+    /// A folder was made at this path.
+    Made,
 }

@@ -112,10 +112,12 @@ impl Disk for MemDisk {
         Ok(())
     }
 
-    fn make_folder(&mut self, _alloc: Global, _path: &str) -> io::Result<()>
+    fn make_folder(&mut self, _alloc: Global, path: &str) -> io::Result<()>
         ensures done { IsOk result }
-        ensures same { self.new ≡ self.old }
+        ensures files { self.new.map ≡ self.old.map }
+        ensures calls { self.new.log.events ≡ (kinds.Made, path.now, []) ∷ self.old.log.events }
     {
+        self.log = Record::noted(&self.log, &Kind::Made, path.as_bytes(), &[]);
         Ok(())
     }
 

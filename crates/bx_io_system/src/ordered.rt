@@ -3,7 +3,7 @@
 ghost use Rattle.std.specs.Prelude.{◌≡◌, ℕ, List, true, false, [], OnOk, IfOk, slice_index, string_bytes};
 ghost use Rattle.bx_io.specs.Names.{IsName};
 ghost use Rattle.bx_io_system.specs.Files.{Drops, IsBegun, Puts, Reads, Removes, Renames, SameNames, blob_letter, entry_letter, is_after};
-ghost use Rattle.bx_io_system.specs.Files.{AreAllNames, IsUnlisted, Writes, is_durable, is_ready, is_stored, unsynced};
+ghost use Rattle.bx_io_system.specs.Files.{AreAllNames, IsUnlisted, Writes, is_durable, is_ready, is_stored, unsynced, has_folders};
 ghost use Rattle.bx_io.specs.Answers.{ListsNames};
 ghost use Rattle.bx_io.specs.declared.keeper.Listed.TheVariants as listed;
 
@@ -13,15 +13,19 @@ use std::alloc::{AllocError, Global};
 use std::io::{self, ErrorKind};
 
 /// The files of a folder, with what has to be synced before the next change: the folder of the contents before an
-/// entry that follows them, and that of the entries before a list, and before a content is dropped.
+/// entry that follows them; that of the entries before a list, and before a content is dropped; and before a file
+/// gets its name the folders in which one was made. At first each of them has to be, as another process may have
+/// stopped in the midst of its changes.
 #[derive(Drop)]
 pub struct OrderedDisk<D: Disk> {
     disk: D,
     blobs: bool,
     entries: bool,
+    folders: bool,
     ghost durable: { is_durable (D.calls disk) ≡ true },
     ghost blobs_known: { unsynced blob_letter (D.calls disk) ≡ true → blobs ≡ true },
     ghost entries_known: { unsynced entry_letter (D.calls disk) ≡ true → entries ≡ true },
+    ghost folders_known: { folders ≡ false → has_folders (D.calls disk) ≡ true },
 }
 
 // The first letter of a name, which is that of its kind.
@@ -75,15 +79,16 @@ fn in_order(names: Vec<String>) -> Vec<String>
 }
 
 impl<D: Disk> OrderedDisk<D> {
-    /// The files of this folder, of which nothing was changed yet.
+    /// The files of this folder, of which anything may wait to be stored.
     pub(crate) fn new(disk: D) -> OrderedDisk<D>
         requires { D.calls disk ≡ [] }
         ensures { result.disk ≡ disk }
     {
         OrderedDisk {
             disk,
-            blobs: false,
-            entries: false,
+            blobs: true,
+            entries: true,
+            folders: true,
         }
     }
 
@@ -102,28 +107,46 @@ impl<D: Disk> OrderedDisk<D> {
         self.disk.read(alloc, name)
     }
 
-    // Syncs the folder of the contents, if something was changed there.
+    // Syncs the folder of the contents, if something may have been changed there. One that is not there needs none.
     fn sync_blobs(&mut self, alloc: Global) -> io::Result<()>
         ensures synced { OnOk result (unsynced blob_letter (D.calls self.new.disk) ≡ false) }
         ensures files { D.files self.new.disk ≡ D.files self.old.disk }
     {
-        if self.blobs {
-            self.disk.sync(alloc, "b")?;
-            self.blobs = false;
+        if !self.blobs {
+            return Ok(());
         }
-        Ok(())
+        match self.disk.sync(alloc, "b") {
+            Ok(()) => {
+                self.blobs = false;
+                Ok(())
+            }
+            Err(error) if error.kind() == ErrorKind::NotFound => {
+                self.blobs = false;
+                Ok(())
+            }
+            failed => failed,
+        }
     }
 
-    // Syncs the folder of the entries, if something was changed there.
+    // Syncs the folder of the entries, if something may have been changed there. One that is not there needs none.
     fn sync_entries(&mut self, alloc: Global) -> io::Result<()>
         ensures synced { OnOk result (unsynced entry_letter (D.calls self.new.disk) ≡ false) }
         ensures files { D.files self.new.disk ≡ D.files self.old.disk }
     {
-        if self.entries {
-            self.disk.sync(alloc, "e")?;
-            self.entries = false;
+        if !self.entries {
+            return Ok(());
         }
-        Ok(())
+        match self.disk.sync(alloc, "e") {
+            Ok(()) => {
+                self.entries = false;
+                Ok(())
+            }
+            Err(error) if error.kind() == ErrorKind::NotFound => {
+                self.entries = false;
+                Ok(())
+            }
+            failed => failed,
+        }
     }
 
     // Syncs what has to be stored before the file of a name is put.
@@ -139,16 +162,16 @@ impl<D: Disk> OrderedDisk<D> {
         }
     }
 
-    // Makes a folder, and stores that it is there, unless it was there.
-    fn make_folder(&mut self, alloc: Global, path: &str, above: &str) -> io::Result<()>
+    // Makes a folder, unless it is there. It is stored before the next file gets its name.
+    fn make_folder(&mut self, alloc: Global, path: &str) -> io::Result<()>
         ensures ready { (name : List ℕ) → is_ready name (D.calls self.old.disk) ≡ true
             → is_ready name (D.calls self.new.disk) ≡ true }
         ensures files { D.files self.new.disk ≡ D.files self.old.disk }
     {
+        self.folders = true;
         match self.disk.make_folder(alloc, path) {
-            Ok(()) => self.disk.sync(alloc, above),
             Err(error) if error.kind() == ErrorKind::AlreadyExists => Ok(()),
-            Err(error) => Err(error),
+            made => made,
         }
     }
 
@@ -158,12 +181,28 @@ impl<D: Disk> OrderedDisk<D> {
             → is_ready path (D.calls self.new.disk) ≡ true }
         ensures files { D.files self.new.disk ≡ D.files self.old.disk }
     {
-        self.make_folder(alloc, "", "..")?;
-        self.make_folder(alloc, name.get(..1).unwrap_or(""), "")
+        self.make_folder(alloc, "")?;
+        self.make_folder(alloc, name.get(..1).unwrap_or(""))
+    }
+
+    // Syncs the folders in which a folder was made, if one may have been.
+    fn sync_folders(&mut self, alloc: Global) -> io::Result<()>
+        ensures synced { OnOk result (has_folders (D.calls self.new.disk) ≡ true) }
+        ensures ready { (path : List ℕ) → is_ready path (D.calls self.old.disk) ≡ true
+            → is_ready path (D.calls self.new.disk) ≡ true }
+        ensures files { D.files self.new.disk ≡ D.files self.old.disk }
+    {
+        if self.folders {
+            self.disk.sync(alloc, "..")?;
+            self.disk.sync(alloc, "")?;
+            self.folders = false;
+        }
+        Ok(())
     }
 
     // Writes a file, and makes the folders for it where they are missing.
     fn write(&mut self, alloc: Global, name: &str, begun: &str, bytes: &[u8]) -> io::Result<()>
+        requires { IsBegun begun.now }
         ensures written { D.is_known ≡ true
             → Writes (D.files self.old.disk) (D.files self.new.disk) begun.now bytes.now result }
         ensures ready { (path : List ℕ) → is_ready path (D.calls self.old.disk) ≡ true
@@ -178,15 +217,18 @@ impl<D: Disk> OrderedDisk<D> {
         }
     }
 
-    // Writes a file, and waits until its bytes are stored.
+    // Writes a file, and waits until its bytes are stored, and the folders that were made.
     fn store(&mut self, alloc: Global, name: &str, begun: &str, bytes: &[u8]) -> io::Result<()>
+        requires { IsBegun begun.now }
         ensures written { D.is_known ≡ true
             → Writes (D.files self.old.disk) (D.files self.new.disk) begun.now bytes.now result }
         ensures stored { OnOk result (is_stored begun.now (D.calls self.new.disk) ≡ true) }
+        ensures folders { OnOk result (has_folders (D.calls self.new.disk) ≡ true) }
         ensures ready { (path : List ℕ) → is_ready path (D.calls self.old.disk) ≡ true
             → is_ready path (D.calls self.new.disk) ≡ true }
     {
         self.write(alloc, name, begun, bytes)?;
+        self.sync_folders(alloc)?;
         self.disk.sync(alloc, begun)
     }
 
@@ -203,6 +245,7 @@ impl<D: Disk> OrderedDisk<D> {
         requires is_name { IsName name.now }
         requires stored { is_stored begun.now (D.calls self.old.disk) ≡ true }
         requires ready { is_ready name.now (D.calls self.old.disk) ≡ true }
+        requires folders { has_folders (D.calls self.old.disk) ≡ true }
         ensures { D.is_known ≡ true
             → Renames (D.files self.old.disk) (D.files self.new.disk) begun.now name.now result }
     {

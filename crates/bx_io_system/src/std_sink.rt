@@ -1,8 +1,9 @@
 //! The sink of the program: any writer.
 
-ghost use Rattle.std.specs.Prelude.{◌≡◌, [], ◌∷◌, take, MatchResult};
+ghost use Rattle.std.specs.Prelude.{◌≡◌, [], ◌∷◌, length, take, MatchResult};
 ghost use Rattle.std.specs.Io.KnownBytes.{WriteAppends};
 ghost use Rattle.std.specs.Io.{WritesAtMost};
+ghost use Rattle.bx_io_system.specs.Events.{failures, took};
 ghost use Rattle.bx_io_system.specs.declared.kind.Kind.TheVariants as kinds;
 
 use crate::kind::Kind;
@@ -11,12 +12,14 @@ use bx_io::{Failed, Sink};
 use std::io::{self, Write};
 
 /// Any writer as a sink, with the record of what it said it took. Each error of the writer is a fault, as is a
-/// write of at least one byte that takes none. Each fault raises the count by one, up to the greatest `u64`.
+/// write of at least one byte that takes none. The count of faults is that of the record: each raises it by one, up
+/// to the greatest `u64`.
 #[derive(Drop)]
 pub struct StdSink<W> {
     writer: W,
     log: Record,
     faults: u64,
+    ghost counted: { faults ≡ failures log.events },
 }
 
 impl<W: Write> StdSink<W> {
@@ -33,17 +36,19 @@ impl<W: Write> StdSink<W> {
     }
 }
 
-// Hands a piece to the writer, and notes what it said it took.
+// Hands a piece to the writer, and notes what it said it took, or that it failed.
 fn hand<W: Write>(writer: &mut W, log: &mut Record, piece: &[u8]) -> io::Result<usize>
     ensures bound { WritesAtMost result piece.now }
     ensures bytes { WriteAppends (W.contents writer.old) (W.contents writer.new) result piece.now }
     ensures noted { MatchResult result
-        (λ n. log.new.events ≡ (kinds.Took, [], take n piece.now) ∷ log.old.events)
-        (λ _. log.new.events ≡ log.old.events) }
+        (λ n. log.new.events ≡ took (length piece.now) (take n piece.now) ∷ log.old.events)
+        (λ _. log.new.events ≡ (kinds.Failed, [], []) ∷ log.old.events) }
 {
     let answer = writer.write(piece);
-    if let Ok(count) = answer {
-        *log = Record::noted(log, &Kind::Took, &[], &piece[..count]);
+    match answer {
+        Ok(0) if !piece.is_empty() => *log = Record::noted(log, &Kind::Failed, &[], &[]),
+        Ok(count) => *log = Record::noted(log, &Kind::Took, &[], &piece[..count]),
+        Err(_) => *log = Record::noted(log, &Kind::Failed, &[], &[]),
     }
     answer
 }

@@ -3,7 +3,8 @@
 ghost use Rattle.std.specs.Prelude.{◌≡◌, ℕ, [], ◌∷◌, List, Some, false, length, take, MatchResult};
 ghost use Rattle.std.specs.Io.KnownBytes.{ReadConsumes};
 ghost use Rattle.std.specs.Io.{ReadsAtMost};
-ghost use Rattle.bx_io_system.specs.Events.{gave};
+ghost use Rattle.bx_io_system.specs.Events.{failures, gave};
+ghost use Rattle.bx_io_system.specs.declared.kind.Kind.TheVariants as kinds;
 
 use crate::kind::Kind;
 use crate::record::Record;
@@ -11,13 +12,14 @@ use bx_io::{Failed, Source};
 use std::io::{self, Read};
 
 /// Any reader as a source, with the record of what it gave. It had any bytes at first, and tells what is left of
-/// them as long as each answer of the reader agrees. Each error of the reader is a fault, and raises the count by
-/// one, up to the greatest `u64`.
+/// them as long as each answer of the reader agrees. Each error of the reader is a fault, and the count of them is
+/// that of the record: each raises it by one, up to the greatest `u64`.
 #[derive(Drop)]
 pub struct StdSource<R> {
     reader: R,
     log: Record,
     faults: u64,
+    ghost counted: { faults ≡ failures log.events },
 }
 
 impl<R: Read> StdSource<R> {
@@ -37,20 +39,20 @@ impl<R: Read> StdSource<R> {
     }
 }
 
-// Asks the reader for a piece, and notes what it gave.
+// Asks the reader for a piece, and notes what it gave, or that it failed.
 fn ask<R: Read>(reader: &mut R, log: &mut Record, into: &mut [u8]) -> io::Result<usize>
     ensures bound { ReadsAtMost result into.new }
     ensures bytes { ReadConsumes (R.remaining reader.old) (R.remaining reader.new) result into.new }
     ensures first { log.new.first ≡ log.old.first }
     ensures noted { MatchResult result
         (λ n. log.new.events ≡ gave (length into.old) (take n into.new) ∷ log.old.events)
-        (λ _. log.new.events ≡ log.old.events) }
+        (λ _. log.new.events ≡ (kinds.Failed, [], []) ∷ log.old.events) }
 {
     let answer = reader.read(into);
     match answer {
         Ok(0) if !into.is_empty() => *log = Record::noted(log, &Kind::Ended, &[], &[]),
         Ok(count) => *log = Record::noted(log, &Kind::Gave, &[], &into[..count]),
-        Err(_) => (),
+        Err(_) => *log = Record::noted(log, &Kind::Failed, &[], &[]),
     }
     answer
 }

@@ -6,7 +6,7 @@ ghost use Rattle.bx_io.specs.Answers.{ListsNames};
 ghost use Rattle.bx_io.specs.Causes.{HasCause};
 ghost use Rattle.bx_io.specs.Holdings.{Holdings, Put, Drop};
 ghost use Rattle.bx_io.specs.Names.{IsName};
-ghost use Rattle.bx_io_system.specs.Answers.{change_event, event_for, got_of, listed_event, put_of};
+ghost use Rattle.bx_io_system.specs.Answers.{change_event, event_for, got_of, listed_event, listed_of, put_of};
 ghost use Rattle.bx_io_system.specs.Events.{failures};
 ghost use Rattle.bx_io_system.specs.Files.{IsUnlisted, Reads, told_at};
 ghost use Rattle.bx_io_system.specs.Telling.{told, tells};
@@ -31,6 +31,107 @@ pub struct System<D: Disk> {
     ghost agrees: { (name : List ℕ) → D.is_known ≡ true → IsName name
         → told_at (told log.held log.events log.closed) name ≡ Some (get (D.files disk.disk) name) },
     ghost telling: { D.is_known ≡ true → IsSome (told log.held log.events log.closed) },
+}
+
+// Notes that a change failed.
+fn refused(log: &mut Record, faults: &mut u64, name: &str, error: io::Error) -> PutFault
+    requires counted { faults.old ≡ failures log.old.events }
+    ensures answer { Err result ≡ put_of (Err error) }
+    ensures noted { log.new ≡ record log.old {
+      events = change_event (Put name.now []) (Err result) ∷ log.old.events;
+    } }
+    ensures counted { faults.new ≡ failures log.new.events }
+    ensures cause { HasCause faults.old faults.new (result ≡ PutFault.Failed) }
+    ensures no_fault { result ≢ PutFault.Failed → faults.new ≡ faults.old }
+{
+    if error.kind() == ErrorKind::OutOfMemory {
+        *log = Record::noted(log, &Kind::Memory, name.as_bytes(), &[]);
+        PutFault::Memory
+    } else {
+        *log = Record::noted(log, &Kind::Failed, name.as_bytes(), &[]);
+        *faults = one_more(*faults);
+        PutFault::Failed
+    }
+}
+
+// Notes what became of a put.
+fn was_put(
+    log: &mut Record,
+    faults: &mut u64,
+    name: &str,
+    bytes: &[u8],
+    done: io::Result<()>,
+) -> Result<(), PutFault>
+    requires counted { faults.old ≡ failures log.old.events }
+    ensures answer { result ≡ put_of done }
+    ensures noted { log.new ≡ record log.old {
+      events = change_event (Put name.now bytes.now) result ∷ log.old.events;
+    } }
+    ensures counted { faults.new ≡ failures log.new.events }
+    ensures cause { HasCause faults.old faults.new (result ≡ Err PutFault.Failed) }
+    ensures no_fault { result ≢ Err PutFault.Failed → faults.new ≡ faults.old }
+{
+    match done {
+        Ok(()) => {
+            *log = Record::noted(log, &Kind::Put, name.as_bytes(), bytes);
+            Ok(())
+        }
+        Err(error) => Err(refused(log, faults, name, error)),
+    }
+}
+
+// Notes what became of a drop.
+fn was_dropped(
+    log: &mut Record,
+    faults: &mut u64,
+    name: &str,
+    done: io::Result<()>,
+) -> Result<(), PutFault>
+    requires counted { faults.old ≡ failures log.old.events }
+    ensures answer { result ≡ put_of done }
+    ensures noted { log.new ≡ record log.old {
+      events = change_event (Drop name.now) result ∷ log.old.events;
+    } }
+    ensures counted { faults.new ≡ failures log.new.events }
+    ensures cause { HasCause faults.old faults.new (result ≡ Err PutFault.Failed) }
+    ensures no_fault { result ≢ Err PutFault.Failed → faults.new ≡ faults.old }
+{
+    match done {
+        Ok(()) => {
+            *log = Record::noted(log, &Kind::Dropped, name.as_bytes(), &[]);
+            Ok(())
+        }
+        Err(error) => Err(refused(log, faults, name, error)),
+    }
+}
+
+// Notes what became of a listing.
+fn was_listed(log: &mut Record, faults: &mut u64, done: io::Result<Vec<String>>) -> Listed
+    requires counted { faults.old ≡ failures log.old.events }
+    requires names { IfOk done (λ names. ListsNames (Listed.Names names)) }
+    ensures answer { result ≡ listed_of done }
+    ensures noted { log.new ≡ record log.old { events = listed_event result ∷ log.old.events } }
+    ensures names { ListsNames result }
+    ensures counted { faults.new ≡ failures log.new.events }
+    ensures cause { HasCause faults.old faults.new (result ≡ Listed.Failed) }
+    ensures no_fault { result ≢ Listed.Failed → faults.new ≡ faults.old }
+{
+    match done {
+        Ok(names) => {
+            *log = Record::noted(log, &Kind::Listed, &[], &[]);
+            Listed::Names(names)
+        }
+        Err(error) => {
+            if error.kind() == ErrorKind::OutOfMemory {
+                *log = Record::noted(log, &Kind::Memory, &[], &[]);
+                Listed::Memory
+            } else {
+                *log = Record::noted(log, &Kind::Failed, &[], &[]);
+                *faults = one_more(*faults);
+                Listed::Failed
+            }
+        }
+    }
 }
 
 impl<D: Disk> System<D> {
@@ -104,25 +205,6 @@ impl<D: Disk> System<D> {
         self.answered(name, done)
     }
 
-    // Notes that a change failed.
-    fn refused(&mut self, name: &str, error: io::Error) -> PutFault
-        ensures answer { Err result ≡ put_of (Err error) }
-        ensures noted { self.new.log ≡ record self.old.log {
-          events = change_event (Put name.now []) (Err result) ∷ self.old.log.events;
-        } }
-        ensures cause { HasCause self.old.faults self.new.faults (result ≡ PutFault.Failed) }
-        ensures no_fault { result ≢ PutFault.Failed → self.new.faults ≡ self.old.faults }
-    {
-        if error.kind() == ErrorKind::OutOfMemory {
-            self.log = Record::noted(&self.log, &Kind::Memory, name.as_bytes(), &[]);
-            PutFault::Memory
-        } else {
-            self.log = Record::noted(&self.log, &Kind::Failed, name.as_bytes(), &[]);
-            self.faults = one_more(self.faults);
-            PutFault::Failed
-        }
-    }
-
     /// Puts bytes under a name.
     pub(crate) fn put(&mut self, alloc: Global, name: &str, bytes: &[u8]) -> Result<(), PutFault>
         requires { IsName name.now }
@@ -132,13 +214,8 @@ impl<D: Disk> System<D> {
         ensures cause { HasCause self.old.faults self.new.faults (result ≡ Err PutFault.Failed) }
         ensures no_fault { result ≢ Err PutFault.Failed → self.new.faults ≡ self.old.faults }
     {
-        match self.disk.put(alloc, name, bytes) {
-            Ok(()) => {
-                self.log = Record::noted(&self.log, &Kind::Put, name.as_bytes(), bytes);
-                Ok(())
-            }
-            Err(error) => Err(self.refused(name, error)),
-        }
+        let done = self.disk.put(alloc, name, bytes);
+        was_put(&mut self.log, &mut self.faults, name, bytes, done)
     }
 
     /// Drops a name. Where nothing is there, nothing is there afterwards.
@@ -150,32 +227,8 @@ impl<D: Disk> System<D> {
         ensures cause { HasCause self.old.faults self.new.faults (result ≡ Err PutFault.Failed) }
         ensures no_fault { result ≢ Err PutFault.Failed → self.new.faults ≡ self.old.faults }
     {
-        match self.disk.drop_name(alloc, name) {
-            Ok(()) => {
-                self.log = Record::noted(&self.log, &Kind::Dropped, name.as_bytes(), &[]);
-                Ok(())
-            }
-            Err(error) => Err(self.refused(name, error)),
-        }
-    }
-
-    // Notes that a listing failed.
-    fn unlisted(&mut self, error: io::Error) -> Listed
-        ensures noted { self.new.log ≡ record self.old.log {
-          events = listed_event result ∷ self.old.log.events;
-        } }
-        ensures names { ListsNames result }
-        ensures cause { HasCause self.old.faults self.new.faults (result ≡ Listed.Failed) }
-        ensures no_fault { result ≢ Listed.Failed → self.new.faults ≡ self.old.faults }
-    {
-        if error.kind() == ErrorKind::OutOfMemory {
-            self.log = Record::noted(&self.log, &Kind::Memory, &[], &[]);
-            Listed::Memory
-        } else {
-            self.log = Record::noted(&self.log, &Kind::Failed, &[], &[]);
-            self.faults = one_more(self.faults);
-            Listed::Failed
-        }
+        let done = self.disk.drop_name(alloc, name);
+        was_dropped(&mut self.log, &mut self.faults, name, done)
     }
 
     /// All names.
@@ -187,13 +240,8 @@ impl<D: Disk> System<D> {
         ensures cause { HasCause self.old.faults self.new.faults (result ≡ Listed.Failed) }
         ensures no_fault { result ≢ Listed.Failed → self.new.faults ≡ self.old.faults }
     {
-        match self.disk.names(alloc) {
-            Ok(names) => {
-                self.log = Record::noted(&self.log, &Kind::Listed, &[], &[]);
-                Listed::Names(names)
-            }
-            Err(error) => self.unlisted(error),
-        }
+        let done = self.disk.names(alloc);
+        was_listed(&mut self.log, &mut self.faults, done)
     }
 
     /// Joins the record of another one.

@@ -24,6 +24,11 @@ fn path_of(alloc: Global, folder: &str, path: &str) -> Result<String, AllocError
     format!(in alloc; "{folder}/{path}")
 }
 
+// Waits until what lies at the system's path is stored.
+fn sync_path<R: Files>(rt: &R, path: &str) -> io::Result<()> {
+    File::open(rt, path)?.sync_all()
+}
+
 impl<R: Files + AllocGlobal + Clone + Drop> SystemDisk<R> {
     /// The folder at this path, which need not be there.
     pub fn new(rt: R, folder: String) -> SystemDisk<R>
@@ -83,9 +88,18 @@ impl<R: Files + AllocGlobal + Clone + Drop> Disk for SystemDisk<R> {
 
     fn sync(&mut self, alloc: Global, path: &str) -> io::Result<()> {
         let full = path_of(alloc, self.folder.as_str(), path)?;
-        File::open(&self.rt, full.as_str())?.sync_all()?;
-        self.log = Record::noted(&self.log, &Kind::Synced, path.as_bytes(), &[]);
-        Ok(())
+        match sync_path(&self.rt, full.as_str()) {
+            Ok(()) => {
+                self.log = Record::noted(&self.log, &Kind::Synced, path.as_bytes(), &[]);
+                Ok(())
+            }
+            Err(error) => {
+                if error.kind() == ErrorKind::NotFound {
+                    self.log = Record::noted(&self.log, &Kind::Absent, path.as_bytes(), &[]);
+                }
+                Err(error)
+            }
+        }
     }
 
     fn rename(&mut self, alloc: Global, old: &str, path: &str) -> io::Result<()> {
@@ -102,6 +116,7 @@ impl<R: Files + AllocGlobal + Clone + Drop> Disk for SystemDisk<R> {
     }
 
     fn make_folder(&mut self, alloc: Global, path: &str) -> io::Result<()> {
+        self.log = Record::noted(&self.log, &Kind::Made, path.as_bytes(), &[]);
         let path = path_of(alloc, self.folder.as_str(), path)?;
         fs::create_dir(&self.rt, path.as_str())
     }

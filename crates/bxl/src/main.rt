@@ -4,14 +4,12 @@
 //! both, on `bx_io`, whose traits they implement, and on `bx_engine`.
 #![tactic(auto)]
 
-ghost use Rattle.std.specs.Prelude.{◌≡◌, [], IfOk, None, Some, map, string_bytes};
-ghost use Rattle.bx_io.specs.Holdings.{AreNames, Holdings, held_in};
-ghost use Rattle.bx_engine.specs.Beyond.{Beyond, OfEachCall, OfInput};
-ghost use Rattle.bx_engine.specs.Calls.{call_of, change_of, counted_of, written_of};
-ghost use Rattle.bx_engine.specs.Headline.{Headline};
-ghost use Rattle.bx_engine.specs.Stores.{FairStore};
+ghost use Rattle.std.specs.Prelude.{◌≡◌, [], ℕ, List, IfOk, None, Some, map, string_bytes};
+ghost use Rattle.bx_io.specs.Holdings.{AreNames, Holdings};
+ghost use Rattle.bx_engine.specs.Beyond.{GoesBeyond};
+ghost use Rattle.bx_engine.specs.Calls.{call_of, change_of, given_of, written_of};
+ghost use Rattle.bx_engine.specs.Headline.{KeepsHeadline};
 ghost use Rattle.bx_engine_words.specs.Words.{Orders};
-ghost use Rattle.bx_engine_words.specs.declared.order.Order.{Order as TheOrder};
 
 use bx_engine::{Status, command};
 use bx_io::{Keeper, OpenGate, Sink, Source};
@@ -19,6 +17,7 @@ use bx_io_system::{FolderKeeper, StdSink, StdSource, SystemDisk, program_words};
 use std::alloc::{AllocError, Global};
 use std::io::{Stderr, Stdin, Stdout};
 use std::process::ExitCode;
+use std::rt::Files;
 use std::sync::Wait;
 use std::thread::Threads;
 
@@ -51,35 +50,45 @@ fn keeper(
     Ok(FolderKeeper::new(disk))
 }
 
-/// One call over the streams of the system and the folder. It is proved of all that the folder may hold at first:
-/// where the disk returned just that with what the call put, or where the words say `--no-cache`, the promise of
-/// the engine holds, and the input is what standard input gave.
+/// One call over the streams of the system and the folder. It is proved of all that standard input and the folder
+/// may hold at first: where the disk returned just that with what the call put, or where the words say
+/// `--no-cache`, the promise of the engine holds, and the input is what standard input gave. Where memory is
+/// lacking for the objects themselves nothing was read or written.
 fn run<H: Threads + Wait + Sync>(
     threads: &H,
     rt: &HostRuntime,
     words: &[String],
 ) -> Result<Done, AllocError>
-    ghost held: { Holdings }
-    requires { AreNames held }
-    ensures headline { IfOk result (λ done. (order : TheOrder) → Orders (map string_bytes words.now) order
-        → (fair : FairStore order (⟦<StdSource<Stdin> as Source>⟧.given done.source) (Some held)
-        (held_in (⟦<FolderKeeper<SystemDisk<HostRuntime>> as Keeper>⟧.known done.keeper)))
-        → Headline (call_of done.status
-        (counted_of 0 (⟦<StdSource<Stdin> as Source>⟧.faults done.source))
+    ghost first: { List ℕ × Holdings }
+    requires { AreNames first.1 }
+    ensures headline { IfOk result (λ done. KeepsHeadline (Orders (map string_bytes words.now)) (call_of done.status
+        (given_of [] (⟦<StdSource<Stdin> as Source>⟧.given done.source) (Some first.0)
+        (⟦<StdSource<Stdin> as Source>⟧.left done.source) (⟦<StdSource<Stdin> as Source>⟧.ended done.source) 0
+        (⟦<StdSource<Stdin> as Source>⟧.faults done.source))
         (written_of [] (⟦<StdSink<Stdout> as Sink>⟧.taken done.out) 0
         (⟦<StdSink<Stdout> as Sink>⟧.faults done.out))
         (written_of [] (⟦<StdSink<Stderr> as Sink>⟧.taken done.notes) 0
         (⟦<StdSink<Stderr> as Sink>⟧.faults done.notes))
-        (change_of (record { held = Some held; changes = [] })
+        (change_of (record { held = Some first.1; changes = [] })
         (⟦<FolderKeeper<SystemDisk<HostRuntime>> as Keeper>⟧.known done.keeper) None 0
-        (⟦<FolderKeeper<SystemDisk<HostRuntime>> as Keeper>⟧.faults done.keeper)))
-        (⟦<StdSource<Stdin> as Source>⟧.given done.source) order fair) }
+        (⟦<FolderKeeper<SystemDisk<HostRuntime>> as Keeper>⟧.faults done.keeper)))) }
+    ensures beyond { IfOk result (λ done. GoesBeyond (Orders (map string_bytes words.now)) (call_of done.status
+        (given_of [] (⟦<StdSource<Stdin> as Source>⟧.given done.source) (Some first.0)
+        (⟦<StdSource<Stdin> as Source>⟧.left done.source) (⟦<StdSource<Stdin> as Source>⟧.ended done.source) 0
+        (⟦<StdSource<Stdin> as Source>⟧.faults done.source))
+        (written_of [] (⟦<StdSink<Stdout> as Sink>⟧.taken done.out) 0
+        (⟦<StdSink<Stdout> as Sink>⟧.faults done.out))
+        (written_of [] (⟦<StdSink<Stderr> as Sink>⟧.taken done.notes) 0
+        (⟦<StdSink<Stderr> as Sink>⟧.faults done.notes))
+        (change_of (record { held = Some first.1; changes = [] })
+        (⟦<FolderKeeper<SystemDisk<HostRuntime>> as Keeper>⟧.known done.keeper) None 0
+        (⟦<FolderKeeper<SystemDisk<HostRuntime>> as Keeper>⟧.faults done.keeper)))) }
 {
     let alloc = rt.alloc();
+    let mut keeper = keeper(rt, alloc)?;
     let mut source = StdSource::new(rt.stdin());
     let mut out = StdSink::new(rt.stdout());
     let mut notes = StdSink::new(rt.stderr());
-    let mut keeper = keeper(rt, alloc)?;
     let status = command(
         threads,
         alloc,
@@ -99,12 +108,23 @@ fn run<H: Threads + Wait + Sync>(
     })
 }
 
-fn main(rt: HostRuntime) -> ExitCode {
-    let Ok(words) = program_words(&rt) else {
-        return ExitCode::from(Status::OutOfMemory.code());
-    };
-    match run(&rt, &rt, &words) {
+/// The exit code of that call.
+fn exit_code<H: Threads + Wait + Sync>(
+    threads: &H,
+    rt: &HostRuntime,
+    words: &[String],
+) -> ExitCode {
+    // The check reads the type of the store only in a function that names the type of its listings.
+    let _: Option<<HostRuntime as Files>::Dir> = None;
+    match run(threads, rt, words) {
         Ok(done) => ExitCode::from(done.status.code()),
+        Err(_) => ExitCode::from(Status::OutOfMemory.code()),
+    }
+}
+
+fn main(rt: HostRuntime) -> ExitCode {
+    match program_words(&rt) {
+        Ok(words) => exit_code(&rt, &rt, &words),
         Err(_) => ExitCode::from(Status::OutOfMemory.code()),
     }
 }

@@ -26,7 +26,7 @@ use Rattle.two_phase_meaning.specs.Compared as met
 use Rattle.two_phase_meaning.specs.Usable.{Usable, UsableAt, asked_text}
 use Rattle.two_phase_meaning.proofs.Stays.{at_one, usable_at}
 use Rattle.violations.specs.declared.verdict.Verdict.{Verdict}
-use Rattle.retire.specs.Compared.{Compared, desc_after, view_after}
+use Rattle.retire_compared.specs.Compared.{Compared, desc_after, view_after}
 use Rattle.retire.specs.Runs.{IsOfSuccess, NoneReserved, RunsAs, results_before}
 use Rattle.retire.proofs.SoFar.{run_met, success_met}
 use Rattle.retire.proofs.SuccessFits.{success_fits}

@@ -12,7 +12,7 @@ use Rattle.graph_check.specs.Rules.{KeepsRules}
 use Rattle.run_record.specs.Facts.{Facts}
 use Rattle.run_record.specs.Collisions.{NoCollision}
 use Rattle.run_record.specs.Digests.{IsReadBack}
-use Rattle.retire.specs.Compared.{Compared}
+use Rattle.retire_compared.specs.Compared.{Compared}
 use Rattle.retire.specs.Runs.{NoneReserved, RunsAs}
 use Rattle.retire.proofs.Twins.{one_process}
 use Rattle.retire.specs.Builds.{Between}

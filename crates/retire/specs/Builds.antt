@@ -10,7 +10,7 @@ use Rattle.two_phase_meaning.specs.Honest.{Honest}
 use Rattle.one_thread.specs.OneThread.{one_thread, outputs_of, run_count, verdicts_of}
 use Rattle.two_phase.specs.Putting.{LeavesHonest}
 use Rattle.retire.specs.HitSet.{IsHitSet}
-use Rattle.retire.specs.Compared.{Compared}
+use Rattle.retire_compared.specs.Compared.{Compared}
 use Rattle.retire.specs.Runs.{AddsSuccesses, AllUsable, IsOfSuccess}
 use Rattle.retire.specs.Saving.{PutsFirst}
 

@@ -18,7 +18,7 @@ ghost use Rattle.violations.specs.Verdicts.{is_success};
 ghost use Rattle.two_phase_meaning.specs.Saving.{FilesFit, blobs_of};
 ghost use Rattle.two_phase_meaning.specs.Compared.{ComparedInRun};
 ghost use Rattle.retire.specs.HitSet.{IsHitSet};
-ghost use Rattle.retire.specs.Compared.{Compared};
+ghost use Rattle.retire_compared.specs.Compared.{Compared};
 ghost use Rattle.retire.specs.Runs.{AllUsable, IsOfSuccess, NoneReserved, RunsAs};
 
 /// What is compared at a process that runs is compared in the build.

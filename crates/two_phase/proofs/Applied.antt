@@ -4,7 +4,7 @@ use Rattle.std.specs.Prelude.{OnOk, OnErr}
 use Rattle.std.proofs.lemmas.List.{map-append, take_all, take_more, take-append-drop}
 use Rattle.bx_io.specs.Holdings.{Change, Holdings, IsPrefix, Keeps, Makes, StoreTold, changed, held_in, holdings_after}
 use Rattle.bx_io.specs.declared.keeper.PutFault.{PutFault}
-use Rattle.bx_io.proofs.Changes.{keeps_all, keeps_makes, keeps_on, makes_both, makes_keeps, makes_none, makes_some, nothing_before, told_after}
+use Rattle.bx_io.proofs.Changes.{keeps_all, keeps_makes, keeps_on, makes_both, makes_none, makes_some, nothing_before, told_after}
 use Rattle.content_store.specs.Contents.{blob_put}
 use Rattle.two_phase.specs.Applying.{Applies, AppliesAll, AppliesPrefix}
 

@@ -3,7 +3,6 @@ use Rattle.std.proofs.Common.{◌≡◌, ℕ, ◌≤◌, append_assoc, List, [],
 use Rattle.std.specs.Prelude.{IsSome, OnOk, filter, not}
 use Rattle.std.proofs.lemmas.Option.{same_Some}
 use Rattle.sha2.specs.Sha256.{sha256}
-use Rattle.observed.specs.Texts.{paths_text}
 use Rattle.bx_io.specs.Holdings.{Change, Holdings, IsPrefix, Keeps, Put, StoreTold, held_in, holdings_after}
 use Rattle.bx_io.specs.declared.keeper.PutFault.{PutFault}
 use Rattle.bx_io.proofs.Changes.{nothing_before}

@@ -103,7 +103,10 @@ fn with_outputs<R: KeepReader>(
         (R.faults reader.old) (R.faults reader.new) (result ≡ Err StoreFault.Fault) }
 {
     match outputs(alloc, reader, entry.outputs.lines())? {
-        Some(made) => Ok(Some(Found::new(entry, paths, answers, made))),
+        Some(made) => {
+            let found = Found::new(alloc, entry, paths, answers, made)?;
+            Ok(Some(found))
+        }
         None => Ok(None),
     }
 }

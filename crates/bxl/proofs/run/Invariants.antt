@@ -1,9 +1,7 @@
-use Rattle.std.proofs.Common.{[]}
 use Rattle.bxl.proofs.run.Given as goal
 
--- what standard input had is not spoken of: the input is what it gave
 abbrev pub ghost-new : goal.ghost-new
-ghost-new g a = []
+ghost-new g a = g.first.0
 
 abbrev pub ghost-keeper : goal.ghost-keeper
-ghost-keeper g a = g.held
+ghost-keeper g a = g.first.1

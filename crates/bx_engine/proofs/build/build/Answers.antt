@@ -1,19 +1,20 @@
 use Rattle.std.proofs.Common.{◌≡◌, ◌⊎◌, ◌∙◌, ℕ, List, ap, arith, inl, inr, length, refl, subst, sym}
 use Rattle.bx_io.proofs.Changes.{keeps_all}
 use Rattle.std.specs.Prelude.{vec_len}
-use Rattle.bx_engine.specs.Calls.{Call, call_of, change_of, counted_of, written_of}
+use Rattle.bx_engine.specs.Calls.{Call, Given, call_of, change_of, given_of, written_of}
+use Rattle.bx_engine.specs.Ended.{Answered, Left, Unanswered}
 use Rattle.bx_engine.specs.Expected.{limits_of}
-use Rattle.bx_engine.specs.Known.{IsInput}
+use Rattle.bx_engine.specs.Known.{IsInput, ReadOf}
 use Rattle.bx_engine.specs.Statuses.{HasNoNotes}
 use Rattle.bx_engine.specs.declared.status.Status.TheVariants as statuses
-use Rattle.bx_engine.proofs.CallsEnd.{Answered, Left, Unanswered, beyond_answered, beyond_unanswered, each_answered, each_unanswered, headline_answered, headline_unanswered, input_answered, input_unanswered, left_read}
-use Rattle.bx_engine.proofs.ReadingKeepsEnding.{ReadOf, left_slice, read_out, read_slice}
+use Rattle.bx_engine.proofs.CallsEnd.{left_read}
+use Rattle.bx_engine.proofs.ReadingKeepsEnding.{left_slice, read_out, read_slice}
 use Rattle.bx_engine.proofs.StatusesDiffer.{answered_status, memory_is_no_refusal, not_begun, not_silent, quiet_refusal, refused_status}
 use Rattle.bx_engine.proofs.StoresLeft.{left_same, none_put}
 use Rattle.bx_engine.proofs.build.build.Goals as goal
 
 pub deliver-requires : goal.deliver-requires
-deliver-requires g c = c.in-Ok-2.ensures.response.whole
+deliver-requires g c = c.in-Ok-respond.ensures.response.whole
 
 -- ## Nothing was read
 
@@ -21,49 +22,53 @@ pub returns-in-Err-Failed : goal.returns-in-Err-Failed
 returns-in-Err-Failed g c =
     let order = c.args.order.now in
     let known = g.K.Keeper.known c.args.keeper.now in
+    let source : Given =
+    given_of (g.S.Source.given c.args.source.now) (g.S.Source.given c.read_all.new.source) (g.S.Source.left c.args.source.now) (g.S.Source.left c.read_all.new.source)
+    (g.S.Source.ended c.read_all.new.source) (g.S.Source.faults c.args.source.now) (g.S.Source.faults c.read_all.new.source) in
     let call : Call =
-    call_of statuses.SourceFailed (counted_of (g.S.Source.faults c.args.source.now) (g.S.Source.faults c.read_all.new.source))
+    call_of statuses.SourceFailed source
     (written_of (g.O.Sink.taken c.args.out.now) (g.O.Sink.taken c.args.out.now) (g.O.Sink.faults c.args.out.now) (g.O.Sink.faults c.args.out.now))
     (written_of (g.N.Sink.taken c.args.notes.now) (g.N.Sink.taken c.args.notes.now) (g.N.Sink.faults c.args.notes.now) (g.N.Sink.faults c.args.notes.now))
     (change_of (g.K.Keeper.known c.args.keeper.now) (g.K.Keeper.known c.args.keeper.now) (g.K.Keeper.bound c.args.keeper.now) (g.K.Keeper.faults c.args.keeper.now)
     (g.K.Keeper.faults c.args.keeper.now)) in
+    let gave = c.read_all.ensures.piece in
     let u : Unanswered call = record {
       silent = inr (inl refl);
+      gives = record { piece = gave.0; gave = gave.1; moved = gave.2 };
       out = refl;
-      source_cause = record { later = c.in-Err-Failed.ensures.cause.later; rose = λ e. c.in-Err-Failed.ensures.cause.rose refl };
+      source_cause = record { later = c.in-Err-Failed.ensures.cause.later; rose = λ e. c.in-Err-Failed.ensures.cause.rose (cc) };
       source_no_fault = λ n. absurd (n refl);
       out_faults = refl;
       puts = none_put known known (keeps_all known);
       later = omega arith;
     } in
-    let left : (input : List ℕ) → Left call input order = λ input held is honest fair. left_same (limits_of order) input held known known (keeps_all known) honest in
     record {
-      status = inr (inl refl);
-      headline = λ input asked fair. headline_unanswered call input order u (λ e. cc) (left input) fair;
-      beyond = λ input asked fair. beyond_unanswered call input order u (left input) fair;
-      of_input = λ input asked. input_unanswered call input order u;
-      of_each_call = each_unanswered call u;
+      begun = λ e. cc;
+      ended = inl (u, λ input asked held is honest fair. left_same (limits_of order) input held known known (keeps_all known) honest);
       silent = λ s. refl;
       no_notes = λ s. refl;
       kept = λ s. refl;
       untouched = λ off. refl;
       bound = refl;
-      read = λ came. absurd (not_silent statuses.SourceFailed came (inr (inl refl)));
-      left = λ input was tells came. absurd (not_silent statuses.SourceFailed came (inr (inl refl)));
     }
 
 pub returns-in-Err-Memory : goal.returns-in-Err-Memory
 returns-in-Err-Memory g c =
     let order = c.args.order.now in
     let known = g.K.Keeper.known c.args.keeper.now in
+    let source : Given =
+    given_of (g.S.Source.given c.args.source.now) (g.S.Source.given c.read_all.new.source) (g.S.Source.left c.args.source.now) (g.S.Source.left c.read_all.new.source)
+    (g.S.Source.ended c.read_all.new.source) (g.S.Source.faults c.args.source.now) (g.S.Source.faults c.read_all.new.source) in
     let call : Call =
-    call_of statuses.OutOfMemory (counted_of (g.S.Source.faults c.args.source.now) (g.S.Source.faults c.read_all.new.source))
+    call_of statuses.OutOfMemory source
     (written_of (g.O.Sink.taken c.args.out.now) (g.O.Sink.taken c.args.out.now) (g.O.Sink.faults c.args.out.now) (g.O.Sink.faults c.args.out.now))
     (written_of (g.N.Sink.taken c.args.notes.now) (g.N.Sink.taken c.args.notes.now) (g.N.Sink.faults c.args.notes.now) (g.N.Sink.faults c.args.notes.now))
     (change_of (g.K.Keeper.known c.args.keeper.now) (g.K.Keeper.known c.args.keeper.now) (g.K.Keeper.bound c.args.keeper.now) (g.K.Keeper.faults c.args.keeper.now)
     (g.K.Keeper.faults c.args.keeper.now)) in
+    let gave = c.read_all.ensures.piece in
     let u : Unanswered call = record {
       silent = inr (inr refl);
+      gives = record { piece = gave.0; gave = gave.1; moved = gave.2 };
       out = refl;
       source_cause = record { later = c.in-Err-Memory.ensures.cause.later; rose = λ e. absurd (cc) };
       source_no_fault = λ n. c.in-Err-Memory.ensures.no_fault (λ e. cc);
@@ -71,20 +76,14 @@ returns-in-Err-Memory g c =
       puts = none_put known known (keeps_all known);
       later = omega arith;
     } in
-    let left : (input : List ℕ) → Left call input order = λ input held is honest fair. left_same (limits_of order) input held known known (keeps_all known) honest in
     record {
-      status = inr (inr (inr refl));
-      headline = λ input asked fair. headline_unanswered call input order u (λ e. cc) (left input) fair;
-      beyond = λ input asked fair. beyond_unanswered call input order u (left input) fair;
-      of_input = λ input asked. input_unanswered call input order u;
-      of_each_call = each_unanswered call u;
+      begun = λ e. cc;
+      ended = inl (u, λ input asked held is honest fair. left_same (limits_of order) input held known known (keeps_all known) honest);
       silent = λ s. refl;
       no_notes = λ s. refl;
       kept = λ s. refl;
       untouched = λ off. refl;
       bound = refl;
-      read = λ came. absurd (not_silent statuses.OutOfMemory came (inr (inr refl)));
-      left = λ input was tells came. absurd (not_silent statuses.OutOfMemory came (inr (inr refl)));
     }
 
 -- ## Nothing was answered
@@ -92,15 +91,20 @@ returns-in-Err-Memory g c =
 pub returns-in-Err : goal.returns-in-Err
 returns-in-Err g c =
     let order = c.args.order.now in
+    let source : Given =
+    given_of (g.S.Source.given c.args.source.now) (g.S.Source.given c.read_all.new.source) (g.S.Source.left c.args.source.now) (g.S.Source.left c.read_all.new.source)
+    (g.S.Source.ended c.read_all.new.source) (g.S.Source.faults c.args.source.now) (g.S.Source.faults c.read_all.new.source) in
     let call : Call =
-    call_of statuses.OutOfMemory (counted_of (g.S.Source.faults c.args.source.now) (g.S.Source.faults c.read_all.new.source))
+    call_of statuses.OutOfMemory source
     (written_of (g.O.Sink.taken c.args.out.now) (g.O.Sink.taken c.args.out.now) (g.O.Sink.faults c.args.out.now) (g.O.Sink.faults c.args.out.now))
     (written_of (g.N.Sink.taken c.args.notes.now) (g.N.Sink.taken c.args.notes.now) (g.N.Sink.faults c.args.notes.now) (g.N.Sink.faults c.args.notes.now))
     (change_of (g.K.Keeper.known c.args.keeper.now) (g.K.Keeper.known c.respond.new.keeper) (g.K.Keeper.bound c.args.keeper.now) (g.K.Keeper.faults c.args.keeper.now)
     (g.K.Keeper.faults c.respond.new.keeper)) in
     let same = c.in-Ok.ensures.no_fault (λ e. cc) in
+    let gave = c.read_all.ensures.piece in
     let u : Unanswered call = record {
       silent = inr (inr refl);
+      gives = record { piece = gave.0; gave = gave.1; moved = gave.2 };
       out = refl;
       source_cause = record { later = omega (arith, same); rose = λ e. absurd (cc) };
       source_no_fault = λ n. same;
@@ -108,45 +112,46 @@ returns-in-Err g c =
       puts = c.respond.ensures.puts;
       later = c.respond.ensures.later;
     } in
-    let read : (input : List ℕ)
-    → IsInput (g.S.Source.given c.args.source.now) (g.S.Source.given c.read_all.new.source) (g.S.Source.left c.args.source.now)
-    (g.S.Source.left c.read_all.new.source) input → ReadOf input c.deref.result.now =
-    λ input asked. read_slice _ _ _ _ input _ _ _ c.deref.ensures.value c.deref.ensures.len asked c.in-Ok.ensures.gave c.in-Ok.ensures.moved c.in-Ok.ensures.bound c.in-Ok.ensures.none_left in
+    let read : (input : List ℕ) → IsInput source input → ReadOf input c.deref.result.now =
+    λ input asked. read_slice source input _ _ _ c.deref.ensures.value c.deref.ensures.len asked c.in-Ok.ensures.gave c.in-Ok.ensures.moved c.in-Ok.ensures.bound c.in-Ok.ensures.none_left in
     let left : Left call c.deref.result.now order = c.respond.ensures.left in
     record {
-      status = inr (inr (inr refl));
-      headline = λ input asked fair.
-          headline_unanswered call input order u (λ e. cc) (left_read call input c.deref.result.now order (read input asked) left) fair;
-      beyond = λ input asked fair. beyond_unanswered call input order u (left_read call input c.deref.result.now order (read input asked) left) fair;
-      of_input = λ input asked. input_unanswered call input order u;
-      of_each_call = each_unanswered call u;
+      begun = λ e. cc;
+      ended = inl (u, λ input asked. left_read call input c.deref.result.now order (read input asked) left);
       silent = λ s. refl;
       no_notes = λ s. refl;
       kept = λ none. absurd (memory_is_no_refusal none);
       untouched = c.respond.ensures.untouched;
       bound = c.respond.ensures.bound;
-      read = λ came. absurd (not_silent statuses.OutOfMemory came (inr (inr refl)));
-      left = λ input was tells came. absurd (not_silent statuses.OutOfMemory came (inr (inr refl)));
     }
 
 -- ## An answer
 
-pub returns-in-Ok : goal.returns-in-Ok
-returns-in-Ok g c =
+pub returns : goal.returns
+returns g c =
     let order = c.args.order.now in
+    let source : Given =
+    given_of (g.S.Source.given c.args.source.now) (g.S.Source.given c.read_all.new.source) (g.S.Source.left c.args.source.now) (g.S.Source.left c.read_all.new.source)
+    (g.S.Source.ended c.read_all.new.source) (g.S.Source.faults c.args.source.now) (g.S.Source.faults c.read_all.new.source) in
     let call : Call =
-    call_of c.deliver.result (counted_of (g.S.Source.faults c.args.source.now) (g.S.Source.faults c.read_all.new.source))
+    call_of c.deliver.result source
     (written_of (g.O.Sink.taken c.args.out.now) (g.O.Sink.taken c.deliver.new.out) (g.O.Sink.faults c.args.out.now) (g.O.Sink.faults c.deliver.new.out))
     (written_of (g.N.Sink.taken c.args.notes.now) (g.N.Sink.taken c.deliver.new.notes) (g.N.Sink.faults c.args.notes.now) (g.N.Sink.faults c.deliver.new.notes))
     (change_of (g.K.Keeper.known c.args.keeper.now) (g.K.Keeper.known c.respond.new.keeper) (g.K.Keeper.bound c.args.keeper.now) (g.K.Keeper.faults c.args.keeper.now)
     (g.K.Keeper.faults c.respond.new.keeper)) in
-    let bytes = c.deref.result.now in
     let given = c.in-Ok.ensures in
+    let gave = c.read_all.ensures.piece in
     let same = given.no_fault (λ e. cc) in
-    let response = c.in-Ok-2.ensures.response in
-    let came = answered_status c.in-Ok-2.response.status c.deliver.result response.whole c.deliver.ensures.status in
-    let a : Answered call bytes order = record {
-      response = c.in-Ok-2.response;
+    let response = c.in-Ok-respond.ensures.response in
+    let came = answered_status c.in-Ok-respond.response.status c.deliver.result response.whole c.deliver.ensures.status in
+    let long : length c.in-Ok.input.items ≡ vec_len c.in-Ok.input = ap length (sym c.deref.ensures.value) ∙ c.deref.ensures.len in
+    let a : Answered order call = record {
+      bytes = c.deref.result.now;
+      read = λ input asked. read_slice source input _ _ _ c.deref.ensures.value c.deref.ensures.len asked given.gave given.moved given.bound given.none_left;
+      gives = record { piece = gave.0; gave = gave.1; moved = gave.2 };
+      read_out = read_out source c.in-Ok.input.items _ long given.gave given.bound given.end;
+      rest = left_slice source _ _ long given.moved given.bound given.none_left;
+      response = c.in-Ok-respond.response;
       responds = response;
       status = c.deliver.ensures.status;
       written = c.deliver.ensures.written;
@@ -159,28 +164,18 @@ returns-in-Ok g c =
       puts = c.respond.ensures.puts;
       later = c.respond.ensures.later;
     } in
-    let long : length c.in-Ok.input.items ≡ vec_len c.in-Ok.input = ap length (sym c.deref.ensures.value) ∙ c.deref.ensures.len in
-    let read : (input : List ℕ)
-    → IsInput (g.S.Source.given c.args.source.now) (g.S.Source.given c.read_all.new.source) (g.S.Source.left c.args.source.now)
-    (g.S.Source.left c.read_all.new.source) input → ReadOf input c.deref.result.now =
-    λ input asked. read_slice _ _ _ _ input _ _ _ c.deref.ensures.value c.deref.ensures.len asked given.gave given.moved given.bound given.none_left in
     record {
-      status = elim came [ inl whole ↦ inl whole | inr cut ↦ inr (inr (inl cut)) ];
-      headline = λ input asked fair. headline_answered call input bytes order (read input asked) a fair;
-      beyond = λ input asked fair. beyond_answered call input bytes order (read input asked) a fair;
-      of_input = λ input asked. input_answered call input bytes order (read input asked) a;
-      of_each_call = each_answered call bytes order a;
+      begun = λ none. absurd (not_silent c.deliver.result came (inl none));
+      ended = inr a;
       silent = λ s. absurd (not_silent c.deliver.result came s);
       no_notes = λ quiet. elim c.deliver.ensures.status [
         | inl is ↦ c.deliver.ensures.no_notes (response.quiet (quiet_refusal _ response.whole (subst HasNoNotes is quiet)))
         | inr cut ↦ c.deliver.ensures.cut cut
       ];
       kept = λ none.
-          c.in-Ok-2.ensures.kept (refused_status _ _ c.deliver.ensures.status (not_begun c.deliver.result (answered_or_memory came) none));
+          c.in-Ok-respond.ensures.kept (refused_status _ _ c.deliver.ensures.status (not_begun c.deliver.result (answered_or_memory came) none));
       untouched = c.respond.ensures.untouched;
       bound = c.respond.ensures.bound;
-      read = λ done. read_out _ _ _ c.in-Ok.input.items _ long given.gave given.bound given.end;
-      left = λ input was tells done. left_slice _ _ input _ _ long was tells given.moved given.bound given.none_left;
     }
   where
     answered_or_memory : {A B C : Type 0} → A ⊎ B → A ⊎ B ⊎ C

@@ -14,8 +14,8 @@ returns-clause-build g c =
     let budget = c.args.plan.now.tool_budget in
     let follows = c.in_ok-decided.ensures.follows fair.held
     (read_told (g.K.Keeper.known c.args.keeper.now).held (g.K.Reader.KeepReader.held c.in_ok-reader.reader) (g.K.Reader.KeepReader.held c.decide_all.new.reader)
-    (g.K.Keeper.known c.close.new.keeper).held fair.held fair.told c.in_ok-reader.ensures.held c.in_ok-decided.ensures.reader.held_is c.close.ensures.reader
-    (first_told (g.K.Keeper.known c.close.new.keeper) (g.K.Keeper.known c.save_all.new.keeper) c.as_slice-2.result.now c.save_all.ensures.first fair.tells)) fair.fair in
+    (g.K.Keeper.known c.close.new.self).held fair.held fair.told c.in_ok-reader.ensures.held c.in_ok-decided.ensures.reader.held_is c.close.ensures.reader
+    (first_told (g.K.Keeper.known c.close.new.self) (g.K.Keeper.known c.save_all.new.keeper) c.as_slice-2.result.now c.save_all.ensures.first fair.tells)) fair.fair in
     record {
       verdicts_are = follows.verdicts_are;
       outputs_are = files_are pips tree budget c.as_slice.result.now c.in_ok-decided.decided.slots.items c.in_ok-outputs.outputs c.as_slice.ensures.value
@@ -28,8 +28,8 @@ returns-clause-spared g c =
     λ S is tells fair.
     let follows = c.in_ok-decided.ensures.follows S
     (read_told (g.K.Keeper.known c.args.keeper.now).held (g.K.Reader.KeepReader.held c.in_ok-reader.reader) (g.K.Reader.KeepReader.held c.decide_all.new.reader)
-    (g.K.Keeper.known c.close.new.keeper).held S is c.in_ok-reader.ensures.held c.in_ok-decided.ensures.reader.held_is c.close.ensures.reader
-    (first_told (g.K.Keeper.known c.close.new.keeper) (g.K.Keeper.known c.save_all.new.keeper) c.as_slice-2.result.now c.save_all.ensures.first tells)) fair in
+    (g.K.Keeper.known c.close.new.self).held S is c.in_ok-reader.ensures.held c.in_ok-decided.ensures.reader.held_is c.close.ensures.reader
+    (first_told (g.K.Keeper.known c.close.new.self) (g.K.Keeper.known c.save_all.new.keeper) c.as_slice-2.result.now c.save_all.ensures.first tells)) fair in
     spares_more c.args.plan.now.pips c.args.sources.now c.args.plan.now.tool_budget S _ _ _ follows.spares
 
 pub returns-clause-runs : goal.returns-clause-runs
@@ -37,8 +37,8 @@ returns-clause-runs g c =
     λ S is tells fair.
     let follows = c.in_ok-decided.ensures.follows S
     (read_told (g.K.Keeper.known c.args.keeper.now).held (g.K.Reader.KeepReader.held c.in_ok-reader.reader) (g.K.Reader.KeepReader.held c.decide_all.new.reader)
-    (g.K.Keeper.known c.close.new.keeper).held S is c.in_ok-reader.ensures.held c.in_ok-decided.ensures.reader.held_is c.close.ensures.reader
-    (first_told (g.K.Keeper.known c.close.new.keeper) (g.K.Keeper.known c.save_all.new.keeper) c.as_slice-2.result.now c.save_all.ensures.first tells)) fair in
+    (g.K.Keeper.known c.close.new.self).held S is c.in_ok-reader.ensures.held c.in_ok-decided.ensures.reader.held_is c.close.ensures.reader
+    (first_told (g.K.Keeper.known c.close.new.self) (g.K.Keeper.known c.save_all.new.keeper) c.as_slice-2.result.now c.save_all.ensures.first tells)) fair in
     late_of c.args.plan.now.pips c.args.sources.now c.args.plan.now.tool_budget S _ _ _ _ _ follows.spares follows.verdicts_are c.in_ok-decided.ensures.counted
 
 pub returns-in_err-reader-clause-left : goal.returns-in_err-reader-clause-left
@@ -51,16 +51,16 @@ returns-in_err-decided-clause-left g c =
 
 pub returns-in_err-outputs-clause-left : goal.returns-in_err-outputs-clause-left
 returns-in_err-outputs-clause-left g c =
-    λ S is tells fair. leaves_same c.args.plan.now.pips c.args.sources.now c.args.plan.now.tool_budget S (g.K.Keeper.known c.args.keeper.now) (g.K.Keeper.known c.close.new.keeper) is c.close.ensures.known fair
+    λ S is tells fair. leaves_same c.args.plan.now.pips c.args.sources.now c.args.plan.now.tool_budget S (g.K.Keeper.known c.args.keeper.now) (g.K.Keeper.known c.close.new.self) is c.close.ensures.known fair
 
 pub returns-in_err-failed-clause-left : goal.returns-in_err-failed-clause-left
 returns-in_err-failed-clause-left g c =
     λ S is tells fair.
     let follows = c.in_ok-decided.ensures.follows S
     (read_told (g.K.Keeper.known c.args.keeper.now).held (g.K.Reader.KeepReader.held c.in_ok-reader.reader) (g.K.Reader.KeepReader.held c.decide_all.new.reader)
-    (g.K.Keeper.known c.close.new.keeper).held S is c.in_ok-reader.ensures.held c.in_ok-decided.ensures.reader.held_is c.close.ensures.reader
-    (first_told (g.K.Keeper.known c.close.new.keeper) (g.K.Keeper.known c.save_all.new.keeper) c.as_slice-2.result.now c.save_all.ensures.first tells)) fair in
-    leaves_saved c.args.plan.now.pips c.args.sources.now c.args.plan.now.tool_budget S (g.K.Keeper.known c.args.keeper.now) (g.K.Keeper.known c.close.new.keeper) (g.K.Keeper.known c.save_all.new.keeper)
+    (g.K.Keeper.known c.close.new.self).held S is c.in_ok-reader.ensures.held c.in_ok-decided.ensures.reader.held_is c.close.ensures.reader
+    (first_told (g.K.Keeper.known c.close.new.self) (g.K.Keeper.known c.save_all.new.keeper) c.as_slice-2.result.now c.save_all.ensures.first tells)) fair in
+    leaves_saved c.args.plan.now.pips c.args.sources.now c.args.plan.now.tool_budget S (g.K.Keeper.known c.args.keeper.now) (g.K.Keeper.known c.close.new.self) (g.K.Keeper.known c.save_all.new.keeper)
     _ _ _ c.as_slice-2.result.now _ _ is c.close.ensures.known tells follows fair c.as_slice-2.ensures.value c.save_all.ensures.first
 
 pub returns-clause-left : goal.returns-clause-left
@@ -68,9 +68,9 @@ returns-clause-left g c =
     λ S is tells fair.
     let follows = c.in_ok-decided.ensures.follows S
     (read_told (g.K.Keeper.known c.args.keeper.now).held (g.K.Reader.KeepReader.held c.in_ok-reader.reader) (g.K.Reader.KeepReader.held c.decide_all.new.reader)
-    (g.K.Keeper.known c.close.new.keeper).held S is c.in_ok-reader.ensures.held c.in_ok-decided.ensures.reader.held_is c.close.ensures.reader
-    (first_told (g.K.Keeper.known c.close.new.keeper) (g.K.Keeper.known c.save_all.new.keeper) c.as_slice-2.result.now c.save_all.ensures.first tells)) fair in
-    leaves_saved c.args.plan.now.pips c.args.sources.now c.args.plan.now.tool_budget S (g.K.Keeper.known c.args.keeper.now) (g.K.Keeper.known c.close.new.keeper) (g.K.Keeper.known c.save_all.new.keeper)
+    (g.K.Keeper.known c.close.new.self).held S is c.in_ok-reader.ensures.held c.in_ok-decided.ensures.reader.held_is c.close.ensures.reader
+    (first_told (g.K.Keeper.known c.close.new.self) (g.K.Keeper.known c.save_all.new.keeper) c.as_slice-2.result.now c.save_all.ensures.first tells)) fair in
+    leaves_saved c.args.plan.now.pips c.args.sources.now c.args.plan.now.tool_budget S (g.K.Keeper.known c.args.keeper.now) (g.K.Keeper.known c.close.new.self) (g.K.Keeper.known c.save_all.new.keeper)
     _ _ _ c.as_slice-2.result.now _ _ is c.close.ensures.known tells follows fair c.as_slice-2.ensures.value c.save_all.ensures.first
 
 pub returns-clause-usable : goal.returns-clause-usable
@@ -79,9 +79,9 @@ returns-clause-usable g c =
     let tells : IsSome (g.K.Keeper.known c.save_all.new.keeper).held = subst (λ (o : Option Holdings). IsSome o) (sym now) refl in
     let follows = c.in_ok-decided.ensures.follows S
     (read_told (g.K.Keeper.known c.args.keeper.now).held (g.K.Reader.KeepReader.held c.in_ok-reader.reader) (g.K.Reader.KeepReader.held c.decide_all.new.reader)
-    (g.K.Keeper.known c.close.new.keeper).held S is c.in_ok-reader.ensures.held c.in_ok-decided.ensures.reader.held_is c.close.ensures.reader
-    (first_told (g.K.Keeper.known c.close.new.keeper) (g.K.Keeper.known c.save_all.new.keeper) c.as_slice-2.result.now c.save_all.ensures.first tells)) fair in
-    leaves_all c.args.plan.now.pips c.args.sources.now c.args.plan.now.tool_budget S (g.K.Keeper.known c.args.keeper.now) (g.K.Keeper.known c.close.new.keeper) (g.K.Keeper.known c.save_all.new.keeper)
+    (g.K.Keeper.known c.close.new.self).held S is c.in_ok-reader.ensures.held c.in_ok-decided.ensures.reader.held_is c.close.ensures.reader
+    (first_told (g.K.Keeper.known c.close.new.self) (g.K.Keeper.known c.save_all.new.keeper) c.as_slice-2.result.now c.save_all.ensures.first tells)) fair in
+    leaves_all c.args.plan.now.pips c.args.sources.now c.args.plan.now.tool_budget S (g.K.Keeper.known c.args.keeper.now) (g.K.Keeper.known c.close.new.self) (g.K.Keeper.known c.save_all.new.keeper)
     _ _ _ c.as_slice-2.result.now _ _ is c.close.ensures.known follows fair c.as_slice-2.ensures.value c.pips-pips.ensures.list c.requires free
     (c.in_ok-failed.ensures.all (omega (arith, none))) T now
 
@@ -89,7 +89,7 @@ pub returns-clause-faults : goal.returns-clause-faults
 returns-clause-faults g c =
     λ b is.
     all_faults _ _ (g.K.Keeper.bound c.args.keeper.now) _ _ _ _ _ b _ _ _ c.in_ok-decided.ensures.reader c.in_ok-reader.ensures.faults c.in_ok-reader.ensures.bound is
-    (closed_faults (g.K.Keeper.bound c.args.keeper.now) (g.K.Keeper.bound c.close.new.keeper) _ _ _ _ c.close.ensures.bound c.close.ensures.faults c.in_ok-failed.ensures.faults)
+    (closed_faults (g.K.Keeper.bound c.args.keeper.now) (g.K.Keeper.bound c.close.new.self) _ _ _ _ c.close.ensures.bound c.close.ensures.faults c.in_ok-failed.ensures.faults)
 
 pub returns-clause-places : goal.returns-clause-places
 returns-clause-places g c =
@@ -106,14 +106,14 @@ pub returns-in_err-decided-clause-puts : goal.returns-in_err-decided-clause-puts
 returns-in_err-decided-clause-puts g c = none_put (g.K.Keeper.known c.args.keeper.now) (g.K.Keeper.known c.args.keeper.now) (keeps_all (g.K.Keeper.known c.args.keeper.now))
 
 pub returns-in_err-outputs-clause-puts : goal.returns-in_err-outputs-clause-puts
-returns-in_err-outputs-clause-puts g c = none_put (g.K.Keeper.known c.args.keeper.now) (g.K.Keeper.known c.close.new.keeper) c.close.ensures.known
+returns-in_err-outputs-clause-puts g c = none_put (g.K.Keeper.known c.args.keeper.now) (g.K.Keeper.known c.close.new.self) c.close.ensures.known
 
 pub returns-in_err-failed-clause-puts : goal.returns-in_err-failed-clause-puts
 returns-in_err-failed-clause-puts g c =
-    only_put (g.K.Keeper.known c.args.keeper.now) (g.K.Keeper.known c.close.new.keeper) (g.K.Keeper.known c.save_all.new.keeper) c.in_ok-decided.decided.records.items c.as_slice-2.result.now
+    only_put (g.K.Keeper.known c.args.keeper.now) (g.K.Keeper.known c.close.new.self) (g.K.Keeper.known c.save_all.new.keeper) c.in_ok-decided.decided.records.items c.as_slice-2.result.now
     c.close.ensures.known c.in_ok-decided.ensures.records c.as_slice-2.ensures.value c.save_all.ensures.first
 
 pub returns-clause-puts : goal.returns-clause-puts
 returns-clause-puts g c =
-    only_put (g.K.Keeper.known c.args.keeper.now) (g.K.Keeper.known c.close.new.keeper) (g.K.Keeper.known c.save_all.new.keeper) c.in_ok-decided.decided.records.items c.as_slice-2.result.now
+    only_put (g.K.Keeper.known c.args.keeper.now) (g.K.Keeper.known c.close.new.self) (g.K.Keeper.known c.save_all.new.keeper) c.in_ok-decided.decided.records.items c.as_slice-2.result.now
     c.close.ensures.known c.in_ok-decided.ensures.records c.as_slice-2.ensures.value c.save_all.ensures.first

@@ -1,15 +1,12 @@
 use Rattle.bx_io.specs.Holdings.{Put}
-use Rattle.bx_io_system.proofs.Telling.{agrees_put_noted, telling_change}
+use Rattle.bx_io_system.proofs.Telling.{agrees_after_put, telling_noted}
 use Rattle.bx_io_system.proofs.system.System.put.Goals as goal
 
 pub invariant_of-self-clause-agrees : goal.invariant_of-self-clause-agrees
 invariant_of-self-clause-agrees g c q known named =
-    let put = c.in-Ok.ensures known in
-    agrees_put_noted c.args.self.now.log c.noted-self.result (g.D.Disk.files c.args.self.now.disk.disk) (g.D.Disk.files c.put.new.self.disk) c.args.name.now c.as_bytes.result.now c.args.bytes.now q
-    c.noted-self.ensures c.as_bytes.ensures.value (c.args.self.now.agrees q known named) put.0 (put.1 q named)
+    agrees_after_put c.args.self.now.log c.was_put.new.log (g.D.Disk.files c.args.self.now.disk.disk) (g.D.Disk.files c.put-done.new.self.disk) c.args.name.now c.args.bytes.now q c.put-done.result
+    c.was_put.result c.was_put.ensures.noted c.was_put.ensures.answer (c.put-done.ensures known) named (c.args.self.now.agrees q known named)
 
 pub invariant_of-self-clause-telling : goal.invariant_of-self-clause-telling
 invariant_of-self-clause-telling g c known =
-    let log = c.args.self.now.log in
-    rw (c.noted-self.ensures, c.as_bytes.ensures.value)
-    (telling_change log.held log.events log.closed (Put c.args.name.now c.args.bytes.now) (c.args.self.now.telling known))
+    telling_noted c.args.self.now.log c.was_put.new.log (Put c.args.name.now c.args.bytes.now) c.was_put.result c.was_put.ensures.noted (c.args.self.now.telling known)

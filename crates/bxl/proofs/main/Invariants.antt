@@ -1,5 +1,0 @@
-use Rattle.std.specs.FinMap.{empty}
-use Rattle.bxl.proofs.main.Given as goal
-
-abbrev pub ghost-run : goal.ghost-run
-ghost-run a = empty
