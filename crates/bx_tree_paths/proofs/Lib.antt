@@ -5,3 +5,4 @@ pub mod Spans
 pub mod Found
 pub mod Rising
 pub mod Numbered
+pub mod BetweenTexts

@@ -23,14 +23,14 @@ use Rattle.bx_tree_paths.specs.Spans.{IsSpanOf, StartsBelow}
 -- ## Texts that begin with a text and a `/`
 
 -- a text does not come before one with which it begins
-not_before : (prefix rest : List ℕ) → is_lt (slice_cmp nat_cmp (prefix ++ rest) prefix) ≡ false
+pub not_before : (prefix rest : List ℕ) → is_lt (slice_cmp nat_cmp (prefix ++ rest) prefix) ≡ false
 not_before [] [] = refl
 not_before [] (b ∷ bs) = refl
 not_before (p ∷ ps) rest =
     ap (λ o. is_lt (ordering_then o (slice_cmp nat_cmp (ps ++ rest) ps))) (tied_itself nat_cmp_total p) ∙ not_before ps rest
 
 -- a text that begins with a text and a `/` comes before that text and a `0`
-before_next : (text rest : List ℕ) → is_lt (slice_cmp nat_cmp ((text ++ 47 ∷ []) ++ rest) (text ++ 48 ∷ [])) ≡ true
+pub before_next : (text rest : List ℕ) → is_lt (slice_cmp nat_cmp ((text ++ 47 ∷ []) ++ rest) (text ++ 48 ∷ [])) ≡ true
 before_next [] rest = refl
 before_next (t ∷ ts) rest =
     ap (λ o. is_lt (ordering_then o (slice_cmp nat_cmp ((ts ++ 47 ∷ []) ++ rest) (ts ++ 48 ∷ [])))) (tied_itself nat_cmp_total t)

@@ -6,6 +6,7 @@
 #![tactic(auto)]
 
 mod below;
+mod between;
 mod has_path;
 mod path_table;
 mod search;
@@ -13,6 +14,7 @@ mod sorted_paths;
 mod steps;
 
 pub use below::{Span, items_below};
+pub use between::span_between;
 pub use has_path::HasPath;
 pub use path_table::{PathId, PathTable};
 pub use search::place_of;

@@ -1,0 +1,78 @@
+-- The files that seals list are found by their paths.
+use Rattle.std.proofs.Common.{zero, suc, ◌≡◌, ℕ, ◌+◌, ◌<◌, ◌≤◌, List, [], ◌∷◌, ◌++◌, ◌⊎◌, length, drop, get_or, map, take, ap, sym, ◌∙◌, subst, inl, inr, arith, append_assoc, append-nil, add-one}
+use Rattle.std.specs.Prelude.{Any, Contains, IsSomeAnd, slice_get}
+use Rattle.std.proofs.lemmas.List.{drop_all, get_or-map, length-map, take_more}
+use Rattle.std.proofs.lemmas.List.Elements.{Contains-append_left, Contains-append_right}
+use Rattle.std.proofs.Math.Seq.{drop-cons}
+use Rattle.bx_tree.specs.FileInputs.{input_path}
+use Rattle.bx_tree.specs.Paths.{Atoms, path_text}
+use Rattle.bx_tree.specs.declared.file_input.FileInput.{FileInput}
+use Rattle.bx_tree_paths.specs.Spans.{IsBetween}
+use Rattle.bx_tree_paths.proofs.BetweenTexts.{near_between, text_between}
+use Rattle.pip_model_types.specs.declared.pip.Pip.{Pip}
+use Rattle.pip_model_types.specs.Kinds.{listed_files}
+use Rattle.pip_model.specs.Listings.{IsNear, IsNearText, ListsNear, listing, listings_from}
+use Rattle.pip_model.specs.declared.listings.Listing.{Listing}
+
+-- ## One by one
+
+pub files_more : (files : List FileInput) (i j : ℕ) (file : FileInput) (start now next : List Listing) → i < length files → file ≡ get_or files i file
+    → next ≡ now ++ listing j file ∷ [] → now ≡ start ++ map (listing j) (take i files) → next ≡ start ++ map (listing j) (take (i + 1) files)
+files_more files i j file start now next l is e h =
+    e ∙ ap (λ ls. ls ++ listing j file ∷ []) h ∙ append_assoc start (map (listing j) (take i files)) (listing j file ∷ [])
+    ∙ ap (λ ls. start ++ ls)
+    (sym (ap (map (listing j)) (take_more files i file l) ∙ push_map (take i files) (get_or files i file)
+    ∙ ap (λ (f : FileInput). map (listing j) (take i files) ++ listing j f ∷ []) (sym is)))
+  where
+    push_map : (xs : List FileInput) (x : FileInput) → map (listing j) (xs ++ x ∷ []) ≡ map (listing j) xs ++ listing j x ∷ []
+    push_map [] x = refl
+    push_map (y ∷ ys) x = ap (λ ls. listing j y ∷ ls) (push_map ys x)
+
+next_listings : (pips : List Pip) (j : ℕ) (pip : Pip) → j < length pips → pip ≡ get_or pips j pip
+    → listings_from j (drop j pips) ≡ map (listing j) (listed_files pip.kind) ++ listings_from (j + 1) (drop (j + 1) pips)
+next_listings pips j pip l is =
+    ap (listings_from j) (drop-cons pips j pip l)
+    ∙ ap (λ (p : Pip). map (listing j) (listed_files p.kind) ++ listings_from (j + 1) (drop (suc j) pips)) (sym is)
+    ∙ ap (λ m. map (listing j) (listed_files pip.kind) ++ listings_from (j + 1) (drop m pips)) (sym (add-one j))
+
+pub pips_more : (pips : List Pip) (j : ℕ) (pip : Pip) (old new : List Listing) → j < length pips → pip ≡ get_or pips j pip
+    → new ≡ old ++ map (listing j) (listed_files pip.kind) → old ++ listings_from j (drop j pips) ≡ listings_from 0 pips
+    → new ++ listings_from (j + 1) (drop (j + 1) pips) ≡ listings_from 0 pips
+pips_more pips j pip old new l is e h =
+    let here = map (listing j) (listed_files pip.kind) in
+    let rest = listings_from (j + 1) (drop (j + 1) pips) in
+    ap (λ ls. ls ++ rest) e ∙ append_assoc old here rest
+    ∙ ap (λ ls. old ++ ls) (sym (next_listings pips j pip l is)) ∙ h
+
+pub pips_all : (pips : List Pip) (j : ℕ) (old : List Listing) → length pips ≤ j → old ++ listings_from j (drop j pips) ≡ listings_from 0 pips
+    → old ≡ listings_from 0 pips
+pips_all pips j old l h = sym (append-nil old) ∙ ap (λ ps. old ++ listings_from j ps) (sym (drop_all j pips l)) ∙ h
+
+-- ## Near a text
+
+-- a path with a text, or below it, is from the text on, and before the text and what follows a `/`
+pub between_near : (text : List ℕ) (path : Atoms) → IsNearText text path → IsBetween (text ++ []) (text ++ 48 ∷ []) path
+between_near text path near = elim near [
+  | inl same ↦ text_between text 48 path same
+  | inr (rest, e) ↦ near_between text rest path e
+]
+
+among_files : (j : ℕ) (text : List ℕ) (files : List FileInput) → Any (IsNear text) files
+    → (l : Listing) × Contains (map (listing j) files) l × IsNearText text l.path × (l.seal ≡ j)
+among_files j text files (k, file, less, is, near) = (
+  listing j file,
+  (k, omega (arith, less, length-map files (listing j)), get_or-map (listing j) files k file (listing j file) less ∙ ap (listing j) is),
+  near,
+  refl,
+)
+
+-- a seal that lists a file near a text is found there
+pub listed_there : (pips : List Pip) (i j : ℕ) (text : List ℕ) → ListsNear pips j text
+    → (l : Listing) × Contains (listings_from i pips) l × IsNearText text l.path × (l.seal ≡ i + j)
+listed_there [] i j text h = absurd h
+listed_there (pip ∷ pips) i zero text h =
+    let f = among_files i text (listed_files pip.kind) h in
+    (f.0, Contains-append_left (map (listing i) (listed_files pip.kind)) (listings_from (i + 1) pips) f.0 f.1, f.2, f.3)
+listed_there (pip ∷ pips) i (suc j) text h =
+    let f = listed_there pips (i + 1) j text h in
+    (f.0, Contains-append_right (map (listing i) (listed_files pip.kind)) (listings_from (i + 1) pips) f.0 f.1, f.2, f.3 ∙ omega arith)
