@@ -16,17 +16,17 @@ use Rattle.pip_model.specs.declared.listings.Listing.{Listing}
 
 -- ## One by one
 
-pub files_more : (files : List FileInput) (i j : ℕ) (file : FileInput) (start now next : List Listing) → i < length files → file ≡ get_or files i file
-    → next ≡ now ++ listing j file ∷ [] → now ≡ start ++ map (listing j) (take i files) → next ≡ start ++ map (listing j) (take (i + 1) files)
-files_more files i j file start now next l is e h =
-    e ∙ ap (λ ls. ls ++ listing j file ∷ []) h ∙ append_assoc start (map (listing j) (take i files)) (listing j file ∷ [])
-    ∙ ap (λ ls. start ++ ls)
-    (sym (ap (map (listing j)) (take_more files i file l) ∙ push_map (take i files) (get_or files i file)
-    ∙ ap (λ (f : FileInput). map (listing j) (take i files) ++ listing j f ∷ []) (sym is)))
+-- one element more of a list of what a function makes of each
+pub map_more : {X Y : Type 0} (f : X → Y) (xs : List X) (i : ℕ) (x : X) (start now next : List Y) → i < length xs → x ≡ get_or xs i x
+    → next ≡ now ++ f x ∷ [] → now ≡ start ++ map f (take i xs) → next ≡ start ++ map f (take (i + 1) xs)
+map_more {X = X} f xs i x start now next l is e h =
+    e ∙ ap (λ ys. ys ++ f x ∷ []) h ∙ append_assoc start (map f (take i xs)) (f x ∷ [])
+    ∙ ap (λ ys. start ++ ys)
+    (sym (ap (map f) (take_more xs i x l) ∙ push_map (take i xs) (get_or xs i x) ∙ ap (λ y. map f (take i xs) ++ f y ∷ []) (sym is)))
   where
-    push_map : (xs : List FileInput) (x : FileInput) → map (listing j) (xs ++ x ∷ []) ≡ map (listing j) xs ++ listing j x ∷ []
-    push_map [] x = refl
-    push_map (y ∷ ys) x = ap (λ ls. listing j y ∷ ls) (push_map ys x)
+    push_map : (ys : List X) (y : X) → map f (ys ++ y ∷ []) ≡ map f ys ++ f y ∷ []
+    push_map [] y = refl
+    push_map (z ∷ zs) y = ap (λ ws. f z ∷ ws) (push_map zs y)
 
 next_listings : (pips : List Pip) (j : ℕ) (pip : Pip) → j < length pips → pip ≡ get_or pips j pip
     → listings_from j (drop j pips) ≡ map (listing j) (listed_files pip.kind) ++ listings_from (j + 1) (drop (j + 1) pips)

@@ -136,8 +136,8 @@ pub(crate) fn by_listing(alloc: Global, pips: &[Pip]) -> Result<Listings, AllocE
     requires { length pips.now ≤ u32.MAX }
     ensures { IfOk result (HasListingsOf pips.now) }
 {
-    if !has_wide(pips) {
-        return Listings::of(alloc, Vec::new(alloc));
+    if has_wide(pips) {
+        return Listings::of(alloc, all_listings(alloc, pips)?);
     }
-    Listings::of(alloc, all_listings(alloc, pips)?)
+    Listings::of(alloc, Vec::new(alloc))
 }

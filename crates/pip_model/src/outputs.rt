@@ -1,5 +1,5 @@
 //! The pips by the paths of their outputs, so that those at a path are found without going through all pips.
-ghost use Rattle.std.specs.Prelude.{◌≡◌, ◌++◌, [], ◌≤◌, ◌<◌, ℕ, List, Contains, length, slice_index_or, IfOk, OnOk};
+ghost use Rattle.std.specs.Prelude.{◌≡◌, ◌++◌, ◌∷◌, [], ◌≤◌, ◌<◌, ℕ, List, Contains, length, slice_index_or, IfOk, OnOk};
 ghost use Rattle.std.specs.Option.{option_to_list};
 ghost use Rattle.pip_model.specs.Outputs.{HasOutputsOf, found_in, number_at};
 ghost use Rattle.pip_model.specs.Outputs.{numbers_at, output_paths};
@@ -27,6 +27,15 @@ impl Model for ByPath {
     ghost view = { λ b. record { paths = b.paths; pips = b.pips.items } };
 
     ghost invariant = { λ b. length b.pips.items ≡ length b.paths };
+}
+
+// A list of one number.
+fn one(alloc: Global, number: u32) -> Result<Vec<u32>, AllocError>
+    ensures { IfOk result (λ numbers. numbers.items ≡ number ∷ []) }
+{
+    let mut numbers = Vec::new(alloc);
+    numbers.push(number)?;
+    Ok(numbers)
 }
 
 impl ByPath {
@@ -73,14 +82,17 @@ impl ByPath {
         if self.paths.len() >= u32::MAX as usize {
             return Err(AllocError);
         }
-        let mut numbers = Vec::new(alloc);
-        numbers.push(number)?;
+        // The type of the path says that no other has its text.
+        let _ = path.text();
+        let numbers = one(alloc, number)?;
         self.pips.push(numbers)?;
-        if let Err(fault) = self.paths.add(alloc, path) {
-            self.pips.pop();
-            return Err(fault);
+        match self.paths.add(alloc, path) {
+            Ok(_) => Ok(()),
+            Err(fault) => {
+                let _ = self.pips.pop();
+                Err(fault)
+            }
         }
-        Ok(())
     }
 
     // Adds a pip at the path of one of its outputs.
