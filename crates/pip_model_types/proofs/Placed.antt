@@ -4,8 +4,7 @@ use Rattle.std.specs.declared.cmp.Ordering.{Ordering}
 use Rattle.std.specs.declared.cmp.Ordering.TheVariants.{Less, Equal, Greater}
 use Rattle.std.specs.List.{All, HoldsAt, IsDistinct}
 use Rattle.std.specs.List.Sorted.{IsPermutation, IsSortedBy, IsStrictlySortedBy, IsBinarySearchResult, IsSearchInRange}
-use Rattle.std.specs.Result.{MatchResult, result_ok}
-use Rattle.std.specs.Option.{MatchOption}
+use Rattle.std.specs.Result.{MatchResult}
 use Rattle.std.specs.Ordering.{is_lt, ordering_reverse}
 use Rattle.std.proofs.lemmas.Bool.{cases_lt}
 use Rattle.std.proofs.lemmas.Cmp.{tied_itself}
@@ -63,14 +62,6 @@ rising_from_sorted key xs ys apart moved sorted =
     let along = IsPermutation-map key xs ys moved in
     let apart' = IsDistinct-IsPermutation same_path same_path_equiv.symm (map key xs) (map key ys) along apart in
     sorted_from_all_adjacent path_cmp_total (map key ys) [] (adjacent key ys apart' sorted)
-
--- ## What a search answers as an option
-
-pub place_if_found : {X : Type 0} (key : X → Atoms) (xs : List X) (p : Atoms) (r : Result ℕ ℕ)
-    → MatchResult r (λ i. (i < length xs) × HoldsAt (λ (x : X). key x ≡ p) xs i) (λ i. All (λ (x : X). key x ≢ p) xs)
-    → MatchOption (result_ok r) (All (λ (x : X). key x ≢ p) xs) (λ i. (i < length xs) × HoldsAt (λ (x : X). key x ≡ p) xs i)
-place_if_found key xs p (Ok i) h = h
-place_if_found key xs p (Err i) h = h
 
 -- ## No paths
 

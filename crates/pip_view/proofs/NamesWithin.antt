@@ -33,10 +33,10 @@ module _ {X : Type 0} (path : X → Atoms) where
 
   -- whether there is one, by the number of all that lie below
   pub any_by_length : (dir : Atoms) (xs : List X) → not (length (filter (λ x. is_below (path x) dir) xs) == 0) ≡ list_any (λ x. is_below (path x) dir) xs
+  unfolding is_some_list
   any_by_length dir xs = counted (lie_below dir xs) ∙ any_filtered dir xs
     where
       counted : (ys : List X) → not (length ys == 0) ≡ is_some_list ys
-      unfolding is_some_list
       counted [] = refl
       counted (y ∷ ys) = refl
 

@@ -8,8 +8,11 @@ use Rattle.pip_model.proofs.outputs.ByPath.add.Goals as goal
 
 pub add_old-requires : goal.add_old-requires
 add_old-requires c =
-    omega (arith, slice_get_within c.self.inside.paths c.in-Some.id.0 c.args.path.now c.in-Some.ensures.found,
-    ap (λ (b : Numbered). length b.paths) c.self.view_is)
+    omega (
+      arith,
+      slice_get_within c.self.inside.paths c.in-Some.id.0 c.args.path.now c.in-Some.ensures.found,
+      ap (λ (b : Numbered). length b.paths) c.self.view_is,
+    )
 
 pub returns-in-Some : goal.returns-in-Some
 returns-in-Some c =
