@@ -1,5 +1,5 @@
 -- The files that seals list are found by their paths.
-use Rattle.std.proofs.Common.{zero, suc, ◌≡◌, ℕ, ◌+◌, ◌<◌, ◌≤◌, List, [], ◌∷◌, ◌++◌, ◌⊎◌, length, drop, get_or, map, take, ap, sym, ◌∙◌, subst, inl, inr, arith, append_assoc, append-nil, add-one}
+use Rattle.std.proofs.Common.{zero, suc, ◌≡◌, ℕ, ◌+◌, ◌<◌, ◌≤◌, List, [], ◌∷◌, ◌++◌, ◌⊎◌, length, drop, get_or, map, take, refl, ap, sym, ◌∙◌, subst, inl, inr, arith, append_assoc, append-nil, add-one}
 use Rattle.std.specs.Prelude.{Any, Contains, IsSomeAnd, slice_get}
 use Rattle.std.proofs.lemmas.List.{drop_all, get_or-map, length-map, take_more}
 use Rattle.std.proofs.lemmas.List.Elements.{Contains-append_left, Contains-append_right}
@@ -72,7 +72,7 @@ pub listed_there : (pips : List Pip) (i j : ℕ) (text : List ℕ) → ListsNear
 listed_there [] i j text h = absurd h
 listed_there (pip ∷ pips) i zero text h =
     let f = among_files i text (listed_files pip.kind) h in
-    (f.0, Contains-append_left (map (listing i) (listed_files pip.kind)) (listings_from (i + 1) pips) f.0 f.1, f.2, f.3)
+    (f.0, Contains-append_left (map (listing i) (listed_files pip.kind)) (listings_from (i + 1) pips) f.0 f.1, f.2, omega (arith, f.3))
 listed_there (pip ∷ pips) i (suc j) text h =
     let f = listed_there pips (i + 1) j text h in
     (f.0, Contains-append_right (map (listing i) (listed_files pip.kind)) (listings_from (i + 1) pips) f.0 f.1, f.2, f.3 ∙ omega arith)

@@ -87,7 +87,8 @@ impl Listings {
     {
         // `0` is the byte after `/`.
         let span = span_between(self.files.as_slice(), text, b"", b"0");
-        &self.seals[span.from..span.to]
+        let seals = self.seals.as_slice();
+        &seals[span.from..span.to]
     }
 }
 

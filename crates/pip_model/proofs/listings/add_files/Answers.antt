@@ -7,7 +7,7 @@ use Rattle.pip_model.specs.declared.listings.Listing.{Listing}
 use Rattle.pip_model.proofs.Listed.{map_more}
 use Rattle.pip_model.proofs.listings.add_files.Goals as goal
 
-listed : List Listing → ℕ → Atoms → List Listing
+abbrev listed : List Listing → ℕ → Atoms → List Listing
 listed found seal path = found ++ record { path = path; seal = seal } ∷ []
 
 pub files-init : goal.files-init

@@ -1,4 +1,4 @@
-use Rattle.std.proofs.Common.{◌≡◌, ℕ, ◌++◌, ◌∷◌, [], List, ap, subst, ◌∙◌}
+use Rattle.std.proofs.Common.{◌≡◌, ℕ, ◌++◌, ◌∷◌, [], List, length, length-append, ap, arith, subst, ◌∙◌}
 use Rattle.std.specs.List.{Contains}
 use Rattle.std.specs.declared.alloc.Global.{Global}
 use Rattle.std.specs.declared.vec.Vec.{Vec}
@@ -7,6 +7,17 @@ use Rattle.bx_tree_paths.proofs.Numbered.{new_is_last}
 use Rattle.pip_model.specs.Outputs.{Numbered, found_in, number_at, numbers_of}
 use Rattle.pip_model.proofs.PathNumbers.{path_added}
 use Rattle.pip_model.proofs.outputs.ByPath.add_new.Goals as goal
+
+pub invariant_of-self-in-Ok : goal.invariant_of-self-in-Ok
+invariant_of-self-in-Ok c =
+    let old = c.self.inside in
+    let path = c.args.path.now in
+    let numbers = c.in_ok-numbers.numbers in
+    let none = λ (k : Contains old.paths path). c.requires (subst (λ (b : Numbered). Contains b.paths path) c.self.view_is k) in
+    let paths = ap length (c.in-Ok.ensures.added ∙ new_is_last old.paths path none) in
+    let pips = ap length c.in_ok-push.ensures.items in
+    let size : length c.self.inside.pips.items ≡ length c.self.inside.paths = c.self.invariant in
+    omega (arith, paths, pips, size, length-append old.paths (path ∷ []), length-append old.pips.items (numbers ∷ []))
 
 pub returns-in-Ok : goal.returns-in-Ok
 returns-in-Ok c = λ text.
