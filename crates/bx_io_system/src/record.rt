@@ -4,10 +4,12 @@ ghost use Rattle.std.specs.Prelude.{◌≡◌, ℕ, Bool, true, ◌&&◌, List, 
 ghost use Rattle.std.specs.Borrow.{ftrue};
 ghost use Rattle.bx_io.specs.Holdings.{Holdings};
 ghost use Rattle.bx_io.specs.StoreCodes.{holdings_code};
+ghost use Rattle.bx_io_system.specs.Answers.{listed_event};
 ghost use Rattle.bx_io_system.specs.Events.{Event};
 ghost use Rattle.bx_io_system.specs.Telling.{told, tells};
 
 use crate::kind::Kind;
+use bx_io::Listed;
 use std::marker::Model;
 
 /// A record that takes no bytes: what was there at first, what happened, the newest first, and whether each
@@ -41,6 +43,13 @@ impl Record {
         ensures { result ≡ record _before.now {
           events = (_kind.now, _name.now, _bytes.now) ∷ _before.now.events;
         } }
+    {
+        Record {}
+    }
+
+    /// The record with one more listing.
+    pub(crate) fn listed(_before: &Record, _answer: &Listed) -> Record
+        ensures { result ≡ record _before.now { events = listed_event _answer.now ∷ _before.now.events } }
     {
         Record {}
     }
