@@ -41,7 +41,7 @@ module _ {X : Type 0} (path : X → Atoms) (low high : List ℕ) (items : List X
 -- ## What a range has
 
 -- an item for which it holds is in the range
-place_in_span : {X : Type 0} (S : X → Type 0) (xs : List X) (from to : ℕ) (x : X) → IsSpanOf S xs from to → Contains xs x → S x
+pub place_in_span : {X : Type 0} (S : X → Type 0) (xs : List X) (from to : ℕ) (x : X) → IsSpanOf S xs from to → Contains xs x → S x
     → (k : ℕ) × (from ≤ k) × (k < to) × (get_or xs k x ≡ x)
 place_in_span S xs from to x h (k, l, e) is = elim (cases_lt k from) [
   | inl first ↦ absurd (h.before k x (omega arith) first (subst S (sym e) is))
@@ -72,17 +72,16 @@ in_span S xs from to x h c is =
       at_in_range xs from to at.0 x at.1 at.2 h.within ∙ at.3,
     )
 
--- the same range of what is kept beside the items has what is kept beside the item
-pub beside_span : {X Y : Type 0} (f : X → Y) (S : X → Type 0) (xs : List X) (ys : List Y) (from to : ℕ) (x : X) → ys ≡ map f xs → IsSpanOf S xs from to
-    → Contains xs x → S x → Contains (slice_range ys from to) (f x)
-beside_span f S xs ys from to x e h c is =
-    let at = place_in_span S xs from to x h c is in
+-- the same range of what is kept beside the items has what is kept beside the one at a place of the range
+pub beside_place : {X Y : Type 0} (f : X → Y) (xs : List X) (ys : List Y) (from to k : ℕ) (x : X) → ys ≡ map f xs → from ≤ k → k < to
+    → to ≤ length xs → get_or xs k x ≡ x → Contains (slice_range ys from to) (f x)
+beside_place f xs ys from to k x e above below within is =
     let size : length ys ≡ length xs = ap length e ∙ length-map xs f in
-    let within : to ≤ length ys = omega (arith, size, h.within) in (
-      at.0 - from,
-      in_range_size ys from to at.0 at.1 at.2 within,
-      at_in_range ys from to at.0 (f x) at.1 at.2 within ∙ ap (λ zs. get_or zs at.0 (f x)) e
-          ∙ get_or-map f xs at.0 x (f x) (omega (arith, at.2, h.within)) ∙ ap f at.3,
+    let long : to ≤ length ys = omega (arith, size, within) in (
+      k - from,
+      in_range_size ys from to k above below long,
+      at_in_range ys from to k (f x) above below long ∙ ap (λ zs. get_or zs k (f x)) e
+          ∙ get_or-map f xs k x (f x) (omega (arith, below, within)) ∙ ap f is,
     )
 
 -- what is in a range is in the list
@@ -117,12 +116,4 @@ pub under_between : (text rest : List ℕ) (path : Atoms) → path_text path ≡
 under_between text rest path e = (
   ap (λ t. is_lt (slice_cmp nat_cmp t (text ++ 47 ∷ []))) (e ∙ joined text rest) ∙ not_before (text ++ 47 ∷ []) rest,
   ap (λ t. is_lt (slice_cmp nat_cmp t (text ++ 48 ∷ []))) (e ∙ joined text rest) ∙ before_next text rest,
-)
-
--- such a path is also from the text on
-pub near_between : (text rest : List ℕ) (path : Atoms) → path_text path ≡ text ++ 47 ∷ rest → IsBetween (text ++ []) (text ++ 48 ∷ []) path
-near_between text rest path e = (
-  ap (λ t. is_lt (slice_cmp nat_cmp t (text ++ []))) e ∙ ap (λ t. is_lt (slice_cmp nat_cmp (text ++ 47 ∷ rest) t)) (append-nil text)
-      ∙ not_before text (47 ∷ rest),
-  (under_between text rest path e).1,
 )

@@ -1,17 +1,17 @@
 -- The files that seals list are found by their paths.
 use Rattle.std.proofs.Common.{zero, suc, ◌≡◌, ℕ, ◌+◌, ◌<◌, ◌≤◌, List, [], ◌∷◌, ◌++◌, ◌⊎◌, length, drop, get_or, map, take, refl, ap, sym, ◌∙◌, subst, inl, inr, arith, append_assoc, append-nil, add-one}
-use Rattle.std.specs.Prelude.{Any, Contains, IsSomeAnd, slice_get}
+use Rattle.std.specs.Prelude.{Any, Contains, IsSomeAnd, slice_get, slice_range}
 use Rattle.std.proofs.lemmas.List.{drop_all, get_or-map, length-map, take_more}
 use Rattle.std.proofs.lemmas.List.Elements.{Contains-append_left, Contains-append_right}
 use Rattle.std.proofs.Math.Seq.{drop-cons}
 use Rattle.bx_tree.specs.FileInputs.{input_path}
 use Rattle.bx_tree.specs.Paths.{Atoms, path_text}
 use Rattle.bx_tree.specs.declared.file_input.FileInput.{FileInput}
-use Rattle.bx_tree_paths.specs.Spans.{IsBetween}
-use Rattle.bx_tree_paths.proofs.BetweenTexts.{near_between, text_between}
+use Rattle.bx_tree_paths.specs.Spans.{IsBetween, IsSpanOf}
+use Rattle.bx_tree_paths.proofs.BetweenTexts.{beside_place, place_in_span, text_between, under_between}
 use Rattle.pip_model_types.specs.declared.pip.Pip.{Pip}
 use Rattle.pip_model_types.specs.Kinds.{listed_files}
-use Rattle.pip_model.specs.Listings.{IsNear, IsNearText, ListsNear, listing, listings_from}
+use Rattle.pip_model.specs.Listings.{IsNear, IsNearText, ListsNear, listing, listing_seal, listings_from}
 use Rattle.pip_model.specs.declared.listings.Listing.{Listing}
 
 -- ## One by one
@@ -50,12 +50,33 @@ pips_all pips j old l h = sym (append-nil old) ∙ ap (λ ps. old ++ listings_fr
 
 -- ## Near a text
 
--- a path with a text, or below it, is from the text on, and before the text and what follows a `/`
-pub between_near : (text : List ℕ) (path : Atoms) → IsNearText text path → IsBetween (text ++ []) (text ++ 48 ∷ []) path
-between_near text path near = elim near [
-  | inl same ↦ text_between text 48 path same
-  | inr (rest, e) ↦ near_between text rest path e
+-- the path has the text
+abbrev pub IsAtText : List ℕ → Listing → Type 0
+IsAtText text l = IsBetween (text ++ []) (text ++ 0 ∷ []) l.path
+
+-- the path lies below the one with the text
+abbrev pub IsBelowText : List ℕ → Listing → Type 0
+IsBelowText text l = IsBetween (text ++ 47 ∷ []) (text ++ 48 ∷ []) l.path
+
+-- a range has the seals of all files near a text if it has the places of those at it and of those below it
+pub near_seal : (text : List ℕ) (files : List Listing) (seals : List ℕ) (a b c d from to : ℕ) → seals ≡ map listing_seal files
+    → IsSpanOf (IsAtText text) files a b → IsSpanOf (IsBelowText text) files c d → (to ≡ b) ⊎ (to ≡ d)
+    → ((k : ℕ) → a ≤ k → k < b → (from ≤ k) × (k < to)) → ((k : ℕ) → c ≤ k → k < d → (from ≤ k) × (k < to))
+    → (l : Listing) → Contains files l → IsNearText text l.path → Contains (slice_range seals from to) l.seal
+near_seal text files seals a b c d from to beside at below end has_at has_below l k near = elim near [
+  | inl same ↦
+      let p = place_in_span (IsAtText text) files a b l at k (text_between text 0 l.path same) in
+      let in' = has_at p.0 p.1 p.2 in beside_place listing_seal files seals from to p.0 l beside in'.0 in'.1 (ends_within end) p.3
+  | inr (rest, e) ↦
+      let p = place_in_span (IsBelowText text) files c d l below k (under_between text rest l.path e) in
+      let in' = has_below p.0 p.1 p.2 in beside_place listing_seal files seals from to p.0 l beside in'.0 in'.1 (ends_within end) p.3
 ]
+  where
+    ends_within : (to ≡ b) ⊎ (to ≡ d) → to ≤ length files
+    ends_within e = elim e [
+      | inl first ↦ omega (arith, first, at.within)
+      | inr last ↦ omega (arith, last, below.within)
+    ]
 
 among_files : (j : ℕ) (text : List ℕ) (files : List FileInput) → Any (IsNear text) files
     → (l : Listing) × Contains (map (listing j) files) l × IsNearText text l.path × (l.seal ≡ j)

@@ -1,13 +1,13 @@
 //! The files that seals list, in the order of their paths, so that the seals that list a file near a path are found
 //! without going through all seals.
-ghost use Rattle.std.specs.Prelude.{◌≡◌, ◌++◌, ◌≤◌, length, map, IfOk, OnOk};
+ghost use Rattle.std.specs.Prelude.{◌≡◌, ◌++◌, ◌<◌, ◌≤◌, ◌⊎◌, ℕ, length, map, IfOk, OnOk};
 ghost use Rattle.std.specs.List.Sorted.{IsPermutation};
 ghost use Rattle.bx_tree_paths.specs.Searches.{RiseByText};
 ghost use Rattle.pip_model.specs.Listings.{HasListingsOf, HasNear, has_wide as any_wide, is_wide as kind_wide};
 ghost use Rattle.pip_model.specs.Listings.{listing, listing_path, listing_seal, listings_from};
 
 use bx_tree::{FileInput, Path};
-use bx_tree_paths::{HasPath, span_between};
+use bx_tree_paths::{HasPath, Span, span_between};
 use pip_model_types::{Pip, PipKind};
 use std::alloc::{AllocError, Global};
 use std::marker::Model;
@@ -70,6 +70,27 @@ fn seals_of(alloc: Global, files: &[Listing]) -> Result<Vec<u32>, AllocError>
     Ok(seals)
 }
 
+// The least range that has two ranges, of which an empty one counts for nothing.
+fn joined(one: Span, other: Span) -> Span
+    requires one { one.from ≤ one.to }
+    requires other { other.from ≤ other.to }
+    ensures order { result.from ≤ result.to }
+    ensures within { (result.to ≡ one.to) ⊎ (result.to ≡ other.to) }
+    ensures has_one { (k : ℕ) → one.from ≤ k → k < one.to → (result.from ≤ k) × (k < result.to) }
+    ensures has_other { (k : ℕ) → other.from ≤ k → k < other.to → (result.from ≤ k) × (k < result.to) }
+{
+    if one.from == one.to {
+        return other;
+    }
+    if other.from == other.to {
+        return one;
+    }
+    Span {
+        from: one.from.min(other.from),
+        to: one.to.max(other.to),
+    }
+}
+
 impl Listings {
     // These files, sorted.
     fn of(alloc: Global, files: Vec<Listing>) -> Result<Listings, AllocError>
@@ -80,13 +101,16 @@ impl Listings {
         Ok(Listings { files, seals })
     }
 
-    /// The seals of the files at the path with this text and below it, and of those whose names begin alike and go
-    /// on with a byte before `0`. A seal is there once for each of its files.
+    /// The seals of the files at the path with this text or below it. Where some are at it and others below it, the
+    /// seals of files between them in the order of paths are there too. A seal is there once for each of its files.
     pub(crate) fn near(&self, text: &[u8]) -> &[u32]
         ensures { HasNear text.now self.now result.now }
     {
+        let files = self.files.as_slice();
+        let at = span_between(files, text, b"", b"\0");
         // `0` is the byte after `/`.
-        let span = span_between(self.files.as_slice(), text, b"", b"0");
+        let below = span_between(files, text, b"/", b"0");
+        let span = joined(at, below);
         let seals = self.seals.as_slice();
         &seals[span.from..span.to]
     }
