@@ -55,7 +55,7 @@ module _ {X : Type 0} (path : X → Atoms) where
   rise_cons x xs first up text zero (suc j) d low high before =
       let l : j < length xs = omega (arith, high) in
       let at = get_or xs j d in
-      first text at (j, l, get_or_default xs j d at l) before
+      first text at (j, l, sym (get_or_default xs j d at l)) before
   rise_cons x xs first up text (suc i) zero d low high before = absurd (omega (arith, low))
   rise_cons x xs first up text (suc i) (suc j) d low high before = up text i j d (omega (arith, low)) (omega (arith, high)) before
 

@@ -1,6 +1,5 @@
 use Rattle.std.proofs.Common.{ap, inl, inr, not}
 use Rattle.std.proofs.lemmas.Bool.{cases_Bool}
-use Rattle.bx_tree_paths.proofs.Found.{true_from_not}
 use Rattle.graph_check_outputs.proofs.unlisted.is_left_out.Goals as goal
 
 pub returns-then-not-is_below : goal.returns-then-not-is_below
@@ -9,11 +8,11 @@ returns-then-not-is_below c = (λ t. cc, λ h. let t = c.is_below.ensures.below.
 pub returns : goal.returns
 returns c = (
   λ t. (
-    c.is_below.ensures.below.0 (true_from_not c.is_below.result c.if-not-is_below.false),
+    c.is_below.ensures.below.0 c.if-not-is_below.false,
     λ member. let m = c.has_path.ensures.1 member in cc,
   ),
   λ h. elim (cases_Bool c.has_path.result) [
-    | inl yes ↦ absurd (h.1 (c.has_path.ensures.0 yes))
-    | inr no' ↦ ap not no'
+    | inl has ↦ absurd (h.1 (c.has_path.ensures.0 has))
+    | inr lacks ↦ ap not lacks
   ],
 )

@@ -1,6 +1,6 @@
 use Rattle.std.proofs.Common.{ap, inl, inr, not, sym, ◌∙◌}
 use Rattle.std.proofs.lemmas.Bool.{cases_Bool}
-use Rattle.bx_tree_paths.proofs.Found.{found_there, true_from_not}
+use Rattle.bx_tree_paths.proofs.Found.{found_there}
 use Rattle.graph_check_outputs.proofs.unlisted.leaves_root_out.Goals as goal
 
 pub returns-then-not-is_some : goal.returns-then-not-is_some
@@ -12,11 +12,11 @@ pub returns : goal.returns
 returns c =
     let found = found_there c.args.files.now c.args.seal.now.root c.place_of.result c.place_of.ensures in (
       λ t. (
-        found.0 (sym c.is_some.ensures ∙ true_from_not c.is_some.result c.if-not-is_some.false),
+        found.0 (sym c.is_some.ensures ∙ c.if-not-is_some.false),
         λ member. let m = c.has_path.ensures.1 member in cc,
       ),
       λ h. elim (cases_Bool c.has_path.result) [
-        | inl yes ↦ absurd (h.1 (c.has_path.ensures.0 yes))
-        | inr no' ↦ ap not no'
+        | inl has ↦ absurd (h.1 (c.has_path.ensures.0 has))
+        | inr lacks ↦ ap not lacks
       ],
     )
