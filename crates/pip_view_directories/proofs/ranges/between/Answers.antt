@@ -6,8 +6,8 @@ use Rattle.pip_model_types.specs.declared.dir_inputs.DirInput.{DirInput}
 use Rattle.pip_view_directories.proofs.Between.{dirs_rise}
 use Rattle.pip_view_directories.proofs.ranges.between.Goals as goal
 
-pub span_between-requires : goal.span_between-requires
-span_between-requires c = dirs_rise c.args.dirs.now c.requires
+pub span_between-span-requires : goal.span_between-span-requires
+span_between-span-requires c = dirs_rise c.args.dirs.now c.requires
 
 pub returns-clause-only : goal.returns-clause-only
 returns-clause-only c = λ dir k.
