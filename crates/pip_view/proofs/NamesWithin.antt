@@ -1,6 +1,7 @@
 -- What is asked of the items of a list that lie below a directory.
-use Rattle.std.proofs.Common.{◌≡◌, ℕ, ◌+◌, ◌<◌, ◌≤◌, Bool, true, false, not, ◌==◌, ◌||◌, cond, List, [], ◌∷◌, ◌++◌, length, filter, get_or, take, Option, Some, None, refl, ap, sym, ◌∙◌, append_assoc, append-nil}
+use Rattle.std.proofs.Common.{◌≡◌, ℕ, ◌+◌, ◌<◌, ◌≤◌, Bool, true, false, not, ◌==◌, ◌||◌, cond, List, [], ◌∷◌, ◌++◌, length, filter, get_or, take, refl, ap, sym, ◌∙◌, append_assoc, append-nil}
 use Rattle.std.specs.List.{cons_option, filter_map, list_any}
+use Rattle.std.proofs.Math.Dec.{eqb-suc-zero}
 use Rattle.std.proofs.lemmas.List.{take_all, take_more}
 use Rattle.bx_tree.specs.Below.{is_below, next_atom}
 use Rattle.bx_tree.specs.Paths.{Atoms}
@@ -38,7 +39,7 @@ module _ {X : Type 0} (path : X → Atoms) where
     where
       counted : (ys : List X) → not (length ys == 0) ≡ is_some_list ys
       counted [] = refl
-      counted (y ∷ ys) = refl
+      counted (y ∷ ys) = ap not (eqb-suc-zero (length ys))
 
   -- ## Names
 
@@ -65,7 +66,7 @@ module _ {X : Type 0} (path : X → Atoms) where
 
   pub within_all : (top dir : Atoms) (xs : List X) (i : ℕ) (start names : List (List ℕ)) → length xs ≤ i
       → names ≡ start ++ names_within path top dir (take i xs) → names ≡ start ++ names_within path top dir xs
-  within_all top dir xs i start names l so_far = so_far ∙ ap (λ ys. start ++ names_within path top dir ys) (take_all xs i l)
+  within_all top dir xs i start names l so_far = so_far ∙ ap (λ ys. start ++ names_within path top dir ys) (take_all i xs l)
 
   -- an item that lies below
   pub name_within : (top dir : Atoms) (x : X) → is_below (path x) dir ≡ true → names_within path top dir (x ∷ []) ≡ cons_option (next_atom top (path x)) []

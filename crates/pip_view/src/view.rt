@@ -332,7 +332,10 @@ impl<'a> PipView<'a> {
     fn is_directory(&self, path: &Path, below: bool) -> bool
         ensures { result ≡ (below || is_root path.now || file_below self.now.tree path.now) }
     {
-        below || path.is_root() || !self.sources.paths_below(path).is_empty()
+        if below || path.is_root() {
+            return true;
+        }
+        !self.sources.paths_below(path).is_empty()
     }
 
     // What is answered of a path at which neither an input file nor a source file is.
