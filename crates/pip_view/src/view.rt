@@ -1,11 +1,10 @@
 //! What a pip sees.
-ghost use Rattle.std.specs.Prelude.{◌≡◌, ◌<◌, ◌||◌, IfOk, IfSome, OnOk, false, if◌then◌else◌, length};
-ghost use Rattle.std.specs.Prelude.{slice_get, true};
+ghost use Rattle.std.specs.Prelude.{◌≡◌, ◌≢◌, ◌<◌, ◌||◌, IfOk, IfSome, OnOk, if◌then◌else◌, length, slice_get};
 ghost use Rattle.std.specs.List.{filter_map, list_any};
 ghost use Rattle.bx_tree.specs.Below.{is_directly_in, next_atom};
 ghost use Rattle.std.specs.Option.{option_copied};
 ghost use Rattle.bx_tree.specs.Paths.{is_root};
-ghost use Rattle.bx_tree.specs.Trees.{file_at};
+ghost use Rattle.bx_tree.specs.Trees.{file_at, paths_of};
 ghost use Rattle.tool_run_writes.specs.Writes.{has_below as file_below, own_names};
 ghost use Rattle.pip_view_inputs.specs.Plain.{process_in};
 ghost use Rattle.pip_view_directories.specs.Near.{AreTaken};
@@ -14,7 +13,6 @@ ghost use Rattle.tool_run.specs.Listings.{add_names as with_names};
 ghost use Rattle.tool_run.specs.NameSets.{names_now};
 ghost use Rattle.violations.specs.Producing.{dirs_at as dirs_of_pip};
 ghost use Rattle.pip_view.specs.InputFiles as files;
-ghost use Rattle.bx_tree.specs.Ranges.{AreFilePaths};
 ghost use Rattle.pip_view.specs.Sees as seen;
 ghost use Rattle.observed.specs.Asks.{is_listing};
 ghost use Rattle.pip_view.specs.Seen.{SearchedAt, answer_elsewhere, answer_unnamed, is_sealed_at, is_unseen_at};
@@ -22,8 +20,8 @@ ghost use Rattle.pip_view.specs.Seen.{named_in, names_in, opaque_in, taken_in, v
 ghost use Rattle.pip_view.specs.Sees.{sees};
 
 use crate::Names;
-use crate::below::has_below;
-use crate::listing::{asked_lines, names_below};
+use crate::below::add_each;
+use crate::listing::asked_lines;
 use crate::members::{add_members, find_member, has_member, opaque_by_pip, opaque_searched};
 use crate::taken::{add_taken, has_taken, taken_blob};
 use bx_digest::Blob;
@@ -151,13 +149,18 @@ fn directory_if(there: bool) -> Answer
     }
 }
 
-// Adds the names of those of the paths that lie below a directory.
-fn add_below(alloc: Global, names: &mut Names, paths: &[Path], dir: &Path) -> Result<(), Memory>
-    requires { AreFilePaths paths.now }
+// Adds the names of the source files that lie below a directory.
+fn add_sources(
+    alloc: Global,
+    names: &mut Names,
+    sources: &Sources,
+    dir: &Path,
+) -> Result<(), Memory>
     ensures { OnOk result (names_now names.new.keys
-        ≡ with_names (names_now names.old.keys) (filter_map (next_atom dir.now) paths.now)) }
+        ≡ with_names (names_now names.old.keys) (filter_map (next_atom dir.now) (paths_of sources.now))) }
 {
-    let below = names_below(alloc, paths, dir)?;
+    let mut below = Vec::new(alloc);
+    add_each(&mut below, sources.paths_below(dir), dir, dir)?;
     add_names(alloc, names, below.as_slice())
 }
 
@@ -264,7 +267,7 @@ impl<'a> PipView<'a> {
     {
         let near = self.near(alloc, path)?;
         let opaque = opaque_searched(alloc, &near, self.opaque.as_slice())?;
-        has_member(alloc, self.inputs, opaque.as_slice(), path)
+        Ok(has_member(self.inputs, opaque.as_slice(), path))
     }
 
     // Whether a named input file lies below a path.
@@ -321,7 +324,7 @@ impl<'a> PipView<'a> {
         ensures there { IfOk result (λ names. self.now.pip < length self.now.pips) }
     {
         let mut names = BTreeSet::new(alloc);
-        add_below(alloc, &mut names, self.sources.paths(), dir)?;
+        add_sources(alloc, &mut names, self.sources, dir)?;
         self.add_taken(alloc, &mut names, dir)?;
         self.add_members(alloc, &mut names, dir)?;
         Ok(names)
@@ -338,14 +341,13 @@ impl<'a> PipView<'a> {
     }
 
     // Whether a path is the root, or a file lies below it, where `below` says whether an input file does.
-    fn is_directory(&self, alloc: Global, path: &Path, below: bool) -> Result<bool, Memory>
-        ensures { IfOk result (λ yes. yes
-            ≡ (below || is_root path.now || file_below self.now.tree path.now)) }
+    fn is_directory(&self, path: &Path, below: bool) -> bool
+        ensures { result ≡ (below || is_root path.now || file_below self.now.tree path.now) }
     {
         if below || path.is_root() {
-            return Ok(true);
+            return true;
         }
-        has_below(alloc, self.sources.paths(), path)
+        !self.sources.paths_below(path).is_empty()
     }
 
     // What is answered of a path at which neither an input file nor a source file is.
@@ -357,7 +359,7 @@ impl<'a> PipView<'a> {
             return Ok(Answer::Denied);
         }
         let below = self.has_named(alloc, path)?;
-        Ok(directory_if(self.is_directory(alloc, path, below)?))
+        Ok(directory_if(self.is_directory(path, below)))
     }
 
     // What is answered of a source file at which no named input file is.
