@@ -1,5 +1,6 @@
 //! What a pip sees.
-ghost use Rattle.std.specs.Prelude.{◌≡◌, ◌≢◌, ◌<◌, ◌||◌, IfOk, IfSome, OnOk, if◌then◌else◌, length, slice_get};
+ghost use Rattle.std.specs.Prelude.{◌≡◌, ◌≢◌, ◌<◌, ◌||◌, IfOk, IfSome, OnOk, false, if◌then◌else◌, length};
+ghost use Rattle.std.specs.Prelude.{slice_get, true};
 ghost use Rattle.std.specs.List.{filter_map, list_any};
 ghost use Rattle.bx_tree.specs.Below.{is_directly_in, next_atom};
 ghost use Rattle.std.specs.Option.{option_copied};
