@@ -1,7 +1,7 @@
 -- The parts that are left, and those so far.
 use Rattle.std.proofs.Common.{◌≡◌, ◌+◌, length}
 use Rattle.std.specs.Prelude.{All}
-use Rattle.tests_sched_board.proofs.boards.parts_of.Given as goal
+use Rattle.tests_with_board.proofs.boards.parts_of.Given as goal
 
 abbrev pub invariant-parts : goal.invariant-parts
 invariant-parts g l = record {

@@ -1,12 +1,12 @@
 //! A process that looks at two paths, and records of its runs.
-use crate::plans::blob;
+use bx_digest::Blob;
 use observed::{Answer, PathSet};
 use pip_model::{Desc, ProcessDesc};
 use pip_view_inputs::no_files;
 use prints::read_weak;
 use run_record::{Record, replay};
 use std::alloc::Global;
-use std::test::Fail;
+use std::process::Abort;
 
 // It fails by what it finds second.
 const TOOL: &str = "tool 1\n\
@@ -46,51 +46,48 @@ budget 8\n\
 no-console\n\
 out out/a\n";
 
-pub(crate) fn process(alloc: Global) -> Result<ProcessDesc, Fail> {
-    let parts = read_weak(alloc, WEAK.as_bytes())?;
-    Ok(parts.process)
+// What is there, or else the test ends.
+pub(crate) fn must<T, E: Drop>(rt: &impl Abort, answer: Result<T, E>) -> T {
+    match answer {
+        Ok(value) => value,
+        Err(_) => rt.abort(),
+    }
+}
+
+pub(crate) fn process(rt: &impl Abort, alloc: Global) -> ProcessDesc {
+    must(rt, read_weak(alloc, WEAK.as_bytes())).process
 }
 
 // The process of a weak text, with that tool.
-fn desc(alloc: Global, weak: &str) -> Result<Desc, Fail> {
-    let exe = blob(alloc, TOOL)?;
-    let files = no_files(alloc)?;
-    let parts = read_weak(alloc, weak.as_bytes())?;
-    Ok(Desc {
+fn desc(rt: &impl Abort, alloc: Global, weak: &str) -> Desc {
+    let tool = must(rt, TOOL.as_bytes().to_vec(alloc));
+    let exe = must(rt, Blob::new(alloc, tool));
+    let files = must(rt, no_files(alloc));
+    let parts = must(rt, read_weak(alloc, weak.as_bytes()));
+    Desc {
         process: parts.process,
         exe,
         files,
         budget: parts.budget,
-    })
+    }
 }
 
 // That nothing is at the first path, and this at the second.
-fn answers(alloc: Global, second: &Answer) -> Result<Vec<Answer>, Fail> {
+fn answers(rt: &impl Abort, alloc: Global, second: &Answer) -> Vec<Answer> {
     let mut answers = Vec::new(alloc);
-    answers.push(Answer::Absent)?;
-    answers.push(second.share()?)?;
-    Ok(answers)
-}
-
-// The record of the run of a process on these answers.
-fn replayed(
-    alloc: Global,
-    desc: Desc,
-    paths: &PathSet,
-    answers: Vec<Answer>,
-) -> Result<Record, Fail> {
-    if answers.len() != paths.asks().len() {
-        return Err(Fail::from("not an answer for each ask"));
-    }
-    match replay(alloc, desc, paths, answers)? {
-        Some(record) => Ok(record),
-        None => Err(Fail::from("no such run")),
-    }
+    must(rt, answers.push(Answer::Absent));
+    must(rt, answers.push(must(rt, second.share())));
+    answers
 }
 
 // The record of the run of the process of a weak text that finds this at the second path.
-pub(crate) fn record(alloc: Global, weak: &str, second: &Answer) -> Result<Record, Fail> {
-    let paths = PathSet::read(alloc, ASKED.as_bytes())?;
-    let answers = answers(alloc, second)?;
-    replayed(alloc, desc(alloc, weak)?, &paths, answers)
+pub(crate) fn record(rt: &impl Abort, alloc: Global, weak: &str, second: &Answer) -> Record {
+    let paths = must(rt, PathSet::read(alloc, ASKED.as_bytes()));
+    let answers = answers(rt, alloc, second);
+    assert!(rt; answers.len() == paths.asks().len());
+    let desc = desc(rt, alloc, weak);
+    match replay(alloc, desc, &paths, answers) {
+        Ok(Some(record)) => record,
+        Ok(None) | Err(_) => rt.abort(),
+    }
 }
