@@ -3,7 +3,7 @@ use Rattle.std.proofs.Common.{◌≡◌, ℕ, zero, suc, List, [], ◌∷◌, �
 use Rattle.sha2.specs.Sha256.{sha256}
 use Rattle.bx_tree.specs.Trees.{Files}
 use Rattle.bx_io.specs.Holdings.{Change, IsPrefix, Put, StoreTold}
-use Rattle.observed.specs.Texts.{paths_text}
+use Rattle.observed.specs.Texts.{has_match, paths_text}
 use Rattle.pip_model_types.specs.declared.desc.Desc.{Desc}
 use Rattle.prints.specs.declared.weak_parts.WeakParts.{WeakParts}
 use Rattle.prints.specs.Strong.{strong_parts, strong_text}
@@ -37,7 +37,7 @@ module _ (r : Facts) (d : Desc) (work : IsSameWork r.desc d) where
   weak_is = one_weak r.desc d work
 
   answers_are : answers_text r ≡ answers_text f
-  answers_are = ap (λ (w : List ℕ). strong_text (strong_parts w (paths_digest r) r.answers)) weak_is
+  answers_are = ap (λ (w : List ℕ). strong_text (strong_parts (has_match r.paths) w (paths_digest r) r.answers)) weak_is
 
   contents_are : desc_contents r.desc ≡ desc_contents d
   contents_are =
