@@ -1,7 +1,8 @@
 -- How one pip is decided, by what the calls of a decision answer.
 use Rattle.std.proofs.Common.{◌≡◌, ℕ, true, false, ◌&&◌, List, map, Option, Some, None, refl, ap, sym, ◌∙◌, subst, inl, inr}
-use Rattle.std.specs.Prelude.{IfSome, IsSome, IsSomeAnd, is_some}
+use Rattle.std.specs.Prelude.{◌↔◌, IfSome, IsSome, IsSomeAnd, MatchOption, is_some}
 use Rattle.std.proofs.lemmas.Bool.{and_parts, cases_Bool}
+use Rattle.std.proofs.lemmas.Option.{same_Some}
 use Rattle.bx_tree.specs.Trees.{Files}
 use Rattle.pip_model_types.specs.declared.desc.Desc.{Desc}
 use Rattle.pip_model_types.specs.declared.made.Slot.{Slot}
@@ -11,8 +12,11 @@ use Rattle.pip_model_types.specs.declared.pip.PipKind.TheVariants.{Process}
 use Rattle.pip_model_types.specs.declared.pip.ProcessDesc.{ProcessDesc}
 use Rattle.observed.specs.declared.ask.Ask.{Ask}
 use Rattle.observed.specs.declared.access.Answer.{Answer}
-use Rattle.run_record.specs.Facts.{Facts}
+use Rattle.run_record.specs.Facts.{Facts, Sound}
+use Rattle.run_record.specs.Holding.{HoldsNow}
 use Rattle.prints.specs.declared.printed.Printed.{Printed}
+use Rattle.two_phase.specs.Lookups.{LookupGives, LookupHitIsCurrent}
+use Rattle.two_phase.specs.declared.lookups.LookupResult.TheVariants as results
 use Rattle.two_phase.specs.Reading.{ReaderData}
 use Rattle.sched_board_slots.specs.declared.held.Held.{Held}
 use Rattle.sched_board_slots.specs.declared.held.Held.TheVariants as held
@@ -28,6 +32,7 @@ use Rattle.one_thread.specs.Starting.{needs_run}
 use Rattle.one_thread.specs.Views.{ended_in, ended_result, slots_are_good}
 use Rattle.one_thread.proofs.OnePip.{not_skipped, skipped}
 use Rattle.retire.specs.Accepting.{IsAccepted}
+use Rattle.retire.specs.Saving.{IsWeakOf}
 use Rattle.retire.specs.declared.taking.Sought.TheVariants as sought
 use Rattle.retire.specs.Deciding as deciding
 use Rattle.retire.specs.Deciding.{DecidedBy, DecidesAt}
@@ -78,7 +83,63 @@ now_in None tree inputs budget d see view slot t same seen h = tt
 now_in (Some p) tree inputs budget d see view slot t same seen h =
     subst (λ (x : Desc). IsOfNow x see slot t) same (subst (λ (v : Ask → Answer). IsOfNow d v slot t) seen h)
 
+pub hit_sought : (r : ReaderData) (d : Desc) (see : Ask → Answer) (f : FoundParts) → LookupGives r.held d see (results.Hit f) → LookupHitIsCurrent d see (results.Hit f)
+    → SeeksBy (Some r) d see (sought.Hit f)
+hit_sought r d see f gives now = (refl, now.1, λ q e S h. (gives S (ap (λ (x : ReaderData). x.held) (same_Some r q e) ∙ h), now.0))
+
+pub miss_sought : (r : ReaderData) (d : Desc) (see : Ask → Answer) (weak : Printed) → LookupGives r.held d see results.Miss → IsWeakOf d weak
+    → SeeksBy (Some r) d see (sought.Miss weak)
+miss_sought r d see weak gives is = (refl, is, λ q e S h. gives S (ap (λ (x : ReaderData). x.held) (same_Some r q e) ∙ h))
+
+pub fault_sought : (r : ReaderData) (d : Desc) (see : Ask → Answer) (weak : Printed) → IsWeakOf d weak → SeeksBy (Some r) d see (sought.Fault weak)
+fault_sought r d see weak is = (refl, is)
+
+-- the weak text that came with a record
+pub weak_there : (d : Desc) (o : Option Printed) (weak : Printed) → o ≡ Some weak → IfSome o (IsWeakOf d) → IsWeakOf d weak
+weak_there d o weak is h = subst (λ (x : Option Printed). IfSome x (IsWeakOf d)) is h
+
 -- ## Slots
+
+-- what is no run is not accepted
+not_run : (d : Desc) (see : Ask → Answer) (slot : Held) → ((f : Facts) → slot ≡ held.Ran f → ⊥) → IsAccepted d see slot → ⊥
+not_run d see held.Empty other yes = yes
+not_run d see (held.Ran f) other yes = other f refl
+not_run d see (held.Hit f) other yes = yes
+not_run d see (held.Plain made) other yes = yes
+not_run d see held.Skipped other yes = yes
+
+pub not_run_in : (o : Option ProcessDesc) (tree : Files) (inputs : ByPip) (budget : ℕ) (see : Ask → Answer) (slot : Held) → ((f : Facts) → slot ≡ held.Ran f → ⊥)
+    → IfSome o (λ p. IsAccepted (desc_of tree inputs budget p) see slot → ⊥)
+not_run_in None tree inputs budget see slot other = tt
+not_run_in (Some p) tree inputs budget see slot other = not_run (desc_of tree inputs budget p) see slot other
+
+-- nor is a run that does not hold
+pub fails_in : (o : Option ProcessDesc) (tree : Files) (inputs : ByPip) (budget : ℕ) (see : Ask → Answer) (slot : Held) (f : Facts) → slot ≡ held.Ran f
+    → IfSome o (λ p. false ≡ true ↔ HoldsNow (desc_of tree inputs budget p) see f) → IfSome o (λ p. IsAccepted (desc_of tree inputs budget p) see slot → ⊥)
+fails_in None tree inputs budget see slot f is h = tt
+fails_in (Some p) tree inputs budget see slot f is h = λ yes.
+    let never : false ≡ true = h.1 (subst (λ (s : Held). IsAccepted (desc_of tree inputs budget p) see s) is yes) in
+    cc
+
+pub holds_in : (o : Option ProcessDesc) (tree : Files) (inputs : ByPip) (budget : ℕ) (see : Ask → Answer) (slot : Held) (f : Facts) → slot ≡ held.Ran f → Sound f
+    → IfSome o (λ p. true ≡ true ↔ HoldsNow (desc_of tree inputs budget p) see f)
+    → IfSome o (λ p. (slot ≡ held.Ran f) × Sound f × HoldsNow (desc_of tree inputs budget p) see f)
+holds_in None tree inputs budget see slot f is sound h = tt
+holds_in (Some p) tree inputs budget see slot f is sound h = (is, sound, h.0 refl)
+
+-- what is found of a slot
+abbrev pub IsFoundIn : Desc → (Ask → Answer) → Held → Option Facts → Type 0
+IsFoundIn d see slot found = MatchOption found (IsAccepted d see slot → ⊥) (λ (f : Facts). (slot ≡ held.Ran f) × Sound f × HoldsNow d see f)
+
+pub found_run : (o : Option ProcessDesc) (tree : Files) (inputs : ByPip) (budget : ℕ) (see : Ask → Answer) (slot : Held) (found : Option Facts) (f : Facts) → found ≡ Some f
+    → IfSome o (λ p. IsFoundIn (desc_of tree inputs budget p) see slot found) → IfSome o (λ p. IsOfNow (desc_of tree inputs budget p) see slot (takings.Accepted f))
+found_run o tree inputs budget see slot found f is h =
+    subst (λ (x : Option Facts). IfSome o (λ p. IsFoundIn (desc_of tree inputs budget p) see slot x)) is h
+
+pub found_none : (o : Option ProcessDesc) (tree : Files) (inputs : ByPip) (budget : ℕ) (see : Ask → Answer) (slot : Held) (found : Option Facts) → found ≡ None
+    → IfSome o (λ p. IsFoundIn (desc_of tree inputs budget p) see slot found) → IfSome o (λ p. IsAccepted (desc_of tree inputs budget p) see slot → ⊥)
+found_none o tree inputs budget see slot found is h =
+    subst (λ (x : Option Facts). IfSome o (λ p. IsFoundIn (desc_of tree inputs budget p) see slot x)) is h
 
 -- what is taken where the slot is empty is taken where its run is not accepted
 else_now : (d : Desc) (see : Ask → Answer) (slot : Held) (t : Taken) → (IsAccepted d see slot → ⊥) → IsOfNow d see held.Empty t → IsOfNow d see slot t

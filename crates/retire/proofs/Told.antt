@@ -1,5 +1,5 @@
 -- What a reader tells, if there is one.
-use Rattle.std.proofs.Common.{◌≡◌, ◌⊎◌, ℕ, true, false, List, Option, Some, None, refl, ap, ◌∙◌, subst, inl, inr}
+use Rattle.std.proofs.Common.{◌≡◌, ◌⊎◌, ℕ, true, false, List, Option, Some, None, refl, ap, sym, ◌∙◌, subst, inl, inr}
 use Rattle.std.specs.Prelude.{IsNone, IsSome, IfSome, is_some, option_map}
 use Rattle.std.proofs.lemmas.Option.{same_Some}
 use Rattle.bx_tree.specs.Trees.{Files}
@@ -8,7 +8,7 @@ use Rattle.pip_model_types.specs.declared.desc.Desc.{Desc}
 use Rattle.pip_model_types.specs.declared.pip.Pip.{Pip}
 use Rattle.observed.specs.declared.ask.Ask.{Ask}
 use Rattle.observed.specs.declared.access.Answer.{Answer}
-use Rattle.two_phase.specs.Reading.{ReaderData, ReadsIfAny}
+use Rattle.two_phase.specs.Reading.{ReaderData, ReadsIfAny, ReadsOn}
 use Rattle.retire.specs.Builds.{IsFair}
 use Rattle.retire.specs.Taking.{TakesBy, TakesFrom}
 use Rattle.retire.specs.declared.taking.Taken.{Taken}
@@ -109,3 +109,8 @@ told_there (Some r) S told = refl
 pub none_given : (reader : Option ReaderData) (P : ReaderData → Type 0) → reader ≡ None → IfSome reader P
 none_given None P e = tt
 none_given (Some r) P e = let never : Some r ≡ None = e in absurd cc
+
+-- a reader that is there was read
+pub read_on : {R : Type 0} (f : R → ReaderData) (o : Option R) (r : R) (after : ReaderData) (n : ℕ) → o ≡ Some r → ReadsOn (f r) after n
+    → ReadsIfAny (option_map f o) (Some after) n
+read_on f o r after n is h = subst (λ x. ReadsIfAny (option_map f x) (Some after) n) (sym is) h

@@ -83,11 +83,11 @@ fn accepted<G: Gate>(
         return Ok(None);
     };
     let _sound = ran.desc();
-    if holds_now(frame.alloc, frame.plan, frame.sources, pip, inputs, &ran)? {
-        Ok(Some(ran))
-    } else {
-        Ok(None)
+    let holds = holds_now(frame.alloc, frame.plan, frame.sources, pip, inputs, &ran)?;
+    if holds {
+        return Ok(Some(ran));
     }
+    Ok(None)
 }
 
 // What a reader has for a process, if there is one.
