@@ -1,12 +1,13 @@
 -- What workers count together.
 use Rattle.std.proofs.Common.{◌≡◌, ℕ, zero, suc, ◌+◌, ◌*◌, ◌-◌, ◌^◌, ◌<◌, ◌≤◌, min, Bool, true, false, cond, List, [], ◌∷◌, length, Option, Some, None, refl, ap, sym, ◌∙◌, subst, arith}
-use Rattle.std.specs.Prelude.{IfSome, IsSome, is_some, count_by}
+use Rattle.std.specs.Prelude.{IfSome, IsSome, is_some, count_by, option_map}
 use Rattle.std.specs.List.{All, sum_by}
 use Rattle.std.proofs.lemmas.List.Sums.{sum_by-cons}
 use Rattle.bx_io.specs.Causes.{IsWithin}
 use Rattle.two_phase.specs.Reading.{ReaderData, ReadsIfAny, ReadsOn}
 use Rattle.worker.specs.Ended.{has_ended}
-use Rattle.worker.specs.Workers.{GoesOn, WorkerData}
+use Rattle.sched_board.specs.Board.{ShareData}
+use Rattle.worker.specs.Workers.{GoesOn, WorkerData, new_worker}
 use Rattle.worker.specs.declared.tally.Tally.{Tally}
 use Rattle.bx_engine.specs.Crews.{AreThrough, IsFresh, IsThrough}
 
@@ -47,6 +48,20 @@ through cached bound before now fresh goes ended =
           let most = goes.faults in
           omega (arith, none, most, zero);
     }
+
+-- a new worker
+pub fresh : {R : Type 0} (f : R → ReaderData) (cached : Bool) (bound : Option ℕ) (w : WorkerData) (reader : Option R) (share : ShareData)
+    → w ≡ new_worker (option_map f reader) share → is_some reader ≡ cached → IfSome reader (λ r. ((f r).bound ≡ bound) × ((f r).faults ≡ 0)) → IsFresh cached bound w
+fresh f cached bound w None share is some h = record {
+  tally_is = ap (λ (x : WorkerData). x.tally) is;
+  reads = ap (λ (x : WorkerData). is_some x.reader) is ∙ some;
+  reader = subst (λ (x : WorkerData). IfSome x.reader (λ r. (r.bound ≡ bound) × (r.faults ≡ 0))) (sym is) tt;
+}
+fresh f cached bound w (Some r) share is some h = record {
+  tally_is = ap (λ (x : WorkerData). x.tally) is;
+  reads = ap (λ (x : WorkerData). is_some x.reader) is ∙ some;
+  reader = subst (λ (x : WorkerData). IfSome x.reader (λ q. (q.bound ≡ bound) × (q.faults ≡ 0))) (sym is) h;
+}
 
 -- ## All workers
 

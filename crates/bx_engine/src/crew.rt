@@ -1,13 +1,14 @@
 //! The workers of a build: they are made, work on one board in threads of their own, and leave what they came to.
 
-ghost use Rattle.std.specs.Prelude.{◌≡◌, ◌<◌, ◌≤◌, ◌↔◌, ◌-◌, ◌^◌, ℕ, All, Bool, IfOk, IfSome, Option, count_by, is_some, length, min};
-ghost use Rattle.std.specs.Prelude.{replicate, true};
+ghost use Rattle.std.specs.Prelude.{◌≡◌, ◌<◌, ◌≤◌, ◌↔◌, ◌-◌, ◌^◌, ℕ, All, Bool, IfOk, IfSome, Option, count_by, if◌then◌else◌};
+ghost use Rattle.std.specs.Prelude.{is_some, length, min, replicate, true};
 ghost use Rattle.std.specs.Arc.{arc_value};
 ghost use Rattle.std.specs.List.{sum_by};
 ghost use Rattle.std.specs.Vec.{vec_len};
 ghost use Rattle.sched_board.specs.Board.{IsFree};
 ghost use Rattle.sched_board_slots.specs.declared.held.Held.TheVariants as held;
-ghost use Rattle.worker.specs.Workers.{WorkerData};
+ghost use Rattle.worker.specs.Ended.{has_ended};
+ghost use Rattle.worker.specs.Workers.{GoesOn, WorkerData};
 ghost use Rattle.bx_engine.specs.Crews.{AreThrough, IsFresh, IsThrough};
 
 use bx_io::{Gate, KeepReader, Keeper};
@@ -51,9 +52,9 @@ fn parts_of<L: Ledger>(
     ensures parts { IfOk result (λ parts. All (λ s. (s.parts ≡ 1) × (s.amount ≡ 0)) parts.items) }
 {
     let mut whole = whole;
-    let mut parts = Vec::with_capacity(alloc, workers as usize)?;
-    'workers: for _ in 0..workers {
-        parts.push_reserved(whole.split_off(1, 0));
+    let mut parts = Vec::new(alloc);
+    'parts: for _ in 0..workers {
+        parts.push(whole.split_off(1, 0))?;
     }
     Ok(parts)
 }
@@ -110,10 +111,10 @@ fn crew_of<L: Ledger, E: Ledger, K: Keeper>(
     ensures number { IfOk result (λ crew. vec_len crew ≡ vec_len shares) }
     ensures fresh { IfOk result (λ crew. All (IsFresh cached (K.bound keeper.now)) crew.items) }
 {
-    let mut crew = Vec::with_capacity(alloc, shares.len())?;
+    let mut crew = Vec::new(alloc);
     'shares: for share in shares {
         let reader = reader_if(alloc, keeper, cached)?;
-        crew.push_reserved(Worker::new(alloc, reader, share));
+        crew.push(Worker::new(alloc, reader, share))?;
     }
     Ok(crew)
 }
@@ -145,8 +146,18 @@ fn work_all<
         rt,
         crew,
         threads,
-        &|_, worker| { worker.work(rt, alloc, plan, sources, board, &bell, gate) },
+        &|_, worker: &mut Worker<R, L, E>|
+            ensures { (has_ended worker.new ≡ true) × GoesOn worker.old worker.new }
+        { worker.work(rt, alloc, plan, sources, board, &bell, gate) },
     );
+}
+
+// One for a worker that starved.
+fn one_if(starved: bool) -> u64
+    ensures value { result ≡ (if starved then 1 else 0) }
+    ensures few { result ≤ 1 }
+{
+    if starved { 1 } else { 0 }
 }
 
 // What workers counted together.
@@ -161,9 +172,7 @@ fn worked_by<R: KeepReader, L: Ledger, E: Ledger>(crew: &[Worker<R, L, E>]) -> W
     'crew: for worker in crew {
         let tally = worker.tally();
         faults = faults.saturating_add(tally.faults);
-        if tally.starved {
-            starved += 1;
-        }
+        starved += one_if(tally.starved);
     }
     Worked { faults, starved }
 }
@@ -175,11 +184,18 @@ fn shares_of<R: KeepReader, L: Ledger, E: Ledger>(
 ) -> Result<Vec<Share<L, E>>, Memory>
     ensures { IfOk result (λ shares. vec_len shares ≡ vec_len crew) }
 {
-    let mut shares = Vec::with_capacity(alloc, crew.len())?;
+    let mut shares = Vec::new(alloc);
     'crew: for worker in crew {
-        shares.push_reserved(worker.share());
+        shares.push(worker.share())?;
     }
     Ok(shares)
+}
+
+// Whether a worker is one of the board's own, and holds no pip.
+fn is_free<L: Ledger, E: Ledger>(board: &Board<L, E>, share: &Share<L, E>) -> bool
+    ensures { result ≡ true ↔ IsFree board.now share.now }
+{
+    board.fits(share, None).is_ok()
 }
 
 // Whether no worker holds a pip of the board, and each is one of its own.
@@ -187,7 +203,7 @@ fn all_fit<L: Ledger, E: Ledger>(board: &Board<L, E>, shares: &[Share<L, E>]) ->
     ensures { result ≡ true ↔ All (IsFree board.now) shares.now }
 {
     'shares: for share in shares {
-        if board.fits(share, None).is_err() {
+        if !is_free(board, share) {
             return false;
         }
     }
@@ -214,7 +230,8 @@ fn finish_if_fit<L: Ledger, E: Ledger>(
         return Finished::empty(alloc, pips);
     }
     let finished = board.finish(shares);
-    if finished.slots.len() != pips {
+    let number = finished.slots.len();
+    if number != pips {
         return Finished::empty(alloc, pips);
     }
     Ok(finished)
