@@ -1,8 +1,9 @@
 -- When a record is of the run of a process now, byte by byte.
-use Rattle.std.specs.Prelude.{◌≡◌, map}
+use Rattle.std.specs.Prelude.{◌≡◌, ℕ, map}
 use Rattle.pip_model_types.specs.declared.desc.Desc.{Desc}
 use Rattle.observed.specs.declared.ask.Ask.{Ask}
 use Rattle.observed.specs.declared.access.Answer.{Answer}
+use Rattle.observed.specs.declared.access.Answer.TheVariants as answers
 use Rattle.prints.specs.Processes.{with_sources}
 use Rattle.run_record.specs.Facts.{Facts}
 
@@ -23,3 +24,12 @@ pub record HoldsNow (d : Desc) (see : Ask → Answer) (f : Facts) : Type 0 where
 -- the record with this description in place of its own
 abbrev pub at_desc : Desc → Facts → Facts
 at_desc d f = record f { desc = d }
+
+-- the place of an answer's kind
+abbrev pub answer_kind : Answer → ℕ
+answer_kind answers.Absent = 0
+answer_kind (answers.Content bytes) = 1
+answer_kind answers.File = 2
+answer_kind answers.Directory = 3
+answer_kind (answers.Names names) = 4
+answer_kind answers.Denied = 5

@@ -5,25 +5,62 @@ ghost use Rattle.observed.specs.declared.access.Answer.{Answer as AnyAnswer};
 ghost use Rattle.pip_model_types.specs.declared.desc.Desc.{Desc as AnyDesc};
 ghost use Rattle.run_record.specs.Digests.{IsReadBack, weak_of};
 ghost use Rattle.run_record.specs.Facts.{Facts, IsRun, Sound};
-ghost use Rattle.run_record.specs.Holding.{HoldsNow, IsSameWork, at_desc};
+ghost use Rattle.run_record.specs.Holding.{HoldsNow, IsSameWork, answer_kind, at_desc};
 
+use bx_digest::Blob;
 use observed::{Answer, Ask, View};
 use std::alloc::{AllocError, Global};
 use tool_run::noninterference;
+
+// The place of an answer's kind.
+fn kind_of(answer: &Answer) -> u8
+    ensures { result ≡ answer_kind answer.now }
+{
+    match answer {
+        Answer::Absent => 0,
+        Answer::Content(_) => 1,
+        Answer::File => 2,
+        Answer::Directory => 3,
+        Answer::Names(_) => 4,
+        Answer::Denied => 5,
+    }
+}
+
+// Whether contents are the same.
+fn is_same_content(x: &Blob, y: &Blob) -> bool
+    ensures { IsTrue result ↔ x.now ≡ y.now }
+{
+    x.bytes() == y.bytes()
+}
+
+// Whether an answer has this content.
+fn has_content(answer: &Answer, bytes: &Blob) -> bool
+    ensures { IsTrue result ↔ answer.now ≡ Answer.Content bytes.now }
+{
+    match answer {
+        Answer::Content(own) => is_same_content(own, bytes),
+        _ => false,
+    }
+}
+
+// Whether an answer has these names.
+fn has_names(answer: &Answer, names: &Blob) -> bool
+    ensures { IsTrue result ↔ answer.now ≡ Answer.Names names.now }
+{
+    match answer {
+        Answer::Names(own) => is_same_content(own, names),
+        _ => false,
+    }
+}
 
 // Whether answers are the same: of one kind, and with the same bytes.
 fn is_same_answer(a: &Answer, b: &Answer) -> bool
     ensures { IsTrue result ↔ a.now ≡ b.now }
 {
-    match (a, b) {
-        (Answer::Absent, Answer::Absent)
-        | (Answer::File, Answer::File)
-        | (Answer::Directory, Answer::Directory)
-        | (Answer::Denied, Answer::Denied) => true,
-        (Answer::Content(x), Answer::Content(y)) | (Answer::Names(x), Answer::Names(y)) => {
-            x.bytes() == y.bytes()
-        }
-        _ => false,
+    match a {
+        Answer::Content(bytes) => has_content(b, bytes),
+        Answer::Names(names) => has_names(b, names),
+        _ => kind_of(a) == kind_of(b),
     }
 }
 

@@ -7,3 +7,4 @@ pub mod SamePlaces
 pub mod SameDirs
 pub mod Accepted
 pub mod SameParts
+pub mod Tests

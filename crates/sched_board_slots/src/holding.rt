@@ -1,5 +1,5 @@
 //! Whether what a slot holds is of now, byte by byte.
-ghost use Rattle.std.specs.Prelude.{◌≡◌, ◌↔◌, ◌<◌, IfOk, IfSome, IsSome, IsTrue, length, map, slice_get, true};
+ghost use Rattle.std.specs.Prelude.{◌≡◌, ◌↔◌, ◌<◌, IfOk, IfSome, IsSome, IsTrue, Some, length, map, slice_get, true};
 ghost use Rattle.pip_model_types.specs.Made.{made_files};
 ghost use Rattle.pip_model_types.specs.declared.pip.ProcessDesc.{ProcessDesc as AnyProcess};
 ghost use Rattle.pip_view_inputs.specs.Contents.{bytes_at, input_bytes, input_file};
@@ -7,10 +7,11 @@ ghost use Rattle.pip_view_inputs.specs.Plain.{desc_of, process_in};
 ghost use Rattle.pip_view_inputs.specs.Results.{files_by};
 ghost use Rattle.prints.specs.Processes.{numbered_from, with_pip};
 ghost use Rattle.run_record.specs.Holding.{HoldsNow, IsSameWork};
+ghost use Rattle.sched_board_slots.specs.SameProcesses.{AreSamePlaces, IsSameCall};
 ghost use Rattle.sched_board_slots.specs.Slots.{own_desc, own_view};
 
 use bx_tree::{FileInput, Memory, Path, Text};
-use pip_model::{Desc, DirInput, EnvPair, MadeFile, Plan, ProcessDesc, Sources};
+use pip_model::{Desc, DirInput, EnvPair, MadeFile, OutDir, Plan, ProcessDesc, Sources};
 use pip_view::PipView;
 use pip_view_inputs::{Inputs, made_at, process_at};
 use run_record::{Record, answers_hold};
@@ -48,11 +49,28 @@ fn taken_bytes<'a>(sources: &'a Sources, inputs: &'a Inputs, file: &FileInput) -
     }
 }
 
+// Whether bytes are the same.
+fn are_same_bytes(a: &[u8], b: &[u8]) -> bool
+    ensures { IsTrue result ↔ a.now ≡ b.now }
+{
+    a == b
+}
+
+// Whether a path is another.
+fn is_same_path(a: &Path, b: &Path) -> bool
+    ensures { IsTrue result ↔ a.now ≡ b.now }
+{
+    a == b
+}
+
 // Whether a file with its bytes is the one that a process takes.
 fn is_taken(sources: &Sources, inputs: &Inputs, file: &FileInput, shown: &MadeFile) -> bool
     ensures { IsTrue result ↔ (shown.now.path, shown.now.blob) ≡ input_file sources.now inputs.now file.now }
 {
-    *file.path() == shown.path && taken_bytes(sources, inputs, file) == shown.blob.bytes()
+    if !is_same_path(file.path(), &shown.path) {
+        return false;
+    }
+    are_same_bytes(taken_bytes(sources, inputs, file), shown.blob.bytes())
 }
 
 // Whether files with their bytes are those that a process takes.
@@ -98,7 +116,10 @@ fn are_same_texts(a: &[Text], b: &[Text]) -> bool
 fn is_same_variable(a: &EnvPair, b: &EnvPair) -> bool
     ensures { IsTrue result ↔ a.now ≡ b.now }
 {
-    is_same_text(&a.name, &b.name) && is_same_text(&a.value, &b.value)
+    if !is_same_text(&a.name, &b.name) {
+        return false;
+    }
+    is_same_text(&a.value, &b.value)
 }
 
 // Whether variables have the same names and values.
@@ -120,7 +141,12 @@ fn are_same_variables(a: &[EnvPair], b: &[EnvPair]) -> bool
 fn is_same_dir(a: &DirInput, b: &DirInput) -> bool
     ensures { IsTrue result ↔ with_pip 0 a.now ≡ with_pip 0 b.now }
 {
-    a.rank() == b.rank() && a.path() == b.path()
+    let mine = a.rank();
+    let other = b.rank();
+    if mine != other {
+        return false;
+    }
+    is_same_path(a.path(), b.path())
 }
 
 // Whether directories that are taken have the same forms and paths, whichever pips they are of.
@@ -138,31 +164,70 @@ fn are_same_dirs(a: &[DirInput], b: &[DirInput]) -> bool
     true
 }
 
+// Whether paths are the same, in order.
+fn are_same_paths(a: &[Path], b: &[Path]) -> bool
+    ensures { IsTrue result ↔ a.now ≡ b.now }
+{
+    a == b
+}
+
+// Whether output directories are the same, in order.
+fn are_same_outdirs(a: &[OutDir], b: &[OutDir]) -> bool
+    ensures { IsTrue result ↔ a.now ≡ b.now }
+{
+    a == b
+}
+
+// Whether the file of the console is this one.
+fn is_console(console: &Option<Path>, path: &Path) -> bool
+    ensures { IsTrue result ↔ console.now ≡ Some path.now }
+{
+    match console {
+        Some(own) => is_same_path(own, path),
+        None => false,
+    }
+}
+
 // Whether files of the console are the same.
 fn is_same_console(a: &Option<Path>, b: &Option<Path>) -> bool
     ensures { IsTrue result ↔ a.now ≡ b.now }
 {
-    match (a, b) {
-        (Some(x), Some(y)) => x == y,
-        (None, None) => true,
-        _ => false,
+    match b {
+        Some(path) => is_console(a, path),
+        None => a.is_none(),
     }
 }
 
-// Whether processes are the same but for their contents, their declared files and the pips that these are of.
-fn declare_the_same(a: &ProcessDesc, b: &ProcessDesc) -> bool
-    ensures { IsTrue result ↔ (a.now.exe ≡ b.now.exe) × ((a.now.args ≡ b.now.args) × ((a.now.env ≡ b.now.env)
-        × ((a.now.dir ≡ b.now.dir) × ((numbered_from 0 a.now.dirs ≡ numbered_from 0 b.now.dirs)
-        × ((a.now.outs ≡ b.now.outs) × ((a.now.outdirs ≡ b.now.outdirs) × (a.now.console ≡ b.now.console))))))) }
+// Whether processes call the same.
+fn is_same_call(a: &ProcessDesc, b: &ProcessDesc) -> bool
+    ensures { IsTrue result ↔ IsSameCall a.now b.now }
 {
-    a.exe == b.exe
-        && are_same_texts(a.args.texts(), b.args.texts())
-        && are_same_variables(a.env.pairs(), b.env.pairs())
-        && a.dir == b.dir
-        && are_same_dirs(a.dirs.dirs(), b.dirs.dirs())
-        && a.outs.paths() == b.outs.paths()
-        && a.outdirs.dirs() == b.outdirs.dirs()
-        && is_same_console(&a.console, &b.console)
+    if !is_same_path(&a.exe, &b.exe) {
+        return false;
+    }
+    if !are_same_texts(a.args.texts(), b.args.texts()) {
+        return false;
+    }
+    if !are_same_variables(a.env.pairs(), b.env.pairs()) {
+        return false;
+    }
+    is_same_path(&a.dir, &b.dir)
+}
+
+// Whether processes take the same directories and declare the same outputs.
+fn are_same_places(a: &ProcessDesc, b: &ProcessDesc) -> bool
+    ensures { IsTrue result ↔ AreSamePlaces a.now b.now }
+{
+    if !are_same_dirs(a.dirs.dirs(), b.dirs.dirs()) {
+        return false;
+    }
+    if !are_same_paths(a.outs.paths(), b.outs.paths()) {
+        return false;
+    }
+    if !are_same_outdirs(a.outdirs.dirs(), b.outdirs.dirs()) {
+        return false;
+    }
+    is_same_console(&a.console, &b.console)
 }
 
 // Whether a description is that of a process with the contents of its files.
@@ -175,10 +240,20 @@ fn is_work_of(
 ) -> bool
     ensures { IsTrue result ↔ IsSameWork shown.now (desc_of sources.now inputs.now budget process.now) }
 {
-    declare_the_same(&shown.process, process)
-        && shown.budget == budget
-        && source_bytes(sources, &process.exe) == shown.exe.bytes()
-        && are_taken(sources, inputs, process.files.files(), shown.files.files())
+    if !is_same_call(&shown.process, process) {
+        return false;
+    }
+    if !are_same_places(&shown.process, process) {
+        return false;
+    }
+    let steps = shown.budget;
+    if steps != budget {
+        return false;
+    }
+    if !are_same_bytes(source_bytes(sources, &process.exe), shown.exe.bytes()) {
+        return false;
+    }
+    are_taken(sources, inputs, process.files.files(), shown.files.files())
 }
 
 // ## Records
