@@ -1,5 +1,6 @@
 use Rattle.std.proofs.Common.{◌≡◌, ◌+◌, ◌<◌, ◌≤◌, ◌++◌, ◌∷◌, [], ◌∙◌, List, Option, None, ap, arith, length, length-append, map, refl, subst, sym, take, inl, inr}
-use Rattle.std.specs.Prelude.{is_some, option_map, slice_get}
+use Rattle.std.specs.Prelude.{IsSome, is_some, option_map, slice_get}
+use Rattle.std.proofs.lemmas.Bool.{false≢true}
 use Rattle.std.specs.List.{AllByRecursion}
 use Rattle.std.specs.Option.{option_to_list}
 use Rattle.std.specs.Vec.Iter.{into_iter_items}
@@ -236,3 +237,9 @@ returns-clause-unread g c =
       omega (arith, most, without),
       none_counted_reads (option_map f c.args.reader.now) (option_map f c.pips.reader) d.ways.faulted c.pips.invariant.reads no_reader,
     )
+
+pub unreachable-requires : goal.unreachable-requires
+unreachable-requires g c =
+    let within = subst (λ (ps : List Pip). c.pips.number < length ps) c.pips-pips.ensures.pips c.pips-test.true in
+    let left = c.pips.invariant.left_len in
+    false≢true (subst (λ (o : Option Held). IsSome o) c.in_default.is (c.next.ensures.variant.1 (omega (arith, within, left, c.requires.slots))))

@@ -1,8 +1,10 @@
-use Rattle.std.proofs.Common.{◌≡◌, ◌+◌, ◌∙◌, Option, arith, refl, subst, sym}
+use Rattle.std.proofs.Common.{◌≡◌, ◌+◌, ◌∙◌, Option, ap, arith, length, refl, subst, sym}
 use Rattle.std.specs.Prelude.{IfSome, IsSome, Some, is_some, option_map}
+use Rattle.std.specs.List.{AllByRecursion}
 use Rattle.bx_io.specs.Holdings.{Holdings, Keeps}
 use Rattle.bx_io.proofs.Changes.{keeps_all, keeps_on}
 use Rattle.two_phase.specs.Reading.{ReaderData, reader_data}
+use Rattle.retire.specs.Saving.{IsSuccess}
 use Rattle.retire.specs.Settled.{IsSettledOver}
 use Rattle.retire.proofs.Putting.{first_told}
 use Rattle.retire.proofs.Told.{IsTold, mapped, none_given, none_mapped, same_there, some_mapped, told_some, told_there}
@@ -247,3 +249,19 @@ pub returns-clause-puts : goal.returns-clause-puts
 returns-clause-puts g c =
     only_put (g.K.Keeper.known c.args.keeper.now) (g.K.Keeper.known c.close_if.new.keeper) (g.K.Keeper.known c.save_if.new.keeper) c.in_ok-decided.decided.records.items c.as_slice-2.result.now
     c.close_if.ensures.known c.in_ok-decided.ensures.records c.as_slice-2.ensures.value c.save_if.ensures.first
+
+pub save_if-requires-clause-good : goal.save_if-requires-clause-good
+save_if-requires-clause-good g c = subst (AllByRecursion IsSuccess) (sym c.as_slice-2.ensures.value) c.in_ok-decided.ensures.records
+
+pub save_if-requires-clause-few : goal.save_if-requires-clause-few
+save_if-requires-clause-few g c =
+    let same = ap length c.as_slice-2.ensures.value in
+    let few = c.in_ok-decided.ensures.few_records in
+    omega (arith, same, few)
+
+pub tally_of-requires-clause-failed : goal.tally_of-requires-clause-failed
+tally_of-requires-clause-failed g c =
+    let same = ap length c.as_slice-2.ensures.value in
+    let few = c.in_ok-decided.ensures.few_records in
+    let failed = c.in_ok-failed.ensures.few_faults in
+    omega (arith, same, few, failed)

@@ -1,5 +1,6 @@
-use Rattle.std.proofs.Common.{◌≡◌, Some, ap, sym, ◌∙◌, subst}
-use Rattle.std.specs.Prelude.{slice_get}
+use Rattle.std.proofs.Common.{◌≡◌, Option, Some, ap, sym, ◌∙◌, subst}
+use Rattle.std.specs.Prelude.{IsSome, slice_get}
+use Rattle.std.proofs.lemmas.Bool.{false≢true}
 use Rattle.std.proofs.lemmas.Result.{IfOk-weaker}
 use Rattle.pip_model_types.specs.declared.desc.Desc.{Desc}
 use Rattle.pip_model_types.specs.declared.pip.Pip.{Pip}
@@ -41,3 +42,8 @@ returns c =
     (holds_by (own_desc plan tree made process) (own_view plan tree made c.args.pip) _ c.args.ran.now c.answers.result.now c.asks.result.now hold c.in_ok-view.ensures
     c.answers.ensures.value (c.asks.ensures.asks ∙ c.paths-paths.ensures) work is))
     c.answers_hold.ensures.hold
+
+pub unreachable-requires : goal.unreachable-requires
+unreachable-requires c =
+    false≢true
+    (subst (λ (o : Option ProcessDesc). IsSome o) (sym (c.in_default.ensures ∙ ap (λ ps. process_in (slice_get ps c.args.pip)) c.pips.ensures.pips)) c.requires.process)
