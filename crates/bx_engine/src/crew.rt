@@ -119,39 +119,6 @@ fn crew_of<L: Ledger, E: Ledger, K: Keeper>(
     Ok(crew)
 }
 
-// All work at the same time, until each is through.
-fn work_all<
-    R: KeepReader,
-    L: Ledger + Send + Sync,
-    E: Ledger + Send + Sync,
-    H: Threads + Wait + Sync,
-    G: Gate,
->(
-    rt: &H,
-    alloc: Global,
-    plan: &Plan,
-    sources: &Sources,
-    board: &Mutex<Board<L, E>>,
-    gate: &G,
-    crew: &mut [Worker<R, L, E>],
-)
-    requires some { 0 < length crew.old }
-    ensures number { length crew.new ≡ length crew.old }
-    ensures through { (cached : Bool) (bound : Option ℕ) → All (IsFresh cached bound) crew.old
-        → All (IsThrough cached bound) crew.new }
-{
-    let bell = Condvar::new();
-    let threads = crew.len();
-    thread::for_each_mut(
-        rt,
-        crew,
-        threads,
-        &|_, worker: &mut Worker<R, L, E>|
-            ensures { (has_ended worker.new ≡ true) × GoesOn worker.old worker.new }
-        { worker.work(rt, alloc, plan, sources, board, &bell, gate) },
-    );
-}
-
 // One for a worker that starved.
 fn one_if(starved: bool) -> u64
     ensures value { result ≡ (if starved then 1 else 0) }
@@ -175,6 +142,39 @@ fn worked_by<R: KeepReader, L: Ledger, E: Ledger>(crew: &[Worker<R, L, E>]) -> W
         starved += one_if(tally.starved);
     }
     Worked { faults, starved }
+}
+
+// All work at the same time, until each is through: what they counted together.
+fn work_all<
+    R: KeepReader,
+    L: Ledger + Send + Sync,
+    E: Ledger + Send + Sync,
+    H: Threads + Wait + Sync,
+    G: Gate,
+>(
+    rt: &H,
+    alloc: Global,
+    plan: &Plan,
+    sources: &Sources,
+    board: &Mutex<Board<L, E>>,
+    gate: &G,
+    crew: &mut [Worker<R, L, E>],
+) -> Worked
+    requires some { 0 < length crew.old }
+    ensures through { (cached : Bool) (bound : Option ℕ) → All (IsFresh cached bound) crew.old
+        → AreThrough cached bound (length crew.old) result.faults result.starved }
+{
+    let bell = Condvar::new();
+    let threads = crew.len();
+    thread::for_each_mut(
+        rt,
+        crew,
+        threads,
+        &|_, worker: &mut Worker<R, L, E>|
+            ensures { (has_ended worker.new ≡ true) × GoesOn worker.old worker.new }
+        { worker.work(rt, alloc, plan, sources, board, &bell, gate) },
+    );
+    worked_by(crew)
 }
 
 // The shares of workers. Their readers are let go.
@@ -269,7 +269,7 @@ fn work_with<
     let NewBoard { board, shares } = Board::new(alloc, blank, ours, theirs, workers)?;
     let mut crew = crew_of(alloc, shares, keeper, cached)?;
     let lock = Mutex::new(board);
-    work_all(
+    let worked = work_all(
         rt,
         alloc,
         &**plan,
@@ -278,7 +278,6 @@ fn work_with<
         gate,
         crew.as_mut_slice(),
     );
-    let worked = worked_by(crew.as_slice());
     let shares = shares_of(alloc, crew)?;
     let finished = finish_if_fit(alloc, lock.into_inner(), shares, plan.pips().len())?;
     Ok(Crewed { finished, worked })
