@@ -160,8 +160,8 @@ fn work_all<
     gate: &G,
     crew: &mut [Worker<R, L, E>],
 ) -> Worked
-    requires some { 0 < length crew.old }
-    ensures through { (cached : Bool) (bound : Option ℕ) → All (IsFresh cached bound) crew.old
+    requires { 0 < length crew.old }
+    ensures { (cached : Bool) (bound : Option ℕ) → All (IsFresh cached bound) crew.old
         → AreThrough cached bound (length crew.old) result.faults result.starved }
 {
     let bell = Condvar::new();
