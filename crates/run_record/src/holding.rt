@@ -60,7 +60,11 @@ fn is_same_answer(a: &Answer, b: &Answer) -> bool
     match a {
         Answer::Content(bytes) => has_content(b, bytes),
         Answer::Names(names) => has_names(b, names),
-        _ => kind_of(a) == kind_of(b),
+        _ => {
+            let mine = kind_of(a);
+            let other = kind_of(b);
+            mine == other
+        }
     }
 }
 

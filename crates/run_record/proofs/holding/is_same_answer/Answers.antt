@@ -19,6 +19,6 @@ returns-in-Names c = (
 pub returns-in_default : goal.returns-in_default
 returns-in_default c = (
   λ e. same_kind c.args.a.now c.args.b.now c.in_default.not-Content c.in_default.not-Names
-      (sym c.kind_of.ensures ∙ (Decides-eqb c.kind_of.result c.kind_of-2.result).0 e ∙ c.kind_of-2.ensures),
-  λ e. (Decides-eqb c.kind_of.result c.kind_of-2.result).1 (c.kind_of.ensures ∙ ap answer_kind e ∙ sym c.kind_of-2.ensures),
+      (sym c.kind_of-mine.ensures ∙ (Decides-eqb c.kind_of-mine.result c.kind_of-other.result).0 e ∙ c.kind_of-other.ensures),
+  λ e. (Decides-eqb c.kind_of-mine.result c.kind_of-other.result).1 (c.kind_of-mine.ensures ∙ ap answer_kind e ∙ sym c.kind_of-other.ensures),
 )
