@@ -110,11 +110,11 @@ grow ways.Faulted true false w o w' o' hits missed faulted f e k h = record {
   late_at_most = omega (arith, k, h.late_at_most);
 }
 
-pub ran_here : (here : Bool) → cond here 1 0 ≡ 1 → here ≡ true
+pub ran_here : (here : Bool) → ◌≡◌ {A = ℕ} (cond here 1 0) 1 → here ≡ true
 ran_here true e = refl
 ran_here false e = absurd (omega (arith, e))
 
-none_here : (here : Bool) → cond here 1 0 ≡ 0 → here ≡ false
+none_here : (here : Bool) → ◌≡◌ {A = ℕ} (cond here 1 0) 0 → here ≡ false
 none_here true e = absurd (omega (arith, e))
 none_here false e = refl
 
@@ -164,7 +164,7 @@ module _ (P : Type 0) (Q : List ℕ → Type 0) (pips : List Pip) (vs : List Ver
 
   others_now : others_from new_marks numbers 0 pips (vs ++ v ∷ []) ≡ others_from marks numbers 0 pips vs + one_left (runs pip.kind v) b (is_among numbers n)
   others_now =
-      others_more marks b numbers 0 pips vs v n pip long at marked
+      others_more marks b numbers 0 pips vs v n pip long at (omega (arith, marked))
       ∙ ap (λ k. others_from marks numbers 0 pips vs + one_left (runs pip.kind v) b (is_among numbers k)) (omega arith)
 
   below_n : (first : List ℕ) → AllByRecursion (λ i. i < length marks) first → AllByRecursion (λ i. i < n) first

@@ -102,11 +102,11 @@ weak_there d o weak is h = subst (λ (x : Option Printed). IfSome x (IsWeakOf d)
 
 -- what is no run is not accepted
 not_run : (d : Desc) (see : Ask → Answer) (slot : Held) → ((f : Facts) → slot ≡ held.Ran f → ⊥) → IsAccepted d see slot → ⊥
-not_run d see held.Empty other yes = yes
-not_run d see (held.Ran f) other yes = other f refl
-not_run d see (held.Hit f) other yes = yes
-not_run d see (held.Plain made) other yes = yes
-not_run d see held.Skipped other yes = yes
+not_run d see held.Empty other h = h
+not_run d see (held.Ran f) other h = other f refl
+not_run d see (held.Hit f) other h = h
+not_run d see (held.Plain made) other h = h
+not_run d see held.Skipped other h = h
 
 pub not_run_in : (o : Option ProcessDesc) (tree : Files) (inputs : ByPip) (budget : ℕ) (see : Ask → Answer) (slot : Held) → ((f : Facts) → slot ≡ held.Ran f → ⊥)
     → IfSome o (λ p. IsAccepted (desc_of tree inputs budget p) see slot → ⊥)

@@ -33,7 +33,7 @@ empty_slot (s ∷ ss) zero h = inl (h 0 s (omega arith))
 empty_slot (s ∷ ss) (suc i) h = empty_slot ss i (λ k d l. h (suc k) d (omega (arith, l)))
 
 none_accepted : (slots : List Held) (i : ℕ) (d : Desc) (see : Ask → Answer) → All (λ (slot : Held). slot ≡ held.Empty) slots → IsAccepted d see (slot_at slots i) → ⊥
-none_accepted slots i d see h yes = elim (empty_slot slots i h) [
+none_accepted slots i d see h holds = elim (empty_slot slots i h) [
   | inl empty ↦ subst (IsAccepted d see) empty yes
   | inr skipped ↦ subst (IsAccepted d see) skipped yes
 ]
@@ -62,7 +62,7 @@ module _ (pips : List Pip) (tree : Files) (budget : ℕ) (S : Holdings) (slots :
   -- a process that runs has no mark
   unmarked : (i : ℕ) (d : Desc) (see : Ask → Answer) → RunsAs pips tree budget i d see → is_marked marks i ≡ false
   unmarked i d see runs = elim (cases_Bool (is_marked marks i)) [
-    | inl yes ↦ absurd (none_accepted slots i d see empty ((are i d see runs).0 yes))
+    | inl marked ↦ absurd (none_accepted slots i d see empty ((are i d see runs).0 marked))
     | inr other ↦ other
   ]
 

@@ -109,11 +109,11 @@ module _ (plan : PlanData) (tree : Files) (S : Holdings) (cached : Bool) (slots 
   no_miss i d see reader (takings.Hit f) runs now takes there held = refl
   no_miss i d see reader (takings.Faulted f) runs now takes there held = refl
   no_miss i d see None (takings.Missed f) runs now takes there held = elim (accepted_or_usable i d see runs) [
-    | inl yes ↦ absurd (now.0 yes)
+    | inl holds ↦ absurd (now.0 holds)
     | inr usable ↦ absurd (let never : false ≡ true = there ∙ usable.1 in cc)
   ]
   no_miss i d see (Some r) (takings.Missed f) runs now takes there held = elim (accepted_or_usable i d see runs) [
-    | inl yes ↦ absurd (now.0 yes)
+    | inl holds ↦ absurd (now.0 holds)
     | inr usable ↦ absurd (takes S held usable.0)
   ]
 

@@ -1,5 +1,5 @@
 -- The slots that are left, one after another.
-use Rattle.std.proofs.Common.{◌≡◌, ℕ, zero, suc, ◌+◌, List, [], ◌∷◌, ◌++◌, drop, refl, sym}
+use Rattle.std.proofs.Common.{◌≡◌, ℕ, zero, suc, ◌+◌, List, [], ◌∷◌, ◌++◌, drop, refl, ap, sym, ◌∙◌, arith}
 use Rattle.sched_board_slots.specs.Slots.{slot_at}
 use Rattle.sched_board_slots.specs.declared.held.Held.{Held}
 
@@ -13,7 +13,9 @@ pub rest_is : (xs : List Held) (n : ℕ) (x : Held) (rest : List Held) → drop 
 rest_is [] zero x rest e = absurd cc
 rest_is [] (suc n) x rest e = absurd cc
 rest_is (y ∷ ys) zero x rest e = let same : ys ≡ rest = cc in sym same
-rest_is (y ∷ ys) (suc n) x rest e = rest_is ys n x rest e
+rest_is (y ∷ ys) (suc n) x rest e =
+    let next : suc (n + 1) ≡ suc n + 1 = omega arith in
+    rest_is ys n x rest e ∙ ap (λ k. drop k (y ∷ ys)) next
 
 pub no_numbers : (first rest : List ℕ) → [] ≡ first ++ rest → first ≡ []
 no_numbers [] rest e = refl

@@ -94,9 +94,8 @@ pips-preserved g c =
     let inv = c.pips.invariant in
     let d = c.pips.decided in
     let next = c.in_ok-next.next in
-    let f = λ r. reader_data (g.R.KeepReader.held r) (g.R.KeepReader.bound r) (g.R.KeepReader.faults r) in
-    let before : Option ReaderData = option_map f c.pips.reader in
-    let now : Option ReaderData = option_map f c.decide.new.reader in
+    let before : Option ReaderData = option_map (λ r. reader_data (g.R.KeepReader.held r) (g.R.KeepReader.bound r) (g.R.KeepReader.faults r)) c.pips.reader in
+    let now : Option ReaderData = option_map (λ r. reader_data (g.R.KeepReader.held r) (g.R.KeepReader.bound r) (g.R.KeepReader.faults r)) c.decide.new.reader in
     let within = subst (λ (ps : List Pip). n < length ps) c.pips-pips.ensures.pips c.pips-test.true in
     let front = sym inv.left_items ∙ c.next.ensures.items ∙ ap (λ (o : Option Held). option_to_list o ++ into_iter_items c.next.new.self) c.in-Some.is in
     let slot_is : slot_at held n ≡ c.in-Some.slot = front_is held n c.in-Some.slot (into_iter_items c.next.new.self) front in
@@ -128,9 +127,9 @@ pips-preserved g c =
           (inv.keeps S (told_before before now _ S reads told) fair));
       settled = λ S over given.
           let list = c.pips-pips.ensures.list in
-          let some_now : is_some now ≡ is_some c.decide.new.reader = some_mapped f c.decide.new.reader in
+          let some_now : is_some now ≡ is_some c.decide.new.reader = some_mapped (λ r. reader_data (g.R.KeepReader.held r) (g.R.KeepReader.bound r) (g.R.KeepReader.faults r)) c.decide.new.reader in
           let there : is_some c.decide.new.reader ≡ is_some c.pips.reader =
-          sym some_now ∙ sym (same_there before now _ reads) ∙ some_mapped f c.pips.reader in
+          sym some_now ∙ sym (same_there before now _ reads) ∙ some_mapped (λ r. reader_data (g.R.KeepReader.held r) (g.R.KeepReader.bound r) (g.R.KeepReader.faults r)) c.pips.reader in
           let over_then : IsSettledOver plan tree S (is_some c.pips.reader) held = subst (λ b. IsSettledOver plan tree S b held) there over in
           let given_then = held_before before now _ S reads given in
           let right : IsRight pips tree budget now = settled_right plan tree S (is_some c.decide.new.reader) held over list now given in
@@ -173,11 +172,10 @@ returns-clause-alone g c =
     let budget = c.args.frame.now.plan.now.tool_budget in
     let held = c.args.finished.items in
     let d = c.pips.decided in
-    let f = λ r. reader_data (g.R.KeepReader.held r) (g.R.KeepReader.bound r) (g.R.KeepReader.faults r) in
     let past = subst (λ (ps : List Pip). length ps ≤ c.pips.number) c.pips-pips.ensures.pips c.pips-test.false in
-    let no_reader : option_map f c.pips.reader ≡ None = none_is f c.pips.reader none in
+    let no_reader : option_map (λ r. reader_data (g.R.KeepReader.held r) (g.R.KeepReader.bound r) (g.R.KeepReader.faults r)) c.pips.reader ≡ None = none_is (λ r. reader_data (g.R.KeepReader.held r) (g.R.KeepReader.bound r) (g.R.KeepReader.faults r)) c.pips.reader none in
     let so = c.pips.invariant.follows (inl no_reader) in
-    let zero = none_counted_reads (option_map f c.args.reader.now) (option_map f c.pips.reader) d.ways.faulted c.pips.invariant.reads no_reader in (
+    let zero = none_counted_reads (option_map (λ r. reader_data (g.R.KeepReader.held r) (g.R.KeepReader.bound r) (g.R.KeepReader.faults r)) c.args.reader.now) (option_map (λ r. reader_data (g.R.KeepReader.held r) (g.R.KeepReader.bound r) (g.R.KeepReader.faults r)) c.pips.reader) d.ways.faulted c.pips.invariant.reads no_reader in (
       follows_all pips tree budget held c.pips.number d.verdicts.items d.slots.items d.accepted.items so past,
       are_accepted pips tree budget held c.pips.number d.verdicts.items d.slots.items d.accepted.items so past,
       counts_all pips tree budget held c.pips.number d.verdicts.items d.slots.items d.accepted.items so past d.ways.hits d.ways.missed d.ways.faulted zero
@@ -192,9 +190,8 @@ returns-clause-follows g c =
     let budget = c.args.frame.now.plan.now.tool_budget in
     let held = c.args.finished.items in
     let d = c.pips.decided in
-    let f = λ r. reader_data (g.R.KeepReader.held r) (g.R.KeepReader.bound r) (g.R.KeepReader.faults r) in
     let past = subst (λ (ps : List Pip). length ps ≤ c.pips.number) c.pips-pips.ensures.pips c.pips-test.false in
-    let tells : IsTold (option_map f c.pips.reader) S = told_of (option_map f c.pips.reader) S told (some_mapped f c.pips.reader ∙ some) in
+    let tells : IsTold (option_map (λ r. reader_data (g.R.KeepReader.held r) (g.R.KeepReader.bound r) (g.R.KeepReader.faults r)) c.pips.reader) S = told_of (option_map (λ r. reader_data (g.R.KeepReader.held r) (g.R.KeepReader.bound r) (g.R.KeepReader.faults r)) c.pips.reader) S told (some_mapped (λ r. reader_data (g.R.KeepReader.held r) (g.R.KeepReader.bound r) (g.R.KeepReader.faults r)) c.pips.reader ∙ some) in
     let so = c.pips.invariant.follows (inr (S, tells, fair)) in
     let keeps = c.pips.invariant.keeps S tells fair in (
       follows_all pips tree budget held c.pips.number d.verdicts.items d.slots.items d.accepted.items so past,
@@ -228,14 +225,13 @@ pub returns-clause-unread : goal.returns-clause-unread
 returns-clause-unread g c =
     λ none.
     let d = c.pips.decided in
-    let f = λ r. reader_data (g.R.KeepReader.held r) (g.R.KeepReader.bound r) (g.R.KeepReader.faults r) in
-    let no_reader : option_map f c.pips.reader ≡ None = none_is f c.pips.reader none in
+    let no_reader : option_map (λ r. reader_data (g.R.KeepReader.held r) (g.R.KeepReader.bound r) (g.R.KeepReader.faults r)) c.pips.reader ≡ None = none_is (λ r. reader_data (g.R.KeepReader.held r) (g.R.KeepReader.bound r) (g.R.KeepReader.faults r)) c.pips.reader none in
     let counts = c.pips.invariant.alone no_reader in
     let most = counts.hits_at_most in
     let first = no_numbers counts.first counts.rest counts.joined in
     let without = ap (without_run d.accepted.items) first in (
       omega (arith, most, without),
-      none_counted_reads (option_map f c.args.reader.now) (option_map f c.pips.reader) d.ways.faulted c.pips.invariant.reads no_reader,
+      none_counted_reads (option_map (λ r. reader_data (g.R.KeepReader.held r) (g.R.KeepReader.bound r) (g.R.KeepReader.faults r)) c.args.reader.now) (option_map (λ r. reader_data (g.R.KeepReader.held r) (g.R.KeepReader.bound r) (g.R.KeepReader.faults r)) c.pips.reader) d.ways.faulted c.pips.invariant.reads no_reader,
     )
 
 pub unreachable-requires : goal.unreachable-requires

@@ -1,5 +1,5 @@
 use Rattle.std.proofs.Common.{◌∙◌, ◌&&◌, ap, map, subst, sym}
-use Rattle.std.specs.Prelude.{slice_get}
+use Rattle.std.specs.Prelude.{is_some, option_map, slice_get}
 use Rattle.pip_view_inputs.specs.Plain.{process_in}
 use Rattle.violations.specs.Slots.{slot_files}
 use Rattle.violations.specs.Verdicts.{is_success}
@@ -21,7 +21,7 @@ returns-clause-decided g c =
     (map slot_files c.args.slots.now) c.args.inputs.now c.args.pip (process_in (slice_get c.args.frame.now.plan.now.pips c.args.pip)) taken c.next_of.result
     c.in_ok-taken.ensures.taken c.in_ok-taken.ensures.now (ap ended_result c.next_of.ensures.ended ∙ c.in_ok-ended.ensures.result) c.next_of.ensures.way
     (c.next_of.ensures.saved ∙ ap (λ b. save_if (b && is_good_slot ended.slot) (record_in taken)) (c.is_some.ensures ∙ sym used)
-    ∙ ap (λ b. save_if (_ && b) (record_in taken)) (c.in_ok-ended.ensures.agrees ∙ ap (λ (e : PipResult). is_success e.verdict) (sym c.next_of.ensures.ended)))
+    ∙ ap (λ b. save_if (is_some (option_map (λ r. reader_data (g.R.KeepReader.held r) (g.R.KeepReader.bound r) (g.R.KeepReader.faults r)) c.taken_for.new.reader) && b) (record_in taken)) (c.in_ok-ended.ensures.agrees ∙ ap (λ (e : PipResult). is_success e.verdict) (sym c.next_of.ensures.ended)))
 
 pub returns-clause-agrees : goal.returns-clause-agrees
 returns-clause-agrees g c = subst Agrees (sym c.next_of.ensures.ended) c.in_ok-ended.ensures.agrees

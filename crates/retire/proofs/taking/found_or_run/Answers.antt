@@ -1,9 +1,9 @@
 use Rattle.std.proofs.Common.{subst}
-use Rattle.std.specs.Prelude.{slice_get}
+use Rattle.std.specs.Prelude.{option_map, slice_get}
 use Rattle.run_record.specs.Facts.{IsRun}
 use Rattle.pip_view_inputs.specs.Plain.{process_in}
 use Rattle.sched_board_slots.specs.declared.held.Held.TheVariants as held
-use Rattle.two_phase.specs.Reading.{ReadsIfAny}
+use Rattle.two_phase.specs.Reading.{ReadsIfAny, reader_data}
 use Rattle.retire.specs.Taking.{SeeksBy, seek_fault}
 use Rattle.retire.specs.declared.taking.Sought.{Sought}
 use Rattle.retire.specs.declared.taking.Taken.TheVariants as takings
@@ -23,7 +23,10 @@ returns-in-Hit-clause-now g c =
     c.in_ok-described.described _ _ held.Empty (takings.Hit c.in-Hit.found) c.in_ok-described.ensures c.in_ok-view.ensures (λ no_run. no_run, by.1)
 
 pub returns-in-Hit-clause-reader : goal.returns-in-Hit-clause-reader
-returns-in-Hit-clause-reader g c = subst (λ (s : Sought). ReadsIfAny _ _ (seek_fault s)) c.in-Hit.is c.in_ok-sought.ensures.reader
+returns-in-Hit-clause-reader g c = subst
+    (λ (s : Sought). ReadsIfAny (option_map (λ r. reader_data (g.R.KeepReader.held r) (g.R.KeepReader.bound r) (g.R.KeepReader.faults r)) c.args.reader.now)
+    (option_map (λ r. reader_data (g.R.KeepReader.held r) (g.R.KeepReader.bound r) (g.R.KeepReader.faults r)) c.seek.new.reader) (seek_fault s))
+    c.in-Hit.is c.in_ok-sought.ensures.reader
 
 pub returns-in_ok-ran-in-Unused-clause-taken : goal.returns-in_ok-ran-in-Unused-clause-taken
 returns-in_ok-ran-in-Unused-clause-taken g c =
@@ -38,7 +41,10 @@ returns-in_ok-ran-in-Unused-clause-now g c =
     (λ no_run. no_run, c.in_ok-ran-in-Unused.ensures.sound, subst (IsRun c.in_ok-ran-in-Unused.ran c.in_ok-described.described) c.in_ok-sought.ensures.meaning c.in_ok-ran-in-Unused.ensures.ran)
 
 pub returns-in_ok-ran-in-Unused-clause-reader : goal.returns-in_ok-ran-in-Unused-clause-reader
-returns-in_ok-ran-in-Unused-clause-reader g c = subst (λ (s : Sought). ReadsIfAny _ _ (seek_fault s)) c.in-Unused.is c.in_ok-sought.ensures.reader
+returns-in_ok-ran-in-Unused-clause-reader g c = subst
+    (λ (s : Sought). ReadsIfAny (option_map (λ r. reader_data (g.R.KeepReader.held r) (g.R.KeepReader.bound r) (g.R.KeepReader.faults r)) c.args.reader.now)
+    (option_map (λ r. reader_data (g.R.KeepReader.held r) (g.R.KeepReader.bound r) (g.R.KeepReader.faults r)) c.seek.new.reader) (seek_fault s))
+    c.in-Unused.is c.in_ok-sought.ensures.reader
 
 pub returns-in_ok-ran-in-Miss-clause-taken : goal.returns-in_ok-ran-in-Miss-clause-taken
 returns-in_ok-ran-in-Miss-clause-taken g c =
@@ -53,7 +59,10 @@ returns-in_ok-ran-in-Miss-clause-now g c =
     (λ no_run. no_run, c.in_ok-ran-in-Miss.ensures.sound, subst (IsRun c.in_ok-ran-in-Miss.ran c.in_ok-described.described) c.in_ok-sought.ensures.meaning c.in_ok-ran-in-Miss.ensures.ran)
 
 pub returns-in_ok-ran-in-Miss-clause-reader : goal.returns-in_ok-ran-in-Miss-clause-reader
-returns-in_ok-ran-in-Miss-clause-reader g c = subst (λ (s : Sought). ReadsIfAny _ _ (seek_fault s)) c.in-Miss.is c.in_ok-sought.ensures.reader
+returns-in_ok-ran-in-Miss-clause-reader g c = subst
+    (λ (s : Sought). ReadsIfAny (option_map (λ r. reader_data (g.R.KeepReader.held r) (g.R.KeepReader.bound r) (g.R.KeepReader.faults r)) c.args.reader.now)
+    (option_map (λ r. reader_data (g.R.KeepReader.held r) (g.R.KeepReader.bound r) (g.R.KeepReader.faults r)) c.seek.new.reader) (seek_fault s))
+    c.in-Miss.is c.in_ok-sought.ensures.reader
 
 pub returns-in_ok-ran-in-Fault-clause-taken : goal.returns-in_ok-ran-in-Fault-clause-taken
 returns-in_ok-ran-in-Fault-clause-taken g c =
@@ -68,4 +77,7 @@ returns-in_ok-ran-in-Fault-clause-now g c =
     (λ no_run. no_run, c.in_ok-ran-in-Fault.ensures.sound, subst (IsRun c.in_ok-ran-in-Fault.ran c.in_ok-described.described) c.in_ok-sought.ensures.meaning c.in_ok-ran-in-Fault.ensures.ran)
 
 pub returns-in_ok-ran-in-Fault-clause-reader : goal.returns-in_ok-ran-in-Fault-clause-reader
-returns-in_ok-ran-in-Fault-clause-reader g c = subst (λ (s : Sought). ReadsIfAny _ _ (seek_fault s)) c.in-Fault.is c.in_ok-sought.ensures.reader
+returns-in_ok-ran-in-Fault-clause-reader g c = subst
+    (λ (s : Sought). ReadsIfAny (option_map (λ r. reader_data (g.R.KeepReader.held r) (g.R.KeepReader.bound r) (g.R.KeepReader.faults r)) c.args.reader.now)
+    (option_map (λ r. reader_data (g.R.KeepReader.held r) (g.R.KeepReader.bound r) (g.R.KeepReader.faults r)) c.seek.new.reader) (seek_fault s))
+    c.in-Fault.is c.in_ok-sought.ensures.reader
