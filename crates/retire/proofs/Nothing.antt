@@ -34,8 +34,8 @@ empty_slot (s ∷ ss) (suc i) h = empty_slot ss i (λ k d l. h (suc k) d (omega 
 
 none_accepted : (slots : List Held) (i : ℕ) (d : Desc) (see : Ask → Answer) → All (λ (slot : Held). slot ≡ held.Empty) slots → IsAccepted d see (slot_at slots i) → ⊥
 none_accepted slots i d see h holds = elim (empty_slot slots i h) [
-  | inl empty ↦ subst (IsAccepted d see) empty yes
-  | inr skipped ↦ subst (IsAccepted d see) skipped yes
+  | inl empty ↦ subst (IsAccepted d see) empty holds
+  | inr skipped ↦ subst (IsAccepted d see) skipped holds
 ]
 
 -- ## Numbers

@@ -69,11 +69,6 @@ decide-requires-clause-slots g c =
     let same = ap length c.as_slice-slots.ensures.value in
     omega (arith, long, same)
 
-pub decide-requires-clause-shared : goal.decide-requires-clause-shared
-decide-requires-clause-shared g c =
-    subst (λ (ts : List Slot). KeepsShared c.pips.shared.files c.pips.shared.dirs (all_shared (take c.pips.number c.args.frame.now.plan.now.pips) (map slot_files ts)))
-    (sym c.as_slice-slots.ensures.value) c.pips.invariant.shared
-
 pub add-requires : goal.add-requires
 add-requires g c =
     let sum = c.pips.invariant.counted in

@@ -242,7 +242,7 @@ returns-clause-puts g c =
     c.close_if.ensures.known c.in_ok-decided.ensures.records c.as_slice-2.ensures.value c.save_if.ensures.first
 
 pub save_if-requires-clause-good : goal.save_if-requires-clause-good
-save_if-requires-clause-good g c = subst (AllByRecursion IsSuccess) (sym c.as_slice-2.ensures.value) c.in_ok-decided.ensures.records
+save_if-requires-clause-good g c = λ κs live. subst (AllByRecursion IsSuccess) (sym c.as_slice-2.ensures.value) c.in_ok-decided.ensures.records
 
 pub save_if-requires-clause-few : goal.save_if-requires-clause-few
 save_if-requires-clause-few g c =

@@ -14,9 +14,6 @@ returns-in_default-clause-sought g c =
 pub returns-in_default-clause-reader : goal.returns-in_default-clause-reader
 returns-in_default-clause-reader g c = none_read _
 
-pub lookup_by-requires : goal.lookup_by-requires
-lookup_by-requires g c = c.in_ok-weak.ensures.digest ∙ ap sha256 c.in_ok-weak.ensures.text
-
 pub returns-in-Hit-clause-sought : goal.returns-in-Hit-clause-sought
 returns-in-Hit-clause-sought g c =
     hit_sought (reader_data (g.R.KeepReader.held c.lookup_by.new.reader) (g.R.KeepReader.bound c.lookup_by.new.reader) (g.R.KeepReader.faults c.lookup_by.new.reader)) c.args.desc.now (g.V.View.answers c.args.view.now) c.in-Hit.found

@@ -8,7 +8,7 @@ use Rattle.retire.proofs.Decisions.{weak_there}
 use Rattle.retire.proofs.savable.Savable.save.Goals as goal
 
 pub keep-requires-clause-good : goal.keep-requires-clause-good
-keep-requires-clause-good g c = subst IsGood (sym c.self.view_is) c.requires.good
+keep-requires-clause-good g c = λ κs live. subst IsGood (sym c.self.view_is) c.requires.good
 
 pub returns-in_default-clause-saved : goal.returns-in_default-clause-saved
 returns-in_default-clause-saved g c =
@@ -19,14 +19,14 @@ returns-in_default-clause-first g c =
     subst (λ (f : Facts). PutsUpTo (g.K.Keeper.known c.args.keeper.now) (g.K.Keeper.known c.keep.new.keeper) f) c.self.view_is c.keep.ensures.first
 
 pub keep_with-requires-clause-good : goal.keep_with-requires-clause-good
-keep_with-requires-clause-good g c = subst IsGood (sym c.self.view_is) c.requires.good
+keep_with-requires-clause-good g c = λ κs live. subst IsGood (sym c.self.view_is) c.requires.good
 
 pub keep_with-requires-clause-text : goal.keep_with-requires-clause-text
-keep_with-requires-clause-text g c =
+keep_with-requires-clause-text g c = λ κs live.
     c.in-Ok.ensures.text ∙ (weak_there c.self.inside.ran.desc c.self.inside.weak c.in-Some.weak c.in-Some.is c.self.invariant).text
 
 pub keep_with-requires-clause-digest : goal.keep_with-requires-clause-digest
-keep_with-requires-clause-digest g c =
+keep_with-requires-clause-digest g c = λ κs live.
     c.in-Ok.ensures.digest ∙ (weak_there c.self.inside.ran.desc c.self.inside.weak c.in-Some.weak c.in-Some.is c.self.invariant).digest
 
 pub returns-in-Ok-clause-saved : goal.returns-in-Ok-clause-saved
