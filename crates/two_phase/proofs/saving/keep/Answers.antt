@@ -12,8 +12,8 @@ returns-in-Err-clause-first g c =
     nothing_put (g.K.Keeper.known c.args.keeper.now) (g.K.Keeper.known c.args.keeper.now) c.args.ran.now (keeps_all (g.K.Keeper.known c.args.keeper.now))
 
 pub keep_with-requires-clause-text : goal.keep_with-requires-clause-text
-keep_with-requires-clause-text g c = c.in-Ok.ensures.text ∙ ap (λ (d : Desc). weak_text (weak_parts d)) c.desc.ensures.value
+keep_with-requires-clause-text g c = λ κs live. c.in-Ok.ensures.text ∙ ap (λ (d : Desc). weak_text (weak_parts d)) c.desc.ensures.value
 
 pub keep_with-requires-clause-digest : goal.keep_with-requires-clause-digest
-keep_with-requires-clause-digest g c =
+keep_with-requires-clause-digest g c = λ κs live.
     c.in-Ok.ensures.digest ∙ ap sha256 (c.in-Ok.ensures.text ∙ ap (λ (d : Desc). weak_text (weak_parts d)) c.desc.ensures.value)
