@@ -1,8 +1,9 @@
 //! What is found of each name of a store.
-ghost use Rattle.std.specs.Prelude.{◌≡◌, All, Err, IfOk, Some, length, map, string_bytes};
+ghost use Rattle.std.specs.Prelude.{◌≡◌, All, Err, IfOk, IfSome, Some, length, map, string_bytes};
 ghost use Rattle.std.specs.FinMap.{keys};
 ghost use Rattle.bx_io.specs.Holdings.{Holdings, Keeps, held_in};
 ghost use Rattle.bx_io.specs.Names.{IsName};
+ghost use Rattle.memo_format.specs.Entries.{IsEntry};
 ghost use Rattle.memo_format.specs.StoreNames.{at_blob, at_entry, at_list};
 ghost use Rattle.content_store.specs.HeldEntries.{IsHeld};
 ghost use Rattle.two_phase.specs.Calls.{KeeperCall};
@@ -115,6 +116,7 @@ pub fn held_entry<K: Keeper>(
     requires is_name { IsName name.now }
     requires name { name.now ≡ at_entry strong.now }
     ensures found { IfOk result (FindsOne (held_in (K.known keeper.new)) (λ S e. IsHeld S strong.now e)) }
+    ensures entry { IfOk result (λ found. IfSome found IsEntry) }
     ensures known { Keeps (K.known keeper.old) (K.known keeper.new) }
     ensures keeper { KeeperCall (K.bound keeper.old) (K.bound keeper.new) (K.faults keeper.old)
         (K.faults keeper.new) (result ≡ Err CareFault.Failed) }
