@@ -43,3 +43,4 @@ abbrev pub HasNoNotes : Status → Type 0
 HasNoNotes status =
     (status ≡ statuses.InputRefused) ⊎ (status ≡ statuses.SpecificationRefused)
     ⊎ (status ≡ statuses.SourceFailed) ⊎ (status ≡ statuses.OutFailed) ⊎ (status ≡ statuses.OutOfMemory)
+    ⊎ (status ≡ statuses.KeeperFailed)

@@ -34,3 +34,11 @@ IsBuild (orders.Gen seed pips) = ⊥
 -- the words are this order, which is to build
 abbrev pub OrdersBuild : List (List ℕ) → Order → Type 0
 OrdersBuild words order = Orders words order × IsBuild order
+
+-- the order is to check, to repair or to trim the store
+abbrev pub IsCare : Order → Type 0
+IsCare (orders.Build workers cached eval_budget tool_budget) = ⊥
+IsCare orders.Check = ⊤
+IsCare orders.Repair = ⊤
+IsCare (orders.Trim keep) = ⊤
+IsCare (orders.Gen seed pips) = ⊥

@@ -76,7 +76,7 @@ pub record Trims (S : Holdings) (keep : ℕ) (before now : StoreTold) (count : C
 -- a change that drops a name, or puts a list of selectors
 abbrev pub IsTrim : Change → Type 0
 IsTrim (Put name bytes) =
-    (weak : List ℕ) (list : List Selector) × (name ≡ at_list weak) × (bytes ≡ selectors_text list)
+    (weak : List ℕ) × (list : List Selector) × (name ≡ at_list weak) × (bytes ≡ selectors_text list)
 IsTrim (Drop name) = Unit {0}
 
 -- Nothing was done but that names were dropped and lists put.

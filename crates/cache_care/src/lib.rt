@@ -15,7 +15,7 @@ mod planning;
 mod repairing;
 mod trimming;
 
-pub use cache_care_check::{CareFault, CareLine, CareList, check_store, has_bad};
+pub use cache_care_check::{CareFault, CareLine, CareList, check_store, check_tells, has_bad};
 pub use laws::{
     repaired_is_honest, repairs_leave_repaired, repairs_stay_honest, trims_leave_trimmed,
     trims_stay_honest,
