@@ -10,6 +10,7 @@ pub mod Responses
 pub mod Statuses
 pub mod Headline
 pub mod Care
+pub mod Lives
 pub mod Workloads
 pub mod Beyond
 pub mod Ended

@@ -24,7 +24,7 @@ pub use bx_engine_front::{FrontEnd, FrontFault, Refusal};
 pub use bx_engine_generate::generate;
 pub use bx_engine_words::{Order, WordFault, read_words};
 pub use fault::InputFault;
-pub use laws::{one_end, some_end};
+pub use laws::{one_end, some_end, stores_stay_honest};
 pub use planning::front;
 pub use status::Status;
 pub use top::command;

@@ -1,5 +1,5 @@
 -- What the answers of the system come to, and how they are recorded.
-use Rattle.std.specs.Prelude.{ℕ, List, [], Result, Ok, Err, Vec, String}
+use Rattle.std.specs.Prelude.{ℕ, List, [], Result, Ok, Err, Vec, String, map, string_bytes}
 use Rattle.std.specs.IoError.{error_kind}
 use Rattle.std.specs.declared.alloc.Global.{Global}
 use Rattle.std.specs.declared.io.Error.{Error}
@@ -13,6 +13,7 @@ use Rattle.bx_io.specs.declared.keeper.Listed.TheVariants as listed
 use Rattle.bx_io.specs.declared.keeper.PutFault.{PutFault}
 use Rattle.bx_io.specs.declared.keeper.PutFault.TheVariants as put_faults
 use Rattle.bx_io_system.specs.Events.{Event}
+use Rattle.bx_io_system.specs.Telling.{joined}
 use Rattle.bx_io_system.specs.declared.kind.Kind.TheVariants as kinds
 
 -- what an error says of a name
@@ -66,6 +67,6 @@ change_event change (Err e) = refused_event (name_of change) e
 
 -- how a listing is recorded
 abbrev pub listed_event : Listed → Event
-listed_event (listed.Names names) = (kinds.Listed, [], [])
+listed_event (listed.Names names) = (kinds.Listed, [], joined (map string_bytes names.items))
 listed_event listed.Failed = (kinds.Failed, [], [])
 listed_event listed.Memory = (kinds.Memory, [], [])

@@ -1,11 +1,12 @@
 //! A list of answers and changes that only clauses read.
 
-ghost use Rattle.std.specs.Prelude.{◌≡◌, ℕ, Bool, true, ◌&&◌, List, [], ◌∷◌};
+ghost use Rattle.std.specs.Prelude.{◌≡◌, ℕ, Bool, true, ◌&&◌, List, [], ◌∷◌, map, string_bytes};
 ghost use Rattle.std.specs.Borrow.{ftrue};
 ghost use Rattle.bx_io.specs.Holdings.{Holdings};
 ghost use Rattle.bx_io.specs.StoreCodes.{holdings_code};
 ghost use Rattle.bx_io_system.specs.Events.{Event};
-ghost use Rattle.bx_io_system.specs.Telling.{told, tells};
+ghost use Rattle.bx_io_system.specs.Telling.{joined, told, tells};
+ghost use Rattle.bx_io_system.specs.declared.kind.Kind.TheVariants as kinds;
 
 use crate::kind::Kind;
 use std::marker::Model;
@@ -40,6 +41,15 @@ impl Record {
     pub(crate) fn noted(_before: &Record, _kind: &Kind, _name: &[u8], _bytes: &[u8]) -> Record
         ensures { result ≡ record _before.now {
           events = (_kind.now, _name.now, _bytes.now) ∷ _before.now.events;
+        } }
+    {
+        Record {}
+    }
+
+    /// The record with one more listing of all names.
+    pub(crate) fn listed(_before: &Record, _names: &[String]) -> Record
+        ensures { result ≡ record _before.now {
+          events = (kinds.Listed, [], joined (map string_bytes _names.now)) ∷ _before.now.events;
         } }
     {
         Record {}

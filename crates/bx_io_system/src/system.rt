@@ -118,7 +118,7 @@ fn was_listed(log: &mut Record, faults: &mut u64, done: io::Result<Vec<String>>)
 {
     match done {
         Ok(names) => {
-            *log = Record::noted(log, &Kind::Listed, &[], &[]);
+            *log = Record::listed(log, names.as_slice());
             Listed::Names(names)
         }
         Err(error) => {
