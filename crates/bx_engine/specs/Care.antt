@@ -12,9 +12,9 @@ use Rattle.cache_care_check.specs.declared.checking.CareList.{CareList}
 use Rattle.cache_care_check.specs.declared.fault.CareFault.{CareFault}
 use Rattle.cache_care_check.specs.declared.fault.CareFault.TheVariants as faults
 use Rattle.cache_care.specs.Planning.{OnlyDrops}
-use Rattle.cache_care.specs.Repairing.{IsRepaired, Repairs, RepairsInPart}
+use Rattle.cache_care.specs.Repairing.{IsRepaired, DoesRepair, DoesRepairInPart}
 use Rattle.cache_care.specs.Trimmed.{IsTrimmed}
-use Rattle.cache_care.specs.Trimming.{OnlyTrims, Trims, trims}
+use Rattle.cache_care.specs.Trimming.{OnlyTrims, DoesTrim, trims}
 use Rattle.cache_care.specs.declared.planning.CareCount.{CareCount}
 use Rattle.bx_engine.specs.Calls.{StoreChange, Written}
 use Rattle.bx_engine.specs.Counting.{AppendsNoted}
@@ -84,10 +84,10 @@ pub record OfRepair (status : Status) (notes : Written) (store : StoreChange) : 
   pub drops : OnlyDrops store.before store.now
   -- over a store of which no answer disagreed with what it told, it was repaired, and its names are counted in the notes,
   pub repairs : (S : Holdings) → held_in store.before ≡ Some S → IsSome (held_in store.now) → status ≡ statuses.Done
-      → (count : CareCount) × Repairs S store.before store.now count × AppendsNoted (count_text count) notes
+      → (count : CareCount) × DoesRepair S store.before store.now count × AppendsNoted (count_text count) notes
   -- or, with another status, nothing was changed, or the changes of a repair were made up to some place;
   pub in_part : (S : Holdings) → held_in store.before ≡ Some S → IsSome (held_in store.now)
-      → RepairsInPart S store.before store.now
+      → DoesRepairInPart S store.before store.now
   -- what is left is the repaired store, and honest;
   pub repaired : (S T : Holdings) → held_in store.before ≡ Some S → held_in store.now ≡ Some T → status ≡ statuses.Done
       → IsRepaired S T × Honest T
@@ -104,7 +104,7 @@ pub record OfTrim (keep : ℕ) (status : Status) (notes : Written) (store : Stor
   pub only : OnlyTrims store.before store.now
   -- over a store of which no answer disagreed with what it told, it was trimmed, and its names are counted in the notes,
   pub trims : (S : Holdings) → held_in store.before ≡ Some S → IsSome (held_in store.now) → status ≡ statuses.Done
-      → (count : CareCount) × Trims S keep store.before store.now count × AppendsNoted (count_text count) notes
+      → (count : CareCount) × DoesTrim S keep store.before store.now count × AppendsNoted (count_text count) notes
   -- or, with another status, the changes of a trim were made up to some place;
   pub in_part : (S : Holdings) → held_in store.before ≡ Some S → IsSome (held_in store.now)
       → MakesPrefix store.before store.now (trims S keep)

@@ -59,13 +59,13 @@ pub record IsRepaired (S T : Holdings) : Type 0 where
 -- ## What a call does
 
 -- The store was repaired, and its names are counted.
-pub record Repairs (S : Holdings) (before now : StoreTold) (count : CareCount) : Type 0 where
+pub record DoesRepair (S : Holdings) (before now : StoreTold) (count : CareCount) : Type 0 where
   pub changes : List Change
   pub are : AreRepairs S changes
   pub makes : Makes before changes now
   pub counted : IsCount (keys S) changes count
 
 -- Nothing was changed, or the changes of a repair were made up to some place.
-abbrev pub RepairsInPart : Holdings → StoreTold → StoreTold → Type 0
-RepairsInPart S before now =
+abbrev pub DoesRepairInPart : Holdings → StoreTold → StoreTold → Type 0
+DoesRepairInPart S before now =
     Keeps before now ⊎ ((changes : List Change) × AreRepairs S changes × MakesPrefix before now changes)

@@ -69,7 +69,7 @@ trims S keep =
 -- ## What a call does
 
 -- The store was trimmed, and its names are counted.
-pub record Trims (S : Holdings) (keep : ℕ) (before now : StoreTold) (count : CareCount) : Type 0 where
+pub record DoesTrim (S : Holdings) (keep : ℕ) (before now : StoreTold) (count : CareCount) : Type 0 where
   pub makes : Makes before (trims S keep) now
   pub counted : IsCount (keys S) (trims S keep) count
 

@@ -5,7 +5,7 @@ ghost use Rattle.bx_io.specs.Names.{IsName};
 ghost use Rattle.two_phase.specs.Calls.{KeeperCall};
 ghost use Rattle.cache_care.specs.Counts.{drop_count};
 ghost use Rattle.cache_care.specs.Planning.{OnlyDrops, planned_change};
-ghost use Rattle.cache_care.specs.Repairing.{Repairs, RepairsInPart, names_found, repairs as changes_of};
+ghost use Rattle.cache_care.specs.Repairing.{DoesRepair, DoesRepairInPart, names_found, repairs as changes_of};
 
 use crate::planning::{CareCount, Planned, apply_all, counted};
 use bx_io::Keeper;
@@ -46,9 +46,9 @@ fn repairs(alloc: Global, survey: &Survey) -> Result<Vec<Planned>, AllocError>
 /// at the first call of the store that fails; then a part of that was dropped.
 pub fn repair_store<K: Keeper>(alloc: Global, keeper: &mut K) -> Result<CareCount, CareFault>
     ensures repaired { (S : Holdings) → held_in (K.known keeper.old) ≡ Some S → IsSome (held_in (K.known keeper.new))
-        → IfOk result (Repairs S (K.known keeper.old) (K.known keeper.new)) }
+        → IfOk result (DoesRepair S (K.known keeper.old) (K.known keeper.new)) }
     ensures cut { (S : Holdings) → held_in (K.known keeper.old) ≡ Some S → IsSome (held_in (K.known keeper.new))
-        → OnErr result (RepairsInPart S (K.known keeper.old) (K.known keeper.new)) }
+        → OnErr result (DoesRepairInPart S (K.known keeper.old) (K.known keeper.new)) }
     ensures drops { OnlyDrops (K.known keeper.old) (K.known keeper.new) }
     ensures keeper { KeeperCall (K.bound keeper.old) (K.bound keeper.new) (K.faults keeper.old)
         (K.faults keeper.new) (result ≡ Err CareFault.Failed) }

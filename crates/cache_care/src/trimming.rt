@@ -18,7 +18,7 @@ ghost use Rattle.cache_care.specs.Counts.{drop_count};
 ghost use Rattle.cache_care.specs.Digests.{AddsAll, IsSetOf, has_digest};
 ghost use Rattle.cache_care.specs.Naming.{named_at};
 ghost use Rattle.cache_care.specs.Planning.{planned_change};
-ghost use Rattle.cache_care.specs.Trimming.{IsTrim, OnlyTrims, Trims, entry_names, is_selected, list_change};
+ghost use Rattle.cache_care.specs.Trimming.{IsTrim, OnlyTrims, DoesTrim, entry_names, is_selected, list_change};
 ghost use Rattle.cache_care.specs.Trimming.{list_changes, named_digests, remaining, trims};
 
 use crate::digests::DigestSet;
@@ -26,7 +26,7 @@ use crate::naming::add_named;
 use crate::planning::{CareCount, Planned, apply_all, counted};
 use bx_digest::Digest;
 use bx_io::{Got, Keeper};
-use cache_care_check::{CareFault, KnownContents, Named, held_entry, listed, named};
+use cache_care_check::{CareFault, KnownContents, Named, held_entry, names_of, read_name};
 use memo_format::{FormatFault, Selector, read_selectors, write_selectors};
 use std::alloc::{AllocError, Global};
 
@@ -148,7 +148,7 @@ fn trim_lists<K: Keeper>(
 {
     let mut trim = Trim::new(alloc);
     'names: for name in names {
-        match named(name.as_str()) {
+        match read_name(name.as_str()) {
             Named::Selectors(_) => trim_list(alloc, keeper, &mut trim, name, keep)?,
             Named::Content(_) | Named::Entry(_) => (),
         }
@@ -212,7 +212,7 @@ fn trim_entries<K: Keeper>(
     let mut contents = KnownContents::new(alloc);
     let mut trim = Trim::new(alloc);
     'names: for name in names {
-        match named(name.as_str()) {
+        match read_name(name.as_str()) {
             Named::Entry(strong) => trim_entry(
                 alloc,
                 keeper,
@@ -241,7 +241,7 @@ fn drop_contents(
         (filter (begins (codes "b/")) (map string_bytes names.now)))) }
 {
     'names: for name in names {
-        match named(name.as_str()) {
+        match read_name(name.as_str()) {
             Named::Content(digest) => {
                 if !named_digests.has(&digest) {
                     plan.push(Planned::Drop(name.clone()?))?;
@@ -297,14 +297,14 @@ pub fn trim_store<K: Keeper>(
     keep: u32,
 ) -> Result<CareCount, CareFault>
     ensures trimmed { (S : Holdings) → held_in (K.known keeper.old) ≡ Some S → IsSome (held_in (K.known keeper.new))
-        → IfOk result (Trims S keep (K.known keeper.old) (K.known keeper.new)) }
+        → IfOk result (DoesTrim S keep (K.known keeper.old) (K.known keeper.new)) }
     ensures cut { (S : Holdings) → held_in (K.known keeper.old) ≡ Some S → IsSome (held_in (K.known keeper.new))
         → OnErr result (MakesPrefix (K.known keeper.old) (K.known keeper.new) (trims S keep)) }
     ensures trims { OnlyTrims (K.known keeper.old) (K.known keeper.new) }
     ensures keeper { KeeperCall (K.bound keeper.old) (K.bound keeper.new) (K.faults keeper.old)
         (K.faults keeper.new) (result ≡ Err CareFault.Failed) }
 {
-    let names = listed(alloc, keeper)?;
+    let names = names_of(alloc, keeper)?;
     let plan = plan(alloc, keeper, names.as_slice(), keep as usize)?;
     apply_all(alloc, keeper, plan.as_slice())?;
     Ok(counted(names.len(), plan.as_slice()))

@@ -29,6 +29,13 @@ pub record AreTexts (S : Holdings) (e : Entry) (t : EntryTexts) : Type 0 where
   pub strong : HoldsStrong S e.strong (record { weak = e.weak; paths = e.paths; lines = t.lines })
   pub one_each : length t.lines ≡ length t.paths
 
+-- The texts of an entry, of which the first two say this.
+pub record AddsStrong (S : Holdings) (e : Entry) (weak : WeakParts) (paths : List Ask) (t : EntryTexts) : Type 0 where
+  pub weak_is : t.weak ≡ weak
+  pub paths_are : t.paths ≡ paths
+  pub strong : HoldsStrong S e.strong (record { weak = e.weak; paths = e.paths; lines = t.lines })
+  pub one_each : length t.lines ≡ length t.paths
+
 -- the process that a weak text says, with its contents, which are held
 abbrev pub IsDescOf : Holdings → WeakParts → Desc → Type 0
 IsDescOf S parts desc = (weak_parts desc ≡ parts) × HoldsAll S (desc_contents desc)

@@ -23,6 +23,31 @@ use observed::Answer;
 use pip_model_types::{Desc, Made, MadeFile};
 use prints::{AnswerLine, WeakParts};
 use std::alloc::Global;
+use std::marker::Model;
+
+/// Answers, in order. Contracts see them as a list.
+#[derive(Drop)]
+pub(crate) struct StoredAnswers {
+    answers: Vec<Answer>,
+}
+
+impl Model for StoredAnswers {
+    ghost use Rattle.std.specs.Prelude.{List};
+    ghost use Rattle.observed.specs.declared.access.Answer.{Answer};
+
+    ghost Value = { List Answer };
+
+    ghost view = { λ a. a.answers.items };
+}
+
+impl StoredAnswers {
+    // The answers, in order.
+    pub(crate) fn into_answers(self) -> Vec<Answer>
+        ensures { result.items ≡ self }
+    {
+        self.answers
+    }
+}
 
 // A declared file with its content.
 fn declared<K: Keeper>(
@@ -148,22 +173,22 @@ pub(crate) fn answers_of<K: Keeper>(
     keeper: &mut K,
     contents: &mut KnownContents,
     lines: &[AnswerLine],
-) -> Result<Option<Vec<Answer>>, CareFault>
+) -> Result<Option<StoredAnswers>, CareFault>
     requires { AreRight (held_in (K.known keeper.old)) contents.old }
     ensures found { IfOk result (FindsOne (held_in (K.known keeper.new))
-        (λ S (given : _). AreAnswersOf S lines.now given.items)) }
-    ensures number { IfOk result (λ found. IfSome found (λ given. length given.items ≡ length lines.now)) }
+        (λ S given. AreAnswersOf S lines.now given)) }
+    ensures number { IfOk result (λ found. IfSome found (λ given. length given ≡ length lines.now)) }
     ensures right { AreRight (held_in (K.known keeper.new)) contents.new }
     ensures known { Keeps (K.known keeper.old) (K.known keeper.new) }
     ensures keeper { KeeperCall (K.bound keeper.old) (K.bound keeper.new) (K.faults keeper.old)
         (K.faults keeper.new) (result ≡ Err CareFault.Failed) }
 {
-    let mut given = Vec::new(alloc);
+    let mut answers = Vec::new(alloc);
     'lines: for line in lines {
         match answer_of(alloc, keeper, contents, line)? {
-            Some(answer) => given.push(answer)?,
+            Some(answer) => answers.push(answer)?,
             None => return Ok(None),
         }
     }
-    Ok(Some(given))
+    Ok(Some(StoredAnswers { answers }))
 }

@@ -100,7 +100,7 @@ fn keeps_texts<K: Keeper>(
         Some(answers) => answers,
         None => return Ok(false),
     };
-    match files_of_run(alloc, desc, &paths, answers)? {
+    match files_of_run(alloc, desc, &paths, answers.into_answers())? {
         Some(made) => are_files(alloc, keeper, contents, entry.outputs.lines(), &made),
         None => Ok(false),
     }

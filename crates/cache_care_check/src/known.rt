@@ -1,11 +1,10 @@
 //! Contents of a store, each read and hashed once.
-ghost use Rattle.std.specs.Prelude.{◌≡◌, ◌≢◌, Err, IfOk, IfSome, MatchOption, OnErr, OnOk, Option, Some};
-ghost use Rattle.sha2.specs.Sha256.{sha256};
+ghost use Rattle.std.specs.Prelude.{◌≡◌, ℕ, List, Err, IfOk, OnErr, OnOk, Option, Some};
 ghost use Rattle.bx_io.specs.Holdings.{Holdings, Keeps, held_in};
 ghost use Rattle.content_store.specs.Contents.{IsContent};
 ghost use Rattle.two_phase.specs.Calls.{KeeperCall};
 ghost use Rattle.two_phase.specs.Finding.{FindsOne};
-ghost use Rattle.cache_care_check.specs.Known.{AreRight, noted_at};
+ghost use Rattle.cache_care_check.specs.Known.{AreRight, Matches, noted_at};
 
 use crate::fault::CareFault;
 use bx_digest::{Blob, Digest};
@@ -30,7 +29,9 @@ fn share(found: &Option<Blob>) -> Result<Option<Blob>, AllocError>
 }
 
 // What bytes that are held under a digest say: that they are its content, or that none is held.
-fn matched(fetched: Fetched) -> Result<Option<Blob>, CareFault> {
+fn matched(fetched: Fetched) -> Result<Option<Blob>, CareFault>
+    ensures { Matches fetched result }
+{
     match fetched {
         Fetched::Found(blob) => Ok(Some(blob)),
         Fetched::NotWell => Ok(None),
@@ -77,8 +78,8 @@ impl KnownContents {
         found: &Option<Blob>,
     ) -> Result<(), AllocError>
         ensures noted { OnOk result (noted_at self.new digest.now ≡ Some found.now) }
-        ensures others { OnOk result ((q : _) → (digest.now ≡ q → ⊥) → noted_at self.new q ≡ noted_at self.old q) }
-        ensures refused { OnErr result ((q : _) → noted_at self.new q ≡ noted_at self.old q) }
+        ensures others { OnOk result ((q : List ℕ) → (digest.now ≡ q → ⊥) → noted_at self.new q ≡ noted_at self.old q) }
+        ensures refused { OnErr result ((q : List ℕ) → noted_at self.new q ≡ noted_at self.old q) }
     {
         let key = Vec::from_slice(alloc, digest.bytes())?;
         self.contents.insert(key, share(found)?)?;

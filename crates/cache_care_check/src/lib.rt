@@ -23,6 +23,6 @@ pub use checking::{CareLine, CareList, check_store, has_bad};
 pub use fault::CareFault;
 pub use known::KnownContents;
 pub use laws::{check_tells, one_finding};
-pub use names::{Named, named};
-pub use surveying::{Finding, Survey, held_entry, listed, survey_store};
+pub use names::{Named, read_name};
+pub use surveying::{Finding, Survey, held_entry, names_of, survey_store};
 pub use texts::{strong_of, weak_of};

@@ -17,7 +17,7 @@ pub enum Named {
 }
 
 /// What a name is of.
-pub fn named(name: &str) -> Named
+pub fn read_name(name: &str) -> Named
     requires { IsName name.now }
     ensures { name.now ≡ name_text result }
 {

@@ -14,7 +14,7 @@ ghost use Rattle.cache_care_check.specs.Known.{AreRight};
 use crate::fault::CareFault;
 use crate::judging::is_honest;
 use crate::known::KnownContents;
-use crate::names::{Named, named};
+use crate::names::{Named, read_name};
 use bx_digest::Digest;
 use bx_io::{Got, Keeper, Listed};
 use content_store::{FetchedEntry, entry_of};
@@ -42,7 +42,7 @@ pub struct Survey {
 }
 
 /// The names of a store.
-pub fn listed<K: Keeper>(alloc: Global, keeper: &mut K) -> Result<Vec<String>, CareFault>
+pub fn names_of<K: Keeper>(alloc: Global, keeper: &mut K) -> Result<Vec<String>, CareFault>
     ensures listed { (S : Holdings) → held_in (K.known keeper.new) ≡ Some S →
         IfOk result (λ names. map string_bytes names.items ≡ keys S) }
     ensures names { IfOk result (λ names. All (λ name. IsName (string_bytes name)) names.items) }
@@ -179,7 +179,7 @@ fn of_name<K: Keeper>(
     ensures keeper { KeeperCall (K.bound keeper.old) (K.bound keeper.new) (K.faults keeper.old)
         (K.faults keeper.new) (result ≡ Err CareFault.Failed) }
 {
-    match named(name) {
+    match read_name(name) {
         Named::Content(digest) => of_content(alloc, keeper, contents, &digest),
         Named::Entry(strong) => of_entry(alloc, keeper, contents, name, &strong),
         Named::Selectors(weak) => of_selectors(alloc, keeper, name, &weak),
@@ -196,7 +196,7 @@ pub fn survey_store<K: Keeper>(alloc: Global, keeper: &mut K) -> Result<Survey, 
     ensures keeper { KeeperCall (K.bound keeper.old) (K.bound keeper.new) (K.faults keeper.old)
         (K.faults keeper.new) (result ≡ Err CareFault.Failed) }
 {
-    let names = listed(alloc, keeper)?;
+    let names = names_of(alloc, keeper)?;
     let mut contents = KnownContents::new(alloc);
     let mut findings = Vec::new(alloc);
     'names: for name in names.iter() {

@@ -8,7 +8,7 @@ ghost use Rattle.prints.specs.Strong.{read_strong_text};
 ghost use Rattle.two_phase.specs.Calls.{KeeperCall};
 ghost use Rattle.two_phase.specs.Finding.{FindsOne};
 ghost use Rattle.two_phase_meaning.specs.Contents.{HoldsPaths, HoldsStrong, HoldsWeak};
-ghost use Rattle.cache_care_check.specs.Judging.{AreTexts};
+ghost use Rattle.cache_care_check.specs.Judging.{AddsStrong, AreTexts};
 ghost use Rattle.cache_care_check.specs.Known.{AreRight};
 
 use crate::fault::CareFault;
@@ -147,10 +147,8 @@ fn with_strong<K: Keeper>(
     paths: PathSet,
 ) -> Result<Option<EntryTexts>, CareFault>
     requires right { AreRight (held_in (K.known keeper.old)) contents.old }
-    ensures found { IfOk result (FindsOne (held_in (K.known keeper.new)) (λ S (t : _). (t.weak ≡ weak)
-        × ((t.paths ≡ paths) × (HoldsStrong S entry.now.strong
-        (record { weak = entry.now.weak; paths = entry.now.paths; lines = t.lines })
-        × (length t.lines ≡ length t.paths))))) }
+    ensures found { IfOk result (FindsOne (held_in (K.known keeper.new))
+        (λ S t. AddsStrong S entry.now weak paths t)) }
     ensures parts { IfOk result (λ found. IfSome found (λ t.
         (t.weak ≡ weak) × ((t.paths ≡ paths) × (length t.lines ≡ length t.paths)))) }
     ensures right { AreRight (held_in (K.known keeper.new)) contents.new }
