@@ -1,15 +1,15 @@
 use Rattle.std.proofs.Common.{map, string_bytes}
 use Rattle.bx_engine_words.proofs.ReadSoFar.{all_read, next_is_given, next_is_new, next_is_none, no_words, none_read, starts}
-use Rattle.bx_engine_words.proofs.words.read_build.Goals as goal
+use Rattle.bx_engine_words.proofs.words.read_options.Goals as goal
 
 pub settings-init : goal.settings-init
-settings-init c = none_read (map string_bytes c.args.words.now) c.none-given.result c.none-given.ensures
+settings-init c = none_read c.args.command (map string_bytes c.args.words.now) c.none-given.result c.none-given.ensures
 
 pub returns-in_err-setting : goal.returns-in_err-setting
 returns-in_err-setting c =
     rw c.from_residual.ensures
     (λ order are.
-    next_is_none (map string_bytes c.args.words.now) (map string_bytes c.settings.rest.now)
+    next_is_none c.args.command (map string_bytes c.args.words.now) (map string_bytes c.settings.rest.now)
     (map string_bytes c.in-Some.others.now) c.as_str.result.now c.settings.given order c.settings.invariant
     (starts string_bytes c.settings.rest.now c.in-Some.others.now c.in-Some.first.now c.as_str.result.now
     c.in-Some.ensures.cases.0 c.as_str.ensures.value)
@@ -19,7 +19,7 @@ pub returns-in_err-given : goal.returns-in_err-given
 returns-in_err-given c =
     rw c.from_residual-in_err-given.ensures
     (λ order are.
-    next_is_given (map string_bytes c.args.words.now) (map string_bytes c.settings.rest.now)
+    next_is_given c.args.command (map string_bytes c.args.words.now) (map string_bytes c.settings.rest.now)
     (map string_bytes c.in-Some.others.now) (map string_bytes c.in_ok-setting.after.now) c.as_str.result.now
     c.settings.given c.in_ok-setting.setting order c.settings.invariant
     (starts string_bytes c.settings.rest.now c.in-Some.others.now c.in-Some.first.now c.as_str.result.now
@@ -28,7 +28,7 @@ returns-in_err-given c =
 
 pub settings-preserved : goal.settings-preserved
 settings-preserved c =
-    next_is_new (map string_bytes c.args.words.now) (map string_bytes c.settings.rest.now)
+    next_is_new c.args.command (map string_bytes c.args.words.now) (map string_bytes c.settings.rest.now)
     (map string_bytes c.in-Some.others.now) (map string_bytes c.in_ok-setting.after.now) c.as_str.result.now
     c.settings.given c.in_ok-given.given c.in_ok-setting.setting c.settings.invariant
     (starts string_bytes c.settings.rest.now c.in-Some.others.now c.in-Some.first.now c.as_str.result.now
@@ -37,5 +37,5 @@ settings-preserved c =
 
 pub returns : goal.returns
 returns c =
-    all_read (map string_bytes c.args.words.now) (map string_bytes c.settings.rest.now) c.settings.given
-    c.build_with.result c.settings.invariant (no_words string_bytes c.settings.rest.now c.in_default.ensures.cases) c.build_with.ensures
+    all_read c.args.command (map string_bytes c.args.words.now) (map string_bytes c.settings.rest.now) c.settings.given
+    c.order_with.result c.settings.invariant (no_words string_bytes c.settings.rest.now c.in_default.ensures.cases) c.order_with.ensures
