@@ -1,8 +1,10 @@
 //! The commands.
 
-ghost use Rattle.std.specs.Prelude.{◌≡◌, MatchOption};
-ghost use Rattle.bx_engine_words.specs.Commands.{command_text};
+ghost use Rattle.std.specs.Prelude.{◌≡◌, ◌↔◌, IsTrue, MatchOption};
+ghost use Rattle.bx_engine_words.specs.Commands.{command_of, command_text};
 ghost use Rattle.bx_engine_words.specs.declared.command.Command.{Command as AnyCommand};
+
+use crate::setting::Setting;
 
 /// What the first word asks for.
 #[derive(Clone, Copy, Debug, PartialEq, Eq)]
@@ -29,5 +31,12 @@ impl Command {
             "gen" => Some(Command::Gen),
             _ => None,
         }
+    }
+
+    /// Whether the command has the option of a setting.
+    pub(crate) fn takes(self, setting: Setting) -> bool
+        ensures { IsTrue result ↔ (command_of setting ≡ self) }
+    {
+        setting.command() == self
     }
 }

@@ -59,7 +59,7 @@ fn read_options(command: Command, words: &[String]) -> Option<Order>
     let mut rest = words;
     'settings: while let Some((first, others)) = rest.split_first() {
         let (setting, after) = read_setting(first.as_str(), others)?;
-        if setting.command() != command {
+        if !command.takes(setting) {
             return None;
         }
         given = given.and(setting)?;

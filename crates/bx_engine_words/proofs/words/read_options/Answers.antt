@@ -1,5 +1,6 @@
 use Rattle.std.proofs.Common.{map, string_bytes}
-use Rattle.bx_engine_words.proofs.ReadSoFar.{all_read, next_is_given, next_is_new, next_is_none, no_words, none_read, starts}
+use Rattle.std.proofs.lemmas.Bool.{both_ways}
+use Rattle.bx_engine_words.proofs.ReadSoFar.{all_read, next_is_given, next_is_new, next_is_none, next_is_other, no_words, none_read, starts}
 use Rattle.bx_engine_words.proofs.words.read_options.Goals as goal
 
 pub settings-init : goal.settings-init
@@ -26,6 +27,15 @@ returns-in_err-given c =
     c.in-Some.ensures.cases.0 c.as_str.ensures.value)
     c.in_ok-setting.ensures c.in_err-given.ensures.free are)
 
+pub returns-then-not-takes : goal.returns-then-not-takes
+returns-then-not-takes c order are =
+    next_is_other c.args.command (map string_bytes c.args.words.now) (map string_bytes c.settings.rest.now)
+    (map string_bytes c.in-Some.others.now) (map string_bytes c.in_ok-setting.after.now) c.as_str.result.now
+    c.settings.given c.in_ok-setting.setting order c.settings.invariant
+    (starts string_bytes c.settings.rest.now c.in-Some.others.now c.in-Some.first.now c.as_str.result.now
+    c.in-Some.ensures.cases.0 c.as_str.ensures.value)
+    c.in_ok-setting.ensures (λ own. both_ways c.takes.result c.if-not-takes.true (c.takes.ensures.1 own)) are
+
 pub settings-preserved : goal.settings-preserved
 settings-preserved c =
     next_is_new c.args.command (map string_bytes c.args.words.now) (map string_bytes c.settings.rest.now)
@@ -33,7 +43,7 @@ settings-preserved c =
     c.settings.given c.in_ok-given.given c.in_ok-setting.setting c.settings.invariant
     (starts string_bytes c.settings.rest.now c.in-Some.others.now c.in-Some.first.now c.as_str.result.now
     c.in-Some.ensures.cases.0 c.as_str.ensures.value)
-    c.in_ok-setting.ensures c.in_ok-given.ensures.free c.in_ok-given.ensures.more
+    c.in_ok-setting.ensures (c.takes.ensures.0 c.if-not-takes.false) c.in_ok-given.ensures.free c.in_ok-given.ensures.more
 
 pub returns : goal.returns
 returns c =
