@@ -1,4 +1,4 @@
--- What is held after changes of other names, and after names were dropped.
+-- What is held after changes of other names, and after changes that put nothing under a name.
 use Rattle.std.proofs.Common.{◌≡◌, ◌⊎◌, ℕ, Bool, true, false, cond, List, [], ◌∷◌, ◌++◌, map, Option, Some, None, refl, sym, ap, subst, ◌∙◌, inl, inr}
 use Rattle.std.specs.FinMap.{contains_key-keys, get, get-insert, get-remove, insert, keys, remove}
 use Rattle.std.specs.List.{AllByRecursion, list_any}
@@ -8,6 +8,7 @@ use Rattle.std.specs.Cmp.Lexicographic.{nat_list_cmp_total, slice_cmp}
 use Rattle.std.proofs.lemmas.Bool.{cases_Bool, or_cases}
 use Rattle.std.proofs.lemmas.Cmp.{eq_by_cmp_equiv}
 use Rattle.bx_tree.specs.Members.{Has}
+use Rattle.bx_tree.proofs.Lists.{all_weaker}
 use Rattle.bx_tree.proofs.Members.{has_front}
 use Rattle.bx_io.specs.Holdings.{Change, Drop, Holdings, IsPrefix, Put, changed, holdings_after, name_of}
 use Rattle.two_phase_meaning.proofs.Puts.{same_name}
@@ -33,48 +34,62 @@ after_others S [] q none = refl
 after_others S (c ∷ changes) q none =
     after_others (changed S c) changes q (λ d h. none d (inr h)) ∙ after_other S c q (none c (inl refl))
 
--- ## Drops
+-- ## Changes that put nothing there
+
+-- the change puts nothing under this name
+abbrev pub PutsNone : List ℕ → Change → Type 0
+PutsNone q (Put name bytes) = q ≡ name → ⊥
+PutsNone q (Drop name) = Unit {0}
 
 none_left : (b : Bool) (o : Option (List ℕ)) → o ≡ None → cond b None o ≡ None
 none_left true o e = refl
 none_left false o e = e
 
--- what is not there is not there after drops
-pub none_after : (S : Holdings) (changes : List Change) (q : List ℕ) → AllByRecursion IsDrop changes → get S q ≡ None
+-- what is not there is not there after changes that do not put it
+pub none_after : (S : Holdings) (changes : List Change) (q : List ℕ) → AllByRecursion (PutsNone q) changes → get S q ≡ None
     → get (holdings_after S changes) q ≡ None
-none_after S [] q drops e = e
-none_after S (Put name bytes ∷ changes) q drops e = absurd drops.0
-none_after S (Drop name ∷ changes) q drops e =
-    none_after (remove S name) changes q drops.1
+none_after S [] q none e = e
+none_after S (Put name bytes ∷ changes) q none e =
+    none_after (insert S name bytes) changes q none.1 (after_other S (Put name bytes) q none.0 ∙ e)
+none_after S (Drop name ∷ changes) q none e =
+    none_after (remove S name) changes q none.1
     (get-remove nat_list_cmp_total S name q ∙ none_left (eq_by_cmp (slice_cmp nat_cmp) q name) (get S q) e)
 
-name_itself : (name : List ℕ) → eq_by_cmp (slice_cmp nat_cmp) name name ≡ true
+pub name_itself : (name : List ℕ) → eq_by_cmp (slice_cmp nat_cmp) name name ≡ true
 name_itself name = (eq_by_cmp_equiv nat_list_cmp_total).refl name
 
--- a name that is dropped is not there afterwards
-pub dropped_after : (S : Holdings) (changes : List Change) (q : List ℕ) → AllByRecursion IsDrop changes → Has changes (Drop q)
+-- a name that is dropped and not put is not there afterwards
+pub dropped_after : (S : Holdings) (changes : List Change) (q : List ℕ) → AllByRecursion (PutsNone q) changes → Has changes (Drop q)
     → get (holdings_after S changes) q ≡ None
-dropped_after S [] q drops h = absurd h
-dropped_after S (c ∷ changes) q drops h = elim h [
+dropped_after S [] q none h = absurd h
+dropped_after S (c ∷ changes) q none h = elim h [
   | inl e ↦
       subst (λ (d : Change). get (holdings_after (changed S d) changes) q ≡ None) (sym e)
-      (none_after (remove S q) changes q drops.1
+      (none_after (remove S q) changes q none.1
       (get-remove nat_list_cmp_total S q q ∙ ap (λ b. cond b None (get S q)) (name_itself q)))
-  | inr k ↦ dropped_after (changed S c) changes q drops.1 k
+  | inr k ↦ dropped_after (changed S c) changes q none.1 k
 ]
 
 kept_some : (b : Bool) (o : Option (List ℕ)) (x : List ℕ) → cond b None o ≡ Some x → o ≡ Some x
 kept_some true o x e = absurd cc
 kept_some false o x e = e
 
--- what is there after drops was there before
-pub there_before : (S : Holdings) (changes : List Change) (q x : List ℕ) → AllByRecursion IsDrop changes
+-- what is there after changes that do not put it was there before
+pub there_before : (S : Holdings) (changes : List Change) (q x : List ℕ) → AllByRecursion (PutsNone q) changes
     → get (holdings_after S changes) q ≡ Some x → get S q ≡ Some x
-there_before S [] q x drops e = e
-there_before S (Put name bytes ∷ changes) q x drops e = absurd drops.0
-there_before S (Drop name ∷ changes) q x drops e =
+there_before S [] q x none e = e
+there_before S (Put name bytes ∷ changes) q x none e =
+    sym (after_other S (Put name bytes) q none.0) ∙ there_before (insert S name bytes) changes q x none.1 e
+there_before S (Drop name ∷ changes) q x none e =
     kept_some (eq_by_cmp (slice_cmp nat_cmp) q name) (get S q) x
-    (sym (get-remove nat_list_cmp_total S name q) ∙ there_before (remove S name) changes q x drops.1 e)
+    (sym (get-remove nat_list_cmp_total S name q) ∙ there_before (remove S name) changes q x none.1 e)
+
+drop_puts_none : (q : List ℕ) (c : Change) → IsDrop c → PutsNone q c
+drop_puts_none q (Put name bytes) h = absurd h
+drop_puts_none q (Drop name) h = tt
+
+pub drops_put_none : (q : List ℕ) (changes : List Change) → AllByRecursion IsDrop changes → AllByRecursion (PutsNone q) changes
+drops_put_none q changes h = all_weaker IsDrop (PutsNone q) (drop_puts_none q) changes h
 
 -- ## Prefixes
 

@@ -1,2 +1,4 @@
 pub mod Dropping
 pub mod Repaired
+pub mod Named
+pub mod Trimmed

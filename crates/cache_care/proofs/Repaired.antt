@@ -18,7 +18,7 @@ use Rattle.cache_care_check.specs.declared.surveying.Finding.{Finding}
 use Rattle.cache_care_check.specs.declared.surveying.Finding.TheVariants as findings
 use Rattle.cache_care.specs.Planning.{IsDrop}
 use Rattle.cache_care.specs.Repairing.{AreRepairs, IsDropped, IsKept, IsRepaired, names_found, repairs, same_finding}
-use Rattle.cache_care.proofs.Dropping.{after_others, all_drops, drop_of, drops_both, dropped_after, has_in_whole, held_name, none_after, prefix_drops, there_before}
+use Rattle.cache_care.proofs.Dropping.{after_others, all_drops, drop_of, drops_both, dropped_after, drops_put_none, has_in_whole, held_name, none_after, prefix_drops, there_before}
 
 -- ## Names of a finding
 
@@ -120,7 +120,7 @@ repairs_grow S changes made r p x h =
 
 entry_before : (S : Holdings) (changes : List Change) → AllByRecursion IsDrop changes → (e : Entry) → HoldsEntry (holdings_after S changes) e
     → HoldsEntry S e
-entry_before S changes drops e h = (h.0, there_before S changes (at_entry e.strong) h.0 drops h.1, h.2)
+entry_before S changes drops e h = (h.0, there_before S changes (at_entry e.strong) h.0 (drops_put_none (at_entry e.strong) changes drops) h.1, h.2)
 
 pub repairs_honest : (S : Holdings) (changes made : List Change) → Honest S → AreRepairs S changes → IsPrefix made changes
     → Honest (holdings_after S made)
@@ -174,13 +174,13 @@ repaired S changes r = record {
       after_others S changes name
       (λ c h e. not_both S name kept (subst (IsDropped S) (sym e) (repairs_of_dropped S changes r c h)));
   dropped = λ name dropped. by_held name dropped (get S name) refl;
-  none_added = λ name none. none_after S changes name (repairs_drop S changes r) none;
+  none_added = λ name none. none_after S changes name (drops_put_none name changes (repairs_drop S changes r)) none;
 }
   where
     gone : (name : List ℕ) → IsDropped S name → (f : Finding) → IsFinding S name f → Has (names_found f (keys S) r.found) name
         → get (holdings_after S changes) name ≡ None
-    gone name dropped findings.Damaged h k = dropped_after S changes name (repairs_drop S changes r) (planned S changes r findings.Damaged name (inr refl) k)
-    gone name dropped findings.Bad h k = dropped_after S changes name (repairs_drop S changes r) (planned S changes r findings.Bad name (inl refl) k)
+    gone name dropped findings.Damaged h k = dropped_after S changes name (drops_put_none name changes (repairs_drop S changes r)) (planned S changes r findings.Damaged name (inr refl) k)
+    gone name dropped findings.Bad h k = dropped_after S changes name (drops_put_none name changes (repairs_drop S changes r)) (planned S changes r findings.Bad name (inl refl) k)
     gone name dropped findings.Honest h k = absurd (kept_not_dropped (judged S name findings.Honest h))
       where
         kept_not_dropped : IsKept S name ⊎ IsDropped S name → ⊥
@@ -189,7 +189,7 @@ repaired S changes r = record {
     gone name dropped findings.Other h k = absurd (not_both S name (h.0, λ e at. absurd (h.1 e at)) dropped)
 
     by_held : (name : List ℕ) → IsDropped S name → (o : Option (List ℕ)) → get S name ≡ o → get (holdings_after S changes) name ≡ None
-    by_held name dropped None e = none_after S changes name (repairs_drop S changes r) e
+    by_held name dropped None e = none_after S changes name (drops_put_none name changes (repairs_drop S changes r)) e
     by_held name dropped (Some bytes) e =
         let found = is_found S (keys S) r.found r.findings name (held_name S name bytes e) in
         gone name dropped found.0 found.1 found.2
