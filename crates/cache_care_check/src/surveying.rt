@@ -93,7 +93,7 @@ fn of_selectors<K: Keeper>(
     ensures keeper { KeeperCall (K.bound keeper.old) (K.bound keeper.new) (K.faults keeper.old)
         (K.faults keeper.new) (result ≡ Err CareFault.Failed) }
 {
-    let _bytes = weak.bytes();
+    let _ = weak;
     match keeper.get(alloc, name) {
         Got::Found(text) => match read_selectors(alloc, text.as_slice()) {
             Ok(_) => Ok(Finding::Other),
