@@ -45,17 +45,18 @@ pub found_is : (S : Holdings) (wanted : Finding) (names : List (List ℕ)) (foun
     → (name : List ℕ) → Has (names_found wanted names found) name → IsFinding S name wanted
 found_is S wanted [] found are name h = absurd h
 found_is S wanted (n ∷ names) [] are name h = absurd are
-found_is S wanted (n ∷ names) (f ∷ found) are name h = by_test (same_finding wanted f) refl h
+found_is S wanted (n ∷ names) (f ∷ found) are name h =
+    by_test (same_finding wanted f) refl (found_is S wanted names found are.1 name) h
   where
-    by_test : (b : Bool) → same_finding wanted f ≡ b
+    by_test : (b : Bool) → same_finding wanted f ≡ b → (Has (names_found wanted names found) name → IsFinding S name wanted)
         → Has (cond b (n ∷ names_found wanted names found) (names_found wanted names found)) name → IsFinding S name wanted
-    by_test true same k = elim k [
+    by_test true same later k = elim k [
       | inl e ↦
           subst (λ (q : List ℕ). IsFinding S q wanted) e
           (subst (λ (g : Finding). IsFinding S n g) (sym (same_is wanted f same)) are.0)
-      | inr more ↦ found_is S wanted names found are.1 name more
+      | inr more ↦ later more
     ]
-    by_test false other k = found_is S wanted names found are.1 name k
+    by_test false other later k = later k
 
 -- a name of which a finding was made is among those of it
 pub is_found : (S : Holdings) (names : List (List ℕ)) (found : List Finding) → AreFindings S names found → (name : List ℕ)
@@ -70,7 +71,7 @@ is_found S (n ∷ names) (f ∷ found) are name h = elim h [
   )
   | inr k ↦
       let more = is_found S names found are.1 name k in
-      (more.0, more.1, passed (same_finding more.0 f) more.2)
+      (more.0, more.1, passed (names_found more.0 names found) (same_finding more.0 f) more.2)
 ]
   where
     itself : (g : Finding) → same_finding g g ≡ true
@@ -79,9 +80,9 @@ is_found S (n ∷ names) (f ∷ found) are name h = elim h [
     itself findings.Honest = refl
     itself findings.Other = refl
 
-    passed : {ns : List (List ℕ)} (b : Bool) → Has ns name → Has (cond b (n ∷ ns) ns) name
-    passed true h = inr h
-    passed false h = h
+    passed : (ns : List (List ℕ)) (b : Bool) → Has ns name → Has (cond b (n ∷ ns) ns) name
+    passed ns true h = inr h
+    passed ns false h = h
 
 -- ## Changes of a repair
 

@@ -254,16 +254,17 @@ settled : (S : Holdings) (changes : List Change) (q : List ℕ) (c : Change) →
     → ((d : Change) → Has changes d → q ≡ name_of d → d ≡ c) → (get S q ≡ left_by c) ⊎ Has changes c
     → get (holdings_after S changes) q ≡ left_by c
 settled S [] q c is one h = elim h [ inl e ↦ e | inr k ↦ absurd k ]
-settled S (d ∷ changes) q c is one h = by_name (eq_by_cmp (slice_cmp nat_cmp) q (name_of d)) refl
+settled S (d ∷ changes) q c is one h =
+    by_name (eq_by_cmp (slice_cmp nat_cmp) q (name_of d)) refl
+    (settled (changed S d) changes q c is (λ x m. one x (inr m)))
   where
-    later : (get (changed S d) q ≡ left_by c) ⊎ Has changes c → get (holdings_after (changed S d) changes) q ≡ left_by c
-    later k = settled (changed S d) changes q c is (λ x m. one x (inr m)) k
-
-    by_name : (b : Bool) → eq_by_cmp (slice_cmp nat_cmp) q (name_of d) ≡ b → get (holdings_after (changed S d) changes) q ≡ left_by c
-    by_name true e =
+    by_name : (b : Bool) → eq_by_cmp (slice_cmp nat_cmp) q (name_of d) ≡ b
+        → ((get (changed S d) q ≡ left_by c) ⊎ Has changes c → get (holdings_after (changed S d) changes) q ≡ left_by c)
+        → get (holdings_after (changed S d) changes) q ≡ left_by c
+    by_name true e later =
         let same : q ≡ name_of d = same_name q (name_of d) e in
         later (inl (ap (get (changed S d)) same ∙ left_there S d ∙ ap left_by (one d (inl refl) same)))
-    by_name false e =
+    by_name false e later =
         let other : q ≡ name_of d → ⊥ = λ same.
         never_both (eq_by_cmp (slice_cmp nat_cmp) q (name_of d)) (ap (eq_by_cmp (slice_cmp nat_cmp) q) (sym same) ∙ name_itself q) e in
         elim h [
