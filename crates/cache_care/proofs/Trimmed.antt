@@ -6,7 +6,7 @@ use Rattle.std.specs.Ordering.{eq_by_cmp, nat_cmp}
 use Rattle.std.specs.Cmp.Lexicographic.{nat_list_cmp_total, slice_cmp}
 use Rattle.std.specs.Str.{bytes_eq}
 use Rattle.std.proofs.lemmas.Slice.Eq.{bytes_eq-Decides}
-use Rattle.std.proofs.lemmas.List.{take_all}
+use Rattle.std.proofs.lemmas.List.{append-nil, take_all}
 use Rattle.sha2.specs.Sha256.{sha256}
 use Rattle.bx_tree.specs.Members.{Has}
 use Rattle.bx_tree.proofs.Members.{all_has, from_map, has_back, has_either, has_filter, has_front, has_map, one_passes}
@@ -231,11 +231,7 @@ module _ (S : Holdings) (keep : ℕ) where
   ]
 
   whole : IsPrefix (trims S keep) (trims S keep)
-  whole = record { rest = []; joined = ends (trims S keep) }
-    where
-      ends : (cs : List Change) → (cs ++ []) ≡ cs
-      ends [] = refl
-      ends (c ∷ cs) = ap (λ t. c ∷ t) (ends cs)
+  whole = record { rest = []; joined = append-nil (trims S keep) }
 
 -- ## What is left by changes of one name
 
