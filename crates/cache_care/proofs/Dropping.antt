@@ -1,11 +1,9 @@
 -- What is held after changes of other names, and after changes that put nothing under a name.
 use Rattle.std.proofs.Common.{◌≡◌, ◌⊎◌, ℕ, Bool, true, false, cond, List, [], ◌∷◌, ◌++◌, map, Option, Some, None, refl, sym, ap, subst, ◌∙◌, inl, inr}
-use Rattle.std.specs.FinMap.{contains_key-keys, get, get-insert, get-remove, insert, keys, remove}
-use Rattle.std.specs.List.{AllByRecursion, list_any}
-use Rattle.std.specs.Prelude.{is_some}
+use Rattle.std.specs.FinMap.{get, get-insert, get-remove, insert, remove}
+use Rattle.std.specs.List.{AllByRecursion}
 use Rattle.std.specs.Ordering.{eq_by_cmp, nat_cmp}
 use Rattle.std.specs.Cmp.Lexicographic.{nat_list_cmp_total, slice_cmp}
-use Rattle.std.proofs.lemmas.Bool.{cases_Bool, or_cases}
 use Rattle.std.proofs.lemmas.Cmp.{eq_by_cmp_equiv}
 use Rattle.bx_tree.specs.Members.{Has}
 use Rattle.bx_tree.proofs.Lists.{all_weaker}
@@ -20,7 +18,7 @@ unchosen : {X : Type 0} (b : Bool) (x y : X) → (b ≡ true → ⊥) → cond b
 unchosen true x y none = absurd (none refl)
 unchosen false x y none = refl
 
-after_other : (S : Holdings) (change : Change) (q : List ℕ) → (q ≡ name_of change → ⊥) → get (changed S change) q ≡ get S q
+pub after_other : (S : Holdings) (change : Change) (q : List ℕ) → (q ≡ name_of change → ⊥) → get (changed S change) q ≡ get S q
 after_other S (Put name bytes) q other =
     get-insert nat_list_cmp_total S name bytes q
     ∙ unchosen (eq_by_cmp (slice_cmp nat_cmp) q name) (Some bytes) (get S q) (λ e. other (same_name q name e))
@@ -118,16 +116,3 @@ drop_of (name ∷ names) c h = elim h [
   | inl e ↦ inl (ap name_of e)
   | inr k ↦ inr (drop_of names c k)
 ]
-
--- ## Names that are held
-
-has_any : (q : List ℕ) (names : List (List ℕ)) → list_any (eq_by_cmp (slice_cmp nat_cmp) q) names ≡ true → Has names q
-has_any q [] e = absurd cc
-has_any q (name ∷ names) e =
-    elim (or_cases (eq_by_cmp (slice_cmp nat_cmp) q name) (list_any (eq_by_cmp (slice_cmp nat_cmp) q) names) e) [
-      | inl here ↦ inl (sym (same_name q name here))
-      | inr more ↦ inr (has_any q names more)
-    ]
-
-pub held_name : (S : Holdings) (q x : List ℕ) → get S q ≡ Some x → Has (keys S) q
-held_name S q x e = has_any q (keys S) (sym (contains_key-keys S q) ∙ ap is_some e)

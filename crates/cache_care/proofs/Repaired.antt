@@ -2,12 +2,10 @@
 use Rattle.std.proofs.Common.{◌≡◌, ◌⊎◌, ℕ, Bool, true, false, cond, List, [], ◌∷◌, ◌++◌, map, Option, Some, None, refl, sym, ap, subst, ◌∙◌, inl, inr}
 use Rattle.std.specs.FinMap.{get, keys}
 use Rattle.std.specs.List.{AllByRecursion}
-use Rattle.std.proofs.lemmas.Option.{same_Some}
 use Rattle.sha2.specs.Sha256.{sha256}
 use Rattle.bx_tree.specs.Members.{Has}
 use Rattle.bx_tree.proofs.Members.{has_back, has_either, has_front, has_map}
 use Rattle.bx_io.specs.Holdings.{Change, Drop, Holdings, IsPrefix, holdings_after, name_of}
-use Rattle.memo_format.specs.Entries.{read_entry_text}
 use Rattle.memo_format.specs.StoreNames.{HoldsBlob, HoldsEntry, IsWellFormedName, at_blob, at_entry, blob, entry}
 use Rattle.memo_format.specs.declared.entry.Entry.{Entry}
 use Rattle.two_phase_meaning.specs.Honest.{Honest, HonestEntry}
@@ -16,9 +14,10 @@ use Rattle.two_phase_meaning.proofs.Puts.{Grows, still_honest}
 use Rattle.cache_care_check.specs.Findings.{AreFindings, IsBadEntry, IsEntryAt, IsFinding, IsHonestEntry}
 use Rattle.cache_care_check.specs.declared.surveying.Finding.{Finding}
 use Rattle.cache_care_check.specs.declared.surveying.Finding.TheVariants as findings
+use Rattle.cache_care_check.proofs.Told.{held_name, one_entry}
 use Rattle.cache_care.specs.Planning.{IsDrop}
 use Rattle.cache_care.specs.Repairing.{AreRepairs, IsDropped, IsKept, IsRepaired, names_found, repairs, same_finding}
-use Rattle.cache_care.proofs.Dropping.{after_others, all_drops, drop_of, drops_both, dropped_after, drops_put_none, has_in_whole, held_name, none_after, prefix_drops, there_before}
+use Rattle.cache_care.proofs.Dropping.{after_others, all_drops, drop_of, drops_both, dropped_after, drops_put_none, has_in_whole, none_after, prefix_drops, there_before}
 
 -- ## Names of a finding
 
@@ -146,14 +145,6 @@ planned S changes r f name which h =
           (has_map Drop (names_found findings.Damaged (keys S) r.found) name
           (subst (λ (g : Finding). Has (names_found g (keys S) r.found) name) e h))
     ])
-
--- two entries that are held as one name says are one
-one_entry : (S : Holdings) (name : List ℕ) (d e : Entry) → IsEntryAt S name d → IsEntryAt S name e → d ≡ e
-one_entry S name d e h k =
-    let bytes : h.held.0 ≡ k.held.0 =
-    same_Some h.held.0 k.held.0
-    (sym h.held.1 ∙ ap (get S) (sym h.name_is ∙ k.name_is) ∙ k.held.1) in
-    same_Some d e (sym h.held.2 ∙ ap read_entry_text bytes ∙ k.held.2)
 
 -- what is found of a name says whether it is kept
 judged : (S : Holdings) (name : List ℕ) (f : Finding) → IsFinding S name f → IsKept S name ⊎ IsDropped S name

@@ -23,10 +23,11 @@ use Rattle.memo_format.proofs.FormTexts.{selectors_sound}
 use Rattle.two_phase_meaning.specs.Honest.{Honest, HonestEntry}
 use Rattle.two_phase_meaning.specs.Saving.{or_none, selectors_in}
 use Rattle.two_phase_meaning.proofs.Puts.{Grows, same_name, still_honest, there_now}
+use Rattle.cache_care_check.proofs.Told.{held_name}
 use Rattle.cache_care.specs.Naming.{named_at, named_at_entry, named_by}
 use Rattle.cache_care.specs.Trimmed.{IsTrimmed}
 use Rattle.cache_care.specs.Trimming.{blob_names, cut_to, entry_names, is_named, is_selected, list_change, list_changes, list_names, named_digests, trims}
-use Rattle.cache_care.proofs.Dropping.{PutsNone, after_other, after_others, drop_of, dropped_after, has_in_whole, held_name, name_itself, none_after, there_before}
+use Rattle.cache_care.proofs.Dropping.{PutsNone, after_other, after_others, drop_of, dropped_after, has_in_whole, name_itself, none_after, there_before}
 use Rattle.cache_care.proofs.Named.{entry_is, named_honest}
 
 -- ## Members
@@ -103,7 +104,7 @@ cut_name keep name list [] c h = elim h [ inl e ↦ ap name_of e | inr k ↦ abs
 cut_name keep name list (s ∷ rest) c h = by_cut (nat_lt keep (length list)) h
   where
     by_cut : (b : Bool) → Has (cond b (Put name (selectors_text (s ∷ rest)) ∷ []) []) c → name ≡ name_of c
-    by_cut true k = elim k [ inl e ↦ ap name_of e | inr no ↦ absurd no ]
+    by_cut true k = elim k [ inl e ↦ ap name_of e | inr never ↦ absurd never ]
     by_cut false k = absurd k
 
 change_name : (keep : ℕ) (name : List ℕ) (o : Option (List Selector)) (c : Change) → Has (list_change keep name o) c → name ≡ name_of c
@@ -333,7 +334,7 @@ module _ (S : Holdings) (keep : ℕ) where
       (inr (list_planned name bytes kind e c (subst (λ (cs : List Change). Has cs c) (sym planned) (inl refl))))
     where
       only : (d : Change) → Has (c ∷ []) d → d ≡ c
-      only d h = elim h [ inl same ↦ sym same | inr no ↦ absurd no ]
+      only d h = elim h [ inl same ↦ sym same | inr never ↦ absurd never ]
 
   -- where nothing is planned for a list
   list_alone : (name : List ℕ) → begins (codes "w/") name ≡ true → list_change keep name (read_at S name) ≡ []
@@ -361,7 +362,7 @@ module _ (S : Holdings) (keep : ℕ) where
       dropped (Drop other) h = tt
       dropped (Put other bytes) h = λ same. elim (h same) [
         | inl is ↦ absurd cc
-        | inr no ↦ absurd no
+        | inr never ↦ absurd never
       ]
 
   read_is : (name bytes : List ℕ) → get S name ≡ Some bytes → (o : Option (List Selector)) → read_selectors_text bytes ≡ o
