@@ -1,2 +1,9 @@
 pub mod Deciding
 pub mod Told
+mod Noted
+mod Texts
+mod Described
+mod Judged
+mod Names
+mod Surveyed
+mod Listed
