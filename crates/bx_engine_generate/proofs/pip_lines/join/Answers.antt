@@ -1,4 +1,5 @@
+use Rattle.std.proofs.Common.{append_assoc}
 use Rattle.bx_engine_generate.proofs.pip_lines.join.Goals as goal
 
 pub returns : goal.returns
-returns c = let h = c.in_ok-line.ensures in let k = c.format.ensures in let b = c.branch-line.ensures in ?
+returns c = simp append_assoc c.in_ok-line.ensures.ok
