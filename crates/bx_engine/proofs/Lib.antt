@@ -11,5 +11,7 @@ mod BuildsAreShown
 mod ExpectedIsWritten
 mod ResponsesAreExpected
 mod CallsEnd
+mod OtherCalls
+mod Checked
 mod OneEnding
 mod SomeEnding
