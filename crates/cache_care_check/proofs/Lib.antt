@@ -1,5 +1,6 @@
 pub mod Deciding
 pub mod Told
+mod Steps
 mod Noted
 mod Texts
 mod Described
