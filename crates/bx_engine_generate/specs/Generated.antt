@@ -3,14 +3,12 @@ use Rattle.std.specs.Prelude.{ℕ, zero, suc, ◌+◌, ◌*◌, ◌/◌, ◌%◌
 use Rattle.std.specs.Fmt.{decimal}
 use Rattle.bx_tree.specs.Bundle.{bundle}
 use Rattle.bx_tree.specs.Paths.{Atoms}
-use Rattle.bx_engine_generate.specs.declared.numbers.TheConstants.{INCREMENT, MULTIPLIER}
-use Rattle.bx_engine_generate.specs.declared.pip_lines.TheConstants.{WRITES_EACH}
 
 -- ## Numbers
 
 -- the state after this one
 abbrev pub next_state : ℕ → ℕ
-next_state x = (x * MULTIPLIER + INCREMENT) % 2 ^ 64
+next_state x = (x * 6364136223846793005 + 1442695040888963407) % 2 ^ 64
 
 -- the number that is drawn of a state: its upper 31 bits
 abbrev pub drawn : ℕ → ℕ
@@ -32,15 +30,16 @@ join_line pip first second =
     ++ codes "`)), Cmd.argument(Artifact.input(v" ++ decimal first ++ codes ")), Cmd.argument(Artifact.input(v" ++ decimal second
     ++ codes "))]}).getOutputFile(p`out/" ++ decimal pip ++ codes "`);\n"
 
--- The line of a pip, by the state before it: one draw where it writes, and else two, each for a smaller pip.
+-- The line of a pip, by the state before it: one draw where it writes, as every fourth pip does, and else two, each for
+-- a smaller pip.
 abbrev pub line_at : ℕ → ℕ → List ℕ
 line_at pip x =
-    if (pip % WRITES_EACH) == 0 then write_line pip (drawn (next_state x))
+    if (pip % 4) == 0 then write_line pip (drawn (next_state x))
     else join_line pip (drawn (next_state x) % pip) (drawn (next_state (next_state x)) % pip)
 
 -- the state after it
 abbrev pub state_after : ℕ → ℕ → ℕ
-state_after pip x = if (pip % WRITES_EACH) == 0 then next_state x else next_state (next_state x)
+state_after pip x = if (pip % 4) == 0 then next_state x else next_state (next_state x)
 
 -- the lines of that many pips, from this one on
 unfoldable pub lines_from : ℕ → ℕ → ℕ → List ℕ

@@ -9,7 +9,7 @@ use Rattle.bx_engine_words.specs.declared.order.Order.{Order}
 use Rattle.bx_engine_words.specs.declared.order.Order.TheVariants.{Build}
 use Rattle.bx_engine_words.specs.declared.order.TheConstants.{DEFAULT_EVAL_BUDGET, DEFAULT_TOOL_BUDGET}
 use Rattle.bx_engine_words.specs.declared.order.TheConstants.{DEFAULT_WORKERS, MAX_EVAL_BUDGET, MAX_TOOL_BUDGET}
-use Rattle.bx_engine_words.specs.declared.order.TheConstants.{MAX_GENERATED_PIPS, MAX_KEPT, MAX_WORKERS}
+use Rattle.bx_engine_words.specs.declared.order.TheConstants.{MAX_WORKERS}
 use Rattle.bx_engine_words.specs.declared.setting.NumberOption.{NumberOption}
 use Rattle.bx_engine_words.specs.declared.setting.NumberOption.TheVariants as options
 use Rattle.bx_engine_words.specs.declared.setting.Setting.{Setting}
@@ -40,9 +40,9 @@ abbrev pub greatest : NumberOption → ℕ
 greatest options.Workers = MAX_WORKERS
 greatest options.EvalBudget = MAX_EVAL_BUDGET
 greatest options.ToolBudget = MAX_TOOL_BUDGET
-greatest options.Keep = MAX_KEPT
+greatest options.Keep = 64
 greatest options.Seed = 2 ^ 64 - 1
-greatest options.Pips = MAX_GENERATED_PIPS
+greatest options.Pips = 16384
 
 abbrev pub same_option : NumberOption → NumberOption → Bool
 same_option options.Workers options.Workers = true
