@@ -2,3 +2,8 @@ pub mod Dropping
 pub mod Repaired
 pub mod Named
 pub mod Trimmed
+pub mod Planned
+pub mod Sets
+pub mod Digests
+pub mod Counted
+pub mod Listed

@@ -59,7 +59,7 @@ found_is S wanted (n ∷ names) (f ∷ found) are name h =
 
 -- a name of which a finding was made is among those of it
 pub is_found : (S : Holdings) (names : List (List ℕ)) (found : List Finding) → AreFindings S names found → (name : List ℕ)
-    → Has names name → (f : Finding) × (IsFinding S name f × Has (names_found f names found) name)
+    → Has names name → (f : Finding) × IsFinding S name f × Has (names_found f names found) name
 is_found S [] found are name h = absurd h
 is_found S (n ∷ names) [] are name h = absurd are
 is_found S (n ∷ names) (f ∷ found) are name h = elim h [

@@ -493,6 +493,7 @@ module _ (S : Holdings) (keep : ℕ) (made : List Change) (p : IsPrefix made (tr
   -- after all entries are dropped that are not selected, those that are held are selected
   selected : (rest : List Change) → made ≡ first ++ rest → (e : Entry) → HoldsEntry now e
       → is_selected S keep (at_entry e.strong) ≡ true
+  unfolding before
   selected rest is e h = by_test (is_selected S keep (at_entry e.strong)) refl
     where
       gone : is_selected S keep (at_entry e.strong) ≡ false → get now (at_entry e.strong) ≡ None

@@ -1,16 +1,17 @@
 -- The changes of a trim of a store, which leaves so many selectors of each list.
-use Rattle.std.specs.Prelude.{◌≡◌, ◌⊎◌, ℕ, Bool, not, nat_lt, List, [], ◌∷◌, ◌++◌, codes, filter, length, map, take, Option, Some, None, if◌then◌else◌}
+use Rattle.std.specs.Prelude.{◌≡◌, ◌≤◌, ℕ, Bool, not, nat_lt, List, [], ◌∷◌, ◌++◌, codes, filter, length, map, take, Option, Some, None, if◌then◌else◌}
 use Rattle.std.specs.FinMap.{get, keys}
 use Rattle.std.specs.List.{AllByRecursion, flat_map, list_any}
 use Rattle.std.specs.Str.{bytes_eq}
-use Rattle.bx_io.specs.Holdings.{Change, Drop, Holdings, Makes, Put, StoreTold}
+use Rattle.bx_tree.specs.Members.{Has}
+use Rattle.bx_io.specs.Holdings.{Change, Drop, Holdings, Makes, Put, StoreTold, name_of}
 use Rattle.prints.specs.Lines.{begins}
 use Rattle.prints.specs.Reading.{◌>>=◌}
 use Rattle.memo_format.specs.Selectors.{read_selectors_text, selectors_text}
 use Rattle.memo_format.specs.StoreNames.{at_blob, at_entry, at_list}
 use Rattle.memo_format.specs.declared.selector.Selector.{Selector}
 use Rattle.two_phase_meaning.specs.Saving.{selectors_in}
-use Rattle.cache_care.specs.Counts.{IsCount}
+use Rattle.cache_care.specs.Counts.{IsCount, drop_count}
 use Rattle.cache_care.specs.Naming.{named_at}
 use Rattle.cache_care.specs.declared.planning.CareCount.{CareCount}
 
@@ -84,3 +85,14 @@ pub record OnlyTrims (before now : StoreTold) : Type 0 where
   pub made : List Change
   pub trims : AllByRecursion IsTrim made
   pub makes : Makes before made now
+
+-- ## Whatever is held
+
+-- the name of a list of selectors
+abbrev pub IsListName : List ℕ → Type 0
+IsListName name = (weak : List ℕ) × (name ≡ at_list weak)
+
+-- Changes of a trim, each of one of the names, and no more drops than names.
+pub record AreTrims (names : List (List ℕ)) (changes : List Change) : Type 0 where
+  pub each : AllByRecursion (λ c. IsTrim c × Has names (name_of c)) changes
+  pub few : drop_count changes ≤ length names

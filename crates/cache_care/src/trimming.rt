@@ -2,13 +2,14 @@
 ghost use Rattle.std.specs.Prelude.{◌≡◌, ◌≤◌, ◌++◌, [], ◌∷◌, ℕ, List, All, Err, IfOk, IsSome, OnErr, OnOk, Some};
 ghost use Rattle.std.specs.Prelude.{codes, filter, if◌then◌else◌, length, map, not, string_bytes, take};
 ghost use Rattle.std.specs.FinMap.{get, keys};
-ghost use Rattle.std.specs.List.{list_any};
+ghost use Rattle.std.specs.List.{AllByRecursion, list_any};
 ghost use Rattle.std.specs.Str.{bytes_eq};
-ghost use Rattle.bx_io.specs.Holdings.{Drop, Holdings, Keeps, MakesPrefix, held_in, name_of};
+ghost use Rattle.bx_digest.specs.Digests.{IsDigest};
+ghost use Rattle.bx_io.specs.Holdings.{Drop, Holdings, Keeps, MakesPrefix, Put, held_in, name_of};
 ghost use Rattle.bx_io.specs.Names.{IsName};
 ghost use Rattle.prints.specs.Lines.{begins};
 ghost use Rattle.prints.specs.Reading.{◌>>=◌};
-ghost use Rattle.memo_format.specs.Selectors.{read_selectors_text};
+ghost use Rattle.memo_format.specs.Selectors.{read_selectors_text, selectors_text};
 ghost use Rattle.memo_format.specs.StoreNames.{at_blob, at_entry};
 ghost use Rattle.memo_format.specs.declared.selector.TheConstants.{MAX_SELECTORS};
 ghost use Rattle.two_phase.specs.Calls.{KeeperCall};
@@ -18,8 +19,8 @@ ghost use Rattle.cache_care.specs.Counts.{drop_count};
 ghost use Rattle.cache_care.specs.Digests.{AddsAll, IsSetOf, has_digest};
 ghost use Rattle.cache_care.specs.Naming.{named_at};
 ghost use Rattle.cache_care.specs.Planning.{planned_change};
-ghost use Rattle.cache_care.specs.Trimming.{IsTrim, OnlyTrims, DoesTrim, entry_names, is_selected, list_change};
-ghost use Rattle.cache_care.specs.Trimming.{list_changes, named_digests, remaining, trims};
+ghost use Rattle.cache_care.specs.Trimming.{AreTrims, DoesTrim, IsListName, IsTrim, OnlyTrims, entry_names};
+ghost use Rattle.cache_care.specs.Trimming.{is_selected, list_change, list_changes, named_digests, remaining, trims};
 
 use crate::digests::DigestSet;
 use crate::naming::add_named;
@@ -72,6 +73,26 @@ fn add_selected(
     Ok(())
 }
 
+// Plans to put what is left of a list, if it was cut.
+fn put_cut(
+    alloc: Global,
+    changes: &mut Vec<Planned>,
+    name: &String,
+    list: &[Selector],
+    is_cut: bool,
+) -> Result<(), AllocError>
+    requires { length list.now ≤ MAX_SELECTORS }
+    ensures { OnOk result (map planned_change changes.new.items ≡ map planned_change changes.old.items
+        ++ (if is_cut then Put (string_bytes name.now) (selectors_text list.now) ∷ [] else [])) }
+{
+    if !is_cut {
+        return Ok(());
+    }
+    let text = write_selectors(alloc, list)?;
+    changes.push(Planned::Put(name.clone()?, text))?;
+    Ok(())
+}
+
 // What becomes of a well-formed list: its first selectors stay.
 fn cut_list(
     alloc: Global,
@@ -80,11 +101,14 @@ fn cut_list(
     list: Vec<Selector>,
     keep: usize,
 ) -> Result<(), AllocError>
-    requires { length list.items ≤ MAX_SELECTORS }
+    requires few { length list.items ≤ MAX_SELECTORS }
+    requires name { IsListName (string_bytes name.now) }
     ensures changes { OnOk result (map planned_change trim.new.changes.items ≡ map planned_change trim.old.changes.items
         ++ list_change keep (string_bytes name.now) (Some list.items)) }
     ensures selected { OnOk result (AddsAll trim.old.digests trim.new.digests
         (map (λ s. s.strong) (take keep list.items))) }
+    ensures trims { OnOk result ((names : List (List ℕ)) → AreTrims names (map planned_change trim.old.changes.items)
+        → AreTrims (names ++ string_bytes name.now ∷ []) (map planned_change trim.new.changes.items)) }
 {
     let mut list = list;
     let is_cut = keep < list.len();
@@ -92,10 +116,7 @@ fn cut_list(
     if list.is_empty() {
         return trim.drop_name(name);
     }
-    if is_cut {
-        let text = write_selectors(alloc, list.as_slice())?;
-        trim.changes.push(Planned::Put(name.clone()?, text))?;
-    }
+    put_cut(alloc, &mut trim.changes, name, list.as_slice(), is_cut)?;
     add_selected(alloc, &mut trim.digests, list.as_slice())
 }
 
@@ -107,13 +128,16 @@ fn trim_list<K: Keeper>(
     name: &String,
     keep: usize,
 ) -> Result<(), CareFault>
-    requires { IsName (string_bytes name.now) }
+    requires is_name { IsName (string_bytes name.now) }
+    requires name { IsListName (string_bytes name.now) }
     ensures changes { (S : Holdings) → held_in (K.known keeper.new) ≡ Some S →
         OnOk result (map planned_change trim.new.changes.items ≡ map planned_change trim.old.changes.items
         ++ list_change keep (string_bytes name.now) (get S (string_bytes name.now) >>= read_selectors_text)) }
     ensures selected { (S : Holdings) → held_in (K.known keeper.new) ≡ Some S →
         OnOk result (AddsAll trim.old.digests trim.new.digests
         (map (λ s. s.strong) (take keep (selectors_in (get S (string_bytes name.now)))))) }
+    ensures trims { OnOk result ((names : List (List ℕ)) → AreTrims names (map planned_change trim.old.changes.items)
+        → AreTrims (names ++ string_bytes name.now ∷ []) (map planned_change trim.new.changes.items)) }
     ensures known { Keeps (K.known keeper.old) (K.known keeper.new) }
     ensures keeper { KeeperCall (K.bound keeper.old) (K.bound keeper.new) (K.faults keeper.old)
         (K.faults keeper.new) (result ≡ Err CareFault.Failed) }
@@ -142,6 +166,8 @@ fn trim_lists<K: Keeper>(
         IfOk result (λ trim. map planned_change trim.changes.items ≡ list_changes S keep) }
     ensures selected { (S : Holdings) → held_in (K.known keeper.new) ≡ Some S → map string_bytes names.now ≡ keys S →
         IfOk result (λ trim. IsSetOf trim.digests (map (λ s. s.strong) (remaining S keep))) }
+    ensures trims { IfOk result (λ trim. AreTrims (filter (begins (codes "w/")) (map string_bytes names.now))
+        (map planned_change trim.changes.items)) }
     ensures known { Keeps (K.known keeper.old) (K.known keeper.new) }
     ensures keeper { KeeperCall (K.bound keeper.old) (K.bound keeper.new) (K.faults keeper.old)
         (K.faults keeper.new) (result ≡ Err CareFault.Failed) }
@@ -175,6 +201,8 @@ fn trim_entry<K: Keeper>(
     ensures named { (S : Holdings) → held_in (K.known keeper.new) ≡ Some S →
         OnOk result (AddsAll trim.old.digests trim.new.digests
         (if has_digest selected.now strong.now then named_at S (string_bytes name.now) else [])) }
+    ensures trims { OnOk result ((names : List (List ℕ)) → AreTrims names (map planned_change trim.old.changes.items)
+        → AreTrims (names ++ string_bytes name.now ∷ []) (map planned_change trim.new.changes.items)) }
     ensures right { AreRight (held_in (K.known keeper.new)) contents.new }
     ensures known { Keeps (K.known keeper.old) (K.known keeper.new) }
     ensures keeper { KeeperCall (K.bound keeper.old) (K.bound keeper.new) (K.faults keeper.old)
@@ -205,6 +233,8 @@ fn trim_entries<K: Keeper>(
     ensures named { (S : Holdings) → held_in (K.known keeper.new) ≡ Some S → map string_bytes names.now ≡ keys S
         → IsSetOf selected.now (map (λ s. s.strong) (remaining S keep))
         → IfOk result (λ trim. IsSetOf trim.digests (named_digests S keep)) }
+    ensures trims { IfOk result (λ trim. AreTrims (filter (begins (codes "e/")) (map string_bytes names.now))
+        (map planned_change trim.changes.items)) }
     ensures known { Keeps (K.known keeper.old) (K.known keeper.new) }
     ensures keeper { KeeperCall (K.bound keeper.old) (K.bound keeper.new) (K.faults keeper.old)
         (K.faults keeper.new) (result ≡ Err CareFault.Failed) }
@@ -235,10 +265,12 @@ fn drop_contents(
     named_digests: &DigestSet,
 ) -> Result<(), AllocError>
     requires { All (λ name. IsName (string_bytes name)) names.now }
-    ensures { (digests : List (List ℕ)) → IsSetOf named_digests.now digests →
+    ensures changes { (digests : List (List ℕ)) → IsSetOf named_digests.now digests → AllByRecursion IsDigest digests →
         OnOk result (map planned_change plan.new.items ≡ map planned_change plan.old.items
         ++ map Drop (filter (λ name. not (list_any (λ digest. bytes_eq (at_blob digest) name) digests))
         (filter (begins (codes "b/")) (map string_bytes names.now)))) }
+    ensures trims { OnOk result ((before : List (List ℕ)) → AreTrims before (map planned_change plan.old.items)
+        → AreTrims (before ++ filter (begins (codes "b/")) (map string_bytes names.now)) (map planned_change plan.new.items)) }
 {
     'names: for name in names {
         match read_name(name.as_str()) {
