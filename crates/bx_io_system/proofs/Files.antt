@@ -13,7 +13,19 @@ use Rattle.bx_io.specs.Stored.{holdings_of}
 use Rattle.bx_io.proofs.Mapped.{get-holdings_of}
 use Rattle.std.specs.declared.io.Error.{Error}
 use Rattle.bx_io.specs.Names.{IsName}
-use Rattle.bx_io_system.specs.Files.{Files, IsBegun, Writes, SameBut}
+use Rattle.bx_io_system.specs.Files.{Files, IsBegun, IsFault, IsFaultBut, Renames, Writes, SameBut}
+use Rattle.std.proofs.Common.{[], ◌∷◌, IsSome, ◌≤◌}
+use Rattle.std.specs.declared.io.ErrorKind.{ErrorKind}
+use Rattle.std.specs.declared.io.ErrorKind.TheVariants.{NotFound}
+use Rattle.bx_io.specs.Causes.{HasCause, counted, last_count}
+use Rattle.bx_io.specs.declared.keeper.Got.TheVariants as got
+use Rattle.bx_io.specs.declared.keeper.Listed.TheVariants as listed
+use Rattle.bx_io.specs.declared.keeper.PutFault.{PutFault}
+use Rattle.bx_io.specs.declared.keeper.PutFault.TheVariants as put_faults
+use Rattle.bx_io_system.specs.Answers.{fault_of, got_of, list_fault_of, listed_of, put_fault_of, put_of}
+use Rattle.bx_io_system.specs.Events.{Event, failures, failures_next}
+use Rattle.bx_io_system.specs.declared.kind.Kind.{Kind}
+use Rattle.bx_io_system.specs.declared.kind.Kind.TheVariants as kinds
 
 -- a name with something behind it is no name
 pub begun_of : (name path : List ℕ) → IsName name → path ≡ name ++ codes ".new" → IsBegun path
@@ -76,3 +88,83 @@ pub absent_at : (m : BTreeMap (String Global) (Vec ℕ Global)) (path : List ℕ
     → option_copied lent ≡ get_by_text m path → get (holdings_of m) path ≡ None
 absent_at m path None b some here value = read_none m path value
 absent_at m path (Some v) b some here value = absurd (true_is_not b some here)
+
+-- ## Faults
+
+counted_most : (n : ℕ) → counted n ≤ last_count
+counted_most n = omega arith
+
+failures_next_most : (kind : Kind) (n : ℕ) → n ≤ last_count → failures_next kind n ≤ last_count
+failures_next_most kinds.Failed n most = counted_most n
+failures_next_most kinds.Started n most = omega arith
+failures_next_most _ n most = most
+
+pub failures_most : (events : List Event) → failures events ≤ last_count
+failures_most [] = omega arith
+failures_most (e ∷ earlier) = failures_next_most e.0 (failures earlier) (failures_most earlier)
+
+-- one more failure
+pub failure_noted : (answer : Type 0) (events : List Event) → HasCause (failures events) (failures ((kinds.Failed, [], []) ∷ events)) answer
+failure_noted answer events = let most = failures_most events in record { later = omega (arith, most); rose = λ _. omega arith }
+
+not_found_failed : got.None ≡ got.Failed → ⊥
+not_found_failed h = cc
+
+not_memory_failed : got.Memory ≡ got.Failed → ⊥
+not_memory_failed h = cc
+
+-- a look that failed is a fault
+pub failed_look : (done : Result (Vec ℕ Global) Error) → got_of done ≡ got.Failed → IsFaultBut NotFound done
+failed_look (Ok bytes) h = absurd (cc)
+failed_look (Err e) h = (
+  λ is. not_found_failed (sym (ap fault_of is) ∙ h),
+  λ is. not_memory_failed (sym (ap fault_of is) ∙ h),
+)
+
+memory_failed : ◌≡◌ {A = Result (Unit {0}) PutFault} (Err put_faults.Memory) (Err put_faults.Failed) → ⊥
+memory_failed h = cc
+
+-- a change that failed is a fault
+pub failed_change : (done : Result (Unit {0}) Error) → put_of done ≡ Err put_faults.Failed → IsFault done
+failed_change (Ok x) h = absurd (cc)
+failed_change (Err e) h = λ is. memory_failed (sym (ap (λ (k : ErrorKind). Err (put_fault_of k)) is) ∙ h)
+
+listed_memory_failed : listed.Memory ≡ listed.Failed → ⊥
+listed_memory_failed h = cc
+
+-- a listing that failed is a fault
+pub failed_listing : (done : Result (Vec (String Global) Global) Error) → listed_of done ≡ listed.Failed → IsFault done
+failed_listing (Ok names) h = absurd (cc)
+failed_listing (Err e) h = λ is. listed_memory_failed (sym (ap list_fault_of is) ∙ h)
+
+-- what has a cause has it where it follows from another that has it
+pub cause_of : (before now : ℕ) (fault answer : Type 0) → HasCause before now fault → (answer → fault) → HasCause before now answer
+cause_of before now fault answer cause is = record { later = cause.later; rose = λ a. cause.rose (is a) }
+
+-- ## Renaming in memory
+
+not_there : (held : Option (List ℕ)) (bytes : List ℕ) → held ≡ Some bytes → IsSome held
+not_there None bytes h = absurd (cc)
+not_there (Some x) bytes h = refl
+
+-- a file that was put at another path and removed at its own
+pub renamed_to : (before mid now : Files) (old path key items : List ℕ) → get before old ≡ Some items → mid ≡ insert before key items → key ≡ path → (old ≡ path → ⊥) → now ≡ remove mid old
+    → Renames before now old path (Ok tt)
+renamed_to before mid now old path key items was put same apart removed =
+    let there = written_to before mid key path items items put same refl in
+    let gone = removed_at mid now old removed in (
+      not_there (get before old) items was,
+      gone.1 path (λ e. apart (sym e)) ∙ there.0 ∙ sym was,
+      λ _. gone.0,
+      λ q other elsewhere. gone.1 q other ∙ there.1 q elsewhere,
+    )
+
+-- a file that was put at its own path
+pub renamed_itself : (before now : Files) (old path key items : List ℕ) → get before old ≡ Some items → now ≡ insert before key items → key ≡ path → old ≡ path → Renames before now old path (Ok tt)
+renamed_itself before now old path key items was put same here =
+    let there = written_to before now key path items items put same refl in (
+      not_there (get before old) items was,
+      there.0 ∙ sym was,
+      λ apart. absurd (apart here),
+      λ q _ elsewhere. there.1 q elsewhere,
+    )

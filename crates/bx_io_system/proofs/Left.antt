@@ -9,7 +9,7 @@ use Rattle.std.proofs.lemmas.Grind.{common_steps}
 use Rattle.bx_io_system.proofs.Telling.{keep_if_some}
 use Rattle.bx_io_system.specs.declared.kind.Kind.TheVariants as kinds
 use Rattle.bx_io_system.specs.Events.{Event, given_of, ended_of}
-use Rattle.std.proofs.Common.{true, false, append-nil, ◌<◌}
+use Rattle.std.proofs.Common.{true, false, append-nil, ◌<◌, ◌≤◌}
 use Rattle.std.proofs.lemmas.Option.{same_Some}
 
 left_piece : (bytes : List ℕ) (was : Option (List ℕ)) (rest : List ℕ) → left_next (kinds.Gave, [], bytes) was ≡ Some rest → was ≡ Some (bytes ++ rest)
@@ -80,3 +80,9 @@ left_nothing (suc n) was rest some h = left_none was rest h
 
 pub none_left_gave : (n : ℕ) (bytes : List ℕ) (was : Option (List ℕ)) (rest : List ℕ) → 0 < n → bytes ≡ [] → left_next (gave n bytes) was ≡ Some rest → rest ≡ []
 none_left_gave n bytes was rest some none h = left_nothing n was rest some (subst (λ (b : List ℕ). left_next (gave n b) was ≡ Some rest) none h)
+
+-- a call for no byte leaves whether the end was answered last
+pub ended_unasked : (n : ℕ) (bytes : List ℕ) (events : List Event) → n ≡ 0 → length bytes ≤ n → ended_of (gave n bytes ∷ events) ≡ ended_of events
+ended_unasked zero [] events none most = refl
+ended_unasked zero (b ∷ bytes) events none most = absurd (omega (arith, most))
+ended_unasked (suc n) bytes events none most = absurd (omega (arith, none))

@@ -21,16 +21,21 @@ use Rattle.std.specs.IoError.{error_kind}
 use Rattle.std.specs.declared.io.Error.{Error}
 use Rattle.std.specs.declared.io.ErrorKind.{ErrorKind}
 use Rattle.std.specs.declared.io.ErrorKind.TheVariants.{NotFound, OutOfMemory}
-use Rattle.bx_io.specs.Answers.{IsAnswer, IsListing}
+use Rattle.bx_io.specs.Answers.{IsAnswer, IsListing, ListsNames}
 use Rattle.bx_io.specs.declared.keeper.Listed.{Listed}
 use Rattle.bx_io.specs.declared.keeper.Listed.TheVariants as listed
-use Rattle.bx_io_system.specs.Files.{Drops, IsUnlisted, Puts, Reads, told_at}
+use Rattle.bx_io_system.specs.Files.{Drops, ListsHeld, Puts, Reads, told_at}
 use Rattle.bx_io.specs.declared.keeper.Got.{Got}
 use Rattle.bx_io.specs.declared.keeper.Got.TheVariants as got
 use Rattle.bx_io.specs.declared.keeper.PutFault.{PutFault}
 use Rattle.bx_io.specs.declared.keeper.PutFault.TheVariants as put_faults
-use Rattle.bx_io_system.specs.Events.{Event, keep_if}
+use Rattle.bx_io_system.specs.Events.{Event, in_a_row, keep_if}
 use Rattle.bx_io_system.specs.Answers.{event_for, change_event, fault_of, got_of, list_fault_of, listed_event, listed_of, put_fault_of, put_of}
+use Rattle.std.specs.Prelude.{map, string_bytes, IfOk}
+use Rattle.std.specs.Str.{bytes_eq}
+use Rattle.std.specs.FinMap.{keys}
+use Rattle.std.proofs.lemmas.Option.{same_Some}
+use Rattle.bx_io_system.proofs.Listing.{lists_held, same_row}
 use Rattle.bx_io_system.specs.Telling.{has_bytes, is_absent, next, seen, tells, gate, told, made_of}
 
 pub keep_if_some : {X : Type 0} (b : Bool) (x y : X) → keep_if b x ≡ Some y → (b ≡ true) × (x ≡ y)
@@ -168,7 +173,10 @@ told_on first held events closed name answer tells is =
 next_listed : (answer : Listed) (was : Option Holdings) (held : Holdings) → next (listed_event answer) was ≡ Some held
     → (was ≡ Some held) × IsListing held answer
 next_listed (listed.Names names) None held h = absurd (cc)
-next_listed (listed.Names names) (Some before) held h = absurd (cc)
+next_listed (listed.Names names) (Some before) held h =
+    let kept = keep_if_some (bytes_eq (in_a_row (keys before)) (in_a_row (map string_bytes names.items))) before held h in
+    let same : in_a_row (keys before) ≡ in_a_row (map string_bytes names.items) = (bytes_eq-Decides (in_a_row (keys before)) (in_a_row (map string_bytes names.items))).0 kept.0 in
+    (ap Some kept.1, sym (same_row (keys before) (map string_bytes names.items) same) ∙ ap keys kept.1)
 next_listed listed.Failed None held h = absurd (cc)
 next_listed listed.Failed (Some before) held h = (h, tt)
 next_listed listed.Memory None held h = absurd (cc)
@@ -180,6 +188,21 @@ told_listed first events closed answer held h =
     let parts = gate_some closed (next (listed_event answer) (seen first events)) held h in
     let before = next_listed answer (seen first events) held parts.1 in
     (gate_open closed (seen first events) parts.0 ∙ before.0, before.1)
+
+next_listed_on : (answer : Listed) (held : Holdings) → IsListing held answer → next (listed_event answer) (Some held) ≡ Some held
+next_listed_on (listed.Names names) held is =
+    ap (λ b. keep_if b held) ((bytes_eq-Decides (in_a_row (keys held)) (in_a_row (map string_bytes names.items))).1 (ap in_a_row (sym is)))
+next_listed_on listed.Failed held is = refl
+next_listed_on listed.Memory held is = refl
+
+-- telling goes on at a listing that agrees
+pub told_listed_on : (first held : Holdings) (events : List Event) (closed : Bool) (answer : Listed)
+    → told first events closed ≡ Some held → IsListing held answer → told first (listed_event answer ∷ events) closed ≡ Some held
+told_listed_on first held events closed answer tells is =
+    let parts = gate_some closed (seen first events) held tells in
+    gate_open closed (next (listed_event answer) (seen first events)) parts.0
+    ∙ ap (next (listed_event answer)) parts.1
+    ∙ next_listed_on answer held is
 
 -- ## What a store in a folder is told to be
 
@@ -411,24 +434,35 @@ pub telling_noted : (before now : Record) (change : Change) (r : Result (Unit {0
 telling_noted before now change r is telling =
     subst (λ (log : Record). IsSome (told log.held log.events log.closed)) (sym is) (telling_after before.held before.events before.closed change r telling)
 
-next_unlisted : (kind : ErrorKind) (was : Option Holdings) → next (listed_event (list_fault_of kind)) was ≡ was
-next_unlisted OutOfMemory None = refl
-next_unlisted OutOfMemory (Some held) = refl
-next_unlisted _ None = refl
-next_unlisted _ (Some held) = refl
+list_fault_is : (kind : ErrorKind) (held : Holdings) → IsListing held (list_fault_of kind)
+list_fault_is OutOfMemory held = tt
+list_fault_is _ held = tt
 
-told_unlisted : (first : Holdings) (events : List Event) (closed : Bool) (done : Result (Vec (String Global) Global) Error) → IsUnlisted done
-    → told first (listed_event (listed_of done) ∷ events) closed ≡ told first events closed
-told_unlisted first events closed (Ok names) unlisted = absurd unlisted
-told_unlisted first events closed (Err e) unlisted = ap (gate closed) (next_unlisted (error_kind e) (seen first events))
+listing_is : (held files : Holdings) (done : Result (Vec (String Global) Global) Error) → AreNames held → ((q : List ℕ) → IsName q → get held q ≡ get files q)
+    → IfOk done (λ names. ListsNames (listed.Names names)) → IfOk done (λ names. ListsHeld files names.items) → IsListing held (listed_of done)
+listing_is held files (Ok names) told agrees named lists = lists_held held files names.items told agrees named.0 named.1 lists
+listing_is held files (Err e) told agrees named lists = list_fault_is (error_kind e) held
 
--- a listing that failed leaves what is told
-pub unlisted_noted : (before now : Record) (done : Result (Vec (String Global) Global) Error) (answer : Listed) → now ≡ record before { events = listed_event answer ∷ before.events }
-    → answer ≡ listed_of done → IsUnlisted done → told now.held now.events now.closed ≡ told before.held before.events before.closed
-unlisted_noted before now done answer is same unlisted =
+-- a listing of files that agree leaves what is told
+pub listing_noted : (before now : Record) (files : Holdings) (done : Result (Vec (String Global) Global) Error) (answer : Listed)
+    → now ≡ record before { events = listed_event answer ∷ before.events } → answer ≡ listed_of done
+    → IfOk done (λ names. ListsNames (listed.Names names)) → IfOk done (λ names. ListsHeld files names.items)
+    → ToldNames (told before.held before.events before.closed) → IsSome (told before.held before.events before.closed)
+    → ((q : List ℕ) → IsName q → told_at (told before.held before.events before.closed) q ≡ Some (get files q))
+    → told now.held now.events now.closed ≡ told before.held before.events before.closed
+listing_noted before now files done answer is same named lists names telling agrees =
+    let was = some_of (told before.held before.events before.closed) telling in
+    let held_as : (q : List ℕ) → IsName q → get was.0 q ≡ get files q = λ q n. same_Some (get was.0 q) (get files q) (sym (ap (λ (t : Option Holdings). told_at t q) was.1) ∙ agrees q n) in
+    let listing : IsListing was.0 answer = subst (IsListing was.0) (sym same) (listing_is was.0 files done (names was.0 was.1) held_as named lists) in
     subst (λ (log : Record). told log.held log.events log.closed ≡ told before.held before.events before.closed) (sym is)
-    (subst (λ (a : Listed). told before.held (listed_event a ∷ before.events) before.closed ≡ told before.held before.events before.closed) (sym same)
-    (told_unlisted before.held before.events before.closed done unlisted))
+    (told_listed_on before.held was.0 before.events before.closed answer was.1 listing ∙ sym was.1)
+
+-- a listing that was noted leaves names
+pub listing_names : (before now : Record) (answer : Listed) → now ≡ record before { events = listed_event answer ∷ before.events }
+    → ToldNames (told before.held before.events before.closed) → ToldNames (told now.held now.events now.closed)
+listing_names before now answer is names =
+    subst (λ (log : Record). ToldNames (told log.held log.events log.closed)) (sym is)
+    (λ held h. names held (told_listed before.held before.events before.closed answer held h).0)
 
 -- a change of a name that was noted leaves names
 pub noted_names : (before now : Record) (change : Change) (r : Result (Unit {0}) PutFault) → now ≡ record before { events = change_event change r ∷ before.events }

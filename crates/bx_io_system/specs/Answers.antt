@@ -12,8 +12,7 @@ use Rattle.bx_io.specs.declared.keeper.Listed.{Listed}
 use Rattle.bx_io.specs.declared.keeper.Listed.TheVariants as listed
 use Rattle.bx_io.specs.declared.keeper.PutFault.{PutFault}
 use Rattle.bx_io.specs.declared.keeper.PutFault.TheVariants as put_faults
-use Rattle.bx_io_system.specs.Events.{Event}
-use Rattle.bx_io_system.specs.Telling.{joined}
+use Rattle.bx_io_system.specs.Events.{Event, in_a_row}
 use Rattle.bx_io_system.specs.declared.kind.Kind.TheVariants as kinds
 
 -- what an error says of a name
@@ -67,6 +66,6 @@ change_event change (Err e) = refused_event (name_of change) e
 
 -- how a listing is recorded
 abbrev pub listed_event : Listed → Event
-listed_event (listed.Names names) = (kinds.Listed, [], joined (map string_bytes names.items))
+listed_event (listed.Names names) = (kinds.Listed, [], in_a_row (map string_bytes names.items))
 listed_event listed.Failed = (kinds.Failed, [], [])
 listed_event listed.Memory = (kinds.Memory, [], [])

@@ -8,6 +8,11 @@ use Rattle.bx_io_system.specs.declared.kind.Kind.TheVariants as kinds
 abbrev pub Event : Type 0
 Event = Kind × List ℕ × List ℕ
 
+-- texts one after another, each after its length
+abbrev pub in_a_row : List (List ℕ) → List ℕ
+in_a_row [] = []
+in_a_row (text ∷ texts) = length text ∷ text ++ in_a_row texts
+
 -- ## Faults
 
 abbrev pub failures_next : Kind → ℕ → ℕ

@@ -1,10 +1,12 @@
 -- The files of a folder by path, and the order in which they are changed and stored.
-use Rattle.std.specs.Prelude.{◌≡◌, ◌<◌, ℕ, Bool, true, false, ◌&&◌, ◌||◌, not, ◌==◌, nat_lt, List, [], ◌∷◌, length, slice_index, bytes_eq, Option, Some, None, Result, Ok, Err, Vec, String, string_bytes, All, option_map}
+use Rattle.std.specs.Prelude.{◌≡◌, ◌<◌, ℕ, Bool, true, false, ◌&&◌, ◌||◌, not, ◌==◌, nat_lt, List, [], ◌∷◌, length, slice_index, bytes_eq, Option, Some, None, Result, Ok, Err, Vec, String, string_bytes, All, option_map, ◌++◌, IsSome, is_some, take, ◌≢◌}
+use Rattle.std.specs.List.{list_any}
 use Rattle.std.specs.FinMap.{get}
 use Rattle.std.specs.IoError.{error_kind}
 use Rattle.std.specs.declared.alloc.Global.{Global}
 use Rattle.std.specs.declared.io.Error.{Error}
-use Rattle.std.specs.declared.io.ErrorKind.TheVariants.{NotFound}
+use Rattle.std.specs.declared.io.ErrorKind.{ErrorKind}
+use Rattle.std.specs.declared.io.ErrorKind.TheVariants.{NotFound, OutOfMemory}
 use Rattle.bx_io.specs.Holdings.{Holdings}
 use Rattle.bx_io.specs.Names.{IsName}
 use Rattle.bx_io.specs.declared.name.TheConstants.{NAME_LENGTH}
@@ -32,10 +34,13 @@ abbrev pub Writes : Files → Files → List ℕ → List ℕ → Result (Unit {
 Writes before now path bytes (Ok x) = (get now path ≡ Some bytes) × SameBut before now path
 Writes before now path bytes (Err e) = SameBut before now path
 
--- what was at one path is at the other, unless the call failed, which changes nothing
+-- The file that was at one path is at the other, and no longer at its own, unless the call failed, which changes
+-- nothing.
 abbrev pub Renames : Files → Files → List ℕ → List ℕ → Result (Unit {0}) Error → Type 0
 Renames before now old path (Ok x) =
-    (get now path ≡ get before old)
+    IsSome (get before old)
+    × (get now path ≡ get before old)
+    × ((old ≡ path → ⊥) → get now old ≡ None)
     × ((q : List ℕ) → (q ≡ old → ⊥) → (q ≡ path → ⊥) → get now q ≡ get before q)
 Renames before now old path (Err e) = now ≡ before
 
@@ -44,10 +49,48 @@ abbrev pub Removes : Files → Files → List ℕ → Result (Unit {0}) Error �
 Removes before now path (Ok x) = (get now path ≡ None) × SameBut before now path
 Removes before now path (Err e) = (now ≡ before) × (error_kind e ≡ NotFound → get before path ≡ None)
 
--- the call failed, and not as nothing is there
-abbrev pub IsUnlisted : {X : Type 0} → Result X Error → Type 0
-IsUnlisted (Ok x) = ⊥
-IsUnlisted (Err e) = error_kind e ≡ NotFound → ⊥
+-- the path of what lies in a folder
+abbrev pub path_in : List ℕ → List ℕ → List ℕ
+path_in folder name = folder ++ 47 ∷ name
+
+-- without a slash: the name of what lies right in a folder
+abbrev pub IsPlain : List ℕ → Type 0
+IsPlain = All (λ c. c ≡ 47 → ⊥)
+
+-- the name is one of these
+abbrev pub is_among : List ℕ → List (String Global) → Bool
+is_among name names = list_any (λ (text : String Global). bytes_eq name (string_bytes text)) names
+
+-- The names without a slash that are listed are those of the files right in the folder. A folder that is not there
+-- has none.
+abbrev pub ListsFiles : Files → List ℕ → Result (Vec (String Global) Global) Error → Type 0
+ListsFiles files folder (Ok names) =
+    (name : List ℕ) → IsPlain name → is_among name names.items ≡ is_some (get files (path_in folder name))
+ListsFiles files folder (Err e) =
+    error_kind e ≡ NotFound → (name : List ℕ) → IsPlain name → get files (path_in folder name) ≡ None
+
+-- the name is that of one of these in the folder of a kind
+abbrev pub is_below : List ℕ → List ℕ → List (String Global) → Bool
+is_below kind name files =
+    list_any (λ (file : String Global). bytes_eq name (path_in kind (string_bytes file))) files
+
+-- there is a file of the name, which is of this kind
+abbrev pub has_file : List ℕ → Files → List ℕ → Bool
+has_file kind files name = bytes_eq (take 1 name) kind && is_some (get files name)
+
+-- the names that are listed are those with a file
+abbrev pub ListsHeld : Files → List (String Global) → Type 0
+ListsHeld files names = (name : List ℕ) → IsName name → is_among name names ≡ is_some (get files name)
+
+-- the call failed, and not for want of memory
+abbrev pub IsFault : {X : Type 0} → Result X Error → Type 0
+IsFault (Ok x) = ⊥
+IsFault (Err e) = error_kind e ≢ OutOfMemory
+
+-- the call failed, neither for want of memory nor with the error that is an answer
+abbrev pub IsFaultBut : {X : Type 0} → ErrorKind → Result X Error → Type 0
+IsFaultBut answer (Ok x) = ⊥
+IsFaultBut answer (Err e) = (error_kind e ≢ answer) × (error_kind e ≢ OutOfMemory)
 
 -- each text is a name
 abbrev pub AreAllNames : List (String Global) → Type 0

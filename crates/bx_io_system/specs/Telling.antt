@@ -1,9 +1,8 @@
 -- What a folder tells: its first contents with the changes, as long as each answer agrees with that.
 use Rattle.std.specs.Prelude.{ℕ, Bool, true, false, List, [], ◌∷◌, ◌++◌, bytes_eq, Option, Some, None}
-use Rattle.std.specs.FinMap.{get, insert, keys, remove}
-use Rattle.std.specs.List.{flat_map}
+use Rattle.std.specs.FinMap.{get, insert, remove, keys}
 use Rattle.bx_io.specs.Holdings.{Holdings, Change, Put, Drop}
-use Rattle.bx_io_system.specs.Events.{Event, keep_if}
+use Rattle.bx_io_system.specs.Events.{Event, in_a_row, keep_if}
 use Rattle.bx_io_system.specs.declared.kind.Kind.{Kind}
 use Rattle.bx_io_system.specs.declared.kind.Kind.TheVariants as kinds
 
@@ -17,18 +16,14 @@ abbrev pub is_absent : Option (List ℕ) → Bool
 is_absent None = true
 is_absent (Some held) = false
 
--- the texts of names, one after the other; names have one length, so this says which they are
-abbrev pub joined : List (List ℕ) → List ℕ
-joined names = flat_map (λ name. name) names
-
--- What is held after an answer or a change, where it agrees. A listing agrees where it has just the held names, in their
--- order.
+-- What is held after an answer or a change, where it agrees. A listing agrees where its names are those of all that
+-- is held, in order.
 abbrev pub step : Kind → List ℕ → List ℕ → Holdings → Option Holdings
 step kinds.Found name bytes held = keep_if (has_bytes (get held name) bytes) held
 step kinds.Absent name bytes held = keep_if (is_absent (get held name)) held
 step kinds.Put name bytes held = Some (insert held name bytes)
 step kinds.Dropped name bytes held = Some (remove held name)
-step kinds.Listed name bytes held = keep_if (bytes_eq (joined (keys held)) bytes) held
+step kinds.Listed name bytes held = keep_if (bytes_eq (in_a_row (keys held)) bytes) held
 step _ name bytes held = Some held
 
 abbrev pub next : Event → Option Holdings → Option Holdings

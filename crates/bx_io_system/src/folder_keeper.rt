@@ -4,7 +4,6 @@ ghost use Rattle.std.specs.Prelude.{◌≡◌, ℕ, List, [], true, Some, IsSome
 ghost use Rattle.std.specs.FinMap.{get};
 ghost use Rattle.bx_io.specs.Holdings.{AreNames, Holdings, held_in};
 ghost use Rattle.bx_io.specs.Names.{IsName};
-ghost use Rattle.bx_io_system.specs.Named.{ToldNames, ToldNames-prop};
 ghost use Rattle.bx_io_system.specs.Telling.{told};
 
 use crate::disk::Disk;
@@ -19,7 +18,6 @@ use std::alloc::{AllocError, Global};
 #[derive(Drop)]
 pub struct FolderKeeper<D: Disk> {
     system: System<D>,
-    ghost named: { ToldNames (told system.log.held system.log.events system.log.closed) } by { ToldNames-prop _ },
 }
 
 /// A reader of the folder of a [`FolderKeeper`], with a count of faults of its own.

@@ -11,7 +11,7 @@ pub enum Kind {
     Put,
     /// This name was dropped.
     Dropped,
-    /// All names were listed.
+    /// These names were listed.
     Listed,
     /// The call failed.
     Failed,

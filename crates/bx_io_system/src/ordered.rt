@@ -1,9 +1,12 @@
 //! Puts and drops of names in a folder, in an order that a loss of power cannot turn round.
 
-ghost use Rattle.std.specs.Prelude.{◌≡◌, ℕ, List, true, false, [], OnOk, IfOk, slice_index, string_bytes};
+ghost use Rattle.std.specs.Prelude.{◌≡◌, ◌≤◌, ◌||◌, IfErr, ℕ, List, bytes_eq, length, true, false, [], OnOk, IfOk, slice_index, string_bytes};
+ghost use Rattle.std.specs.IoError.{error_kind};
+ghost use Rattle.std.specs.declared.io.ErrorKind.TheVariants.{NotFound, OutOfMemory};
+ghost use Rattle.bx_io.specs.Causes.{HasCause};
 ghost use Rattle.bx_io.specs.Names.{IsName};
-ghost use Rattle.bx_io_system.specs.Files.{Drops, IsBegun, Puts, Reads, Removes, Renames, SameNames, blob_letter, entry_letter, is_after};
-ghost use Rattle.bx_io_system.specs.Files.{AreAllNames, IsUnlisted, Writes, is_durable, is_ready, is_stored, unsynced, has_folders};
+ghost use Rattle.bx_io_system.specs.Files.{Drops, IsBegun, IsFault, IsFaultBut, Puts, Reads, Removes, Renames, SameNames, blob_letter, entry_letter, is_after};
+ghost use Rattle.bx_io_system.specs.Files.{AreAllNames, ListsHeld, Writes, has_file, is_among, is_below, is_durable, is_ready, is_stored, unsynced, has_folders};
 ghost use Rattle.bx_io.specs.Answers.{ListsNames};
 ghost use Rattle.bx_io.specs.declared.keeper.Listed.TheVariants as listed;
 
@@ -48,7 +51,10 @@ fn begun_name(alloc: Global, name: &str) -> Result<String, AllocError>
 // Adds a name, if it is one.
 fn add_name(names: &mut Vec<String>, name: String) -> io::Result<()>
     requires { AreAllNames names.old.items }
-    ensures { AreAllNames names.new.items }
+    ensures names { AreAllNames names.new.items }
+    ensures added { OnOk result ((q : List ℕ) → IsName q
+        → is_among q names.new.items ≡ (is_among q names.old.items || bytes_eq q (string_bytes name))) }
+    ensures fault { IfErr result (λ e. error_kind e ≡ OutOfMemory) }
 {
     if is_name(name.as_bytes()) {
         names.push(name)?;
@@ -59,7 +65,10 @@ fn add_name(names: &mut Vec<String>, name: String) -> io::Result<()>
 // Adds the names among the files of the folder of a kind.
 fn add_files(alloc: Global, kind: &str, files: &[String], names: &mut Vec<String>) -> io::Result<()>
     requires { AreAllNames names.old.items }
-    ensures { AreAllNames names.new.items }
+    ensures names { AreAllNames names.new.items }
+    ensures added { OnOk result ((q : List ℕ) → IsName q
+        → is_among q names.new.items ≡ (is_among q names.old.items || is_below kind.now q files.now)) }
+    ensures fault { IfErr result (λ e. error_kind e ≡ OutOfMemory) }
 {
     'files: for file in files {
         add_name(names, format!(in alloc; "{kind}/{file}")?)?;
@@ -70,7 +79,8 @@ fn add_files(alloc: Global, kind: &str, files: &[String], names: &mut Vec<String
 // Names in order, each once.
 fn in_order(names: Vec<String>) -> Vec<String>
     requires { AreAllNames names.items }
-    ensures { ListsNames (listed.Names result) }
+    ensures names { ListsNames (listed.Names result) }
+    ensures same { (q : List ℕ) → is_among q result.items ≡ is_among q names.items }
 {
     let mut names = names;
     names.sort_unstable();
@@ -103,6 +113,7 @@ impl<D: Disk> OrderedDisk<D> {
     pub(crate) fn get(&mut self, alloc: Global, name: &str) -> io::Result<Vec<u8>>
         ensures found { D.is_known ≡ true → Reads (D.files self.old.disk) name.now result }
         ensures files { D.files self.new.disk ≡ D.files self.old.disk }
+        ensures cause { HasCause (D.faults self.old.disk) (D.faults self.new.disk) (IsFaultBut NotFound result) }
     {
         self.disk.read(alloc, name)
     }
@@ -111,6 +122,7 @@ impl<D: Disk> OrderedDisk<D> {
     fn sync_blobs(&mut self, alloc: Global) -> io::Result<()>
         ensures synced { OnOk result (unsynced blob_letter (D.calls self.new.disk) ≡ false) }
         ensures files { D.files self.new.disk ≡ D.files self.old.disk }
+        ensures cause { HasCause (D.faults self.old.disk) (D.faults self.new.disk) (IsFault result) }
     {
         if !self.blobs {
             return Ok(());
@@ -132,6 +144,7 @@ impl<D: Disk> OrderedDisk<D> {
     fn sync_entries(&mut self, alloc: Global) -> io::Result<()>
         ensures synced { OnOk result (unsynced entry_letter (D.calls self.new.disk) ≡ false) }
         ensures files { D.files self.new.disk ≡ D.files self.old.disk }
+        ensures cause { HasCause (D.faults self.old.disk) (D.faults self.new.disk) (IsFault result) }
     {
         if !self.entries {
             return Ok(());
@@ -154,6 +167,7 @@ impl<D: Disk> OrderedDisk<D> {
         requires { IsName name.now }
         ensures ready { OnOk result (is_ready name.now (D.calls self.new.disk) ≡ true) }
         ensures files { D.files self.new.disk ≡ D.files self.old.disk }
+        ensures cause { HasCause (D.faults self.old.disk) (D.faults self.new.disk) (IsFault result) }
     {
         match letter_of(name) {
             b'e' => self.sync_blobs(alloc),
@@ -167,6 +181,7 @@ impl<D: Disk> OrderedDisk<D> {
         ensures ready { (name : List ℕ) → is_ready name (D.calls self.old.disk) ≡ true
             → is_ready name (D.calls self.new.disk) ≡ true }
         ensures files { D.files self.new.disk ≡ D.files self.old.disk }
+        ensures cause { HasCause (D.faults self.old.disk) (D.faults self.new.disk) (IsFault result) }
     {
         self.folders = true;
         match self.disk.make_folder(alloc, path) {
@@ -180,6 +195,7 @@ impl<D: Disk> OrderedDisk<D> {
         ensures ready { (path : List ℕ) → is_ready path (D.calls self.old.disk) ≡ true
             → is_ready path (D.calls self.new.disk) ≡ true }
         ensures files { D.files self.new.disk ≡ D.files self.old.disk }
+        ensures cause { HasCause (D.faults self.old.disk) (D.faults self.new.disk) (IsFault result) }
     {
         self.make_folder(alloc, "")?;
         self.make_folder(alloc, name.get(..1).unwrap_or(""))
@@ -191,6 +207,7 @@ impl<D: Disk> OrderedDisk<D> {
         ensures ready { (path : List ℕ) → is_ready path (D.calls self.old.disk) ≡ true
             → is_ready path (D.calls self.new.disk) ≡ true }
         ensures files { D.files self.new.disk ≡ D.files self.old.disk }
+        ensures cause { HasCause (D.faults self.old.disk) (D.faults self.new.disk) (IsFault result) }
     {
         if self.folders {
             self.disk.sync(alloc, "..")?;
@@ -207,6 +224,7 @@ impl<D: Disk> OrderedDisk<D> {
             → Writes (D.files self.old.disk) (D.files self.new.disk) begun.now bytes.now result }
         ensures ready { (path : List ℕ) → is_ready path (D.calls self.old.disk) ≡ true
             → is_ready path (D.calls self.new.disk) ≡ true }
+        ensures cause { HasCause (D.faults self.old.disk) (D.faults self.new.disk) (IsFault result) }
     {
         match self.disk.write(alloc, begun, bytes) {
             Err(error) if error.kind() == ErrorKind::NotFound => {
@@ -226,6 +244,7 @@ impl<D: Disk> OrderedDisk<D> {
         ensures folders { OnOk result (has_folders (D.calls self.new.disk) ≡ true) }
         ensures ready { (path : List ℕ) → is_ready path (D.calls self.old.disk) ≡ true
             → is_ready path (D.calls self.new.disk) ≡ true }
+        ensures cause { HasCause (D.faults self.old.disk) (D.faults self.new.disk) (IsFault result) }
     {
         self.write(alloc, name, begun, bytes)?;
         self.sync_folders(alloc)?;
@@ -235,7 +254,8 @@ impl<D: Disk> OrderedDisk<D> {
     // Removes a file that was begun.
     fn give_up(&mut self, alloc: Global, begun: &str)
         requires { IsBegun begun.now }
-        ensures { D.is_known ≡ true → SameNames (D.files self.old.disk) (D.files self.new.disk) }
+        ensures names { D.is_known ≡ true → SameNames (D.files self.old.disk) (D.files self.new.disk) }
+        ensures later { D.faults self.old.disk ≤ D.faults self.new.disk }
     {
         let _ = self.disk.remove(alloc, begun);
     }
@@ -246,8 +266,9 @@ impl<D: Disk> OrderedDisk<D> {
         requires stored { is_stored begun.now (D.calls self.old.disk) ≡ true }
         requires ready { is_ready name.now (D.calls self.old.disk) ≡ true }
         requires folders { has_folders (D.calls self.old.disk) ≡ true }
-        ensures { D.is_known ≡ true
+        ensures renamed { D.is_known ≡ true
             → Renames (D.files self.old.disk) (D.files self.new.disk) begun.now name.now result }
+        ensures cause { HasCause (D.faults self.old.disk) (D.faults self.new.disk) (IsFault result) }
     {
         let letter = letter_of(name);
         let done = self.disk.rename(alloc, begun, name);
@@ -260,8 +281,9 @@ impl<D: Disk> OrderedDisk<D> {
     /// leaves the old bytes or the new ones.
     pub(crate) fn put(&mut self, alloc: Global, name: &str, bytes: &[u8]) -> io::Result<()>
         requires { IsName name.now }
-        ensures { D.is_known ≡ true
+        ensures put { D.is_known ≡ true
             → Puts (D.files self.old.disk) (D.files self.new.disk) name.now bytes.now result }
+        ensures cause { HasCause (D.faults self.old.disk) (D.faults self.new.disk) (IsFault result) }
     {
         let begun = begun_name(alloc, name)?;
         self.settle(alloc, name)?;
@@ -278,7 +300,8 @@ impl<D: Disk> OrderedDisk<D> {
     fn remove(&mut self, alloc: Global, name: &str) -> io::Result<()>
         requires is_name { IsName name.now }
         requires ready { is_after blob_letter entry_letter name.now (D.calls self.old.disk) ≡ true }
-        ensures { D.is_known ≡ true → Removes (D.files self.old.disk) (D.files self.new.disk) name.now result }
+        ensures removed { D.is_known ≡ true → Removes (D.files self.old.disk) (D.files self.new.disk) name.now result }
+        ensures cause { HasCause (D.faults self.old.disk) (D.faults self.new.disk) (IsFaultBut NotFound result) }
     {
         let letter = letter_of(name);
         let done = self.disk.remove(alloc, name);
@@ -293,6 +316,7 @@ impl<D: Disk> OrderedDisk<D> {
         ensures ready { OnOk result
             (is_after blob_letter entry_letter name.now (D.calls self.new.disk) ≡ true) }
         ensures files { D.files self.new.disk ≡ D.files self.old.disk }
+        ensures cause { HasCause (D.faults self.old.disk) (D.faults self.new.disk) (IsFault result) }
     {
         if letter_of(name) == b'b' {
             self.sync_entries(alloc)
@@ -304,7 +328,8 @@ impl<D: Disk> OrderedDisk<D> {
     /// Drops a name. Where there is no file, there is none afterwards.
     pub(crate) fn drop_name(&mut self, alloc: Global, name: &str) -> io::Result<()>
         requires { IsName name.now }
-        ensures { D.is_known ≡ true → Drops (D.files self.old.disk) (D.files self.new.disk) name.now result }
+        ensures dropped { D.is_known ≡ true → Drops (D.files self.old.disk) (D.files self.new.disk) name.now result }
+        ensures cause { HasCause (D.faults self.old.disk) (D.faults self.new.disk) (IsFault result) }
     {
         self.settle_drop(alloc, name)?;
         match self.remove(alloc, name) {
@@ -315,10 +340,14 @@ impl<D: Disk> OrderedDisk<D> {
 
     // Adds the names of a kind.
     fn add_names(&mut self, alloc: Global, kind: &str, names: &mut Vec<String>) -> io::Result<()>
-        requires { AreAllNames names.old.items }
+        requires kind { length kind.now ≡ 1 }
+        requires names { AreAllNames names.old.items }
         ensures names { AreAllNames names.new.items }
-        ensures unlisted { D.is_known ≡ true → IsUnlisted result }
+        ensures listed { D.is_known ≡ true → OnOk result ((q : List ℕ) → IsName q
+            → is_among q names.new.items
+            ≡ (is_among q names.old.items || has_file kind.now (D.files self.old.disk) q)) }
         ensures files { D.files self.new.disk ≡ D.files self.old.disk }
+        ensures cause { HasCause (D.faults self.old.disk) (D.faults self.new.disk) (IsFault result) }
     {
         match self.disk.list(alloc, kind) {
             Ok(files) => add_files(alloc, kind, &files, names),
@@ -330,8 +359,10 @@ impl<D: Disk> OrderedDisk<D> {
     /// The names of all files of names, in order, each once.
     pub(crate) fn names(&mut self, alloc: Global) -> io::Result<Vec<String>>
         ensures names { IfOk result (λ names. ListsNames (listed.Names names)) }
-        ensures unlisted { D.is_known ≡ true → IsUnlisted result }
+        ensures listed { D.is_known ≡ true
+            → IfOk result (λ names. ListsHeld (D.files self.old.disk) names.items) }
         ensures files { D.files self.new.disk ≡ D.files self.old.disk }
+        ensures cause { HasCause (D.faults self.old.disk) (D.faults self.new.disk) (IsFault result) }
     {
         let mut names = Vec::new(alloc);
         self.add_names(alloc, "b", &mut names)?;

@@ -1,14 +1,15 @@
 //! A list of answers and changes that only clauses read.
 
-ghost use Rattle.std.specs.Prelude.{◌≡◌, ℕ, Bool, true, ◌&&◌, List, [], ◌∷◌, map, string_bytes};
+ghost use Rattle.std.specs.Prelude.{◌≡◌, ℕ, Bool, true, ◌&&◌, List, [], ◌∷◌};
 ghost use Rattle.std.specs.Borrow.{ftrue};
 ghost use Rattle.bx_io.specs.Holdings.{Holdings};
 ghost use Rattle.bx_io.specs.StoreCodes.{holdings_code};
+ghost use Rattle.bx_io_system.specs.Answers.{listed_event};
 ghost use Rattle.bx_io_system.specs.Events.{Event};
-ghost use Rattle.bx_io_system.specs.Telling.{joined, told, tells};
-ghost use Rattle.bx_io_system.specs.declared.kind.Kind.TheVariants as kinds;
+ghost use Rattle.bx_io_system.specs.Telling.{told, tells};
 
 use crate::kind::Kind;
+use bx_io::Listed;
 use std::marker::Model;
 
 /// A record that takes no bytes: what was there at first, what happened, the newest first, and whether each
@@ -46,11 +47,9 @@ impl Record {
         Record {}
     }
 
-    /// The record with one more listing of all names.
-    pub(crate) fn listed(_before: &Record, _names: &[String]) -> Record
-        ensures { result ≡ record _before.now {
-          events = (kinds.Listed, [], joined (map string_bytes _names.now)) ∷ _before.now.events;
-        } }
+    /// The record with one more listing.
+    pub(crate) fn listed(_before: &Record, _answer: &Listed) -> Record
+        ensures { result ≡ record _before.now { events = listed_event _answer.now ∷ _before.now.events } }
     {
         Record {}
     }

@@ -4,11 +4,12 @@ ghost use Rattle.std.specs.Prelude.{◌≡◌, ◌≢◌, ℕ, List, [], ◌∷�
 ghost use Rattle.std.specs.FinMap.{get};
 ghost use Rattle.bx_io.specs.Answers.{ListsNames};
 ghost use Rattle.bx_io.specs.Causes.{HasCause};
-ghost use Rattle.bx_io.specs.Holdings.{Holdings, Put, Drop};
+ghost use Rattle.bx_io.specs.Holdings.{AreNames, Holdings, Put, Drop};
 ghost use Rattle.bx_io.specs.Names.{IsName};
 ghost use Rattle.bx_io_system.specs.Answers.{change_event, event_for, got_of, listed_event, listed_of, put_of};
 ghost use Rattle.bx_io_system.specs.Events.{failures};
-ghost use Rattle.bx_io_system.specs.Files.{IsUnlisted, Reads, told_at};
+ghost use Rattle.bx_io_system.specs.Files.{Reads, told_at};
+ghost use Rattle.bx_io_system.specs.Named.{ToldNames, ToldNames-prop};
 ghost use Rattle.bx_io_system.specs.Telling.{told, tells};
 ghost use Rattle.bx_io_system.specs.declared.kind.Kind.TheVariants as kinds;
 
@@ -31,6 +32,7 @@ pub struct System<D: Disk> {
     ghost agrees: { (name : List ℕ) → D.is_known ≡ true → IsName name
         → told_at (told log.held log.events log.closed) name ≡ Some (get (D.files disk.disk) name) },
     ghost telling: { D.is_known ≡ true → IsSome (told log.held log.events log.closed) },
+    ghost named: { ToldNames (told log.held log.events log.closed) } by { ToldNames-prop _ },
 }
 
 // Notes that a change failed.
@@ -105,6 +107,17 @@ fn was_dropped(
     }
 }
 
+// Answers with the names of a folder, or with what a listing that failed comes to.
+fn listing(done: io::Result<Vec<String>>) -> Listed
+    ensures { result ≡ listed_of done }
+{
+    match done {
+        Ok(names) => Listed::Names(names),
+        Err(error) if error.kind() == ErrorKind::OutOfMemory => Listed::Memory,
+        Err(_) => Listed::Failed,
+    }
+}
+
 // Notes what became of a listing.
 fn was_listed(log: &mut Record, faults: &mut u64, done: io::Result<Vec<String>>) -> Listed
     requires counted { faults.old ≡ failures log.old.events }
@@ -116,22 +129,12 @@ fn was_listed(log: &mut Record, faults: &mut u64, done: io::Result<Vec<String>>)
     ensures cause { HasCause faults.old faults.new (result ≡ Listed.Failed) }
     ensures no_fault { result ≢ Listed.Failed → faults.new ≡ faults.old }
 {
-    match done {
-        Ok(names) => {
-            *log = Record::listed(log, names.as_slice());
-            Listed::Names(names)
-        }
-        Err(error) => {
-            if error.kind() == ErrorKind::OutOfMemory {
-                *log = Record::noted(log, &Kind::Memory, &[], &[]);
-                Listed::Memory
-            } else {
-                *log = Record::noted(log, &Kind::Failed, &[], &[]);
-                *faults = one_more(*faults);
-                Listed::Failed
-            }
-        }
+    let answer = listing(done);
+    *log = Record::listed(log, &answer);
+    if matches!(answer, Listed::Failed) {
+        *faults = one_more(*faults);
     }
+    answer
 }
 
 impl<D: Disk> System<D> {
@@ -139,6 +142,7 @@ impl<D: Disk> System<D> {
     pub(crate) fn new(disk: D) -> System<D>
         ghost held: { Holdings }
         requires unused { D.calls disk ≡ [] }
+        requires names { AreNames held }
         requires agrees { D.is_known ≡ true → (name : List ℕ) → IsName name
             → get held name ≡ get (D.files disk) name }
         ensures held { result.log.held ≡ held }
@@ -161,6 +165,7 @@ impl<D: Disk> System<D> {
         ensures noted { self.new.log ≡ record self.old.log {
           events = event_for name.now result ∷ self.old.log.events;
         } }
+        ensures disk { self.new.disk ≡ self.old.disk }
         ensures cause { HasCause self.old.faults self.new.faults (result ≡ Got.Failed) }
         ensures no_fault { result ≢ Got.Failed → self.new.faults ≡ self.old.faults }
     {
@@ -200,6 +205,7 @@ impl<D: Disk> System<D> {
         } }
         ensures cause { HasCause self.old.faults self.new.faults (result ≡ Got.Failed) }
         ensures no_fault { result ≢ Got.Failed → self.new.faults ≡ self.old.faults }
+        ensures disk { HasCause (D.faults self.old.disk.disk) (D.faults self.new.disk.disk) (result ≡ Got.Failed) }
     {
         let done = self.disk.get(alloc, name);
         self.answered(name, done)
@@ -213,6 +219,7 @@ impl<D: Disk> System<D> {
         } }
         ensures cause { HasCause self.old.faults self.new.faults (result ≡ Err PutFault.Failed) }
         ensures no_fault { result ≢ Err PutFault.Failed → self.new.faults ≡ self.old.faults }
+        ensures disk { HasCause (D.faults self.old.disk.disk) (D.faults self.new.disk.disk) (result ≡ Err PutFault.Failed) }
     {
         let done = self.disk.put(alloc, name, bytes);
         was_put(&mut self.log, &mut self.faults, name, bytes, done)
@@ -226,6 +233,7 @@ impl<D: Disk> System<D> {
         } }
         ensures cause { HasCause self.old.faults self.new.faults (result ≡ Err PutFault.Failed) }
         ensures no_fault { result ≢ Err PutFault.Failed → self.new.faults ≡ self.old.faults }
+        ensures disk { HasCause (D.faults self.old.disk.disk) (D.faults self.new.disk.disk) (result ≡ Err PutFault.Failed) }
     {
         let done = self.disk.drop_name(alloc, name);
         was_dropped(&mut self.log, &mut self.faults, name, done)
@@ -239,6 +247,7 @@ impl<D: Disk> System<D> {
         ensures names { ListsNames result }
         ensures cause { HasCause self.old.faults self.new.faults (result ≡ Listed.Failed) }
         ensures no_fault { result ≢ Listed.Failed → self.new.faults ≡ self.old.faults }
+        ensures disk { HasCause (D.faults self.old.disk.disk) (D.faults self.new.disk.disk) (result ≡ Listed.Failed) }
     {
         let done = self.disk.names(alloc);
         was_listed(&mut self.log, &mut self.faults, done)

@@ -1,5 +1,7 @@
 -- What makes each event possible.
-use Rattle.std.proofs.Common.{◌≡◌, ℕ, ◌<◌, Bool, true, false, Option, Some, None, length, refl, ap, sym, ◌∙◌, subst, arith}
+use Rattle.std.proofs.Common.{◌≡◌, ℕ, ◌<◌, Bool, true, false, List, Option, Some, None, length, refl, ap, sym, ◌∙◌, subst, arith}
+use Rattle.bx_tree.specs.Trees.{Files}
+use Rattle.pip_model.specs.Plans.{PlanData}
 use Rattle.sched_core.specs.Sound.{IsSound}
 use Rattle.sched_core.specs.States.{is_waiting}
 use Rattle.sched_core.specs.Table.{allows, has_left, holds_none, may_skip, may_start, all_good, node_inputs, pip_of, some_bad, state_after_event, state_at, worker_of}
@@ -8,16 +10,15 @@ use Rattle.sched_core.specs.declared.event.Event.TheVariants as event
 use Rattle.sched_core.specs.declared.state.PipState.{PipState}
 use Rattle.sched_core.specs.declared.state.PipState.TheVariants as state
 use Rattle.std.proofs.lemmas.Bool.{and_parts}
-use Rattle.sched_board_slots.specs.Slots.{FitsState, HoldsOwn, is_good_held, slot_at}
+use Rattle.sched_board_slots.specs.Slots.{FitsState, HoldsOwn, is_good_held, own_inputs, slot_at}
 use Rattle.sched_board_slots.specs.declared.held.Held.{Held}
 use Rattle.sched_board_slots.specs.declared.held.Held.TheVariants as held
-use Rattle.sched_board.specs.Board.{BoardData, CanComplete, IsBoard, IsBusy, IsFree, JobData, ShareData, filled, one_more}
-use Rattle.sched_board.specs.Publishing.{fits_job, slot_of}
+use Rattle.sched_board.specs.Board.{BoardData, CanComplete, Difference, IsBoard, IsBusy, IsFree, JobData, ShareData, filled, one_more}
+use Rattle.sched_board.specs.Publishing.{Compared, slot_of}
 use Rattle.sched_board.specs.declared.shown.Shown.{Shown}
 use Rattle.sched_board.proofs.After.{completed_fits, held_empty, published_can, waiting_empty}
 use Rattle.sched_board.proofs.Allowed.{complete_allowed, looked_allowed, release_allowed, skip_allowed, start_allowed}
 use Rattle.sched_board.proofs.Keeping.{sound_board}
-use Rattle.sched_board.proofs.ShownPips.{publish_allowed}
 
 -- the board may make the event, with this in the slot of its pip
 pub record CanMake (b : BoardData) (e : Event) (slot : Held) : Type 0 where
@@ -66,24 +67,16 @@ skip_can b share pip free stays may = record {
   fits = refl;
 }
 
-pub publish_can : (b : BoardData) (share : ShareData) (job : JobData) (s : Shown) → IsBoard b → IsBusy b share job → fits_job job s ≡ true
-    → HoldsOwn b.plan b.sources b.slots job.pip (is_good_held (slot_of s)) (slot_of s)
-    → CanMake b (event.Publish job.pip share.worker (is_good_held (slot_of s))) (slot_of s)
-publish_can b share job s is busy fit own = record {
-  allowed = publish_allowed b share job s (sound_board b is) busy fit;
-  worker = busy.worker;
-  fits = own;
-}
-
--- the same where all is written in another way
-pub publish_can_as : (b : BoardData) (share : ShareData) (job : JobData) (s : Shown) (pip worker : ℕ) (good : Bool) (slot : Held) → IsBoard b → IsBusy b share job
-    → fits_job job s ≡ true → HoldsOwn b.plan b.sources b.slots job.pip (is_good_held (slot_of s)) (slot_of s) → pip ≡ job.pip → worker ≡ share.worker
-    → slot ≡ slot_of s → good ≡ is_good_held slot → CanMake b (event.Publish pip worker good) slot
-publish_can_as b share job s pip worker good slot is busy fit own ep ew es eg =
-    subst (λ (h : Held). CanMake b (event.Publish pip worker good) h) (sym es)
-    (subst (λ (g : Bool). CanMake b (event.Publish pip worker g) (slot_of s)) (sym (eg ∙ ap is_good_held es))
-    (subst (λ (w : ℕ). CanMake b (event.Publish pip w (is_good_held (slot_of s))) (slot_of s)) (sym ew)
-    (subst (λ (p : ℕ). CanMake b (event.Publish p share.worker (is_good_held (slot_of s))) (slot_of s)) (sym ep) (publish_can b share job s is busy fit own))))
+-- What is shown and does not differ may stand in the slot, where plan, sources, slots and pip are written in another way.
+pub own_shown : (b : BoardData) (plan : PlanData) (tree : Files) (slots : List Held) (pip p : ℕ) (s : Shown) (found : Option Difference) → plan ≡ b.plan
+    → tree ≡ b.sources → slots ≡ b.slots → pip ≡ p → found ≡ None → Compared plan tree (own_inputs plan slots pip) pip s found
+    → HoldsOwn b.plan b.sources b.slots p (is_good_held (slot_of s)) (slot_of s)
+own_shown b plan tree slots pip p s found eplan etree eslots ep none compared =
+    subst (λ (q : ℕ). HoldsOwn b.plan b.sources b.slots q (is_good_held (slot_of s)) (slot_of s)) ep
+    (subst (λ (l : List Held). HoldsOwn b.plan b.sources l pip (is_good_held (slot_of s)) (slot_of s)) eslots
+    (subst (λ (t : Files). HoldsOwn b.plan t slots pip (is_good_held (slot_of s)) (slot_of s)) etree
+    (subst (λ (q : PlanData). HoldsOwn q tree slots pip (is_good_held (slot_of s)) (slot_of s)) eplan
+    (subst (λ (o : Option Difference). Compared plan tree (own_inputs plan slots pip) pip s o) none compared))))
 
 -- what a publication comes to
 pub published_is : (b b' : BoardData) (share share' : ShareData) (job : JobData) (s : Shown) (pip worker : ℕ) (good : Bool) (slot : Held) → IsBoard b

@@ -1,45 +1,59 @@
-//! A board for one worker.
-ghost use Rattle.std.specs.Prelude.{◌≡◌, IfOk, None, false};
-ghost use Rattle.sched_board.specs.Board.{IsBusy};
+//! Boards, and what their workers do there. What may not happen ends the program.
+ghost use Rattle.std.specs.Prelude.{◌≡◌, ◌<◌, ◌≤◌, All, IfOk};
+ghost use Rattle.std.specs.Vec.{vec_len};
 
-use crate::plans::{no_sources, two_pips};
-use pip_model::Made;
+use pip_model::{Made, Plan, Sources};
 use pip_view_inputs::plain;
 use sched_board::{Blank, Board, Claim, Job, NewBoard, PublishFault, Share, Shown};
+use sched_core::MAX_WORKERS;
 use std::alloc::Global;
 use std::process::Abort;
-use std::sync::ledger;
 use std::sync::ledger::Ledger;
+use std::sync::{Arc, ledger};
 use std::test::Fail;
 
-// A board of the two pips, and the share of its only worker.
-pub(crate) fn board_for_one<L: Ledger, E: Ledger>(
+// One part of a ledger for each worker.
+fn parts_of<L: Ledger>(
     alloc: Global,
+    whole: ledger::Share<L>,
+    workers: u32,
+) -> Result<Vec<ledger::Share<L>>, Fail>
+    requires { (whole.parts ≡ workers) × (whole.amount ≡ 0) }
+    ensures { IfOk result (λ parts. (vec_len parts ≡ workers)
+        × All (λ s. (s.parts ≡ 1) × (s.amount ≡ 0)) parts.items) }
+{
+    let mut whole = whole;
+    let mut parts = Vec::new(alloc);
+    'parts: for _ in 0..workers {
+        parts.push(whole.split_off(1, 0))?;
+    }
+    Ok(parts)
+}
+
+// A board of a plan, with the shares of its workers.
+pub(crate) fn board_for<L: Ledger, E: Ledger>(
+    alloc: Global,
+    plan: Arc<Plan>,
+    sources: Arc<Sources>,
+    workers: u32,
     events: ledger::Blank,
     marks: ledger::Blank,
-) -> Result<(Board<L, E>, Share<L, E>), Fail>
-    requires events { (events.name ≡ L.name) × (events.parts ≡ L.parts) × (L.parts ≡ 1) }
-    requires marks { (marks.name ≡ E.name) × (marks.parts ≡ E.parts) × (E.parts ≡ 1) }
+) -> Result<NewBoard<L, E>, Fail>
+    requires workers { (0 < workers) × (workers ≤ MAX_WORKERS) }
+    requires events { (events.name ≡ L.name) × (events.parts ≡ L.parts) × (L.parts ≡ workers) }
+    requires marks { (marks.name ≡ E.name) × (marks.parts ≡ E.parts) × (E.parts ≡ workers) }
 {
-    let (events, part) = events.open::<L>();
-    let (marks, mark) = marks.open::<E>();
-    let mut event_parts = Vec::new(alloc);
-    event_parts.push(part)?;
-    let mut mark_parts = Vec::new(alloc);
-    mark_parts.push(mark)?;
+    let (events, whole) = events.open::<L>();
+    let event_parts = parts_of(alloc, whole, workers)?;
+    let (marks, whole) = marks.open::<E>();
+    let mark_parts = parts_of(alloc, whole, workers)?;
     let blank = Blank {
         events,
         event_parts,
         marks,
         mark_parts,
     };
-    let made = Board::new(alloc, blank, two_pips(alloc)?, no_sources(alloc)?, 1)?;
-    let NewBoard { board, shares } = made;
-    let mut shares = shares;
-    match shares.pop() {
-        Some(share) => Ok((board, share)),
-        None => Err(Fail::from("no share")),
-    }
+    Ok(Board::new(alloc, blank, plan, sources, workers)?)
 }
 
 // A job of the least pip that may start.
@@ -47,56 +61,106 @@ pub(crate) fn claimed<L: Ledger, E: Ledger>(
     rt: &impl Abort,
     board: &mut Board<L, E>,
     share: &mut Share<L, E>,
-) -> Result<Job<L, E>, Fail>
-    ensures busy { IfOk result (IsBusy board.new share.new) }
-{
+) -> Job<L, E> {
     assert!(rt; board.fits(share, None).is_ok());
     match board.claim(share) {
-        Claim::Job(job) => Ok(job),
-        Claim::Skipped(_) | Claim::NotYet | Claim::Over | Claim::Left => {
-            Err(Fail::from("no pip may start"))
+        Claim::Job(job) => job,
+        Claim::Skipped(_) | Claim::NotYet | Claim::Over | Claim::Left => rt.abort(),
+    }
+}
+
+// What a worker is told that is given no pip.
+pub(crate) fn told<L: Ledger, E: Ledger>(
+    rt: &impl Abort,
+    board: &mut Board<L, E>,
+    share: &mut Share<L, E>,
+) -> &'static str {
+    assert!(rt; board.fits(share, None).is_ok());
+    match board.claim(share) {
+        Claim::Job(job) => {
+            job.drop_unfit();
+            "a pip"
         }
+        Claim::Skipped(_) => "skipped",
+        Claim::NotYet => "not yet",
+        Claim::Over => "over",
+        Claim::Left => "left",
     }
 }
 
 // What the job's pip makes, of what the slots of its inputs hold.
-pub(crate) fn made_by<L: Ledger, E: Ledger>(
+fn made_by<L: Ledger, E: Ledger>(
     rt: &impl Abort,
     alloc: Global,
+    plan: &Plan,
+    sources: &Sources,
     board: &Board<L, E>,
     share: &Share<L, E>,
     job: &Job<L, E>,
 ) -> Result<Made, Fail> {
     assert!(rt; board.fits(share, Some(job)).is_ok());
     let inputs = board.inputs(alloc, job)?;
-    let plan = two_pips(alloc)?;
-    let sources = no_sources(alloc)?;
-    Ok(plain(alloc, &*plan, &*sources, job.pip(), &inputs)?)
+    Ok(plain(alloc, plan, sources, job.pip(), &inputs)?)
 }
 
-// Publishes these files of the job's pip, and completes it.
-pub(crate) fn complete<L: Ledger, E: Ledger>(
+// Publishes files of the job's pip, and completes it.
+fn complete<L: Ledger, E: Ledger>(
     rt: &impl Abort,
     alloc: Global,
     board: &mut Board<L, E>,
     share: &mut Share<L, E>,
     job: Job<L, E>,
     made: Made,
-) -> Result<(), Fail> {
+) {
     assert!(rt; board.fits(share, Some(&job)).is_ok());
     assert!(rt; !job.is_process() && job.looked().is_none());
     match board.publish(alloc, job, Shown::Plain(made), share) {
-        Ok(shut) => {
-            board.complete(shut, share);
-            Ok(())
-        }
-        Err(PublishFault::Refused { job, unlike: _ }) => {
+        Ok(shut) => board.complete(shut, share),
+        Err(PublishFault::Refused { job, unlike: _ } | PublishFault::Memory { job }) => {
             job.drop_unfit();
-            Err(Fail::from("it is refused"))
-        }
-        Err(PublishFault::Memory { job }) => {
-            job.drop_unfit();
-            Err(Fail::from("no memory"))
+            rt.abort()
         }
     }
+}
+
+// Makes the job's pip, publishes its files and completes it.
+pub(crate) fn make<L: Ledger, E: Ledger>(
+    rt: &impl Abort,
+    alloc: Global,
+    plan: &Plan,
+    sources: &Sources,
+    board: &mut Board<L, E>,
+    share: &mut Share<L, E>,
+    job: Job<L, E>,
+) {
+    match made_by(rt, alloc, plan, sources, board, share, &job) {
+        Ok(made) => complete(rt, alloc, board, share, job, made),
+        Err(_) => {
+            job.drop_unfit();
+            rt.abort()
+        }
+    }
+}
+
+// Gives the job's pip back.
+pub(crate) fn give_back<L: Ledger, E: Ledger>(
+    rt: &impl Abort,
+    board: &mut Board<L, E>,
+    share: &mut Share<L, E>,
+    job: Job<L, E>,
+) {
+    assert!(rt; board.fits(share, Some(&job)).is_ok());
+    board.release(job, share);
+}
+
+// The job's process is not found in the store.
+pub(crate) fn look<L: Ledger, E: Ledger>(
+    rt: &impl Abort,
+    board: &mut Board<L, E>,
+    share: &mut Share<L, E>,
+    job: &mut Job<L, E>,
+) {
+    assert!(rt; board.fits(share, Some(&*job)).is_ok());
+    assert!(rt; job.is_process() && job.looked().is_none());
+    board.looked(job, false, share);
 }

@@ -4,6 +4,10 @@
 #[cfg(test)]
 mod boards;
 #[cfg(test)]
+mod histories;
+#[cfg(test)]
+mod lies;
+#[cfg(test)]
 mod plans;
 #[cfg(test)]
-mod tests;
+mod runs;

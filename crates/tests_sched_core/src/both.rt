@@ -48,6 +48,14 @@ impl Both {
         })
     }
 
+    // The state of a pip, where it is there.
+    pub(crate) fn state(&self, pip: u32) -> Option<PipState> {
+        if self.core.len() <= pip as usize {
+            return None;
+        }
+        Some(self.core.state(pip))
+    }
+
     pub(crate) fn allows(&self, event: &Event) -> bool {
         is_allowed(
             self.graph.nodes(),

@@ -67,30 +67,87 @@ fn expect(rt: &impl Abort, both: &mut Both, pip: u32, worker: u32, allowed: &[us
     }
 }
 
+// Makes these events, each a pip, a worker and a number. Worker 2 has left already.
+fn standing(rt: &impl Abort, alloc: Global, events: &[(u32, u32, usize)]) -> Result<Both, Fail> {
+    let mut both = three_workers(rt, alloc)?;
+    make(rt, &mut both, 1, 2, &[0, 7]);
+    for (pip, worker, number) in events {
+        make(rt, &mut both, *pip, *worker, &[*number]);
+    }
+    Ok(both)
+}
+
+// After these events just these of the eight are allowed of the pip and the worker.
+fn expect_cells(
+    rt: &impl Abort,
+    alloc: Global,
+    events: &[(u32, u32, usize)],
+    pip: u32,
+    worker: u32,
+    allowed: &[usize],
+) -> Result<(), Fail> {
+    for number in 0..8 {
+        let mut both = standing(rt, alloc, events)?;
+        let is_allowed = both.step(rt, &event_of(pip, worker, number)).is_ok();
+        assert!(rt; is_allowed == allowed.iter().any(|other| *other == number));
+    }
+    Ok(())
+}
+
 #[test]
-fn a_process_goes_through_the_table(rt: HostRuntime) -> Result<(), Fail> {
-    let paths: [(&[usize], &[usize]); 8] = [
-        (&[], &[0]),
-        (&[0], &[1, 2, 7]),
-        (&[0, 1], &[3, 7]),
-        (&[0, 2], &[3, 4, 7]),
-        (&[0, 1, 3], &[5]),
-        (&[0, 2, 4], &[5]),
-        (&[0, 2, 3, 5], &[]),
-        (&[0, 7], &[]),
+fn all_cells_of_the_table(rt: HostRuntime) -> Result<(), Fail> {
+    let rows: &[(&[(u32, u32, usize)], u32, &[usize], &[usize])] = &[
+        // a process
+        (&[], 0, &[0], &[0]),
+        (&[(0, 0, 0)], 0, &[1, 2, 7], &[]),
+        (&[(0, 0, 0), (0, 0, 1)], 0, &[3, 7], &[]),
+        (&[(0, 0, 0), (0, 0, 2)], 0, &[3, 4, 7], &[]),
+        (&[(0, 0, 0), (0, 0, 1), (0, 0, 3)], 0, &[5], &[]),
+        (&[(0, 0, 0), (0, 0, 2), (0, 0, 4)], 0, &[5], &[]),
+        (&[(0, 0, 0), (0, 0, 2), (0, 0, 3), (0, 0, 5)], 0, &[], &[]),
+        (&[(0, 0, 0), (0, 0, 2), (0, 0, 4), (0, 0, 5)], 0, &[], &[]),
+        (&[(0, 0, 0), (0, 0, 7)], 0, &[], &[0]),
+        // a pip that is none
+        (&[], 1, &[0], &[0]),
+        (&[(1, 0, 0)], 1, &[3, 7], &[]),
+        (&[(1, 0, 0), (1, 0, 3)], 1, &[5], &[]),
+        (&[(1, 0, 0), (1, 0, 3), (1, 0, 5)], 1, &[], &[]),
+        // a worker that holds another
+        (&[(1, 0, 0)], 0, &[], &[0]),
+        // a pip that waits for a process that succeeded, and for one that did not yet
+        (&[], 2, &[], &[]),
+        (
+            &[(0, 0, 0), (0, 0, 2), (0, 0, 3), (0, 0, 5), (1, 0, 0)],
+            2,
+            &[],
+            &[],
+        ),
+        // for a process that failed, and for a pip that was skipped
+        (
+            &[(0, 0, 0), (0, 0, 2), (0, 0, 4), (0, 0, 5), (1, 0, 0)],
+            2,
+            &[],
+            &[6],
+        ),
+        (
+            &[(0, 0, 0), (0, 0, 2), (0, 0, 4), (0, 0, 5), (2, 1, 6)],
+            2,
+            &[],
+            &[],
+        ),
+        (
+            &[(0, 0, 0), (0, 0, 2), (0, 0, 4), (0, 0, 5), (2, 1, 6)],
+            3,
+            &[6],
+            &[6],
+        ),
+        // no pip
+        (&[], 9, &[], &[]),
     ];
-    for (made, allowed) in paths {
-        let mut both = three_workers(&rt, rt.alloc())?;
-        make(&rt, &mut both, 0, 0, made);
-        expect(&rt, &mut both, 0, 0, allowed);
-        if !made.is_empty() {
-            expect(&rt, &mut both, 9, 1, &[]);
-            make(&rt, &mut both, 1, 1, &[0]);
-            expect(&rt, &mut both, 0, 1, &[]);
-            expect(&rt, &mut both, 1, 1, &[3, 7]);
-            make(&rt, &mut both, 1, 1, &[3]);
-            expect(&rt, &mut both, 1, 1, &[5]);
-        }
+    for (events, pip, first, second) in rows {
+        expect_cells(&rt, rt.alloc(), events, *pip, 0, first)?;
+        expect_cells(&rt, rt.alloc(), events, *pip, 1, second)?;
+        expect_cells(&rt, rt.alloc(), events, *pip, 2, &[])?;
     }
     Ok(())
 }
@@ -109,29 +166,28 @@ fn a_pip_waits_for_both_of_its_inputs(rt: HostRuntime) -> Result<(), Fail> {
     Ok(())
 }
 
-#[test]
-fn what_waits_for_a_failure_is_skipped(rt: HostRuntime) -> Result<(), Fail> {
-    let mut both = three_workers(&rt, rt.alloc())?;
-    make(&rt, &mut both, 0, 0, &[0, 2, 4, 5]);
-    expect(&rt, &mut both, 2, 0, &[6]);
-    expect(&rt, &mut both, 3, 0, &[]);
-    make(&rt, &mut both, 1, 0, &[0]);
-    expect(&rt, &mut both, 2, 0, &[]);
-    make(&rt, &mut both, 2, 1, &[6]);
-    expect(&rt, &mut both, 3, 1, &[6]);
-    Ok(())
+// Two pips that wait for nothing, and are no processes.
+fn two_pips(rt: &impl Abort, alloc: Global) -> Result<Graph, Fail> {
+    let mut graph = Graph::new(alloc);
+    add(rt, alloc, &mut graph, false, &[])?;
+    add(rt, alloc, &mut graph, false, &[])?;
+    Ok(graph)
 }
 
 #[test]
-fn a_refusal_tells_why(rt: HostRuntime) -> Result<(), Fail> {
-    let mut both = three_workers(&rt, rt.alloc())?;
-    make(&rt, &mut both, 1, 0, &[0]);
-    let Err(illegal) = both.step(&rt, &event_of(1, 1, 0)) else {
+fn a_pip_of_another_worker_does_not_start(rt: HostRuntime) -> Result<(), Fail> {
+    let graph = two_pips(&rt, rt.alloc())?;
+    let mut both = Both::new(&rt, rt.alloc(), graph, two_pips(&rt, rt.alloc())?, 2)?;
+    make(&rt, &mut both, 0, 0, &[0]);
+    let Err(illegal) = both.step(&rt, &event_of(0, 1, 0)) else {
         return Ok(assert!(rt; false));
     };
     assert_eq!(rt; illegal.state(), Some(PipState::Held(0)));
     assert_eq!(rt; illegal.busy(), None);
     assert_eq!(rt; illegal.left(), false);
+    make(&rt, &mut both, 0, 0, &[3, 5]);
+    assert_eq!(rt; both.state(0), Some(PipState::Done(true)));
+    assert_eq!(rt; both.state(1), Some(PipState::Waiting));
     Ok(())
 }
 

@@ -5,4 +5,4 @@ use Rattle.bxl.proofs.keeper.Goals as goal
 
 pub new-requires-send-D : goal.new-requires-send-D
 new-requires-send-D g c κs =
-    ((λ a is. absurd (not-mem-nil is)), (search (sendable, disk), (c.new-disk.ensures, (c.requires, λ known name named. absurd (cc)))))
+    ((λ a is. absurd (not-mem-nil is)), (search (sendable, disk), (c.new-disk.ensures.calls, (c.requires, λ known name named. absurd (cc)))))

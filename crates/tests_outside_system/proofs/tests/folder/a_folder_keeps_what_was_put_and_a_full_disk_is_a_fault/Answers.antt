@@ -7,4 +7,4 @@ use Rattle.tests_outside_system.proofs.tests.folder.a_folder_keeps_what_was_put_
 
 pub new-keeper-requires-send-D : goal.new-keeper-requires-send-D
 new-keeper-requires-send-D g c κs =
-    ((λ a is. absurd (not-mem-nil is)), (search (sendable, disk), (c.new-disk.ensures, (none_named, search rules))))
+    ((λ a is. absurd (not-mem-nil is)), (search (sendable, disk), (c.new-disk.ensures.calls, (none_named, search rules))))
