@@ -4,6 +4,10 @@ pub mod Named
 pub mod Trimmed
 pub mod Planned
 pub mod Sets
-pub mod Digests
+pub mod NamedDigests
 pub mod Counted
 pub mod Listed
+pub mod Found
+pub mod Plans
+pub mod NamedTexts
+pub mod Cutting

@@ -15,7 +15,7 @@ use Rattle.cache_care.specs.Digests.{AddsAll, IsSetOf, has_digest}
 use Rattle.cache_care.specs.Naming.{named_at}
 use Rattle.cache_care.specs.Trimming.{is_selected, list_change, remaining}
 use Rattle.cache_care.specs.declared.digests.DigestSet.{DigestSet}
-use Rattle.cache_care.proofs.Digests.{selected_is}
+use Rattle.cache_care.proofs.NamedDigests.{selected_is}
 use Rattle.cache_care.proofs.Planned.{mapped_more}
 use Rattle.cache_care.proofs.Sets.{adds_none, set_more}
 

@@ -21,7 +21,7 @@ use Rattle.cache_care.proofs.Dropping.{after_others, all_drops, drop_of, drops_b
 
 -- ## Names of a finding
 
-same_is : (a b : Finding) → same_finding a b ≡ true → a ≡ b
+pub same_is : (a b : Finding) → same_finding a b ≡ true → a ≡ b
 same_is findings.Damaged findings.Damaged e = refl
 same_is findings.Damaged findings.Bad e = absurd cc
 same_is findings.Damaged findings.Honest e = absurd cc

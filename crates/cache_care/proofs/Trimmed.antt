@@ -82,13 +82,13 @@ apart a b q differ h k =
     let is = begins_is a q h in
     never_both (begins b q) k (ap (begins b) is.1 ∙ differ is.0)
 
-entry_or_list : (q : List ℕ) → begins (codes "e/") q ≡ true → begins (codes "w/") q ≡ true → ⊥
+pub entry_or_list : (q : List ℕ) → begins (codes "e/") q ≡ true → begins (codes "w/") q ≡ true → ⊥
 entry_or_list q = apart (codes "e/") (codes "w/") q (λ rest. refl)
 
-entry_or_blob : (q : List ℕ) → begins (codes "e/") q ≡ true → begins (codes "b/") q ≡ true → ⊥
+pub entry_or_blob : (q : List ℕ) → begins (codes "e/") q ≡ true → begins (codes "b/") q ≡ true → ⊥
 entry_or_blob q = apart (codes "e/") (codes "b/") q (λ rest. refl)
 
-list_or_blob : (q : List ℕ) → begins (codes "w/") q ≡ true → begins (codes "b/") q ≡ true → ⊥
+pub list_or_blob : (q : List ℕ) → begins (codes "w/") q ≡ true → begins (codes "b/") q ≡ true → ⊥
 list_or_blob q = apart (codes "w/") (codes "b/") q (λ rest. refl)
 
 is_entry_name : (digest : List ℕ) → begins (codes "e/") (at_entry digest) ≡ true
@@ -111,7 +111,7 @@ change_name : (keep : ℕ) (name : List ℕ) (o : Option (List Selector)) (c : C
 change_name keep name None c h = elim h [ inl e ↦ ap name_of e | inr k ↦ absurd k ]
 change_name keep name (Some list) c h = cut_name keep name list (take keep list) c h
 
-take_none : (n : ℕ) (list : List Selector) → list ≡ [] → take n list ≡ []
+pub take_none : (n : ℕ) (list : List Selector) → list ≡ [] → take n list ≡ []
 take_none zero list e = refl
 take_none (suc n) [] e = refl
 take_none (suc n) (s ∷ rest) e = absurd cc

@@ -285,15 +285,6 @@ fn drop_contents(
     Ok(())
 }
 
-fn add_all(plan: &mut Vec<Planned>, more: Vec<Planned>) -> Result<(), AllocError>
-    ensures { OnOk result (plan.new.items ≡ plan.old.items ++ more.items) }
-{
-    'more: for planned in more {
-        plan.push(planned)?;
-    }
-    Ok(())
-}
-
 // All changes of a trim, which are planned before the first is made.
 fn plan<K: Keeper>(
     alloc: Global,
@@ -311,12 +302,11 @@ fn plan<K: Keeper>(
     ensures keeper { KeeperCall (K.bound keeper.old) (K.bound keeper.new) (K.faults keeper.old)
         (K.faults keeper.new) (result ≡ Err CareFault.Failed) }
 {
-    let lists = trim_lists(alloc, keeper, names, keep)?;
-    let entries = trim_entries(alloc, keeper, names, &lists.digests, keep)?;
-    let mut plan = entries.changes;
-    add_all(&mut plan, lists.changes)?;
-    drop_contents(&mut plan, names, &entries.digests)?;
-    Ok(plan)
+    let mut lists = trim_lists(alloc, keeper, names, keep)?;
+    let mut entries = trim_entries(alloc, keeper, names, &lists.digests, keep)?;
+    entries.changes.append(&mut lists.changes)?;
+    drop_contents(&mut entries.changes, names, &entries.digests)?;
+    Ok(entries.changes)
 }
 
 /// Leaves of each well-formed list its first selectors, the entries that these name, and the contents that those name:

@@ -114,7 +114,7 @@ chosen_is : (b : Bool) (d e : Entry) → cond b (Some d) None ≡ Some e → d �
 chosen_is true d e h = cc
 chosen_is false d e h = absurd cc
 
-is_entry : (S : Holdings) (name : List ℕ) (e : Entry) → entry_at S name ≡ Some e → IsEntry e
+pub is_entry : (S : Holdings) (name : List ℕ) (e : Entry) → entry_at S name ≡ Some e → IsEntry e
 is_entry S name e h =
     let from = bind_some (get S name >>= read_entry_text) (λ (d : Entry). cond (bytes_eq (at_entry d.strong) name) (Some d) None) e h in
     let text = bind_some (get S name) read_entry_text from.0 from.1 in
