@@ -1,5 +1,5 @@
 //! Changes of a store that are planned, made and counted.
-ghost use Rattle.std.specs.Prelude.{◌≡◌, ◌≤◌, [], ◌∷◌, All, Err, OnErr, OnOk, length, map};
+ghost use Rattle.std.specs.Prelude.{◌≡◌, ◌+◌, ◌≤◌, [], ◌∷◌, All, Err, OnErr, OnOk, length, map};
 ghost use Rattle.bx_io.specs.Holdings.{Keeps, Makes, MakesPrefix, name_of};
 ghost use Rattle.bx_io.specs.Names.{IsName};
 ghost use Rattle.two_phase.specs.Calls.{KeeperCall};
