@@ -6,7 +6,7 @@ use Rattle.prints.specs.Reading.{◌>>=◌}
 use Rattle.memo_format.specs.Selectors.{read_selectors_text, selectors_text}
 use Rattle.memo_format.specs.declared.selector.Selector.{Selector}
 use Rattle.two_phase_meaning.specs.Saving.{or_none, selectors_in}
-use Rattle.cache_care.specs.Trimming.{AreTrims, IsListName, cut_to, list_change}
+use Rattle.cache_care.specs.Trimming.{AreTrims, IsListName, cut_to, list_change, read_at}
 use Rattle.cache_care.proofs.Counted.{trims_both, trims_drop, trims_kept, trims_put, trims_same}
 
 -- a list of which nothing is left is dropped
@@ -60,10 +60,10 @@ trims_if names name b before now made h =
 
 -- what is read of a text that is held
 pub read_held : (S : Holdings) (name text : List ℕ) (o : Option (List Selector)) → get S name ≡ Some text → read_selectors_text text ≡ o
-    → (get S name >>= read_selectors_text) ≡ o
+    → read_at S name ≡ o
 read_held S name text o held is = ap (λ (x : Option (List ℕ)). x >>= read_selectors_text) held ∙ is
 
-pub read_none : (S : Holdings) (name : List ℕ) → get S name ≡ None → (get S name >>= read_selectors_text) ≡ None
+pub read_none : (S : Holdings) (name : List ℕ) → get S name ≡ None → read_at S name ≡ None
 read_none S name none = ap (λ (x : Option (List ℕ)). x >>= read_selectors_text) none
 
 pub in_held : (S : Holdings) (name text : List ℕ) (o : Option (List Selector)) → get S name ≡ Some text → read_selectors_text text ≡ o

@@ -102,3 +102,12 @@ pub repairs_names : (names : List (List ℕ)) (found : List Finding) → AllByRe
 repairs_names names found h =
     all_append (λ (c : Change). IsName (name_of c)) (map Drop (names_found findings.Bad names found)) (map Drop (names_found findings.Damaged names found))
     (found_names findings.Bad names found h) (found_names findings.Damaged names found h)
+
+-- bad entries first, then damaged names
+pub planned_both : (names : List (List ℕ)) (found : List Finding) (none bad all : List Planned) → none ≡ []
+    → map planned_change bad ≡ map planned_change none ++ map Drop (names_found findings.Bad names found)
+    → map planned_change all ≡ map planned_change bad ++ map Drop (names_found findings.Damaged names found) → map planned_change all ≡ repairs names found
+planned_both names found none bad all nothing one two =
+    two
+    ∙ ap (λ (cs : List Change). cs ++ map Drop (names_found findings.Damaged names found))
+    (one ∙ ap (λ (ps : List Planned). map planned_change ps ++ map Drop (names_found findings.Bad names found)) nothing)

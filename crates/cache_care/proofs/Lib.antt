@@ -11,3 +11,4 @@ pub mod Found
 pub mod Plans
 pub mod NamedTexts
 pub mod Cutting
+pub mod CareDone

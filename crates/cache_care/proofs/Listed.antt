@@ -6,14 +6,12 @@ use Rattle.std.proofs.lemmas.List.Elements.{filter-append}
 use Rattle.bx_digest.specs.Digests.{IsDigest}
 use Rattle.bx_io.specs.Holdings.{Change, Drop, Holdings}
 use Rattle.prints.specs.Lines.{begins}
-use Rattle.prints.specs.Reading.{◌>>=◌}
-use Rattle.memo_format.specs.Selectors.{read_selectors_text}
 use Rattle.memo_format.specs.StoreNames.{at_blob, at_entry, at_list}
 use Rattle.memo_format.specs.declared.selector.Selector.{Selector}
 use Rattle.two_phase_meaning.specs.Saving.{selectors_in}
 use Rattle.cache_care.specs.Digests.{AddsAll, IsSetOf, has_digest}
 use Rattle.cache_care.specs.Naming.{named_at}
-use Rattle.cache_care.specs.Trimming.{is_selected, list_change, remaining}
+use Rattle.cache_care.specs.Trimming.{is_selected, list_change, read_at, remaining}
 use Rattle.cache_care.specs.declared.digests.DigestSet.{DigestSet}
 use Rattle.cache_care.proofs.NamedDigests.{selected_is}
 use Rattle.cache_care.proofs.Planned.{mapped_more}
@@ -37,7 +35,7 @@ kind_other p f xs i x l is other =
 
 -- what a list comes to
 abbrev pub cut_at : Holdings → ℕ → List ℕ → List Change
-cut_at S keep name = list_change keep name (get S name >>= read_selectors_text)
+cut_at S keep name = list_change keep name (read_at S name)
 
 abbrev pub left_at : Holdings → ℕ → List ℕ → List Selector
 left_at S keep name = take keep (selectors_in (get S name))

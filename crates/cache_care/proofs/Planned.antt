@@ -43,7 +43,7 @@ made_whole start now plan i l so_far = subst (λ (ps : List Planned). Makes star
 -- ## Drops that are counted
 
 pub drop_count-append : (xs ys : List Change) → drop_count (xs ++ ys) ≡ drop_count xs + drop_count ys
-drop_count-append [] ys = refl
+drop_count-append [] ys = omega arith
 drop_count-append (c ∷ xs) ys = let e = drop_count-append xs ys in omega (arith, e)
 
 pub drops_few : (xs : List Change) → drop_count xs ≤ length xs

@@ -26,7 +26,7 @@ use Rattle.two_phase_meaning.proofs.Puts.{Grows, same_name, still_honest, there_
 use Rattle.cache_care_check.proofs.Told.{held_name}
 use Rattle.cache_care.specs.Naming.{named_at, named_at_entry, named_by}
 use Rattle.cache_care.specs.Trimmed.{IsTrimmed}
-use Rattle.cache_care.specs.Trimming.{blob_names, cut_to, entry_names, is_named, is_selected, list_change, list_changes, list_names, named_digests, trims}
+use Rattle.cache_care.specs.Trimming.{blob_names, cut_to, entry_names, is_named, is_selected, list_change, list_changes, list_names, named_digests, read_at, trims}
 use Rattle.cache_care.proofs.Dropping.{PutsNone, after_other, after_others, drop_of, dropped_after, has_in_whole, name_itself, none_after, there_before}
 use Rattle.cache_care.proofs.Named.{entry_is, named_honest}
 
@@ -115,10 +115,6 @@ pub take_none : (n : ℕ) (list : List Selector) → list ≡ [] → take n list
 take_none zero list e = refl
 take_none (suc n) [] e = refl
 take_none (suc n) (s ∷ rest) e = absurd cc
-
--- what is read under a name
-abbrev read_at : Holdings → List ℕ → Option (List Selector)
-read_at S name = get S name >>= read_selectors_text
 
 -- ## Changes of a trim
 

@@ -57,8 +57,12 @@ abbrev pub list_change : ℕ → List ℕ → Option (List Selector) → List Ch
 list_change keep name None = Drop name ∷ []
 list_change keep name (Some list) = cut_to keep name list (take keep list)
 
+-- the selectors that are read under a name
+abbrev pub read_at : Holdings → List ℕ → Option (List Selector)
+read_at S name = get S name >>= read_selectors_text
+
 abbrev pub list_changes : Holdings → ℕ → List Change
-list_changes S keep = flat_map (λ name. list_change keep name (get S name >>= read_selectors_text)) (list_names S)
+list_changes S keep = flat_map (λ name. list_change keep name (read_at S name)) (list_names S)
 
 -- First each entry is dropped that no selector names which stays; then lists are put or dropped; and then each content is
 -- dropped that no entry names which stays. Names of a kind are gone through in their order.

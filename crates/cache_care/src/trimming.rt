@@ -8,8 +8,7 @@ ghost use Rattle.bx_digest.specs.Digests.{IsDigest};
 ghost use Rattle.bx_io.specs.Holdings.{Drop, Holdings, Keeps, MakesPrefix, Put, held_in, name_of};
 ghost use Rattle.bx_io.specs.Names.{IsName};
 ghost use Rattle.prints.specs.Lines.{begins};
-ghost use Rattle.prints.specs.Reading.{◌>>=◌};
-ghost use Rattle.memo_format.specs.Selectors.{read_selectors_text, selectors_text};
+ghost use Rattle.memo_format.specs.Selectors.{selectors_text};
 ghost use Rattle.memo_format.specs.StoreNames.{at_blob, at_entry};
 ghost use Rattle.memo_format.specs.declared.selector.TheConstants.{MAX_SELECTORS};
 ghost use Rattle.two_phase.specs.Calls.{KeeperCall};
@@ -20,7 +19,7 @@ ghost use Rattle.cache_care.specs.Digests.{AddsAll, IsSetOf, has_digest};
 ghost use Rattle.cache_care.specs.Naming.{named_at};
 ghost use Rattle.cache_care.specs.Planning.{planned_change};
 ghost use Rattle.cache_care.specs.Trimming.{AreTrims, DoesTrim, IsListName, IsTrim, OnlyTrims, entry_names};
-ghost use Rattle.cache_care.specs.Trimming.{is_selected, list_change, list_changes, named_digests, remaining, trims};
+ghost use Rattle.cache_care.specs.Trimming.{is_selected, list_change, list_changes, named_digests, read_at, remaining, trims};
 
 use crate::digests::DigestSet;
 use crate::naming::add_named;
@@ -132,7 +131,7 @@ fn trim_list<K: Keeper>(
     requires name { IsListName (string_bytes name.now) }
     ensures changes { (S : Holdings) → held_in (K.known keeper.new) ≡ Some S →
         OnOk result (map planned_change trim.new.changes.items ≡ map planned_change trim.old.changes.items
-        ++ list_change keep (string_bytes name.now) (get S (string_bytes name.now) >>= read_selectors_text)) }
+        ++ list_change keep (string_bytes name.now) (read_at S (string_bytes name.now))) }
     ensures selected { (S : Holdings) → held_in (K.known keeper.new) ≡ Some S →
         OnOk result (AddsAll trim.old.digests trim.new.digests
         (map (λ s. s.strong) (take keep (selectors_in (get S (string_bytes name.now)))))) }
