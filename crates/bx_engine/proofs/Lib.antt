@@ -12,5 +12,7 @@ mod BuildsAreShown
 mod ExpectedIsWritten
 mod ResponsesAreExpected
 mod CallsEnd
+mod OtherCalls
+mod Checked
 mod OneEnding
 mod SomeEnding

@@ -252,17 +252,17 @@ no_more : (rest : List (List ℕ)) (others : List Setting) → rest ≡ [] → A
 no_more rest [] e h = refl
 no_more rest (s ∷ others) e h = absurd (none_begin rest s h.0 e h.1)
 
+none_or_some : (order : Order) → ◌≡◌ {A = Option Order} None (Some order) → ⊥
+none_or_some order e = cc
+
 -- nothing is left: the words are options of the order that was read, or of none
 pub all_read : (command : Command) (words rest : List (List ℕ)) (given : Given) (found : Option Order)
     → ReadSoFar command words rest given → rest ≡ [] → found ≡ order_with_given command given
     → MatchOption found ((order : Order) → AreOptions command words order → ⊥) (λ order. AreOptions command words order)
-all_read command words rest given None h none is order are =
+all_read command words rest given None h none is = λ order are.
     let o = h.only are.settings are.settings_are in
     let same : are.settings ≡ h.settings = o.1 ∙ ap (λ (ss : List Setting). h.settings ++ ss) (no_more rest o.0 none o.2) ∙ append-nil h.settings in
-    none_or_some (is ∙ order_read command words rest given h ∙ ap (order_of command) (sym same) ∙ are.order_is)
-  where
-    none_or_some : None ≡ Some order → ⊥
-    none_or_some e = cc
+    none_or_some order (is ∙ order_read command words rest given h ∙ ap (order_of command) (sym same) ∙ are.order_is)
 all_read command words rest given (Some order) h none is = record {
   settings = h.settings;
   settings_are = subst (AreSettings words) (append-nil h.settings) (h.more [] none);

@@ -1,19 +1,12 @@
 -- Words that begin with the word of a command.
-use Rattle.std.proofs.Common.{◌≡◌, ℕ, false, not, List, ◌∷◌, codes, eqb, Option, Some, None, Result, sym, subst, ◌∙◌}
+use Rattle.std.proofs.Common.{◌≡◌, ℕ, List, ◌∷◌, Option, Some, None, Result, sym, subst, ◌∙◌}
 use Rattle.std.specs.Prelude.{MatchOption, MatchResult}
-use Rattle.std.specs.Cmp.Lexicographic.{pointwise}
 use Rattle.std.specs.Option.{ok_or}
-use Rattle.std.proofs.lemmas.Slice.Eq.{bytes_eq-Decides}
-use Rattle.std.proofs.lemmas.Bool.{not-false}
 use Rattle.bx_engine_words.specs.declared.command.Command.{Command}
 use Rattle.bx_engine_words.specs.declared.order.Order.{Order}
 use Rattle.bx_engine_words.specs.Commands.{command_text}
 use Rattle.bx_engine_words.specs.Words.{AreOptions, Orders}
 use Rattle.bx_engine_words.proofs.OneSetting.{first_same, rest_same, same_commands}
-
--- texts that are not found to differ are equal
-pub same_text : (a b : List ℕ) → not (pointwise eqb a b) ≡ false → a ≡ b
-same_text a b e = (bytes_eq-Decides a b).0 (not-false (pointwise eqb a b) e)
 
 abbrev IsReadAs : {E : Type 0} → List (List ℕ) → Result Order E → Type 0
 IsReadAs words r = MatchResult r (λ order. Orders words order) (λ _. (order : Order) → Orders words order → ⊥)

@@ -40,13 +40,13 @@ content_is S digest x y h k = one_content S x y h.held k.held (h.digest_is ∙ s
 
 -- ## One of each text
 
-weak_is : (S : Holdings) (digest : List ℕ) (p q : WeakParts) → HoldsWeak S digest p → HoldsWeak S digest q → p ≡ q
+pub weak_is : (S : Holdings) (digest : List ℕ) (p q : WeakParts) → HoldsWeak S digest p → HoldsWeak S digest q → p ≡ q
 weak_is S digest p q h k = same_Some p q (sym h.2 ∙ ap read_weak_text (content_is S digest h.0 k.0 h.1 k.1) ∙ k.2)
 
-paths_is : (S : Holdings) (digest : List ℕ) (p q : List Ask) → HoldsPaths S digest p → HoldsPaths S digest q → p ≡ q
+pub paths_is : (S : Holdings) (digest : List ℕ) (p q : List Ask) → HoldsPaths S digest p → HoldsPaths S digest q → p ≡ q
 paths_is S digest p q h k = same_Some p q (sym h.2 ∙ ap read_paths_text (content_is S digest h.0 k.0 h.1 k.1) ∙ k.2)
 
-strong_is : (S : Holdings) (digest : List ℕ) (p q : StrongParts) → HoldsStrong S digest p → HoldsStrong S digest q → p ≡ q
+pub strong_is : (S : Holdings) (digest : List ℕ) (p q : StrongParts) → HoldsStrong S digest p → HoldsStrong S digest q → p ≡ q
 strong_is S digest p q h k = same_Some p q (sym h.2 ∙ ap read_strong_text (content_is S digest h.0 k.0 h.1 k.1) ∙ k.2)
 
 -- ## What they name
@@ -62,11 +62,11 @@ one_answers S lines a b h k = same_answers (HoldsBlob S) (one_content S) a b (h.
 
 -- ## Honest entries
 
-lines_length : (given : List Answer) → length (map line_of given) ≡ length given
+pub lines_length : (given : List Answer) → length (map line_of given) ≡ length given
 lines_length [] = refl
 lines_length (a ∷ given) = ap (λ n. n + 1) (lines_length given)
 
-abbrev strong_with : Entry → List AnswerLine → StrongParts
+abbrev pub strong_with : Entry → List AnswerLine → StrongParts
 strong_with e lines = record { weak = e.weak; paths = e.paths; lines = lines }
 
 -- an entry whose texts are these is honest where the run on what they name gives its outputs
@@ -88,7 +88,7 @@ keeps_is_honest S e t a k = record {
 }
 
 -- the texts of an honest entry
-abbrev texts_in : {S : Holdings} {e : Entry} → HonestEntry S e → EntryTexts
+abbrev pub texts_in : {S : Holdings} {e : Entry} → HonestEntry S e → EntryTexts
 texts_in h = record { weak = weak_parts h.desc; paths = h.asks; lines = map line_of h.given }
 
 pub honest_has_texts : (S : Holdings) (e : Entry) (h : HonestEntry S e) → AreTexts S e (texts_in h)

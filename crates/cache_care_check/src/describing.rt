@@ -1,6 +1,5 @@
 //! The process and the answers that texts say, with the contents that they name.
 ghost use Rattle.std.specs.Prelude.{◌≡◌, Err, IfOk, IfSome, length, map};
-ghost use Rattle.bx_digest.specs.Digests.{IsDigest};
 ghost use Rattle.bx_io.specs.Holdings.{Keeps, held_in};
 ghost use Rattle.bx_tree.specs.FileInputs.{input_path};
 ghost use Rattle.pip_model_types.specs.Inputs.{RiseByPath};

@@ -72,6 +72,7 @@ fn of_content<K: Keeper>(
     ensures keeper { KeeperCall (K.bound keeper.old) (K.bound keeper.new) (K.faults keeper.old)
         (K.faults keeper.new) (result ≡ Err CareFault.Failed) }
 {
+    let _bytes = digest.bytes();
     match contents.get(alloc, keeper, digest)? {
         Some(_) => Ok(Finding::Other),
         None => Ok(Finding::Damaged),
@@ -93,7 +94,7 @@ fn of_selectors<K: Keeper>(
     ensures keeper { KeeperCall (K.bound keeper.old) (K.bound keeper.new) (K.faults keeper.old)
         (K.faults keeper.new) (result ≡ Err CareFault.Failed) }
 {
-    let _ = weak;
+    let _bytes = weak.bytes();
     match keeper.get(alloc, name) {
         Got::Found(text) => match read_selectors(alloc, text.as_slice()) {
             Ok(_) => Ok(Finding::Other),
@@ -152,6 +153,7 @@ fn of_entry<K: Keeper>(
     ensures keeper { KeeperCall (K.bound keeper.old) (K.bound keeper.new) (K.faults keeper.old)
         (K.faults keeper.new) (result ≡ Err CareFault.Failed) }
 {
+    let _bytes = strong.bytes();
     let entry = match held_entry(alloc, keeper, name, strong)? {
         Some(entry) => entry,
         None => return Ok(Finding::Damaged),
