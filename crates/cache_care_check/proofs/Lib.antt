@@ -2,9 +2,9 @@ pub mod Deciding
 pub mod Told
 mod Steps
 mod Noted
-mod Texts
+mod FoundTexts
 mod Described
 mod Judged
-mod Names
+mod NameParts
 mod Surveyed
 mod Listed

@@ -2,7 +2,7 @@ use Rattle.std.proofs.Common.{ℕ, List, Option, subst}
 use Rattle.content_store.specs.Contents.{IsContent}
 use Rattle.prints.specs.Strong.{read_strong_text}
 use Rattle.two_phase.specs.Finding.{FindsOne}
-use Rattle.cache_care_check.proofs.Texts.{no_text, text_found}
+use Rattle.cache_care_check.proofs.FoundTexts.{no_text, text_found}
 use Rattle.cache_care_check.proofs.texts.strong_of.Goals as goal
 
 pub returns-in-Some-clause-found : goal.returns-in-Some-clause-found

@@ -3,7 +3,7 @@ use Rattle.std.proofs.lemmas.Bool.{both_ways}
 use Rattle.prints.specs.declared.strong_parts.StrongParts.{StrongParts}
 use Rattle.two_phase_meaning.specs.Contents.{HoldsStrong}
 use Rattle.two_phase.specs.Finding.{FindsOne}
-use Rattle.cache_care_check.proofs.Texts.{no_strong, strong_added, strong_left}
+use Rattle.cache_care_check.proofs.FoundTexts.{no_strong, strong_added, strong_left}
 use Rattle.cache_care_check.proofs.texts.with_strong.Goals as goal
 
 pub returns-in-Some-then-not-is_strong_of-clause-found : goal.returns-in-Some-then-not-is_strong_of-clause-found
