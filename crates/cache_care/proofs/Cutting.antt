@@ -1,6 +1,8 @@
 -- What becomes of one list.
-use Rattle.std.proofs.Common.{◌≡◌, ℕ, Bool, true, false, cond, nat_lt, List, [], ◌∷◌, ◌++◌, length, take, Option, Some, None, refl, sym, ap, ◌∙◌, subst}
+use Rattle.std.proofs.Common.{◌≡◌, ℕ, Bool, true, false, cond, nat_lt, List, [], ◌∷◌, ◌++◌, length, take, Option, Some, None, Result, Ok, Err, refl, sym, ap, ◌∙◌, subst}
+use Rattle.std.specs.Prelude.{◌==◌, OnOk}
 use Rattle.std.specs.FinMap.{get}
+use Rattle.std.proofs.lemmas.List.{append-nil}
 use Rattle.bx_io.specs.Holdings.{Change, Drop, Holdings, Put}
 use Rattle.prints.specs.Reading.{◌>>=◌}
 use Rattle.memo_format.specs.Selectors.{read_selectors_text, selectors_text}
@@ -30,11 +32,7 @@ trims_dropped names name before now is h =
 pub trims_unchanged : (names : List (List ℕ)) (name : List ℕ) (before now : List Change) → now ≡ before → AreTrims names before
     → AreTrims (names ++ name ∷ []) now
 trims_unchanged names name before now is h =
-    trims_same (names ++ name ∷ []) (before ++ []) now (nothing before ∙ sym is) (trims_both names (name ∷ []) before [] h (trims_kept name))
-  where
-    nothing : (xs : List Change) → xs ++ [] ≡ xs
-    nothing [] = refl
-    nothing (x ∷ xs) = ap (λ ys. x ∷ ys) (nothing xs)
+    trims_same (names ++ name ∷ []) (before ++ []) now (append-nil before ∙ sym is) (trims_both names (name ∷ []) before [] h (trims_kept name))
 
 pub trims_cut : (names : List (List ℕ)) (name : List ℕ) (list : List Selector) (b : Bool) (before now : List Change) → IsListName name
     → now ≡ before ++ cond b (Put name (selectors_text list) ∷ []) [] → AreTrims names before → AreTrims (names ++ name ∷ []) now
@@ -72,3 +70,48 @@ in_held S name text o held is = ap selectors_in held ∙ ap or_none is
 
 pub in_none : (S : Holdings) (name : List ℕ) → get S name ≡ None → selectors_in (get S name) ≡ []
 in_none S name none = ap selectors_in none
+
+-- ## By a test
+
+pub kept_changes : (b : Bool) (name : List ℕ) (before now : List Change) → b ≡ true → now ≡ before → now ≡ before ++ cond b [] (Drop name ∷ [])
+kept_changes b name before now is same = same ∙ sym (append-nil before) ∙ ap (λ t. before ++ cond t [] (Drop name ∷ [])) (sym is)
+
+pub dropped_changes : (b : Bool) (name : List ℕ) (before now : List Change) → b ≡ false → now ≡ before ++ Drop name ∷ []
+    → now ≡ before ++ cond b [] (Drop name ∷ [])
+dropped_changes b name before now is made = made ∙ ap (λ t. before ++ cond t [] (Drop name ∷ [])) (sym is)
+
+-- ## As calls answer
+
+pub dropped_result : {E : Type 0} (r : Result (Unit {0}) E) (name : List ℕ) (before now : List Change) → OnOk r (now ≡ before ++ Drop name ∷ [])
+    → OnOk r ((names : List (List ℕ)) → AreTrims names before → AreTrims (names ++ name ∷ []) now)
+dropped_result (Ok x) name before now made = λ names h. trims_dropped names name before now made h
+dropped_result (Err e) name before now made = tt
+
+pub cut_trims : {E : Type 0} (r : Result (Unit {0}) E) (name : List ℕ) (list : List Selector) (b : Bool) (before now : List Change) → IsListName name
+    → now ≡ before ++ cond b (Put name (selectors_text list) ∷ []) []
+    → OnOk r ((names : List (List ℕ)) → AreTrims names before → AreTrims (names ++ name ∷ []) now)
+cut_trims (Ok x) name list b before now is made = λ names h. trims_cut names name list b before now is made h
+cut_trims (Err e) name list b before now is made = tt
+
+pub some_left : (n : ℕ) (cut : List Selector) (b : Bool) → b ≡ (n == 0) → b ≡ false → n ≡ length cut → cut ≡ [] → ⊥
+some_left n cut b tested is long none =
+    let nothing : n ≡ 0 = long ∙ ap (λ (xs : List Selector). length xs) none in
+    let yes : b ≡ true = tested ∙ ap (λ m. m == 0) nothing in
+    let never : true ≡ false = sym yes ∙ is in
+    absurd cc
+
+pub cut_changes : {E : Type 0} (r : Result (Unit {0}) E) (keep : ℕ) (name : List ℕ) (list cut shown : List Selector) (b : Bool) (before now : List Change)
+    → cut ≡ take keep list → shown ≡ cut → (cut ≡ [] → ⊥) → b ≡ nat_lt keep (length list)
+    → now ≡ before ++ cond b (Put name (selectors_text shown) ∷ []) [] → OnOk r (now ≡ before ++ cut_to keep name list (take keep list))
+cut_changes (Err e) keep name list cut shown b before now taken same some tested made = tt
+cut_changes (Ok x) keep name list cut shown b before now taken same some tested made =
+    made
+    ∙ ap (λ (cs : List Change). before ++ cs)
+    (ap (λ (xs : List Selector). cond b (Put name (selectors_text xs) ∷ []) []) same
+    ∙ ap (λ t. cond t (Put name (selectors_text cut) ∷ []) []) tested ∙ sym (cut_some keep name list cut some)
+    ∙ ap (λ (xs : List Selector). cut_to keep name list xs) taken)
+
+pub trims_if_result : {E : Type 0} (r : Result (Unit {0}) E) (name : List ℕ) (b : Bool) (before now : List Change)
+    → OnOk r (now ≡ before ++ cond b [] (Drop name ∷ [])) → OnOk r ((names : List (List ℕ)) → AreTrims names before → AreTrims (names ++ name ∷ []) now)
+trims_if_result (Ok x) name b before now made = λ names h. trims_if names name b before now made h
+trims_if_result (Err e) name b before now made = tt

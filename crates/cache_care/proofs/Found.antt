@@ -14,12 +14,13 @@ use Rattle.cache_care.specs.Planning.{planned_change}
 use Rattle.cache_care.specs.Repairing.{names_found, repairs, same_finding}
 use Rattle.cache_care.specs.declared.planning.Planned.{Planned}
 use Rattle.cache_care.proofs.Planned.{drop_count-append}
+use Rattle.cache_care.proofs.Repaired.{same_is}
 
 -- ## One name more
 
 found_first : (wanted : Finding) (names : List (List ℕ)) (found : List Finding) (i : ℕ) (name : List ℕ) (f : Finding) → i < length names → i < length found
     → name ≡ get_or names i name → f ≡ get_or found i f
-    → names_found wanted (take (i + 1) names) (take (i + 1) found)
+    → names_found wanted (take (suc i) names) (take (suc i) found)
     ≡ names_found wanted (take i names) (take i found) ++ cond (same_finding wanted f) (name ∷ []) []
 found_first wanted [] found i name f l k named is = absurd (omega (arith, l))
 found_first wanted (n ∷ names) [] i name f l k named is = absurd (omega (arith, k))
@@ -27,7 +28,7 @@ found_first wanted (n ∷ names) (g ∷ found) zero name f l k named is =
     ap (λ (h : Finding). cond (same_finding wanted h) (n ∷ []) []) (sym is)
     ∙ ap (λ (m : List ℕ). cond (same_finding wanted f) (m ∷ []) []) (sym named)
 found_first wanted (n ∷ names) (g ∷ found) (suc i) name f l k named is =
-    ap (λ ns. cond (same_finding wanted g) (n ∷ ns) ns)
+    ap (λ (ns : List (List ℕ)). cond (same_finding wanted g) (n ∷ ns) ns)
     (found_first wanted names found i name f (omega (arith, l)) (omega (arith, k)) named is)
     ∙ by_first (same_finding wanted g)
   where
@@ -45,8 +46,9 @@ pub found_more : (wanted : Finding) (names : List (List ℕ)) (found : List Find
     → now ≡ start ++ map Drop (names_found wanted (take (i + 1) names) (take (i + 1) found))
 found_more wanted names found i name f b start before now l k named is same so_far step =
     let done : List (List ℕ) = names_found wanted (take i names) (take i found) in
+    let next : i + 1 ≡ suc i = omega arith in
     let more : names_found wanted (take (i + 1) names) (take (i + 1) found) ≡ done ++ cond b (name ∷ []) [] =
-    found_first wanted names found i name f l k named is ∙ ap (λ t. done ++ cond t (name ∷ []) []) same in
+    ap (λ n. names_found wanted (take n names) (take n found)) next ∙ found_first wanted names found i name f l k named is ∙ ap (λ t. done ++ cond t (name ∷ []) []) same in
     step ∙ ap (λ (cs : List Change). cs ++ cond b (Drop name ∷ []) []) so_far
     ∙ append_assoc start (map Drop done) (cond b (Drop name ∷ []) [])
     ∙ ap (λ (cs : List Change). start ++ cs) (ap (λ (cs : List Change). map Drop done ++ cs) (drops_if b) ∙ sym (map-append Drop done (cond b (name ∷ []) []))
@@ -90,12 +92,12 @@ found_names : (wanted : Finding) (names : List (List ℕ)) (found : List Finding
     → AllByRecursion (λ (c : Change). IsName (name_of c)) (map Drop (names_found wanted names found))
 found_names wanted [] found h = tt
 found_names wanted (n ∷ names) [] h = tt
-found_names wanted (n ∷ names) (f ∷ found) h = by_first (same_finding wanted f)
+found_names wanted (n ∷ names) (f ∷ found) h = by_first (same_finding wanted f) (found_names wanted names found h.1)
   where
-    by_first : (b : Bool)
+    by_first : (b : Bool) → AllByRecursion (λ (c : Change). IsName (name_of c)) (map Drop (names_found wanted names found))
         → AllByRecursion (λ (c : Change). IsName (name_of c)) (map Drop (cond b (n ∷ names_found wanted names found) (names_found wanted names found)))
-    by_first true = (h.0, found_names wanted names found h.1)
-    by_first false = found_names wanted names found h.1
+    by_first true later = (h.0, later)
+    by_first false later = later
 
 pub repairs_names : (names : List (List ℕ)) (found : List Finding) → AllByRecursion IsName names
     → AllByRecursion (λ (c : Change). IsName (name_of c)) (repairs names found)
@@ -111,3 +113,22 @@ planned_both names found none bad all nothing one two =
     two
     ∙ ap (λ (cs : List Change). cs ++ map Drop (names_found findings.Damaged names found))
     (one ∙ ap (λ (ps : List Planned). map planned_change ps ++ map Drop (names_found findings.Bad names found)) nothing)
+
+-- ## Whether this was found
+
+-- what a finding that is compared with another says of it
+pub found_same : (wanted f : Finding) → f ≡ wanted → same_finding wanted f ≡ true
+found_same wanted f e = ap (same_finding wanted) e ∙ itself wanted
+  where
+    itself : (g : Finding) → same_finding g g ≡ true
+    itself findings.Damaged = refl
+    itself findings.Bad = refl
+    itself findings.Honest = refl
+    itself findings.Other = refl
+
+pub found_other : (wanted f : Finding) → (f ≡ wanted → ⊥) → same_finding wanted f ≡ false
+found_other wanted f other = by_test (same_finding wanted f) refl
+  where
+    by_test : (b : Bool) → same_finding wanted f ≡ b → b ≡ false
+    by_test true e = absurd (other (sym (same_is wanted f e)))
+    by_test false e = refl

@@ -16,6 +16,10 @@ pub mapped_more : {X Y : Type 0} (f : X → Y) (xs : List X) (i : ℕ) (x : X) �
     → map f (take (i + 1) xs) ≡ map f (take i xs) ++ f x ∷ []
 mapped_more f xs i x l is = ap (map f) (taken_more xs i x l is) ∙ map-append f (take i xs) (x ∷ [])
 
+-- a change that is planned last
+pub pushed : (before now : List Planned) (p : Planned) → now ≡ before ++ p ∷ [] → map planned_change now ≡ map planned_change before ++ planned_change p ∷ []
+pushed before now p is = ap (map planned_change) is ∙ map-append planned_change before (p ∷ [])
+
 -- ## Changes that are made
 
 pub made_more : (start before now : StoreTold) (plan : List Planned) (i : ℕ) (p : Planned) → i < length plan → p ≡ get_or plan i p

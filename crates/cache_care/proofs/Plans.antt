@@ -6,7 +6,7 @@ use Rattle.std.specs.List.{AllByRecursion}
 use Rattle.std.proofs.lemmas.List.{append-nil, length-map}
 use Rattle.std.proofs.lemmas.List.Elements.{All-from_recursion, recursion_from_All}
 use Rattle.bx_tree.specs.Members.{Has}
-use Rattle.bx_tree.proofs.Lists.{all_front, all_weaker}
+use Rattle.bx_tree.proofs.Lists.{all_append, all_front, all_weaker}
 use Rattle.bx_tree.proofs.Members.{has_all}
 use Rattle.bx_io.specs.Holdings.{Change, Holdings, IsPrefix, Keeps, Makes, MakesPrefix, StoreTold, held_in, name_of}
 use Rattle.bx_io.specs.Names.{IsName}
@@ -61,11 +61,11 @@ plan_names names plan all h = of_plan (λ (c : Change). IsName (name_of c)) plan
 
 all_filter : (P : List ℕ → Type 0) (p : List ℕ → Bool) (names : List (List ℕ)) → AllByRecursion P names → AllByRecursion P (filter p names)
 all_filter P p [] h = tt
-all_filter P p (n ∷ names) h = by_first (p n)
+all_filter P p (n ∷ names) h = by_first (p n) (all_filter P p names h.1)
   where
-    by_first : (b : Bool) → AllByRecursion P (cond b (n ∷ filter p names) (filter p names))
-    by_first true = (h.0, all_filter P p names h.1)
-    by_first false = all_filter P p names h.1
+    by_first : (b : Bool) → AllByRecursion P (filter p names) → AllByRecursion P (cond b (n ∷ filter p names) (filter p names))
+    by_first true later = (h.0, later)
+    by_first false later = later
 
 -- the names by kind: entries, lists and contents
 abbrev pub by_kind : List (List ℕ) → List (List ℕ)
@@ -74,13 +74,9 @@ by_kind names =
 
 pub all_by_kind : (names : List (List ℕ)) → AllByRecursion IsName names → AllByRecursion IsName (by_kind names)
 all_by_kind names h =
-    joined (filter (begins (codes "e/")) names ++ filter (begins (codes "w/")) names) (filter (begins (codes "b/")) names)
-    (joined (filter (begins (codes "e/")) names) (filter (begins (codes "w/")) names) (all_filter IsName (begins (codes "e/")) names h)
+    all_append IsName (filter (begins (codes "e/")) names ++ filter (begins (codes "w/")) names) (filter (begins (codes "b/")) names)
+    (all_append IsName (filter (begins (codes "e/")) names) (filter (begins (codes "w/")) names) (all_filter IsName (begins (codes "e/")) names h)
     (all_filter IsName (begins (codes "w/")) names h)) (all_filter IsName (begins (codes "b/")) names h)
-  where
-    joined : (xs ys : List (List ℕ)) → AllByRecursion IsName xs → AllByRecursion IsName ys → AllByRecursion IsName (xs ++ ys)
-    joined [] ys a b = b
-    joined (x ∷ xs) ys a b = (a.0, joined xs ys a.1 b)
 
 one_kind : (n : List ℕ) (e w b : Bool) (es ws bs : List (List ℕ)) (all : ℕ) → (e ≡ true → w ≡ true → ⊥) → (e ≡ true → b ≡ true → ⊥)
     → (w ≡ true → b ≡ true → ⊥) → length es + length ws + length bs ≤ all

@@ -87,3 +87,14 @@ set_more before now first next is more q =
     more q ∙ ap (λ b. list_any (λ d. bytes_eq d q) next || b) (is q)
     ∙ or_turned (list_any (λ d. bytes_eq d q) next) (list_any (λ d. bytes_eq d q) first)
     ∙ sym (list_any-append (λ d. bytes_eq d q) first next)
+
+-- ## By a test
+
+pub adds_if : (b : Bool) (before now : DigestSet) (digests named : List (List ℕ)) → b ≡ true → named ≡ digests → AddsAll before now digests
+    → AddsAll before now (cond b named [])
+adds_if b before now digests named is same h =
+    adds_same before now digests (cond b named []) (sym same ∙ ap (λ t. cond t named []) (sym is)) h
+
+pub adds_not : (b : Bool) (before now : DigestSet) (named : List (List ℕ)) → b ≡ false → now ≡ before → AddsAll before now (cond b named [])
+adds_not b before now named is same =
+    adds_same before now [] (cond b named []) (ap (λ t. cond t named []) (sym is)) (subst (λ (set : DigestSet). AddsAll before set []) (sym same) (adds_none before))

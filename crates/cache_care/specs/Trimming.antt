@@ -28,9 +28,13 @@ blob_names S = filter (begins (codes "b/")) (keys S)
 
 -- ## What stays
 
--- the first selectors of each list; one that is not well-formed has none
+-- the first selectors of a list; one that is not well-formed has none
+abbrev pub left_at : Holdings → ℕ → List ℕ → List Selector
+left_at S keep name = take keep (selectors_in (get S name))
+
+-- those of each list
 abbrev pub remaining : Holdings → ℕ → List Selector
-remaining S keep = flat_map (λ name. take keep (selectors_in (get S name))) (list_names S)
+remaining S keep = flat_map (left_at S keep) (list_names S)
 
 -- a selector that stays names the entry
 abbrev pub is_selected : Holdings → ℕ → List ℕ → Bool
@@ -61,8 +65,12 @@ list_change keep name (Some list) = cut_to keep name list (take keep list)
 abbrev pub read_at : Holdings → List ℕ → Option (List Selector)
 read_at S name = get S name >>= read_selectors_text
 
+-- what becomes of the list under a name
+abbrev pub cut_at : Holdings → ℕ → List ℕ → List Change
+cut_at S keep name = list_change keep name (read_at S name)
+
 abbrev pub list_changes : Holdings → ℕ → List Change
-list_changes S keep = flat_map (λ name. list_change keep name (read_at S name)) (list_names S)
+list_changes S keep = flat_map (cut_at S keep) (list_names S)
 
 -- First each entry is dropped that no selector names which stays; then lists are put or dropped; and then each content is
 -- dropped that no entry names which stays. Names of a kind are gone through in their order.

@@ -2,7 +2,7 @@
 ghost use Rattle.std.specs.Prelude.{◌≡◌, ◌≤◌, ◌++◌, [], ◌∷◌, ℕ, List, All, Err, IfOk, IsSome, OnErr, OnOk, Some};
 ghost use Rattle.std.specs.Prelude.{codes, filter, if◌then◌else◌, length, map, not, string_bytes, take};
 ghost use Rattle.std.specs.FinMap.{get, keys};
-ghost use Rattle.std.specs.List.{AllByRecursion, list_any};
+ghost use Rattle.std.specs.List.{AllByRecursion, flat_map, list_any};
 ghost use Rattle.std.specs.Str.{bytes_eq};
 ghost use Rattle.bx_digest.specs.Digests.{IsDigest};
 ghost use Rattle.bx_io.specs.Holdings.{Drop, Holdings, Keeps, MakesPrefix, Put, held_in, name_of};
@@ -18,8 +18,9 @@ ghost use Rattle.cache_care.specs.Counts.{drop_count};
 ghost use Rattle.cache_care.specs.Digests.{AddsAll, IsSetOf, has_digest};
 ghost use Rattle.cache_care.specs.Naming.{named_at};
 ghost use Rattle.cache_care.specs.Planning.{planned_change};
-ghost use Rattle.cache_care.specs.Trimming.{AreTrims, DoesTrim, IsListName, IsTrim, OnlyTrims, entry_names};
-ghost use Rattle.cache_care.specs.Trimming.{is_selected, list_change, list_changes, named_digests, read_at, remaining, trims};
+ghost use Rattle.cache_care.specs.Trimming.{AreTrims, DoesTrim, IsListName, IsTrim, OnlyTrims, cut_at, entry_names};
+ghost use Rattle.cache_care.specs.Trimming.{is_selected, left_at, list_change, list_changes, named_digests, read_at};
+ghost use Rattle.cache_care.specs.Trimming.{remaining, trims};
 
 use crate::digests::DigestSet;
 use crate::naming::add_named;
@@ -153,6 +154,35 @@ fn trim_list<K: Keeper>(
     }
 }
 
+// What becomes of a name, if it is that of a list.
+fn trim_list_name<K: Keeper>(
+    alloc: Global,
+    keeper: &mut K,
+    trim: &mut Trim,
+    name: &String,
+    keep: usize,
+) -> Result<(), CareFault>
+    requires { IsName (string_bytes name.now) }
+    ensures changes { (S : Holdings) → held_in (K.known keeper.new) ≡ Some S →
+        OnOk result (map planned_change trim.new.changes.items ≡ map planned_change trim.old.changes.items
+        ++ flat_map (cut_at S keep) (filter (begins (codes "w/")) (string_bytes name.now ∷ []))) }
+    ensures selected { (S : Holdings) → held_in (K.known keeper.new) ≡ Some S →
+        OnOk result (AddsAll trim.old.digests trim.new.digests
+        (map (λ s. s.strong) (flat_map (left_at S keep) (filter (begins (codes "w/")) (string_bytes name.now ∷ []))))) }
+    ensures trims { OnOk result ((names : List (List ℕ)) → AreTrims names (map planned_change trim.old.changes.items)
+        → AreTrims (names ++ filter (begins (codes "w/")) (string_bytes name.now ∷ []))
+        (map planned_change trim.new.changes.items)) }
+    ensures known { Keeps (K.known keeper.old) (K.known keeper.new) }
+    ensures keeper { KeeperCall (K.bound keeper.old) (K.bound keeper.new) (K.faults keeper.old)
+        (K.faults keeper.new) (result ≡ Err CareFault.Failed) }
+{
+    match read_name(name.as_str()) {
+        Named::Selectors(_) => trim_list(alloc, keeper, trim, name, keep),
+        Named::Content(_) => Ok(()),
+        Named::Entry(_) => Ok(()),
+    }
+}
+
 // What becomes of all lists.
 fn trim_lists<K: Keeper>(
     alloc: Global,
@@ -173,10 +203,7 @@ fn trim_lists<K: Keeper>(
 {
     let mut trim = Trim::new(alloc);
     'names: for name in names {
-        match read_name(name.as_str()) {
-            Named::Selectors(_) => trim_list(alloc, keeper, &mut trim, name, keep)?,
-            Named::Content(_) | Named::Entry(_) => (),
-        }
+        trim_list_name(alloc, keeper, &mut trim, name, keep)?;
     }
     Ok(trim)
 }
@@ -202,6 +229,7 @@ fn trim_entry<K: Keeper>(
         (if has_digest selected.now strong.now then named_at S (string_bytes name.now) else [])) }
     ensures trims { OnOk result ((names : List (List ℕ)) → AreTrims names (map planned_change trim.old.changes.items)
         → AreTrims (names ++ string_bytes name.now ∷ []) (map planned_change trim.new.changes.items)) }
+    ensures is_digest { IsDigest strong.now }
     ensures right { AreRight (held_in (K.known keeper.new)) contents.new }
     ensures known { Keeps (K.known keeper.old) (K.known keeper.new) }
     ensures keeper { KeeperCall (K.bound keeper.old) (K.bound keeper.new) (K.faults keeper.old)
@@ -216,21 +244,57 @@ fn trim_entry<K: Keeper>(
     }
 }
 
+// What becomes of a name, if it is that of an entry.
+fn trim_entry_name<K: Keeper>(
+    alloc: Global,
+    keeper: &mut K,
+    contents: &mut KnownContents,
+    trim: &mut Trim,
+    selected: &DigestSet,
+    name: &String,
+) -> Result<(), CareFault>
+    requires right { AreRight (held_in (K.known keeper.old)) contents.old }
+    requires is_name { IsName (string_bytes name.now) }
+    ensures changes { (S : Holdings) (keep : ℕ) → held_in (K.known keeper.new) ≡ Some S
+        → IsSetOf selected.now (map (λ s. s.strong) (remaining S keep))
+        → OnOk result (map planned_change trim.new.changes.items ≡ map planned_change trim.old.changes.items
+        ++ map Drop (filter (λ name. not (is_selected S keep name))
+        (filter (begins (codes "e/")) (string_bytes name.now ∷ [])))) }
+    ensures named { (S : Holdings) (keep : ℕ) → held_in (K.known keeper.new) ≡ Some S
+        → IsSetOf selected.now (map (λ s. s.strong) (remaining S keep))
+        → OnOk result (AddsAll trim.old.digests trim.new.digests
+        (flat_map (named_at S) (filter (is_selected S keep) (filter (begins (codes "e/")) (string_bytes name.now ∷ []))))) }
+    ensures trims { OnOk result ((names : List (List ℕ)) → AreTrims names (map planned_change trim.old.changes.items)
+        → AreTrims (names ++ filter (begins (codes "e/")) (string_bytes name.now ∷ []))
+        (map planned_change trim.new.changes.items)) }
+    ensures right { AreRight (held_in (K.known keeper.new)) contents.new }
+    ensures known { Keeps (K.known keeper.old) (K.known keeper.new) }
+    ensures keeper { KeeperCall (K.bound keeper.old) (K.bound keeper.new) (K.faults keeper.old)
+        (K.faults keeper.new) (result ≡ Err CareFault.Failed) }
+{
+    match read_name(name.as_str()) {
+        Named::Entry(strong) => {
+            trim_entry(alloc, keeper, contents, trim, selected, name, &strong)
+        }
+        Named::Content(_) => Ok(()),
+        Named::Selectors(_) => Ok(()),
+    }
+}
+
 // What becomes of all entries.
 fn trim_entries<K: Keeper>(
     alloc: Global,
     keeper: &mut K,
     names: &[String],
     selected: &DigestSet,
-    keep: usize,
 ) -> Result<Trim, CareFault>
-    requires names { All (λ name. IsName (string_bytes name)) names.now }
-    ensures changes { (S : Holdings) → held_in (K.known keeper.new) ≡ Some S → map string_bytes names.now ≡ keys S
-        → IsSetOf selected.now (map (λ s. s.strong) (remaining S keep))
+    requires { All (λ name. IsName (string_bytes name)) names.now }
+    ensures changes { (S : Holdings) (keep : ℕ) → held_in (K.known keeper.new) ≡ Some S
+        → map string_bytes names.now ≡ keys S → IsSetOf selected.now (map (λ s. s.strong) (remaining S keep))
         → IfOk result (λ trim. map planned_change trim.changes.items
         ≡ map Drop (filter (λ name. not (is_selected S keep name)) (entry_names S))) }
-    ensures named { (S : Holdings) → held_in (K.known keeper.new) ≡ Some S → map string_bytes names.now ≡ keys S
-        → IsSetOf selected.now (map (λ s. s.strong) (remaining S keep))
+    ensures named { (S : Holdings) (keep : ℕ) → held_in (K.known keeper.new) ≡ Some S
+        → map string_bytes names.now ≡ keys S → IsSetOf selected.now (map (λ s. s.strong) (remaining S keep))
         → IfOk result (λ trim. IsSetOf trim.digests (named_digests S keep)) }
     ensures trims { IfOk result (λ trim. AreTrims (filter (begins (codes "e/")) (map string_bytes names.now))
         (map planned_change trim.changes.items)) }
@@ -241,20 +305,49 @@ fn trim_entries<K: Keeper>(
     let mut contents = KnownContents::new(alloc);
     let mut trim = Trim::new(alloc);
     'names: for name in names {
-        match read_name(name.as_str()) {
-            Named::Entry(strong) => trim_entry(
-                alloc,
-                keeper,
-                &mut contents,
-                &mut trim,
-                selected,
-                name,
-                &strong,
-            )?,
-            Named::Content(_) | Named::Selectors(_) => (),
-        }
+        trim_entry_name(alloc, keeper, &mut contents, &mut trim, selected, name)?;
     }
     Ok(trim)
+}
+
+// Plans to drop a content, unless it is named.
+fn drop_unnamed(
+    plan: &mut Vec<Planned>,
+    name: &String,
+    digest: &Digest,
+    named_digests: &DigestSet,
+) -> Result<(), AllocError>
+    ensures changes { OnOk result (map planned_change plan.new.items ≡ map planned_change plan.old.items
+        ++ (if has_digest named_digests.now digest.now then [] else Drop (string_bytes name.now) ∷ [])) }
+    ensures is_digest { IsDigest digest.now }
+{
+    if named_digests.has(digest) {
+        return Ok(());
+    }
+    plan.push(Planned::Drop(name.clone()?))?;
+    Ok(())
+}
+
+// What becomes of a name, if it is that of a content.
+fn drop_content(
+    plan: &mut Vec<Planned>,
+    name: &String,
+    named_digests: &DigestSet,
+) -> Result<(), AllocError>
+    requires { IsName (string_bytes name.now) }
+    ensures changes { (digests : List (List ℕ)) → IsSetOf named_digests.now digests → AllByRecursion IsDigest digests →
+        OnOk result (map planned_change plan.new.items ≡ map planned_change plan.old.items
+        ++ map Drop (filter (λ name. not (list_any (λ digest. bytes_eq (at_blob digest) name) digests))
+        (filter (begins (codes "b/")) (string_bytes name.now ∷ [])))) }
+    ensures trims { OnOk result ((before : List (List ℕ)) → AreTrims before (map planned_change plan.old.items)
+        → AreTrims (before ++ filter (begins (codes "b/")) (string_bytes name.now ∷ []))
+        (map planned_change plan.new.items)) }
+{
+    match read_name(name.as_str()) {
+        Named::Content(digest) => drop_unnamed(plan, name, &digest, named_digests),
+        Named::Entry(_) => Ok(()),
+        Named::Selectors(_) => Ok(()),
+    }
 }
 
 // Plans to drop each content that is not named.
@@ -272,14 +365,7 @@ fn drop_contents(
         → AreTrims (before ++ filter (begins (codes "b/")) (map string_bytes names.now)) (map planned_change plan.new.items)) }
 {
     'names: for name in names {
-        match read_name(name.as_str()) {
-            Named::Content(digest) => {
-                if !named_digests.has(&digest) {
-                    plan.push(Planned::Drop(name.clone()?))?;
-                }
-            }
-            Named::Entry(_) | Named::Selectors(_) => (),
-        }
+        drop_content(plan, name, named_digests)?;
     }
     Ok(())
 }
@@ -302,7 +388,7 @@ fn plan<K: Keeper>(
         (K.faults keeper.new) (result ≡ Err CareFault.Failed) }
 {
     let mut lists = trim_lists(alloc, keeper, names, keep)?;
-    let mut entries = trim_entries(alloc, keeper, names, &lists.digests, keep)?;
+    let mut entries = trim_entries(alloc, keeper, names, &lists.digests)?;
     entries.changes.append(&mut lists.changes)?;
     drop_contents(&mut entries.changes, names, &entries.digests)?;
     Ok(entries.changes)

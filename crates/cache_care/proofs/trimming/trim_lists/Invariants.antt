@@ -6,8 +6,7 @@ use Rattle.memo_format.specs.declared.selector.Selector.{Selector}
 use Rattle.two_phase.specs.Calls.{KeeperCall}
 use Rattle.cache_care.specs.Digests.{IsSetOf}
 use Rattle.cache_care.specs.Planning.{planned_change}
-use Rattle.cache_care.specs.Trimming.{AreTrims}
-use Rattle.cache_care.proofs.Listed.{cut_at, left_at}
+use Rattle.cache_care.specs.Trimming.{AreTrims, cut_at, left_at}
 use Rattle.cache_care.proofs.trimming.trim_lists.Given as goal
 
 abbrev pub invariant-names : goal.invariant-names
