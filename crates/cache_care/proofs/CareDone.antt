@@ -1,12 +1,13 @@
 -- What a repair and a trim did, by what their steps did.
-use Rattle.std.proofs.Common.{◌≡◌, ℕ, ◌+◌, List, [], ◌∷◌, ◌++◌, length, map, Option, Some, refl, sym, ap, ◌∙◌, subst, inl, inr}
+use Rattle.std.proofs.Common.{◌≡◌, ℕ, ◌+◌, List, [], ◌∷◌, ◌++◌, codes, filter, length, map, not, Option, Some, refl, sym, ap, ◌∙◌, subst, inl, inr}
 use Rattle.std.specs.Prelude.{IsSome, string_bytes}
 use Rattle.std.specs.FinMap.{keys}
 use Rattle.std.specs.List.{AllByRecursion}
-use Rattle.std.proofs.lemmas.List.{length-map}
+use Rattle.std.proofs.lemmas.List.{append_assoc, length-map, map-append}
 use Rattle.std.proofs.lemmas.Option.{same_Some}
 use Rattle.bx_io.specs.Holdings.{Change, Drop, Holdings, Keeps, Makes, MakesPrefix, StoreTold, held_in}
 use Rattle.bx_io.proofs.Changes.{keeps_makes, keeps_on, makes_some}
+use Rattle.prints.specs.Lines.{begins}
 use Rattle.two_phase.proofs.Prefixes.{some_of}
 use Rattle.cache_care_check.specs.Findings.{IsSurvey}
 use Rattle.cache_care_check.specs.declared.surveying.Finding.{Finding}
@@ -15,7 +16,7 @@ use Rattle.cache_care_check.specs.declared.surveying.Survey.{Survey}
 use Rattle.cache_care.specs.Counts.{IsCount, drop_count}
 use Rattle.cache_care.specs.Planning.{IsDrop, OnlyDrops, planned_change}
 use Rattle.cache_care.specs.Repairing.{AreRepairs, DoesRepair, DoesRepairInPart, names_found, repairs}
-use Rattle.cache_care.specs.Trimming.{DoesTrim, trims}
+use Rattle.cache_care.specs.Trimming.{DoesTrim, entry_names, is_named, is_selected, list_changes, trims}
 use Rattle.cache_care.specs.declared.planning.CareCount.{CareCount}
 use Rattle.cache_care.specs.declared.planning.Planned.{Planned}
 use Rattle.cache_care.proofs.Dropping.{all_drops, drops_both}
@@ -116,3 +117,19 @@ trim_cut text S keep before listed between now names plan keeps more p was tells
     let told : held_in between ≡ Some S = told_between before between now p.made S (keeps_on before listed between keeps more) p.makes was tells in
     subst (λ (cs : List Change). MakesPrefix before now cs) (planned S told (names_are S (more.held S told)))
     (keeps_prefix before between now (map planned_change plan) (keeps_on before listed between keeps more) p)
+
+-- the plan of a trim: entries, then lists, then contents
+pub plan_is : {X : Type 0} (text : X → List ℕ) (S : Holdings) (keep : ℕ) (names : List X) (entries lists joined plan : List Planned) → map text names ≡ keys S
+    → map planned_change entries ≡ map Drop (filter (λ n. not (is_selected S keep n)) (entry_names S)) → map planned_change lists ≡ list_changes S keep
+    → joined ≡ entries ++ lists
+    → map planned_change plan ≡ map planned_change joined ++ map Drop (filter (λ n. not (is_named S keep n)) (filter (begins (codes "b/")) (map text names)))
+    → map planned_change plan ≡ trims S keep
+plan_is text S keep names entries lists joined plan listed of_entries of_lists is last =
+    let first : List Change = map Drop (filter (λ n. not (is_selected S keep n)) (entry_names S)) in
+    let contents : List Change = map Drop (filter (λ n. not (is_named S keep n)) (filter (begins (codes "b/")) (map text names))) in
+    last
+    ∙ ap (λ (cs : List Change). cs ++ contents)
+    (ap (map planned_change) is ∙ map-append planned_change entries lists ∙ ap (λ (cs : List Change). cs ++ map planned_change lists) of_entries
+    ∙ ap (λ (cs : List Change). first ++ cs) of_lists)
+    ∙ append_assoc first (list_changes S keep) contents
+    ∙ ap (λ (ns : List (List ℕ)). first ++ (list_changes S keep ++ map Drop (filter (λ n. not (is_named S keep n)) (filter (begins (codes "b/")) ns)))) listed

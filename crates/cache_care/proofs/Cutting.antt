@@ -115,3 +115,11 @@ pub trims_if_result : {E : Type 0} (r : Result (Unit {0}) E) (name : List ℕ) (
     → OnOk r (now ≡ before ++ cond b [] (Drop name ∷ [])) → OnOk r ((names : List (List ℕ)) → AreTrims names before → AreTrims (names ++ name ∷ []) now)
 trims_if_result (Ok x) name b before now made = λ names h. trims_if names name b before now made h
 trims_if_result (Err e) name b before now made = tt
+
+pub on_ok : {E : Type 0} (r : Result (Unit {0}) E) (P : Type 0) → P → OnOk r P
+on_ok (Ok x) P p = p
+on_ok (Err e) P p = tt
+
+pub on_more : {E : Type 0} (r : Result (Unit {0}) E) (P Q : Type 0) → (P → Q) → OnOk r P → OnOk r Q
+on_more (Ok x) P Q f p = f p
+on_more (Err e) P Q f p = tt

@@ -23,13 +23,13 @@ use Rattle.cache_care.proofs.Sets.{adds_none, adds_same, set_more}
 -- ## One name
 
 pub of_kind : (p : List ℕ → Bool) (name : List ℕ) → p name ≡ true → filter p (name ∷ []) ≡ name ∷ []
-of_kind p name yes = ap (λ b. cond b (name ∷ []) []) yes
+of_kind p name holds = ap (λ b. cond b (name ∷ []) []) holds
 
 pub not_of_kind : (p : List ℕ → Bool) (name : List ℕ) → p name ≡ false → filter p (name ∷ []) ≡ []
 not_of_kind p name other = ap (λ b. cond b (name ∷ []) []) other
 
 pub one_flat : {Y : Type 0} (f : List ℕ → List Y) (p : List ℕ → Bool) (name : List ℕ) → p name ≡ true → f name ≡ flat_map f (filter p (name ∷ []))
-one_flat f p name yes = sym (append-nil (f name)) ∙ ap (flat_map f) (sym (of_kind p name yes))
+one_flat f p name holds = sym (append-nil (f name)) ∙ ap (flat_map f) (sym (of_kind p name holds))
 
 pub none_flat : {Y : Type 0} (f : List ℕ → List Y) (p : List ℕ → Bool) (name : List ℕ) → p name ≡ false → flat_map f (filter p (name ∷ [])) ≡ []
 none_flat f p name other = ap (flat_map f) (not_of_kind p name other)
@@ -44,8 +44,8 @@ adds_nothing set digests none = adds_same set set [] digests (sym none) (adds_no
 pub trims_as : {E : Type 0} (r : Result (Unit {0}) E) (p : List ℕ → Bool) (name : List ℕ) (before now : List Change) → p name ≡ true
     → OnOk r ((names : List (List ℕ)) → AreTrims names before → AreTrims (names ++ name ∷ []) now)
     → OnOk r ((names : List (List ℕ)) → AreTrims names before → AreTrims (names ++ filter p (name ∷ [])) now)
-trims_as r p name before now yes h =
-    subst (λ (ks : List (List ℕ)). OnOk r ((names : List (List ℕ)) → AreTrims names before → AreTrims (names ++ ks) now)) (sym (of_kind p name yes)) h
+trims_as r p name before now holds h =
+    subst (λ (ks : List (List ℕ)). OnOk r ((names : List (List ℕ)) → AreTrims names before → AreTrims (names ++ ks) now)) (sym (of_kind p name holds)) h
 
 pub trims_not : (p : List ℕ → Bool) (name : List ℕ) (before : List Change) → p name ≡ false
     → (names : List (List ℕ)) → AreTrims names before → AreTrims (names ++ filter p (name ∷ [])) before
@@ -144,9 +144,9 @@ chosen S keep selected name strong is digest named =
 -- a name of the kind is dropped where it does not pass
 pub dropped_one : (q p : List ℕ → Bool) (name : List ℕ) (b : Bool) → p name ≡ true → q name ≡ b
     → cond b [] (Drop name ∷ []) ≡ map Drop (filter (λ n. not (q n)) (filter p (name ∷ [])))
-dropped_one q p name b yes is =
+dropped_one q p name b holds is =
     by_test b ∙ ap (λ t. map Drop (cond (not t) (name ∷ []) [])) (sym is)
-    ∙ ap (λ (ns : List (List ℕ)). map Drop (filter (λ n. not (q n)) ns)) (sym (of_kind p name yes))
+    ∙ ap (λ (ns : List (List ℕ)). map Drop (filter (λ n. not (q n)) ns)) (sym (of_kind p name holds))
   where
     by_test : (t : Bool) → cond t [] (Drop name ∷ []) ≡ map Drop (cond (not t) (name ∷ []) [])
     by_test true = refl
@@ -158,8 +158,8 @@ dropped_none q p name other = ap (λ (ns : List (List ℕ)). map Drop (filter q 
 -- and names what it names where it does
 pub named_one : (f : List ℕ → List (List ℕ)) (q p : List ℕ → Bool) (name : List ℕ) (b : Bool) → p name ≡ true → q name ≡ b
     → cond b (f name) [] ≡ flat_map f (filter q (filter p (name ∷ [])))
-named_one f q p name b yes is =
-    by_test b ∙ ap (λ t. flat_map f (cond t (name ∷ []) [])) (sym is) ∙ ap (λ (ns : List (List ℕ)). flat_map f (filter q ns)) (sym (of_kind p name yes))
+named_one f q p name b holds is =
+    by_test b ∙ ap (λ t. flat_map f (cond t (name ∷ []) [])) (sym is) ∙ ap (λ (ns : List (List ℕ)). flat_map f (filter q ns)) (sym (of_kind p name holds))
   where
     by_test : (t : Bool) → cond t (f name) [] ≡ flat_map f (cond t (name ∷ []) [])
     by_test true = sym (append-nil (f name))

@@ -11,6 +11,7 @@ use Rattle.sha2.specs.Sha256.{sha256}
 use Rattle.bx_digest.specs.Digests.{IsDigest}
 use Rattle.bx_tree.specs.FileInputs.{input_path}
 use Rattle.bx_tree.specs.Paths.{Atoms}
+use Rattle.bx_tree.proofs.Lists.{all_append}
 use Rattle.bx_io.specs.Holdings.{Holdings}
 use Rattle.run_record.proofs.Digest.{is_digest}
 use Rattle.prints.specs.Combining.{bind_some}
@@ -39,13 +40,9 @@ use Rattle.cache_care.specs.Trimming.{entry_names, is_selected, list_names, name
 
 -- ## Lists
 
-all_both : {X : Type 0} (P : X → Type 0) (xs ys : List X) → AllByRecursion P xs → AllByRecursion P ys → AllByRecursion P (xs ++ ys)
-all_both P [] ys h k = k
-all_both P (x ∷ xs) ys h k = (h.0, all_both P xs ys h.1 k)
-
 all_flat : {X Y : Type 0} (P : Y → Type 0) (f : X → List Y) (xs : List X) → ((x : X) → AllByRecursion P (f x)) → AllByRecursion P (flat_map f xs)
 all_flat P f [] each = tt
-all_flat P f (x ∷ xs) each = all_both P (f x) (flat_map f xs) (each x) (all_flat P f xs each)
+all_flat P f (x ∷ xs) each = all_append P (f x) (flat_map f xs) (each x) (all_flat P f xs each)
 
 -- ## What an entry names
 
@@ -56,10 +53,14 @@ outputs_digests (o ∷ outputs) h = (h.0.1, outputs_digests outputs h.1)
 entry_digests : (e : Entry) → IsEntry e → AllByRecursion IsDigest (in_entry e)
 entry_digests e h = (
   h.weak,
-  h.paths,
-  h.strong,
-  all_both IsDigest (map (λ (o : OutputLine). o.digest) e.outputs) (sha256 (entry_body e) ∷ []) (outputs_digests e.outputs h.outputs)
-      (is_digest (entry_body e), tt),
+  (
+    h.paths,
+    (
+      h.strong,
+      all_append IsDigest (map (λ (o : OutputLine). o.digest) e.outputs) (sha256 (entry_body e) ∷ []) (outputs_digests e.outputs h.outputs)
+          (is_digest (entry_body e), tt),
+    ),
+  ),
 )
 
 files_digests : (paths : List Atoms) (digests : List (List ℕ)) → length paths ≡ length digests → AllByRecursion IsFileLine (file_lines paths digests)
@@ -86,25 +87,25 @@ line_digests lines.Denied h = tt
 
 lines_digests : (ls : List AnswerLine) → AllByRecursion IsAnswerLine ls → AllByRecursion IsDigest (flat_map in_line ls)
 lines_digests [] h = tt
-lines_digests (l ∷ ls) h = all_both IsDigest (in_line l) (flat_map in_line ls) (line_digests l h.0) (lines_digests ls h.1)
+lines_digests (l ∷ ls) h = all_append IsDigest (in_line l) (flat_map in_line ls) (line_digests l h.0) (lines_digests ls h.1)
 
 strong_digests : (o : Option StrongParts) → ((s : StrongParts) → o ≡ Some s → IsStrong s) → AllByRecursion IsDigest (in_strong o)
 strong_digests None h = tt
-strong_digests (Some s) h = let is : IsStrong s = h s refl in (is.weak, is.paths, lines_digests s.lines is.lines)
+strong_digests (Some s) h = let is : IsStrong s = h s refl in (is.weak, (is.paths, lines_digests s.lines is.lines))
 
-weak_at : (o : Option (List ℕ)) (w : WeakParts) → (o >>= read_weak_text) ≡ Some w → IsWeak w
-weak_at o w e = let from = bind_some o read_weak_text w e in (weak_sound from.0 w from.2).0
+is_weak : (o : Option (List ℕ)) (w : WeakParts) → (o >>= read_weak_text) ≡ Some w → IsWeak w
+is_weak o w e = let from = bind_some o read_weak_text w e in (weak_sound from.0 w from.2).0
 
-strong_at : (o : Option (List ℕ)) (s : StrongParts) → (o >>= read_strong_text) ≡ Some s → IsStrong s
-strong_at o s e = let from = bind_some o read_strong_text s e in (strong_sound from.0 s from.2).0
+is_strong : (o : Option (List ℕ)) (s : StrongParts) → (o >>= read_strong_text) ≡ Some s → IsStrong s
+is_strong o s e = let from = bind_some o read_strong_text s e in (strong_sound from.0 s from.2).0
 
 by_digests : (S : Holdings) (e : Entry) → IsEntry e → AllByRecursion IsDigest (named_by S e)
 by_digests S e h =
-    all_both IsDigest (in_entry e) (in_weak (content_at S e.weak >>= read_weak_text) ++ in_strong (content_at S e.strong >>= read_strong_text))
+    all_append IsDigest (in_entry e) (in_weak (content_at S e.weak >>= read_weak_text) ++ in_strong (content_at S e.strong >>= read_strong_text))
     (entry_digests e h)
-    (all_both IsDigest (in_weak (content_at S e.weak >>= read_weak_text)) (in_strong (content_at S e.strong >>= read_strong_text))
-    (weak_digests (content_at S e.weak >>= read_weak_text) (weak_at (content_at S e.weak)))
-    (strong_digests (content_at S e.strong >>= read_strong_text) (strong_at (content_at S e.strong))))
+    (all_append IsDigest (in_weak (content_at S e.weak >>= read_weak_text)) (in_strong (content_at S e.strong >>= read_strong_text))
+    (weak_digests (content_at S e.weak >>= read_weak_text) (is_weak (content_at S e.weak)))
+    (strong_digests (content_at S e.strong >>= read_strong_text) (is_strong (content_at S e.strong))))
 
 at_digests : (S : Holdings) (o : Option Entry) → ((e : Entry) → o ≡ Some e → IsEntry e) → AllByRecursion IsDigest (named_at_entry S o)
 at_digests S None h = tt

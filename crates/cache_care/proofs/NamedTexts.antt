@@ -21,12 +21,9 @@ use Rattle.content_store.specs.HeldEntries.{IsHeld}
 use Rattle.two_phase.specs.Finding.{FindsOne, IsOne}
 use Rattle.two_phase_meaning.specs.Contents.{HoldsStrong, HoldsWeak}
 use Rattle.two_phase_meaning.proofs.Digests.{same_entry_name}
-use Rattle.cache_care.specs.Digests.{AddsAll}
-use Rattle.cache_care.specs.Naming.{content_at, entry_at, in_entry, in_strong, in_weak, named_at, named_at_entry, named_by}
-use Rattle.cache_care.specs.declared.digests.DigestSet.{DigestSet}
+use Rattle.cache_care.specs.Naming.{content_at, entry_at, in_entry, in_strong, in_weak, named_at, named_at_entry, named_by, strong_at, weak_at}
 use Rattle.cache_care.proofs.NamedDigests.{is_entry}
 use Rattle.cache_care.proofs.Named.{content_is, entry_is}
-use Rattle.cache_care.proofs.Sets.{adds_both, adds_none, adds_same}
 
 -- ## Contents
 
@@ -93,13 +90,30 @@ none_named S name strong digest named none = by_held (entry_at S name) refl
           strong_is = strong_is;
         }))
 
--- ## All that an entry names
+-- ## As texts are found
 
-pub named_all : (S : Holdings) (e : Entry) (weak : Option WeakParts) (strong : Option StrongParts) (before first next now : DigestSet)
-    → IsOne S (λ T parts. HoldsWeak T e.weak parts) weak → IsOne S (λ T parts. HoldsStrong T e.strong parts) strong
-    → AddsAll before first (in_entry e) → AddsAll first next (in_weak weak) → AddsAll next now (in_strong strong) → AddsAll before now (named_by S e)
-named_all S e weak strong before first next now w s one two three =
-    adds_both before first now (in_entry e) (in_weak (content_at S e.weak >>= read_weak_text) ++ in_strong (content_at S e.strong >>= read_strong_text)) one
-    (adds_both first next now (in_weak (content_at S e.weak >>= read_weak_text)) (in_strong (content_at S e.strong >>= read_strong_text))
-    (adds_same first next (in_weak weak) (in_weak (content_at S e.weak >>= read_weak_text)) (sym (weak_named S e.weak weak w)) two)
-    (adds_same next now (in_strong strong) (in_strong (content_at S e.strong >>= read_strong_text)) (sym (strong_named S e.strong strong s)) three))
+pub found_weak : (S : Holdings) (digest : List ℕ) (found : Option WeakParts) (parts : WeakParts) → found ≡ Some parts
+    → IsOne S (λ T ps. HoldsWeak T digest ps) found → in_weak (Some parts) ≡ in_weak (weak_at S digest)
+found_weak S digest found parts is h = ap in_weak (sym is) ∙ sym (weak_named S digest found h)
+
+pub no_weak : (S : Holdings) (digest : List ℕ) (found : Option WeakParts) → found ≡ None → IsOne S (λ T ps. HoldsWeak T digest ps) found
+    → [] ≡ in_weak (weak_at S digest)
+no_weak S digest found is h = ap in_weak (sym is) ∙ sym (weak_named S digest found h)
+
+pub found_strong : (S : Holdings) (digest : List ℕ) (found : Option StrongParts) (parts : StrongParts) → found ≡ Some parts
+    → IsOne S (λ T ps. HoldsStrong T digest ps) found → in_strong (Some parts) ≡ in_strong (strong_at S digest)
+found_strong S digest found parts is h = ap in_strong (sym is) ∙ sym (strong_named S digest found h)
+
+pub no_strong : (S : Holdings) (digest : List ℕ) (found : Option StrongParts) → found ≡ None → IsOne S (λ T ps. HoldsStrong T digest ps) found
+    → [] ≡ in_strong (strong_at S digest)
+no_strong S digest found is h = ap in_strong (sym is) ∙ sym (strong_named S digest found h)
+
+pub at_found : (S : Holdings) (name strong : List ℕ) (found : Option Entry) (e : Entry) → found ≡ Some e → name ≡ at_entry strong
+    → IsOne S (λ T x. IsHeld T strong x) found → named_by S e ≡ named_at S name
+at_found S name strong found e is named h =
+    sym (held_named S name strong e named (subst (λ (o : Option Entry). IsOne S (λ T x. IsHeld T strong x) o) is h))
+
+pub at_none : (S : Holdings) (name strong : List ℕ) (found : Option Entry) → found ≡ None → name ≡ at_entry strong → IsDigest strong
+    → IsOne S (λ T x. IsHeld T strong x) found → named_at S name ≡ []
+at_none S name strong found is named digest h =
+    none_named S name strong digest named (subst (λ (o : Option Entry). IsOne S (λ T x. IsHeld T strong x) o) is h)

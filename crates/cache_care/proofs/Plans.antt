@@ -3,7 +3,7 @@ use Rattle.std.proofs.Common.{◌≡◌, ◌⊎◌, ℕ, suc, ◌+◌, ◌≤◌
 use Rattle.std.specs.Prelude.{All, IsSome}
 use Rattle.std.specs.FinMap.{keys}
 use Rattle.std.specs.List.{AllByRecursion}
-use Rattle.std.proofs.lemmas.List.{append-nil, length-map}
+use Rattle.std.proofs.lemmas.List.{append-nil, length-map, map-append}
 use Rattle.std.proofs.lemmas.List.Elements.{All-from_recursion, recursion_from_All}
 use Rattle.bx_tree.specs.Members.{Has}
 use Rattle.bx_tree.proofs.Lists.{all_append, all_front, all_weaker}
@@ -16,6 +16,7 @@ use Rattle.cache_care.specs.Counts.{drop_count}
 use Rattle.cache_care.specs.Planning.{IsDrop, OnlyDrops, planned_change}
 use Rattle.cache_care.specs.Trimming.{AreTrims, IsTrim, OnlyTrims}
 use Rattle.cache_care.specs.declared.planning.Planned.{Planned}
+use Rattle.cache_care.proofs.Counted.{trims_both}
 use Rattle.cache_care.proofs.Trimmed.{entry_or_blob, entry_or_list, list_or_blob}
 
 -- ## Lists by recursion and by place
@@ -56,6 +57,13 @@ plan_trims names plan h = of_plan IsTrim plan (map planned_change plan) refl (al
 pub plan_names : (names : List (List ℕ)) (plan : List Planned) → AllByRecursion IsName names → AreTrims names (map planned_change plan)
     → All (λ (p : Planned). IsName (name_of (planned_change p))) plan
 plan_names names plan all h = of_plan (λ (c : Change). IsName (name_of c)) plan (map planned_change plan) refl (trim_names names (map planned_change plan) all h.each)
+
+-- those of two plans
+pub joined_trims : (names more : List (List ℕ)) (first next joined : List Planned) → joined ≡ first ++ next → AreTrims names (map planned_change first)
+    → AreTrims more (map planned_change next) → AreTrims (names ++ more) (map planned_change joined)
+joined_trims names more first next joined is h k =
+    subst (AreTrims (names ++ more)) (sym (ap (map planned_change) is ∙ map-append planned_change first next))
+    (trims_both names more (map planned_change first) (map planned_change next) h k)
 
 -- ## Kinds
 

@@ -208,6 +208,31 @@ fn trim_lists<K: Keeper>(
     Ok(trim)
 }
 
+// Adds the digests that the name of an entry names.
+fn add_named_at<K: Keeper>(
+    alloc: Global,
+    keeper: &mut K,
+    contents: &mut KnownContents,
+    named: &mut DigestSet,
+    name: &String,
+    strong: &Digest,
+) -> Result<(), CareFault>
+    requires right { AreRight (held_in (K.known keeper.old)) contents.old }
+    requires is_name { IsName (string_bytes name.now) }
+    requires name { string_bytes name.now ≡ at_entry strong.now }
+    ensures added { (S : Holdings) → held_in (K.known keeper.new) ≡ Some S → IsDigest strong.now →
+        OnOk result (AddsAll named.old named.new (named_at S (string_bytes name.now))) }
+    ensures right { AreRight (held_in (K.known keeper.new)) contents.new }
+    ensures known { Keeps (K.known keeper.old) (K.known keeper.new) }
+    ensures keeper { KeeperCall (K.bound keeper.old) (K.bound keeper.new) (K.faults keeper.old)
+        (K.faults keeper.new) (result ≡ Err CareFault.Failed) }
+{
+    match held_entry(alloc, keeper, name.as_str(), strong)? {
+        Some(entry) => add_named(alloc, keeper, contents, named, &entry),
+        None => Ok(()),
+    }
+}
+
 // What becomes of an entry: it stays where a selector that stays names it, and then what it names is added.
 fn trim_entry<K: Keeper>(
     alloc: Global,
@@ -235,13 +260,10 @@ fn trim_entry<K: Keeper>(
     ensures keeper { KeeperCall (K.bound keeper.old) (K.bound keeper.new) (K.faults keeper.old)
         (K.faults keeper.new) (result ≡ Err CareFault.Failed) }
 {
-    if !selected.has(strong) {
-        return Ok(trim.drop_name(name)?);
+    if selected.has(strong) {
+        return add_named_at(alloc, keeper, contents, &mut trim.digests, name, strong);
     }
-    match held_entry(alloc, keeper, name.as_str(), strong)? {
-        Some(entry) => add_named(alloc, keeper, contents, &mut trim.digests, &entry),
-        None => Ok(()),
-    }
+    Ok(trim.drop_name(name)?)
 }
 
 // What becomes of a name, if it is that of an entry.
