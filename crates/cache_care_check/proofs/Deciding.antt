@@ -2,6 +2,7 @@
 -- collisions.
 use Rattle.std.proofs.Common.{◌≡◌, ◌+◌, ℕ, List, [], ◌∷◌, length, map, Some, refl, sym, ap, subst, ◌∙◌}
 use Rattle.std.specs.FinMap.{get}
+use Rattle.std.proofs.lemmas.List.{length-map}
 use Rattle.std.proofs.lemmas.Option.{same_Some}
 use Rattle.sha2.specs.Sha256.{sha256}
 use Rattle.bx_tree.specs.Trees.{Files}
@@ -63,8 +64,7 @@ one_answers S lines a b h k = same_answers (HoldsBlob S) (one_content S) a b (h.
 -- ## Honest entries
 
 pub lines_length : (given : List Answer) → length (map line_of given) ≡ length given
-lines_length [] = refl
-lines_length (a ∷ given) = ap (λ n. n + 1) (lines_length given)
+lines_length given = length-map given line_of
 
 abbrev pub strong_with : Entry → List AnswerLine → StrongParts
 strong_with e lines = record { weak = e.weak; paths = e.paths; lines = lines }

@@ -136,10 +136,10 @@ content_at S (x ∷ contents) (d ∷ digests) zero digest e h l is =
 content_at S (x ∷ contents) (d ∷ digests) (suc k) digest e h l is =
     let rest : map sha256 contents ≡ digests = cc in content_at S contents digests k digest rest h.1 (omega (arith, l)) is
 
-pub one_missing : (told now : Option Holdings) (paths : List Atoms) (digests : List (List ℕ)) (k : ℕ) (path : Atoms) (digest : List ℕ)
+pub one_missing : (told : Option Holdings) (paths : List Atoms) (digests : List (List ℕ)) (k : ℕ) (path : Atoms) (digest : List ℕ)
     → k < length digests → digest ≡ get_or digests k digest → FindsOne told (λ S f. IsDeclared S path digest f) None
     → FindsOne told (λ S m. AreDeclared S paths digests m) None
-one_missing told now paths digests k path digest l is none = λ S tells m a.
+one_missing told paths digests k path digest l is none = λ S tells m a.
     let x = content_at S (contents_of m) digests k digest a.digests_are a.held l is in
     none S tells (made_file path x.0) (refl, x.1)
 
@@ -297,7 +297,7 @@ answer_at S [] (x ∷ lines) k line e h l is = absurd cc
 answer_at S (a ∷ given) [] k line e h l is = absurd (omega (arith, l))
 answer_at S (a ∷ given) (x ∷ lines) zero line e h l is =
     let first : line_of a ≡ x = cc in
-    (a, first ∙ sym is, all_front (HoldsBlob S) (answer_contents a) (given_contents given) h)
+    (a, (first ∙ sym is, all_front (HoldsBlob S) (answer_contents a) (given_contents given) h))
 answer_at S (a ∷ given) (x ∷ lines) (suc k) line e h l is =
     let rest : map line_of given ≡ lines = cc in
     answer_at S given lines k line rest (all_back (HoldsBlob S) (answer_contents a) (given_contents given) h) (omega (arith, l)) is

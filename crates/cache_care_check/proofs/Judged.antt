@@ -1,17 +1,21 @@
 -- Whether the run on what the texts of an entry name gives its outputs, from what was found.
-use Rattle.std.proofs.Common.{◌≡◌, ◌≢◌, ℕ, ◌+◌, ◌<◌, ◌≤◌, zero, suc, Bool, true, false, true≢false, List, [], ◌∷◌, ◌++◌, length, map, take, get_or, Option, Some, None, Result, Ok, Err, IfOk, refl, sym, ap, ◌∙◌, subst, arith}
+use Rattle.std.proofs.Common.{◌≡◌, ◌≢◌, ℕ, ◌+◌, ◌<◌, ◌≤◌, zero, suc, Bool, true, false, not, true≢false, List, [], ◌∷◌, ◌++◌, length, map, take, get_or, Option, Some, None, Result, Ok, Err, IfOk, refl, sym, ap, ◌∙◌, subst, arith}
 use Rattle.std.specs.Prelude.{◌↔◌, IsTrue, MatchOption}
 use Rattle.std.specs.List.{AllByRecursion}
 use Rattle.std.specs.Str.{bytes_eq}
-use Rattle.std.proofs.lemmas.List.{length-map, map-append, take_all, take_more}
+use Rattle.std.proofs.lemmas.Bool.{not-false}
+use Rattle.std.proofs.lemmas.List.{get_or-map, length-map, take_all, take_more}
 use Rattle.std.proofs.lemmas.Slice.Eq.{bytes_eq-Decides}
 use Rattle.sha2.specs.Sha256.{sha256}
-use Rattle.bx_tree.specs.Paths.{Atoms}
+use Rattle.bx_tree.specs.Orders.{same_path_decides}
+use Rattle.bx_tree.specs.Paths.{Atoms, same_path}
 use Rattle.bx_tree.specs.Trees.{Files}
 use Rattle.bx_tree.proofs.Lists.{all_push}
 use Rattle.bx_io.specs.Holdings.{Holdings}
 use Rattle.bx_io.specs.Told.{Stays}
+use Rattle.pip_model_types.specs.Made.{made_files}
 use Rattle.pip_model_types.specs.declared.desc.Desc.{Desc}
+use Rattle.pip_model_types.specs.declared.made.MadeFile.{MadeFile}
 use Rattle.observed.specs.declared.ask.Ask.{Ask}
 use Rattle.observed.specs.declared.access.Answer.{Answer}
 use Rattle.tool_run.specs.Described.{described}
@@ -83,6 +87,15 @@ pub another_set : (d : Desc) (asks : List Ask) (given : List Answer)
 another_set d asks given other = λ files run. other run.paths_are
 
 -- ## An output
+
+pub path_same : (p q : Atoms) (test : Bool) → test ≡ not (same_path p q) → test ≡ false → p ≡ q
+path_same p q test is off = (same_path_decides p q).0 (not-false (same_path p q) (sym is ∙ off))
+
+pub path_differs : (p q : Atoms) (test : Bool) → test ≡ not (same_path p q) → test ≡ true → p ≡ q → ⊥
+path_differs p q test is on same =
+    let equal : same_path p q ≡ true = (same_path_decides p q).1 same in
+    let clash : true ≡ false = sym on ∙ is ∙ ap not equal in
+    true≢false clash
 
 abbrev line_for : Atoms → List ℕ → OutputLine
 line_for path bytes = record { path = path; digest = sha256 bytes }
@@ -172,6 +185,9 @@ same_all told outputs files k l m h = λ S is.
       λ f. refl,
     )
 
+abbrev pair_of : MadeFile → Atoms × List ℕ
+pair_of f = (f.path, f.blob)
+
 -- one of the outputs that are these files is that file
 one_file : (S : Holdings) (outputs : List OutputLine) (files : Files) (k : ℕ) (o : OutputLine) (f : Atoms × List ℕ) → AreFilesOf S outputs files
     → k < length outputs → o ≡ get_or outputs k o → f ≡ get_or files k f → IsFileOf S o f
@@ -192,6 +208,27 @@ pub one_other : (told : Option Holdings) (outputs : List OutputLine) (files : Fi
 one_other told outputs files k o f l o_is f_is other =
     tells_none told (λ S. AreFilesOf S outputs files)
     (λ S is a. no_true ((other S is).1 (one_file S outputs files k o f a l o_is f_is)))
+
+-- as the files that were made
+pub pair_at : (files : List MadeFile) (k : ℕ) (f : MadeFile) → k < length files → f ≡ get_or files k f
+    → pair_of f ≡ get_or (made_files files) k (pair_of f)
+pair_at files k f l is = ap pair_of is ∙ sym (get_or-map pair_of files k f (pair_of f) l)
+
+pub other_made : (told : Option Holdings) (outputs : List OutputLine) (files : List MadeFile) (made : Files) (k : ℕ) (o : OutputLine) (f : MadeFile)
+    (answer : Bool) → made_files files ≡ made → k < length outputs → k < length files → o ≡ get_or outputs k o → f ≡ get_or files k f
+    → TellsWhether told (λ S. IsFileOf S o (f.path, f.blob)) answer → answer ≡ false → TellsWhether told (λ S. AreFilesOf S outputs made) false
+other_made told outputs files made k o f answer same l m o_is f_is tells off =
+    subst (λ (fs : Files). TellsWhether told (λ S. AreFilesOf S outputs fs) false) same
+    (one_other told outputs (made_files files) k o (pair_of f) l o_is (pair_at files k f m f_is)
+    (subst (TellsWhether told (λ S. IsFileOf S o (pair_of f))) off tells))
+
+pub more_made : (told now : Option Holdings) (outputs : List OutputLine) (files : List MadeFile) (k : ℕ) (o : OutputLine) (f : MadeFile) (answer : Bool)
+    → k < length outputs → k < length files → o ≡ get_or outputs k o → f ≡ get_or files k f → Stays told now
+    → SameUpTo told outputs (made_files files) k → TellsWhether now (λ S. IsFileOf S o (f.path, f.blob)) answer → answer ≡ true
+    → SameUpTo now outputs (made_files files) (k + 1)
+more_made told now outputs files k o f answer l m o_is f_is stays so_far tells on =
+    same_more told now outputs (made_files files) k o (pair_of f) l (omega (arith, m, length-map files pair_of)) o_is (pair_at files k f m f_is) stays so_far
+    (subst (TellsWhether now (λ S. IsFileOf S o (pair_of f))) on tells)
 
 pub another_number : (told : Option Holdings) (outputs : List OutputLine) (files : Files) → (length outputs ≡ length files → ⊥)
     → TellsWhether told (λ S. AreFilesOf S outputs files) false

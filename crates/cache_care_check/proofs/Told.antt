@@ -112,7 +112,7 @@ found_good S (n ∷ names) [] h e name k = absurd h
 found_good S (n ∷ names) (f ∷ found) h e name k =
     let both = parted n f (remarks_of names found) e in
     elim k [
-      | inl same ↦ (f, subst (λ (q : List ℕ). IsFinding S q f) same h.0, both.0)
+      | inl same ↦ (f, (subst (λ (q : List ℕ). IsFinding S q f) same h.0, both.0))
       | inr more ↦ found_good S names found h.1 both.1 name more
     ]
 
@@ -130,5 +130,5 @@ tells S found h = (
   λ honest. none_bad S (keys S) found honest h,
   λ e x held.
       let good = found_good S (keys S) found h e (at_entry x.strong) (held_name S (at_entry x.strong) held.0 held.1) in
-      honest_found S x held good.0 good.1 good.2,
+      honest_found S x held good.0 good.1.0 good.1.1,
 )

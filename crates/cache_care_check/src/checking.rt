@@ -1,10 +1,10 @@
 //! What a check of a store tells.
-ghost use Rattle.std.specs.Prelude.{◌≡◌, Err, IfOk, Some, length, map, string_bytes};
+ghost use Rattle.std.specs.Prelude.{◌≡◌, ◌++◌, Err, IfOk, OnOk, Some, length, map, string_bytes};
 ghost use Rattle.std.specs.Option.{option_to_list};
 ghost use Rattle.bx_io.specs.Holdings.{Holdings, Keeps, held_in};
 ghost use Rattle.two_phase.specs.Calls.{KeeperCall};
 ghost use Rattle.cache_care_check.specs.CareLists.{IsCareList, entry_count as count_of, has_bad_remark};
-ghost use Rattle.cache_care_check.specs.CareLists.{line_remark, remark_of, remarks_of};
+ghost use Rattle.cache_care_check.specs.CareLists.{is_bad, line_remark, one_entry, remark_of, remarks_of};
 
 use crate::fault::CareFault;
 use crate::surveying::{Finding, Survey, survey_store};
@@ -40,6 +40,17 @@ fn line(name: &String, finding: Finding) -> Result<Option<CareLine>, AllocError>
     }
 }
 
+// Adds the line of a name, if it is told.
+fn add_line(lines: &mut Vec<CareLine>, name: &String, finding: Finding) -> Result<(), AllocError>
+    ensures { OnOk result (map line_remark lines.new.items
+        ≡ map line_remark lines.old.items ++ remark_of (string_bytes name.now) finding) }
+{
+    match line(name, finding)? {
+        Some(line) => Ok(lines.push(line)?),
+        None => Ok(()),
+    }
+}
+
 fn lines(alloc: Global, survey: &Survey) -> Result<Vec<CareLine>, AllocError>
     requires { length survey.now.findings.items ≡ length survey.now.names.items }
     ensures { IfOk result (λ lines. map line_remark lines.items
@@ -47,11 +58,19 @@ fn lines(alloc: Global, survey: &Survey) -> Result<Vec<CareLine>, AllocError>
 {
     let mut lines = Vec::new(alloc);
     'names: for place in 0..survey.names.len() {
-        if let Some(line) = line(&survey.names[place], survey.findings[place])? {
-            lines.push(line)?;
-        }
+        add_line(&mut lines, &survey.names[place], survey.findings[place])?;
     }
     Ok(lines)
+}
+
+// How many entries a finding is of: one or none.
+fn entries_of(finding: Finding) -> u64
+    ensures { result ≡ one_entry finding }
+{
+    match finding {
+        Finding::Bad | Finding::Honest => 1,
+        Finding::Damaged | Finding::Other => 0,
+    }
 }
 
 // How many of the findings are of entries.
@@ -60,10 +79,7 @@ fn entry_count(findings: &[Finding]) -> u64
 {
     let mut count = 0;
     'findings: for finding in findings {
-        count += match finding {
-            Finding::Bad | Finding::Honest => 1,
-            Finding::Damaged | Finding::Other => 0,
-        };
+        count += entries_of(*finding);
     }
     count
 }
@@ -85,11 +101,24 @@ pub fn check_store<K: Keeper>(alloc: Global, keeper: &mut K) -> Result<CareList,
     })
 }
 
+// Whether a line tells of a bad entry.
+fn is_bad_line(line: &CareLine) -> bool
+    ensures { result ≡ is_bad (line_remark line.now).0 }
+{
+    match line {
+        CareLine::Bad(_) => true,
+        CareLine::Damaged(_) => false,
+    }
+}
+
 /// Whether a check found a bad entry.
 pub fn has_bad(list: &CareList) -> bool
     ensures { result ≡ has_bad_remark (map line_remark list.now.lines.items) }
 {
-    list.lines
-        .iter()
-        .any(|line| matches!(line, CareLine::Bad(_)))
+    'lines: for line in list.lines.iter() {
+        if is_bad_line(line) {
+            return true;
+        }
+    }
+    false
 }

@@ -1,0 +1,11 @@
+use Rattle.std.proofs.Common.{◌^◌, arith}
+use Rattle.cache_care_check.proofs.Listed.{count_fits, count_more}
+use Rattle.cache_care_check.proofs.checking.entry_count.Goals as goal
+
+pub overflow_add-count : goal.overflow_add-count
+overflow_add-count c =
+    omega (arith, count_fits c.args.findings.now c.findings.finding-index (2 ^ 64) c.findings.count c.entries_of-count.result _ c.findings-test.true
+    (omega arith) c.findings.invariant c.entries_of-count.ensures)
+
+pub findings-preserved : goal.findings-preserved
+findings-preserved c = let e = c.entries_of-count.ensures in let i = c.findings.invariant in ?
