@@ -106,7 +106,7 @@ none_bad S (name ∷ names) (f ∷ found) honest h =
 
 found_good : (S : Holdings) (names : List (List ℕ)) (found : List Finding) → AreFindings S names found
     → has_bad_remark (remarks_of names found) ≡ false → (name : List ℕ) → Has names name
-    → (f : Finding) × IsFinding S name f × (is_bad f ≡ false)
+    → (f : Finding) × (IsFinding S name f × (is_bad f ≡ false))
 found_good S [] found h e name k = absurd k
 found_good S (n ∷ names) [] h e name k = absurd h
 found_good S (n ∷ names) (f ∷ found) h e name k =

@@ -11,8 +11,10 @@ use Rattle.cache_care.proofs.trimming.trim_list_name.Goals as goal
 
 pub trim_list-requires-clause-name : goal.trim_list-requires-clause-name
 trim_list-requires-clause-name g c =
-    λ κs a. (c.in-Selectors.field-0,
-    of_list (string_bytes c.args.name.now) c.as_str.result.now c.in-Selectors.field-0 c.read_name.result c.as_str.ensures.value c.read_name.ensures c.in-Selectors.is)
+    λ κs a. (
+      c.in-Selectors.field-0,
+      of_list (string_bytes c.args.name.now) c.as_str.result.now c.in-Selectors.field-0 c.read_name.result c.as_str.ensures.value c.read_name.ensures c.in-Selectors.is,
+    )
 
 pub returns-in-Selectors-clause-changes : goal.returns-in-Selectors-clause-changes
 returns-in-Selectors-clause-changes g c S told =
