@@ -13,7 +13,7 @@ use Rattle.cache_care_check.specs.Findings.{IsSurvey}
 use Rattle.cache_care_check.specs.declared.surveying.Finding.{Finding}
 use Rattle.cache_care_check.specs.declared.surveying.Finding.TheVariants as findings
 use Rattle.cache_care_check.specs.declared.surveying.Survey.{Survey}
-use Rattle.cache_care.specs.Counts.{IsCount, drop_count}
+use Rattle.cache_care.specs.Counts.{CountsMade, IsCount, drop_count}
 use Rattle.cache_care.specs.Planning.{IsDrop, OnlyDrops, planned_change}
 use Rattle.cache_care.specs.Repairing.{AreRepairs, DoesRepair, DoesRepairInPart, names_found, repairs}
 use Rattle.cache_care.specs.Trimming.{DoesTrim, entry_names, is_named, is_selected, list_changes, trims}
@@ -31,6 +31,15 @@ told_between before between now changes S keeps makes was tells =
     let last = some_of (held_in now) tells in
     let there = makes_some between now changes last.0 makes last.1 in
     there.1 ∙ sym (keeps.held there.0 there.1) ∙ was
+
+-- the changes that were made are those that were counted
+pub counted_made : (before between now : StoreTold) (plan : List Planned) (count : CareCount) → Keeps before between
+    → Makes between (map planned_change plan) now → count.dropped ≡ drop_count (map planned_change plan) → CountsMade before now count
+counted_made before between now plan count keeps makes dropped = record {
+  made = map planned_change plan;
+  makes = keeps_makes before between now (map planned_change plan) keeps makes;
+  dropped = dropped;
+}
 
 -- ## A repair
 

@@ -7,7 +7,7 @@ use Rattle.bx_tree.proofs.Members.{has_back, has_front}
 use Rattle.bx_io.specs.Holdings.{Change, Drop, Put, name_of}
 use Rattle.bx_io.specs.Names.{IsName}
 use Rattle.prints.specs.Lines.{begins}
-use Rattle.memo_format.specs.Selectors.{selectors_text}
+use Rattle.memo_format.specs.Selectors.{AreSelectors, selectors_text}
 use Rattle.memo_format.specs.declared.selector.Selector.{Selector}
 use Rattle.cache_care.specs.Counts.{drop_count}
 use Rattle.cache_care.specs.Trimming.{AreTrims, IsListName, IsTrim}
@@ -51,5 +51,5 @@ trims_kept name = record { each = tt; few = omega arith }
 pub trims_drop : (name : List ℕ) → AreTrims (name ∷ []) (Drop name ∷ [])
 trims_drop name = record { each = ((tt, inl refl), tt); few = omega arith }
 
-pub trims_put : (name : List ℕ) (list : List Selector) → IsListName name → AreTrims (name ∷ []) (Put name (selectors_text list) ∷ [])
-trims_put name list is = record { each = (((is.0, list, is.1, refl), inl refl), tt); few = omega arith }
+pub trims_put : (name : List ℕ) (list : List Selector) → IsListName name → AreSelectors list → AreTrims (name ∷ []) (Put name (selectors_text list) ∷ [])
+trims_put name list is ok = record { each = (((is.0, list, is.1, ok, is.2, refl), inl refl), tt); few = omega arith }

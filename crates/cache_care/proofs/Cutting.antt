@@ -1,11 +1,13 @@
 -- What becomes of one list.
-use Rattle.std.proofs.Common.{◌≡◌, ℕ, Bool, true, false, cond, nat_lt, List, [], ◌∷◌, ◌++◌, length, take, Option, Some, None, Result, Ok, Err, refl, sym, ap, ◌∙◌, subst}
+use Rattle.std.proofs.Common.{◌≡◌, ℕ, zero, suc, ◌≤◌, Bool, true, false, cond, nat_lt, List, [], ◌∷◌, ◌++◌, length, take, Option, Some, None, Result, Ok, Err, refl, sym, ap, ◌∙◌, subst, arith}
 use Rattle.std.specs.Prelude.{◌==◌, OnOk}
 use Rattle.std.specs.FinMap.{get}
+use Rattle.std.specs.List.{AllByRecursion}
 use Rattle.std.proofs.lemmas.List.{append-nil}
 use Rattle.bx_io.specs.Holdings.{Change, Drop, Holdings, Put}
 use Rattle.prints.specs.Reading.{◌>>=◌}
-use Rattle.memo_format.specs.Selectors.{read_selectors_text, selectors_text}
+use Rattle.memo_format.specs.Selectors.{AreSelectors, IsSelector, read_selectors_text, selectors_text}
+use Rattle.memo_format.specs.declared.selector.TheConstants.{MAX_SELECTORS}
 use Rattle.memo_format.specs.declared.selector.Selector.{Selector}
 use Rattle.two_phase_meaning.specs.Saving.{or_none, selectors_in}
 use Rattle.cache_care.specs.Trimming.{AreTrims, IsListName, cut_to, list_change, read_at}
@@ -22,6 +24,25 @@ pub cut_some : (keep : ℕ) (name : List ℕ) (list cut : List Selector) → (cu
 cut_some keep name list [] some = absurd (some refl)
 cut_some keep name list (s ∷ cut) some = refl
 
+-- the first of selectors are selectors
+first_each : (keep : ℕ) (list : List Selector) → AllByRecursion IsSelector list → AllByRecursion IsSelector (take keep list)
+first_each zero list h = tt
+first_each (suc n) [] h = tt
+first_each (suc n) (s ∷ list) h = (h.0, first_each n list h.1)
+
+first_few : (keep : ℕ) (list : List Selector) → length (take keep list) ≤ length list
+first_few zero list = omega arith
+first_few (suc n) [] = omega arith
+first_few (suc n) (s ∷ list) = let l = first_few n list in omega (arith, l)
+
+pub first_selectors : (keep : ℕ) (list cut shown : List Selector) → length list ≤ MAX_SELECTORS → AllByRecursion IsSelector list → cut ≡ take keep list
+    → shown ≡ cut → AreSelectors shown
+first_selectors keep list cut shown few each taken same =
+    subst AreSelectors (sym (same ∙ taken)) (record {
+      few = let l = first_few keep list in omega (arith, l, few);
+      each = first_each keep list each;
+    })
+
 -- ## As trims of its name
 
 pub trims_dropped : (names : List (List ℕ)) (name : List ℕ) (before now : List Change) → now ≡ before ++ Drop name ∷ [] → AreTrims names before
@@ -34,14 +55,14 @@ pub trims_unchanged : (names : List (List ℕ)) (name : List ℕ) (before now : 
 trims_unchanged names name before now is h =
     trims_same (names ++ name ∷ []) (before ++ []) now (append-nil before ∙ sym is) (trims_both names (name ∷ []) before [] h (trims_kept name))
 
-pub trims_cut : (names : List (List ℕ)) (name : List ℕ) (list : List Selector) (b : Bool) (before now : List Change) → IsListName name
+pub trims_cut : (names : List (List ℕ)) (name : List ℕ) (list : List Selector) (b : Bool) (before now : List Change) → IsListName name → AreSelectors list
     → now ≡ before ++ cond b (Put name (selectors_text list) ∷ []) [] → AreTrims names before → AreTrims (names ++ name ∷ []) now
-trims_cut names name list b before now is made h =
+trims_cut names name list b before now is ok made h =
     trims_same (names ++ name ∷ []) (before ++ cond b (Put name (selectors_text list) ∷ []) []) now (sym made)
     (trims_both names (name ∷ []) before (cond b (Put name (selectors_text list) ∷ []) []) h (by_cut b))
   where
     by_cut : (t : Bool) → AreTrims (name ∷ []) (cond t (Put name (selectors_text list) ∷ []) [])
-    by_cut true = trims_put name list is
+    by_cut true = trims_put name list is ok
     by_cut false = trims_kept name
 
 pub trims_if : (names : List (List ℕ)) (name : List ℕ) (b : Bool) (before now : List Change) → now ≡ before ++ cond b [] (Drop name ∷ [])
@@ -87,11 +108,11 @@ pub dropped_result : {E : Type 0} (r : Result (Unit {0}) E) (name : List ℕ) (b
 dropped_result (Ok x) name before now made = λ names h. trims_dropped names name before now made h
 dropped_result (Err e) name before now made = tt
 
-pub cut_trims : {E : Type 0} (r : Result (Unit {0}) E) (name : List ℕ) (list : List Selector) (b : Bool) (before now : List Change) → IsListName name
+pub cut_trims : {E : Type 0} (r : Result (Unit {0}) E) (name : List ℕ) (list : List Selector) (b : Bool) (before now : List Change) → IsListName name → AreSelectors list
     → now ≡ before ++ cond b (Put name (selectors_text list) ∷ []) []
     → OnOk r ((names : List (List ℕ)) → AreTrims names before → AreTrims (names ++ name ∷ []) now)
-cut_trims (Ok x) name list b before now is made = λ names h. trims_cut names name list b before now is made h
-cut_trims (Err e) name list b before now is made = tt
+cut_trims (Ok x) name list b before now is ok made = λ names h. trims_cut names name list b before now is ok made h
+cut_trims (Err e) name list b before now is ok made = tt
 
 pub some_left : (n : ℕ) (cut : List Selector) (b : Bool) → b ≡ (n == 0) → b ≡ false → n ≡ length cut → cut ≡ [] → ⊥
 some_left n cut b tested is long none =

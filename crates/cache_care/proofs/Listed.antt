@@ -1,20 +1,23 @@
 -- What becomes of the names of a kind, one name after another.
-use Rattle.std.proofs.Common.{◌≡◌, ℕ, ◌+◌, ◌<◌, ◌≤◌, Bool, true, false, cond, not, List, [], ◌∷◌, ◌++◌, codes, filter, flat_map, get_or, length, map, take, Result, Ok, Err, refl, sym, ap, ◌∙◌, subst}
+use Rattle.std.proofs.Common.{◌≡◌, ℕ, ◌+◌, ◌<◌, ◌≤◌, Bool, true, false, cond, not, List, [], ◌∷◌, ◌++◌, codes, drop, filter, flat_map, get_or, length, map, take, Result, Ok, Err, refl, sym, ap, ◌∙◌, subst}
 use Rattle.std.specs.Prelude.{OnOk}
 use Rattle.std.specs.List.{AllByRecursion, list_any}
 use Rattle.std.specs.Str.{bytes_eq}
 use Rattle.std.proofs.lemmas.List.{append-nil, append_assoc, map-append, take_all}
 use Rattle.std.proofs.lemmas.List.Elements.{filter-append}
 use Rattle.bx_digest.specs.Digests.{IsDigest}
+use Rattle.bx_digest.proofs.HexTexts.{digest_of_hex_text}
 use Rattle.bx_io.specs.Holdings.{Change, Drop, Holdings}
+use Rattle.bx_io.specs.Names.{IsName}
 use Rattle.prints.specs.Lines.{begins}
 use Rattle.memo_format.specs.StoreNames.{at_blob, at_entry, at_list}
 use Rattle.memo_format.specs.declared.selector.Selector.{Selector}
 use Rattle.cache_care_check.specs.Named.{name_text}
+use Rattle.cache_care_check.proofs.NameParts.{hex_text}
 use Rattle.cache_care_check.specs.declared.names.Named.{Named}
 use Rattle.cache_care_check.specs.declared.names.Named.TheVariants as kinds
 use Rattle.cache_care.specs.Digests.{AddsAll, IsSetOf, has_digest}
-use Rattle.cache_care.specs.Trimming.{AreTrims, is_selected, remaining}
+use Rattle.cache_care.specs.Trimming.{AreTrims, IsListName, is_selected, remaining}
 use Rattle.cache_care.specs.declared.digests.DigestSet.{DigestSet}
 use Rattle.cache_care.proofs.NamedDigests.{named_is, selected_is}
 use Rattle.cache_care.proofs.Planned.{mapped_more}
@@ -56,6 +59,12 @@ trims_not p name before other names h =
 
 pub of_list : (name text digest : List ℕ) (n : Named) → text ≡ name → text ≡ name_text n → n ≡ kinds.Selectors digest → name ≡ at_list digest
 of_list name text digest n same read is = sym same ∙ read ∙ ap name_text is
+
+-- the digits of a name are those of a digest
+pub list_name : (name digest : List ℕ) → IsName name → name ≡ at_list digest → IsListName name
+list_name name digest is e =
+    let d = digest_of_hex_text (drop 2 name) (hex_text name is) in
+    (d.digest, d.is_digest, e ∙ ap (λ (t : List ℕ). codes "w/" ++ t) (sym (ap (drop 2) e) ∙ sym d.text_is))
 
 pub of_entry : (name text digest : List ℕ) (n : Named) → text ≡ name → text ≡ name_text n → n ≡ kinds.Entry digest → name ≡ at_entry digest
 of_entry name text digest n same read is = sym same ∙ read ∙ ap name_text is

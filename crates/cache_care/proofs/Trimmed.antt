@@ -424,6 +424,20 @@ module _ (S : Holdings) (keep : ℕ) where
       by_held None e = absurd (some (sym is_left ∙ ap (take keep) (ap selectors_in e) ∙ take_none keep [] refl))
       by_held (Some bytes) e = by_read bytes e (read_selectors_text bytes) refl
 
+  -- a name of no kind is of no change
+  other_stays : (name : List ℕ) → begins (codes "e/") name ≡ false → begins (codes "w/") name ≡ false → begins (codes "b/") name ≡ false
+      → get left name ≡ get S name
+  other_stays name e w b = stays name none
+    where
+      none : (c : Change) → IsTrimChange S keep c → name ≡ name_of c → ⊥
+      none c is same = elim is [
+        | inl x ↦ never_both (begins (codes "e/") name) (ap (begins (codes "e/")) same ∙ x.kind) e
+        | inr more ↦ elim more [
+          | inl x ↦ never_both (begins (codes "w/") name) (ap (begins (codes "w/")) same ∙ x.kind) w
+          | inr x ↦ never_both (begins (codes "b/") name) (ap (begins (codes "b/")) same ∙ x.kind) b
+        ]
+      ]
+
   pub trimmed : IsTrimmed S keep (holdings_after S (trims S keep))
   trimmed = record {
     entries_stay = λ name kind selected. stays name (λ c is same. not_selected S keep name kind selected c is same);
@@ -432,6 +446,7 @@ module _ (S : Holdings) (keep : ℕ) where
     lists_go = list_goes;
     contents_stay = λ name kind named. stays name (λ c is same. not_named S keep name kind named c is same);
     contents_go = content_goes;
+    others = other_stays;
   }
 
 -- ## Honest after each change

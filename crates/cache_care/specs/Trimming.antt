@@ -3,11 +3,12 @@ use Rattle.std.specs.Prelude.{◌≡◌, ◌≤◌, ℕ, Bool, not, nat_lt, List
 use Rattle.std.specs.FinMap.{get, keys}
 use Rattle.std.specs.List.{AllByRecursion, flat_map, list_any}
 use Rattle.std.specs.Str.{bytes_eq}
+use Rattle.bx_digest.specs.Digests.{IsDigest}
 use Rattle.bx_tree.specs.Members.{Has}
 use Rattle.bx_io.specs.Holdings.{Change, Drop, Holdings, Makes, Put, StoreTold, name_of}
 use Rattle.prints.specs.Lines.{begins}
 use Rattle.prints.specs.Reading.{◌>>=◌}
-use Rattle.memo_format.specs.Selectors.{read_selectors_text, selectors_text}
+use Rattle.memo_format.specs.Selectors.{AreSelectors, read_selectors_text, selectors_text}
 use Rattle.memo_format.specs.StoreNames.{at_blob, at_entry, at_list}
 use Rattle.memo_format.specs.declared.selector.Selector.{Selector}
 use Rattle.two_phase_meaning.specs.Saving.{selectors_in}
@@ -89,7 +90,8 @@ pub record DoesTrim (S : Holdings) (keep : ℕ) (before now : StoreTold) (count 
 -- a change that drops a name, or puts a list of selectors
 abbrev pub IsTrim : Change → Type 0
 IsTrim (Put name bytes) =
-    (weak : List ℕ) × (list : List Selector) × (name ≡ at_list weak) × (bytes ≡ selectors_text list)
+    (weak : List ℕ) × (list : List Selector) × IsDigest weak × AreSelectors list × (name ≡ at_list weak)
+    × (bytes ≡ selectors_text list)
 IsTrim (Drop name) = Unit {0}
 
 -- Nothing was done but that names were dropped and lists put.
@@ -102,7 +104,7 @@ pub record OnlyTrims (before now : StoreTold) : Type 0 where
 
 -- the name of a list of selectors
 abbrev pub IsListName : List ℕ → Type 0
-IsListName name = (weak : List ℕ) × (name ≡ at_list weak)
+IsListName name = (weak : List ℕ) × IsDigest weak × (name ≡ at_list weak)
 
 -- Changes of a trim, each of one of the names, and no more drops than names.
 pub record AreTrims (names : List (List ℕ)) (changes : List Change) : Type 0 where

@@ -8,13 +8,13 @@ ghost use Rattle.bx_digest.specs.Digests.{IsDigest};
 ghost use Rattle.bx_io.specs.Holdings.{Drop, Holdings, Keeps, MakesPrefix, Put, held_in, name_of};
 ghost use Rattle.bx_io.specs.Names.{IsName};
 ghost use Rattle.prints.specs.Lines.{begins};
-ghost use Rattle.memo_format.specs.Selectors.{selectors_text};
+ghost use Rattle.memo_format.specs.Selectors.{IsSelector, selectors_text};
 ghost use Rattle.memo_format.specs.StoreNames.{at_blob, at_entry};
 ghost use Rattle.memo_format.specs.declared.selector.TheConstants.{MAX_SELECTORS};
 ghost use Rattle.two_phase.specs.Calls.{KeeperCall};
 ghost use Rattle.two_phase_meaning.specs.Saving.{selectors_in};
 ghost use Rattle.cache_care_check.specs.Known.{AreRight};
-ghost use Rattle.cache_care.specs.Counts.{drop_count};
+ghost use Rattle.cache_care.specs.Counts.{CountsMade, drop_count};
 ghost use Rattle.cache_care.specs.Digests.{AddsAll, IsSetOf, has_digest};
 ghost use Rattle.cache_care.specs.Naming.{named_at};
 ghost use Rattle.cache_care.specs.Planning.{planned_change};
@@ -102,6 +102,7 @@ fn cut_list(
     keep: usize,
 ) -> Result<(), AllocError>
     requires few { length list.items ≤ MAX_SELECTORS }
+    requires each { AllByRecursion IsSelector list.items }
     requires name { IsListName (string_bytes name.now) }
     ensures changes { OnOk result (map planned_change trim.new.changes.items ≡ map planned_change trim.old.changes.items
         ++ list_change keep (string_bytes name.now) (Some list.items)) }
@@ -429,6 +430,7 @@ pub fn trim_store<K: Keeper>(
         → IfOk result (DoesTrim S keep (K.known keeper.old) (K.known keeper.new)) }
     ensures cut { (S : Holdings) → held_in (K.known keeper.old) ≡ Some S → IsSome (held_in (K.known keeper.new))
         → OnErr result (MakesPrefix (K.known keeper.old) (K.known keeper.new) (trims S keep)) }
+    ensures counted { IfOk result (CountsMade (K.known keeper.old) (K.known keeper.new)) }
     ensures trims { OnlyTrims (K.known keeper.old) (K.known keeper.new) }
     ensures keeper { KeeperCall (K.bound keeper.old) (K.bound keeper.new) (K.faults keeper.old)
         (K.faults keeper.new) (result ≡ Err CareFault.Failed) }

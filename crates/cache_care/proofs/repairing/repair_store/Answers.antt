@@ -3,7 +3,7 @@ use Rattle.std.specs.Prelude.{vec_len}
 use Rattle.cache_care.specs.Counts.{drop_count}
 use Rattle.cache_care.specs.Planning.{planned_change}
 use Rattle.cache_care.specs.declared.planning.Planned.{Planned}
-use Rattle.cache_care.proofs.CareDone.{nothing_dropped, repair_cut, repair_done, repair_drops}
+use Rattle.cache_care.proofs.CareDone.{counted_made, nothing_dropped, repair_cut, repair_done, repair_drops}
 use Rattle.cache_care.proofs.Plans.{whole_prefix}
 use Rattle.cache_care.proofs.repairing.repair_store.Goals as goal
 
@@ -43,6 +43,13 @@ returns-clause-repaired g c S was tells =
     (c.counted.ensures.dropped
     ∙ ap (λ (ps : List Planned). drop_count (map planned_change ps)) (c.as_slice-2.ensures.value ∙ sym c.as_slice.ensures.value))
     (c.counted.ensures.all ∙ c.len.ensures ∙ long)
+
+pub returns-clause-counted : goal.returns-clause-counted
+returns-clause-counted g c =
+    counted_made (g.K.Keeper.known c.args.keeper.now) (g.K.Keeper.known c.survey_store.new.keeper) (g.K.Keeper.known c.apply_all.new.keeper) c.as_slice.result.now
+    c.counted.result c.in_ok-survey.ensures.known c.in_ok-apply_all.ensures.made
+    (c.counted.ensures.dropped
+    ∙ ap (λ (ps : List Planned). drop_count (map planned_change ps)) (c.as_slice-2.ensures.value ∙ sym c.as_slice.ensures.value))
 
 pub returns-clause-drops : goal.returns-clause-drops
 returns-clause-drops g c =

@@ -1,7 +1,7 @@
 use Rattle.std.proofs.Common.{◌≡◌, nat_lt, length, map, take, ap, sym, ◌∙◌, arith}
 use Rattle.std.specs.Prelude.{string_bytes, vec_len}
 use Rattle.cache_care.specs.Planning.{planned_change}
-use Rattle.cache_care.proofs.Cutting.{cut_changes, cut_trims, dropped_result, some_left}
+use Rattle.cache_care.proofs.Cutting.{cut_changes, cut_trims, dropped_result, first_selectors, some_left}
 use Rattle.cache_care.proofs.trimming.cut_list.Goals as goal
 
 pub returns-then-is_empty-clause-trims : goal.returns-then-is_empty-clause-trims
@@ -22,4 +22,6 @@ returns-clause-changes c =
 pub returns-clause-trims : goal.returns-clause-trims
 returns-clause-trims c =
     cut_trims c.add_selected.result (string_bytes c.args.name.now) c.as_slice.result.now _ (map planned_change c.args.trim.now.changes.items)
-    (map planned_change c.put_cut.new.changes.items) c.requires.name c.in_ok-put_cut.ensures
+    (map planned_change c.put_cut.new.changes.items) c.requires.name
+    (first_selectors c.args.keep c.args.list.items c.truncate.new.self.items c.as_slice.result.now c.requires.few c.requires.each c.truncate.ensures.items
+    c.as_slice.ensures.value) c.in_ok-put_cut.ensures

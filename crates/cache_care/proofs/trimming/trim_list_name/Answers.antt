@@ -6,15 +6,15 @@ use Rattle.prints.specs.Lines.{begins}
 use Rattle.cache_care.specs.Digests.{AddsAll}
 use Rattle.cache_care.specs.Planning.{planned_change}
 use Rattle.cache_care.specs.Trimming.{cut_at, left_at}
-use Rattle.cache_care.proofs.Listed.{adds_nothing, content_kind, entry_kind, list_kind, none_flat, of_content, of_entry, of_list, one_flat, trims_as, trims_not, unchanged_by}
+use Rattle.cache_care.proofs.Listed.{adds_nothing, content_kind, entry_kind, list_kind, list_name, none_flat, of_content, of_entry, of_list, one_flat, trims_as, trims_not, unchanged_by}
 use Rattle.cache_care.proofs.trimming.trim_list_name.Goals as goal
 
 pub trim_list-requires-clause-name : goal.trim_list-requires-clause-name
 trim_list-requires-clause-name g c =
-    λ κs a. (
-      c.in-Selectors.field-0,
-      of_list (string_bytes c.args.name.now) c.as_str.result.now c.in-Selectors.field-0 c.read_name.result c.as_str.ensures.value c.read_name.ensures c.in-Selectors.is,
-    )
+    λ κs a.
+    list_name (string_bytes c.args.name.now) c.in-Selectors.field-0 c.requires
+    (of_list (string_bytes c.args.name.now) c.as_str.result.now c.in-Selectors.field-0 c.read_name.result c.as_str.ensures.value c.read_name.ensures
+    c.in-Selectors.is)
 
 pub returns-in-Selectors-clause-changes : goal.returns-in-Selectors-clause-changes
 returns-in-Selectors-clause-changes g c S told =

@@ -6,7 +6,7 @@ use Rattle.cache_care.specs.Counts.{drop_count}
 use Rattle.cache_care.specs.Planning.{planned_change}
 use Rattle.cache_care.specs.Trimming.{IsTrim, trims}
 use Rattle.cache_care.specs.declared.planning.Planned.{Planned}
-use Rattle.cache_care.proofs.CareDone.{trim_cut, trim_done}
+use Rattle.cache_care.proofs.CareDone.{counted_made, trim_cut, trim_done}
 use Rattle.cache_care.proofs.Plans.{in_plan, keeps_prefix, none_prefix, only_trims, whole_prefix}
 use Rattle.cache_care.proofs.trimming.trim_store.Goals as goal
 
@@ -62,6 +62,15 @@ returns-clause-trimmed g c S was tells =
     (c.counted.ensures.dropped
     ∙ ap (λ (ps : List Planned). drop_count (map planned_change ps)) (c.as_slice-3.ensures.value ∙ sym c.as_slice-2.ensures.value))
     (c.counted.ensures.all ∙ c.len.ensures ∙ long)
+
+pub returns-clause-counted : goal.returns-clause-counted
+returns-clause-counted g c =
+    counted_made (g.K.Keeper.known c.args.keeper.now) (g.K.Keeper.known c.plan.new.keeper) (g.K.Keeper.known c.apply_all.new.keeper) c.as_slice-2.result.now
+    c.counted.result
+    (keeps_on (g.K.Keeper.known c.args.keeper.now) (g.K.Keeper.known c.names_of.new.keeper) (g.K.Keeper.known c.plan.new.keeper) c.in_ok-names.ensures.known
+    c.in_ok-plan.ensures.known) c.in_ok-apply_all.ensures.made
+    (c.counted.ensures.dropped
+    ∙ ap (λ (ps : List Planned). drop_count (map planned_change ps)) (c.as_slice-3.ensures.value ∙ sym c.as_slice-2.ensures.value))
 
 pub returns-clause-trims : goal.returns-clause-trims
 returns-clause-trims g c =
