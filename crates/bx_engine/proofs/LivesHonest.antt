@@ -1,8 +1,8 @@
 -- A store that is honest at first is honest all its life.
-use Rattle.std.proofs.Common.{◌≡◌, ℕ, zero, suc, ◌+◌, List, [], ◌∷◌, take, refl, subst, inl}
+use Rattle.std.proofs.Common.{◌≡◌, ◌⊎◌, ℕ, zero, suc, ◌+◌, List, [], ◌∷◌, take, is_some, sym, ap, subst, inl, inr}
 use Rattle.std.specs.List.{AllByRecursion}
 use Rattle.bx_tree.specs.Trees.{Files}
-use Rattle.bx_io.specs.Holdings.{Change, Holdings, holdings_after}
+use Rattle.bx_io.specs.Holdings.{Change, Holdings, held_in, holdings_after}
 use Rattle.pip_model_types.specs.declared.pip.Pip.{Pip}
 use Rattle.tool_run.specs.Described.{described}
 use Rattle.tool_run.proofs.Depends.{depends}
@@ -12,12 +12,11 @@ use Rattle.run_record.proofs.Stored.{sound}
 use Rattle.two_phase_meaning.specs.Honest.{Honest}
 use Rattle.retire_compared.specs.Compared.{Compared}
 use Rattle.retire.specs.Builds.{Between}
-use Rattle.retire.specs.Saving.{PutsFirst}
 use Rattle.retire.proofs.Chain.{IsReady, Leaves, chain}
 use Rattle.retire.proofs.SoFar.{success_met}
 use Rattle.cache_care.proofs.Repaired.{repairs_honest}
 use Rattle.cache_care.proofs.Trimmed.{trims_honest}
-use Rattle.bx_engine.specs.Lives.{Comes, Deed, Built, Does, Repaired, Trimmed, told_after, told_at_first}
+use Rattle.bx_engine.specs.Lives.{Comes, Deed, Built, Does, DoesBuild, Repaired, Trimmed}
 use Rattle.bx_engine.proofs.StoresLeft.{left_honest}
 
 -- ## A build
@@ -39,23 +38,25 @@ first_ready M zero fs h = tt
 first_ready M (suc n) [] h = tt
 first_ready M (suc n) (f ∷ fs) h = (h.0, first_ready M n fs h.1)
 
-build_honest : (pips : List Pip) (tree : Files) (budget high : ℕ) (S : Holdings) (fs : List Facts) (made : List Change) → Honest S
-    → NoCollision (Compared pips tree budget S) → Between pips tree budget 0 high fs → PutsFirst (told_at_first S) fs (told_after S made)
+build_honest : (pips : List Pip) (tree : Files) (budget : ℕ) (S : Holdings) (made : List Change) → Honest S → DoesBuild S pips tree budget made
     → Honest (holdings_after S made)
-build_honest pips tree budget high S fs made honest apart between puts =
+build_honest pips tree budget S made honest d =
     let M : List ℕ → Type 0 = Compared pips tree budget S in
-    let first : List Facts = take puts.number fs in
-    let left : Leaves S (told_at_first S) first (told_after S made) =
-    chain M apart first S (told_at_first S) (told_after S made) refl refl
-    (first_ready M puts.number fs (all_ready pips tree budget S 0 high fs between)) (λ x there. inl there) honest puts.each in
-    left_honest S (holdings_after S made) (told_at_first S) (told_after S made) refl refl left.honest
+    let first : List Facts = take d.puts.number d.records in
+    let left : Leaves S d.before first d.now =
+    chain M d.apart first S d.before d.now d.was (ap is_some d.is)
+    (first_ready M d.puts.number d.records (all_ready pips tree budget S 0 d.high d.records d.between)) (λ x there. inl there) honest d.puts.each in
+    left_honest S (holdings_after S made) d.before d.now d.was d.is left.honest
 
 -- ## A life
 
 deed_honest : (S : Holdings) (deed : Deed) (made : List Change) → Honest S → Does S deed made → Honest (holdings_after S made)
-deed_honest S (Built pips tree budget) made honest h = build_honest pips tree budget h.1.1 S h.1.0 made honest h.0 h.1.2 h.1.3
+deed_honest S (Built pips tree budget) made honest h = build_honest pips tree budget S made honest h
 deed_honest S (Trimmed keep) made honest h = trims_honest S keep made honest h
-deed_honest S Repaired made honest h = repairs_honest S h.0 made honest h.1 h.2
+deed_honest S Repaired made honest h = elim h [
+  | inl none ↦ subst (λ (cs : List Change). Honest (holdings_after S cs)) (sym none) honest
+  | inr r ↦ repairs_honest S r.0 made honest r.1 r.2
+]
 
 pub life_honest : (S T : Holdings) (deeds : List Deed) → Honest S → Comes S deeds T → Honest T
 life_honest S T [] honest h = subst Honest h honest
