@@ -69,8 +69,10 @@ strong_left told e weak paths p h other = λ S is t a.
     let same : p ≡ strong_with e t.lines = strong_is S e.strong p (strong_with e t.lines) (h S is) a.strong in
     other (
       ap (λ (q : StrongParts). q.weak) same,
-      ap (λ (q : StrongParts). q.paths) same,
-      ap (λ (q : StrongParts). length q.lines) same ∙ a.one_each ∙ ap (λ (asks : List Ask). length asks) a.paths_are,
+      (
+        ap (λ (q : StrongParts). q.paths) same,
+        ap (λ (q : StrongParts). length q.lines) same ∙ a.one_each ∙ ap (λ (asks : List Ask). length asks) a.paths_are,
+      ),
     )
 
 pub no_strong : (told : Option Holdings) (e : Entry) (weak : WeakParts) (paths : List Ask)

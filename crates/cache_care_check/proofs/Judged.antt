@@ -185,7 +185,7 @@ same_all told outputs files k l m h = λ S is.
       λ f. refl,
     )
 
-abbrev pair_of : MadeFile → Atoms × List ℕ
+abbrev pub pair_of : MadeFile → Atoms × List ℕ
 pair_of f = (f.path, f.blob)
 
 -- one of the outputs that are these files is that file

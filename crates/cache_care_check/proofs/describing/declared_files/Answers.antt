@@ -44,7 +44,7 @@ files-preserved g c = record {
 
 pub of-requires : goal.of-requires
 of-requires g c =
-    λ κs a. distinct_paths (made_files c.files.made.items)
+    distinct_paths (made_files c.files.made.items)
     (declared_rise (g.K.Keeper.known c.files.keeper).held (map input_path c.args.files.now) c.args.digests.now c.files.place c.files.made.items
     c.files.invariant.so_far (omega (arith, c.files-test.false, length-map c.args.files.now input_path)) c.requires.rising)
 
