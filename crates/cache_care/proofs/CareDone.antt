@@ -1,6 +1,6 @@
 -- What a repair and a trim did, by what their steps did.
-use Rattle.std.proofs.Common.{◌≡◌, ℕ, ◌+◌, List, [], ◌∷◌, ◌++◌, codes, filter, length, map, not, Option, Some, refl, sym, ap, ◌∙◌, subst, inl, inr}
-use Rattle.std.specs.Prelude.{IsSome, string_bytes}
+use Rattle.std.proofs.Common.{◌≡◌, ℕ, ◌+◌, List, [], ◌∷◌, ◌++◌, codes, filter, length, map, not, Option, Some, Result, Ok, Err, refl, sym, ap, ◌∙◌, subst, inl, inr}
+use Rattle.std.specs.Prelude.{IsSome, OnErr, string_bytes}
 use Rattle.std.specs.FinMap.{keys}
 use Rattle.std.specs.List.{AllByRecursion}
 use Rattle.std.proofs.lemmas.List.{append_assoc, length-map, map-append}
@@ -21,6 +21,12 @@ use Rattle.cache_care.specs.declared.planning.CareCount.{CareCount}
 use Rattle.cache_care.specs.declared.planning.Planned.{Planned}
 use Rattle.cache_care.proofs.Dropping.{all_drops, drops_both}
 use Rattle.cache_care.proofs.Plans.{keeps_prefix, none_prefix, only_drops, whole_prefix}
+
+-- ## As calls answer
+
+pub on_err : {X E : Type 0} (r : Result X E) (P : Type 0) → P → OnErr r P
+on_err (Ok x) P p = tt
+on_err (Err e) P p = p
 
 -- ## What is told
 

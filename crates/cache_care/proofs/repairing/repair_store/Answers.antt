@@ -2,20 +2,25 @@ use Rattle.std.proofs.Common.{◌≡◌, List, length, map, ap, sym, ◌∙◌, 
 use Rattle.std.specs.Prelude.{vec_len}
 use Rattle.cache_care.specs.Counts.{drop_count}
 use Rattle.cache_care.specs.Planning.{planned_change}
+use Rattle.cache_care.specs.Repairing.{DoesRepairInPart}
 use Rattle.cache_care.specs.declared.planning.Planned.{Planned}
-use Rattle.cache_care.proofs.CareDone.{counted_made, nothing_dropped, repair_cut, repair_done, repair_drops}
+use Rattle.cache_care.proofs.CareDone.{counted_made, nothing_dropped, on_err, repair_cut, repair_done, repair_drops}
 use Rattle.cache_care.proofs.Plans.{whole_prefix}
 use Rattle.cache_care.proofs.repairing.repair_store.Goals as goal
 
 pub returns-in_err-survey-clause-cut : goal.returns-in_err-survey-clause-cut
-returns-in_err-survey-clause-cut g c S was tells = inl c.in_err-survey.ensures.known
+returns-in_err-survey-clause-cut g c S was tells =
+    on_err c.from_residual.result (DoesRepairInPart S (g.K.Keeper.known c.args.keeper.now) (g.K.Keeper.known c.survey_store.new.keeper))
+    (inl c.in_err-survey.ensures.known)
 
 pub returns-in_err-survey-clause-drops : goal.returns-in_err-survey-clause-drops
 returns-in_err-survey-clause-drops g c =
     nothing_dropped (g.K.Keeper.known c.args.keeper.now) (g.K.Keeper.known c.survey_store.new.keeper) c.in_err-survey.ensures.known
 
 pub returns-in_err-plan-clause-cut : goal.returns-in_err-plan-clause-cut
-returns-in_err-plan-clause-cut g c S was tells = inl c.in_ok-survey.ensures.known
+returns-in_err-plan-clause-cut g c S was tells =
+    on_err c.from_residual-in_err-plan.result (DoesRepairInPart S (g.K.Keeper.known c.args.keeper.now) (g.K.Keeper.known c.survey_store.new.keeper))
+    (inl c.in_ok-survey.ensures.known)
 
 pub returns-in_err-plan-clause-drops : goal.returns-in_err-plan-clause-drops
 returns-in_err-plan-clause-drops g c =
@@ -23,9 +28,11 @@ returns-in_err-plan-clause-drops g c =
 
 pub returns-in_err-apply_all-clause-cut : goal.returns-in_err-apply_all-clause-cut
 returns-in_err-apply_all-clause-cut g c S was tells =
-    repair_cut S (g.K.Keeper.known c.args.keeper.now) (g.K.Keeper.known c.survey_store.new.keeper) (g.K.Keeper.known c.apply_all.new.keeper) c.in_ok-survey.survey
+    on_err c.from_residual-in_err-apply_all.result
+    (DoesRepairInPart S (g.K.Keeper.known c.args.keeper.now) (g.K.Keeper.known c.apply_all.new.keeper))
+    (repair_cut S (g.K.Keeper.known c.args.keeper.now) (g.K.Keeper.known c.survey_store.new.keeper) (g.K.Keeper.known c.apply_all.new.keeper) c.in_ok-survey.survey
     c.as_slice.result.now c.in_ok-survey.ensures.known c.in_err-apply_all.ensures.cut was tells c.in_ok-survey.ensures.survey
-    (ap (map planned_change) c.as_slice.ensures.value ∙ c.in_ok-plan.ensures.plan)
+    (ap (map planned_change) c.as_slice.ensures.value ∙ c.in_ok-plan.ensures.plan))
 
 pub returns-in_err-apply_all-clause-drops : goal.returns-in_err-apply_all-clause-drops
 returns-in_err-apply_all-clause-drops g c =

@@ -6,13 +6,14 @@ use Rattle.cache_care.specs.Counts.{drop_count}
 use Rattle.cache_care.specs.Planning.{planned_change}
 use Rattle.cache_care.specs.Trimming.{IsTrim, trims}
 use Rattle.cache_care.specs.declared.planning.Planned.{Planned}
-use Rattle.cache_care.proofs.CareDone.{counted_made, trim_cut, trim_done}
+use Rattle.cache_care.proofs.CareDone.{counted_made, on_err, trim_cut, trim_done}
 use Rattle.cache_care.proofs.Plans.{in_plan, keeps_prefix, none_prefix, only_trims, whole_prefix}
 use Rattle.cache_care.proofs.trimming.trim_store.Goals as goal
 
 pub returns-in_err-names-clause-cut : goal.returns-in_err-names-clause-cut
 returns-in_err-names-clause-cut g c S was tells =
-    none_prefix (g.K.Keeper.known c.args.keeper.now) (g.K.Keeper.known c.names_of.new.keeper) (trims S c.args.keep) c.in_err-names.ensures.known
+    on_err c.from_residual.result (MakesPrefix (g.K.Keeper.known c.args.keeper.now) (g.K.Keeper.known c.names_of.new.keeper) (trims S c.args.keep))
+    (none_prefix (g.K.Keeper.known c.args.keeper.now) (g.K.Keeper.known c.names_of.new.keeper) (trims S c.args.keep) c.in_err-names.ensures.known)
 
 pub returns-in_err-names-clause-trims : goal.returns-in_err-names-clause-trims
 returns-in_err-names-clause-trims g c =
@@ -21,9 +22,10 @@ returns-in_err-names-clause-trims g c =
 
 pub returns-in_err-plan-clause-cut : goal.returns-in_err-plan-clause-cut
 returns-in_err-plan-clause-cut g c S was tells =
-    none_prefix (g.K.Keeper.known c.args.keeper.now) (g.K.Keeper.known c.plan.new.keeper) (trims S c.args.keep)
+    on_err c.from_residual-in_err-plan.result (MakesPrefix (g.K.Keeper.known c.args.keeper.now) (g.K.Keeper.known c.plan.new.keeper) (trims S c.args.keep))
+    (none_prefix (g.K.Keeper.known c.args.keeper.now) (g.K.Keeper.known c.plan.new.keeper) (trims S c.args.keep)
     (keeps_on (g.K.Keeper.known c.args.keeper.now) (g.K.Keeper.known c.names_of.new.keeper) (g.K.Keeper.known c.plan.new.keeper) c.in_ok-names.ensures.known
-    c.in_err-plan.ensures.known)
+    c.in_err-plan.ensures.known))
 
 pub returns-in_err-plan-clause-trims : goal.returns-in_err-plan-clause-trims
 returns-in_err-plan-clause-trims g c =
@@ -34,10 +36,12 @@ returns-in_err-plan-clause-trims g c =
 
 pub returns-in_err-apply_all-clause-cut : goal.returns-in_err-apply_all-clause-cut
 returns-in_err-apply_all-clause-cut g c S was tells =
-    trim_cut string_bytes S c.args.keep (g.K.Keeper.known c.args.keeper.now) (g.K.Keeper.known c.names_of.new.keeper) (g.K.Keeper.known c.plan.new.keeper)
+    on_err c.from_residual-in_err-apply_all.result
+    (MakesPrefix (g.K.Keeper.known c.args.keeper.now) (g.K.Keeper.known c.apply_all.new.keeper) (trims S c.args.keep))
+    (trim_cut string_bytes S c.args.keep (g.K.Keeper.known c.args.keeper.now) (g.K.Keeper.known c.names_of.new.keeper) (g.K.Keeper.known c.plan.new.keeper)
     (g.K.Keeper.known c.apply_all.new.keeper) c.as_slice.result.now c.as_slice-2.result.now c.in_ok-names.ensures.known c.in_ok-plan.ensures.known
     c.in_err-apply_all.ensures.cut was tells (λ T told. ap (map string_bytes) c.as_slice.ensures.value ∙ c.in_ok-names.ensures.listed T told)
-    (λ T told listed. ap (map planned_change) c.as_slice-2.ensures.value ∙ c.in_ok-plan.ensures.plan T told listed)
+    (λ T told listed. ap (map planned_change) c.as_slice-2.ensures.value ∙ c.in_ok-plan.ensures.plan T told listed))
 
 pub returns-in_err-apply_all-clause-trims : goal.returns-in_err-apply_all-clause-trims
 returns-in_err-apply_all-clause-trims g c =
