@@ -7,6 +7,7 @@ mod OutputsAreTrees
 mod RulesKept
 mod FairPlans
 mod StoresLeft
+mod LivesHonest
 mod BuildsAreShown
 mod ExpectedIsWritten
 mod ResponsesAreExpected

@@ -85,7 +85,7 @@ pub record OfRepair (status : Status) (notes : Written) (store : StoreChange) : 
   -- over a store of which no answer disagreed with what it told, it was repaired, and its names are counted in the notes,
   pub repairs : (S : Holdings) → held_in store.before ≡ Some S → IsSome (held_in store.now) → status ≡ statuses.Done
       → (count : CareCount) × DoesRepair S store.before store.now count × AppendsNoted (count_text count) notes
-  -- or, with another status, nothing was changed, or the changes of a repair were made up to some place;
+  -- and with any status nothing was changed, or the changes of a repair were made up to some place;
   pub in_part : (S : Holdings) → held_in store.before ≡ Some S → IsSome (held_in store.now)
       → DoesRepairInPart S store.before store.now
   -- what is left is the repaired store, and honest;
@@ -105,7 +105,7 @@ pub record OfTrim (keep : ℕ) (status : Status) (notes : Written) (store : Stor
   -- over a store of which no answer disagreed with what it told, it was trimmed, and its names are counted in the notes,
   pub trims : (S : Holdings) → held_in store.before ≡ Some S → IsSome (held_in store.now) → status ≡ statuses.Done
       → (count : CareCount) × DoesTrim S keep store.before store.now count × AppendsNoted (count_text count) notes
-  -- or, with another status, the changes of a trim were made up to some place;
+  -- and with any status the changes of a trim were made up to some place;
   pub in_part : (S : Holdings) → held_in store.before ≡ Some S → IsSome (held_in store.now)
       → MakesPrefix store.before store.now (trims S keep)
   -- what is left is the trimmed store;

@@ -1,7 +1,7 @@
 -- The life of a store: the calls that it goes through, one after another.
-use Rattle.std.specs.Prelude.{◌≡◌, ℕ, List, [], ◌∷◌, Some}
+use Rattle.std.specs.Prelude.{◌≡◌, ◌⊎◌, ℕ, List, [], ◌∷◌, Some}
 use Rattle.bx_tree.specs.Trees.{Files}
-use Rattle.bx_io.specs.Holdings.{Change, Holdings, IsPrefix, StoreTold, holdings_after}
+use Rattle.bx_io.specs.Holdings.{Change, Holdings, IsPrefix, Makes, StoreTold, held_in, holdings_after}
 use Rattle.pip_model_types.specs.declared.pip.Pip.{Pip}
 use Rattle.run_record.specs.Collisions.{NoCollision}
 use Rattle.run_record.specs.Facts.{Facts}
@@ -19,24 +19,26 @@ pub data Deed : Type 0 where
   Trimmed : (keep : ℕ) → Deed
   Repaired : Deed
 
--- a store that tells that it holds this, before its first change
-abbrev pub told_at_first : Holdings → StoreTold
-told_at_first S = record { held = Some S; changes = [] }
+-- A build of these pips over a store that holds this makes these changes, all or those up to any place at which it stops:
+-- it saves records of processes that succeed, without a hash collision among the contents compared.
+pub record DoesBuild (S : Holdings) (pips : List Pip) (tree : Files) (budget : ℕ) (made : List Change) : Type 0 where
+  pub apart : NoCollision (Compared pips tree budget S)
+  pub records : List Facts
+  pub high : ℕ
+  pub between : Between pips tree budget 0 high records
+  pub before : StoreTold
+  pub now : StoreTold
+  pub was : held_in before ≡ Some S
+  pub is : held_in now ≡ Some (holdings_after S made)
+  pub makes : Makes before made now
+  pub puts : PutsFirst before records now
 
--- that store after these changes
-abbrev pub told_after : Holdings → List Change → StoreTold
-told_after S made = record { held = Some (holdings_after S made); changes = made }
-
--- A call over a store that holds this makes these changes, all or those up to any place at which it stops: a build saves
--- records of processes that succeed, without a hash collision among the contents compared; a trim and a repair make theirs in
--- their order.
+-- A call over a store that holds this makes these changes, all or those up to any place at which it stops: a build saves; a
+-- trim makes its changes in their order; and a repair makes its own so, or changes nothing.
 abbrev pub Does : Holdings → Deed → List Change → Type 0
-Does S (Built pips tree budget) made =
-    NoCollision (Compared pips tree budget S)
-    × ((fs : List Facts) × (high : ℕ) × Between pips tree budget 0 high fs
-    × PutsFirst (told_at_first S) fs (told_after S made))
+Does S (Built pips tree budget) made = DoesBuild S pips tree budget made
 Does S (Trimmed keep) made = IsPrefix made (trims S keep)
-Does S Repaired made = (changes : List Change) × AreRepairs S changes × IsPrefix made changes
+Does S Repaired made = (made ≡ []) ⊎ ((changes : List Change) × AreRepairs S changes × IsPrefix made changes)
 
 -- The first store comes to the second by these calls, each of them stopped after any of its changes.
 abbrev pub Comes : Holdings → List Deed → Holdings → Type 0

@@ -21,7 +21,7 @@ IsWhole status =
     (status ≡ statuses.Done) ⊎ (status ≡ statuses.FailuresFound) ⊎ (status ≡ statuses.InputRefused)
     ⊎ (status ≡ statuses.SpecificationRefused)
 
--- all pips of a build were gone through
+-- all pips of a build, or all names of a check, were gone through
 abbrev pub IsGone : Status → Type 0
 IsGone status = (status ≡ statuses.Done) ⊎ (status ≡ statuses.FailuresFound)
 

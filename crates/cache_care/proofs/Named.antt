@@ -32,7 +32,7 @@ use Rattle.cache_care.specs.Naming.{content_at, entry_at, in_entry, in_line, in_
 
 -- ## What is held
 
-content_is : (S : Holdings) (digest text : List ℕ) → IsContent S digest text → content_at S digest ≡ Some text
+pub content_is : (S : Holdings) (digest text : List ℕ) → IsContent S digest text → content_at S digest ≡ Some text
 content_is S digest text h =
     ap (λ (o : Option (List ℕ)). o >>= λ (bytes : List ℕ). cond (bytes_eq (sha256 bytes) digest) (Some bytes) None)
     (subst (λ (d : List ℕ). get S (at_blob d) ≡ Some text) h.digest_is h.held)

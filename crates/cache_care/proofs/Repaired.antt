@@ -21,7 +21,7 @@ use Rattle.cache_care.proofs.Dropping.{after_others, all_drops, drop_of, drops_b
 
 -- ## Names of a finding
 
-same_is : (a b : Finding) → same_finding a b ≡ true → a ≡ b
+pub same_is : (a b : Finding) → same_finding a b ≡ true → a ≡ b
 same_is findings.Damaged findings.Damaged e = refl
 same_is findings.Damaged findings.Bad e = absurd cc
 same_is findings.Damaged findings.Honest e = absurd cc
@@ -59,7 +59,7 @@ found_is S wanted (n ∷ names) (f ∷ found) are name h =
 
 -- a name of which a finding was made is among those of it
 pub is_found : (S : Holdings) (names : List (List ℕ)) (found : List Finding) → AreFindings S names found → (name : List ℕ)
-    → Has names name → (f : Finding) × (IsFinding S name f × Has (names_found f names found) name)
+    → Has names name → (f : Finding) × IsFinding S name f × Has (names_found f names found) name
 is_found S [] found are name h = absurd h
 is_found S (n ∷ names) [] are name h = absurd are
 is_found S (n ∷ names) (f ∷ found) are name h = elim h [

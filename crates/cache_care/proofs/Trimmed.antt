@@ -26,7 +26,7 @@ use Rattle.two_phase_meaning.proofs.Puts.{Grows, same_name, still_honest, there_
 use Rattle.cache_care_check.proofs.Told.{held_name}
 use Rattle.cache_care.specs.Naming.{named_at, named_at_entry, named_by}
 use Rattle.cache_care.specs.Trimmed.{IsTrimmed}
-use Rattle.cache_care.specs.Trimming.{blob_names, cut_to, entry_names, is_named, is_selected, list_change, list_changes, list_names, named_digests, trims}
+use Rattle.cache_care.specs.Trimming.{blob_names, cut_to, entry_names, is_named, is_selected, list_change, list_changes, list_names, named_digests, read_at, trims}
 use Rattle.cache_care.proofs.Dropping.{PutsNone, after_other, after_others, drop_of, dropped_after, has_in_whole, name_itself, none_after, there_before}
 use Rattle.cache_care.proofs.Named.{entry_is, named_honest}
 
@@ -82,13 +82,13 @@ apart a b q differ h k =
     let is = begins_is a q h in
     never_both (begins b q) k (ap (begins b) is.1 ∙ differ is.0)
 
-entry_or_list : (q : List ℕ) → begins (codes "e/") q ≡ true → begins (codes "w/") q ≡ true → ⊥
+pub entry_or_list : (q : List ℕ) → begins (codes "e/") q ≡ true → begins (codes "w/") q ≡ true → ⊥
 entry_or_list q = apart (codes "e/") (codes "w/") q (λ rest. refl)
 
-entry_or_blob : (q : List ℕ) → begins (codes "e/") q ≡ true → begins (codes "b/") q ≡ true → ⊥
+pub entry_or_blob : (q : List ℕ) → begins (codes "e/") q ≡ true → begins (codes "b/") q ≡ true → ⊥
 entry_or_blob q = apart (codes "e/") (codes "b/") q (λ rest. refl)
 
-list_or_blob : (q : List ℕ) → begins (codes "w/") q ≡ true → begins (codes "b/") q ≡ true → ⊥
+pub list_or_blob : (q : List ℕ) → begins (codes "w/") q ≡ true → begins (codes "b/") q ≡ true → ⊥
 list_or_blob q = apart (codes "w/") (codes "b/") q (λ rest. refl)
 
 is_entry_name : (digest : List ℕ) → begins (codes "e/") (at_entry digest) ≡ true
@@ -111,14 +111,10 @@ change_name : (keep : ℕ) (name : List ℕ) (o : Option (List Selector)) (c : C
 change_name keep name None c h = elim h [ inl e ↦ ap name_of e | inr k ↦ absurd k ]
 change_name keep name (Some list) c h = cut_name keep name list (take keep list) c h
 
-take_none : (n : ℕ) (list : List Selector) → list ≡ [] → take n list ≡ []
+pub take_none : (n : ℕ) (list : List Selector) → list ≡ [] → take n list ≡ []
 take_none zero list e = refl
 take_none (suc n) [] e = refl
 take_none (suc n) (s ∷ rest) e = absurd cc
-
--- what is read under a name
-abbrev read_at : Holdings → List ℕ → Option (List Selector)
-read_at S name = get S name >>= read_selectors_text
 
 -- ## Changes of a trim
 
@@ -428,6 +424,20 @@ module _ (S : Holdings) (keep : ℕ) where
       by_held None e = absurd (some (sym is_left ∙ ap (take keep) (ap selectors_in e) ∙ take_none keep [] refl))
       by_held (Some bytes) e = by_read bytes e (read_selectors_text bytes) refl
 
+  -- a name of no kind is of no change
+  other_stays : (name : List ℕ) → begins (codes "e/") name ≡ false → begins (codes "w/") name ≡ false → begins (codes "b/") name ≡ false
+      → get left name ≡ get S name
+  other_stays name e w b = stays name none
+    where
+      none : (c : Change) → IsTrimChange S keep c → name ≡ name_of c → ⊥
+      none c is same = elim is [
+        | inl x ↦ never_both (begins (codes "e/") name) (ap (begins (codes "e/")) same ∙ x.kind) e
+        | inr more ↦ elim more [
+          | inl x ↦ never_both (begins (codes "w/") name) (ap (begins (codes "w/")) same ∙ x.kind) w
+          | inr x ↦ never_both (begins (codes "b/") name) (ap (begins (codes "b/")) same ∙ x.kind) b
+        ]
+      ]
+
   pub trimmed : IsTrimmed S keep (holdings_after S (trims S keep))
   trimmed = record {
     entries_stay = λ name kind selected. stays name (λ c is same. not_selected S keep name kind selected c is same);
@@ -436,6 +446,7 @@ module _ (S : Holdings) (keep : ℕ) where
     lists_go = list_goes;
     contents_stay = λ name kind named. stays name (λ c is same. not_named S keep name kind named c is same);
     contents_go = content_goes;
+    others = other_stays;
   }
 
 -- ## Honest after each change
@@ -493,6 +504,7 @@ module _ (S : Holdings) (keep : ℕ) (made : List Change) (p : IsPrefix made (tr
   -- after all entries are dropped that are not selected, those that are held are selected
   selected : (rest : List Change) → made ≡ first ++ rest → (e : Entry) → HoldsEntry now e
       → is_selected S keep (at_entry e.strong) ≡ true
+  unfolding before
   selected rest is e h = by_test (is_selected S keep (at_entry e.strong)) refl
     where
       gone : is_selected S keep (at_entry e.strong) ≡ false → get now (at_entry e.strong) ≡ None

@@ -23,6 +23,14 @@ use Rattle.memo_format.specs.declared.entry.OutputLine.{OutputLine}
 abbrev pub content_at : Holdings → List ℕ → Option (List ℕ)
 content_at S digest = get S (at_blob digest) >>= λ bytes. if bytes_eq (sha256 bytes) digest then Some bytes else None
 
+-- what the weak text of a digest says, if one is held
+abbrev pub weak_at : Holdings → List ℕ → Option WeakParts
+weak_at S digest = content_at S digest >>= read_weak_text
+
+-- what the strong text of a digest says, if one is held
+abbrev pub strong_at : Holdings → List ℕ → Option StrongParts
+strong_at S digest = content_at S digest >>= read_strong_text
+
 -- the entry that a name says, if it is held there
 abbrev pub entry_at : Holdings → List ℕ → Option Entry
 entry_at S name =
@@ -55,9 +63,7 @@ in_strong (Some s) = s.weak ∷ s.paths ∷ flat_map in_line s.lines
 
 -- by an entry and by its weak and its strong text, where these are held
 abbrev pub named_by : Holdings → Entry → List (List ℕ)
-named_by S e =
-    in_entry e
-    ++ (in_weak (content_at S e.weak >>= read_weak_text) ++ in_strong (content_at S e.strong >>= read_strong_text))
+named_by S e = in_entry e ++ (in_weak (weak_at S e.weak) ++ in_strong (strong_at S e.strong))
 
 -- by a name of an entry: one that is not well-formed names nothing
 abbrev pub named_at_entry : Holdings → Option Entry → List (List ℕ)

@@ -10,7 +10,7 @@ use Rattle.two_phase_meaning.specs.Saving.{selectors_in}
 use Rattle.cache_care.specs.Trimming.{is_named, is_selected}
 
 -- The second is what the first store has left after a trim: of each well-formed list its first selectors, and no
--- list without selectors; the entries that these name; and the contents that these name.
+-- list without selectors; the entries that these name; the contents that these name; and what is of no kind.
 pub record IsTrimmed (S : Holdings) (keep : ℕ) (T : Holdings) : Type 0 where
   pub entries_stay : (name : List ℕ) → begins (codes "e/") name ≡ true → is_selected S keep name ≡ true
       → get T name ≡ get S name
@@ -24,3 +24,5 @@ pub record IsTrimmed (S : Holdings) (keep : ℕ) (T : Holdings) : Type 0 where
       → get T name ≡ get S name
   pub contents_go : (name : List ℕ) → begins (codes "b/") name ≡ true → is_named S keep name ≡ false
       → get T name ≡ None
+  pub others : (name : List ℕ) → begins (codes "e/") name ≡ false → begins (codes "w/") name ≡ false
+      → begins (codes "b/") name ≡ false → get T name ≡ get S name

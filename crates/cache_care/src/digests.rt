@@ -1,6 +1,7 @@
 //! Sets of digests.
 ghost use Rattle.std.specs.Prelude.{◌≡◌, ◌||◌, ℕ, List, OnOk, false};
 ghost use Rattle.std.specs.Str.{bytes_eq};
+ghost use Rattle.bx_digest.specs.Digests.{IsDigest};
 ghost use Rattle.cache_care.specs.Digests.{has_digest};
 
 use bx_digest::Digest;
@@ -25,7 +26,8 @@ impl DigestSet {
 
     /// Whether the set has a digest.
     pub(crate) fn has(&self, digest: &Digest) -> bool
-        ensures { result ≡ has_digest self.now digest.now }
+        ensures has { result ≡ has_digest self.now digest.now }
+        ensures is_digest { IsDigest digest.now }
     {
         self.digests.get(digest.bytes()).is_some()
     }

@@ -5,7 +5,7 @@ ghost use Rattle.memo_format.specs.Entries.{IsEntry};
 ghost use Rattle.two_phase.specs.Calls.{KeeperCall};
 ghost use Rattle.cache_care_check.specs.Known.{AreRight};
 ghost use Rattle.cache_care.specs.Digests.{AddsAll};
-ghost use Rattle.cache_care.specs.Naming.{in_entry, in_line, in_strong, in_weak, named_by};
+ghost use Rattle.cache_care.specs.Naming.{in_entry, in_line, in_strong, in_weak, named_by, strong_at, weak_at};
 
 use crate::digests::DigestSet;
 use bx_digest::Digest;
@@ -78,6 +78,50 @@ fn add_strong(alloc: Global, named: &mut DigestSet, parts: &StrongParts) -> Resu
     Ok(())
 }
 
+// Adds the digests that the weak text of a digest names, where it is held.
+fn add_weak_of<K: Keeper>(
+    alloc: Global,
+    keeper: &mut K,
+    contents: &mut KnownContents,
+    named: &mut DigestSet,
+    digest: &Digest,
+) -> Result<(), CareFault>
+    requires { AreRight (held_in (K.known keeper.old)) contents.old }
+    ensures added { (S : Holdings) → held_in (K.known keeper.new) ≡ Some S →
+        OnOk result (AddsAll named.old named.new (in_weak (weak_at S digest.now))) }
+    ensures right { AreRight (held_in (K.known keeper.new)) contents.new }
+    ensures known { Keeps (K.known keeper.old) (K.known keeper.new) }
+    ensures keeper { KeeperCall (K.bound keeper.old) (K.bound keeper.new) (K.faults keeper.old)
+        (K.faults keeper.new) (result ≡ Err CareFault.Failed) }
+{
+    match weak_of(alloc, keeper, contents, digest)? {
+        Some(parts) => Ok(add_weak(alloc, named, &parts)?),
+        None => Ok(()),
+    }
+}
+
+// Adds the digests that the strong text of a digest names, where it is held.
+fn add_strong_of<K: Keeper>(
+    alloc: Global,
+    keeper: &mut K,
+    contents: &mut KnownContents,
+    named: &mut DigestSet,
+    digest: &Digest,
+) -> Result<(), CareFault>
+    requires { AreRight (held_in (K.known keeper.old)) contents.old }
+    ensures added { (S : Holdings) → held_in (K.known keeper.new) ≡ Some S →
+        OnOk result (AddsAll named.old named.new (in_strong (strong_at S digest.now))) }
+    ensures right { AreRight (held_in (K.known keeper.new)) contents.new }
+    ensures known { Keeps (K.known keeper.old) (K.known keeper.new) }
+    ensures keeper { KeeperCall (K.bound keeper.old) (K.bound keeper.new) (K.faults keeper.old)
+        (K.faults keeper.new) (result ≡ Err CareFault.Failed) }
+{
+    match strong_of(alloc, keeper, contents, digest)? {
+        Some(parts) => Ok(add_strong(alloc, named, &parts)?),
+        None => Ok(()),
+    }
+}
+
 /// Adds the digests that an entry names, and that its weak and its strong text name, where these are held.
 pub(crate) fn add_named<K: Keeper>(
     alloc: Global,
@@ -96,11 +140,6 @@ pub(crate) fn add_named<K: Keeper>(
         (K.faults keeper.new) (result ≡ Err CareFault.Failed) }
 {
     add_entry(alloc, named, entry)?;
-    if let Some(parts) = weak_of(alloc, keeper, contents, &entry.weak)? {
-        add_weak(alloc, named, &parts)?;
-    }
-    if let Some(parts) = strong_of(alloc, keeper, contents, &entry.strong)? {
-        add_strong(alloc, named, &parts)?;
-    }
-    Ok(())
+    add_weak_of(alloc, keeper, contents, named, &entry.weak)?;
+    add_strong_of(alloc, keeper, contents, named, &entry.strong)
 }

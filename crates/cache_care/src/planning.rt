@@ -1,9 +1,9 @@
 //! Changes of a store that are planned, made and counted.
-ghost use Rattle.std.specs.Prelude.{◌≡◌, ◌≤◌, [], ◌∷◌, All, Err, OnErr, OnOk, length, map};
+ghost use Rattle.std.specs.Prelude.{◌≡◌, ◌+◌, ◌≤◌, [], ◌∷◌, All, Err, OnErr, OnOk, length, map};
 ghost use Rattle.bx_io.specs.Holdings.{Keeps, Makes, MakesPrefix, name_of};
 ghost use Rattle.bx_io.specs.Names.{IsName};
 ghost use Rattle.two_phase.specs.Calls.{KeeperCall};
-ghost use Rattle.cache_care.specs.Counts.{drop_count as count_of};
+ghost use Rattle.cache_care.specs.Counts.{drop_count as count_of, one_drop};
 ghost use Rattle.cache_care.specs.Planning.{planned_change};
 
 use bx_io::{Keeper, PutFault};
@@ -26,29 +26,17 @@ pub struct CareCount {
     pub dropped: u64,
 }
 
-// What a refused change says.
-fn refused(fault: PutFault) -> CareFault {
-    match fault {
-        PutFault::Failed => CareFault::Failed,
-        PutFault::Memory => CareFault::Memory,
-    }
-}
-
 // Makes a change.
-fn apply<K: Keeper>(alloc: Global, keeper: &mut K, planned: &Planned) -> Result<(), CareFault>
+fn apply<K: Keeper>(alloc: Global, keeper: &mut K, planned: &Planned) -> Result<(), PutFault>
     requires { IsName (name_of (planned_change planned.now)) }
     ensures made { OnOk result (Makes (K.known keeper.old) (planned_change planned.now ∷ []) (K.known keeper.new)) }
     ensures refused { OnErr result (Keeps (K.known keeper.old) (K.known keeper.new)) }
     ensures keeper { KeeperCall (K.bound keeper.old) (K.bound keeper.new) (K.faults keeper.old)
-        (K.faults keeper.new) (result ≡ Err CareFault.Failed) }
+        (K.faults keeper.new) (result ≡ Err PutFault.Failed) }
 {
-    let done = match planned {
+    match planned {
         Planned::Put(name, bytes) => keeper.put(alloc, name.as_str(), bytes.as_slice()),
         Planned::Drop(name) => keeper.drop_name(alloc, name.as_str()),
-    };
-    match done {
-        Ok(()) => Ok(()),
-        Err(fault) => Err(refused(fault)),
     }
 }
 
@@ -65,9 +53,22 @@ pub(crate) fn apply_all<K: Keeper>(
         (K.faults keeper.new) (result ≡ Err CareFault.Failed) }
 {
     'plan: for planned in plan {
-        apply(alloc, keeper, planned)?;
+        match apply(alloc, keeper, planned) {
+            Ok(()) => (),
+            Err(PutFault::Failed) => return Err(CareFault::Failed),
+            Err(PutFault::Memory) => return Err(CareFault::Memory),
+        }
     }
     Ok(())
+}
+
+fn drops(planned: &Planned) -> u64
+    ensures { result ≡ one_drop (planned_change planned.now) }
+{
+    match planned {
+        Planned::Put(_, _) => 0,
+        Planned::Drop(_) => 1,
+    }
 }
 
 // How many names are dropped.
@@ -76,10 +77,7 @@ fn drop_count(plan: &[Planned]) -> u64
 {
     let mut count = 0;
     'plan: for planned in plan {
-        count += match planned {
-            Planned::Put(_, _) => 0,
-            Planned::Drop(_) => 1,
-        };
+        count += drops(planned);
     }
     count
 }

@@ -3,7 +3,7 @@ ghost use Rattle.std.specs.Prelude.{◌≡◌, ◌≤◌, ◌++◌, All, Err, If
 ghost use Rattle.bx_io.specs.Holdings.{Drop, Holdings, held_in, name_of};
 ghost use Rattle.bx_io.specs.Names.{IsName};
 ghost use Rattle.two_phase.specs.Calls.{KeeperCall};
-ghost use Rattle.cache_care.specs.Counts.{drop_count};
+ghost use Rattle.cache_care.specs.Counts.{CountsMade, drop_count};
 ghost use Rattle.cache_care.specs.Planning.{OnlyDrops, planned_change};
 ghost use Rattle.cache_care.specs.Repairing.{DoesRepair, DoesRepairInPart, names_found, repairs as changes_of};
 
@@ -49,6 +49,7 @@ pub fn repair_store<K: Keeper>(alloc: Global, keeper: &mut K) -> Result<CareCoun
         → IfOk result (DoesRepair S (K.known keeper.old) (K.known keeper.new)) }
     ensures cut { (S : Holdings) → held_in (K.known keeper.old) ≡ Some S → IsSome (held_in (K.known keeper.new))
         → OnErr result (DoesRepairInPart S (K.known keeper.old) (K.known keeper.new)) }
+    ensures counted { IfOk result (CountsMade (K.known keeper.old) (K.known keeper.new)) }
     ensures drops { OnlyDrops (K.known keeper.old) (K.known keeper.new) }
     ensures keeper { KeeperCall (K.bound keeper.old) (K.bound keeper.new) (K.faults keeper.old)
         (K.faults keeper.new) (result ≡ Err CareFault.Failed) }

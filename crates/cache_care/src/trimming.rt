@@ -2,24 +2,25 @@
 ghost use Rattle.std.specs.Prelude.{◌≡◌, ◌≤◌, ◌++◌, [], ◌∷◌, ℕ, List, All, Err, IfOk, IsSome, OnErr, OnOk, Some};
 ghost use Rattle.std.specs.Prelude.{codes, filter, if◌then◌else◌, length, map, not, string_bytes, take};
 ghost use Rattle.std.specs.FinMap.{get, keys};
-ghost use Rattle.std.specs.List.{list_any};
+ghost use Rattle.std.specs.List.{AllByRecursion, flat_map, list_any};
 ghost use Rattle.std.specs.Str.{bytes_eq};
-ghost use Rattle.bx_io.specs.Holdings.{Drop, Holdings, Keeps, MakesPrefix, held_in, name_of};
+ghost use Rattle.bx_digest.specs.Digests.{IsDigest};
+ghost use Rattle.bx_io.specs.Holdings.{Drop, Holdings, Keeps, MakesPrefix, Put, held_in, name_of};
 ghost use Rattle.bx_io.specs.Names.{IsName};
 ghost use Rattle.prints.specs.Lines.{begins};
-ghost use Rattle.prints.specs.Reading.{◌>>=◌};
-ghost use Rattle.memo_format.specs.Selectors.{read_selectors_text};
+ghost use Rattle.memo_format.specs.Selectors.{IsSelector, selectors_text};
 ghost use Rattle.memo_format.specs.StoreNames.{at_blob, at_entry};
 ghost use Rattle.memo_format.specs.declared.selector.TheConstants.{MAX_SELECTORS};
 ghost use Rattle.two_phase.specs.Calls.{KeeperCall};
 ghost use Rattle.two_phase_meaning.specs.Saving.{selectors_in};
 ghost use Rattle.cache_care_check.specs.Known.{AreRight};
-ghost use Rattle.cache_care.specs.Counts.{drop_count};
+ghost use Rattle.cache_care.specs.Counts.{CountsMade, drop_count};
 ghost use Rattle.cache_care.specs.Digests.{AddsAll, IsSetOf, has_digest};
 ghost use Rattle.cache_care.specs.Naming.{named_at};
 ghost use Rattle.cache_care.specs.Planning.{planned_change};
-ghost use Rattle.cache_care.specs.Trimming.{IsTrim, OnlyTrims, DoesTrim, entry_names, is_selected, list_change};
-ghost use Rattle.cache_care.specs.Trimming.{list_changes, named_digests, remaining, trims};
+ghost use Rattle.cache_care.specs.Trimming.{AreTrims, DoesTrim, IsListName, IsTrim, OnlyTrims, cut_at, entry_names};
+ghost use Rattle.cache_care.specs.Trimming.{is_selected, left_at, list_change, list_changes, named_digests, read_at};
+ghost use Rattle.cache_care.specs.Trimming.{remaining, trims};
 
 use crate::digests::DigestSet;
 use crate::naming::add_named;
@@ -72,6 +73,26 @@ fn add_selected(
     Ok(())
 }
 
+// Plans to put what is left of a list, if it was cut.
+fn put_cut(
+    alloc: Global,
+    changes: &mut Vec<Planned>,
+    name: &String,
+    list: &[Selector],
+    is_cut: bool,
+) -> Result<(), AllocError>
+    requires { length list.now ≤ MAX_SELECTORS }
+    ensures { OnOk result (map planned_change changes.new.items ≡ map planned_change changes.old.items
+        ++ (if is_cut then Put (string_bytes name.now) (selectors_text list.now) ∷ [] else [])) }
+{
+    if !is_cut {
+        return Ok(());
+    }
+    let text = write_selectors(alloc, list)?;
+    changes.push(Planned::Put(name.clone()?, text))?;
+    Ok(())
+}
+
 // What becomes of a well-formed list: its first selectors stay.
 fn cut_list(
     alloc: Global,
@@ -80,11 +101,15 @@ fn cut_list(
     list: Vec<Selector>,
     keep: usize,
 ) -> Result<(), AllocError>
-    requires { length list.items ≤ MAX_SELECTORS }
+    requires few { length list.items ≤ MAX_SELECTORS }
+    requires each { AllByRecursion IsSelector list.items }
+    requires name { IsListName (string_bytes name.now) }
     ensures changes { OnOk result (map planned_change trim.new.changes.items ≡ map planned_change trim.old.changes.items
         ++ list_change keep (string_bytes name.now) (Some list.items)) }
     ensures selected { OnOk result (AddsAll trim.old.digests trim.new.digests
         (map (λ s. s.strong) (take keep list.items))) }
+    ensures trims { OnOk result ((names : List (List ℕ)) → AreTrims names (map planned_change trim.old.changes.items)
+        → AreTrims (names ++ string_bytes name.now ∷ []) (map planned_change trim.new.changes.items)) }
 {
     let mut list = list;
     let is_cut = keep < list.len();
@@ -92,10 +117,7 @@ fn cut_list(
     if list.is_empty() {
         return trim.drop_name(name);
     }
-    if is_cut {
-        let text = write_selectors(alloc, list.as_slice())?;
-        trim.changes.push(Planned::Put(name.clone()?, text))?;
-    }
+    put_cut(alloc, &mut trim.changes, name, list.as_slice(), is_cut)?;
     add_selected(alloc, &mut trim.digests, list.as_slice())
 }
 
@@ -107,13 +129,16 @@ fn trim_list<K: Keeper>(
     name: &String,
     keep: usize,
 ) -> Result<(), CareFault>
-    requires { IsName (string_bytes name.now) }
+    requires is_name { IsName (string_bytes name.now) }
+    requires name { IsListName (string_bytes name.now) }
     ensures changes { (S : Holdings) → held_in (K.known keeper.new) ≡ Some S →
         OnOk result (map planned_change trim.new.changes.items ≡ map planned_change trim.old.changes.items
-        ++ list_change keep (string_bytes name.now) (get S (string_bytes name.now) >>= read_selectors_text)) }
+        ++ list_change keep (string_bytes name.now) (read_at S (string_bytes name.now))) }
     ensures selected { (S : Holdings) → held_in (K.known keeper.new) ≡ Some S →
         OnOk result (AddsAll trim.old.digests trim.new.digests
         (map (λ s. s.strong) (take keep (selectors_in (get S (string_bytes name.now)))))) }
+    ensures trims { OnOk result ((names : List (List ℕ)) → AreTrims names (map planned_change trim.old.changes.items)
+        → AreTrims (names ++ string_bytes name.now ∷ []) (map planned_change trim.new.changes.items)) }
     ensures known { Keeps (K.known keeper.old) (K.known keeper.new) }
     ensures keeper { KeeperCall (K.bound keeper.old) (K.bound keeper.new) (K.faults keeper.old)
         (K.faults keeper.new) (result ≡ Err CareFault.Failed) }
@@ -130,6 +155,35 @@ fn trim_list<K: Keeper>(
     }
 }
 
+// What becomes of a name, if it is that of a list.
+fn trim_list_name<K: Keeper>(
+    alloc: Global,
+    keeper: &mut K,
+    trim: &mut Trim,
+    name: &String,
+    keep: usize,
+) -> Result<(), CareFault>
+    requires { IsName (string_bytes name.now) }
+    ensures changes { (S : Holdings) → held_in (K.known keeper.new) ≡ Some S →
+        OnOk result (map planned_change trim.new.changes.items ≡ map planned_change trim.old.changes.items
+        ++ flat_map (cut_at S keep) (filter (begins (codes "w/")) (string_bytes name.now ∷ []))) }
+    ensures selected { (S : Holdings) → held_in (K.known keeper.new) ≡ Some S →
+        OnOk result (AddsAll trim.old.digests trim.new.digests
+        (map (λ s. s.strong) (flat_map (left_at S keep) (filter (begins (codes "w/")) (string_bytes name.now ∷ []))))) }
+    ensures trims { OnOk result ((names : List (List ℕ)) → AreTrims names (map planned_change trim.old.changes.items)
+        → AreTrims (names ++ filter (begins (codes "w/")) (string_bytes name.now ∷ []))
+        (map planned_change trim.new.changes.items)) }
+    ensures known { Keeps (K.known keeper.old) (K.known keeper.new) }
+    ensures keeper { KeeperCall (K.bound keeper.old) (K.bound keeper.new) (K.faults keeper.old)
+        (K.faults keeper.new) (result ≡ Err CareFault.Failed) }
+{
+    match read_name(name.as_str()) {
+        Named::Selectors(_) => trim_list(alloc, keeper, trim, name, keep),
+        Named::Content(_) => Ok(()),
+        Named::Entry(_) => Ok(()),
+    }
+}
+
 // What becomes of all lists.
 fn trim_lists<K: Keeper>(
     alloc: Global,
@@ -142,18 +196,42 @@ fn trim_lists<K: Keeper>(
         IfOk result (λ trim. map planned_change trim.changes.items ≡ list_changes S keep) }
     ensures selected { (S : Holdings) → held_in (K.known keeper.new) ≡ Some S → map string_bytes names.now ≡ keys S →
         IfOk result (λ trim. IsSetOf trim.digests (map (λ s. s.strong) (remaining S keep))) }
+    ensures trims { IfOk result (λ trim. AreTrims (filter (begins (codes "w/")) (map string_bytes names.now))
+        (map planned_change trim.changes.items)) }
     ensures known { Keeps (K.known keeper.old) (K.known keeper.new) }
     ensures keeper { KeeperCall (K.bound keeper.old) (K.bound keeper.new) (K.faults keeper.old)
         (K.faults keeper.new) (result ≡ Err CareFault.Failed) }
 {
     let mut trim = Trim::new(alloc);
     'names: for name in names {
-        match read_name(name.as_str()) {
-            Named::Selectors(_) => trim_list(alloc, keeper, &mut trim, name, keep)?,
-            Named::Content(_) | Named::Entry(_) => (),
-        }
+        trim_list_name(alloc, keeper, &mut trim, name, keep)?;
     }
     Ok(trim)
+}
+
+// Adds the digests that the name of an entry names.
+fn add_named_at<K: Keeper>(
+    alloc: Global,
+    keeper: &mut K,
+    contents: &mut KnownContents,
+    named: &mut DigestSet,
+    name: &String,
+    strong: &Digest,
+) -> Result<(), CareFault>
+    requires right { AreRight (held_in (K.known keeper.old)) contents.old }
+    requires is_name { IsName (string_bytes name.now) }
+    requires name { string_bytes name.now ≡ at_entry strong.now }
+    ensures added { (S : Holdings) → held_in (K.known keeper.new) ≡ Some S → IsDigest strong.now →
+        OnOk result (AddsAll named.old named.new (named_at S (string_bytes name.now))) }
+    ensures right { AreRight (held_in (K.known keeper.new)) contents.new }
+    ensures known { Keeps (K.known keeper.old) (K.known keeper.new) }
+    ensures keeper { KeeperCall (K.bound keeper.old) (K.bound keeper.new) (K.faults keeper.old)
+        (K.faults keeper.new) (result ≡ Err CareFault.Failed) }
+{
+    match held_entry(alloc, keeper, name.as_str(), strong)? {
+        Some(entry) => add_named(alloc, keeper, contents, named, &entry),
+        None => Ok(()),
+    }
 }
 
 // What becomes of an entry: it stays where a selector that stays names it, and then what it names is added.
@@ -175,17 +253,54 @@ fn trim_entry<K: Keeper>(
     ensures named { (S : Holdings) → held_in (K.known keeper.new) ≡ Some S →
         OnOk result (AddsAll trim.old.digests trim.new.digests
         (if has_digest selected.now strong.now then named_at S (string_bytes name.now) else [])) }
+    ensures trims { OnOk result ((names : List (List ℕ)) → AreTrims names (map planned_change trim.old.changes.items)
+        → AreTrims (names ++ string_bytes name.now ∷ []) (map planned_change trim.new.changes.items)) }
+    ensures is_digest { IsDigest strong.now }
     ensures right { AreRight (held_in (K.known keeper.new)) contents.new }
     ensures known { Keeps (K.known keeper.old) (K.known keeper.new) }
     ensures keeper { KeeperCall (K.bound keeper.old) (K.bound keeper.new) (K.faults keeper.old)
         (K.faults keeper.new) (result ≡ Err CareFault.Failed) }
 {
-    if !selected.has(strong) {
-        return Ok(trim.drop_name(name)?);
+    if selected.has(strong) {
+        return add_named_at(alloc, keeper, contents, &mut trim.digests, name, strong);
     }
-    match held_entry(alloc, keeper, name.as_str(), strong)? {
-        Some(entry) => add_named(alloc, keeper, contents, &mut trim.digests, &entry),
-        None => Ok(()),
+    Ok(trim.drop_name(name)?)
+}
+
+// What becomes of a name, if it is that of an entry.
+fn trim_entry_name<K: Keeper>(
+    alloc: Global,
+    keeper: &mut K,
+    contents: &mut KnownContents,
+    trim: &mut Trim,
+    selected: &DigestSet,
+    name: &String,
+) -> Result<(), CareFault>
+    requires right { AreRight (held_in (K.known keeper.old)) contents.old }
+    requires is_name { IsName (string_bytes name.now) }
+    ensures changes { (S : Holdings) (keep : ℕ) → held_in (K.known keeper.new) ≡ Some S
+        → IsSetOf selected.now (map (λ s. s.strong) (remaining S keep))
+        → OnOk result (map planned_change trim.new.changes.items ≡ map planned_change trim.old.changes.items
+        ++ map Drop (filter (λ name. not (is_selected S keep name))
+        (filter (begins (codes "e/")) (string_bytes name.now ∷ [])))) }
+    ensures named { (S : Holdings) (keep : ℕ) → held_in (K.known keeper.new) ≡ Some S
+        → IsSetOf selected.now (map (λ s. s.strong) (remaining S keep))
+        → OnOk result (AddsAll trim.old.digests trim.new.digests
+        (flat_map (named_at S) (filter (is_selected S keep) (filter (begins (codes "e/")) (string_bytes name.now ∷ []))))) }
+    ensures trims { OnOk result ((names : List (List ℕ)) → AreTrims names (map planned_change trim.old.changes.items)
+        → AreTrims (names ++ filter (begins (codes "e/")) (string_bytes name.now ∷ []))
+        (map planned_change trim.new.changes.items)) }
+    ensures right { AreRight (held_in (K.known keeper.new)) contents.new }
+    ensures known { Keeps (K.known keeper.old) (K.known keeper.new) }
+    ensures keeper { KeeperCall (K.bound keeper.old) (K.bound keeper.new) (K.faults keeper.old)
+        (K.faults keeper.new) (result ≡ Err CareFault.Failed) }
+{
+    match read_name(name.as_str()) {
+        Named::Entry(strong) => {
+            trim_entry(alloc, keeper, contents, trim, selected, name, &strong)
+        }
+        Named::Content(_) => Ok(()),
+        Named::Selectors(_) => Ok(()),
     }
 }
 
@@ -195,16 +310,17 @@ fn trim_entries<K: Keeper>(
     keeper: &mut K,
     names: &[String],
     selected: &DigestSet,
-    keep: usize,
 ) -> Result<Trim, CareFault>
-    requires names { All (λ name. IsName (string_bytes name)) names.now }
-    ensures changes { (S : Holdings) → held_in (K.known keeper.new) ≡ Some S → map string_bytes names.now ≡ keys S
-        → IsSetOf selected.now (map (λ s. s.strong) (remaining S keep))
+    requires { All (λ name. IsName (string_bytes name)) names.now }
+    ensures changes { (S : Holdings) (keep : ℕ) → held_in (K.known keeper.new) ≡ Some S
+        → map string_bytes names.now ≡ keys S → IsSetOf selected.now (map (λ s. s.strong) (remaining S keep))
         → IfOk result (λ trim. map planned_change trim.changes.items
         ≡ map Drop (filter (λ name. not (is_selected S keep name)) (entry_names S))) }
-    ensures named { (S : Holdings) → held_in (K.known keeper.new) ≡ Some S → map string_bytes names.now ≡ keys S
-        → IsSetOf selected.now (map (λ s. s.strong) (remaining S keep))
+    ensures named { (S : Holdings) (keep : ℕ) → held_in (K.known keeper.new) ≡ Some S
+        → map string_bytes names.now ≡ keys S → IsSetOf selected.now (map (λ s. s.strong) (remaining S keep))
         → IfOk result (λ trim. IsSetOf trim.digests (named_digests S keep)) }
+    ensures trims { IfOk result (λ trim. AreTrims (filter (begins (codes "e/")) (map string_bytes names.now))
+        (map planned_change trim.changes.items)) }
     ensures known { Keeps (K.known keeper.old) (K.known keeper.new) }
     ensures keeper { KeeperCall (K.bound keeper.old) (K.bound keeper.new) (K.faults keeper.old)
         (K.faults keeper.new) (result ≡ Err CareFault.Failed) }
@@ -212,20 +328,49 @@ fn trim_entries<K: Keeper>(
     let mut contents = KnownContents::new(alloc);
     let mut trim = Trim::new(alloc);
     'names: for name in names {
-        match read_name(name.as_str()) {
-            Named::Entry(strong) => trim_entry(
-                alloc,
-                keeper,
-                &mut contents,
-                &mut trim,
-                selected,
-                name,
-                &strong,
-            )?,
-            Named::Content(_) | Named::Selectors(_) => (),
-        }
+        trim_entry_name(alloc, keeper, &mut contents, &mut trim, selected, name)?;
     }
     Ok(trim)
+}
+
+// Plans to drop a content, unless it is named.
+fn drop_unnamed(
+    plan: &mut Vec<Planned>,
+    name: &String,
+    digest: &Digest,
+    named_digests: &DigestSet,
+) -> Result<(), AllocError>
+    ensures changes { OnOk result (map planned_change plan.new.items ≡ map planned_change plan.old.items
+        ++ (if has_digest named_digests.now digest.now then [] else Drop (string_bytes name.now) ∷ [])) }
+    ensures is_digest { IsDigest digest.now }
+{
+    if named_digests.has(digest) {
+        return Ok(());
+    }
+    plan.push(Planned::Drop(name.clone()?))?;
+    Ok(())
+}
+
+// What becomes of a name, if it is that of a content.
+fn drop_content(
+    plan: &mut Vec<Planned>,
+    name: &String,
+    named_digests: &DigestSet,
+) -> Result<(), AllocError>
+    requires { IsName (string_bytes name.now) }
+    ensures changes { (digests : List (List ℕ)) → IsSetOf named_digests.now digests → AllByRecursion IsDigest digests →
+        OnOk result (map planned_change plan.new.items ≡ map planned_change plan.old.items
+        ++ map Drop (filter (λ name. not (list_any (λ digest. bytes_eq (at_blob digest) name) digests))
+        (filter (begins (codes "b/")) (string_bytes name.now ∷ [])))) }
+    ensures trims { OnOk result ((before : List (List ℕ)) → AreTrims before (map planned_change plan.old.items)
+        → AreTrims (before ++ filter (begins (codes "b/")) (string_bytes name.now ∷ []))
+        (map planned_change plan.new.items)) }
+{
+    match read_name(name.as_str()) {
+        Named::Content(digest) => drop_unnamed(plan, name, &digest, named_digests),
+        Named::Entry(_) => Ok(()),
+        Named::Selectors(_) => Ok(()),
+    }
 }
 
 // Plans to drop each content that is not named.
@@ -235,29 +380,15 @@ fn drop_contents(
     named_digests: &DigestSet,
 ) -> Result<(), AllocError>
     requires { All (λ name. IsName (string_bytes name)) names.now }
-    ensures { (digests : List (List ℕ)) → IsSetOf named_digests.now digests →
+    ensures changes { (digests : List (List ℕ)) → IsSetOf named_digests.now digests → AllByRecursion IsDigest digests →
         OnOk result (map planned_change plan.new.items ≡ map planned_change plan.old.items
         ++ map Drop (filter (λ name. not (list_any (λ digest. bytes_eq (at_blob digest) name) digests))
         (filter (begins (codes "b/")) (map string_bytes names.now)))) }
+    ensures trims { OnOk result ((before : List (List ℕ)) → AreTrims before (map planned_change plan.old.items)
+        → AreTrims (before ++ filter (begins (codes "b/")) (map string_bytes names.now)) (map planned_change plan.new.items)) }
 {
     'names: for name in names {
-        match read_name(name.as_str()) {
-            Named::Content(digest) => {
-                if !named_digests.has(&digest) {
-                    plan.push(Planned::Drop(name.clone()?))?;
-                }
-            }
-            Named::Entry(_) | Named::Selectors(_) => (),
-        }
-    }
-    Ok(())
-}
-
-fn add_all(plan: &mut Vec<Planned>, more: Vec<Planned>) -> Result<(), AllocError>
-    ensures { OnOk result (plan.new.items ≡ plan.old.items ++ more.items) }
-{
-    'more: for planned in more {
-        plan.push(planned)?;
+        drop_content(plan, name, named_digests)?;
     }
     Ok(())
 }
@@ -279,12 +410,11 @@ fn plan<K: Keeper>(
     ensures keeper { KeeperCall (K.bound keeper.old) (K.bound keeper.new) (K.faults keeper.old)
         (K.faults keeper.new) (result ≡ Err CareFault.Failed) }
 {
-    let lists = trim_lists(alloc, keeper, names, keep)?;
-    let entries = trim_entries(alloc, keeper, names, &lists.digests, keep)?;
-    let mut plan = entries.changes;
-    add_all(&mut plan, lists.changes)?;
-    drop_contents(&mut plan, names, &entries.digests)?;
-    Ok(plan)
+    let mut lists = trim_lists(alloc, keeper, names, keep)?;
+    let mut entries = trim_entries(alloc, keeper, names, &lists.digests)?;
+    entries.changes.append(&mut lists.changes)?;
+    drop_contents(&mut entries.changes, names, &entries.digests)?;
+    Ok(entries.changes)
 }
 
 /// Leaves of each well-formed list its first selectors, the entries that these name, and the contents that those name:
@@ -300,6 +430,7 @@ pub fn trim_store<K: Keeper>(
         → IfOk result (DoesTrim S keep (K.known keeper.old) (K.known keeper.new)) }
     ensures cut { (S : Holdings) → held_in (K.known keeper.old) ≡ Some S → IsSome (held_in (K.known keeper.new))
         → OnErr result (MakesPrefix (K.known keeper.old) (K.known keeper.new) (trims S keep)) }
+    ensures counted { IfOk result (CountsMade (K.known keeper.old) (K.known keeper.new)) }
     ensures trims { OnlyTrims (K.known keeper.old) (K.known keeper.new) }
     ensures keeper { KeeperCall (K.bound keeper.old) (K.bound keeper.new) (K.faults keeper.old)
         (K.faults keeper.new) (result ≡ Err CareFault.Failed) }

@@ -5,6 +5,6 @@ mod Noted
 mod FoundTexts
 mod Described
 mod Judged
-mod NameParts
+pub mod NameParts
 mod Surveyed
 mod Listed
