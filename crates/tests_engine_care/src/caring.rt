@@ -1,6 +1,6 @@
 //! Commands over a store, and what they come to.
 
-use bx_io::Keeper;
+use bx_io::{Keeper, Listed};
 use std::alloc::{AllocError, Global};
 use std::sync::Wait;
 use std::thread::Threads;
@@ -28,4 +28,16 @@ pub(crate) fn is_honest<H: Threads + Wait + Sync, K: Keeper>(
     let mut seen = Vec::new(alloc);
     add_command(rt, alloc, &["check"], keeper, &mut seen)?;
     Ok(seen.ends_with(b"status 0"))
+}
+
+/// How many names a store holds, if it tells.
+pub(crate) fn names_in<K: Keeper>(
+    alloc: Global,
+    keeper: &mut K,
+) -> Result<Option<u64>, AllocError> {
+    match keeper.names(alloc) {
+        Listed::Names(names) => Ok(Some(names.len() as u64)),
+        Listed::Failed => Ok(None),
+        Listed::Memory => Err(AllocError),
+    }
 }

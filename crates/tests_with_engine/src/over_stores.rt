@@ -132,6 +132,28 @@ pub fn is_built<H: Threads + Wait + Sync, K: Keeper>(
     }
 }
 
+/// Whether a build with another header gives its files. Its first and third process are not those of the other build.
+pub fn is_rebuilt<H: Threads + Wait + Sync, K: Keeper>(
+    rt: &H,
+    alloc: Global,
+    keeper: &mut K,
+) -> Result<bool, AllocError> {
+    let input = INPUT.replace(alloc, "int h", "int H")?;
+    let output = OUTPUT.replace(alloc, "int h", "int H")?;
+    let mut seen = Vec::new(alloc);
+    let gate = CountGate::new();
+    add_build(
+        rt,
+        alloc,
+        input.as_str(),
+        NO_FAULTS,
+        keeper,
+        &gate,
+        &mut seen,
+    )?;
+    Ok(seen.starts_with(output.as_bytes()))
+}
+
 /// Whether builds over this keeper come to these notes, one after the other.
 pub fn are_built<H: Threads + Wait + Sync, K: Keeper>(
     rt: &H,
