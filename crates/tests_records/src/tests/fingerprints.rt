@@ -4,8 +4,8 @@ use bx_digest::digest_of;
 use bx_tree::Path;
 use observed::{Answer, PathSet};
 use pip_model_types::ProcessDesc;
-use prints::{AnswerLine, StrongParts, WeakParts, read_strong, read_weak, strong};
-use std::alloc::Global;
+use prints::{AnswerLine, PrintFault, StrongParts, WeakParts, read_strong, read_weak, strong};
+use std::alloc::{AllocError, Global};
 use std::test::Fail;
 
 // The weak text of a process with all that a description may have, over the digests of no bytes and of `abc`.
@@ -80,6 +80,73 @@ fn is_full(parts: &WeakParts) -> bool {
 fn a_weak_text_says_this(rt: HostRuntime) -> Result<(), Fail> {
     let parts = read_weak(rt.alloc(), FULL_WEAK.as_bytes())?;
     assert!(rt; is_full(&parts));
+    Ok(())
+}
+
+// A weak text with each form of a line, in which each word is a byte long that may be of any length.
+const SHORT_WEAK: &str = "bxl 1\n\
+exe x e3b0c44298fc1c149afbf4c8996fb92427ae41e4649b934ca495991b7852b855\n\
+cwd .\n\
+budget 0\n\
+console c\n\
+arg 0 \n\
+arg 1 a\n\
+arg 1 \n\n\
+env 1 M 1 f\n\
+env 1 M 0 \n\
+env 1 N 1  \n\
+in a ba7816bf8f01cfea414140de5dae2223b00361a396177a9cb410ff61f20015ad\n\
+in b e3b0c44298fc1c149afbf4c8996fb92427ae41e4649b934ca495991b7852b855\n\
+indir full s\n\
+indir partial s\n\
+indir source-top s\n\
+indir source-all s\n\
+indir opaque s\n\
+out e\n\
+out f\n\
+outdir exclusive g\n\
+outdir shared h\n";
+
+// The same without any list, and without a console file.
+const SHORTEST_WEAK: &str = "bxl 1\n\
+exe x e3b0c44298fc1c149afbf4c8996fb92427ae41e4649b934ca495991b7852b855\n\
+cwd .\n\
+budget 0\n\
+no-console\n";
+
+// The text without the byte at that place.
+fn without(alloc: Global, text: &str, place: usize) -> Result<Vec<u8>, AllocError> {
+    let bytes = text.as_bytes();
+    let mut rest = Vec::new(alloc);
+    for at in 0..bytes.len() {
+        if at != place {
+            rest.push(bytes[at])?;
+        }
+    }
+    Ok(rest)
+}
+
+fn is_bad<T: Drop>(answer: &Result<T, PrintFault>) -> bool {
+    match answer {
+        Err(PrintFault::BadPrint) => true,
+        Err(PrintFault::Memory) | Ok(_) => false,
+    }
+}
+
+// Whether the text is a weak text, and none where a byte is missing.
+fn is_tight(alloc: Global, text: &str) -> Result<bool, AllocError> {
+    for place in 0..text.len() {
+        if !is_bad(&read_weak(alloc, without(alloc, text, place)?.as_slice())) {
+            return Ok(false);
+        }
+    }
+    Ok(read_weak(alloc, text.as_bytes()).is_ok())
+}
+
+#[test]
+fn no_byte_of_a_weak_text_may_be_missing(rt: HostRuntime) -> Result<(), Fail> {
+    assert!(rt; is_tight(rt.alloc(), SHORT_WEAK)?);
+    assert!(rt; is_tight(rt.alloc(), SHORTEST_WEAK)?);
     Ok(())
 }
 
