@@ -188,7 +188,10 @@ fn a_repair_that_stops_can_be_made_again(rt: HostRuntime) {
 
 // A store after a build, damaged, of which this call fails, counted from here on, and no other.
 fn failing_at(rt: &HostRuntime, number: u64) -> MemKeeper {
-    let mut keeper = must(rt, empty_keeper(rt.alloc(), FIRST_CALLS + number));
+    let mut keeper = must(
+        rt,
+        empty_keeper(rt.alloc(), FIRST_CALLS.saturating_add(number)),
+    );
     builds(rt, &mut keeper, ALL_RAN);
     damage(rt, &mut keeper);
     keeper
@@ -198,7 +201,7 @@ fn failing_at(rt: &HostRuntime, number: u64) -> MemKeeper {
 fn fails_after(rt: &HostRuntime, words: &[&str], keeper: &mut MemKeeper, dropped: u64) {
     gives(rt, words, keeper, FAILED);
     let names = must(rt, names_in(rt.alloc(), keeper));
-    assert!(rt; names == Some(21 - dropped.min(21)));
+    assert!(rt; names == Some(21u64.saturating_sub(dropped)));
 }
 
 /// One call of a repair or a trim fails, and none after it would: nothing was changed after it, nor was it tried again.
