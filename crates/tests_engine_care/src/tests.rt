@@ -1,5 +1,5 @@
 use crate::caring::{comes_to, is_honest, names_in};
-use bx_io::{Keeper, MemKeeper, StopKeeper};
+use bx_io::{Keeper, MemKeeper, StopKeeper, is_name};
 use std::alloc::AllocError;
 use std::process::Abort;
 use tests_with_engine::{
@@ -50,6 +50,7 @@ fn left(rt: &HostRuntime, calls: u64, notes: &str) -> MemKeeper {
 // The content that the second process takes and makes, and that the third takes, is damaged.
 fn damage(rt: &HostRuntime, keeper: &mut MemKeeper) {
     let name = "b/76e4f88db35ae88f004a6fb266222f6afb70090466f8524f05cf32d4263d3c1c";
+    assert!(rt; is_name(name.as_bytes()));
     let bytes = must(rt, b"x".to_vec(rt.alloc()));
     must(rt, keeper.set_raw(rt.alloc(), name, bytes));
 }
