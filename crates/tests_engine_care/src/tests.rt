@@ -1,7 +1,10 @@
-use crate::caring::{comes_to, is_honest};
+use crate::caring::{comes_to, count_names, is_honest};
 use bx_io::{MemKeeper, StopKeeper};
 use std::test::Fail;
-use tests_with_engine::{ALL_RAN, CountGate, FIRST_CALLS, empty_keeper, is_built, left_after};
+use tests_with_engine::{
+    ALL_HIT, ALL_RAN, CountGate, FIRST_CALLS, TWO_RAN, empty_keeper, is_built, is_rebuilt,
+    left_after,
+};
 
 /// The content that the second process takes and makes, and where it is held.
 const TAKEN: &str = "b/76e4f88db35ae88f004a6fb266222f6afb70090466f8524f05cf32d4263d3c1c";
@@ -87,6 +90,38 @@ fn a_trim_that_stops_leaves_an_honest_store(rt: HostRuntime) -> Result<(), Fail>
     Ok(())
 }
 
+// A store after two builds, of which the second has another header.
+fn built_twice(rt: &HostRuntime) -> Result<MemKeeper, Fail> {
+    let mut keeper = built(rt)?;
+    if is_rebuilt(rt, rt.alloc(), &mut keeper, TWO_RAN)? {
+        return Ok(keeper);
+    }
+    Err("the second build gives something else".into())
+}
+
+/// How many calls a trim to one selector makes there: a list of names, four lists, four entries with two texts of each, and
+/// four changes.
+const TRIM_CALLS: u64 = 21;
+
+/// A trim to one selector is cut off after each of its calls: the store is honest, and the second build finds all.
+#[test]
+fn a_trim_to_one_selector_can_stop_anywhere(rt: HostRuntime) -> Result<(), Fail> {
+    let alloc = rt.alloc();
+    for calls in 0..=TRIM_CALLS {
+        let mut cut = StopKeeper::new(built_twice(&rt)?, calls);
+        let expected = if calls == TRIM_CALLS {
+            "notes kept 27\ndropped 3\nstatus 0"
+        } else {
+            "notes status 8"
+        };
+        assert!(rt; comes_to(&rt, alloc, &["trim", "--keep", "1"], &mut cut, expected)?);
+        let mut left = cut.into_inner();
+        assert!(rt; is_honest(&rt, alloc, &mut left)?);
+        assert!(rt; is_rebuilt(&rt, alloc, &mut left, ALL_HIT)?);
+    }
+    Ok(())
+}
+
 /// A repair is cut off after each of its calls: each build over what it leaves gives its files, and a repair to its end leaves
 /// an honest store.
 #[test]
@@ -105,6 +140,42 @@ fn a_repair_that_stops_can_be_made_again(rt: HostRuntime) -> Result<(), Fail> {
         let mut left = cut.into_inner();
         assert!(rt; is_built(&rt, alloc, &mut left, &CountGate::new(), "")?);
         assert!(rt; is_honest(&rt, alloc, &mut left)?);
+    }
+    Ok(())
+}
+
+// A store after a build, of which one call fails then.
+fn built_to_fail(rt: &HostRuntime, number: u64) -> Result<MemKeeper, Fail> {
+    let alloc = rt.alloc();
+    let mut keeper = empty_keeper(alloc, FIRST_CALLS.saturating_add(number))?;
+    if is_built(rt, alloc, &mut keeper, &CountGate::new(), ALL_RAN)? {
+        return Ok(keeper);
+    }
+    Err("the first build gives something else".into())
+}
+
+/// Where one call of the store fails, none is made after it: what was dropped are the names of the calls before it.
+#[test]
+fn changes_nothing_after_a_fault(rt: HostRuntime) -> Result<(), Fail> {
+    let alloc = rt.alloc();
+    for number in 1..=25u64 {
+        let mut trimmed = built_to_fail(&rt, number)?;
+        assert!(rt;
+            comes_to(
+                &rt,
+                alloc,
+                &["trim", "--keep", "0"],
+                &mut trimmed,
+                "notes status 8"
+            )?
+        );
+        let left = 21u64.saturating_sub(number.saturating_sub(5));
+        assert!(rt; count_names(alloc, &mut trimmed) == Some(left));
+        let mut repaired = built_to_fail(&rt, number)?;
+        repaired.set_raw(alloc, TAKEN, b"x".to_vec(alloc)?)?;
+        assert!(rt; comes_to(&rt, alloc, &["repair"], &mut repaired, "notes status 8")?);
+        let left = 21u64.saturating_sub(number.saturating_sub(23));
+        assert!(rt; count_names(alloc, &mut repaired) == Some(left));
     }
     Ok(())
 }
