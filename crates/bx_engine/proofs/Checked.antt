@@ -40,7 +40,7 @@ stopped_blames faults.Failed status store b0 b1 A is call to from = record {
   no_fault = λ n. absurd (n is);
 }
 stopped_blames faults.Memory status store b0 b1 A is call to from = record {
-  cause = record { later = call.cause.later; rose = λ s. let e : statuses.OutOfMemory ≡ statuses.KeeperFailed = sym is ∙ s in cc };
+  cause = record { later = call.cause.later; rose = λ s. let e : statuses.OutOfMemory ≡ statuses.KeeperFailed = sym is ∙ s in absurd cc };
   no_fault = λ n. call.no_fault (λ a. memory_no_failure (from a));
 }
 
