@@ -30,14 +30,10 @@ pub(crate) fn is_honest<H: Threads + Wait + Sync, K: Keeper>(
     Ok(seen.ends_with(b"status 0"))
 }
 
-/// How many names a store holds, if it tells.
-pub(crate) fn names_in<K: Keeper>(
-    alloc: Global,
-    keeper: &mut K,
-) -> Result<Option<u64>, AllocError> {
+/// How many names a store holds, if it tells them.
+pub(crate) fn count_names<K: Keeper>(alloc: Global, keeper: &mut K) -> Option<u64> {
     match keeper.names(alloc) {
-        Listed::Names(names) => Ok(Some(names.len() as u64)),
-        Listed::Failed => Ok(None),
-        Listed::Memory => Err(AllocError),
+        Listed::Names(names) => Some(names.len() as u64),
+        Listed::Failed | Listed::Memory => None,
     }
 }

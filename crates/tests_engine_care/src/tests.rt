@@ -1,9 +1,10 @@
-use crate::caring::{comes_to, is_honest, names_in};
+use crate::caring::{comes_to, count_names, is_honest};
 use bx_io::{Keeper, MemKeeper, StopKeeper, is_name};
 use std::alloc::AllocError;
 use std::process::Abort;
 use tests_with_engine::{
-    ALL_RAN, CountGate, FIRST_CALLS, empty_keeper, is_built, is_rebuilt, left_after,
+    ALL_HIT, ALL_RAN, CountGate, FIRST_CALLS, TWO_RAN, empty_keeper, is_built, is_rebuilt,
+    left_after,
 };
 
 // What is there, or else the test ends.
@@ -33,9 +34,9 @@ fn builds<K: Keeper>(rt: &HostRuntime, keeper: &mut K, notes: &str) {
     assert!(rt; is_built);
 }
 
-// The same with another header.
-fn rebuilds<K: Keeper>(rt: &HostRuntime, keeper: &mut K) {
-    let is_rebuilt = must(rt, is_rebuilt(rt, rt.alloc(), keeper));
+// A build with another header comes to these notes.
+fn rebuilds<K: Keeper>(rt: &HostRuntime, keeper: &mut K, notes: &str) {
+    let is_rebuilt = must(rt, is_rebuilt(rt, rt.alloc(), keeper, notes));
     assert!(rt; is_rebuilt);
 }
 
@@ -145,12 +146,12 @@ fn a_trim_to_nothing_that_stops_leaves_an_honest_store(rt: HostRuntime) {
 // drops a strong text and what that alone names.
 const TRIM_CALLS: u64 = 21;
 
-/// A trim to one selector is cut off after each of its calls: the store is honest, and both builds over it give their files.
+/// A trim to one selector is cut off after each of its calls: the store is honest, and the second build finds all.
 #[test]
 fn a_trim_that_stops_leaves_an_honest_store(rt: HostRuntime) {
     for calls in 0..=TRIM_CALLS {
         let mut keeper = left(&rt, FIRST_CALLS, ALL_RAN);
-        rebuilds(&rt, &mut keeper);
+        rebuilds(&rt, &mut keeper, TWO_RAN);
         let mut cut = StopKeeper::new(keeper, calls);
         let whole = "notes kept 27\ndropped 3\nstatus 0";
         gives(
@@ -161,8 +162,7 @@ fn a_trim_that_stops_leaves_an_honest_store(rt: HostRuntime) {
         );
         let mut keeper = cut.into_inner();
         honest(&rt, &mut keeper);
-        rebuilds(&rt, &mut keeper);
-        builds(&rt, &mut keeper, "");
+        rebuilds(&rt, &mut keeper, ALL_HIT);
     }
 }
 
@@ -201,8 +201,7 @@ fn failing_at(rt: &HostRuntime, number: u64) -> MemKeeper {
 // A command fails, and has dropped this many of 21 names.
 fn fails_after(rt: &HostRuntime, words: &[&str], keeper: &mut MemKeeper, dropped: u64) {
     gives(rt, words, keeper, FAILED);
-    let names = must(rt, names_in(rt.alloc(), keeper));
-    assert!(rt; names == Some(21u64.saturating_sub(dropped)));
+    assert!(rt; count_names(rt.alloc(), keeper) == Some(21u64.saturating_sub(dropped)));
 }
 
 /// One call of a repair or a trim fails, and none after it would: nothing was changed after it, nor was it tried again.

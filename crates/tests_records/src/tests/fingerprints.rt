@@ -83,70 +83,63 @@ fn a_weak_text_says_this(rt: HostRuntime) -> Result<(), Fail> {
     Ok(())
 }
 
-// A weak text with each form of a line, in which each word is a byte long that may be of any length.
-const SHORT_WEAK: &str = "bxl 1\n\
-exe x e3b0c44298fc1c149afbf4c8996fb92427ae41e4649b934ca495991b7852b855\n\
-cwd .\n\
-budget 0\n\
+// Each form of a line, where no part of a line can be shorter.
+const EACH_FORM: &str = "bxl 1\n\
+exe t e3b0c44298fc1c149afbf4c8996fb92427ae41e4649b934ca495991b7852b855\n\
+cwd s\n\
+budget 5\n\
 console c\n\
+arg 2 /a\n\
 arg 0 \n\
-arg 1 a\n\
-arg 1 \n\n\
+arg 3 a\nb\n\
 env 1 M 1 f\n\
 env 1 M 0 \n\
-env 1 N 1  \n\
 in a ba7816bf8f01cfea414140de5dae2223b00361a396177a9cb410ff61f20015ad\n\
-in b e3b0c44298fc1c149afbf4c8996fb92427ae41e4649b934ca495991b7852b855\n\
 indir full s\n\
 indir partial s\n\
 indir source-top s\n\
 indir source-all s\n\
 indir opaque s\n\
-out e\n\
-out f\n\
-outdir exclusive g\n\
-outdir shared h\n";
+out o\n\
+outdir exclusive d\n\
+outdir shared s\n";
 
-// The same without any list, and without a console file.
-const SHORTEST_WEAK: &str = "bxl 1\n\
-exe x e3b0c44298fc1c149afbf4c8996fb92427ae41e4649b934ca495991b7852b855\n\
+const NO_CONSOLE: &str = "bxl 1\n\
+exe t e3b0c44298fc1c149afbf4c8996fb92427ae41e4649b934ca495991b7852b855\n\
 cwd .\n\
-budget 0\n\
+budget 5\n\
 no-console\n";
 
-// The text without the byte at that place.
-fn without(alloc: Global, text: &str, place: usize) -> Result<Vec<u8>, AllocError> {
-    let bytes = text.as_bytes();
-    let mut rest = Vec::new(alloc);
-    for at in 0..bytes.len() {
-        if at != place {
-            rest.push(bytes[at])?;
-        }
+fn without(alloc: Global, text: &[u8], place: usize) -> Result<Vec<u8>, AllocError> {
+    let mut rest = Vec::from_slice(alloc, text)?;
+    if place < rest.len() {
+        rest.remove(place);
     }
     Ok(rest)
 }
 
-fn is_bad<T: Drop>(answer: &Result<T, PrintFault>) -> bool {
-    match answer {
-        Err(PrintFault::BadPrint) => true,
-        Err(PrintFault::Memory) | Ok(_) => false,
-    }
+fn is_refused(alloc: Global, text: &[u8]) -> bool {
+    matches!(read_weak(alloc, text), Err(PrintFault::BadPrint))
 }
 
-// Whether the text is a weak text, and none where a byte is missing.
-fn is_tight(alloc: Global, text: &str) -> Result<bool, AllocError> {
+// The first place without whose byte a text is a weak text too, or its length.
+fn first_free(alloc: Global, text: &[u8]) -> Result<usize, AllocError> {
     for place in 0..text.len() {
-        if !is_bad(&read_weak(alloc, without(alloc, text, place)?.as_slice())) {
-            return Ok(false);
+        let rest = without(alloc, text, place)?;
+        if !is_refused(alloc, rest.as_slice()) {
+            return Ok(place);
         }
     }
-    Ok(read_weak(alloc, text.as_bytes()).is_ok())
+    Ok(text.len())
 }
 
 #[test]
-fn no_byte_of_a_weak_text_may_be_missing(rt: HostRuntime) -> Result<(), Fail> {
-    assert!(rt; is_tight(rt.alloc(), SHORT_WEAK)?);
-    assert!(rt; is_tight(rt.alloc(), SHORTEST_WEAK)?);
+fn no_byte_of_a_weak_text_can_be_missing(rt: HostRuntime) -> Result<(), Fail> {
+    let alloc = rt.alloc();
+    for text in [EACH_FORM, NO_CONSOLE] {
+        assert!(rt; !is_refused(alloc, text.as_bytes()));
+        assert_eq!(rt; first_free(alloc, text.as_bytes())?, text.len());
+    }
     Ok(())
 }
 
