@@ -16,7 +16,7 @@ use Rattle.cache_care.specs.Counts.{CountsMade}
 use Rattle.cache_care.specs.Planning.{OnlyDrops}
 use Rattle.cache_care.specs.Repairing.{IsRepaired, DoesRepair, DoesRepairInPart}
 use Rattle.cache_care.specs.Trimmed.{IsTrimmed}
-use Rattle.cache_care.specs.Trimming.{OnlyTrims, DoesTrim, trims}
+use Rattle.cache_care.specs.Trimming.{OnlyTrims, DoesTrim, trims as trim_changes}
 use Rattle.cache_care.specs.declared.planning.CareCount.{CareCount}
 use Rattle.bx_engine.specs.Calls.{StoreChange, Written}
 use Rattle.bx_engine.specs.Counting.{AppendsNoted}
@@ -130,7 +130,7 @@ pub record OfTrim (keep : ℕ) (status : Status) (notes : Written) (store : Stor
   -- and over a store of which no answer disagreed with what it told, with any status, the changes of a trim were made up to some
   -- place;
   pub in_part : (S : Holdings) → held_in store.before ≡ Some S → IsSome (held_in store.now)
-      → MakesPrefix store.before store.now (trims S keep)
+      → MakesPrefix store.before store.now (trim_changes S keep)
   -- what is left is the trimmed store;
   pub trimmed : (S T : Holdings) → held_in store.before ≡ Some S → held_in store.now ≡ Some T → status ≡ statuses.Done
       → IsTrimmed S keep T
