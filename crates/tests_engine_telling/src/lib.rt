@@ -7,7 +7,7 @@
 ghost use Rattle.std.specs.Prelude.{◌≡◌, Some, map, string_bytes};
 ghost use Rattle.bx_engine.specs.Expected.{Answers};
 ghost use Rattle.bx_engine.specs.Statuses.{IsWhole};
-ghost use Rattle.bx_engine_words.specs.Words.{Orders};
+ghost use Rattle.bx_engine_words.specs.Words.{OrdersBuild};
 ghost use Rattle.bx_engine_words.specs.declared.order.Order.{Order as TheOrder};
 ghost use Rattle.tests_engine_telling.specs.FairBuild.{IsFairBuild};
 
@@ -30,7 +30,7 @@ pub fn over_memory<H: Threads + Wait + Sync>(
     notes: &mut MemSink,
     keeper: &mut MemKeeper,
 ) -> Status
-    ensures { (order : TheOrder) → Orders (map string_bytes words.now) order
+    ensures { (order : TheOrder) → OrdersBuild (map string_bytes words.now) order
         → IsFairBuild order source.old.left keeper.old.kept.held → IsWhole result
         → Answers order source.old.left result out.old.taken out.new.taken }
 {
