@@ -1,5 +1,5 @@
 -- What is promised of a call, by how it ended.
-use Rattle.std.proofs.Common.{◌≡◌, ◌≢◌, ◌⊎◌, ◌↔◌, inl, inr, ℕ, List, Some, subst, sym, arith}
+use Rattle.std.proofs.Common.{◌≡◌, ◌≢◌, ◌⊎◌, ◌↔◌, inl, inr, ℕ, List, Some, subst, arith}
 use Rattle.bx_io.specs.Holdings.{Holdings, held_in}
 use Rattle.bx_engine_words.specs.Words.{IsBuild, IsCare}
 use Rattle.bx_engine_words.specs.declared.order.Order.{Order}

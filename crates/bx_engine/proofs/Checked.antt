@@ -1,5 +1,5 @@
 -- What is promised of a check, from what the check of the store promises.
-use Rattle.std.proofs.Common.{◌≡◌, ◌≢◌, ◌⊎◌, ◌↔◌, ◌≤◌, inl, inr, ℕ, Bool, true, false, true≢false, cond, List, map, Option, Some, None, refl, sym, ap, ◌∙◌, subst}
+use Rattle.std.proofs.Common.{◌≡◌, ◌≢◌, ◌⊎◌, ◌↔◌, inl, inr, ℕ, Bool, true, false, true≢false, cond, List, map, Option, Some, None, refl, sym, ap, ◌∙◌, subst}
 use Rattle.std.specs.Prelude.{IsSome}
 use Rattle.std.specs.FinMap.{keys}
 use Rattle.bx_io.specs.Holdings.{Holdings, Keeps, held_in}
@@ -12,7 +12,7 @@ use Rattle.cache_care_check.specs.declared.fault.CareFault.{CareFault}
 use Rattle.cache_care_check.specs.declared.fault.CareFault.TheVariants as faults
 use Rattle.cache_care_check.specs.declared.surveying.Finding.{Finding}
 use Rattle.bx_engine.specs.Calls.{StoreChange, Written}
-use Rattle.bx_engine.specs.Care.{BlamesStore, Checks, OfCheck, check_text, fault_status}
+use Rattle.bx_engine.specs.Care.{BlamesStore, OfCheck, check_text, fault_status}
 use Rattle.bx_engine.specs.Counting.{AppendsNoted}
 use Rattle.bx_engine.specs.Statuses.{HasNoNotes, IsGone}
 use Rattle.bx_engine.specs.declared.status.Status.{Status}

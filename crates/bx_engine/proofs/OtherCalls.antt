@@ -1,15 +1,15 @@
 -- What is promised of a call that builds nothing: a check, a repair, a trim, a workload.
-use Rattle.std.proofs.Common.{◌≡◌, ◌≢◌, ◌⊎◌, inl, inr, ℕ, List, refl, sym, subst, arith}
+use Rattle.std.proofs.Common.{◌≡◌, ◌≢◌, ◌⊎◌, inl, inr, ℕ, sym, subst, arith}
 use Rattle.bx_io.specs.Causes.{HasCause}
 use Rattle.bx_engine_words.specs.Words.{IsBuild, IsCare}
 use Rattle.bx_engine_words.specs.declared.order.Order.{Order}
 use Rattle.bx_engine_words.specs.declared.order.Order.TheVariants.{Check, Gen, Repair, Trim}
 use Rattle.bx_engine.specs.Beyond.{GoesBeyond, OfEachCall, OfEachCare}
-use Rattle.bx_engine.specs.Calls.{Call, Given, StoreChange, Written}
+use Rattle.bx_engine.specs.Calls.{Call}
 use Rattle.bx_engine.specs.Care.{BlamesStore, OfCheck, OfRepair, OfTrim}
 use Rattle.bx_engine.specs.Headline.{KeepsHeadline}
 use Rattle.bx_engine.specs.Known.{GivesPiece}
-use Rattle.bx_engine.specs.Statuses.{HasNoBuild, HasNoNotes, IsGone, IsSilent, IsWhole}
+use Rattle.bx_engine.specs.Statuses.{HasNoBuild, HasNoNotes, IsGone, IsSilent}
 use Rattle.bx_engine.specs.Workloads.{OfGen}
 use Rattle.bx_engine.specs.declared.status.Status.{Status}
 use Rattle.bx_engine.specs.declared.status.Status.TheVariants as statuses

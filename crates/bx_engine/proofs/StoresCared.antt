@@ -1,5 +1,5 @@
 -- What is promised of a repair and of a trim, from what those of the store promise.
-use Rattle.std.proofs.Common.{◌≡◌, ◌≢◌, ◌⊎◌, inl, inr, ℕ, List, [], ◌++◌, Option, Some, is_some, refl, sym, ap, ◌∙◌, subst, append-nil, append_assoc}
+use Rattle.std.proofs.Common.{◌≡◌, ◌⊎◌, inl, inr, ℕ, List, [], ◌++◌, Some, is_some, sym, ap, ◌∙◌, subst, append-nil, append_assoc}
 use Rattle.std.specs.Prelude.{IsSome}
 use Rattle.std.proofs.lemmas.Option.{same_Some}
 use Rattle.bx_io.specs.Holdings.{Change, Holdings, IsPrefix, Keeps, Makes, MakesPrefix, StoreTold, held_in, holdings_after}
@@ -15,7 +15,6 @@ use Rattle.cache_care.specs.declared.planning.CareCount.{CareCount}
 use Rattle.bx_engine.specs.Calls.{StoreChange, Written}
 use Rattle.bx_engine.specs.Care.{BlamesStore, OfRepair, OfTrim, count_text}
 use Rattle.bx_engine.specs.Counting.{AppendsNoted}
-use Rattle.bx_engine.specs.Statuses.{IsGone}
 use Rattle.bx_engine.specs.declared.status.Status.{Status}
 use Rattle.bx_engine.specs.declared.status.Status.TheVariants as statuses
 use Rattle.bx_engine.proofs.Checked.{IsStopped, not_gone}

@@ -1,4 +1,4 @@
-use Rattle.std.proofs.Common.{◌≡◌, ◌++◌, ◌∙◌, List, ℕ, ap, append_assoc, flat_map}
+use Rattle.std.proofs.Common.{◌++◌, ◌∙◌, List, ℕ, ap, append_assoc, flat_map}
 use Rattle.bx_engine.specs.Care.{care_line}
 use Rattle.bx_engine.proofs.care.check_notes.Goals as goal
 

@@ -1,7 +1,6 @@
-use Rattle.std.proofs.Common.{◌≡◌, ◌∙◌, ap, arith, inl, map, refl, subst, sym, true, false, true≢false}
+use Rattle.std.proofs.Common.{◌≡◌, ◌∙◌, ap, arith, inl, map, refl, subst, sym, true≢false}
 use Rattle.std.specs.Prelude.{string_bytes}
 use Rattle.bx_engine_words.specs.Words.{IsBuild, IsCare, Orders}
-use Rattle.bx_engine_words.specs.declared.order.Order.{Order}
 use Rattle.bx_engine_words.specs.declared.order.Order.TheVariants.{Check, Gen, Repair, Trim}
 use Rattle.bx_io.proofs.Changes.{keeps_all}
 use Rattle.bx_engine.specs.Calls.{Call, Given, call_of, change_of, given_of, written_of}
