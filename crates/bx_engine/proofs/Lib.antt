@@ -7,10 +7,15 @@ mod OutputsAreTrees
 mod RulesKept
 mod FairPlans
 mod StoresLeft
+mod LivesHonest
 mod BuildsAreShown
 mod ExpectedIsWritten
 mod ResponsesAreExpected
 mod CallsEnd
 mod Crews
+mod OtherCalls
+mod Checked
+mod StoresCared
+mod Worked
 mod OneEnding
 mod SomeEnding

@@ -1,10 +1,8 @@
 use bx_io::FailKeeper;
-use std::alloc::Global;
-use std::sync::Wait;
+use std::alloc::{AllocError, Global};
 use std::test::Fail;
-use std::thread::Threads;
 use tests_with_engine::{
-    ALL_HIT, ALL_RAN, CountGate, FIRST_CALLS, are_built, is_built, keeper_of, left_after,
+    ALL_HIT, ALL_RAN, CountGate, FIRST_CALLS, are_built, empty_keeper, is_built, keeper_of,
 };
 
 const ALL_RAN_WITH_A_FAULT: &str =
@@ -35,22 +33,20 @@ fn leaves_out_a_record_where_a_call_of_the_keeper_fails(rt: HostRuntime) -> Resu
     Ok(())
 }
 
-/// A full store, of which each reader fails at its call with this number.
-fn full_keeper<H: Threads + Wait + Sync>(
-    rt: &H,
-    alloc: Global,
-    number: u64,
-) -> Result<FailKeeper, Fail> {
-    let Some(full) = left_after(rt, alloc, FIRST_CALLS, ALL_RAN)? else {
-        return Err("the first build gives something else".into());
-    };
-    Ok(FailKeeper::new(full, [number].to_vec(alloc)?))
+/// The notes of the first build by one worker where the call with this number fails. It finds no list: its worker calls the
+/// store for each of the three processes once.
+fn first_notes(number: u64) -> &'static str {
+    if number <= 3 {
+        ALL_RAN_WITH_A_FAULT
+    } else {
+        ALL_RAN
+    }
 }
 
-/// The notes of a build by one worker where the calls with this number fail. Each lookup reads the list, the path set,
-/// the entry and the file. The process that the worker runs after its fault is looked up by nobody else; so where the
-/// results are collected the reader makes eight calls alone.
-fn notes_of(number: u64) -> &'static str {
+/// The notes of the second. Each lookup reads the list, the path set, the entry and the file. The process that the worker
+/// runs after its fault is looked up by nobody else; so where the results are collected the reader makes eight calls
+/// alone.
+fn second_notes(number: u64) -> &'static str {
     match number {
         0..=8 => TWO_RAN_WITH_TWO_FAULTS,
         9..=12 => ONE_RAN_WITH_A_FAULT,
@@ -58,13 +54,20 @@ fn notes_of(number: u64) -> &'static str {
     }
 }
 
+/// An empty store, of which each reader fails at its call with this number.
+fn failing_at(alloc: Global, number: u64) -> Result<FailKeeper, AllocError> {
+    Ok(FailKeeper::new(empty_keeper(alloc, 0)?, [number].to_vec(alloc)?))
+}
+
 #[test]
 fn runs_a_process_where_a_call_of_a_reader_fails(rt: HostRuntime) -> Result<(), Fail> {
     let alloc = rt.alloc();
     let gate = CountGate::new();
     for number in 1..=13u64 {
-        let mut keeper = full_keeper(&rt, alloc, number)?;
-        assert!(rt; is_built(&rt, alloc, "1", &mut keeper, &gate, notes_of(number))?);
+        let mut keeper = failing_at(alloc, number)?;
+        for notes in [first_notes(number), second_notes(number)] {
+            assert!(rt; is_built(&rt, alloc, "1", &mut keeper, &gate, notes)?);
+        }
     }
     Ok(())
 }
@@ -76,8 +79,10 @@ fn builds_the_same_where_calls_of_several_readers_fail(rt: HostRuntime) -> Resul
     let gate = CountGate::new();
     for workers in ["2", "4"] {
         for number in 1..=13u64 {
-            let mut keeper = full_keeper(&rt, alloc, number)?;
-            assert!(rt; is_built(&rt, alloc, workers, &mut keeper, &gate, "")?);
+            let mut keeper = failing_at(alloc, number)?;
+            for notes in ["", ""] {
+                assert!(rt; is_built(&rt, alloc, workers, &mut keeper, &gate, notes)?);
+            }
         }
     }
     Ok(())
