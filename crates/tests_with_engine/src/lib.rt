@@ -7,7 +7,7 @@ mod over_stores;
 use bx_engine::command;
 use bx_io::{FailKeeper, Gate, Keeper, MemKeeper, MemSink, MemSource};
 pub use over_stores::{
-    ALL_HIT, ALL_RAN, FIRST_CALLS, TWO_RAN, are_built, is_built, is_rebuilt, left_after,
+    ALL_HIT, ALL_RAN, FIRST_CALLS, INPUT, TWO_RAN, are_built, is_built, is_rebuilt, left_after,
 };
 use std::alloc::{AllocError, Global};
 use std::sync::Wait;

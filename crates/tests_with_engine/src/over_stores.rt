@@ -7,7 +7,7 @@ use std::sync::Wait;
 use std::thread::Threads;
 
 /// Two files in C that are compiled, and linked.
-const INPUT: &str = r#"bundle 1
+pub const INPUT: &str = r#"bundle 1
 file 79 config.dsc
 config({resolvers: [{kind: "DScript", modules: [f`src/module.config.dsc`]}]});
 
