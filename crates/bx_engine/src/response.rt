@@ -12,6 +12,7 @@ ghost use Rattle.two_phase_meaning.specs.Honest.{Honest};
 ghost use Rattle.retire.specs.Builds.{IsFair, LeavesFair};
 ghost use Rattle.bx_engine.specs.Calls.{change_of};
 ghost use Rattle.bx_engine.specs.Counting.{given_files};
+ghost use Rattle.bx_engine.specs.Crews.{AreThrough};
 ghost use Rattle.retire.specs.Saving.{OnlyPuts};
 ghost use Rattle.bx_engine.specs.Ending as endings;
 ghost use Rattle.bx_engine.specs.Expected.{limits_of};
@@ -137,6 +138,38 @@ fn show(alloc: Global, plan: &Plan, retired: &Retired, worked: Worked) -> Result
     })
 }
 
+// The response of a build of a plan where workers went ahead: the results are collected.
+fn collect<K: Keeper, G: Gate>(
+    alloc: Global,
+    plan: &Plan,
+    sources: &Sources,
+    crewed: Crewed,
+    keeper: &mut K,
+    gate: &G,
+    cached: bool,
+) -> Result<Response, Memory>
+    requires rules { KeepsRules plan.now.pips sources.now }
+    requires slots { length crewed.finished.slots.items ≡ length plan.now.pips }
+    ensures response { (workers : ℕ)
+        → AreThrough cached (K.bound keeper.old) workers crewed.worked.faults crewed.worked.starved
+        → IfOk result (IsBuildResponse plan.now.pips sources.now plan.now.tool_budget cached workers
+        (change_of (K.known keeper.old) (K.known keeper.new) (K.bound keeper.old) (K.faults keeper.old)
+        (K.faults keeper.new))) }
+    ensures left { (held : Holdings) → held_in (K.known keeper.old) ≡ Some held
+        → IsSome (held_in (K.known keeper.new))
+        → IsFair plan.now.pips sources.now plan.now.tool_budget held
+        → LeavesFair plan.now.pips sources.now plan.now.tool_budget held (K.known keeper.old)
+        (K.known keeper.new) }
+    ensures untouched { cached ≡ false → keeper.new ≡ keeper.old }
+    ensures puts { OnlyPuts (K.known keeper.old) (K.known keeper.new) }
+    ensures bound { K.bound keeper.new ≡ K.bound keeper.old }
+    ensures later { K.faults keeper.old ≤ K.faults keeper.new }
+{
+    let Crewed { finished, worked } = crewed;
+    let retired = retire(alloc, plan, sources, keeper, finished, gate, cached)?;
+    show(alloc, plan, &retired, worked)
+}
+
 // The response of a build of a plan: workers go ahead, and then the results are collected.
 fn build_plan<H: Threads + Wait + Sync, K: Keeper, G: Gate>(
     rt: &H,
@@ -163,12 +196,10 @@ fn build_plan<H: Threads + Wait + Sync, K: Keeper, G: Gate>(
     ensures bound { K.bound keeper.new ≡ K.bound keeper.old }
     ensures later { K.faults keeper.old ≤ K.faults keeper.new }
 {
-    let plan = Arc::new(alloc, plan)?;
-    let sources = Arc::new(alloc, sources)?;
-    let crewed = work_ahead(rt, alloc, &plan, &sources, workers, &*keeper, gate, cached)?;
-    let Crewed { finished, worked } = crewed;
-    let retired = retire(alloc, &*plan, &*sources, keeper, finished, gate, cached)?;
-    show(alloc, &*plan, &retired, worked)
+    let plans = Arc::new(alloc, plan)?;
+    let files = Arc::new(alloc, sources)?;
+    let crewed = work_ahead(rt, alloc, &plans, &files, workers, &*keeper, gate, cached)?;
+    collect(alloc, &*plans, &*files, crewed, keeper, gate, cached)
 }
 
 // The response to a source tree.
