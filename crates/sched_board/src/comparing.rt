@@ -15,7 +15,7 @@ use pip_model::{Desc, Made, MadeFile, Plan, Sources};
 use pip_view::PipView;
 use pip_view_inputs::{Inputs, desc, plain};
 use prints::reads_back;
-use run_record::{Match, Record, first_difference, matches, weak_digest, what_holds_is_run};
+use run_record::{Match, Record, first_difference, matches, weak_digest};
 use sched_board_slots::{Held, holds_now};
 use std::alloc::{AllocError, Global};
 
@@ -88,7 +88,6 @@ fn compare_ran(
     requires process { IsSome (process_in (slice_get plan.now.pips pip)) }
     ensures { IfOk result (Compared plan.now sources.now inputs.now pip (Shown.Ran ran.now)) }
 {
-    what_holds_is_run();
     reads_back(ran.desc());
     let holds = holds_now(alloc, plan, sources, pip, inputs, ran)?;
     if holds {
