@@ -55,7 +55,7 @@ pub(crate) fn build<H: Threads + Wait + Sync, S: Source, O: Sink, N: Sink, K: Ke
     keeper: &mut K,
     gate: &G,
 ) -> Status
-    requires { HasCrew order.now }
+    requires crew { HasCrew order.now }
     ensures begun { result ≢ Status.NoCommand }
     ensures ended { Ended order.now (call_of result
         (given_of (S.given source.old) (S.given source.new) (S.left source.old) (S.left source.new)

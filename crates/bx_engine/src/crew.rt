@@ -160,7 +160,7 @@ fn work_all<
     gate: &G,
     crew: &mut [Worker<R, L, E>],
 ) -> Worked
-    requires { 0 < length crew.old }
+    requires some { 0 < length crew.old }
     ensures { (cached : Bool) (bound : Option ℕ) → All (IsFresh cached bound) crew.old
         → AreThrough cached bound (length crew.old) result.faults result.starved }
 {

@@ -268,7 +268,7 @@ pub(crate) fn respond<H: Threads + Wait + Sync, K: Keeper, G: Gate>(
     keeper: &mut K,
     gate: &G,
 ) -> Result<Response, Memory>
-    requires { HasCrew order.now }
+    requires crew { HasCrew order.now }
     ensures response { IfOk result (Responds order.now input.now (change_of (K.known keeper.old)
         (K.known keeper.new) (K.bound keeper.old) (K.faults keeper.old) (K.faults keeper.new))) }
     ensures kept { IfOk result (λ response. IsRefusal response.status → keeper.new ≡ keeper.old) }

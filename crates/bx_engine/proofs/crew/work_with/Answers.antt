@@ -7,8 +7,8 @@ use Rattle.sched_board.specs.Board.{new_share}
 use Rattle.bx_engine.specs.Crews.{AreThrough, IsFresh}
 use Rattle.bx_engine.proofs.crew.work_with.Goals as goal
 
-pub work_all-worked-requires : goal.work_all-worked-requires
-work_all-worked-requires g c =
+pub work_all-worked-requires-clause-some : goal.work_all-worked-requires-clause-some
+work_all-worked-requires-clause-some g c =
     let w = c.args.workers in
     let shares = ap length c.in_ok-board.ensures.shares in
     let mapped = length-map (range_with_len 0 w) new_share in
