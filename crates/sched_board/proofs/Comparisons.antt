@@ -154,7 +154,7 @@ module _ (own : Desc) (see : Ask → Answer) (found : FoundParts) (held weak : L
 pub ran_holds : (plan : PlanData) (tree : Files) (inputs : ByPip) (pip : ℕ) (facts : Facts) (o : Option ProcessDesc) → IsSome o → Sound facts → IsReadBack facts.desc
     → IfSome o (λ (process : ProcessDesc). true ≡ true ↔ HoldsNow (own_desc plan tree inputs process) (own_view plan tree inputs pip) facts)
     → IsOwnRecord plan tree inputs pip facts o
-ran_holds plan tree inputs pip facts None some sound read holds = absurd some
+ran_holds plan tree inputs pip facts None some sound read holds = absurd cc
 ran_holds plan tree inputs pip facts (Some process) some sound read holds =
     let own : Desc = own_desc plan tree inputs process in
     let see : Ask → Answer = own_view plan tree inputs pip in
