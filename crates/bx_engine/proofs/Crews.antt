@@ -78,7 +78,7 @@ times_more : (b n : ℕ) → b * suc n ≡ b * n + b
 times_more b n = grind arith
 
 sum_few : (cached : Bool) (bound : Option ℕ) (b : ℕ) (ws : List WorkerData) → bound ≡ Some b → All (IsThrough cached bound) ws → faults_in ws ≤ b * length ws
-sum_few cached bound b [] is h = omega arith
+sum_few cached bound b [] is h = let none : faults_in [] ≡ 0 = refl in omega (arith, none)
 sum_few cached bound b (w ∷ ws) is h =
     let here : w.tally.faults ≤ b = (h 0 w (omega arith)).few_faults b is in
     let more = sum_few cached bound b ws is (rest_of (IsThrough cached bound) w ws h) in
@@ -99,7 +99,7 @@ one_or_none true = omega arith
 one_or_none false = omega arith
 
 starved_few : (ws : List WorkerData) → starved_in ws ≤ length ws
-starved_few [] = omega arith
+starved_few [] = let none : starved_in [] ≡ 0 = refl in omega (arith, none)
 starved_few (w ∷ ws) =
     let here = one_or_none w.tally.starved in
     let more = starved_few ws in
