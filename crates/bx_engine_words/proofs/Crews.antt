@@ -28,7 +28,9 @@ workers_set words (Number options.Pips m ∷ settings) are n e = workers_set are
 
 some_or_default : (o : Option ℕ) → ((n : ℕ) → o ≡ Some n → IsValue options.Workers n) → 0 < unwrap_or o DEFAULT_WORKERS
 some_or_default None set = omega arith
-some_or_default (Some n) set = omega (arith, (set n refl).least)
+some_or_default (Some n) set =
+    let some : 1 ≤ n = (set n refl).at_least in
+    omega (arith, some)
 
 few_or_default : (o : Option ℕ) → ((n : ℕ) → o ≡ Some n → IsValue options.Workers n) → unwrap_or o DEFAULT_WORKERS ≤ MAX_WORKERS
 few_or_default None set = omega arith
