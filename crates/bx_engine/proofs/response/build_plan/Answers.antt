@@ -12,8 +12,8 @@ use Rattle.bx_engine.proofs.response.build_plan.Goals as goal
 pub collect-requires-clause-rules : goal.collect-requires-clause-rules
 collect-requires-clause-rules g c =
     λ κs live.
-    let plan : c.deref.result.now ≡ c.args.plan = c.deref.ensures ∙ c.in_ok-plans.ensures in
-    let files : c.deref-2.result.now ≡ c.args.sources = c.deref-2.ensures ∙ c.in_ok-files.ensures in
+    let plan : c.deref.result.now ≡ c.args.plan = c.deref.ensures ∙ c.in_ok-plans.ensures.ok in
+    let files : c.deref-2.result.now ≡ c.args.sources = c.deref-2.ensures ∙ c.in_ok-files.ensures.ok in
     subst (λ (p : PlanData). KeepsRules p.pips c.deref-2.result.now) (sym plan)
     (subst (λ (t : Files). KeepsRules c.args.plan.pips t) (sym files) c.requires.rules)
 
@@ -24,8 +24,8 @@ collect-requires-clause-slots g c =
 
 pub returns-clause-response : goal.returns-clause-response
 returns-clause-response g c =
-    let plan : c.deref.result.now ≡ c.args.plan = c.deref.ensures ∙ c.in_ok-plans.ensures in
-    let files : c.deref-2.result.now ≡ c.args.sources = c.deref-2.ensures ∙ c.in_ok-files.ensures in
+    let plan : c.deref.result.now ≡ c.args.plan = c.deref.ensures ∙ c.in_ok-plans.ensures.ok in
+    let files : c.deref-2.result.now ≡ c.args.sources = c.deref-2.ensures ∙ c.in_ok-files.ensures.ok in
     let change : StoreChange =
     change_of (g.K.Keeper.known c.args.keeper.now) (g.K.Keeper.known c.collect.new.keeper) (g.K.Keeper.bound c.args.keeper.now)
     (g.K.Keeper.faults c.args.keeper.now) (g.K.Keeper.faults c.collect.new.keeper) in
@@ -36,8 +36,8 @@ returns-clause-response g c =
 pub returns-clause-left : goal.returns-clause-left
 returns-clause-left g c =
     λ held is there fair.
-    let plan : c.deref.result.now ≡ c.args.plan = c.deref.ensures ∙ c.in_ok-plans.ensures in
-    let files : c.deref-2.result.now ≡ c.args.sources = c.deref-2.ensures ∙ c.in_ok-files.ensures in
+    let plan : c.deref.result.now ≡ c.args.plan = c.deref.ensures ∙ c.in_ok-plans.ensures.ok in
+    let files : c.deref-2.result.now ≡ c.args.sources = c.deref-2.ensures ∙ c.in_ok-files.ensures.ok in
     let before = g.K.Keeper.known c.args.keeper.now in
     let after = g.K.Keeper.known c.collect.new.keeper in
     let here : IsFair c.deref.result.now.pips c.deref-2.result.now c.deref.result.now.tool_budget held =
