@@ -1,4 +1,4 @@
-use Rattle.std.proofs.Common.{◌∙◌, ap, refl}
+use Rattle.std.proofs.Common.{◌∙◌, ap, arith, refl}
 use Rattle.std.proofs.lemmas.Bool.{false≢true}
 use Rattle.std.proofs.lemmas.Result.{IfOk-weaker}
 use Rattle.bx_io.proofs.Changes.{keeps_all}
@@ -24,6 +24,11 @@ returns-then-reserved-clause-left g c input held bundle is honest fair =
     left_same (limits_of c.args.order.now) input held (g.K.Keeper.known c.args.keeper.now) (g.K.Keeper.known c.args.keeper.now) (keeps_all (g.K.Keeper.known c.args.keeper.now)) honest
 
 -- ## A plan
+
+pub build_plan-requires-clause-workers : goal.build_plan-requires-clause-workers
+build_plan-requires-clause-workers g c =
+    λ κs live.
+    (omega (arith, c.workers_of.ensures, c.requires.crew.some), omega (arith, c.workers_of.ensures, c.requires.crew.few))
 
 pub returns-in-Ok-clause-response : goal.returns-in-Ok-clause-response
 returns-in-Ok-clause-response g c input bundle =
