@@ -1,5 +1,6 @@
 //! Slots as workers may leave them, and as they never do.
-ghost use Rattle.std.specs.Prelude.{◌≡◌, ◌<◌, ◌≤◌, length};
+ghost use Rattle.std.specs.Prelude.{◌≡◌, ◌<◌, ◌≤◌, is_some, length, slice_get};
+ghost use Rattle.pip_view_inputs.specs.Plain.{process_in};
 
 use bx_io::OpenGate;
 use one_thread::build_all;
@@ -21,6 +22,13 @@ pub enum Filled {
     Never,
 }
 
+// Whether a pip is a process.
+fn is_process(plan: &Plan, pip: u32) -> bool
+    ensures { result ≡ is_some (process_in (slice_get plan.now.pips pip)) }
+{
+    process_at(plan.pips(), pip).is_some()
+}
+
 // The run of a process over what the pips before it made; nothing for a pip of another kind.
 fn ran_slot(
     alloc: Global,
@@ -32,7 +40,7 @@ fn ran_slot(
     requires there { pip < length plan.now.pips }
     requires slots { pip ≤ length built.now }
 {
-    if process_at(plan.pips(), pip).is_none() {
+    if !is_process(plan, pip) {
         return Ok(Held::Empty);
     }
     let inputs = Inputs::of(alloc, plan, pip, built)?;
