@@ -15,11 +15,11 @@ use Rattle.bx_engine.specs.Crews.{AreThrough, IsFresh, IsThrough}
 
 -- a reader that did not fail yet counts no more faults than its bound
 reads_few : (x y : ReaderData) (k b : ℕ) → ReadsOn x y k → x.faults ≡ 0 → x.bound ≡ Some b → k ≤ b
-reads_few x y k b r zero is =
-    let within : IsWithin x.bound x.faults = λ z e. omega (arith, zero) in
+reads_few x y k b r none is =
+    let within : IsWithin x.bound x.faults = λ z e. omega (arith, none) in
     let most : y.faults ≤ b = r.within within b (r.bound_is ∙ is) in
     let some : IsSome x.bound = subst (λ (o : Option ℕ). IsSome o) (sym is) refl in
-    let rose : x.faults + k ≤ y.faults = r.rose (λ there. omega (arith, zero)) some in
+    let rose : x.faults + k ≤ y.faults = r.rose (λ there. omega (arith, none)) some in
     omega (arith, most, rose)
 
 few_read : (x y : Option ReaderData) (bound : Option ℕ) (k b : ℕ) → ReadsIfAny x y k → IfSome x (λ r. (r.bound ≡ bound) × (r.faults ≡ 0)) → bound ≡ Some b → k ≤ b

@@ -19,12 +19,12 @@ crew-preserved g c =
     let sum = c.saturating_add-faults.ensures in
     let inv = c.crew.invariant.faults in
     let counted = sum_by_more (λ (x : WorkerData). cond x.tally.starved 1 0) crew i w c.crew-test.true in
-    let one : c.one_if.result ≡ cond w.tally.starved 1 0 = c.one_if.ensures.value ∙ ap (λ (t : Tally). cond t.starved 1 0) c.tally-tally.ensures in
+    let one : c.one_if-starved.result ≡ cond w.tally.starved 1 0 = c.one_if-starved.ensures.value ∙ ap (λ (t : Tally). cond t.starved 1 0) c.tally-tally.ensures in
     let one_same = ap (λ (x : WorkerData). cond x.tally.starved 1 0) c.worker-item.is in
     record {
       faults = omega (arith, all, same, own, sum, inv);
       starved = omega (arith, counted, one, one_same, c.crew.invariant.starved);
-      few = omega (arith, c.one_if.ensures.few, c.crew.invariant.few);
+      few = omega (arith, c.one_if-starved.ensures.few, c.crew.invariant.few);
     }
 
 pub returns-clause-faults : goal.returns-clause-faults
