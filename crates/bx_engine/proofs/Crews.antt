@@ -1,6 +1,6 @@
 -- What workers count together.
-use Rattle.std.proofs.Common.{◌≡◌, ℕ, zero, suc, ◌+◌, ◌*◌, ◌-◌, ◌^◌, ◌<◌, ◌≤◌, min, Bool, true, false, cond, List, [], ◌∷◌, length, Option, Some, None, refl, ap, sym, ◌∙◌, subst, arith}
-use Rattle.std.specs.Prelude.{IfSome, IsSome, is_some, count_by, option_map}
+use Rattle.std.proofs.Common.{◌≡◌, ℕ, zero, suc, ◌+◌, ◌*◌, ◌-◌, ◌^◌, ◌<◌, ◌≤◌, min, Bool, true, false, cond, List, [], ◌∷◌, length, Option, Some, None, Result, Ok, Err, tt, refl, ap, sym, ◌∙◌, subst, arith}
+use Rattle.std.specs.Prelude.{IfOk, IfSome, IsSome, is_some, count_by, option_map}
 use Rattle.std.specs.List.{All, sum_by}
 use Rattle.std.proofs.lemmas.List.Sums.{sum_by-cons}
 use Rattle.bx_io.specs.Causes.{IsWithin}
@@ -10,6 +10,11 @@ use Rattle.sched_board.specs.Board.{ShareData}
 use Rattle.worker.specs.Workers.{GoesOn, WorkerData, new_worker}
 use Rattle.worker.specs.declared.tally.Tally.{Tally}
 use Rattle.bx_engine.specs.Crews.{AreThrough, IsFresh, IsThrough}
+
+-- what holds of a value, if there is one, by what holds of it
+pub value_has : {X E : Type 0} (r : Result X E) (P Q : X → Type 0) → ((x : X) → P x → Q x) → IfOk r P → IfOk r Q
+value_has (Ok x) P Q f h = f x h
+value_has (Err e) P Q f h = tt
 
 -- ## One worker
 

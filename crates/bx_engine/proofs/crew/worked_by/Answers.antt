@@ -1,4 +1,4 @@
-use Rattle.std.proofs.Common.{◌≡◌, List, ap, arith, cond, ◌∙◌}
+use Rattle.std.proofs.Common.{◌≡◌, ℕ, List, ap, arith, cond, ◌∙◌}
 use Rattle.std.specs.Prelude.{count_by}
 use Rattle.std.specs.List.{sum_by}
 use Rattle.std.proofs.lemmas.List.{take_all}
@@ -19,8 +19,8 @@ crew-preserved g c =
     let sum = c.saturating_add-faults.ensures in
     let inv = c.crew.invariant.faults in
     let counted = sum_by_more (λ (x : WorkerData). cond x.tally.starved 1 0) crew i w c.crew-test.true in
-    let one : c.one_if-starved.result ≡ cond w.tally.starved 1 0 = c.one_if-starved.ensures.value ∙ ap (λ (t : Tally). cond t.starved 1 0) c.tally-tally.ensures in
-    let one_same = ap (λ (x : WorkerData). cond x.tally.starved 1 0) c.worker-item.is in
+    let one : c.one_if-starved.result ≡ cond w.tally.starved 1 0 = c.one_if-starved.ensures.value ∙ ap {B = ℕ} (λ (t : Tally). cond t.starved 1 0) c.tally-tally.ensures in
+    let one_same = ap {B = ℕ} (λ (x : WorkerData). cond x.tally.starved 1 0) c.worker-item.is in
     record {
       faults = omega (arith, all, same, own, sum, inv);
       starved = omega (arith, counted, one, one_same, c.crew.invariant.starved);
