@@ -1,10 +1,24 @@
 use Rattle.std.proofs.Common.{◌≡◌, ◌<◌, arith, length, subst, true}
 use Rattle.std.specs.List.{slice_index_or}
+use denote.Param.Send.{sendable}
 use Rattle.worker.specs.Ended.{has_ended}
 use Rattle.worker.specs.Workers.{GoesOn, WorkerData}
 use Rattle.bx_engine.specs.Crews.{AreThrough}
 use Rattle.bx_engine.proofs.Crews.{through}
 use Rattle.bx_engine.proofs.crew.work_all.Goals as goal
+
+pub for_each_mut-requires-clause-accepts : goal.for_each_mut-requires-clause-accepts
+for_each_mut-requires-clause-accepts g c κs within =
+    λ i p lt e.
+    (
+      search sendable depth 40,
+      search sendable depth 40,
+      search sendable depth 40,
+      search sendable depth 40,
+      search sendable depth 40,
+      search sendable depth 40,
+      search sendable depth 40,
+    )
 
 pub returns : goal.returns
 returns g c =
