@@ -29,7 +29,7 @@ use crate::output::output;
 use crate::planning::front;
 use crate::status::Status;
 use build_report::{Counts, all_succeeded, notes, refused_report, report};
-use bx_engine_front::{FrontEnd, FrontFault, Refusal};
+use bx_engine_front::{FrontFault, Refusal};
 use bx_engine_words::Order;
 use bx_io::{Gate, Keeper};
 use bx_tree::{BundleFault, Memory, Text, Tree, read_bundle, reserved};
@@ -230,11 +230,11 @@ fn respond_tree<H: Threads + Wait + Sync, K: Keeper, G: Gate>(
         return refuse_input(alloc, InputFault::Reserved);
     }
     match front(alloc, tree, order) {
-        Ok(FrontEnd { plan, sources }) => build_plan(
+        Ok(end) => build_plan(
             rt,
             alloc,
-            plan,
-            sources,
+            end.plan,
+            end.sources,
             workers_of(order),
             keeper,
             gate,

@@ -4,7 +4,9 @@ use Rattle.bx_io.specs.Holdings.{Holdings, held_in}
 use Rattle.bx_tree.specs.Trees.{Files}
 use Rattle.graph_check.specs.Rules.{KeepsRules}
 use Rattle.pip_model.specs.Plans.{PlanData}
+use Rattle.bx_io.proofs.Changes.{keeps_all}
 use Rattle.retire.specs.Builds.{IsFair, LeavesFair}
+use Rattle.retire.proofs.Whole.{leaves_same}
 use Rattle.bx_engine.specs.Calls.{StoreChange, change_of}
 use Rattle.bx_engine.specs.Responses.{IsBuildResponse}
 use Rattle.bx_engine.proofs.response.build_plan.Goals as goal
@@ -46,3 +48,21 @@ returns-clause-left g c =
     subst (λ (p : PlanData). LeavesFair p.pips c.args.sources p.tool_budget held before after) plan
     (subst (λ (t : Files). LeavesFair c.deref.result.now.pips t c.deref.result.now.tool_budget held before after) files
     (c.collect.ensures.left held is there here))
+
+pub returns-in_err-plans-clause-left : goal.returns-in_err-plans-clause-left
+returns-in_err-plans-clause-left g c =
+    λ held is there fair.
+    let known = g.K.Keeper.known c.args.keeper.now in
+    leaves_same c.args.plan.pips c.args.sources c.args.plan.tool_budget held known known is (keeps_all known) fair
+
+pub returns-in_err-files-clause-left : goal.returns-in_err-files-clause-left
+returns-in_err-files-clause-left g c =
+    λ held is there fair.
+    let known = g.K.Keeper.known c.args.keeper.now in
+    leaves_same c.args.plan.pips c.args.sources c.args.plan.tool_budget held known known is (keeps_all known) fair
+
+pub returns-in_err-crewed-clause-left : goal.returns-in_err-crewed-clause-left
+returns-in_err-crewed-clause-left g c =
+    λ held is there fair.
+    let known = g.K.Keeper.known c.args.keeper.now in
+    leaves_same c.args.plan.pips c.args.sources c.args.plan.tool_budget held known known is (keeps_all known) fair

@@ -34,7 +34,7 @@ pub returns-in-Ok-clause-response : goal.returns-in-Ok-clause-response
 returns-in-Ok-clause-response g c input bundle =
     IfOk-weaker c.build_plan.result _ _
     (λ response h.
-    build_responds c.args.order.now input _ c.args.tree c.in-Ok.sources c.in-Ok.plan.pips c.in-Ok.plan.tool_budget c.is_cached.result c.workers_of.result response
+    build_responds c.args.order.now input _ c.args.tree c.in-Ok.end.sources c.in-Ok.end.plan.pips c.in-Ok.end.plan.tool_budget c.is_cached.result c.workers_of.result response
     bundle (λ r. false≢true (c.if-reserved.ensures.1 r)) c.in-Ok.ensures.plan c.in-Ok.ensures.sources c.in-Ok.ensures.tool_budget c.is_cached.ensures c.workers_of.ensures h)
     c.build_plan.ensures.response
 
@@ -44,8 +44,8 @@ returns-in-Ok-clause-kept g c =
 
 pub returns-in-Ok-clause-left : goal.returns-in-Ok-clause-left
 returns-in-Ok-clause-left g c input held bundle is honest fair =
-    left_of_plan (uses_store c.args.order.now) (limits_of c.args.order.now) input c.args.tree c.in-Ok.sources c.in-Ok.plan.pips
-    c.in-Ok.plan.tool_budget held (g.K.Keeper.known c.args.keeper.now) (g.K.Keeper.known c.build_plan.new.keeper) is honest fair
+    left_of_plan (uses_store c.args.order.now) (limits_of c.args.order.now) input c.args.tree c.in-Ok.end.sources c.in-Ok.end.plan.pips
+    c.in-Ok.end.plan.tool_budget held (g.K.Keeper.known c.args.keeper.now) (g.K.Keeper.known c.build_plan.new.keeper) is honest fair
     (record { bundle = bundle; free = λ r. false≢true (c.if-reserved.ensures.1 r) }) c.in-Ok.ensures.plan c.in-Ok.ensures.sources
     c.in-Ok.ensures.tool_budget (c.build_plan.ensures.left held is)
     (λ off.
