@@ -9,8 +9,7 @@ use Rattle.bx_engine.proofs.crew.work_all.Goals as goal
 
 pub for_each_mut-requires-clause-accepts : goal.for_each_mut-requires-clause-accepts
 for_each_mut-requires-clause-accepts g c κs within =
-    λ i p lt e.
-    (
+    λ i p lt e. (
       search sendable depth 40,
       search sendable depth 40,
       search sendable depth 40,
