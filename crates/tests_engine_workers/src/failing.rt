@@ -45,9 +45,10 @@ impl Keeper for OneFailsKeeper {
     ghost bound = { λ _. Some 1 };
 
     fn reader(&self, alloc: Global) -> Result<FailReader, AllocError> {
+        let inner = self.inner.reader(alloc)?;
         let fails = self.readers.fetch_add(1, Relaxed) == self.failing;
         let failing = [call_if(fails, self.call)].to_vec(alloc)?;
-        Ok(FailReader::new(self.inner.reader(alloc)?, failing))
+        Ok(FailReader::new(inner, failing))
     }
 
     fn close(&mut self, _reader: FailReader) {}
