@@ -96,7 +96,8 @@ fn named_below(alloc: Global, base: &Path, text: &[u8]) -> Result<Option<Path>, 
     ensures found { IfOk result (λ found. IfSome found (λ path. Names (path_text base.now ++ 47 ∷ text.now) path)) }
 {
     let above = base.text().as_bytes();
-    if text.len() > MAX_PATH_BYTES {
+    // A text that begins with a dot is seldom a path, and one that is too long is none.
+    if text.first() == Some(&b'.') || text.len() > MAX_PATH_BYTES {
         return Ok(None);
     }
     let mut whole = Vec::with_capacity(alloc, above.len() + 1 + text.len())?;
