@@ -1,15 +1,21 @@
 -- The answers that a run was given are those of its answerer.
-use Rattle.std.proofs.Common.{◌≡◌, ℕ, zero, suc, ◌<◌, ◌+◌, arith, length, get_or, replicate, take, Bool, true, false, cond, List, [], ◌∷◌, ◌++◌, map, Option, Some, None, refl, ap, sym, ◌∙◌, subst, inl, inr}
-use Rattle.std.specs.List.{AllByRecursion}
+use Rattle.std.proofs.Common.{◌≡◌, ℕ, zero, suc, ◌<◌, ◌+◌, arith, length, get_or, replicate, take, Bool, true, false, cond, List, [], ◌∷◌, ◌++◌, map, Option, Some, None, Result, Ok, Err, refl, ap, sym, ◌∙◌, subst, inl, inr}
+use Rattle.std.specs.List.{AllByRecursion, HoldsAt}
+use Rattle.std.specs.Option.{MatchOption}
+use Rattle.std.specs.Result.{result_ok}
 use Rattle.std.specs.Prelude.{All, slice_set}
-use Rattle.std.specs.List.Sorted.{IsStrictlySortedBy}
-use Rattle.std.specs.Ordering.{is_eq}
-use Rattle.std.specs.declared.cmp.Ordering.TheVariants.{Less}
+use Rattle.std.specs.List.Sorted.{IsBinarySearchResult, IsSearchInRange, IsSortedBy, IsStrictlySortedBy}
+use Rattle.std.specs.Ordering.{is_eq, is_lt, ordering_reverse}
+use Rattle.std.specs.declared.cmp.Ordering.{Ordering}
+use Rattle.std.specs.declared.cmp.Ordering.TheVariants.{Less, Greater}
+use Rattle.std.proofs.lemmas.Bool.{cases_lt}
 use Rattle.std.proofs.lemmas.List.{take_more}
+use Rattle.std.proofs.lemmas.List.Sorted.{searchable_from_sorted}
+use Rattle.std.proofs.lemmas.Map.Keys.{Less-from_sorted}
 use Rattle.std.proofs.lemmas.List.Elements.{All-from_recursion, recursion_from_All}
 use Rattle.bx_tree.specs.Members.{Has}
 use Rattle.observed.specs.Asks.{ask_cmp, same_ask}
-use Rattle.observed.specs.Orders.{ask_cmp_matches, same_ask_equiv, same_ask_is, same_ask_itself}
+use Rattle.observed.specs.Orders.{ask_cmp_matches, ask_cmp_total, equal_asks, same_ask_equiv, same_ask_is, same_ask_itself}
 use Rattle.observed.specs.declared.ask.Ask.{Ask}
 use Rattle.observed.specs.declared.access.Access.{Access}
 use Rattle.observed.specs.declared.access.Access.TheVariants.{Asked, Wrote, WriteDenied}
@@ -150,6 +156,7 @@ earlier_other x asks k d h l = same_ask_equiv.symm (get_or asks k d) x ∙ less_
 
 pub put_there : (asks : List Ask) (place : ℕ) (ask d : Ask) (answer : Answer) (f : Ask → Option Answer) → IsStrictlySortedBy ask_cmp asks → place < length asks
     → get_or asks place d ≡ ask → slice_set (map (λ q. or_absent (f q)) asks) place answer ≡ map (λ q. or_absent (with_access (Asked ask answer) q (f q))) asks
+unfolding IsStrictlySortedBy
 put_there [] place ask d answer f sorted l is = absurd (omega (arith, l))
 put_there (x ∷ xs) zero ask d answer f sorted l is =
     ap (λ y. y ∷ map (λ q. or_absent (f q)) xs) (sym (ap (λ t. or_absent (cond t (Some answer) (f x))) (subst (λ (z : Ask). same_ask ask z ≡ true) (sym is) (same_ask_itself ask))))
@@ -172,3 +179,24 @@ pub given_more : (asks : List Ask) (xs : List Access) (i : ℕ) (access : Access
 given_more asks xs i access l is =
     same_map (λ q. or_absent (with_access access q (recorded (take i xs) q))) (given_in (take (i + 1) xs)) asks
     (λ q h. ap or_absent (sym (recorded_more xs i access q l is)))
+
+-- ## A search for an ask
+
+sorted_asks : (asks : List Ask) → IsStrictlySortedBy ask_cmp asks → IsSortedBy (λ (a b : Ask). is_lt (ask_cmp a b)) asks
+sorted_asks asks up k d low l =
+    let less = Less-from_sorted ask_cmp asks k (k + 1) d up (omega arith) l in
+    ap is_lt (ask_cmp_total.antisymm (get_or asks (k + 1) d) (get_or asks k d) ∙ ap ordering_reverse less)
+
+other_by : (x q : Ask) (o : Ordering) → is_eq o ≡ false → ask_cmp q x ≡ o → same_ask x q ≡ false
+other_by x q o n h = same_ask_equiv.symm x q ∙ ask_cmp_matches q x ∙ ap is_eq h ∙ n
+
+pub ask_from_search : (asks : List Ask) (ask : Ask) (r : Result ℕ ℕ) → IsStrictlySortedBy ask_cmp asks → IsSearchInRange r (length asks)
+    → IsBinarySearchResult (λ (q : Ask). ask_cmp q ask) asks r
+    → MatchOption (result_ok r) (All (λ q. same_ask ask q ≡ false) asks) (λ i. (i < length asks) × HoldsAt (λ q. q ≡ ask) asks i)
+ask_from_search asks ask (Ok i) up l h = (l, λ d. equal_asks (get_or asks i d) ask (h d))
+ask_from_search asks ask (Err i) up l h =
+    let parts = h (searchable_from_sorted ask_cmp_total (λ (q : Ask). q) asks ask (sorted_asks asks up)) in
+    λ k d in'. elim (cases_lt k i) [
+      | inl low ↦ other_by ask (get_or asks k d) Less refl (parts.0 k d (omega arith) low)
+      | inr high ↦ other_by ask (get_or asks k d) Greater refl (parts.1 k d high in')
+    ]

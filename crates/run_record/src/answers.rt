@@ -37,15 +37,15 @@ fn place_of(asks: &[Ask], guess: usize, ask: &Ask) -> Option<usize>
 
 // Puts the answer of an access at the place of its ask, if it is one, and tells where the next one may be.
 fn put(
-    answers: &mut [Answer],
+    answers: &mut Vec<Answer>,
     asks: &[Ask],
     guess: usize,
     access: &Access,
 ) -> Result<usize, AllocError>
     requires order { IsStrictlySortedBy ask_cmp asks.now }
-    requires number { length answers.old ≡ length asks.now }
-    ensures { (f : AnyAsk → Option AnyAnswer) → answers.old ≡ map (λ q. or_absent (f q)) asks.now
-        → OnOk result (answers.new ≡ map (λ q. or_absent (with_access access.now q (f q))) asks.now) }
+    requires number { length answers.old.items ≡ length asks.now }
+    ensures { OnOk result ((f : AnyAsk → Option AnyAnswer) → answers.old.items ≡ map (λ q. or_absent (f q)) asks.now
+        → answers.new.items ≡ map (λ q. or_absent (with_access access.now q (f q))) asks.now) }
 {
     let Access::Asked(ask, answer) = access else {
         return Ok(guess);
@@ -71,7 +71,7 @@ pub(crate) fn given_to(
     let mut answers = absent(alloc, asks.len())?;
     let mut guess = 0;
     'accesses: for access in accesses {
-        guess = put(answers.as_mut_slice(), asks, guess, access)?;
+        guess = put(&mut answers, asks, guess, access)?;
     }
     Ok(answers)
 }
