@@ -1,18 +1,21 @@
 -- The directories of a path, from the one that it lies in up to the root.
-use Rattle.std.proofs.Common.{◌≡◌, ℕ, ◌+◌, ◌<◌, ◌≤◌, zero, suc, Bool, true, false, ◌||◌, ◌&&◌, cond, List, [], ◌∷◌, ◌++◌, length, take, get_or, codes, Option, Some, None, refl, ap, sym, ◌∙◌, arith, length-append}
+use Rattle.std.proofs.Common.{◌≡◌, ◌≢◌, ℕ, ◌+◌, ◌<◌, ◌≤◌, zero, suc, Bool, true, false, ◌||◌, ◌&&◌, cond, List, [], ◌∷◌, ◌++◌, length, take, get_or, codes, Option, Some, None, refl, ap, sym, ◌∙◌, arith, length-append}
 use Rattle.std.specs.BTreeMap.{is_at}
-use Rattle.std.specs.List.{join_with_byte, list_any}
+use Rattle.std.specs.List.{join_with_byte, list_any, slice_split}
 use Rattle.std.specs.Option.{option_and_then, option_map_or}
 use Rattle.std.specs.Str.{bytes_eq}
+use Rattle.std.proofs.Math.Seq.{take-append_seam}
 use Rattle.std.proofs.lemmas.Bool.{le-leb}
 use Rattle.std.proofs.lemmas.Cmp.{nat_list_eq_equiv}
 use Rattle.std.proofs.lemmas.List.{length-take, take_more}
 use Rattle.bx_tree.specs.declared.limits.TheConstants.{MAX_PATH_BYTES}
 use Rattle.bx_tree.specs.Orders.{path_cmp_matches}
-use Rattle.bx_tree.specs.Paths.{Atoms, IsPath, path_cmp, path_text, same_path}
+use Rattle.bx_tree.specs.Paths.{Atoms, IsPath, Names, path_cmp, path_text, same_path}
 use Rattle.bx_tree.specs.Below.{first_atom, is_at_or_below, is_below, strip_dir}
+use Rattle.bx_tree.proofs.AtomsBelow.{split_whole}
 use Rattle.bx_tree.proofs.Lists.{any_last}
-use Rattle.bx_path.specs.Joining.{join_of, parent}
+use Rattle.bx_tree.proofs.PathTexts.{atoms_from_text, is_slash, split-below}
+use Rattle.bx_path.specs.Joining.{EndsWithPart, HasNoSlash, join_of, parent}
 
 -- ## A step up
 
@@ -36,6 +39,30 @@ parent_short a (b ∷ bs) h = omega (arith, join_shorter a (b ∷ bs) (length bs
 pub join_up : (path : Atoms) → IsPath path → join_of path (codes "..") ≡ parent path
 join_up [] h = refl
 join_up (a ∷ rest) h = ap (λ t. cond t (Some (take (length rest) (a ∷ rest))) None) (le-leb (length (path_text (take (length rest) (a ∷ rest)))) MAX_PATH_BYTES (parent_short a rest h))
+
+-- ## The directory that a path lies in, by its text
+
+take_all_but_last : (a : List ℕ) (rest : Atoms) (part : List ℕ) → take (length (rest ++ part ∷ [])) (a ∷ rest ++ part ∷ []) ≡ a ∷ rest
+take_all_but_last a rest part =
+    ap (λ n. take n (a ∷ rest ++ part ∷ [])) (length-append rest (part ∷ []) ∙ one_more_of (length rest)) ∙ take-append_seam (a ∷ rest) (part ∷ [])
+  where
+    one_more_of : (n : ℕ) → n + 1 ≡ suc n
+    one_more_of n = omega arith
+
+-- the path is one atom
+pub parent_alone : (path : Atoms) → IsPath path → path_text path ≢ codes "." → HasNoSlash (path_text path) → parent path ≡ Some []
+parent_alone path h other none = ap parent (sym (atoms_from_text path h other) ∙ split_whole (path_text path) none)
+
+-- what precedes the last `/` names the directory
+pub parent_named : (path dir : Atoms) (before : List ℕ) → IsPath path → path_text path ≢ codes "." → EndsWithPart before (path_text path) → Names before dir
+    → parent path ≡ Some dir
+parent_named path [] before h other e n = absurd (n.not_root refl)
+parent_named path (a ∷ rest) before h other e n =
+    let text : path_text path ≡ join_with_byte 47 (a ∷ rest) ++ 47 ∷ e.part = e.text_is ∙ ap (λ t. t ++ 47 ∷ e.part) n.text_is in
+    let atoms : path ≡ (a ∷ rest) ++ e.part ∷ [] =
+    sym (atoms_from_text path h other) ∙ ap (slice_split is_slash) text ∙ split-below a rest e.part n.is_path.atoms
+    ∙ ap (λ parts. (a ∷ rest) ++ parts) (split_whole e.part e.whole) in
+    ap parent atoms ∙ ap Some (take_all_but_last a rest e.part)
 
 -- ## What a path lies below
 

@@ -1,19 +1,19 @@
 -- The steps of a relative text lead where the definition says, and give short paths exactly.
 use Rattle.bx_tree.specs.declared.limits.TheConstants.{MAX_ATOM_BYTES}
 use Rattle.bx_tree.specs.declared.limits.TheConstants.{MAX_PATH_BYTES}
-use Rattle.std.proofs.Common.{inl, inr, append_assoc, ◌≡◌, ◌≢◌, ℕ, ◌<◌, ◌≤◌, ◌+◌, true, false, not, cond, ◌&&◌, nat_le, List, [], ◌∷◌, ◌++◌, length, get_or, take, codes, Some, None, refl, ap, sym, ◌∙◌, subst, arith, append-nil}
+use Rattle.std.proofs.Common.{inl, inr, append_assoc, ◌≡◌, ◌≢◌, ℕ, ◌<◌, ◌≤◌, ◌+◌, true, false, not, cond, ◌&&◌, nat_le, List, [], ◌∷◌, ◌++◌, length, get_or, take, codes, Option, Some, None, Result, Ok, Err, refl, ap, sym, ◌∙◌, subst, arith, append-nil}
 use Rattle.std.specs.Borrow.{Bor}
-use Rattle.std.specs.List.{AllByRecursion, join_with_byte, list_all}
+use Rattle.std.specs.List.{AllByRecursion, join_with_byte, list_all, slice_split}
 use Rattle.std.specs.Str.{bytes_eq}
 use Rattle.std.proofs.lemmas.Bool.{and_from, and_parts, cases_Bool, false≢true, le-leb, leb-true, lt-leb, not-true, cases_lt}
 use Rattle.std.proofs.lemmas.List.{take_more, map_push, length-map, length-take-le}
 use Rattle.std.proofs.lemmas.Slice.Eq.{bytes_eq-Decides}
-use Rattle.std.specs.Prelude.{option_and_then}
+use Rattle.std.specs.Prelude.{option_and_then, IfOk, IfSome, ◌==◌}
 use Rattle.bx_tree.specs.Paths.{Atoms, IsAtom, IsPathText, Names, is_atom_byte, path_text}
-use Rattle.bx_tree.proofs.PathTexts.{atoms_again, one_path, join-append}
+use Rattle.bx_tree.proofs.PathTexts.{atoms_again, one_path, join-append, split-below}
 use Rattle.bx_path.specs.Joining.{is_atom, parent, step, if_short, join_of, walk}
 use Rattle.bx_tree.specs.Lent.{texts_now}
-use Rattle.bx_tree.proofs.Lists.{all_true, texts_differ, true_all}
+use Rattle.bx_tree.proofs.Lists.{all_back, all_true, texts_differ, true_all}
 
 -- ## Atoms by a test
 
@@ -119,3 +119,20 @@ joined_if_named text path n =
     ap (λ parts. option_and_then if_short (walk [] parts)) (atoms_again text path n)
     ∙ ap (option_and_then if_short) (walk_down [] path n.is_path.atoms)
     ∙ ap (λ b. cond b (Some path) None) (le-leb (length (path_text path)) MAX_PATH_BYTES n.is_path.short)
+
+-- the text of a path leads below another path to the path with both texts
+pub joined_below : (base : Atoms) (text : List ℕ) (path : Atoms) → base ≢ [] → AllByRecursion IsAtom base → Names (path_text base ++ 47 ∷ text) path → join_of base text ≡ Some path
+joined_below [] text path other h n = absurd (other refl)
+joined_below (a ∷ as') text path other h n =
+    let parts = slice_split (λ b. b == 47) text in
+    let whole : path ≡ (a ∷ as') ++ parts = sym (atoms_again (path_text (a ∷ as') ++ 47 ∷ text) path n) ∙ split-below a as' text h in
+    let below : AllByRecursion IsAtom parts = all_back IsAtom (a ∷ as') parts (subst (AllByRecursion IsAtom) whole n.is_path.atoms) in
+    ap (option_and_then if_short) (walk_down (a ∷ as') parts below)
+    ∙ ap if_short (sym whole)
+    ∙ ap (λ b. cond b (Some path) None) (le-leb (length (path_text path)) MAX_PATH_BYTES n.is_path.short)
+
+-- what holds of a path that is found, by what holds of it
+pub found_weaker : {X E : Type 0} (P Q : X → Type 0) (r : Result (Option X) E) → ((x : X) → P x → Q x) → IfOk r (λ o. IfSome o P) → IfOk r (λ o. IfSome o Q)
+found_weaker P Q (Ok (Some x)) f h = f x h
+found_weaker P Q (Ok None) f h = tt
+found_weaker P Q (Err e) f h = tt

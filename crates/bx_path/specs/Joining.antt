@@ -1,7 +1,7 @@
 -- The path that a text leads to from another path.
-use Rattle.std.specs.Prelude.{ℕ, Bool, not, ◌&&◌, ◌==◌, nat_le, if◌then◌else◌}
+use Rattle.std.specs.Prelude.{◌≡◌, ◌≢◌, ℕ, Bool, not, ◌&&◌, ◌==◌, nat_le, if◌then◌else◌}
 use Rattle.std.specs.Prelude.{List, [], ◌∷◌, ◌++◌, length, take, codes, Option, Some, None, option_and_then}
-use Rattle.std.specs.List.{list_all, slice_split}
+use Rattle.std.specs.List.{AllByRecursion, list_all, slice_split}
 use Rattle.std.specs.Str.{bytes_eq}
 use Rattle.bx_tree.specs.Paths.{Atoms, is_atom_byte, path_text}
 use Rattle.bx_tree.specs.declared.limits.TheConstants.{MAX_ATOM_BYTES, MAX_PATH_BYTES}
@@ -36,3 +36,15 @@ if_short path = if nat_le (length (path_text path)) MAX_PATH_BYTES then Some pat
 -- where the parts of a text between its `/` lead from a path, if the end is short enough to be a path
 abbrev pub join_of : Atoms → List ℕ → Option Atoms
 join_of base text = option_and_then if_short (walk base (slice_split (λ b. b == 47) text))
+
+-- ## The last part of a text
+
+-- the text has no `/`
+abbrev pub HasNoSlash : List ℕ → Type 0
+HasNoSlash text = AllByRecursion (λ b. b ≢ 47) text
+
+-- the text is another, a `/`, and a part with no `/`
+pub record EndsWithPart (before text : List ℕ) : Type 0 where
+  pub part : List ℕ
+  pub whole : HasNoSlash part
+  pub text_is : text ≡ before ++ 47 ∷ part

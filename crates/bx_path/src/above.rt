@@ -1,9 +1,9 @@
 //! The directories that a path lies in.
-ghost use Rattle.std.specs.Prelude.{◌≡◌, ◌||◌, IfOk, OnOk, codes};
+ghost use Rattle.std.specs.Prelude.{◌≡◌, ◌||◌, IfOk, IfSome, OnOk, None, codes};
 ghost use Rattle.std.specs.BTreeSet.{contains};
 ghost use Rattle.std.specs.List.{list_any};
 ghost use Rattle.bx_tree.specs.Paths.{Atoms, path_cmp, same_path};
-ghost use Rattle.bx_path.specs.Joining.{join_of, parent as parent_of};
+ghost use Rattle.bx_path.specs.Joining.{EndsWithPart, HasNoSlash, join_of, parent as parent_of};
 ghost use Rattle.bx_tree.specs.Below.{is_below};
 
 use crate::joining::join;
@@ -22,14 +22,37 @@ fn one_up(alloc: Global, path: &Path) -> Result<Option<Path>, AllocError>
     }
 }
 
+// What a text has before its last `/`, if it has one.
+fn before_last(text: &[u8]) -> Option<&[u8]>
+    ensures some { IfSome result (λ before. EndsWithPart before.now text.now) }
+    ensures none { result ≡ None → HasNoSlash text.now }
+{
+    let mut left = text;
+    'back: while let Some((last, before)) = left.split_last() {
+        if *last == b'/' {
+            return Some(before);
+        }
+        left = before;
+    }
+    None
+}
+
 /// The directory that a path lies in; the root lies in none.
 pub fn parent(alloc: Global, path: &Path) -> Result<Option<Path>, AllocError>
     ensures { IfOk result (λ dir. dir ≡ parent_of path.now) }
 {
-    if path.text() == "." {
+    let text = path.text();
+    if text == "." {
         return Ok(None);
     }
-    one_up(alloc, path)
+    match before_last(text.as_bytes()) {
+        None => Ok(Some(Path::root(alloc)?)),
+        Some(before) => match Path::read(alloc, before) {
+            Ok(dir) => Ok(Some(dir)),
+            Err(PathFault::BadPath) => one_up(alloc, path),
+            Err(PathFault::Memory) => Err(AllocError),
+        },
+    }
 }
 
 /// The directories that a path lies strictly below, from the nearest up to the root.

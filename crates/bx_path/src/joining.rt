@@ -1,12 +1,12 @@
 //! Relative paths: the path that a text leads to from another path.
 
-ghost use Rattle.std.specs.Prelude.{◌≡◌, ◌==◌, None, Some, IfOk, IfSome, OnOk, MatchResult};
+ghost use Rattle.std.specs.Prelude.{◌≡◌, ◌==◌, ◌++◌, ◌∷◌, None, Some, IfOk, IfSome, OnOk, MatchResult};
 ghost use Rattle.std.specs.List.{AllByRecursion, join_with_byte, slice_split};
-ghost use Rattle.bx_tree.specs.Paths.{IsAtom};
+ghost use Rattle.bx_tree.specs.Paths.{IsAtom, IsPath, Names, path_text};
 ghost use Rattle.bx_path.specs.Joining.{if_short, join_of, step};
 ghost use Rattle.bx_tree.specs.Lent.{texts_now};
 
-use bx_tree::{Memory, Path, PathFault, is_atom};
+use bx_tree::{MAX_PATH_BYTES, Memory, Path, PathFault, is_atom};
 use std::alloc::{AllocError, Global};
 
 /// The parts of a text between its `/`.
@@ -79,17 +79,42 @@ fn path_of(alloc: Global, atoms: &[&[u8]]) -> Result<Path, PathFault>
     Path::read(alloc, text.as_slice())
 }
 
-// The path with this text, if the text is one and leads from the root.
-fn named_from_root(alloc: Global, base: &Path, text: &[u8]) -> Result<Option<Path>, Memory>
-    ensures { IfOk result (λ found. IfSome found (λ path. join_of base.now text.now ≡ Some path)) }
+// The path with this text, if the text is one.
+fn named(alloc: Global, text: &[u8]) -> Result<Option<Path>, Memory>
+    ensures { IfOk result (λ found. IfSome found (λ path. Names text.now path)) }
 {
-    if !base.is_root() {
-        return Ok(None);
-    }
     match Path::read(alloc, text) {
         Ok(path) => Ok(Some(path)),
         Err(PathFault::BadPath) => Ok(None),
         Err(PathFault::Memory) => Err(AllocError),
+    }
+}
+
+// The path with this text below another that is not the root, if the text is one and the whole is short enough.
+fn named_below(alloc: Global, base: &Path, text: &[u8]) -> Result<Option<Path>, Memory>
+    ensures base { IsPath base.now }
+    ensures found { IfOk result (λ found. IfSome found (λ path. Names (path_text base.now ++ 47 ∷ text.now) path)) }
+{
+    let above = base.text().as_bytes();
+    // A text that begins with a dot is seldom a path, and one that is too long is none.
+    if text.first() == Some(&b'.') || text.len() > MAX_PATH_BYTES {
+        return Ok(None);
+    }
+    let mut whole = Vec::with_capacity(alloc, above.len() + 1 + text.len())?;
+    whole.extend_from_slice(above)?;
+    whole.push(b'/')?;
+    whole.extend_from_slice(text)?;
+    named(alloc, whole.as_slice())
+}
+
+// The path with this text below another, if the text is one.
+fn joined_if_named(alloc: Global, base: &Path, text: &[u8]) -> Result<Option<Path>, Memory>
+    ensures { IfOk result (λ found. IfSome found (λ path. join_of base.now text.now ≡ Some path)) }
+{
+    if base.is_root() {
+        named(alloc, text)
+    } else {
+        named_below(alloc, base, text)
     }
 }
 
@@ -115,8 +140,8 @@ pub fn join(alloc: Global, base: &Path, text: &[u8]) -> Result<Path, PathFault>
         (λ path. join_of base.now text.now ≡ Some path)
         (λ fault. fault ≡ PathFault.BadPath → join_of base.now text.now ≡ None) }
 {
-    // Most texts are those of the paths that they lead to from the root.
-    match named_from_root(alloc, base, text)? {
+    // Most texts are those of paths below the other.
+    match joined_if_named(alloc, base, text)? {
         Some(path) => Ok(path),
         None => walked(alloc, base, text),
     }

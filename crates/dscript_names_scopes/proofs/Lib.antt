@@ -9,3 +9,4 @@ pub mod Placed
 pub mod ShortestPrefixes
 pub mod TableValues
 pub mod FoldSteps
+mod Longest

@@ -1,5 +1,5 @@
 -- Tables by name, in place of lists that are scanned.
-use Rattle.std.specs.Prelude.{◌≡◌, ℕ, Bool, List, Option, Some, None, is_some}
+use Rattle.std.specs.Prelude.{◌≡◌, ◌≤◌, ℕ, All, Bool, List, length, Option, Some, None, is_some}
 use Rattle.std.specs.BTreeMap.{BTreeMap, get, get_by}
 use Rattle.std.specs.Cmp.Lexicographic.{slice_cmp}
 use Rattle.std.specs.List.{list_any, position_from}
@@ -38,6 +38,10 @@ at_module tables m name = at_name_of (get nat_cmp tables m) name
 abbrev pub HasValuesOf : List Declared → BTreeMap Dotted ℕ → Type 0
 HasValuesOf decls table =
     (name : Dotted) → at_name table name ≡ position_from (is_value_of is_any name) 0 decls
+
+-- no declared name has more parts
+abbrev pub AreWithin : ℕ → List Declared → Type 0
+AreWithin most decls = All (λ d. length d.name ≤ most) decls
 
 -- the tables have the values with such marks of the modules of these files
 abbrev pub HasModulesOf : (Mark → Bool) → List FileNames → ByModule → Type 0

@@ -10,7 +10,7 @@ ghost use Rattle.dscript_names_scopes.specs.Hashes.{name_hash};
 ghost use Rattle.dscript_names_scopes.specs.Orders.{name_cmp, name_cmp_matches, name_cmp_partial, name_cmp_total};
 ghost use Rattle.dscript_names_scopes.specs.Orders.{parts_cmp};
 
-use crate::hashing::name_hash;
+use crate::hashing::{name_hash, text_hash};
 use bx_tree::{Memory, Text};
 use std::alloc::Global;
 use std::cmp::Ordering;
@@ -127,8 +127,9 @@ impl DottedName {
     pub(crate) fn push(&mut self, part: Text) -> Result<(), Memory>
         ensures { IfOk result (λ _. self.new ≡ self.old ++ part ∷ []) }
     {
+        let hash = text_hash(self.hash, part.bytes());
         self.parts.push(part)?;
-        self.hash = name_hash(self.parts.as_slice());
+        self.hash = hash;
         Ok(())
     }
 }

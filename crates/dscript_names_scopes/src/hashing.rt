@@ -12,7 +12,7 @@ pub(crate) const FIRST_HASH: u64 = 14_695_981_039_346_656_037;
 pub(crate) const HASH_FACTOR: u64 = 1_099_511_628_211;
 
 /// The hash of what comes before, with these bytes after it.
-fn text_hash(before: u64, bytes: &[u8]) -> u64
+pub(crate) fn text_hash(before: u64, bytes: &[u8]) -> u64
     ensures { result ≡ text_hash before bytes.now }
 {
     let mut hash = before;

@@ -1,11 +1,11 @@
 //! The names of files, as lookups see them.
 
-ghost use Rattle.std.specs.Prelude.{◌≡◌, IfOk, Some, option_copied};
+ghost use Rattle.std.specs.Prelude.{◌≡◌, ◌≤◌, IfOk, Some, option_copied};
 ghost use Rattle.std.specs.List.{find, list_any, slice_get};
 ghost use Rattle.std.specs.Str.{bytes_eq};
 ghost use Rattle.dscript_names_scopes.specs.Declarations.{is_any, is_exported, is_public, sees_of};
 ghost use Rattle.dscript_names_scopes.specs.Lookup.{module_number, opens, value_in};
-ghost use Rattle.dscript_names_scopes.specs.Tables.{HasModulesOf};
+ghost use Rattle.dscript_names_scopes.specs.Tables.{AreWithin, HasModulesOf};
 
 use crate::dotted::DottedName;
 use crate::opened::{Opened, opened_of_modules};
@@ -71,13 +71,15 @@ pub struct FileNames {
     pub(crate) imports: Vec<Imported>,
     // the numbers of the values, by dotted name
     values: BTreeMap<DottedName, usize>,
+    // the most parts that a declared name has
+    longest: usize,
     // the place of the first import of each name
     places: Places,
 }
 
 impl Model for FileNames {
     ghost use Rattle.dscript_names_scopes.specs.Names.{FileNames as Names};
-    ghost use Rattle.dscript_names_scopes.specs.Tables.{HasPlacesOf, HasValuesOf};
+    ghost use Rattle.dscript_names_scopes.specs.Tables.{AreWithin, HasPlacesOf, HasValuesOf};
 
     ghost Value = { Names };
 
@@ -90,6 +92,7 @@ impl Model for FileNames {
 
     ghost invariant = { λ f. record {
       values : HasValuesOf f.decls.items f.values;
+      longest : AreWithin f.longest f.decls.items;
       places : HasPlacesOf (λ i. i.name) f.imports.items f.places.table;
     } };
 }
@@ -99,6 +102,25 @@ fn import_at(imports: &[Imported], place: usize) -> Option<&Imported>
     ensures { option_copied result ≡ slice_get imports.now place }
 {
     imports.get(place)
+}
+
+/// The greater of two numbers.
+fn greater(first: usize, second: usize) -> usize
+    ensures first { first ≤ result }
+    ensures second { second ≤ result }
+{
+    if first < second { second } else { first }
+}
+
+/// The most parts that the name of one of these declarations has.
+fn longest_of(decls: &[Declared]) -> usize
+    ensures { AreWithin result decls.now }
+{
+    let mut longest = 0;
+    'decls: for decl in decls {
+        longest = greater(longest, decl.name.parts().len());
+    }
+    longest
 }
 
 impl FileNames {
@@ -118,6 +140,7 @@ impl FileNames {
         }) }
     {
         let values = numbers_of(alloc, decls.as_slice())?;
+        let longest = longest_of(decls.as_slice());
         let places = places_of_imports(alloc, imports.as_slice())?;
         Ok(FileNames {
             module_number,
@@ -125,6 +148,7 @@ impl FileNames {
             opened,
             imports,
             values,
+            longest,
             places,
         })
     }
@@ -140,6 +164,9 @@ impl FileNames {
     pub(crate) fn value(&self, name: &DottedName) -> Option<usize>
         ensures { result ≡ value_in is_any self.now name.now }
     {
+        if name.parts().len() > self.longest {
+            return None;
+        }
         self.values.get(name).copied()
     }
 

@@ -1,15 +1,26 @@
 -- The answers that a run was given are those of its answerer.
-use Rattle.std.proofs.Common.{◌≡◌, ℕ, ◌<◌, ◌+◌, length, get_or, take, Bool, true, false, cond, List, [], ◌∷◌, ◌++◌, map, Option, Some, None, refl, ap, sym, ◌∙◌, subst, inl, inr}
-use Rattle.std.specs.List.{AllByRecursion}
+use Rattle.std.proofs.Common.{◌≡◌, ℕ, zero, suc, ◌<◌, ◌+◌, arith, length, get_or, replicate, take, Bool, true, false, cond, List, [], ◌∷◌, ◌++◌, map, Option, Some, None, Result, Ok, Err, refl, ap, sym, ◌∙◌, subst, inl, inr}
+use Rattle.std.specs.List.{AllByRecursion, HoldsAt}
+use Rattle.std.specs.Option.{MatchOption}
+use Rattle.std.specs.Result.{result_ok}
+use Rattle.std.specs.Prelude.{All, slice_set}
+use Rattle.std.specs.List.Sorted.{IsBinarySearchResult, IsSearchInRange, IsSortedBy, IsStrictlySortedBy}
+use Rattle.std.specs.Ordering.{is_eq, is_lt, ordering_reverse}
+use Rattle.std.specs.declared.cmp.Ordering.{Ordering}
+use Rattle.std.specs.declared.cmp.Ordering.TheVariants.{Less, Greater}
+use Rattle.std.proofs.lemmas.Bool.{cases_lt}
 use Rattle.std.proofs.lemmas.List.{take_more}
-use Rattle.std.specs.BTreeMap.{is_at}
+use Rattle.std.proofs.lemmas.List.Sorted.{searchable_from_sorted}
+use Rattle.std.proofs.lemmas.Map.Keys.{Less-from_sorted}
+use Rattle.std.proofs.lemmas.List.Elements.{All-from_recursion, recursion_from_All}
 use Rattle.bx_tree.specs.Members.{Has}
 use Rattle.observed.specs.Asks.{ask_cmp, same_ask}
-use Rattle.observed.specs.Orders.{ask_cmp_matches, same_ask_is, same_ask_itself}
+use Rattle.observed.specs.Orders.{ask_cmp_matches, ask_cmp_total, equal_asks, same_ask_equiv, same_ask_is, same_ask_itself}
 use Rattle.observed.specs.declared.ask.Ask.{Ask}
 use Rattle.observed.specs.declared.access.Access.{Access}
 use Rattle.observed.specs.declared.access.Access.TheVariants.{Asked, Wrote, WriteDenied}
 use Rattle.observed.specs.declared.access.Answer.{Answer}
+use Rattle.observed.specs.declared.access.Answer.TheVariants as answers
 use Rattle.observed.proofs.OneSet.{has_set}
 use Rattle.tool_run.specs.Description.{Description, answer_of, given, or_else}
 use Rattle.tool_run.specs.Laws.{IsAnswered}
@@ -117,12 +128,75 @@ recorded_more xs i access q l is =
     ∙ ap (λ (x : Access). recorded (take i xs ++ x ∷ []) q) (sym is)
     ∙ recorded_after (take i xs) access q
 
--- an answer that is put under its ask
-pub put_is : (access : Access) (ask k q : Ask) (answer v : Answer) (before now : Option Answer) → access ≡ Asked ask answer → k ≡ ask → v ≡ answer
-    → now ≡ cond (is_at (ask_cmp k) q) (Some v) before → now ≡ with_access access q before
-put_is access ask k q answer v before now is key value put =
-    put
-    ∙ ap (λ (x : Ask). cond (is_at (ask_cmp x) q) (Some v) before) key
-    ∙ ap (λ (x : Answer). cond (is_at (ask_cmp ask) q) (Some x) before) value
-    ∙ ap (λ t. cond t (Some answer) before) (sym (ask_cmp_matches ask q))
-    ∙ ap (λ (x : Access). with_access x q before) (sym is)
+-- ## An answer that is put in its place
+
+-- what an ask of another answers stays
+same_there : (ask : Ask) (answer : Answer) (f : Ask → Option Answer) (asks : List Ask) → AllByRecursion (λ q. same_ask ask q ≡ false) asks
+    → map (λ q. or_absent (f q)) asks ≡ map (λ q. or_absent (with_access (Asked ask answer) q (f q))) asks
+same_there ask answer f [] other = refl
+same_there ask answer f (x ∷ xs) other =
+    ap (λ y. y ∷ map (λ q. or_absent (f q)) xs) (sym (ap (λ t. or_absent (cond t (Some answer) (f x))) other.0))
+    ∙ ap (λ ys. or_absent (with_access (Asked ask answer) x (f x)) ∷ ys) (same_there ask answer f xs other.1)
+
+-- no ask is the same
+pub none_put : (ask : Ask) (answer : Answer) (f : Ask → Option Answer) (asks : List Ask) → All (λ q. same_ask ask q ≡ false) asks
+    → map (λ q. or_absent (f q)) asks ≡ map (λ q. or_absent (with_access (Asked ask answer) q (f q))) asks
+none_put ask answer f asks other = same_there ask answer f asks (recursion_from_All (λ q. same_ask ask q ≡ false) asks other)
+
+less_is_other : (x y : Ask) → ask_cmp x y ≡ Less → same_ask x y ≡ false
+less_is_other x y l = ask_cmp_matches x y ∙ ap is_eq l
+
+-- the asks after one in order are others
+later_others : (x : Ask) (asks : List Ask) → AllByRecursion (λ y. ask_cmp x y ≡ Less) asks → AllByRecursion (λ q. same_ask x q ≡ false) asks
+later_others x [] h = tt
+later_others x (y ∷ ys) h = (less_is_other x y h.0, later_others x ys h.1)
+
+earlier_other : (x : Ask) (asks : List Ask) (k : ℕ) (d : Ask) → AllByRecursion (λ y. ask_cmp x y ≡ Less) asks → k < length asks → same_ask (get_or asks k d) x ≡ false
+earlier_other x asks k d h l = same_ask_equiv.symm (get_or asks k d) x ∙ less_is_other x (get_or asks k d) (All-from_recursion (λ y. ask_cmp x y ≡ Less) asks h k d l)
+
+pub put_there : (asks : List Ask) (place : ℕ) (ask d : Ask) (answer : Answer) (f : Ask → Option Answer) → IsStrictlySortedBy ask_cmp asks → place < length asks
+    → get_or asks place d ≡ ask → slice_set (map (λ q. or_absent (f q)) asks) place answer ≡ map (λ q. or_absent (with_access (Asked ask answer) q (f q))) asks
+unfolding IsStrictlySortedBy
+put_there [] place ask d answer f sorted l is = absurd (omega (arith, l))
+put_there (x ∷ xs) zero ask d answer f sorted l is =
+    ap (λ y. y ∷ map (λ q. or_absent (f q)) xs) (sym (ap (λ t. or_absent (cond t (Some answer) (f x))) (subst (λ (z : Ask). same_ask ask z ≡ true) (sym is) (same_ask_itself ask))))
+    ∙ ap (λ ys. or_absent (with_access (Asked ask answer) x (f x)) ∷ ys)
+    (same_there ask answer f xs (subst (λ (z : Ask). AllByRecursion (λ q. same_ask z q ≡ false) xs) is (later_others x xs sorted.0)))
+put_there (x ∷ xs) (suc k) ask d answer f sorted l is =
+    let within : k < length xs = omega (arith, l) in
+    ap (λ y. y ∷ slice_set (map (λ q. or_absent (f q)) xs) k answer)
+    (sym (ap (λ t. or_absent (cond t (Some answer) (f x))) (subst (λ (z : Ask). same_ask z x ≡ false) is (earlier_other x xs k d sorted.0 within))))
+    ∙ ap (λ ys. or_absent (with_access (Asked ask answer) x (f x)) ∷ ys) (put_there xs k ask d answer f sorted.1 within is)
+
+-- before any access all are absent
+pub absent_first : (asks : List Ask) → replicate (length asks) answers.Absent ≡ map (given_in []) asks
+absent_first [] = refl
+absent_first (x ∷ xs) = ap (λ ys. answers.Absent ∷ ys) (absent_first xs)
+
+-- the answers after one access more
+pub given_more : (asks : List Ask) (xs : List Access) (i : ℕ) (access : Access) → i < length xs → access ≡ get_or xs i access
+    → map (λ q. or_absent (with_access access q (recorded (take i xs) q))) asks ≡ map (given_in (take (i + 1) xs)) asks
+given_more asks xs i access l is =
+    same_map (λ q. or_absent (with_access access q (recorded (take i xs) q))) (given_in (take (i + 1) xs)) asks
+    (λ q h. ap or_absent (sym (recorded_more xs i access q l is)))
+
+-- ## A search for an ask
+
+sorted_asks : (asks : List Ask) → IsStrictlySortedBy ask_cmp asks → IsSortedBy (λ (a b : Ask). is_lt (ask_cmp a b)) asks
+sorted_asks asks up k d low l =
+    let less = Less-from_sorted ask_cmp asks k (k + 1) d up (omega arith) l in
+    ap is_lt (ask_cmp_total.antisymm (get_or asks (k + 1) d) (get_or asks k d) ∙ ap ordering_reverse less)
+
+other_by : (x q : Ask) (o : Ordering) → is_eq o ≡ false → ask_cmp q x ≡ o → same_ask x q ≡ false
+other_by x q o n h = same_ask_equiv.symm x q ∙ ask_cmp_matches q x ∙ ap is_eq h ∙ n
+
+pub ask_from_search : (asks : List Ask) (ask : Ask) (r : Result ℕ ℕ) → IsStrictlySortedBy ask_cmp asks → IsSearchInRange r (length asks)
+    → IsBinarySearchResult (λ (q : Ask). ask_cmp q ask) asks r
+    → MatchOption (result_ok r) (All (λ q. same_ask ask q ≡ false) asks) (λ i. (i < length asks) × HoldsAt (λ q. q ≡ ask) asks i)
+ask_from_search asks ask (Ok i) up l h = (l, λ d. equal_asks (get_or asks i d) ask (h d))
+ask_from_search asks ask (Err i) up l h =
+    let parts = h (searchable_from_sorted ask_cmp_total (λ (q : Ask). q) asks ask (sorted_asks asks up)) in
+    λ k d in'. elim (cases_lt k i) [
+      | inl low ↦ other_by ask (get_or asks k d) Less refl (parts.0 k d (omega arith) low)
+      | inr high ↦ other_by ask (get_or asks k d) Greater refl (parts.1 k d high in')
+    ]

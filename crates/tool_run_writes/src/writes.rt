@@ -148,6 +148,9 @@ impl Writes {
     fn has_file_above(&self, alloc: Global, path: &Path) -> Result<bool, AllocError>
         ensures { IfOk result (λ yes. yes ≡ list_any (λ f. is_below path.now f.0) self.now) }
     {
+        if self.files.is_empty() {
+            return Ok(false);
+        }
         let above = directories(alloc, path)?;
         Ok(is_any_file(&self.files, above.as_slice()))
     }
