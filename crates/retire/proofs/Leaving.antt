@@ -140,7 +140,7 @@ module _ (pips : List Pip) (tree : Files) (budget : ℕ) (before : StoreState) (
         let u : UsableAt before.held d see s asks = one.1.1 in
         let held : HoldsPaths before.held s.paths asks = subst (λ (qs : List Ask). HoldsPaths before.held s.paths qs) u.asks_are u.by.paths in
         let asked : Compared pips tree budget before.held (asked_text d see s.paths asks) =
-        run_met pips tree budget before.held (asked_text d see s.paths asks) i d see runs (met.strong s.paths asks (inr held) refl) in
+        run_met pips tree budget before.held (asked_text d see s.paths asks) i d see runs (met.strong s.paths asks (inr ((u.list, u.held, (s, u.listed, refl)), held)) refl) in
         usable_at kept.held d see s asks
         (stay (Compared pips tree budget before.held) fair.apart d see s asks asked fs before now ready
         (none_is pips tree list keeps free budget before.held fair.apart i d see runs read fs 0 follows.high follows.successes spelled none)

@@ -3,25 +3,42 @@
 #![tactic(auto)]
 
 mod over_stores;
+mod watched;
 
 use bx_engine::command;
 use bx_io::{FailKeeper, Gate, Keeper, MemKeeper, MemSink, MemSource};
-pub use over_stores::{ALL_HIT, ALL_RAN, FIRST_CALLS, are_built, is_built, left_after};
+pub use over_stores::{
+    ALL_HIT, ALL_RAN, FIRST_CALLS, are_built, is_built, is_built_without_cache, left_after,
+    runs_after_puts,
+};
 use std::alloc::{AllocError, Global};
 use std::sync::Wait;
 use std::sync::atomic::AtomicU32;
 use std::sync::atomic::Ordering::Relaxed;
 use std::thread::Threads;
 
-/// A gate that counts for how many runs it was passed.
+/// A gate that counts for how many runs it was passed, and for which pips.
 #[derive(Drop)]
 pub struct CountGate {
     passed: AtomicU32,
+    by_pip: AtomicU32,
+}
+
+/// What one run of a pip adds to the counts by pip: a one for the first pips, each at a place of its own.
+fn mark(pip: u32) -> u32 {
+    match pip {
+        0 => 1,
+        1 => 100,
+        2 => 10_000,
+        3 => 1_000_000,
+        _ => 100_000_000,
+    }
 }
 
 impl Gate for CountGate {
-    fn pass(&self, _pip: u32) {
+    fn pass(&self, pip: u32) {
         self.passed.fetch_add(1, Relaxed);
+        self.by_pip.fetch_add(mark(pip), Relaxed);
     }
 }
 
@@ -30,7 +47,13 @@ impl CountGate {
     pub fn new() -> CountGate {
         CountGate {
             passed: AtomicU32::new(0),
+            by_pip: AtomicU32::new(0),
         }
+    }
+
+    /// How many runs of each pip passed it: two decimal digits for each of the first four, the last two for pip 0.
+    pub fn passed_by_pip(&self) -> u32 {
+        self.by_pip.load(Relaxed)
     }
 
     /// How many runs passed it.
@@ -57,10 +80,13 @@ pub const NO_FAULTS: Streams = Streams {
     notes_fail: 0,
 };
 
-/// The one word of a build.
-fn words(alloc: Global) -> Result<Vec<String>, AllocError> {
+/// The words of a build, which uses the store or not.
+fn words(alloc: Global, cached: bool) -> Result<Vec<String>, AllocError> {
     let mut words = Vec::new(alloc);
     words.push(String::from_str(alloc, "build")?)?;
+    if !cached {
+        words.push(String::from_str(alloc, "--no-cache")?)?;
+    }
     Ok(words)
 }
 
@@ -103,16 +129,17 @@ fn add_answer(
 }
 
 /// Adds what a build of this source comes to.
-fn add_call<H: Threads + Wait + Sync, K: Keeper>(
+fn add_call<H: Threads + Wait + Sync, K: Keeper, G: Gate>(
     rt: &H,
     alloc: Global,
+    cached: bool,
     source: &mut MemSource,
     streams: Streams,
     keeper: &mut K,
-    gate: &CountGate,
+    gate: &G,
     seen: &mut Vec<u8>,
 ) -> Result<(), AllocError> {
-    let words = words(alloc)?;
+    let words = words(alloc, cached)?;
     let mut out = sink_of(alloc, streams, streams.out_fails)?;
     let mut notes = sink_of(alloc, streams, streams.notes_fail)?;
     let status = command(
@@ -122,15 +149,28 @@ fn add_call<H: Threads + Wait + Sync, K: Keeper>(
 }
 
 /// Adds what a build of this input comes to: the output, `notes ` and the notes, and `status ` and the status.
-pub fn add_build<H: Threads + Wait + Sync, K: Keeper>(
+pub fn add_build<H: Threads + Wait + Sync, K: Keeper, G: Gate>(
     rt: &H,
     alloc: Global,
     input: &str,
     streams: Streams,
     keeper: &mut K,
-    gate: &CountGate,
+    gate: &G,
     seen: &mut Vec<u8>,
 ) -> Result<(), AllocError> {
     let mut source = source_of(alloc, input.as_bytes(), streams)?;
-    add_call(rt, alloc, &mut source, streams, keeper, gate, seen)
+    add_call(rt, alloc, true, &mut source, streams, keeper, gate, seen)
+}
+
+/// Adds what a build of this input comes to that does not use the store.
+pub fn add_build_without_cache<H: Threads + Wait + Sync, K: Keeper, G: Gate>(
+    rt: &H,
+    alloc: Global,
+    input: &str,
+    keeper: &mut K,
+    gate: &G,
+    seen: &mut Vec<u8>,
+) -> Result<(), AllocError> {
+    let mut source = source_of(alloc, input.as_bytes(), NO_FAULTS)?;
+    add_call(rt, alloc, false, &mut source, NO_FAULTS, keeper, gate, seen)
 }

@@ -1,0 +1,9 @@
+use Rattle.retire_laws.proofs.SecondBuilds.{no_tool, stays_fair}
+use Rattle.retire_laws.proofs.again.second_build.Goals as goal
+
+pub returns-clause-fair : goal.returns-clause-fair
+returns-clause-fair c =
+    λ pips tree budget before kept list keeps free read named fair left. stays_fair pips tree budget before list keeps free read named fair kept left
+
+pub returns-clause-runs_no_tool : goal.returns-clause-runs_no_tool
+returns-clause-runs_no_tool c = no_tool

@@ -1,0 +1,28 @@
+//! A second build over the store that a build left.
+ghost use Rattle.std.specs.Prelude.{◌≡◌, ◌+◌, ℕ, List, Some, true};
+ghost use Rattle.std.specs.List.{list_all};
+ghost use Rattle.bx_tree.specs.Trees.{Files};
+ghost use Rattle.bx_io.specs.Holdings.{StoreState as AnyStore};
+ghost use Rattle.pip_model_types.specs.Makers.{IsPipList};
+ghost use Rattle.pip_model_types.specs.declared.pip.Pip.{Pip};
+ghost use Rattle.graph_check.specs.Rules.{KeepsRules};
+ghost use Rattle.one_thread.specs.OneThread.{one_thread, run_count, verdicts_of};
+ghost use Rattle.violations.specs.Verdicts.{is_success};
+ghost use Rattle.retire.specs.Builds.{IsFair, LeavesFair, LeavesUsable, Spares};
+ghost use Rattle.retire.specs.Runs.{NoneReserved};
+ghost use Rattle.retire_laws.specs.SecondBuild.{AllReadBack, NamesHeldPaths};
+
+/// The store that a build leaves of a fair one is fair for the same build: nothing is compared in the second that was
+/// not compared in the first. So where all pips succeed and no lookup or save of the first failed, a second build
+/// that counts no fault runs no tool.
+pub fn second_build()
+    ensures fair { (pips : List Pip) (tree : Files) (budget : ℕ) (before kept : AnyStore) → IsPipList pips
+        → KeepsRules pips tree → NoneReserved tree → AllReadBack pips tree budget → NamesHeldPaths before.held
+        → IsFair pips tree budget before.held → LeavesFair pips tree budget before (Some kept)
+        → IsFair pips tree budget kept.held }
+    ensures runs_no_tool { (pips : List Pip) (tree : Files) (budget : ℕ) (kept : AnyStore) (hits ran : ℕ)
+        → LeavesUsable pips tree budget (Some kept)
+        → list_all is_success (verdicts_of (one_thread pips tree budget)) ≡ true
+        → Spares pips tree budget kept.held hits 0
+        → hits + ran ≡ run_count pips (verdicts_of (one_thread pips tree budget)) → ran ≡ 0 }
+{}
