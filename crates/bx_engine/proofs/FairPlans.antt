@@ -1,6 +1,7 @@
 -- What a fair store is for a plan, and for an input that is read.
 use Rattle.std.proofs.Common.{◌≡◌, ℕ, ◌<◌, Bool, true, false, List, [], length, get_or, Option, Some, sym, ◌∙◌, subst, arith}
 use Rattle.std.specs.List.{Contains}
+use Rattle.std.proofs.lemmas.Option.{same_Some}
 use Rattle.std.proofs.lemmas.List.{get_or-map, get_or_default, length-map}
 use Rattle.bx_tree.specs.Paths.{Atoms}
 use Rattle.bx_tree.specs.Trees.{Files, IsReserved, paths_of}
@@ -10,26 +11,28 @@ use Rattle.bx_engine_front.specs.declared.limits.Limits.{Limits}
 use Rattle.bx_engine_words.specs.declared.order.Order.{Order}
 use Rattle.pip_model_types.specs.declared.pip.Pip.{Pip}
 use Rattle.retire.specs.Runs.{NoneReserved}
-use Rattle.retire.specs.Builds.{Fair, IsFair}
+use Rattle.retire.specs.Builds.{Fair, IsFair, IsFairStore}
 use Rattle.bx_engine.specs.Ends.{AreSources, HasReserved}
 use Rattle.bx_engine.specs.Stores.{FairStore, FairWhere}
 
 -- the store of an input is fair for the plan of that input
-pub fair_plan : (cached : Bool) (limits : Limits) (input : List ℕ) (held : Option Holdings) (tree : Files) (pips : List Pip)
-    → FairWhere cached limits input held → AreSources input tree → Plans limits tree pips → Fair pips tree limits.tool_budget cached held
-fair_plan false limits input held tree pips fair sources plans = tt
-fair_plan true limits input held tree pips fair sources plans = fair tree pips sources plans
+pub fair_plan : (cached : Bool) (limits : Limits) (input : List ℕ) (before now : Option Holdings) (tree : Files) (pips : List Pip)
+    → FairWhere cached limits input before now → AreSources input tree → Plans limits tree pips → Fair pips tree limits.tool_budget cached before now
+fair_plan false limits input before now tree pips fair sources plans = tt
+fair_plan true limits input before now tree pips fair sources plans = fair tree pips sources plans
 
--- a store that is fair where it is used is so where it is this one
-pub fair_is : (pips : List Pip) (tree : Files) (budget : ℕ) (cached : Bool) (held : Option Holdings) (S : Holdings) → Fair pips tree budget cached held
-    → cached ≡ true → held ≡ Some S → IsFair pips tree budget S
-fair_is pips tree budget cached held S fair on is =
-    let at : Fair pips tree budget true held = subst (λ (b : Bool). Fair pips tree budget b held) on fair in
-    let there : Fair pips tree budget true (Some S) = subst (λ (h : Option Holdings). Fair pips tree budget true h) is at in
-    there
+-- a store that is fair where it is used
+pub fair_at : (pips : List Pip) (tree : Files) (budget : ℕ) (cached : Bool) (before now : Option Holdings) → Fair pips tree budget cached before now → cached ≡ true
+    → IsFairStore pips tree budget before now
+fair_at pips tree budget cached before now fair on = subst (λ (b : Bool). Fair pips tree budget b before now) on fair
 
-pub fair_same : (a b : Order) (input : List ℕ) (held : Option Holdings) → a ≡ b → FairStore b input held → FairStore a input held
-fair_same a b input held e fair = subst (λ (o : Order). FairStore o input held) (sym e) fair
+-- is so where it held this
+pub fair_is : (pips : List Pip) (tree : Files) (budget : ℕ) (before now : Option Holdings) (S : Holdings) → IsFairStore pips tree budget before now
+    → before ≡ Some S → IsFair pips tree budget S
+fair_is pips tree budget before now S at is = subst (IsFair pips tree budget) (same_Some at.held S (sym at.told ∙ is)) at.fair
+
+pub fair_same : (a b : Order) (input : List ℕ) (before now : Option Holdings) → a ≡ b → FairStore b input before now → FairStore a input before now
+fair_same a b input before now e fair = subst (λ (o : Order). FairStore o input before now) (sym e) fair
 
 -- a file whose path is reserved
 reserved_there : (tree : Files) (path : Atoms) → Contains (paths_of tree) path → IsReserved path → HasReserved tree

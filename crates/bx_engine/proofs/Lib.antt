@@ -10,5 +10,6 @@ mod StoresLeft
 mod BuildsAreShown
 mod ExpectedIsWritten
 mod ResponsesAreExpected
+mod CallsEnd
 mod OneEnding
 mod SomeEnding

@@ -17,7 +17,8 @@ use Rattle.pip_model_types.specs.declared.pip.Pip.{Pip}
 use Rattle.bx_engine.specs.declared.fault.InputFault.{InputFault}
 use Rattle.bx_engine.specs.declared.fault.InputFault.TheVariants as input_faults
 use Rattle.bx_engine.specs.Ending.{Ending, InputRefused, SpecificationRefused, Built}
-use Rattle.bx_engine.specs.Counting.{CountsOf, IsNoted, NotesOf, StoreChange}
+use Rattle.bx_engine.specs.Calls.{StoreChange}
+use Rattle.bx_engine.specs.Counting.{CountsOf, IsNoted, NotesOf}
 use Rattle.bx_engine.specs.Expected.{limits_of}
 use Rattle.bx_engine.specs.Stores.{uses_store}
 use Rattle.bx_engine.specs.declared.status.Status.{Status}

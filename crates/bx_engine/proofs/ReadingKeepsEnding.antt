@@ -1,10 +1,11 @@
 -- An input that is read up to one byte past the limit ends as the whole input does.
-use Rattle.std.proofs.Common.{◌≡◌, ℕ, Bool, true, false, ◌<◌, ◌≤◌, ◌⊎◌, inl, inr, List, [], ◌++◌, length, drop}
-use Rattle.std.proofs.Common.{refl, sym, ap, subst, ◌∙◌, arith}
+use Rattle.std.proofs.Common.{◌≡◌, ℕ, Bool, true, false, ◌<◌, ◌≤◌, inl, inr, List, [], ◌++◌, length, drop}
+use Rattle.std.proofs.Common.{refl, sym, ap, append_assoc, subst, ◌∙◌, arith}
 use Rattle.std.specs.Prelude.{Some, None, IsSome}
 use Rattle.std.specs.declared.option.Option.{Option}
-use Rattle.std.specs.Io.KnownBytes.{Consumes, IsAtEnd}
-use Rattle.std.proofs.lemmas.List.{append-nil, drop_all, drop_at, length-append}
+use Rattle.bx_io.specs.Told.{Moves, NoneLeft}
+use Rattle.bx_engine.specs.Known.{GivesPiece, IsInput, IsLong, IsReadOut, LeavesRest, ReadOf}
+use Rattle.std.proofs.lemmas.List.{append-nil, append_cancel_left, drop_all, drop_at, length-append}
 use Rattle.std.proofs.lemmas.Bool.{cases_lt}
 use Rattle.bx_tree.specs.Bundle.{Faults}
 use Rattle.bx_tree.specs.declared.bundle.BundleFault.{BundleFault}
@@ -15,17 +16,14 @@ use Rattle.bx_engine.specs.declared.status.Status.{Status}
 use Rattle.bx_engine.specs.declared.limits.TheConstants.{READ_LIMIT}
 use Rattle.bx_tree.specs.declared.limits.TheConstants.{MAX_BUNDLE_BYTES}
 use Rattle.bx_engine.specs.Ends.{Ends}
-use Rattle.bx_io.specs.Holdings.{Holdings, StoreState}
-use Rattle.bx_engine.specs.Counting.{AppendsNotes, IsNoted, IsShown, NotesOf, StoreChange}
+use Rattle.bx_io.specs.Holdings.{Holdings, StoreTold}
+use Rattle.bx_engine.specs.Calls.{Call, Given, StoreChange}
+use Rattle.bx_engine.specs.Counting.{AppendsNotes, IsNoted, IsShown, NotesOf}
 use Rattle.bx_engine.specs.Expected.{IsExpected, Answers, Begins, limits_of}
 use Rattle.bx_engine.specs.Stores.{AsksFor, FairWhere, LeftOfBuild, StoreLeft}
 use Rattle.bx_engine.specs.Ending.{Ending, InputRefused, SpecificationRefused, Built}
 use Rattle.bx_engine_front.specs.declared.limits.Limits.{Limits}
 use Rattle.pip_model_types.specs.declared.pip.Pip.{Pip}
-
--- the input is longer than an input may be
-abbrev pub IsLong : List ℕ → Type 0
-IsLong input = MAX_BUNDLE_BYTES < length input
 
 not_long : (input : List ℕ) → IsLong input → length input ≤ MAX_BUNDLE_BYTES → ⊥
 not_long input h k = omega arith
@@ -49,95 +47,115 @@ long_ends limits a b (InputRefused input_faults.Reserved) h k e = absurd (not_lo
 long_ends limits a b (SpecificationRefused fault) h k e = absurd (not_long a h e.1.bundle.whole)
 long_ends limits a b (Built pips results) h k e = absurd (not_long a h e.1.bundle.whole)
 
-nothing_left : (rest : List ℕ) → IsAtEnd (Some rest) → rest ≡ []
-nothing_left rest e = e
-
--- these bytes were read of an input, and this is left
-pub record ReadOf (input bytes : List ℕ) (left : Option (List ℕ)) : Type 0 where
-  pub whole : (bytes ≡ input) ⊎ (IsLong bytes × IsLong input)
-  pub left_is : left ≡ Some (drop READ_LIMIT input)
-
 -- an input is over the limit where a prefix of it is
 long_prefix : (input bytes rest : List ℕ) → input ≡ bytes ++ rest → IsLong bytes → IsLong input
 long_prefix input bytes rest e h = omega (arith, ap length e, length-append bytes rest)
 
-some_left : (left : Option (List ℕ)) (input bytes : List ℕ) → Consumes (Some input) left bytes
-    → (rest : List ℕ) × (left ≡ Some rest) × (input ≡ bytes ++ rest)
-some_left None input bytes h = absurd h
-some_left (Some rest) input bytes h = (rest, refl, h)
-
-ends_at : (left : Option (List ℕ)) (rest : List ℕ) → left ≡ Some rest → IsAtEnd left → rest ≡ []
-ends_at left rest e h = nothing_left rest (subst IsAtEnd e h)
-
 at_limit : (bytes : List ℕ) → IsLong bytes → length bytes ≤ READ_LIMIT → length bytes ≡ READ_LIMIT
 at_limit bytes h k = omega arith
+
+past_limit : (count : ℕ) → MAX_BUNDLE_BYTES < count → count ≤ READ_LIMIT → count ≡ READ_LIMIT
+past_limit count h k = omega arith
 
 below_limit : (bytes : List ℕ) → length bytes ≤ MAX_BUNDLE_BYTES → length bytes ≤ READ_LIMIT
 below_limit bytes h = omega arith
 
--- what reading an input gives
-read_of : (before left : Option (List ℕ)) (input bytes : List ℕ) → before ≡ Some input
-    → Consumes before left bytes → length bytes ≤ READ_LIMIT
-    → (length bytes ≤ MAX_BUNDLE_BYTES → IsSome before → IsAtEnd left) → ReadOf input bytes left
-read_of before left input bytes known consumed bound end =
-    let parts = some_left left input bytes (subst (λ (b : Option (List ℕ)). Consumes b left bytes) known consumed) in
+some_of : (told : Option (List ℕ)) → IsSome told → (rest : List ℕ) × (told ≡ Some rest)
+some_of None h = absurd (cc)
+some_of (Some rest) h = (rest, refl)
+
+same_told : (told : Option (List ℕ)) (input whole : List ℕ) → told ≡ Some input → told ≡ Some whole → input ≡ whole
+same_told told input whole h k = let same : Some input ≡ Some whole = sym h ∙ k in cc
+
+-- what was left is what was read and what is left
+parts_of : (left now : Option (List ℕ)) (input bytes : List ℕ) → left ≡ Some input → IsSome now → Moves left now bytes
+    → (rest : List ℕ) × (now ≡ Some rest) × (input ≡ bytes ++ rest)
+parts_of left now input bytes told tells moved =
+    let is = some_of now tells in
+    (is.0, is.1, same_told left input (bytes ++ is.0) told (moved is.0 is.1))
+
+-- what reading an input gives, where the source tells what it has left
+read_told : (left now : Option (List ℕ)) (input bytes : List ℕ) → left ≡ Some input → IsSome now → Moves left now bytes → length bytes ≤ READ_LIMIT
+    → (length bytes ≤ MAX_BUNDLE_BYTES → NoneLeft now) → ReadOf input bytes
+read_told left now input bytes told tells moved bound end =
+    let parts = parts_of left now input bytes told tells moved in
     elim (cases_lt MAX_BUNDLE_BYTES (length bytes)) [
-      | inl long ↦ record {
-        whole = inr (long, long_prefix input bytes parts.0 parts.2 long);
-        left_is = parts.1
-            ∙ ap (λ (r : List ℕ). Some r) (sym (drop_at bytes parts.0 READ_LIMIT (at_limit bytes long bound))
-            ∙ ap (λ i. drop READ_LIMIT i) (sym parts.2));
-      }
+      | inl long ↦ record { whole = inr (long, long_prefix input bytes parts.0 parts.2 long) }
       | inr short ↦
-          let none = ends_at left parts.0 parts.1 (end short (subst IsSome (sym known) refl)) in
-          let whole : bytes ≡ input = sym (append-nil bytes) ∙ ap (λ r. bytes ++ r) (sym none) ∙ sym parts.2 in
-          record {
-            whole = inl whole;
-            left_is = parts.1 ∙ ap (λ (r : List ℕ). Some r)
-                (none ∙ sym (drop_all READ_LIMIT input (subst (λ i. length i ≤ READ_LIMIT) whole (below_limit bytes short))));
-          }
+          let none : parts.0 ≡ [] = end short parts.0 parts.1 in
+          record { whole = inl (sym (append-nil bytes) ∙ ap (λ r. bytes ++ r) (sym none) ∙ sym parts.2) }
     ]
 
--- what reading an input gives, where the bytes are a slice of a vector
-pub read_slice : (before left : Option (List ℕ)) (input items slice : List ℕ) (count : ℕ) → slice ≡ items
-    → length slice ≡ count → before ≡ Some input → Consumes before left items → count ≤ READ_LIMIT
-    → (count ≤ MAX_BUNDLE_BYTES → IsSome before → IsAtEnd left) → ReadOf input slice left
-read_slice before left input items slice count is long known consumed bound end =
-    read_of before left input slice known (subst (λ (b : List ℕ). Consumes before left b) (sym is) consumed)
-    (subst (λ n. n ≤ READ_LIMIT) (sym long) bound) (λ short. end (subst (λ n. n ≤ MAX_BUNDLE_BYTES) long short))
+-- what is left of it
+left_told : (left now : Option (List ℕ)) (input bytes : List ℕ) → left ≡ Some input → IsSome now → Moves left now bytes → length bytes ≤ READ_LIMIT
+    → (length bytes ≤ MAX_BUNDLE_BYTES → NoneLeft now) → now ≡ Some (drop READ_LIMIT input)
+left_told left now input bytes told tells moved bound end =
+    let parts = parts_of left now input bytes told tells moved in
+    elim (cases_lt MAX_BUNDLE_BYTES (length bytes)) [
+      | inl long ↦
+          parts.1
+          ∙ ap (λ (r : List ℕ). Some r) (sym (drop_at bytes parts.0 READ_LIMIT (at_limit bytes long bound)) ∙ ap (λ i. drop READ_LIMIT i) (sym parts.2))
+      | inr short ↦
+          let none : parts.0 ≡ [] = end short parts.0 parts.1 in
+          let whole : bytes ≡ input = sym (append-nil bytes) ∙ ap (λ r. bytes ++ r) (sym none) ∙ sym parts.2 in
+          parts.1
+          ∙ ap (λ (r : List ℕ). Some r)
+          (none ∙ sym (drop_all READ_LIMIT input (subst (λ i. length i ≤ READ_LIMIT) whole (below_limit bytes short))))
+    ]
+
+-- what reading an input gives: it is what was given, or all that was left
+pub read_input : (source : Given) (input bytes : List ℕ) → IsInput source input → source.now ≡ source.before ++ bytes
+    → Moves source.left_before source.left_now bytes → length bytes ≤ READ_LIMIT → (length bytes ≤ MAX_BUNDLE_BYTES → NoneLeft source.left_now) → ReadOf input bytes
+read_input source input bytes (inl gave) was moved bound end = record { whole = inl (append_cancel_left source.before bytes input (sym was ∙ gave)) }
+read_input source input bytes (inr told) was moved bound end = read_told source.left_before source.left_now input bytes told.0 told.1 moved bound end
+
+-- the same where the bytes are a slice of a vector
+pub read_slice : (source : Given) (input items slice : List ℕ) (count : ℕ) → slice ≡ items → length slice ≡ count
+    → IsInput source input → source.now ≡ source.before ++ items → Moves source.left_before source.left_now items → count ≤ READ_LIMIT
+    → (count ≤ MAX_BUNDLE_BYTES → NoneLeft source.left_now) → ReadOf input slice
+read_slice source input items slice count is long asked was moved bound end =
+    read_input source input slice asked (subst (λ (b : List ℕ). source.now ≡ source.before ++ b) (sym is) was)
+    (subst (λ (b : List ℕ). Moves source.left_before source.left_now b) (sym is) moved) (subst (λ n. n ≤ READ_LIMIT) (sym long) bound)
+    (λ short. end (subst (λ n. n ≤ MAX_BUNDLE_BYTES) long short))
+
+pub left_slice : (source : Given) (items : List ℕ) (count : ℕ) → length items ≡ count → Moves source.left_before source.left_now items
+    → count ≤ READ_LIMIT → (count ≤ MAX_BUNDLE_BYTES → NoneLeft source.left_now) → LeavesRest source
+left_slice source items count long moved bound end = λ input told tells.
+    left_told source.left_before source.left_now input items told tells moved (subst (λ n. n ≤ READ_LIMIT) (sym long) bound)
+    (λ short. end (subst (λ n. n ≤ MAX_BUNDLE_BYTES) long short))
 
 -- how the input ends
-ends_whole : (limits : Limits) (input bytes : List ℕ) (left : Option (List ℕ)) (ending : Ending) → ReadOf input bytes left
+ends_whole : (limits : Limits) (input bytes : List ℕ) (ending : Ending) → ReadOf input bytes
     → Ends limits bytes ending → Ends limits input ending
-ends_whole limits input bytes left ending r e = elim r.whole [
+ends_whole limits input bytes ending r e = elim r.whole [
   | inl is ↦ subst (λ i. Ends limits i ending) is e
   | inr long ↦ long_ends limits bytes input ending long.0 long.1 e
 ]
 
-expected_whole : (limits : Limits) (input bytes : List ℕ) (left : Option (List ℕ)) (status : Status) (written : List ℕ)
-    → ReadOf input bytes left → IsExpected limits bytes status written → IsExpected limits input status written
-expected_whole limits input bytes left status written r e = record {
+expected_whole : (limits : Limits) (input bytes : List ℕ) (status : Status) (written : List ℕ)
+    → ReadOf input bytes → IsExpected limits bytes status written → IsExpected limits input status written
+expected_whole limits input bytes status written r e = record {
   ending = e.ending;
-  ends = ends_whole limits input bytes left e.ending r e.ends;
+  ends = ends_whole limits input bytes e.ending r e.ends;
   status_is = e.status_is;
   bytes_are = e.bytes_are;
 }
 
-pub answers_whole : (order : Order) (input bytes : List ℕ) (left : Option (List ℕ)) (status : Status)
-    (before now : Option (List ℕ)) → ReadOf input bytes left
+pub answers_whole : (order : Order) (input bytes : List ℕ) (status : Status)
+    (before now : List ℕ) → ReadOf input bytes
     → Answers order bytes status before now → Answers order input status before now
-answers_whole order input bytes left status before now r a = record {
+answers_whole order input bytes status before now r a = record {
   bytes = a.bytes;
-  expected = expected_whole (limits_of order) input bytes left status a.bytes r a.expected;
+  expected = expected_whole (limits_of order) input bytes status a.bytes r a.expected;
   appended = a.appended;
 }
 
-pub begins_whole : (order : Order) (input bytes : List ℕ) (left : Option (List ℕ)) (before now : Option (List ℕ))
-    → ReadOf input bytes left → Begins order bytes before now → Begins order input before now
-begins_whole order input bytes left before now r b = record {
+pub begins_whole : (order : Order) (input bytes : List ℕ) (before now : List ℕ)
+    → ReadOf input bytes → Begins order bytes before now → Begins order input before now
+begins_whole order input bytes before now r b = record {
   status = b.status;
   bytes = b.bytes;
-  expected = expected_whole (limits_of order) input bytes left b.status b.bytes r b.expected;
+  expected = expected_whole (limits_of order) input bytes b.status b.bytes r b.expected;
   appended = b.appended;
 }
 
@@ -149,9 +167,9 @@ long_notes order a b change (InputRefused fault) text h e n = n
 long_notes order a b change (SpecificationRefused refusal) text h e n = n
 long_notes order a b change (Built pips results) text h e n = absurd (not_long a h e.1.bundle.whole)
 
-noted_whole : (order : Order) (input bytes : List ℕ) (left : Option (List ℕ)) (change : StoreChange) (status : Status) (text : List ℕ)
-    → ReadOf input bytes left → IsNoted order bytes change status text → IsNoted order input change status text
-noted_whole order input bytes left change status text r n = elim r.whole [
+noted_whole : (order : Order) (input bytes : List ℕ) (change : StoreChange) (status : Status) (text : List ℕ)
+    → ReadOf input bytes → IsNoted order bytes change status text → IsNoted order input change status text
+noted_whole order input bytes change status text r n = elim r.whole [
   | inl is ↦ subst (λ i. IsNoted order i change status text) is n
   | inr long ↦ record {
     ending = n.ending;
@@ -161,62 +179,86 @@ noted_whole order input bytes left change status text r n = elim r.whole [
   }
 ]
 
-pub notes_whole : (order : Order) (input bytes : List ℕ) (left : Option (List ℕ)) (change : StoreChange) (status : Status)
-    (before now : Option (List ℕ)) (m n : ℕ) → ReadOf input bytes left
-    → AppendsNotes order bytes change status before now m n → AppendsNotes order input change status before now m n
-notes_whole order input bytes left change status before now m n r t = record {
+pub notes_whole : (call : Call) (input bytes : List ℕ) (order : Order) → ReadOf input bytes → AppendsNotes call bytes order → AppendsNotes call input order
+notes_whole call input bytes order r t = record {
   text = t.text;
-  noted = noted_whole order input bytes left change status t.text r t.noted;
+  noted = noted_whole order input bytes call.store call.status t.text r t.noted;
   appended = t.appended;
 }
 
 -- ## Stores
 
-long_fair : (cached : Bool) (limits : Limits) (input : List ℕ) (held : Option Holdings) → IsLong input → FairWhere cached limits input held
-long_fair false limits input held h = tt
-long_fair true limits input held h = λ sources pips s plans. absurd (not_long input h s.bundle.whole)
+long_fair : (cached : Bool) (limits : Limits) (input : List ℕ) (before now : Option Holdings) → IsLong input → FairWhere cached limits input before now
+long_fair false limits input before now h = tt
+long_fair true limits input before now h = λ sources pips s plans. absurd (not_long input h s.bundle.whole)
 
 -- a store that is fair for an input is fair for what is read of it
-pub fair_read : (cached : Bool) (limits : Limits) (input bytes : List ℕ) (left : Option (List ℕ)) (held : Option Holdings) → ReadOf input bytes left
-    → FairWhere cached limits input held → FairWhere cached limits bytes held
-fair_read cached limits input bytes left held r fair = elim r.whole [
-  | inl is ↦ subst (λ (i : List ℕ). FairWhere cached limits i held) (sym is) fair
-  | inr long ↦ long_fair cached limits bytes held long.0
+pub fair_read : (cached : Bool) (limits : Limits) (input bytes : List ℕ) (before now : Option Holdings) → ReadOf input bytes
+    → FairWhere cached limits input before now → FairWhere cached limits bytes before now
+fair_read cached limits input bytes before now r fair = elim r.whole [
+  | inl is ↦ subst (λ (i : List ℕ). FairWhere cached limits i before now) (sym is) fair
+  | inr long ↦ long_fair cached limits bytes before now long.0
 ]
 
-came_whole : (limits : Limits) (input bytes : List ℕ) (left : Option (List ℕ)) (before : StoreState) (now : Option StoreState) → ReadOf input bytes left
-    → LeftOfBuild limits bytes before now → LeftOfBuild limits input before now
-came_whole limits input bytes left before now r came = elim r.whole [
-  | inl is ↦ subst (λ (i : List ℕ). LeftOfBuild limits i before now) is came
+came_whole : (limits : Limits) (input bytes : List ℕ) (held : Holdings) (before now : StoreTold) → ReadOf input bytes
+    → LeftOfBuild limits bytes held before now → LeftOfBuild limits input held before now
+came_whole limits input bytes held before now r came = elim r.whole [
+  | inl is ↦ subst (λ (i : List ℕ). LeftOfBuild limits i held before now) is came
   | inr long ↦ elim came [
     | inl same ↦ inl same
     | inr h ↦ absurd (not_long bytes long.0 h.2.bundle.whole)
   ]
 ]
 
-pub left_whole : (limits : Limits) (input bytes : List ℕ) (left : Option (List ℕ)) (before : StoreState) (now : Option StoreState) → ReadOf input bytes left
-    → StoreLeft limits bytes before now → StoreLeft limits input before now
-left_whole limits input bytes left before now r s = record {
+pub left_whole : (limits : Limits) (input bytes : List ℕ) (held : Holdings) (before now : StoreTold) → ReadOf input bytes
+    → StoreLeft limits bytes held before now → StoreLeft limits input held before now
+left_whole limits input bytes held before now r s = record {
   honest = s.honest;
-  came = came_whole limits input bytes left before now r s.came;
+  came = came_whole limits input bytes held before now r s.came;
 }
 
 -- ## Pips that were gone through
 
-asked_whole : (limits : Limits) (input bytes : List ℕ) (left : Option (List ℕ)) (pips : List Pip) → ReadOf input bytes left → AsksFor limits bytes pips
+asked_whole : (limits : Limits) (input bytes : List ℕ) (pips : List Pip) → ReadOf input bytes → AsksFor limits bytes pips
     → AsksFor limits input pips
-asked_whole limits input bytes left pips r h = elim r.whole [
+asked_whole limits input bytes pips r h = elim r.whole [
   | inl is ↦ subst (λ (i : List ℕ). AsksFor limits i pips) is h
   | inr long ↦ absurd (not_long bytes long.0 h.1.bundle.whole)
 ]
 
-pub shown_whole : (order : Order) (source left : Option (List ℕ)) (bytes : List ℕ) (change : StoreChange) (status : Status)
-    (out_before out_now before now : Option (List ℕ)) (m n : ℕ) → ((input : List ℕ) → source ≡ Some input → ReadOf input bytes left)
-    → IsShown order (Some bytes) change status out_before out_now before now m n → IsShown order source change status out_before out_now before now m n
-shown_whole order source left bytes change status out_before out_now before now m n read s = record {
+pub shown_whole : (call : Call) (input bytes : List ℕ) (order : Order) → ReadOf input bytes → IsShown call bytes order → IsShown call input order
+shown_whole call input bytes order read s = record {
   gone = s.gone;
-  asked = λ input known. asked_whole (limits_of order) input bytes left s.gone.pips (read input known) (s.asked bytes refl);
+  asked = asked_whole (limits_of order) input bytes s.gone.pips read s.asked;
   status_is = s.status_is;
   written = s.written;
   noted = s.noted;
 }
+
+-- ## What was read
+
+-- to its end, or to one byte past the limit
+pub read_out : (source : Given) (bytes : List ℕ) (count : ℕ) → length bytes ≡ count → source.now ≡ source.before ++ bytes → count ≤ READ_LIMIT
+    → (count ≤ MAX_BUNDLE_BYTES → source.ended ≡ true) → IsReadOut source
+read_out source bytes count long gave bound end = record {
+  input = bytes;
+  gave = gave;
+  out = elim (cases_lt MAX_BUNDLE_BYTES count) [
+    | inl over ↦ inr (long ∙ past_limit count over bound)
+    | inr within ↦ inl (end within)
+  ];
+}
+
+-- ## Pieces that were given
+
+-- a source that was not asked gave nothing
+pub gives_none : (source : Given) → source.now ≡ source.before → source.left_now ≡ source.left_before → GivesPiece source
+gives_none source gave left = record {
+  piece = [];
+  gave = gave ∙ sym (append-nil source.before);
+  moved = λ rest is. sym left ∙ is;
+}
+
+-- one piece after another
+pub moves_both : (a b c : Option (List ℕ)) (xs ys : List ℕ) → Moves a b xs → Moves b c ys → Moves a c (xs ++ ys)
+moves_both a b c xs ys h k = λ rest is. h (ys ++ rest) (k rest is) ∙ ap (λ (zs : List ℕ). Some zs) (sym (append_assoc xs ys rest))

@@ -18,7 +18,7 @@ use Rattle.bx_engine_front.specs.declared.limits.Limits.{Limits}
 use Rattle.one_thread.specs.OneThread.{one_thread}
 use Rattle.pip_model_types.specs.declared.pip.Pip.{Pip}
 use Rattle.retire.specs.Builds.{Fair}
-use Rattle.bx_engine.specs.Counting.{StoreChange}
+use Rattle.bx_engine.specs.Calls.{StoreChange}
 use Rattle.bx_engine.specs.Ending as endings
 use Rattle.bx_engine.specs.Ending.{Ending, input_fault_name}
 use Rattle.bx_engine.specs.Ends.{AreSources, Ends, HasReserved, RefusesInput}
@@ -115,10 +115,10 @@ fault_responds order input change tree front_faults.Memory response bundle free 
 
 -- a store that is fair for the input is fair for its plan
 is_fair : (order : Order) (input : List ℕ) (change : StoreChange) (tree : Files) (pips : List Pip) → AreSources input tree → Plans (limits_of order) tree pips
-    → FairStore order input (held_in change.before)
-    → Fair pips tree (limits_of order).tool_budget (uses_store order) (held_in change.before)
+    → FairStore order input (held_in change.before) (held_in change.now)
+    → Fair pips tree (limits_of order).tool_budget (uses_store order) (held_in change.before) (held_in change.now)
 is_fair order input change tree pips sources plans fair =
-    fair_plan (uses_store order) (limits_of order) input (held_in change.before) tree pips fair sources plans
+    fair_plan (uses_store order) (limits_of order) input (held_in change.before) (held_in change.now) tree pips fair sources plans
 
 plan_responds : (order : Order) (input : List ℕ) (change : StoreChange) (tree : Files) (pips : List Pip) (response : Response) → AreSources input tree
     → Plans (limits_of order) tree pips → IsBuildResponse pips tree (limits_of order).tool_budget (uses_store order) change response

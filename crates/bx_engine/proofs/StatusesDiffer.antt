@@ -6,7 +6,7 @@ use Rattle.violations.specs.declared.verdict.Verdict.{Verdict}
 use Rattle.bx_engine.specs.Counting.{gone_status}
 use Rattle.bx_engine.specs.declared.status.Status.{Status}
 use Rattle.bx_engine.specs.declared.status.Status.TheVariants as statuses
-use Rattle.bx_engine.specs.Statuses.{HasNoBuild, HasNoNotes, IsGone, IsRefusal, IsWhole}
+use Rattle.bx_engine.specs.Statuses.{HasNoBuild, HasNoNotes, IsGone, IsRefusal, IsSilent, IsWhole}
 
 pub no_command_writes_nothing : (IsWhole statuses.NoCommand ⊎ (statuses.NoCommand ≡ statuses.OutFailed)) → ⊥
 no_command_writes_nothing h = elim h [
@@ -66,6 +66,27 @@ out_failed h = elim h [ inl a ↦ cc | inr b ↦ elim b [ inl c ↦ cc | inr d �
 out_of_memory : IsWhole statuses.OutOfMemory → ⊥
 out_of_memory h = elim h [ inl a ↦ cc | inr b ↦ elim b [ inl c ↦ cc | inr d ↦ elim d [ inl e ↦ cc | inr f ↦ cc ] ] ]
 
+no_command : IsWhole statuses.NoCommand → ⊥
+no_command whole = no_command_writes_nothing (inl whole)
+
+-- where something was written, the status does not say that nothing was
+pub not_silent : (status : Status) → IsWhole status ⊎ (status ≡ statuses.OutFailed) → IsSilent status → ⊥
+not_silent status came silent = elim came [
+  | inl whole ↦ elim silent [
+    | inl a ↦ not_whole status statuses.NoCommand a no_command whole
+    | inr b ↦ elim b [
+      | inl c ↦ not_whole status statuses.SourceFailed c source_failed whole
+      | inr d ↦ not_whole status statuses.OutOfMemory d out_of_memory whole
+    ]
+  ]
+  | inr cut ↦ elim silent [ inl a ↦ cc | inr b ↦ elim b [ inl c ↦ cc | inr d ↦ cc ] ]
+]
+
+-- an answer has the status of the response, which is whole, or says that `out` failed
+pub answered_status : (status result : Status) → IsWhole status → (result ≡ status) ⊎ (result ≡ statuses.OutFailed)
+    → IsWhole result ⊎ (result ≡ statuses.OutFailed)
+answered_status status result whole s = elim s [ inl same ↦ inl (subst IsWhole (sym same) whole) | inr cut ↦ inr cut ]
+
 -- where the whole result was written, notes are left out of a refusal alone
 pub quiet_refusal : (status : Status) → IsWhole status → HasNoNotes status → IsRefusal status
 quiet_refusal status whole quiet = elim quiet [
@@ -94,6 +115,13 @@ answered_or_not status came none = elim none [
     | inl whole ↦ elim whole [ inl b ↦ cc | inr c ↦ elim c [ inl d ↦ cc | inr e ↦ elim e [ inl f ↦ cc | inr g ↦ cc ] ] ]
     | inr b ↦ elim b [ inl c ↦ cc | inr d ↦ cc ]
   ]
+]
+
+-- that memory was wanting says that a build may have begun
+pub memory_is_no_refusal : HasNoBuild statuses.OutOfMemory → ⊥
+memory_is_no_refusal none = elim none [
+  | inl a ↦ cc
+  | inr b ↦ elim b [ inl c ↦ cc | inr r ↦ elim r [ inl d ↦ cc | inr e ↦ cc ] ]
 ]
 
 -- a build that was answered and not begun was refused

@@ -1,11 +1,10 @@
 -- What the notes of a build count, and what a build writes whatever its store.
-use Rattle.std.specs.Prelude.{◌≡◌, ℕ, ◌+◌, ◌≤◌, Bool, true, false, List, [], ◌∷◌, ◌++◌, length, Option, Some}
+use Rattle.std.specs.Prelude.{◌≡◌, ℕ, ◌+◌, ◌≤◌, Bool, true, false, List, [], ◌∷◌, ◌++◌, length, Some}
 use Rattle.std.specs.Prelude.{if◌then◌else◌}
-use Rattle.std.specs.Io.KnownBytes.{Appends}
 use Rattle.std.specs.List.{list_all}
 use Rattle.bx_tree.specs.Bundle.{bundle}
 use Rattle.bx_tree.specs.Trees.{Files}
-use Rattle.bx_io.specs.Holdings.{Holdings, StoreState, held_in}
+use Rattle.bx_io.specs.Holdings.{Holdings, held_in}
 use Rattle.bx_engine_words.specs.declared.order.Order.{Order}
 use Rattle.build_report.specs.Notes.{notes_text}
 use Rattle.build_report.specs.Reports.{report_text}
@@ -15,6 +14,8 @@ use Rattle.one_thread.specs.OneThread.{Result, run_count, verdicts_of}
 use Rattle.retire.specs.Builds.{LeavesUsable, RunsLate, Spares}
 use Rattle.violations.specs.Verdicts.{is_success}
 use Rattle.violations.specs.declared.verdict.Verdict.{Verdict}
+use Rattle.bx_engine.specs.Calls.{Call, StoreChange, Written}
+use Rattle.bx_engine.specs.Known.{Appends}
 use Rattle.bx_engine.specs.Ending.{Ending, InputRefused, SpecificationRefused, Built, report_path, status_of}
 use Rattle.bx_engine.specs.Ends.{AreSources, Ends}
 use Rattle.bx_engine.specs.Expected.{AppendsOrFails, limits_of}
@@ -22,26 +23,9 @@ use Rattle.bx_engine.specs.Stores.{AsksFor, uses_store}
 use Rattle.bx_engine.specs.declared.status.Status.{Status}
 use Rattle.bx_engine.specs.declared.status.Status.TheVariants as statuses
 
--- what is known of a store before a call and after it
-pub record StoreChange : Type 0 where
-  pub before : Option StoreState
-  pub now : Option StoreState
-  pub bound : Option ℕ
-  pub faults_before : ℕ
-  pub faults_now : ℕ
-
-abbrev pub change_of : Option StoreState → Option StoreState → Option ℕ → ℕ → ℕ → StoreChange
-change_of before now bound faults_before faults_now = record {
-  before = before;
-  now = now;
-  bound = bound;
-  faults_before = faults_before;
-  faults_now = faults_now;
-}
-
 -- ## Over any store
 
--- Each process that runs is run by the thread that goes through the pips, and that is the only one. Where the
+-- Each process that runs is run by the one thread, which executes pips sequentially. Where the
 -- keeper has a bound, at most as many faults are counted as its count rose by and its reader may count; where
 -- no fault is counted, the store's count did not rise; and where the store is not used, no hit and no fault
 -- is counted.
@@ -63,6 +47,10 @@ pub record Gone (cached : Bool) (change : StoreChange) : Type 0 where
   pub counted : AreCounts cached change counts
   pub hit_or_ran : counts.hits + counts.ran ≡ run_count pips verdicts
 
+-- the text was appended to a sink, or a prefix of it and the sink's count of faults rose
+abbrev pub AppendsNoted : List ℕ → Written → Type 0
+AppendsNoted text sink = AppendsOrFails text sink.before sink.now sink.faults_before sink.faults_now
+
 -- the status by how the pips ended
 abbrev pub gone_status : List Verdict → Status
 gone_status verdicts = if list_all is_success verdicts then statuses.Done else statuses.FailuresFound
@@ -76,16 +64,14 @@ abbrev pub gone_output : List Pip → List Verdict → Files → List ℕ
 gone_output pips verdicts files =
     bundle (given_files verdicts files ++ (report_path, report_text pips verdicts) ∷ [])
 
--- The status, the output and the notes are those of pips that were gone through, and that the input asks for,
--- where it is known.
-pub record IsShown (order : Order) (input : Option (List ℕ)) (change : StoreChange) (status : Status)
-    (out_before out_now notes_before notes_now : Option (List ℕ)) (faults_before faults_now : ℕ)
-    : Type 0 where
-  pub gone : Gone (uses_store order) change
-  pub asked : (bytes : List ℕ) → input ≡ Some bytes → AsksFor (limits_of order) bytes gone.pips
-  pub status_is : status ≡ gone_status gone.verdicts
-  pub written : Appends out_before out_now (gone_output gone.pips gone.verdicts gone.files)
-  pub noted : AppendsOrFails (notes_text gone.counts) notes_before notes_now faults_before faults_now
+-- The status, the output and the notes of a call are those of pips that were gone through, and that the input asks
+-- for.
+pub record IsShown (call : Call) (input : List ℕ) (order : Order) : Type 0 where
+  pub gone : Gone (uses_store order) call.store
+  pub asked : AsksFor (limits_of order) input gone.pips
+  pub status_is : call.status ≡ gone_status gone.verdicts
+  pub written : Appends call.out.before call.out.now (gone_output gone.pips gone.verdicts gone.files)
+  pub noted : AppendsNoted (notes_text gone.counts) call.notes
 
 -- ## Over a fair store
 
@@ -101,8 +87,7 @@ pub record CountsOf (cached : Bool) (pips : List Pip) (tree : Files) (budget : �
       → Spares pips tree budget S counts.hits counts.faults
   pub runs : cached ≡ true → (S : Holdings) → held_in change.before ≡ Some S
       → RunsLate pips tree budget S counts.late counts.faults
-  pub usable : cached ≡ true → (kept : StoreState) → change.before ≡ Some kept → counts.faults ≡ 0
-      → LeavesUsable pips tree budget change.now
+  pub usable : cached ≡ true → counts.faults ≡ 0 → LeavesUsable pips tree budget change.now
 
 -- These are the notes of an input that ends so: none of one that is refused, and the counts of a build.
 abbrev pub NotesOf : Order → List ℕ → StoreChange → Ending → List ℕ → Type 0
@@ -121,9 +106,8 @@ pub record IsNoted (order : Order) (input : List ℕ) (change : StoreChange) (st
   pub status_is : status ≡ status_of ending
   pub text_is : NotesOf order input change ending text
 
--- those notes were appended, or a prefix of them and the sink's count of faults rose
-pub record AppendsNotes (order : Order) (input : List ℕ) (change : StoreChange) (status : Status)
-    (before now : Option (List ℕ)) (faults_before faults_now : ℕ) : Type 0 where
+-- those notes of a call were appended, or a prefix of them and the sink's count of faults rose
+pub record AppendsNotes (call : Call) (input : List ℕ) (order : Order) : Type 0 where
   pub text : List ℕ
-  pub noted : IsNoted order input change status text
-  pub appended : AppendsOrFails text before now faults_before faults_now
+  pub noted : IsNoted order input call.store call.status text
+  pub appended : AppendsNoted text call.notes

@@ -1,7 +1,5 @@
 -- What a whole call comes to: its status, and what it writes to `out`.
 use Rattle.std.specs.Prelude.{◌≡◌, ℕ, List, ◌⊎◌}
-use Rattle.std.specs.declared.option.Option.{Option}
-use Rattle.std.specs.Io.KnownBytes.{Appends}
 use Rattle.bx_engine_front.specs.declared.limits.Limits.{Limits}
 use Rattle.bx_io.specs.Causes.{Rose}
 use Rattle.bx_engine_words.specs.declared.order.Order.{Order}
@@ -9,7 +7,7 @@ use Rattle.bx_engine_words.specs.declared.order.Order.TheVariants.{Build}
 use Rattle.bx_engine.specs.declared.status.Status.{Status}
 use Rattle.bx_engine.specs.Ending.{Ending, status_of, output_of}
 use Rattle.bx_engine.specs.Ends.{Ends}
-use Rattle.bx_engine.specs.Known.{AppendsPrefix}
+use Rattle.bx_engine.specs.Known.{Appends, AppendsPrefix}
 
 -- A build of this input has this status and writes these bytes to `out`. That is what the sequential build
 -- without a cache does.
@@ -33,20 +31,20 @@ Expected order input status bytes = IsExpected (limits_of order) input status by
 -- ## What was written
 
 -- the expected bytes were appended, with their status
-pub record Answers (order : Order) (input : List ℕ) (status : Status) (before now : Option (List ℕ))
+pub record Answers (order : Order) (input : List ℕ) (status : Status) (before now : List ℕ)
     : Type 0 where
   pub bytes : List ℕ
   pub expected : Expected order input status bytes
   pub appended : Appends before now bytes
 
 -- a prefix of the expected bytes was appended
-pub record Begins (order : Order) (input : List ℕ) (before now : Option (List ℕ)) : Type 0 where
+pub record Begins (order : Order) (input : List ℕ) (before now : List ℕ) : Type 0 where
   pub status : Status
   pub bytes : List ℕ
   pub expected : Expected order input status bytes
   pub appended : AppendsPrefix before now bytes
 
 -- the text was appended, or a prefix of it and the sink's count of faults rose
-abbrev pub AppendsOrFails : List ℕ → Option (List ℕ) → Option (List ℕ) → ℕ → ℕ → Type 0
+abbrev pub AppendsOrFails : List ℕ → List ℕ → List ℕ → ℕ → ℕ → Type 0
 AppendsOrFails text before now faults_before faults_now =
     Appends before now text ⊎ (AppendsPrefix before now text × Rose faults_before faults_now)

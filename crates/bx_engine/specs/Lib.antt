@@ -1,9 +1,13 @@
 pub mod Ending
 pub mod Ends
 pub mod Expected
+pub mod Calls
 pub mod Known
 pub mod Stores
 pub mod Counting
 pub mod OutputTrees
 pub mod Responses
 pub mod Statuses
+pub mod Headline
+pub mod Beyond
+pub mod Ended

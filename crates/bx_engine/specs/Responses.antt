@@ -16,7 +16,8 @@ use Rattle.bx_engine_front.specs.declared.fault.FrontFault.TheVariants as front_
 use Rattle.bx_tree.specs.declared.bundle.BundleFault.{BundleFault}
 use Rattle.bx_tree.specs.declared.bundle.BundleFault.TheVariants as bundle_faults
 use Rattle.bx_engine_words.specs.declared.order.Order.{Order}
-use Rattle.bx_engine.specs.Counting.{CountsOf, Gone, IsNoted, StoreChange, gone_output, gone_status}
+use Rattle.bx_engine.specs.Calls.{StoreChange}
+use Rattle.bx_engine.specs.Counting.{CountsOf, Gone, IsNoted, gone_output, gone_status}
 use Rattle.bx_engine.specs.Ending.{Ending, InputRefused, SpecificationRefused, Built}
 use Rattle.bx_engine.specs.Ending.{output_of, refusal_output, status_of}
 use Rattle.bx_engine.specs.Expected.{Expected, limits_of}
@@ -95,9 +96,9 @@ pub record IsBuildResponse (pips : List Pip) (tree : Files) (budget : ℕ) (cach
   pub went : IsGoneResponse cached change response
   pub pips_are : went.gone.pips ≡ pips
   pub text : IsOutputText response.bytes.items
-  pub shown : Fair pips tree budget cached (held_in change.before)
+  pub shown : Fair pips tree budget cached (held_in change.before) (held_in change.now)
       → IsResponseTo (Built pips (one_thread pips tree budget)) (notes_text went.gone.counts) response
-  pub built : Fair pips tree budget cached (held_in change.before) → NoneReserved tree
+  pub built : Fair pips tree budget cached (held_in change.before) (held_in change.now) → NoneReserved tree
       → CountsOf cached pips tree budget (one_thread pips tree budget) change went.gone.counts
 
 -- ## Inputs
@@ -118,7 +119,7 @@ pub record Responds (order : Order) (input : List ℕ) (change : StoreChange) (r
   pub refused : IsRefusal response.status → Expected order input response.status response.bytes.items
   pub quiet : IsRefusal response.status → response.notes.items ≡ []
   pub went : IsGone response.status → IsGoneTo order input change response
-  pub expected : FairStore order input (held_in change.before)
+  pub expected : FairStore order input (held_in change.before) (held_in change.now)
       → Expected order input response.status response.bytes.items
-  pub noted : FairStore order input (held_in change.before)
+  pub noted : FairStore order input (held_in change.before) (held_in change.now)
       → IsNoted order input change response.status response.notes.items

@@ -3,7 +3,8 @@
 ghost use Rattle.std.specs.Prelude.{◌≡◌, ℕ, List, false};
 ghost use Rattle.bx_engine_front.specs.declared.limits.Limits.{Limits as AnyLimits};
 ghost use Rattle.bx_engine_words.specs.declared.order.Order.{Order as AnyOrder};
-ghost use Rattle.bx_engine.specs.Counting.{IsNoted, StoreChange};
+ghost use Rattle.bx_engine.specs.Calls.{StoreChange};
+ghost use Rattle.bx_engine.specs.Counting.{IsNoted};
 ghost use Rattle.bx_engine.specs.Ending.{Ending};
 ghost use Rattle.bx_engine.specs.Ends.{Ends, IsEndless};
 ghost use Rattle.bx_engine.specs.Expected.{IsExpected};

@@ -1,7 +1,7 @@
 //! Reads the source to its end, or to one byte past the limit on an input.
 
-ghost use Rattle.std.specs.Prelude.{◌≡◌, ◌≢◌, ◌≤◌, ◌<◌, IfOk, IsErrOf, IsSome, length, vec_len};
-ghost use Rattle.std.specs.Io.KnownBytes.{Consumes, IsAtEnd};
+ghost use Rattle.std.specs.Prelude.{◌≡◌, ◌≢◌, ◌≤◌, ◌<◌, ◌++◌, ℕ, List, true, IfOk, IsErrOf, length, vec_len};
+ghost use Rattle.bx_io.specs.Told.{Moves, NoneLeft};
 ghost use Rattle.bx_io.specs.Causes.{HasCause};
 ghost use Rattle.bx_engine.specs.Known.{MovesPiece};
 ghost use Rattle.bx_engine.specs.declared.reading.ReadFault.TheVariants as read_faults;
@@ -56,10 +56,13 @@ fn read_piece<S: Source>(
     held: &mut Vec<u8>,
 ) -> Result<usize, ReadFault>
     ensures moved { IfOk result (λ count.
-        MovesPiece (S.left source.old) (S.left source.new) held.old.items held.new.items count) }
+        MovesPiece (S.given source.old) (S.given source.new) (S.left source.old) (S.left source.new)
+        held.old.items held.new.items count) }
     ensures count { IfOk result (λ count. count ≤ length buffer.old) }
-    ensures end { result ≡ Ok 0 → 0 < length buffer.old
-        → IsSome (S.left source.old) → IsAtEnd (S.left source.new) }
+    ensures gave { (piece : List ℕ) × (S.given source.new ≡ S.given source.old ++ piece)
+        × Moves (S.left source.old) (S.left source.new) piece }
+    ensures end { result ≡ Ok 0 → 0 < length buffer.old → S.ended source.new ≡ true }
+    ensures none_left { result ≡ Ok 0 → 0 < length buffer.old → NoneLeft (S.left source.new) }
     ensures cause { HasCause (S.faults source.old) (S.faults source.new) (IsErrOf result ReadFault.Failed) }
     ensures no_fault { result ≢ Err ReadFault.Failed → S.faults source.new ≡ S.faults source.old }
 {
@@ -70,10 +73,14 @@ fn read_piece<S: Source>(
 
 /// Reads up to the source's end, or until one byte more is held than a bundle may have.
 pub(crate) fn read_all<S: Source>(alloc: Global, source: &mut S) -> Result<Vec<u8>, ReadFault>
-    ensures consumed { IfOk result (λ bytes. Consumes (S.left source.old) (S.left source.new) bytes.items) }
+    ensures piece { (piece : List ℕ) × (S.given source.new ≡ S.given source.old ++ piece)
+        × Moves (S.left source.old) (S.left source.new) piece }
+    ensures gave { IfOk result (λ bytes. S.given source.new ≡ S.given source.old ++ bytes.items) }
+    ensures moved { IfOk result (λ bytes. Moves (S.left source.old) (S.left source.new) bytes.items) }
     ensures bound { IfOk result (λ bytes. vec_len bytes ≤ READ_LIMIT) }
-    ensures end { IfOk result (λ bytes.
-        vec_len bytes ≤ MAX_BUNDLE_BYTES → IsSome (S.left source.old) → IsAtEnd (S.left source.new)) }
+    ensures end { IfOk result (λ bytes. vec_len bytes ≤ MAX_BUNDLE_BYTES → S.ended source.new ≡ true) }
+    ensures none_left { IfOk result (λ bytes.
+        vec_len bytes ≤ MAX_BUNDLE_BYTES → NoneLeft (S.left source.new)) }
     ensures cause { HasCause (S.faults source.old) (S.faults source.new) (IsErrOf result ReadFault.Failed) }
     ensures no_fault { result ≢ Err ReadFault.Failed → S.faults source.new ≡ S.faults source.old }
 {

@@ -1,8 +1,8 @@
 //! What a build of an input comes to: its status, its output and its notes.
 
-ghost use Rattle.std.specs.Prelude.{◌≡◌, ◌≤◌, [], ℕ, List, Some, false, IfOk, OnOk, if◌then◌else◌, length};
+ghost use Rattle.std.specs.Prelude.{◌≡◌, ◌≤◌, [], ℕ, List, Some, IsSome, false, IfOk, OnOk, if◌then◌else◌, length};
 ghost use Rattle.std.specs.List.{AllByRecursion};
-ghost use Rattle.bx_io.specs.Holdings.{StoreState as AnyStore};
+ghost use Rattle.bx_io.specs.Holdings.{Holdings, held_in};
 ghost use Rattle.bx_tree.specs.Bundle.{IsBundle, IsInSize};
 ghost use Rattle.bx_tree.specs.Paths.{IsPath};
 ghost use Rattle.bx_tree.specs.Trees.{paths_of};
@@ -10,8 +10,9 @@ ghost use Rattle.graph_check.specs.Rules.{KeepsRules};
 ghost use Rattle.pip_model_types.specs.Made.{made_files};
 ghost use Rattle.two_phase_meaning.specs.Honest.{Honest};
 ghost use Rattle.retire.specs.Builds.{IsFair, LeavesFair};
+ghost use Rattle.bx_engine.specs.Calls.{change_of};
+ghost use Rattle.bx_engine.specs.Counting.{given_files};
 ghost use Rattle.retire.specs.Saving.{OnlyPuts};
-ghost use Rattle.bx_engine.specs.Counting.{change_of, given_files};
 ghost use Rattle.bx_engine.specs.Ending as endings;
 ghost use Rattle.bx_engine.specs.Expected.{limits_of};
 ghost use Rattle.bx_engine.specs.Responses.{IsBuildResponse, IsReportOf, IsResponseOf, IsResponseTo};
@@ -140,9 +141,11 @@ fn build_plan<K: Keeper, G: Gate>(
     ensures response { IfOk result (IsBuildResponse plan.now.pips sources.now plan.now.tool_budget cached
         (change_of (K.known keeper.old) (K.known keeper.new) (K.bound keeper.old) (K.faults keeper.old)
         (K.faults keeper.new))) }
-    ensures left { (before : AnyStore) → K.known keeper.old ≡ Some before
-        → IsFair plan.now.pips sources.now plan.now.tool_budget before.held
-        → LeavesFair plan.now.pips sources.now plan.now.tool_budget before (K.known keeper.new) }
+    ensures left { (held : Holdings) → held_in (K.known keeper.old) ≡ Some held
+        → IsSome (held_in (K.known keeper.new))
+        → IsFair plan.now.pips sources.now plan.now.tool_budget held
+        → LeavesFair plan.now.pips sources.now plan.now.tool_budget held (K.known keeper.old)
+        (K.known keeper.new) }
     ensures untouched { cached ≡ false → keeper.new ≡ keeper.old }
     ensures puts { OnlyPuts (K.known keeper.old) (K.known keeper.new) }
     ensures bound { K.bound keeper.new ≡ K.bound keeper.old }
@@ -165,10 +168,10 @@ fn respond_tree<K: Keeper, G: Gate>(
         (change_of (K.known keeper.old) (K.known keeper.new) (K.bound keeper.old) (K.faults keeper.old)
         (K.faults keeper.new))) }
     ensures kept { IfOk result (λ response. IsRefusal response.status → keeper.new ≡ keeper.old) }
-    ensures left { (input : List ℕ) (before : AnyStore) → IsBundle input tree
-        → K.known keeper.old ≡ Some before → Honest before.held
-        → FairStore order.now input (Some before.held)
-        → StoreLeft (limits_of order.now) input before (K.known keeper.new) }
+    ensures left { (input : List ℕ) (held : Holdings) → IsBundle input tree
+        → held_in (K.known keeper.old) ≡ Some held → Honest held
+        → FairStore order.now input (held_in (K.known keeper.old)) (held_in (K.known keeper.new))
+        → StoreLeft (limits_of order.now) input held (K.known keeper.old) (K.known keeper.new) }
     ensures untouched { uses_store order.now ≡ false → keeper.new ≡ keeper.old }
     ensures puts { OnlyPuts (K.known keeper.old) (K.known keeper.new) }
     ensures bound { K.bound keeper.new ≡ K.bound keeper.old }
@@ -216,9 +219,9 @@ pub(crate) fn respond<K: Keeper, G: Gate>(
     ensures response { IfOk result (Responds order.now input.now (change_of (K.known keeper.old)
         (K.known keeper.new) (K.bound keeper.old) (K.faults keeper.old) (K.faults keeper.new))) }
     ensures kept { IfOk result (λ response. IsRefusal response.status → keeper.new ≡ keeper.old) }
-    ensures left { (before : AnyStore) → K.known keeper.old ≡ Some before → Honest before.held
-        → FairStore order.now input.now (Some before.held)
-        → StoreLeft (limits_of order.now) input.now before (K.known keeper.new) }
+    ensures left { (held : Holdings) → held_in (K.known keeper.old) ≡ Some held → Honest held
+        → FairStore order.now input.now (held_in (K.known keeper.old)) (held_in (K.known keeper.new))
+        → StoreLeft (limits_of order.now) input.now held (K.known keeper.old) (K.known keeper.new) }
     ensures untouched { uses_store order.now ≡ false → keeper.new ≡ keeper.old }
     ensures puts { OnlyPuts (K.known keeper.old) (K.known keeper.new) }
     ensures bound { K.bound keeper.new ≡ K.bound keeper.old }

@@ -1,9 +1,8 @@
 //! Writes a whole text to a sink, which may take it in any number of pieces.
 
 ghost use Rattle.std.specs.Prelude.{◌≡◌, [], IsErr, OnErr, OnOk};
-ghost use Rattle.std.specs.Io.KnownBytes.{Appends};
 ghost use Rattle.bx_io.specs.Causes.{HasCause};
-ghost use Rattle.bx_engine.specs.Known.{AppendsPrefix};
+ghost use Rattle.bx_engine.specs.Known.{Appends, AppendsPrefix};
 
 use bx_io::{Failed, Sink};
 

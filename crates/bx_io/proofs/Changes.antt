@@ -1,6 +1,6 @@
 -- Lists of changes: made one list after another, cut off, and what they keep.
-use Rattle.std.proofs.Common.{◌≡◌, ℕ, ◌+◌, ◌<◌, ◌≤◌, Bool, true, false, cond, List, [], ◌∷◌, ◌++◌, Option, Some, None, refl, sym, ap, subst, ◌∙◌, append_assoc, append-nil, arith}
-use Rattle.std.specs.Prelude.{All}
+use Rattle.std.proofs.Common.{◌≡◌, ℕ, ◌+◌, ◌<◌, ◌≤◌, Bool, true, false, cond, List, [], ◌∷◌, ◌++◌, Option, Some, None, Result, Ok, Err, refl, sym, ap, subst, ◌∙◌, append_assoc, append-nil, arith}
+use Rattle.std.specs.Prelude.{All, OnOk}
 use Rattle.std.specs.Ordering.{nat_cmp, eq_by_cmp}
 use Rattle.std.specs.Cmp.{Equal-is}
 use Rattle.std.specs.Cmp.Lexicographic.{slice_cmp, nat_list_cmp_total}
@@ -8,25 +8,110 @@ use Rattle.std.specs.FinMap.{get, get-insert, get-remove, slice_cmp-IsAntisymmet
 use Rattle.std.proofs.lemmas.List.Elements.{All-head, All-tail}
 use Rattle.bx_io.specs.Causes.{Rose, last_count}
 use Rattle.bx_io.specs.Names.{IsName}
-use Rattle.bx_io.specs.Holdings.{Holdings, AreNames, Change, Put, Drop, changed, holdings_after, name_of, StoreState, state_after, known_after, MakesPrefix, IsPrefix}
+use Rattle.bx_io.specs.Told.{Stays}
+use Rattle.bx_io.specs.Holdings.{Holdings, AreNames, Change, Put, Drop, changed, holdings_after, name_of, StoreState, state_after, StoreTold, told_of, held_in, after_told, Makes, Keeps, MakesPrefix, IsPrefix}
 
 pub after-append : (held : Holdings) (first next : List Change) → holdings_after held (first ++ next) ≡ holdings_after (holdings_after held first) next
 after-append held [] next = refl
 after-append held (change ∷ first) next = after-append (changed held change) first next
 
-state_after-append : (kept : StoreState) (first next : List Change) → state_after kept (first ++ next) ≡ state_after (state_after kept first) next
-state_after-append kept first next =
-    let held = after-append kept.held first next in
-    let changes : kept.changes ++ (first ++ next) ≡ (kept.changes ++ first) ++ next = sym (append_assoc kept.changes first next) in
-    cc
+-- what is told after two lists of changes
+pub after_told-append : (told : Option Holdings) (first next : List Change) → after_told told (first ++ next) ≡ after_told (after_told told first) next
+after_told-append None first next = refl
+after_told-append (Some held) first next = ap Some (after-append held first next)
 
-pub known_after-append : (known : Option StoreState) (first next : List Change) → known_after known (first ++ next) ≡ known_after (known_after known first) next
-known_after-append None first next = refl
-known_after-append (Some kept) first next = ap Some (state_after-append kept first next)
+pub after_told-nil : (told : Option Holdings) → after_told told [] ≡ told
+after_told-nil None = refl
+after_told-nil (Some held) = refl
 
-pub known_after-nil : (known : Option StoreState) → known_after known [] ≡ known
-known_after-nil None = refl
-known_after-nil (Some kept) = ap (λ (changes : List Change). Some (record { held = kept.held; changes = changes })) (append-nil kept.changes)
+-- what is told after changes was told before them
+pub after_told-some : (told : Option Holdings) (made : List Change) (now : Holdings) → after_told told made ≡ Some now
+    → (held : Holdings) × (told ≡ Some held) × (holdings_after held made ≡ now)
+after_told-some None made now h = absurd (cc)
+after_told-some (Some held) made now h = (held, refl, cc)
+
+pub after_told-stays : (before between : Option Holdings) (made : List Change) → Stays before between → Stays (after_told before made) (after_told between made)
+after_told-stays before between made stays = λ now h.
+    let from = after_told-some between made now h in
+    let was : before ≡ Some from.0 = stays from.0 from.1 in
+    ap (λ (told : Option Holdings). after_told told made) was ∙ ap Some from.2
+
+-- ## Stores
+
+pub keeps_all : (known : StoreTold) → Keeps known known
+keeps_all known = record { held = λ held h. h; changes = refl }
+
+pub keeps_on : (before between now : StoreTold) → Keeps before between → Keeps between now → Keeps before now
+keeps_on before between now first next = record {
+  held = λ held h. first.held held (next.held held h);
+  changes = next.changes ∙ first.changes;
+}
+
+-- no change was made
+pub makes_none : (before now : StoreTold) → Keeps before now → Makes before [] now
+makes_none before now keeps = record {
+  held = λ held h. after_told-nil before.held ∙ keeps.held held h;
+  changes = keeps.changes ∙ sym (append-nil before.changes);
+}
+
+pub keeps_none : (before now : StoreTold) → Makes before [] now → Keeps before now
+keeps_none before now makes = record {
+  held = λ held h. sym (after_told-nil before.held) ∙ makes.held held h;
+  changes = makes.changes ∙ append-nil before.changes;
+}
+
+pub makes_both : (before between now : StoreTold) (first next : List Change) → Makes before first between → Makes between next now
+    → Makes before (first ++ next) now
+makes_both before between now first next one other = record {
+  held = λ held h.
+      let told = after_told-stays (after_told before.held first) between.held next one.held held (other.held held h) in
+      after_told-append before.held first next ∙ told;
+  changes = other.changes ∙ ap (λ changes. changes ++ next) one.changes ∙ append_assoc before.changes first next;
+}
+
+pub keeps_makes : (before between now : StoreTold) (made : List Change) → Keeps before between → Makes between made now → Makes before made now
+keeps_makes before between now made keeps makes = record {
+  held = λ held h. after_told-stays before.held between.held made keeps.held held (makes.held held h);
+  changes = makes.changes ∙ ap (λ changes. changes ++ made) keeps.changes;
+}
+
+pub makes_keeps : (before between now : StoreTold) (made : List Change) → Makes before made between → Keeps between now → Makes before made now
+makes_keeps before between now made makes keeps = record {
+  held = λ held h. makes.held held (keeps.held held h);
+  changes = keeps.changes ∙ makes.changes;
+}
+
+-- what is still told after changes was told before them, with the changes
+pub makes_some : (before now : StoreTold) (made : List Change) (held : Holdings) → Makes before made now → held_in now ≡ Some held
+    → (first : Holdings) × (held_in before ≡ Some first) × (holdings_after first made ≡ held)
+makes_some before now made held makes h = after_told-some before.held made held (makes.held held h)
+
+-- what is told after changes, where what was told before them is this
+pub told_after : (before now : StoreTold) (made : List Change) (held last : Holdings) → held_in before ≡ Some held → held_in now ≡ Some last → Makes before made now
+    → held_in now ≡ Some (holdings_after held made)
+told_after before now made held last was is makes = is ∙ sym (makes.held last is) ∙ ap (λ (told : Option Holdings). after_told told made) was
+
+-- one put, of a name and of bytes that are these
+pub makes_put : (before now : StoreTold) (name other bytes same : List ℕ) → name ≡ other → bytes ≡ same → Makes before (Put name bytes ∷ []) now
+    → Makes before (Put other same ∷ []) now
+makes_put before now name other bytes same named are makes =
+    subst (λ (n : List ℕ). Makes before (Put n same ∷ []) now) named (subst (λ (b : List ℕ). Makes before (Put name b ∷ []) now) are makes)
+
+-- as a call answers it
+pub made_put : {X E : Type 0} (r : Result X E) (before now : StoreTold) (name other bytes same : List ℕ) → name ≡ other → bytes ≡ same
+    → OnOk r (Makes before (Put name bytes ∷ []) now) → OnOk r (Makes before (Put other same ∷ []) now)
+made_put (Ok x) before now name other bytes same named are makes = makes_put before now name other bytes same named are makes
+made_put (Err e) before now name other bytes same named are makes = tt
+
+-- a store in memory after a list of changes
+pub makes_state : (kept : StoreState) (made : List Change) → Makes (told_of kept) made (told_of (state_after kept made))
+makes_state kept made = record { held = λ held h. h; changes = refl }
+
+pub makes_state_is : (kept now : StoreState) (made : List Change) → now ≡ state_after kept made → Makes (told_of kept) made (told_of now)
+makes_state_is kept now made is = subst (λ (n : StoreState). Makes (told_of kept) made (told_of n)) (sym is) (makes_state kept made)
+
+pub keeps_state_is : (kept now : StoreState) → now ≡ kept → Keeps (told_of kept) (told_of now)
+keeps_state_is kept now is = subst (λ (n : StoreState). Keeps (told_of kept) (told_of n)) (sym is) (keeps_all (told_of kept))
 
 -- a name that is found after a change was found before or is the change's name
 
@@ -59,7 +144,7 @@ names-after held (change ∷ changes) names named =
 
 -- changes that were cut off in the first list, or in the next one once the first was made, are a prefix of both lists
 
-pub prefix_of_first : (before now : Option StoreState) (first next : List Change) → MakesPrefix before now first → MakesPrefix before now (first ++ next)
+pub prefix_of_first : (before now : StoreTold) (first next : List Change) → MakesPrefix before now first → MakesPrefix before now (first ++ next)
 prefix_of_first before now first next made = record {
   made = made.made;
   first = record {
@@ -69,14 +154,14 @@ prefix_of_first before now first next made = record {
   makes = made.makes;
 }
 
-pub prefix_of_next : (before between now : Option StoreState) (first next : List Change) → between ≡ known_after before first → MakesPrefix between now next → MakesPrefix before now (first ++ next)
+pub prefix_of_next : (before between now : StoreTold) (first next : List Change) → Makes before first between → MakesPrefix between now next → MakesPrefix before now (first ++ next)
 prefix_of_next before between now first next done made = record {
   made = first ++ made.made;
   first = record {
     rest = made.first.rest;
     joined = append_assoc first made.made made.first.rest ∙ ap (λ changes. first ++ changes) made.first.joined;
   };
-  makes = made.makes ∙ ap (λ known. known_after known made.made) done ∙ sym (known_after-append before first made.made);
+  makes = makes_both before between now first made.made done made.makes;
 }
 
 -- a count that can still rise rose by one at least

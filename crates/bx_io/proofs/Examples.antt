@@ -1,8 +1,9 @@
 -- Worked examples of changes, of their prefixes and of counts.
-use Rattle.std.proofs.Common.{◌≡◌, ℕ, List, [], ◌∷◌, Some, None, codes, refl, ap, arith, rules}
+use Rattle.std.proofs.Common.{◌≡◌, ◌∙◌, ℕ, List, [], ◌∷◌, Some, None, codes, refl, ap, arith, rules}
 use Rattle.std.specs.FinMap.{empty, get, gets}
 use Rattle.bx_io.specs.Causes.{Rose, last_count}
-use Rattle.bx_io.specs.Holdings.{Holdings, Put, Drop, holdings_after, known_after, IsPrefix}
+use Rattle.bx_io.specs.Holdings.{Holdings, Change, Put, Drop, holdings_after, after_told, Makes, IsPrefix}
+use Rattle.bx_io.specs.Told.{Stays}
 use Rattle.bx_io.proofs.Mapped.{same_holdings}
 
 abbrev a : List ℕ
@@ -47,12 +48,37 @@ drop_leaves_others = grind (gets, rules)
 other_name_stays : get (holdings_after none (Put b two ∷ Put a one ∷ [])) b ≡ Some two
 other_name_stays = grind (gets, rules)
 
--- a change that changes nothing is listed too
-listed_anyway : known_after (Some (record { held = none; changes = Put b two ∷ [] })) (Drop a ∷ []) ≡ Some (record { held = none; changes = Put b two ∷ Drop a ∷ [] })
-listed_anyway = ap (λ (held : Holdings). Some (record { held = held; changes = Put b two ∷ Drop a ∷ [] })) drop_of_nothing
+-- a store that tells is told with its change
+told_with_change : after_told (Some none) (Drop a ∷ []) ≡ Some none
+told_with_change = ap Some drop_of_nothing
 
-nothing_is_known : known_after None (Put a one ∷ []) ≡ None
-nothing_is_known = refl
+-- what is not told is not told after a change
+nothing_is_told : after_told None (Put a one ∷ []) ≡ None
+nothing_is_told = refl
+
+-- what is told now was told before
+told_was_told : Stays (Some none) (Some none)
+told_was_told = λ held h. h
+
+-- what was lost does not come back
+lost_stays_lost : Stays None (Some none) → ⊥
+lost_stays_lost stays = let back : None ≡ Some none = stays none refl in cc
+
+-- anything may be lost
+all_may_be_lost : Stays (Some none) None
+all_may_be_lost = λ held h. absurd (cc)
+
+-- a change that changes nothing is listed too
+listed_anyway : Makes (record { held = Some none; changes = Put b two ∷ [] }) (Drop a ∷ []) (record { held = Some none; changes = Put b two ∷ Drop a ∷ [] })
+listed_anyway = record { held = λ held h. told_with_change ∙ h; changes = refl }
+
+-- the changes are known where nothing is told any more
+changes_without_telling : Makes (record { held = Some none; changes = [] }) (Put a one ∷ []) (record { held = None; changes = Put a one ∷ [] })
+changes_without_telling = record { held = λ held h. absurd (cc); changes = refl }
+
+-- a change that was made cannot be left out of the list
+forgets_a_drop : Makes (record { held = Some none; changes = [] }) (Drop a ∷ []) (record { held = Some none; changes = [] }) → ⊥
+forgets_a_drop makes = let none_listed : [] ≡ Drop a ∷ [] = makes.changes in cc
 
 first_is_prefix : IsPrefix (Put a one ∷ []) (Put a one ∷ Put b two ∷ [])
 first_is_prefix = record { rest = Put b two ∷ []; joined = refl }

@@ -1,6 +1,7 @@
 -- What each call of an in-memory store does, exactly.
-use Rattle.std.specs.Prelude.{◌≡◌, ◌+◌, ◌-◌, ◌<◌, ◌≤◌, ℕ, List, [], ◌∷◌, Some, Result, Err, OnOk, OnErr}
-use Rattle.bx_io.specs.Answers.{Finds, Lists, ListsNames, MayBeHeld}
+use Rattle.std.specs.Prelude.{◌≡◌, ◌+◌, ◌-◌, ◌<◌, ◌≤◌, ℕ, List, [], ◌∷◌, IsSome, Result, Err, OnOk, OnErr}
+use Rattle.std.specs.FinMap.{get}
+use Rattle.bx_io.specs.Answers.{IsAnswer, IsListing, ListsNames}
 use Rattle.bx_io.specs.Causes.{last_count}
 use Rattle.bx_io.specs.Holdings.{Change, state_after}
 use Rattle.bx_io.specs.Memories.{Scripted, Stopping, faults_in}
@@ -15,8 +16,8 @@ use Rattle.bx_io.specs.declared.keeper.PutFault.TheVariants as put_faults
 -- a look under a name
 pub record Looks (before now : Scripted) (name : List ℕ) (answer : Got) : Type 0 where
   pub numbered : IsNumbered before.script now.script (answer ≡ got.Failed)
-  pub found : Finds (Some before.kept.held) name answer
-  pub memory : answer ≡ got.Memory → MayBeHeld (Some before.kept.held) name
+  pub found : IsAnswer before.kept.held name answer
+  pub memory : answer ≡ got.Memory → IsSome (get before.kept.held name)
   pub kept : now.kept ≡ before.kept
 
 -- a put or a drop
@@ -29,7 +30,7 @@ pub record Tries (before now : Scripted) (change : Change)
 -- a question for all names
 pub record ListsAll (before now : Scripted) (answer : Listed) : Type 0 where
   pub numbered : IsNumbered before.script now.script (answer ≡ listed.Failed)
-  pub held : Lists (Some before.kept.held) answer
+  pub held : IsListing before.kept.held answer
   pub names : ListsNames answer
   pub kept : now.kept ≡ before.kept
 

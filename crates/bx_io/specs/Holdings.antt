@@ -4,6 +4,7 @@ use Rattle.std.specs.Ordering.{nat_cmp}
 use Rattle.std.specs.Cmp.Lexicographic.{slice_cmp}
 use Rattle.std.specs.FinMap.{FinMap, get, insert, remove}
 use Rattle.bx_io.specs.Names.{IsName}
+use Rattle.bx_io.specs.Told.{Stays}
 
 -- from the bytes of each held name to the bytes that are held under it
 abbrev pub Holdings : Type 0
@@ -42,13 +43,33 @@ pub record StoreState : Type 0 where
 abbrev pub state_after : StoreState → List Change → StoreState
 state_after kept made = record { held = holdings_after kept.held made; changes = kept.changes ++ made }
 
--- a store of which this may be unknown, after a list of changes
-abbrev pub known_after : Option StoreState → List Change → Option StoreState
-known_after known made = option_map (λ kept. state_after kept made) known
+-- What is told of a store: what it holds, until an answer disagrees with that; and all changes that it made, in
+-- order, which are always known.
+pub record StoreTold : Type 0 where
+  pub held : Option Holdings
+  pub changes : List Change
 
--- what is held, where that is known
-abbrev pub held_in : Option StoreState → Option Holdings
-held_in known = option_map (λ kept. kept.held) known
+-- a store that tells what it holds
+abbrev pub told_of : StoreState → StoreTold
+told_of kept = record { held = Some kept.held; changes = kept.changes }
+
+-- what a store is told to hold
+abbrev pub held_in : StoreTold → Option Holdings
+held_in known = known.held
+
+-- what is told to be held after a list of changes
+abbrev pub after_told : Option Holdings → List Change → Option Holdings
+after_told told made = option_map (λ held. holdings_after held made) told
+
+-- These changes were made, and nothing else. What is still told is what was told, with the changes.
+pub record Makes (before : StoreTold) (made : List Change) (now : StoreTold) : Type 0 where
+  pub held : Stays (after_told before.held made) now.held
+  pub changes : now.changes ≡ before.changes ++ made
+
+-- Nothing was changed. What is still told is what was told.
+pub record Keeps (before now : StoreTold) : Type 0 where
+  pub held : Stays before.held now.held
+  pub changes : now.changes ≡ before.changes
 
 -- The first list of changes is a prefix of the second.
 pub record IsPrefix (start whole : List Change) : Type 0 where
@@ -56,7 +77,7 @@ pub record IsPrefix (start whole : List Change) : Type 0 where
   pub joined : start ++ rest ≡ whole
 
 -- Of the changes that were planned a prefix was made, and nothing else.
-pub record MakesPrefix (before now : Option StoreState) (planned : List Change) : Type 0 where
+pub record MakesPrefix (before now : StoreTold) (planned : List Change) : Type 0 where
   pub made : List Change
   pub first : IsPrefix made planned
-  pub makes : now ≡ known_after before made
+  pub makes : Makes before made now

@@ -1,5 +1,6 @@
 pub mod Causes
 pub mod Names
+pub mod Told
 pub mod Holdings
 pub mod Answers
 pub mod Numbered

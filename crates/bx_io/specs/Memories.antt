@@ -1,13 +1,21 @@
 -- What contracts see of the objects in memory.
-use Rattle.std.specs.Prelude.{ℕ, ◌+◌, List, refl}
+use Rattle.std.specs.Prelude.{ℕ, ◌+◌, Bool, List, refl}
 use Rattle.std.specs.Coded.{Coded, code_by, coded×, coded_ℕ, coded_list}
 use Rattle.bx_io.specs.Holdings.{Holdings, StoreState}
 use Rattle.bx_io.specs.StoreCodes.{holdings_code, state_code, script_code}
 use Rattle.bx_io.specs.Numbered.{Script}
 
--- a source: the bytes that it has left, of which it gives at most `chunk` a call
-pub record Feed : Type 0 where
+-- a source: the bytes that it gave, those that it has left, and whether it answered last that none are
+pub record Poured : Type 0 where
+  pub given : List ℕ
   pub left : List ℕ
+  pub ended : Bool
+
+-- a source that gives at most `chunk` bytes a call, and whose calls fail as its script says
+pub record Feed : Type 0 where
+  pub given : List ℕ
+  pub left : List ℕ
+  pub ended : Bool
   pub chunk : ℕ
   pub script : Script
 

@@ -2,14 +2,11 @@
 
 ghost use Rattle.std.specs.Prelude.{◌≡◌, ◌≢◌, [], ◌∷◌, Some, IfOk, OnOk, OnErr};
 ghost use Rattle.std.specs.FinMap.{empty, get};
-ghost use Rattle.std.specs.Prelude.{option_map};
-ghost use Rattle.bx_io.specs.Answers.{Finds, Lists, ListsNames};
 ghost use Rattle.bx_io.specs.Holdings.{AreNames, Put, Drop, state_after};
 ghost use Rattle.bx_io.specs.Names.{IsName};
 
 use crate::history::{Change, History};
 use crate::holdings::Holdings;
-use crate::keeper::{Got, Listed};
 use std::alloc::{AllocError, Global};
 use std::marker::Model;
 

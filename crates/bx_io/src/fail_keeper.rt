@@ -44,10 +44,11 @@ impl FailKeeper {
 
 impl Keeper for FailKeeper {
     ghost use Rattle.std.specs.Prelude.{Some, length};
+    ghost use Rattle.bx_io.specs.Holdings.{told_of};
 
     type Reader = FailReader;
 
-    ghost known = { λ k. Some k.inner.kept };
+    ghost known = { λ k. told_of k.inner.kept };
 
     ghost faults = { λ k. k.inner.script.faults };
 
@@ -62,6 +63,10 @@ impl Keeper for FailKeeper {
     {
         Ok(FailReader::new(self.inner.reader(alloc)?, self.failing.clone()?))
     }
+
+    fn close(&mut self, _reader: FailReader)
+        ensures { self.new ≡ self.old }
+    {}
 
     fn get(&mut self, alloc: Global, name: &str) -> Got
         requires { IsName name.now }

@@ -1,11 +1,11 @@
 //! Bytes under names, in memory.
 
-ghost use Rattle.std.specs.Prelude.{◌≡◌, ◌≢◌, All, IfOk, OnOk, OnErr, map, string_bytes, option_map, Some};
+ghost use Rattle.std.specs.Prelude.{◌≡◌, ◌≢◌, All, IfOk, OnOk, OnErr, map, string_bytes, option_map, IsSome};
 ghost use Rattle.std.specs.Ordering.{nat_cmp};
 ghost use Rattle.std.specs.Cmp.Lexicographic.{slice_cmp};
 ghost use Rattle.std.specs.List.Sorted.{IsStrictlySortedBy};
 ghost use Rattle.std.specs.FinMap.{empty, get, insert, remove, keys};
-ghost use Rattle.bx_io.specs.Answers.{Finds, Lists, ListsNames, MayBeHeld};
+ghost use Rattle.bx_io.specs.Answers.{IsAnswer, IsListing, ListsNames};
 ghost use Rattle.bx_io.specs.Holdings.{AreNames};
 ghost use Rattle.bx_io.specs.Names.{IsName};
 
@@ -85,8 +85,8 @@ impl Holdings {
 
     /// The answer to a look under the name.
     pub fn look(&self, alloc: Global, name: &str) -> Got
-        ensures found { Finds (Some self.now) name.now result }
-        ensures memory { result ≡ Got.Memory → MayBeHeld (Some self.now) name.now }
+        ensures found { IsAnswer self.now name.now result }
+        ensures memory { result ≡ Got.Memory → IsSome (get self.now name.now) }
         ensures no_fault { result ≢ Got.Failed }
     {
         match self.get(name) {
@@ -100,7 +100,7 @@ impl Holdings {
 
     /// The answer to a question for all names.
     pub fn list(&self, alloc: Global) -> Listed
-        ensures listed { Lists (Some self.now) result }
+        ensures listed { IsListing self.now result }
         ensures names { ListsNames result }
         ensures no_fault { result ≢ Listed.Failed }
     {

@@ -1,11 +1,12 @@
 //! Keepers of results and their readers: what they hold, and when they may fail.
 
 ghost use Rattle.std.specs.Prelude.{◌≡◌, ◌≢◌, ℕ, ◌-◌, ◌^◌, ◌<◌, ◌≤◌, [], ◌∷◌, Option, IfOk, IfSome, OnOk};
-ghost use Rattle.std.specs.Prelude.{OnErr, Err};
+ghost use Rattle.std.specs.Prelude.{OnErr, Err, IsSome};
 ghost use Rattle.bx_io.specs.Causes.{CanRise, HasCause, IsWithin};
 ghost use Rattle.bx_io.specs.Names.{IsName};
-ghost use Rattle.bx_io.specs.Holdings.{AreNames, Holdings, StoreState, Put, Drop, held_in, known_after};
-ghost use Rattle.bx_io.specs.Answers.{Finds, Lists, ListsNames, MayBeHeld};
+ghost use Rattle.bx_io.specs.Holdings.{AreNames, Holdings, Keeps, Makes, StoreTold, Put, Drop, held_in};
+ghost use Rattle.bx_io.specs.Answers.{Finds, Lists, ListsNames};
+ghost use Rattle.bx_io.specs.Told.{Stays};
 
 use std::alloc::{AllocError, AllocFailed, Global};
 
@@ -42,9 +43,10 @@ pub enum Listed {
     Memory,
 }
 
-/// Reads what a store held when the reader was made. It may go to another thread.
+/// Reads what a store held when the reader was made. It may go to another thread. It tells what that is until
+/// an answer disagrees; then it tells no more.
 pub trait KeepReader: Send + Drop {
-    // The held bytes by name, where they are known.
+    // The held bytes by name, as long as no answer disagreed with them.
     ghost held: { Self → Option Holdings };
 
     // How often the reader has failed.
@@ -56,9 +58,8 @@ pub trait KeepReader: Send + Drop {
     /// The bytes that are held under the name, or that none are.
     fn get(&mut self, alloc: Global, name: &str) -> Got
         requires { IsName name.now }
-        ensures found { Finds (held self.old) name.now result }
-        ensures memory { result ≡ Got.Memory → MayBeHeld (held self.old) name.now }
-        ensures held { held self.new ≡ held self.old }
+        ensures found { Finds (held self.new) name.now result }
+        ensures held { Stays (held self.old) (held self.new) }
         ensures bound { bound self.new ≡ bound self.old }
         ensures within { IsWithin (bound self.new) (faults self.new) }
         ensures can_rise { CanRise (bound self.new) (faults self.new) }
@@ -66,15 +67,15 @@ pub trait KeepReader: Send + Drop {
         ensures no_fault { result ≢ Got.Failed → faults self.new ≡ faults self.old };
 }
 
-/// Holds bytes under names, from one build to the next. What a store holds and the changes that led there
-/// are known, as of an in-memory store, or not, as of a folder; what is said of them is said where they are
-/// known.
+/// Holds bytes under names, from one build to the next. The changes that a store made are always known. What it
+/// holds it tells until an answer disagrees with its first contents followed by the changes; then it tells no
+/// more.
 pub trait Keeper {
     /// Reads what the store held at one moment.
     type Reader: KeepReader;
 
-    // The held bytes by name and all changes so far, where they are known.
-    ghost known: { Self → Option StoreState };
+    // The held bytes by name, as long as no answer disagreed with them, and all changes so far.
+    ghost known: { Self → StoreTold };
 
     // How often the store has failed.
     ghost faults: { Self → ℕ };
@@ -89,11 +90,19 @@ pub trait Keeper {
         ensures bound { IfOk result (λ reader. Self.Reader.bound reader ≡ bound self.now) }
         ensures faults { IfOk result (λ reader. Self.Reader.faults reader ≡ 0) };
 
+    /// Takes a reader back. Where the reader tells no more, the store tells no more. This is no numbered call,
+    /// and cannot fail.
+    fn close(&mut self, reader: Self::Reader)
+        ensures known { Keeps (known self.old) (known self.new) }
+        ensures reader { IsSome (held_in (known self.new)) → IsSome (Self.Reader.held reader) }
+        ensures bound { bound self.new ≡ bound self.old }
+        ensures faults { faults self.new ≡ faults self.old };
+
     /// The bytes that are held under the name, or that none are.
     fn get(&mut self, alloc: Global, name: &str) -> Got
         requires { IsName name.now }
-        ensures found { Finds (held_in (known self.old)) name.now result }
-        ensures known { known self.new ≡ known self.old }
+        ensures found { Finds (held_in (known self.new)) name.now result }
+        ensures known { Keeps (known self.old) (known self.new) }
         ensures bound { bound self.new ≡ bound self.old }
         ensures can_rise { CanRise (bound self.new) (faults self.new) }
         ensures cause { HasCause (faults self.old) (faults self.new) (result ≡ Got.Failed) }
@@ -104,8 +113,8 @@ pub trait Keeper {
     fn put(&mut self, alloc: Global, name: &str, bytes: &[u8]) -> Result<(), PutFault>
         requires { IsName name.now }
         ensures made { OnOk result
-            (known self.new ≡ known_after (known self.old) (Put name.now bytes.now ∷ [])) }
-        ensures refused { OnErr result (known self.new ≡ known self.old) }
+            (Makes (known self.old) (Put name.now bytes.now ∷ []) (known self.new)) }
+        ensures refused { OnErr result (Keeps (known self.old) (known self.new)) }
         ensures bound { bound self.new ≡ bound self.old }
         ensures can_rise { CanRise (bound self.new) (faults self.new) }
         ensures cause { HasCause (faults self.old) (faults self.new) (result ≡ Err PutFault.Failed) }
@@ -114,8 +123,8 @@ pub trait Keeper {
     /// Holds nothing under the name. A stop at any moment leaves nothing there or what was there before.
     fn drop_name(&mut self, alloc: Global, name: &str) -> Result<(), PutFault>
         requires { IsName name.now }
-        ensures made { OnOk result (known self.new ≡ known_after (known self.old) (Drop name.now ∷ [])) }
-        ensures refused { OnErr result (known self.new ≡ known self.old) }
+        ensures made { OnOk result (Makes (known self.old) (Drop name.now ∷ []) (known self.new)) }
+        ensures refused { OnErr result (Keeps (known self.old) (known self.new)) }
         ensures bound { bound self.new ≡ bound self.old }
         ensures can_rise { CanRise (bound self.new) (faults self.new) }
         ensures cause { HasCause (faults self.old) (faults self.new) (result ≡ Err PutFault.Failed) }
@@ -123,9 +132,9 @@ pub trait Keeper {
 
     /// The held names, each once, rising by bytes.
     fn names(&mut self, alloc: Global) -> Listed
-        ensures listed { Lists (held_in (known self.old)) result }
+        ensures listed { Lists (held_in (known self.new)) result }
         ensures names { ListsNames result }
-        ensures known { known self.new ≡ known self.old }
+        ensures known { Keeps (known self.old) (known self.new) }
         ensures bound { bound self.new ≡ bound self.old }
         ensures can_rise { CanRise (bound self.new) (faults self.new) }
         ensures cause { HasCause (faults self.old) (faults self.new) (result ≡ Listed.Failed) }

@@ -39,7 +39,7 @@ impl MemKeeper {
           kept = record { held = empty; changes = [] };
           script = record { failing = failing.items; calls = 0; faults = 0 };
         } }
-        ensures known { ⟦<MemKeeper as Keeper>⟧.known result ≡ Some (record { held = empty; changes = [] }) }
+        ensures known { ⟦<MemKeeper as Keeper>⟧.known result ≡ record { held = Some empty; changes = [] } }
         ensures faults { ⟦<MemKeeper as Keeper>⟧.faults result ≡ 0 }
         ensures bound { ⟦<MemKeeper as Keeper>⟧.bound result ≡ Some 0 }
     {
@@ -81,10 +81,11 @@ impl MemKeeper {
 
 impl Keeper for MemKeeper {
     ghost use Rattle.std.specs.Prelude.{Some};
+    ghost use Rattle.bx_io.specs.Holdings.{told_of};
 
     type Reader = MemReader;
 
-    ghost known = { λ k. Some k.kept };
+    ghost known = { λ k. told_of k.kept };
 
     ghost faults = { λ k. k.script.faults };
 
@@ -93,6 +94,10 @@ impl Keeper for MemKeeper {
     fn reader(&self, _alloc: Global) -> Result<MemReader, AllocError> {
         Ok(MemReader::new(self.archive.held().copy()?))
     }
+
+    fn close(&mut self, _reader: MemReader)
+        ensures { self.new ≡ self.old }
+    {}
 
     fn get(&mut self, alloc: Global, name: &str) -> Got
         requires { IsName name.now }

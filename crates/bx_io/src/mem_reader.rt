@@ -1,7 +1,8 @@
 //! Readers in memory: one that never fails, and one that fails at numbered calls.
 
-ghost use Rattle.std.specs.Prelude.{◌≡◌, ◌<◌, ◌≤◌, Some, length};
-ghost use Rattle.bx_io.specs.Answers.{Finds, MayBeHeld};
+ghost use Rattle.std.specs.Prelude.{◌≡◌, ◌≢◌, ◌<◌, ◌≤◌, Some, IsSome, length};
+ghost use Rattle.std.specs.FinMap.{get};
+ghost use Rattle.bx_io.specs.Answers.{IsAnswer};
 ghost use Rattle.bx_io.specs.Causes.{HasCause, last_count};
 ghost use Rattle.bx_io.specs.Names.{IsName};
 ghost use Rattle.bx_io.specs.Numbered.{IsNumbered};
@@ -46,7 +47,13 @@ impl KeepReader for MemReader {
 
     ghost bound = { λ _. Some 0 };
 
-    fn get(&mut self, alloc: Global, name: &str) -> Got {
+    fn get(&mut self, alloc: Global, name: &str) -> Got
+        requires { IsName name.now }
+        ensures found { IsAnswer self.old name.now result }
+        ensures memory { result ≡ Got.Memory → IsSome (get self.old name.now) }
+        ensures same { self.new ≡ self.old }
+        ensures no_fault { result ≢ Got.Failed }
+    {
         self.held.look(alloc, name)
     }
 }
@@ -99,8 +106,8 @@ impl KeepReader for FailReader {
         requires { IsName name.now }
         ensures numbered { IsNumbered self.old.script self.new.script (result ≡ Got.Failed) }
         ensures kept { self.new.held ≡ self.old.held }
-        ensures found { Finds (Some self.old.held) name.now result }
-        ensures memory { result ≡ Got.Memory → MayBeHeld (Some self.old.held) name.now }
+        ensures found { IsAnswer self.old.held name.now result }
+        ensures memory { result ≡ Got.Memory → IsSome (get self.old.held name.now) }
         ensures within { self.new.script.faults ≤ length self.new.script.failing }
         ensures can_rise { self.new.script.faults < last_count }
         ensures cause { HasCause self.old.script.faults self.new.script.faults (result ≡ Got.Failed) }

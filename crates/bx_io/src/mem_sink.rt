@@ -1,6 +1,6 @@
 //! A sink in memory of which numbered calls fail.
 
-ghost use Rattle.std.specs.Prelude.{◌≡◌, ◌≤◌, ◌<◌, ◌-◌, ◌↔◌, ◌⊎◌, [], ◌++◌, length, take, min, Some, IsErr};
+ghost use Rattle.std.specs.Prelude.{◌≡◌, ◌≤◌, ◌<◌, ◌-◌, ◌↔◌, ◌⊎◌, [], ◌++◌, length, take, min, IsErr};
 ghost use Rattle.std.specs.Prelude.{IfOk, OnOk, OnErr};
 ghost use Rattle.bx_io.specs.Causes.{HasCause};
 ghost use Rattle.bx_io.specs.Numbered.{IsFaultDue, after_work, after_fault};
@@ -50,7 +50,7 @@ impl MemSink {
           chunk = chunk;
           script = record { failing = failing.items; calls = 0; faults = 0 };
         }) }
-        ensures taken { IfOk result (λ sink. ⟦<MemSink as Sink>⟧.taken sink ≡ Some []) }
+        ensures taken { IfOk result (λ sink. ⟦<MemSink as Sink>⟧.taken sink ≡ []) }
         ensures faults { IfOk result (λ sink. ⟦<MemSink as Sink>⟧.faults sink ≡ 0) }
     {
         Ok(MemSink {
@@ -64,16 +64,14 @@ impl MemSink {
     /// The bytes that were taken, in order.
     pub fn taken(&self) -> &[u8]
         ensures bytes { result.now ≡ self.now.taken }
-        ensures taken { ⟦<MemSink as Sink>⟧.taken self.now ≡ Some result.now }
+        ensures taken { ⟦<MemSink as Sink>⟧.taken self.now ≡ result.now }
     {
         self.bytes.as_slice()
     }
 }
 
 impl Sink for MemSink {
-    ghost use Rattle.std.specs.Prelude.{Some};
-
-    ghost taken = { λ s. Some s.taken };
+    ghost taken = { λ s. s.taken };
 
     ghost faults = { λ s. s.script.faults };
 

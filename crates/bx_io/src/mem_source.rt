@@ -1,8 +1,7 @@
 //! A source in memory of which numbered calls fail.
 
-ghost use Rattle.std.specs.Prelude.{◌≡◌, ◌≤◌, ◌<◌, ◌↔◌, [], ◌++◌, length, take, drop, min, Some, Ok, IsSome};
-ghost use Rattle.std.specs.Prelude.{IsOk, IsErr, IfOk, OnOk, OnErr};
-ghost use Rattle.std.specs.Io.KnownBytes.{Consumes, IsAtEnd};
+ghost use Rattle.std.specs.Prelude.{◌≡◌, ◌≤◌, ◌<◌, ◌↔◌, [], ◌++◌, length, take, drop, min, Some, Ok};
+ghost use Rattle.std.specs.Prelude.{IsErr, IfOk, OnOk, OnErr, true, false};
 ghost use Rattle.bx_io.specs.Causes.{HasCause};
 ghost use Rattle.bx_io.specs.Numbered.{IsFaultDue, after_work, after_fault};
 
@@ -26,7 +25,13 @@ impl Model for MemSource {
 
     ghost Value = { Feed };
 
-    ghost view = { λ s. record { left = s.source; chunk = s.chunk; script = s.script } };
+    ghost view = { λ s. record {
+      given = s.source.given;
+      left = s.source.left;
+      ended = s.source.ended;
+      chunk = s.chunk;
+      script = s.script;
+    } };
 
     ghost invariant = { λ s. 1 ≤ s.chunk };
 }
@@ -36,7 +41,9 @@ impl MemSource {
     pub fn new(bytes: Vec<u8>, chunk: usize, failing: Vec<u64>) -> MemSource
         requires { 1 ≤ chunk }
         ensures whole { result ≡ record {
+          given = [];
           left = bytes.items;
+          ended = false;
           chunk = chunk;
           script = record { failing = failing.items; calls = 0; faults = 0 };
         } }
@@ -54,6 +61,10 @@ impl MemSource {
 impl Source for MemSource {
     ghost use Rattle.std.specs.Prelude.{Some};
 
+    ghost given = { λ s. s.given };
+
+    ghost ended = { λ s. s.ended };
+
     ghost left = { λ s. Some s.left };
 
     ghost faults = { λ s. s.script.faults };
@@ -62,15 +73,20 @@ impl Source for MemSource {
         ensures fails { IsErr result ↔ IsFaultDue self.old.script }
         ensures count { IfOk result
             (λ n. n ≡ min (min self.old.chunk (length into.old)) (length self.old.left)) }
-        ensures given { IfOk result (λ n. self.new ≡ record self.old {
+        ensures whole { IfOk result (λ n. self.new ≡ record self.old {
+          given = self.old.given ++ take n into.new;
           left = drop n self.old.left;
+          ended = self.new.ended;
           script = after_work self.old.script;
         }) }
         ensures kept { OnErr result (self.new ≡ record self.old { script = after_fault self.old.script }) }
         ensures at_most { IfOk result (λ n. n ≤ length into.old) }
         ensures moved { IfOk result (λ n. self.old.left ≡ take n into.new ++ self.new.left) }
         ensures rest { IfOk result (λ n. drop n into.new ≡ drop n into.old) }
-        ensures end { 0 < length into.old → result ≡ Ok 0 → self.old.left ≡ [] }
+        ensures goes_on { IfOk result (λ n. 0 < n → self.new.ended ≡ false) }
+        ensures end { 0 < length into.old → result ≡ Ok 0 → self.new.ended ≡ true }
+        ensures none_left { 0 < length into.old → result ≡ Ok 0 → self.old.left ≡ [] }
+        ensures same_end { length into.old ≡ 0 → IfOk result (λ n. self.new.ended ≡ self.old.ended) }
         ensures failed { OnErr result (self.new.left ≡ self.old.left) }
         ensures cause { HasCause self.old.script.faults self.new.script.faults (IsErr result) }
         ensures no_fault { OnOk result (self.new.script.faults ≡ self.old.script.faults) }

@@ -1,16 +1,14 @@
 //! Sinks for bytes.
 
-ghost use Rattle.std.specs.Prelude.{◌≡◌, ℕ, ◌<◌, ◌≤◌, List, Option, length, take, IsErr, IfOk, OnOk, OnErr};
-ghost use Rattle.std.specs.Io.KnownBytes.{Appends};
+ghost use Rattle.std.specs.Prelude.{◌≡◌, ℕ, ◌<◌, ◌≤◌, ◌++◌, List, length, take, IsErr, IfOk, OnOk, OnErr};
 ghost use Rattle.bx_io.specs.Causes.{HasCause};
 
 use crate::fault::Failed;
 
-/// Where bytes go, in order. What a sink has taken is known, as of one in memory, or not, as of a stream;
-/// what is said of its bytes is said where they are known.
+/// Where bytes go, in order. What a sink said that it took is always known.
 pub trait Sink {
-    // The bytes that were taken, where they are known.
-    ghost taken: { Self → Option (List ℕ) };
+    // The bytes that it said it took.
+    ghost taken: { Self → List ℕ };
 
     // How often the sink has failed.
     ghost faults: { Self → ℕ };
@@ -20,7 +18,7 @@ pub trait Sink {
     fn write(&mut self, piece: &[u8]) -> Result<usize, Failed>
         ensures at_most { IfOk result (λ n. n ≤ length piece.now) }
         ensures at_least { 0 < length piece.now → IfOk result (λ n. 1 ≤ n) }
-        ensures appended { IfOk result (λ n. Appends (taken self.old) (taken self.new) (take n piece.now)) }
+        ensures appended { IfOk result (λ n. taken self.new ≡ taken self.old ++ take n piece.now) }
         ensures failed { OnErr result (taken self.new ≡ taken self.old) }
         ensures cause { HasCause (faults self.old) (faults self.new) (IsErr result) }
         ensures no_fault { OnOk result (faults self.new ≡ faults self.old) };

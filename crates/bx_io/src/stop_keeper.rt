@@ -1,7 +1,7 @@
 //! An in-memory store that stops after a number of calls, as a machine that is switched off.
 
 ghost use Rattle.std.specs.Prelude.{◌≡◌, ◌≢◌, ◌+◌, ◌-◌, ◌<◌, ◌≤◌, ◌↔◌, [], ◌∷◌, Some, Err, OnOk, OnErr};
-ghost use Rattle.bx_io.specs.Answers.{Finds, Lists, ListsNames};
+ghost use Rattle.bx_io.specs.Answers.{IsAnswer, IsListing, ListsNames};
 ghost use Rattle.bx_io.specs.Calls.{ListsAll, Looks, Stops, Tries};
 ghost use Rattle.bx_io.specs.Causes.{HasCause, last_count};
 ghost use Rattle.bx_io.specs.Holdings.{Put, Drop, state_after};
@@ -102,11 +102,12 @@ impl StopKeeper {
 
 impl Keeper for StopKeeper {
     ghost use Rattle.std.specs.Prelude.{Some};
+    ghost use Rattle.bx_io.specs.Holdings.{told_of};
     ghost use Rattle.bx_io.specs.Memories.{faults_in};
 
     type Reader = MemReader;
 
-    ghost known = { λ k. Some k.inner.kept };
+    ghost known = { λ k. told_of k.inner.kept };
 
     ghost faults = { faults_in };
 
@@ -116,11 +117,15 @@ impl Keeper for StopKeeper {
         self.inner.reader(alloc)
     }
 
+    fn close(&mut self, _reader: MemReader)
+        ensures { self.new ≡ self.old }
+    {}
+
     fn get(&mut self, alloc: Global, name: &str) -> Got
         requires { IsName name.now }
         ensures stops { Stops self.old self.new (Looks self.old.inner self.new.inner name.now result)
             (result ≡ Got.Failed) (result ≡ Got.Memory) }
-        ensures found { Finds (Some self.old.inner.kept.held) name.now result }
+        ensures found { IsAnswer self.old.inner.kept.held name.now result }
         ensures kept { self.new.inner.kept ≡ self.old.inner.kept }
         ensures can_rise { faults_in self.new < last_count }
         ensures cause { HasCause (faults_in self.old) (faults_in self.new) (result ≡ Got.Failed) }
@@ -173,7 +178,7 @@ impl Keeper for StopKeeper {
     fn names(&mut self, alloc: Global) -> Listed
         ensures stops { Stops self.old self.new (ListsAll self.old.inner self.new.inner result)
             (result ≡ Listed.Failed) (result ≡ Listed.Memory) }
-        ensures listed { Lists (Some self.old.inner.kept.held) result }
+        ensures listed { IsListing self.old.inner.kept.held result }
         ensures names { ListsNames result }
         ensures kept { self.new.inner.kept ≡ self.old.inner.kept }
         ensures can_rise { faults_in self.new < last_count }

@@ -1,0 +1,4 @@
+pub mod Telling
+pub mod Left
+pub mod Files
+pub mod Listing

@@ -1,1 +1,5 @@
-pub mod FolderNames
+pub mod Events
+pub mod Telling
+pub mod Answers
+pub mod Files
+pub mod Named

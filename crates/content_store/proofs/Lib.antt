@@ -1,2 +1,3 @@
 pub mod NameTexts
 pub mod HeldEntries
+pub mod HeldContents

@@ -1,6 +1,5 @@
--- What a call on contents answers, where the holdings are known.
+-- What a call on contents answers of what is told to be held.
 use Rattle.std.specs.Prelude.{◌≡◌, ℕ, List, Option, Some, ⊤}
-use Rattle.std.specs.Prelude as prelude
 use Rattle.sha2.specs.Sha256.{sha256}
 use Rattle.bx_io.specs.Holdings.{Change, Holdings, Put}
 use Rattle.memo_format.specs.StoreNames.{HoldsBlob, at_blob}
@@ -16,14 +15,16 @@ pub record IsContent (S : Holdings) (digest bytes : List ℕ) : Type 0 where
   pub held : HoldsBlob S bytes
   pub digest_is : sha256 bytes ≡ digest
 
--- The content that is held under the digest, or that none is. The other answers say nothing of it, nor does
--- any where the holdings are unknown.
+-- The content that is held under the digest, or that none is. The other answers say nothing of it.
+abbrev pub IsFetched : Holdings → List ℕ → Fetched → Type 0
+IsFetched S digest (fetched.Found blob) = IsContent S digest blob
+IsFetched S digest fetched.NotWell = (bytes : List ℕ) → IsContent S digest bytes → ⊥
+IsFetched S digest fetched.Fault = ⊤
+IsFetched S digest fetched.Memory = ⊤
+
+-- That of what is told to be held.
 abbrev pub Fetches : Option Holdings → List ℕ → Fetched → Type 0
-Fetches prelude.None digest answer = ⊤
-Fetches (Some S) digest (fetched.Found blob) = IsContent S digest blob
-Fetches (Some S) digest fetched.NotWell = (bytes : List ℕ) → IsContent S digest bytes → ⊥
-Fetches (Some S) digest fetched.Fault = ⊤
-Fetches (Some S) digest fetched.Memory = ⊤
+Fetches told digest answer = (S : Holdings) → told ≡ Some S → IsFetched S digest answer
 
 -- what was found has this digest
 abbrev pub HasDigest : List ℕ → Fetched → Type 0

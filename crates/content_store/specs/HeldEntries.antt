@@ -1,6 +1,5 @@
--- What a call on entries answers, where the holdings are known.
+-- What a call on entries answers of what is told to be held.
 use Rattle.std.specs.Prelude.{◌≡◌, ℕ, List, Option, Some, ⊤}
-use Rattle.std.specs.Prelude as prelude
 use Rattle.bx_io.specs.Holdings.{Holdings}
 use Rattle.memo_format.specs.Entries.{IsEntry, read_entry_text}
 use Rattle.memo_format.specs.StoreNames.{HoldsEntry}
@@ -13,14 +12,16 @@ pub record IsHeld (S : Holdings) (strong : List ℕ) (e : Entry) : Type 0 where
   pub held : HoldsEntry S e
   pub strong_is : e.strong ≡ strong
 
--- The entry that is held under the digest, or that none is. The other answers say nothing of it, nor does
--- any where the holdings are unknown.
+-- The entry that is held under the digest, or that none is. The other answers say nothing of it.
+abbrev pub IsFetchedEntry : Holdings → List ℕ → FetchedEntry → Type 0
+IsFetchedEntry S strong (fetched.Found e) = IsHeld S strong e
+IsFetchedEntry S strong fetched.NotWell = (e : Entry) → IsHeld S strong e → ⊥
+IsFetchedEntry S strong fetched.Fault = ⊤
+IsFetchedEntry S strong fetched.Memory = ⊤
+
+-- That of what is told to be held.
 abbrev pub FetchesEntry : Option Holdings → List ℕ → FetchedEntry → Type 0
-FetchesEntry prelude.None strong answer = ⊤
-FetchesEntry (Some S) strong (fetched.Found e) = IsHeld S strong e
-FetchesEntry (Some S) strong fetched.NotWell = (e : Entry) → IsHeld S strong e → ⊥
-FetchesEntry (Some S) strong fetched.Fault = ⊤
-FetchesEntry (Some S) strong fetched.Memory = ⊤
+FetchesEntry told strong answer = (S : Holdings) → told ≡ Some S → IsFetchedEntry S strong answer
 
 -- what was found is an entry of this digest
 abbrev pub HasStrong : List ℕ → FetchedEntry → Type 0

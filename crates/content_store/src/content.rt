@@ -1,7 +1,8 @@
 //! Getting and putting contents.
 ghost use Rattle.std.specs.Prelude.{◌≡◌, ◌≢◌, ◌∷◌, [], OnOk, OnErr, Err};
 ghost use Rattle.bx_io.specs.Causes.{CanRise, HasCause, IsWithin};
-ghost use Rattle.bx_io.specs.Holdings.{known_after};
+ghost use Rattle.bx_io.specs.Holdings.{Keeps, Makes};
+ghost use Rattle.bx_io.specs.Told.{Stays};
 ghost use Rattle.content_store.specs.Contents.{Checks, Fetches, HasDigest, blob_put};
 
 use crate::names::blob_name;
@@ -39,10 +40,11 @@ fn checked(alloc: Global, bytes: Vec<u8>, digest: &Digest) -> Fetched
 }
 
 /// The content of a digest, hashed anew: a damaged one is not well-formed.
+#[tactic(auto, using(crate::proofs::HeldContents::held_content, crate::proofs::HeldContents::no_content))]
 pub fn get_blob<R: KeepReader>(alloc: Global, reader: &mut R, digest: &Digest) -> Fetched
-    ensures fetched { Fetches (R.held reader.old) digest.now result }
+    ensures fetched { Fetches (R.held reader.new) digest.now result }
     ensures digest { HasDigest digest.now result }
-    ensures held { R.held reader.new ≡ R.held reader.old }
+    ensures held { Stays (R.held reader.old) (R.held reader.new) }
     ensures bound { R.bound reader.new ≡ R.bound reader.old }
     ensures within { IsWithin (R.bound reader.old) (R.faults reader.old) →
         IsWithin (R.bound reader.new) (R.faults reader.new) }
@@ -64,9 +66,8 @@ pub fn get_blob<R: KeepReader>(alloc: Global, reader: &mut R, digest: &Digest) -
 
 /// Puts a content under its digest.
 pub fn put_blob<K: Keeper>(alloc: Global, keeper: &mut K, blob: &Blob) -> Result<(), PutFault>
-    ensures made { OnOk result
-        (K.known keeper.new ≡ known_after (K.known keeper.old) (blob_put blob.now ∷ [])) }
-    ensures refused { OnErr result (K.known keeper.new ≡ K.known keeper.old) }
+    ensures made { OnOk result (Makes (K.known keeper.old) (blob_put blob.now ∷ []) (K.known keeper.new)) }
+    ensures refused { OnErr result (Keeps (K.known keeper.old) (K.known keeper.new)) }
     ensures bound { K.bound keeper.new ≡ K.bound keeper.old }
     ensures can_rise { CanRise (K.bound keeper.old) (K.faults keeper.old) →
         CanRise (K.bound keeper.new) (K.faults keeper.new) }

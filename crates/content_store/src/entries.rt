@@ -1,6 +1,7 @@
 //! Getting entries.
 ghost use Rattle.std.specs.Prelude.{◌≡◌, ◌≢◌};
 ghost use Rattle.bx_io.specs.Causes.{CanRise, HasCause, IsWithin};
+ghost use Rattle.bx_io.specs.Told.{Stays};
 ghost use Rattle.content_store.specs.HeldEntries.{ChecksEntry, FetchesEntry, HasStrong};
 
 use crate::names::entry_name;
@@ -43,9 +44,9 @@ fn checked(alloc: Global, bytes: Vec<u8>, strong: &Digest) -> FetchedEntry
 /// The cache entry of a strong fingerprint: one that is stored under another name is not well-formed.
 #[tactic(auto, using(crate::proofs::HeldEntries::held_entry, crate::proofs::HeldEntries::none_held))]
 pub fn get_entry<R: KeepReader>(alloc: Global, reader: &mut R, strong: &Digest) -> FetchedEntry
-    ensures fetched { FetchesEntry (R.held reader.old) strong.now result }
+    ensures fetched { FetchesEntry (R.held reader.new) strong.now result }
     ensures strong { HasStrong strong.now result }
-    ensures held { R.held reader.new ≡ R.held reader.old }
+    ensures held { Stays (R.held reader.old) (R.held reader.new) }
     ensures bound { R.bound reader.new ≡ R.bound reader.old }
     ensures within { IsWithin (R.bound reader.old) (R.faults reader.old) →
         IsWithin (R.bound reader.new) (R.faults reader.new) }

@@ -66,7 +66,7 @@ pub struct Entry {
 }
 
 // The kind of line that says an output.
-struct OutputKind;
+pub(crate) struct OutputKind;
 
 impl Line<OutputLine, OutputLine> for OutputKind {
     ghost says = { λ o. o };

@@ -11,6 +11,7 @@ mod entry;
 mod fault;
 mod found;
 mod laws;
+mod outputs;
 mod seal;
 mod selector;
 
@@ -19,4 +20,5 @@ pub use entry::{Entry, OutputLine, OutputLines, read_entry, write_entry};
 pub use fault::FormatFault;
 pub use found::Found;
 pub use laws::{entry_texts, selector_texts};
+pub use outputs::{digest_of_outputs, outputs_of};
 pub use selector::{MAX_SELECTORS, Selector, read_selectors, write_selectors};

@@ -1,5 +1,5 @@
 -- Sets of the files that processes made in directories which they share, and what does not clash with them.
-use Rattle.std.proofs.Common.{◌≡◌, ℕ, zero, suc, ◌+◌, ◌<◌, ◌≤◌, Bool, true, false, ◌||◌, cond, List, [], ◌∷◌, ◌++◌, length, map, take, drop, get_or, Option, Some, None, refl, ap, sym, subst, ◌∙◌, add-one, append_assoc, append-nil, arith, inl, inr}
+use Rattle.std.proofs.Common.{◌≡◌, ℕ, zero, suc, ◌+◌, ◌<◌, ◌≤◌, Bool, true, false, ◌||◌, cond, List, [], ◌∷◌, ◌++◌, length, map, take, drop, get_or, Some, None, refl, ap, sym, subst, ◌∙◌, add-one, append_assoc, append-nil, arith, inl, inr}
 use Rattle.std.specs.Prelude.{slice_get}
 use Rattle.std.specs.BTreeSet.{BTreeSet, contains}
 use Rattle.std.specs.BTreeMap.{is_at}
@@ -19,8 +19,7 @@ use Rattle.pip_model_types.specs.declared.made.MadeFile.{MadeFile}
 use Rattle.pip_model_types.specs.declared.made.Slot.{Slot}
 use Rattle.pip_model_types.specs.declared.outputs.OutDir.{OutDir}
 use Rattle.pip_model_types.specs.declared.pip.Pip.{Pip}
-use Rattle.violations.specs.declared.verdict.Violation.{Violation}
-use Rattle.violations.specs.DoubleWrites.{clash_at, first_clash, has_clash, is_clash, is_shared, least_clash, or_next, outdirs_in, shared_paths}
+use Rattle.violations.specs.DoubleWrites.{clash_at, first_clash, is_clash, is_shared, least_clash, or_next, outdirs_in, shared_paths}
 use Rattle.one_thread.specs.Shared.{KeepsShared, all_shared, any_clash}
 use Rattle.pip_model_types.specs.Kinds.{outdirs_of}
 

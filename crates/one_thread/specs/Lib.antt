@@ -1,5 +1,6 @@
 pub mod OneThread
 pub mod Views
+pub mod Starting
 pub mod Shared
 pub mod Outputs
 pub mod Keeping

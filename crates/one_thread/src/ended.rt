@@ -3,7 +3,6 @@ ghost use Rattle.std.specs.Prelude.{◌≡◌, ◌<◌, ◌≤◌, false, All, I
 ghost use Rattle.std.specs.List.{list_all};
 ghost use Rattle.violations.specs.Slots.{slot_files};
 ghost use Rattle.pip_view_inputs.specs.Plain.{plain_at, process_in};
-ghost use Rattle.pip_view_inputs.specs.Results.{inputs_at};
 ghost use Rattle.violations.specs.Verdicts as ends;
 ghost use Rattle.violations.specs.Classes.{class_of};
 ghost use Rattle.violations.specs.DoubleWrites.{clash_at};
@@ -11,6 +10,7 @@ ghost use Rattle.one_thread.specs.OneThread as builds;
 ghost use Rattle.one_thread.specs.Shared.{KeepsShared, all_shared};
 ghost use Rattle.one_thread.specs.Views.{Agrees, ended_in, ended_result, good_at, good_in, is_good_slot};
 ghost use Rattle.one_thread.specs.Views.{worked_in};
+ghost use Rattle.one_thread.specs.Starting.{StartsAs};
 
 use crate::shared::SharedFiles;
 use bx_io::Gate;
@@ -28,6 +28,15 @@ use violations::{Verdict, classify, double_write};
 pub struct PipResult {
     pub verdict: Verdict,
     pub slot: Slot,
+}
+
+/// How a pip starts.
+#[derive(Drop)]
+pub enum Started {
+    /// It needs no run, as it is skipped or no process: this is its result.
+    Done(PipResult),
+    /// It is a process that takes a run, or a cache hit: these are what the pips made for which it waits.
+    Process(Inputs),
 }
 
 /// What all pips are built with.
@@ -83,8 +92,8 @@ fn all_good(inputs: &[u32], slots: &[Slot]) -> bool
     true
 }
 
-/// Whether each pip for which a pip waits succeeded.
-pub fn inputs_are_good(plan: &Plan, pip: u32, slots: &[Slot]) -> bool
+// Whether each pip for which a pip waits succeeded.
+fn inputs_are_good(plan: &Plan, pip: u32, slots: &[Slot]) -> bool
     requires pip { pip < length plan.now.pips }
     requires slots { pip ≤ length slots.now }
     ensures { result ≡ good_at plan.now.pips (slice_get plan.now.pips pip) slots.now }
@@ -172,31 +181,8 @@ pub fn after_run(
     }
 }
 
-// What a process comes to that is otherwise successful, where these are the shared files so far.
-fn after_good<G: Gate>(
-    frame: &Frame<'_, G>,
-    pip: u32,
-    made: &Made,
-    slots: &[Slot],
-    shared: &SharedFiles,
-) -> Result<PipResult, Memory>
-    requires pip { pip < length frame.now.plan.now.pips }
-    requires slots { pip ≤ length slots.now }
-    requires shared { KeepsShared shared.now.files shared.now.dirs
-        (all_shared (take pip frame.now.plan.now.pips) (map slot_files slots.now)) }
-    ensures result { IfOk result (λ ended. ended_result ended ≡ builds.unless_clash made.now
-        (clash_at frame.now.plan.now.pips (map slot_files slots.now) pip made.now)) }
-    ensures agrees { IfOk result Agrees }
-{
-    let clashes = shared.has_clash(frame.alloc, frame.plan, pip, made)?;
-    if clashes {
-        return after_success(frame.plan, pip, made, slots);
-    }
-    let files = made.share()?;
-    Ok(succeeded(files))
-}
-
-// What a process comes to by the outcome of its run, where these are the shared files so far.
+// What a process comes to by the outcome of its run, where these are the shared files so far: the earlier processes
+// are searched only for what clashes with one of these.
 fn after_work<G: Gate>(
     frame: &Frame<'_, G>,
     pip: u32,
@@ -212,10 +198,13 @@ fn after_work<G: Gate>(
         frame.now.sources.now (map slot_files slots.now) pip outcome.now) }
     ensures agrees { IfOk result Agrees }
 {
-    match outcome {
-        Outcome::Good(made) => after_good(frame, pip, made, slots, shared),
-        Outcome::Failed(cause) => after_failure(frame.plan, frame.sources, pip, cause),
+    if let Outcome::Good(made) = outcome {
+        let clashes = shared.has_clash(frame.alloc, frame.plan, pip, made)?;
+        if !clashes {
+            return Ok(succeeded(made.share()?));
+        }
     }
+    after_run(frame.plan, frame.sources, pip, slots, outcome)
 }
 
 fn run<G: Gate>(
@@ -241,8 +230,8 @@ fn run<G: Gate>(
     after_work(frame, pip, slots, shared, &outcome)
 }
 
-/// What a pip comes to that is no process.
-pub fn made_plainly<G: Gate>(
+// What a pip comes to that is no process.
+fn made_plainly<G: Gate>(
     frame: &Frame<'_, G>,
     pip: u32,
     inputs: &Inputs,
@@ -255,36 +244,30 @@ pub fn made_plainly<G: Gate>(
     Ok(succeeded(made))
 }
 
-// What a pip comes to whose inputs succeeded.
-fn worked<G: Gate>(
-    frame: &Frame<'_, G>,
-    pip: u32,
-    slots: &[Slot],
-    shared: &SharedFiles,
-) -> Result<PipResult, Memory>
-    requires pip { pip < length frame.now.plan.now.pips }
-    requires slots { pip ≤ length slots.now }
-    requires shared { KeepsShared shared.now.files shared.now.dirs
-        (all_shared (take pip frame.now.plan.now.pips) (map slot_files slots.now)) }
-    ensures result { IfOk result (λ ended. ended_result ended
-        ≡ worked_in frame.now.plan.now.pips frame.now.sources.now frame.now.plan.now.tool_budget
-        (map slot_files slots.now) (inputs_at frame.now.plan.now.pips pip (map slot_files slots.now)) pip
-        (slice_get frame.now.plan.now.pips pip)) }
-    ensures agrees { IfOk result Agrees }
-{
-    let inputs = Inputs::of(frame.alloc, frame.plan, pip, slots)?;
-    match process_at(frame.plan.pips(), pip) {
-        Some(_) => run(frame, pip, &inputs, slots, shared),
-        None => made_plainly(frame, pip, &inputs),
-    }
-}
-
-/// What a pip comes to with an input that did not succeed.
-pub fn skipped() -> PipResult
+// What a pip comes to with an input that did not succeed.
+fn skipped() -> PipResult
     ensures result { ended_result result ≡ builds.failed Verdict.Skipped }
     ensures agrees { Agrees result }
 {
     failed(Verdict::Skipped)
+}
+
+/// Starts a pip, where the pips before it ended with these slots. Builds with and without a cache skip the same
+/// pips, and differ only in how a process comes to its outcome.
+pub fn start<G: Gate>(frame: &Frame<'_, G>, pip: u32, slots: &[Slot]) -> Result<Started, Memory>
+    requires pip { pip < length frame.now.plan.now.pips }
+    requires slots { pip ≤ length slots.now }
+    ensures { IfOk result (StartsAs frame.now.plan.now.pips frame.now.sources.now
+        frame.now.plan.now.tool_budget slots.now pip (slice_get frame.now.plan.now.pips pip)) }
+{
+    if !inputs_are_good(frame.plan, pip, slots) {
+        return Ok(Started::Done(skipped()));
+    }
+    let inputs = Inputs::of(frame.alloc, frame.plan, pip, slots)?;
+    match process_at(frame.plan.pips(), pip) {
+        Some(_) => Ok(Started::Process(inputs)),
+        None => Ok(Started::Done(made_plainly(frame, pip, &inputs)?)),
+    }
 }
 
 // What a pip comes to.
@@ -303,10 +286,9 @@ pub(crate) fn ended<G: Gate>(
         (slice_get frame.now.plan.now.pips pip)) }
     ensures agrees { IfOk result Agrees }
 {
-    let good = inputs_are_good(frame.plan, pip, slots);
-    if good {
-        worked(frame, pip, slots, shared)
-    } else {
-        Ok(skipped())
+    let started = start(frame, pip, slots)?;
+    match started {
+        Started::Done(result) => Ok(result),
+        Started::Process(inputs) => run(frame, pip, &inputs, slots, shared),
     }
 }

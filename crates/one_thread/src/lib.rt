@@ -16,9 +16,7 @@ mod outputs_apart;
 mod shared;
 
 pub use build::{Built, build_all};
-pub use ended::{
-    Frame, PipResult, after_run, after_success, inputs_are_good, is_good, made_plainly, skipped,
-};
+pub use ended::{Frame, PipResult, Started, after_run, after_success, is_good, start};
 pub use gathering::outputs;
 pub use laws::each_result;
 pub use least::{least_clash_of_writes, least_missing_output};

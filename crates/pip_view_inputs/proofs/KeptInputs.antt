@@ -1,5 +1,5 @@
 -- The files of the pips for which a pip waits, by number.
-use Rattle.std.proofs.Common.{◌≡◌, ◌≢◌, ◌+◌, ◌<◌, ◌≤◌, ◌==◌, ℕ, zero, suc, true, false, cond, List, [], ◌∷◌, length, map, get_or, Option, Some, None, refl, ap, sym, ◌∙◌, subst, inl, inr, arith}
+use Rattle.std.proofs.Common.{◌≡◌, ◌≢◌, ◌+◌, ◌<◌, ◌≤◌, ◌==◌, ℕ, zero, suc, true, false, cond, List, [], ◌∷◌, ◌++◌, length, map, get_or, Option, Some, None, refl, ap, sym, ◌∙◌, subst, inl, inr, arith}
 use Rattle.std.specs.Prelude.{◌↔◌, Contains, IsSomeAnd, slice_get}
 use Rattle.std.specs.List.{All, AllByRecursion, list_any}
 use Rattle.std.specs.List.Sorted.{IsStrictlyIncreasing, IsStrictlySortedBy}
@@ -8,7 +8,7 @@ use Rattle.std.specs.declared.cmp.Ordering.TheVariants.{Less}
 use Rattle.std.proofs.lemmas.Bool.{cases_Bool, cases_lt, false≢true}
 use Rattle.std.proofs.lemmas.Bool.Decides.{Decides-eqb}
 use Rattle.std.proofs.lemmas.Cmp.{ranked}
-use Rattle.std.proofs.lemmas.List.{length-map}
+use Rattle.std.proofs.lemmas.List.{get_or-append-add, get_or_append_left, length-append, length-map}
 use Rattle.std.proofs.lemmas.List.Elements.{All-contains}
 use Rattle.std.proofs.lemmas.List.Folds.{Any-from_list_any, list_any-from_Any}
 use Rattle.std.proofs.lemmas.Map.Keys.{sorted_from_strictly_increasing}
@@ -156,28 +156,44 @@ pairs_by ss (i ∷ is) =
     (ap (nth 0 (map slot_files ss)) e ∙ nth_from 0 i (map slot_files ss) ∙ files_at ss i)
     ∙ ap (λ ps. made_pair (input_by ss i) ∷ ps) (pairs_by ss is)
 
--- the files of the pips for which pip i waits, by their numbers
-pub inputs_pairs : (pips : List Pip) (i : ℕ) (ss : List Slot) (ins : List ℕ) → AreInputs pips i ins → All (λ j. j < i) ins → i ≤ length ss
-    → map made_pair (map (input_by ss) ins) ≡ inputs_at pips i (map slot_files ss)
-inputs_pairs pips i ss ins are below long = by_pip (slice_get pips i) refl
+pairs_each : (files : List Files) (ins : List ℕ) → map (pair_at 0 files) ins ≡ map (λ j. (j, get_or files j [])) ins
+pairs_each files [] = refl
+pairs_each files (i ∷ is) =
+    let e : i ≡ 0 + i = omega arith in
+    ap (λ (fs : Files). (i, fs) ∷ map (pair_at 0 files) is) (ap (nth 0 files) e ∙ nth_from 0 i files)
+    ∙ ap (λ ps. (i, get_or files i []) ∷ ps) (pairs_each files is)
+
+numbered : (pips : List Pip) (i : ℕ) (files : List Files) (ins : List ℕ) → AreInputs pips i ins → All (λ j. j < i) ins → i ≤ length files
+    → map (pair_at 0 files) ins ≡ inputs_at pips i files
+numbered pips i files ins are below long = by_pip (slice_get pips i) refl
   where
-    no_inputs : (is : List ℕ) → ((j : ℕ) → Has is j → ⊥) → map made_pair (map (input_by ss) is) ≡ []
+    no_inputs : (is : List ℕ) → ((j : ℕ) → Has is j → ⊥) → map (pair_at 0 files) is ≡ []
     no_inputs [] none = refl
     no_inputs (x ∷ xs) none = absurd (none x (inl refl))
 
-    by_pip : (o : Option Pip) → slice_get pips i ≡ o → map made_pair (map (input_by ss) ins) ≡ kind_inputs pips o (map slot_files ss)
+    by_pip : (o : Option Pip) → slice_get pips i ≡ o → map (pair_at 0 files) ins ≡ kind_inputs pips o files
     by_pip None e =
         no_inputs ins (λ j m. subst (λ p. IsSomeAnd p (λ (pip : Pip). Contains (targets pips pip.kind) j)) e ((are.edges j).0 (contains_has ins j m)))
     by_pip (Some pip) e =
-        sym (pairs_by ss ins)
-        ∙ sym (kept_pairs (targets pips pip.kind) 0 (map slot_files ss) ins (sorted_from_strictly_increasing ins are.rising) (record {
+        sym (kept_pairs (targets pips pip.kind) 0 files ins (sorted_from_strictly_increasing ins are.rising) (record {
           low = λ j m. omega arith;
-          high = λ j m. let l = All-contains (λ j. j < i) ins j below (contains_has ins j m) in omega (arith, l, long, length-map ss slot_files);
+          high = λ j m. let l = All-contains (λ j. j < i) ins j below (contains_has ins j m) in omega (arith, l, long);
           kept = λ j l m. (target_tests (targets pips pip.kind) j).0
               (subst (λ p. IsSomeAnd p (λ (pip : Pip). Contains (targets pips pip.kind) j)) e ((are.edges j).0 (contains_has ins j m)));
           all = λ j l t. has_contained ins j ((are.edges j).1
               (subst (λ p. IsSomeAnd p (λ (pip : Pip). Contains (targets pips pip.kind) j)) (sym e) ((target_tests (targets pips pip.kind) j).1 t)));
         }))
+
+-- the files of the pips for which pip i waits, pip by pip
+pub inputs_each : (pips : List Pip) (i : ℕ) (files : List Files) (ins : List ℕ) → AreInputs pips i ins → All (λ j. j < i) ins → i ≤ length files
+    → inputs_at pips i files ≡ map (λ j. (j, get_or files j [])) ins
+inputs_each pips i files ins are below long = sym (numbered pips i files ins are below long) ∙ pairs_each files ins
+
+-- the files of the pips for which pip i waits, by their numbers
+pub inputs_pairs : (pips : List Pip) (i : ℕ) (ss : List Slot) (ins : List ℕ) → AreInputs pips i ins → All (λ j. j < i) ins → i ≤ length ss
+    → map made_pair (map (input_by ss) ins) ≡ inputs_at pips i (map slot_files ss)
+inputs_pairs pips i ss ins are below long =
+    sym (pairs_by ss ins) ∙ numbered pips i (map slot_files ss) ins are below (subst (λ n. i ≤ n) (sym (length-map ss slot_files)) long)
 
 -- ## The files of one of the inputs
 
@@ -188,6 +204,22 @@ numbers_by ss (i ∷ is) = ap (λ js. i ∷ js) (numbers_by ss is)
 pub numbers_rise : (ss : List Slot) (ins : List ℕ) (made : List MadeBy) → made ≡ map (input_by ss) ins → IsStrictlyIncreasing ins
     → IsStrictlyIncreasing (map (λ (m : MadeBy). m.pip) made)
 numbers_rise ss ins made e up = subst IsStrictlyIncreasing (sym (ap (map (λ (m : MadeBy). m.pip)) e ∙ numbers_by ss ins)) up
+
+-- numbers that rise go on rising with a greater one at the end
+pub rises_on : (xs : List ℕ) (x : ℕ) → IsStrictlyIncreasing xs → All (λ j. j < x) xs → IsStrictlyIncreasing (xs ++ x ∷ [])
+rises_on xs x up below k l = elim (cases_lt (k + 1) (length xs)) [
+  | inl within ↦
+      let here : get_or (xs ++ x ∷ []) k 0 ≡ get_or xs k 0 = get_or_append_left xs (x ∷ []) 0 k (omega (arith, within)) in
+      let next : get_or (xs ++ x ∷ []) (k + 1) 0 ≡ get_or xs (k + 1) 0 = get_or_append_left xs (x ∷ []) 0 (k + 1) within in
+      let less : get_or xs k 0 < get_or xs (k + 1) 0 = up k within in
+      omega (arith, here, next, less)
+  | inr past ↦
+      let last : k + 1 ≡ length xs + 0 = omega (arith, past, l, length-append xs (x ∷ [])) in
+      let here : get_or (xs ++ x ∷ []) k 0 ≡ get_or xs k 0 = get_or_append_left xs (x ∷ []) 0 k (omega (arith, last)) in
+      let next : get_or (xs ++ x ∷ []) (k + 1) 0 ≡ x = ap (λ n. get_or (xs ++ x ∷ []) n 0) last ∙ get_or-append-add xs (x ∷ []) 0 0 in
+      let less : get_or xs k 0 < x = below k 0 (omega (arith, last)) in
+      omega (arith, here, next, less)
+]
 
 -- a pip that is not among them made nothing
 pub none_by : (made : List MadeBy) (j : ℕ) → All (λ (m : MadeBy). m.pip ≢ j) made → files_by (map made_pair made) j ≡ []

@@ -1,5 +1,5 @@
 //! What the pips made for which a pip waits.
-ghost use Rattle.std.specs.Prelude.{◌≡◌, ◌≢◌, ◌<◌, ◌≤◌, [], All, IfOk, MatchOption, length, map};
+ghost use Rattle.std.specs.Prelude.{◌≡◌, ◌≢◌, ◌<◌, ◌≤◌, ◌++◌, ◌∷◌, [], All, IfOk, MatchOption, OnErr, OnOk, length, map};
 ghost use Rattle.std.specs.List.{HoldsAt};
 ghost use Rattle.std.specs.Option.{option_map_or};
 ghost use Rattle.std.specs.List.Sorted.{IsStrictlyIncreasing};
@@ -104,6 +104,24 @@ impl Inputs {
         let inputs = plan.inputs(pip);
         let made = all_made(alloc, inputs, slots)?;
         Ok(Inputs { made })
+    }
+
+    /// No pips yet.
+    pub fn new(alloc: Global) -> Inputs
+        ensures { result ≡ [] }
+    {
+        Inputs {
+            made: Vec::new(alloc),
+        }
+    }
+
+    /// Adds what a pip made, whose number is greater than those that are there.
+    pub fn push(&mut self, pip: u32, files: Made) -> Result<(), Memory>
+        requires { All (λ made. made.0 < pip) self.old }
+        ensures ok { OnOk result (self.new ≡ self.old ++ (pip, files) ∷ []) }
+        ensures err { OnErr result (self.new ≡ self.old) }
+    {
+        Ok(self.made.push(MadeBy { pip, files })?)
     }
 
     /// The files that a pip made, if the pip is among them.

@@ -34,7 +34,7 @@ use Rattle.violations.specs.Classes.{class_of}
 use Rattle.one_thread.specs.OneThread.{Result, by_cause, by_outcome, inputs_are_good, one_thread, verdicts_of, violated}
 use Rattle.one_thread.specs.Views.{ended_result, slots_are_good}
 use Rattle.one_thread.proofs.GoingThrough.{IsSoFar, all_good, made_is}
-use Rattle.retire.specs.Compared.{desc_after, view_after}
+use Rattle.retire_compared.specs.Compared.{desc_after, view_after}
 use Rattle.retire.specs.Runs.{IsOfSuccess, RunsAs, SucceedsAt}
 use Rattle.retire.specs.Deciding as deciding
 use Rattle.retire.specs.Deciding.{DecidedBy, Decides}

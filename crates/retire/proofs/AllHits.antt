@@ -18,7 +18,7 @@ use Rattle.violations.specs.declared.verdict.Verdict.{Verdict}
 use Rattle.violations.specs.declared.verdict.Verdict.TheVariants as verdicts
 use Rattle.one_thread.specs.OneThread.{Result, failed, inputs_are_good, on_from, one_thread, result_of, run_count, runs, verdicts_of}
 use Rattle.retire.specs.HitSet.{HitsFrom, IsHitSet, PipHits}
-use Rattle.retire.specs.Compared.{desc_after, view_after}
+use Rattle.retire_compared.specs.Compared.{desc_after, view_after}
 use Rattle.retire.specs.Runs.{AllUsable, results_before}
 use Rattle.retire.proofs.SoFar.{taken}
 use Rattle.retire.proofs.Records.{success_is}

@@ -33,7 +33,7 @@ use Rattle.one_thread.specs.OneThread.{Result, by_outcome, failed, inputs_are_go
 use Rattle.one_thread.specs.Views.{ended_result, kind_ended, results_of, slots_are_good}
 use Rattle.one_thread.proofs.GoingThrough.{IsSoFar, all_good, made_is}
 use Rattle.two_phase.specs.Lookups.{FirstLeadsTo, LeadsTo}
-use Rattle.retire.specs.Compared.{desc_after, view_after}
+use Rattle.retire_compared.specs.Compared.{desc_after, view_after}
 use Rattle.retire.specs.Runs.{RunsAs, results_before}
 use Rattle.retire.proofs.SoFar.{run_met, taken}
 use Rattle.retire.specs.Builds.{IsFair}

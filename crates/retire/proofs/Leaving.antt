@@ -1,13 +1,13 @@
 -- What a build over a fair store leaves.
-use Rattle.std.proofs.Common.{◌≡◌, ◌⊎◌, ℕ, zero, suc, ◌+◌, List, [], ◌∷◌, map, take, Option, Some, refl, sym, ap, ◌∙◌, subst, inl, inr, arith}
-use Rattle.std.specs.Prelude.{slice_get}
+use Rattle.std.proofs.Common.{◌≡◌, ◌⊎◌, ℕ, zero, suc, ◌+◌, List, [], ◌∷◌, map, take, Some, refl, sym, ap, ◌∙◌, subst, inl, inr, arith}
+use Rattle.std.specs.Prelude.{IsSome, slice_get}
 use Rattle.std.specs.List.{AllByRecursion}
 use Rattle.std.proofs.lemmas.Option.{same_Some}
 use Rattle.pip_view.proofs.TakenDirs.{process_is}
 use Rattle.bx_tree.specs.Trees.{Files}
 use Rattle.bx_tree.specs.Members.{Has}
 use Rattle.bx_tree.proofs.Members.{has_all}
-use Rattle.bx_io.specs.Holdings.{Holdings, StoreState}
+use Rattle.bx_io.specs.Holdings.{Holdings, StoreTold, held_in}
 use Rattle.pip_model_types.specs.Makers.{IsPipList}
 use Rattle.pip_model_types.specs.declared.desc.Desc.{Desc}
 use Rattle.pip_model_types.specs.declared.made.Slot.{Slot}
@@ -26,7 +26,7 @@ use Rattle.two_phase_meaning.specs.Compared as met
 use Rattle.two_phase_meaning.specs.Usable.{Usable, UsableAt, asked_text}
 use Rattle.two_phase_meaning.proofs.Stays.{at_one, usable_at}
 use Rattle.violations.specs.declared.verdict.Verdict.{Verdict}
-use Rattle.retire.specs.Compared.{Compared, desc_after, view_after}
+use Rattle.retire_compared.specs.Compared.{Compared, desc_after, view_after}
 use Rattle.retire.specs.Runs.{IsOfSuccess, NoneReserved, RunsAs, results_before}
 use Rattle.retire.proofs.SoFar.{run_met, success_met}
 use Rattle.retire.proofs.SuccessFits.{success_fits}
@@ -55,23 +55,23 @@ are_ready pips tree budget S (f ∷ fs) h sounds = (
 
 -- ## What a fair store is left as
 
-module _ (pips : List Pip) (tree : Files) (budget : ℕ) (before : StoreState) (vs : List Verdict) (ss : List Slot) (fs : List Facts) (hits faults : ℕ)
-    (follows : FollowsAll pips tree budget before.held vs ss fs hits faults) (fair : IsFair pips tree budget before.held) where
+module _ (pips : List Pip) (tree : Files) (budget : ℕ) (held : Holdings) (before : StoreTold) (was : held_in before ≡ Some held) (vs : List Verdict) (ss : List Slot) (fs : List Facts)
+    (hits faults : ℕ) (follows : FollowsAll pips tree budget held vs ss fs hits faults) (fair : IsFair pips tree budget held) where
   all_of : AllByRecursion (IsOfSuccess pips tree budget) fs
   all_of = all_successes pips tree budget 0 follows.high fs follows.successes
 
-  ready : AllByRecursion (IsReady (Compared pips tree budget before.held)) fs
-  ready = are_ready pips tree budget before.held fs all_of follows.sounds
+  ready : AllByRecursion (IsReady (Compared pips tree budget held)) fs
+  ready = are_ready pips tree budget held fs all_of follows.sounds
 
-  pub leaves_fair : (now : Option StoreState) → PutsFirst (Some before) fs now → LeavesFair pips tree budget before now
-  leaves_fair now puts =
+  pub leaves_fair : (now : StoreTold) → IsSome (held_in now) → PutsFirst before fs now → LeavesFair pips tree budget held before now
+  leaves_fair now tells puts =
       let gs = take puts.number fs in
-      let left : Leaves before gs now =
-      chain (Compared pips tree budget before.held) fair.apart gs before now (all_first (IsReady (Compared pips tree budget before.held)) puts.number fs ready)
-      (λ x held. inl held) fair.honest puts.each in
+      let left : Leaves held before gs now =
+      chain (Compared pips tree budget held) fair.apart gs held before now was tells (all_first (IsReady (Compared pips tree budget held)) puts.number fs ready)
+      (λ x there. inl there) fair.honest puts.each in
       record {
         honest = left.honest;
-        adds = λ kept is e h. elim (left.adds kept is e h) [
+        adds = λ S is e h. elim (left.adds S is e h) [
           | inl old ↦ inl old
           | inr new ↦
               inr (new.0, has_all (IsOfSuccess pips tree budget) gs new.0 (all_first (IsOfSuccess pips tree budget) puts.number fs all_of) new.1, new.2)
@@ -114,55 +114,55 @@ module _ (pips : List Pip) (tree : Files) (budget : ℕ) (before : StoreState) (
         sym a.view_is ∙ ap (view_after pips tree (results_before pips tree budget i) i) same ∙ b.view_is,
       )
 
-  module _ (list : IsPipList pips) (keeps : KeepsRules pips tree) (free : NoneReserved tree) (now : Option StoreState) (puts : PutsAllEach (Some before) fs now) (kept : StoreState)
-      (is : now ≡ Some kept) where
+  module _ (list : IsPipList pips) (keeps : KeepsRules pips tree) (free : NoneReserved tree) (now : StoreTold) (puts : PutsAllEach before fs now) (S : Holdings)
+      (is : held_in now ≡ Some S) where
     spelled : AllByRecursion (λ (f : Facts). IsReadBack f.desc) fs
-    spelled = spelled_each (Some before) now fs puts
+    spelled = spelled_each before now fs puts
 
     -- what was saved is usable
-    by_record : (f : Facts) → Has fs f → IsOfSuccess pips tree budget f → (see : Ask → Answer) → f.answers ≡ map see f.paths → Usable kept.held f.desc see
+    by_record : (f : Facts) → Has fs f → IsOfSuccess pips tree budget f → (see : Ask → Answer) → f.answers ≡ map see f.paths → Usable S f.desc see
     by_record f has s see answers =
         let text : answers_text f ≡ asked_text f.desc see (paths_digest f) f.paths =
         ap (λ (as' : List Answer). strong_text (strong_parts (weak_of f.desc) (paths_digest f) as')) answers in
-        usable_at kept.held f.desc see (record_selector f) f.paths
-        (saved_stays (Compared pips tree budget before.held) fair.apart fs before now ready
-        (all_others pips tree list keeps free budget before.held fair.apart fs 0 follows.high follows.successes spelled)
-        (λ x held. inl held) puts f has (success_fits pips tree budget list f s keeps (has_all Sound fs f follows.sounds has)) see answers
-        (success_met pips tree budget before.held f s (asked_text f.desc see (paths_digest f) f.paths) (inr (inr (inl text)))) kept is)
+        usable_at S f.desc see (record_selector f) f.paths
+        (saved_stays (Compared pips tree budget held) fair.apart fs held before now was ready
+        (all_others pips tree list keeps free budget held fair.apart fs 0 follows.high follows.successes spelled)
+        (λ x there. inl there) puts f has (success_fits pips tree budget list f s keeps (has_all Sound fs f follows.sounds has)) see answers
+        (success_met pips tree budget held f s (asked_text f.desc see (paths_digest f) f.paths) (inr (inr (inl text)))) S is)
 
     -- what was usable stays so, where no record is of its pip
-    by_store : (i : ℕ) (d : Desc) (see : Ask → Answer) → RunsAs pips tree budget i d see → Usable before.held d see → IsReadBack d
-        → NoneAt pips tree budget i 0 follows.high fs follows.successes → Usable kept.held d see
+    by_store : (i : ℕ) (d : Desc) (see : Ask → Answer) → RunsAs pips tree budget i d see → Usable held d see → IsReadBack d
+        → NoneAt pips tree budget i 0 follows.high fs follows.successes → Usable S d see
     by_store i d see runs usable read none =
-        let one = at_one before.held d see usable in
+        let one = at_one held d see usable in
         let s : Selector = one.0 in
         let asks : List Ask = one.1.0 in
-        let u : UsableAt before.held d see s asks = one.1.1 in
-        let held : HoldsPaths before.held s.paths asks = subst (λ (qs : List Ask). HoldsPaths before.held s.paths qs) u.asks_are u.by.paths in
-        let asked : Compared pips tree budget before.held (asked_text d see s.paths asks) =
-        run_met pips tree budget before.held (asked_text d see s.paths asks) i d see runs (met.strong s.paths asks (inr ((u.list, u.held, (s, u.listed, refl)), held)) refl) in
-        usable_at kept.held d see s asks
-        (stay (Compared pips tree budget before.held) fair.apart d see s asks asked fs before now ready
-        (none_is pips tree list keeps free budget before.held fair.apart i d see runs read fs 0 follows.high follows.successes spelled none)
-        (λ x there. inl there) puts u kept is)
+        let u : UsableAt held d see s asks = one.1.1 in
+        let listed : HoldsPaths held s.paths asks = subst (λ (qs : List Ask). HoldsPaths held s.paths qs) u.asks_are u.by.paths in
+        let asked : Compared pips tree budget held (asked_text d see s.paths asks) =
+        run_met pips tree budget held (asked_text d see s.paths asks) i d see runs (met.strong s.paths asks (inr ((u.list, u.held, (s, u.listed, refl)), listed)) refl) in
+        usable_at S d see s asks
+        (stay (Compared pips tree budget held) fair.apart d see s asks asked fs held before now was ready
+        (none_is pips tree list keeps free budget held fair.apart i d see runs read fs 0 follows.high follows.successes spelled none)
+        (λ x there. inl there) puts u S is)
 
-    there_usable : (i : ℕ) (d : Desc) (see : Ask → Answer) → RunsAs pips tree budget i d see → IsThere before.held fs d see → Usable kept.held d see
+    there_usable : (i : ℕ) (d : Desc) (see : Ask → Answer) → RunsAs pips tree budget i d see → IsThere held fs d see → Usable S d see
     there_usable i d see runs there = elim (find i fs 0 follows.high follows.successes) [
       | inl own ↦
           let f : Facts = own.0 in
           let s : IsOfSuccess pips tree budget f = own.2 in
           let same = one_run i f.desc d s.see see (subst (λ k. RunsAs pips tree budget k f.desc s.see) own.3 s.runs) runs in
-          subst (λ (x : Desc). Usable kept.held x see) same.0
+          subst (λ (x : Desc). Usable S x see) same.0
           (by_record f own.1 s see (s.run.answers ∙ ap (λ (v : Ask → Answer). map v f.paths) same.1))
       | inr none ↦ elim there [
         | inl usable ↦ by_store i d see runs usable.0 usable.1 none
         | inr own ↦
             let f : Facts = own.0 in
             let s : IsOfSuccess pips tree budget f = has_all (IsOfSuccess pips tree budget) fs f all_of own.1 in
-            subst (λ (x : Desc). Usable kept.held x see) own.2 (by_record f own.1 s see own.3)
+            subst (λ (x : Desc). Usable S x see) own.2 (by_record f own.1 s see own.3)
       ]
     ]
 
-  pub leaves_usable : IsPipList pips → KeepsRules pips tree → NoneReserved tree → (now : Option StoreState) → PutsAllEach (Some before) fs now → LeavesUsable pips tree budget now
-  leaves_usable list keeps free now puts kept is i d see runs succeeds =
-      there_usable list keeps free now puts kept is i d see runs (follows.all_there i d see runs succeeds)
+  pub leaves_usable : IsPipList pips → KeepsRules pips tree → NoneReserved tree → (now : StoreTold) → PutsAllEach before fs now → LeavesUsable pips tree budget now
+  leaves_usable list keeps free now puts S is i d see runs succeeds =
+      there_usable list keeps free now puts S is i d see runs (follows.all_there i d see runs succeeds)

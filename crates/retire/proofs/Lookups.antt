@@ -8,7 +8,7 @@ use Rattle.retire.specs.Reading.{ReadsOn}
 
 pub on_none : (held : Option Holdings) (bound : Option ℕ) (faults : ℕ) → ReadsOn held held bound bound faults faults 0
 on_none held bound faults = record {
-  held_is = refl;
+  held_is = λ S is. is;
   bound_is = refl;
   within = λ h. h;
   can_rise = λ h. h;
@@ -18,7 +18,7 @@ on_none held bound faults = record {
 pub on_then : (h0 h1 h2 : Option Holdings) (b0 b1 b2 : Option ℕ) (f0 f1 f2 k m : ℕ) → ReadsOn h0 h1 b0 b1 f0 f1 k → ReadsOn h1 h2 b1 b2 f1 f2 m
     → ReadsOn h0 h2 b0 b2 f0 f2 (k + m)
 on_then h0 h1 h2 b0 b1 b2 f0 f1 f2 k m first next = record {
-  held_is = next.held_is ∙ first.held_is;
+  held_is = λ S is. first.held_is S (next.held_is S is);
   bound_is = next.bound_is ∙ first.bound_is;
   within = λ h. next.within (first.within h);
   can_rise = λ h. next.can_rise (first.can_rise h);

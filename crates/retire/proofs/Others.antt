@@ -1,8 +1,8 @@
 -- No two records that are saved in one build are of processes with one weak text.
-use Rattle.std.proofs.Common.{◌≡◌, ℕ, ◌+◌, ◌<◌, ◌≤◌, List, [], ◌∷◌, Option, arith}
+use Rattle.std.proofs.Common.{◌≡◌, ℕ, ◌+◌, ◌<◌, ◌≤◌, List, [], ◌∷◌, arith}
 use Rattle.std.specs.List.{AllByRecursion}
 use Rattle.bx_tree.specs.Trees.{Files}
-use Rattle.bx_io.specs.Holdings.{Holdings, StoreState}
+use Rattle.bx_io.specs.Holdings.{Holdings, StoreTold}
 use Rattle.pip_model_types.specs.Makers.{IsPipList}
 use Rattle.pip_model_types.specs.declared.desc.Desc.{Desc}
 use Rattle.pip_model_types.specs.declared.pip.Pip.{Pip}
@@ -12,7 +12,7 @@ use Rattle.graph_check.specs.Rules.{KeepsRules}
 use Rattle.run_record.specs.Facts.{Facts}
 use Rattle.run_record.specs.Collisions.{NoCollision}
 use Rattle.run_record.specs.Digests.{IsReadBack}
-use Rattle.retire.specs.Compared.{Compared}
+use Rattle.retire_compared.specs.Compared.{Compared}
 use Rattle.retire.specs.Runs.{NoneReserved, RunsAs}
 use Rattle.retire.proofs.Twins.{one_process}
 use Rattle.retire.specs.Builds.{Between}
@@ -20,7 +20,7 @@ use Rattle.retire.specs.Saving.{PutsAllEach}
 use Rattle.retire.proofs.Stay.{AreOthers, IsOther}
 
 -- the weak texts of records that were saved whole are read back
-pub spelled_each : (before now : Option StoreState) (fs : List Facts) → PutsAllEach before fs now → AllByRecursion (λ (f : Facts). IsReadBack f.desc) fs
+pub spelled_each : (before now : StoreTold) (fs : List Facts) → PutsAllEach before fs now → AllByRecursion (λ (f : Facts). IsReadBack f.desc) fs
 spelled_each before now [] p = tt
 spelled_each before now (f ∷ fs) p = (p.1.spelled.weak, spelled_each p.0 now fs p.2)
 

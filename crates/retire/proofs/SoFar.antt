@@ -16,7 +16,7 @@ use Rattle.run_record.specs.Facts.{Facts}
 use Rattle.two_phase_meaning.specs.Saving.{blobs_of}
 use Rattle.two_phase_meaning.specs.Compared.{ComparedInRun}
 use Rattle.one_thread.specs.OneThread.{Result, on_from, result_of}
-use Rattle.retire.specs.Compared.{Compared, compared_at_pip, compared_from, desc_after, view_after}
+use Rattle.retire_compared.specs.Compared.{Compared, compared_at_pip, compared_from, desc_after, view_after}
 use Rattle.retire.specs.HitSet.{HitsFrom}
 use Rattle.retire.specs.Runs.{IsOfSuccess, RunsAs, results_before}
 use Rattle.retire.proofs.RecordMet.{record_met}

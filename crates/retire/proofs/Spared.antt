@@ -25,7 +25,7 @@ use Rattle.one_thread.specs.Views.{results_of, slots_are_good}
 use Rattle.one_thread.proofs.GoingThrough.{IsSoFar, all_good, made_is}
 use Rattle.two_phase.specs.Lookups.{FirstLeadsTo, LookupHits}
 use Rattle.retire.specs.HitSet.{PipHits, WorkHits}
-use Rattle.retire.specs.Compared.{desc_after, view_after}
+use Rattle.retire_compared.specs.Compared.{desc_after, view_after}
 use Rattle.retire.specs.Counting.{one_fault, one_hit}
 use Rattle.retire.specs.Deciding as deciding
 use Rattle.retire.specs.Deciding.{DecidedBy, Decides}

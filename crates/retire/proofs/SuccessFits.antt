@@ -28,7 +28,7 @@ use Rattle.one_thread.specs.Keeping.{AreOwnOutputs}
 use Rattle.one_thread.proofs.OneResult.{kept_result}
 use Rattle.two_phase_meaning.specs.Saving.{FilesFit, outcome_files}
 use Rattle.two_phase_meaning.proofs.FilesFit.{files_fit, paths_lines}
-use Rattle.retire.specs.Compared.{view_after}
+use Rattle.retire_compared.specs.Compared.{view_after}
 use Rattle.retire.specs.Runs.{IsOfSuccess, results_before}
 
 -- a success that clashes with nothing has the files of its run

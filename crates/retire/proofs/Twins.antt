@@ -45,7 +45,7 @@ use Rattle.pip_view_inputs.specs.Results.{ByPip}
 use Rattle.pip_view_inputs.proofs.TakenFiles.{paths_taken}
 use Rattle.one_thread.proofs.Meeting.{declares, kept_below, made_below}
 use Rattle.two_phase_meaning.specs.Compared as met
-use Rattle.retire.specs.Compared.{Compared, inputs_after}
+use Rattle.retire_compared.specs.Compared.{Compared, inputs_after}
 use Rattle.retire.specs.Runs.{RunsAs, results_before}
 use Rattle.retire.proofs.SoFar.{run_met}
 use Rattle.bx_tree.specs.FileInputs.{input_path}

@@ -1,12 +1,13 @@
 -- What a whole build gives and leaves, by what its steps say.
-use Rattle.std.proofs.Common.{◌≡◌, ℕ, ◌+◌, ◌≤◌, true, List, [], map, Option, Some, None, refl, sym, ap, ◌∙◌, subst, inl, arith}
+use Rattle.std.proofs.Common.{◌≡◌, ℕ, ◌+◌, ◌≤◌, List, [], map, Option, Some, refl, sym, ap, ◌∙◌, subst, inl, arith}
 use Rattle.std.specs.Prelude.{IsSome}
 use Rattle.std.specs.List.{AllByRecursion}
 use Rattle.std.proofs.lemmas.Option.{same_Some}
 use Rattle.bx_tree.specs.Trees.{Files}
 use Rattle.bx_io.specs.Causes.{IsWithin}
-use Rattle.bx_io.specs.Holdings.{Change, Holdings, StoreState, holdings_after}
-use Rattle.bx_io.proofs.Changes.{known_after-nil, nothing_before}
+use Rattle.bx_io.specs.Holdings.{Change, Holdings, Keeps, StoreTold, held_in, holdings_after}
+use Rattle.bx_io.specs.Told.{Stays}
+use Rattle.bx_io.proofs.Changes.{makes_none, nothing_before}
 use Rattle.pip_model_types.specs.Makers.{IsPipList}
 use Rattle.pip_model_types.specs.declared.made.Slot.{Slot}
 use Rattle.pip_model_types.specs.declared.pip.Pip.{Pip}
@@ -21,19 +22,22 @@ use Rattle.one_thread.specs.Outputs.{AreOutputs}
 use Rattle.one_thread.proofs.KeptApart.{are_outputs}
 use Rattle.one_thread.specs.OneThread.{all_made, made_by, one_thread, outputs_of, put_all, run_count, verdicts_of}
 use Rattle.retire.specs.Runs.{NoneReserved}
-use Rattle.retire.specs.Builds.{Fair, IsFair, LeavesFair, LeavesUsable, RunsLate, Spares}
+use Rattle.retire.specs.Builds.{IsFair, LeavesFair, LeavesUsable, RunsLate, Spares}
 use Rattle.retire.specs.Deciding.{FollowsAll}
 use Rattle.retire.specs.Saving.{IsSuccess, OnlyPuts, PutsAllEach, PutsFirst}
 use Rattle.retire.specs.Reading.{ReadsOn}
 use Rattle.retire.proofs.Leaving.{leaves_fair, leaves_usable}
+use Rattle.retire.proofs.Putting.{keeps_all_each, keeps_first}
+use Rattle.two_phase.proofs.Prefixes.{some_of}
 
 -- ## What is given
 
--- a store that is fair where it is used is known
-pub fair_known : (pips : List Pip) (tree : Files) (budget : ℕ) (held : Option Holdings) → Fair pips tree budget true held
-    → (S : Holdings) × (held ≡ Some S) × IsFair pips tree budget S
-fair_known pips tree budget None fair = absurd fair
-fair_known pips tree budget (Some S) fair = (S, refl, fair)
+-- what a reader tells to the end was told of the store, where the store tells after it is closed
+pub read_told : (store first last closed : Option Holdings) (S : Holdings) → store ≡ Some S → first ≡ store → Stays first last → (IsSome closed → IsSome last)
+    → IsSome closed → last ≡ Some S
+read_told store first last closed S was begun stays told tells =
+    let there = some_of last (told tells) in
+    there.1 ∙ sym (stays there.0 there.1) ∙ begun ∙ was
 
 pub files_are : (pips : List Pip) (tree : Files) (budget : ℕ) (given ss : List Slot) (outputs : Files) → given ≡ ss → map slot_files ss ≡ made_by (one_thread pips tree budget)
     → outputs ≡ put_all [] (all_made (map slot_files given)) → outputs ≡ outputs_of (one_thread pips tree budget)
@@ -64,39 +68,41 @@ late_of pips tree budget S hits faults more late vs s same sum =
 -- ## What is left
 
 -- where nothing was changed
-pub leaves_same : (pips : List Pip) (tree : Files) (budget : ℕ) (before : StoreState) (now : Option StoreState) → now ≡ Some before → IsFair pips tree budget before.held
-    → LeavesFair pips tree budget before now
-leaves_same pips tree budget before now is fair = record {
+pub leaves_same : (pips : List Pip) (tree : Files) (budget : ℕ) (held : Holdings) (before now : StoreTold) → held_in before ≡ Some held → Keeps before now
+    → IsFair pips tree budget held → LeavesFair pips tree budget held before now
+leaves_same pips tree budget held before now was keeps fair = record {
   honest = record {
     made = [];
-    makes = is ∙ sym (known_after-nil (Some before));
-    along = λ start p. subst (λ (cs : List Change). Honest (holdings_after before.held cs)) (sym (nothing_before start p)) fair.honest;
+    makes = makes_none before now keeps;
+    along = λ start p. subst (λ (cs : List Change). Honest (holdings_after held cs)) (sym (nothing_before start p)) fair.honest;
   };
-  adds = λ kept here e h. inl (subst (λ (k : StoreState). HoldsEntry k.held e) (same_Some kept before (sym here ∙ is)) h);
-  puts = ([], 0, omega arith, record { number = 0; each = is });
+  adds = λ S is e h. inl (subst (λ (T : Holdings). HoldsEntry T e) (same_Some S held (sym (keeps.held S is) ∙ was)) h);
+  puts = ([], 0, omega arith, record { number = 0; each = keeps });
 }
 
 -- where nothing was put
-pub none_put : (known : Option StoreState) → OnlyPuts known known
-none_put known = ([], tt, record { number = 0; each = refl })
+pub none_put : (before now : StoreTold) → Keeps before now → OnlyPuts before now
+none_put before now keeps = ([], tt, record { number = 0; each = keeps })
 
 -- the records that are saved are of successes
-pub only_put : (old now : Option StoreState) (fs given : List Facts) → AllByRecursion IsSuccess fs → given ≡ fs → PutsFirst old given now → OnlyPuts old now
-only_put old now fs given good same puts = (fs, good, subst (λ (gs : List Facts). PutsFirst old gs now) same puts)
+pub only_put : (before between now : StoreTold) (fs given : List Facts) → Keeps before between → AllByRecursion IsSuccess fs → given ≡ fs → PutsFirst between given now
+    → OnlyPuts before now
+only_put before between now fs given keeps good same puts =
+    (fs, good, keeps_first fs before between now keeps (subst (λ (gs : List Facts). PutsFirst between gs now) same puts))
 
-pub leaves_saved : (pips : List Pip) (tree : Files) (budget : ℕ) (before : StoreState) (old now : Option StoreState) (vs : List Verdict) (ss : List Slot) (fs given : List Facts)
-    (hits faults : ℕ) → old ≡ Some before → FollowsAll pips tree budget before.held vs ss fs hits faults → IsFair pips tree budget before.held → given ≡ fs
-    → PutsFirst old given now → LeavesFair pips tree budget before now
-leaves_saved pips tree budget before old now vs ss fs given hits faults is follows fair same puts =
-    leaves_fair pips tree budget before vs ss fs hits faults follows fair now
-    (subst (λ (k : Option StoreState). PutsFirst k fs now) is (subst (λ (gs : List Facts). PutsFirst old gs now) same puts))
+pub leaves_saved : (pips : List Pip) (tree : Files) (budget : ℕ) (held : Holdings) (before between now : StoreTold) (vs : List Verdict) (ss : List Slot) (fs given : List Facts)
+    (hits faults : ℕ) → held_in before ≡ Some held → Keeps before between → IsSome (held_in now) → FollowsAll pips tree budget held vs ss fs hits faults
+    → IsFair pips tree budget held → given ≡ fs → PutsFirst between given now → LeavesFair pips tree budget held before now
+leaves_saved pips tree budget held before between now vs ss fs given hits faults was keeps tells follows fair same puts =
+    leaves_fair pips tree budget held before was vs ss fs hits faults follows fair now tells
+    (keeps_first fs before between now keeps (subst (λ (gs : List Facts). PutsFirst between gs now) same puts))
 
-pub leaves_all : (pips : List Pip) (tree : Files) (budget : ℕ) (before : StoreState) (old now : Option StoreState) (vs : List Verdict) (ss : List Slot) (fs given : List Facts)
-    (hits faults : ℕ) → old ≡ Some before → FollowsAll pips tree budget before.held vs ss fs hits faults → IsFair pips tree budget before.held → given ≡ fs
-    → IsPipList pips → KeepsRules pips tree → NoneReserved tree → PutsAllEach old given now → LeavesUsable pips tree budget now
-leaves_all pips tree budget before old now vs ss fs given hits faults is follows fair same list keeps free puts =
-    leaves_usable pips tree budget before vs ss fs hits faults follows fair list keeps free now
-    (subst (λ (k : Option StoreState). PutsAllEach k fs now) is (subst (λ (gs : List Facts). PutsAllEach old gs now) same puts))
+pub leaves_all : (pips : List Pip) (tree : Files) (budget : ℕ) (held : Holdings) (before between now : StoreTold) (vs : List Verdict) (ss : List Slot) (fs given : List Facts)
+    (hits faults : ℕ) → held_in before ≡ Some held → Keeps before between → FollowsAll pips tree budget held vs ss fs hits faults → IsFair pips tree budget held → given ≡ fs
+    → IsPipList pips → KeepsRules pips tree → NoneReserved tree → PutsAllEach between given now → LeavesUsable pips tree budget now
+leaves_all pips tree budget held before between now vs ss fs given hits faults was keeps follows fair same list rules free puts =
+    leaves_usable pips tree budget held before was vs ss fs hits faults follows fair list rules free now
+    (keeps_all_each fs before between now keeps (subst (λ (gs : List Facts). PutsAllEach between gs now) same puts))
 
 -- ## Counts of faults
 
@@ -115,3 +121,9 @@ all_faults h0 h1 kb b0 b1 f0 f1 k b old now failed r zero same is kept =
     let reads = reads_within h0 h1 b0 b1 f0 f1 k b r zero (same ∙ is) in
     let keeps = kept (subst (λ (o : Option ℕ). IsSome o) (sym is) refl) in
     omega (arith, reads, keeps)
+
+-- closing a reader counts no fault
+pub closed_faults : (kb cb : Option ℕ) (old closed now failed : ℕ) → cb ≡ kb → closed ≡ old → (IsSome cb → closed + failed ≤ now) → IsSome kb → old + failed ≤ now
+closed_faults kb cb old closed now failed same counted kept some =
+    let one = kept (subst (λ (o : Option ℕ). IsSome o) (sym same) some) in
+    omega (arith, counted, one)

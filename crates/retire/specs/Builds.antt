@@ -1,8 +1,7 @@
 -- What a build over a store gives and leaves.
-use Rattle.std.specs.Prelude.{◌≡◌, ℕ, ◌+◌, ◌≤◌, Bool, true, false, List, [], ◌∷◌, length, Option, Some, ⊤}
-use Rattle.std.specs.Prelude as prelude
+use Rattle.std.specs.Prelude.{◌≡◌, ℕ, ◌+◌, ◌≤◌, Bool, true, false, List, [], ◌∷◌, length, Option, Some, IsSome, ⊤}
 use Rattle.bx_tree.specs.Trees.{Files}
-use Rattle.bx_io.specs.Holdings.{Holdings, StoreState}
+use Rattle.bx_io.specs.Holdings.{Holdings, StoreTold, held_in}
 use Rattle.pip_model_types.specs.declared.pip.Pip.{Pip}
 use Rattle.run_record.specs.Facts.{Facts}
 use Rattle.violations.specs.declared.verdict.Verdict.{Verdict}
@@ -11,7 +10,7 @@ use Rattle.two_phase_meaning.specs.Honest.{Honest}
 use Rattle.one_thread.specs.OneThread.{one_thread, outputs_of, run_count, verdicts_of}
 use Rattle.two_phase.specs.Putting.{LeavesHonest}
 use Rattle.retire.specs.HitSet.{IsHitSet}
-use Rattle.retire.specs.Compared.{Compared}
+use Rattle.retire_compared.specs.Compared.{Compared}
 use Rattle.retire.specs.Runs.{AddsSuccesses, AllUsable, IsOfSuccess}
 use Rattle.retire.specs.Saving.{PutsFirst}
 
@@ -28,11 +27,18 @@ pub record IsFair (pips : List Pip) (tree : Files) (budget : ℕ) (S : Holdings)
   pub honest : Honest S
   pub apart : NoCollision (Compared pips tree budget S)
 
--- what is asked of a store: nothing where it is not used, and that it is known and fair where it is
-abbrev pub Fair : List Pip → Files → ℕ → Bool → Option Holdings → Type 0
-Fair pips tree budget false held = ⊤
-Fair pips tree budget true prelude.None = ⊥
-Fair pips tree budget true (Some S) = IsFair pips tree budget S
+-- The store tells what it holds before the build, and is fair; and it still tells after the build, so that no
+-- answer disagreed.
+pub record IsFairStore (pips : List Pip) (tree : Files) (budget : ℕ) (before now : Option Holdings) : Type 0 where
+  pub held : Holdings
+  pub told : before ≡ Some held
+  pub tells : IsSome now
+  pub fair : IsFair pips tree budget held
+
+-- what is asked of a store: nothing where it is not used, and that where it is
+abbrev pub Fair : List Pip → Files → ℕ → Bool → Option Holdings → Option Holdings → Type 0
+Fair pips tree budget false before now = ⊤
+Fair pips tree budget true before now = IsFairStore pips tree budget before now
 
 -- The hits are at most the processes that the store would spare, and fall short of them by the faults at
 -- most.
@@ -56,15 +62,14 @@ Between pips tree budget low high [] = low ≤ high
 Between pips tree budget low high (f ∷ fs) =
     (s : IsOfSuccess pips tree budget f) × (low ≤ s.pip) × Between pips tree budget (s.pip + 1) high fs
 
--- A fair store is left: it was honest before each change and after it, each entry that was added is that of a
--- process that succeeds, and nothing was done but that records of such processes were saved, by number.
-pub record LeavesFair (pips : List Pip) (tree : Files) (budget : ℕ) (before : StoreState) (now : Option StoreState)
+-- A fair store that held this is left: it was honest before each change and after it, each entry that was added is
+-- that of a process that succeeds, and nothing was done but that records of such processes were saved, by number.
+pub record LeavesFair (pips : List Pip) (tree : Files) (budget : ℕ) (held : Holdings) (before now : StoreTold)
     : Type 0 where
-  pub honest : LeavesHonest before now
-  pub adds : (kept : StoreState) → now ≡ Some kept → AddsSuccesses pips tree budget before.held kept.held
-  pub puts : (fs : List Facts) × (high : ℕ) × Between pips tree budget 0 high fs
-      × PutsFirst (Some before) fs now
+  pub honest : LeavesHonest held before now
+  pub adds : (S : Holdings) → held_in now ≡ Some S → AddsSuccesses pips tree budget held S
+  pub puts : (fs : List Facts) × (high : ℕ) × Between pips tree budget 0 high fs × PutsFirst before fs now
 
 -- For each process that succeeds something is usable in the store that is left.
-abbrev pub LeavesUsable : List Pip → Files → ℕ → Option StoreState → Type 0
-LeavesUsable pips tree budget now = (kept : StoreState) → now ≡ Some kept → AllUsable pips tree budget kept.held
+abbrev pub LeavesUsable : List Pip → Files → ℕ → StoreTold → Type 0
+LeavesUsable pips tree budget now = (S : Holdings) → held_in now ≡ Some S → AllUsable pips tree budget S

@@ -7,7 +7,7 @@ use Rattle.pip_model_types.specs.declared.pip.PipKind.TheVariants.{Process, Copy
 use Rattle.bx_io.specs.Holdings.{Holdings}
 use Rattle.two_phase_meaning.specs.Usable.{Usable}
 use Rattle.one_thread.specs.OneThread.{Result, inputs_are_good, result_of}
-use Rattle.retire.specs.Compared.{desc_after, view_after}
+use Rattle.retire_compared.specs.Compared.{desc_after, view_after}
 
 -- a process for which something is usable
 abbrev pub WorkHits : List Pip → Files → ℕ → Holdings → List Result → ℕ → PipKind → Type 0

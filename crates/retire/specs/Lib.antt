@@ -4,6 +4,5 @@ pub mod Counting
 pub mod Reading
 pub mod Taking
 pub mod Deciding
-pub mod Compared
 pub mod HitSet
 pub mod Runs

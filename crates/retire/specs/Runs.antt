@@ -18,7 +18,7 @@ use Rattle.two_phase_meaning.specs.Usable.{Usable}
 use Rattle.pip_view_inputs.specs.Plain.{process_in}
 use Rattle.violations.specs.declared.verdict.Verdict.TheVariants as verdicts
 use Rattle.one_thread.specs.OneThread.{Result, inputs_are_good, one_thread, verdicts_of}
-use Rattle.retire.specs.Compared.{desc_after, view_after}
+use Rattle.retire_compared.specs.Compared.{desc_after, view_after}
 
 -- what the pips before pip i come to
 abbrev pub results_before : List Pip → Files → ℕ → ℕ → List Result

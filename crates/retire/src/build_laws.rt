@@ -18,17 +18,17 @@ ghost use Rattle.violations.specs.Verdicts.{is_success};
 ghost use Rattle.two_phase_meaning.specs.Saving.{FilesFit, blobs_of};
 ghost use Rattle.two_phase_meaning.specs.Compared.{ComparedInRun};
 ghost use Rattle.retire.specs.HitSet.{IsHitSet};
-ghost use Rattle.retire.specs.Compared.{Compared};
+ghost use Rattle.retire_compared.specs.Compared.{Compared};
 ghost use Rattle.retire.specs.Runs.{AllUsable, IsOfSuccess, NoneReserved, RunsAs};
 
-/// What is met at a process that runs is met in the build.
+/// What is compared at a process that runs is compared in the build.
 pub fn runs_are_compared()
     ensures { (pips : List Pip) (tree : Files) (budget i : ℕ) (S : Holdings) (d : AnyDesc)
         (see : AnyAsk → AnyAnswer) → RunsAs pips tree budget i d see → (x : List ℕ) → ComparedInRun S d see x
         → Compared pips tree budget S x }
 {}
 
-/// What is put for the record of a process that succeeds is met in the build.
+/// What is put for the record of a process that succeeds is compared in the build.
 pub fn successes_are_compared()
     ensures { (pips : List Pip) (tree : Files) (budget : ℕ) (S : Holdings) (f : Facts)
         → IsOfSuccess pips tree budget f → (x : List ℕ) → Has (blobs_of f) x → Compared pips tree budget S x }

@@ -21,12 +21,9 @@ ghost use Rattle.retire.specs.Taking as takes;
 use crate::taking::{Taken, Way, take};
 use bx_io::{Gate, KeepReader};
 use bx_tree::Memory;
-use one_thread::{
-    Frame, PipResult, after_run, after_success, inputs_are_good, is_good, made_plainly, skipped,
-};
+use one_thread::{Frame, PipResult, Started, after_run, after_success, is_good, start};
 use pip_model::{MAX_PIPS, Slot};
 use pip_view::Inputs;
-use pip_view_inputs::process_at;
 use run_record::Record;
 use tool_run::accesses_hold;
 use violations::Verdict;
@@ -102,22 +99,6 @@ fn plainly(ended: PipResult) -> Next
     }
 }
 
-// What a process comes to by the record of its run.
-fn record_result<G: Gate>(
-    frame: &Frame<'_, G>,
-    pip: u32,
-    slots: &[Slot],
-    ran: &Record,
-) -> Result<PipResult, Memory>
-    requires pip { pip < length frame.now.plan.now.pips }
-    requires slots { pip ≤ length slots.now }
-    ensures result { IfOk result (λ ended. ended_result ended ≡ by_outcome frame.now.plan.now.pips
-        frame.now.sources.now (map slot_files slots.now) pip ran.now.outcome) }
-    ensures agrees { IfOk result Agrees }
-{
-    after_run(frame.plan, frame.sources, pip, slots, ran.outcome())
-}
-
 // What a process comes to by what it takes.
 fn process_result<G: Gate>(
     frame: &Frame<'_, G>,
@@ -133,8 +114,9 @@ fn process_result<G: Gate>(
 {
     match taken {
         Taken::Hit(found) => after_success(frame.plan, pip, found.made(), slots),
-        Taken::Missed(ran) => record_result(frame, pip, slots, ran),
-        Taken::Faulted(ran) => record_result(frame, pip, slots, ran),
+        Taken::Missed(ran) | Taken::Faulted(ran) => {
+            after_run(frame.plan, frame.sources, pip, slots, ran.outcome())
+        }
     }
 }
 
@@ -151,7 +133,7 @@ fn decide_process<R: KeepReader, G: Gate>(
     requires slots { pip ≤ length slots.now }
     ensures decided { IfOk result (λ next. IfSome (process_in (slice_get frame.now.plan.now.pips pip))
         (λ (process : AnyProcess). DecidedBy frame.now.plan.now.pips frame.now.sources.now
-        frame.now.plan.now.tool_budget (R.held reader.old) (map slot_files slots.now) inputs.now pip process
+        frame.now.plan.now.tool_budget (R.held reader.new) (map slot_files slots.now) inputs.now pip process
         next)) }
     ensures agrees { IfOk result (λ next. Agrees next.ended) }
     ensures reader { IfOk result (λ next. ReadsOn (R.held reader.old) (R.held reader.new) (R.bound reader.old)
@@ -172,19 +154,16 @@ fn decide<R: KeepReader, G: Gate>(
     requires pip { pip < length frame.now.plan.now.pips }
     requires slots { pip ≤ length slots.now }
     ensures decided { IfOk result (DecidesAt frame.now.plan.now.pips frame.now.sources.now
-        frame.now.plan.now.tool_budget (R.held reader.old) slots.now pip
+        frame.now.plan.now.tool_budget (R.held reader.new) slots.now pip
         (slice_get frame.now.plan.now.pips pip)) }
     ensures agrees { IfOk result (λ next. Agrees next.ended) }
     ensures reader { IfOk result (λ next. ReadsOn (R.held reader.old) (R.held reader.new) (R.bound reader.old)
         (R.bound reader.new) (R.faults reader.old) (R.faults reader.new) (one_fault next.way)) }
 {
-    if !inputs_are_good(frame.plan, pip, slots) {
-        return Ok(plainly(skipped()));
-    }
-    let inputs = Inputs::of(frame.alloc, frame.plan, pip, slots)?;
-    match process_at(frame.plan.pips(), pip) {
-        Some(_) => decide_process(frame, reader, pip, &inputs, slots),
-        None => Ok(plainly(made_plainly(frame, pip, &inputs)?)),
+    let started = start(frame, pip, slots)?;
+    match started {
+        Started::Done(ended) => Ok(plainly(ended)),
+        Started::Process(inputs) => decide_process(frame, reader, pip, &inputs, slots),
     }
 }
 
@@ -227,7 +206,7 @@ pub(crate) fn decide_all<R: KeepReader, G: Gate>(
     reader: &mut R,
 ) -> Result<Decided, Memory>
     requires { KeepsRules frame.now.plan.now.pips frame.now.sources.now }
-    ensures follows { (S : Holdings) → R.held reader.old ≡ Some S
+    ensures follows { (S : Holdings) → R.held reader.new ≡ Some S
         → IsFair frame.now.plan.now.pips frame.now.sources.now frame.now.plan.now.tool_budget S
         → IfOk result (λ d. FollowsAll frame.now.plan.now.pips frame.now.sources.now
         frame.now.plan.now.tool_budget S d.verdicts.items d.slots.items d.records.items d.ways.hits

@@ -1,6 +1,6 @@
 //! What a whole build gives.
-ghost use Rattle.std.specs.Prelude.{◌≡◌, ℕ, ◌+◌, ◌≤◌, false, true, IfOk, Some, length};
-ghost use Rattle.bx_io.specs.Holdings.{Holdings, StoreState as AnyStore, held_in};
+ghost use Rattle.std.specs.Prelude.{◌≡◌, ℕ, ◌+◌, ◌≤◌, false, true, IfOk, IsSome, Some, length};
+ghost use Rattle.bx_io.specs.Holdings.{Holdings, held_in};
 ghost use Rattle.one_thread.specs.Outputs.{AreOutputs};
 ghost use Rattle.graph_check.specs.Rules.{KeepsRules};
 ghost use Rattle.one_thread.specs.OneThread as builds;
@@ -40,9 +40,9 @@ pub struct Retired {
     pub tally: RetireTally,
 }
 
-/// Decides all pips, one after another, as the sequential build does. Where the store is used, what is
-/// usable for a process is taken in place of its run, and after all pips are decided the records of the runs
-/// that succeeded are saved, by number.
+/// Decides all pips, one after another, as the sequential build does. Where the store is used, cached results
+/// are reused instead of running processes, and after all pips are decided the records of the runs that
+/// succeeded are saved, by number.
 pub fn retire_empty<K: Keeper, G: Gate>(
     alloc: Global,
     plan: &Plan,
@@ -53,7 +53,7 @@ pub fn retire_empty<K: Keeper, G: Gate>(
 ) -> Result<Retired, Memory>
     requires { KeepsRules plan.now.pips sources.now }
     ensures build { Fair plan.now.pips sources.now plan.now.tool_budget cached (held_in (K.known keeper.old))
-        → IfOk result (λ r. IsBuild plan.now.pips sources.now plan.now.tool_budget r.verdicts.items r.outputs
+        (held_in (K.known keeper.new)) → IfOk result (λ r. IsBuild plan.now.pips sources.now plan.now.tool_budget r.verdicts.items r.outputs
         r.tally.hits r.tally.ran) }
     ensures number { IfOk result (λ r. length r.verdicts.items ≡ length plan.now.pips) }
     ensures counted { IfOk result (λ r. r.tally.hits + r.tally.ran
@@ -63,16 +63,17 @@ pub fn retire_empty<K: Keeper, G: Gate>(
     ensures no_hits { cached ≡ false → IfOk result (λ r. (r.tally.hits ≡ 0) × (r.tally.faults ≡ 0)) }
     ensures untouched { cached ≡ false → keeper.new ≡ keeper.old }
     ensures spared { cached ≡ true → (S : Holdings) → held_in (K.known keeper.old) ≡ Some S
-        → IsFair plan.now.pips sources.now plan.now.tool_budget S → IfOk result (λ r.
+        → IsSome (held_in (K.known keeper.new)) → IsFair plan.now.pips sources.now plan.now.tool_budget S → IfOk result (λ r.
         Spares plan.now.pips sources.now plan.now.tool_budget S r.tally.hits r.tally.faults) }
     ensures runs { cached ≡ true → (S : Holdings) → held_in (K.known keeper.old) ≡ Some S
-        → IsFair plan.now.pips sources.now plan.now.tool_budget S → IfOk result (λ r.
+        → IsSome (held_in (K.known keeper.new)) → IsFair plan.now.pips sources.now plan.now.tool_budget S → IfOk result (λ r.
         RunsLate plan.now.pips sources.now plan.now.tool_budget S r.tally.late r.tally.faults) }
-    ensures left { (before : AnyStore) → K.known keeper.old ≡ Some before
-        → IsFair plan.now.pips sources.now plan.now.tool_budget before.held
-        → LeavesFair plan.now.pips sources.now plan.now.tool_budget before (K.known keeper.new) }
-    ensures usable { cached ≡ true → (before : AnyStore) → K.known keeper.old ≡ Some before
-        → IsFair plan.now.pips sources.now plan.now.tool_budget before.held → NoneReserved sources.now
+    ensures left { (S : Holdings) → held_in (K.known keeper.old) ≡ Some S
+        → IsSome (held_in (K.known keeper.new)) → IsFair plan.now.pips sources.now plan.now.tool_budget S
+        → LeavesFair plan.now.pips sources.now plan.now.tool_budget S (K.known keeper.old)
+        (K.known keeper.new) }
+    ensures usable { cached ≡ true → (S : Holdings) → held_in (K.known keeper.old) ≡ Some S
+        → IsFair plan.now.pips sources.now plan.now.tool_budget S → NoneReserved sources.now
         → IfOk result (λ r. r.tally.faults ≡ 0
         → LeavesUsable plan.now.pips sources.now plan.now.tool_budget (K.known keeper.new)) }
     ensures faults { (b : ℕ) → K.bound keeper.old ≡ Some b
@@ -132,7 +133,7 @@ fn retire_cached<K: Keeper, G: Gate>(
 ) -> Result<Retired, Memory>
     requires { KeepsRules plan.now.pips sources.now }
     ensures build { Fair plan.now.pips sources.now plan.now.tool_budget true (held_in (K.known keeper.old))
-        → IfOk result (λ r. IsBuild plan.now.pips sources.now plan.now.tool_budget r.verdicts.items r.outputs
+        (held_in (K.known keeper.new)) → IfOk result (λ r. IsBuild plan.now.pips sources.now plan.now.tool_budget r.verdicts.items r.outputs
         r.tally.hits r.tally.ran) }
     ensures number { IfOk result (λ r. length r.verdicts.items ≡ length plan.now.pips) }
     ensures counted { IfOk result (λ r. r.tally.hits + r.tally.ran
@@ -140,16 +141,17 @@ fn retire_cached<K: Keeper, G: Gate>(
     ensures places { IfOk result (λ r. AreOutputs r.outputs) }
     ensures late { IfOk result (λ r. r.tally.late ≡ r.tally.ran) }
     ensures spared { (S : Holdings) → held_in (K.known keeper.old) ≡ Some S
-        → IsFair plan.now.pips sources.now plan.now.tool_budget S → IfOk result (λ r.
+        → IsSome (held_in (K.known keeper.new)) → IsFair plan.now.pips sources.now plan.now.tool_budget S → IfOk result (λ r.
         Spares plan.now.pips sources.now plan.now.tool_budget S r.tally.hits r.tally.faults) }
     ensures runs { (S : Holdings) → held_in (K.known keeper.old) ≡ Some S
-        → IsFair plan.now.pips sources.now plan.now.tool_budget S → IfOk result (λ r.
+        → IsSome (held_in (K.known keeper.new)) → IsFair plan.now.pips sources.now plan.now.tool_budget S → IfOk result (λ r.
         RunsLate plan.now.pips sources.now plan.now.tool_budget S r.tally.late r.tally.faults) }
-    ensures left { (before : AnyStore) → K.known keeper.old ≡ Some before
-        → IsFair plan.now.pips sources.now plan.now.tool_budget before.held
-        → LeavesFair plan.now.pips sources.now plan.now.tool_budget before (K.known keeper.new) }
-    ensures usable { (before : AnyStore) → K.known keeper.old ≡ Some before
-        → IsFair plan.now.pips sources.now plan.now.tool_budget before.held → NoneReserved sources.now
+    ensures left { (S : Holdings) → held_in (K.known keeper.old) ≡ Some S
+        → IsSome (held_in (K.known keeper.new)) → IsFair plan.now.pips sources.now plan.now.tool_budget S
+        → LeavesFair plan.now.pips sources.now plan.now.tool_budget S (K.known keeper.old)
+        (K.known keeper.new) }
+    ensures usable { (S : Holdings) → held_in (K.known keeper.old) ≡ Some S
+        → IsFair plan.now.pips sources.now plan.now.tool_budget S → NoneReserved sources.now
         → IfOk result (λ r. r.tally.faults ≡ 0
         → LeavesUsable plan.now.pips sources.now plan.now.tool_budget (K.known keeper.new)) }
     ensures faults { (b : ℕ) → K.bound keeper.old ≡ Some b
@@ -168,6 +170,7 @@ fn retire_cached<K: Keeper, G: Gate>(
     let _pips = plan.pips();
     let mut reader = keeper.reader(alloc)?;
     let decided = decide_all(&frame, &mut reader)?;
+    keeper.close(reader);
     let outputs = outputs(alloc, decided.slots.as_slice())?;
     let failed = save_all(alloc, keeper, decided.records.as_slice())?;
     let ways = decided.ways;

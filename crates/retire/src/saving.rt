@@ -1,6 +1,7 @@
 //! Saving the records of a build.
 ghost use Rattle.std.specs.Prelude.{◌≡◌, ◌+◌, ◌≤◌, IfOk, IsSome, length};
 ghost use Rattle.std.specs.List.{AllByRecursion};
+ghost use Rattle.bx_io.specs.Holdings.{held_in};
 ghost use Rattle.two_phase_meaning.specs.Saving.{IsGood};
 ghost use Rattle.retire.specs.Saving.{IsSuccess, PutsAllEach, PutsFirst};
 ghost use Rattle.two_phase.specs.Held.{AreHeld};
@@ -20,11 +21,11 @@ fn save_one<K: Keeper>(
     ran: &Record,
 ) -> Result<u64, Memory>
     requires good { IsGood ran.now }
-    requires held { AreHeld (K.known keeper.old) held.old }
+    requires held { AreHeld (held_in (K.known keeper.old)) held.old }
     ensures all { IfOk result (λ faults. faults ≡ 0
         → PutsAll (K.known keeper.old) (K.known keeper.new) ran.now) }
     ensures first { PutsUpTo (K.known keeper.old) (K.known keeper.new) ran.now }
-    ensures held { AreHeld (K.known keeper.new) held.new }
+    ensures held { AreHeld (held_in (K.known keeper.new)) held.new }
     ensures bound { K.bound keeper.new ≡ K.bound keeper.old }
     ensures faults { IsSome (K.bound keeper.old)
         → IfOk result (λ faults. K.faults keeper.old + faults ≤ K.faults keeper.new) }

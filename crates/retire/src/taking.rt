@@ -60,7 +60,7 @@ fn run_on<V: View, G: Gate>(
     Ok(ran)
 }
 
-// What is usable for a process, or else its run.
+// A cached result of a process, or else its run.
 pub(crate) fn take<R: KeepReader, G: Gate>(
     frame: &Frame<'_, G>,
     reader: &mut R,
@@ -70,7 +70,7 @@ pub(crate) fn take<R: KeepReader, G: Gate>(
     requires process { IsSome (process_in (slice_get frame.now.plan.now.pips pip)) }
     requires pip { pip < length frame.now.plan.now.pips }
     ensures taken { IfOk result (λ taken. IfSome (process_in (slice_get frame.now.plan.now.pips pip))
-        (λ (process : AnyProcess). (S : Holdings) → R.held reader.old ≡ Some S → TakesFrom S
+        (λ (process : AnyProcess). (S : Holdings) → R.held reader.new ≡ Some S → TakesFrom S
         (desc_of frame.now.sources.now inputs.now frame.now.plan.now.tool_budget process)
         (sees frame.now.plan.now.pips frame.now.sources.now inputs.now pip) taken)) }
     ensures now { IfOk result (λ taken. IfSome (process_in (slice_get frame.now.plan.now.pips pip))

@@ -29,7 +29,7 @@ use Rattle.two_phase_meaning.specs.Compared.{ComparedInRun, IsComparedPathSet, I
 use Rattle.two_phase_meaning.specs.Contents.{HoldsPaths, desc_contents}
 use Rattle.two_phase_meaning.specs.Saving.{list_at, or_none, outcome_files, selectors_in}
 use Rattle.one_thread.specs.OneThread.{Result, inputs_are_good, result_of}
-use Rattle.retire.specs.Compared.{Compared, compared_at_pip, compared_from, desc_after, view_after}
+use Rattle.retire_compared.specs.Compared.{Compared, compared_at_pip, compared_from, desc_after, view_after}
 use Rattle.retire_laws.specs.ComparedList.{NamedPaths, asked_contents, compared_list, list_from, path_sets, paths_in, paths_said, pip_list, run_list}
 
 -- ## Lists

@@ -49,7 +49,7 @@ use Rattle.pip_view.proofs.TakenDirs.{process_is}
 use Rattle.pip_view_inputs.specs.Plain.{kind_process, process_in}
 use Rattle.one_thread.specs.OneThread.{Result, inputs_are_good, on_from, one_thread, result_of, run_count, verdicts_of}
 use Rattle.retire.specs.Builds.{IsFair, LeavesFair, LeavesUsable, Spares}
-use Rattle.retire.specs.Compared.{Compared, compared_at_pip, compared_from, desc_after, view_after}
+use Rattle.retire_compared.specs.Compared.{Compared, compared_at_pip, compared_from, desc_after, view_after}
 use Rattle.retire.specs.Runs.{IsOfSuccess, NoneReserved, RunsAs, results_before}
 use Rattle.retire.specs.Saving.{PutsEach}
 use Rattle.retire.proofs.AllHits.{all_hit}

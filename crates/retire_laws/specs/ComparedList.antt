@@ -26,7 +26,7 @@ use Rattle.two_phase_meaning.specs.Contents.{desc_contents, given_contents}
 use Rattle.two_phase_meaning.specs.Saving.{list_at, outcome_files}
 use Rattle.two_phase_meaning.specs.Usable.{asked_text}
 use Rattle.one_thread.specs.OneThread.{Result, inputs_are_good, result_of}
-use Rattle.retire.specs.Compared.{desc_after, view_after}
+use Rattle.retire_compared.specs.Compared.{desc_after, view_after}
 
 -- a path set with the digest of its text
 pub record NamedPaths : Type 0 where

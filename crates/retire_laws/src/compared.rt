@@ -5,7 +5,7 @@ ghost use Rattle.bx_tree.specs.Trees.{Files};
 ghost use Rattle.bx_io.specs.Holdings.{Holdings};
 ghost use Rattle.pip_model_types.specs.declared.pip.Pip.{Pip};
 ghost use Rattle.run_record.specs.Collisions.{NoCollision};
-ghost use Rattle.retire.specs.Compared.{Compared};
+ghost use Rattle.retire_compared.specs.Compared.{Compared};
 ghost use Rattle.retire_laws.specs.ComparedList.{compared_list};
 
 /// What is compared in a build is in one list. So where no two different members of that list have one digest,

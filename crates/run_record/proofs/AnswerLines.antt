@@ -46,7 +46,7 @@ same_answer M apart (answers.Names x) (answers.Names y) in_a in_b e =
 same_answer M apart answers.Denied answers.Denied in_a in_b e = refl
 same_answer M apart a b in_a in_b e = absurd cc
 
-same_digest : (M : List ℕ → Type 0) → NoCollision M → (a b : Answer) → ((x : List ℕ) → IsOfAnswer a x → M x) → ((x : List ℕ) → IsOfAnswer b x → M x)
+pub same_digest : (M : List ℕ → Type 0) → NoCollision M → (a b : Answer) → ((x : List ℕ) → IsOfAnswer a x → M x) → ((x : List ℕ) → IsOfAnswer b x → M x)
     → digest_of_line a ≡ digest_of_line b → a ≡ b
 same_digest M apart a b of_a of_b e =
     let line = apart (answer_line (line_of a)) (answer_line (line_of b)) (of_a _ (inl refl)) (of_b _ (inl refl)) e in

@@ -1,4 +1,4 @@
--- Bytes of which no two different ones share a digest.
+-- Bytes among which there is no hash collision.
 use Rattle.std.specs.Prelude.{◌≡◌, ◌⊎◌, ℕ, List, [], ◌∷◌, map}
 use Rattle.sha2.specs.Sha256.{sha256}
 use Rattle.bx_tree.specs.Trees.{Files}

@@ -18,7 +18,7 @@ mod outcome;
 mod record;
 
 pub use answer_lines::line_digest;
-pub use matching::{Match, matches, weak_digest};
+pub use matching::{LineDifference, Match, first_difference, matches, weak_digest};
 pub use matching_laws::one_match;
 pub use outcome::{Cause, Outcome};
 pub use record::{Record, execute, outcome_of_run, replay};

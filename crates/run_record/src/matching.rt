@@ -35,12 +35,12 @@ pub enum Match {
     Memory,
 }
 
-// The first place at which digests differ, and the digests there.
-#[derive(Clone, Copy)]
-struct Change {
-    index: usize,
-    held: Digest,
-    now: Digest,
+/// The first place at which the digests of lines differ, counted from 0, and the digests there.
+#[derive(Clone, Copy, Debug)]
+pub struct LineDifference {
+    pub index: usize,
+    pub held: Digest,
+    pub now: Digest,
 }
 
 /// The digest of the weak text of a process.
@@ -61,15 +61,16 @@ fn digest_now<V: View>(alloc: Global, ask: &Ask, view: &mut V) -> Result<Digest,
     line_digest(alloc, &answer)
 }
 
-// The first stored answer whose line has not the digest of the line of the view's answer.
-fn first_change<V: View>(
+/// The first stored answer whose line has not the digest of the line of the view's answer. There are as many
+/// stored answers as asks.
+pub fn first_difference<V: View>(
     alloc: Global,
     asks: &[Ask],
     stored: &[Answer],
     view: &mut V,
-) -> Result<Option<Change>, AllocError>
+) -> Result<Option<LineDifference>, AllocError>
     requires { length stored.now ≡ length asks.now }
-    ensures change { IfOk result (λ found. MatchOption found
+    ensures difference { IfOk result (λ found. MatchOption found
         (map digest_of_line stored.now ≡ map (digest_asked (V.answers view.old)) asks.now)
         (λ at. FirstDiffer (map digest_of_line stored.now)
         (map (digest_asked (V.answers view.old)) asks.now) at.index at.held at.now)) }
@@ -79,7 +80,7 @@ fn first_change<V: View>(
         let held = line_digest(alloc, &stored[index])?;
         let now = digest_now(alloc, ask, view)?;
         if held != now {
-            return Ok(Some(Change { index, held, now }));
+            return Ok(Some(LineDifference { index, held, now }));
         }
     }
     Ok(None)
@@ -90,15 +91,15 @@ fn compare_answers<V: View>(
     alloc: Global,
     ran: &Record,
     view: &mut V,
-) -> Result<Option<Change>, AllocError>
-    ensures change { IfOk result (λ found. MatchOption found
+) -> Result<Option<LineDifference>, AllocError>
+    ensures difference { IfOk result (λ found. MatchOption found
         (map digest_of_line ran.now.answers ≡ map (digest_asked (V.answers view.old)) ran.now.paths)
         (λ at. FirstDiffer (map digest_of_line ran.now.answers)
         (map (digest_asked (V.answers view.old)) ran.now.paths) at.index at.held at.now)) }
     ensures meaning { V.answers view.new ≡ V.answers view.old }
 {
     let paths = ran.paths();
-    first_change(alloc, paths.asks(), ran.answers(), view)
+    first_difference(alloc, paths.asks(), ran.answers(), view)
 }
 
 // The comparison, if there is memory.
@@ -119,23 +120,24 @@ fn compare<V: View>(
         return Ok(Match::OtherDesc { held, now });
     }
     match compare_answers(alloc, ran, view)? {
-        Some(change) => Ok(Match::Differs {
-            index: change.index as u64,
-            held: change.held,
-            now: change.now,
+        Some(at) => Ok(Match::Differs {
+            index: at.index as u64,
+            held: at.held,
+            now: at.now,
         }),
         None => Ok(Match::Same),
     }
 }
 
 /// Compares a record with a process and a view: the digests of the weak texts, and then of the lines of the
-/// answers, ask by ask, up to the first that differs. Where nothing differs and no two of the contents, weak
-/// texts and lines share a digest, the run of the process on the view has the accesses, the path set and the
-/// outcome of the record.
+/// answers, ask by ask, up to the first that differs. Where nothing differs and there is no hash collision among
+/// the contents, weak texts and lines, the run of the process on the view has the accesses, the path set and
+/// the outcome of the record. Both weak texts then read back as what they were written of.
 pub fn matches<V: View>(alloc: Global, desc: &Desc, ran: &Record, view: &mut V) -> Match
     ensures compared { Compares desc.now ran.now (V.answers view.old) result }
     ensures same_run { result ≡ Match.Same → NoCollision (IsCompared desc.now ran.now (V.answers view.old)) →
         Repeats ran.now (described desc.now) (V.answers view.old) }
+    ensures read { result ≡ Match.Same → IsReadBack desc.now × IsReadBack ran.now.desc }
     ensures meaning { V.answers view.new ≡ V.answers view.old }
 {
     noninterference();

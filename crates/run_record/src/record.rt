@@ -15,13 +15,13 @@ use observed::{Access, Answer, PathSet, View};
 use pip_model_types::Desc;
 use std::alloc::{AllocError, Global};
 use std::marker::Model;
+use std::sync::Arc;
 use tool_run::{Ran, accesses_hold, noninterference, path_set_of, run, run_no_tool};
 use tool_text::{ToolFault, read_tool};
 
-/// A run of a process, with an answer to each ask of its path set: the run on these answers alone has
-/// this path set, these accesses and this outcome.
+// What a record holds, which is the run on its own answers.
 #[derive(Drop)]
-pub struct Record {
+struct RecordParts {
     desc: Desc,
     paths: PathSet,
     answers: Vec<Answer>,
@@ -29,7 +29,7 @@ pub struct Record {
     outcome: Outcome,
 }
 
-impl Model for Record {
+impl Model for RecordParts {
     ghost use Rattle.run_record.specs.Facts.{Facts, Sound};
 
     ghost Value = { Facts };
@@ -51,20 +51,45 @@ impl Model for Record {
     }) };
 }
 
+/// A run of a process, with an answer to each ask of its path set: the run on these answers alone has
+/// this path set, these accesses and this outcome. It is shared.
+#[derive(Drop)]
+pub struct Record {
+    parts: Arc<RecordParts>,
+}
+
+impl Model for Record {
+    ghost use Rattle.std.specs.Arc.{arc_value};
+    ghost use Rattle.run_record.specs.Facts.{Facts};
+
+    ghost Value = { Facts };
+
+    ghost view = { λ r. arc_value r.parts };
+}
+
 impl Record {
+    /// The record, shared.
+    pub fn share(&self) -> Result<Record, AllocError>
+        ensures { IfOk result (λ shared. shared ≡ self.now) }
+    {
+        Ok(Record {
+            parts: self.parts.clone()?,
+        })
+    }
+
     /// The process. A record is the run on its own answers.
     pub fn desc(&self) -> &Desc
         ensures value { result.now ≡ self.now.desc }
         ensures sound { Sound self.now }
     {
-        &self.desc
+        &self.parts.desc
     }
 
     /// The path set.
     pub fn paths(&self) -> &PathSet
         ensures { result.now ≡ self.now.paths }
     {
-        &self.paths
+        &self.parts.paths
     }
 
     /// The answers, one to each ask of the path set, in its order.
@@ -72,21 +97,21 @@ impl Record {
         ensures value { result.now ≡ self.now.answers }
         ensures number { length result.now ≡ length self.now.paths }
     {
-        self.answers.as_slice()
+        self.parts.answers.as_slice()
     }
 
     /// The accesses, in order.
     pub fn accesses(&self) -> &[Access]
         ensures { result.now ≡ self.now.accesses }
     {
-        self.accesses.as_slice()
+        self.parts.accesses.as_slice()
     }
 
     /// What the run came to.
     pub fn outcome(&self) -> &Outcome
         ensures { result.now ≡ self.now.outcome }
     {
-        &self.outcome
+        &self.parts.outcome
     }
 }
 
@@ -108,6 +133,26 @@ fn run_process<V: View>(alloc: Global, desc: &Desc, view: &mut V) -> Result<Ran,
     }
 }
 
+// The parts of the record of a run on a view.
+fn run_parts<V: View>(alloc: Global, desc: Desc, view: &mut V) -> Result<RecordParts, AllocError>
+    ensures ran { IfOk result (λ made. IsRun made desc (V.answers view.old)) }
+    ensures meaning { V.answers view.new ≡ V.answers view.old }
+{
+    noninterference();
+    accesses_hold();
+    let ran = run_process(alloc, &desc, view)?;
+    let paths = path_set_of(alloc, &desc, &ran.accesses)?;
+    let answers = given_to(alloc, &ran.accesses, paths.asks())?;
+    let outcome = judge(alloc, &desc, &ran)?;
+    Ok(RecordParts {
+        desc,
+        paths,
+        answers,
+        accesses: ran.accesses,
+        outcome,
+    })
+}
+
 /// Passes the gate once, and runs the tool of a process on a view.
 pub fn execute<V: View, G: Gate>(
     alloc: Global,
@@ -120,18 +165,9 @@ pub fn execute<V: View, G: Gate>(
     ensures meaning { V.answers view.new ≡ V.answers view.old }
 {
     gate.pass(pip);
-    noninterference();
-    accesses_hold();
-    let ran = run_process(alloc, &desc, view)?;
-    let paths = path_set_of(alloc, &desc, &ran.accesses)?;
-    let answers = given_to(alloc, &ran.accesses, paths.asks())?;
-    let outcome = judge(alloc, &desc, &ran)?;
+    let parts = run_parts(alloc, desc, view)?;
     Ok(Record {
-        desc,
-        paths,
-        answers,
-        accesses: ran.accesses,
-        outcome,
+        parts: Arc::new(alloc, parts)?,
     })
 }
 
@@ -152,6 +188,35 @@ pub fn outcome_of_run<V: View, G: Gate>(
     judge(alloc, desc, &ran)
 }
 
+// The parts of the record of a run on stored answers.
+fn replayed_parts(
+    alloc: Global,
+    desc: Desc,
+    paths: &PathSet,
+    answers: Vec<Answer>,
+) -> Result<Option<RecordParts>, AllocError>
+    requires { length answers.items ≡ length paths.now }
+    ensures found { IfOk result (λ found. IfSome found (λ made.
+        Replays made desc paths.now answers.items)) }
+    ensures none { IfOk result (λ found. IfNone found
+        (path_set (described desc) (run_for desc (answered paths.now answers.items)).accesses ≢ paths.now)) }
+{
+    let mut view = Stored::new(paths, &answers);
+    let ran = run_process(alloc, &desc, &mut view)?;
+    let asked = path_set_of(alloc, &desc, &ran.accesses)?;
+    if !are_same(&asked, paths) {
+        return Ok(None);
+    }
+    let outcome = judge(alloc, &desc, &ran)?;
+    Ok(Some(RecordParts {
+        desc,
+        paths: asked,
+        answers,
+        accesses: ran.accesses,
+        outcome,
+    }))
+}
+
 /// Runs the tool of a process on stored answers: none where the run asks for something else or has another
 /// path set. There are as many answers as asks.
 pub fn replay(
@@ -166,18 +231,10 @@ pub fn replay(
     ensures none { IfOk result (λ found. IfNone found
         (path_set (described desc) (run_for desc (answered paths.now answers.items)).accesses ≢ paths.now)) }
 {
-    let mut view = Stored::new(paths, &answers);
-    let ran = run_process(alloc, &desc, &mut view)?;
-    let asked = path_set_of(alloc, &desc, &ran.accesses)?;
-    if !are_same(&asked, paths) {
-        return Ok(None);
+    match replayed_parts(alloc, desc, paths, answers)? {
+        Some(parts) => Ok(Some(Record {
+            parts: Arc::new(alloc, parts)?,
+        })),
+        None => Ok(None),
     }
-    let outcome = judge(alloc, &desc, &ran)?;
-    Ok(Some(Record {
-        desc,
-        paths: asked,
-        answers,
-        accesses: ran.accesses,
-        outcome,
-    }))
 }

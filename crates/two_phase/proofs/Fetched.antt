@@ -5,7 +5,8 @@ use Rattle.std.proofs.lemmas.Option.{same_Some}
 use Rattle.sha2.specs.Sha256.{sha256}
 use Rattle.bx_tree.specs.Trees.{Files}
 use Rattle.bx_io.specs.Answers as held_names
-use Rattle.bx_io.specs.Holdings.{Holdings, StoreState, held_in}
+use Rattle.bx_io.specs.Holdings.{Holdings}
+use Rattle.bx_io.specs.Told.{Stays}
 use Rattle.bx_io.specs.declared.keeper.Got.TheVariants as got
 use Rattle.observed.specs.Texts.{read_paths_text}
 use Rattle.observed.specs.declared.ask.Ask.{Ask}
@@ -47,12 +48,10 @@ one_entry S strong a b h k =
 -- ## Contents
 
 pub content_found : (held : Option Holdings) (digest x : List ℕ) → Fetches held digest (fetched.Found x) → FindsOne held (λ S y. IsContent S digest y) (Some x)
-content_found None digest x h = tt
-content_found (Some S) digest x h = h
+content_found held digest x h = h
 
 pub no_content : (held : Option Holdings) (digest : List ℕ) → Fetches held digest fetched.NotWell → FindsOne held (λ S y. IsContent S digest y) None
-no_content None digest h = tt
-no_content (Some S) digest h = h
+no_content held digest h = h
 
 -- a content that is put among files as a call answers it
 pub put_given : {E : Type 0} (held : Option Holdings) (files : Files) (o : OutputLine) (bytes : List ℕ) (r : Result (Option Files) E)
@@ -68,10 +67,9 @@ no_put held files o h = inl h
 
 pub set_read : (held : Option Holdings) (digest text : List ℕ) (set : Option (List Ask)) → FindsOne held (λ S y. IsContent S digest y) (Some text)
     → read_paths_text text ≡ set → FindsOne held (λ S asks. HoldsPaths S digest asks) set
-set_read None digest text set h e = tt
-set_read (Some S) digest text None h e =
-    λ asks there. none_and_some (read_paths_text text) asks e (ap read_paths_text (one_content S digest text there.0 h there.1) ∙ there.2)
-set_read (Some S) digest text (Some asks) h e = (text, h, e)
+set_read held digest text None h e = λ S is asks there.
+    none_and_some (read_paths_text text) asks e (ap read_paths_text (one_content S digest text there.0 (h S is) there.1) ∙ there.2)
+set_read held digest text (Some asks) h e = λ S is. (text, h S is, e)
 
 -- as a call answers it
 pub set_given : {E : Type 0} (held : Option Holdings) (digest text bytes : List ℕ) (r : Result (Option (List Ask)) E) → FindsOne held (λ S y. IsContent S digest y) (Some text)
@@ -80,18 +78,15 @@ set_given held digest text bytes (Ok set) h same e = set_read held digest text s
 set_given held digest text bytes (Err x) h same e = tt
 
 pub no_set : (held : Option Holdings) (digest : List ℕ) → FindsOne held (λ S y. IsContent S digest y) None → FindsOne held (λ S asks. HoldsPaths S digest asks) None
-no_set None digest h = tt
-no_set (Some S) digest h = λ asks there. h there.0 there.1
+no_set held digest h = λ S is asks there. h S is there.0 there.1
 
 -- ## Entries
 
 pub entry_found : (held : Option Holdings) (strong : List ℕ) (e : Entry) → FetchesEntry held strong (fetched_entries.Found e) → FindsOne held (λ S x. IsHeld S strong x) (Some e)
-entry_found None strong e h = tt
-entry_found (Some S) strong e h = h
+entry_found held strong e h = h
 
 pub no_entry : (held : Option Holdings) (strong : List ℕ) → FetchesEntry held strong fetched_entries.NotWell → FindsOne held (λ S x. IsHeld S strong x) None
-no_entry None strong h = tt
-no_entry (Some S) strong h = h
+no_entry held strong h = h
 
 -- what an entry must be to be taken
 abbrev pub IsTaken : Desc → Selector → Entry → Type 0
@@ -99,29 +94,24 @@ IsTaken d s e = (e.weak ≡ weak_of d) × ((e.paths ≡ s.paths) × (fits d.proc
 
 pub entry_taken : (held : Option Holdings) (d : Desc) (s : Selector) (e : Entry) → FindsOne held (λ S x. IsHeld S s.strong x) (Some e) → IsTaken d s e
     → FindsOne held (λ S x. IsEntryFor S d s x) (Some e)
-entry_taken None d s e h taken = tt
-entry_taken (Some S) d s e h taken = record { held = h; weak_is = taken.0; paths_are = taken.1.0; fit = taken.1.1 }
+entry_taken held d s e h taken = λ S is. record { held = h S is; weak_is = taken.0; paths_are = taken.1.0; fit = taken.1.1 }
 
 pub entry_left : (held : Option Holdings) (d : Desc) (s : Selector) (e : Entry) → FindsOne held (λ S x. IsHeld S s.strong x) (Some e) → (IsTaken d s e → ⊥)
     → FindsOne held (λ S x. IsEntryFor S d s x) None
-entry_left None d s e h left = tt
-entry_left (Some S) d s e h left =
-    λ x there. left (subst (IsTaken d s) (one_entry S s.strong x e there.held h) (there.weak_is, (there.paths_are, there.fit)))
+entry_left held d s e h left = λ S is x there.
+    left (subst (IsTaken d s) (one_entry S s.strong x e there.held (h S is)) (there.weak_is, (there.paths_are, there.fit)))
 
 pub no_entry_for : (held : Option Holdings) (d : Desc) (s : Selector) → FindsOne held (λ S x. IsHeld S s.strong x) None → FindsOne held (λ S x. IsEntryFor S d s x) None
-no_entry_for None d s h = tt
-no_entry_for (Some S) d s h = λ x there. h x there.held
+no_entry_for held d s h = λ S is x there. h S is x there.held
 
 -- ## Lists of selectors
 
 pub list_read : (held : Option Holdings) (weak name : List ℕ) (text : Vec ℕ Global) (list : Option (List Selector)) → name ≡ at_list weak
     → held_names.Finds held name (got.Found text) → read_selectors_text text.items ≡ list → FindsOne held (λ S l. HoldsList S weak l) list
-list_read None weak name text list named h e = tt
-list_read (Some S) weak name text None named h e =
-    λ l there.
-    let same : text.items ≡ there.0 = same_Some text.items there.0 (sym h ∙ ap (get S) named ∙ there.1) in
+list_read held weak name text None named h e = λ S is l there.
+    let same : text.items ≡ there.0 = same_Some text.items there.0 (sym (h S is) ∙ ap (get S) named ∙ there.1) in
     none_and_some (read_selectors_text text.items) l e (ap read_selectors_text same ∙ there.2)
-list_read (Some S) weak name text (Some l) named h e = (text.items, ap (get S) (sym named) ∙ h, e)
+list_read held weak name text (Some l) named h e = λ S is. (text.items, ap (get S) (sym named) ∙ h S is, e)
 
 -- as a call answers it
 pub list_given : {E : Type 0} (held : Option Holdings) (weak name : List ℕ) (text : Vec ℕ Global) (bytes : List ℕ) (r : Result (Option (List Selector)) E) → name ≡ at_list weak
@@ -131,23 +121,24 @@ list_given held weak name text bytes (Ok list) named h same e = list_read held w
 list_given held weak name text bytes (Err x) named h same e = tt
 
 pub no_list : (held : Option Holdings) (weak name : List ℕ) → name ≡ at_list weak → held_names.Finds held name got.None → FindsOne held (λ S l. HoldsList S weak l) None
-no_list None weak name named h = tt
-no_list (Some S) weak name named h = λ l there. none_and_some (get S name) there.0 h (ap (get S) named ∙ there.1)
+no_list held weak name named h = λ S is l there. none_and_some (get S name) there.0 (h S is) (ap (get S) named ∙ there.1)
 
 -- ## Lists for a save
 
-pub held_text : (known : Option StoreState) (weak name : List ℕ) (text : Vec ℕ Global) (list : List Selector) → name ≡ at_list weak
-    → held_names.Finds (held_in known) name (got.Found text) → list ≡ or_none (read_selectors_text text.items) → IsListAt known weak list
-held_text None weak name text list named h is = tt
-held_text (Some kept) weak name text list named h is = is ∙ ap selectors_in (sym (ap (get kept.held) (sym named) ∙ h))
+pub held_text : (told : Option Holdings) (weak name : List ℕ) (text : Vec ℕ Global) (list : List Selector) → name ≡ at_list weak
+    → held_names.Finds told name (got.Found text) → list ≡ or_none (read_selectors_text text.items) → IsListAt told weak list
+held_text told weak name text list named h is = λ S tells. is ∙ ap selectors_in (sym (ap (get S) (sym named) ∙ h S tells))
 
 -- as a call answers it
-pub held_given : (known : Option StoreState) (weak name : List ℕ) (text : Vec ℕ Global) (bytes : List ℕ) (list : List Selector) → name ≡ at_list weak
-    → held_names.Finds (held_in known) name (got.Found text) → bytes ≡ text.items → list ≡ or_none (read_selectors_text bytes) → IsListAt known weak list
-held_given known weak name text bytes list named h same is =
-    held_text known weak name text list named h (is ∙ ap (λ t. or_none (read_selectors_text t)) same)
+pub held_given : (told : Option Holdings) (weak name : List ℕ) (text : Vec ℕ Global) (bytes : List ℕ) (list : List Selector) → name ≡ at_list weak
+    → held_names.Finds told name (got.Found text) → bytes ≡ text.items → list ≡ or_none (read_selectors_text bytes) → IsListAt told weak list
+held_given told weak name text bytes list named h same is =
+    held_text told weak name text list named h (is ∙ ap (λ t. or_none (read_selectors_text t)) same)
 
-pub none_listed : (known : Option StoreState) (weak name : List ℕ) (list : List Selector) → name ≡ at_list weak → held_names.Finds (held_in known) name got.None
-    → list ≡ [] → IsListAt known weak list
-none_listed None weak name list named h is = tt
-none_listed (Some kept) weak name list named h is = is ∙ ap selectors_in (sym (ap (get kept.held) (sym named) ∙ h))
+pub none_listed : (told : Option Holdings) (weak name : List ℕ) (list : List Selector) → name ≡ at_list weak → held_names.Finds told name got.None
+    → list ≡ [] → IsListAt told weak list
+none_listed told weak name list named h is = λ S tells. is ∙ ap selectors_in (sym (ap (get S) (sym named) ∙ h S tells))
+
+-- what was found is so of what is still told
+pub finds_on : {X : Type 0} (held now : Option Holdings) (P : Holdings → X → Type 0) (r : Option X) → Stays held now → FindsOne held P r → FindsOne now P r
+finds_on held now P r stays h = λ S is. h S (stays S is)

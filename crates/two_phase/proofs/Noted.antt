@@ -1,23 +1,22 @@
 -- Contents that a store is known to hold.
 use Rattle.std.proofs.Common.{◌≡◌, ◌⊎◌, ℕ, Bool, true, false, List, [], ◌∷◌, Option, Some, None, Result, Ok, Err, cond, refl, sym, ap, ◌∙◌, subst, inl, inr}
-use Rattle.std.proofs.lemmas.Bool.{cases_Bool, cond-true, cond-false}
+use Rattle.std.proofs.lemmas.Bool.{cases_Bool, cond-false}
 use Rattle.std.proofs.lemmas.Cmp.{nat_list_cmp_total}
 use Rattle.std.proofs.lemmas.Slice.Eq.{bytes_eq-Decides}
-use Rattle.std.specs.BTreeMap.{BTreeMap, UpdatesBy, get_by}
+use Rattle.std.specs.BTreeMap.{UpdatesBy}
 use Rattle.std.specs.Cmp.Lexicographic.{slice_cmp}
 use Rattle.std.specs.FinMap.{get, insert, get-insert}
 use Rattle.std.specs.Map.{lookup}
 use Rattle.std.specs.Ordering.{eq_by_cmp, is_eq, nat_cmp}
 use Rattle.std.specs.Prelude.{OnErr, OnOk}
 use Rattle.std.specs.Str.{bytes_eq}
-use Rattle.std.specs.declared.alloc.Global.{Global}
-use Rattle.std.specs.declared.vec.Vec.{Vec}
 use Rattle.std.proofs.lemmas.Option.{same_Some}
 use Rattle.bx_tree.proofs.TextTables.{text_put}
 use Rattle.bx_tree.proofs.Lists.{texts_differ}
 use Rattle.sha2.specs.Sha256.{sha256}
-use Rattle.bx_io.specs.Holdings.{Holdings, Put, StoreState, known_after}
+use Rattle.bx_io.specs.Holdings.{Holdings, Keeps, Makes, Put, StoreTold, held_in}
 use Rattle.bx_io.specs.declared.keeper.PutFault.{PutFault}
+use Rattle.bx_io.proofs.Changes.{keeps_all, makes_some}
 use Rattle.bx_io.proofs.Mapped.{same_holdings}
 use Rattle.memo_format.specs.StoreNames.{HoldsBlob, at_blob, at_entry, at_list}
 use Rattle.content_store.specs.Contents.{IsContent, blob_put}
@@ -90,67 +89,85 @@ put_again S name bytes there =
     same_holdings (insert S name bytes) S
     (λ q. get-insert nat_list_cmp_total S name bytes q ∙ held_there (eq_by_cmp (slice_cmp nat_cmp) q name) S name bytes q refl there)
 
-pub no_op : (known : Option StoreState) (h : HeldContents) (digest content : List ℕ) → AreHeld known h → noted_at h digest ≡ Some content
-    → IsNoOp known (blob_put content)
-no_op None h digest content held there = tt
-no_op (Some kept) h digest content held there = put_again kept.held (at_blob (sha256 content)) content (held digest content there).held
+pub no_op : (told : Option Holdings) (h : HeldContents) (digest content : List ℕ) → AreHeld told h → noted_at h digest ≡ Some content
+    → IsNoOp told (blob_put content)
+no_op told h digest content held there = λ S is. put_again S (at_blob (sha256 content)) content (held S is digest content there).held
 
-pub left_out : (known : Option StoreState) (h : HeldContents) (digest content : List ℕ) → AreHeld known h → noted_at h digest ≡ Some content
+pub left_out : (known : StoreTold) (h : HeldContents) (digest content : List ℕ) → AreHeld (held_in known) h → noted_at h digest ≡ Some content
     → Applies known (blob_put content) known
-left_out known h digest content held there = inr (refl, no_op known h digest content held there)
+left_out known h digest content held there = inr (keeps_all known, no_op (held_in known) h digest content held there)
 
 -- nothing was put
-pub held_still : (before now : Option StoreState) (h : HeldContents) → now ≡ before → AreHeld before h → AreHeld now h
-held_still before now h same held = subst (λ (k : Option StoreState). AreHeld k h) (sym same) held
+pub held_still : (before now : StoreTold) (h : HeldContents) → Keeps before now → AreHeld (held_in before) h → AreHeld (held_in now) h
+held_still before now h keeps held = λ S is. held S (keeps.held S is)
+
+-- what is held after a content was put, which was noted or forgotten
+held_after : (S : Holdings) (old new : HeldContents) (digest content : List ℕ) → digest ≡ sha256 content
+    → ((q x : List ℕ) → noted_at old q ≡ Some x → IsContent S q x) → Tracks old new digest content
+    → (q x : List ℕ) → noted_at new q ≡ Some x → IsContent (insert S (at_blob (sha256 content)) content) q x
+held_after S old new digest content is held notes q x there = elim (same_or_other digest q) [
+  | inl same ↦
+      let new_one : x ≡ content = notes.here x (ap (noted_at new) same ∙ there) in
+      record {
+        held = subst (HoldsBlob (insert S (at_blob (sha256 content)) content)) (sym new_one) (there_now S (at_blob (sha256 content)) content);
+        digest_is = ap sha256 new_one ∙ sym is ∙ same;
+      }
+  | inr other ↦
+      let old_one : IsContent S q x = held q x (sym (notes.others q other) ∙ there) in
+      record {
+        held = still_there S (at_blob (sha256 content)) content (at_blob (sha256 x)) x
+            (λ e. absurd (other (is ∙ sym (same_blob_name (sha256 x) (sha256 content) (is_digest x) (is_digest content) e) ∙ old_one.digest_is))) old_one.held;
+        digest_is = old_one.digest_is;
+      }
+]
 
 -- a content was put, and noted or forgotten
-pub held_noted : (before now : Option StoreState) (old new : HeldContents) (digest content : List ℕ) → digest ≡ sha256 content → AreHeld before old
-    → now ≡ known_after before (blob_put content ∷ []) → Tracks old new digest content → AreHeld now new
-held_noted None now old new digest content is held put notes = subst (λ (k : Option StoreState). AreHeld k new) (sym put) tt
-held_noted (Some kept) now old new digest content is held put notes =
-    subst (λ (k : Option StoreState). AreHeld k new) (sym put) (λ q x there. elim (same_or_other digest q) [
-      | inl same ↦
-          let new_one : x ≡ content = notes.here x (ap (noted_at new) same ∙ there) in
-          record {
-            held = subst (HoldsBlob (insert kept.held (at_blob (sha256 content)) content)) (sym new_one) (there_now kept.held (at_blob (sha256 content)) content);
-            digest_is = ap sha256 new_one ∙ sym is ∙ same;
-          }
-      | inr other ↦
-          let old_one : IsContent kept.held q x = held q x (sym (notes.others q other) ∙ there) in
-          record {
-            held = still_there kept.held (at_blob (sha256 content)) content (at_blob (sha256 x)) x
-                (λ e. absurd (other (is ∙ sym (same_blob_name (sha256 x) (sha256 content) (is_digest x) (is_digest content) e) ∙ old_one.digest_is))) old_one.held;
-            digest_is = old_one.digest_is;
-          }
-    ])
+pub held_noted : (before now : StoreTold) (old new : HeldContents) (digest content : List ℕ) → digest ≡ sha256 content → AreHeld (held_in before) old
+    → Makes before (blob_put content ∷ []) now → Tracks old new digest content → AreHeld (held_in now) new
+held_noted before now old new digest content is held put notes = λ S told.
+    let from = makes_some before now (blob_put content ∷ []) S put told in
+    subst (λ (T : Holdings). (q x : List ℕ) → noted_at new q ≡ Some x → IsContent T q x) from.2
+    (held_after from.0 old new digest content is (held from.0 from.1) notes)
 
-held_beside : (before now : Option StoreState) (h : HeldContents) (name bytes : List ℕ) → ((digest : List ℕ) → at_blob digest ≡ name → ⊥) → AreHeld before h
-    → now ≡ known_after before (Put name bytes ∷ []) → AreHeld now h
-held_beside None now h name bytes none held put = subst (λ (k : Option StoreState). AreHeld k h) (sym put) tt
-held_beside (Some kept) now h name bytes none held put =
-    subst (λ (k : Option StoreState). AreHeld k h) (sym put) (λ q x there.
-    let old_one : IsContent kept.held q x = held q x there in
+-- what is held after bytes were put that are no content
+held_beside_put : (S : Holdings) (h : HeldContents) (name bytes : List ℕ) → ((digest : List ℕ) → at_blob digest ≡ name → ⊥)
+    → ((q x : List ℕ) → noted_at h q ≡ Some x → IsContent S q x) → (q x : List ℕ) → noted_at h q ≡ Some x → IsContent (insert S name bytes) q x
+held_beside_put S h name bytes none held q x there =
+    let old_one : IsContent S q x = held q x there in
     record {
-      held = still_there kept.held name bytes (at_blob (sha256 x)) x (λ e. absurd (none (sha256 x) e)) old_one.held;
+      held = still_there S name bytes (at_blob (sha256 x)) x (λ e. absurd (none (sha256 x) e)) old_one.held;
       digest_is = old_one.digest_is;
-    })
+    }
+
+held_beside : (before now : StoreTold) (h : HeldContents) (name bytes : List ℕ) → ((digest : List ℕ) → at_blob digest ≡ name → ⊥) → AreHeld (held_in before) h
+    → Makes before (Put name bytes ∷ []) now → AreHeld (held_in now) h
+held_beside before now h name bytes none held put = λ S told.
+    let from = makes_some before now (Put name bytes ∷ []) S put told in
+    subst (λ (T : Holdings). (q x : List ℕ) → noted_at h q ≡ Some x → IsContent T q x) from.2
+    (held_beside_put from.0 h name bytes none (held from.0 from.1))
 
 -- an entry or a list was put
-pub held_by_entry : (before now : Option StoreState) (h : HeldContents) (strong bytes : List ℕ) → AreHeld before h
-    → now ≡ known_after before (Put (at_entry strong) bytes ∷ []) → AreHeld now h
+pub held_by_entry : (before now : StoreTold) (h : HeldContents) (strong bytes : List ℕ) → AreHeld (held_in before) h
+    → Makes before (Put (at_entry strong) bytes ∷ []) now → AreHeld (held_in now) h
 held_by_entry before now h strong bytes held put = held_beside before now h (at_entry strong) bytes (λ digest e. blob_no_entry digest strong e) held put
 
-held_by_list : (before now : Option StoreState) (h : HeldContents) (weak bytes : List ℕ) → AreHeld before h
-    → now ≡ known_after before (Put (at_list weak) bytes ∷ []) → AreHeld now h
+held_by_list : (before now : StoreTold) (h : HeldContents) (weak bytes : List ℕ) → AreHeld (held_in before) h
+    → Makes before (Put (at_list weak) bytes ∷ []) now → AreHeld (held_in now) h
 held_by_list before now h weak bytes held put = held_beside before now h (at_list weak) bytes (λ digest e. blob_no_list digest weak e) held put
 
-pub held_then_list : (before now : Option StoreState) (h : HeldContents) (weak bytes : List ℕ) (r : Result (Unit {0}) PutFault) → AreHeld before h
-    → OnOk r (now ≡ known_after before (Put (at_list weak) bytes ∷ [])) → OnErr r (now ≡ before) → AreHeld now h
+pub held_then_list : (before now : StoreTold) (h : HeldContents) (weak bytes : List ℕ) (r : Result (Unit {0}) PutFault) → AreHeld (held_in before) h
+    → OnOk r (Makes before (Put (at_list weak) bytes ∷ []) now) → OnErr r (Keeps before now) → AreHeld (held_in now) h
 held_then_list before now h weak bytes (Ok x) held put refused = held_by_list before now h weak bytes held put
 held_then_list before now h weak bytes (Err e) held put refused = held_still before now h refused held
 
 -- nothing is noted
-pub none_noted : (known : Option StoreState) (h : HeldContents) → h.contents.entries ≡ [] → AreHeld known h
-none_noted None h none = tt
-none_noted (Some kept) h none =
-    λ q x there. let nothing : noted_at h q ≡ None = ap (λ es. lookup (λ k. is_eq (slice_cmp nat_cmp q k.items)) es) none in absurd cc
+pub none_noted : (told : Option Holdings) (h : HeldContents) → h.contents.entries ≡ [] → AreHeld told h
+none_noted told h none =
+    λ S is q x there. let nothing : noted_at h q ≡ None = ap (λ es. lookup (λ k. is_eq (slice_cmp nat_cmp q k.items)) es) none in absurd cc
+
+-- a content was put, and its bytes were said in another way
+pub put_made : (before now : StoreTold) (bytes content : List ℕ) → bytes ≡ content → Makes before (blob_put bytes ∷ []) now → Applies before (blob_put content) now
+put_made before now bytes content same made = inl (subst (λ (xs : List ℕ). Makes before (blob_put xs ∷ []) now) same made)
+
+pub put_same : (before now : StoreTold) (bytes content : List ℕ) → bytes ≡ content → Makes before (blob_put bytes ∷ []) now → Makes before (blob_put content ∷ []) now
+put_same before now bytes content same made = subst (λ (xs : List ℕ). Makes before (blob_put xs ∷ []) now) same made

@@ -9,6 +9,7 @@ use Rattle.std.specs.declared.cmp.Ordering.TheVariants.{Less}
 use Rattle.std.proofs.lemmas.Bool.{or_cases}
 use Rattle.sha2.specs.Sha256.{sha256}
 use Rattle.bx_io.specs.Holdings.{Holdings}
+use Rattle.bx_io.specs.Told.{Stays}
 use Rattle.bx_tree.specs.Paths.{Atoms, IsBelow, path_cmp}
 use Rattle.bx_tree.specs.Trees.{Files, NoneNested, paths_of}
 use Rattle.bx_tree.specs.Members.{Has}
@@ -35,8 +36,7 @@ line_for path digest = record { path = path; digest = digest }
 -- ## What was fetched so far
 
 abbrev pub AreHeld : Option Holdings → Files → Type 0
-AreHeld None files = Unit {0}
-AreHeld (Some S) files = HoldsAll S (contents_of files)
+AreHeld told files = (S : Holdings) → told ≡ Some S → HoldsAll S (contents_of files)
 
 -- these files are those of the outputs before the rest
 pub record Gathered (held : Option Holdings) (outputs rest : List OutputLine) (files : Files) : Type 0 where
@@ -45,8 +45,7 @@ pub record Gathered (held : Option Holdings) (outputs rest : List OutputLine) (f
   pub unnested : NoneNested (paths_of files)
 
 pub gathered_none : (held : Option Holdings) (outputs : List OutputLine) → Gathered held outputs outputs []
-gathered_none None outputs = record { done = refl; are_held = tt; unnested = none_unnested }
-gathered_none (Some S) outputs = record { done = refl; are_held = tt; unnested = none_unnested }
+gathered_none held outputs = record { done = refl; are_held = λ S is. tt; unnested = none_unnested }
 
 -- ## One more
 
@@ -75,9 +74,8 @@ contents-append (f ∷ fs) gs = ap (λ cs. f.1 ∷ cs) (contents-append fs gs)
 
 held_more : (held : Option Holdings) (files : Files) (path : Atoms) (digest bytes : List ℕ) → AreHeld held files
     → FindsOne held (λ S y. IsContent S digest y) (Some bytes) → AreHeld held (files ++ (path, bytes) ∷ [])
-held_more None files path digest bytes h k = tt
-held_more (Some S) files path digest bytes h k =
-    subst (HoldsAll S) (sym (contents-append files ((path, bytes) ∷ []))) (all_append _ (contents_of files) (bytes ∷ []) h (k.held, tt))
+held_more held files path digest bytes h k = λ S is.
+    subst (HoldsAll S) (sym (contents-append files ((path, bytes) ∷ []))) (all_append _ (contents_of files) (bytes ∷ []) (h S is) ((k S is).held, tt))
 
 -- where a file was put
 was_put : (t : Bool) (files now : Files) (path : Atoms) (bytes : List ℕ) → clashes files path ≡ t
@@ -115,14 +113,22 @@ gathered_all held outputs files g = sym (append-nil (output_lines files)) ∙ g.
 
 pub gathered_end : (held : Option Holdings) (outputs : List OutputLine) (files : Files) → Gathered held outputs [] files
     → FindsOne held (λ S fs. AreOutputs S outputs fs) (Some files)
-gathered_end None outputs files g = tt
-gathered_end (Some S) outputs files g =
-    let all = gathered_all (Some S) outputs files g in
+gathered_end held outputs files g = λ S is.
+    let all = gathered_all held outputs files g in
     record {
       outputs_are = all;
-      held = g.are_held;
+      held = g.are_held S is;
       unnested = subst NoneNested (sym (paths_lines files) ∙ ap output_paths all) g.unnested;
     }
+
+-- what was gathered is so of what is still told
+pub gathered_on : (held now : Option Holdings) (outputs rest : List OutputLine) (files : Files) → Stays held now → Gathered held outputs rest files
+    → Gathered now outputs rest files
+gathered_on held now outputs rest files stays g = record {
+  done = g.done;
+  are_held = λ S is. g.are_held S (stays S is);
+  unnested = g.unnested;
+}
 
 -- ## What is not held, or clashes
 
@@ -136,9 +142,8 @@ held_at S (p ∷ ps) rest o (f ∷ fs) e h = let more : output_lines fs ≡ ps +
 
 pub not_held : (held : Option Holdings) (outputs rest : List OutputLine) (o : OutputLine) (files : Files) → Gathered held outputs (o ∷ rest) files
     → FindsOne held (λ S y. IsContent S o.digest y) None → FindsOne held (λ S fs. AreOutputs S outputs fs) None
-not_held None outputs rest o files g none = tt
-not_held (Some S) outputs rest o files g none =
-    λ fs are. let there = held_at S (output_lines files) rest o fs (are.outputs_are ∙ sym g.done) are.held in none there.0 there.1
+not_held held outputs rest o files g none = λ S is fs are.
+    let there = held_at S (output_lines files) rest o fs (are.outputs_are ∙ sym g.done) are.held in none S is there.0 there.1
 
 clash_at : (files : Files) (path : Atoms) → clashes files path ≡ true → (q : Atoms) × Has (paths_of files) q × (IsBelow q path ⊎ IsBelow path q)
 clash_at [] path e = absurd cc
@@ -171,9 +176,8 @@ nested paths a b h k below none = elim below [
 
 pub not_put : (held : Option Holdings) (outputs rest : List OutputLine) (o : OutputLine) (files now : Files) (path : Atoms) (bytes : List ℕ)
     → Gathered held outputs (o ∷ rest) files → path ≡ o.path → ◌≡◌ {A = Files × Bool} (now, false) (put_file files path bytes) → FindsOne held (λ S fs. AreOutputs S outputs fs) None
-not_put None outputs rest o files now path bytes g path_is put = tt
-not_put (Some S) outputs rest o files now path bytes g path_is put =
-    λ fs are.
+not_put held outputs rest o files now path bytes g path_is put =
+    λ S is fs are.
     let clash = clash_at files o.path (subst (λ (p : Atoms). clashes files p ≡ true) path_is (was_left (clashes files path) files now path bytes refl put)) in
     let all : List Atoms = output_paths (output_lines files ++ o ∷ rest) in
     nested all clash.0 o.path (has_before files (o ∷ rest) clash.0 clash.1) (has_here (output_lines files) rest o) clash.2
@@ -210,16 +214,17 @@ not_added held outputs rest o files None g a e = elim a [
   | inr clash ↦ not_put held outputs rest o files clash.1.0 o.path clash.0 g refl clash.1.1
 ]
 
+-- as a call answers it, after which the reader tells what it told before, or nothing
 pub added_at : (held now : Option Holdings) (outputs : List OutputLine) (i : ℕ) (o : OutputLine) (files : Files) (r : Option Files) (next : Files)
-    → OutputsRise outputs → i < length outputs → o ≡ get_or outputs i o → now ≡ held → Gathered held outputs (drop i outputs) files
-    → AddsTo now files o r → r ≡ Some next → Gathered held outputs (drop (i + 1) outputs) next
-added_at held now outputs i o files r next rise l is same g a e =
-    added held outputs (drop (i + 1) outputs) o files r next rise (subst (λ rest. Gathered held outputs rest files) (next_of outputs i o l is) g)
-    (subst (λ h. AddsTo h files o r) same a) e
+    → OutputsRise outputs → i < length outputs → o ≡ get_or outputs i o → Stays held now → Gathered held outputs (drop i outputs) files
+    → AddsTo now files o r → r ≡ Some next → Gathered now outputs (drop (i + 1) outputs) next
+added_at held now outputs i o files r next rise l is stays g a e =
+    added now outputs (drop (i + 1) outputs) o files r next rise
+    (gathered_on held now outputs (o ∷ drop (i + 1) outputs) files stays (subst (λ rest. Gathered held outputs rest files) (next_of outputs i o l is) g)) a e
 
 pub not_added_at : (held now : Option Holdings) (outputs : List OutputLine) (i : ℕ) (o : OutputLine) (files : Files) (r : Option Files)
-    → i < length outputs → o ≡ get_or outputs i o → now ≡ held → Gathered held outputs (drop i outputs) files
-    → AddsTo now files o r → r ≡ None → FindsOne held (λ S fs. AreOutputs S outputs fs) None
-not_added_at held now outputs i o files r l is same g a e =
-    not_added held outputs (drop (i + 1) outputs) o files r (subst (λ rest. Gathered held outputs rest files) (next_of outputs i o l is) g)
-    (subst (λ h. AddsTo h files o r) same a) e
+    → i < length outputs → o ≡ get_or outputs i o → Stays held now → Gathered held outputs (drop i outputs) files
+    → AddsTo now files o r → r ≡ None → FindsOne now (λ S fs. AreOutputs S outputs fs) None
+not_added_at held now outputs i o files r l is stays g a e =
+    not_added now outputs (drop (i + 1) outputs) o files r
+    (gathered_on held now outputs (o ∷ drop (i + 1) outputs) files stays (subst (λ rest. Gathered held outputs rest files) (next_of outputs i o l is) g)) a e

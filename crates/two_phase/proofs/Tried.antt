@@ -4,6 +4,7 @@ use Rattle.std.specs.Prelude.{IsTrue}
 use Rattle.sha2.specs.Sha256.{sha256}
 use Rattle.bx_tree.specs.Paths.{Atoms}
 use Rattle.bx_io.specs.Holdings.{Holdings}
+use Rattle.bx_io.specs.Told.{Stays}
 use Rattle.observed.specs.declared.ask.Ask.{Ask}
 use Rattle.observed.specs.declared.access.Answer.{Answer}
 use Rattle.pip_model_types.specs.declared.desc.Desc.{Desc}
@@ -20,7 +21,7 @@ use Rattle.two_phase_meaning.proofs.FilesFit.{paths_lines}
 use Rattle.two_phase.specs.Finding.{AreOutputs, FindsOne, HasParts, IsEntryFor, IsOf, IsOn, IsStrongMatch, IsWith}
 use Rattle.two_phase.specs.Lookups.{FindsFirst, FindsUsable, IsCurrentHit, LeadsTo, LookupGives, Onward}
 use Rattle.two_phase.specs.declared.lookups.LookupResult.TheVariants as lookup_results
-use Rattle.two_phase.proofs.Fetched.{one_entry, one_list, one_set}
+use Rattle.two_phase.proofs.Fetched.{finds_on, one_entry, one_list, one_set}
 use Rattle.two_phase.proofs.Outputs.{drop_past, next_of}
 
 -- ## Found with one property, and so with another
@@ -33,57 +34,45 @@ pub some_map : {X : Type 0} (r : Option X) (P Q : X → Type 0) → ((x : X) →
 some_map (Some x) P Q f h = f x h
 some_map None P Q f h = tt
 
--- what a reader holds that holds what it held
-pub moved : {X : Type 0} (held now : Option Holdings) (P : Holdings → X → Type 0) (r : Option X) → now ≡ held → FindsOne now P r → FindsOne held P r
-moved held now P r same h = subst (λ k. FindsOne k P r) same h
-
 -- ## One selector
 
 pub with_found : (held : Option Holdings) (e : Entry) (asks : List Ask) (given : List Answer) (found : FoundParts)
     → FindsOne held (λ S fs. AreOutputs S e.outputs fs) (Some found.made) → found.entry ≡ e → found.paths ≡ asks → found.answers ≡ given
     → FindsOne held (λ S f. IsWith S e asks given f) (Some found)
-with_found None e asks given found h entry_is asks_are given_are = tt
-with_found (Some S) e asks given found h entry_is asks_are given_are =
-    record { entry_is = entry_is; made = h; asks_are = asks_are; given_are = given_are }
+with_found held e asks given found h entry_is asks_are given_are =
+    λ S is. record { entry_is = entry_is; made = h S is; asks_are = asks_are; given_are = given_are }
 
 pub no_outputs : (held : Option Holdings) (e : Entry) (asks : List Ask) (given : List Answer) → FindsOne held (λ S fs. AreOutputs S e.outputs fs) None
     → FindsOne held (λ S f. IsWith S e asks given f) None
-no_outputs None e asks given h = tt
-no_outputs (Some S) e asks given h = λ f there. h f.made there.made
+no_outputs held e asks given h = λ S is f there. h S is f.made there.made
 
-pub on_entry : (held now : Option Holdings) (d : Desc) (s : Selector) (e : Entry) (asks : List Ask) (given : List Answer) (r : Option FoundParts) → now ≡ held
-    → FindsOne held (λ S x. IsEntryFor S d s x) (Some e) → FindsOne now (λ S f. IsWith S e asks given f) r → FindsOne held (λ S f. IsOn S d s asks given f) r
-on_entry held now d s e asks given r same entry h = by_held held r entry (moved held now (λ S f. IsWith S e asks given f) r same h)
-  where
-    by_held : (held : Option Holdings) (r : Option FoundParts) → FindsOne held (λ S x. IsEntryFor S d s x) (Some e) → FindsOne held (λ S f. IsWith S e asks given f) r
-        → FindsOne held (λ S f. IsOn S d s asks given f) r
-    by_held None r entry h = tt
-    by_held (Some S) None entry h =
-        λ f there.
-        let one : f.entry ≡ e = one_entry S s.strong f.entry e there.entry.held entry.held in
-        h f (record {
-          entry_is = one;
-          made = subst (λ (x : Entry). AreOutputs S x.outputs f.made) one there.made;
-          asks_are = there.asks_are;
-          given_are = there.given_are;
-        })
-    by_held (Some S) (Some f) entry h = record {
-      entry = subst (IsEntryFor S d s) (sym h.entry_is) entry;
-      made = subst (λ (x : Entry). AreOutputs S x.outputs f.made) (sym h.entry_is) h.made;
-      asks_are = h.asks_are;
-      given_are = h.given_are;
-    }
+pub on_entry : (held now : Option Holdings) (d : Desc) (s : Selector) (e : Entry) (asks : List Ask) (given : List Answer) (r : Option FoundParts) → Stays held now
+    → FindsOne held (λ S x. IsEntryFor S d s x) (Some e) → FindsOne now (λ S f. IsWith S e asks given f) r → FindsOne now (λ S f. IsOn S d s asks given f) r
+on_entry held now d s e asks given None stays entry h =
+    λ S is f there.
+    let one : f.entry ≡ e = one_entry S s.strong f.entry e there.entry.held (entry S (stays S is)).held in
+    h S is f (record {
+      entry_is = one;
+      made = subst (λ (x : Entry). AreOutputs S x.outputs f.made) one there.made;
+      asks_are = there.asks_are;
+      given_are = there.given_are;
+    })
+on_entry held now d s e asks given (Some f) stays entry h = λ S is. record {
+  entry = subst (IsEntryFor S d s) (sym (h S is).entry_is) (entry S (stays S is));
+  made = subst (λ (x : Entry). AreOutputs S x.outputs f.made) (sym (h S is).entry_is) (h S is).made;
+  asks_are = (h S is).asks_are;
+  given_are = (h S is).given_are;
+}
 
 pub on_given : {E : Type 0} (held now : Option Holdings) (d : Desc) (s : Selector) (e : Entry) (asks : List Ask) (given : List Answer)
-    (r : Result (Option FoundParts) E) → now ≡ held → FindsOne held (λ S x. IsEntryFor S d s x) (Some e) → IfOk r (FindsOne now (λ S f. IsWith S e asks given f))
-    → IfOk r (FindsOne held (λ S f. IsOn S d s asks given f))
-on_given held now d s e asks given (Ok found) same entry h = on_entry held now d s e asks given found same entry h
-on_given held now d s e asks given (Err x) same entry h = tt
+    (r : Result (Option FoundParts) E) → Stays held now → FindsOne held (λ S x. IsEntryFor S d s x) (Some e) → IfOk r (FindsOne now (λ S f. IsWith S e asks given f))
+    → IfOk r (FindsOne now (λ S f. IsOn S d s asks given f))
+on_given held now d s e asks given (Ok found) stays entry h = on_entry held now d s e asks given found stays entry h
+on_given held now d s e asks given (Err x) stays entry h = tt
 
 pub no_entry_on : (held : Option Holdings) (d : Desc) (s : Selector) (asks : List Ask) (given : List Answer) → FindsOne held (λ S x. IsEntryFor S d s x) None
     → FindsOne held (λ S f. IsOn S d s asks given f) None
-no_entry_on None d s asks given h = tt
-no_entry_on (Some S) d s asks given h = λ f there. h f.entry there.entry
+no_entry_on held d s asks given h = λ S is f there. h S is f.entry there.entry
 
 -- the digest of the strong text that was written
 pub one_digest : (d : Desc) (weak paths : List ℕ) (given written : List Answer) (digest : List ℕ) → weak ≡ weak_of d → written ≡ given
@@ -96,15 +85,14 @@ pub asked_found : (held : Option Holdings) (d : Desc) (see : Ask → Answer) (s 
     → given ≡ map see asks → sha256 (strong_text (strong_parts (weak_of d) s.paths given)) ≡ s.strong
     → FindsOne held (λ S f. IsOn S d s asks given f) r → FindsOne held (λ S f. IsStrongMatch S d see s asks f) r
 asked_found held d see s asks given r given_is asked h =
-    by_held held r (subst (λ as'. FindsOne held (λ S f. IsOn S d s asks as' f) r) given_is h)
+    by_found r (subst (λ as'. FindsOne held (λ S f. IsOn S d s asks as' f) r) given_is h)
   where
     now : sha256 (asked_text d see s.paths asks) ≡ s.strong
     now = ap (λ as'. sha256 (strong_text (strong_parts (weak_of d) s.paths as'))) (sym given_is) ∙ asked
 
-    by_held : (held : Option Holdings) (r : Option FoundParts) → FindsOne held (λ S f. IsOn S d s asks (map see asks) f) r → FindsOne held (λ S f. IsStrongMatch S d see s asks f) r
-    by_held None r h = tt
-    by_held (Some S) None h = λ f there. h f there.on
-    by_held (Some S) (Some f) h = record { asked = now; on = h }
+    by_found : (r : Option FoundParts) → FindsOne held (λ S f. IsOn S d s asks (map see asks) f) r → FindsOne held (λ S f. IsStrongMatch S d see s asks f) r
+    by_found None h = λ S is f there. h S is f there.on
+    by_found (Some f) h = λ S is. record { asked = now; on = h S is }
 
 pub asked_given : {E : Type 0} (held : Option Holdings) (d : Desc) (see : Ask → Answer) (s : Selector) (asks : List Ask) (given : List Answer)
     (r : Result (Option FoundParts) E) → given ≡ map see asks → sha256 (strong_text (strong_parts (weak_of d) s.paths given)) ≡ s.strong
@@ -115,59 +103,55 @@ asked_given held d see s asks given (Err x) given_is asked h = tt
 pub not_asked : (held : Option Holdings) (d : Desc) (see : Ask → Answer) (s : Selector) (asks : List Ask) (given : List Answer)
     → given ≡ map see asks → (sha256 (strong_text (strong_parts (weak_of d) s.paths given)) ≡ s.strong → ⊥)
     → FindsOne held (λ S f. IsStrongMatch S d see s asks f) None
-not_asked None d see s asks given given_is other = tt
-not_asked (Some S) d see s asks given given_is other =
-    λ f there. other (ap (λ as'. sha256 (strong_text (strong_parts (weak_of d) s.paths as'))) given_is ∙ there.asked)
+not_asked held d see s asks given given_is other =
+    λ S is f there. other (ap (λ as'. sha256 (strong_text (strong_parts (weak_of d) s.paths as'))) given_is ∙ there.asked)
 
-pub leads : (held now : Option Holdings) (d : Desc) (see : Ask → Answer) (s : Selector) (asks : List Ask) (r : Option FoundParts) → now ≡ held
-    → FindsOne held (λ S a. HoldsPaths S s.paths a) (Some asks) → FindsOne now (λ S f. IsStrongMatch S d see s asks f) r → FindsOne held (λ S f. LeadsTo S d see s f) r
-leads held now d see s asks r same paths h = by_held held r paths (moved held now (λ S f. IsStrongMatch S d see s asks f) r same h)
-  where
-    by_held : (held : Option Holdings) (r : Option FoundParts) → FindsOne held (λ S a. HoldsPaths S s.paths a) (Some asks) → FindsOne held (λ S f. IsStrongMatch S d see s asks f) r
-        → FindsOne held (λ S f. LeadsTo S d see s f) r
-    by_held None r paths h = tt
-    by_held (Some S) None paths h =
-        λ f there.
-        let u : UsableBy S d see s = there.usable in
-        let one : u.asks ≡ asks = one_set S s.paths u.asks asks u.paths paths in
-        h (found_parts u.entry asks (map see asks) u.files) (record {
-          asked = subst (λ (qs : List Ask). sha256 (asked_text d see s.paths qs) ≡ s.strong) one u.asked;
-          on = record {
-            entry = record { held = u.held; weak_is = u.weak_is; paths_are = u.paths_are; fit = u.fit };
-            made = record { outputs_are = u.outputs; held = u.made; unnested = u.unnested };
-            asks_are = refl;
-            given_are = refl;
-          };
-        })
-    by_held (Some S) (Some f) paths h = record {
+pub leads : (held now : Option Holdings) (d : Desc) (see : Ask → Answer) (s : Selector) (asks : List Ask) (r : Option FoundParts) → Stays held now
+    → FindsOne held (λ S a. HoldsPaths S s.paths a) (Some asks) → FindsOne now (λ S f. IsStrongMatch S d see s asks f) r → FindsOne now (λ S f. LeadsTo S d see s f) r
+leads held now d see s asks None stays paths h =
+    λ S is f there.
+    let u : UsableBy S d see s = there.usable in
+    let one : u.asks ≡ asks = one_set S s.paths u.asks asks u.paths (paths S (stays S is)) in
+    h S is (found_parts u.entry asks (map see asks) u.files) (record {
+      asked = subst (λ (qs : List Ask). sha256 (asked_text d see s.paths qs) ≡ s.strong) one u.asked;
+      on = record {
+        entry = record { held = u.held; weak_is = u.weak_is; paths_are = u.paths_are; fit = u.fit };
+        made = record { outputs_are = u.outputs; held = u.made; unnested = u.unnested };
+        asks_are = refl;
+        given_are = refl;
+      };
+    })
+leads held now d see s asks (Some f) stays paths h =
+    λ S is.
+    let strong : IsStrongMatch S d see s asks f = h S is in
+    record {
       usable = record {
         asks = asks;
-        paths = paths;
-        asked = h.asked;
+        paths = paths S (stays S is);
+        asked = strong.asked;
         entry = f.entry;
-        held = h.on.entry.held;
-        weak_is = h.on.entry.weak_is;
-        paths_are = h.on.entry.paths_are;
-        fit = h.on.entry.fit;
-        unnested = h.on.made.unnested;
+        held = strong.on.entry.held;
+        weak_is = strong.on.entry.weak_is;
+        paths_are = strong.on.entry.paths_are;
+        fit = strong.on.entry.fit;
+        unnested = strong.on.made.unnested;
         files = f.made;
-        outputs = h.on.made.outputs_are;
-        made = h.on.made.held;
+        outputs = strong.on.made.outputs_are;
+        made = strong.on.made.held;
       };
       entry_is = refl;
-      asks_are = sym h.on.asks_are;
+      asks_are = sym strong.on.asks_are;
       files_are = refl;
     }
 
-pub leads_given : {E : Type 0} (held now : Option Holdings) (d : Desc) (see : Ask → Answer) (s : Selector) (asks : List Ask) (r : Result (Option FoundParts) E) → now ≡ held
-    → FindsOne held (λ S a. HoldsPaths S s.paths a) (Some asks) → IfOk r (FindsOne now (λ S f. IsStrongMatch S d see s asks f)) → IfOk r (FindsOne held (λ S f. LeadsTo S d see s f))
-leads_given held now d see s asks (Ok found) same paths h = leads held now d see s asks found same paths h
-leads_given held now d see s asks (Err x) same paths h = tt
+pub leads_given : {E : Type 0} (held now : Option Holdings) (d : Desc) (see : Ask → Answer) (s : Selector) (asks : List Ask) (r : Result (Option FoundParts) E) → Stays held now
+    → FindsOne held (λ S a. HoldsPaths S s.paths a) (Some asks) → IfOk r (FindsOne now (λ S f. IsStrongMatch S d see s asks f)) → IfOk r (FindsOne now (λ S f. LeadsTo S d see s f))
+leads_given held now d see s asks (Ok found) stays paths h = leads held now d see s asks found stays paths h
+leads_given held now d see s asks (Err x) stays paths h = tt
 
 pub no_paths : (held : Option Holdings) (d : Desc) (see : Ask → Answer) (s : Selector) → FindsOne held (λ S a. HoldsPaths S s.paths a) None
     → FindsOne held (λ S f. LeadsTo S d see s f) None
-no_paths None d see s h = tt
-no_paths (Some S) d see s h = λ f there. h there.usable.asks there.usable.paths
+no_paths held d see s h = λ S is f there. h S is there.usable.asks there.usable.paths
 
 -- ## Lists of selectors
 
@@ -176,43 +160,43 @@ not_usable S d see s none u =
     none (found_parts u.entry u.asks (map see u.asks) u.files) (record { usable = u; entry_is = refl; asks_are = refl; files_are = refl })
 
 pub onward_start : (held : Option Holdings) (d : Desc) (see : Ask → Answer) (all : List Selector) → Onward held d see all all
-onward_start None d see all = tt
-onward_start (Some S) d see all = (λ f h. h, λ a. a)
+onward_start held d see all = λ S is. (λ f h. h, λ a. a)
+
+-- what leads on where something was told leads on where it is still told
+pub onward_on : (held now : Option Holdings) (d : Desc) (see : Ask → Answer) (all rest : List Selector) → Stays held now → Onward held d see all rest → Onward now d see all rest
+onward_on held now d see all rest stays on = λ S is. on S (stays S is)
 
 pub onward_next : (held : Option Holdings) (d : Desc) (see : Ask → Answer) (all rest : List Selector) (s : Selector) → Onward held d see all (s ∷ rest)
     → FindsOne held (λ S f. LeadsTo S d see s f) None → Onward held d see all rest
-onward_next None d see all rest s on none = tt
-onward_next (Some S) d see all rest s on none = (
-  λ f h. on.0 f (inr (not_usable S d see s none, h)),
-  λ a. elim (on.1 a) [ inl u ↦ absurd (not_usable S d see s none u) | inr r ↦ r ],
+onward_next held d see all rest s on none = λ S is. (
+  λ f h. (on S is).0 f (inr (not_usable S d see s (none S is), h)),
+  λ a. elim ((on S is).1 a) [ inl u ↦ absurd (not_usable S d see s (none S is) u) | inr r ↦ r ],
 )
 
 pub onward_found : (held : Option Holdings) (d : Desc) (see : Ask → Answer) (all rest : List Selector) (s : Selector) (f : FoundParts)
     → Onward held d see all (s ∷ rest) → FindsOne held (λ S f. LeadsTo S d see s f) (Some f) → FindsFirst held d see all (Some f)
-onward_found None d see all rest s f on h = tt
-onward_found (Some S) d see all rest s f on h = on.0 f (inl h)
+onward_found held d see all rest s f on h = λ S is. (on S is).0 f (inl (h S is))
 
 pub onward_end : (held : Option Holdings) (d : Desc) (see : Ask → Answer) (all : List Selector) → Onward held d see all [] → FindsFirst held d see all None
-onward_end None d see all on = tt
-onward_end (Some S) d see all on = on.1
+onward_end held d see all on = λ S is. (on S is).1
 
 -- ## In a list
 
 pub onward_at : (held now : Option Holdings) (d : Desc) (see view : Ask → Answer) (all : List Selector) (i : ℕ) (s : Selector) (r : Option FoundParts)
-    → i < length all → s ≡ get_or all i s → now ≡ held → view ≡ see → Onward held d see all (drop i all)
-    → FindsOne now (λ S f. LeadsTo S d view s f) r → r ≡ None → Onward held d see all (drop (i + 1) all)
-onward_at held now d see view all i s r l is same seen on h e =
-    onward_next held d see all (drop (i + 1) all) s (subst (Onward held d see all) (next_of all i s l is) on)
-    (moved held now (λ S f. LeadsTo S d see s f) None same
-    (subst (λ o. FindsOne now (λ S f. LeadsTo S d see s f) o) e (subst (λ (v : Ask → Answer). FindsOne now (λ S f. LeadsTo S d v s f) r) seen h)))
+    → i < length all → s ≡ get_or all i s → Stays held now → view ≡ see → Onward held d see all (drop i all)
+    → FindsOne now (λ S f. LeadsTo S d view s f) r → r ≡ None → Onward now d see all (drop (i + 1) all)
+onward_at held now d see view all i s r l is stays seen on h e =
+    onward_next now d see all (drop (i + 1) all) s
+    (onward_on held now d see all (s ∷ drop (i + 1) all) stays (subst (Onward held d see all) (next_of all i s l is) on))
+    (subst (λ o. FindsOne now (λ S f. LeadsTo S d see s f) o) e (subst (λ (v : Ask → Answer). FindsOne now (λ S f. LeadsTo S d v s f) r) seen h))
 
 pub found_at : (held now : Option Holdings) (d : Desc) (see view : Ask → Answer) (all : List Selector) (i : ℕ) (s : Selector) (r : Option FoundParts) (f : FoundParts)
-    → i < length all → s ≡ get_or all i s → now ≡ held → view ≡ see → Onward held d see all (drop i all)
-    → FindsOne now (λ S x. LeadsTo S d view s x) r → r ≡ Some f → FindsFirst held d see all (Some f)
-found_at held now d see view all i s r f l is same seen on h e =
-    onward_found held d see all (drop (i + 1) all) s f (subst (Onward held d see all) (next_of all i s l is) on)
-    (moved held now (λ S x. LeadsTo S d see s x) (Some f) same
-    (subst (λ o. FindsOne now (λ S x. LeadsTo S d see s x) o) e (subst (λ (v : Ask → Answer). FindsOne now (λ S x. LeadsTo S d v s x) r) seen h)))
+    → i < length all → s ≡ get_or all i s → Stays held now → view ≡ see → Onward held d see all (drop i all)
+    → FindsOne now (λ S x. LeadsTo S d view s x) r → r ≡ Some f → FindsFirst now d see all (Some f)
+found_at held now d see view all i s r f l is stays seen on h e =
+    onward_found now d see all (drop (i + 1) all) s f
+    (onward_on held now d see all (s ∷ drop (i + 1) all) stays (subst (Onward held d see all) (next_of all i s l is) on))
+    (subst (λ o. FindsOne now (λ S x. LeadsTo S d see s x) o) e (subst (λ (v : Ask → Answer). FindsOne now (λ S x. LeadsTo S d v s x) r) seen h))
 
 pub onward_past : (held : Option Holdings) (d : Desc) (see : Ask → Answer) (all : List Selector) (i : ℕ) → length all ≤ i → Onward held d see all (drop i all)
     → FindsFirst held d see all None
@@ -222,35 +206,29 @@ onward_past held d see all i l on = onward_end held d see all (subst (Onward hel
 
 pub in_list : (held : Option Holdings) (d : Desc) (see : Ask → Answer) (list : List Selector) (found : Option FoundParts)
     → FindsOne held (λ S l. HoldsList S (weak_of d) l) (Some list) → FindsFirst held d see list found → FindsUsable held d see found
-in_list None d see list found h first = tt
-in_list (Some S) d see list None h none =
-    λ u. none (subst (AnyUsable S d see) (one_list S (weak_of d) u.list list u.held h) u.any)
-in_list (Some S) d see list (Some f) h first = record { list = list; held = h; first = first }
+in_list held d see list None h none =
+    λ S is u. none S is (subst (AnyUsable S d see) (one_list S (weak_of d) u.list list u.held (h S is)) u.any)
+in_list held d see list (Some f) h first = λ S is. record { list = list; held = h S is; first = first S is }
 
-pub list_tried : {E : Type 0} (held now : Option Holdings) (d : Desc) (see : Ask → Answer) (list : List Selector) (r : Result (Option FoundParts) E) → now ≡ held
-    → FindsOne held (λ S l. HoldsList S (weak_of d) l) (Some list) → IfOk r (FindsFirst now d see list) → IfOk r (FindsUsable held d see)
-list_tried held now d see list (Ok found) same h first = in_list held d see list found h (subst (λ k. FindsFirst k d see list found) same first)
-list_tried held now d see list (Err x) same h first = tt
+pub list_tried : {E : Type 0} (held now : Option Holdings) (d : Desc) (see : Ask → Answer) (list : List Selector) (r : Result (Option FoundParts) E) → Stays held now
+    → FindsOne held (λ S l. HoldsList S (weak_of d) l) (Some list) → IfOk r (FindsFirst now d see list) → IfOk r (FindsUsable now d see)
+list_tried held now d see list (Ok found) stays h first = in_list now d see list found (finds_on held now (λ S l. HoldsList S (weak_of d) l) (Some list) stays h) first
+list_tried held now d see list (Err x) stays h first = tt
 
 pub no_list_for : (held : Option Holdings) (d : Desc) (see : Ask → Answer) → FindsOne held (λ S l. HoldsList S (weak_of d) l) None → FindsUsable held d see None
-no_list_for None d see h = tt
-no_list_for (Some S) d see h = λ u. h u.list u.held
+no_list_for held d see h = λ S is u. h S is u.list u.held
 
 pub hit : (held : Option Holdings) (d : Desc) (see : Ask → Answer) (f : FoundParts) → FindsUsable held d see (Some f) → LookupGives held d see (lookup_results.Hit f)
-hit None d see f h = tt
-hit (Some S) d see f h = h
+hit held d see f h = h
 
 pub miss : (held : Option Holdings) (d : Desc) (see : Ask → Answer) → FindsUsable held d see None → LookupGives held d see lookup_results.Miss
-miss None d see h = tt
-miss (Some S) d see h = h
+miss held d see h = h
 
 pub fault : (held : Option Holdings) (d : Desc) (see : Ask → Answer) → LookupGives held d see lookup_results.Fault
-fault None d see = tt
-fault (Some S) d see = tt
+fault held d see = λ S is. tt
 
 pub memory : (held : Option Holdings) (d : Desc) (see : Ask → Answer) → LookupGives held d see lookup_results.Memory
-memory None d see = tt
-memory (Some S) d see = tt
+memory held d see = λ S is. tt
 
 -- ## Whatever is held
 

@@ -15,7 +15,7 @@ cause_then f0 f1 f2 A B first still none next =
 -- no call was made
 pub reads_none : (held : Option Holdings) (bound : Option ℕ) (faults : ℕ) (A : Type 0) → ¬ A → ReaderCall held held bound bound faults faults A
 reads_none held bound faults A none = record {
-  held_is = refl;
+  held_is = λ S is. is;
   bound_is = refl;
   within = λ h. h;
   can_rise = λ h. h;
@@ -38,7 +38,7 @@ reads_as h0 h1 b0 b1 f0 f1 A B from to r = record {
 pub reads_then : (h0 h1 h2 : Option Holdings) (b0 b1 b2 : Option ℕ) (f0 f1 f2 : ℕ) (A B : Type 0) → ¬ A → ReaderCall h0 h1 b0 b1 f0 f1 A
     → ReaderCall h1 h2 b1 b2 f1 f2 B → ReaderCall h0 h2 b0 b2 f0 f2 B
 reads_then h0 h1 h2 b0 b1 b2 f0 f1 f2 A B none first next = record {
-  held_is = next.held_is ∙ first.held_is;
+  held_is = λ S is. first.held_is S (next.held_is S is);
   bound_is = next.bound_is ∙ first.bound_is;
   within = λ h. next.within (first.within h);
   can_rise = λ h. next.can_rise (first.can_rise h);

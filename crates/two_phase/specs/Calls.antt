@@ -2,12 +2,13 @@
 use Rattle.std.specs.Prelude.{◌≡◌, ℕ, Option}
 use Rattle.bx_io.specs.Causes.{CanRise, HasCause, IsWithin}
 use Rattle.bx_io.specs.Holdings.{Holdings}
+use Rattle.bx_io.specs.Told.{Stays}
 
--- The reader holds what it held, its bound is as it was, its count of faults stays within it, and the count
+-- What the reader still tells it told before, its bound is as it was, its count of faults stays within it, and the count
 -- rose just where the call answered a fault.
 pub record ReaderCall (held now_held : Option Holdings) (bound now_bound : Option ℕ) (faults now_faults : ℕ)
     (fault : Type 0) : Type 0 where
-  pub held_is : now_held ≡ held
+  pub held_is : Stays held now_held
   pub bound_is : now_bound ≡ bound
   pub within : IsWithin bound faults → IsWithin now_bound now_faults
   pub can_rise : CanRise bound faults → CanRise now_bound now_faults

@@ -1,5 +1,5 @@
 -- What is found in a store, or that nothing is.
-use Rattle.std.specs.Prelude.{◌≡◌, ◌⊎◌, ℕ, true, false, List, map, Option, Some, None, IsTrue, ⊤}
+use Rattle.std.specs.Prelude.{◌≡◌, ◌⊎◌, ℕ, true, false, List, map, Option, Some, None, IsTrue}
 use Rattle.sha2.specs.Sha256.{sha256}
 use Rattle.bx_tree.specs.Paths.{Atoms}
 use Rattle.bx_tree.specs.Trees.{Files, NoneNested, paths_of}
@@ -20,12 +20,14 @@ use Rattle.run_record.specs.Digests.{weak_of}
 use Rattle.two_phase_meaning.specs.Contents.{HoldsAll}
 use Rattle.two_phase_meaning.specs.Usable.{asked_text, fits}
 
--- What is found has the property, and where nothing is found, nothing has it. Nothing is said where the
--- holdings are unknown.
+-- What is found has the property, and where nothing is found, nothing has it.
+abbrev pub IsOne : {X : Type 0} → Holdings → (Holdings → X → Type 0) → Option X → Type 0
+IsOne {X = X} S P None = (x : X) → P S x → ⊥
+IsOne S P (Some x) = P S x
+
+-- That of what is told to be held.
 abbrev pub FindsOne : {X : Type 0} → Option Holdings → (Holdings → X → Type 0) → Option X → Type 0
-FindsOne None P found = ⊤
-FindsOne {X = X} (Some S) P None = (x : X) → P S x → ⊥
-FindsOne (Some S) P (Some x) = P S x
+FindsOne told P found = (S : Holdings) → told ≡ Some S → IsOne S P found
 
 -- Each of the files is held, they are these outputs by path and digest, and none is below another.
 pub record AreOutputs (S : Holdings) (outputs : List OutputLine) (files : Files) : Type 0 where

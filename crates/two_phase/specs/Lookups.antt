@@ -28,11 +28,14 @@ FirstLeadsTo S d see (s ∷ rest) found =
     LeadsTo S d see s found ⊎ ((UsableBy S d see s → ⊥) × FirstLeadsTo S d see rest found)
 
 -- What is found is what the first usable selector of the list leads to, and where nothing is found, none is
--- usable. Nothing is said where the holdings are unknown.
+-- usable.
+abbrev pub IsFirst : Holdings → Desc → (Ask → Answer) → List Selector → Option FoundParts → Type 0
+IsFirst S d see list None = AnyUsable S d see list → ⊥
+IsFirst S d see list (Some found) = FirstLeadsTo S d see list found
+
+-- That of what is told to be held.
 abbrev pub FindsFirst : Option Holdings → Desc → (Ask → Answer) → List Selector → Option FoundParts → Type 0
-FindsFirst None d see list found = ⊤
-FindsFirst (Some S) d see list None = AnyUsable S d see list → ⊥
-FindsFirst (Some S) d see list (Some found) = FirstLeadsTo S d see list found
+FindsFirst told d see list found = (S : Holdings) → told ≡ Some S → IsFirst S d see list found
 
 -- Of the list that is held for the process the first usable selector leads to this.
 pub record LookupHits (S : Holdings) (d : Desc) (see : Ask → Answer) (found : FoundParts) : Type 0 where
@@ -40,21 +43,26 @@ pub record LookupHits (S : Holdings) (d : Desc) (see : Ask → Answer) (found : 
   pub held : HoldsList S (weak_of d) list
   pub first : FirstLeadsTo S d see list found
 
--- What is found is a hit, and where nothing is found, nothing is usable. Nothing is said where the holdings
--- are unknown.
+-- What is found is a hit, and where nothing is found, nothing is usable.
+abbrev pub IsUsable : Holdings → Desc → (Ask → Answer) → Option FoundParts → Type 0
+IsUsable S d see None = Usable S d see → ⊥
+IsUsable S d see (Some found) = LookupHits S d see found
+
+-- That of what is told to be held.
 abbrev pub FindsUsable : Option Holdings → Desc → (Ask → Answer) → Option FoundParts → Type 0
-FindsUsable None d see found = ⊤
-FindsUsable (Some S) d see None = Usable S d see → ⊥
-FindsUsable (Some S) d see (Some found) = LookupHits S d see found
+FindsUsable told d see found = (S : Holdings) → told ≡ Some S → IsUsable S d see found
 
 -- A hit is what the first usable selector leads to, and a miss says that nothing is usable. Nothing is said
--- of the other answers, nor where the holdings are unknown.
+-- of the other answers.
+abbrev pub IsLookup : Holdings → Desc → (Ask → Answer) → LookupResult → Type 0
+IsLookup S d see (lookup_results.Hit found) = LookupHits S d see found
+IsLookup S d see lookup_results.Miss = Usable S d see → ⊥
+IsLookup S d see lookup_results.Fault = ⊤
+IsLookup S d see lookup_results.Memory = ⊤
+
+-- That of what is told to be held.
 abbrev pub LookupGives : Option Holdings → Desc → (Ask → Answer) → LookupResult → Type 0
-LookupGives None d see answer = ⊤
-LookupGives (Some S) d see (lookup_results.Hit found) = LookupHits S d see found
-LookupGives (Some S) d see lookup_results.Miss = Usable S d see → ⊥
-LookupGives (Some S) d see lookup_results.Fault = ⊤
-LookupGives (Some S) d see lookup_results.Memory = ⊤
+LookupGives told d see answer = (S : Holdings) → told ≡ Some S → IsLookup S d see answer
 
 -- What was found is of this process, and has what the view answers now; its files fit the process, and none
 -- is below another.
@@ -64,7 +72,7 @@ pub record IsCurrentHit (d : Desc) (see : Ask → Answer) (found : FoundParts) :
   pub fit : IsTrue (fits d.process (paths_of found.made))
   pub unnested : NoneNested (paths_of found.made)
 
--- a hit is of now, whatever is known of the holdings, and the weak text of the process is read back
+-- a hit is of now, whatever is told of the holdings, and the weak text of the process is read back
 abbrev pub LookupHitIsCurrent : Desc → (Ask → Answer) → LookupResult → Type 0
 LookupHitIsCurrent d see (lookup_results.Hit found) = IsReadBack d × IsCurrentHit d see found
 LookupHitIsCurrent d see lookup_results.Miss = ⊤
@@ -72,9 +80,9 @@ LookupHitIsCurrent d see lookup_results.Fault = ⊤
 LookupHitIsCurrent d see lookup_results.Memory = ⊤
 
 -- What the first usable selector of the rest of a list leads to is what that of all of it leads to, and what
--- is usable in all of it is usable in the rest. Nothing is said where the holdings are unknown.
+-- is usable in all of it is usable in the rest.
 abbrev pub Onward : Option Holdings → Desc → (Ask → Answer) → List Selector → List Selector → Type 0
-Onward None d see all rest = ⊤
-Onward (Some S) d see all rest =
-    ((found : FoundParts) → FirstLeadsTo S d see rest found → FirstLeadsTo S d see all found)
+Onward told d see all rest =
+    (S : Holdings) → told ≡ Some S
+    → ((found : FoundParts) → FirstLeadsTo S d see rest found → FirstLeadsTo S d see all found)
     × (AnyUsable S d see all → AnyUsable S d see rest)

@@ -1,8 +1,8 @@
 -- What puts of a record leave.
-use Rattle.std.specs.Prelude.{◌≡◌, ◌⊎◌, ℕ, List, [], ◌∷◌, ◌++◌, map, Option, Some, None, ⊤}
+use Rattle.std.specs.Prelude.{◌≡◌, ◌⊎◌, ℕ, List, [], ◌∷◌, ◌++◌, map, Option, Some, IsSome}
 use Rattle.sha2.specs.Sha256.{sha256}
 use Rattle.observed.specs.Texts.{paths_text}
-use Rattle.bx_io.specs.Holdings.{Change, IsPrefix, Put, StoreState, holdings_after, state_after}
+use Rattle.bx_io.specs.Holdings.{Change, Holdings, IsPrefix, Makes, Put, StoreTold, holdings_after}
 use Rattle.run_record.specs.Facts.{Facts}
 use Rattle.memo_format.specs.declared.selector.Selector.{Selector}
 use Rattle.prints.specs.Processes.{weak_parts}
@@ -19,19 +19,18 @@ use Rattle.two_phase_meaning.specs.Saving.{Spelled, answers_text, list_at, outco
 use Rattle.two_phase.specs.Applying.{AppliesAll}
 use Rattle.two_phase.specs.declared.recording.Written.{Written}
 
--- These selectors are held for the weak text, as far as that is known.
-abbrev pub IsListAt : Option StoreState → List ℕ → List Selector → Type 0
-IsListAt None weak list = ⊤
-IsListAt (Some kept) weak list = list ≡ list_at kept.held weak
+-- These selectors are told to be held for the weak text.
+abbrev pub IsListAt : Option Holdings → List ℕ → List Selector → Type 0
+IsListAt told weak list = (S : Holdings) → told ≡ Some S → list ≡ list_at S weak
 
 -- the selector of what was written
 abbrev pub written_selector : Written → Selector
 written_selector w = record { paths = sha256 w.paths; strong = w.strong.digest }
 
 -- The text is that of the list that is held, with the selector of what was written first.
-pub record IsNextList (known : Option StoreState) (w : Written) (text : List ℕ) : Type 0 where
+pub record IsNextList (told : Option Holdings) (w : Written) (text : List ℕ) : Type 0 where
   pub old : List Selector
-  pub old_is : IsListAt known w.weak.digest old
+  pub old_is : IsListAt told w.weak.digest old
   pub text_is : text ≡ selectors_text (with_first (written_selector w) old)
 
 -- what is put for a record where these selectors are held for its process
@@ -62,24 +61,25 @@ all_puts w list =
     ++ (Put (at_entry w.strong.digest) w.entry.items ∷ Put (at_list w.weak.digest) list ∷ [])
 
 -- The puts of the record were made up to some place, but for those that would have changed nothing, and
--- nothing else; where that is not the first place, the texts of the record are read back.
-pub record PutsUpTo (before now : Option StoreState) (f : Facts) : Type 0 where
+-- nothing else; where that is not the first place, the texts of the record are read back. The selectors that
+-- were held are those that were told before, where the store still tells.
+pub record PutsUpTo (before now : StoreTold) (f : Facts) : Type 0 where
   pub old : List Selector
-  pub old_is : IsListAt before (weak_of f.desc) old
+  pub old_is : IsSome now.held → IsListAt before.held (weak_of f.desc) old
   pub first : List Change
   pub is_first : IsPrefix first (planned f old)
   pub applies : AppliesAll before first now
   pub spelled : (first ≡ []) ⊎ Spelled f
 
 -- All puts of the record were made, but for those that would have changed nothing, and nothing else.
-pub record PutsAll (before now : Option StoreState) (f : Facts) : Type 0 where
+pub record PutsAll (before now : StoreTold) (f : Facts) : Type 0 where
   pub old : List Selector
-  pub old_is : IsListAt before (weak_of f.desc) old
+  pub old_is : IsSome now.held → IsListAt before.held (weak_of f.desc) old
   pub applies : AppliesAll before (planned f old) now
   pub spelled : Spelled f
 
--- These changes were made, and what is held was honest before them and after each.
-pub record LeavesHonest (before : StoreState) (now : Option StoreState) : Type 0 where
+-- These changes were made, and what is held, which was this before them, was honest before them and after each.
+pub record LeavesHonest (held : Holdings) (before now : StoreTold) : Type 0 where
   pub made : List Change
-  pub makes : now ≡ Some (state_after before made)
-  pub along : (start : List Change) → IsPrefix start made → Honest (holdings_after before.held start)
+  pub makes : Makes before made now
+  pub along : (start : List Change) → IsPrefix start made → Honest (holdings_after held start)

@@ -53,7 +53,7 @@ fn content<R: KeepReader>(
     reader: &mut R,
     digest: &Digest,
 ) -> Result<Option<Blob>, StoreFault>
-    ensures found { IfOk result (FindsOne (R.held reader.old) (λ S bytes. IsContent S digest.now bytes)) }
+    ensures found { IfOk result (FindsOne (R.held reader.new) (λ S bytes. IsContent S digest.now bytes)) }
     ensures digest { IfOk result (λ found. IfSome found (λ bytes. sha256 bytes ≡ digest.now)) }
     ensures reader { ReaderCall (R.held reader.old) (R.held reader.new) (R.bound reader.old) (R.bound reader.new)
         (R.faults reader.old) (R.faults reader.new) (result ≡ Err StoreFault.Fault) }
@@ -84,7 +84,7 @@ pub(crate) fn path_set<R: KeepReader>(
     reader: &mut R,
     digest: &Digest,
 ) -> Result<Option<PathSet>, StoreFault>
-    ensures found { IfOk result (FindsOne (R.held reader.old) (λ S asks. HoldsPaths S digest.now asks)) }
+    ensures found { IfOk result (FindsOne (R.held reader.new) (λ S asks. HoldsPaths S digest.now asks)) }
     ensures reader { ReaderCall (R.held reader.old) (R.held reader.new) (R.bound reader.old) (R.bound reader.new)
         (R.faults reader.old) (R.faults reader.new) (result ≡ Err StoreFault.Fault) }
 {
@@ -100,7 +100,7 @@ pub(crate) fn entry<R: KeepReader>(
     reader: &mut R,
     strong: &Digest,
 ) -> Result<Option<Entry>, StoreFault>
-    ensures found { IfOk result (FindsOne (R.held reader.old) (λ S e. IsHeld S strong.now e)) }
+    ensures found { IfOk result (FindsOne (R.held reader.new) (λ S e. IsHeld S strong.now e)) }
     ensures entry { IfOk result (λ found. IfSome found IsEntry) }
     ensures reader { ReaderCall (R.held reader.old) (R.held reader.new) (R.bound reader.old) (R.bound reader.new)
         (R.faults reader.old) (R.faults reader.new) (result ≡ Err StoreFault.Fault) }
@@ -131,7 +131,7 @@ pub(crate) fn selectors<R: KeepReader>(
     reader: &mut R,
     weak: &Digest,
 ) -> Result<Option<SelectorList>, StoreFault>
-    ensures found { IfOk result (FindsOne (R.held reader.old) (λ S list. HoldsList S weak.now list)) }
+    ensures found { IfOk result (FindsOne (R.held reader.new) (λ S list. HoldsList S weak.now list)) }
     ensures reader { ReaderCall (R.held reader.old) (R.held reader.new) (R.bound reader.old) (R.bound reader.new)
         (R.faults reader.old) (R.faults reader.new) (result ≡ Err StoreFault.Fault) }
 {
@@ -166,7 +166,7 @@ fn add_output<R: KeepReader>(
     writes: Writes,
     output: &OutputLine,
 ) -> Result<Option<Writes>, StoreFault>
-    ensures added { IfOk result (AddsTo (R.held reader.old) writes output.now) }
+    ensures added { IfOk result (AddsTo (R.held reader.new) writes output.now) }
     ensures reader { ReaderCall (R.held reader.old) (R.held reader.new) (R.bound reader.old) (R.bound reader.new)
         (R.faults reader.old) (R.faults reader.new) (result ≡ Err StoreFault.Fault) }
 {
@@ -183,7 +183,7 @@ pub(crate) fn outputs<R: KeepReader>(
     outputs: &[OutputLine],
 ) -> Result<Option<Made>, StoreFault>
     requires { OutputsRise outputs.now }
-    ensures found { IfOk result (FindsOne (R.held reader.old) (λ S files. AreOutputs S outputs.now files)) }
+    ensures found { IfOk result (FindsOne (R.held reader.new) (λ S files. AreOutputs S outputs.now files)) }
     ensures made { IfOk result (λ found. IfSome found (λ files. output_lines files ≡ outputs.now)) }
     ensures unnested { IfOk result (λ found. IfSome found (λ files. NoneNested (paths_of files))) }
     ensures reader { ReaderCall (R.held reader.old) (R.held reader.new) (R.bound reader.old) (R.bound reader.new)

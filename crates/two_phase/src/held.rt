@@ -1,6 +1,6 @@
 //! Contents that a store is known to hold.
 ghost use Rattle.std.specs.Prelude.{◌≡◌, ℕ, IsTrue, List, OnErr, OnOk, Option, Some};
-ghost use Rattle.bx_io.specs.Holdings.{StoreState as AnyStore};
+ghost use Rattle.bx_io.specs.Holdings.{Holdings};
 ghost use Rattle.two_phase.specs.Held.{AreHeld, Tracks, noted_at};
 
 use bx_digest::{Blob, Digest};
@@ -17,7 +17,7 @@ pub struct HeldContents {
 impl HeldContents {
     /// No content is known to be held.
     pub fn new(alloc: Global) -> HeldContents
-        ensures { (known : Option AnyStore) → AreHeld known result }
+        ensures { (told : Option Holdings) → AreHeld told result }
     {
         HeldContents {
             contents: BTreeMap::new(alloc),

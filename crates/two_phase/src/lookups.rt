@@ -66,7 +66,7 @@ fn entry_for<R: KeepReader>(
     selector: &Selector,
 ) -> Result<Option<Entry>, StoreFault>
     requires { weak.now ≡ weak_of desc.now }
-    ensures found { IfOk result (FindsOne (R.held reader.old) (λ S e. IsEntryFor S desc.now selector.now e)) }
+    ensures found { IfOk result (FindsOne (R.held reader.new) (λ S e. IsEntryFor S desc.now selector.now e)) }
     ensures entry { IfOk result (λ found. IfSome found (λ e.
         (e.weak ≡ weak_of desc.now) × OutputsRise e.outputs)) }
     ensures fit { IfOk result (λ found. IfSome found (λ e.
@@ -96,14 +96,17 @@ fn with_outputs<R: KeepReader>(
 ) -> Result<Option<Found>, StoreFault>
     requires rise { OutputsRise entry.outputs }
     requires one_each { length answers.items ≡ length paths }
-    ensures found { IfOk result (FindsOne (R.held reader.old)
+    ensures found { IfOk result (FindsOne (R.held reader.new)
         (λ S found. IsWith S entry paths answers.items found)) }
     ensures parts { IfOk result (λ found. IfSome found (HasParts entry paths answers.items)) }
     ensures reader { ReaderCall (R.held reader.old) (R.held reader.new) (R.bound reader.old) (R.bound reader.new)
         (R.faults reader.old) (R.faults reader.new) (result ≡ Err StoreFault.Fault) }
 {
     match outputs(alloc, reader, entry.outputs.lines())? {
-        Some(made) => Ok(Some(Found::new(entry, paths, answers, made))),
+        Some(made) => {
+            let found = Found::new(alloc, entry, paths, answers, made)?;
+            Ok(Some(found))
+        }
         None => Ok(None),
     }
 }
@@ -120,7 +123,7 @@ fn found_by<R: KeepReader>(
 ) -> Result<Option<Found>, StoreFault>
     requires weak { weak.now ≡ weak_of desc.now }
     requires one_each { length answers.items ≡ length paths }
-    ensures found { IfOk result (FindsOne (R.held reader.old)
+    ensures found { IfOk result (FindsOne (R.held reader.new)
         (λ S found. IsOn S desc.now selector.now paths answers.items found)) }
     ensures of { IfOk result (λ found. IfSome found (IsOf desc.now paths answers.items)) }
     ensures reader { ReaderCall (R.held reader.old) (R.held reader.new) (R.bound reader.old) (R.bound reader.new)
@@ -144,7 +147,7 @@ fn asked_now<R: KeepReader, V: View>(
     view: &mut V,
 ) -> Result<Option<Found>, StoreFault>
     requires { weak.now ≡ weak_of desc.now }
-    ensures found { IfOk result (FindsOne (R.held reader.old)
+    ensures found { IfOk result (FindsOne (R.held reader.new)
         (λ S found. IsStrongMatch S desc.now (V.answers view.old) selector.now paths found)) }
     ensures now { IfOk result (λ found. IfSome found (IsCurrentHit desc.now (V.answers view.old))) }
     ensures same { V.answers view.new ≡ V.answers view.old }
@@ -170,7 +173,7 @@ fn follow<R: KeepReader, V: View>(
     view: &mut V,
 ) -> Result<Option<Found>, StoreFault>
     requires { weak.now ≡ weak_of desc.now }
-    ensures found { IfOk result (FindsOne (R.held reader.old)
+    ensures found { IfOk result (FindsOne (R.held reader.new)
         (λ S found. LeadsTo S desc.now (V.answers view.old) selector.now found)) }
     ensures now { IfOk result (λ found. IfSome found (IsCurrentHit desc.now (V.answers view.old))) }
     ensures same { V.answers view.new ≡ V.answers view.old }
@@ -194,7 +197,7 @@ fn first_usable<R: KeepReader, V: View>(
 ) -> Result<Option<Found>, StoreFault>
     requires { weak.now ≡ weak_of desc.now }
     ensures found { IfOk result
-        (FindsFirst (R.held reader.old) desc.now (V.answers view.old) list.now) }
+        (FindsFirst (R.held reader.new) desc.now (V.answers view.old) list.now) }
     ensures now { IfOk result (λ found. IfSome found (IsCurrentHit desc.now (V.answers view.old))) }
     ensures same { V.answers view.new ≡ V.answers view.old }
     ensures reader { ReaderCall (R.held reader.old) (R.held reader.new) (R.bound reader.old) (R.bound reader.new)
@@ -209,14 +212,14 @@ fn first_usable<R: KeepReader, V: View>(
     Ok(None)
 }
 
-// What is usable for a process.
+// The usable cached result of a process, if the store has one.
 fn find_usable<R: KeepReader, V: View>(
     alloc: Global,
     reader: &mut R,
     desc: &Desc,
     view: &mut V,
 ) -> Result<Option<Found>, StoreFault>
-    ensures found { IfOk result (FindsUsable (R.held reader.old) desc.now (V.answers view.old)) }
+    ensures found { IfOk result (FindsUsable (R.held reader.new) desc.now (V.answers view.old)) }
     ensures now { IfOk result (λ found. IfSome found (λ f.
         IsReadBack desc.now × IsCurrentHit desc.now (V.answers view.old) f)) }
     ensures same { V.answers view.new ≡ V.answers view.old }
@@ -238,7 +241,7 @@ pub fn lookup<R: KeepReader, V: View>(
     desc: &Desc,
     view: &mut V,
 ) -> LookupResult
-    ensures answer { LookupGives (R.held reader.old) desc.now (V.answers view.old) result }
+    ensures answer { LookupGives (R.held reader.new) desc.now (V.answers view.old) result }
     ensures now { LookupHitIsCurrent desc.now (V.answers view.old) result }
     ensures same { V.answers view.new ≡ V.answers view.old }
     ensures reader { ReaderCall (R.held reader.old) (R.held reader.new) (R.bound reader.old) (R.bound reader.new)

@@ -10,7 +10,7 @@ ghost use Rattle.two_phase_meaning.specs.Saving.{IsGood, entry_with, outcome_fil
 ghost use Rattle.two_phase.specs.Putting.{IsWritten};
 
 use bx_digest::{Blob, Digest};
-use memo_format::{Entry, OutputLine, OutputLines, write_entry};
+use memo_format::{Entry, OutputLines, outputs_of, write_entry};
 use observed::{Answer, PathSet};
 use pip_model_types::{Desc, Made, MadeFile};
 use prints::{Printed, strong_of, weak};
@@ -93,19 +93,6 @@ fn all_contents(
     add_answers(&mut contents, answers)?;
     add_files(&mut contents, made.files())?;
     Ok(contents)
-}
-
-fn outputs_of(alloc: Global, made: &[MadeFile]) -> Result<Vec<OutputLine>, AllocError>
-    ensures { IfOk result (λ outputs. outputs.items ≡ output_lines (made_files made.now)) }
-{
-    let mut outputs = Vec::new(alloc);
-    'made: for file in made {
-        outputs.push(OutputLine {
-            path: file.path.share()?,
-            digest: file.blob.digest(),
-        })?;
-    }
-    Ok(outputs)
 }
 
 // The files that a run made which succeeded.

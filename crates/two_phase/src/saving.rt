@@ -1,7 +1,7 @@
 //! Saving execution records to the store.
 ghost use Rattle.std.specs.Prelude.{◌≡◌, ◌∷◌, [], Err, IfOk, OnErr, OnOk, map};
 ghost use Rattle.sha2.specs.Sha256.{sha256};
-ghost use Rattle.bx_io.specs.Holdings.{Put, known_after};
+ghost use Rattle.bx_io.specs.Holdings.{Keeps, Makes, Put, held_in};
 ghost use Rattle.content_store.specs.Contents.{blob_put};
 ghost use Rattle.memo_format.specs.Selectors.{read_selectors_text};
 ghost use Rattle.memo_format.specs.StoreNames.{at_entry, at_list};
@@ -71,8 +71,8 @@ fn held_list<K: Keeper>(
     keeper: &mut K,
     weak: &Digest,
 ) -> Result<Vec<Selector>, PutFault>
-    ensures list { IfOk result (λ list. IsListAt (K.known keeper.old) weak.now list.items) }
-    ensures known { K.known keeper.new ≡ K.known keeper.old }
+    ensures list { IfOk result (λ list. IsListAt (held_in (K.known keeper.new)) weak.now list.items) }
+    ensures known { Keeps (K.known keeper.old) (K.known keeper.new) }
     ensures keeper { KeeperCall (K.bound keeper.old) (K.bound keeper.new) (K.faults keeper.old)
         (K.faults keeper.new) (result ≡ Err PutFault.Failed) }
 {
@@ -93,9 +93,8 @@ fn put_bytes<K: Keeper>(
     bytes: &[u8],
 ) -> Result<(), PutFault>
     requires { digest.now ≡ sha256 bytes.now }
-    ensures made { OnOk result
-        (K.known keeper.new ≡ known_after (K.known keeper.old) (blob_put bytes.now ∷ [])) }
-    ensures refused { OnErr result (K.known keeper.new ≡ K.known keeper.old) }
+    ensures made { OnOk result (Makes (K.known keeper.old) (blob_put bytes.now ∷ []) (K.known keeper.new)) }
+    ensures refused { OnErr result (Keeps (K.known keeper.old) (K.known keeper.new)) }
     ensures keeper { KeeperCall (K.bound keeper.old) (K.bound keeper.new) (K.faults keeper.old)
         (K.faults keeper.new) (result ≡ Err PutFault.Failed) }
 {
@@ -111,11 +110,11 @@ fn put_text<K: Keeper>(
     printed: &Printed,
 ) -> Result<(), PutFault>
     requires digest { printed.now.digest ≡ sha256 printed.now.text.items }
-    requires held { AreHeld (K.known keeper.old) held.old }
+    requires held { AreHeld (held_in (K.known keeper.old)) held.old }
     ensures made { OnOk result
         (Applies (K.known keeper.old) (blob_put printed.now.text.items) (K.known keeper.new)) }
-    ensures refused { OnErr result (K.known keeper.new ≡ K.known keeper.old) }
-    ensures held { AreHeld (K.known keeper.new) held.new }
+    ensures refused { OnErr result (Keeps (K.known keeper.old) (K.known keeper.new)) }
+    ensures held { AreHeld (held_in (K.known keeper.new)) held.new }
     ensures keeper { KeeperCall (K.bound keeper.old) (K.bound keeper.new) (K.faults keeper.old)
         (K.faults keeper.new) (result ≡ Err PutFault.Failed) }
 {
@@ -131,11 +130,11 @@ fn put_content<K: Keeper>(
     held: &mut HeldContents,
     content: &Blob,
 ) -> Result<(), PutFault>
-    requires { AreHeld (K.known keeper.old) held.old }
+    requires { AreHeld (held_in (K.known keeper.old)) held.old }
     ensures made { OnOk result
         (Applies (K.known keeper.old) (blob_put content.now) (K.known keeper.new)) }
-    ensures refused { OnErr result (K.known keeper.new ≡ K.known keeper.old) }
-    ensures held { AreHeld (K.known keeper.new) held.new }
+    ensures refused { OnErr result (Keeps (K.known keeper.old) (K.known keeper.new)) }
+    ensures held { AreHeld (held_in (K.known keeper.new)) held.new }
     ensures keeper { KeeperCall (K.bound keeper.old) (K.bound keeper.new) (K.faults keeper.old)
         (K.faults keeper.new) (result ≡ Err PutFault.Failed) }
 {
@@ -155,11 +154,11 @@ fn put_contents<K: Keeper>(
     held: &mut HeldContents,
     contents: &[Blob],
 ) -> Result<(), PutFault>
-    requires { AreHeld (K.known keeper.old) held.old }
+    requires { AreHeld (held_in (K.known keeper.old)) held.old }
     ensures made { OnOk result
         (AppliesAll (K.known keeper.old) (map blob_put contents.now) (K.known keeper.new)) }
     ensures first { AppliesPrefix (K.known keeper.old) (K.known keeper.new) (map blob_put contents.now) }
-    ensures held { AreHeld (K.known keeper.new) held.new }
+    ensures held { AreHeld (held_in (K.known keeper.new)) held.new }
     ensures keeper { KeeperCall (K.bound keeper.old) (K.bound keeper.new) (K.faults keeper.old)
         (K.faults keeper.new) (result ≡ Err PutFault.Failed) }
 {
@@ -178,12 +177,12 @@ fn put_blobs<K: Keeper>(
 ) -> Result<(), PutFault>
     requires weak { written.now.weak.digest ≡ sha256 written.now.weak.text.items }
     requires strong { written.now.strong.digest ≡ sha256 written.now.strong.text.items }
-    requires held { AreHeld (K.known keeper.old) held.old }
+    requires held { AreHeld (held_in (K.known keeper.old)) held.old }
     ensures made { OnOk result
         (AppliesAll (K.known keeper.old) (map blob_put (all_blobs written.now)) (K.known keeper.new)) }
     ensures first { AppliesPrefix (K.known keeper.old) (K.known keeper.new)
         (map blob_put (all_blobs written.now)) }
-    ensures held { AreHeld (K.known keeper.new) held.new }
+    ensures held { AreHeld (held_in (K.known keeper.new)) held.new }
     ensures keeper { KeeperCall (K.bound keeper.old) (K.bound keeper.new) (K.faults keeper.old)
         (K.faults keeper.new) (result ≡ Err PutFault.Failed) }
 {
@@ -195,9 +194,9 @@ fn put_blobs<K: Keeper>(
 
 // Puts the text of an entry under the strong digest.
 fn put_entry<K: Keeper>(alloc: Global, keeper: &mut K, written: &Written) -> Result<(), PutFault>
-    ensures made { OnOk result (K.known keeper.new ≡ known_after (K.known keeper.old)
-        (Put (at_entry written.now.strong.digest) written.now.entry.items ∷ [])) }
-    ensures refused { OnErr result (K.known keeper.new ≡ K.known keeper.old) }
+    ensures made { OnOk result (Makes (K.known keeper.old)
+        (Put (at_entry written.now.strong.digest) written.now.entry.items ∷ []) (K.known keeper.new)) }
+    ensures refused { OnErr result (Keeps (K.known keeper.old) (K.known keeper.new)) }
     ensures keeper { KeeperCall (K.bound keeper.old) (K.bound keeper.new) (K.faults keeper.old)
         (K.faults keeper.new) (result ≡ Err PutFault.Failed) }
 {
@@ -212,9 +211,9 @@ fn put_list<K: Keeper>(
     weak: &Digest,
     text: &[u8],
 ) -> Result<(), PutFault>
-    ensures made { OnOk result (K.known keeper.new
-        ≡ known_after (K.known keeper.old) (Put (at_list weak.now) text.now ∷ [])) }
-    ensures refused { OnErr result (K.known keeper.new ≡ K.known keeper.old) }
+    ensures made { OnOk result
+        (Makes (K.known keeper.old) (Put (at_list weak.now) text.now ∷ []) (K.known keeper.new)) }
+    ensures refused { OnErr result (Keeps (K.known keeper.old) (K.known keeper.new)) }
     ensures keeper { KeeperCall (K.bound keeper.old) (K.bound keeper.new) (K.faults keeper.old)
         (K.faults keeper.new) (result ≡ Err PutFault.Failed) }
 {
@@ -232,11 +231,11 @@ fn put_all<K: Keeper>(
 ) -> Result<(), PutFault>
     requires weak { written.now.weak.digest ≡ sha256 written.now.weak.text.items }
     requires strong { written.now.strong.digest ≡ sha256 written.now.strong.text.items }
-    requires held { AreHeld (K.known keeper.old) held.old }
+    requires held { AreHeld (held_in (K.known keeper.old)) held.old }
     ensures made { OnOk result
         (AppliesAll (K.known keeper.old) (all_puts written.now list.now) (K.known keeper.new)) }
     ensures first { AppliesPrefix (K.known keeper.old) (K.known keeper.new) (all_puts written.now list.now) }
-    ensures held { AreHeld (K.known keeper.new) held.new }
+    ensures held { AreHeld (held_in (K.known keeper.new)) held.new }
     ensures keeper { KeeperCall (K.bound keeper.old) (K.bound keeper.new) (K.faults keeper.old)
         (K.faults keeper.new) (result ≡ Err PutFault.Failed) }
 {
@@ -251,8 +250,8 @@ fn next_list<K: Keeper>(
     keeper: &mut K,
     written: &Written,
 ) -> Result<Vec<u8>, PutFault>
-    ensures list { IfOk result (λ text. IsNextList (K.known keeper.old) written.now text.items) }
-    ensures known { K.known keeper.new ≡ K.known keeper.old }
+    ensures list { IfOk result (λ text. IsNextList (held_in (K.known keeper.new)) written.now text.items) }
+    ensures known { Keeps (K.known keeper.old) (K.known keeper.new) }
     ensures keeper { KeeperCall (K.bound keeper.old) (K.bound keeper.new) (K.faults keeper.old)
         (K.faults keeper.new) (result ≡ Err PutFault.Failed) }
 {
@@ -273,10 +272,10 @@ fn put_record<K: Keeper>(
     ran: &Record,
 ) -> Result<(), PutFault>
     requires good { IsGood ran.now }
-    requires held { AreHeld (K.known keeper.old) held.old }
+    requires held { AreHeld (held_in (K.known keeper.old)) held.old }
     ensures made { OnOk result (PutsAll (K.known keeper.old) (K.known keeper.new) ran.now) }
     ensures first { PutsUpTo (K.known keeper.old) (K.known keeper.new) ran.now }
-    ensures held { AreHeld (K.known keeper.new) held.new }
+    ensures held { AreHeld (held_in (K.known keeper.new)) held.new }
     ensures keeper { KeeperCall (K.bound keeper.old) (K.bound keeper.new) (K.faults keeper.old)
         (K.faults keeper.new) (result ≡ Err PutFault.Failed) }
 {
@@ -295,10 +294,10 @@ pub fn keep<K: Keeper>(
     ran: &Record,
 ) -> SaveResult
     requires good { IsGood ran.now }
-    requires held { AreHeld (K.known keeper.old) held.old }
+    requires held { AreHeld (held_in (K.known keeper.old)) held.old }
     ensures saved { result ≡ SaveResult.Saved → PutsAll (K.known keeper.old) (K.known keeper.new) ran.now }
     ensures first { PutsUpTo (K.known keeper.old) (K.known keeper.new) ran.now }
-    ensures held { AreHeld (K.known keeper.new) held.new }
+    ensures held { AreHeld (held_in (K.known keeper.new)) held.new }
     ensures keeper { KeeperCall (K.bound keeper.old) (K.bound keeper.new) (K.faults keeper.old)
         (K.faults keeper.new) (result ≡ SaveResult.Fault) }
 {

@@ -1,4 +1,4 @@
--- What is met, of which no two different ones may share a digest.
+-- The contents compared, among which there may be no hash collision.
 use Rattle.std.specs.Prelude.{◌≡◌, ◌⊎◌, ℕ, List, map}
 use Rattle.sha2.specs.Sha256.{sha256}
 use Rattle.bx_tree.specs.Trees.{Files}
@@ -38,7 +38,7 @@ IsComparedPathSet S d see digest asks =
     ((own_paths d see ≡ asks) × (sha256 (paths_text asks) ≡ digest))
     ⊎ (IsSelected S d digest × HoldsPaths S digest asks)
 
--- What is met at one process on its view: what the store holds under its own digest; the weak text, the
+-- What is compared at one process on its view: what the store holds under its own digest; the weak text, the
 -- contents of the declared files and the path set of the run; of that path set, and of each that is held and that
 -- a selector of the process names, the strong text of asking it now, and the contents and names that it is
 -- answered; and the files that the run made. There are finitely many of them, as the store holds finitely many

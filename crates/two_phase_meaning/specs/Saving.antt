@@ -111,11 +111,11 @@ pub record Spelled (f : Facts) : Type 0 where
   pub paths : read_paths_text (paths_text f.paths) ≡ Some f.paths
   pub entry : read_entry_text (entry_text (record_entry f)) ≡ Some (record_entry f)
 
--- what is met where a record is put into a store: what the store holds under its own digest, and what is put
+-- what is compared where a record is put into a store: what the store holds under its own digest, and what is put
 abbrev pub ComparedInSave : Holdings → Facts → List ℕ → Type 0
 ComparedInSave S f x = HoldsBlob S x ⊎ Has (blobs_of f) x
 
--- what is met where a record is put into a store in which a selector with this path set is usable for a
+-- what is compared where a record is put into a store in which a selector with this path set is usable for a
 -- process
 abbrev pub ComparedInStay : Holdings → Facts → Desc → (Ask → Answer) → List ℕ → List Ask → List ℕ → Type 0
 ComparedInStay S f d see digest asks x = ComparedInSave S f x ⊎ (asked_text d see digest asks ≡ x)

@@ -136,6 +136,7 @@ fn two_looks<K: Keeper>(
             said.push(b' ')?;
         }
     }
+    keeper.close(reader);
     Ok(())
 }
 

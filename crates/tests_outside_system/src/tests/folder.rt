@@ -1,7 +1,7 @@
 //! A store in a folder. What its calls answer is said by a text, a word for each.
 
 use bx_io::{Got, Keeper, Listed, PutFault, is_name};
-use bx_io_system::FolderKeeper;
+use bx_io_system::{FolderKeeper, SystemDisk};
 use std::alloc::{AllocError, Global};
 use std::fs;
 use std::rt::Files;
@@ -132,7 +132,8 @@ fn say_folder<R: Files, K: Keeper>(
 fn a_folder_keeps_what_was_put_and_a_full_disk_is_a_fault(rt: HostRuntime) -> Result<(), Fail> {
     let alloc = rt.alloc();
     let mut said = Vec::new(alloc);
-    let mut keeper = FolderKeeper::new(rt.clone()?, String::from_str(alloc, "test-folder")?);
+    let disk = SystemDisk::new(rt.clone()?, String::from_str(alloc, "test-folder")?);
+    let mut keeper = FolderKeeper::new(disk);
     say_folder(&rt, alloc, &mut said, &mut keeper)?;
     let wanted = "made one made made e none made failed abc be ";
     assert_eq!(rt; said.as_slice(), wanted.as_bytes());

@@ -1,64 +1,182 @@
+use Rattle.std.proofs.Common.{◌≡◌, ◌⊎◌, ◌∙◌, ℕ, List, ap, arith, inl, inr, length, refl, subst, sym}
+use Rattle.bx_io.proofs.Changes.{keeps_all}
+use Rattle.std.specs.Prelude.{vec_len}
+use Rattle.bx_engine.specs.Calls.{Call, Given, call_of, change_of, given_of, written_of}
+use Rattle.bx_engine.specs.Ended.{Answered, Left, Unanswered}
 use Rattle.bx_engine.specs.Expected.{limits_of}
-use Rattle.bx_engine.specs.Stores.{uses_store}
-use Rattle.bx_engine.proofs.ReadingKeepsEnding.{answers_whole, begins_whole, fair_read, left_whole, notes_whole, read_slice, shown_whole}
-use Rattle.bx_engine.proofs.StatusesDiffer.{not_begun}
-use Rattle.std.proofs.Common.{refl}
+use Rattle.bx_engine.specs.Known.{IsInput, ReadOf}
+use Rattle.bx_engine.specs.Statuses.{HasNoNotes}
+use Rattle.bx_engine.specs.declared.status.Status.TheVariants as statuses
+use Rattle.bx_engine.proofs.CallsEnd.{left_read}
+use Rattle.bx_engine.proofs.ReadingKeepsEnding.{left_slice, read_out, read_slice}
+use Rattle.bx_engine.proofs.StatusesDiffer.{answered_status, memory_is_no_refusal, not_begun, not_silent, quiet_refusal, refused_status}
 use Rattle.bx_engine.proofs.StoresLeft.{left_same, none_put}
 use Rattle.bx_engine.proofs.build.build.Goals as goal
 
-pub returns-in-Ok-clause-answers : goal.returns-in-Ok-clause-answers
-returns-in-Ok-clause-answers g c input known fair whole =
-    let read = read_slice _ _ input _ _ _ c.deref.ensures.value c.deref.ensures.len known c.in-Ok.ensures.consumed c.in-Ok.ensures.bound c.in-Ok.ensures.end in
-    answers_whole c.args.order.now input _ _ _ _ _ read
-    (c.answer.ensures.answers (fair_read (uses_store c.args.order.now) (limits_of c.args.order.now) input _ _ _ read fair) whole)
-
-pub returns-in-Ok-clause-refused : goal.returns-in-Ok-clause-refused
-returns-in-Ok-clause-refused g c input known r =
-    answers_whole c.args.order.now input _ _ _ _ _
-    (read_slice _ _ input _ _ _ c.deref.ensures.value c.deref.ensures.len known c.in-Ok.ensures.consumed c.in-Ok.ensures.bound c.in-Ok.ensures.end)
-    (c.answer.ensures.refused r)
-
-pub returns-in-Ok-clause-shown : goal.returns-in-Ok-clause-shown
-returns-in-Ok-clause-shown g c gone =
-    shown_whole c.args.order.now _ _ _ _ _ _ _ _ _ _ _ (λ input known. read_slice _ _ input _ _ _ c.deref.ensures.value c.deref.ensures.len known c.in-Ok.ensures.consumed c.in-Ok.ensures.bound c.in-Ok.ensures.end) (c.answer.ensures.shown gone)
-
-pub returns-in-Ok-clause-begins : goal.returns-in-Ok-clause-begins
-returns-in-Ok-clause-begins g c input known fair cut =
-    let read = read_slice _ _ input _ _ _ c.deref.ensures.value c.deref.ensures.len known c.in-Ok.ensures.consumed c.in-Ok.ensures.bound c.in-Ok.ensures.end in
-    begins_whole c.args.order.now input _ _ _ _ read
-    (c.answer.ensures.begins (fair_read (uses_store c.args.order.now) (limits_of c.args.order.now) input _ _ _ read fair) cut)
-
-pub returns-in-Ok-clause-read : goal.returns-in-Ok-clause-read
-returns-in-Ok-clause-read g c input known came =
-    (read_slice _ _ input _ _ _ c.deref.ensures.value c.deref.ensures.len known c.in-Ok.ensures.consumed c.in-Ok.ensures.bound c.in-Ok.ensures.end).left_is
-
-pub returns-in-Ok-clause-notes : goal.returns-in-Ok-clause-notes
-returns-in-Ok-clause-notes g c input known fair whole =
-    let read = read_slice _ _ input _ _ _ c.deref.ensures.value c.deref.ensures.len known c.in-Ok.ensures.consumed c.in-Ok.ensures.bound c.in-Ok.ensures.end in
-    notes_whole c.args.order.now input _ _ _ _ _ _ _ _ read
-    (c.answer.ensures.notes (fair_read (uses_store c.args.order.now) (limits_of c.args.order.now) input _ _ _ read fair) whole)
-
-pub returns-in-Ok-clause-left : goal.returns-in-Ok-clause-left
-returns-in-Ok-clause-left g c input before known is honest fair =
-    let read = read_slice _ _ input _ _ _ c.deref.ensures.value c.deref.ensures.len known c.in-Ok.ensures.consumed c.in-Ok.ensures.bound c.in-Ok.ensures.end in
-    left_whole (limits_of c.args.order.now) input _ _ before _ read
-    (c.answer.ensures.left before is honest (fair_read (uses_store c.args.order.now) (limits_of c.args.order.now) input _ _ _ read fair))
-
-pub returns-in-Ok-clause-kept : goal.returns-in-Ok-clause-kept
-returns-in-Ok-clause-kept g c none = c.answer.ensures.kept (not_begun _ c.answer.ensures.status none)
+pub deliver-requires : goal.deliver-requires
+deliver-requires g c = c.in-Ok-respond.ensures.response.whole
 
 -- ## Nothing was read
 
-pub returns-in-Err-Failed-clause-left : goal.returns-in-Err-Failed-clause-left
-returns-in-Err-Failed-clause-left g c input before known is honest fair =
-    left_same (limits_of c.args.order.now) input before (g.K.Keeper.known c.args.keeper.now) is honest
+pub returns-in-Err-Failed : goal.returns-in-Err-Failed
+returns-in-Err-Failed g c =
+    let order = c.args.order.now in
+    let known = g.K.Keeper.known c.args.keeper.now in
+    let source : Given =
+    given_of (g.S.Source.given c.args.source.now) (g.S.Source.given c.read_all.new.source) (g.S.Source.left c.args.source.now) (g.S.Source.left c.read_all.new.source)
+    (g.S.Source.ended c.read_all.new.source) (g.S.Source.faults c.args.source.now) (g.S.Source.faults c.read_all.new.source) in
+    let call : Call =
+    call_of statuses.SourceFailed source
+    (written_of (g.O.Sink.taken c.args.out.now) (g.O.Sink.taken c.args.out.now) (g.O.Sink.faults c.args.out.now) (g.O.Sink.faults c.args.out.now))
+    (written_of (g.N.Sink.taken c.args.notes.now) (g.N.Sink.taken c.args.notes.now) (g.N.Sink.faults c.args.notes.now) (g.N.Sink.faults c.args.notes.now))
+    (change_of (g.K.Keeper.known c.args.keeper.now) (g.K.Keeper.known c.args.keeper.now) (g.K.Keeper.bound c.args.keeper.now) (g.K.Keeper.faults c.args.keeper.now)
+    (g.K.Keeper.faults c.args.keeper.now)) in
+    let gave = c.read_all.ensures.piece in
+    let u : Unanswered call = record {
+      silent = inr (inl refl);
+      gives = record { piece = gave.0; gave = gave.1; moved = gave.2 };
+      out = refl;
+      source_cause = record { later = c.in-Err-Failed.ensures.cause.later; rose = λ e. c.in-Err-Failed.ensures.cause.rose (cc) };
+      source_no_fault = λ n. absurd (n refl);
+      out_faults = refl;
+      puts = none_put known known (keeps_all known);
+      later = omega arith;
+    } in
+    record {
+      begun = λ e. cc;
+      ended = inl (u, λ input asked held is honest fair. left_same (limits_of order) input held known known (keeps_all known) honest);
+      silent = λ s. refl;
+      no_notes = λ s. refl;
+      kept = λ s. refl;
+      untouched = λ off. refl;
+      bound = refl;
+    }
 
-pub returns-in-Err-Memory-clause-left : goal.returns-in-Err-Memory-clause-left
-returns-in-Err-Memory-clause-left g c input before known is honest fair =
-    left_same (limits_of c.args.order.now) input before (g.K.Keeper.known c.args.keeper.now) is honest
+pub returns-in-Err-Memory : goal.returns-in-Err-Memory
+returns-in-Err-Memory g c =
+    let order = c.args.order.now in
+    let known = g.K.Keeper.known c.args.keeper.now in
+    let source : Given =
+    given_of (g.S.Source.given c.args.source.now) (g.S.Source.given c.read_all.new.source) (g.S.Source.left c.args.source.now) (g.S.Source.left c.read_all.new.source)
+    (g.S.Source.ended c.read_all.new.source) (g.S.Source.faults c.args.source.now) (g.S.Source.faults c.read_all.new.source) in
+    let call : Call =
+    call_of statuses.OutOfMemory source
+    (written_of (g.O.Sink.taken c.args.out.now) (g.O.Sink.taken c.args.out.now) (g.O.Sink.faults c.args.out.now) (g.O.Sink.faults c.args.out.now))
+    (written_of (g.N.Sink.taken c.args.notes.now) (g.N.Sink.taken c.args.notes.now) (g.N.Sink.faults c.args.notes.now) (g.N.Sink.faults c.args.notes.now))
+    (change_of (g.K.Keeper.known c.args.keeper.now) (g.K.Keeper.known c.args.keeper.now) (g.K.Keeper.bound c.args.keeper.now) (g.K.Keeper.faults c.args.keeper.now)
+    (g.K.Keeper.faults c.args.keeper.now)) in
+    let gave = c.read_all.ensures.piece in
+    let u : Unanswered call = record {
+      silent = inr (inr refl);
+      gives = record { piece = gave.0; gave = gave.1; moved = gave.2 };
+      out = refl;
+      source_cause = record { later = c.in-Err-Memory.ensures.cause.later; rose = λ e. absurd (cc) };
+      source_no_fault = λ n. c.in-Err-Memory.ensures.no_fault (λ e. cc);
+      out_faults = refl;
+      puts = none_put known known (keeps_all known);
+      later = omega arith;
+    } in
+    record {
+      begun = λ e. cc;
+      ended = inl (u, λ input asked held is honest fair. left_same (limits_of order) input held known known (keeps_all known) honest);
+      silent = λ s. refl;
+      no_notes = λ s. refl;
+      kept = λ s. refl;
+      untouched = λ off. refl;
+      bound = refl;
+    }
 
-pub returns-in-Err-Failed-clause-puts : goal.returns-in-Err-Failed-clause-puts
-returns-in-Err-Failed-clause-puts g c = none_put _ _ refl
+-- ## Nothing was answered
 
-pub returns-in-Err-Memory-clause-puts : goal.returns-in-Err-Memory-clause-puts
-returns-in-Err-Memory-clause-puts g c = none_put _ _ refl
+pub returns-in-Err : goal.returns-in-Err
+returns-in-Err g c =
+    let order = c.args.order.now in
+    let source : Given =
+    given_of (g.S.Source.given c.args.source.now) (g.S.Source.given c.read_all.new.source) (g.S.Source.left c.args.source.now) (g.S.Source.left c.read_all.new.source)
+    (g.S.Source.ended c.read_all.new.source) (g.S.Source.faults c.args.source.now) (g.S.Source.faults c.read_all.new.source) in
+    let call : Call =
+    call_of statuses.OutOfMemory source
+    (written_of (g.O.Sink.taken c.args.out.now) (g.O.Sink.taken c.args.out.now) (g.O.Sink.faults c.args.out.now) (g.O.Sink.faults c.args.out.now))
+    (written_of (g.N.Sink.taken c.args.notes.now) (g.N.Sink.taken c.args.notes.now) (g.N.Sink.faults c.args.notes.now) (g.N.Sink.faults c.args.notes.now))
+    (change_of (g.K.Keeper.known c.args.keeper.now) (g.K.Keeper.known c.respond.new.keeper) (g.K.Keeper.bound c.args.keeper.now) (g.K.Keeper.faults c.args.keeper.now)
+    (g.K.Keeper.faults c.respond.new.keeper)) in
+    let same = c.in-Ok.ensures.no_fault (λ e. cc) in
+    let gave = c.read_all.ensures.piece in
+    let u : Unanswered call = record {
+      silent = inr (inr refl);
+      gives = record { piece = gave.0; gave = gave.1; moved = gave.2 };
+      out = refl;
+      source_cause = record { later = omega (arith, same); rose = λ e. absurd (cc) };
+      source_no_fault = λ n. same;
+      out_faults = refl;
+      puts = c.respond.ensures.puts;
+      later = c.respond.ensures.later;
+    } in
+    let read : (input : List ℕ) → IsInput source input → ReadOf input c.deref.result.now =
+    λ input asked. read_slice source input _ _ _ c.deref.ensures.value c.deref.ensures.len asked c.in-Ok.ensures.gave c.in-Ok.ensures.moved c.in-Ok.ensures.bound c.in-Ok.ensures.none_left in
+    let left : Left call c.deref.result.now order = c.respond.ensures.left in
+    record {
+      begun = λ e. cc;
+      ended = inl (u, λ input asked. left_read call input c.deref.result.now order (read input asked) left);
+      silent = λ s. refl;
+      no_notes = λ s. refl;
+      kept = λ none. absurd (memory_is_no_refusal none);
+      untouched = c.respond.ensures.untouched;
+      bound = c.respond.ensures.bound;
+    }
+
+-- ## An answer
+
+pub returns : goal.returns
+returns g c =
+    let order = c.args.order.now in
+    let source : Given =
+    given_of (g.S.Source.given c.args.source.now) (g.S.Source.given c.read_all.new.source) (g.S.Source.left c.args.source.now) (g.S.Source.left c.read_all.new.source)
+    (g.S.Source.ended c.read_all.new.source) (g.S.Source.faults c.args.source.now) (g.S.Source.faults c.read_all.new.source) in
+    let call : Call =
+    call_of c.deliver.result source
+    (written_of (g.O.Sink.taken c.args.out.now) (g.O.Sink.taken c.deliver.new.out) (g.O.Sink.faults c.args.out.now) (g.O.Sink.faults c.deliver.new.out))
+    (written_of (g.N.Sink.taken c.args.notes.now) (g.N.Sink.taken c.deliver.new.notes) (g.N.Sink.faults c.args.notes.now) (g.N.Sink.faults c.deliver.new.notes))
+    (change_of (g.K.Keeper.known c.args.keeper.now) (g.K.Keeper.known c.respond.new.keeper) (g.K.Keeper.bound c.args.keeper.now) (g.K.Keeper.faults c.args.keeper.now)
+    (g.K.Keeper.faults c.respond.new.keeper)) in
+    let given = c.in-Ok.ensures in
+    let gave = c.read_all.ensures.piece in
+    let same = given.no_fault (λ e. cc) in
+    let response = c.in-Ok-respond.ensures.response in
+    let came = answered_status c.in-Ok-respond.response.status c.deliver.result response.whole c.deliver.ensures.status in
+    let long : length c.in-Ok.input.items ≡ vec_len c.in-Ok.input = ap length (sym c.deref.ensures.value) ∙ c.deref.ensures.len in
+    let a : Answered order call = record {
+      bytes = c.deref.result.now;
+      read = λ input asked. read_slice source input _ _ _ c.deref.ensures.value c.deref.ensures.len asked given.gave given.moved given.bound given.none_left;
+      gives = record { piece = gave.0; gave = gave.1; moved = gave.2 };
+      read_out = read_out source c.in-Ok.input.items _ long given.gave given.bound given.end;
+      rest = left_slice source _ _ long given.moved given.bound given.none_left;
+      response = c.in-Ok-respond.response;
+      responds = response;
+      status = c.deliver.ensures.status;
+      written = c.deliver.ensures.written;
+      begun = c.deliver.ensures.begun;
+      noted = c.deliver.ensures.noted;
+      left = c.respond.ensures.left;
+      source = same;
+      out_cause = c.deliver.ensures.cause;
+      out_no_fault = c.deliver.ensures.no_fault;
+      puts = c.respond.ensures.puts;
+      later = c.respond.ensures.later;
+    } in
+    record {
+      begun = λ none. absurd (not_silent c.deliver.result came (inl none));
+      ended = inr a;
+      silent = λ s. absurd (not_silent c.deliver.result came s);
+      no_notes = λ quiet. elim c.deliver.ensures.status [
+        | inl is ↦ c.deliver.ensures.no_notes (response.quiet (quiet_refusal _ response.whole (subst HasNoNotes is quiet)))
+        | inr cut ↦ c.deliver.ensures.cut cut
+      ];
+      kept = λ none.
+          c.in-Ok-respond.ensures.kept (refused_status _ _ c.deliver.ensures.status (not_begun c.deliver.result (answered_or_memory came) none));
+      untouched = c.respond.ensures.untouched;
+      bound = c.respond.ensures.bound;
+    }
+  where
+    answered_or_memory : {A B C : Type 0} → A ⊎ B → A ⊎ B ⊎ C
+    answered_or_memory h = elim h [ inl a ↦ inl a | inr b ↦ inr (inl b) ]

@@ -1,12 +1,13 @@
-use Rattle.std.proofs.Common.{◌≡◌, ◌≤◌, ◌-◌, length}
+use Rattle.std.proofs.Common.{◌≡◌, ◌≤◌, ◌-◌, ◌++◌, length}
 use Rattle.std.specs.Prelude.{vec_len}
-use Rattle.std.specs.Io.KnownBytes.{Consumes}
+use Rattle.bx_io.specs.Told.{Moves}
 use Rattle.bx_engine.specs.declared.limits.TheConstants.{READ_LIMIT, READ_PIECE}
 use Rattle.bx_engine.proofs.reading.read_all.Given as goal
 
 abbrev pub invariant-pieces : goal.invariant-pieces
 invariant-pieces g l = record {
-  consumed : Consumes (g.S.Source.left l.fn.source) (g.S.Source.left l.source) l.held.items;
+  gave : g.S.Source.given l.source ≡ g.S.Source.given l.fn.source ++ l.held.items;
+  moved : Moves (g.S.Source.left l.fn.source) (g.S.Source.left l.source) l.held.items;
   bound : vec_len l.held ≤ READ_LIMIT;
   buffer : length l.buffer.items ≡ READ_PIECE;
   same : g.S.Source.faults l.source ≡ g.S.Source.faults l.fn.source;

@@ -1,12 +1,16 @@
+use Rattle.bx_engine.specs.Calls.{StoreChange, change_of}
 use Rattle.bx_engine.proofs.BuildsAreShown.{both_ok, build_response}
 use Rattle.bx_engine.proofs.response.build_plan.Goals as goal
 
 pub returns-clause-response : goal.returns-clause-response
 returns-clause-response g c =
     let r = c.in_ok-retired.ensures in
+    let change : StoreChange =
+    change_of (g.K.Keeper.known c.args.keeper.now) (g.K.Keeper.known c.retire_empty.new.keeper) (g.K.Keeper.bound c.args.keeper.now)
+    (g.K.Keeper.faults c.args.keeper.now) (g.K.Keeper.faults c.retire_empty.new.keeper) in
     both_ok c.show.result _ _ _
     (λ response shown paths.
-    build_response c.args.plan.now.pips c.args.sources.now c.args.plan.now.tool_budget c.args.cached _ c.in_ok-retired.retired response
+    build_response c.args.plan.now.pips c.args.sources.now c.args.plan.now.tool_budget c.args.cached change c.in_ok-retired.retired response
     (record {
       build = r.build;
       number = r.number;

@@ -1,5 +1,6 @@
 use Rattle.std.proofs.Common.{refl}
 use Rattle.std.proofs.lemmas.Result.{IfOk-weaker}
+use Rattle.bx_io.proofs.Changes.{keeps_all}
 use Rattle.bx_engine.specs.Expected.{limits_of}
 use Rattle.bx_engine.proofs.ResponsesAreExpected.{bundle_responds}
 use Rattle.bx_engine.proofs.StoresLeft.{left_same, none_put}
@@ -9,7 +10,7 @@ pub returns-in-Ok-clause-response : goal.returns-in-Ok-clause-response
 returns-in-Ok-clause-response g c = c.respond_tree.ensures.response c.args.input.now c.in-Ok.ensures
 
 pub returns-in-Ok-clause-left : goal.returns-in-Ok-clause-left
-returns-in-Ok-clause-left g c before is honest fair = c.respond_tree.ensures.left c.args.input.now before c.in-Ok.ensures is honest fair
+returns-in-Ok-clause-left g c held is honest fair = c.respond_tree.ensures.left c.args.input.now held c.in-Ok.ensures is honest fair
 
 pub returns-in-Err-clause-response : goal.returns-in-Err-clause-response
 returns-in-Err-clause-response g c =
@@ -20,8 +21,8 @@ pub returns-in-Err-clause-kept : goal.returns-in-Err-clause-kept
 returns-in-Err-clause-kept g c = IfOk-weaker c.refuse_bundle.result _ _ (λ response h refused. refl) c.refuse_bundle.ensures
 
 pub returns-in-Err-clause-left : goal.returns-in-Err-clause-left
-returns-in-Err-clause-left g c before is honest fair =
-    left_same (limits_of c.args.order.now) c.args.input.now before (g.K.Keeper.known c.args.keeper.now) is honest
+returns-in-Err-clause-left g c held is honest fair =
+    left_same (limits_of c.args.order.now) c.args.input.now held (g.K.Keeper.known c.args.keeper.now) (g.K.Keeper.known c.args.keeper.now) (keeps_all (g.K.Keeper.known c.args.keeper.now)) honest
 
 pub returns-in-Err-clause-puts : goal.returns-in-Err-clause-puts
-returns-in-Err-clause-puts g c = none_put _ _ refl
+returns-in-Err-clause-puts g c = none_put (g.K.Keeper.known c.args.keeper.now) (g.K.Keeper.known c.args.keeper.now) (keeps_all (g.K.Keeper.known c.args.keeper.now))

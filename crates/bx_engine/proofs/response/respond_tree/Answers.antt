@@ -1,11 +1,12 @@
 use Rattle.std.proofs.Common.{◌∙◌, ap, refl}
 use Rattle.std.proofs.lemmas.Bool.{false≢true}
 use Rattle.std.proofs.lemmas.Result.{IfOk-weaker}
+use Rattle.bx_io.proofs.Changes.{keeps_all}
 use Rattle.bx_engine.specs.Expected.{limits_of}
 use Rattle.bx_engine.specs.Stores.{uses_store}
 use Rattle.bx_engine.specs.declared.fault.InputFault.TheVariants.{Reserved}
 use Rattle.bx_engine.proofs.ResponsesAreExpected.{build_not_refused, build_responds, fault_responds, input_responds}
-use Rattle.bx_engine.proofs.StoresLeft.{left_of_plan, left_same, none_put}
+use Rattle.bx_engine.proofs.StoresLeft.{keeps_same, left_of_plan, left_same, none_put}
 use Rattle.bx_engine.proofs.response.respond_tree.Goals as goal
 
 -- ## A reserved path
@@ -19,8 +20,8 @@ pub returns-then-reserved-clause-kept : goal.returns-then-reserved-clause-kept
 returns-then-reserved-clause-kept g c = IfOk-weaker c.refuse_input.result _ _ (λ response h refused. refl) c.refuse_input.ensures
 
 pub returns-then-reserved-clause-left : goal.returns-then-reserved-clause-left
-returns-then-reserved-clause-left g c input before bundle is honest fair =
-    left_same (limits_of c.args.order.now) input before (g.K.Keeper.known c.args.keeper.now) is honest
+returns-then-reserved-clause-left g c input held bundle is honest fair =
+    left_same (limits_of c.args.order.now) input held (g.K.Keeper.known c.args.keeper.now) (g.K.Keeper.known c.args.keeper.now) (keeps_all (g.K.Keeper.known c.args.keeper.now)) honest
 
 -- ## A plan
 
@@ -37,12 +38,14 @@ returns-in-Ok-clause-kept g c =
     IfOk-weaker c.build_plan.result _ _ (λ response h refused. absurd (build_not_refused _ _ _ _ _ response h refused)) c.build_plan.ensures.response
 
 pub returns-in-Ok-clause-left : goal.returns-in-Ok-clause-left
-returns-in-Ok-clause-left g c input before bundle is honest fair =
+returns-in-Ok-clause-left g c input held bundle is honest fair =
     left_of_plan (uses_store c.args.order.now) (limits_of c.args.order.now) input c.args.tree c.in-Ok.end.sources c.in-Ok.end.plan.pips
-    c.in-Ok.end.plan.tool_budget before (g.K.Keeper.known c.args.keeper.now) (g.K.Keeper.known c.build_plan.new.keeper) is honest fair
+    c.in-Ok.end.plan.tool_budget held (g.K.Keeper.known c.args.keeper.now) (g.K.Keeper.known c.build_plan.new.keeper) is honest fair
     (record { bundle = bundle; free = λ r. false≢true (c.if-reserved.ensures.1 r) }) c.in-Ok.ensures.plan c.in-Ok.ensures.sources
-    c.in-Ok.ensures.tool_budget (c.build_plan.ensures.left before is)
-    (λ off. ap (λ k. g.K.Keeper.known k) (c.build_plan.ensures.untouched (c.is_cached.ensures ∙ off)))
+    c.in-Ok.ensures.tool_budget (c.build_plan.ensures.left held is)
+    (λ off.
+    keeps_same (g.K.Keeper.known c.args.keeper.now) (g.K.Keeper.known c.build_plan.new.keeper)
+    (ap (λ k. g.K.Keeper.known k) (c.build_plan.ensures.untouched (c.is_cached.ensures ∙ off))))
 
 -- ## No plan
 
@@ -57,11 +60,11 @@ pub returns-in-Err-clause-kept : goal.returns-in-Err-clause-kept
 returns-in-Err-clause-kept g c = IfOk-weaker c.refuse_fault.result _ _ (λ response h refused. refl) c.refuse_fault.ensures
 
 pub returns-in-Err-clause-left : goal.returns-in-Err-clause-left
-returns-in-Err-clause-left g c input before bundle is honest fair =
-    left_same (limits_of c.args.order.now) input before (g.K.Keeper.known c.args.keeper.now) is honest
+returns-in-Err-clause-left g c input held bundle is honest fair =
+    left_same (limits_of c.args.order.now) input held (g.K.Keeper.known c.args.keeper.now) (g.K.Keeper.known c.args.keeper.now) (keeps_all (g.K.Keeper.known c.args.keeper.now)) honest
 
 pub returns-then-reserved-clause-puts : goal.returns-then-reserved-clause-puts
-returns-then-reserved-clause-puts g c = none_put _ _ refl
+returns-then-reserved-clause-puts g c = none_put (g.K.Keeper.known c.args.keeper.now) (g.K.Keeper.known c.args.keeper.now) (keeps_all (g.K.Keeper.known c.args.keeper.now))
 
 pub returns-in-Err-clause-puts : goal.returns-in-Err-clause-puts
-returns-in-Err-clause-puts g c = none_put _ _ refl
+returns-in-Err-clause-puts g c = none_put (g.K.Keeper.known c.args.keeper.now) (g.K.Keeper.known c.args.keeper.now) (keeps_all (g.K.Keeper.known c.args.keeper.now))

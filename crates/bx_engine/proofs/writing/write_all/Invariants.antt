@@ -1,5 +1,5 @@
 use Rattle.std.proofs.Common.{◌≡◌, ◌++◌, ℕ, List, [], length}
-use Rattle.std.specs.Io.KnownBytes.{Appends}
+use Rattle.bx_engine.specs.Known.{Appends}
 use Rattle.bx_engine.proofs.writing.write_all.Given as goal
 
 abbrev pub invariant-pieces : goal.invariant-pieces

@@ -56,7 +56,7 @@ pips-preserved g c =
     let budget = c.args.frame.now.plan.now.tool_budget in
     let n = c.pips.number in
     let next = c.in_ok-next.next in
-    let held = g.R.KeepReader.held c.pips.reader in
+    let held = g.R.KeepReader.held c.decide.new.reader in
     let within = subst (λ (ps : List Pip). n < length ps) c.pips-pips.ensures.pips c.pips-test.true in
     let decides : DecidesAt pips tree budget held c.pips.slots.items n (slice_get pips n) next =
     subst (λ (ts : List Slot). DecidesAt pips tree budget held ts n (slice_get pips n) next) c.as_slice.ensures.value c.in_ok-next.ensures.decided in
@@ -66,8 +66,8 @@ pips-preserved g c =
           follows_as pips tree budget S (n + 1) _ _ _ _ _ _ _ _ _ _ c.in_ok-push.ensures.items c.in_ok-push-2.ensures.items c.in_ok-add_record.ensures
           c.counted-ways.ensures.hits c.counted-ways.ensures.faulted
           (follows_more pips tree budget S fair n c.pips.verdicts.items c.pips.slots.items c.pips.records.items c.pips.ways.hits c.pips.ways.faulted
-          (c.pips.invariant.follows S is fair) next within c.in_ok-next.ensures.agrees (slice_get pips n) refl
-          (subst (λ (o : Option Holdings). DecidesAt pips tree budget o c.pips.slots.items n (slice_get pips n) next) (c.pips.invariant.reads.held_is ∙ is) decides));
+          (c.pips.invariant.follows S (c.in_ok-next.ensures.reader.held_is S is) fair) next within c.in_ok-next.ensures.agrees (slice_get pips n) refl
+          (subst (λ (o : Option Holdings). DecidesAt pips tree budget o c.pips.slots.items n (slice_get pips n) next) is decides));
       verdicts_long =
           ap length c.in_ok-push.ensures.items ∙ length-append c.pips.verdicts.items (next.ended.verdict ∷ []) ∙ ap (λ k. k + 1) c.pips.invariant.verdicts_long;
       slots_long =

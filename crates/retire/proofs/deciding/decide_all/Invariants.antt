@@ -12,7 +12,7 @@ use Rattle.retire.proofs.deciding.decide_all.Given as goal
 
 abbrev pub invariant-pips : goal.invariant-pips
 invariant-pips g l = record {
-  follows : (S : Holdings) → g.R.KeepReader.held l.fn.reader ≡ Some S → IsFair l.fn.frame.plan.now.pips l.fn.frame.sources.now l.fn.frame.plan.now.tool_budget S
+  follows : (S : Holdings) → g.R.KeepReader.held l.reader ≡ Some S → IsFair l.fn.frame.plan.now.pips l.fn.frame.sources.now l.fn.frame.plan.now.tool_budget S
       → FollowsTo l.fn.frame.plan.now.pips l.fn.frame.sources.now l.fn.frame.plan.now.tool_budget S l.number l.verdicts.items l.slots.items l.records.items
       l.ways.hits l.ways.faulted;
   verdicts_long : length l.verdicts.items ≡ l.number;

@@ -15,7 +15,7 @@ pub returns-clause-decided : goal.returns-clause-decided
 returns-clause-decided g c =
     let taken = c.in_ok-taken.taken in
     let ended = c.in_ok-ended.ended in
-    decided_by c.args.frame.now.plan.now.pips c.args.frame.now.sources.now c.args.frame.now.plan.now.tool_budget (g.R.KeepReader.held c.args.reader.now)
+    decided_by c.args.frame.now.plan.now.pips c.args.frame.now.sources.now c.args.frame.now.plan.now.tool_budget (g.R.KeepReader.held c.take.new.reader)
     (map slot_files c.args.slots.now) c.args.inputs.now c.args.pip (process_in (slice_get c.args.frame.now.plan.now.pips c.args.pip)) taken c.next_of.result
     c.in_ok-taken.ensures.taken c.in_ok-taken.ensures.now (ap ended_result c.next_of.ensures.ended ∙ c.in_ok-ended.ensures.result) c.next_of.ensures.way
     (c.next_of.ensures.saved

@@ -1,13 +1,14 @@
 use Rattle.std.proofs.Common.{◌+◌, ◌∙◌, arith, refl}
+use Rattle.bx_io.proofs.Changes.{keeps_all}
 use Rattle.retire.specs.Saving.{IsSuccess}
 use Rattle.retire.proofs.Putting.{all_at_end, all_next, each_next, first_of, good_one, rose_more}
 use Rattle.retire.proofs.saving.save_all.Goals as goal
 
 pub records-init : goal.records-init
 records-init g c = record {
-  all = λ none. refl;
-  each = refl;
-  held = c.new-held.ensures (g.K.Keeper.known c.args.keeper.now);
+  all = λ none. keeps_all (g.K.Keeper.known c.args.keeper.now);
+  each = keeps_all (g.K.Keeper.known c.args.keeper.now);
+  held = c.new-held.ensures (g.K.Keeper.known c.args.keeper.now).held;
   bound = refl;
   rose = λ some. omega arith;
   later = omega arith;

@@ -8,7 +8,7 @@ abbrev pub invariant-records : goal.invariant-records
 invariant-records g l = record {
   all : l.faults ≡ 0 → PutsAllEach (g.K.Keeper.known l.fn.keeper) (take l.ran-index l.records) (g.K.Keeper.known l.keeper);
   each : PutsEach (g.K.Keeper.known l.fn.keeper) (take l.ran-index l.records) (g.K.Keeper.known l.keeper);
-  held : AreHeld (g.K.Keeper.known l.keeper) l.held;
+  held : AreHeld (g.K.Keeper.known l.keeper).held l.held;
   bound : g.K.Keeper.bound l.keeper ≡ g.K.Keeper.bound l.fn.keeper;
   rose : IsSome (g.K.Keeper.bound l.fn.keeper) → g.K.Keeper.faults l.fn.keeper + l.faults ≤ g.K.Keeper.faults l.keeper;
   later : g.K.Keeper.faults l.fn.keeper ≤ g.K.Keeper.faults l.keeper;

@@ -10,8 +10,8 @@ use Rattle.retire.proofs.taking.take.Goals as goal
 pub returns-in-Hit-clause-taken : goal.returns-in-Hit-clause-taken
 returns-in-Hit-clause-taken g c =
     takes_in (process_in (slice_get c.args.frame.now.plan.now.pips c.args.pip)) c.args.frame.now.sources.now c.args.inputs.now c.args.frame.now.plan.now.tool_budget
-    c.in_ok-described.described _ _ (g.R.KeepReader.held c.args.reader.now) (takings.Hit c.in-Hit.found) c.in_ok-described.ensures c.in_ok-view.ensures
-    (λ S e. hit_taken (g.R.KeepReader.held c.args.reader.now) S c.in_ok-described.described _ c.in-Hit.found e c.in-Hit.ensures.answer c.in-Hit.ensures.now)
+    c.in_ok-described.described _ _ (g.R.KeepReader.held c.lookup.new.reader) (takings.Hit c.in-Hit.found) c.in_ok-described.ensures c.in_ok-view.ensures
+    (λ S e. hit_taken (g.R.KeepReader.held c.lookup.new.reader) S c.in_ok-described.described _ c.in-Hit.found e c.in-Hit.ensures.answer c.in-Hit.ensures.now)
 
 pub returns-in-Hit-clause-reader : goal.returns-in-Hit-clause-reader
 returns-in-Hit-clause-reader g c = on_read _ _ _ _ _ _ _ c.in-Hit.ensures.reader
@@ -19,8 +19,8 @@ returns-in-Hit-clause-reader g c = on_read _ _ _ _ _ _ _ c.in-Hit.ensures.reader
 pub returns-in_ok-ran-in-Miss-clause-taken : goal.returns-in_ok-ran-in-Miss-clause-taken
 returns-in_ok-ran-in-Miss-clause-taken g c =
     takes_in (process_in (slice_get c.args.frame.now.plan.now.pips c.args.pip)) c.args.frame.now.sources.now c.args.inputs.now c.args.frame.now.plan.now.tool_budget
-    c.in_ok-described.described _ _ (g.R.KeepReader.held c.args.reader.now) (takings.Missed c.in_ok-ran-in-Miss.ran) c.in_ok-described.ensures c.in_ok-view.ensures
-    (λ S e. miss_taken (g.R.KeepReader.held c.args.reader.now) S c.in_ok-described.described _ _ c.in_ok-ran-in-Miss.ran e c.in-Miss.ensures.answer c.in-Miss.ensures.same
+    c.in_ok-described.described _ _ (g.R.KeepReader.held c.lookup.new.reader) (takings.Missed c.in_ok-ran-in-Miss.ran) c.in_ok-described.ensures c.in_ok-view.ensures
+    (λ S e. miss_taken (g.R.KeepReader.held c.lookup.new.reader) S c.in_ok-described.described _ _ c.in_ok-ran-in-Miss.ran e c.in-Miss.ensures.answer c.in-Miss.ensures.same
     c.in_ok-ran-in-Miss.ensures.ran)
 
 pub returns-in_ok-ran-in-Miss-clause-reader : goal.returns-in_ok-ran-in-Miss-clause-reader
@@ -29,7 +29,7 @@ returns-in_ok-ran-in-Miss-clause-reader g c = on_read _ _ _ _ _ _ _ c.in-Miss.en
 pub returns-in_ok-ran-in-Fault-clause-taken : goal.returns-in_ok-ran-in-Fault-clause-taken
 returns-in_ok-ran-in-Fault-clause-taken g c =
     takes_in (process_in (slice_get c.args.frame.now.plan.now.pips c.args.pip)) c.args.frame.now.sources.now c.args.inputs.now c.args.frame.now.plan.now.tool_budget
-    c.in_ok-described.described _ _ (g.R.KeepReader.held c.args.reader.now) (takings.Faulted c.in_ok-ran-in-Fault.ran) c.in_ok-described.ensures c.in_ok-view.ensures
+    c.in_ok-described.described _ _ (g.R.KeepReader.held c.lookup.new.reader) (takings.Faulted c.in_ok-ran-in-Fault.ran) c.in_ok-described.ensures c.in_ok-view.ensures
     (λ S e. subst (IsRun c.in_ok-ran-in-Fault.ran c.in_ok-described.described) c.in-Fault.ensures.same c.in_ok-ran-in-Fault.ensures.ran)
 
 pub returns-in_ok-ran-in-Fault-clause-reader : goal.returns-in_ok-ran-in-Fault-clause-reader

@@ -6,11 +6,11 @@ use Rattle.two_phase.proofs.fetching.path_set.Goals as goal
 
 pub returns-in-Some-clause-found : goal.returns-in-Some-clause-found
 returns-in-Some-clause-found g c =
-    set_given (g.R.KeepReader.held c.args.reader.now) c.args.digest.now c.in-Some.text c.bytes.result.now c.read_set.result
-    (subst (λ (o : Option (List ℕ)). FindsOne (g.R.KeepReader.held c.args.reader.now) (λ S y. IsContent S c.args.digest.now y) o) c.in-Some.is c.in_ok-text.ensures.found)
+    set_given (g.R.KeepReader.held c.content.new.reader) c.args.digest.now c.in-Some.text c.bytes.result.now c.read_set.result
+    (subst (λ (o : Option (List ℕ)). FindsOne (g.R.KeepReader.held c.content.new.reader) (λ S y. IsContent S c.args.digest.now y) o) c.in-Some.is c.in_ok-text.ensures.found)
     c.bytes.ensures c.read_set.ensures.read
 
 pub returns-in-None-clause-found : goal.returns-in-None-clause-found
 returns-in-None-clause-found g c =
-    no_set (g.R.KeepReader.held c.args.reader.now) c.args.digest.now
-    (subst (λ (o : Option (List ℕ)). FindsOne (g.R.KeepReader.held c.args.reader.now) (λ S y. IsContent S c.args.digest.now y) o) c.in-None.is c.in_ok-text.ensures.found)
+    no_set (g.R.KeepReader.held c.content.new.reader) c.args.digest.now
+    (subst (λ (o : Option (List ℕ)). FindsOne (g.R.KeepReader.held c.content.new.reader) (λ S y. IsContent S c.args.digest.now y) o) c.in-None.is c.in_ok-text.ensures.found)

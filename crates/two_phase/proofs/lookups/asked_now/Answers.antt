@@ -8,7 +8,7 @@ returns-then-eq-clause-found g c =
     let d = c.args.desc.now in
     let s = c.args.selector.now in
     let digest = one_digest d c.args.weak.now s.paths c.in_ok-answers.answers.items c.as_slice.result.now c.in_ok-digest.digest c.requires c.as_slice.ensures.value c.in_ok-digest.ensures in
-    asked_given (g.R.KeepReader.held c.args.reader.now) d (g.V.View.answers c.args.view.now) s c.args.paths c.in_ok-answers.answers.items c.found_by.result c.in_ok-answers.ensures.answers
+    asked_given (g.R.KeepReader.held c.found_by.new.reader) d (g.V.View.answers c.args.view.now) s c.args.paths c.in_ok-answers.answers.items c.found_by.result c.in_ok-answers.ensures.answers
     (sym digest ∙ (bytes_eq-Decides c.in_ok-digest.digest s.strong).0 (sym c.eq.ensures ∙ c.if-eq.true)) c.found_by.ensures.found
 
 pub returns-else-eq-clause-found : goal.returns-else-eq-clause-found

@@ -7,5 +7,5 @@ use Rattle.two_phase.proofs.lookups.entry_for.Goals as goal
 
 pub returns-in-None-clause-found : goal.returns-in-None-clause-found
 returns-in-None-clause-found g c =
-    no_entry_for (g.R.KeepReader.held c.args.reader.now) c.args.desc.now c.args.selector.now
-    (subst (λ (o : Option Entry). FindsOne (g.R.KeepReader.held c.args.reader.now) (λ S x. IsHeld S c.args.selector.now.strong x) o) c.in-None.is c.in_ok-entry.ensures.found)
+    no_entry_for (g.R.KeepReader.held c.entry.new.reader) c.args.desc.now c.args.selector.now
+    (subst (λ (o : Option Entry). FindsOne (g.R.KeepReader.held c.entry.new.reader) (λ S x. IsHeld S c.args.selector.now.strong x) o) c.in-None.is c.in_ok-entry.ensures.found)

@@ -12,8 +12,8 @@ selectors-init g c = record {
 
 pub selectors-preserved : goal.selectors-preserved
 selectors-preserved g c = record {
-  onward = onward_at (g.R.KeepReader.held c.args.reader.now) (g.R.KeepReader.held c.selectors.reader) c.args.desc.now (g.V.View.answers c.args.view.now) (g.V.View.answers c.selectors.view) c.args.list.now
-      c.selectors.selector-index c.selector-item.result c.in_ok-found.field-0 c.selectors-test.true c.selector-item.is c.selectors.invariant.reads.held_is
+  onward = onward_at (g.R.KeepReader.held c.selectors.reader) (g.R.KeepReader.held c.follow.new.reader) c.args.desc.now (g.V.View.answers c.args.view.now) (g.V.View.answers c.selectors.view) c.args.list.now
+      c.selectors.selector-index c.selector-item.result c.in_ok-found.field-0 c.selectors-test.true c.selector-item.is c.in_ok-found.ensures.reader.held_is
       c.selectors.invariant.same c.selectors.invariant.onward c.in_ok-found.ensures.found c.in-None.is;
   same = c.in_ok-found.ensures.same ∙ c.selectors.invariant.same;
   reads = reads_on _ _ _ _ _ _ _ _ _ _ (ok_no_err _ _) c.selectors.invariant.reads c.in_ok-found.ensures.reader;
@@ -21,10 +21,10 @@ selectors-preserved g c = record {
 
 pub returns-in-Some-clause-found : goal.returns-in-Some-clause-found
 returns-in-Some-clause-found g c =
-    found_at (g.R.KeepReader.held c.args.reader.now) (g.R.KeepReader.held c.selectors.reader) c.args.desc.now (g.V.View.answers c.args.view.now) (g.V.View.answers c.selectors.view) c.args.list.now c.selectors.selector-index
-    c.selector-item.result c.in_ok-found.field-0 c.in-Some.found c.selectors-test.true c.selector-item.is c.selectors.invariant.reads.held_is
+    found_at (g.R.KeepReader.held c.selectors.reader) (g.R.KeepReader.held c.follow.new.reader) c.args.desc.now (g.V.View.answers c.args.view.now) (g.V.View.answers c.selectors.view) c.args.list.now c.selectors.selector-index
+    c.selector-item.result c.in_ok-found.field-0 c.in-Some.found c.selectors-test.true c.selector-item.is c.in_ok-found.ensures.reader.held_is
     c.selectors.invariant.same c.selectors.invariant.onward c.in_ok-found.ensures.found c.in-Some.is
 
 pub returns-clause-found : goal.returns-clause-found
 returns-clause-found g c =
-    onward_past (g.R.KeepReader.held c.args.reader.now) c.args.desc.now (g.V.View.answers c.args.view.now) c.args.list.now c.selectors.selector-index c.selectors-test.false c.selectors.invariant.onward
+    onward_past (g.R.KeepReader.held c.selectors.reader) c.args.desc.now (g.V.View.answers c.args.view.now) c.args.list.now c.selectors.selector-index c.selectors-test.false c.selectors.invariant.onward

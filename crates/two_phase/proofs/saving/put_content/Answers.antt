@@ -1,7 +1,5 @@
-use Rattle.std.proofs.Common.{◌∷◌, [], List, ℕ, ap, ◌∙◌, refl}
-use Rattle.bx_io.specs.Holdings.{known_after}
-use Rattle.content_store.specs.Contents.{blob_put}
-use Rattle.two_phase.proofs.Noted.{held_noted, left_out}
+use Rattle.std.proofs.Common.{refl}
+use Rattle.two_phase.proofs.Noted.{held_noted, held_still, left_out, put_made, put_same}
 use Rattle.two_phase.proofs.saving.put_content.Goals as goal
 
 pub returns-then-has-clause-made : goal.returns-then-has-clause-made
@@ -12,4 +10,13 @@ pub returns-clause-held : goal.returns-clause-held
 returns-clause-held g c =
     held_noted (g.K.Keeper.known c.args.keeper.now) (g.K.Keeper.known c.put_bytes.new.keeper) c.args.held.now c.note.new.self c.digest-digest.result c.args.content.now
     c.digest-digest.ensures c.requires
-    (c.in_ok-put_bytes.ensures.made ∙ ap (λ (xs : List ℕ). known_after (g.K.Keeper.known c.args.keeper.now) (blob_put xs ∷ [])) c.bytes.ensures) c.note.ensures
+    (put_same (g.K.Keeper.known c.args.keeper.now) (g.K.Keeper.known c.put_bytes.new.keeper) c.bytes.result.now c.args.content.now c.bytes.ensures c.in_ok-put_bytes.ensures.made)
+    c.note.ensures
+
+pub returns-clause-made : goal.returns-clause-made
+returns-clause-made g c =
+    put_made (g.K.Keeper.known c.args.keeper.now) (g.K.Keeper.known c.put_bytes.new.keeper) c.bytes.result.now c.args.content.now c.bytes.ensures c.in_ok-put_bytes.ensures.made
+
+pub returns-in_err-put_bytes-clause-held : goal.returns-in_err-put_bytes-clause-held
+returns-in_err-put_bytes-clause-held g c =
+    held_still (g.K.Keeper.known c.args.keeper.now) (g.K.Keeper.known c.put_bytes.new.keeper) c.args.held.now c.in_err-put_bytes.ensures.refused c.requires

@@ -1,4 +1,5 @@
-use Rattle.std.proofs.Common.{map, refl}
+use Rattle.std.proofs.Common.{map}
+use Rattle.bx_io.proofs.Changes.{keeps_all}
 use Rattle.content_store.specs.Contents.{blob_put}
 use Rattle.two_phase.proofs.Applied.{blob_more, blobs_cut, blobs_whole, whole_applied}
 use Rattle.two_phase.proofs.Used.{keeps_none, keeps_on, ok_no_err}
@@ -6,7 +7,7 @@ use Rattle.two_phase.proofs.saving.put_contents.Goals as goal
 
 pub contents-init : goal.contents-init
 contents-init g c = record {
-  made = refl;
+  made = keeps_all (g.K.Keeper.known c.args.keeper.now);
   held = c.requires;
   keeps = keeps_none (g.K.Keeper.bound c.args.keeper.now) (g.K.Keeper.faults c.args.keeper.now) ⊥ (λ e. e);
 }

@@ -8,6 +8,6 @@ use Rattle.two_phase.proofs.saving.put_contents.Given as goal
 abbrev pub invariant-contents : goal.invariant-contents
 invariant-contents g l = record {
   made : AppliesAll (g.K.Keeper.known l.fn.keeper) (map blob_put (take l.blob-index l.contents)) (g.K.Keeper.known l.keeper);
-  held : AreHeld (g.K.Keeper.known l.keeper) l.held;
+  held : AreHeld (g.K.Keeper.known l.keeper).held l.held;
   keeps : KeeperCall (g.K.Keeper.bound l.fn.keeper) (g.K.Keeper.bound l.keeper) (g.K.Keeper.faults l.fn.keeper) (g.K.Keeper.faults l.keeper) ⊥;
 }

@@ -1,0 +1,75 @@
+-- What was seen of a call of the engine.
+use Rattle.std.specs.Prelude.{ℕ, Bool, List, Option}
+use Rattle.bx_io.specs.Holdings.{StoreTold}
+use Rattle.bx_engine.specs.declared.status.Status.{Status}
+
+-- the bytes that a source gave and those that it told to be left, before a call and after it, whether the end was what
+-- it answered last, and its count of faults
+pub record Given : Type 0 where
+  pub before : List ℕ
+  pub now : List ℕ
+  pub left_before : Option (List ℕ)
+  pub left_now : Option (List ℕ)
+  pub ended : Bool
+  pub faults_before : ℕ
+  pub faults_now : ℕ
+
+abbrev pub given_of : List ℕ → List ℕ → Option (List ℕ) → Option (List ℕ) → Bool → ℕ → ℕ → Given
+given_of before now left_before left_now ended faults_before faults_now = record {
+  before = before;
+  now = now;
+  left_before = left_before;
+  left_now = left_now;
+  ended = ended;
+  faults_before = faults_before;
+  faults_now = faults_now;
+}
+
+-- the bytes that a sink took and its count of faults, before a call and after it
+pub record Written : Type 0 where
+  pub before : List ℕ
+  pub now : List ℕ
+  pub faults_before : ℕ
+  pub faults_now : ℕ
+
+abbrev pub written_of : List ℕ → List ℕ → ℕ → ℕ → Written
+written_of before now faults_before faults_now = record {
+  before = before;
+  now = now;
+  faults_before = faults_before;
+  faults_now = faults_now;
+}
+
+-- what a store told, how often its readers may fail, and its count of faults, before a call and after it
+pub record StoreChange : Type 0 where
+  pub before : StoreTold
+  pub now : StoreTold
+  pub bound : Option ℕ
+  pub faults_before : ℕ
+  pub faults_now : ℕ
+
+abbrev pub change_of : StoreTold → StoreTold → Option ℕ → ℕ → ℕ → StoreChange
+change_of before now bound faults_before faults_now = record {
+  before = before;
+  now = now;
+  bound = bound;
+  faults_before = faults_before;
+  faults_now = faults_now;
+}
+
+-- a call: its status, what its source gave, what was written to the output and to the notes, and the store
+pub record Call : Type 0 where
+  pub status : Status
+  pub source : Given
+  pub out : Written
+  pub notes : Written
+  pub store : StoreChange
+
+abbrev pub call_of : Status → Given → Written → Written → StoreChange → Call
+call_of status source out notes store = record {
+  status = status;
+  source = source;
+  out = out;
+  notes = notes;
+  store = store;
+}

@@ -1,0 +1,11 @@
+pub mod GivenFiles
+pub mod Keeping
+pub mod Allowed
+pub mod After
+pub mod ShownPips
+pub mod Merged
+pub mod Beginning
+pub mod Closings
+pub mod Comparisons
+pub mod Alike
+pub mod Moves

@@ -1,0 +1,5 @@
+pub mod OneRun
+pub mod SlotRuns
+pub mod Inputs
+pub mod Following
+pub mod GraphNodes

@@ -1,0 +1,3 @@
+pub mod Slots
+pub mod Graphs
+pub mod Closing

@@ -1,0 +1,14 @@
+pub mod Places
+pub mod Counts
+pub mod StateTests
+pub mod Seats
+pub mod SoundSteps
+pub mod Dependents
+pub mod Flags
+pub mod CoreSteps
+pub mod Beginning
+pub mod Histories
+pub mod EventLaws
+pub mod Weights
+pub mod Settled
+pub mod Examples

@@ -1,0 +1,7 @@
+pub mod States
+pub mod Table
+pub mod Legal
+pub mod Sound
+pub mod Laws
+pub mod Sets
+pub mod Indexes
