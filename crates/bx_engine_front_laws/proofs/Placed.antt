@@ -14,10 +14,10 @@ use Rattle.dscript_program.specs.declared.spec_fault.SpecKind.{SpecKind}
 use Rattle.dscript_program.specs.declared.spec_fault.SpecKind.TheVariants as kinds
 use Rattle.dscript_parse.specs.Reading.{Reading, Read, NoTokens, NoFile}
 use Rattle.dscript_names_workspace.specs.Configs.{configured}
-use Rattle.dscript_names_workspace.specs.Finding.{ComesTo, Finds, IsModuleFile, LeadsTo, Lists, Starts, build_path, fault_at, module_described, module_file, without_config}
+use Rattle.dscript_names_workspace.specs.Finding.{IsModuleFile, LeadsTo, Lists, Starts, build_path, fault_at, module_described, module_file, without_config}
 use Rattle.dscript_names_workspace.specs.Membership.{config_path, dir_of}
 use Rattle.dscript_names_workspace.specs.Modules.{DescriptionData, described}
-use Rattle.dscript_names_workspace.specs.Workspaces.{Answer, Found, Refused, ModuleFile, Described, Faulty}
+use Rattle.dscript_names_workspace.specs.Workspaces.{Refused, ModuleFile, Described, Faulty}
 use Rattle.dscript_names_workspace.specs.Workspaces.{answer_of, configuration_fault, fault_in, file_fault, is_taken, is_used, module_file_fault, modules, option_or, refused_or, repeated_module_name}
 use Rattle.dscript_names_binding.specs.Binding.{bind_items}
 use Rattle.dscript_names_binding.specs.Walk.{Bound}
@@ -65,7 +65,7 @@ all_placed files dirs [] [] h = tt
 all_placed files dirs [] (m ∷ ms) h = absurd h
 all_placed files dirs (path ∷ listed) [] h = absurd h
 all_placed files dirs (path ∷ listed) (m ∷ ms) h =
-    (subst IsPlacedFile (sym h.0.2.2.2) (file_placed files _ path h.0.2.0), all_placed files dirs listed ms h.1)
+    (subst IsPlacedFile (sym h.0.2.2) (file_placed files _ path h.0.2.0), all_placed files dirs listed ms h.1)
 
 -- ## Answers
 
