@@ -1,6 +1,6 @@
 -- In a second build nothing is compared that was not compared in the first.
 use Rattle.std.proofs.Common.{◌≡◌, ◌⊎◌, ℕ, zero, suc, ◌+◌, ◌≤◌, Bool, true, false, not, cond, List, [], ◌∷◌, ◌++◌, filter, length, map, take, Option, Some, None, refl, sym, ap, ◌∙◌, subst, inl, inr, arith, append_assoc, append-nil, length-append}
-use Rattle.std.specs.Prelude.{slice_get}
+use Rattle.std.specs.Prelude.{IsSome, slice_get}
 use Rattle.std.specs.FinMap.{get, insert}
 use Rattle.std.specs.List.{AllByRecursion, list_all}
 use Rattle.std.proofs.lemmas.Option.{same_Some}
@@ -9,7 +9,8 @@ use Rattle.bx_digest.specs.Digests.{IsDigest}
 use Rattle.bx_tree.specs.Members.{Has}
 use Rattle.bx_tree.specs.Trees.{Files}
 use Rattle.bx_tree.proofs.Lists.{all_front}
-use Rattle.bx_io.specs.Holdings.{Change, Holdings, IsPrefix, StoreState, changed, holdings_after, state_after}
+use Rattle.bx_io.specs.Holdings.{Change, Holdings, IsPrefix, StoreTold, changed, held_in, holdings_after}
+use Rattle.bx_io.proofs.Changes.{told_after}
 use Rattle.pip_model_types.specs.Makers.{IsPipList}
 use Rattle.pip_model_types.specs.declared.desc.Desc.{Desc}
 use Rattle.pip_model_types.specs.declared.pip.Pip.{Pip}
@@ -53,6 +54,7 @@ use Rattle.retire_compared.specs.Compared.{Compared, compared_at_pip, compared_f
 use Rattle.retire.specs.Runs.{IsOfSuccess, NoneReserved, RunsAs, results_before}
 use Rattle.retire.specs.Saving.{PutsEach}
 use Rattle.retire.proofs.AllHits.{all_hit}
+use Rattle.retire.proofs.Putting.{each_told}
 use Rattle.retire.proofs.Records.{all_successes}
 use Rattle.retire.proofs.SoFar.{run_met, success_met, taken}
 use Rattle.retire.proofs.Twins.{one_process}
@@ -162,15 +164,15 @@ one_longer xs x i e = length-append xs (x ∷ []) ∙ ap (λ n. n + 1) e
 
 -- ## After the first build
 
-module _ (pips : List Pip) (tree : Files) (budget : ℕ) (before : StoreState) (list : IsPipList pips) (keeps : KeepsRules pips tree) (free : NoneReserved tree)
-    (read : AllReadBack pips tree budget) (named : NamesHeldPaths before.held) (fair : IsFair pips tree budget before.held) where
+module _ (pips : List Pip) (tree : Files) (budget : ℕ) (base : Holdings) (list : IsPipList pips) (keeps : KeepsRules pips tree) (free : NoneReserved tree)
+    (read : AllReadBack pips tree budget) (named : NamesHeldPaths base) (fair : IsFair pips tree budget base) where
   abbrev M : List ℕ → Type 0
-  M = Compared pips tree budget before.held
+  M = Compared pips tree budget base
 
   -- the selector was in the list of the process, or it is that of a record of a process of this build
   abbrev IsKnown : Desc → Selector → Type 0
   IsKnown d s =
-      ((old : List Selector) × HoldsList before.held (weak_of d) old × Has old s)
+      ((old : List Selector) × HoldsList base (weak_of d) old × Has old s)
       ⊎ ((f : Facts) × IsOfSuccess pips tree budget f × Spelled f × (weak_of f.desc ≡ weak_of d) × (s.paths ≡ paths_digest f))
 
   -- what is held now
@@ -179,31 +181,35 @@ module _ (pips : List Pip) (tree : Files) (budget : ℕ) (before : StoreState) (
       ((x : List ℕ) → HoldsBlob now x → M x)
       × ((d : Desc) (selectors : List Selector) → HoldsList now (weak_of d) selectors → (s : Selector) → Has selectors s → IsKnown d s)
 
-  begins : IsGoneOn before.held
+  begins : IsGoneOn base
   begins = (λ x h. inl h, λ d selectors h s m. inl (selectors, h, m))
 
   -- ## One record
 
-  module _ (k : StoreState) (so_far : IsGoneOn k.held) (f : Facts) (success : IsOfSuccess pips tree budget f) (now : Option StoreState) (p : PutsUpTo (Some k) now f) where
+  module _ (k : Holdings) (so_far : IsGoneOn k) (f : Facts) (success : IsOfSuccess pips tree budget f)
+      (told now : StoreTold) (was : held_in told ≡ Some k) (last : Holdings) (now_is : held_in now ≡ Some last) (p : PutsUpTo told now f) where
     abbrev next_list : List Selector
     next_list = with_first (record_selector f) p.old
 
-    done : Made k p.first now
-    done = made_of p.first k now p.applies
+    done : Made k told p.first now
+    done = made_of p.first k last told now was now_is p.applies
 
-    after : Holdings
-    after = holdings_after k.held p.first
+    tells : IsSome (held_in now)
+    tells = subst (λ (o : Option Holdings). IsSome o) (sym now_is) refl
 
-    next_held : (x : List ℕ) → HoldsBlob (holdings_after k.held p.first) x → M x
-    next_held x h = elim (contents_added k.held f next_list p.first p.is_first x h) [
+    old_is : p.old ≡ list_at k (weak_of f.desc)
+    old_is = p.old_is tells k was
+
+    next_held : (x : List ℕ) → HoldsBlob (holdings_after k p.first) x → M x
+    next_held x h = elim (contents_added k f next_list p.first p.is_first x h) [
       | inl old ↦ so_far.0 x old
-      | inr new ↦ success_met pips tree budget before.held f success x new
+      | inr new ↦ success_met pips tree budget base f success x new
     ]
 
     reads_back : Spelled f → read_selectors_text (selectors_text next_list) ≡ Some next_list
     reads_back spelled =
         selectors_again next_list (first_are (record_selector f) p.old (is_digest (paths_text f.paths), is_digest (answers_text f))
-        (subst (AllByRecursion IsSelector) (sym p.old_is) (list_selectors (get k.held (at_list (weak_of f.desc))))))
+        (subst (AllByRecursion IsSelector) (sym old_is) (list_selectors (get k (at_list (weak_of f.desc))))))
 
     new_known : Spelled f → (d : Desc) (selectors : List Selector) (bytes : List ℕ) → read_selectors_text bytes ≡ Some selectors
         → at_list (weak_of d) ≡ at_list (weak_of f.desc) → selectors_text next_list ≡ bytes → (s : Selector) → Has selectors s → IsKnown d s
@@ -215,35 +221,36 @@ module _ (pips : List Pip) (tree : Files) (budget : ℕ) (before : StoreState) (
         elim (next_has (record_selector f) p.old s (subst (λ (l : List Selector). Has l s) same m)) [
           | inl new ↦ inr (f, success, spelled, sym weak, ap (λ (t : Selector). t.paths) (sym new))
           | inr old ↦
-              let there = held_list k.held (weak_of f.desc) s (subst (λ (l : List Selector). Has l s) p.old_is old) in
-              so_far.1 d there.0 (subst (λ w. HoldsList k.held w there.0) (sym weak) there.1) s there.2
+              let there = held_list k (weak_of f.desc) s (subst (λ (l : List Selector). Has l s) old_is old) in
+              so_far.1 d there.0 (subst (λ w. HoldsList k w there.0) (sym weak) there.1) s there.2
         ]
 
-    next_lists : (d : Desc) (selectors : List Selector) → HoldsList (holdings_after k.held p.first) (weak_of d) selectors → (s : Selector) → Has selectors s
+    next_lists : (d : Desc) (selectors : List Selector) → HoldsList (holdings_after k p.first) (weak_of d) selectors → (s : Selector) → Has selectors s
         → IsKnown d s
     next_lists d selectors h s m = elim p.spelled [
       | inl none ↦
-          so_far.1 d selectors (subst (λ (cs : List Change). HoldsList (holdings_after k.held cs) (weak_of d) selectors) none h) s m
+          so_far.1 d selectors (subst (λ (cs : List Change). HoldsList (holdings_after k cs) (weak_of d) selectors) none h) s m
       | inr spelled ↦
-          elim (list_after f next_list p.first (first_each f next_list p.first p.is_first) k.held (weak_of d) h.0 h.1) [
+          elim (list_after f next_list p.first (first_each f next_list p.first p.is_first) k (weak_of d) h.0 h.1) [
             | inl old ↦ so_far.1 d selectors (h.0, old, h.2) s m
             | inr new ↦ new_known spelled d selectors h.0 h.2 new.0 new.1 s m
           ]
     ]
 
-    goes_on : IsGoneOn (holdings_after k.held done.made)
+    goes_on : IsGoneOn (holdings_after k done.made)
     goes_on = subst IsGoneOn (sym done.same) (next_held, next_lists)
 
   -- ## All records
 
-  all_gone_on : (fs : List Facts) → AllByRecursion (IsOfSuccess pips tree budget) fs → (k : StoreState) → IsGoneOn k.held → (now : StoreState)
-      → PutsEach (Some k) fs (Some now) → IsGoneOn now.held
-  all_gone_on [] all k so_far now same =
-      subst (λ (t : StoreState). IsGoneOn t.held) (sym (same_Some now k same)) so_far
-  all_gone_on (f ∷ fs) all k so_far now puts =
-      let made : Made k puts.1.first puts.0 = done k so_far f all.0 puts.0 puts.1 in
-      all_gone_on fs all.1 (state_after k made.made) (goes_on k so_far f all.0 puts.0 puts.1) now
-      (subst (λ (o : Option StoreState). PutsEach o fs (Some now)) made.makes puts.2)
+  all_gone_on : (fs : List Facts) → AllByRecursion (IsOfSuccess pips tree budget) fs → (k : Holdings) → IsGoneOn k → (told now : StoreTold)
+      → held_in told ≡ Some k → (last : Holdings) → held_in now ≡ Some last → PutsEach told fs now → IsGoneOn last
+  all_gone_on [] all k so_far told now was last now_is same =
+      subst IsGoneOn (same_Some k last (sym was ∙ same.held last now_is)) so_far
+  all_gone_on (f ∷ fs) all k so_far told now was last now_is puts =
+      let there : (T : Holdings) × (held_in puts.0 ≡ Some T) = each_told fs puts.0 now last now_is puts.2 in
+      let made : Made k told puts.1.first puts.0 = done k so_far f all.0 told puts.0 was there.0 there.1 puts.1 in
+      all_gone_on fs all.1 (holdings_after k made.made) (goes_on k so_far f all.0 told puts.0 was there.0 there.1 puts.1) puts.0 now
+      (told_after told puts.0 made.made k there.0 was there.1 made.makes) last now_is puts.2
 
   first_successes : (n : ℕ) (fs : List Facts) → AllByRecursion (IsOfSuccess pips tree budget) fs → AllByRecursion (IsOfSuccess pips tree budget) (take n fs)
   first_successes zero fs h = tt
@@ -252,12 +259,14 @@ module _ (pips : List Pip) (tree : Files) (budget : ℕ) (before : StoreState) (
 
   -- ## What is compared in the second build
 
-  module _ (kept : StoreState) (left : LeavesFair pips tree budget before (Some kept)) where
-    now_known : IsGoneOn kept.held
+  module _ (kept : Holdings) (before now : StoreTold) (was : held_in before ≡ Some base) (now_is : held_in now ≡ Some kept)
+      (left : LeavesFair pips tree budget base before now) where
+    now_known : IsGoneOn kept
     now_known =
         let fs : List Facts = left.puts.0 in
         let puts = left.puts.3 in
-        all_gone_on (take puts.number fs) (first_successes puts.number fs (all_successes pips tree budget 0 left.puts.1 fs left.puts.2)) before begins kept puts.each
+        all_gone_on (take puts.number fs) (first_successes puts.number fs (all_successes pips tree budget 0 left.puts.1 fs left.puts.2))
+        base begins before now was kept now_is puts.each
 
     -- what runs as one pip is one process on one view
     one_run : (i j : ℕ) (d e : Desc) (see view : Ask → Answer) → i ≡ j → RunsAs pips tree budget i d see → RunsAs pips tree budget j e view → (d ≡ e) × (see ≡ view)
@@ -274,8 +283,8 @@ module _ (pips : List Pip) (tree : Files) (budget : ℕ) (before : StoreState) (
 
     module _ (i : ℕ) (d : Desc) (see : Ask → Answer) (runs : RunsAs pips tree budget i d see) where
       -- the path set of a selector that was in the list
-      old_set : (digest : List ℕ) (asks : List Ask) (s : Selector) (old : List Selector) → HoldsList before.held (weak_of d) old → Has old s → s.paths ≡ digest
-          → HoldsPaths kept.held digest asks → IsComparedPathSet before.held d see digest asks
+      old_set : (digest : List ℕ) (asks : List Ask) (s : Selector) (old : List Selector) → HoldsList base (weak_of d) old → Has old s → s.paths ≡ digest
+          → HoldsPaths kept digest asks → IsComparedPathSet base d see digest asks
       old_set digest asks s old in_list listed is held =
           let text = named d old in_list s listed in
           let same : text.0 ≡ held.0 =
@@ -287,38 +296,38 @@ module _ (pips : List Pip) (tree : Files) (budget : ℕ) (before : StoreState) (
 
       -- the path set of a record
       new_set : (digest : List ℕ) (asks : List Ask) (f : Facts) (success : IsOfSuccess pips tree budget f) → Spelled f → weak_of f.desc ≡ weak_of d
-          → digest ≡ paths_digest f → HoldsPaths kept.held digest asks → IsComparedPathSet before.held d see digest asks
+          → digest ≡ paths_digest f → HoldsPaths kept digest asks → IsComparedPathSet base d see digest asks
       new_set digest asks f success spelled weak is held =
           let pip : success.pip ≡ i =
-          one_process pips tree list keeps free budget before.held success.pip i f.desc d success.see see fair.apart success.runs runs spelled.weak (read i d see runs) weak in
+          one_process pips tree list keeps free budget base success.pip i f.desc d success.see see fair.apart success.runs runs spelled.weak (read i d see runs) weak in
           let one = one_run success.pip i f.desc d success.see see pip success.runs runs in
           let own : own_paths d see ≡ f.paths =
           ap (λ (v : Ask → Answer). own_paths d v) (sym one.1) ∙ ap (λ (x : Desc). own_paths x success.see) (sym one.0) ∙ success.run.run.paths in
           let text : paths_text f.paths ≡ held.0 =
-          fair.apart (paths_text f.paths) held.0 (success_met pips tree budget before.held f success (paths_text f.paths) (inr (inl refl)))
+          fair.apart (paths_text f.paths) held.0 (success_met pips tree budget base f success (paths_text f.paths) (inr (inl refl)))
           (now_known.0 held.0 held.1.held) (sym is ∙ sym held.1.digest_is) in
           let asked : f.paths ≡ asks = same_Some f.paths asks (sym spelled.paths ∙ ap read_paths_text text ∙ held.2) in
           inl (own ∙ asked, ap (λ (qs : List Ask). sha256 (paths_text qs)) (sym asked) ∙ sym is)
 
-      set_before : (digest : List ℕ) (asks : List Ask) → IsComparedPathSet kept.held d see digest asks → IsComparedPathSet before.held d see digest asks
+      set_before : (digest : List ℕ) (asks : List Ask) → IsComparedPathSet kept d see digest asks → IsComparedPathSet base d see digest asks
       set_before digest asks c = elim c [
         | inl own ↦ inl own
         | inr held ↦
-            let sel : IsSelected kept.held d digest = held.0 in
+            let sel : IsSelected kept d digest = held.0 in
             elim (now_known.1 d sel.0 sel.1 sel.2.0 sel.2.1) [
               | inl old ↦ old_set digest asks sel.2.0 old.0 old.1 old.2 sel.2.2 held.1
               | inr new ↦ new_set digest asks new.0 new.1 new.2 new.3 (sym sel.2.2 ∙ new.4) held.1
             ]
       ]
 
-      run_within : (x : List ℕ) → ComparedInRun kept.held d see x → M x
+      run_within : (x : List ℕ) → ComparedInRun kept d see x → M x
       run_within x (met.stored h) = now_known.0 x h
-      run_within x (met.weak e) = run_met pips tree budget before.held x i d see runs (met.weak e)
-      run_within x (met.declared h) = run_met pips tree budget before.held x i d see runs (met.declared h)
-      run_within x (met.own_set e) = run_met pips tree budget before.held x i d see runs (met.own_set e)
-      run_within x (met.strong digest asks c e) = run_met pips tree budget before.held x i d see runs (met.strong digest asks (set_before digest asks c) e)
-      run_within x (met.given digest asks c h) = run_met pips tree budget before.held x i d see runs (met.given digest asks (set_before digest asks c) h)
-      run_within x (met.made files e h) = run_met pips tree budget before.held x i d see runs (met.made files e h)
+      run_within x (met.weak e) = run_met pips tree budget base x i d see runs (met.weak e)
+      run_within x (met.declared h) = run_met pips tree budget base x i d see runs (met.declared h)
+      run_within x (met.own_set e) = run_met pips tree budget base x i d see runs (met.own_set e)
+      run_within x (met.strong digest asks c e) = run_met pips tree budget base x i d see runs (met.strong digest asks (set_before digest asks c) e)
+      run_within x (met.given digest asks c h) = run_met pips tree budget base x i d see runs (met.given digest asks (set_before digest asks c) h)
+      run_within x (met.made files e h) = run_met pips tree budget base x i d see runs (met.made files e h)
 
     -- pip i, which is this process, runs after these results
     runs_here : (d : ProcessDesc) (left' front : List Pip) (pip : Pip) (results : List Result) (i : ℕ) → pip.kind ≡ Process d → pips ≡ front ++ pip ∷ left'
@@ -338,7 +347,7 @@ module _ (pips : List Pip) (tree : Files) (budget : ℕ) (before : StoreState) (
 
     module _ (x : List ℕ) where
       from_within : (rest : List Pip) (results : List Result) (i : ℕ) (front : List Pip) → pips ≡ front ++ rest → length front ≡ i → length results ≡ i
-          → on_from pips tree budget results i rest ≡ one_thread pips tree budget → compared_from pips tree budget kept.held results i rest x → M x
+          → on_from pips tree budget results i rest ≡ one_thread pips tree budget → compared_from pips tree budget kept results i rest x → M x
       from_within [] results i front is long count all h = absurd h
       from_within (pip ∷ rest) results i front is long count all h =
           let next = result_of pips tree budget results i pip.kind in
@@ -349,7 +358,7 @@ module _ (pips : List Pip) (tree : Files) (budget : ℕ) (before : StoreState) (
                 (one_longer results next i count) all later
           ]
         where
-          by_kind : (kind : PipKind) → pip.kind ≡ kind → compared_at_pip pips tree budget kept.held results i kind x → M x
+          by_kind : (kind : PipKind) → pip.kind ≡ kind → compared_at_pip pips tree budget kept results i kind x → M x
           by_kind (Process d) kind here =
               run_within i (desc_after pips tree budget results d) (view_after pips tree results i d)
               (runs_here d rest front pip results i kind is long count all here.0) x here.1
@@ -357,29 +366,31 @@ module _ (pips : List Pip) (tree : Files) (budget : ℕ) (before : StoreState) (
           by_kind (Write d) kind here = absurd here.1
           by_kind (Seal d) kind here = absurd here.1
 
-      within : Compared pips tree budget kept.held x → M x
+      within : Compared pips tree budget kept x → M x
       within h = elim h [
         | inl held ↦ now_known.0 x held
         | inr from ↦ from_within pips [] 0 [] refl refl refl refl from
       ]
 
-    honest_now : Honest kept.held
+    honest_now : Honest kept
     honest_now =
-        let h : LeavesHonest before (Some kept) = left.honest in
-        subst (λ (t : StoreState). Honest t.held) (sym (same_Some kept (state_after before h.made) h.makes))
-        (h.along h.made (record { rest = []; joined = append-nil h.made }))
+        let h : LeavesHonest base before now = left.honest in
+        let same : kept ≡ holdings_after base h.made =
+        same_Some kept (holdings_after base h.made) (sym now_is ∙ told_after before now h.made base kept was now_is h.makes) in
+        subst Honest (sym same) (h.along h.made (record { rest = []; joined = append-nil h.made }))
 
-  pub stays_fair : (kept : StoreState) → LeavesFair pips tree budget before (Some kept) → IsFair pips tree budget kept.held
-  stays_fair kept left = record {
-    honest = honest_now kept left;
-    apart = λ x y h k e. fair.apart x y (within kept left x h) (within kept left y k) e;
+  pub stays_fair : (kept : Holdings) (before now : StoreTold) → held_in before ≡ Some base → held_in now ≡ Some kept
+      → LeavesFair pips tree budget base before now → IsFair pips tree budget kept
+  stays_fair kept before now was now_is left = record {
+    honest = honest_now kept before now was now_is left;
+    apart = λ x y h k e. fair.apart x y (within kept before now was now_is left x h) (within kept before now was now_is left y k) e;
   }
 
-pub no_tool : (pips : List Pip) (tree : Files) (budget : ℕ) (kept : StoreState) (hits ran : ℕ) → LeavesUsable pips tree budget (Some kept)
-    → list_all is_success (verdicts_of (one_thread pips tree budget)) ≡ true → Spares pips tree budget kept.held hits 0
-    → hits + ran ≡ run_count pips (verdicts_of (one_thread pips tree budget)) → ran ≡ 0
-no_tool pips tree budget kept hits ran usable good spares count =
-    let all = all_hit pips tree budget kept.held (usable kept refl) good in
+pub no_tool : (pips : List Pip) (tree : Files) (budget : ℕ) (kept : Holdings) (now : StoreTold) (hits ran : ℕ) → held_in now ≡ Some kept
+    → LeavesUsable pips tree budget now → list_all is_success (verdicts_of (one_thread pips tree budget)) ≡ true
+    → Spares pips tree budget kept hits 0 → hits + ran ≡ run_count pips (verdicts_of (one_thread pips tree budget)) → ran ≡ 0
+no_tool pips tree budget kept now hits ran now_is usable good spares count =
+    let all = all_hit pips tree budget kept (usable kept now_is) good in
     let least : length all.0 ≤ hits + 0 = spares.at_least all.0 all.1 in
     let every = all.2 in
     omega (arith, least, every, count)

@@ -2,7 +2,7 @@
 ghost use Rattle.std.specs.Prelude.{◌≡◌, ◌+◌, ℕ, List, Some, true};
 ghost use Rattle.std.specs.List.{list_all};
 ghost use Rattle.bx_tree.specs.Trees.{Files};
-ghost use Rattle.bx_io.specs.Holdings.{StoreState as AnyStore};
+ghost use Rattle.bx_io.specs.Holdings.{Holdings, StoreTold as AnyTold, held_in};
 ghost use Rattle.pip_model_types.specs.Makers.{IsPipList};
 ghost use Rattle.pip_model_types.specs.declared.pip.Pip.{Pip};
 ghost use Rattle.graph_check.specs.Rules.{KeepsRules};
@@ -16,13 +16,13 @@ ghost use Rattle.retire_laws.specs.SecondBuild.{AllReadBack, NamesHeldPaths};
 /// not compared in the first. So where all pips succeed and no lookup or save of the first failed, a second build
 /// that counts no fault runs no tool.
 pub fn second_build()
-    ensures fair { (pips : List Pip) (tree : Files) (budget : ℕ) (before kept : AnyStore) → IsPipList pips
-        → KeepsRules pips tree → NoneReserved tree → AllReadBack pips tree budget → NamesHeldPaths before.held
-        → IsFair pips tree budget before.held → LeavesFair pips tree budget before (Some kept)
-        → IsFair pips tree budget kept.held }
-    ensures runs_no_tool { (pips : List Pip) (tree : Files) (budget : ℕ) (kept : AnyStore) (hits ran : ℕ)
-        → LeavesUsable pips tree budget (Some kept)
+    ensures fair { (pips : List Pip) (tree : Files) (budget : ℕ) (held kept : Holdings) (before now : AnyTold)
+        → IsPipList pips → KeepsRules pips tree → NoneReserved tree → AllReadBack pips tree budget
+        → NamesHeldPaths held → IsFair pips tree budget held → held_in before ≡ Some held
+        → held_in now ≡ Some kept → LeavesFair pips tree budget held before now → IsFair pips tree budget kept }
+    ensures runs_no_tool { (pips : List Pip) (tree : Files) (budget : ℕ) (kept : Holdings) (now : AnyTold)
+        (hits ran : ℕ) → held_in now ≡ Some kept → LeavesUsable pips tree budget now
         → list_all is_success (verdicts_of (one_thread pips tree budget)) ≡ true
-        → Spares pips tree budget kept.held hits 0
+        → Spares pips tree budget kept hits 0
         → hits + ran ≡ run_count pips (verdicts_of (one_thread pips tree budget)) → ran ≡ 0 }
 {}
