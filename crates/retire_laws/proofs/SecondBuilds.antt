@@ -110,7 +110,7 @@ IsOfSave f list c = ((x : List ℕ) × (c ≡ blob_put x)) ⊎ ((c ≡ entry_put
 
 save_each : (f : Facts) (list : List Selector) (xs : List (List ℕ))
     → AllByRecursion (IsOfSave f list) (map blob_put xs ++ (entry_put f ∷ list_put f list ∷ []))
-save_each f list [] = (inr (inl refl), inr (inr refl), tt)
+save_each f list [] = (inr (inl refl), (inr (inr refl), tt))
 save_each f list (x ∷ xs) = (inl (x, refl), save_each f list xs)
 
 first_each : (f : Facts) (list : List Selector) (made : List Change) → IsPrefix made (puts_of f list) → AllByRecursion (IsOfSave f list) made
