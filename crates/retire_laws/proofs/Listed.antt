@@ -1,5 +1,5 @@
 -- What is compared in a build is in its list.
-use Rattle.std.proofs.Common.{◌≡◌, ◌⊎◌, ℕ, ◌+◌, Bool, true, false, cond, List, [], ◌∷◌, ◌++◌, map, Option, Some, None, refl, sym, ap, ◌∙◌, subst, inl, inr}
+use Rattle.std.proofs.Common.{◌≡◌, ◌⊎◌, ℕ, ◌+◌, Bool, true, false, cond, List, [], ◌∷◌, ◌++◌, map, Option, Some, sym, ap, ◌∙◌, subst, inl, inr}
 use Rattle.std.specs.Ordering.{eq_by_cmp, nat_cmp}
 use Rattle.std.specs.Cmp.Lexicographic.{slice_cmp}
 use Rattle.std.specs.FinMap.{entries, find, get, get-entries, values}
@@ -28,7 +28,7 @@ use Rattle.two_phase_meaning.specs.Compared as met
 use Rattle.two_phase_meaning.specs.Compared.{ComparedInRun, IsComparedPathSet, IsSelected, own_paths}
 use Rattle.two_phase_meaning.specs.Contents.{HoldsPaths, desc_contents}
 use Rattle.two_phase_meaning.specs.Saving.{list_at, or_none, outcome_files, selectors_in}
-use Rattle.one_thread.specs.OneThread.{Result, inputs_are_good, result_of}
+use Rattle.one_thread.specs.OneThread.{Result, result_of}
 use Rattle.retire_compared.specs.Compared.{Compared, compared_at_pip, compared_from, desc_after, view_after}
 use Rattle.retire_laws.specs.ComparedList.{NamedPaths, asked_contents, compared_list, list_from, path_sets, paths_in, paths_said, pip_list, run_list}
 

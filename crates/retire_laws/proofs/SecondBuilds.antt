@@ -1,11 +1,10 @@
 -- In a second build nothing is compared that was not compared in the first.
 use Rattle.std.proofs.Common.{◌≡◌, ◌⊎◌, ℕ, zero, suc, ◌+◌, ◌≤◌, Bool, true, false, not, cond, List, [], ◌∷◌, ◌++◌, filter, length, map, take, Option, Some, None, refl, sym, ap, ◌∙◌, subst, inl, inr, arith, append_assoc, append-nil, length-append}
 use Rattle.std.specs.Prelude.{IsSome, slice_get}
-use Rattle.std.specs.FinMap.{get, insert}
+use Rattle.std.specs.FinMap.{get}
 use Rattle.std.specs.List.{AllByRecursion, list_all}
 use Rattle.std.proofs.lemmas.Option.{same_Some}
 use Rattle.sha2.specs.Sha256.{sha256}
-use Rattle.bx_digest.specs.Digests.{IsDigest}
 use Rattle.bx_tree.specs.Members.{Has}
 use Rattle.bx_tree.specs.Trees.{Files}
 use Rattle.bx_tree.proofs.Lists.{all_front}
@@ -30,11 +29,10 @@ use Rattle.memo_format.specs.declared.selector.Selector.{Selector}
 use Rattle.memo_format.specs.declared.selector.TheConstants.{MAX_SELECTORS}
 use Rattle.memo_format.proofs.FormTexts.{selectors_again, selectors_sound}
 use Rattle.content_store.specs.Contents.{blob_put}
-use Rattle.run_record.specs.Collisions.{NoCollision}
-use Rattle.run_record.specs.Digests.{IsReadBack, weak_of}
+use Rattle.run_record.specs.Digests.{weak_of}
 use Rattle.run_record.specs.Facts.{Facts}
 use Rattle.run_record.proofs.Digest.{is_digest}
-use Rattle.two_phase.specs.Putting.{LeavesHonest, PutsUpTo, planned}
+use Rattle.two_phase.specs.Putting.{LeavesHonest, PutsUpTo}
 use Rattle.two_phase.proofs.Applied.{Made, made_of}
 use Rattle.two_phase_meaning.specs.Compared as met
 use Rattle.two_phase_meaning.specs.Compared.{ComparedInRun, IsComparedPathSet, IsSelected, own_paths}
