@@ -2,3 +2,4 @@ pub mod StepsOfTexts
 pub mod RowsMatch
 pub mod LastAtoms
 pub mod Ancestors
+pub mod Patterns

@@ -1,118 +1,115 @@
--- The rows of the matching table are right: each byte of a pattern gives the row of a longer suffix of it.
-use Rattle.std.proofs.Common.{inl, inr, ◌≡◌, ◌≢◌, ℕ, ◌<◌, ◌≤◌, ◌+◌, ◌-◌, Bool, true, false, cond, ◌&&◌, ◌||◌, ◌==◌, List, [], ◌∷◌, length, get_or, set, drop, refl, ap, sym, ◌∙◌, subst, arith}
-use Rattle.std.proofs.lemmas.Bool.{cases_eq, eq-eqb, ne_eqb}
-use Rattle.std.proofs.lemmas.List.{drop_more, drop_all, get_or-set_same, get_or-set_other, length-set, length-drop}
+-- The rows of the matching table are right: each byte of a name gives the row of a longer suffix of it.
+use Rattle.std.proofs.Common.{inl, inr, ◌≡◌, ℕ, ◌<◌, ◌≤◌, ◌+◌, Bool, true, false, cond, ◌&&◌, ◌||◌, ◌==◌, List, [], ◌∷◌, length, get_or, set, drop, refl, ap, sym, ◌∙◌, subst, arith}
+use Rattle.std.proofs.lemmas.Bool.{cases_eq}
+use Rattle.std.proofs.lemmas.List.{drop_more, drop_all, get_or-set_same, get_or-set_other}
 use Rattle.bx_path.specs.Globbing.{is_match, one_byte, some_suffix}
 use Rattle.bx_path.specs.Rows.{IsRow}
 
--- ## The next entry of a row
+-- ## The entry of one suffix
 
-some_suffix_at : (test : List ℕ → Bool) (atom : List ℕ) (k : ℕ) → k < length atom
-    → some_suffix test (drop k atom) ≡ (test (drop k atom) || some_suffix test (drop (k + 1) atom))
-some_suffix_at test atom k l =
-    let e = drop_more atom k 0 l in
-    ap (some_suffix test) e ∙ ap (λ t. test t || some_suffix test (drop (k + 1) atom)) (sym e)
+at_nothing : (p : ℕ) (ps : List ℕ) → is_match (p ∷ ps) [] ≡ (p == 42 && is_match ps [])
+at_nothing p ps = by_star (p == 42)
+  where
+    by_star : (t : Bool) → cond t (some_suffix (is_match ps) []) (one_byte p (is_match ps) []) ≡ (t && is_match ps [])
+    by_star true = refl
+    by_star false = refl
 
-one_byte_at : (p : ℕ) (test : List ℕ → Bool) (atom : List ℕ) (k : ℕ) → k < length atom
-    → one_byte p test (drop k atom) ≡ ((p == 63 || p == get_or atom k 0) && test (drop (k + 1) atom))
-one_byte_at p test atom k l = ap (one_byte p test) (drop_more atom k 0 l)
+-- what is kept of a longer suffix of the name is by what is known of the pattern's rest, or of the name's
+at_byte : (p b : ℕ) (ps bs : List ℕ)
+    → is_match (p ∷ ps) (b ∷ bs) ≡ cond (p == 42) (is_match ps (b ∷ bs) || is_match (p ∷ ps) bs) ((p == 63 || p == b) && is_match ps bs)
+at_byte p b ps bs = by_star (p == 42)
+  where
+    by_star : (t : Bool) → cond t (some_suffix (is_match ps) (b ∷ bs)) (one_byte p (is_match ps) (b ∷ bs))
+        ≡ cond t (is_match ps (b ∷ bs) || cond t (some_suffix (is_match ps) bs) (one_byte p (is_match ps) bs)) ((p == 63 || p == b) && is_match ps bs)
+    by_star true = refl
+    by_star false = refl
 
--- the row of `*` and a pattern, filled from its end
-pub star_more : (test : List ℕ → Bool) (atom : List ℕ) (old new : List Bool) (j m : ℕ) → j ≡ m + 1 → j ≤ length atom
-    → ((k : ℕ) → k < j → get_or old k false ≡ test (drop k atom))
-    → ((k : ℕ) → j ≤ k → k ≤ length atom → get_or old k false ≡ some_suffix test (drop k atom))
-    → ((k : ℕ) → k ≢ m → get_or new k false ≡ get_or old k false)
-    → get_or new m false ≡ (get_or old m false || get_or old j false)
-    → ((k : ℕ) → k < m → get_or new k false ≡ test (drop k atom))
-    × ((k : ℕ) → m ≤ k → k ≤ length atom → get_or new k false ≡ some_suffix test (drop k atom))
-star_more test atom old new j m e l below above other here = (
-  λ k h. other k (omega arith) ∙ below k (omega arith),
-  λ k h n. elim (cases_eq k m) [
-    | inl same ↦ subst (λ i. get_or new i false ≡ some_suffix test (drop i atom)) (sym same)
-        (here ∙ ap (λ b. b || get_or old j false) (below m (omega arith)) ∙ ap (λ b. test (drop m atom) || b) (above j (omega arith) l ∙ ap (λ i. some_suffix test (drop i atom)) e)
-        ∙ sym (some_suffix_at test atom m (omega arith)))
-    | inr differ ↦ other k differ ∙ above k (omega (arith, differ)) n
-  ],
-)
+-- ## The row of the empty name
 
--- the row of a byte and a pattern, filled from its start
-pub single_more : (p : ℕ) (test : List ℕ → Bool) (atom : List ℕ) (old new : List Bool) (j : ℕ) → j < length atom
-    → ((k : ℕ) → k < j → get_or old k false ≡ one_byte p test (drop k atom))
-    → ((k : ℕ) → j ≤ k → k ≤ length atom → get_or old k false ≡ test (drop k atom))
-    → ((k : ℕ) → k ≢ j → get_or new k false ≡ get_or old k false)
-    → get_or new j false ≡ ((p == 63 || p == get_or atom j 0) && get_or old (j + 1) false)
-    → ((k : ℕ) → k < j + 1 → get_or new k false ≡ one_byte p test (drop k atom))
-    × ((k : ℕ) → j + 1 ≤ k → k ≤ length atom → get_or new k false ≡ test (drop k atom))
-single_more p test atom old new j l below above other here = (
-  λ k h. elim (cases_eq k j) [
-    | inl same ↦ subst (λ i. get_or new i false ≡ one_byte p test (drop i atom)) (sym same)
-        (here ∙ ap (λ b. (p == 63 || p == get_or atom j 0) && b) (above (j + 1) (omega arith) (omega arith)) ∙ sym (one_byte_at p test atom j l))
-    | inr differ ↦ other k differ ∙ below k (omega (arith, differ))
-  ],
-  λ k h n. other k (omega arith) ∙ above k (omega arith) n,
-)
+nothing_left : (pattern : List ℕ) → is_match (drop (length pattern) pattern) [] ≡ true
+nothing_left pattern = ap (λ ps. is_match ps []) (drop_all (length pattern) pattern (omega arith))
 
--- ## Whole rows
+-- from this place on the row is right
+abbrev pub IsRightFrom : ℕ → List ℕ → List ℕ → List Bool → Type 0
+IsRightFrom at pattern name row = (k : ℕ) → at ≤ k → k ≤ length pattern → get_or row k false ≡ is_match (drop k pattern) name
 
-pub star_row : (test : List ℕ → Bool) (atom : List ℕ) (start row : List Bool) → IsRow test atom start → length row ≡ length start
-    → ((k : ℕ) → k ≤ length atom → get_or row k false ≡ some_suffix test (drop k atom)) → IsRow (some_suffix test) atom row
-star_row test atom start row r l h = record { size = l ∙ r.size; each = h }
+pub start_init : (pattern : List ℕ) (row : List Bool) → length row ≡ length pattern + 1 → IsRightFrom (length pattern) pattern [] (set row (length pattern) true)
+start_init pattern row l k h n =
+    let same : k ≡ length pattern = omega (arith, h, n) in
+    subst (λ i. get_or (set row (length pattern) true) i false ≡ is_match (drop i pattern) []) (sym same)
+    (get_or-set_same row (length pattern) true false (omega (arith, l)) ∙ sym (nothing_left pattern))
 
-some_tail_none : (test : List ℕ → Bool) (atom : List ℕ) (k : ℕ) → length atom ≤ k → test (drop k atom) ≡ some_suffix test (drop k atom)
-some_tail_none test atom k l = let e = drop_all k atom l in ap test e ∙ sym (ap (some_suffix test) e)
+pub start_more : (pattern : List ℕ) (row : List Bool) (at m : ℕ) (new : Bool) → at ≡ m + 1 → at ≤ length pattern → length row ≡ length pattern + 1
+    → new ≡ (get_or pattern m 0 == 42 && get_or row at false) → IsRightFrom at pattern [] row → IsRightFrom m pattern [] (set row m new)
+start_more pattern row at m new e l size is h k low high = elim (cases_eq k m) [
+  | inl same ↦ subst (λ i. get_or (set row m new) i false ≡ is_match (drop i pattern) []) (sym same)
+      (get_or-set_same row m new false (omega (arith, e, l, size)) ∙ is
+      ∙ ap (λ b. get_or pattern m 0 == 42 && b) (h at (omega arith) l ∙ ap (λ i. is_match (drop i pattern) []) e)
+      ∙ sym (at_nothing (get_or pattern m 0) (drop (m + 1) pattern)) ∙ ap (λ ps. is_match ps []) (sym (drop_more pattern m 0 (omega (arith, e, l)))))
+  | inr differ ↦ get_or-set_other row m k new false differ ∙ h k (omega (arith, e, low, differ)) high
+]
 
--- before the first place is looked at
-pub star_init : (test : List ℕ → Bool) (atom : List ℕ) (row : List Bool) (j : ℕ) → j ≡ length row - 1 → IsRow test atom row
-    → ((k : ℕ) → k < j → get_or row k false ≡ test (drop k atom))
-    × ((k : ℕ) → j ≤ k → k ≤ length atom → get_or row k false ≡ some_suffix test (drop k atom))
-star_init test atom row j e r = (
-  λ k h. r.each k (omega (arith, e, r.size)),
-  λ k h n. r.each k n ∙ some_tail_none test atom k (omega (arith, e, r.size)),
-)
+pub whole_row : (pattern name : List ℕ) (row : List Bool) → length row ≡ length pattern + 1 → IsRightFrom 0 pattern name row → IsRow pattern name row
+whole_row pattern name row size h = record { size = size; each = λ k n. h k (omega arith) n }
 
-pub single_row : (p : ℕ) (test : List ℕ → Bool) (atom : List ℕ) (row : List Bool) → length row ≡ length atom + 1
-    → ((k : ℕ) → k < length atom → get_or row k false ≡ one_byte p test (drop k atom))
-    → IsRow (one_byte p test) atom (set row (length atom) false)
-single_row p test atom row l h = record {
-  size = length-set row (length atom) false ∙ l;
-  each = λ k n. elim (cases_eq k (length atom)) [
-    | inl same ↦ subst (λ i. get_or (set row (length atom) false) i false ≡ one_byte p test (drop i atom)) (sym same)
-        (get_or-set_same row (length atom) false false (omega arith) ∙ sym (ap (one_byte p test) (drop_all (length atom) atom (omega arith))))
-    | inr differ ↦ get_or-set_other row (length atom) k false false differ ∙ h k (omega (arith, differ))
-  ];
-}
+-- ## One byte more of the name
 
-empty_matches_none : (bs : List ℕ) → 0 < length bs → is_match [] bs ≡ false
-empty_matches_none [] l = absurd (omega (arith, l))
-empty_matches_none (b ∷ bs) l = refl
+-- before this place the row is that of the name without the byte
+abbrev pub IsOldBefore : ℕ → List ℕ → List ℕ → List Bool → Type 0
+IsOldBefore at pattern name row = (k : ℕ) → k < at → get_or row k false ≡ is_match (drop k pattern) name
 
-pub start_row : (atom : List ℕ) (row : List Bool) (last : ℕ) → length row ≡ length atom + 1 → last ≡ length row - 1
-    → ((k : ℕ) → k < length row → get_or row k false ≡ false) → IsRow (is_match []) atom (set row last true)
-start_row atom row last l e h = record {
-  size = length-set row last true ∙ l;
-  each = λ k n. elim (cases_eq k last) [
-    | inl same ↦ subst (λ i. get_or (set row last true) i false ≡ is_match [] (drop i atom)) (sym same)
-        (get_or-set_same row last true false (omega (arith, e, l)) ∙ sym (ap (is_match []) (drop_all last atom (omega (arith, e, l)))))
-    | inr differ ↦ get_or-set_other row last k true false differ ∙ h k (omega (arith, l))
-        ∙ sym (empty_matches_none (drop k atom) (omega (arith, e, l, differ, length-drop k atom)))
-  ];
-}
+-- the row from this place on, before it, and the old entry of the place
+pub record IsHalf (at : ℕ) (pattern : List ℕ) (byte : ℕ) (name : List ℕ) (after : Bool) (row : List Bool) : Type 0 where
+  pub old : IsOldBefore at pattern name row
+  pub new : IsRightFrom at pattern (byte ∷ name) row
+  pub here : after ≡ is_match (drop at pattern) name
 
--- ## One more byte of the pattern
+pub byte_init : (pattern : List ℕ) (byte : ℕ) (name : List ℕ) (row : List Bool) → IsRow pattern name row
+    → IsHalf (length pattern) pattern byte name (get_or row (length pattern) false) (set row (length pattern) false)
+byte_init pattern byte name row r =
+    let size = r.size in
+    record {
+      old = λ k h. get_or-set_other row (length pattern) k false false (omega (arith, h)) ∙ r.each k (omega (arith, h));
+      new = λ k h n.
+          let same : k ≡ length pattern = omega (arith, h, n) in
+          subst (λ i. get_or (set row (length pattern) false) i false ≡ is_match (drop i pattern) (byte ∷ name)) (sym same)
+          (get_or-set_same row (length pattern) false false (omega (arith, size)) ∙ sym (ap (λ ps. is_match ps (byte ∷ name)) (drop_all (length pattern) pattern (omega arith))));
+      here = r.each (length pattern) (omega arith);
+    }
 
-same_row : (s t : List ℕ → Bool) (atom : List ℕ) (row : List Bool) → ((bs : List ℕ) → s bs ≡ t bs) → IsRow s atom row → IsRow t atom row
-same_row s t atom row e r = record { size = r.size; each = λ j n. r.each j n ∙ e (drop j atom) }
+pub byte_more : (pattern : List ℕ) (byte : ℕ) (name : List ℕ) (after : Bool) (row : List Bool) (at m : ℕ) (new : Bool) → at ≡ m + 1 → at ≤ length pattern
+    → length row ≡ length pattern + 1
+    → new ≡ cond (get_or pattern m 0 == 42) (get_or row at false || get_or row m false) ((get_or pattern m 0 == 63 || get_or pattern m 0 == byte) && after)
+    → IsHalf at pattern byte name after row → IsHalf m pattern byte name (get_or row m false) (set row m new)
+byte_more pattern byte name after row at m new e l size is h =
+    let p = get_or pattern m 0 in
+    let ps = drop (m + 1) pattern in
+    let rest : drop m pattern ≡ p ∷ ps = drop_more pattern m 0 (omega (arith, e, l)) in
+    let was : get_or row m false ≡ is_match (p ∷ ps) name = h.old m (omega (arith, e)) ∙ ap (λ q. is_match q name) rest in
+    let longer : get_or row at false ≡ is_match ps (byte ∷ name) = h.new at (omega arith) l ∙ ap (λ i. is_match (drop i pattern) (byte ∷ name)) e in
+    let rests : after ≡ is_match ps name = h.here ∙ ap (λ i. is_match (drop i pattern) name) e in
+    let value : new ≡ is_match (drop m pattern) (byte ∷ name) =
+    is ∙ ap (λ t. cond (p == 42) (t || get_or row m false) ((p == 63 || p == byte) && after)) longer
+    ∙ ap (λ t. cond (p == 42) (is_match ps (byte ∷ name) || t) ((p == 63 || p == byte) && after)) was
+    ∙ ap (λ t. cond (p == 42) (is_match ps (byte ∷ name) || is_match (p ∷ ps) name) ((p == 63 || p == byte) && t)) rests
+    ∙ sym (at_byte p byte ps name) ∙ ap (λ q. is_match q (byte ∷ name)) (sym rest) in
+    record {
+      old = λ k k_low. get_or-set_other row m k new false (omega (arith, k_low)) ∙ h.old k (omega (arith, e, k_low));
+      new = λ k low high. elim (cases_eq k m) [
+        | inl same ↦ subst (λ i. get_or (set row m new) i false ≡ is_match (drop i pattern) (byte ∷ name)) (sym same)
+            (get_or-set_same row m new false (omega (arith, e, l, size)) ∙ value)
+        | inr differ ↦ get_or-set_other row m k new false differ ∙ h.new k (omega (arith, e, low, differ)) high
+      ];
+      here = was ∙ ap (λ q. is_match q name) (sym rest);
+    }
 
-pub star_pattern : (pattern atom : List ℕ) (i : ℕ) (row : List Bool) → i < length pattern → get_or pattern i 0 ≡ 42
-    → IsRow (some_suffix (is_match (drop (i + 1) pattern))) atom row → IsRow (is_match (drop i pattern)) atom row
-star_pattern pattern atom i row l e r =
-    same_row (some_suffix (is_match (drop (i + 1) pattern))) (is_match (drop i pattern)) atom row
-    (λ bs. sym (ap (λ p. is_match p bs) (drop_more pattern i 0 l)
-    ∙ ap (λ b. cond b (some_suffix (is_match (drop (i + 1) pattern)) bs) (one_byte (get_or pattern i 0) (is_match (drop (i + 1) pattern)) bs)) (eq-eqb (get_or pattern i 0) 42 e))) r
+pub byte_row : (pattern : List ℕ) (byte : ℕ) (name : List ℕ) (after : Bool) (row : List Bool) (at : ℕ) → at ≡ 0 → length row ≡ length pattern + 1
+    → IsHalf at pattern byte name after row → IsRow pattern (byte ∷ name) row
+byte_row pattern byte name after row at e size h = record { size = size; each = λ k n. h.new k (omega (arith, e)) n }
 
-pub single_pattern : (pattern atom : List ℕ) (i : ℕ) (row : List Bool) → i < length pattern → get_or pattern i 0 ≢ 42
-    → IsRow (one_byte (get_or pattern i 0) (is_match (drop (i + 1) pattern))) atom row → IsRow (is_match (drop i pattern)) atom row
-single_pattern pattern atom i row l e r =
-    same_row (one_byte (get_or pattern i 0) (is_match (drop (i + 1) pattern))) (is_match (drop i pattern)) atom row
-    (λ bs. sym (ap (λ p. is_match p bs) (drop_more pattern i 0 l)
-    ∙ ap (λ b. cond b (some_suffix (is_match (drop (i + 1) pattern)) bs) (one_byte (get_or pattern i 0) (is_match (drop (i + 1) pattern)) bs)) (ne_eqb (get_or pattern i 0) 42 e))) r
+-- ## Whole names
+
+pub longer_name : (pattern name : List ℕ) (row : List Bool) (left m : ℕ) → left ≡ m + 1 → left ≤ length name
+    → IsRow pattern (get_or name m 0 ∷ drop left name) row → IsRow pattern (drop m name) row
+longer_name pattern name row left m e l r =
+    subst (λ n. IsRow pattern n row) (sym (drop_more name m 0 (omega (arith, e, l)) ∙ ap (λ i. get_or name m 0 ∷ drop i name) (sym e))) r

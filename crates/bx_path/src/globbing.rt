@@ -1,12 +1,11 @@
 //! Globs: the files of a tree whose last atom matches a pattern.
 
-ghost use Rattle.std.specs.Prelude.{◌≡◌, ◌==◌, ◌↔◌, Some, IsTrue, MatchResult};
-ghost use Rattle.std.specs.List.{AllByRecursion, slice_split};
-ghost use Rattle.bx_tree.specs.Paths.{IsAtom};
-ghost use Rattle.bx_path.specs.Globbing.{IsPattern, glob_of, is_pattern_byte as pattern_byte};
+ghost use Rattle.std.specs.Prelude.{◌≡◌, ◌==◌, MatchResult};
+ghost use Rattle.std.specs.List.{slice_split};
+ghost use Rattle.bx_path.specs.Globbing.{IsPattern, glob_of};
 ghost use Rattle.bx_path.specs.Globbing.{is_hit as is_hit_of, last_is_match as last_pattern_match};
 
-use crate::matching::is_match;
+use crate::pattern::{is_pattern, name_matches};
 use bx_tree::{Memory, Path, Tree, split_once, text_below};
 use std::alloc::{AllocFailed, Global};
 
@@ -44,36 +43,15 @@ impl<T: Drop> From<AllocFailed<T>> for GlobFault {
     }
 }
 
-fn is_pattern_byte(byte: u8) -> bool
-    ensures { result ≡ pattern_byte byte }
-{
-    matches!(byte, b'A'..=b'Z' | b'a'..=b'z' | b'0'..=b'9' | b'.' | b'_' | b'-' | b'*' | b'?')
-}
-
-fn has_pattern_bytes(text: &[u8]) -> bool
-    ensures { IsTrue result ↔ AllByRecursion (λ b. IsTrue (pattern_byte b)) text.now }
-{
-    text.iter().all(|byte| is_pattern_byte(*byte))
-}
-
-fn is_pattern(text: &[u8]) -> bool
-    ensures { IsTrue result ↔ IsPattern text.now }
-{
-    if text.is_empty() || text.len() > MAX_PATTERN_BYTES {
-        return false;
-    }
-    has_pattern_bytes(text)
-}
-
 // Whether the last atom of a text matches a pattern, and is the only atom unless the glob is deep.
 fn last_is_match(text: &[u8], pattern: &[u8], deep: bool) -> bool
-    requires { AllByRecursion IsAtom (slice_split (λ b. b == 47) text.now) }
+    requires { IsPattern pattern.now }
     ensures { result ≡ last_pattern_match pattern.now deep (slice_split (λ b. b == 47) text.now) }
 {
     let mut rest = text;
     'parts: loop {
         let Some((_, after)) = split_once(rest, b'/') else {
-            return is_match(pattern, rest);
+            return name_matches(pattern, rest);
         };
         if !deep {
             return false;
@@ -84,6 +62,7 @@ fn last_is_match(text: &[u8], pattern: &[u8], deep: bool) -> bool
 
 // Whether a glob of this directory lists a path.
 fn is_hit(dir: &Path, path: &Path, pattern: &[u8], deep: bool) -> bool
+    requires { IsPattern pattern.now }
     ensures { result ≡ is_hit_of dir.now pattern.now deep path.now }
 {
     if !path.is_below(dir) {

@@ -4,13 +4,10 @@ use Rattle.std.specs.Prelude.{◌↔◌, Option, IsSomeAnd, nat_lt, slice_get}
 use Rattle.std.specs.Bool.{Decides}
 use Rattle.std.specs.List.{Contains, filter}
 use Rattle.std.specs.List.Sorted.{IsPermutation}
-use Rattle.std.specs.Ordering.{is_lt}
 use Rattle.std.proofs.lemmas.Bool.{cases_lt}
 use Rattle.std.proofs.lemmas.Bool.Decides.{Decides-and, Decides-ltb}
-use Rattle.std.proofs.lemmas.List.{get_or-map, length-map}
 use Rattle.std.proofs.lemmas.List.Elements.{Contains-append_cases, Contains-append_left, Contains-append_right}
-use Rattle.std.proofs.lemmas.List.Kept.{IsSortedBy-filter}
-use Rattle.std.proofs.lemmas.List.Sorted.{Contains-permutation, IsPermutation-sym, ranks_by}
+use Rattle.std.proofs.lemmas.List.Sorted.{Contains-permutation, IsPermutation-sym}
 use Rattle.bx_tree.specs.Paths.{Atoms}
 use Rattle.pip_model_types.specs.declared.pip.Pip.{Pip}
 use Rattle.pip_model_types.specs.declared.pip.PipKind.{PipKind}
@@ -20,14 +17,13 @@ use Rattle.graph_check_outputs.specs.declared.gathered.Role.TheVariants.{File, D
 use Rattle.graph_check_outputs.specs.declared.gathered.Wanted.{Wanted}
 use Rattle.graph_check_outputs.specs.declared.gathered.Wanted.TheVariants.{Files, Dirs, Outputs, Roots}
 use Rattle.graph_check_outputs.specs.Claims.{AreClaims, IsInClaimOrder, claim_of, claims_of, if_wanted, in_role, paths_among, wanted_items, wants}
-use Rattle.graph_check_outputs.specs.Gathered.{IsListOf}
+use Rattle.graph_check_outputs.specs.Gathered.{IsInOrder, IsListOf}
 use Rattle.graph_check_outputs.specs.Outputs.{PipHas, declared_files}
 use Rattle.graph_check_outputs.specs.Sharing.{declared_dir_paths, full_roots}
-use Rattle.graph_check_outputs.specs.TreeOrder.{IsInTreeOrder, tree_cmp}
 use Rattle.graph_check_outputs.proofs.Among.{from_flat, from_map, to_flat, to_map}
 use Rattle.graph_check_outputs.proofs.Has.{has_there, has_within, there_has}
 use Rattle.graph_check_outputs.proofs.Prefixes.{into, out_of}
-use Rattle.graph_check_outputs.proofs.TreeOrders.{tree_cmp_total}
+use Rattle.graph_check_outputs.proofs.InOrder.{rise_filter, rise_map}
 
 -- ## The claims of one pip
 
@@ -143,19 +139,10 @@ among_is wanted count [] = refl
 among_is wanted count (c ∷ cs) =
     kept_paths c (is_asked wanted count c) (paths_among wanted count cs) (filter (is_asked wanted count) cs) (among_is wanted count cs)
 
-sorted_paths : (claims : List Claim) → IsInClaimOrder claims → IsInTreeOrder (map claim_path claims)
-sorted_paths claims up k d low l =
-    let long = length-map claims claim_path in
-    let any = claim_of File 0 d in
-    let one = get_or-map claim_path claims k any d (omega (arith, l, long)) in
-    let two = get_or-map claim_path claims (k + 1) any d (omega (arith, l, long)) in
-    rw (one, two) (up k any low (omega (arith, l, long)))
-
-sorted_among : (wanted : Wanted) (count : ℕ) (claims : List Claim) → IsInClaimOrder claims → IsInTreeOrder (paths_among wanted count claims)
+sorted_among : (wanted : Wanted) (count : ℕ) (claims : List Claim) → IsInClaimOrder claims → IsInOrder (paths_among wanted count claims)
 sorted_among wanted count claims up =
-    subst IsInTreeOrder (sym (among_is wanted count claims))
-    (sorted_paths (filter (is_asked wanted count) claims)
-    (IsSortedBy-filter (λ (x y : Claim). is_lt (tree_cmp x.path y.path)) (ranks_by tree_cmp_total claim_path) (is_asked wanted count) claims up))
+    subst IsInOrder (sym (among_is wanted count claims))
+    (rise_map claim_path (filter (is_asked wanted count) claims) (rise_filter claim_path (is_asked wanted count) claims up))
 
 asked_decides : (wanted : Wanted) (count : ℕ) (c : Claim) → Decides (is_asked wanted count c) ((c.pip < count) × (wants wanted c.role ≡ true))
 asked_decides wanted count c = Decides-and (nat_lt c.pip count) (wants wanted c.role) (Decides-ltb c.pip count) (λ t. t, λ t. t)

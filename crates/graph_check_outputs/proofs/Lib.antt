@@ -3,9 +3,7 @@ pub mod Firsts
 pub mod Lists
 pub mod Adding
 pub mod Repeats
-pub mod ByText
-pub mod TreeOrders
-pub mod InTree
+pub mod InOrder
 pub mod Among
 pub mod Unsharing
 pub mod Overlapping

@@ -2,13 +2,12 @@
 use Rattle.std.specs.Prelude.{◌↔◌, ℕ, ◌<◌, Bool, true, false, ◌&&◌, cond, List, [], ◌∷◌, ◌++◌, length, map}
 use Rattle.std.specs.Prelude.{Contains, nat_lt}
 use Rattle.std.specs.List.{flat_map}
-use Rattle.std.specs.List.Sorted.{IsSortedByKey}
 use Rattle.bx_tree.specs.Paths.{Atoms}
+use Rattle.bx_tree_paths.specs.Searches.{RiseByText}
 use Rattle.pip_model_types.specs.declared.pip.Pip.{Pip}
 use Rattle.pip_model_types.specs.declared.pip.PipKind.{PipKind}
 use Rattle.graph_check_outputs.specs.Outputs.{PipHas, declared_files, outputs}
 use Rattle.graph_check_outputs.specs.Sharing.{declared_dir_paths, full_roots}
-use Rattle.graph_check_outputs.specs.TreeOrder.{tree_cmp}
 use Rattle.graph_check_outputs.specs.declared.gathered.Claim.{Claim}
 use Rattle.graph_check_outputs.specs.declared.gathered.Role.{Role}
 use Rattle.graph_check_outputs.specs.declared.gathered.Role.TheVariants.{File, Dir, Root}
@@ -51,8 +50,9 @@ claims_of pip kind =
     map (claim_of File pip) (declared_files kind) ++ map (claim_of Dir pip) (declared_dir_paths kind)
     ++ map (claim_of Root pip) (full_roots kind)
 
+-- the claims rise by the texts of their paths
 abbrev pub IsInClaimOrder : List Claim → Type 0
-IsInClaimOrder = IsSortedByKey (λ (c : Claim). c.path) tree_cmp
+IsInClaimOrder = RiseByText (λ (c : Claim). c.path)
 
 -- Of the pips of this list, which may be the first of more, the claims are just what they declare.
 pub record AreClaims (pips : List Pip) (claims : List Claim) : Type 0 where

@@ -5,5 +5,4 @@ pub mod OutsideOut
 pub mod Sharing
 pub mod Gathered
 pub mod Claims
-pub mod TreeOrder
 pub mod Firsts

@@ -7,7 +7,6 @@ ghost use Rattle.graph_check_outputs.specs.Claims.{wants, wanted_items};
 ghost use Rattle.graph_check_outputs.specs.Gathered.{IsListOf};
 
 use crate::declared::{add_path, dirs_of, files_of, roots_of};
-use crate::tree_order::tree_order;
 use bx_tree::Path;
 use pip_model_types::{Pip, PipKind};
 use std::alloc::{AllocError, Global};
@@ -68,17 +67,17 @@ fn add_pip(
     add_claims(claims, Role::Root, pip, roots.as_slice())
 }
 
-// The claims in the tree order of their paths.
+// The claims in the order of their paths.
 fn in_claim_order(claims: Vec<Claim>) -> Vec<Claim>
     ensures kept { IsPermutation claims.items result.items }
     ensures sorted { IsInClaimOrder result.items }
 {
     let mut claims = claims;
-    claims.sort_unstable_by(|a, b| tree_order(&a.path, &b.path));
+    claims.sort_unstable_by(|a, b| a.path.cmp(&b.path));
     claims
 }
 
-// The claims of these pips, in the tree order of their paths.
+// The claims of these pips, in the order of their paths.
 pub(crate) fn all_claims(alloc: Global, pips: &[Pip]) -> Result<Vec<Claim>, AllocError>
     ensures { IfOk result (λ claims. AreClaims pips.now claims.items) }
 {
@@ -132,7 +131,7 @@ fn wanted_paths(
     Ok(paths)
 }
 
-// The paths of these pips that are asked for, in tree order. The claims may be those of more pips, of which these
+// The paths of these pips that are asked for, in order. The claims may be those of more pips, of which these
 // are the first.
 pub(crate) fn list_of(
     alloc: Global,

@@ -1,8 +1,8 @@
 //! Graph validation: the rules on declared outputs.
 //!
 //! No two pips declare one file; files, output directories and full seals do not overlap; all outputs lie below
-//! `out`. Each call gives the first pip at which its rule fails. This crate depends on `pip_model_types`, `bx_tree`
-//! and `bx_digest`, and has no types with an invariant of their own.
+//! `out`. Each call gives the first pip at which its rule fails. This crate depends on `pip_model_types`, `bx_tree`,
+//! `bx_tree_paths` and `bx_digest`, and has no types with an invariant of their own.
 #![tactic(auto)]
 
 mod declared;
@@ -12,7 +12,6 @@ mod nesting;
 mod outside_out;
 mod overlap;
 mod seen;
-mod tree_order;
 mod unlisted;
 mod unshared;
 

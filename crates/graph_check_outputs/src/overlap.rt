@@ -6,7 +6,7 @@ ghost use Rattle.graph_check_outputs.specs.Overlap.{IsUnlisted, OverlapAt, full_
 ghost use Rattle.graph_check_outputs.specs.Claims.{AreClaims};
 ghost use Rattle.graph_check_outputs.specs.Sharing.{HasFileDir, HasNested, HasOverlap, HasSealedDir, HasUnlisted};
 ghost use Rattle.graph_check_outputs.specs.Sharing.{TellsUnshared};
-ghost use Rattle.graph_check_outputs.specs.TreeOrder.{IsInTreeOrder};
+ghost use Rattle.graph_check_outputs.specs.Gathered.{IsInOrder};
 
 use crate::gathered::{Claim, Wanted, all_claims, list_of};
 use crate::nesting::{any_nested, any_within};
@@ -48,7 +48,7 @@ fn seals_meet_dirs(alloc: Global, claims: &[Claim], pips: &[Pip]) -> Result<bool
 
 // Whether some of these files lies in this pip, if it is a full seal, without being a member.
 fn leaves_out(files: &[Path], kind: &PipKind) -> bool
-    requires { IsInTreeOrder files.now }
+    requires { IsInOrder files.now }
     ensures { IsTrue result ↔ Any (λ seal. Any (IsUnlisted seal) files.now) (full_seals kind.now) }
 {
     match kind {
@@ -62,7 +62,7 @@ fn leaves_out(files: &[Path], kind: &PipKind) -> bool
 
 // Whether some of these files lies in a full seal of these pips without being a member.
 fn any_leaves_out(files: &[Path], pips: &[Pip]) -> bool
-    requires { IsInTreeOrder files.now }
+    requires { IsInOrder files.now }
     ensures { IsTrue result ↔ Any (λ (pip : AnyPip).
         Any (λ seal. Any (IsUnlisted seal) files.now) (full_seals pip.kind)) pips.now }
 {

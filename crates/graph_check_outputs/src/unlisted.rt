@@ -1,37 +1,50 @@
 //! Which files lie in sealed directories without being members of them.
-ghost use Rattle.std.specs.Prelude.{◌≡◌, ◌↔◌, All, Any, IsTrue, false};
-ghost use Rattle.std.specs.Ordering.{is_lt};
+ghost use Rattle.std.specs.Prelude.{◌↔◌, Any, Contains, IsTrue, map};
+ghost use Rattle.bx_tree.specs.FileInputs.{input_path};
+ghost use Rattle.graph_check_outputs.specs.Gathered.{IsInOrder, IsLeftOut};
 ghost use Rattle.graph_check_outputs.specs.Overlap.{IsUnlisted};
-ghost use Rattle.graph_check_outputs.specs.TreeOrder.{IsInTreeOrder, tree_cmp};
 
-use crate::tree_order::{count_before, is_within};
 use bx_tree::Path;
+use bx_tree_paths::{items_below, place_of};
 use pip_model_types::SealDesc;
 
-// Whether a file lies at or below the root of the seal and is no member, among files of which none comes before
-// that root. The search ends at the first file that is
-// no member or lies elsewhere, so that it takes no longer than the list of members.
-fn has_unlisted_among(files: &[Path], seal: &SealDesc) -> bool
-    requires sorted { IsInTreeOrder files.now }
-    requires after { All (λ file. is_lt (tree_cmp file seal.now.root) ≡ false) files.now }
-    ensures { IsTrue result ↔ Any (IsUnlisted seal.now) files.now }
+// Whether a file lies strictly below the root of a seal and is no member.
+fn is_left_out(file: &Path, seal: &SealDesc) -> bool
+    ensures { IsTrue result ↔ IsLeftOut seal.now file.now }
 {
-    'files: for file in files {
-        if !is_within(file, &seal.root) {
-            return false;
-        }
-        if !seal.files.has_path(file) {
-            return true;
-        }
+    if !file.is_below(&seal.root) {
+        return false;
     }
-    false
+    !seal.files.has_path(file)
+}
+
+// Whether one of these files lies strictly below the root of a seal and is no member. The search ends at the first,
+// so that in the range of the root it takes no longer than the list of members.
+fn any_left_out(files: &[Path], seal: &SealDesc) -> bool
+    ensures { IsTrue result ↔ Any (IsLeftOut seal.now) files.now }
+{
+    files.iter().any(|file| is_left_out(file, seal))
+}
+
+// Whether the root of a seal is one of these files and no member.
+fn leaves_root_out(files: &[Path], seal: &SealDesc) -> bool
+    requires { IsInOrder files.now }
+    ensures { IsTrue result ↔ (Contains files.now seal.now.root
+        × (Contains (map input_path seal.now.files) seal.now.root → ⊥)) }
+{
+    if !place_of(files, &seal.root).is_some() {
+        return false;
+    }
+    !seal.files.has_path(&seal.root)
 }
 
 // Whether some of these files lies in a sealed directory without being a member of it.
 pub(crate) fn has_unlisted(files: &[Path], seal: &SealDesc) -> bool
-    requires { IsInTreeOrder files.now }
+    requires { IsInOrder files.now }
     ensures { IsTrue result ↔ Any (IsUnlisted seal.now) files.now }
 {
-    let start = count_before(files, &seal.root);
-    has_unlisted_among(&files[start..], seal)
+    if any_left_out(items_below(files, &seal.root), seal) {
+        return true;
+    }
+    leaves_root_out(files, seal)
 }

@@ -5,21 +5,21 @@ ghost use Rattle.graph_check_outputs.specs.Sharing.{TellsUnshared};
 use crate::declared::{dirs_of, lone_dirs_of};
 use crate::seen::{is_any_seen, see_all};
 use bx_tree::{Memory, Path};
+use bx_tree_paths::PathTable;
 use pip_model_types::Pip;
 use std::alloc::Global;
-use std::collections::BTreeSet;
 
 // The output directories of the pips so far.
 #[derive(Drop)]
 struct SeenDirs {
-    all: BTreeSet<Path>,
-    lone: BTreeSet<Path>,
+    all: PathTable,
+    lone: PathTable,
 }
 
 // Whether a pip has a directory of an earlier pip, and not both share it.
 fn is_clash(seen: &SeenDirs, dirs: &[Path], lone: &[Path]) -> bool
-    ensures { IsTrue result ↔ (Any (Contains seen.now.all.keys) lone.now
-        ⊎ Any (Contains seen.now.lone.keys) dirs.now) }
+    ensures { IsTrue result ↔ (Any (Contains seen.now.all) lone.now
+        ⊎ Any (Contains seen.now.lone) dirs.now) }
 {
     is_any_seen(&seen.all, lone) || is_any_seen(&seen.lone, dirs)
 }
@@ -29,8 +29,8 @@ pub(crate) fn first_unshared(alloc: Global, pips: &[Pip]) -> Result<usize, Memor
     ensures { IfOk result (TellsUnshared pips.now) }
 {
     let mut seen = SeenDirs {
-        all: BTreeSet::new(alloc),
-        lone: BTreeSet::new(alloc),
+        all: PathTable::new(alloc)?,
+        lone: PathTable::new(alloc)?,
     };
     'pips: for (number, pip) in pips.iter().enumerate() {
         let dirs = dirs_of(alloc, &pip.kind)?;
@@ -38,8 +38,8 @@ pub(crate) fn first_unshared(alloc: Global, pips: &[Pip]) -> Result<usize, Memor
         if is_clash(&seen, dirs.as_slice(), lone.as_slice()) {
             return Ok(number);
         }
-        see_all(&mut seen.all, dirs.as_slice())?;
-        see_all(&mut seen.lone, lone.as_slice())?;
+        see_all(alloc, &mut seen.all, dirs.as_slice())?;
+        see_all(alloc, &mut seen.lone, lone.as_slice())?;
     }
     Ok(pips.len())
 }

@@ -18,10 +18,13 @@ use Rattle.std.proofs.lemmas.List.Splits.{join_with_byte-slice_split, slice_spli
 use Rattle.std.proofs.lemmas.Slice.Eq.{bytes_eq-Decides}
 use Rattle.std.proofs.lemmas.Option.{same_Some}
 use Rattle.bx_tree.specs.Paths.{Atoms, IsAtom, IsPath, IsPathText, Names, is_atom_byte, path_of, path_text}
+use Rattle.bx_tree.specs.Headers.{HasNo, IsSplitOnce}
 use Rattle.bx_tree.specs.declared.limits.TheConstants.{MAX_ATOM_BYTES, MAX_PATH_BYTES}
 use Rattle.bx_tree.proofs.PathTexts.{named_by_parts, path_of-named}
 use Rattle.bx_path.specs.Joining.{is_atom}
 use Rattle.bx_path.proofs.StepsOfTexts.{is_atom_true, other_bytes}
+use Rattle.bx_path.specs.Globbing.{IsPattern, is_pattern}
+use Rattle.bx_path.proofs.Patterns.{bytes_lack as pattern_lacks, pattern_is, pattern_passes}
 use Rattle.observed.specs.declared.ask.AskKind.{AskKind}
 use Rattle.observed.specs.declared.ask.AskKind.TheVariants as kinds
 use Rattle.observed.specs.declared.ask.Ask.{Ask}
@@ -29,8 +32,8 @@ use Rattle.observed.specs.declared.path_set.SetFault.{SetFault}
 use Rattle.observed.specs.declared.path_set.SetFault.TheVariants.{BadSet, Memory}
 use Rattle.observed.specs.Asks.{ask_cmp}
 use Rattle.observed.specs.Orders.{ask_cmp_total}
-use Rattle.observed.specs.PathSets.{IsPathSet}
-use Rattle.observed.specs.Texts.{ReadsPathSet, ReadsAsks, all_asks, after_asks, after_prefix, ask_after, ask_at, ask_line, first_line, if_rising, is_rising, kind_text, named_ask, named_asks, named_path, paths_text, read_lines, read_paths_text, with_ask}
+use Rattle.observed.specs.PathSets.{IsAsk, IsKind, IsPathSet}
+use Rattle.observed.specs.Texts.{ReadsPathSet, ReadsAsks, all_asks, after_asks, after_prefix, ask_after, ask_at, ask_line, blank_parts, first_line, has_match, if_set, in_front, is_rising, is_version, kind_text, match_at, match_by, named_ask, named_asks, named_path, paths_text, read_lines, read_paths_text, set_of_lines, with_ask}
 use Rattle.bx_tree.specs.Lent.{texts_now}
 use Rattle.bx_tree.proofs.Lists.{none_left, all_true}
 use Rattle.bx_tree.proofs.Lent.{texts_at, drop_whole}
@@ -121,33 +124,91 @@ abbrev pub ask_body : Ask → List ℕ
 ask_body ask = kind_text ask.kind ++ codes " " ++ path_text ask.path
 
 pub record IsLineOf (line : List ℕ) (ask : Ask) : Type 0 where
-  pub is_path : IsPath ask.path
+  pub is_ask : IsAsk ask
   pub line_is : line ≡ ask_body ask
 
-at_sound : (kind : AskKind) (line text : List ℕ) (ask : Ask) → line ≡ kind_text kind ++ codes " " ++ text → ask_at kind (named_path text) ≡ Some ask → IsLineOf line ask
-at_sound kind line text ask is e = by_path (named_path text) refl e
+at_sound : (kind : AskKind) (line text : List ℕ) (ask : Ask) → IsKind kind → line ≡ kind_text kind ++ codes " " ++ text → ask_at kind (named_path text) ≡ Some ask
+    → IsLineOf line ask
+at_sound kind line text ask good is e = by_path (named_path text) refl e
   where
     by_path : (o : Option Atoms) → named_path text ≡ o → ask_at kind o ≡ Some ask → IsLineOf line ask
     by_path None named e = cc
     by_path (Some path) named e =
         let h = path_sound text path named in
         let same : record { kind = kind; path = path } ≡ ask = same_Some (record { kind = kind; path = path }) ask e in
-        subst (IsLineOf line) same (record { is_path = h.is_path; line_is = is ∙ ap (λ t. kind_text kind ++ codes " " ++ t) h.text_is })
+        subst (IsLineOf line) same
+        (record { is_ask = record { path = h.is_path; kind = good }; line_is = is ∙ ap (λ t. kind_text kind ++ codes " " ++ t) h.text_is })
+
+in_front_sound : (b : ℕ) (o : Option (List ℕ × List ℕ)) (parts : List ℕ × List ℕ) → in_front b o ≡ Some parts
+    → (inner : List ℕ × List ℕ) × (o ≡ Some inner) × ((b ∷ inner.0, inner.1) ≡ parts)
+in_front_sound b None parts e = cc
+in_front_sound b (Some inner) parts e = (inner, refl, same_Some (b ∷ inner.0, inner.1) parts e)
+
+parts_sound : (text : List ℕ) (parts : List ℕ × List ℕ) → blank_parts text ≡ Some parts → text ≡ parts.0 ++ 32 ∷ parts.1
+parts_sound [] parts e = cc
+parts_sound (b ∷ bs) parts e = by_byte (b == 32) refl (λ u f. parts_sound bs u f) e
+  where
+    by_byte : (t : Bool) → (b == 32) ≡ t → ((u : List ℕ × List ℕ) → blank_parts bs ≡ Some u → bs ≡ u.0 ++ 32 ∷ u.1)
+        → cond t (Some ([], bs)) (in_front b (blank_parts bs)) ≡ Some parts → b ∷ bs ≡ parts.0 ++ 32 ∷ parts.1
+    by_byte true same sound e =
+        subst (λ (p : List ℕ × List ℕ). b ∷ bs ≡ p.0 ++ 32 ∷ p.1) (same_Some ([], bs) parts e) (ap (λ x. x ∷ bs) ((Decides-eqb b 32).0 same))
+    by_byte false other sound e =
+        let inner = in_front_sound b (blank_parts bs) parts e in
+        subst (λ (p : List ℕ × List ℕ). b ∷ bs ≡ p.0 ++ 32 ∷ p.1) inner.2 (ap (λ t. b ∷ t) (sound inner.0 inner.1))
+
+parts_again : (front rest : List ℕ) → AllByRecursion (λ b. (b == 32) ≡ false) front → blank_parts (front ++ 32 ∷ rest) ≡ Some (front, rest)
+parts_again [] rest h = refl
+parts_again (b ∷ bs) rest h =
+    ap (λ t. cond t (Some ([], bs ++ 32 ∷ rest)) (in_front b (blank_parts (bs ++ 32 ∷ rest)))) h.0 ∙ ap (in_front b) (parts_again bs rest h.1)
+
+no_parts : (text : List ℕ) → AllByRecursion (λ b. (b == 32) ≡ false) text → blank_parts text ≡ None
+no_parts [] h = refl
+no_parts (b ∷ bs) h = ap (λ t. cond t (Some ([], bs)) (in_front b (blank_parts bs))) h.0 ∙ ap (in_front b) (no_parts bs h.1)
+
+lacks_blank : (text : List ℕ) → HasNo 32 text → AllByRecursion (λ b. (b == 32) ≡ false) text
+lacks_blank [] h = tt
+lacks_blank (b ∷ bs) h = (differs, lacks_blank bs h.1)
+  where
+    differs : (b == 32) ≡ false
+    differs = elim (cases_Bool (b == 32)) [ inl same ↦ absurd (h.0 ((Decides-eqb b 32).0 same)) | inr e ↦ e ]
+
+-- the cut at the first blank of a text
+pub parts_by_cut : (text : List ℕ) (r : Option (Bor (List ℕ) × Bor (List ℕ))) → MatchOption r (HasNo 32 text) (λ parts. IsSplitOnce 32 text parts.0.now parts.1.now)
+    → MatchOption r (blank_parts text ≡ None) (λ parts. blank_parts text ≡ Some (parts.0.now, parts.1.now))
+parts_by_cut text None h = no_parts text (lacks_blank text h)
+parts_by_cut text (Some parts) h = ap blank_parts h.1 ∙ parts_again parts.0.now parts.1.now (lacks_blank parts.0.now h.0)
+
+match_sound : (line text : List ℕ) (ask : Ask) → line ≡ codes "match " ++ text → match_at text ≡ Some ask → IsLineOf line ask
+match_sound line text ask is e = by_parts (blank_parts text) refl e
+  where
+    by_parts : (o : Option (List ℕ × List ℕ)) → blank_parts text ≡ o → match_by o ≡ Some ask → IsLineOf line ask
+    by_parts None at e = cc
+    by_parts (Some parts) at e =
+        let tests = if_some (is_pattern parts.0) (ask_at (kinds.Match parts.0) (named_path parts.1)) ask e in
+        at_sound (kinds.Match parts.0) line parts.1 ask (pattern_is parts.0 tests.0)
+        (is ∙ ap (λ t. codes "match " ++ t) (parts_sound text parts at ∙ sym (append_assoc parts.0 (32 ∷ []) parts.1))) tests.1
 
 pub ask_sound : (line : List ℕ) (ask : Ask) → named_ask line ≡ Some ask → IsLineOf line ask
-ask_sound line ask e = by_word (after_prefix (codes "read ") line) (after_prefix (codes "probe ") line) (after_prefix (codes "list ") line) refl refl refl e
+ask_sound line ask e =
+    by_word (after_prefix (codes "read ") line) (after_prefix (codes "probe ") line) (after_prefix (codes "list ") line) (after_prefix (codes "match ") line) refl refl refl refl e
   where
-    by_word : (r p l : Option (List ℕ)) → after_prefix (codes "read ") line ≡ r → after_prefix (codes "probe ") line ≡ p → after_prefix (codes "list ") line ≡ l
-        → ask_after r p l ≡ Some ask → IsLineOf line ask
-    by_word (Some text) p l is-r is-p is-l e = at_sound kinds.Read line text ask (prefix_sound (codes "read ") line text is-r) e
-    by_word None (Some text) l is-r is-p is-l e = at_sound kinds.Probe line text ask (prefix_sound (codes "probe ") line text is-p) e
-    by_word None None (Some text) is-r is-p is-l e = at_sound kinds.List line text ask (prefix_sound (codes "list ") line text is-l) e
-    by_word None None None is-r is-p is-l e = cc
+    by_word : (r p l m : Option (List ℕ)) → after_prefix (codes "read ") line ≡ r → after_prefix (codes "probe ") line ≡ p → after_prefix (codes "list ") line ≡ l
+        → after_prefix (codes "match ") line ≡ m → ask_after r p l m ≡ Some ask → IsLineOf line ask
+    by_word (Some text) p l m is-r is-p is-l is-m e = at_sound kinds.Read line text ask tt (prefix_sound (codes "read ") line text is-r) e
+    by_word None (Some text) l m is-r is-p is-l is-m e = at_sound kinds.Probe line text ask tt (prefix_sound (codes "probe ") line text is-p) e
+    by_word None None (Some text) m is-r is-p is-l is-m e = at_sound kinds.List line text ask tt (prefix_sound (codes "list ") line text is-l) e
+    by_word None None None (Some text) is-r is-p is-l is-m e = match_sound line text ask (prefix_sound (codes "match ") line text is-m) e
+    by_word None None None None is-r is-p is-l is-m e = cc
 
-body_read : (kind : AskKind) (path : Atoms) → IsPath path → named_ask (kind_text kind ++ codes " " ++ path_text path) ≡ Some (record { kind = kind; path = path })
-body_read kinds.Read path h = ap (ask_at kinds.Read) (path_complete path h)
-body_read kinds.Probe path h = ap (ask_at kinds.Probe) (path_complete path h)
-body_read kinds.List path h = ap (ask_at kinds.List) (path_complete path h)
+body_read : (kind : AskKind) (path : Atoms) → IsKind kind → IsPath path → named_ask (kind_text kind ++ codes " " ++ path_text path) ≡ Some (record { kind = kind; path = path })
+body_read kinds.Read path k h = ap (ask_at kinds.Read) (path_complete path h)
+body_read kinds.Probe path k h = ap (ask_at kinds.Probe) (path_complete path h)
+body_read kinds.List path k h = ap (ask_at kinds.List) (path_complete path h)
+body_read (kinds.Match pattern) path k h =
+    ap match_at (append_assoc pattern (32 ∷ []) (path_text path))
+    ∙ ap match_by (parts_again pattern (path_text path) (pattern_lacks 32 pattern refl k.bytes))
+    ∙ ap (λ t. cond t (ask_at (kinds.Match pattern) (named_path (path_text path))) None) (pattern_passes pattern k)
+    ∙ ap (ask_at (kinds.Match pattern)) (path_complete path h)
 
 -- no byte of a line but its last is a newline
 abbrev pub Lacks : List ℕ → Type 0
@@ -175,23 +236,25 @@ path_lacks (atom ∷ rest) h = joined atom rest h
     joined atom [] h = bytes_lack atom h.0.bytes
     joined atom (more ∷ rest) h = lacks_append atom (47 ∷ join_with_byte 47 (more ∷ rest)) (bytes_lack atom h.0.bytes) (refl, joined more rest h.1)
 
-kind_lacks : (kind : AskKind) → Lacks (kind_text kind ++ codes " ")
-kind_lacks kinds.Read = (refl, (refl, (refl, (refl, (refl, tt)))))
-kind_lacks kinds.Probe = (refl, (refl, (refl, (refl, (refl, (refl, tt))))))
-kind_lacks kinds.List = (refl, (refl, (refl, (refl, (refl, tt)))))
+kind_lacks : (kind : AskKind) → IsKind kind → Lacks (kind_text kind ++ codes " ")
+kind_lacks kinds.Read k = (refl, (refl, (refl, (refl, (refl, tt)))))
+kind_lacks kinds.Probe k = (refl, (refl, (refl, (refl, (refl, (refl, tt))))))
+kind_lacks kinds.List k = (refl, (refl, (refl, (refl, (refl, tt)))))
+kind_lacks (kinds.Match pattern) k =
+    (refl, (refl, (refl, (refl, (refl, (refl, lacks_append pattern (32 ∷ []) (pattern_lacks 10 pattern refl k.bytes) (refl, tt)))))))
 
-body_lacks : (ask : Ask) → IsPath ask.path → All (λ b. (b == 10) ≡ false) (ask_body ask)
+body_lacks : (ask : Ask) → IsAsk ask → All (λ b. (b == 10) ≡ false) (ask_body ask)
 body_lacks ask h =
     All-from_recursion (λ b. (b == 10) ≡ false) (ask_body ask)
-    (lacks_append (kind_text ask.kind ++ codes " ") (path_text ask.path) (kind_lacks ask.kind) (path_lacks ask.path h.atoms))
+    (lacks_append (kind_text ask.kind ++ codes " ") (path_text ask.path) (kind_lacks ask.kind h.kind) (path_lacks ask.path h.path.atoms))
 
 -- ## All lines
 
-abbrev pub ArePaths : List Ask → Type 0
-ArePaths asks = AllByRecursion (λ (a : Ask). IsPath a.path) asks
+abbrev pub AreAsks : List Ask → Type 0
+AreAsks asks = AllByRecursion IsAsk asks
 
 pub record AreLinesOf (lines : List (List ℕ)) (asks : List Ask) : Type 0 where
-  pub paths : ArePaths asks
+  pub each : AreAsks asks
   pub joined : join_with_byte 10 lines ≡ flat_map ask_line asks
 
 with_sound : (o : Option Ask) (rest : Option (List Ask)) (asks : List Ask) → with_ask o rest ≡ Some asks
@@ -202,14 +265,14 @@ with_sound (Some a) (Some more) asks e = (a, more, refl, refl, same_Some (a ∷ 
 
 pub lines_sound : (lines : List (List ℕ)) (asks : List Ask) → named_asks lines ≡ Some asks → AreLinesOf lines asks
 lines_sound [] asks e = cc
-lines_sound ([] ∷ []) asks e = subst (AreLinesOf ([] ∷ [])) (same_Some [] asks e) (record { paths = tt; joined = refl })
+lines_sound ([] ∷ []) asks e = subst (AreLinesOf ([] ∷ [])) (same_Some [] asks e) (record { each = tt; joined = refl })
 lines_sound ((b ∷ bs) ∷ []) asks e = cc
 lines_sound (line ∷ more ∷ lines) asks e =
     let parts = with_sound (named_ask line) (named_asks (more ∷ lines)) asks e in
     let h = ask_sound line parts.0 parts.2 in
     let rest = lines_sound (more ∷ lines) parts.1 parts.3 in
     subst (AreLinesOf (line ∷ more ∷ lines)) parts.4 (record {
-      paths = (h.is_path, rest.paths);
+      each = (h.is_ask, rest.each);
       joined = ap (λ t. t ++ 10 ∷ join_with_byte 10 (more ∷ lines)) h.line_is
           ∙ sym (append_assoc (ask_body parts.0) (10 ∷ []) (join_with_byte 10 (more ∷ lines)))
           ∙ ap (λ t. ask_line parts.0 ++ t) rest.joined;
@@ -220,13 +283,13 @@ one_more : (line : List ℕ) (lines : List (List ℕ)) (a : Ask) (asks : List As
 one_more line [] a asks e f = cc
 one_more line (more ∷ lines) a asks e f = ap (λ o. with_ask o (named_asks (more ∷ lines))) e ∙ ap (with_ask (Some a)) f
 
-pub lines_complete : (asks : List Ask) → ArePaths asks → named_asks (slice_split (λ b. b == 10) (flat_map ask_line asks)) ≡ Some asks
+pub lines_complete : (asks : List Ask) → AreAsks asks → named_asks (slice_split (λ b. b == 10) (flat_map ask_line asks)) ≡ Some asks
 lines_complete [] h = refl
 lines_complete (a ∷ as') h =
     let rest = flat_map ask_line as' in
     ap (λ t. named_asks (slice_split (λ b. b == 10) t)) (append_assoc (ask_body a) (10 ∷ []) rest)
     ∙ ap named_asks (slice_split_at (λ b. b == 10) (ask_body a) 10 rest (body_lacks a h.0) refl)
-    ∙ one_more (ask_body a) (slice_split (λ b. b == 10) rest) a as' (body_read a.kind a.path h.0) (lines_complete as' h.1)
+    ∙ one_more (ask_body a) (slice_split (λ b. b == 10) rest) a as' (body_read a.kind a.path h.0.kind h.0.path) (lines_complete as' h.1)
 
 -- ## Order
 
@@ -252,34 +315,73 @@ rising_complete (a ∷ b ∷ rest) h = and_from (is_lt (ask_cmp a b)) (is_rising
 
 -- ## Whole texts
 
+version_is : (second found : Bool) → cond second found (not found) ≡ true → second ≡ found
+version_is true found e = sym e
+version_is false true e = cc
+version_is false false e = refl
+
+-- the text of a path set whose version is this one
+text_of_version : (set : List Ask) (second : Bool) → second ≡ has_match set → first_line second ++ 10 ∷ flat_map ask_line set ≡ paths_text set
+text_of_version set second e =
+    ap (λ v. first_line v ++ 10 ∷ flat_map ask_line set) e ∙ sym (append_assoc (first_line (has_match set)) (10 ∷ []) (flat_map ask_line set))
+
+-- asks that strictly rise are a path set of their own version
+set_sound : (second : Bool) (asks set : List Ask) → if_set second asks ≡ Some set → (is_rising set ≡ true) × (second ≡ has_match set) × (asks ≡ set)
+set_sound second asks set e =
+    let fits = if_some (is_rising asks && is_version second asks) (Some asks) set e in
+    let same : asks ≡ set = same_Some asks set fits.1 in
+    by_set asks same (and_parts (is_rising asks) (is_version second asks) fits.0)
+  where
+    by_set : (xs : List Ask) → xs ≡ set → (is_rising xs ≡ true) × (is_version second xs ≡ true) → (is_rising set ≡ true) × (second ≡ has_match set) × (xs ≡ set)
+    by_set xs same tests =
+        let tests' = subst (λ (ys : List Ask). (is_rising ys ≡ true) × (is_version second ys ≡ true)) same tests in
+        (tests'.0, version_is second (has_match set) tests'.1, same)
+
+some_set : (second : Bool) (o : Option (List Ask)) (set : List Ask) → option_and_then (if_set second) o ≡ Some set
+    → (o ≡ Some set) × (is_rising set ≡ true) × (second ≡ has_match set)
+some_set second None set e = cc
+some_set second (Some asks) set e = let h = set_sound second asks set e in (ap Some h.2, h.0, h.1)
+
+first_join : (first : List ℕ) (lines : List (List ℕ)) (set : List Ask) → named_asks lines ≡ Some set → join_with_byte 10 (first ∷ lines) ≡ first ++ 10 ∷ join_with_byte 10 lines
+first_join first [] set e = cc
+first_join first (line ∷ lines) set e = refl
+
+of_version : (text : List ℕ) (set : List Ask) (second : Bool) (first : List ℕ) (lines : List (List ℕ)) → slice_split (λ b. b == 10) text ≡ first ∷ lines
+    → first ≡ first_line second → set_of_lines second lines ≡ Some set → IsPathSet set × (text ≡ paths_text set)
+of_version text set second first lines is named e =
+    let found = some_set second (named_asks lines) set e in
+    let h = lines_sound lines set found.0 in (
+      record { order = rising_sound set found.1; asks = h.each },
+      sym (join_with_byte-slice_split 10 text) ∙ ap (join_with_byte 10) is ∙ first_join first lines set found.0
+          ∙ ap (λ f. f ++ 10 ∷ join_with_byte 10 lines) named ∙ ap (λ t. first_line second ++ 10 ∷ t) h.joined ∙ text_of_version set second found.2,
+    )
+
 pub text_sound : (text : List ℕ) (set : List Ask) → read_paths_text text ≡ Some set → IsPathSet set × (text ≡ paths_text set)
 text_sound text set e = by_lines (slice_split (λ b. b == 10) text) refl e
   where
-    then_some : (o : Option (List Ask)) → option_and_then if_rising o ≡ Some set → (asks : List Ask) × (o ≡ Some asks) × (if_rising asks ≡ Some set)
-    then_some None e = cc
-    then_some (Some asks) e = (asks, refl, e)
-
-    whole : (lines : List (List ℕ)) → named_asks lines ≡ Some set → join_with_byte 10 (first_line ∷ lines) ≡ first_line ++ 10 ∷ join_with_byte 10 lines
-    whole [] e = cc
-    whole (line ∷ lines) e = refl
+    by_first : (t u : Bool) (first : List ℕ) (lines : List (List ℕ)) → slice_split (λ b. b == 10) text ≡ first ∷ lines → bytes_eq first (first_line true) ≡ t
+        → bytes_eq first (first_line false) ≡ u → cond t (set_of_lines true lines) (cond u (set_of_lines false lines) None) ≡ Some set
+        → IsPathSet set × (text ≡ paths_text set)
+    by_first true u first lines is second other e = of_version text set true first lines is ((bytes_eq-Decides first (first_line true)).0 second) e
+    by_first false true first lines is second other e = of_version text set false first lines is ((bytes_eq-Decides first (first_line false)).0 other) e
+    by_first false false first lines is second other e = cc
 
     by_lines : (lines : List (List ℕ)) → slice_split (λ b. b == 10) text ≡ lines → read_lines lines ≡ Some set → IsPathSet set × (text ≡ paths_text set)
     by_lines [] is e = cc
-    by_lines (first ∷ lines) is e =
-        let named = if_some (bytes_eq first first_line) (option_and_then if_rising (named_asks lines)) set e in
-        let parts = then_some (named_asks lines) named.1 in
-        let rising = if_some (is_rising parts.0) (Some parts.0) set parts.2 in
-        let same : parts.0 ≡ set = same_Some parts.0 set rising.1 in
-        let read : named_asks lines ≡ Some set = parts.1 ∙ ap Some same in
-        let h = lines_sound lines set read in (
-          record { order = rising_sound set (ap is_rising (sym same) ∙ rising.0); paths = h.paths },
-          sym (join_with_byte-slice_split 10 text) ∙ ap (join_with_byte 10) (is ∙ ap (λ l. l ∷ lines) ((bytes_eq-Decides first first_line).0 named.0))
-              ∙ whole lines read ∙ ap (λ t. first_line ++ 10 ∷ t) h.joined,
-        )
+    by_lines (first ∷ lines) is e = by_first (bytes_eq first (first_line true)) (bytes_eq first (first_line false)) first lines is refl refl e
 
 pub text_complete : (set : List Ask) → IsPathSet set → read_paths_text (paths_text set) ≡ Some set
-text_complete set h =
-    ap (option_and_then if_rising) (lines_complete set h.paths) ∙ ap (λ t. cond t (Some set) None) (rising_complete set h.order)
+text_complete set h = by_version (has_match set) refl
+  where
+    by_version : (v : Bool) → has_match set ≡ v → read_paths_text (paths_text set) ≡ Some set
+    by_version true e =
+        ap (λ v. read_paths_text (first_line v ++ codes "\n" ++ flat_map ask_line set)) e
+        ∙ ap (option_and_then (if_set true)) (lines_complete set h.asks)
+        ∙ ap (λ t. cond (t && has_match set) (Some set) None) (rising_complete set h.order) ∙ ap (λ t. cond t (Some set) None) e
+    by_version false e =
+        ap (λ v. read_paths_text (first_line v ++ codes "\n" ++ flat_map ask_line set)) e
+        ∙ ap (option_and_then (if_set false)) (lines_complete set h.asks)
+        ∙ ap (λ t. cond (t && not (has_match set)) (Some set) None) (rising_complete set h.order) ∙ ap (λ t. cond (not t) (Some set) None) e
 
 pub text_law : (text : List ℕ) (set : List Ask) → (read_paths_text text ≡ Some set) ↔ (IsPathSet set × (text ≡ paths_text set))
 text_law text set = (text_sound text set, λ h. ap read_paths_text h.1 ∙ text_complete set h.0)
@@ -373,10 +475,24 @@ falls rest more after a b is next' less = ap is_rising (is ∙ ap (λ t. a ∷ t
 
 -- ## Calls
 
-pub text_reads : (r : Result (Vec ℕ Global) AllocError) (xs asks : List Ask) → xs ≡ asks → IfOk r (λ text. text.items ≡ paths_text xs) → OnOk r (ArePaths xs)
+-- a listing by a pattern, where the text is a pattern
+pub match_made : (r : Result Ask SetFault) (text pattern path : List ℕ) → IsPattern text × (pattern ≡ text) → ReadsPathSet r (ask_at (kinds.Match pattern) (named_path path))
+    → ReadsPathSet r (match_by (Some (text, path)))
+match_made r text pattern path h read =
+    subst (λ (o : Option Ask). ReadsPathSet r o)
+    (ap (λ p. ask_at (kinds.Match p) (named_path path)) h.1 ∙ sym (ap (λ t. cond t (ask_at (kinds.Match text) (named_path path)) None) (pattern_passes text h.0))) read
+
+pub no_match : (text path : List ℕ) → (IsPattern text → ⊥) → match_by (Some (text, path)) ≡ None
+no_match text path none = by_test (is_pattern text) refl
+  where
+    by_test : (t : Bool) → is_pattern text ≡ t → cond t (ask_at (kinds.Match text) (named_path path)) None ≡ None
+    by_test true e = absurd (none (pattern_is text e))
+    by_test false e = refl
+
+pub text_reads : (r : Result (Vec ℕ Global) AllocError) (xs asks : List Ask) → xs ≡ asks → IfOk r (λ text. text.items ≡ paths_text xs) → OnOk r (AreAsks xs)
     → IsStrictlySortedBy ask_cmp asks → IfOk r (λ text. read_paths_text text.items ≡ Some asks)
 text_reads (Ok text) xs asks same is paths order =
-    ap read_paths_text (is ∙ ap paths_text same) ∙ text_complete asks (record { order = order; paths = subst ArePaths same paths })
+    ap read_paths_text (is ∙ ap paths_text same) ∙ text_complete asks (record { order = order; asks = subst AreAsks same paths })
 text_reads (Err e) xs asks same is paths order = tt
 
 pub err_same : {X : Type 0} (a b : SetFault) (r : Result X SetFault) → r ≡ Err a → r ≡ Err b → a ≡ b

@@ -15,6 +15,7 @@ mod view;
 
 pub use access::{Access, Answer, End};
 pub use ask::{Ask, AskKind};
+pub use bx_path::Pattern;
 pub use bx_tree::Memory;
 pub use laws::{one_path_set, path_set_text};
 pub use path_set::{PathSet, SetFault};

@@ -1,13 +1,13 @@
 //! Path sets and their text.
 ghost use Rattle.std.specs.Prelude.{◌≡◌, List, Some, IfOk};
 ghost use Rattle.observed.specs.PathSets.{IsPathSet, set_of};
-ghost use Rattle.observed.specs.Texts.{ReadsPathSet, paths_text, read_paths_text};
+ghost use Rattle.observed.specs.Texts.{ReadsPathSet, has_match as some_match, paths_text, read_paths_text};
 ghost use Rattle.observed.specs.declared.ask.Ask.{Ask as AnyAsk};
 ghost use Rattle.std.specs.List.Sorted.{IsStrictlySortedBy};
 ghost use Rattle.observed.specs.Asks.{ask_cmp};
 
 use crate::ask::Ask;
-use crate::texts::{asks_in, text_of};
+use crate::texts::{asks_in, has_match, text_of};
 use std::alloc::{AllocError, AllocFailed, Global};
 use std::marker::Model;
 
@@ -80,7 +80,15 @@ impl PathSet {
         self.asks.as_slice()
     }
 
-    /// The text: a first line `paths 1`, and a line for each ask.
+    /// Whether a listing by a pattern is among the asks: then the texts of the path set are of the second version.
+    pub fn has_match(&self) -> bool
+        ensures { result ≡ some_match self.now }
+    {
+        has_match(self.asks.as_slice())
+    }
+
+    /// The text: a first line, which is `paths 2` where a listing by a pattern is among the asks and otherwise
+    /// `paths 1`, and a line for each ask.
     pub fn text(&self, alloc: Global) -> Result<Vec<u8>, AllocError>
         ensures text { IfOk result (λ text. text.items ≡ paths_text self.now) }
         ensures read { IfOk result (λ text. read_paths_text text.items ≡ Some self.now) }

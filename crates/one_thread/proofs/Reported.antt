@@ -1,5 +1,5 @@
 -- Each verdict of a build has its line.
-use Rattle.std.proofs.Common.{◌≡◌, ◌≢◌, ◌⊎◌, ℕ, ◌+◌, Bool, true, false, cond, List, [], ◌∷◌, ◌++◌, map, take, Option, Some, None, refl, sym, ap, ◌∙◌, subst, ◌==◌}
+use Rattle.std.proofs.Common.{◌≡◌, ◌≢◌, ◌⊎◌, ℕ, ◌+◌, Bool, true, false, cond, List, [], ◌∷◌, ◌++◌, map, take, Option, Some, None, refl, sym, ap, ◌∙◌, subst, ◌==◌, true≢false}
 use Rattle.std.specs.Prelude.{IsSome, is_some, slice_get, ⊤}
 use Rattle.std.specs.List.{AllByRecursion}
 use Rattle.std.specs.Option.{option_map}
@@ -20,6 +20,7 @@ use Rattle.observed.specs.declared.access.Answer.TheVariants as answers
 use Rattle.observed.specs.declared.access.End.{End}
 use Rattle.observed.specs.declared.access.End.TheVariants as ends
 use Rattle.observed.specs.declared.ask.Ask.{Ask}
+use Rattle.observed.specs.Asks.{is_listing}
 use Rattle.observed.specs.declared.ask.AskKind.{AskKind}
 use Rattle.observed.specs.declared.ask.AskKind.TheVariants as kinds
 use Rattle.tool_run.specs.Described.{described}
@@ -151,20 +152,22 @@ module _ (pips : List Pip) (tree : Files) (i : ℕ) (pip : Pip) (at : slice_get 
       ∙ ap (λ (k : PipKind). answer_at tree (input_files pips tree made k) (is_some (least_unseen (taken_dirs k) i ask.path 0 pips)) ask.kind ask.path) is
       ∙ ap (λ o. answer_at tree (input_files pips tree made (Process p)) (is_some o) ask.kind ask.path) (producer_is ask.path)
 
-  kind_line : (kind : AskKind) (path : Atoms) → kind ≢ kinds.List
+  kind_line : (kind : AskKind) (path : Atoms) → is_listing kind ≡ false
       → answer_at tree (input_files pips tree made (Process p)) (is_some (producer pips i path)) kind path ≡ answers.Denied
       → HasLine (violated (ask_class pips tree i kind path)).verdict
   kind_line kinds.Read path other e =
       read_named pips i path (file_at (input_files pips tree made (Process p)) path) (is_some (file_at tree path)) (producer pips i path) _ e
   kind_line kinds.Probe path other e =
       probe_named pips i path (file_at (input_files pips tree made (Process p)) path) (is_some (file_at tree path)) (producer pips i path) _ e
-  kind_line kinds.List path other e = absurd (other refl)
+  kind_line kinds.List path other e = absurd (true≢false other)
+  kind_line (kinds.Match pattern) path other e = absurd (true≢false other)
 
   file_given : (kind : AskKind) (file : Option (List ℕ)) (now : Answer) → or_else (file_answer kind file) now ≡ answers.Denied → now ≡ answers.Denied
   file_given kind None now e = e
   file_given kinds.Read (Some bytes) now e = absurd cc
   file_given kinds.Probe (Some bytes) now e = absurd cc
   file_given kinds.List (Some bytes) now e = e
+  file_given (kinds.Match pattern) (Some bytes) now e = e
 
   access_line : (d : Description) (access : Access) → IsDenied access → IsAnswered d (sees pips tree made i) access
       → HasLine (violated (class_of pips tree i access)).verdict

@@ -3,6 +3,6 @@ pub mod WalksBack
 pub mod Found
 pub mod EdgesBack
 pub mod Planning
-pub mod ByText
+pub mod PathNumbers
 pub mod OutputsFound
-pub mod NearTexts
+pub mod Listed

@@ -9,7 +9,8 @@ use Rattle.pip_model_types.specs.Makers.{IsPipList}
 use Rattle.pip_model.specs.declared.plan.TheConstants.{MAX_PIPS}
 use Rattle.pip_model.specs.Edges.{Edge, targets}
 use Rattle.pip_model.specs.Listings.{HasListingsOf}
-use Rattle.pip_model.specs.Outputs.{HasOutputsOf, Table}
+use Rattle.pip_model.specs.Outputs.{HasOutputsOf, Numbered}
+use Rattle.pip_model.specs.declared.listings.Listing.{Listing}
 use Rattle.pip_model.specs.Plans.{AreAllInputs, AreRows, IsReachOf, KeepsPlan}
 use Rattle.pip_model.specs.Rows.{PointBack}
 use Rattle.pip_model.specs.Walks.{ListEdge}
@@ -46,8 +47,8 @@ reach_along E F both i row h k = (
 )
 
 pub keeps_plan : (pips : List Pip) (all lists rows : List (List ℕ)) (words : ℕ) → length pips ≤ MAX_PIPS → AreAllInputs pips all → lists ≡ all
-    → length rows ≡ length lists → AreRows (ListEdge lists) words rows → (outputs : Table) → HasOutputsOf pips outputs
-    → (listings : Table) → HasListingsOf pips listings → KeepsPlan pips all rows outputs listings
+    → length rows ≡ length lists → AreRows (ListEdge lists) words rows → (outputs : Numbered) → HasOutputsOf pips outputs
+    → (listings : List Listing) → HasListingsOf pips listings → KeepsPlan pips all rows outputs listings
 keeps_plan pips all lists rows words few h same size are outputs outputs_of listings listings_of =
     let by_all = subst (λ (ls : List (List ℕ)). AreRows (ListEdge ls) words rows) same are in
     let long : length rows ≡ length all = size ∙ ap length same in record {

@@ -1,13 +1,11 @@
 -- Which pips have an output at a path.
 use Rattle.std.specs.Prelude.{◌≡◌, ℕ, ◌+◌, List, [], ◌∷◌, ◌++◌, if◌then◌else◌}
-use Rattle.std.specs.BTreeMap.{BTreeMap}
 use Rattle.std.specs.List.{flat_map}
-use Rattle.std.specs.Option.{option_map_or, option_to_list}
+use Rattle.std.specs.Option.{option_to_list}
 use Rattle.std.specs.Str.{bytes_eq}
 use Rattle.std.specs.declared.alloc.Global.{Global}
 use Rattle.std.specs.declared.vec.Vec.{Vec}
 use Rattle.bx_tree.specs.Paths.{Atoms, path_text}
-use Rattle.bx_tree.specs.TextTables.{at_text}
 use Rattle.pip_model_types.specs.declared.pip.Pip.{Pip}
 use Rattle.pip_model_types.specs.declared.pip.PipKind.{PipKind}
 use Rattle.pip_model_types.specs.declared.pip.PipKind.TheVariants.{Process, Copy, Write, Seal}
@@ -33,15 +31,21 @@ abbrev pub numbers_from : ℕ → List ℕ → List Pip → List ℕ
 numbers_from j text [] = []
 numbers_from j text (pip ∷ pips) = numbers_at j text (output_paths pip.kind) ++ numbers_from (j + 1) text pips
 
--- numbers of pips by the texts of paths
-abbrev pub Table : Type 0
-Table = BTreeMap (Vec ℕ Global) (Vec ℕ Global)
+-- numbers of pips by path: those at each path are at its place
+pub record Numbered : Type 0 where
+  pub paths : List Atoms
+  pub pips : List (Vec ℕ Global)
 
--- what the table has at the text
-abbrev pub found_in : Table → List ℕ → List ℕ
-found_in table text =
-    option_map_or (λ (numbers : Vec ℕ Global). numbers.items) (at_text table text) []
+-- the numbers at the path with the text
+abbrev pub numbers_of : List ℕ → List Atoms → List (Vec ℕ Global) → List ℕ
+numbers_of text [] pips = []
+numbers_of text (path ∷ paths) [] = []
+numbers_of text (path ∷ paths) (numbers ∷ pips) =
+    if bytes_eq (path_text path) text then numbers.items else numbers_of text paths pips
 
--- the table has the pips by the texts of the paths of their outputs
-abbrev pub HasOutputsOf : List Pip → Table → Type 0
-HasOutputsOf pips table = (text : List ℕ) → found_in table text ≡ numbers_from 0 text pips
+abbrev pub found_in : Numbered → List ℕ → List ℕ
+found_in found text = numbers_of text found.paths found.pips
+
+-- the pips are there by the paths of their outputs
+abbrev pub HasOutputsOf : List Pip → Numbered → Type 0
+HasOutputsOf pips found = (text : List ℕ) → found_in found text ≡ numbers_from 0 text pips

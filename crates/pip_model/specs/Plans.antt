@@ -7,7 +7,8 @@ use Rattle.pip_model.specs.declared.plan.TheConstants.{MAX_PIPS}
 use Rattle.pip_model.specs.Edges.{Edge}
 use Rattle.pip_model.specs.Bits.{HasBit}
 use Rattle.pip_model.specs.Listings.{HasListingsOf}
-use Rattle.pip_model.specs.Outputs.{HasOutputsOf, Table}
+use Rattle.pip_model.specs.Outputs.{HasOutputsOf, Numbered}
+use Rattle.pip_model.specs.declared.listings.Listing.{Listing}
 use Rattle.pip_model.specs.Walks.{Walk}
 
 -- the pips that a pip waits for, rising, each once
@@ -35,7 +36,8 @@ pub record PlanData : Type 0 where
   pub tool_budget : ℕ
 
 -- what a plan keeps of its pips
-pub record KeepsPlan (pips : List Pip) (inputs rows : List (List ℕ)) (outputs listings : Table) : Type 0 where
+pub record KeepsPlan (pips : List Pip) (inputs rows : List (List ℕ)) (outputs : Numbered) (listings : List Listing)
+    : Type 0 where
   pub few : length pips ≤ MAX_PIPS
   pub all_inputs : AreAllInputs pips inputs
   pub all_rows : length rows ≡ length pips

@@ -1,18 +1,120 @@
-//! The seals by the paths at and above the files that they list, so that those near a path are found without
-//! going through all seals.
-ghost use Rattle.std.specs.Prelude.{◌≡◌, ◌++◌, ◌∷◌, [], ◌≤◌, ℕ, List, Contains, length, IfOk, OnOk};
-ghost use Rattle.pip_model.specs.Listings.{HasListingsOf, HasNear, KeepsFound, ListsNear, has_wide as any_wide};
-ghost use Rattle.pip_model.specs.Listings.{is_wide as kind_wide};
-ghost use Rattle.pip_model_types.specs.Kinds.{listed_files};
-ghost use Rattle.pip_model.specs.Outputs.{found_in};
+//! The files that seals list, in the order of their paths, so that the seals that list a file near a path are found
+//! without going through all seals.
+ghost use Rattle.std.specs.Prelude.{◌≡◌, ◌++◌, ◌<◌, ◌≤◌, ◌⊎◌, ℕ, length, map, IfOk, OnOk};
+ghost use Rattle.std.specs.List.Sorted.{IsPermutation};
+ghost use Rattle.bx_tree_paths.specs.Searches.{RiseByText};
+ghost use Rattle.pip_model.specs.Listings.{HasListingsOf, HasNear, has_wide as any_wide, is_wide as kind_wide};
+ghost use Rattle.pip_model.specs.Listings.{listing, listing_path, listing_seal, listings_from};
 
-use crate::outputs::ByText;
-use bx_tree::FileInput;
+use bx_tree::{FileInput, Path};
+use bx_tree_paths::{HasPath, Span, span_between};
 use pip_model_types::{Pip, PipKind};
 use std::alloc::{AllocError, Global};
+use std::marker::Model;
 
 /// Up to this many directories of a process are searched one by one.
 pub const FEW_DIRS: usize = 8;
+
+/// A file that a seal lists.
+#[derive(Drop)]
+pub(crate) struct Listing {
+    path: Path,
+    seal: u32,
+}
+
+impl HasPath for Listing {
+    ghost path_in = { listing_path };
+
+    fn path(&self) -> &Path {
+        &self.path
+    }
+}
+
+/// The files that seals list, sorted by path, and beside them the seals. Contracts see the files.
+#[derive(Drop)]
+pub(crate) struct Listings {
+    files: Vec<Listing>,
+    seals: Vec<u32>,
+}
+
+impl Model for Listings {
+    ghost use Rattle.std.specs.Prelude.{List};
+    ghost use Rattle.pip_model.specs.Listings.{AreListings};
+    ghost use Rattle.pip_model.specs.declared.listings.Listing.{Listing};
+
+    ghost Value = { List Listing };
+
+    ghost view = { λ l. l.files.items };
+
+    ghost invariant = { λ l. AreListings l.files.items l.seals.items };
+}
+
+// The files in the order of their paths.
+fn in_order(files: Vec<Listing>) -> Vec<Listing>
+    ensures same { IsPermutation files.items result.items }
+    ensures rising { RiseByText listing_path result.items }
+{
+    let mut files = files;
+    files.sort_unstable_by(|a, b| a.path.cmp(&b.path));
+    files
+}
+
+// The seal of each file.
+fn seals_of(alloc: Global, files: &[Listing]) -> Result<Vec<u32>, AllocError>
+    ensures { IfOk result (λ seals. seals.items ≡ map listing_seal files.now) }
+{
+    let mut seals = Vec::new(alloc);
+    'files: for file in files {
+        seals.push(file.seal)?;
+    }
+    Ok(seals)
+}
+
+// The least range that has two ranges, of which an empty one counts for nothing.
+fn joined(one: Span, other: Span) -> Span
+    requires one { one.from ≤ one.to }
+    requires other { other.from ≤ other.to }
+    ensures order { result.from ≤ result.to }
+    ensures within { (result.to ≡ one.to) ⊎ (result.to ≡ other.to) }
+    ensures has_one { (k : ℕ) → one.from ≤ k → k < one.to → (result.from ≤ k) × (k < result.to) }
+    ensures has_other { (k : ℕ) → other.from ≤ k → k < other.to → (result.from ≤ k) × (k < result.to) }
+{
+    if one.from == one.to {
+        return other;
+    }
+    if other.from == other.to {
+        return one;
+    }
+    Span {
+        from: one.from.min(other.from),
+        to: one.to.max(other.to),
+    }
+}
+
+impl Listings {
+    // These files, sorted.
+    fn of(alloc: Global, files: Vec<Listing>) -> Result<Listings, AllocError>
+        ensures { IfOk result (IsPermutation files.items) }
+    {
+        let files = in_order(files);
+        let seals = seals_of(alloc, files.as_slice())?;
+        Ok(Listings { files, seals })
+    }
+
+    /// The seals of the files at the path with this text or below it. Where some are at it and others below it, the
+    /// seals of files between them in the order of paths are there too. A seal is there once for each of its files.
+    pub(crate) fn near(&self, text: &[u8]) -> &[u32]
+        ensures { HasNear text.now self.now result.now }
+    {
+        let files = self.files.as_slice();
+        let at = span_between(files, text, b"", b"\0");
+        // `0` is the byte after `/`.
+        let below = span_between(files, text, b"/", b"0");
+        let span = joined(at, below);
+        let seals = self.seals.as_slice();
+        &seals[span.from..span.to]
+    }
+}
 
 // Whether a pip takes more than a few directories.
 fn is_wide(kind: &PipKind) -> bool
@@ -31,81 +133,36 @@ fn has_wide(pips: &[Pip]) -> bool
     pips.iter().any(|pip| is_wide(&pip.kind))
 }
 
-// Notes a pip at the text of each path above that with this text.
-fn add_above(found: &mut ByText, alloc: Global, number: u32, text: &[u8]) -> Result<(), AllocError>
-    ensures kept { OnOk result (KeepsFound found.old.table found.new.table) }
-    ensures above { OnOk result ((dir rest : List ℕ) → text.now ≡ dir ++ 47 ∷ rest
-        → Contains (found_in found.new.table dir) number) }
-{
-    'bytes: for (place, byte) in text.iter().enumerate() {
-        if *byte == b'/' {
-            found.note(alloc, number, &text[..place])?;
-        }
-    }
-    Ok(())
-}
-
-// Notes a pip at the path of a file and above it.
-fn add_file(
-    found: &mut ByText,
-    alloc: Global,
-    number: u32,
-    file: &FileInput,
-) -> Result<(), AllocError>
-    ensures kept { OnOk result (KeepsFound found.old.table found.new.table) }
-    ensures near { OnOk result (HasNear (file.now ∷ []) number found.new.table) }
-{
-    let text = file.path().text().as_bytes();
-    add_above(found, alloc, number, text)?;
-    found.note(alloc, number, text)?;
-    Ok(())
-}
-
-// Notes a pip at the paths of some files and above them.
-fn add_files(
-    found: &mut ByText,
-    alloc: Global,
-    number: u32,
-    files: &[FileInput],
-) -> Result<(), AllocError>
-    ensures kept { OnOk result (KeepsFound found.old.table found.new.table) }
-    ensures near { OnOk result (HasNear files.now number found.new.table) }
+// Adds the files that a seal lists.
+fn add_files(found: &mut Vec<Listing>, seal: u32, files: &[FileInput]) -> Result<(), AllocError>
+    ensures { OnOk result (found.new.items ≡ found.old.items ++ map (listing seal) files.now) }
 {
     'files: for file in files {
-        add_file(found, alloc, number, file)?;
+        let path = file.path().share()?;
+        found.push(Listing { path, seal })?;
     }
     Ok(())
 }
 
-// Notes a pip at the paths of the files that it lists, and above them.
-fn add_pip(found: &mut ByText, alloc: Global, number: u32, kind: &PipKind) -> Result<(), AllocError>
-    ensures kept { OnOk result (KeepsFound found.old.table found.new.table) }
-    ensures near { OnOk result (HasNear (listed_files kind.now) number found.new.table) }
-{
-    add_files(found, alloc, number, kind.listed())
-}
-
-// The seals by the paths at and above the files that they list.
-fn all_listings(alloc: Global, pips: &[Pip]) -> Result<ByText, AllocError>
+// The files that the seals list.
+fn all_listings(alloc: Global, pips: &[Pip]) -> Result<Vec<Listing>, AllocError>
     requires { length pips.now ≤ u32.MAX }
-    ensures { IfOk result (λ found. (j : ℕ) (text : List ℕ) → ListsNear pips.now j text
-        → Contains (found_in found.table text) j) }
+    ensures { IfOk result (λ found. found.items ≡ listings_from 0 pips.now) }
 {
-    let mut found = ByText::new(alloc);
+    let mut found = Vec::new(alloc);
     'pips: for (place, pip) in pips.iter().enumerate() {
-        add_pip(&mut found, alloc, place as u32, &pip.kind)?;
+        add_files(&mut found, place as u32, pip.kind.listed())?;
     }
     Ok(found)
 }
 
-/// The seals by the paths at and above the files that they list; none, where no pip takes more than a few
-/// directories.
-pub(crate) fn by_listing(alloc: Global, pips: &[Pip]) -> Result<ByText, AllocError>
+/// The files that the seals list; none, where no pip takes more than a few directories.
+pub(crate) fn by_listing(alloc: Global, pips: &[Pip]) -> Result<Listings, AllocError>
     requires { length pips.now ≤ u32.MAX }
-    ensures { IfOk result (λ found. HasListingsOf pips.now found.table) }
+    ensures { IfOk result (HasListingsOf pips.now) }
 {
-    if !has_wide(pips) {
-        return Ok(ByText::new(alloc));
+    if has_wide(pips) {
+        return Listings::of(alloc, all_listings(alloc, pips)?);
     }
-    all_listings(alloc, pips)
+    Listings::of(alloc, Vec::new(alloc))
 }

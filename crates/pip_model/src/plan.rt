@@ -8,8 +8,8 @@ ghost use Rattle.pip_model.specs.Plans.{AreInputs};
 
 use crate::bits::{BitSet, WORD_BITS};
 use crate::edges::{Inputs, all_inputs};
-use crate::listings::by_listing;
-use crate::outputs::{ByText, by_output};
+use crate::listings::{Listings, by_listing};
+use crate::outputs::{ByPath, by_output};
 use crate::producing::produces;
 use crate::reach::all_rows;
 use bx_tree::Path;
@@ -28,8 +28,8 @@ pub struct Plan {
     tool_budget: u64,
     inputs: Vec<Inputs>,
     reach: Vec<BitSet>,
-    outputs: ByText,
-    listings: ByText,
+    outputs: ByPath,
+    listings: Listings,
 }
 
 impl Model for Plan {
@@ -39,7 +39,7 @@ impl Model for Plan {
 
     ghost view = { λ p. record { pips = p.pips; tool_budget = p.tool_budget } };
 
-    ghost invariant = { λ p. KeepsPlan p.pips p.inputs.items p.reach.items p.outputs.table p.listings.table };
+    ghost invariant = { λ p. KeepsPlan p.pips p.inputs.items p.reach.items p.outputs p.listings };
 }
 
 impl Plan {
@@ -112,7 +112,7 @@ impl Plan {
         ensures { has_wide self.now.pips ≡ true
             → (j : ℕ) → ListsNear self.now.pips j text.now → Contains result.now j }
     {
-        self.listings.at(text)
+        self.listings.near(text)
     }
 
     /// Whether a walk of one edge or more goes from one pip to another.

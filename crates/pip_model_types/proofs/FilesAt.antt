@@ -6,7 +6,8 @@ use Rattle.std.proofs.lemmas.List.{length-map, get_or-map}
 use Rattle.std.proofs.lemmas.List.Elements.{All-contains, All-map, recursion_from_All}
 use Rattle.bx_tree.specs.Orders.{same_path_decides}
 use Rattle.bx_tree.specs.Paths.{Atoms, same_path}
-use Rattle.bx_tree.specs.Trees.{Files, file_at, paths_of}
+use Rattle.bx_tree.specs.Ranges.{AreFilePaths}
+use Rattle.bx_tree.specs.Trees.{Files, IsTree, file_at, paths_of}
 use Rattle.bx_tree.proofs.FileSearch.{file_at-found}
 use Rattle.pip_model_types.specs.Made.{RisingFiles, made_files}
 use Rattle.pip_model_types.specs.declared.made.MadeFile.{MadeFile}
@@ -114,3 +115,9 @@ found_beside ps bs files qs p i b e f g up l h =
 
 pub not_beside : (files : Files) (qs : List Atoms) (p : Atoms) → qs ≡ paths_of files → All (λ (q : Atoms). q ≢ p) qs → file_at files p ≡ None
 not_beside files qs p g h = (no_file files p (subst (All (λ q. q ≢ p)) g h)).0
+
+-- the paths beside the bytes of a tree are those of files
+pub source_paths : (ps : List Atoms) (bs : List (List ℕ)) (tree : Files) → length ps ≡ length bs → zip ps bs ≡ tree → IsTree tree → AreFilePaths ps
+source_paths ps bs tree e f t =
+    let is : paths_of tree ≡ ps = ap paths_of (sym f) ∙ paths-zip ps bs e in
+    subst AreFilePaths is (record { are_paths = t.paths; no_root = t.no_root; rising = t.rising })

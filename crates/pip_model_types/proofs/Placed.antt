@@ -1,15 +1,12 @@
 -- Lists that rise by path: what a sort leaves, and where a binary search finds a path.
-use Rattle.std.proofs.Common.{inl, inr, ◌≡◌, ◌≢◌, ℕ, ◌<◌, ◌+◌, false, List, [], ◌∷◌, length, get_or, map, refl, ap, sym, ◌∙◌, subst, arith, Ok, Err, Result}
+use Rattle.std.proofs.Common.{inl, inr, ◌≡◌, ◌≢◌, ℕ, ◌<◌, ◌+◌, List, [], ◌∷◌, length, get_or, map, refl, ap, sym, ◌∙◌, subst, arith, Ok, Err, Result}
 use Rattle.std.specs.declared.cmp.Ordering.{Ordering}
 use Rattle.std.specs.declared.cmp.Ordering.TheVariants.{Less, Equal, Greater}
-use Rattle.std.specs.List.{All, Contains, HoldsAt, IsDistinct}
+use Rattle.std.specs.List.{All, HoldsAt, IsDistinct}
 use Rattle.std.specs.List.Sorted.{IsPermutation, IsSortedBy, IsStrictlySortedBy, IsBinarySearchResult, IsSearchInRange}
-use Rattle.std.specs.Result.{MatchResult, result_ok, is_ok}
-use Rattle.std.specs.Option.{MatchOption}
-use Rattle.std.specs.Prelude.{IsTrue, ◌↔◌}
-use Rattle.std.proofs.lemmas.List.Elements.{All-contains}
+use Rattle.std.specs.Result.{MatchResult}
 use Rattle.std.specs.Ordering.{is_lt, ordering_reverse}
-use Rattle.std.proofs.lemmas.Bool.{cases_lt, false≢true}
+use Rattle.std.proofs.lemmas.Bool.{cases_lt}
 use Rattle.std.proofs.lemmas.Cmp.{tied_itself}
 use Rattle.std.proofs.lemmas.List.{length-map, get_or-map}
 use Rattle.std.proofs.lemmas.List.Sorted.{searchable_from_sorted, IsPermutation-map}
@@ -65,21 +62,6 @@ rising_from_sorted key xs ys apart moved sorted =
     let along = IsPermutation-map key xs ys moved in
     let apart' = IsDistinct-IsPermutation same_path same_path_equiv.symm (map key xs) (map key ys) along apart in
     sorted_from_all_adjacent path_cmp_total (map key ys) [] (adjacent key ys apart' sorted)
-
--- ## What a search answers as an option
-
-pub place_if_found : {X : Type 0} (key : X → Atoms) (xs : List X) (p : Atoms) (r : Result ℕ ℕ)
-    → MatchResult r (λ i. (i < length xs) × HoldsAt (λ (x : X). key x ≡ p) xs i) (λ i. All (λ (x : X). key x ≢ p) xs)
-    → MatchOption (result_ok r) (All (λ (x : X). key x ≢ p) xs) (λ i. (i < length xs) × HoldsAt (λ (x : X). key x ≡ p) xs i)
-place_if_found key xs p (Ok i) h = h
-place_if_found key xs p (Err i) h = h
-
--- what a search answers as a test
-pub contains_if_found : (xs : List Atoms) (p : Atoms) (r : Result ℕ ℕ)
-    → MatchResult r (λ i. (i < length xs) × HoldsAt (λ (x : Atoms). x ≡ p) xs i) (λ i. All (λ (x : Atoms). x ≢ p) xs)
-    → IsTrue (is_ok r) ↔ Contains xs p
-contains_if_found xs p (Ok i) h = (λ e. (i, h.0, h.1 p), λ k. refl)
-contains_if_found xs p (Err i) h = (λ e. absurd (false≢true e), λ k. absurd (All-contains (λ (x : Atoms). x ≢ p) xs p h k refl))
 
 -- ## No paths
 

@@ -10,6 +10,7 @@ ghost use Rattle.pip_model_types.specs.Orders.{same_dir_partial};
 
 use crate::sets::in_order;
 use bx_tree::Path;
+use bx_tree_paths::HasPath;
 use std::alloc::AllocError;
 use std::cmp::Ordering;
 use std::marker::Model;
@@ -30,6 +31,14 @@ pub enum SealForm {
 pub enum DirInput {
     Sealed(u32, SealForm, Path),
     Opaque(u32, Path),
+}
+
+impl HasPath for DirInput {
+    ghost path_in = { dir_path };
+
+    fn path(&self) -> &Path {
+        self.path()
+    }
 }
 
 /// Directories, sorted by path, then in the order full, partial, top, all, opaque, and then by pip, each

@@ -7,6 +7,7 @@ ghost use Rattle.pip_model_types.specs.Inputs.{RiseByPath};
 ghost use Rattle.bx_tree.specs.FileInputs.{input_path};
 
 use bx_tree::{FileInput, Path};
+use bx_tree_paths::place_of;
 use std::marker::Model;
 
 /// Files, sorted by path, of which no two have one path. Contracts see them as a list.
@@ -51,7 +52,7 @@ fn has_file(files: &[FileInput], path: &Path) -> bool
     requires { RiseByPath files.now }
     ensures { IsTrue result ↔ Contains (map input_path files.now) path.now }
 {
-    files.binary_search_by(|file| file.path().cmp(path)).is_ok()
+    place_of(files, path).is_some()
 }
 
 impl FileInputs {

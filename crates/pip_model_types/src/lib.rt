@@ -1,9 +1,9 @@
 //! The data model of pips: processes, copies, writes and seals, with their inputs and outputs.
 //!
 //! This crate has the types of pips, the list of all pips in the order in which they were added, the source files
-//! by path, the outputs of a pip, and a process with the contents of its files. It depends on `bx_tree` and
-//! `bx_digest`. Its invariant: in a `PipList`, an output that a pip takes is produced by the earlier pip that it
-//! names.
+//! by path, the outputs of a pip, and a process with the contents of its files. It depends on `bx_tree`,
+//! `bx_tree_paths` and `bx_digest`. Its invariant: in a `PipList`, an output that a pip takes is produced by the
+//! earlier pip that it names.
 #![tactic(auto)]
 
 mod args;

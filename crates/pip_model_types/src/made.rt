@@ -1,6 +1,6 @@
 //! The files that a pip made.
-ghost use Rattle.std.specs.Prelude.{◌≡◌, ◌≢◌, ◌↔◌, ◌<◌, length, IsSome, IfOk, MatchOption, All, Contains};
-ghost use Rattle.std.specs.List.{HoldsAt, IsDistinct};
+ghost use Rattle.std.specs.Prelude.{◌≡◌, ◌↔◌, IsSome, IfOk, Contains};
+ghost use Rattle.std.specs.List.{IsDistinct};
 ghost use Rattle.std.specs.List.Sorted.{IsPermutation};
 ghost use Rattle.std.specs.Option.{option_copied};
 ghost use Rattle.bx_tree.specs.Paths.{same_path};
@@ -9,6 +9,7 @@ ghost use Rattle.pip_model_types.specs.Made.{RisingFiles, made_files};
 
 use bx_digest::Blob;
 use bx_tree::Path;
+use bx_tree_paths::{HasPath, place_of};
 use std::alloc::{AllocError, Global};
 use std::collections::BTreeMap;
 use std::marker::Model;
@@ -19,6 +20,14 @@ use std::sync::Arc;
 pub struct MadeFile {
     pub path: Path,
     pub blob: Blob,
+}
+
+impl HasPath for MadeFile {
+    ghost path_in = { λ f. f.path };
+
+    fn path(&self) -> &Path {
+        &self.path
+    }
 }
 
 /// Files by path, shared. Contracts see them as a list of (path, bytes) that rises by path.
@@ -97,15 +106,6 @@ fn files_of(alloc: Global, files: BTreeMap<Path, Blob>) -> Result<Vec<MadeFile>,
         .into_iter()
         .map(|(path, blob)| MadeFile { path, blob })
         .collect(alloc)
-}
-
-fn place_of(files: &[MadeFile], path: &Path) -> Option<usize>
-    requires { RisingFiles (made_files files.now) }
-    ensures { MatchOption result
-        (All (λ file. file.path ≢ path.now) files.now)
-        (λ place. (place < length files.now) × HoldsAt (λ file. file.path ≡ path.now) files.now place) }
-{
-    files.binary_search_by(|file| file.path.cmp(path)).ok()
 }
 
 // The files in the order of their paths.

@@ -13,6 +13,7 @@ ghost use Rattle.pip_model_types.specs.Orders.{same_outdir_equiv, same_outdir_pa
 
 use crate::sets::in_order;
 use bx_tree::Path;
+use bx_tree_paths::place_of;
 use std::alloc::AllocError;
 use std::cmp::Ordering;
 use std::marker::Model;
@@ -58,7 +59,7 @@ impl Outputs {
         ensures member { IsTrue result ↔ Contains self.now path.now }
         ensures value { result ≡ has_path self.now path.now }
     {
-        self.paths().binary_search(path).is_ok()
+        place_of(self.paths(), path).is_some()
     }
 }
 

@@ -1,43 +1,32 @@
 //! The source files by path.
-ghost use Rattle.std.specs.Prelude.{◌≡◌, ◌≢◌, ◌↔◌, ◌<◌, ◌++◌, ◌∷◌, [], length, IsSome, IfOk, OnOk};
-ghost use Rattle.std.specs.Prelude.{MatchOption, All, Contains};
-ghost use Rattle.std.specs.List.{HoldsAt};
-ghost use Rattle.std.specs.List.Sorted.{IsStrictlySortedBy};
-ghost use Rattle.bx_tree.specs.Paths.{path_cmp};
+ghost use Rattle.std.specs.Prelude.{◌≡◌, ◌↔◌, ◌++◌, ◌∷◌, [], filter, IsSome, IfOk, OnOk, Contains};
 ghost use Rattle.std.specs.Option.{option_copied};
+ghost use Rattle.bx_tree.specs.Below.{is_below};
 ghost use Rattle.bx_tree.specs.Trees.{IsTree, file_at, paths_of};
 
 use bx_digest::Blob;
 use bx_tree::{Path, Tree, TreeFile};
+use bx_tree_paths::{SortedPaths, place_of};
 use std::alloc::{AllocError, Global};
 use std::marker::Model;
 
 /// The source files by path. Contracts see them as the tree's list of (path, bytes).
 #[derive(Drop)]
 pub struct Sources {
-    paths: Vec<Path>,
+    paths: SortedPaths,
     blobs: Vec<Blob>,
 }
 
 impl Model for Sources {
-    ghost use Rattle.std.specs.Prelude.{◌≡◌, List, ℕ, length};
+    ghost use Rattle.std.specs.Prelude.{List, ℕ};
     ghost use Rattle.std.specs.List.{zip};
     ghost use Rattle.pip_model_types.specs.SourceFiles.{AreSources};
 
     ghost Value = { List (List (List ℕ) × List ℕ) };
 
-    ghost view = { λ s. zip s.paths.items s.blobs.items };
+    ghost view = { λ s. zip s.paths s.blobs.items };
 
-    ghost invariant = { λ s. AreSources s.paths.items s.blobs.items };
-}
-
-fn place_of(paths: &[Path], path: &Path) -> Option<usize>
-    requires { IsStrictlySortedBy path_cmp paths.now }
-    ensures { MatchOption result
-        (All (λ other. other ≢ path.now) paths.now)
-        (λ place. (place < length paths.now) × HoldsAt (λ other. other ≡ path.now) paths.now place) }
-{
-    paths.binary_search(path).ok()
+    ghost invariant = { λ s. AreSources s.paths s.blobs.items };
 }
 
 // Adds a file to the paths and, as a blob, to the blobs.
@@ -68,7 +57,10 @@ impl Sources {
         'files: for file in tree.into_files() {
             add(alloc, &mut paths, &mut blobs, file)?;
         }
-        Ok(Sources { paths, blobs })
+        Ok(Sources {
+            paths: SortedPaths::sorted(paths),
+            blobs,
+        })
     }
 
     /// The file at a path, if there is one.
@@ -87,6 +79,13 @@ impl Sources {
         ensures paths { result.now ≡ paths_of self.now }
         ensures tree { IsTree self.now }
     {
-        self.paths.as_slice()
+        self.paths.paths()
+    }
+
+    /// The paths of the files strictly below a directory, in order.
+    pub fn paths_below(&self, dir: &Path) -> &[Path]
+        ensures { result.now ≡ filter (λ path. is_below path dir.now) (paths_of self.entry.now) }
+    {
+        self.paths.paths_below(dir)
     }
 }

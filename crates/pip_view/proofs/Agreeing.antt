@@ -45,6 +45,8 @@ module _ (pips : List Pip) (tree : Files) (made : ByPip) (d : ProcessDesc) (path
   answered unseen kinds.Probe None answer e h = cc
   answered unseen kinds.List None answer e h = cc
   answered unseen kinds.List (Some bytes) answer e h = cc
+  answered unseen (kinds.Match pattern) None answer e h = cc
+  answered unseen (kinds.Match pattern) (Some bytes) answer e h = cc
   answered unseen kinds.Read (Some bytes) answer e h =
       let same : answers.Content bytes ≡ answer = cc in
       ap (λ o. looked kinds.Read o (is_some (file_at tree path)) unseen

@@ -1,14 +1,13 @@
 pub mod Together
-pub mod FirstNames
 pub mod SourceMembers
 pub mod NameSets
 pub mod Seeing
 pub mod ByPip
 pub mod Agreeing
 pub mod OneAtom
-pub mod FilePaths
 pub mod TakenFiles
-pub mod Begun
+pub mod FirstAt
+pub mod NamesWithin
 pub mod MadeLists
 pub mod OpaqueMembers
 pub mod NearFiles

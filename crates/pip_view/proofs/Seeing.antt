@@ -1,5 +1,5 @@
 -- What a view answers, from what it keeps.
-use Rattle.std.proofs.Common.{◌≡◌, ◌⊎◌, ◌<◌, ℕ, Bool, true, false, ◌||◌, cond, List, [], ◌∷◌, ◌++◌, length, Option, Some, None, refl, ap, sym, ◌∙◌, subst, inl, inr}
+use Rattle.std.proofs.Common.{◌≡◌, ◌⊎◌, ◌<◌, ℕ, Bool, true, false, ◌||◌, cond, List, [], ◌∷◌, ◌++◌, filter, length, Option, Some, None, refl, ap, sym, ◌∙◌, subst, inl, inr}
 use Rattle.std.specs.Prelude.{is_some, slice_get}
 use Rattle.std.specs.List.{filter_map, list_any}
 use Rattle.std.specs.List.Sorted.{IsStrictlySortedBy}
@@ -8,6 +8,8 @@ use Rattle.bx_tree.specs.Paths.{Atoms, is_root}
 use Rattle.bx_tree.specs.Trees.{Files, file_at, paths_of}
 use Rattle.bx_tree.specs.Members.{Has}
 use Rattle.bx_tree.proofs.Sets.{contains_has, has_contained}
+use Rattle.bx_path.specs.Globbing.{is_match}
+use Rattle.observed.specs.Asks.{asked_names, is_listing}
 use Rattle.observed.specs.declared.access.Answer.{Answer}
 use Rattle.observed.specs.declared.access.Answer.TheVariants as answers
 use Rattle.observed.specs.declared.ask.Ask.{Ask}
@@ -24,8 +26,8 @@ use Rattle.pip_model_types.specs.declared.pip.ProcessDesc.{ProcessDesc}
 use Rattle.pip_model_types.specs.declared.pip.PipKind.TheVariants.{Process, Copy, Write, Seal}
 use Rattle.tool_run.specs.Listings.{add_names, names_text}
 use Rattle.pip_view.specs.InputFiles.{input_files, is_source_of}
-use Rattle.pip_view.specs.Sees.{as_input, as_source, looked, pip_sees}
-use Rattle.pip_view.specs.Seen.{AnswerAs, ViewData, answer_by_source, answer_elsewhere, answer_unnamed, is_sealed_at, is_unseen_at, named_by, named_in, opaque_by, opaque_in, taken_by, taken_in, view_answers}
+use Rattle.pip_view.specs.Sees.{as_input, as_source, looked, names_below, pip_sees}
+use Rattle.pip_view.specs.Seen.{AnswerAs, ViewData, answer_by_source, answer_elsewhere, answer_unnamed, is_sealed_at, is_unseen_at, named_by, named_in, names_in, opaque_by, opaque_in, taken_by, taken_in, view_answers}
 use Rattle.pip_view_inputs.specs.Plain.{kind_process, process_in}
 use Rattle.pip_view.proofs.ByPip.{named_split}
 use Rattle.pip_view.proofs.NameSets.{IsNameSet, added_after, one_addition, set_has, set_kept}
@@ -45,6 +47,7 @@ abbrev pub IsLook : AskKind → Type 0
 IsLook kinds.Read = Unit {0}
 IsLook kinds.Probe = Unit {0}
 IsLook kinds.List = ⊥
+IsLook (kinds.Match pattern) = ⊥
 
 -- where something lies below a path: the source files that are members add nothing
 lies_somewhere : (tree named sealed root : Bool) → (sealed ≡ true → tree ≡ true) → (tree || (named || sealed) || root) ≡ (named || root || tree)
@@ -151,6 +154,7 @@ module _ (v : ViewData) (files : Files) (pip : Pip) (h : Keeps v files pip) (pat
   seen kinds.Read k = ap (λ o. pip_sees v.pips v.tree v.inputs v.pip o (record { kind = kinds.Read; path = path })) h.is ∙ look kinds.Read
   seen kinds.Probe k = ap (λ o. pip_sees v.pips v.tree v.inputs v.pip o (record { kind = kinds.Probe; path = path })) h.is ∙ look kinds.Probe
   seen kinds.List k = absurd k
+  seen (kinds.Match pattern) k = absurd k
 
   -- ## A listing
 
@@ -172,30 +176,39 @@ module _ (v : ViewData) (files : Files) (pip : Pip) (h : Keeps v files pip) (pat
       on_left (x ∷ xs) ys n (inl e) = inl e
       on_left (x ∷ xs) ys n (inr h) = inr (on_left xs ys n h)
 
-  listed : view_answers v (record { kind = kinds.List; path = path })
-      ≡ answers.Names (names_text (add_names (add_names [] (own_names v.tree path)) (own_names files path)))
-  listed =
-      ap (λ o. pip_sees v.pips v.tree v.inputs v.pip o (record { kind = kinds.List; path = path })) h.is
-      ∙ ap (λ (ns : List (List ℕ)). answers.Names (names_text ns))
-      (added_after (own_names v.tree path) (own_names inputs path) []
+  names_are : names_below v.tree inputs path ≡ add_names (add_names [] (own_names v.tree path)) (own_names files path)
+  names_are =
+      added_after (own_names v.tree path) (own_names inputs path) []
       ∙ one_addition (add_names [] (own_names v.tree path)) (own_names inputs path) (own_names files path)
-      (set_kept (own_names v.tree path) [] empty_set) into back)
+      (set_kept (own_names v.tree path) [] empty_set) into back
+
+  listed : (kind : AskKind) → is_listing kind ≡ true → view_answers v (record { kind = kind; path = path })
+      ≡ answers.Names (names_text (asked_names kind (add_names (add_names [] (own_names v.tree path)) (own_names files path))))
+  listed kinds.Read k = cc
+  listed kinds.Probe k = cc
+  listed kinds.List k =
+      ap (λ o. pip_sees v.pips v.tree v.inputs v.pip o (record { kind = kinds.List; path = path })) h.is
+      ∙ ap (λ (ns : List (List ℕ)). answers.Names (names_text ns)) names_are
+  listed (kinds.Match pattern) k =
+      ap (λ o. pip_sees v.pips v.tree v.inputs v.pip o (record { kind = kinds.Match pattern; path = path })) h.is
+      ∙ ap (λ (ns : List (List ℕ)). answers.Names (names_text (filter (is_match pattern) ns))) names_are
 
 -- ## What a view answers
 
-pub look_from : (kind : AskKind) → (kind ≡ kinds.List → ⊥) → IsLook kind
+pub look_from : (kind : AskKind) → is_listing kind ≡ false → IsLook kind
 look_from kinds.Read n = tt
 look_from kinds.Probe n = tt
-look_from kinds.List n = n refl
+look_from kinds.List n = cc
+look_from (kinds.Match pattern) n = cc
 
 pub view_looks : (v : ViewData) (files : Files) → AnswerAs files (named_in v) → v.pip < length v.pips → (kind : AskKind) → IsLook kind → (path : Atoms)
     → view_answers v (record { kind = kind; path = path }) ≡ by_file v kind path (has_below files path) (file_at files path)
 view_looks v files h l kind k path = let keeps = keeps_of v files h l in seen v files keeps.0 keeps.1 path kind k
 
-pub view_lists : (v : ViewData) (files : Files) → AnswerAs files (named_in v) → v.pip < length v.pips → (path : Atoms)
-    → view_answers v (record { kind = kinds.List; path = path })
-    ≡ answers.Names (names_text (add_names (add_names [] (own_names v.tree path)) (own_names files path)))
-view_lists v files h l path = let keeps = keeps_of v files h l in listed v files keeps.0 keeps.1 path
+pub view_lists : (v : ViewData) (files : Files) → AnswerAs files (named_in v) → v.pip < length v.pips → (kind : AskKind) → is_listing kind ≡ true → (path : Atoms)
+    → view_answers v (record { kind = kind; path = path })
+    ≡ answers.Names (names_text (asked_names kind (add_names (add_names [] (own_names v.tree path)) (own_names files path))))
+view_lists v files h l kind k path = let keeps = keeps_of v files h l in listed v files keeps.0 keeps.1 path kind k
 
 -- ## By the files that the pip takes by name, and the members of opaque directories
 
@@ -210,24 +223,29 @@ named_are v (Some d) = named_split v.pips v.tree v.inputs d
 split_in : (v : ViewData) → named_in v ≡ taken_in v ++ opaque_in v
 split_in v = named_are v (process_in (slice_get v.pips v.pip))
 
--- the names of a listing
-pub names_listed : (v : ViewData) (sources : List Atoms) (dir : Atoms) (none first more both : List (List ℕ)) (text : List ℕ) → v.pip < length v.pips
+-- the names that are gathered for a listing
+pub names_gathered : (v : ViewData) (sources : List Atoms) (dir : Atoms) (none first more both : List (List ℕ))
     → sources ≡ paths_of v.tree → none ≡ [] → first ≡ add_names none (filter_map (next_atom dir) sources)
-    → more ≡ add_names first (own_names (taken_in v) dir) → both ≡ add_names more (own_names (opaque_in v) dir) → text ≡ names_text both
-    → answers.Names text ≡ view_answers v (record { kind = kinds.List; path = dir })
-names_listed v sources dir none first more both text there are_sources empty is_first is_more is_both is_text =
-    ap answers.Names
-    (is_text
-    ∙ ap names_text
-    (is_both
+    → more ≡ add_names first (own_names (taken_in v) dir) → both ≡ add_names more (own_names (opaque_in v) dir) → both ≡ names_in v dir
+names_gathered v sources dir none first more both are_sources empty is_first is_more is_both =
+    is_both
     ∙ ap (λ (ns : List (List ℕ)). add_names ns (own_names (opaque_in v) dir))
     (is_more ∙ ap (λ (ns : List (List ℕ)). add_names ns (own_names (taken_in v) dir))
     (is_first ∙ ap (λ (ns : List (List ℕ)). add_names ns (filter_map (next_atom dir) sources)) empty
     ∙ ap (add_names []) (ap (filter_map (next_atom dir)) are_sources ∙ names_sources dir v.tree)))
-    ∙ sym (added_after (own_names (taken_in v) dir) (own_names (opaque_in v) dir) (add_names [] (own_names v.tree dir)))
+
+names_are_in : (v : ViewData) (dir : Atoms) → names_in v dir ≡ add_names (add_names [] (own_names v.tree dir)) (own_names (named_in v) dir)
+names_are_in v dir =
+    sym (added_after (own_names (taken_in v) dir) (own_names (opaque_in v) dir) (add_names [] (own_names v.tree dir)))
     ∙ ap (add_names (add_names [] (own_names v.tree dir)))
-    (sym (ap (λ (fs : Files). own_names fs dir) (split_in v) ∙ names_both (taken_in v) (opaque_in v) dir))))
-    ∙ sym (view_lists v (named_in v) (itself (named_in v)) there dir)
+    (sym (ap (λ (fs : Files). own_names fs dir) (split_in v) ∙ names_both (taken_in v) (opaque_in v) dir))
+
+-- the answer to a listing
+pub names_listed : (v : ViewData) (ask : Ask) (names : List (List ℕ)) (text : List ℕ) → v.pip < length v.pips → is_listing ask.kind ≡ true
+    → names ≡ names_in v ask.path → text ≡ names_text (asked_names ask.kind names) → answers.Names text ≡ view_answers v ask
+names_listed v ask names text there k are is_text =
+    ap answers.Names (is_text ∙ ap (λ (ns : List (List ℕ)). names_text (asked_names ask.kind ns)) (are ∙ names_are_in v ask.path))
+    ∙ sym (view_lists v (named_in v) (itself (named_in v)) there ask.kind k ask.path)
 
 at_named : (v : ViewData) (path : Atoms) → file_at (named_in v) path ≡ or_else (file_at (taken_in v) path) (file_at (opaque_in v) path)
 at_named v path = ap (λ (fs : Files). file_at fs path) (split_in v) ∙ at_both (taken_in v) (opaque_in v) path
@@ -251,13 +269,13 @@ below_first v path t there e =
     sym (ap (λ (fs : Files). has_below fs path) (split_in v) ∙ below_both (taken_in v) (opaque_in v) path
     ∙ ap (λ b. b || has_below (opaque_in v) path) (sym e ∙ there))
 
-pub found_answers : (v : ViewData) (ask : Ask) (bytes : List ℕ) → v.pip < length v.pips → (ask.kind ≡ kinds.List → ⊥)
+pub found_answers : (v : ViewData) (ask : Ask) (bytes : List ℕ) → v.pip < length v.pips → is_listing ask.kind ≡ false
     → Some bytes ≡ file_at (named_in v) ask.path → as_input ask.kind bytes ≡ view_answers v ask
 found_answers v ask bytes l look e =
     sym (view_looks v (named_in v) (itself (named_in v)) l ask.kind (look_from ask.kind look) ask.path
     ∙ ap (by_file v ask.kind ask.path (has_below (named_in v) ask.path)) (sym e))
 
-pub unnamed_answers : (v : ViewData) (ask : Ask) (below : Bool) → v.pip < length v.pips → (ask.kind ≡ kinds.List → ⊥)
+pub unnamed_answers : (v : ViewData) (ask : Ask) (below : Bool) → v.pip < length v.pips → is_listing ask.kind ≡ false
     → None ≡ file_at (named_in v) ask.path → below ≡ has_below (named_in v) ask.path → answer_unnamed v ask.kind ask.path below ≡ view_answers v ask
 unnamed_answers v ask below l look e is =
     ap (answer_unnamed v ask.kind ask.path) is

@@ -1,19 +1,14 @@
 -- The members of opaque directories, and where they lie.
-use Rattle.std.specs.Prelude.{ℕ, ◌||◌, if◌then◌else◌, List, [], filter, map, Option, Some, None}
+use Rattle.std.specs.Prelude.{◌||◌, if◌then◌else◌, List, [], filter, map, Option, Some, None}
 use Rattle.std.specs.Borrow.{Bor}
 use Rattle.std.specs.List.{flat_map}
 use Rattle.bx_tree.specs.Paths.{Atoms, same_path}
 use Rattle.bx_tree.specs.Trees.{Files}
-use Rattle.bx_tree.specs.declared.file_input.FileInput.{FileInput}
-use Rattle.bx_tree.specs.declared.file_input.FileInput.TheVariants.{Source}
 use Rattle.bx_tree.specs.Below.{is_below}
 use Rattle.pip_model_types.specs.declared.dir_inputs.DirInput.{DirInput}
 use Rattle.pip_model_types.specs.declared.dir_inputs.DirInput.TheVariants.{Sealed, Opaque}
-use Rattle.pip_model_types.specs.declared.made.MadeFile.{MadeFile}
 use Rattle.pip_view.specs.InputFiles.{by_pip, insert_by_pip, is_opaque}
-use Rattle.pip_view.specs.Taken.{taken_names}
 use Rattle.pip_view_inputs.specs.Results.{ByPip, files_by}
-use Rattle.bx_tree.specs.FileInputs.{input_path}
 
 -- the files that lie below a directory
 abbrev pub below_of : Atoms → Files → Files
@@ -46,14 +41,3 @@ abbrev pub deeper : Atoms → Atoms → Option Atoms
 deeper dir other =
     if is_below other dir then Some other
     else (if same_path dir other || is_below dir other then Some dir else None)
-
--- a file that a pip made, as one of a list of files that a pip takes: its path is what is searched
-abbrev pub as_taken : MadeFile → FileInput
-as_taken file = Source file.path
-
-abbrev pub all_taken : List MadeFile → List FileInput
-all_taken files = map as_taken files
-
--- the names that those of the files which lie below one directory add to the listing of another
-abbrev pub names_within : Atoms → Atoms → List FileInput → List (List ℕ)
-names_within top dir files = taken_names top (filter (λ (f : FileInput). is_below (input_path f) dir) files)

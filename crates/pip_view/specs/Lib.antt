@@ -4,3 +4,4 @@ pub mod Seen
 pub mod Gathered
 pub mod Agreement
 pub mod Taken
+pub mod NamesBelow

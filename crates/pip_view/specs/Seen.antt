@@ -10,6 +10,7 @@ use Rattle.observed.specs.declared.access.Answer.TheVariants as answers
 use Rattle.observed.specs.declared.ask.Ask.{Ask}
 use Rattle.observed.specs.declared.ask.AskKind.{AskKind}
 use Rattle.bx_tree.specs.Below.{is_at_or_below}
+use Rattle.tool_run.specs.Listings.{add_names}
 use Rattle.tool_run_writes.specs.Writes.{has_below, own_names}
 use Rattle.pip_view_directories.specs.Ranges.{AreOthers}
 use Rattle.pip_model_types.specs.Dirs.{RiseByForm}
@@ -57,6 +58,13 @@ opaque_by v (Some d) = members_of v.inputs (by_pip (filter is_opaque d.dirs))
 
 abbrev pub opaque_in : ViewData → Files
 opaque_in v = opaque_by v (process_in (slice_get v.pips v.pip))
+
+-- the names in a directory: of the source files, of the files that the pip takes by name, and of the members of
+-- its opaque directories
+abbrev pub names_in : ViewData → Atoms → List (List ℕ)
+names_in v dir =
+    add_names (add_names (add_names [] (own_names v.tree dir)) (own_names (taken_in v) dir))
+    (own_names (opaque_in v) dir)
 
 -- ## Steps of an answer
 

@@ -6,6 +6,7 @@ use Rattle.pip_view_inputs.specs.Results.{ByPip}
 use Rattle.bx_tree.specs.Trees.{Files, file_at}
 use Rattle.pip_model_types.specs.declared.pip.Pip.{Pip}
 use Rattle.pip_model_types.specs.declared.pip.PipKind.{PipKind}
+use Rattle.observed.specs.Asks.{asked_names}
 use Rattle.observed.specs.declared.ask.AskKind.{AskKind}
 use Rattle.observed.specs.declared.ask.AskKind.TheVariants as kinds
 use Rattle.observed.specs.declared.ask.Ask.{Ask}
@@ -22,12 +23,14 @@ abbrev pub as_input : AskKind → List ℕ → Answer
 as_input kinds.Read bytes = answers.Content bytes
 as_input kinds.Probe bytes = answers.File
 as_input kinds.List bytes = answers.Absent
+as_input (kinds.Match pattern) bytes = answers.Absent
 
 -- a source file that is no input may be probed and not read
 abbrev pub as_source : AskKind → Answer
 as_source kinds.Read = answers.Denied
 as_source kinds.Probe = answers.File
 as_source kinds.List = answers.Absent
+as_source (kinds.Match pattern) = answers.Absent
 
 -- A read or a probe, of which the first line that applies decides: of an input file; of another source
 -- file; of a path that another pip can produce, by an output file or by a directory that is no input; of a path
@@ -40,11 +43,16 @@ looked kind None source unseen dir =
 
 -- The names of a listing: the next atoms of source files and input files below the path, sorted and
 -- distinct. Where one input file lies below another, which no build comes to, they are listed below it too.
-abbrev pub names_below : Files → Files → Atoms → List ℕ
-names_below tree inputs path = names_text (add_names [] (own_names tree path ++ own_names inputs path))
+abbrev pub names_below : Files → Files → Atoms → List (List ℕ)
+names_below tree inputs path = add_names [] (own_names tree path ++ own_names inputs path)
+
+-- those of the names that are asked for, each with a newline after it
+abbrev pub listing : AskKind → Files → Files → Atoms → Answer
+listing kind tree inputs path = answers.Names (names_text (asked_names kind (names_below tree inputs path)))
 
 abbrev pub answer_at : Files → Files → Bool → AskKind → Atoms → Answer
-answer_at tree inputs unseen kinds.List path = answers.Names (names_below tree inputs path)
+answer_at tree inputs unseen kinds.List path = listing kinds.List tree inputs path
+answer_at tree inputs unseen (kinds.Match pattern) path = listing (kinds.Match pattern) tree inputs path
 answer_at tree inputs unseen kinds.Read path =
     looked kinds.Read (file_at inputs path) (is_some (file_at tree path)) unseen
     (has_below tree path || has_below inputs path || is_root path)

@@ -1,8 +1,8 @@
 -- The files that a process takes by name: its executable, its declared files, and those of seals that list them.
-use Rattle.std.specs.Prelude.{ℕ, Bool, if◌then◌else◌, List, [], ◌∷◌, ◌++◌, Option, Some, None, map, nat_eq}
+use Rattle.std.specs.Prelude.{ℕ, Bool, if◌then◌else◌, List, [], ◌∷◌, ◌++◌, Option, Some, None, map}
 use Rattle.std.specs.Prelude.{slice_get}
-use Rattle.std.specs.List.{filter_map, flat_map, list_any, starts_with}
-use Rattle.bx_tree.specs.Paths.{Atoms, path_text, same_path}
+use Rattle.std.specs.List.{filter_map, flat_map, list_any}
+use Rattle.bx_tree.specs.Paths.{Atoms, same_path}
 use Rattle.bx_tree.specs.declared.file_input.FileInput.{FileInput}
 use Rattle.bx_tree.specs.declared.file_input.FileInput.TheVariants.{Source}
 use Rattle.bx_tree.specs.Below.{is_below, next_atom}
@@ -49,14 +49,3 @@ any_below dir files = list_any (λ (f : FileInput). is_below (input_path f) dir)
 -- the names that the files below a directory add to its listing
 abbrev pub taken_names : Atoms → List FileInput → List (List ℕ)
 taken_names dir files = filter_map (λ (f : FileInput). next_atom dir (input_path f)) files
-
--- ## Files whose paths begin with a text
-
--- whether the path of a file begins with this text
-abbrev pub begins : List ℕ → FileInput → Bool
-begins prefix file = starts_with nat_eq (path_text (input_path file)) prefix
-
--- the first of the files, up to one whose path does not begin with the text
-abbrev pub while_begins : List ℕ → List FileInput → List FileInput
-while_begins prefix [] = []
-while_begins prefix (file ∷ files) = if begins prefix file then file ∷ while_begins prefix files else []

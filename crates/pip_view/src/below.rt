@@ -1,50 +1,89 @@
-//! Searches in source files: the paths below a directory are neighbours in their order.
-ghost use Rattle.std.specs.Prelude.{◌≡◌, ◌≤◌, true, false, IfOk, filter, length};
-ghost use Rattle.std.specs.List.{list_any};
-ghost use Rattle.std.specs.List.Sorted.{IsPartitionPoint, IsStrictlySortedBy};
-ghost use Rattle.bx_tree.specs.Below.{is_below};
-ghost use Rattle.bx_tree.specs.Paths.{path_cmp};
-ghost use Rattle.bx_tree.specs.Ranges.{AreFilePaths, comes_before, first_below};
+//! What lies below a directory, in a list that rises by path: of source files, of files that a process takes, or of
+//! files that a pip made.
+ghost use Rattle.std.specs.Prelude.{◌≡◌, ◌++◌, ◌∷◌, [], OnOk};
+ghost use Rattle.std.specs.List.{filter_map, list_any};
+ghost use Rattle.bx_tree.specs.Below.{is_below, next_atom as next_atom_of};
+ghost use Rattle.bx_tree.specs.Lent.{texts_now};
+ghost use Rattle.bx_tree_paths.specs.Searches.{RiseByText};
+ghost use Rattle.pip_view.specs.NamesBelow.{names_within};
 
-use bx_tree::{Memory, Path, comes_before, prefix_of};
-use std::alloc::Global;
+use bx_tree::{Memory, Path, next_atom};
+use bx_tree_paths::{HasPath, items_below};
 
-// How many paths come before those whose texts begin with these bytes.
-fn count_before(paths: &[Path], prefix: &[u8]) -> usize
-    requires { IsStrictlySortedBy path_cmp paths.now }
-    ensures bound { result ≤ length paths.now }
-    ensures before { IsPartitionPoint
-        (λ path. comes_before prefix.now path ≡ true)
-        (λ path. comes_before prefix.now path ≡ false)
-        paths.now result }
+// Whether one of the items lies strictly below a directory.
+fn any_below<T: HasPath>(items: &[T], dir: &Path) -> bool
+    ensures { result ≡ list_any (λ x. is_below (T.path_in x) dir.now) items.now }
 {
-    paths.partition_point(|path| comes_before(path, prefix))
+    items.iter().any(|item| item.path().is_below(dir))
 }
 
-// The paths from the first that may lie below a directory on. Those that lie below it come first.
-pub(crate) fn from_below<'a>(
-    alloc: Global,
-    paths: &'a [Path],
+// Whether one of the items lies strictly below a directory.
+pub(crate) fn has_below<T: HasPath>(items: &[T], dir: &Path) -> bool
+    requires { RiseByText T.path_in items.now }
+    ensures { result ≡ list_any (λ x. is_below (T.path_in x) dir.now) items.now }
+{
+    any_below(items_below(items, dir), dir)
+}
+
+// Adds the name of an item in the listing of one directory, if it lies below another.
+fn add_name<'a, T: HasPath>(
+    names: &mut Vec<&'a [u8]>,
+    item: &'a T,
     dir: &Path,
-) -> Result<&'a [Path], Memory>
-    requires { AreFilePaths paths.now }
-    ensures { IfOk result (λ rest.
-        first_below dir.now rest.now ≡ filter (λ p. is_below p dir.now) paths.entry.now) }
+    top: &Path,
+) -> Result<(), Memory>
+    ensures { OnOk result (texts_now names.new.items
+        ≡ texts_now names.old.items ++ names_within T.path_in top.now dir.now (item.entry.now ∷ [])) }
 {
-    let prefix = prefix_of(alloc, dir)?;
-    let start = count_before(paths, prefix.as_slice());
-    let rest = &paths[start..];
-    Ok(rest)
+    let path = item.path();
+    if !path.is_below(dir) {
+        return Ok(());
+    }
+    if let Some(name) = next_atom(top, path) {
+        names.push(name)?;
+    }
+    Ok(())
 }
 
-// Whether one of the paths lies strictly below a directory.
-pub(crate) fn has_below(alloc: Global, paths: &[Path], dir: &Path) -> Result<bool, Memory>
-    requires { AreFilePaths paths.now }
-    ensures { IfOk result (λ yes. yes ≡ list_any (λ p. is_below p dir.now) paths.now) }
+// Adds the names of items in the listing of one directory, of those that lie below another.
+pub(crate) fn add_each<'a, T: HasPath>(
+    names: &mut Vec<&'a [u8]>,
+    items: &'a [T],
+    dir: &Path,
+    top: &Path,
+) -> Result<(), Memory>
+    ensures { OnOk result (texts_now names.new.items
+        ≡ texts_now names.old.items ++ names_within T.path_in top.now dir.now items.entry.now) }
 {
-    let rest = from_below(alloc, paths, dir)?;
-    match rest.split_first() {
-        Some((path, _)) => Ok(path.is_below(dir)),
-        None => Ok(false),
+    'items: for item in items {
+        add_name(names, item, dir, top)?;
     }
+    Ok(())
+}
+
+// Adds the names, in the listing of one directory, of the items that lie below another.
+pub(crate) fn add_within<'a, T: HasPath>(
+    names: &mut Vec<&'a [u8]>,
+    items: &'a [T],
+    dir: &Path,
+    top: &Path,
+) -> Result<(), Memory>
+    requires { RiseByText T.path_in items.now }
+    ensures { OnOk result (texts_now names.new.items
+        ≡ texts_now names.old.items ++ names_within T.path_in top.now dir.now items.entry.now) }
+{
+    add_each(names, items_below(items, dir), dir, top)
+}
+
+// Adds the names of the items that lie below a directory.
+pub(crate) fn add_below<'a, T: HasPath>(
+    names: &mut Vec<&'a [u8]>,
+    items: &'a [T],
+    dir: &Path,
+) -> Result<(), Memory>
+    requires { RiseByText T.path_in items.now }
+    ensures { OnOk result (texts_now names.new.items
+        ≡ texts_now names.old.items ++ filter_map (λ x. next_atom_of dir.now (T.path_in x)) items.entry.now) }
+{
+    add_within(names, items, dir, dir)
 }

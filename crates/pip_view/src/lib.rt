@@ -7,10 +7,8 @@
 #![tactic(auto)]
 
 mod below;
-mod file_list;
 mod laws;
 mod listing;
-mod made_list;
 mod members;
 mod taken;
 mod view;

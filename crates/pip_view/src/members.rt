@@ -18,9 +18,9 @@ ghost use Rattle.tool_run.specs.NameSets.{names_now};
 ghost use Rattle.bx_tree.specs.Lent.{texts_now};
 
 use crate::Names;
-use crate::made_list::{add_below, has_below};
+use crate::below::{add_within, has_below};
 use bx_digest::Blob;
-use bx_tree::{Memory, Path, prefix_of};
+use bx_tree::{Memory, Path};
 use pip_model::{DirInput, DirInputs, MadeFile};
 use pip_view_inputs::{Inputs, made_at};
 use std::alloc::Global;
@@ -172,61 +172,39 @@ pub(crate) fn find_member<'a>(
 }
 
 // Whether a file that a pip made below a directory lies below another.
-fn has_made(
-    alloc: Global,
-    inputs: &Inputs,
-    pip: u32,
-    dir: &Path,
-    path: &Path,
-) -> Result<bool, Memory>
-    ensures { IfOk result (λ yes. yes
-        ≡ file_below (below_of dir.now (files_by inputs.now pip)) path.now) }
+fn has_made(inputs: &Inputs, pip: u32, dir: &Path, path: &Path) -> bool
+    ensures { result ≡ file_below (below_of dir.now (files_by inputs.now pip)) path.now }
 {
-    let Some(root) = deeper(dir, path) else {
-        return Ok(false);
-    };
-    let prefix = prefix_of(alloc, root)?;
-    let files = made_by(inputs, pip);
-    Ok(has_below(files, prefix.as_slice(), root))
+    match deeper(dir, path) {
+        Some(root) => has_below(made_by(inputs, pip), root),
+        None => false,
+    }
 }
 
 // Whether a member of an opaque directory lies below a path.
-fn has_member_of(
-    alloc: Global,
-    inputs: &Inputs,
-    dir: &DirInput,
-    path: &Path,
-) -> Result<bool, Memory>
-    ensures { IfOk result (λ yes. yes ≡ file_below (opaque_members inputs.now dir.now) path.now) }
+fn has_member_of(inputs: &Inputs, dir: &DirInput, path: &Path) -> bool
+    ensures { result ≡ file_below (opaque_members inputs.now dir.now) path.now }
 {
     match dir {
-        DirInput::Opaque(pip, root) => has_made(alloc, inputs, *pip, root, path),
-        DirInput::Sealed(_, _, _) => Ok(false),
+        DirInput::Opaque(pip, root) => has_made(inputs, *pip, root, path),
+        DirInput::Sealed(_, _, _) => false,
     }
 }
 
 // Whether a member of one of these directories lies below a path.
-pub(crate) fn has_member(
-    alloc: Global,
-    inputs: &Inputs,
-    dirs: &[&DirInput],
-    path: &Path,
-) -> Result<bool, Memory>
-    ensures { IfOk result (λ yes. yes
-        ≡ file_below (members_of inputs.now (dirs_now dirs.now)) path.now) }
+pub(crate) fn has_member(inputs: &Inputs, dirs: &[&DirInput], path: &Path) -> bool
+    ensures { result ≡ file_below (members_of inputs.now (dirs_now dirs.now)) path.now }
 {
     'dirs: for dir in dirs {
-        let found = has_member_of(alloc, inputs, dir, path)?;
-        if found {
-            return Ok(true);
+        if has_member_of(inputs, dir, path) {
+            return true;
         }
     }
-    Ok(false)
+    false
 }
 
 // Adds the names, in the listing of a path, of the files that a pip made below a directory.
 fn add_made<'a>(
-    alloc: Global,
     names: &mut Vec<&'a [u8]>,
     inputs: &'a Inputs,
     pip: u32,
@@ -239,14 +217,11 @@ fn add_made<'a>(
     let Some(root) = deeper(dir, path) else {
         return Ok(());
     };
-    let prefix = prefix_of(alloc, root)?;
-    let files = made_by(inputs, pip);
-    add_below(names, files, prefix.as_slice(), root, path)
+    add_within(names, made_by(inputs, pip), root, path)
 }
 
 // Adds the names, in the listing of a path, of the members of an opaque directory.
 fn add_members_of<'a>(
-    alloc: Global,
     names: &mut Vec<&'a [u8]>,
     inputs: &'a Inputs,
     dir: &DirInput,
@@ -256,7 +231,7 @@ fn add_members_of<'a>(
         ≡ texts_now names.old.items ++ own_names (opaque_members inputs.entry.now dir.now) path.now) }
 {
     match dir {
-        DirInput::Opaque(pip, root) => add_made(alloc, names, inputs, *pip, root, path),
+        DirInput::Opaque(pip, root) => add_made(names, inputs, *pip, root, path),
         DirInput::Sealed(_, _, _) => Ok(()),
     }
 }
@@ -273,7 +248,7 @@ fn names_of<'a>(
 {
     let mut names = Vec::new(alloc);
     'dirs: for dir in dirs {
-        add_members_of(alloc, &mut names, inputs, dir, path)?;
+        add_members_of(&mut names, inputs, dir, path)?;
     }
     Ok(names)
 }

@@ -11,12 +11,12 @@ ghost use Rattle.pip_model_types.specs.Kinds.{listed_in};
 ghost use Rattle.pip_view.specs.Taken.{any_below, dir_files, dirs_files, executable, first_at};
 ghost use Rattle.pip_view.specs.Taken.{taken_bytes, taken_files, taken_names};
 ghost use Rattle.bx_tree.specs.Lent.{texts_now};
-ghost use Rattle.bx_tree.specs.Ranges.{prefix_below};
 
 use crate::Names;
-use crate::file_list::{add_below, file_at, has_below};
+use crate::below::{add_below, has_below};
 use bx_digest::Blob;
-use bx_tree::{FileInput, Memory, Path, next_atom, prefix_of};
+use bx_tree::{FileInput, Memory, Path, next_atom};
+use bx_tree_paths::place_of;
 use pip_model::{DirInput, Pip, Plan, ProcessDesc, SealForm, Sources};
 use pip_model_types::{no_inputs, pip_at};
 use pip_view_directories::{near_dirs, searched};
@@ -44,6 +44,17 @@ fn files_of<'a>(pips: &'a [Pip], dir: &DirInput) -> &'a [FileInput]
         DirInput::Sealed(pip, SealForm::Full | SealForm::Partial, _) => listed_files(pips, *pip),
         DirInput::Sealed(_, SealForm::SourceTop | SealForm::SourceAll, _)
         | DirInput::Opaque(_, _) => no_inputs(),
+    }
+}
+
+// The file at a path.
+fn file_at<'a>(files: &'a [FileInput], path: &Path) -> Option<&'a FileInput>
+    requires { RiseByPath files.now }
+    ensures { option_copied result ≡ first_at path.now files.entry.now }
+{
+    match place_of(files, path) {
+        Some(place) => Some(&files[place]),
+        None => None,
     }
 }
 
@@ -133,14 +144,13 @@ pub(crate) fn taken_blob(
     declared_blob(alloc, plan.pips(), sources, inputs, process, dirs, path)
 }
 
-// Whether a file that one of the directories lists lies below a directory, where these bytes begin its path.
-fn has_listed(pips: &[Pip], dirs: &[DirInput], prefix: &[u8], dir: &Path) -> bool
-    requires { prefix.now ≡ prefix_below dir.now }
+// Whether a file that one of the directories lists lies below a directory.
+fn has_listed(pips: &[Pip], dirs: &[DirInput], dir: &Path) -> bool
     ensures { result ≡ any_below dir.now (dirs_files pips.now dirs.now) }
 {
     'dirs: for listing in dirs {
         let files = files_of(pips, listing);
-        if has_below(files, prefix, dir) {
+        if has_below(files, dir) {
             return true;
         }
     }
@@ -148,23 +158,12 @@ fn has_listed(pips: &[Pip], dirs: &[DirInput], prefix: &[u8], dir: &Path) -> boo
 }
 
 // Whether one of the executable, the declared files and those that these directories list is below a directory.
-fn has_among(
-    alloc: Global,
-    pips: &[Pip],
-    process: &ProcessDesc,
-    dirs: &[DirInput],
-    dir: &Path,
-) -> Result<bool, Memory>
-    ensures { IfOk result (λ yes. yes ≡ any_below dir.now
-        (executable process.now ∷ process.now.files ++ dirs_files pips.now dirs.now)) }
+fn has_among(pips: &[Pip], process: &ProcessDesc, dirs: &[DirInput], dir: &Path) -> bool
+    ensures { result ≡ any_below dir.now
+        (executable process.now ∷ process.now.files ++ dirs_files pips.now dirs.now) }
 {
-    let prefix = prefix_of(alloc, dir)?;
     let files = process.files.files();
-    Ok(
-        process.exe.is_below(dir)
-            || has_below(files, prefix.as_slice(), dir)
-            || has_listed(pips, dirs, prefix.as_slice(), dir),
-    )
+    process.exe.is_below(dir) || has_below(files, dir) || has_listed(pips, dirs, dir)
 }
 
 // Whether a file that a process takes lies below a directory.
@@ -179,7 +178,7 @@ pub(crate) fn has_taken(
 {
     let near = near_dirs(alloc, plan, &process.dirs, dir)?;
     let dirs = searched(&near, process.dirs.dirs());
-    has_among(alloc, plan.pips(), process, dirs, dir)
+    Ok(has_among(plan.pips(), process, dirs, dir))
 }
 
 // Adds the names of the files below a directory that the directories list.
@@ -187,15 +186,13 @@ fn add_listed<'a>(
     names: &mut Vec<&'a [u8]>,
     pips: &'a [Pip],
     dirs: &[DirInput],
-    prefix: &[u8],
     dir: &Path,
 ) -> Result<(), Memory>
-    requires { prefix.now ≡ prefix_below dir.now }
     ensures { OnOk result (texts_now names.new.items
         ≡ texts_now names.old.items ++ taken_names dir.now (dirs_files pips.entry.now dirs.now)) }
 {
     'dirs: for listing in dirs {
-        add_below(names, files_of(pips, listing), prefix, dir)?;
+        add_below(names, files_of(pips, listing), dir)?;
     }
     Ok(())
 }
@@ -226,11 +223,10 @@ fn names_among<'a>(
     ensures { IfOk result (λ names. texts_now names.items ≡ taken_names dir.now
         (executable process.entry.now ∷ process.entry.now.files ++ dirs_files pips.entry.now dirs.now)) }
 {
-    let prefix = prefix_of(alloc, dir)?;
     let mut names = Vec::new(alloc);
     add_executable(&mut names, process, dir)?;
-    add_below(&mut names, process.files.files(), prefix.as_slice(), dir)?;
-    add_listed(&mut names, pips, dirs, prefix.as_slice(), dir)?;
+    add_below(&mut names, process.files.files(), dir)?;
+    add_listed(&mut names, pips, dirs, dir)?;
     Ok(names)
 }
 

@@ -1,10 +1,11 @@
 //! What a pip sees.
-ghost use Rattle.std.specs.Prelude.{◌≡◌, ◌≢◌, ◌<◌, ◌||◌, IfOk, IfSome, OnOk, if◌then◌else◌, length, slice_get};
+ghost use Rattle.std.specs.Prelude.{◌≡◌, ◌≢◌, ◌<◌, ◌||◌, IfOk, IfSome, OnOk, false, if◌then◌else◌, length};
+ghost use Rattle.std.specs.Prelude.{slice_get, true};
 ghost use Rattle.std.specs.List.{filter_map, list_any};
 ghost use Rattle.bx_tree.specs.Below.{is_directly_in, next_atom};
 ghost use Rattle.std.specs.Option.{option_copied};
 ghost use Rattle.bx_tree.specs.Paths.{is_root};
-ghost use Rattle.bx_tree.specs.Trees.{file_at};
+ghost use Rattle.bx_tree.specs.Trees.{file_at, paths_of};
 ghost use Rattle.tool_run_writes.specs.Writes.{has_below as file_below, own_names};
 ghost use Rattle.pip_view_inputs.specs.Plain.{process_in};
 ghost use Rattle.pip_view_directories.specs.Near.{AreTaken};
@@ -13,15 +14,15 @@ ghost use Rattle.tool_run.specs.Listings.{add_names as with_names};
 ghost use Rattle.tool_run.specs.NameSets.{names_now};
 ghost use Rattle.violations.specs.Producing.{dirs_at as dirs_of_pip};
 ghost use Rattle.pip_view.specs.InputFiles as files;
-ghost use Rattle.bx_tree.specs.Ranges.{AreFilePaths};
 ghost use Rattle.pip_view.specs.Sees as seen;
+ghost use Rattle.observed.specs.Asks.{is_listing};
 ghost use Rattle.pip_view.specs.Seen.{SearchedAt, answer_elsewhere, answer_unnamed, is_sealed_at, is_unseen_at};
-ghost use Rattle.pip_view.specs.Seen.{named_in, opaque_in, taken_in, view_answers};
+ghost use Rattle.pip_view.specs.Seen.{named_in, names_in, opaque_in, taken_in, view_answers};
 ghost use Rattle.pip_view.specs.Sees.{sees};
 
 use crate::Names;
-use crate::below::has_below;
-use crate::listing::names_below;
+use crate::below::add_each;
+use crate::listing::asked_lines;
 use crate::members::{add_members, find_member, has_member, opaque_by_pip, opaque_searched};
 use crate::taken::{add_taken, has_taken, taken_blob};
 use bx_digest::Blob;
@@ -33,7 +34,7 @@ use pip_view_inputs::{Inputs, process_at};
 use std::alloc::Global;
 use std::collections::BTreeSet;
 use std::marker::Model;
-use tool_run::{add_names, lines};
+use tool_run::add_names;
 use violations::least_unseen;
 
 /// What a pip sees of the source files and of what its inputs made, without what its own run writes.
@@ -117,24 +118,24 @@ fn share_found(found: Option<&Blob>) -> Result<Option<Blob>, Memory>
 }
 
 // A file that may be read and is there.
-fn as_input(kind: AskKind, blob: &Blob) -> Result<Answer, Memory>
-    ensures { IfOk result (λ answer. answer ≡ seen.as_input kind blob.now) }
+fn as_input(kind: &AskKind, blob: &Blob) -> Result<Answer, Memory>
+    ensures { IfOk result (λ answer. answer ≡ seen.as_input kind.now blob.now) }
 {
     match kind {
         AskKind::Read => Ok(Answer::Content(blob.share()?)),
         AskKind::Probe => Ok(Answer::File),
-        AskKind::List => Ok(Answer::Absent),
+        AskKind::List | AskKind::Match(_) => Ok(Answer::Absent),
     }
 }
 
 // The answer of a source file that is no input: it may be probed and not read.
-fn as_source(kind: AskKind) -> Answer
-    ensures { result ≡ seen.as_source kind }
+fn as_source(kind: &AskKind) -> Answer
+    ensures { result ≡ seen.as_source kind.now }
 {
     match kind {
         AskKind::Read => Answer::Denied,
         AskKind::Probe => Answer::File,
-        AskKind::List => Answer::Absent,
+        AskKind::List | AskKind::Match(_) => Answer::Absent,
     }
 }
 
@@ -149,13 +150,18 @@ fn directory_if(there: bool) -> Answer
     }
 }
 
-// Adds the names of those of the paths that lie below a directory.
-fn add_below(alloc: Global, names: &mut Names, paths: &[Path], dir: &Path) -> Result<(), Memory>
-    requires { AreFilePaths paths.now }
+// Adds the names of the source files that lie below a directory.
+fn add_sources(
+    alloc: Global,
+    names: &mut Names,
+    sources: &Sources,
+    dir: &Path,
+) -> Result<(), Memory>
     ensures { OnOk result (names_now names.new.keys
-        ≡ with_names (names_now names.old.keys) (filter_map (next_atom dir.now) paths.now)) }
+        ≡ with_names (names_now names.old.keys) (filter_map (next_atom dir.now) (paths_of sources.now))) }
 {
-    let below = names_below(alloc, paths, dir)?;
+    let mut below = Vec::new(alloc);
+    add_each(&mut below, sources.paths_below(dir), dir, dir)?;
     add_names(alloc, names, below.as_slice())
 }
 
@@ -262,7 +268,7 @@ impl<'a> PipView<'a> {
     {
         let near = self.near(alloc, path)?;
         let opaque = opaque_searched(alloc, &near, self.opaque.as_slice())?;
-        has_member(alloc, self.inputs, opaque.as_slice(), path)
+        Ok(has_member(self.inputs, opaque.as_slice(), path))
     }
 
     // Whether a named input file lies below a path.
@@ -313,27 +319,36 @@ impl<'a> PipView<'a> {
         Ok(is_sealed(path, searched(&near, all)))
     }
 
-    // The names of a listing.
-    fn names(&self, alloc: Global, dir: &Path) -> Result<Answer, Memory>
-        ensures { IfOk result (λ answer. answer
-            ≡ view_answers self.now (record { kind = AskKind.List; path = dir.now })) }
+    // The names in a directory.
+    fn gather(&self, alloc: Global, dir: &Path) -> Result<Names, Memory>
+        ensures names { IfOk result (λ names. names_now names.keys ≡ names_in self.now dir.now) }
+        ensures there { IfOk result (λ names. self.now.pip < length self.now.pips) }
     {
         let mut names = BTreeSet::new(alloc);
-        add_below(alloc, &mut names, self.sources.paths(), dir)?;
+        add_sources(alloc, &mut names, self.sources, dir)?;
         self.add_taken(alloc, &mut names, dir)?;
         self.add_members(alloc, &mut names, dir)?;
-        Ok(Answer::Names(Blob::new(alloc, lines(alloc, &names)?)?))
+        Ok(names)
+    }
+
+    // The names of a listing, those that its pattern matches if it has one.
+    fn names(&self, alloc: Global, ask: &Ask) -> Result<Answer, Memory>
+        requires { is_listing ask.now.kind ≡ true }
+        ensures { IfOk result (λ answer. answer ≡ view_answers self.now ask.now) }
+    {
+        let names = self.gather(alloc, &ask.path)?;
+        let text = asked_lines(alloc, &ask.kind, &names)?;
+        Ok(Answer::Names(Blob::new(alloc, text)?))
     }
 
     // Whether a path is the root, or a file lies below it, where `below` says whether an input file does.
-    fn is_directory(&self, alloc: Global, path: &Path, below: bool) -> Result<bool, Memory>
-        ensures { IfOk result (λ yes. yes
-            ≡ (below || is_root path.now || file_below self.now.tree path.now)) }
+    fn is_directory(&self, path: &Path, below: bool) -> bool
+        ensures { result ≡ (below || is_root path.now || file_below self.now.tree path.now) }
     {
         if below || path.is_root() {
-            return Ok(true);
+            return true;
         }
-        has_below(alloc, self.sources.paths(), path)
+        !self.sources.paths_below(path).is_empty()
     }
 
     // What is answered of a path at which neither an input file nor a source file is.
@@ -345,7 +360,7 @@ impl<'a> PipView<'a> {
             return Ok(Answer::Denied);
         }
         let below = self.has_named(alloc, path)?;
-        Ok(directory_if(self.is_directory(alloc, path, below)?))
+        Ok(directory_if(self.is_directory(path, below)))
     }
 
     // What is answered of a source file at which no named input file is.
@@ -355,9 +370,9 @@ impl<'a> PipView<'a> {
             else seen.as_source ask.now.kind)) }
     {
         if self.is_sealed(alloc, &ask.path)? {
-            return as_input(ask.kind, blob);
+            return as_input(&ask.kind, blob);
         }
-        Ok(as_source(ask.kind))
+        Ok(as_source(&ask.kind))
     }
 
     // What is answered of a path at which no named input file is.
@@ -373,12 +388,12 @@ impl<'a> PipView<'a> {
 
     // What a read or a probe is answered.
     fn looked(&self, alloc: Global, ask: &Ask) -> Result<Answer, Memory>
-        requires { ask.now.kind ≢ AskKind.List }
+        requires { is_listing ask.now.kind ≡ false }
         ensures { IfOk result (λ answer. answer ≡ view_answers self.now ask.now) }
     {
         let named = self.named(alloc, &ask.path)?;
         match named {
-            Some(blob) => as_input(ask.kind, &blob),
+            Some(blob) => as_input(&ask.kind, &blob),
             None => self.unnamed(alloc, ask),
         }
     }
@@ -390,9 +405,9 @@ impl<'a> View for PipView<'a> {
     ghost answers = { view_answers };
 
     fn ask(&mut self, alloc: Global, ask: &Ask) -> Result<Answer, Memory> {
-        match ask.kind {
-            AskKind::List => self.names(alloc, &ask.path),
-            AskKind::Read | AskKind::Probe => self.looked(alloc, ask),
+        if ask.kind.is_listing() {
+            return self.names(alloc, ask);
         }
+        self.looked(alloc, ask)
     }
 }

@@ -4,7 +4,6 @@ use Rattle.std.specs.Prelude.{Contains}
 use Rattle.std.proofs.lemmas.Bool.{cases_lt}
 use Rattle.std.proofs.lemmas.List.{take_more}
 use Rattle.std.proofs.lemmas.List.Elements.{filter-append}
-use Rattle.pip_model.proofs.NearTexts.{take_before, at_slash}
 use Rattle.bx_tree.specs.Paths.{Atoms, IsBelow, path_text}
 use Rattle.bx_tree.proofs.PathTexts.{prefix_from_below}
 use Rattle.bx_tree.specs.Sets.{IsSetOf}
@@ -16,6 +15,14 @@ use Rattle.pip_view_directories.proofs.Between.{adds_both, adds_fewer, adds_none
 use Rattle.pip_view_directories.proofs.Rising.{filter_from, filter_keeps, none_there}
 
 -- ## Above a path, part by part
+
+take_before : (xs ys : List ℕ) → take (length xs) (xs ++ ys) ≡ xs
+take_before [] ys = refl
+take_before (x ∷ xs) ys = ap (λ zs. x ∷ zs) (take_before xs ys)
+
+at_slash : (xs ys : List ℕ) → get_or (xs ++ 47 ∷ ys) (length xs) 0 ≡ 47
+at_slash [] ys = refl
+at_slash (x ∷ xs) ys = at_slash xs ys
 
 -- the directory has the text before one of the first slashes
 abbrev pub IsFirst : List ℕ → ℕ → DirInput → Type 0

@@ -1,6 +1,6 @@
 -- Directories that do not list their files, and which of them are in a range of texts.
-use Rattle.std.specs.Prelude.{◌≡◌, ◌↔◌, ◌⊎◌, Bool, true, false, ℕ, List, Contains}
-use Rattle.bx_tree.specs.Ranges.{comes_before}
+use Rattle.std.specs.Prelude.{◌≡◌, ◌↔◌, ◌⊎◌, Bool, true, ℕ, List, Contains}
+use Rattle.bx_tree_paths.specs.Spans.{IsBetween}
 use Rattle.pip_model_types.specs.Dirs.{RiseByForm, dir_path, is_source_form}
 use Rattle.pip_model_types.specs.declared.dir_inputs.DirInput.{DirInput}
 use Rattle.pip_model_types.specs.declared.dir_inputs.DirInput.TheVariants.{Sealed, Opaque}
@@ -18,8 +18,8 @@ pub record AreOthers (dirs others : List DirInput) : Type 0 where
   pub all : (dir : DirInput) → Contains others dir ↔ (Contains dirs dir × (is_other dir ≡ true))
 
 -- the text of the directory's path comes before one text, and not before another
-abbrev pub IsBetween : List ℕ → List ℕ → DirInput → Type 0
-IsBetween low high dir = (comes_before low (dir_path dir) ≡ false) × (comes_before high (dir_path dir) ≡ true)
+abbrev pub IsWithin : List ℕ → List ℕ → DirInput → Type 0
+IsWithin low high dir = IsBetween low high (dir_path dir)
 
 -- some of the directories with all of which this holds, beside those that were there
 pub record AddsAll (dirs : List DirInput) (P : DirInput → Type 0) (old new : List DirInput) : Type 0 where

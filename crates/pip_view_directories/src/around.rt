@@ -1,5 +1,5 @@
 //! The directories at, above and below a path.
-ghost use Rattle.std.specs.Prelude.{◌≡◌, ◌<◌, ◌++◌, ◌∷◌, [], true, IfOk, IfSome, codes, length};
+ghost use Rattle.std.specs.Prelude.{◌≡◌, ◌<◌, true, IfOk, IfSome, codes, length};
 ghost use Rattle.pip_model_types.specs.Dirs.{RiseByForm};
 ghost use Rattle.pip_view_directories.specs.Around.{AreAround, HasText, IsOver, IsPart, IsTextAround, IsUnder};
 ghost use Rattle.pip_view_directories.specs.Ranges.{AddsAll};
@@ -15,18 +15,8 @@ pub const MANY_DIRS: usize = 512;
 // Where more than one directory in this many is around a path, all are searched.
 const SHARE: usize = 16;
 
-// A text with one byte more.
-fn with_byte(alloc: Global, text: &[u8], byte: u8) -> Result<Vec<u8>, Memory>
-    ensures { IfOk result (λ longer. longer.items ≡ text.now ++ byte ∷ []) }
-{
-    let mut longer = text.to_vec(alloc)?;
-    longer.push(byte)?;
-    Ok(longer)
-}
-
 // Adds the directories whose paths have this text.
 fn add_at(
-    alloc: Global,
     found: &mut Vec<DirInput>,
     dirs: &[DirInput],
     text: &[u8],
@@ -36,13 +26,11 @@ fn add_at(
     ensures { IfOk result (λ few. few ≡ true
         → AddsAll dirs.now (HasText text.now) found.old.items found.new.items) }
 {
-    let end = with_byte(alloc, text, 0)?;
-    add_between(found, dirs, text, end.as_slice(), most)
+    add_between(found, dirs, text, b"", b"\0", most)
 }
 
 // Adds the directories below the path with this text.
 fn add_under(
-    alloc: Global,
     found: &mut Vec<DirInput>,
     dirs: &[DirInput],
     text: &[u8],
@@ -52,14 +40,12 @@ fn add_under(
     ensures { IfOk result (λ few. few ≡ true
         → AddsAll dirs.now (IsUnder text.now) found.old.items found.new.items) }
 {
-    let start = with_byte(alloc, text, b'/')?;
-    let end = with_byte(alloc, text, b'0')?;
-    add_between(found, dirs, start.as_slice(), end.as_slice(), most)
+    // `0` is the byte after `/`.
+    add_between(found, dirs, text, b"/", b"0", most)
 }
 
 // Adds the directories whose paths have the text before a place of a text, if a `/` is there.
 fn add_part(
-    alloc: Global,
     found: &mut Vec<DirInput>,
     dirs: &[DirInput],
     text: &[u8],
@@ -74,12 +60,11 @@ fn add_part(
     if text[place] != b'/' {
         return Ok(true);
     }
-    add_at(alloc, found, dirs, &text[..place], most)
+    add_at(found, dirs, &text[..place], most)
 }
 
 // Adds the directories above the path with this text, but for the root.
 fn add_over(
-    alloc: Global,
     found: &mut Vec<DirInput>,
     dirs: &[DirInput],
     text: &[u8],
@@ -90,7 +75,7 @@ fn add_over(
         → AddsAll dirs.now (IsOver text.now) found.old.items found.new.items) }
 {
     'places: for place in 0..text.len() {
-        if !add_part(alloc, found, dirs, text, place, most)? {
+        if !add_part(found, dirs, text, place, most)? {
             return Ok(false);
         }
     }
@@ -99,7 +84,6 @@ fn add_over(
 
 // Adds the directories at the path with this text, and above and below it.
 fn add_around(
-    alloc: Global,
     found: &mut Vec<DirInput>,
     dirs: &[DirInput],
     text: &[u8],
@@ -109,16 +93,16 @@ fn add_around(
     ensures { IfOk result (λ few. few ≡ true
         → AddsAll dirs.now (IsTextAround text.now) found.old.items found.new.items) }
 {
-    if !add_at(alloc, found, dirs, b".", most)? {
+    if !add_at(found, dirs, b".", most)? {
         return Ok(false);
     }
-    if !add_at(alloc, found, dirs, text, most)? {
+    if !add_at(found, dirs, text, most)? {
         return Ok(false);
     }
-    if !add_over(alloc, found, dirs, text, most)? {
+    if !add_over(found, dirs, text, most)? {
         return Ok(false);
     }
-    add_under(alloc, found, dirs, text, most)
+    add_under(found, dirs, text, most)
 }
 
 /// Of some directories, those at, above or below a path. There is no answer at the root, where there are no more
@@ -136,7 +120,7 @@ pub fn around_dirs(
     }
     let mut found = Vec::new(alloc);
     let most = all.len() / SHARE;
-    if !add_around(alloc, &mut found, all, path.text().as_bytes(), most)? {
+    if !add_around(&mut found, all, path.text().as_bytes(), most)? {
         return Ok(None);
     }
     Ok(Some(DirInputs::of(found)))

@@ -1,5 +1,5 @@
 -- Reading a text from its start, part by part.
-use Rattle.std.specs.Prelude.{◌≡◌, ℕ, Bool, List, [], ◌∷◌, Option, Some, None, Result, Ok, Err, if◌then◌else◌}
+use Rattle.std.specs.Prelude.{◌≡◌, ℕ, Bool, true, false, List, [], ◌∷◌, Option, Some, None, Result, Ok, Err, if◌then◌else◌}
 use Rattle.std.proofs.Common.{Vec, Global}
 use Rattle.std.specs.Borrow.{Bor}
 use Rattle.observed.specs.Texts.{after_prefix}
@@ -18,6 +18,16 @@ None >>= f = None
 -- a word, and a part after it
 abbrev pub after_word : {X : Type 0} → List ℕ → (List ℕ → Taken X) → List ℕ → Taken X
 after_word word part text = after_prefix word text >>= part
+
+-- what follows one of two words: whether it is the first
+abbrev pub by_word : Option (List ℕ) → Option (List ℕ) → Taken Bool
+by_word (Some rest) other = Some (true, rest)
+by_word None (Some rest) = Some (false, rest)
+by_word None None = None
+
+-- one of two words: whether it is the first
+abbrev pub one_word : List ℕ → List ℕ → List ℕ → Taken Bool
+one_word first second text = by_word (after_prefix first text) (after_prefix second text)
 
 -- two parts, one after the other
 abbrev pub both_at : {X Y : Type 0} → (List ℕ → Taken X) → (List ℕ → Taken Y) → List ℕ → Taken (X × Y)

@@ -9,10 +9,10 @@ use Rattle.bx_digest.specs.Digests.{IsDigest}
 use Rattle.observed.specs.declared.access.Answer.{Answer}
 use Rattle.observed.specs.declared.access.Answer.TheVariants as answers
 use Rattle.observed.specs.declared.ask.Ask.{Ask}
-use Rattle.observed.specs.Texts.{after_prefix, paths_text}
+use Rattle.observed.specs.Texts.{after_prefix, has_match, paths_text}
 use Rattle.prints.specs.Lines.{lines_at}
 use Rattle.prints.specs.Parts.{digest_at, digest_part, named_digest, part_at}
-use Rattle.prints.specs.Reading.{Taken, ◌>>=◌, after_word, as_at, both_at, whole_of}
+use Rattle.prints.specs.Reading.{Taken, ◌>>=◌, after_word, as_at, both_at, one_word, whole_of}
 use Rattle.prints.specs.declared.strong_parts.AnswerLine.{AnswerLine}
 use Rattle.prints.specs.declared.strong_parts.AnswerLine.TheVariants as lines
 use Rattle.prints.specs.declared.strong_parts.StrongParts.{StrongParts}
@@ -28,13 +28,15 @@ line_of answers.Directory = lines.Directory
 line_of (answers.Names names) = lines.Names (sha256 names)
 line_of answers.Denied = lines.Denied
 
--- answers to the asks of a path set with this digest, under a weak text with that digest
-abbrev pub strong_parts : List ℕ → List ℕ → List Answer → StrongParts
-strong_parts weak paths given = record { weak = weak; paths = paths; lines = map line_of given }
+-- answers to the asks of a path set of a version with this digest, under a weak text with that digest
+abbrev pub strong_parts : Bool → List ℕ → List ℕ → List Answer → StrongParts
+strong_parts second weak paths given =
+    record { second = second; weak = weak; paths = paths; lines = map line_of given }
 
 -- what the asks of a path set are answered, under a weak text with this digest
 abbrev pub asked_parts : List ℕ → List Ask → (Ask → Answer) → StrongParts
-asked_parts weak paths see = strong_parts weak (sha256 (paths_text paths)) (map see paths)
+asked_parts weak paths see =
+    strong_parts (has_match paths) weak (sha256 (paths_text paths)) (map see paths)
 
 -- the digests in a line are digests
 abbrev pub IsAnswerLine : AnswerLine → Type 0
@@ -64,9 +66,13 @@ answer_words lines.Denied = codes "denied"
 abbrev pub answer_line : AnswerLine → List ℕ
 answer_line line = answer_words line ++ codes "\n"
 
+-- the first line: a strong text is of the version of its path set
+abbrev pub strong_head : Bool → List ℕ
+strong_head second = if second then codes "strong 2\n" else codes "strong 1\n"
+
 abbrev pub strong_text : StrongParts → List ℕ
 strong_text s =
-    codes "strong 1\n" ++ ((codes "weak " ++ digest_part 10 s.weak)
+    strong_head s.second ++ ((codes "weak " ++ digest_part 10 s.weak)
     ++ ((codes "paths " ++ digest_part 10 s.paths) ++ flat_map answer_line s.lines))
 
 -- ## What a text is read as
@@ -93,12 +99,16 @@ abbrev pub has_more : List ℕ → Bool
 has_more [] = Rattle.std.specs.Prelude.false
 has_more (b ∷ bs) = Rattle.std.specs.Prelude.true
 
-abbrev pub parts_of : List ℕ × (List ℕ × List AnswerLine) → StrongParts
-parts_of p = record { weak = p.0; paths = p.1.0; lines = p.1.1 }
+abbrev pub parts_of : Bool × (List ℕ × (List ℕ × List AnswerLine)) → StrongParts
+parts_of p = record { second = p.0; weak = p.1.0; paths = p.1.1.0; lines = p.1.1.1 }
+
+-- the version of a strong text, by its first line
+abbrev pub version_at : List ℕ → Taken Bool
+version_at = one_word (codes "strong 2\n") (codes "strong 1\n")
 
 abbrev pub strong_at : List ℕ → Taken StrongParts
 strong_at =
-    as_at parts_of (after_word (codes "strong 1\n") (both_at (after_word (codes "weak ") (digest_at 10))
+    as_at parts_of (both_at version_at (both_at (after_word (codes "weak ") (digest_at 10))
     (both_at (after_word (codes "paths ") (digest_at 10)) (lines_at has_more answer_at))))
 
 -- what has this strong text, if anything has

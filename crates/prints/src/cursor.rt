@@ -5,7 +5,7 @@ ghost use Rattle.observed.specs.Texts.{after_prefix, named_path};
 ghost use Rattle.prints.specs.Lines.{begins as begins_with};
 ghost use Rattle.prints.specs.Parts.{bytes_at, counted_at, digest_at, named_digest, named_number};
 ghost use Rattle.prints.specs.Parts.{number_at, odd_start, part_at, path_at};
-ghost use Rattle.prints.specs.Reading.{Ends, Gives, Takes, TakesPart, TakesWord};
+ghost use Rattle.prints.specs.Reading.{Ends, Gives, Takes, TakesPart, TakesWord, one_word as one_of_words};
 
 use crate::fault::PrintFault;
 use bx_digest::Digest;
@@ -126,6 +126,23 @@ impl<'a> Cursor<'a> {
             Some(rest) => {
                 self.bytes = rest;
                 Ok(())
+            }
+            None => Err(PrintFault::BadPrint),
+        }
+    }
+
+    /// Reads one of two words: whether it is the first.
+    pub fn one_word(&mut self, first: &[u8], second: &[u8]) -> Result<bool, PrintFault>
+        ensures { Takes result self.new (one_of_words first.now second.now self.old) }
+    {
+        if let Some(rest) = after_word(first, self.bytes) {
+            self.bytes = rest;
+            return Ok(true);
+        }
+        match after_word(second, self.bytes) {
+            Some(rest) => {
+                self.bytes = rest;
+                Ok(false)
             }
             None => Err(PrintFault::BadPrint),
         }

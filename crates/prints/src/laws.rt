@@ -15,7 +15,7 @@ pub fn weak_texts()
         IsWeak parts × (without_pips parts ≡ parts) × (text ≡ weak_text parts) }
 {}
 
-/// A text is read as two digests and answers exactly where it is their strong text.
+/// A text is read as a version, two digests and answers exactly where it is their strong text.
 pub fn strong_texts()
     ensures { (text : List ℕ) (parts : AnyStrong) →
         (read_strong_text text ≡ Some parts) ↔ (IsStrong parts × (text ≡ strong_text parts)) }

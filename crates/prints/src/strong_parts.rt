@@ -47,9 +47,11 @@ impl AnswerLines {
     }
 }
 
-/// What a strong text says: the digests of a weak text and of a path set, and a list of answers.
+/// What a strong text says: whether it is of the second version, as that of a path set with a listing by a pattern
+/// is, the digests of a weak text and of a path set, and a list of answers.
 #[derive(Drop)]
 pub struct StrongParts {
+    pub second: bool,
     pub weak: Digest,
     pub paths: Digest,
     pub lines: AnswerLines,

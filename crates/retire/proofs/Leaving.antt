@@ -13,6 +13,7 @@ use Rattle.pip_model_types.specs.declared.desc.Desc.{Desc}
 use Rattle.pip_model_types.specs.declared.made.Slot.{Slot}
 use Rattle.pip_model_types.specs.declared.pip.Pip.{Pip}
 use Rattle.pip_model_types.specs.declared.pip.PipKind.TheVariants.{Process}
+use Rattle.observed.specs.Texts.{has_match}
 use Rattle.observed.specs.declared.ask.Ask.{Ask}
 use Rattle.observed.specs.declared.access.Answer.{Answer}
 use Rattle.graph_check.specs.Rules.{KeepsRules}
@@ -123,7 +124,7 @@ module _ (pips : List Pip) (tree : Files) (budget : ℕ) (held : Holdings) (befo
     by_record : (f : Facts) → Has fs f → IsOfSuccess pips tree budget f → (see : Ask → Answer) → f.answers ≡ map see f.paths → Usable S f.desc see
     by_record f has s see answers =
         let text : answers_text f ≡ asked_text f.desc see (paths_digest f) f.paths =
-        ap (λ (as' : List Answer). strong_text (strong_parts (weak_of f.desc) (paths_digest f) as')) answers in
+        ap (λ (as' : List Answer). strong_text (strong_parts (has_match f.paths) (weak_of f.desc) (paths_digest f) as')) answers in
         usable_at S f.desc see (record_selector f) f.paths
         (saved_stays (Compared pips tree budget held) fair.apart fs held before now was ready
         (all_others pips tree list keeps free budget held fair.apart fs 0 follows.high follows.successes spelled)

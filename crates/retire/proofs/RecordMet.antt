@@ -2,7 +2,7 @@
 use Rattle.std.proofs.Common.{◌≡◌, ℕ, List, ◌++◌, refl, sym, ap, ◌∙◌, subst, inl, inr}
 use Rattle.bx_tree.specs.Members.{Has}
 use Rattle.bx_tree.proofs.Members.{has_either}
-use Rattle.observed.specs.Texts.{paths_text}
+use Rattle.observed.specs.Texts.{has_match, paths_text}
 use Rattle.observed.specs.declared.ask.Ask.{Ask}
 use Rattle.observed.specs.declared.access.Answer.{Answer}
 use Rattle.bx_io.specs.Holdings.{Holdings}
@@ -25,7 +25,7 @@ record_met S f see run good x h =
         | inr h2 ↦ elim h2 [
           | inl strong ↦
               met.strong (paths_digest f) f.paths (inl (own, refl))
-              (ap (λ (as' : List Answer). strong_text (strong_parts (weak_of f.desc) (paths_digest f) as')) (sym run.answers) ∙ strong)
+              (ap (λ (as' : List Answer). strong_text (strong_parts (has_match f.paths) (weak_of f.desc) (paths_digest f) as')) (sym run.answers) ∙ strong)
           | inr h3 ↦ elim (has_either (desc_contents f.desc) (given_contents f.answers ++ contents_of (outcome_files f.outcome)) x h3) [
             | inl declared ↦ met.declared declared
             | inr h4 ↦ elim (has_either (given_contents f.answers) (contents_of (outcome_files f.outcome)) x h4) [

@@ -6,7 +6,6 @@ use Rattle.sched_core.specs.Laws.{reached}
 use Rattle.sched_core.specs.Legal.{Legal}
 use Rattle.sched_core.specs.Table.{CoreState, are_settled, next_state, busy_of, node_at, pip_of, state_at}
 use Rattle.sched_core.specs.declared.event.Event.{Event}
-use Rattle.sched_core.specs.declared.event.Event.TheVariants as event
 use Rattle.sched_core.specs.declared.state.PipState.{PipState}
 use Rattle.sched_core.specs.declared.state.PipState.TheVariants as state
 use Rattle.sched_board_slots.specs.Graphs.{IsGraphOf}

@@ -5,9 +5,14 @@ use Rattle.pip_model.specs.Plans.{PlanData}
 use Rattle.pip_model_types.specs.declared.pip.ProcessDesc.{ProcessDesc}
 use Rattle.pip_view_inputs.specs.Plain.{process_in}
 use Rattle.pip_view_inputs.specs.Results.{ByPip}
-use Rattle.run_record.specs.Digests.{digest_asked, digest_of_line, weak_of}
-use Rattle.run_record.specs.Matches.{FirstDiffer}
-use Rattle.memo_format.specs.Found.{output_lines, outputs_digest}
+use Rattle.pip_model_types.specs.declared.desc.Desc.{Desc}
+use Rattle.observed.specs.declared.ask.Ask.{Ask}
+use Rattle.observed.specs.declared.access.Answer.{Answer}
+use Rattle.run_record.specs.Digests.{IsReadBack, digest_asked, digest_of_line, weak_of}
+use Rattle.run_record.specs.Facts.{Facts, Sound}
+use Rattle.run_record.specs.Matches.{Compares, FirstDiffer}
+use Rattle.run_record.specs.declared.matching.Match.TheVariants as matching
+use Rattle.memo_format.specs.Found.{FoundParts, output_lines, outputs_digest}
 use Rattle.sched_core.specs.declared.event.Event.TheVariants as event
 use Rattle.sched_board.specs.Board.{BoardData, CanComplete, Difference, JobData, ShareData, filled, one_more}
 use Rattle.sched_board_slots.specs.Slots.{HoldsOn, HoldsOwn, is_good_held, own_desc, own_inputs, own_plain, own_view}
@@ -60,6 +65,20 @@ ShownDiffers plan tree inputs pip (shown.Plain made) d None =
     (output_lines made ≢ output_lines (own_plain plan tree inputs pip))
     × (d ≡ record { index = 0; held = outputs_digest made; own = outputs_digest (own_plain plan tree inputs pip) })
 ShownDiffers plan tree inputs pip s d process = ⊥
+
+-- How the record of a run compares with a process and a view: it agrees, and both weak texts read back, or differs so.
+abbrev pub ComparedRun : Desc → (Ask → Answer) → Facts → Option Difference → Type 0
+ComparedRun own see facts None = Sound facts × IsReadBack own × IsReadBack facts.desc × Compares own facts see matching.Same
+ComparedRun own see facts (Some d) =
+    ((d.index ≡ 0) × Compares own facts see (matching.OtherDesc d.held d.own))
+    ⊎ ((k : ℕ) × (d.index ≡ k + 1) × Compares own facts see (matching.Differs k d.held d.own))
+
+-- How what a lookup found compares with a process and a view: it agrees, and the process's weak text reads back, or it differs so.
+abbrev pub ComparedHit : Desc → (Ask → Answer) → FoundParts → Option Difference → Type 0
+ComparedHit own see found None =
+    IsReadBack own × (found.entry.weak ≡ weak_of own) × (map digest_of_line found.answers ≡ map (digest_asked see) found.paths)
+ComparedHit own see found (Some d) =
+    DiffersAt found.entry.weak (weak_of own) (map digest_of_line found.answers) (map (digest_asked see) found.paths) d
 
 -- What is shown agrees with the board's own, or differs so.
 abbrev pub Compared : PlanData → Files → ByPip → ℕ → Shown → Option Difference → Type 0

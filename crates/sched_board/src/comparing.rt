@@ -4,13 +4,14 @@ ghost use Rattle.pip_model_types.specs.Made.{made_files};
 ghost use Rattle.memo_format.specs.Found.{output_lines};
 ghost use Rattle.pip_view_inputs.specs.Plain.{process_in};
 ghost use Rattle.sched_board_slots.specs.Slots.{own_inputs};
-ghost use Rattle.sched_board.specs.Publishing.{Compared, fits_kind};
+ghost use Rattle.sched_board.specs.Publishing.{Compared, ComparedHit, ComparedRun, fits_kind};
 
 use crate::answers::Unlike;
 use crate::shown::Shown;
 use bx_tree::Memory;
 use memo_format::{Found, digest_of_outputs};
-use pip_model::{Made, MadeFile, Plan, Sources};
+use observed::View;
+use pip_model::{Desc, Made, MadeFile, Plan, Sources};
 use pip_view::PipView;
 use pip_view_inputs::{Inputs, desc, plain};
 use run_record::{Match, Record, first_difference, matches, weak_digest};
@@ -35,6 +36,25 @@ pub(crate) fn inputs_of(
     Ok(inputs)
 }
 
+// How the record of a run differs from a process and a view.
+fn unlike_run<V: View>(
+    alloc: Global,
+    own: &Desc,
+    ran: &Record,
+    view: &mut V,
+) -> Result<Option<Unlike>, Memory>
+    ensures { IfOk result (ComparedRun own.now (V.answers view.old) ran.now) }
+{
+    let _process = ran.desc();
+    let _answers = ran.answers();
+    match matches(alloc, own, ran, view) {
+        Match::Same => Ok(None),
+        Match::OtherDesc { held, now } => Ok(Some(Unlike::new(0, held, now))),
+        Match::Differs { index, held, now } => Ok(Some(Unlike::new(index + 1, held, now))),
+        Match::Memory => Err(AllocError),
+    }
+}
+
 // How the record of a run differs from the process and what it sees.
 fn compare_ran(
     alloc: Global,
@@ -50,13 +70,27 @@ fn compare_ran(
 {
     let own = desc(alloc, plan, sources, pip, inputs)?;
     let mut view = PipView::new(alloc, plan, sources, pip, inputs)?;
-    let _process = ran.desc();
-    let _answers = ran.answers();
-    match matches(alloc, &own, ran, &mut view) {
-        Match::Same => Ok(None),
-        Match::OtherDesc { held, now } => Ok(Some(Unlike::new(0, held, now))),
-        Match::Differs { index, held, now } => Ok(Some(Unlike::new(index + 1, held, now))),
-        Match::Memory => Err(AllocError),
+    unlike_run(alloc, &own, ran, &mut view)
+}
+
+// How what a lookup found differs from a process and a view.
+fn unlike_hit<V: View>(
+    alloc: Global,
+    own: &Desc,
+    found: &Found,
+    view: &mut V,
+) -> Result<Option<Unlike>, Memory>
+    ensures { IfOk result (ComparedHit own.now (V.answers view.old) found.now) }
+{
+    let weak = weak_digest(alloc, own)?;
+    let held = found.entry().weak;
+    if held != weak {
+        return Ok(Some(Unlike::new(0, held, weak)));
+    }
+    let paths = found.paths();
+    match first_difference(alloc, paths.asks(), found.answers(), view)? {
+        Some(at) => Ok(Some(Unlike::new(at.index as u64 + 1, at.held, at.now))),
+        None => Ok(None),
     }
 }
 
@@ -74,17 +108,8 @@ fn compare_hit(
     ensures { IfOk result (Compared plan.now sources.now inputs.now pip (Shown.Hit found.now)) }
 {
     let own = desc(alloc, plan, sources, pip, inputs)?;
-    let weak = weak_digest(alloc, &own)?;
-    let held = found.entry().weak;
-    if held != weak {
-        return Ok(Some(Unlike::new(0, held, weak)));
-    }
     let mut view = PipView::new(alloc, plan, sources, pip, inputs)?;
-    let paths = found.paths();
-    match first_difference(alloc, paths.asks(), found.answers(), &mut view)? {
-        Some(at) => Ok(Some(Unlike::new(at.index as u64 + 1, at.held, at.now))),
-        None => Ok(None),
-    }
+    unlike_hit(alloc, &own, found, &mut view)
 }
 
 // Whether files have the same paths, and contents of the same digests.

@@ -6,7 +6,7 @@ use Rattle.bx_tree.specs.Trees.{Files}
 use Rattle.bx_tree.proofs.Members.{all_has, has_either}
 use Rattle.bx_io.specs.Holdings.{Holdings}
 use Rattle.pip_model_types.specs.declared.desc.Desc.{Desc}
-use Rattle.observed.specs.Texts.{read_paths_text}
+use Rattle.observed.specs.Texts.{has_match, read_paths_text}
 use Rattle.observed.specs.declared.ask.Ask.{Ask}
 use Rattle.observed.specs.declared.access.Answer.{Answer}
 use Rattle.observed.specs.declared.access.Answer.TheVariants as answers
@@ -88,8 +88,10 @@ module _ (M : List ℕ → Type 0) (apart : NoCollision M) where
       let asks : h.asks ≡ found.paths = same_Some h.asks found.paths (sym h.paths.2 ∙ ap read_paths_text set_same ∙ hit.paths.2) in
       let strong_same : h.strong.0 ≡ hit.strong.0 =
       apart h.strong.0 hit.strong.0 (stored h.strong.0 h.strong.1.held) (stored hit.strong.0 hit.strong.1.held) (h.strong.1.digest_is ∙ sym hit.strong.1.digest_is) in
-      let said : strong_parts found.entry.weak found.entry.paths h.given ≡ strong_parts found.entry.weak found.entry.paths found.answers =
-      same_Some (strong_parts found.entry.weak found.entry.paths h.given) (strong_parts found.entry.weak found.entry.paths found.answers)
+      let said : strong_parts (has_match h.asks) found.entry.weak found.entry.paths h.given
+      ≡ strong_parts (has_match found.paths) found.entry.weak found.entry.paths found.answers =
+      same_Some (strong_parts (has_match h.asks) found.entry.weak found.entry.paths h.given)
+      (strong_parts (has_match found.paths) found.entry.weak found.entry.paths found.answers)
       (sym h.strong.2 ∙ ap read_strong_text strong_same ∙ hit.strong.2) in
       let given : h.given ≡ found.answers =
       same_answers M apart h.given found.answers (ap (λ (x : StrongParts). x.lines) said) (all_map (HoldsBlob S) M (given_contents h.given) stored h.answers)

@@ -9,6 +9,7 @@ use Rattle.pip_model_types.specs.declared.pip.PipKind.{PipKind}
 use Rattle.pip_model_types.specs.declared.pip.PipKind.TheVariants.{Process, Copy, Write, Seal}
 use Rattle.pip_model_types.specs.declared.pip.ProcessDesc.{ProcessDesc}
 use Rattle.pip_model.specs.Plans.{PlanData}
+use Rattle.observed.specs.Texts.{has_match}
 use Rattle.observed.specs.declared.ask.Ask.{Ask}
 use Rattle.observed.specs.declared.access.Answer.{Answer}
 use Rattle.prints.specs.Strong.{strong_parts}
@@ -64,12 +65,13 @@ sequential_outcome plan tree pip (Seal d) =
 -- ## Hits
 
 -- The store holds the entry of what was found under the entry's own strong digest, the files are just the entry's, and the
--- path set and the strong text that the entry names are held and say this path set and these answers.
+-- path set and the strong text that the entry names are held and say this path set and, in its version, these answers.
 pub record IsHitOf (S : Holdings) (found : FoundParts) : Type 0 where
   pub entry : HoldsEntry S found.entry
   pub made : output_lines found.made ≡ found.entry.outputs
   pub paths : HoldsPaths S found.entry.paths found.paths
-  pub strong : HoldsStrong S found.entry.strong (strong_parts found.entry.weak found.entry.paths found.answers)
+  pub strong : HoldsStrong S found.entry.strong
+      (strong_parts (has_match found.paths) found.entry.weak found.entry.paths found.answers)
 
 abbrev pub HitsAreOf : Holdings → List Held → Type 0
 HitsAreOf S slots = (pip : ℕ) (found : FoundParts) → slot_at slots pip ≡ held.Hit found → IsHitOf S found

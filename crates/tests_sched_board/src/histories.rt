@@ -1,16 +1,15 @@
 //! What one, two and three workers make of two pips, and of pips that are given back.
-ghost use Rattle.std.specs.Prelude.{◌≡◌};
+ghost use Rattle.std.specs.Prelude.{◌≡◌, ◌<◌, ◌≤◌};
 
-use crate::boards::{board_for, claimed, give_back, make, told};
-use crate::plans::{NO_FILES, sources, two_writes, write_and_copy};
-use sched_board::{Finished, Held, NewBoard};
-use sched_core::Event;
+use pip_model::Plan;
+use sched_board::{Finished, Held};
+use sched_core::{Event, MAX_WORKERS};
 use std::alloc::Global;
 use std::marker::Brand;
 use std::process::Abort;
-use std::sync::ledger;
 use std::sync::ledger::Ledger;
-use std::test::Fail;
+use std::sync::{Arc, ledger};
+use tests_with_board::{Bench, Fault, NO_FILES, sources, two_writes, write_and_copy};
 
 fn start(pip: u32, worker: u32) -> Event {
     Event::Start { pip, worker }
@@ -27,6 +26,14 @@ fn complete(pip: u32, worker: u32) -> Event {
 
 fn release(pip: u32, worker: u32) -> Event {
     Event::Release { pip, worker }
+}
+
+// What is there, or else the test ends.
+fn must<T>(rt: &impl Abort, answer: Result<T, Fault>) -> T {
+    match answer {
+        Ok(value) => value,
+        Err(_) => rt.abort(),
+    }
 }
 
 // Whether the slot holds just this file, of the text `x`.
@@ -50,53 +57,79 @@ fn expect(rt: &impl Abort, made: &Finished, events: &[Event]) {
     assert!(rt; is_file(&slots[0], "out/a") && is_file(&slots[1], "out/b"));
 }
 
+// A board of a plan without files.
+fn bench_of<L: Ledger, E: Ledger, R: Abort>(
+    rt: &R,
+    alloc: Global,
+    plan: Arc<Plan>,
+    workers: u32,
+    events: ledger::Blank,
+    marks: ledger::Blank,
+) -> Bench<L, E>
+    requires workers { (0 < workers) × (workers ≤ MAX_WORKERS) }
+    requires events { (events.name ≡ L.name) × (events.parts ≡ L.parts) × (L.parts ≡ workers) }
+    requires marks { (marks.name ≡ E.name) × (marks.parts ≡ E.parts) × (E.parts ≡ workers) }
+{
+    let files = must(rt, sources(alloc, NO_FILES));
+    must(rt, Bench::new(alloc, plan, files, workers, events, marks))
+}
+
+// A worker makes the least pip that may start, which is this one.
+fn make<L: Ledger, E: Ledger>(
+    rt: &impl Abort,
+    alloc: Global,
+    bench: &mut Bench<L, E>,
+    worker: usize,
+    pip: u32,
+) {
+    let job = must(rt, bench.claimed(worker));
+    assert!(rt; job.pip() == pip);
+    must(rt, bench.make(alloc, worker, job));
+}
+
+// A worker gives the least pip that may start back, which is this one.
+fn give_back<L: Ledger, E: Ledger>(
+    rt: &impl Abort,
+    bench: &mut Bench<L, E>,
+    worker: usize,
+    pip: u32,
+) {
+    let job = must(rt, bench.claimed(worker));
+    assert!(rt; job.pip() == pip);
+    must(rt, bench.give_back(worker, job));
+}
+
 // Worker 0 makes one pip, and holds the other while worker 1 asks.
 fn by_one_of_two<L: Ledger, E: Ledger, R: Abort>(
     rt: &R,
     alloc: Global,
     events: ledger::Blank,
     marks: ledger::Blank,
-) -> Result<Finished, Fail>
+) -> Finished
     requires events { (events.name ≡ L.name) × (events.parts ≡ L.parts) × (L.parts ≡ 2) }
     requires marks { (marks.name ≡ E.name) × (marks.parts ≡ E.parts) × (E.parts ≡ 2) }
 {
-    let plan = two_writes(alloc)?;
-    let files = sources(alloc, NO_FILES)?;
-    let new = board_for::<L, E>(
-        alloc,
-        two_writes(alloc)?,
-        sources(alloc, NO_FILES)?,
-        2,
-        events,
-        marks,
-    )?;
-    let NewBoard {
-        mut board,
-        mut shares,
-    } = new;
-    assert!(rt; shares.len() == 2);
-    let job = claimed(rt, &mut board, &mut shares[0]);
-    assert!(rt; job.pip() == 0);
-    make(rt, alloc, &*plan, &*files, &mut board, &mut shares[0], job);
-    let job = claimed(rt, &mut board, &mut shares[0]);
+    let plan = must(rt, two_writes(alloc));
+    let mut bench = bench_of::<L, E, R>(rt, alloc, plan, 2, events, marks);
+    make(rt, alloc, &mut bench, 0, 0);
+    let job = must(rt, bench.claimed(0));
     assert!(rt; job.pip() == 1);
-    assert!(rt; told(rt, &mut board, &mut shares[1]) == "not yet");
-    make(rt, alloc, &*plan, &*files, &mut board, &mut shares[0], job);
-    assert!(rt; !shares[1].has_mark());
-    assert!(rt; told(rt, &mut board, &mut shares[1]) == "over");
-    assert!(rt; shares[1].has_mark() && !shares[0].has_mark());
-    assert!(rt; shares.len() == 2);
-    Ok(board.finish(shares))
+    assert!(rt; bench.told(1) == "not yet");
+    must(rt, bench.make(alloc, 0, job));
+    assert!(rt; !bench.has_mark(1));
+    assert!(rt; bench.told(1) == "over");
+    assert!(rt; bench.has_mark(1) && !bench.has_mark(0));
+    must(rt, bench.finish(2))
 }
 
 #[test]
-fn a_worker_waits_while_another_holds_the_last_pip(rt: HostRuntime) -> Result<(), Fail> {
+fn a_worker_waits_while_another_holds_the_last_pip(rt: HostRuntime) {
     let made = by_one_of_two::<Brand, Brand, _>(
         &rt,
         rt.alloc(),
         ledger::Blank::new(2),
         ledger::Blank::new(2),
-    )?;
+    );
     let events: &[Event] = &[
         start(0, 0),
         publish(0, 0),
@@ -106,7 +139,6 @@ fn a_worker_waits_while_another_holds_the_last_pip(rt: HostRuntime) -> Result<()
         complete(1, 0),
     ];
     expect(&rt, &made, events);
-    Ok(())
 }
 
 // Worker 0 gives pip 0 back, and worker 1 makes all.
@@ -115,49 +147,30 @@ fn by_the_second_of_two<L: Ledger, E: Ledger, R: Abort>(
     alloc: Global,
     events: ledger::Blank,
     marks: ledger::Blank,
-) -> Result<Finished, Fail>
+) -> Finished
     requires events { (events.name ≡ L.name) × (events.parts ≡ L.parts) × (L.parts ≡ 2) }
     requires marks { (marks.name ≡ E.name) × (marks.parts ≡ E.parts) × (E.parts ≡ 2) }
 {
-    let plan = write_and_copy(alloc)?;
-    let files = sources(alloc, NO_FILES)?;
-    let new = board_for::<L, E>(
-        alloc,
-        write_and_copy(alloc)?,
-        sources(alloc, NO_FILES)?,
-        2,
-        events,
-        marks,
-    )?;
-    let NewBoard {
-        mut board,
-        mut shares,
-    } = new;
-    assert!(rt; shares.len() == 2);
-    let job = claimed(rt, &mut board, &mut shares[0]);
-    assert!(rt; told(rt, &mut board, &mut shares[1]) == "not yet");
-    give_back(rt, &mut board, &mut shares[0], job);
-    assert!(rt; told(rt, &mut board, &mut shares[0]) == "left");
-    for pip in 0..2u32 {
-        assert!(rt; shares.len() == 2);
-        let job = claimed(rt, &mut board, &mut shares[1]);
-        assert!(rt; job.pip() == pip);
-        make(rt, alloc, &*plan, &*files, &mut board, &mut shares[1], job);
-    }
-    assert!(rt; shares.len() == 2);
-    assert!(rt; told(rt, &mut board, &mut shares[1]) == "over");
-    assert!(rt; shares.len() == 2);
-    Ok(board.finish(shares))
+    let plan = must(rt, write_and_copy(alloc, "x"));
+    let mut bench = bench_of::<L, E, R>(rt, alloc, plan, 2, events, marks);
+    let job = must(rt, bench.claimed(0));
+    assert!(rt; bench.told(1) == "not yet");
+    must(rt, bench.give_back(0, job));
+    assert!(rt; bench.told(0) == "left");
+    make(rt, alloc, &mut bench, 1, 0);
+    make(rt, alloc, &mut bench, 1, 1);
+    assert!(rt; bench.told(1) == "over");
+    must(rt, bench.finish(2))
 }
 
 #[test]
-fn another_worker_makes_what_is_given_back(rt: HostRuntime) -> Result<(), Fail> {
+fn another_worker_makes_what_is_given_back(rt: HostRuntime) {
     let made = by_the_second_of_two::<Brand, Brand, _>(
         &rt,
         rt.alloc(),
         ledger::Blank::new(2),
         ledger::Blank::new(2),
-    )?;
+    );
     let events: &[Event] = &[
         start(0, 0),
         release(0, 0),
@@ -169,7 +182,6 @@ fn another_worker_makes_what_is_given_back(rt: HostRuntime) -> Result<(), Fail> 
         complete(1, 1),
     ];
     expect(&rt, &made, events);
-    Ok(())
 }
 
 // Worker 0 makes pip 0 and gives pip 1 back, worker 1 gives it back too, and worker 2 makes it.
@@ -178,52 +190,32 @@ fn by_all_of_three<L: Ledger, E: Ledger, R: Abort>(
     alloc: Global,
     events: ledger::Blank,
     marks: ledger::Blank,
-) -> Result<Finished, Fail>
+) -> Finished
     requires events { (events.name ≡ L.name) × (events.parts ≡ L.parts) × (L.parts ≡ 3) }
     requires marks { (marks.name ≡ E.name) × (marks.parts ≡ E.parts) × (E.parts ≡ 3) }
 {
-    let plan = write_and_copy(alloc)?;
-    let files = sources(alloc, NO_FILES)?;
-    let new = board_for::<L, E>(
-        alloc,
-        write_and_copy(alloc)?,
-        sources(alloc, NO_FILES)?,
-        3,
-        events,
-        marks,
-    )?;
-    let NewBoard {
-        mut board,
-        mut shares,
-    } = new;
-    assert!(rt; shares.len() == 3);
-    let job = claimed(rt, &mut board, &mut shares[0]);
-    make(rt, alloc, &*plan, &*files, &mut board, &mut shares[0], job);
-    for worker in 0..2usize {
-        assert!(rt; worker < shares.len());
-        let job = claimed(rt, &mut board, &mut shares[worker]);
-        assert!(rt; job.pip() == 1);
-        give_back(rt, &mut board, &mut shares[worker], job);
-    }
-    assert!(rt; shares.len() == 3);
-    let job = claimed(rt, &mut board, &mut shares[2]);
-    assert!(rt; told(rt, &mut board, &mut shares[1]) == "left");
-    make(rt, alloc, &*plan, &*files, &mut board, &mut shares[2], job);
-    assert!(rt; told(rt, &mut board, &mut shares[0]) == "left");
-    assert!(rt; told(rt, &mut board, &mut shares[2]) == "over");
-    assert!(rt; shares[2].has_mark() && !shares[1].has_mark());
-    assert!(rt; shares.len() == 3);
-    Ok(board.finish(shares))
+    let plan = must(rt, write_and_copy(alloc, "x"));
+    let mut bench = bench_of::<L, E, R>(rt, alloc, plan, 3, events, marks);
+    make(rt, alloc, &mut bench, 0, 0);
+    give_back(rt, &mut bench, 0, 1);
+    give_back(rt, &mut bench, 1, 1);
+    let job = must(rt, bench.claimed(2));
+    assert!(rt; bench.told(1) == "left");
+    must(rt, bench.make(alloc, 2, job));
+    assert!(rt; bench.told(0) == "left");
+    assert!(rt; bench.told(2) == "over");
+    assert!(rt; bench.has_mark(2) && !bench.has_mark(1));
+    must(rt, bench.finish(3))
 }
 
 #[test]
-fn two_of_three_workers_give_a_pip_back(rt: HostRuntime) -> Result<(), Fail> {
+fn two_of_three_workers_give_a_pip_back(rt: HostRuntime) {
     let made = by_all_of_three::<Brand, Brand, _>(
         &rt,
         rt.alloc(),
         ledger::Blank::new(3),
         ledger::Blank::new(3),
-    )?;
+    );
     let events: &[Event] = &[
         start(0, 0),
         publish(0, 0),
@@ -237,5 +229,4 @@ fn two_of_three_workers_give_a_pip_back(rt: HostRuntime) -> Result<(), Fail> {
         complete(1, 2),
     ];
     expect(&rt, &made, events);
-    Ok(())
 }

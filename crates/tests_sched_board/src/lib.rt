@@ -1,13 +1,5 @@
-//! Tests of the scheduler's board, which no program uses yet: each of its calls with ample memory.
+//! Tests of what workers make on the scheduler's board, which no program uses yet, with ample memory.
 #![tactic(auto)]
 
 #[cfg(test)]
-mod boards;
-#[cfg(test)]
 mod histories;
-#[cfg(test)]
-mod lies;
-#[cfg(test)]
-mod plans;
-#[cfg(test)]
-mod runs;

@@ -1,9 +1,8 @@
 //! A core and the slow program, which are given the same events.
 use crate::table::{is_allowed, make, may_begin, may_pass};
 use sched_core::{Core, Event, Graph, Illegal, MAX_WORKERS, Node, PipNumbers, PipState};
-use std::alloc::Global;
+use std::alloc::{AllocError, Global};
 use std::process::Abort;
-use std::test::Fail;
 
 // Adds a pip with these inputs.
 pub(crate) fn add(
@@ -12,13 +11,26 @@ pub(crate) fn add(
     graph: &mut Graph,
     is_process: bool,
     inputs: &[u32],
-) -> Result<(), Fail> {
+) -> Result<(), AllocError> {
     let pips = graph.nodes().len();
     assert!(rt; pips < 100);
     assert!(rt; inputs.iter().all(|input| (*input as usize) < pips));
     let inputs = PipNumbers::of(inputs.to_vec(alloc)?);
     graph.push(Node { is_process, inputs })?;
     Ok(())
+}
+
+// The graph of these pips: whether each is a process, and its inputs.
+pub(crate) fn graph_of(
+    rt: &impl Abort,
+    alloc: Global,
+    pips: &[(bool, &[u32])],
+) -> Result<Graph, AllocError> {
+    let mut graph = Graph::new(alloc);
+    for (is_process, inputs) in pips {
+        add(rt, alloc, &mut graph, *is_process, inputs)?;
+    }
+    Ok(graph)
 }
 
 #[derive(Drop)]
@@ -37,7 +49,7 @@ impl Both {
         graph: Graph,
         same: Graph,
         workers: u32,
-    ) -> Result<Both, Fail> {
+    ) -> Result<Both, AllocError> {
         assert!(rt; 0 < workers && workers <= MAX_WORKERS);
         let pips = graph.nodes().len();
         Ok(Both {

@@ -3,9 +3,8 @@ ghost use Rattle.std.specs.Prelude.{◌<◌};
 
 use crate::both::add;
 use sched_core::{Event, Graph};
-use std::alloc::Global;
+use std::alloc::{AllocError, Global};
 use std::process::Abort;
-use std::test::Fail;
 
 // A number below a limit.
 pub(crate) fn roll(dice: &mut u64, below: u32) -> u32
@@ -24,7 +23,7 @@ pub(crate) fn some_graph(
     alloc: Global,
     seed: u64,
     pips: u32,
-) -> Result<Graph, Fail> {
+) -> Result<Graph, AllocError> {
     let mut dice = seed;
     let mut graph = Graph::new(alloc);
     for pip in 0..pips {

@@ -1,224 +1,213 @@
-use crate::both::{Both, add};
+use crate::both::{Both, graph_of};
 use crate::dice::{some_event, some_graph};
-use sched_core::{Event, Graph, PipState};
-use std::alloc::Global;
+use sched_core::{Event, PipState};
+use std::alloc::{AllocError, Global};
 use std::process::Abort;
-use std::test::Fail;
 
 // A process, a pip that is none, one that waits for both, and one that waits for that.
-fn four_pips(rt: &impl Abort, alloc: Global) -> Result<Graph, Fail> {
-    let mut graph = Graph::new(alloc);
-    add(rt, alloc, &mut graph, true, &[])?;
-    add(rt, alloc, &mut graph, false, &[])?;
-    add(rt, alloc, &mut graph, false, &[0, 1])?;
-    add(rt, alloc, &mut graph, false, &[2])?;
-    Ok(graph)
+const FOUR_PIPS: &[(bool, &[u32])] = &[(true, &[]), (false, &[]), (false, &[0, 1]), (false, &[2])];
+
+// Two pips that wait for nothing, and are no processes.
+const TWO_PIPS: &[(bool, &[u32])] = &[(false, &[]), (false, &[])];
+
+// What is there, or else the test ends.
+fn must<T>(rt: &impl Abort, answer: Result<T, AllocError>) -> T {
+    match answer {
+        Ok(value) => value,
+        Err(_) => rt.abort(),
+    }
 }
 
-fn three_workers(rt: &impl Abort, alloc: Global) -> Result<Both, Fail> {
-    Both::new(rt, alloc, four_pips(rt, alloc)?, four_pips(rt, alloc)?, 3)
+fn both_of(rt: &impl Abort, alloc: Global, pips: &[(bool, &[u32])], workers: u32) -> Both {
+    let graph = must(rt, graph_of(rt, alloc, pips));
+    let same = must(rt, graph_of(rt, alloc, pips));
+    must(rt, Both::new(rt, alloc, graph, same, workers))
 }
 
-fn event_of(pip: u32, worker: u32, number: usize) -> Event {
-    match number {
-        0 => Event::Start { pip, worker },
-        1 => Event::Looked {
+// The letters of the eight events: a start, a lookup that hits or misses, a publication of a success or a failure,
+// a completion, a skip and a release.
+const LETTERS: &[u8] = b"shmgbcxr";
+
+fn event_of(pip: u32, worker: u32, letter: u8) -> Event {
+    match letter {
+        b's' => Event::Start { pip, worker },
+        b'h' => Event::Looked {
             pip,
             worker,
             hit: true,
         },
-        2 => Event::Looked {
+        b'm' => Event::Looked {
             pip,
             worker,
             hit: false,
         },
-        3 => Event::Publish {
+        b'g' => Event::Publish {
             pip,
             worker,
             good: true,
         },
-        4 => Event::Publish {
+        b'b' => Event::Publish {
             pip,
             worker,
             good: false,
         },
-        5 => Event::Complete { pip, worker },
-        6 => Event::Skip { pip, worker },
+        b'c' => Event::Complete { pip, worker },
+        b'x' => Event::Skip { pip, worker },
         _ => Event::Release { pip, worker },
     }
 }
 
-// Makes the events with these numbers, in this order.
-fn make(rt: &impl Abort, both: &mut Both, pip: u32, worker: u32, made: &[usize]) {
-    for number in made {
-        assert!(rt; both.step(rt, &event_of(pip, worker, *number)).is_ok());
+// Makes the events of these letters, in this order.
+fn make(rt: &impl Abort, both: &mut Both, pip: u32, worker: u32, letters: &[u8]) {
+    for letter in letters {
+        assert!(rt; both.step(rt, &event_of(pip, worker, *letter)).is_ok());
+    }
+}
+
+// Makes the events of a row: of each the pip, the worker and the letter.
+fn make_row(rt: &impl Abort, both: &mut Both, row: &str) {
+    for event in row.split(' ') {
+        if let [pip, worker, letter] = event.as_bytes() {
+            let pip = u32::from(*pip).wrapping_sub(48);
+            let worker = u32::from(*worker).wrapping_sub(48);
+            assert!(rt; both.step(rt, &event_of(pip, worker, *letter)).is_ok());
+        } else {
+            assert!(rt; event.is_empty());
+        }
     }
 }
 
 // Just these of the eight events are allowed.
-fn expect(rt: &impl Abort, both: &mut Both, pip: u32, worker: u32, allowed: &[usize]) {
-    for number in 0..8 {
-        let event = event_of(pip, worker, number);
+fn expect(rt: &impl Abort, both: &mut Both, pip: u32, worker: u32, allowed: &[u8]) {
+    for letter in LETTERS {
+        let event = event_of(pip, worker, *letter);
         let is_allowed = both.allows(&event);
-        assert!(rt; is_allowed == allowed.iter().any(|other| *other == number));
+        assert!(rt; is_allowed == allowed.contains(letter));
         if !is_allowed {
             assert!(rt; both.step(rt, &event).is_err());
         }
     }
 }
 
-// Makes these events, each a pip, a worker and a number. Worker 2 has left already.
-fn standing(rt: &impl Abort, alloc: Global, events: &[(u32, u32, usize)]) -> Result<Both, Fail> {
-    let mut both = three_workers(rt, alloc)?;
-    make(rt, &mut both, 1, 2, &[0, 7]);
-    for (pip, worker, number) in events {
-        make(rt, &mut both, *pip, *worker, &[*number]);
+// After the events of a row just these of the eight are allowed of the pip and the worker. Worker 2 has left before.
+fn expect_cells(rt: &impl Abort, alloc: Global, row: &str, pip: u32, worker: u32, allowed: &str) {
+    for letter in LETTERS {
+        let mut both = both_of(rt, alloc, FOUR_PIPS, 3);
+        make_row(rt, &mut both, "12s 12r");
+        make_row(rt, &mut both, row);
+        let is_allowed = both.step(rt, &event_of(pip, worker, *letter)).is_ok();
+        assert!(rt; is_allowed == allowed.as_bytes().contains(letter));
     }
-    Ok(both)
 }
 
-// After these events just these of the eight are allowed of the pip and the worker.
-fn expect_cells(
-    rt: &impl Abort,
-    alloc: Global,
-    events: &[(u32, u32, usize)],
-    pip: u32,
-    worker: u32,
-    allowed: &[usize],
-) -> Result<(), Fail> {
-    for number in 0..8 {
-        let mut both = standing(rt, alloc, events)?;
-        let is_allowed = both.step(rt, &event_of(pip, worker, number)).is_ok();
-        assert!(rt; is_allowed == allowed.iter().any(|other| *other == number));
+// Events, a pip, and the events of it that are then allowed of worker 0, and of worker 1.
+const CELLS: &[(&str, u32, &str, &str)] = &[
+    // a process
+    ("", 0, "s", "s"),
+    ("00s", 0, "hmr", ""),
+    ("00s 00h", 0, "gr", ""),
+    ("00s 00m", 0, "gbr", ""),
+    ("00s 00h 00g", 0, "c", ""),
+    ("00s 00m 00b", 0, "c", ""),
+    ("00s 00m 00g 00c", 0, "", ""),
+    ("00s 00m 00b 00c", 0, "", ""),
+    ("00s 00r", 0, "", "s"),
+    // a pip that is none
+    ("", 1, "s", "s"),
+    ("10s", 1, "gr", ""),
+    ("10s 10g", 1, "c", ""),
+    ("10s 10g 10c", 1, "", ""),
+    // a worker that holds another
+    ("10s", 0, "", "s"),
+    // a pip that waits for a process that succeeded, and for one that did not yet
+    ("", 2, "", ""),
+    ("00s 00m 00g 00c 10s", 2, "", ""),
+    // for a process that failed, and for a pip that was skipped
+    ("00s 00m 00b 00c 10s", 2, "", "x"),
+    ("00s 00m 00b 00c 21x", 2, "", ""),
+    ("00s 00m 00b 00c 21x", 3, "x", "x"),
+    // no pip
+    ("", 9, "", ""),
+];
+
+#[test]
+fn all_cells_of_the_table(rt: HostRuntime) {
+    for (row, pip, first, second) in CELLS {
+        expect_cells(&rt, rt.alloc(), row, *pip, 0, first);
+        expect_cells(&rt, rt.alloc(), row, *pip, 1, second);
+        expect_cells(&rt, rt.alloc(), row, *pip, 2, "");
     }
-    Ok(())
 }
 
 #[test]
-fn all_cells_of_the_table(rt: HostRuntime) -> Result<(), Fail> {
-    let rows: &[(&[(u32, u32, usize)], u32, &[usize], &[usize])] = &[
-        // a process
-        (&[], 0, &[0], &[0]),
-        (&[(0, 0, 0)], 0, &[1, 2, 7], &[]),
-        (&[(0, 0, 0), (0, 0, 1)], 0, &[3, 7], &[]),
-        (&[(0, 0, 0), (0, 0, 2)], 0, &[3, 4, 7], &[]),
-        (&[(0, 0, 0), (0, 0, 1), (0, 0, 3)], 0, &[5], &[]),
-        (&[(0, 0, 0), (0, 0, 2), (0, 0, 4)], 0, &[5], &[]),
-        (&[(0, 0, 0), (0, 0, 2), (0, 0, 3), (0, 0, 5)], 0, &[], &[]),
-        (&[(0, 0, 0), (0, 0, 2), (0, 0, 4), (0, 0, 5)], 0, &[], &[]),
-        (&[(0, 0, 0), (0, 0, 7)], 0, &[], &[0]),
-        // a pip that is none
-        (&[], 1, &[0], &[0]),
-        (&[(1, 0, 0)], 1, &[3, 7], &[]),
-        (&[(1, 0, 0), (1, 0, 3)], 1, &[5], &[]),
-        (&[(1, 0, 0), (1, 0, 3), (1, 0, 5)], 1, &[], &[]),
-        // a worker that holds another
-        (&[(1, 0, 0)], 0, &[], &[0]),
-        // a pip that waits for a process that succeeded, and for one that did not yet
-        (&[], 2, &[], &[]),
-        (
-            &[(0, 0, 0), (0, 0, 2), (0, 0, 3), (0, 0, 5), (1, 0, 0)],
-            2,
-            &[],
-            &[],
-        ),
-        // for a process that failed, and for a pip that was skipped
-        (
-            &[(0, 0, 0), (0, 0, 2), (0, 0, 4), (0, 0, 5), (1, 0, 0)],
-            2,
-            &[],
-            &[6],
-        ),
-        (
-            &[(0, 0, 0), (0, 0, 2), (0, 0, 4), (0, 0, 5), (2, 1, 6)],
-            2,
-            &[],
-            &[],
-        ),
-        (
-            &[(0, 0, 0), (0, 0, 2), (0, 0, 4), (0, 0, 5), (2, 1, 6)],
-            3,
-            &[6],
-            &[6],
-        ),
-        // no pip
-        (&[], 9, &[], &[]),
-    ];
-    for (events, pip, first, second) in rows {
-        expect_cells(&rt, rt.alloc(), events, *pip, 0, first)?;
-        expect_cells(&rt, rt.alloc(), events, *pip, 1, second)?;
-        expect_cells(&rt, rt.alloc(), events, *pip, 2, &[])?;
-    }
-    Ok(())
+fn a_pip_waits_for_both_of_its_inputs(rt: HostRuntime) {
+    let mut both = both_of(&rt, rt.alloc(), FOUR_PIPS, 3);
+    make(&rt, &mut both, 0, 0, b"shgc");
+    expect(&rt, &mut both, 2, 0, b"");
+    make(&rt, &mut both, 1, 1, b"sr");
+    make(&rt, &mut both, 1, 2, b"sg");
+    expect(&rt, &mut both, 2, 0, b"");
+    make(&rt, &mut both, 1, 2, b"c");
+    expect(&rt, &mut both, 2, 1, b"");
+    expect(&rt, &mut both, 2, 2, b"s");
 }
 
 #[test]
-fn a_pip_waits_for_both_of_its_inputs(rt: HostRuntime) -> Result<(), Fail> {
-    let mut both = three_workers(&rt, rt.alloc())?;
-    make(&rt, &mut both, 0, 0, &[0, 1, 3, 5]);
-    expect(&rt, &mut both, 2, 0, &[]);
-    make(&rt, &mut both, 1, 1, &[0, 7]);
-    make(&rt, &mut both, 1, 2, &[0, 3]);
-    expect(&rt, &mut both, 2, 0, &[]);
-    make(&rt, &mut both, 1, 2, &[5]);
-    expect(&rt, &mut both, 2, 1, &[]);
-    expect(&rt, &mut both, 2, 2, &[0]);
-    Ok(())
-}
-
-// Two pips that wait for nothing, and are no processes.
-fn two_pips(rt: &impl Abort, alloc: Global) -> Result<Graph, Fail> {
-    let mut graph = Graph::new(alloc);
-    add(rt, alloc, &mut graph, false, &[])?;
-    add(rt, alloc, &mut graph, false, &[])?;
-    Ok(graph)
-}
-
-#[test]
-fn a_pip_of_another_worker_does_not_start(rt: HostRuntime) -> Result<(), Fail> {
-    let graph = two_pips(&rt, rt.alloc())?;
-    let mut both = Both::new(&rt, rt.alloc(), graph, two_pips(&rt, rt.alloc())?, 2)?;
-    make(&rt, &mut both, 0, 0, &[0]);
-    let Err(illegal) = both.step(&rt, &event_of(0, 1, 0)) else {
-        return Ok(assert!(rt; false));
-    };
-    assert_eq!(rt; illegal.state(), Some(PipState::Held(0)));
-    assert_eq!(rt; illegal.busy(), None);
-    assert_eq!(rt; illegal.left(), false);
-    make(&rt, &mut both, 0, 0, &[3, 5]);
-    assert_eq!(rt; both.state(0), Some(PipState::Done(true)));
-    assert_eq!(rt; both.state(1), Some(PipState::Waiting));
-    Ok(())
-}
-
-#[test]
-fn random_events_are_taken_as_the_table_says(rt: HostRuntime) -> Result<(), Fail> {
-    for seed in 0..4 {
-        let graph = some_graph(&rt, rt.alloc(), seed, 30)?;
-        let same = some_graph(&rt, rt.alloc(), seed, 30)?;
-        let mut both = Both::new(&rt, rt.alloc(), graph, same, 4)?;
-        let mut dice = seed;
-        for _ in 0..200 {
-            let _ = both.step(&rt, &some_event(&mut dice, 31, 4));
+fn a_pip_of_another_worker_does_not_start(rt: HostRuntime) {
+    let mut both = both_of(&rt, rt.alloc(), TWO_PIPS, 2);
+    make(&rt, &mut both, 0, 0, b"s");
+    match both.step(&rt, &event_of(0, 1, b's')) {
+        Ok(()) => assert!(rt; false),
+        Err(illegal) => {
+            assert!(rt; illegal.state() == Some(PipState::Held(0)));
+            assert!(rt; illegal.busy() == None && !illegal.left());
         }
     }
-    Ok(())
+    make(&rt, &mut both, 0, 0, b"gc");
+    assert!(rt; both.state(0) == Some(PipState::Done(true)));
+    assert!(rt; both.state(1) == Some(PipState::Waiting));
 }
 
-#[test]
-fn a_long_legal_list_is_taken(rt: HostRuntime) -> Result<(), Fail> {
-    let graph = some_graph(&rt, rt.alloc(), 1, 60)?;
-    let same = some_graph(&rt, rt.alloc(), 1, 60)?;
-    let mut both = Both::new(&rt, rt.alloc(), graph, same, 4)?;
-    let mut dice = 7;
+// Four workers, and pips by chance.
+fn some_pips(rt: &impl Abort, alloc: Global, seed: u64, pips: u32) -> Both {
+    let graph = must(rt, some_graph(rt, alloc, seed, pips));
+    let same = must(rt, some_graph(rt, alloc, seed, pips));
+    must(rt, Both::new(rt, alloc, graph, same, 4))
+}
+
+// Gives both 200 events, allowed or not.
+fn any_events(rt: &impl Abort, both: &mut Both, seed: u64) {
+    let mut dice = seed;
+    for _ in 0..200 {
+        let _ = both.step(rt, &some_event(&mut dice, 31, 4));
+    }
+}
+
+// Gives both up to 200 allowed events, and answers their number.
+fn allowed_events(rt: &impl Abort, both: &mut Both, seed: u64) -> u32 {
+    let mut dice = seed;
     let mut made = 0;
     for _ in 0..60000 {
         let event = some_event(&mut dice, 60, 4);
         if made < 200 && both.allows(&event) {
-            assert!(rt; both.step(&rt, &event).is_ok());
+            assert!(rt; both.step(rt, &event).is_ok());
             made += 1;
         }
     }
+    made
+}
+
+#[test]
+fn random_events_are_taken_as_the_table_says(rt: HostRuntime) {
+    for seed in 0..4 {
+        let mut both = some_pips(&rt, rt.alloc(), seed, 30);
+        any_events(&rt, &mut both, seed);
+    }
+}
+
+#[test]
+fn a_long_legal_list_is_taken(rt: HostRuntime) {
+    let mut both = some_pips(&rt, rt.alloc(), 1, 60);
+    let made = allowed_events(&rt, &mut both, 7);
     assert!(rt; 100 <= made);
-    Ok(())
 }

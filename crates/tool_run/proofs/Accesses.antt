@@ -1,6 +1,6 @@
 -- A run's asks are answered, a denied access is its last and only one, and what it writes is permitted,
 -- in the order of paths, and none of it below another.
-use Rattle.std.proofs.Common.{◌≡◌, ◌≢◌, ℕ, ◌+◌, ◌≤◌, zero, suc, true, false, Bool, ◌||◌, cond, List, [], ◌∷◌, ◌++◌, length, codes, take, drop, Option, Some, None, refl, ap, sym, ◌∙◌, subst, arith, append_assoc, IsTrue}
+use Rattle.std.proofs.Common.{◌≡◌, ◌≢◌, ℕ, ◌+◌, ◌≤◌, zero, suc, true, false, Bool, ◌||◌, cond, List, [], ◌∷◌, ◌++◌, length, codes, take, drop, Option, Some, None, refl, ap, sym, ◌∙◌, subst, arith, append_assoc, IsTrue, true≢false}
 use Rattle.std.specs.Prelude.{slice_get, nat_lt}
 use Rattle.std.specs.Str.{bytes_eq}
 use Rattle.std.specs.Fmt.{decimal}
@@ -13,6 +13,8 @@ use Rattle.std.specs.declared.cmp.Ordering.TheVariants.{Less, Equal, Greater}
 use Rattle.bx_tree.specs.Paths.{Atoms, path_cmp}
 use Rattle.bx_tree.specs.Trees.{Files, NoneNested, file_at, paths_of}
 use Rattle.bx_tree.proofs.Lists.{all_append}
+use Rattle.bx_path.specs.Globbing.{is_pattern}
+use Rattle.observed.specs.Asks.{is_listing}
 use Rattle.observed.specs.declared.ask.AskKind.{AskKind}
 use Rattle.observed.specs.declared.ask.AskKind.TheVariants as kinds
 use Rattle.observed.specs.declared.ask.Ask.{Ask}
@@ -34,7 +36,7 @@ use Rattle.tool_run.specs.Machine.{Machine, at_place, effect_of, fitting, fittin
 use Rattle.tool_run.specs.Values.{number_of, split_parts, variable}
 use Rattle.tool_run_writes.specs.Writes.{clashes, own_answer, own_file, has_below}
 use Rattle.tool_run_writes.proofs.Unnested.{none_unnested, put_rising, put_unnested}
-use Rattle.tool_run.specs.Instructions.{act, list_with, look_up, looks, or_jump, probe_with, read_with, value, with_answer, with_number, writes_at}
+use Rattle.tool_run.specs.Instructions.{act, list_with, look_up, looks, looks_by, or_jump, probe_with, read_with, value, with_answer, with_number, writes_at}
 use Rattle.tool_run.specs.Laws.{EndsDenied, IsAnswered, IsDenied, RunInvariant}
 use Rattle.tool_run.specs.Run.{Run, Turn, at_end_or, ended, onward, run_from, run_of, run_tool, turn, turned}
 
@@ -125,12 +127,12 @@ plain_tells m ask answer (m', Some end) p none = record { writes = p.writes; end
 goes_plain : (m m' : Machine) → m'.writes ≡ m.writes → Plain m (m', None)
 goes_plain m m' same = record { writes = same; end = tt }
 
-denies : (m : Machine) (kind : AskKind) (path : Atoms) → kind ≢ kinds.List → Tells m (record { kind = kind; path = path }) answers.Denied (m, Some ends.Denied)
+denies : (m : Machine) (kind : AskKind) (path : Atoms) → is_listing kind ≡ false → Tells m (record { kind = kind; path = path }) answers.Denied (m, Some ends.Denied)
 denies m kind path other = record { writes = refl; end = (λ e. (other, refl), λ e. absurd (e refl)) }
 
 read_tells : (m : Machine) (r label : ℕ) (path : Atoms) (answer : Answer) → Tells m (record { kind = kinds.Read; path = path }) answer (read_with m r label answer)
 read_tells m r label path (answers.Content bytes) = plain_tells m _ (answers.Content bytes) _ (fitting_plain m r bytes) (λ h. let e = h.1 in cc)
-read_tells m r label path answers.Denied = denies m kinds.Read path (λ e. cc)
+read_tells m r label path answers.Denied = denies m kinds.Read path refl
 read_tells m r label path answers.Absent = plain_tells m _ answers.Absent _ (goes_plain m _ refl) (λ h. let e = h.1 in cc)
 read_tells m r label path answers.File = plain_tells m _ answers.File _ (goes_plain m _ refl) (λ h. let e = h.1 in cc)
 read_tells m r label path answers.Directory = plain_tells m _ answers.Directory _ (goes_plain m _ refl) (λ h. let e = h.1 in cc)
@@ -138,14 +140,15 @@ read_tells m r label path (answers.Names names) = plain_tells m _ (answers.Names
 
 probe_tells : (m : Machine) (r : ℕ) (path : Atoms) (answer : Answer) → Tells m (record { kind = kinds.Probe; path = path }) answer (probe_with m r answer)
 probe_tells m r path (answers.Content bytes) = plain_tells m _ (answers.Content bytes) _ (fitting_plain m r (codes "file")) (λ h. let e = h.1 in cc)
-probe_tells m r path answers.Denied = denies m kinds.Probe path (λ e. cc)
+probe_tells m r path answers.Denied = denies m kinds.Probe path refl
 probe_tells m r path answers.Absent = plain_tells m _ answers.Absent _ (fitting_plain m r (codes "absent")) (λ h. let e = h.1 in cc)
 probe_tells m r path answers.File = plain_tells m _ answers.File _ (fitting_plain m r (codes "file")) (λ h. let e = h.1 in cc)
 probe_tells m r path answers.Directory = plain_tells m _ answers.Directory _ (fitting_plain m r (codes "directory")) (λ h. let e = h.1 in cc)
 probe_tells m r path (answers.Names names) = plain_tells m _ (answers.Names names) _ (fitting_plain m r (codes "absent")) (λ h. let e = h.1 in cc)
 
-list_tells : (m : Machine) (r : ℕ) (path : Atoms) (answer : Answer) → Tells m (record { kind = kinds.List; path = path }) answer (list_with m r path answer)
-list_tells m r path answer = plain_tells m _ answer _ (fitting_plain m r _) (λ h. h.0 refl)
+-- a listing is never denied
+list_tells : (m : Machine) (r : ℕ) (ask : Ask) (answer : Answer) → is_listing ask.kind ≡ true → Tells m ask answer (list_with m r ask answer)
+list_tells m r ask answer listing = plain_tells m ask answer _ (fitting_plain m r _) (λ h. true≢false (sym listing ∙ h.0))
 
 -- what the run's own writes answer denies nothing
 read_fair : (d : Description) (m : Machine) (r label : ℕ) (x : Operand) (path : Atoms) (file : Option (List ℕ)) (below : Bool) → Lawful d m.writes
@@ -163,13 +166,27 @@ probe_fair d m r x path None false h = record { writes = h; effect = probe_tells
 list_fair : (d : Description) (m : Machine) (r : ℕ) (x : Operand) (path : Atoms) (file : Option (List ℕ)) (below : Bool) → Lawful d m.writes
     → Fair d (instrs.List r x) (look_up m (instrs.List r x) (record { kind = kinds.List; path = path }) (own_file kinds.List file below))
 list_fair d m r x path (Some bytes) below h = effect_plain d _ m _ h (fitting_plain m r _)
-list_fair d m r x path None below h = record { writes = h; effect = list_tells m r path }
+list_fair d m r x path None below h = record { writes = h; effect = λ answer. list_tells m r (record { kind = kinds.List; path = path }) answer refl }
+
+match_fair : (d : Description) (m : Machine) (r : ℕ) (x y : Operand) (pattern : List ℕ) (path : Atoms) (file : Option (List ℕ)) (below : Bool) → Lawful d m.writes
+    → Fair d (instrs.Match r x y) (look_up m (instrs.Match r x y) (record { kind = kinds.Match pattern; path = path }) (own_file (kinds.Match pattern) file below))
+match_fair d m r x y pattern path (Some bytes) below h = effect_plain d _ m _ h (fitting_plain m r _)
+match_fair d m r x y pattern path None below h =
+    record { writes = h; effect = λ answer. list_tells m r (record { kind = kinds.Match pattern; path = path }) answer refl }
 
 looks_fair : (d : Description) (m : Machine) (i : Instr) (kind : AskKind) (o : Option Atoms) → Lawful d m.writes
     → ((path : Atoms) → Fair d i (look_up m i (record { kind = kind; path = path }) (own_answer m.writes (record { kind = kind; path = path }))))
     → Fair d i (looks m i kind o)
 looks_fair d m i kind None h all = stops_fair d i m ends.BadPath h (λ e. cc)
 looks_fair d m i kind (Some path) h all = all path
+
+by_fair : (d : Description) (m : Machine) (i : Instr) (pattern : List ℕ) (o : Option Atoms) → Lawful d m.writes → Fair d i (looks m i (kinds.Match pattern) o)
+    → Fair d i (looks_by m i pattern o)
+by_fair d m i pattern o h fair = by_pattern (is_pattern pattern)
+  where
+    by_pattern : (t : Bool) → Fair d i (cond t (looks m i (kinds.Match pattern) o) (m, effects.Stops ends.BadProgram))
+    by_pattern true = fair
+    by_pattern false = stops_fair d i m ends.BadProgram h (λ e. cc)
 
 -- ## Writes
 
@@ -238,6 +255,10 @@ act_fair d m (instrs.Probe r x) h =
     looks_fair d m _ kinds.Probe (resolved d.dir (value m x)) h (λ path. probe_fair d m r x path (file_at m.writes path) (has_below m.writes path) h)
 act_fair d m (instrs.List r x) h =
     looks_fair d m _ kinds.List (resolved d.dir (value m x)) h (λ path. list_fair d m r x path (file_at m.writes path) (has_below m.writes path) h)
+act_fair d m (instrs.Match r x y) h =
+    by_fair d m _ (value m y) (resolved d.dir (value m x)) h
+    (looks_fair d m _ (kinds.Match (value m y)) (resolved d.dir (value m x)) h
+    (λ path. match_fair d m r x y (value m y) path (file_at m.writes path) (has_below m.writes path) h))
 act_fair d m (instrs.Write x y) h = write_fair d _ m (value m y) (resolved d.dir (value m x)) h
 
 -- ## One turn

@@ -3,6 +3,7 @@ use Rattle.std.proofs.Common.{◌≡◌, ℕ, ◌++◌, ◌+◌, Bool, true, fal
 use Rattle.std.specs.Prelude.{nat_lt, slice_get}
 use Rattle.std.specs.Fmt.{decimal}
 use Rattle.bx_tree.specs.Paths.{Atoms}
+use Rattle.bx_path.specs.Globbing.{is_pattern}
 use Rattle.observed.specs.declared.ask.AskKind.{AskKind}
 use Rattle.observed.specs.declared.ask.AskKind.TheVariants as kinds
 use Rattle.observed.specs.declared.ask.Ask.{Ask}
@@ -78,6 +79,8 @@ act_stays d m (instrs.Say x) = either_stays m.place (nat_lt MAX_OUTPUT (m.spent 
 act_stays d m (instrs.Read r x label) = looks_stays m (instrs.Read r x label) kinds.Read (resolved d.dir (value m x))
 act_stays d m (instrs.Probe r x) = looks_stays m (instrs.Probe r x) kinds.Probe (resolved d.dir (value m x))
 act_stays d m (instrs.List r x) = looks_stays m (instrs.List r x) kinds.List (resolved d.dir (value m x))
+act_stays d m (instrs.Match r x y) =
+    either_stays m.place (is_pattern (value m y)) _ _ (looks_stays m (instrs.Match r x y) (kinds.Match (value m y)) (resolved d.dir (value m x))) tt
 act_stays d m (instrs.Write x y) = write_stays d m.place m (value m y) (resolved d.dir (value m x))
 
 -- the machine that an instruction left where it put an ask

@@ -1,7 +1,6 @@
 -- A text that names a path leads to it from the root.
 use Rattle.std.proofs.Common.{◌≡◌, cond, Some, None, List, [], ℕ, length, ap, sym, ◌∙◌}
 use Rattle.std.specs.Prelude.{option_and_then}
-use Rattle.std.specs.List.{slice_split}
 use Rattle.std.proofs.lemmas.Bool.{le-leb}
 use Rattle.bx_tree.specs.Paths.{Atoms, Names, path_text}
 use Rattle.bx_tree.specs.declared.limits.TheConstants.{MAX_PATH_BYTES}

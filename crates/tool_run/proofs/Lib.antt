@@ -2,6 +2,8 @@ pub mod Depends
 pub mod Accesses
 pub mod Permitted
 pub mod AskPlaces
+pub mod AskedAmong
+pub mod PatternListings
 pub mod Turns
 pub mod Appended
 pub mod FromRoot

@@ -1,7 +1,4 @@
 -- What a run uses of a process that is given with its contents.
-use Rattle.std.specs.Prelude.{List, map}
-use Rattle.bx_tree.specs.Paths.{Atoms}
-use Rattle.pip_model_types.specs.declared.outputs.OutDir.{OutDir}
 use Rattle.pip_model_types.specs.declared.desc.Desc.{Desc}
 use Rattle.tool_text.specs.Reading.{tool_of}
 use Rattle.tool_run.specs.Values.{variables}

@@ -1,8 +1,7 @@
 -- What a run uses of a process.
-use Rattle.std.specs.Prelude.{ℕ, Bool, false, ◌&&◌, ◌||◌, not, List, [], ◌∷◌, Option, Some, None}
+use Rattle.std.specs.Prelude.{ℕ, Bool, ◌&&◌, ◌||◌, not, List, [], ◌∷◌, Option, Some, None}
 use Rattle.std.specs.Prelude.{if◌then◌else◌, ◌==◌}
 use Rattle.std.specs.List.{list_any}
-use Rattle.std.specs.Option.{option_map_or}
 use Rattle.bx_tree.specs.Paths.{Atoms, same_path}
 use Rattle.bx_tree.specs.Trees.{Files, file_at}
 use Rattle.bx_path.specs.Joining.{join_of}
@@ -41,6 +40,7 @@ file_answer kind None = None
 file_answer kinds.Read (Some bytes) = Some (answers.Content bytes)
 file_answer kinds.Probe (Some bytes) = Some answers.File
 file_answer kinds.List (Some bytes) = None
+file_answer (kinds.Match pattern) (Some bytes) = None
 
 abbrev pub given : Description → Ask → Option Answer
 given d ask = file_answer ask.kind (declared_at d ask.path)

@@ -4,6 +4,8 @@ use Rattle.std.specs.Prelude.{slice_get}
 use Rattle.std.specs.Fmt.{decimal}
 use Rattle.std.specs.Str.{bytes_eq}
 use Rattle.bx_tree.specs.Paths.{Atoms}
+use Rattle.bx_path.specs.Globbing.{is_pattern}
+use Rattle.observed.specs.Asks.{asked_names}
 use Rattle.observed.specs.declared.ask.AskKind.{AskKind}
 use Rattle.observed.specs.declared.ask.AskKind.TheVariants as kinds
 use Rattle.observed.specs.declared.ask.Ask.{Ask}
@@ -66,15 +68,17 @@ names_of answers.Absent = []
 names_of answers.File = []
 names_of answers.Directory = []
 
--- a listing is answered: the run's own writes add to the names
-abbrev pub list_with : Machine → ℕ → Atoms → Answer → Machine × Option End
-list_with m r path answer = fitting m r (listed (names_of answer) (own_names m.writes path))
+-- a listing is answered: the run's own writes add those of their names that were asked for
+abbrev pub list_with : Machine → ℕ → Ask → Answer → Machine × Option End
+list_with m r ask answer =
+    fitting m r (listed (names_of answer) (asked_names ask.kind (own_names m.writes ask.path)))
 
 -- an instruction that looked at a path gets its answer
 abbrev pub with_answer : Machine → Instr → Ask → Answer → Machine × Option End
 with_answer m (instrs.Read r x label) ask answer = read_with m r label answer
 with_answer m (instrs.Probe r x) ask answer = probe_with m r answer
-with_answer m (instrs.List r x) ask answer = list_with m r ask.path answer
+with_answer m (instrs.List r x) ask answer = list_with m r ask answer
+with_answer m (instrs.Match r x y) ask answer = list_with m r ask answer
 with_answer m (instrs.Set r x) ask answer = (m, None)
 with_answer m (instrs.Cat r x y) ask answer = (m, None)
 with_answer m (instrs.Len r x) ask answer = (m, None)
@@ -101,6 +105,11 @@ looks m i kind None = (m, effects.Stops ends.BadPath)
 looks m i kind (Some path) =
     look_up m i (record { kind = kind; path = path })
     (own_answer m.writes (record { kind = kind; path = path }))
+
+-- a listing by a pattern, which a text may not be; that is judged before the path is
+abbrev pub looks_by : Machine → Instr → List ℕ → Option Atoms → Machine × Effect
+looks_by m i pattern path =
+    if is_pattern pattern then looks m i (kinds.Match pattern) path else (m, effects.Stops ends.BadProgram)
 
 -- ## Writing
 
@@ -139,4 +148,6 @@ act d m (instrs.Say x) = said m (value m x)
 act d m (instrs.Read r x label) = looks m (instrs.Read r x label) kinds.Read (resolved d.dir (value m x))
 act d m (instrs.Probe r x) = looks m (instrs.Probe r x) kinds.Probe (resolved d.dir (value m x))
 act d m (instrs.List r x) = looks m (instrs.List r x) kinds.List (resolved d.dir (value m x))
+act d m (instrs.Match r x y) =
+    looks_by m (instrs.Match r x y) (value m y) (resolved d.dir (value m x))
 act d m (instrs.Write x y) = writes_at d m (value m y) (resolved d.dir (value m x))

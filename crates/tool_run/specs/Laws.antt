@@ -1,9 +1,9 @@
 -- What holds of every run.
-use Rattle.std.specs.Prelude.{◌≡◌, ◌≢◌, ◌≤◌, IsTrue, List, [], ◌∷◌, ◌++◌}
+use Rattle.std.specs.Prelude.{◌≡◌, ◌≢◌, ◌≤◌, IsTrue, false, List, [], ◌∷◌, ◌++◌}
 use Rattle.std.specs.List.{AllByRecursion}
 use Rattle.bx_tree.specs.Trees.{NoneNested, paths_of}
 use Rattle.bx_tree.specs.Members.{Has}
-use Rattle.observed.specs.declared.ask.AskKind.TheVariants as kinds
+use Rattle.observed.specs.Asks.{is_listing}
 use Rattle.observed.specs.declared.ask.Ask.{Ask}
 use Rattle.observed.specs.declared.access.Access.{Access}
 use Rattle.observed.specs.declared.access.Access.TheVariants.{Asked, Wrote, WriteDenied}
@@ -31,7 +31,7 @@ IsAnswered d a (WriteDenied path) = Unit {0}
 
 -- a denied access: a read or a probe that was answered so, or a denied write
 abbrev pub IsDenied : Access → Type 0
-IsDenied (Asked ask answer) = (ask.kind ≢ kinds.List) × (answer ≡ answers.Denied)
+IsDenied (Asked ask answer) = (is_listing ask.kind ≡ false) × (answer ≡ answers.Denied)
 IsDenied (Wrote path) = ⊥
 IsDenied (WriteDenied path) = Unit {0}
 

@@ -69,6 +69,7 @@ impl State {
             Instr::Read(_, x, _) => self.look(alloc, desc, instr, AskKind::Read, x),
             Instr::Probe(_, x) => self.look(alloc, desc, instr, AskKind::Probe, x),
             Instr::List(_, x) => self.look(alloc, desc, instr, AskKind::List, x),
+            Instr::Match(_, x, y) => self.look_by(alloc, desc, instr, x, y),
             Instr::Write(x, y) => self.write_value(alloc, desc, x, y),
         }
     }

@@ -27,7 +27,7 @@ mod values;
 pub use digits::MAX_DIGITS;
 pub use laws::{accesses_hold, noninterference};
 pub use limits::{MAX_OUTPUT, MAX_REGISTER};
-pub use name_lines::{add_names, lines, names_of_lines};
+pub use name_lines::{add_names, lines, matching, matching_lines, names_of_lines};
 pub use path_sets::path_set_of;
 pub use running::{Ran, run, run_no_tool};
 pub use values::{head, number_of, split, tail, variable};

@@ -10,8 +10,7 @@ use crate::listing::with_own_names;
 use crate::paths::{permits, resolved};
 use crate::state::{State, effect_of_end};
 use bx_digest::Blob;
-use bx_tree::Path;
-use observed::{Answer, Ask, AskKind, End};
+use observed::{Answer, Ask, AskKind, End, Pattern};
 use pip_model_types::Desc;
 use std::alloc::{AllocError, Global};
 use tool_text::{Instr, Operand, Register};
@@ -24,7 +23,8 @@ fn no_names(alloc: Global) -> Result<Blob, AllocError>
 }
 
 impl State {
-    ghost use Rattle.tool_run.specs.Instructions.{list_with, looks, probe_with, read_with, value as value_in};
+    ghost use Rattle.tool_run.specs.Instructions.{list_with, looks, looks_by, probe_with, read_with};
+    ghost use Rattle.tool_run.specs.Instructions.{value as value_in};
     ghost use Rattle.tool_run.specs.Instructions.{with_answer, writes_at};
 
     // A read is answered.
@@ -72,20 +72,20 @@ impl State {
         &mut self,
         alloc: Global,
         register: Register,
-        dir: &Path,
+        ask: &Ask,
         answer: &Answer,
     ) -> Result<Option<End>, AllocError>
         requires { self.old.place < 2 ^ 63 }
         ensures { IfOk result (λ end.
-            (machine_of self.new, end) ≡ list_with (machine_of self.old) register dir.now answer.now) }
+            (machine_of self.new, end) ≡ list_with (machine_of self.old) register ask.now answer.now) }
     {
         let content = match answer {
-            Answer::Names(names) => with_own_names(alloc, &self.writes, dir, names)?,
+            Answer::Names(names) => with_own_names(alloc, &self.writes, ask, names)?,
             Answer::Content(_)
             | Answer::Denied
             | Answer::Absent
             | Answer::File
-            | Answer::Directory => with_own_names(alloc, &self.writes, dir, &no_names(alloc)?)?,
+            | Answer::Directory => with_own_names(alloc, &self.writes, ask, &no_names(alloc)?)?,
         };
         Ok(self.fit(register, content))
     }
@@ -105,7 +105,9 @@ impl State {
         match instr {
             Instr::Read(register, _, label) => self.take_read(*register, *label, answer),
             Instr::Probe(register, _) => self.take_probe(alloc, *register, answer),
-            Instr::List(register, _) => self.take_list(alloc, *register, &ask.path, answer),
+            Instr::List(register, _) | Instr::Match(register, _, _) => {
+                self.take_list(alloc, *register, ask, answer)
+            }
             Instr::Set(_, _)
             | Instr::Cat(_, _, _)
             | Instr::Len(_, _)
@@ -148,6 +150,28 @@ impl State {
         };
         let end = self.take_answer(alloc, instr, &ask, &answer)?;
         Ok(effect_of_end(end))
+    }
+
+    // An instruction looks at a path for the names that a pattern matches.
+    #[inline(never)]
+    pub(crate) fn look_by(
+        &mut self,
+        alloc: Global,
+        desc: &Desc,
+        instr: &Instr,
+        x: &Operand,
+        y: &Operand,
+    ) -> Result<Effect, AllocError>
+        requires { self.old.place < 2 ^ 63 }
+        ensures { IfOk result (λ effect.
+            (machine_of self.new, effect)
+            ≡ looks_by (machine_of self.old) instr.now (value_in (machine_of self.old) y.now)
+            (resolved_path (described desc.now).dir (value_in (machine_of self.old) x.now))) }
+    {
+        let Some(pattern) = Pattern::of(alloc, self.value(y))? else {
+            return Ok(Effect::Stops(End::BadProgram));
+        };
+        self.look(alloc, desc, instr, AskKind::Match(pattern), x)
     }
 
     // A file is written, where its path and its size may be.

@@ -47,10 +47,10 @@ fn given(desc: &Desc, ask: &Ask) -> Result<Option<Answer>, AllocError>
     let Some(blob) = declared(desc, &ask.path) else {
         return Ok(None);
     };
-    match ask.kind {
+    match &ask.kind {
         AskKind::Read => Ok(Some(Answer::Content(blob.share()?))),
         AskKind::Probe => Ok(Some(Answer::File)),
-        AskKind::List => Ok(None),
+        AskKind::List | AskKind::Match(_) => Ok(None),
     }
 }
 

@@ -42,9 +42,11 @@ abbrev pub own_file : AskKind → Option (List ℕ) → Bool → Option Answer
 own_file kinds.Read (Some bytes) below = Some (answers.Content bytes)
 own_file kinds.Probe (Some bytes) below = Some answers.File
 own_file kinds.List (Some bytes) below = Some (answers.Names [])
+own_file (kinds.Match pattern) (Some bytes) below = Some (answers.Names [])
 own_file kinds.Read None below = if below then Some answers.Directory else None
 own_file kinds.Probe None below = if below then Some answers.Directory else None
 own_file kinds.List None below = None
+own_file (kinds.Match pattern) None below = None
 
 -- what the run's own writes answer to an ask, if anything
 abbrev pub own_answer : Files → Ask → Option Answer

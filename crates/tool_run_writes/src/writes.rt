@@ -170,18 +170,18 @@ impl Writes {
         ensures { IfOk result (λ answer. answer ≡ own_answer self.now ask.now) }
     {
         if let Some(blob) = self.find(&ask.path) {
-            return match ask.kind {
+            return match &ask.kind {
                 AskKind::Read => Ok(Some(Answer::Content(blob.share()?))),
                 AskKind::Probe => Ok(Some(Answer::File)),
-                AskKind::List => Ok(Some(Answer::Names(Blob::new(alloc, Vec::new(alloc))?))),
+                AskKind::List | AskKind::Match(_) => {
+                    Ok(Some(Answer::Names(Blob::new(alloc, Vec::new(alloc))?)))
+                }
             };
         }
-        match ask.kind {
-            AskKind::Read | AskKind::Probe if self.has_below(&ask.path) => {
-                Ok(Some(Answer::Directory))
-            }
-            _ => Ok(None),
+        if !ask.kind.is_listing() && self.has_below(&ask.path) {
+            return Ok(Some(Answer::Directory));
         }
+        Ok(None)
     }
 
     /// The names that own writes below a directory add to its listing, in the order of the files' paths.

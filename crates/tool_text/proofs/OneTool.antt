@@ -14,8 +14,8 @@ use Rattle.tool_text.specs.declared.tool.Instr.{Instr}
 use Rattle.tool_text.specs.declared.tool.Instr.TheVariants as instrs
 use Rattle.tool_text.specs.declared.fault.ToolFault.{ToolFault}
 use Rattle.tool_text.specs.declared.fault.ToolFault.TheVariants.{BadTool}
-use Rattle.tool_text.specs.Grammar.{AreBlanks, AreDistinct, AreLines, AreOperands, IsInstr, IsLabel, IsLine, IsStart, IsTool, Labels, first_line, is_lower, says, word_of}
-use Rattle.tool_text.specs.Reading.{ReadsTool, op_of, after_byte, after_label, are_distinct, before_byte, instr_in, instr_of, is_label, is_label_byte, is_labelled, label_of, line_of, lines_of, operand_texts, place_of, skip_blanks, tool_from, tool_in, tool_of, with_line}
+use Rattle.tool_text.specs.Grammar.{AreBlanks, AreDistinct, AreLines, AreOperands, IsInstr, IsLabel, IsLine, IsStart, IsTool, Labels, first_line, is_in_version, is_lower, says, word_of}
+use Rattle.tool_text.specs.Reading.{ReadsTool, op_of, after_byte, after_label, are_distinct, before_byte, if_in_version, instr_in, instr_of, is_label, is_label_byte, is_labelled, label_of, line_of, lines_of, operand_texts, place_of, skip_blanks, tool_after, tool_from, tool_in, tool_of, with_line}
 use Rattle.tool_text.proofs.Values.{equal_numbers}
 use Rattle.tool_text.proofs.Places.{are_labels, distinct_complete, distinct_sound, label_complete, label_sound}
 use Rattle.tool_text.proofs.Commas.{separated_complete, separated_sound}
@@ -91,6 +91,7 @@ word_lacks (instrs.Say x) = ((refl, (refl, (refl, tt))), (refl, (refl, (refl, tt
 word_lacks (instrs.Read r x label) = ((refl, (refl, (refl, (refl, tt)))), (refl, (refl, (refl, (refl, tt)))))
 word_lacks (instrs.Probe r x) = ((refl, (refl, (refl, (refl, (refl, tt))))), (refl, (refl, (refl, (refl, (refl, tt))))))
 word_lacks (instrs.List r x) = ((refl, (refl, (refl, (refl, tt)))), (refl, (refl, (refl, (refl, tt)))))
+word_lacks (instrs.Match r x y) = ((refl, (refl, (refl, (refl, tt)))), (refl, (refl, (refl, (refl, tt)))))
 word_lacks (instrs.Write x y) = ((refl, (refl, (refl, (refl, (refl, tt))))), (refl, (refl, (refl, (refl, (refl, tt))))))
 
 word_no_label : (instr : Instr) (rest : List ℕ) → is_label (word_of instr ++ 32 ∷ rest) ≡ false
@@ -110,6 +111,7 @@ word_no_label (instrs.Say x) rest = refl
 word_no_label (instrs.Read r x label) rest = refl
 word_no_label (instrs.Probe r x) rest = refl
 word_no_label (instrs.List r x) rest = refl
+word_no_label (instrs.Match r x y) rest = refl
 word_no_label (instrs.Write x y) rest = refl
 
 word_no_blank : (instr : Instr) (rest : List ℕ) → skip_blanks (word_of instr ++ rest) ≡ word_of instr ++ rest
@@ -129,6 +131,7 @@ word_no_blank (instrs.Say x) rest = refl
 word_no_blank (instrs.Read r x label) rest = refl
 word_no_blank (instrs.Probe r x) rest = refl
 word_no_blank (instrs.List r x) rest = refl
+word_no_blank (instrs.Match r x y) rest = refl
 word_no_blank (instrs.Write x y) rest = refl
 
 -- ## Instructions
@@ -325,19 +328,37 @@ lines_complete labels (line ∷ lines) (label ∷ own) (instr ∷ tool) ok disti
 tool_sound : (text : List ℕ) (tool : List Instr) → tool_of text ≡ Some tool → IsTool text tool
 tool_sound text tool e = by_lines (slice_split (λ b. b == 10) text) refl e
   where
-    by_lines : (lines : List (List ℕ)) → slice_split (λ b. b == 10) text ≡ lines → tool_from lines ≡ Some tool → IsTool text tool
-    by_lines [] is read = cc
-    by_lines (first ∷ rest) is read =
+    of_version : (second : Bool) (first : List ℕ) (rest : List (List ℕ)) → slice_split (λ b. b == 10) text ≡ first ∷ rest → bytes_eq first (first_line second) ≡ true
+        → tool_after second rest ≡ Some tool → IsTool text tool
+    of_version second first rest is named read =
         let lines = filter says rest in
-        let named = if_some (bytes_eq first first_line) (tool_in lines) tool read in
-        let tests = if_some (are_distinct (map label_of lines)) (lines_of (place_of (map label_of lines)) lines) tool named.1 in
+        let own = then_some (if_in_version second) (tool_in lines) tool read in
+        let whole = if_some (is_in_version second own.0) (Some own.0) tool own.2 in
+        let inside : tool_in lines ≡ Some tool = own.1 ∙ whole.1 in
+        let tests = if_some (are_distinct (map label_of lines)) (lines_of (place_of (map label_of lines)) lines) tool inside in
         record {
+          second = second;
           rest = rest;
           labels = map label_of lines;
-          first = is ∙ ap (λ l. l ∷ rest) ((bytes_eq-Decides first first_line).0 named.0);
+          first = is ∙ ap (λ l. l ∷ rest) ((bytes_eq-Decides first (first_line second)).0 named);
           lines = lines_sound (map label_of lines) lines tool (are_labels lines) tests.1;
           distinct = distinct_sound (map label_of lines) tests.0;
+          version = ap (is_in_version second) (sym (same_Some own.0 tool whole.1)) ∙ whole.0;
         }
+
+    by_first : (t u : Bool) (first : List ℕ) (rest : List (List ℕ)) → slice_split (λ b. b == 10) text ≡ first ∷ rest → bytes_eq first (first_line true) ≡ t
+        → bytes_eq first (first_line false) ≡ u → cond t (tool_after true rest) (cond u (tool_after false rest) None) ≡ Some tool → IsTool text tool
+    by_first true u first rest is second other read = of_version true first rest is second read
+    by_first false true first rest is second other read = of_version false first rest is other read
+    by_first false false first rest is second other read = cc
+
+    by_lines : (lines : List (List ℕ)) → slice_split (λ b. b == 10) text ≡ lines → tool_from lines ≡ Some tool → IsTool text tool
+    by_lines [] is read = cc
+    by_lines (first ∷ rest) is read = by_first (bytes_eq first (first_line true)) (bytes_eq first (first_line false)) first rest is refl refl read
+
+by_version : (second : Bool) (rest : List (List ℕ)) → tool_from (first_line second ∷ rest) ≡ tool_after second rest
+by_version true rest = refl
+by_version false rest = refl
 
 tool_complete : (text : List ℕ) (tool : List Instr) → IsTool text tool → tool_of text ≡ Some tool
 tool_complete text tool t =
@@ -345,9 +366,10 @@ tool_complete text tool t =
     let own : t.labels ≡ map label_of lines = labels_are t.labels lines t.labels tool t.lines in
     let distinct : AreDistinct (map label_of lines) = subst AreDistinct own t.distinct in
     let each : AreLines (map label_of lines) lines (map label_of lines) tool = subst (λ (ls : Labels). AreLines ls lines ls tool) own t.lines in
-    ap tool_from t.first
-    ∙ ap (λ b. cond b (lines_of (place_of (map label_of lines)) lines) None) (distinct_complete (map label_of lines) distinct)
-    ∙ lines_complete (map label_of lines) lines (map label_of lines) tool (are_labels lines) distinct each
+    ap tool_from t.first ∙ by_version t.second t.rest
+    ∙ ap (λ b. option_and_then (if_in_version t.second) (cond b (lines_of (place_of (map label_of lines)) lines) None)) (distinct_complete (map label_of lines) distinct)
+    ∙ ap (option_and_then (if_in_version t.second)) (lines_complete (map label_of lines) lines (map label_of lines) tool (are_labels lines) distinct each)
+    ∙ ap (λ b. cond b (Some tool) None) t.version
 
 pub read : (text : List ℕ) (tool : List Instr) → (tool_of text ≡ Some tool) ↔ IsTool text tool
 read text tool = (tool_sound text tool, tool_complete text tool)

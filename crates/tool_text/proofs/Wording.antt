@@ -1,5 +1,5 @@
 -- The words and operands of instructions are read as the grammar says.
-use Rattle.std.proofs.Common.{◌≡◌, ℕ, true, false, Bool, cond, List, [], ◌∷◌, codes, Option, Some, None, inl, inr, refl, ap, sym, ◌∙◌, subst, arith, IsTrue}
+use Rattle.std.proofs.Common.{◌≡◌, ℕ, true, false, Bool, cond, ◌==◌, List, [], ◌∷◌, length, codes, Option, Some, None, inl, inr, refl, ap, sym, ◌∙◌, subst, arith, IsTrue}
 use Rattle.std.specs.List.{AllByRecursion}
 use Rattle.std.specs.Option.{option_map, option_and_then}
 use Rattle.std.specs.Str.{bytes_eq}
@@ -13,7 +13,7 @@ use Rattle.tool_text.specs.declared.tool.Instr.TheVariants as instrs
 use Rattle.tool_text.specs.declared.op.Op.{Op}
 use Rattle.tool_text.specs.declared.op.Op.TheVariants as ops
 use Rattle.tool_text.specs.Grammar.{AreDistinct, AreOperands, IsCode, IsDigits, IsLabel, IsRegister, IsTarget, IsValue, Labels, One, Three, Two, is_digit, is_lower, word_of}
-use Rattle.tool_text.specs.Reading.{all_three, both, code_of, instr_of, is_label_byte, lone, op_of, operand_of, pair, place_of, quadruple, register_of, register_operand, register_target, register_two, split_of, triple, two_operands, two_target, with_pair}
+use Rattle.tool_text.specs.Reading.{all_three, both, code_of, instr_of, is_label_byte, full_listing, matching_listing, listing_of, lone, op_of, operand_of, pair, place_of, quadruple, register_of, register_operand, register_target, register_two, split_of, triple, two_operands, two_target, with_pair}
 use Rattle.tool_text.proofs.Values.{code_complete, code_sound, map_some, register_complete, register_sound, value_complete, value_sound}
 use Rattle.tool_text.proofs.Places.{target_complete, target_sound}
 use Rattle.tool_text.proofs.Commas.{IsPart, is_solid, solid_part, string_part}
@@ -90,6 +90,7 @@ op_in (instrs.Say x) = ops.Say
 op_in (instrs.Read r x label) = ops.Read
 op_in (instrs.Probe r x) = ops.Probe
 op_in (instrs.List r x) = ops.List
+op_in (instrs.Match r x y) = ops.List
 op_in (instrs.Write x y) = ops.Write
 
 pub op_read : (instr : Instr) → op_of (word_of instr) ≡ Some (op_in instr)
@@ -109,6 +110,7 @@ op_read (instrs.Say x) = refl
 op_read (instrs.Read r x label) = refl
 op_read (instrs.Probe r x) = refl
 op_read (instrs.List r x) = refl
+op_read (instrs.Match r x y) = refl
 op_read (instrs.Write x y) = refl
 
 -- ## Numbers of operands
@@ -243,6 +245,19 @@ one_of : {X : Type 0} (A : List ℕ → X → Type 0) (read : List ℕ → Optio
     → option_and_then read (lone texts) ≡ Some x → One (λ a. A a x) texts
 one_of A read sound texts x e = let cut = then_some read (lone texts) x e in (cut.0, lone_sound texts cut.0 cut.1, sound cut.0 x cut.2)
 
+abbrev as_list : ℕ × Operand → Instr
+as_list p = instrs.List p.0 p.1
+
+abbrev as_match : ℕ × Operand × Operand → Instr
+as_match p = instrs.Match p.0 p.1 p.2
+
+listing_sound : (labels : Labels) (texts : List (List ℕ)) (instr : Instr) → listing_of texts ≡ Some instr → Made labels ops.List texts instr
+listing_sound labels texts instr e = by_number (length texts == 3) e
+  where
+    by_number : (t : Bool) → cond t (matching_listing texts) (full_listing texts) ≡ Some instr → Made labels ops.List texts instr
+    by_number true e = made_of labels ops.List texts instr as_match (register_two texts) e (λ p is. record { is_op = refl; word = refl; operands = register_two_sound texts p is })
+    by_number false e = made_of labels ops.List texts instr as_list (register_operand texts) e (λ p is. record { is_op = refl; word = refl; operands = register_operand_sound texts p is })
+
 pub instr_sound : (labels : Labels) (op : Op) (texts : List (List ℕ)) (instr : Instr) → instr_of (place_of labels) op texts ≡ Some instr → Made labels op texts instr
 instr_sound labels ops.Set texts instr e =
     made_of labels ops.Set texts instr (λ (p : ℕ × Operand). instrs.Set p.0 p.1) (register_operand texts) e (λ p is. record { is_op = refl; word = refl; operands = register_operand_sound texts p is })
@@ -273,8 +288,7 @@ instr_sound labels ops.Read texts instr e =
     made_of labels ops.Read texts instr (λ (p : ℕ × Operand × ℕ). instrs.Read p.0 p.1 p.2) (register_target (place_of labels) texts) e (λ p is. record { is_op = refl; word = refl; operands = register_target_sound labels texts p is })
 instr_sound labels ops.Probe texts instr e =
     made_of labels ops.Probe texts instr (λ (p : ℕ × Operand). instrs.Probe p.0 p.1) (register_operand texts) e (λ p is. record { is_op = refl; word = refl; operands = register_operand_sound texts p is })
-instr_sound labels ops.List texts instr e =
-    made_of labels ops.List texts instr (λ (p : ℕ × Operand). instrs.List p.0 p.1) (register_operand texts) e (λ p is. record { is_op = refl; word = refl; operands = register_operand_sound texts p is })
+instr_sound labels ops.List texts instr e = listing_sound labels texts instr e
 instr_sound labels ops.Write texts instr e =
     made_of labels ops.Write texts instr (λ (p : Operand × Operand). instrs.Write p.0 p.1) (two_operands texts) e (λ p is. record { is_op = refl; word = refl; operands = two_operands_sound texts p is })
 
@@ -346,6 +360,7 @@ are_parts labels texts (instrs.Say x) ok h = one_part (λ a. IsValue a x) texts 
 are_parts labels texts (instrs.Read r x label) ok h = three_parts (λ a. IsRegister a r) (λ a. IsValue a x) (λ a. IsTarget labels a label) texts (λ a. register_part a r) (λ a. value_part a x) (λ a h. label_part a (ok a label h)) h
 are_parts labels texts (instrs.Probe r x) ok h = two_parts (λ a. IsRegister a r) (λ a. IsValue a x) texts (λ a. register_part a r) (λ a. value_part a x) h
 are_parts labels texts (instrs.List r x) ok h = two_parts (λ a. IsRegister a r) (λ a. IsValue a x) texts (λ a. register_part a r) (λ a. value_part a x) h
+are_parts labels texts (instrs.Match r x y) ok h = three_parts (λ a. IsRegister a r) (λ a. IsValue a x) (λ a. IsValue a y) texts (λ a. register_part a r) (λ a. value_part a x) (λ a. value_part a y) h
 are_parts labels texts (instrs.Write x y) ok h = two_parts (λ a. IsValue a x) (λ a. IsValue a y) texts (λ a. value_part a x) (λ a. value_part a y) h
 
 register_operand_complete : (texts : List (List ℕ)) (r : ℕ) (x : Operand) → Two (λ a. IsRegister a r) (λ a. IsValue a x) texts → register_operand texts ≡ Some (r, x)
@@ -398,5 +413,10 @@ instr_complete labels texts (instrs.Say x) distinct h =
     ap (λ ts. option_map instrs.Say (option_and_then operand_of (lone ts))) h.1 ∙ ap (option_map instrs.Say) (value_complete h.0 x h.2)
 instr_complete labels texts (instrs.Read r x label) distinct h = ap (option_map (λ (p : ℕ × Operand × ℕ). instrs.Read p.0 p.1 p.2)) (register_target_complete labels texts r x label distinct h)
 instr_complete labels texts (instrs.Probe r x) distinct h = ap (option_map (λ (p : ℕ × Operand). instrs.Probe p.0 p.1)) (register_operand_complete texts r x h)
-instr_complete labels texts (instrs.List r x) distinct h = ap (option_map (λ (p : ℕ × Operand). instrs.List p.0 p.1)) (register_operand_complete texts r x h)
+instr_complete labels texts (instrs.List r x) distinct h =
+    ap (λ t. cond t (matching_listing texts) (full_listing texts)) (ap (λ (ts : List (List ℕ)). length ts == 3) h.2)
+    ∙ ap (option_map as_list) (register_operand_complete texts r x h)
+instr_complete labels texts (instrs.Match r x y) distinct h =
+    ap (λ t. cond t (matching_listing texts) (full_listing texts)) (ap (λ (ts : List (List ℕ)). length ts == 3) h.3)
+    ∙ ap (option_map as_match) (register_two_complete texts r x y h)
 instr_complete labels texts (instrs.Write x y) distinct h = ap (option_map (λ (p : Operand × Operand). instrs.Write p.0 p.1)) (two_operands_complete texts x y h)

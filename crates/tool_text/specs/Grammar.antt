@@ -1,7 +1,8 @@
 -- The grammar of tools: which text has which lines.
-use Rattle.std.specs.Prelude.{◌≡◌, ◌≢◌, ℕ, ◌<◌, ◌≤◌, Bool, false, not, IsTrue, ◌&&◌, ◌||◌, ◌==◌, nat_le, List}
+use Rattle.std.specs.Prelude.{◌≡◌, ◌≢◌, ℕ, ◌<◌, ◌≤◌, Bool, true, false, not, IsTrue, ◌&&◌, ◌||◌, ◌==◌, nat_le, List}
 use Rattle.std.specs.Prelude.{[], ◌∷◌, ◌++◌, codes, filter, Option, Some, None, slice_get, ◌⊎◌}
-use Rattle.std.specs.List.{AllByRecursion, slice_split}
+use Rattle.std.specs.Prelude.{if◌then◌else◌}
+use Rattle.std.specs.List.{AllByRecursion, list_any, slice_split}
 use Rattle.std.specs.Str.Parse.{digits_value}
 use Rattle.tool_text.specs.declared.limits.TheConstants.{REGISTERS, MAX_EXIT}
 use Rattle.tool_text.specs.declared.tool.Operand.{Operand}
@@ -105,6 +106,7 @@ word_of (instrs.Say x) = codes "say"
 word_of (instrs.Read r x label) = codes "read"
 word_of (instrs.Probe r x) = codes "probe"
 word_of (instrs.List r x) = codes "list"
+word_of (instrs.Match r x y) = codes "list"
 word_of (instrs.Write x y) = codes "write"
 
 -- texts of a number of operands, each of its kind
@@ -146,6 +148,8 @@ AreOperands labels texts (instrs.Read r x label) =
     Three (λ a. IsRegister a r) (λ a. IsValue a x) (λ a. IsTarget labels a label) texts
 AreOperands labels texts (instrs.Probe r x) = Two (λ a. IsRegister a r) (λ a. IsValue a x) texts
 AreOperands labels texts (instrs.List r x) = Two (λ a. IsRegister a r) (λ a. IsValue a x) texts
+AreOperands labels texts (instrs.Match r x y) =
+    Three (λ a. IsRegister a r) (λ a. IsValue a x) (λ a. IsValue a y) texts
 AreOperands labels texts (instrs.Write x y) = Two (λ a. IsValue a x) (λ a. IsValue a y) texts
 
 -- spaces, and nothing else
@@ -198,15 +202,44 @@ abbrev pub says : List ℕ → Bool
 says [] = false
 says (b ∷ bs) = not (b == 35)
 
--- the first line of each tool
-abbrev pub first_line : List ℕ
-first_line = codes "tool 1"
+-- ## Versions
 
--- The text of a tool: lines that end at newlines, the first of them fixed; those after it that say
--- something have these instructions, and labels that differ.
+-- the first line of a tool: there are two versions of the language
+abbrev pub first_line : Bool → List ℕ
+first_line second = if second then codes "tool 2" else codes "tool 1"
+
+-- whether an instruction stands in tools of the second version alone
+abbrev pub is_of_second : Instr → Bool
+is_of_second (instrs.Set r x) = false
+is_of_second (instrs.Cat r x y) = false
+is_of_second (instrs.Len r x) = false
+is_of_second (instrs.Head r x n) = false
+is_of_second (instrs.Tail r x n) = false
+is_of_second (instrs.Split r s x y) = false
+is_of_second (instrs.Arg r n label) = false
+is_of_second (instrs.Args r) = false
+is_of_second (instrs.Env r x label) = false
+is_of_second (instrs.Eq x y label) = false
+is_of_second (instrs.Jump label) = false
+is_of_second (instrs.Exit n) = false
+is_of_second (instrs.Say x) = false
+is_of_second (instrs.Read r x label) = false
+is_of_second (instrs.Probe r x) = false
+is_of_second (instrs.List r x) = false
+is_of_second (instrs.Match r x y) = true
+is_of_second (instrs.Write x y) = false
+
+-- whether all instructions of a tool stand in this version: the second has those of the first
+abbrev pub is_in_version : Bool → List Instr → Bool
+is_in_version second tool = second || not (list_any is_of_second tool)
+
+-- The text of a tool: lines that end at newlines, the first of which says its version; those after it that say
+-- something have these instructions, all of that version, and labels that differ.
 pub record IsTool (text : List ℕ) (tool : List Instr) : Type 0 where
+  pub second : Bool
   pub rest : List (List ℕ)
   pub labels : Labels
-  pub first : slice_split (λ b. b == 10) text ≡ first_line ∷ rest
+  pub first : slice_split (λ b. b == 10) text ≡ first_line second ∷ rest
   pub lines : AreLines labels (filter says rest) labels tool
   pub distinct : AreDistinct labels
+  pub version : IsTrue (is_in_version second tool)

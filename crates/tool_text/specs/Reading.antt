@@ -2,11 +2,10 @@
 use Rattle.std.specs.Prelude.{ℕ, suc, ◌+◌, ◌≡◌, Bool, true, false, not, ◌&&◌, ◌||◌, ◌==◌, nat_lt, nat_le}
 use Rattle.std.specs.Prelude.{slice_index, List, [], ◌∷◌, ◌++◌, length, map, reverse, codes, filter, Option}
 use Rattle.std.specs.Prelude.{Some, None, Result, Ok, Err, option_map, option_and_then, if◌then◌else◌}
-use Rattle.std.specs.Borrow.{Bor}
 use Rattle.std.specs.List.{list_all, list_any, slice_split, before_first, after_first, onto_first}
 use Rattle.std.specs.Str.{bytes_eq}
 use Rattle.std.specs.Str.Parse.{digits_value}
-use Rattle.tool_text.specs.Grammar.{Labels, first_line, is_digit, is_lower, says}
+use Rattle.tool_text.specs.Grammar.{Labels, first_line, is_digit, is_in_version, is_lower, says}
 use Rattle.tool_text.specs.declared.limits.TheConstants.{REGISTERS, MAX_EXIT}
 use Rattle.tool_text.specs.declared.fault.ToolFault.{ToolFault}
 use Rattle.tool_text.specs.declared.fault.ToolFault.TheVariants as faults
@@ -219,6 +218,16 @@ split_of texts =
     (λ p. with_pair (both (register_of p.0) (register_of p.1)) (both (operand_of p.2) (operand_of p.3)))
     (quadruple texts)
 
+abbrev pub full_listing : List (List ℕ) → Option Instr
+full_listing texts = option_map (λ p. instrs.List p.0 p.1) (register_operand texts)
+
+abbrev pub matching_listing : List (List ℕ) → Option Instr
+matching_listing texts = option_map (λ p. instrs.Match p.0 p.1 p.2) (register_two texts)
+
+-- a listing: with a third operand it is one by a pattern
+abbrev pub listing_of : List (List ℕ) → Option Instr
+listing_of texts = if length texts == 3 then matching_listing texts else full_listing texts
+
 -- ## Instructions
 
 abbrev pub op_of : List ℕ → Option Op
@@ -258,7 +267,7 @@ instr_of places ops.Exit texts = option_map instrs.Exit (option_and_then code_of
 instr_of places ops.Say texts = option_map instrs.Say (option_and_then operand_of (lone texts))
 instr_of places ops.Read texts = option_map (λ p. instrs.Read p.0 p.1 p.2) (register_target places texts)
 instr_of places ops.Probe texts = option_map (λ p. instrs.Probe p.0 p.1) (register_operand texts)
-instr_of places ops.List texts = option_map (λ p. instrs.List p.0 p.1) (register_operand texts)
+instr_of places ops.List texts = listing_of texts
 instr_of places ops.Write texts = option_map (λ p. instrs.Write p.0 p.1) (two_operands texts)
 
 -- what precedes the first such byte, and what follows it
@@ -310,9 +319,19 @@ abbrev pub tool_in : List (List ℕ) → Option (List Instr)
 tool_in lines =
     if are_distinct (map label_of lines) then lines_of (place_of (map label_of lines)) lines else None
 
+-- a tool, where its instructions stand in this version
+abbrev pub if_in_version : Bool → List Instr → Option (List Instr)
+if_in_version second tool = if is_in_version second tool then Some tool else None
+
+-- the tool of this version that the lines after the first have
+abbrev pub tool_after : Bool → List (List ℕ) → Option (List Instr)
+tool_after second rest = option_and_then (if_in_version second) (tool_in (filter says rest))
+
 abbrev pub tool_from : List (List ℕ) → Option (List Instr)
 tool_from [] = None
-tool_from (first ∷ rest) = if bytes_eq first first_line then tool_in (filter says rest) else None
+tool_from (first ∷ rest) =
+    if bytes_eq first (first_line true) then tool_after true rest
+    else if bytes_eq first (first_line false) then tool_after false rest else None
 
 -- the tool that has this text, if there is one
 abbrev pub tool_of : List ℕ → Option (List Instr)

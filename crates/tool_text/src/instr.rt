@@ -2,7 +2,9 @@
 ghost use Rattle.std.specs.Prelude.{◌≡◌, Some, None, MatchResult};
 ghost use Rattle.tool_text.specs.Tables.{place_in};
 ghost use Rattle.tool_text.specs.Reading.{ReadsTool, instr_in as instr_read, instr_of as instr_made};
-ghost use Rattle.tool_text.specs.Reading.{line_of as line_read, lone as one_of, pair as two_of};
+ghost use Rattle.tool_text.specs.Reading.{line_of as line_read, full_listing as full_listing_read};
+ghost use Rattle.tool_text.specs.Reading.{matching_listing as matching_listing_read, listing_of as listing_read};
+ghost use Rattle.tool_text.specs.Reading.{lone as one_of, pair as two_of};
 ghost use Rattle.tool_text.specs.Reading.{quadruple as four_of, register_operand as register_operand_read};
 ghost use Rattle.tool_text.specs.Reading.{register_target as register_target_read};
 ghost use Rattle.tool_text.specs.Reading.{register_two as register_two_read, split_of as split_read};
@@ -127,19 +129,45 @@ fn split(alloc: Global, texts: &[&[u8]]) -> Result<Instr, ToolFault>
     Ok(Instr::Split(r, s, x, y))
 }
 
+// A listing of all names.
+fn full_listing(alloc: Global, texts: &[&[u8]]) -> Result<Instr, ToolFault>
+    ensures { ReadsTool result (full_listing_read (texts_now texts.now)) }
+{
+    let (r, x) = register_operand(alloc, texts)?;
+    Ok(Instr::List(r, x))
+}
+
+// A listing of the names that a pattern matches.
+fn matching_listing(alloc: Global, texts: &[&[u8]]) -> Result<Instr, ToolFault>
+    ensures { ReadsTool result (matching_listing_read (texts_now texts.now)) }
+{
+    let (r, x, y) = register_two(alloc, texts)?;
+    Ok(Instr::Match(r, x, y))
+}
+
+// A listing: with a third operand it is one by a pattern.
+fn listing(alloc: Global, texts: &[&[u8]]) -> Result<Instr, ToolFault>
+    ensures { ReadsTool result (listing_read (texts_now texts.now)) }
+{
+    if texts.len() == 3 {
+        return matching_listing(alloc, texts);
+    }
+    full_listing(alloc, texts)
+}
+
 fn instr_of(alloc: Global, table: &Table, op: Op, texts: &[&[u8]]) -> Result<Instr, ToolFault>
     ensures { ReadsTool result (instr_made (place_in table.now) op (texts_now texts.now)) }
 {
     match op {
-        Op::Set | Op::Len | Op::Probe | Op::List => {
+        Op::Set | Op::Len | Op::Probe => {
             let (r, x) = register_operand(alloc, texts)?;
             Ok(match op {
                 Op::Set => Instr::Set(r, x),
                 Op::Len => Instr::Len(r, x),
-                Op::Probe => Instr::Probe(r, x),
-                _ => Instr::List(r, x),
+                _ => Instr::Probe(r, x),
             })
         }
+        Op::List => listing(alloc, texts),
         Op::Cat | Op::Head | Op::Tail => {
             let (r, x, y) = register_two(alloc, texts)?;
             Ok(match op {

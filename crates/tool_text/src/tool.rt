@@ -69,6 +69,8 @@ pub enum Instr {
     Read(Register, Operand, usize),
     Probe(Register, Operand),
     List(Register, Operand),
+    /// A listing of the names that a pattern matches: only in tools of the second version.
+    Match(Register, Operand, Operand),
     Write(Operand, Operand),
 }
 

@@ -1,9 +1,9 @@
 -- What is written for a record.
-use Rattle.std.proofs.Common.{◌≡◌, ℕ, ◌<◌, ◌+◌, List, [], ◌∷◌, ◌++◌, take, length, get_or, Some, refl, sym, ap, ◌∙◌, append_assoc, append-nil}
+use Rattle.std.proofs.Common.{Bool, ◌≡◌, ℕ, ◌<◌, ◌+◌, List, [], ◌∷◌, ◌++◌, take, length, get_or, Some, refl, sym, ap, ◌∙◌, append_assoc, append-nil}
 use Rattle.std.proofs.lemmas.List.{take_more}
 use Rattle.sha2.specs.Sha256.{sha256}
 use Rattle.bx_tree.specs.Trees.{Files}
-use Rattle.observed.specs.Texts.{paths_text, read_paths_text}
+use Rattle.observed.specs.Texts.{has_match, paths_text, read_paths_text}
 use Rattle.observed.specs.declared.ask.Ask.{Ask}
 use Rattle.observed.specs.declared.access.Answer.{Answer}
 use Rattle.pip_model_types.specs.Made.{made_files}
@@ -71,24 +71,25 @@ all_joined c0 c1 c2 c3 c4 x y files given made h0 h1 hx h2 h3 h4 =
 
 -- ## All that is written
 
-pub written_is : (f : Facts) (w : Written) (d e : Desc) (ps : List Ask) (paths_now : List ℕ) (as' bs : List Answer) (files : Files)
-    → d ≡ f.desc → e ≡ f.desc → ps ≡ f.paths → as' ≡ f.answers → bs ≡ f.answers → files ≡ outcome_files f.outcome
+pub written_is : (f : Facts) (w : Written) (d e : Desc) (ps : List Ask) (second : Bool) (paths_now : List ℕ) (as' bs : List Answer) (files : Files)
+    → second ≡ has_match f.paths → d ≡ f.desc → e ≡ f.desc → ps ≡ f.paths → as' ≡ f.answers → bs ≡ f.answers → files ≡ outcome_files f.outcome
     → w.weak.text.items ≡ weak_text (weak_parts d) → w.weak.digest ≡ sha256 w.weak.text.items → read_weak_text w.weak.text.items ≡ Some (weak_parts d)
     → w.paths ≡ paths_text ps → paths_now ≡ sha256 w.paths → read_paths_text w.paths ≡ Some ps
-    → w.strong.text.items ≡ strong_text (strong_parts w.weak.digest paths_now as') → w.strong.digest ≡ sha256 w.strong.text.items
+    → w.strong.text.items ≡ strong_text (strong_parts second w.weak.digest paths_now as') → w.strong.digest ≡ sha256 w.strong.text.items
     → w.entry.items ≡ entry_text (entry_with w.weak.digest paths_now w.strong.digest files)
     → read_entry_text w.entry.items ≡ Some (entry_with w.weak.digest paths_now w.strong.digest files)
     → w.contents.items ≡ desc_contents e ++ (given_contents bs ++ contents_of files) → IsWritten f w
-written_is f w d e ps paths_now as' bs files hd he hp ha hb hf weak weak_digest weak_read paths paths_digest_is paths_read strong strong_digest entry entry_read contents =
+written_is f w d e ps second paths_now as' bs files hs hd he hp ha hb hf weak weak_digest weak_read paths paths_digest_is paths_read strong strong_digest entry entry_read contents =
     let weak_is : w.weak.text.items ≡ weak_text (weak_parts f.desc) = weak ∙ ap (λ (x : Desc). weak_text (weak_parts x)) hd in
     let weak_d : w.weak.digest ≡ weak_of f.desc = weak_digest ∙ ap sha256 weak_is in
     let paths_is : w.paths ≡ paths_text f.paths = paths ∙ ap paths_text hp in
     let paths_d : paths_now ≡ paths_digest f = paths_digest_is ∙ ap sha256 paths_is in
     let strong_is : w.strong.text.items ≡ answers_text f =
     strong
-    ∙ ap (λ x. strong_text (strong_parts x paths_now as')) weak_d
-    ∙ ap (λ x. strong_text (strong_parts (weak_of f.desc) x as')) paths_d
-    ∙ ap (λ (xs : List Answer). strong_text (strong_parts (weak_of f.desc) (paths_digest f) xs)) ha in
+    ∙ ap (λ s. strong_text (strong_parts s w.weak.digest paths_now as')) hs
+    ∙ ap (λ x. strong_text (strong_parts (has_match f.paths) x paths_now as')) weak_d
+    ∙ ap (λ x. strong_text (strong_parts (has_match f.paths) (weak_of f.desc) x as')) paths_d
+    ∙ ap (λ (xs : List Answer). strong_text (strong_parts (has_match f.paths) (weak_of f.desc) (paths_digest f) xs)) ha in
     let strong_d : w.strong.digest ≡ sha256 (answers_text f) = strong_digest ∙ ap sha256 strong_is in
     let entry_same : entry_with w.weak.digest paths_now w.strong.digest files ≡ record_entry f =
     ap (λ x. entry_with x paths_now w.strong.digest files) weak_d

@@ -1,10 +1,11 @@
 -- What selectors lead to, one after another.
-use Rattle.std.proofs.Common.{◌≡◌, ℕ, ◌+◌, ◌<◌, ◌≤◌, List, [], ◌∷◌, length, get_or, drop, map, Option, Some, None, Result, Ok, Err, IfOk, IfSome, refl, sym, ap, ◌∙◌, subst, inl, inr}
+use Rattle.std.proofs.Common.{Bool, ◌≡◌, ℕ, ◌+◌, ◌<◌, ◌≤◌, List, [], ◌∷◌, length, get_or, drop, map, Option, Some, None, Result, Ok, Err, IfOk, IfSome, refl, sym, ap, ◌∙◌, subst, inl, inr}
 use Rattle.std.specs.Prelude.{IsTrue}
 use Rattle.sha2.specs.Sha256.{sha256}
 use Rattle.bx_tree.specs.Paths.{Atoms}
 use Rattle.bx_io.specs.Holdings.{Holdings}
 use Rattle.bx_io.specs.Told.{Stays}
+use Rattle.observed.specs.Texts.{has_match}
 use Rattle.observed.specs.declared.ask.Ask.{Ask}
 use Rattle.observed.specs.declared.access.Answer.{Answer}
 use Rattle.pip_model_types.specs.declared.desc.Desc.{Desc}
@@ -75,36 +76,39 @@ pub no_entry_on : (held : Option Holdings) (d : Desc) (s : Selector) (asks : Lis
 no_entry_on held d s asks given h = λ S is f there. h S is f.entry there.entry
 
 -- the digest of the strong text that was written
-pub one_digest : (d : Desc) (weak paths : List ℕ) (given written : List Answer) (digest : List ℕ) → weak ≡ weak_of d → written ≡ given
-    → digest ≡ sha256 (strong_text (strong_parts weak paths written)) → digest ≡ sha256 (strong_text (strong_parts (weak_of d) paths given))
-one_digest d weak paths given written digest weak_is given_is is =
-    is ∙ ap (λ w. sha256 (strong_text (strong_parts w paths written))) weak_is ∙ ap (λ as'. sha256 (strong_text (strong_parts (weak_of d) paths as'))) given_is
+pub one_digest : (asks : List Ask) (d : Desc) (second : Bool) (weak paths : List ℕ) (given written : List Answer) (digest : List ℕ) → second ≡ has_match asks → weak ≡ weak_of d
+    → written ≡ given → digest ≡ sha256 (strong_text (strong_parts second weak paths written))
+    → digest ≡ sha256 (strong_text (strong_parts (has_match asks) (weak_of d) paths given))
+one_digest asks d second weak paths given written digest second_is weak_is given_is is =
+    is ∙ ap (λ s. sha256 (strong_text (strong_parts s weak paths written))) second_is
+    ∙ ap (λ w. sha256 (strong_text (strong_parts (has_match asks) w paths written))) weak_is
+    ∙ ap (λ as'. sha256 (strong_text (strong_parts (has_match asks) (weak_of d) paths as'))) given_is
 
 -- answers that are those of now, and give the strong digest
 pub asked_found : (held : Option Holdings) (d : Desc) (see : Ask → Answer) (s : Selector) (asks : List Ask) (given : List Answer) (r : Option FoundParts)
-    → given ≡ map see asks → sha256 (strong_text (strong_parts (weak_of d) s.paths given)) ≡ s.strong
+    → given ≡ map see asks → sha256 (strong_text (strong_parts (has_match asks) (weak_of d) s.paths given)) ≡ s.strong
     → FindsOne held (λ S f. IsOn S d s asks given f) r → FindsOne held (λ S f. IsStrongMatch S d see s asks f) r
 asked_found held d see s asks given r given_is asked h =
     by_found r (subst (λ as'. FindsOne held (λ S f. IsOn S d s asks as' f) r) given_is h)
   where
     now : sha256 (asked_text d see s.paths asks) ≡ s.strong
-    now = ap (λ as'. sha256 (strong_text (strong_parts (weak_of d) s.paths as'))) (sym given_is) ∙ asked
+    now = ap (λ as'. sha256 (strong_text (strong_parts (has_match asks) (weak_of d) s.paths as'))) (sym given_is) ∙ asked
 
     by_found : (r : Option FoundParts) → FindsOne held (λ S f. IsOn S d s asks (map see asks) f) r → FindsOne held (λ S f. IsStrongMatch S d see s asks f) r
     by_found None h = λ S is f there. h S is f there.on
     by_found (Some f) h = λ S is. record { asked = now; on = h S is }
 
 pub asked_given : {E : Type 0} (held : Option Holdings) (d : Desc) (see : Ask → Answer) (s : Selector) (asks : List Ask) (given : List Answer)
-    (r : Result (Option FoundParts) E) → given ≡ map see asks → sha256 (strong_text (strong_parts (weak_of d) s.paths given)) ≡ s.strong
+    (r : Result (Option FoundParts) E) → given ≡ map see asks → sha256 (strong_text (strong_parts (has_match asks) (weak_of d) s.paths given)) ≡ s.strong
     → IfOk r (FindsOne held (λ S f. IsOn S d s asks given f)) → IfOk r (FindsOne held (λ S f. IsStrongMatch S d see s asks f))
 asked_given held d see s asks given (Ok found) given_is asked h = asked_found held d see s asks given found given_is asked h
 asked_given held d see s asks given (Err x) given_is asked h = tt
 
 pub not_asked : (held : Option Holdings) (d : Desc) (see : Ask → Answer) (s : Selector) (asks : List Ask) (given : List Answer)
-    → given ≡ map see asks → (sha256 (strong_text (strong_parts (weak_of d) s.paths given)) ≡ s.strong → ⊥)
+    → given ≡ map see asks → (sha256 (strong_text (strong_parts (has_match asks) (weak_of d) s.paths given)) ≡ s.strong → ⊥)
     → FindsOne held (λ S f. IsStrongMatch S d see s asks f) None
 not_asked held d see s asks given given_is other =
-    λ S is f there. other (ap (λ as'. sha256 (strong_text (strong_parts (weak_of d) s.paths as'))) given_is ∙ there.asked)
+    λ S is f there. other (ap (λ as'. sha256 (strong_text (strong_parts (has_match asks) (weak_of d) s.paths as'))) given_is ∙ there.asked)
 
 pub leads : (held now : Option Holdings) (d : Desc) (see : Ask → Answer) (s : Selector) (asks : List Ask) (r : Option FoundParts) → Stays held now
     → FindsOne held (λ S a. HoldsPaths S s.paths a) (Some asks) → FindsOne now (λ S f. IsStrongMatch S d see s asks f) r → FindsOne now (λ S f. LeadsTo S d see s f) r

@@ -37,14 +37,15 @@ pub enum LookupResult {
 // The digest of the strong text of answers.
 fn digest_of_answers(
     alloc: Global,
+    second: bool,
     weak: &Digest,
     paths: &Digest,
     answers: &[Answer],
 ) -> Result<Digest, AllocError>
     ensures { IfOk result (λ digest.
-        digest ≡ sha256 (strong_text (strong_parts weak.now paths.now answers.now))) }
+        digest ≡ sha256 (strong_text (strong_parts second weak.now paths.now answers.now))) }
 {
-    let printed = strong_of(alloc, weak, paths, answers)?;
+    let printed = strong_of(alloc, second, weak, paths, answers)?;
     Ok(printed.digest)
 }
 
@@ -155,7 +156,8 @@ fn asked_now<R: KeepReader, V: View>(
         (R.faults reader.old) (R.faults reader.new) (result ≡ Err StoreFault.Fault) }
 {
     let answers = answers_to(alloc, &paths, view)?;
-    let digest = digest_of_answers(alloc, weak, &selector.paths, answers.as_slice())?;
+    let second = paths.has_match();
+    let digest = digest_of_answers(alloc, second, weak, &selector.paths, answers.as_slice())?;
     if digest == selector.strong {
         found_by(alloc, reader, desc, weak, selector, paths, answers)
     } else {

@@ -135,9 +135,11 @@ pub(crate) fn write(alloc: Global, ran: &Record) -> Result<Written, AllocError>
 {
     let made = made_by(ran.outcome());
     let weak = weak(alloc, ran.desc())?;
-    let paths = print_paths(alloc, ran.paths())?;
+    let asks = ran.paths();
+    let second = asks.has_match();
+    let paths = print_paths(alloc, asks)?;
     let paths_digest = paths.digest();
-    let strong = strong_of(alloc, &weak.digest, &paths_digest, ran.answers())?;
+    let strong = strong_of(alloc, second, &weak.digest, &paths_digest, ran.answers())?;
     let entry = entry_text_of(alloc, weak.digest, paths_digest, strong.digest, made)?;
     let contents = all_contents(alloc, ran.desc(), ran.answers(), made)?;
     Ok(Written {

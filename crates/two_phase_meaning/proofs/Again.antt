@@ -6,7 +6,7 @@ use Rattle.std.specs.List.{AllByRecursion}
 use Rattle.bx_tree.proofs.Lists.{all_back}
 use Rattle.bx_tree.proofs.Members.{all_has}
 use Rattle.sha2.specs.Sha256.{sha256}
-use Rattle.observed.specs.Texts.{paths_text}
+use Rattle.observed.specs.Texts.{has_match, paths_text}
 use Rattle.observed.specs.declared.ask.Ask.{Ask}
 use Rattle.observed.specs.declared.access.Answer.{Answer}
 use Rattle.bx_io.specs.Holdings.{Holdings, holdings_after}
@@ -98,7 +98,7 @@ module _ (S : Holdings) (f : Facts) (spelled : Spelled f) (apart : NoCollision (
       let first : UsableBy whole f.desc see (record_selector f) = record {
         asks = f.paths;
         paths = (paths_text f.paths, record { held = blobs_stay.1.0; digest_is = refl }, spelled.paths);
-        asked = ap (λ as'. sha256 (strong_text (strong_parts (weak_of f.desc) (paths_digest f) as'))) (sym now);
+        asked = ap (λ as'. sha256 (strong_text (strong_parts (has_match f.paths) (weak_of f.desc) (paths_digest f) as'))) (sym now);
         entry = record_entry f;
         held = record { held = (entry_text (record_entry f), entry_stays, spelled.entry); strong_is = refl };
         weak_is = refl;

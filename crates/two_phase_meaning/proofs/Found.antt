@@ -6,7 +6,7 @@ use Rattle.bx_tree.specs.Trees.{Files}
 use Rattle.bx_tree.specs.Members.{Has}
 use Rattle.bx_tree.proofs.Members.{all_has}
 use Rattle.pip_model_types.specs.declared.desc.Desc.{Desc}
-use Rattle.observed.specs.Texts.{read_paths_text}
+use Rattle.observed.specs.Texts.{has_match, read_paths_text}
 use Rattle.observed.specs.declared.ask.Ask.{Ask}
 use Rattle.observed.specs.declared.access.Answer.{Answer}
 use Rattle.bx_io.specs.Holdings.{Holdings}
@@ -67,14 +67,14 @@ module _ (S : Holdings) (d : Desc) (see : Ask → Answer) (honest : Honest S) (s
       let asked : List ℕ = asked_text d see s.paths u.asks in
       let strong_same : h.strong.0 ≡ asked =
       apart h.strong.0 asked (met.stored h.strong.1.held) (met.strong s.paths u.asks (inr (selected, u.paths)) refl) (h.strong.1.digest_is ∙ u.held.strong_is ∙ sym u.asked) in
-      let now : StrongParts = strong_parts (weak_of d) s.paths (map see u.asks) in
+      let now : StrongParts = strong_parts (has_match u.asks) (weak_of d) s.paths (map see u.asks) in
       let is_strong : IsStrong now = record {
         weak = is_digest (weak_text (weak_parts d));
         paths = subst IsDigest u.paths.1.digest_is (is_digest u.paths.0);
         lines = lines_are (map see u.asks);
       } in
-      let said : strong_parts u.entry.weak u.entry.paths h.given ≡ now =
-      same_Some (strong_parts u.entry.weak u.entry.paths h.given) now (sym h.strong.2 ∙ ap read_strong_text strong_same ∙ strong_again now is_strong) in
+      let said : strong_parts (has_match h.asks) u.entry.weak u.entry.paths h.given ≡ now =
+      same_Some (strong_parts (has_match h.asks) u.entry.weak u.entry.paths h.given) now (sym h.strong.2 ∙ ap read_strong_text strong_same ∙ strong_again now is_strong) in
       let given : h.given ≡ map see u.asks =
       same_answers M apart h.given (map see u.asks) (ap (λ (x : StrongParts). x.lines) said) (held (given_contents h.given) h.answers)
       (all_has M (given_contents (map see u.asks)) (λ x k. met.given s.paths u.asks (inr (selected, u.paths)) k)) in

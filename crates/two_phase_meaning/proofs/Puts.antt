@@ -10,7 +10,7 @@ use Rattle.std.proofs.lemmas.Option.{same_Some}
 use Rattle.bx_tree.proofs.Lists.{all_front, all_back}
 use Rattle.bx_tree.proofs.Members.{all_has}
 use Rattle.sha2.specs.Sha256.{sha256}
-use Rattle.observed.specs.Texts.{paths_text}
+use Rattle.observed.specs.Texts.{has_match, paths_text}
 use Rattle.bx_io.specs.Holdings.{Change, Holdings, IsPrefix, holdings_after}
 use Rattle.bx_io.proofs.Changes.{after-append}
 use Rattle.run_record.specs.Facts.{Facts, Sound}
@@ -161,7 +161,7 @@ made_honest T f sound good spelled h =
       strong = (
         answers_text f,
         record { held = h.1.1.0; digest_is = refl },
-        strong_again (strong_parts (weak_of f.desc) (paths_digest f) f.answers) (record {
+        strong_again (strong_parts (has_match f.paths) (weak_of f.desc) (paths_digest f) f.answers) (record {
           weak = is_digest (weak_text (weak_parts f.desc));
           paths = is_digest (paths_text f.paths);
           lines = lines_are f.answers;

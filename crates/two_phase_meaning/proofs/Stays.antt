@@ -1,5 +1,5 @@
 -- What is usable stays so while records of other processes are put; and something is usable where one selector is.
-use Rattle.std.proofs.Common.{◌≡◌, ℕ, List, [], ◌∷◌, map, Some, refl, sym, ap, ◌∙◌, subst, inl, inr}
+use Rattle.std.proofs.Common.{Bool, ◌≡◌, ℕ, List, [], ◌∷◌, map, Some, refl, sym, ap, ◌∙◌, subst, inl, inr}
 use Rattle.std.specs.FinMap.{get, insert}
 use Rattle.std.specs.List.{AllByRecursion}
 use Rattle.std.proofs.lemmas.Option.{same_Some}
@@ -8,7 +8,7 @@ use Rattle.bx_tree.proofs.Members.{all_has}
 use Rattle.sha2.specs.Sha256.{sha256}
 use Rattle.bx_digest.specs.Digests.{IsDigest}
 use Rattle.pip_model_types.specs.declared.desc.Desc.{Desc}
-use Rattle.observed.specs.Texts.{paths_text}
+use Rattle.observed.specs.Texts.{has_match, paths_text}
 use Rattle.observed.specs.declared.ask.Ask.{Ask}
 use Rattle.observed.specs.declared.access.Answer.{Answer}
 use Rattle.bx_io.specs.Holdings.{Holdings, holdings_after}
@@ -41,11 +41,11 @@ blobs_leave (x ∷ xs) S q bytes none h =
     blobs_leave xs (insert S (at_blob (sha256 x)) x) q bytes none (still_there S (at_blob (sha256 x)) x q bytes (λ e. absurd (none (sha256 x) e)) h)
 
 -- strong texts that are one are under one weak digest
-one_weak : (d e : Desc) (p q : List ℕ) (as' bs : List Answer) → IsDigest p → IsDigest q
-    → strong_text (strong_parts (weak_of d) p as') ≡ strong_text (strong_parts (weak_of e) q bs) → weak_of d ≡ weak_of e
-one_weak d e p q as' bs hp hq same =
-    let left : StrongParts = strong_parts (weak_of d) p as' in
-    let right : StrongParts = strong_parts (weak_of e) q bs in
+one_weak : (s t : Bool) (d e : Desc) (p q : List ℕ) (as' bs : List Answer) → IsDigest p → IsDigest q
+    → strong_text (strong_parts s (weak_of d) p as') ≡ strong_text (strong_parts t (weak_of e) q bs) → weak_of d ≡ weak_of e
+one_weak s t d e p q as' bs hp hq same =
+    let left : StrongParts = strong_parts s (weak_of d) p as' in
+    let right : StrongParts = strong_parts t (weak_of e) q bs in
     let is_left : IsStrong left = record { weak = is_digest (weak_text (weak_parts d)); paths = hp; lines = lines_are as' } in
     let is_right : IsStrong right = record { weak = is_digest (weak_text (weak_parts e)); paths = hq; lines = lines_are bs } in
     ap (λ (x : StrongParts). x.weak) (same_Some left right (sym (strong_again left is_left) ∙ ap read_strong_text same ∙ strong_again right is_right))
@@ -107,7 +107,7 @@ module _ (M : List ℕ → Type 0) (apart : NoCollision M) (S : Holdings) (withi
       let strong : sha256 now ≡ u.entry.strong = u.asked ∙ sym u.held.strong_is in
       let apart_from : u.entry.strong ≡ sha256 (answers_text f) → ⊥ = λ e.
       let text : answers_text f ≡ now = apart (answers_text f) now met.1.1.0 now_met (sym e ∙ sym strong) in
-      others (one_weak f.desc d (paths_digest f) s.paths f.answers (map see u.asks) (is_digest (paths_text f.paths)) (subst IsDigest u.paths.1.digest_is (is_digest u.paths.0)) text) in
+      others (one_weak (has_match f.paths) (has_match u.asks) f.desc d (paths_digest f) s.paths f.answers (map see u.asks) (is_digest (paths_text f.paths)) (subst IsDigest u.paths.1.digest_is (is_digest u.paths.0)) text) in
       let now_usable : UsableBy (whole S f list) d see s = record {
         asks = u.asks;
         paths = (u.paths.0, record { held = more u.paths.0 u.paths.1.held; digest_is = u.paths.1.digest_is }, u.paths.2);

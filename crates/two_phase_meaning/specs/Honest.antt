@@ -2,6 +2,7 @@
 use Rattle.std.specs.Prelude.{◌≡◌, List, length}
 use Rattle.bx_tree.specs.Trees.{Files}
 use Rattle.pip_model_types.specs.declared.desc.Desc.{Desc}
+use Rattle.observed.specs.Texts.{has_match}
 use Rattle.observed.specs.declared.ask.Ask.{Ask}
 use Rattle.observed.specs.declared.access.Answer.{Answer}
 use Rattle.bx_io.specs.Holdings.{Holdings}
@@ -27,7 +28,7 @@ pub record IsGoodRun (d : Description) (a : Ask → Answer) (paths : List Ask) (
   pub outcome : outcome_of d (run_of d a) ≡ Good files
 
 -- An entry is honest where its three texts are held under the digests that it names, the strong text names
--- that weak text and that path set, each content that the entry or one of the texts names is held under its
+-- that weak text and that path set and is of the version of that path set, each content that the entry or one of the texts names is held under its
 -- digest, and the run on these contents, in which each ask of the path set is answered by its line, asks for
 -- nothing else, has that path set, and succeeds with just the entry's outputs.
 pub record HonestEntry (S : Holdings) (e : Entry) : Type 0 where
@@ -37,7 +38,7 @@ pub record HonestEntry (S : Holdings) (e : Entry) : Type 0 where
   pub files : Files
   pub weak : HoldsWeak S e.weak (weak_parts desc)
   pub paths : HoldsPaths S e.paths asks
-  pub strong : HoldsStrong S e.strong (strong_parts e.weak e.paths given)
+  pub strong : HoldsStrong S e.strong (strong_parts (has_match asks) e.weak e.paths given)
   pub one_each : length given ≡ length asks
   pub declared : HoldsAll S (desc_contents desc)
   pub answers : HoldsAll S (given_contents given)

@@ -7,7 +7,7 @@ use Rattle.sha2.specs.Sha256.{sha256}
 use Rattle.bx_tree.specs.Trees.{Files, NoneNested}
 use Rattle.bx_tree.specs.Members.{Has}
 use Rattle.pip_model_types.specs.declared.desc.Desc.{Desc}
-use Rattle.observed.specs.Texts.{paths_text, read_paths_text}
+use Rattle.observed.specs.Texts.{has_match, paths_text, read_paths_text}
 use Rattle.observed.specs.declared.ask.Ask.{Ask}
 use Rattle.observed.specs.declared.access.Answer.{Answer}
 use Rattle.bx_io.specs.Holdings.{Change, Holdings, Put}
@@ -52,7 +52,8 @@ paths_digest f = sha256 (paths_text f.paths)
 
 -- the strong text of the answers
 abbrev pub answers_text : Facts → List ℕ
-answers_text f = strong_text (strong_parts (weak_of f.desc) (paths_digest f) f.answers)
+answers_text f =
+    strong_text (strong_parts (has_match f.paths) (weak_of f.desc) (paths_digest f) f.answers)
 
 abbrev pub record_selector : Facts → Selector
 record_selector f = record { paths = paths_digest f; strong = sha256 (answers_text f) }

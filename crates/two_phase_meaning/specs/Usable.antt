@@ -9,6 +9,7 @@ use Rattle.bx_tree.specs.Members.{Has}
 use Rattle.pip_model_types.specs.declared.desc.Desc.{Desc}
 use Rattle.pip_model_types.specs.declared.outputs.OutDir.{OutDir}
 use Rattle.pip_model_types.specs.declared.pip.ProcessDesc.{ProcessDesc}
+use Rattle.observed.specs.Texts.{has_match}
 use Rattle.observed.specs.declared.ask.Ask.{Ask}
 use Rattle.observed.specs.declared.access.Answer.{Answer}
 use Rattle.bx_io.specs.Holdings.{Holdings}
@@ -45,7 +46,8 @@ fits p paths =
 
 -- the strong text of a path set that is asked now, by the digest of its text
 abbrev pub asked_text : Desc → (Ask → Answer) → List ℕ → List Ask → List ℕ
-asked_text d see paths asks = strong_text (strong_parts (weak_of d) paths (map see asks))
+asked_text d see paths asks =
+    strong_text (strong_parts (has_match asks) (weak_of d) paths (map see asks))
 
 -- A selector is usable where its path set is held; that path set, asked now, gives the selector's strong
 -- digest; the entry of that digest is held, and names this weak digest and this path set; its outputs fit the

@@ -45,6 +45,7 @@ abbrev pub ask_class : List Pip → Files → ℕ → AskKind → Atoms → Opti
 ask_class pips tree i kinds.Read path = Some (read_class pips i path (is_some (file_at tree path)))
 ask_class pips tree i kinds.Probe path = Some (other_class pips i deeds.Probe path (producer pips i path))
 ask_class pips tree i kinds.List path = None
+ask_class pips tree i (kinds.Match pattern) path = None
 
 abbrev pub answer_class : List Pip → Files → ℕ → Ask → Answer → Option Violation
 answer_class pips tree i ask answers.Absent = None

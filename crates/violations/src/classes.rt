@@ -112,10 +112,10 @@ fn denied(plan: &Plan, sources: &Sources, pip: u32, ask: &Ask) -> Result<Option<
     ensures { IfOk result (λ violation. violation
         ≡ classes.ask_class plan.now.pips sources.now pip ask.now.kind ask.now.path) }
 {
-    match ask.kind {
+    match &ask.kind {
         AskKind::Read => Ok(Some(read(plan, sources, pip, &ask.path)?)),
         AskKind::Probe => Ok(Some(looked(plan, pip, DeedKind::Probe, &ask.path)?)),
-        AskKind::List => Ok(None),
+        AskKind::List | AskKind::Match(_) => Ok(None),
     }
 }
 

@@ -1,5 +1,9 @@
-use Rattle.std.proofs.Common.{◌≡◌, ℕ, ◌<◌, false, slice_index_or}
+use Rattle.std.proofs.Common.{◌≤◌, [], length}
+use Rattle.bx_path.proofs.RowsMatch.{IsRightFrom}
 use Rattle.bx_path.proofs.matching.start.Given as goal
 
-abbrev pub invariant-loop-slot : goal.invariant-loop-slot
-invariant-loop-slot l = (k : ℕ) → k < l.slot-index → slice_index_or l.row k false ≡ false
+abbrev pub invariant-suffixes : goal.invariant-suffixes
+invariant-suffixes l = (l.at ≤ length l.pattern) × IsRightFrom l.at l.pattern [] l.row
+
+abbrev pub decreases-suffixes : goal.decreases-suffixes
+decreases-suffixes l = l.at

@@ -10,5 +10,5 @@ use Rattle.graph_check_outputs.proofs.double_producer.first_double_producer.Give
 abbrev pub invariant-pips : goal.invariant-pips
 invariant-pips l = record {
   none : (j : ℕ) → j < l.number → DoubleProducerAt l.pips j → ⊥;
-  seen : (p : Atoms) → Contains l.seen.keys p ↔ IsBefore declared_files l.pips l.number p;
+  seen : (p : Atoms) → Contains l.seen p ↔ IsBefore declared_files l.pips l.number p;
 }

@@ -1,23 +1,23 @@
-use Rattle.std.proofs.Common.{[], arith, sym, subst}
-use Rattle.bx_tree.specs.Below.{IsAtOrBelow}
-use Rattle.graph_check_outputs.proofs.InTree.{first_tells}
+use Rattle.std.proofs.Common.{inl, inr, refl, subst, sym, ◌∙◌}
+use Rattle.std.specs.List.{Contains}
+use Rattle.std.proofs.lemmas.Bool.{false≢true}
+use Rattle.bx_tree_paths.proofs.Found.{found_there}
 use Rattle.graph_check_outputs.proofs.nesting.has_within.Goals as goal
 
-pub returns-then-place-paths : goal.returns-then-place-paths
-returns-then-place-paths c = (
-  λ t. cc,
-  λ any.
-      let tells = first_tells c.args.paths.now c.args.dir.now c.count_before-place.result [] c.requires c.count_before-place.ensures.point any in
-      absurd (omega (arith, tells.0, c.if-place-paths.true)),
-)
+pub returns-then-is_some : goal.returns-then-is_some
+returns-then-is_some c =
+    let dir = c.args.dir.now in
+    let found = found_there c.args.paths.now dir c.place_of.result c.place_of.ensures in
+    let there = found.0 (sym c.is_some.ensures ∙ c.if-is_some.true) in
+    (λ t. (there.0, dir, there.1, there.2, inl refl), λ any. refl)
 
 pub returns : goal.returns
 returns c =
     let paths = c.args.paths.now in
-    let path = c.index-paths-place.result in
-    let dir = c.args.dir.now in (
-      λ t. (c.count_before-place.result, path, c.if-place-paths.false, sym c.index-paths-place.is, c.is_within.ensures.0 t),
-      λ any.
-          let tells = first_tells paths dir c.count_before-place.result path c.requires c.count_before-place.ensures.point any in
-          c.is_within.ensures.1 (subst (λ p. IsAtOrBelow p dir) (sym c.index-paths-place.is) tells.1),
+    let found = found_there paths c.args.dir.now c.place_of.result c.place_of.ensures in (
+      λ t. let any = c.has_below.ensures.0 t in (any.0, any.1, any.2, any.3, inr any.4),
+      λ (k, x, l, is, h). elim h [
+        | inl e ↦ absurd (false≢true (sym c.if-is_some.false ∙ c.is_some.ensures ∙ found.1 (subst (Contains paths) e (k, l, is))))
+        | inr below ↦ c.has_below.ensures.1 (k, x, l, is, below)
+      ],
     )

@@ -8,10 +8,10 @@ use Rattle.graph_check_outputs.proofs.seen.see_all.Goals as goal
 
 pub paths-preserved : goal.paths-preserved
 paths-preserved c =
-    all_seen_more c.args.seen.now.keys c.paths.seen.keys c.see.new.seen.keys c.args.paths.now c.paths.path-index c.path-item.result
+    all_seen_more c.args.seen.now c.paths.seen c.see.new.seen c.args.paths.now c.paths.path-index c.path-item.result
     c.paths-test.true c.path-item.is c.paths.invariant c.in_ok-see.ensures
 
 pub returns : goal.returns
 returns c =
-    subst (λ (ps : List Atoms). (p : Atoms) → Contains c.paths.seen.keys p ↔ (Contains c.args.seen.now.keys p ⊎ Contains ps p))
+    subst (λ (ps : List Atoms). (p : Atoms) → Contains c.paths.seen p ↔ (Contains c.args.seen.now p ⊎ Contains ps p))
     (take_all c.paths.path-index c.args.paths.now c.paths-test.false) c.paths.invariant

@@ -16,8 +16,8 @@ none_in xs x e (k, l, is) = absurd (omega (arith, l, e))
 pub pips-init : goal.pips-init
 pips-init c = record {
   none = λ j l. absurd (omega (arith, l));
-  all = so_far_none declared_dir_paths c.args.pips.now (Contains c.new.result.keys) (λ x. none_in c.new.result.keys x (ap length c.new.ensures.empty));
-  lone = so_far_none lone_paths c.args.pips.now (Contains c.new-2.result.keys) (λ x. none_in c.new-2.result.keys x (ap length c.new-2.ensures.empty));
+  all = so_far_none declared_dir_paths c.args.pips.now (Contains c.in_ok-new.field-0) (λ x. none_in c.in_ok-new.field-0 x (ap length c.in_ok-new.ensures));
+  lone = so_far_none lone_paths c.args.pips.now (Contains c.in_ok-new-2.field-0) (λ x. none_in c.in_ok-new-2.field-0 x (ap length c.in_ok-new-2.ensures));
 }
 
 pub returns-then-is_clash : goal.returns-then-is_clash
@@ -27,19 +27,19 @@ returns-then-is_clash c =
     let there = slice_get_read pips (length pips) c.pips.number pip refl c.pips-test.true c.index-pips-number.is in
     let dirs = c.as_slice.ensures.value ∙ c.in_ok-dirs.ensures in
     let lone = c.as_slice-in-pips.ensures.value ∙ c.in_ok-lone.ensures in
-    let found = subst (λ (ds : List Atoms). Any (Contains c.pips.seen.all.keys) (lone_paths pip.kind) ⊎ Any (Contains c.pips.seen.lone.keys) ds) dirs
-    (subst (λ (ls : List Atoms). Any (Contains c.pips.seen.all.keys) ls ⊎ Any (Contains c.pips.seen.lone.keys) c.as_slice.result.now) lone
+    let found = subst (λ (ds : List Atoms). Any (Contains c.pips.seen.all) (lone_paths pip.kind) ⊎ Any (Contains c.pips.seen.lone) ds) dirs
+    (subst (λ (ls : List Atoms). Any (Contains c.pips.seen.all) ls ⊎ Any (Contains c.pips.seen.lone) c.as_slice.result.now) lone
     (c.is_clash.ensures.0 c.if-is_clash.true)) in
     tells pips c.pips.number c.pips.invariant.none
-    (λ l. clash_here pips c.pips.number pip (Contains c.pips.seen.all.keys) (Contains c.pips.seen.lone.keys) there c.pips.invariant.all c.pips.invariant.lone found)
+    (λ l. clash_here pips c.pips.number pip (Contains c.pips.seen.all) (Contains c.pips.seen.lone) there c.pips.invariant.all c.pips.invariant.lone found)
 
 pub pips-preserved : goal.pips-preserved
 pips-preserved c =
     let pip = c.index-pips-number.result in
     let pips = c.args.pips.now in
     let there = slice_get_read pips (length pips) c.pips.number pip refl c.pips-test.true c.index-pips-number.is in
-    let all = Contains c.pips.seen.all.keys in
-    let lone_seen = Contains c.pips.seen.lone.keys in
+    let all = Contains c.pips.seen.all in
+    let lone_seen = Contains c.pips.seen.lone in
     let dirs = c.as_slice.ensures.value ∙ c.in_ok-dirs.ensures in
     let lone = c.as_slice-in-pips.ensures.value ∙ c.in_ok-lone.ensures in
     let dirs_again = c.as_slice-in-pips-2.ensures.value ∙ c.in_ok-dirs.ensures in
@@ -49,10 +49,10 @@ pips-preserved c =
           (λ found. let t = c.is_clash.ensures.1
           (subst (λ (ds : List Atoms). Any all c.as_slice-in-pips.result.now ⊎ Any lone_seen ds) (sym dirs)
           (subst (λ (ls : List Atoms). Any all ls ⊎ Any lone_seen (declared_dir_paths pip.kind)) (sym lone) found)) in cc));
-      all = so_far_more declared_dir_paths pips c.pips.number pip all (Contains c.see_all.new.seen.keys) there c.pips.invariant.all
-          (subst (λ (ds : List Atoms). (p : Atoms) → Contains c.see_all.new.seen.keys p ↔ (all p ⊎ Contains ds p)) dirs_again c.in_ok-see_all.ensures);
-      lone = so_far_more lone_paths pips c.pips.number pip lone_seen (Contains c.see_all-in-pips.new.seen.keys) there c.pips.invariant.lone
-          (subst (λ (ds : List Atoms). (p : Atoms) → Contains c.see_all-in-pips.new.seen.keys p ↔ (lone_seen p ⊎ Contains ds p)) lone_again
+      all = so_far_more declared_dir_paths pips c.pips.number pip all (Contains c.see_all.new.seen) there c.pips.invariant.all
+          (subst (λ (ds : List Atoms). (p : Atoms) → Contains c.see_all.new.seen p ↔ (all p ⊎ Contains ds p)) dirs_again c.in_ok-see_all.ensures);
+      lone = so_far_more lone_paths pips c.pips.number pip lone_seen (Contains c.see_all-in-pips.new.seen) there c.pips.invariant.lone
+          (subst (λ (ds : List Atoms). (p : Atoms) → Contains c.see_all-in-pips.new.seen p ↔ (lone_seen p ⊎ Contains ds p)) lone_again
           c.in_ok-see_all-2.ensures);
     }
 

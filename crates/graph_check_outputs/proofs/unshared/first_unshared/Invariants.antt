@@ -8,6 +8,6 @@ use Rattle.graph_check_outputs.proofs.unshared.first_unshared.Given as goal
 abbrev pub invariant-pips : goal.invariant-pips
 invariant-pips l = record {
   none : (j : ℕ) → j < l.number → ClashAt l.pips j → ⊥;
-  all : IsSoFar declared_dir_paths l.pips l.number (Contains l.seen.all.keys);
-  lone : IsSoFar lone_paths l.pips l.number (Contains l.seen.lone.keys);
+  all : IsSoFar declared_dir_paths l.pips l.number (Contains l.seen.all);
+  lone : IsSoFar lone_paths l.pips l.number (Contains l.seen.lone);
 }

@@ -1,16 +1,25 @@
-use Rattle.pip_model.proofs.NearTexts.{kept_through, near_all, near_more, near_none}
+use Rattle.std.proofs.Common.{ℕ, ◌++◌, ◌∷◌, [], List, ap, append-nil, map, sym, ◌∙◌}
+use Rattle.std.proofs.lemmas.List.{take_all}
+use Rattle.bx_tree.specs.Paths.{Atoms}
+use Rattle.bx_tree.specs.declared.file_input.FileInput.{FileInput}
+use Rattle.pip_model.specs.Listings.{listing}
+use Rattle.pip_model.specs.declared.listings.Listing.{Listing}
+use Rattle.pip_model.proofs.Listed.{map_more}
 use Rattle.pip_model.proofs.listings.add_files.Goals as goal
 
+abbrev listed : List Listing → ℕ → Atoms → List Listing
+listed found seal path = found ++ record { path = path; seal = seal } ∷ []
+
 pub files-init : goal.files-init
-files-init c = ((λ text j h. h), near_none c.args.number c.args.found.now.table)
+files-init c = sym (append-nil c.args.found.now.items)
 
 pub files-preserved : goal.files-preserved
-files-preserved c = (
-  kept_through c.args.found.now.table c.files.found.table c.add_file.new.found.table c.files.invariant.0 c.in_ok-add_file.ensures.kept,
-  near_more c.args.files.now c.files.file-index c.args.number c.file-item.result c.files.found.table c.add_file.new.found.table c.files-test.true
-      c.file-item.is c.in_ok-add_file.ensures.kept c.in_ok-add_file.ensures.near c.files.invariant.1,
-)
+files-preserved c =
+    map_more (listing c.args.seal) c.args.files.now c.files.file-index c.file-item.result c.args.found.now.items c.files.found.items c.push.new.self.items
+    c.files-test.true c.file-item.is
+    (c.in_ok-push.ensures.items ∙ ap (listed c.files.found.items c.args.seal) (c.in_ok-path.ensures ∙ c.path.ensures)) c.files.invariant
 
-pub returns-clause-near : goal.returns-clause-near
-returns-clause-near c =
-    near_all c.args.files.now c.files.file-index c.args.number c.files.found.table c.files-test.false c.files.invariant.1
+pub returns : goal.returns
+returns c =
+    c.files.invariant
+    ∙ ap (λ (fs : List FileInput). c.args.found.now.items ++ map (listing c.args.seal) fs) (take_all c.files.file-index c.args.files.now c.files-test.false)

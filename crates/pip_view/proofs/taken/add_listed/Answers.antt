@@ -1,8 +1,13 @@
 use Rattle.std.proofs.Common.{◌++◌, ap, ◌∙◌}
+use Rattle.bx_tree.specs.FileInputs.{input_path}
+use Rattle.bx_tree_paths.proofs.Rising.{rise_by_text}
 use Rattle.pip_view.specs.Taken.{taken_names}
 use Rattle.pip_view.proofs.TakenFiles.{names_next, no_names_left}
 use Rattle.pip_view.proofs.taken.add_listed.Goals as goal
 use Rattle.bx_tree.specs.Lent.{texts_now}
+
+pub add_below-requires : goal.add_below-requires
+add_below-requires c = rise_by_text input_path c.files_of.result.now c.files_of.ensures.rising
 
 pub dirs-preserved : goal.dirs-preserved
 dirs-preserved c =

@@ -1,7 +1,12 @@
 use Rattle.std.proofs.Common.{ap, sym, ◌∙◌}
+use Rattle.bx_tree.specs.FileInputs.{input_path}
+use Rattle.bx_tree_paths.proofs.Rising.{rise_by_text}
 use Rattle.pip_view.specs.Taken.{any_below}
 use Rattle.pip_view.proofs.TakenFiles.{below_next, no_below_left}
 use Rattle.pip_view.proofs.taken.has_listed.Goals as goal
+
+pub has_below-requires : goal.has_below-requires
+has_below-requires c = rise_by_text input_path c.files_of-files.result.now c.files_of-files.ensures.rising
 
 pub returns-then-has_below : goal.returns-then-has_below
 returns-then-has_below c =

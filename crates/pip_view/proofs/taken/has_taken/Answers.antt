@@ -1,4 +1,4 @@
-use Rattle.std.proofs.Common.{◌≡◌, ◌∷◌, Bool, IfOk, ap, subst, ◌∙◌}
+use Rattle.std.proofs.Common.{◌∷◌, ap, ◌∙◌}
 use Rattle.std.specs.Option.{unwrap_or}
 use Rattle.pip_view.specs.Taken.{executable}
 use Rattle.pip_view.proofs.NearFiles.{below_searched}
@@ -7,8 +7,7 @@ use Rattle.pip_view.proofs.taken.has_taken.Goals as goal
 pub returns : goal.returns
 returns c =
     let process = c.args.process.now in
-    subst (λ (t : Bool). IfOk c.has_among.result (λ yes. yes ≡ t))
-    (below_searched c.args.plan.now.pips c.pips.result.now c.args.dir.now (executable process ∷ process.files) process.dirs
-    c.searched-dirs.result.now c.in_ok-near.near
-    (c.pips.ensures.pips, c.searched-dirs.ensures ∙ ap (unwrap_or c.in_ok-near.near) c.dirs.ensures.dirs, c.dirs.ensures.rising, c.in_ok-near.ensures))
     c.has_among.ensures
+    ∙ below_searched c.args.plan.now.pips c.pips.result.now c.args.dir.now (executable process ∷ process.files) process.dirs
+    c.searched-dirs.result.now c.in_ok-near.near
+    (c.pips.ensures.pips, c.searched-dirs.ensures ∙ ap (unwrap_or c.in_ok-near.near) c.dirs.ensures.dirs, c.dirs.ensures.rising, c.in_ok-near.ensures)

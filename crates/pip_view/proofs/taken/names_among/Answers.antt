@@ -1,8 +1,14 @@
-use Rattle.std.proofs.Common.{◌++◌, ◌∷◌, ap, ◌∙◌}
+use Rattle.std.proofs.Common.{◌++◌, ◌∷◌, ap, subst, sym, ◌∙◌}
+use Rattle.bx_tree.specs.FileInputs.{input_path}
+use Rattle.bx_tree_paths.proofs.Rising.{rise_by_text}
+use Rattle.pip_model_types.specs.Inputs.{RiseByPath}
 use Rattle.pip_view.specs.Taken.{dirs_files, executable, taken_names}
 use Rattle.pip_view.proofs.TakenFiles.{three_names}
 use Rattle.pip_view.proofs.taken.names_among.Goals as goal
 use Rattle.bx_tree.specs.Lent.{texts_now}
+
+pub add_below-requires : goal.add_below-requires
+add_below-requires c = rise_by_text input_path c.files.result.now (subst RiseByPath (sym c.files.ensures.files) c.files.ensures.rising)
 
 pub returns : goal.returns
 returns c =

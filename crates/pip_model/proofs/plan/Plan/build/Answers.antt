@@ -17,7 +17,7 @@ invariant_of-result c =
     let inputs = subst (λ (ps : List Pip). AreAllInputs ps c.in_ok-inputs.inputs.items) c.pips-2.ensures.pips c.in_ok-inputs.ensures in
     keeps_plan c.args.pips c.in_ok-inputs.inputs.items c.as_slice.result.now c.in_ok-reach.reach.items _ c.requires inputs
     c.as_slice.ensures.value c.in_ok-reach.ensures.size c.in_ok-reach.ensures.rows
-    c.in_ok-outputs.outputs.table
-    (subst (λ (ps : List Pip). HasOutputsOf ps c.in_ok-outputs.outputs.table) c.pips-4.ensures.pips c.in_ok-outputs.ensures)
-    c.in_ok-listings.listings.table
-    (subst (λ (ps : List Pip). HasListingsOf ps c.in_ok-listings.listings.table) c.pips-5.ensures.pips c.in_ok-listings.ensures)
+    c.in_ok-outputs.outputs
+    (subst (λ (ps : List Pip). HasOutputsOf ps c.in_ok-outputs.outputs) c.pips-4.ensures.pips c.in_ok-outputs.ensures)
+    c.in_ok-listings.listings
+    (subst (λ (ps : List Pip). HasListingsOf ps c.in_ok-listings.listings) c.pips-5.ensures.pips c.in_ok-listings.ensures)

@@ -1,10 +1,20 @@
 use Rattle.std.proofs.Common.{refl, ap, sym, ◌∙◌, subst}
 use Rattle.std.specs.List.{Contains}
+use Rattle.std.specs.List.Sorted.{IsStrictlySortedBy}
 use Rattle.std.proofs.lemmas.Bool.{false≢true}
 use Rattle.bx_tree.specs.Trees.{file_at, paths_of}
 use Rattle.pip_model_types.specs.Made.{RisingFiles}
-use Rattle.pip_model_types.proofs.FilesAt.{made_there, no_made}
+use Rattle.bx_tree.specs.Paths.{path_cmp}
+use Rattle.bx_tree_paths.proofs.Rising.{rise_by_text}
+use Rattle.pip_model_types.specs.declared.made.MadeFile.{MadeFile}
+use Rattle.pip_model_types.proofs.FilesAt.{made_there, no_made, paths-made}
 use Rattle.pip_model_types.proofs.made.Made.find.Goals as goal
+
+pub place_of-requires : goal.place_of-requires
+place_of-requires c =
+    let files = c.files-files.ensures in
+    rise_by_text (λ (f : MadeFile). f.path) c.files-files.result.now
+    (subst (IsStrictlySortedBy path_cmp) (paths-made c.files-files.result.now) (subst RisingFiles (sym files.files) files.rising))
 
 pub returns-in-None-clause-value : goal.returns-in-None-clause-value
 returns-in-None-clause-value c =

@@ -1,4 +1,4 @@
-use Rattle.std.proofs.Common.{◌≡◌, Bool, IfOk, List, ap, subst, ◌∙◌}
+use Rattle.std.proofs.Common.{List, ap, subst, ◌∙◌}
 use Rattle.std.specs.Borrow.{Bor}
 use Rattle.tool_run_writes.specs.Writes.{has_below}
 use Rattle.pip_model_types.specs.declared.dir_inputs.DirInput.{DirInput}
@@ -16,8 +16,7 @@ returns c =
     let found = dirs_now c.in_ok-opaque.opaque.items in
     let keeps = subst (λ (v : ViewData). KeepsView v kept others) c.self.view_is c.self.invariant in
     let from = c.in_ok-opaque.ensures ∙ ap (λ (ds : List (Bor DirInput)). opaque_of near (dirs_now ds)) c.as_slice.ensures.value in
-    subst (λ (t : Bool). IfOk c.has_member.result (λ yes. yes ≡ t))
-    (ap (λ (ds : List (Bor DirInput)). has_below (members_of c.self.inside.inputs.now (dirs_now ds)) path) c.as_slice-2.ensures.value
-    ∙ ap (λ (v : ViewData). has_below (members_of v.inputs found) path) c.self.view_is
-    ∙ under_searched c.args.self.now path kept others found near keeps from c.in_ok-near.ensures)
     c.has_member.ensures
+    ∙ ap (λ (ds : List (Bor DirInput)). has_below (members_of c.self.inside.inputs.now (dirs_now ds)) path) c.as_slice-2.ensures.value
+    ∙ ap (λ (v : ViewData). has_below (members_of v.inputs found) path) c.self.view_is
+    ∙ under_searched c.args.self.now path kept others found near keeps from c.in_ok-near.ensures

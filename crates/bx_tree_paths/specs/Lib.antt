@@ -1,0 +1,4 @@
+pub mod Searches
+pub mod Spans
+pub mod Steps
+pub mod Tables

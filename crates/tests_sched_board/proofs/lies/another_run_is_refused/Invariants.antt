@@ -1,8 +1,0 @@
--- The two ledgers are those that are made here.
-use Rattle.tests_sched_board.proofs.lies.another_run_is_refused.Given as goal
-
-abbrev pub ghosts-another_run-L-Ledger : goal.ghosts-another_run-L-Ledger
-ghosts-another_run-L-Ledger g a = record { name = a.events.name; parts = a.events.parts }
-
-abbrev pub ghosts-another_run-E-Ledger : goal.ghosts-another_run-E-Ledger
-ghosts-another_run-E-Ledger g a = record { name = a.marks.name; parts = a.marks.parts }
