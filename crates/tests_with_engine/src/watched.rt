@@ -25,6 +25,10 @@ impl<K: Keeper + Drop> Keeper for WatchedKeeper<'_, K> {
         self.inner.reader(alloc)
     }
 
+    fn close(&mut self, reader: K::Reader) {
+        self.inner.close(reader)
+    }
+
     fn get(&mut self, alloc: Global, name: &str) -> Got {
         self.inner.get(alloc, name)
     }
