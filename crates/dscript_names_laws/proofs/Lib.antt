@@ -1,0 +1,9 @@
+pub mod Occurring
+pub mod MetTypes
+pub mod MetTrees
+pub mod MetFiles
+pub mod Targets
+pub mod ScopeBlocks
+pub mod ScopeSteps
+pub mod ScopeTrees
+pub mod WholePrograms
