@@ -9,3 +9,4 @@ pub mod MadeCalls
 pub mod MadeStates
 pub mod MadeForms
 pub mod MadePrograms
+pub mod FoundLocals

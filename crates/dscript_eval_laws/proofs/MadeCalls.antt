@@ -224,19 +224,19 @@ module _ (pips : List Pip) where
       (list_made pips IsDependencyMade dependency_in depended))
       (λ given d. (b, d)))))
 
+  read_request : (x : Plain) → IsMade pips x → If (λ (r : Taken × MadeParts). IsTaken r.0) (request_in x)
+  unfolding request_in
+  read_request x k =
+      let P : Taken × MadeParts → Type 0 = λ r. IsTaken r.0 in
+      and_then (AreFieldsMade pips) P (fields_in (codes "tool" ∷ []) optional_fields x) _
+      (fields_made pips (codes "tool" ∷ []) optional_fields x k)
+      (λ fields l. and_then IsTaken P (taken_in fields) _ (taken_made fields l)
+      (λ taken m. and_then (Any MadeParts) P (made_in fields) _ (anything (made_in fields)) (λ made n. m)))
+
   requested : (args : List Plain) → AreMade pips args → If (λ (r : Taken × MadeParts). IsTaken r.0) (request_of args)
   requested args h =
       and_then (IsMade pips) (λ (r : Taken × MadeParts). IsTaken r.0) (one_of args) request_in (one_made pips args h)
-      read
-    where
-      read : (x : Plain) → IsMade pips x → If (λ (r : Taken × MadeParts). IsTaken r.0) (request_in x)
-      unfolding request_in
-      read x k =
-          let P : Taken × MadeParts → Type 0 = λ r. IsTaken r.0 in
-          and_then (AreFieldsMade pips) P (fields_in (codes "tool" ∷ []) optional_fields x) _
-          (fields_made pips (codes "tool" ∷ []) optional_fields x k)
-          (λ fields l. and_then IsTaken P (taken_in fields) _ (taken_made fields l)
-          (λ taken m. and_then (Any MadeParts) P (made_in fields) _ (anything (made_in fields)) (λ made n. m)))
+      read_request
 
   artifact_there : (a : AnyArgument) → IsPartMade a → IfThere (IsArtifactMade pips) (artifact_of a)
   artifact_there a h = there a.artifact h
@@ -296,10 +296,10 @@ module _ (pips : List Pip) where
       let files = filter_map taken_file (inputs t) in
       let dirs = map (dir_input pips) (filter_map taken_dir (inputs t)) in (
         All-from_recursion (IsFileAmong pips) (files_by_path files)
-        (by_path_made (IsFileAmong pips) files (filtered IsDependencyMade (IsFileAmong pips) taken_file file_there (inputs t) all)),
+            (by_path_made (IsFileAmong pips) files (filtered IsDependencyMade (IsFileAmong pips) taken_file file_there (inputs t) all)),
         All-from_recursion (IsDirAmong pips) (set_by dir_cmp dirs)
-        (set_made (IsDirAmong pips) dir_cmp dirs
-        (dirs_among (filter_map taken_dir (inputs t)) (filtered IsDependencyMade (IsDirMade pips) taken_dir dir_there (inputs t) all))),
+            (set_made (IsDirAmong pips) dir_cmp dirs
+            (dirs_among (filter_map taken_dir (inputs t)) (filtered IsDependencyMade (IsDirMade pips) taken_dir dir_there (inputs t) all))),
       )
 
   abbrev pub IsProcessMade : ProcessDesc → Type 0
@@ -444,7 +444,7 @@ module _ (spec : Atoms) (args : List Plain) (s : State) (fit : AllFit s.pips) (a
 
   new_process : (d : ProcessDesc) → NamesAmong s.pips (kinds.Process d) → Changes s (with_pip spec (kinds.Process d) plain.Process s)
   new_process d h =
-      new_pip spec (kinds.Process d) plain.Process s fit h 
+      new_pip spec (kinds.Process d) plain.Process s fit h
       (λ pips e. and_at (λ (pip : Pip). IsProcess pip.kind) (slice_get pips (length s.pips))
       (record { spec = spec; kind = kinds.Process d }) e tt)
 

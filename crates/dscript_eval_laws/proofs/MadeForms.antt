@@ -95,7 +95,7 @@ bind_kept pips n x h = λ s grows sound. record {
     frame = record {
       held = sound.frame.held;
       own = set_at (IsMade (pips_of s)) s.frame.own (n - s.frame.first) x sound.frame.own
-      (still_made pips (pips_of s) grows x h);
+          (still_made pips (pips_of s) grows x h);
     };
     constants = sound.constants;
   };
@@ -180,9 +180,10 @@ module _ (act : Acts) (opens : Opens act) where
       (λ now y grows made. bound (List Plain) (List Plain) AreMade AreMade now _ _
       (filtered_kept f (n + 1) xs now (all_still pips now grows f.1 h) (all_still pips now grows xs k.1))
       (λ later kept more all. given (List Plain) AreMade later _
-      (λ last on. either (AreMade last) (is_true y) (x ∷ kept) kept
-      (still_made pips last (grown_on pips later last (grown_on pips now later grows more) on) x k.0,
-      all_still later last on kept all) (all_still later last on kept all))))
+      (λ last on. either (AreMade last) (is_true y) (x ∷ kept) kept (
+        still_made pips last (grown_on pips later last (grown_on pips now later grows more) on) x k.0,
+        all_still later last on kept all,
+      ) (all_still later last on kept all))))
 
   joined_kept
       : (f : Function) (n : ℕ) (done xs : List Plain) (pips : List Pip) → AreMade pips f.1 → AreMade pips done

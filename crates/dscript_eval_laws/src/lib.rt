@@ -5,4 +5,4 @@
 
 mod laws;
 
-pub use laws::{messages_are_of_specifications, pips_are_a_list};
+pub use laws::{frames_have_their_locals, messages_are_of_specifications, pips_are_a_list};

@@ -27,9 +27,6 @@ by_equal : (n m : ℕ) (rest : List ℕ) (b : Bool) → (n == m) ≡ b → ((n =
 by_equal n m rest true e same other = inl (sym (same e))
 by_equal n m rest false e same other = inr (other (ap not e))
 
-
-
-
 has_once : (ns : List ℕ) (n : ℕ) → Has ns n → Has (each_once ns) n
 has_once [] n h = absurd h
 has_once (m ∷ ms) n h = elim h [
@@ -126,7 +123,7 @@ if_let P true o h = if_number P o faults.UnknownName h
 if_let P false o h = tt
 
 by_local : (P : ℕ → Type 0) (o : Option Local) (body : Bool) (rest : Result ℕ SpecKind) → IfLocal P o → (body ≡ false → IfNumber P rest)
-    → IfNumber P (elim o [ | Some l ↦ assigned_local l | None ↦ cond body (Err faults.AssignCaptured) rest ])
+    → IfNumber P (elim o [ Some l ↦ assigned_local l | None ↦ cond body (Err faults.AssignCaptured) rest ])
 by_local P (Some l) body rest h k = if_let P l.is_let l.number h
 by_local P None true rest h k = tt
 by_local P None false rest h k = k refl

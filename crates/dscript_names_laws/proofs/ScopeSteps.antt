@@ -416,7 +416,7 @@ module _ (world : World) (table : List FunctionData) where
         names = outer_names W file params inside.locals here.locals b locals up n.names;
         fine = (
           some_there (λ (f : FunctionData). AllByRecursion (λ m. Has b.names m × W m × (m < b.after.locals)) f.captured) (slice_get table here.functions)
-          (function_of file params here.locals b) at.0 (captured_fine W file params inside.locals here.locals b locals up n.names),
+              (function_of file params here.locals b) at.0 (captured_fine W file params inside.locals here.locals b locals up n.names),
           tt,
         );
         inner = (function_fine W file params inside.locals here.locals b locals up n.names among n.uses n.is n.fine, n.inner);
@@ -440,13 +440,13 @@ module _ (world : World) (table : List FunctionData) where
           low = omega arith;
           seen = (
             numbers_append (λ n. V n × (n < here.locals + length params)) (params_from here.locals params) locals
-            (params_numbered (λ n. V n × (n < here.locals + length params)) here.locals params (λ m low high. (inr low, high)))
-            (undeclared (λ n. V n × (n < here.locals + length params))),
+                (params_numbered (λ n. V n × (n < here.locals + length params)) here.locals params (λ m low high. (inr low, high)))
+                (undeclared (λ n. V n × (n < here.locals + length params))),
             blocks_weaker (λ n. W n × (n < here.locals)) (λ n. V n × (n < here.locals + length params)) (λ n p. (inl p.0, omega (arith, p.1))) here.blocks good.seen,
           );
           own = (
             numbers_append (λ n. here.locals ≤ n) (params_from here.locals params) locals
-            (params_numbered (λ n. here.locals ≤ n) here.locals params (λ m low high. low)) (undeclared (λ n. here.locals ≤ n)),
+                (params_numbered (λ n. here.locals ≤ n) here.locals params (λ m low high. low)) (undeclared (λ n. here.locals ≤ n)),
             λ e. absurd (true≢false e),
           );
         }));

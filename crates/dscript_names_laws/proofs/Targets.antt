@@ -205,7 +205,7 @@ module _ (world : World) (P : ℕ → Type 0) where
   if_public : (o hidden : Option Found) → IfFound o
       → IfOkFound (elim o [
         | Some found ↦ Ok found
-        | None ↦ elim hidden [ | Some other ↦ Err faults.NotPublic | None ↦ Err faults.UnknownName ]
+        | None ↦ elim hidden [ Some other ↦ Err faults.NotPublic | None ↦ Err faults.UnknownName ]
       ])
   if_public (Some found) hidden h = h
   if_public None (Some other) h = tt
@@ -228,7 +228,7 @@ module _ (world : World) (P : ℕ → Type 0) where
   sdk_target (x ∷ names) = if_own (is_sdk_namespace x) (ambient_of (x ∷ names)) (call_found (x ∷ names))
 
   if_module : (o : Option ℕ) (parts : ℕ) (names : Dotted)
-      → IfOkFound (elim o [ | Some m ↦ in_other_module world m parts names | None ↦ Err faults.UnknownModule ])
+      → IfOkFound (elim o [ Some m ↦ in_other_module world m parts names | None ↦ Err faults.UnknownModule ])
   if_module (Some m) parts names = other_found m parts names
   if_module None parts names = tt
 
@@ -283,11 +283,17 @@ module _ (world : World) (P : ℕ → Type 0) where
       let written = x ∷ members_at parts in
       first_found _ (
         as_level (in_namespaces site.number site.file (reverse (beginnings site.around)) written)
-        (namespaces_found site.number site.file is (reverse (beginnings site.around)) written),
-        (imports_found site.file written,
-        (as_level (in_own_module world site.file written) (of_module_from is_exported site.file.module_number written),
-        (call_import_found x parts,
-        (as_level (shortest ambient_of 0 [] written) (shortest_found ambient_of call_found 0 [] written), tt)))),
+            (namespaces_found site.number site.file is (reverse (beginnings site.around)) written),
+        (
+          imports_found site.file written,
+          (
+            as_level (in_own_module world site.file written) (of_module_from is_exported site.file.module_number written),
+            (
+              call_import_found x parts,
+              (as_level (shortest ambient_of 0 [] written) (shortest_found ambient_of call_found 0 [] written), tt),
+            ),
+          ),
+        ),
       )
     where
       of_module_from : (sees : Mark → Bool) (m : ℕ) (names : Dotted) → IfFound (shortest (value_of_module sees m 0 world.files) 0 [] names)
