@@ -1,6 +1,6 @@
 -- What operators give of values that are made is made.
 use Rattle.std.proofs.Common.{ℕ, Bool, true, false, nat_le, List, [], ◌∷◌, ◌++◌, length, Option, Some, None, Ok, Err}
-use Rattle.std.specs.Prelude.{ℤ, pos, negsuc, neg_ℤ, ◌-ℤ◌, ◌*ℤ◌, ◌+ℤ◌, slice_get, unwrap_or, codes, ◌==◌}
+use Rattle.std.specs.Prelude.{ℤ, pos, negsuc, neg_ℤ, ◌-ℤ◌, ◌*ℤ◌, ◌+ℤ◌, int_le, int_lt, slice_get, unwrap_or, codes, ◌==◌}
 use Rattle.std.specs.Fmt.{signed_decimal}
 use Rattle.std.specs.List.{slice_split}
 use Rattle.bx_tree.specs.Paths.{Atoms}
@@ -62,19 +62,19 @@ module _ (pips : List Pip) where
 
   less_made : (a b : Plain) → If (IsMade pips) (is_less a b)
   unfolding is_less
-  less_made a b = compared_made _ a b
+  less_made a b = compared_made (λ x y. int_lt x y) a b
 
   at_most_made : (a b : Plain) → If (IsMade pips) (is_at_most a b)
   unfolding is_at_most
-  at_most_made a b = compared_made _ a b
+  at_most_made a b = compared_made (λ x y. int_le x y) a b
 
   greater_made : (a b : Plain) → If (IsMade pips) (is_greater a b)
   unfolding is_greater
-  greater_made a b = compared_made _ a b
+  greater_made a b = compared_made (λ x y. int_lt y x) a b
 
   at_least_made : (a b : Plain) → If (IsMade pips) (is_at_least a b)
   unfolding is_at_least
-  at_least_made a b = compared_made _ a b
+  at_least_made a b = compared_made (λ x y. int_le y x) a b
 
   difference_made : (a b : Plain) → If (IsMade pips) (difference_of a b)
   unfolding difference_of
