@@ -1,5 +1,5 @@
 -- Ambient calls at values that are made: each pip that they add fits, and what they give is made.
-use Rattle.std.proofs.Common.{◌≡◌, ℕ, Bool, true, false, ◌&&◌, ◌||◌, cond, List, [], ◌∷◌, ◌++◌, length, map, Option, Some, None, Ok, Err}
+use Rattle.std.proofs.Common.{◌≡◌, ℕ, Bool, true, false, ◌&&◌, ◌||◌, List, [], ◌∷◌, ◌++◌, length, map, Option, Some, None, Ok, Err}
 use Rattle.std.proofs.Common.{refl, subst, inl, inr}
 use Rattle.std.specs.Fmt.{decimal, signed_decimal}
 use Rattle.std.specs.Prelude.{IsSomeAnd, nat_le, nat_lt, slice_get, codes}
@@ -7,19 +7,17 @@ use Rattle.std.specs.List.{AllByRecursion, filter_map}
 use Rattle.std.specs.BTreeSet.{insert_key}
 use Rattle.std.specs.declared.cmp.Ordering.{Ordering}
 use Rattle.std.proofs.lemmas.List.Elements.{All-from_recursion}
-use Rattle.bx_tree.specs.Members.{Has}
-use Rattle.bx_tree.specs.Paths.{Atoms, path_cmp}
+use Rattle.bx_tree.specs.Paths.{Atoms}
 use Rattle.bx_tree.specs.FileInputs.{input_path}
 use Rattle.bx_tree.specs.Trees.{Files}
 use Rattle.bx_tree.specs.declared.file_input.FileInput.{FileInput}
-use Rattle.bx_tree.specs.declared.file_input.FileInput.TheVariants.{Source, Made}
+use Rattle.bx_tree.specs.declared.file_input.FileInput.TheVariants.{Made}
 use Rattle.bx_tree.proofs.Lists.{all_append}
 use Rattle.bx_tree.proofs.Members.{all_has, has_all}
 use Rattle.bx_tree.proofs.Sets.{contains_has, has_contained, has_insert}
 use Rattle.bx_path.specs.Joining.{if_short}
 use Rattle.pip_model_types.specs.Dirs.{dir_cmp}
 use Rattle.pip_model_types.specs.Makers.{IsDirAmong, IsFileAmong, IsSealOf, MakesFile, NamesAmong}
-use Rattle.pip_model_types.specs.declared.dir_inputs.DirInput.{DirInput}
 use Rattle.pip_model_types.specs.declared.pip.CopyDesc.{CopyDesc}
 use Rattle.pip_model_types.specs.declared.pip.Pip.{Pip}
 use Rattle.pip_model_types.specs.declared.pip.PipKind.{PipKind}
@@ -46,7 +44,7 @@ use Rattle.dscript_sdk_values.specs.Kinds.{argument_in, directory_in, file_in, f
 use Rattle.dscript_sdk_values.specs.Objects.{fields_in, field_in, optional_in, optional_list_in}
 use Rattle.dscript_sdk_values.specs.Outcomes.{Outcome, ◌>>=◌, unless_none}
 use Rattle.dscript_sdk_values.specs.PathTexts.{path_argument}
-use Rattle.dscript_sdk_calls.specs.ArgumentTexts.{argument_after, artifact_argument, text_argument}
+use Rattle.dscript_sdk_calls.specs.ArgumentTexts.{argument_after, text_argument}
 use Rattle.dscript_sdk_calls.specs.ArtifactInput.{artifact_input, input_of as input_argument}
 use Rattle.dscript_sdk_calls.specs.ArtifactNone.{artifact_none, plain_path_of}
 use Rattle.dscript_sdk_calls.specs.ArtifactOutput.{artifact_output, output_of}
@@ -61,7 +59,7 @@ use Rattle.dscript_sdk_execute.specs.declared.dependency.Dependency.{Dependency}
 use Rattle.dscript_sdk_execute.specs.declared.dependency.Dependency.TheVariants as dependencies
 use Rattle.dscript_sdk_execute.specs.Execute.{artifact_of, artifacts_of, asked_process, clashes_console, dir_input}
 use Rattle.dscript_sdk_execute.specs.Execute.{execute, form_of_kind, form_of_pip, input_of, inputs, process_of}
-use Rattle.dscript_sdk_execute.specs.Execute.{shares_exclusive, taken_dir, taken_file, unless_clashing}
+use Rattle.dscript_sdk_execute.specs.Execute.{shares_exclusive, taken_dir, taken_file}
 use Rattle.dscript_sdk_execute.specs.ExecuteObject.{Made as MadeParts, Taken, dependency_in, made_in, optional_fields}
 use Rattle.dscript_sdk_execute.specs.ExecuteObject.{request_in, request_of, taken_in, tool_in}
 use Rattle.dscript_sdk_execute.specs.Sets.{set_by}
@@ -70,9 +68,9 @@ use Rattle.dscript_sdk_pips.specs.CopyFile.{copied_file, copy_file, with_copy}
 use Rattle.dscript_sdk_pips.specs.FileSets.{files_by_path}
 use Rattle.dscript_sdk_pips.specs.NewOutputDirectory.{name_in_arguments, named_directory, new_output_directory, next_directory}
 use Rattle.dscript_sdk_pips.specs.SealDirectory as full
-use Rattle.dscript_sdk_pips.specs.SealDirectory.{full_seal, seal_directory}
+use Rattle.dscript_sdk_pips.specs.SealDirectory.{seal_directory}
 use Rattle.dscript_sdk_pips.specs.SealPartialDirectory as partial
-use Rattle.dscript_sdk_pips.specs.SealPartialDirectory.{partial_seal, seal_partial_directory}
+use Rattle.dscript_sdk_pips.specs.SealPartialDirectory.{seal_partial_directory}
 use Rattle.dscript_sdk_pips.specs.SealSourceDirectory.{form_of_rest, seal_source_directory, sealed_sources}
 use Rattle.dscript_sdk_pips.specs.Seals.{are_below, lists_sources, sealed_in, with_sealed}
 use Rattle.dscript_sdk_pips.specs.States.{Change, State, count_in, unchanged, with_pip}
@@ -81,7 +79,7 @@ use Rattle.dscript_sdk_pips.specs.WriteAllText.{with_write, write_all_text, writ
 use Rattle.dscript_sdk_pips.specs.declared.limits.TheConstants.{MAX_NUMBERED_PIPS}
 use Rattle.dscript_sdk_pips.proofs.Counted.{are_counted}
 use Rattle.dscript_eval_laws.proofs.MadeOutcomes.{Any, If, IfThere, and_then, anything, argument_made, chosen, file_made}
-use Rattle.dscript_eval_laws.proofs.MadeOutcomes.{field_made, fields_made, filtered, list_answered, list_made, one_made}
+use Rattle.dscript_eval_laws.proofs.MadeOutcomes.{fields_made, filtered, list_answered, list_made, one_made}
 use Rattle.dscript_eval_laws.proofs.MadeOutcomes.{optional_list_made, two_made}
 use Rattle.dscript_eval_laws.proofs.MadeValues.{AllFit, AreFieldsMade, AreMade, Grows, IsArgumentMade, IsArtifactMade}
 use Rattle.dscript_eval_laws.proofs.MadeValues.{IsDirMade, IsMade, IsProcess, IsSealAt, all_fit, and_at, back_grows}

@@ -1,7 +1,6 @@
 -- Each form evaluates to values that are made.
 use Rattle.std.proofs.Common.{ℕ, ◌+◌, ◌-◌, Bool, true, false, cond, List, [], ◌∷◌, ◌++◌, length, Option, Some}
-use Rattle.std.proofs.Common.{None, Ok, refl}
-use Rattle.std.specs.List.{AllByRecursion}
+use Rattle.std.proofs.Common.{None}
 use Rattle.bx_tree.proofs.Lists.{all_append, all_push}
 use Rattle.pip_model_types.specs.declared.pip.Pip.{Pip}
 use Rattle.dscript_eval_operators.specs.Truth.{is_true}
@@ -52,7 +51,7 @@ use Rattle.dscript_eval_meaning.specs.Evaluating.{Gives, answered, gives, spend,
 use Rattle.dscript_eval_meaning.specs.Expressions.{after, arguments, arrow, captured_of, declared, directory}
 use Rattle.dscript_eval_meaning.specs.Expressions.{elements, fields, hole_texts, named, operands, path_holes}
 use Rattle.dscript_eval_meaning.specs.Expressions.{operator_count, path_value, value}
-use Rattle.dscript_eval_meaning.specs.Frames.{bind, captures, local, local_value, with_local}
+use Rattle.dscript_eval_meaning.specs.Frames.{bind, captures, local}
 use Rattle.dscript_eval_meaning.specs.Lookups.{declared_at, function_at, path_at}
 use Rattle.dscript_eval_meaning.specs.States.{Status, Waiting, Running, Done}
 use Rattle.dscript_eval_meaning.specs.Statements.{Way, On, Back, all, body_value, does, next, otherwise, returned}

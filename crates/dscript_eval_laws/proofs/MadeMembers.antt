@@ -1,19 +1,18 @@
 -- What the members of values that are made give is made.
-use Rattle.std.proofs.Common.{◌≡◌, ℕ, Bool, true, false, ◌||◌, cond, List, [], ◌∷◌, ◌++◌, length, map, take, Option, Some, None, Ok, Err}
+use Rattle.std.proofs.Common.{◌≡◌, ℕ, Bool, true, ◌||◌, cond, List, [], ◌∷◌, ◌++◌, length, map, take, Option, Some, None, Ok, Err}
 use Rattle.std.proofs.Common.{suc, refl, sym, inl, inr, arith}
 use Rattle.std.specs.Prelude.{Any as AnyOf, IsSomeAnd, find, slice_get}
-use Rattle.std.specs.List.{AllByRecursion, ends_with, list_any, starts_with}
+use Rattle.std.specs.List.{AllByRecursion, list_any}
 use Rattle.std.proofs.lemmas.Bool.{or_cases}
 use Rattle.std.proofs.lemmas.List.Elements.{recursion_from_All}
 use Rattle.bx_tree.specs.Members.{Has}
 use Rattle.bx_tree.specs.Orders.{same_path_decides}
 use Rattle.bx_tree.specs.Paths.{Atoms, same_path}
-use Rattle.bx_tree.specs.Trees.{Files}
 use Rattle.bx_tree.specs.FileInputs.{input_path}
 use Rattle.bx_tree.specs.declared.file_input.FileInput.{FileInput}
 use Rattle.bx_tree.specs.declared.file_input.FileInput.TheVariants.{Source, Made}
 use Rattle.bx_tree.proofs.Lists.{all_append, all_weaker}
-use Rattle.bx_tree.proofs.Sets.{contains_has, has_contained}
+use Rattle.bx_tree.proofs.Sets.{contains_has}
 use Rattle.bx_path.specs.Joining.{join_of, parent}
 use Rattle.pip_model_types.specs.Makers.{HasOutDir, IsFileAmong, MakesFile, NamesAmong}
 use Rattle.pip_model_types.specs.declared.dir_inputs.SealForm.{SealForm}
@@ -28,7 +27,7 @@ use Rattle.dscript_value.specs.declared.parts.StaticDir.TheVariants as dirs
 use Rattle.dscript_value.specs.Depths.{field_at}
 use Rattle.dscript_value.specs.Plain as plain
 use Rattle.dscript_value.specs.Plain.{Plain, item_list, member_list}
-use Rattle.dscript_sdk_values.specs.declared.fault.SdkFault.TheVariants.{BadArgument, BadPath, Kind, Range}
+use Rattle.dscript_sdk_values.specs.declared.fault.SdkFault.TheVariants.{BadArgument, BadPath, Range}
 use Rattle.dscript_sdk_values.specs.Answers.{function_answer, list_answer, text_answer}
 use Rattle.dscript_sdk_values.specs.Arguments.{one_of}
 use Rattle.dscript_sdk_values.specs.Kinds.{directory_in, each_in, items_in, path_in, text_in}
@@ -38,8 +37,7 @@ use Rattle.dscript_sdk_members.specs.ListMembers.{has_equal, list_function, list
 use Rattle.dscript_sdk_members.specs.Names.{member_named}
 use Rattle.dscript_sdk_members.specs.PathMembers.{any_path_property, directory_function, file_property, last_atom}
 use Rattle.dscript_sdk_members.specs.PathMembers.{path_function, with_extension}
-use Rattle.dscript_sdk_members.specs.TextMembers.{has_text, pieces_after, split_by, text_function, text_property}
-use Rattle.dscript_sdk_members.specs.TextMembers.{text_test}
+use Rattle.dscript_sdk_members.specs.TextMembers.{pieces_after, split_by, text_function, text_property}
 use Rattle.dscript_sdk_members.specs.declared.member.Member.{Member}
 use Rattle.dscript_sdk_members.specs.declared.member.Member.TheVariants as members
 use Rattle.dscript_sdk_calls.specs.Sources.{files_below, files_directly_in}
@@ -53,7 +51,7 @@ use Rattle.dscript_eval_laws.proofs.MadeOutcomes.{Any, If, IfThere, and_then, an
 use Rattle.dscript_eval_laws.proofs.MadeOutcomes.{files_made, function_answered, in_list, list_answered}
 use Rattle.dscript_eval_laws.proofs.MadeOutcomes.{number_answered, one_made, text_answered, texts_made, there_made}
 use Rattle.dscript_eval_laws.proofs.MadeOutcomes.{there_or, unless_there}
-use Rattle.dscript_eval_laws.proofs.MadeValues.{AllFit, AreMade, IsMade, and_at, front_grows, items_made}
+use Rattle.dscript_eval_laws.proofs.MadeValues.{AllFit, AreMade, IsMade, front_grows, items_made}
 use Rattle.dscript_eval_laws.proofs.MadeValues.{members_made, still_file}
 
 -- ## What a process declares

@@ -1,6 +1,6 @@
 -- What operators give of values that are made is made.
-use Rattle.std.proofs.Common.{ℕ, Bool, true, false, nat_le, List, [], ◌∷◌, ◌++◌, length, Option, Some, None, Ok, Err}
-use Rattle.std.specs.Prelude.{ℤ, pos, negsuc, neg_ℤ, ◌-ℤ◌, ◌*ℤ◌, ◌+ℤ◌, int_le, int_lt, slice_get, unwrap_or, codes, ◌==◌}
+use Rattle.std.proofs.Common.{ℕ, Bool, nat_le, List, [], ◌∷◌, ◌++◌, length, Option, Ok, Err}
+use Rattle.std.specs.Prelude.{ℤ, pos, negsuc, neg_ℤ, ◌-ℤ◌, ◌*ℤ◌, ◌+ℤ◌, int_le, int_lt, slice_get, ◌==◌}
 use Rattle.std.specs.Fmt.{signed_decimal}
 use Rattle.std.specs.List.{slice_split}
 use Rattle.bx_tree.specs.Paths.{Atoms}
@@ -16,12 +16,12 @@ use Rattle.pip_model_types.specs.declared.pip.Pip.{Pip}
 use Rattle.dscript_value.specs.Depths.{field_at}
 use Rattle.dscript_value.specs.Equality.{equal_of}
 use Rattle.dscript_value.specs.Plain as plain
-use Rattle.dscript_value.specs.Plain.{Plain, PlainField, item_list, member_list}
+use Rattle.dscript_value.specs.Plain.{Plain, item_list, member_list}
 use Rattle.dscript_sdk_values.specs.declared.fault.SdkFault.TheVariants.{BadPath, Kind, Range}
 use Rattle.dscript_sdk_values.specs.declared.limits.TheConstants.{MAX_LIST_ITEMS}
 use Rattle.dscript_sdk_values.specs.Arguments.{one_of, two_of}
-use Rattle.dscript_sdk_values.specs.Kinds.{items_in, object_in}
-use Rattle.dscript_sdk_values.specs.Outcomes.{Outcome, ◌>>=◌, unless_none}
+use Rattle.dscript_sdk_values.specs.Kinds.{items_in}
+use Rattle.dscript_sdk_values.specs.Outcomes.{◌>>=◌, unless_none}
 use Rattle.dscript_eval_operators.specs.CallbackArguments.{Function, callback_in, function_in, reduction_in}
 use Rattle.dscript_eval_operators.specs.Comparisons.{compare_by, is_at_least, is_at_most, is_greater, is_less}
 use Rattle.dscript_eval_operators.specs.Equalities.{is_equal, is_unequal}
@@ -33,7 +33,7 @@ use Rattle.dscript_eval_operators.specs.PathLiterals.{lettered, path_literal, pa
 use Rattle.dscript_eval_operators.specs.RelativeLiterals.{atom_literal, atoms_of, relative_literal}
 use Rattle.dscript_eval_operators.specs.Spreads.{spread_fields, with_items_of}
 use Rattle.dscript_eval_operators.specs.Sums.{sum_of}
-use Rattle.dscript_eval_laws.proofs.MadeOutcomes.{Any, If, IfThere, and_then, anything, chosen, in_list, item_made}
+use Rattle.dscript_eval_laws.proofs.MadeOutcomes.{Any, If, and_then, anything, chosen, in_list, item_made}
 use Rattle.dscript_eval_laws.proofs.MadeOutcomes.{one_made, text_answered, there_made, there_or, two_made}
 use Rattle.dscript_eval_laws.proofs.MadeOutcomes.{unless_there}
 use Rattle.dscript_eval_laws.proofs.MadeValues.{AreFieldsMade, AreMade, IsMade, items_made, members_made}

@@ -4,7 +4,6 @@ use Rattle.std.proofs.Common.{None, Ok, Err, refl}
 use Rattle.std.specs.Prelude.{◌^◌, nat_lt, pos, slice_get, unwrap_or}
 use Rattle.std.specs.List.{AllByRecursion, cons_option, filter_map}
 use Rattle.std.specs.Str.{bytes_eq}
-use Rattle.bx_tree.specs.Paths.{Atoms}
 use Rattle.bx_tree.specs.declared.file_input.FileInput.{FileInput}
 use Rattle.pip_model_types.specs.Makers.{IsFileAmong}
 use Rattle.pip_model_types.specs.declared.pip.Pip.{Pip}
@@ -14,14 +13,14 @@ use Rattle.dscript_value.specs.declared.parts.Callee.{Callee}
 use Rattle.dscript_value.specs.Depths.{field_at, greatest_depth, list_value, object_value, one_deeper, put_field}
 use Rattle.dscript_value.specs.Depths.{put_fields, values_of}
 use Rattle.dscript_value.specs.Plain as plain
-use Rattle.dscript_value.specs.Plain.{Plain, PlainField, item_list, member_list, to_items, to_members}
+use Rattle.dscript_value.specs.Plain.{Plain, PlainField, to_items, to_members}
 use Rattle.dscript_sdk_values.specs.declared.fault.SdkFault.{SdkFault}
 use Rattle.dscript_sdk_values.specs.declared.fault.SdkFault.TheVariants.{BadArgument, Range}
 use Rattle.dscript_sdk_values.specs.declared.limits.TheConstants.{MAX_LIST_ITEMS, MAX_TEXT_BYTES}
 use Rattle.dscript_sdk_values.specs.Answers.{function_answer, list_answer, number_answer, text_answer}
 use Rattle.dscript_sdk_values.specs.Arguments.{one_of, two_of}
 use Rattle.dscript_sdk_values.specs.Kinds.{argument_in, each_in, file_in, items_in, list_in, object_in}
-use Rattle.dscript_sdk_values.specs.Objects.{field_in, fields_in, has_all, has_only, optional_in, optional_list_in}
+use Rattle.dscript_sdk_values.specs.Objects.{field_in, fields_in, optional_in, optional_list_in}
 use Rattle.dscript_sdk_values.specs.Objects.{read_if_there}
 use Rattle.dscript_sdk_values.specs.Outcomes.{Outcome, ◌>>=◌, unless_none}
 use Rattle.dscript_eval_laws.proofs.MadeValues.{AreFieldsMade, AreMade, IsArgumentMade, IsMade, items_made}

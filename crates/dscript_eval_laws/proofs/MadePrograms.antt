@@ -1,5 +1,5 @@
 -- The pips of a program are a list of pips.
-use Rattle.std.proofs.Common.{◌≡◌, ℕ, zero, suc, ◌+◌, List, [], ◌∷◌, map, length, Option, None, Some, Result, Ok, Err, refl, sym, ap, ◌∙◌, subst}
+use Rattle.std.proofs.Common.{◌≡◌, ℕ, zero, suc, ◌+◌, List, [], ◌∷◌, map, length, Option, None, Some, Result, Ok, Err, ◌∙◌, subst}
 use Rattle.std.specs.List.{AllByRecursion}
 use Rattle.bx_tree.specs.Trees.{Files}
 use Rattle.pip_model_types.specs.Makers.{IsPipList}
@@ -11,8 +11,8 @@ use Rattle.dscript_program.specs.ProgramData.{DeclData, FileData, FunctionData, 
 use Rattle.dscript_eval_meaning.specs.declared.fault.EvalKind.TheVariants as faults
 use Rattle.dscript_eval_meaning.specs.declared.limits.TheConstants.{MAX_OPEN_CALLS}
 use Rattle.dscript_eval_meaning.specs.Acts.{Act, Acts, Call, Demand}
-use Rattle.dscript_eval_meaning.specs.Constants.{all_waiting, mark}
-use Rattle.dscript_eval_meaning.specs.Evaluating.{Gives, Stop}
+use Rattle.dscript_eval_meaning.specs.Constants.{mark}
+use Rattle.dscript_eval_meaning.specs.Evaluating.{Stop}
 use Rattle.dscript_eval_meaning.specs.Frames.{constant_frame, function_frame}
 use Rattle.dscript_eval_meaning.specs.Lookups.{declared_at, function_at}
 use Rattle.dscript_eval_meaning.specs.Meaning.{acts, demand, demand_decls, demand_files, demanded, evaluated}

@@ -1,12 +1,11 @@
 -- What evaluates to values that are made, and leaves a state in which all is made.
-use Rattle.std.proofs.Common.{◌≡◌, ℕ, zero, suc, ◌-◌, Bool, true, false, cond, List, [], ◌∷◌, map, take, Option, Some, None}
-use Rattle.std.proofs.Common.{Result, Ok, Err, refl}
+use Rattle.std.proofs.Common.{◌≡◌, ℕ, zero, suc, ◌-◌, Bool, true, false, cond, List, [], ◌∷◌, take}
+use Rattle.std.proofs.Common.{Result, Ok, Err}
 use Rattle.std.specs.Prelude.{nat_le, nat_lt, slice_get, slice_set, unwrap_or, ◌==◌}
 use Rattle.std.specs.List.{AllByRecursion}
 use Rattle.bx_tree.proofs.Lists.{all_weaker}
 use Rattle.pip_model_types.specs.declared.pip.Pip.{Pip}
 use Rattle.dscript_value.specs.Plain.{Plain, Undefined}
-use Rattle.dscript_sdk_values.specs.declared.fault.SdkFault.{SdkFault}
 use Rattle.dscript_sdk_values.specs.Outcomes.{Outcome}
 use Rattle.dscript_sdk_pips.specs.States.{State as Calls}
 use Rattle.dscript_eval_meaning.specs.declared.fault.EvalKind.{EvalKind}
@@ -16,7 +15,7 @@ use Rattle.dscript_eval_meaning.specs.Constants.{Table, status_in, with_status}
 use Rattle.dscript_eval_meaning.specs.Evaluating.{Gives, Stop, answered, fails, followed, gives, spend, ◌>>=◌, ◌>>◌}
 use Rattle.dscript_eval_meaning.specs.Frames.{captured_value, captures, filled, local_value, within}
 use Rattle.dscript_eval_meaning.specs.States.{Frame, State, Status, Waiting, Running, Done}
-use Rattle.dscript_eval_laws.proofs.MadeCalls.{Changes, IsChanged}
+use Rattle.dscript_eval_laws.proofs.MadeCalls.{Changes}
 use Rattle.dscript_eval_laws.proofs.MadeOutcomes.{If, IfThere, there_or}
 use Rattle.dscript_eval_laws.proofs.MadeValues.{AllFit, AreMade, Grows, IsMade, all_still, grown_on, no_growth}
 use Rattle.dscript_eval_laws.proofs.MadeValues.{still_made}

@@ -1,5 +1,5 @@
 -- The names in a file are met in the order of its tokens.
-use Rattle.std.proofs.Common.{◌≡◌, ℕ, zero, suc, List, [], ◌∷◌, ◌++◌, Option, refl, ap}
+use Rattle.std.proofs.Common.{◌≡◌, ℕ, zero, suc, List, [], ◌∷◌, ◌++◌, refl, ap}
 use Rattle.std.specs.List.{flat_map}
 use Rattle.dscript_lex.specs.declared.token.TokenKind.{TokenKind}
 use Rattle.dscript_ast.specs.ExprTree.{StmtTree, to_stmts}
@@ -11,7 +11,7 @@ use Rattle.dscript_ast.specs.declared.file.Mark.{Mark}
 use Rattle.dscript_ast.specs.declared.file.Mark.TheVariants as marks
 use Rattle.dscript_grammar.specs.ExprGrammar.{any_expr, stmt_at, type_note}
 use Rattle.dscript_grammar.specs.FileGrammar.{block_at, decl_node, extends, file_at, import_name, item_at, mark, marked_at, type_params}
-use Rattle.dscript_grammar.specs.Language.{Language, identifier, keyword, optional, ◌⋅◌}
+use Rattle.dscript_grammar.specs.Language.{Language, identifier, keyword, ◌⋅◌}
 use Rattle.dscript_grammar.specs.TypeGrammar.{any_type, type_at}
 use Rattle.dscript_names_laws.specs.Met.{Occur, Words, all_marked_met, decl_met, item_met, items_met, marked_met, names_met, stmt_met, stmts_met}
 use Rattle.dscript_names_laws.proofs.MetTrees.{meets_expr, meets_stmt}

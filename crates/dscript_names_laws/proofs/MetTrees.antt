@@ -1,15 +1,15 @@
 -- The names in an expression or a statement are met in the order of its tokens.
-use Rattle.std.proofs.Common.{◌≡◌, ℕ, zero, suc, List, [], ◌∷◌, ◌++◌, refl, ap, sym, ◌∙◌, append_assoc, append-nil}
+use Rattle.std.proofs.Common.{◌≡◌, ℕ, zero, suc, List, [], ◌∷◌, ◌++◌, refl, ap, ◌∙◌, append_assoc, append-nil}
 use Rattle.std.specs.List.{flat_map}
 use Rattle.dscript_ast.specs.ExprTree as tree
-use Rattle.dscript_ast.specs.ExprTree.{HeadTree, ExprTree, OperandTree, PartTree, ElementTree, PropTree, HoleTree, StmtTree, MaybeExpr, MaybeStmt, ExprTrees, OperandTrees, PartTrees, ElementTrees, PropTrees, HoleTrees, StmtTrees, expr_of, exprs_of, operands_of, parts_of, elements_of, props_of, holes_of, stmts_of}
+use Rattle.dscript_ast.specs.ExprTree.{HeadTree, ExprTree, OperandTree, PartTree, ElementTree, PropTree, HoleTree, StmtTree, MaybeExpr, ExprTrees, OperandTrees, PartTrees, ElementTrees, PropTrees, HoleTrees, StmtTrees, expr_of, exprs_of, operands_of, parts_of, elements_of, props_of, holes_of, stmts_of}
 use Rattle.dscript_ast.specs.declared.expr.LoopKind.{LoopKind}
 use Rattle.dscript_ast.specs.declared.expr.LoopKind.TheVariants as loops
 use Rattle.dscript_ast.specs.declared.expr.PathKind.{PathKind}
 use Rattle.dscript_ast.specs.declared.expr.PathKind.TheVariants as letters
 use Rattle.dscript_grammar.specs.ExprGrammar.{any_expr, or_expr, postfix_expr, primary_expr, prefix, head, letter, loop_keyword, operand, chain, part, holes, template, element, prop, block, expr_node, value, stmt_node, expr_at, stmt_at, type_note}
 use Rattle.dscript_grammar.specs.Language.{Language, optional}
-use Rattle.dscript_names_laws.specs.Met.{Words, names_met, operand_met, operands_met, part_met, parts_met, exprs_met, element_met, elements_met, prop_met, props_met, hole_met, holes_met, stmt_met, maybe_met, else_met, stmts_met}
+use Rattle.dscript_names_laws.specs.Met.{Words, names_met, operand_met, operands_met, part_met, parts_met, exprs_met, element_met, elements_met, prop_met, props_met, hole_met, holes_met, stmt_met, maybe_met, stmts_met}
 use Rattle.dscript_names_laws.proofs.MetTypes.{skips_note, skips_params}
 use Rattle.dscript_names_laws.proofs.Occurring.{Meets, meets_after, meets_as, meets_before, meets_either, meets_given, meets_list, meets_many, meets_name, meets_never, meets_not_before, meets_nothing, meets_then, meets_token, skips_flag, skips_many, skips_name, skips_optional}
 

@@ -1,13 +1,12 @@
 -- Blocks whose locals have numbers of some kind.
-use Rattle.std.proofs.Common.{◌≡◌, ◌⊎◌, ℕ, zero, suc, ◌+◌, ◌<◌, ◌≤◌, ◌==◌, Bool, true, false, not, cond, nat_lt, List, [], ◌∷◌, ◌++◌, filter, length, Option, Some, None}
+use Rattle.std.proofs.Common.{◌≡◌, ◌⊎◌, ℕ, ◌+◌, ◌<◌, ◌≤◌, ◌==◌, Bool, true, false, not, cond, nat_lt, List, [], ◌∷◌, ◌++◌, filter, length, Option, Some, None}
 use Rattle.std.proofs.Common.{Result, Ok, Err, refl, sym, ap, ◌∙◌, subst, inl, inr, arith}
 use Rattle.std.specs.Prelude.{find, ok_or}
-use Rattle.std.specs.List.{AllByRecursion}
 use Rattle.std.specs.Str.{bytes_eq}
 use Rattle.std.proofs.lemmas.Bool.{eqb-true, lt-ltb}
 use Rattle.std.proofs.lemmas.Option.{same_Some}
 use Rattle.bx_tree.specs.Members.{Has}
-use Rattle.bx_tree.proofs.Lists.{all_append, all_weaker}
+use Rattle.bx_tree.proofs.Lists.{all_append}
 use Rattle.bx_tree.proofs.Members.{has_filter}
 use Rattle.dscript_ast.specs.ExprTree as tree
 use Rattle.dscript_ast.specs.ExprTree.{ParamTree, StmtTree, StmtTrees}

@@ -24,7 +24,7 @@ use Rattle.dscript_names_binding.specs.Walk.{Here, Bound, Binds, chained, closed
 use Rattle.dscript_names.proofs.Captured.{captures_of}
 use Rattle.dscript_names.proofs.Numbered.{At, at_split}
 use Rattle.dscript_names_laws.specs.Whole.{HasLocal, IsOwn, Makes, Names, Scope, Sets, Use, body_uses, scope_of}
-use Rattle.dscript_names_laws.proofs.ScopeBlocks.{IfNumber, IsOwnFrom, assigned_own, blocks_weaker, declared_in, declared_own, has_captured, numbers_weaker, params_numbered}
+use Rattle.dscript_names_laws.proofs.ScopeBlocks.{IfNumber, IsOwnFrom, assigned_own, blocks_weaker, declared_in, declared_own, has_captured, params_numbered}
 use Rattle.dscript_names_laws.proofs.Targets.{AllNumbers, IfOkFound, InBlocks, IsDeclaredValue, IsTarget, name_found}
 
 -- ## Lists

@@ -1,9 +1,9 @@
 -- What a walk through an expression or a statement resolves is there.
-use Rattle.std.proofs.Common.{◌≡◌, ◌⊎◌, ℕ, zero, suc, ◌+◌, ◌<◌, ◌≤◌, List, [], ◌∷◌, ◌++◌, drop, length, Option, Some, None, refl, sym, ◌∙◌, ap, subst, inl, inr, arith}
+use Rattle.std.proofs.Common.{◌≡◌, ◌⊎◌, ℕ, zero, suc, ◌+◌, ◌<◌, ◌≤◌, List, [], ◌∷◌, ◌++◌, drop, length, Option, Some, None, refl, sym, ◌∙◌, ap, inr, arith}
 use Rattle.std.specs.Prelude.{slice_get}
 use Rattle.std.specs.List.{AllByRecursion}
 use Rattle.dscript_ast.specs.ExprTree as tree
-use Rattle.dscript_ast.specs.ExprTree.{ParamTree, HeadTree, ExprTree, OperandTree, PartTree, ElementTree, PropTree, HoleTree, StmtTree, MaybeExpr, MaybeStmt, ExprTrees, OperandTrees, PartTrees, ElementTrees, PropTrees, HoleTrees, StmtTrees}
+use Rattle.dscript_ast.specs.ExprTree.{HeadTree, ExprTree, OperandTree, PartTree, ElementTree, PropTree, HoleTree, StmtTree, MaybeExpr, MaybeStmt, ExprTrees, OperandTrees, PartTrees, ElementTrees, PropTrees, HoleTrees, StmtTrees}
 use Rattle.dscript_ast.specs.Literals.{name_of}
 use Rattle.dscript_program.specs.BoundTree as bound
 use Rattle.dscript_program.specs.BoundTree.{ExprData, OperandData, PartData, ElementData, PropData, HoleData, StmtData, MaybeStmt as MaybeBound, BodyData, to_elements, to_exprs, to_holes, to_operands, to_parts, to_props, to_stmts}
@@ -16,7 +16,7 @@ use Rattle.dscript_names_binding.specs.Binding.{bind_expr, bind_exprs, bind_oper
 use Rattle.dscript_names_binding.specs.Walk.{Binds, Here, ◌>>=◌, gives, in_turn, declare, within}
 use Rattle.dscript_names_laws.specs.Whole.{Use, Names, Sets, Makes, uses_of, operands_uses, part_uses, parts_uses, exprs_uses, elements_uses, prop_uses, props_uses, holes_uses, maybe_uses, stmt_uses, else_uses, stmts_uses, body_uses}
 use Rattle.dscript_names_laws.proofs.ScopeBlocks.{block_undeclared, loop_numbered, stmt_undeclared}
-use Rattle.dscript_names_laws.proofs.ScopeSteps.{IsBody, IsMaking, IsNamed, Scopes, Within, assigns_scopes, declare_scopes, done, function_scopes, name_scopes, new_scopes, step, within_scopes}
+use Rattle.dscript_names_laws.proofs.ScopeSteps.{IsBody, Scopes, Within, assigns_scopes, declare_scopes, done, function_scopes, name_scopes, new_scopes, step, within_scopes}
 use Rattle.dscript_names_laws.proofs.Targets.{AllNumbers}
 
 -- ## Lists of uses

@@ -1,5 +1,5 @@
 -- In a program whose names are resolved, all that is used is there.
-use Rattle.std.proofs.Common.{◌≡◌, ◌⊎◌, ℕ, zero, suc, ◌+◌, ◌<◌, ◌≤◌, Bool, true, false, List, [], ◌∷◌, ◌++◌, length, map, Option, Some, None, Result, Ok, Err, refl, sym, ◌∙◌, ap, subst, inl, inr, arith, append_assoc}
+use Rattle.std.proofs.Common.{◌≡◌, ◌⊎◌, ℕ, zero, suc, ◌+◌, ◌<◌, ◌≤◌, Bool, true, false, List, [], ◌∷◌, ◌++◌, length, map, Option, Some, None, Result, Ok, Err, refl, sym, ◌∙◌, ap, subst, inr, arith, append_assoc}
 use Rattle.std.specs.Prelude.{IsSomeAnd, option_and_then, option_map, slice_get, ⊤}
 use Rattle.std.specs.List.{AllByRecursion, flat_map}
 use Rattle.std.proofs.lemmas.List.{length-append}
@@ -7,7 +7,7 @@ use Rattle.std.proofs.lemmas.Option.{slice_get_within}
 use Rattle.bx_tree.specs.Paths.{Atoms}
 use Rattle.bx_tree.specs.Members.{Has}
 use Rattle.bx_tree.proofs.Lists.{all_append, all_weaker}
-use Rattle.dscript_ast.specs.ExprTree.{ParamTree, StmtTree, to_stmts}
+use Rattle.dscript_ast.specs.ExprTree.{to_stmts}
 use Rattle.dscript_ast.specs.FileTree as file
 use Rattle.dscript_ast.specs.FileTree.{MarkedTree, DeclTree, MarkedTrees, ImportTree, ItemTree, Marked}
 use Rattle.dscript_ast.specs.TypeTree.{TypeTree}
@@ -22,16 +22,15 @@ use Rattle.dscript_program.specs.declared.target.Target.TheVariants as targets
 use Rattle.dscript_names_scopes.specs.Blocks.{block_locals}
 use Rattle.dscript_names_scopes.specs.Declarations.{ParsedData, all_declared, declared_as, declared_by, item_declared, items_of, names_of, world_of}
 use Rattle.dscript_names_scopes.specs.Duplicates.{first_duplicate}
-use Rattle.dscript_names_scopes.specs.Lookup.{Site}
 use Rattle.dscript_names_scopes.specs.Names.{FileNames, World}
 use Rattle.dscript_names_scopes.specs.declared.names.Declared.{Declared}
-use Rattle.dscript_names_binding.specs.Binding.{bind_all_marked, bind_decl, bind_item, bind_items, bind_marked, check_import, declared_function, imports_fault, site_in}
+use Rattle.dscript_names_binding.specs.Binding.{bind_all_marked, bind_decl, bind_item, bind_items, bind_marked, check_import, imports_fault, site_in}
 use Rattle.dscript_names_binding.specs.Walk.{Binds, Bound, Here, chained, continued, declaration, gives, no_fault, ◌>>=◌}
 use Rattle.dscript_names.specs.Named.{before_others, bind_files, file_first, named, unless_duplicate}
 use Rattle.dscript_names.proofs.Numbered.{At, at_split}
 use Rattle.dscript_names_laws.specs.Whole.{HasLocal, IsThere, IsValue, IsWhole, IsWholeFunction, IsWholeKind, Makes, Names, Scope, Sets, Use, kind_at, no_locals, scope_of, uses_of}
 use Rattle.dscript_names_laws.proofs.ScopeBlocks.{block_undeclared}
-use Rattle.dscript_names_laws.proofs.ScopeSteps.{GoodAt, IsFine, IsFineFunction, IsGoodHere, IsMaking, IsThereIn, Scoped, Scopes, Within, function_scopes}
+use Rattle.dscript_names_laws.proofs.ScopeSteps.{GoodAt, IsFine, IsFineFunction, IsMaking, IsThereIn, Scopes, Within, function_scopes}
 use Rattle.dscript_names_laws.proofs.ScopeTrees.{IsExpr, body_scopes, expr_scopes, stmts_scopes}
 use Rattle.dscript_names_laws.proofs.Targets.{get_at, one_longer}
 
