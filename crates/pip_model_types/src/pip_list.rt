@@ -38,7 +38,7 @@ impl PipList {
 
     /// The list of these pips, each of which names as made only what a smaller one makes.
     pub fn of(pips: Vec<Pip>) -> PipList
-        requires list { IsPipList pips.items }
+        requires { IsPipList pips.items }
         ensures { result ≡ pips.items }
     {
         PipList { pips }
