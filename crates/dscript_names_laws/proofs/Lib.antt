@@ -3,6 +3,7 @@ pub mod MetTypes
 pub mod MetTrees
 pub mod MetFiles
 pub mod Targets
+pub mod Tables
 pub mod ScopeBlocks
 pub mod ScopeSteps
 pub mod ScopeTrees

@@ -21,10 +21,9 @@ use Rattle.dscript_names_scopes.specs.declared.found.Found.{Found}
 use Rattle.dscript_names_scopes.specs.declared.local.Local.{Local}
 use Rattle.dscript_names_binding.specs.Binding.{assigns, bind_name, local_named, names_target}
 use Rattle.dscript_names_binding.specs.Walk.{Here, Bound, Binds, chained, closed, continued, declare, each_once, function_in, function_of, gives, leave, next_local, or_fault, params_from, within, ◌>>=◌}
-use Rattle.dscript_names.proofs.Captured.{captures_of}
-use Rattle.dscript_names.proofs.Numbered.{At, at_split}
 use Rattle.dscript_names_laws.specs.Whole.{HasLocal, IsOwn, Makes, Names, Scope, Sets, Use, body_uses, scope_of}
 use Rattle.dscript_names_laws.proofs.ScopeBlocks.{IfNumber, IsOwnFrom, assigned_own, blocks_weaker, declared_in, declared_own, has_captured, params_numbered}
+use Rattle.dscript_names_laws.proofs.Tables.{At, at_split}
 use Rattle.dscript_names_laws.proofs.Targets.{AllNumbers, IfOkFound, InBlocks, IsDeclaredValue, IsTarget, name_found}
 
 -- ## Lists
@@ -384,7 +383,7 @@ module _ (world : World) (table : List FunctionData) where
     function_fine among ts is fine = record {
       file = among;
       params = omega (arith, up, start);
-      captured = (captures_of file params first b).0;
+      captured = all_has (λ m. m < first) g.captured (λ m h. (captured_has first b.names m h).1);
       uses = subst (λ us. AllByRecursion (IsThereIn (scope_of g)) us) (sym is)
           (all_weaker (IsFine (Within W first) first b.names b.after.locals) (IsThereIn (scope_of g)) fine_there ts fine);
     }

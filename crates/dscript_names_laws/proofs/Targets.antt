@@ -281,7 +281,14 @@ module _ (world : World) (P : ℕ → Type 0) where
   unfolding found_outside
   outside_found site is x parts =
       let written = x ∷ members_at parts in
-      first_found _ (
+      first_found (
+        option_map Ok (in_namespaces site.number site.file (reverse (beginnings site.around)) written)
+            ∷ in_imports world site.file written
+            ∷ option_map Ok (in_own_module world site.file written)
+            ∷ in_import_call world x parts
+            ∷ option_map Ok (shortest ambient_of 0 [] written)
+            ∷ []
+      ) (
         as_level (in_namespaces site.number site.file (reverse (beginnings site.around)) written)
             (namespaces_found site.number site.file is (reverse (beginnings site.around)) written),
         (

@@ -27,11 +27,11 @@ use Rattle.dscript_names_scopes.specs.declared.names.Declared.{Declared}
 use Rattle.dscript_names_binding.specs.Binding.{bind_all_marked, bind_decl, bind_item, bind_items, bind_marked, check_import, imports_fault, site_in}
 use Rattle.dscript_names_binding.specs.Walk.{Binds, Bound, Here, chained, continued, declaration, gives, no_fault, ◌>>=◌}
 use Rattle.dscript_names.specs.Named.{before_others, bind_files, file_first, named, unless_duplicate}
-use Rattle.dscript_names.proofs.Numbered.{At, at_split}
 use Rattle.dscript_names_laws.specs.Whole.{HasLocal, IsThere, IsValue, IsWhole, IsWholeFunction, IsWholeKind, Makes, Names, Scope, Sets, Use, kind_at, no_locals, scope_of, uses_of}
 use Rattle.dscript_names_laws.proofs.ScopeBlocks.{block_undeclared}
 use Rattle.dscript_names_laws.proofs.ScopeSteps.{GoodAt, IsFine, IsFineFunction, IsMaking, IsThereIn, Scopes, Within, function_scopes}
 use Rattle.dscript_names_laws.proofs.ScopeTrees.{IsExpr, body_scopes, expr_scopes, stmts_scopes}
+use Rattle.dscript_names_laws.proofs.Tables.{At, at_split}
 use Rattle.dscript_names_laws.proofs.Targets.{get_at, one_longer}
 
 -- ## Declarations as they are declared, and as they are bound
