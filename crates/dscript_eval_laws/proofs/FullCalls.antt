@@ -24,7 +24,7 @@ use Rattle.dscript_eval_laws.proofs.MadeStates.{Comes, IsMark, Keeps, Whatever, 
 use Rattle.dscript_eval_laws.proofs.MadeValues.{IsMade, no_growth}
 
 -- what is not full stops with the mark
-marked : Acts
+abbrev marked : Acts
 marked a s = Err (Fault kinds.User 0 None)
 
 module _ (p : ProgramData) where

@@ -144,7 +144,7 @@ module _ (F : ℕ → ℕ → Type 0) where
   module _ (pips : List Pip) where
     copied : (args : List Plain) → AreMade F pips args → If (λ (d : CopyDesc). IsFileAmong pips d.from) (copied_file args)
     copied args h =
-        and_then (λ (two : Plain × Plain). (IsMade F) pips two.0 × IsMade F pips two.1)
+        and_then (λ (two : Plain × Plain). IsMade F pips two.0 × IsMade F pips two.1)
         (λ (d : CopyDesc). IsFileAmong pips d.from) (two_of args) _ (two_made F pips args h)
         (λ two k. and_then (IsFileAmong pips) (λ (d : CopyDesc). IsFileAmong pips d.from) (file_in two.0) _
         (file_made F pips two.0 k.0)
@@ -161,7 +161,7 @@ module _ (F : ℕ → ℕ → Type 0) where
         → If (λ (given : Atoms × List FileInput). AllByRecursion (IsFileAmong pips) given.1) (sealed_in args)
     sealed args h =
         let P : Atoms × List FileInput → Type 0 = λ given. AllByRecursion (IsFileAmong pips) given.1 in
-        and_then (λ (two : Plain × Plain). (IsMade F) pips two.0 × IsMade F pips two.1) P (two_of args) _
+        and_then (λ (two : Plain × Plain). IsMade F pips two.0 × IsMade F pips two.1) P (two_of args) _
         (two_made F pips args h)
         (λ two k. and_then (Any Atoms) P (directory_in two.0) _ (anything (directory_in two.0))
         (λ dir l. and_then (AllByRecursion (IsFileAmong pips)) P (list_in file_in two.1) _
@@ -339,7 +339,7 @@ module _ (F : ℕ → ℕ → Type 0) where
     option_call : (args : List Plain) → AreMade F pips args → If (IsMade F pips) (cmd_option args)
     unfolding cmd_option
     option_call args h =
-        and_then (λ (two : Plain × Plain). (IsMade F) pips two.0 × IsMade F pips two.1) (IsMade F pips) (two_of args) _
+        and_then (λ (two : Plain × Plain). IsMade F pips two.0 × IsMade F pips two.1) (IsMade F pips) (two_of args) _
         (two_made F pips args h)
         (λ two k. and_then (Any (List ℕ)) (IsMade F pips) (text_in two.0) _ (anything (text_in two.0))
         (λ before l. argued before two.1 k.1))
@@ -416,7 +416,7 @@ module _ (F : ℕ → ℕ → Type 0) where
         and_then (Any (Plain × Plain)) (IsMade F pips) (two_of args) _ (anything (two_of args))
         (λ two k. and_then (Any Atoms) (IsMade F pips) (directory_in two.0) _ (anything (directory_in two.0))
         (λ dir l. and_then (Any (List ℕ)) (IsMade F pips) (pattern_in two.1) _ (anything (pattern_in two.1))
-        (λ pattern m. (list_answered F) pips (source_values (files_found sources dir pattern deep))
+        (λ pattern m. list_answered F pips (source_values (files_found sources dir pattern deep))
         (sources_made (files_found sources dir pattern deep)))))
 
   -- ## All calls

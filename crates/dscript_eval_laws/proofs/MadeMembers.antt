@@ -161,7 +161,7 @@ module _ (F : ℕ → ℕ → Type 0) where
     split_made : (text other : List ℕ) → If Good (split_by text other)
     split_made text [] = tt
     split_made text (b ∷ bs) =
-        (list_answered F) s.pips (map plain.Text (pieces_after (b ∷ bs) 0 text))
+        list_answered F s.pips (map plain.Text (pieces_after (b ∷ bs) 0 text))
         (texts_made F s.pips (pieces_after (b ∷ bs) 0 text))
 
     text_functions : (m : Member) (text : List ℕ) → IsFunctionMade (text_function m text)
@@ -177,7 +177,7 @@ module _ (F : ℕ → ℕ → Type 0) where
         → If Good (each_in text_in items >>= λ texts. text_answer (separated_texts separator texts))
     joined_made items separator =
         and_then (Any (List (List ℕ))) Good (each_in text_in items) _ (anything (each_in text_in items))
-        (λ texts k. (text_answered F) s.pips (separated_texts separator texts))
+        (λ texts k. text_answered F s.pips (separated_texts separator texts))
 
     concat_made
         : (items : List Plain) → AreMade F s.pips items → (args : List Plain) → AreMade F s.pips args
@@ -185,7 +185,7 @@ module _ (F : ℕ → ℕ → Type 0) where
     concat_made items all args h =
         and_then (AreMade F s.pips) Good (one_of args >>= items_in) _
         (and_then Good (AreMade F s.pips) (one_of args) items_in (one_made F s.pips args h) (in_list F s.pips))
-        (λ more k. (list_answered F) s.pips (items ++ more) (all_append Good items more all k))
+        (λ more k. list_answered F s.pips (items ++ more) (all_append Good items more all k))
 
     list_functions : (m : Member) (items : List Plain) → AreMade F s.pips items → IsFunctionMade (list_function m items)
     unfolding list_function
@@ -224,7 +224,7 @@ module _ (F : ℕ → ℕ → Type 0) where
     seal_functions : (m : Member) (number : ℕ) → IsFunctionMade (seal_function s m number)
     seal_functions members.GetFile number = λ args h. one_read path_in _ (member_file_made number) args
     seal_functions members.GetContent number =
-        λ args h. (list_answered F) s.pips (map plain.File (seal_members s number))
+        λ args h. list_answered F s.pips (map plain.File (seal_members s number))
         (files_made F s.pips (seal_members s number) (seal_made number))
     seal_functions _ number = tt
 

@@ -212,7 +212,7 @@ module _ (F : ℕ → ℕ → Type 0) where
     pub reduction_made : (args : List Plain) → AreMade F pips args → If IsReductionMade (reduction_in args)
     unfolding reduction_in
     reduction_made args h =
-        and_then (λ (two : Plain × Plain). (IsMade F) pips two.0 × IsMade F pips two.1) IsReductionMade (two_of args) _
+        and_then (λ (two : Plain × Plain). IsMade F pips two.0 × IsMade F pips two.1) IsReductionMade (two_of args) _
         (two_made F pips args h)
         (λ two k. and_then IsFunctionMade IsReductionMade (function_in two.0) _ (function_made two.0 k.0)
         (λ f l. (l, k.1)))

@@ -99,7 +99,7 @@ module _ (F : ℕ → ℕ → Type 0) where
 
     pub two_made
         : (args : List Plain) → AreMade F pips args
-        → If (λ (two : Plain × Plain). (IsMade F) pips two.0 × IsMade F pips two.1) (two_of args)
+        → If (λ (two : Plain × Plain). IsMade F pips two.0 × IsMade F pips two.1) (two_of args)
     two_made [] h = tt
     two_made (x ∷ []) h = tt
     two_made (x ∷ y ∷ more) h = (h.0, h.1.0)
@@ -203,7 +203,7 @@ module _ (F : ℕ → ℕ → Type 0) where
     pub list_answered : (xs : List Plain) → AreMade F pips xs → If (IsMade F pips) (list_answer xs)
     list_answered xs h =
         chosen (IsMade F pips) (nat_le (length xs) MAX_LIST_ITEMS) (unless_none Range (list_value xs)) (Err Range)
-        (deeper_made xs (λ depth. plain.Listed depth (to_items xs)) (λ depth. (made_items F) pips xs h)) tt
+        (deeper_made xs (λ depth. plain.Listed depth (to_items xs)) (λ depth. made_items F pips xs h)) tt
 
     listed_again : (xs : List Plain) → item_list (to_items xs) ≡ xs
     listed_again [] = refl
@@ -215,7 +215,7 @@ module _ (F : ℕ → ℕ → Type 0) where
     function_answered callee held count h =
         deeper_made held (λ depth. plain.Function callee depth (to_items held))
         (λ depth. (
-          subst (λ (xs : List Plain). (IsHolding F) callee (length xs)) (sym (listed_again held)) count,
+          subst (λ (xs : List Plain). IsHolding F callee (length xs)) (sym (listed_again held)) count,
           (made_items F) pips held h,
         ))
 
@@ -247,7 +247,7 @@ module _ (F : ℕ → ℕ → Type 0) where
     object_answered fields h =
         let whole = put_fields [] fields in
         deeper_made (values_of whole) (λ depth. plain.Object depth (to_members whole))
-        (λ depth. (made_members F) pips whole (puts_made [] fields tt h))
+        (λ depth. made_members F pips whole (puts_made [] fields tt h))
 
     -- ## Lists
 

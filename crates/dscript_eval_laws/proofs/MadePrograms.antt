@@ -49,7 +49,7 @@ module _ (F : ℕ → ℕ → Type 0) where
         → Keeps F Plain (IsMade F) pips (function_call p act f held args)
     function_kept None held args pips h all = failed F Plain (IsMade F) pips faults.Kind (λ file h. h)
     function_kept (Some f) held args pips h all =
-        (inside F) Plain (IsMade F) pips (function_frame f held args) _
+        inside F Plain (IsMade F) pips (function_frame f held args) _
         (λ now grows. record {
           held = all_still F pips now grows held h;
           own = arguments_made F now f.local_count (length f.params) args (all_still F pips now grows args all);
@@ -60,12 +60,12 @@ module _ (F : ℕ → ℕ → Type 0) where
         : (file decl : ℕ) (kind : Option KindData) (pips : List Pip)
         → Keeps F Plain (IsMade F) pips (demanded p act file decl kind)
     demanded_kept file decl (Some (kinds.Const t e)) pips =
-        (both F) (Unit {0}) Plain (Whatever (Unit {0})) (IsMade F) pips _ _ (mark_kept pips file decl Running (λ now grows. tt))
-        (λ now grows. (bound F) Plain Plain (IsMade F) (IsMade F) now _ _
+        both F (Unit {0}) Plain (Whatever (Unit {0})) (IsMade F) pips _ _ (mark_kept pips file decl Running (λ now grows. tt))
+        (λ now grows. bound F Plain Plain (IsMade F) (IsMade F) now _ _
         (inside F Plain (IsMade F) now (constant_frame file) _ (λ later on. no_values later file) (value_kept F act opens p holds e now))
-        (λ later x on made. (both F) (Unit {0}) Plain (Whatever (Unit {0})) (IsMade F) later _ _
-        (mark_kept later file decl (Done x) (λ last g. (still_made F) later last g x made))
-        (λ last g. (given F) Plain (IsMade F) last x (λ end g'. (still_made F) last end g' x (still_made F later last g x made)))))
+        (λ later x on made. both F (Unit {0}) Plain (Whatever (Unit {0})) (IsMade F) later _ _
+        (mark_kept later file decl (Done x) (λ last g. still_made F later last g x made))
+        (λ last g. given F Plain (IsMade F) last x (λ end g'. still_made F last end g' x (still_made F later last g x made)))))
     demanded_kept file decl _ pips = failed F Plain (IsMade F) pips faults.Kind (λ file h. h)
 
     pub opened_kept : (pips : List Pip) (a : Act) → IsActMade F pips a → Keeps F Plain (IsMade F) pips (opened p act a)
@@ -79,8 +79,8 @@ module _ (F : ℕ → ℕ → Type 0) where
         : (file decl : ℕ) (kind : KindData) (pips : List Pip)
         → Keeps F (Unit {0}) (Whatever (Unit {0})) pips (demand act file decl kind)
     demand_kept file decl (kinds.Const t e) pips =
-        (bound F) Plain (Unit {0}) (IsMade F) (Whatever (Unit {0})) pips _ _ (constant_kept F act opens file decl pips)
-        (λ now x grows made. (given F) (Unit {0}) (Whatever (Unit {0})) now tt (λ later on. tt))
+        bound F Plain (Unit {0}) (IsMade F) (Whatever (Unit {0})) pips _ _ (constant_kept F act opens file decl pips)
+        (λ now x grows made. given F (Unit {0}) (Whatever (Unit {0})) now tt (λ later on. tt))
     demand_kept file decl _ pips = given F (Unit {0}) (Whatever (Unit {0})) pips tt (λ later on. tt)
 
     decls_kept
@@ -88,7 +88,7 @@ module _ (F : ℕ → ℕ → Type 0) where
         → Keeps F (Unit {0}) (Whatever (Unit {0})) pips (demand_decls act file decl ds)
     decls_kept file decl [] pips = given F (Unit {0}) (Whatever (Unit {0})) pips tt (λ later on. tt)
     decls_kept file decl (d ∷ ds) pips =
-        (both F) (Unit {0}) (Unit {0}) (Whatever (Unit {0})) (Whatever (Unit {0})) pips _ _
+        both F (Unit {0}) (Unit {0}) (Whatever (Unit {0})) (Whatever (Unit {0})) pips _ _
         (demand_kept file decl d.kind pips) (λ now grows. decls_kept file (decl + 1) ds now)
 
     pub files_kept
@@ -96,7 +96,7 @@ module _ (F : ℕ → ℕ → Type 0) where
         → Keeps F (Unit {0}) (Whatever (Unit {0})) pips (demand_files act file fs)
     files_kept file [] pips = given F (Unit {0}) (Whatever (Unit {0})) pips tt (λ later on. tt)
     files_kept file (f ∷ fs) pips =
-        (both F) (Unit {0}) (Unit {0}) (Whatever (Unit {0})) (Whatever (Unit {0})) pips _ _
+        both F (Unit {0}) (Unit {0}) (Whatever (Unit {0})) (Whatever (Unit {0})) pips _ _
         (decls_kept file 0 f.decls pips) (λ now grows. files_kept (file + 1) fs now)
 
   -- ## The start
