@@ -181,7 +181,7 @@ module _ (F : ℕ → ℕ → Type 0) where
         → Keeps F (List Plain) (AreMade F) pips (mapped act f n xs)
     mapped_kept f n [] pips c h k = given F (List Plain) (AreMade F) pips [] (λ now grows. tt)
     mapped_kept f n (x ∷ xs) pips c h k =
-        bound F Plain (List Plain) (IsMade F) (AreMade F) pips _ _ (opens pips _ (c, (h, (k.0, (tt, tt)))))
+        bound F Plain (List Plain) (IsMade F) (AreMade F) pips _ _ (opens pips _ (c, h, (k.0, (tt, tt))))
         (λ now y grows made. bound F (List Plain) (List Plain) (AreMade F) (AreMade F) now _ _
         (mapped_kept f (n + 1) xs now c (all_still F pips now grows f.1 h) (all_still F pips now grows xs k.1))
         (λ later ys more all. given F (List Plain) (AreMade F) later (y ∷ ys)
@@ -193,7 +193,7 @@ module _ (F : ℕ → ℕ → Type 0) where
         → Keeps F (List Plain) (AreMade F) pips (filtered act f n xs)
     filtered_kept f n [] pips c h k = given F (List Plain) (AreMade F) pips [] (λ now grows. tt)
     filtered_kept f n (x ∷ xs) pips c h k =
-        bound F Plain (List Plain) (IsMade F) (AreMade F) pips _ _ (opens pips _ (c, (h, (k.0, (tt, tt)))))
+        bound F Plain (List Plain) (IsMade F) (AreMade F) pips _ _ (opens pips _ (c, h, (k.0, (tt, tt))))
         (λ now y grows made. bound F (List Plain) (List Plain) (AreMade F) (AreMade F) now _ _
         (filtered_kept f (n + 1) xs now c (all_still F pips now grows f.1 h) (all_still F pips now grows xs k.1))
         (λ later kept more all. given F (List Plain) (AreMade F) later _
@@ -208,7 +208,7 @@ module _ (F : ℕ → ℕ → Type 0) where
         → AreMade F pips xs → Keeps F (List Plain) (AreMade F) pips (joined act f n done xs)
     joined_kept f n done [] pips c h d k = given F (List Plain) (AreMade F) pips done (λ now grows. all_still F pips now grows done d)
     joined_kept f n done (x ∷ xs) pips c h d k =
-        bound F Plain (List Plain) (IsMade F) (AreMade F) pips _ _ (opens pips _ (c, (h, (k.0, (tt, tt)))))
+        bound F Plain (List Plain) (IsMade F) (AreMade F) pips _ _ (opens pips _ (c, h, (k.0, (tt, tt))))
         (λ now y grows made. bound F (List Plain) (List Plain) (AreMade F) (AreMade F) now _ _
         (answer F (List Plain) (AreMade F) now (with_items_of done y)
         (λ later more. with_items_made F later done y (all_still F pips later (grown_on pips now later grows more) done d)
@@ -224,7 +224,7 @@ module _ (F : ℕ → ℕ → Type 0) where
     reduced_kept f n so_far [] pips c h d k =
         given F Plain (IsMade F) pips so_far (λ now grows. still_made F pips now grows so_far d)
     reduced_kept f n so_far (x ∷ xs) pips c h d k =
-        bound F Plain Plain (IsMade F) (IsMade F) pips _ _ (opens pips _ (c, (h, (d, (k.0, (tt, tt))))))
+        bound F Plain Plain (IsMade F) (IsMade F) pips _ _ (opens pips _ (c, h, (d, (k.0, (tt, tt)))))
         (λ now y grows made. reduced_kept f (n + 1) y xs now c (all_still F pips now grows f.1 h) made
         (all_still F pips now grows xs k.1))
 
@@ -288,7 +288,7 @@ module _ (F : ℕ → ℕ → Type 0) where
         → IsHolding F callee (length held) → AreMade F pips held
         → AreMade F pips args → Keeps F Plain (IsMade F) pips (call_of_function p act callee held args)
     called_kept p (callees.Place number) held args pips c h all =
-        opens pips (Call (callees.Place number) held args) (c, (h, all))
+        opens pips (Call (callees.Place number) held args) (c, h, all)
     called_kept p (callees.Ambient name) held args pips c h all = ambient_kept p pips name args all
     called_kept p (callees.Member name) held args pips c h all = held_method_kept held name args pips h all
 

@@ -12,8 +12,9 @@ use Rattle.dscript_eval_meaning.specs.declared.fault.EvalKind.TheVariants as fau
 use Rattle.dscript_eval_meaning.specs.declared.limits.TheConstants.{MAX_OPEN_CALLS}
 use Rattle.dscript_eval_meaning.specs.Acts.{Act, Acts, Call, Demand}
 use Rattle.dscript_eval_meaning.specs.Constants.{mark}
-use Rattle.dscript_eval_meaning.specs.Evaluating.{Stop}
-use Rattle.dscript_eval_meaning.specs.Frames.{constant_frame, function_frame}
+use Rattle.dscript_eval_meaning.specs.Evaluating.{Stop, gives, ◌>>=◌, ◌>>◌}
+use Rattle.dscript_eval_meaning.specs.Expressions.{value}
+use Rattle.dscript_eval_meaning.specs.Frames.{constant_frame, function_frame, within}
 use Rattle.dscript_eval_meaning.specs.Lookups.{declared_at, function_at}
 use Rattle.dscript_eval_meaning.specs.Meaning.{acts, demand, demand_decls, demand_files, demanded, evaluated}
 use Rattle.dscript_eval_meaning.specs.Meaning.{function_call, meaning, opened, pips_or_refusal, start}
@@ -60,19 +61,23 @@ module _ (F : ℕ → ℕ → Type 0) where
         : (file decl : ℕ) (kind : Option KindData) (pips : List Pip)
         → Keeps F Plain (IsMade F) pips (demanded p act file decl kind)
     demanded_kept file decl (Some (kinds.Const t e)) pips =
-        both F (Unit {0}) Plain (Whatever (Unit {0})) (IsMade F) pips _ _ (mark_kept pips file decl Running (λ now grows. tt))
-        (λ now grows. bound F Plain Plain (IsMade F) (IsMade F) now _ _
-        (inside F Plain (IsMade F) now (constant_frame file) _ (λ later on. no_values later file) (value_kept F act opens p holds e now))
-        (λ later x on made. both F (Unit {0}) Plain (Whatever (Unit {0})) (IsMade F) later _ _
+        both F (Unit {0}) Plain (Whatever (Unit {0})) (IsMade F) pips (mark file decl Running)
+        (within (constant_frame file) (value p act e) >>= λ x. mark file decl (Done x) >> gives x)
+        (mark_kept pips file decl Running (λ now grows. tt))
+        (λ now grows. bound F Plain Plain (IsMade F) (IsMade F) now (within (constant_frame file) (value p act e))
+        (λ x. mark file decl (Done x) >> gives x)
+        (inside F Plain (IsMade F) now (constant_frame file) (value p act e) (λ later on. no_values later file)
+        (value_kept F act opens p holds e now))
+        (λ later x on made. both F (Unit {0}) Plain (Whatever (Unit {0})) (IsMade F) later (mark file decl (Done x)) (gives x)
         (mark_kept later file decl (Done x) (λ last g. still_made F later last g x made))
         (λ last g. given F Plain (IsMade F) last x (λ end g'. still_made F last end g' x (still_made F later last g x made)))))
     demanded_kept file decl _ pips = failed F Plain (IsMade F) pips faults.Kind (λ file h. h)
 
     pub opened_kept : (pips : List Pip) (a : Act) → IsActMade F pips a → Keeps F Plain (IsMade F) pips (opened p act a)
     opened_kept pips (Call (callees.Place number) held args) h =
-        function_kept (function_at p number) held args pips h.1.0 h.1.1
-    opened_kept pips (Call (callees.Ambient name) held args) h = ambient_kept F p pips name args h.1.1
-    opened_kept pips (Call (callees.Member name) held args) h = held_method_kept F act opens held name args pips h.1.0 h.1.1
+        function_kept (function_at p number) held args pips h.1 h.2
+    opened_kept pips (Call (callees.Ambient name) held args) h = ambient_kept F p pips name args h.2
+    opened_kept pips (Call (callees.Member name) held args) h = held_method_kept F act opens held name args pips h.1 h.2
     opened_kept pips (Demand file decl) h = demanded_kept file decl (declared_at p file decl) pips
 
     demand_kept

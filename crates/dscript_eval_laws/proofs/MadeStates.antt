@@ -164,7 +164,7 @@ module _ (F : ℕ → ℕ → Type 0) where
   }
 
   pub failed : (A : Type 0) (P : List Pip → A → Type 0) (pips : List Pip) (kind : EvalKind) → IsOther kind → Keeps A P pips (fails kind)
-  failed A P pips kind other = λ s grows sound. other s.frame.file
+  failed A P pips k other = λ s grows sound. other s.frame.file
 
   answer_keeps
       : (A : Type 0) (P : List Pip → A → Type 0) (s : State) → IsSound s → (o : Outcome A) → If (P (pips_of s)) o
