@@ -10,3 +10,4 @@ pub mod MadeStates
 pub mod MadeForms
 pub mod MadePrograms
 pub mod FoundLocals
+pub mod FullCalls

@@ -1,4 +1,5 @@
--- What values name as made, pips make; and what is added to the pips leaves it so.
+-- What values name as made, pips make; functions hold what they are said to hold; and what is added to the pips leaves
+-- it so.
 use Rattle.std.proofs.Common.{◌≡◌, ◌⊎◌, ℕ, zero, suc, ◌<◌, List, [], ◌∷◌, ◌++◌, length, take, Option, Some, None}
 use Rattle.std.proofs.Common.{refl, sym, ap, ◌∙◌, subst, inl, inr, arith, get_or}
 use Rattle.std.specs.Prelude.{IsSomeAnd, slice_get}
@@ -14,6 +15,8 @@ use Rattle.pip_model_types.specs.declared.pip.PipKind.{PipKind}
 use Rattle.pip_model_types.specs.declared.pip.PipKind.TheVariants as kinds
 use Rattle.dscript_value.specs.declared.parts.Artifact.{Artifact as AnyArtifact}
 use Rattle.dscript_value.specs.declared.parts.Artifact.TheVariants as artifacts
+use Rattle.dscript_value.specs.declared.parts.Callee.{Callee}
+use Rattle.dscript_value.specs.declared.parts.Callee.TheVariants as callees
 use Rattle.dscript_value.specs.declared.parts.StaticDir.{StaticDir}
 use Rattle.dscript_value.specs.declared.parts.StaticDir.TheVariants as dirs
 use Rattle.dscript_value.specs.Plain as plain
@@ -143,55 +146,6 @@ abbrev pub IsArgumentMade : List Pip → Option AnyArtifact → Type 0
 IsArgumentMade pips None = Unit {0}
 IsArgumentMade pips (Some artifact) = IsArtifactMade pips artifact
 
--- each file, directory and process in the value is one that these pips make
-abbrev mutual
-  pub IsMade : List Pip → Plain → Type 0
-  IsMade pips (plain.File file) = IsFileAmong pips file
-  IsMade pips (plain.Static dir) = IsDirMade pips dir
-  IsMade pips (plain.Process number) =
-      IsSomeAnd (slice_get pips number) (λ (pip : Pip). IsProcess pip.kind)
-  IsMade pips (plain.Artifact artifact) = IsArtifactMade pips artifact
-  IsMade pips (plain.Argument argument) = IsArgumentMade pips argument.artifact
-  IsMade pips (plain.Listed depth items) = AreItemsMade pips items
-  IsMade pips (plain.Object depth members) = AreMembersMade pips members
-  IsMade pips (plain.Function callee depth held) = AreItemsMade pips held
-  IsMade pips _ = Unit {0}
-
-  pub AreItemsMade : List Pip → Items → Type 0
-  AreItemsMade pips End = Unit {0}
-  AreItemsMade pips (More x xs) = IsMade pips x × AreItemsMade pips xs
-
-  pub AreMembersMade : List Pip → Members → Type 0
-  AreMembersMade pips Last = Unit {0}
-  AreMembersMade pips (Next name x fs) = IsMade pips x × AreMembersMade pips fs
-
-abbrev pub AreMade : List Pip → List Plain → Type 0
-AreMade pips xs = AllByRecursion (IsMade pips) xs
-
-abbrev pub AreFieldsMade : List Pip → List PlainField → Type 0
-AreFieldsMade pips fs = AllByRecursion (λ (f : PlainField). IsMade pips f.1) fs
-
-pub items_made : (pips : List Pip) (items : Items) → AreItemsMade pips items → AreMade pips (item_list items)
-items_made pips End h = tt
-items_made pips (More x xs) h = (h.0, items_made pips xs h.1)
-
-pub made_items : (pips : List Pip) (xs : List Plain) → AreMade pips xs → AreItemsMade pips (to_items xs)
-made_items pips [] h = tt
-made_items pips (x ∷ xs) h = (h.0, made_items pips xs h.1)
-
-pub members_made
-    : (pips : List Pip) (members : Members) → AreMembersMade pips members
-    → AreFieldsMade pips (member_list members)
-members_made pips Last h = tt
-members_made pips (Next name x fs) h = (h.0, members_made pips fs h.1)
-
-pub made_members
-    : (pips : List Pip) (fs : List PlainField) → AreFieldsMade pips fs → AreMembersMade pips (to_members fs)
-made_members pips [] h = tt
-made_members pips (f ∷ fs) h = (h.0, made_members pips fs h.1)
-
--- ## It stays so
-
 pub still_file
     : (before now : List Pip) → Grows before now → (file : FileInput) → IsFileAmong before file
     → IsFileAmong now file
@@ -221,41 +175,100 @@ still_argument
 still_argument before now grows None h = tt
 still_argument before now grows (Some artifact) h = still_artifact before now grows artifact h
 
-mutual
-  pub still_made
-      : (before now : List Pip) → Grows before now → (x : Plain) → IsMade before x → IsMade now x
-  still_made before now grows (plain.File file) h = still_file before now grows file h
-  still_made before now grows (plain.Static dir) h = still_dir before now grows dir h
-  still_made before now grows (plain.Process number) h =
-      still_at (λ pip. IsProcess pip.kind) before now number grows h
-  still_made before now grows (plain.Artifact artifact) h = still_artifact before now grows artifact h
-  still_made before now grows (plain.Argument argument) h =
-      still_argument before now grows argument.artifact h
-  still_made before now grows (plain.Listed depth items) h = still_items before now grows items h
-  still_made before now grows (plain.Object depth members) h = still_members before now grows members h
-  still_made before now grows (plain.Function callee depth held) h = still_items before now grows held h
-  still_made before now grows _ h = tt
+-- Of how many values the function with this number holds: F.
+module _ (F : ℕ → ℕ → Type 0) where
+  -- what a function with a body holds is as many as F says
+  abbrev pub IsHolding : Callee → ℕ → Type 0
+  IsHolding (callees.Place number) count = F number count
+  IsHolding (callees.Ambient call) count = Unit {0}
+  IsHolding (callees.Member name) count = Unit {0}
 
-  still_items
-      : (before now : List Pip) → Grows before now → (items : Items) → AreItemsMade before items
-      → AreItemsMade now items
-  still_items before now grows End h = tt
-  still_items before now grows (More x xs) h =
-      (still_made before now grows x h.0, still_items before now grows xs h.1)
+  -- each file, directory and process in the value is one that these pips make, and each function holds as many values as F
+  -- says
+  abbrev mutual
+    pub IsMade : List Pip → Plain → Type 0
+    IsMade pips (plain.File file) = IsFileAmong pips file
+    IsMade pips (plain.Static dir) = IsDirMade pips dir
+    IsMade pips (plain.Process number) =
+        IsSomeAnd (slice_get pips number) (λ (pip : Pip). IsProcess pip.kind)
+    IsMade pips (plain.Artifact artifact) = IsArtifactMade pips artifact
+    IsMade pips (plain.Argument argument) = IsArgumentMade pips argument.artifact
+    IsMade pips (plain.Listed depth items) = AreItemsMade pips items
+    IsMade pips (plain.Object depth members) = AreMembersMade pips members
+    IsMade pips (plain.Function callee depth held) =
+        IsHolding callee (length (item_list held)) × AreItemsMade pips held
+    IsMade pips _ = Unit {0}
 
-  still_members
-      : (before now : List Pip) → Grows before now → (members : Members) → AreMembersMade before members
-      → AreMembersMade now members
-  still_members before now grows Last h = tt
-  still_members before now grows (Next name x fs) h =
-      (still_made before now grows x h.0, still_members before now grows fs h.1)
+    pub AreItemsMade : List Pip → Items → Type 0
+    AreItemsMade pips End = Unit {0}
+    AreItemsMade pips (More x xs) = IsMade pips x × AreItemsMade pips xs
 
-pub all_still : (before now : List Pip) → Grows before now → (xs : List Plain) → AreMade before xs → AreMade now xs
-all_still before now grows xs h = all_weaker (IsMade before) (IsMade now) (still_made before now grows) xs h
+    pub AreMembersMade : List Pip → Members → Type 0
+    AreMembersMade pips Last = Unit {0}
+    AreMembersMade pips (Next name x fs) = IsMade pips x × AreMembersMade pips fs
 
-pub fields_still
-    : (before now : List Pip) → Grows before now → (fs : List PlainField) → AreFieldsMade before fs
-    → AreFieldsMade now fs
-fields_still before now grows fs h =
-    all_weaker (λ (f : PlainField). IsMade before f.1) (λ (f : PlainField). IsMade now f.1)
-    (λ f k. still_made before now grows f.1 k) fs h
+  abbrev pub AreMade : List Pip → List Plain → Type 0
+  AreMade pips xs = AllByRecursion (IsMade pips) xs
+
+  abbrev pub AreFieldsMade : List Pip → List PlainField → Type 0
+  AreFieldsMade pips fs = AllByRecursion (λ (f : PlainField). IsMade pips f.1) fs
+
+  pub items_made : (pips : List Pip) (items : Items) → AreItemsMade pips items → AreMade pips (item_list items)
+  items_made pips End h = tt
+  items_made pips (More x xs) h = (h.0, items_made pips xs h.1)
+
+  pub made_items : (pips : List Pip) (xs : List Plain) → AreMade pips xs → AreItemsMade pips (to_items xs)
+  made_items pips [] h = tt
+  made_items pips (x ∷ xs) h = (h.0, made_items pips xs h.1)
+
+  pub members_made
+      : (pips : List Pip) (members : Members) → AreMembersMade pips members
+      → AreFieldsMade pips (member_list members)
+  members_made pips Last h = tt
+  members_made pips (Next name x fs) h = (h.0, members_made pips fs h.1)
+
+  pub made_members
+      : (pips : List Pip) (fs : List PlainField) → AreFieldsMade pips fs → AreMembersMade pips (to_members fs)
+  made_members pips [] h = tt
+  made_members pips (f ∷ fs) h = (h.0, made_members pips fs h.1)
+
+  -- ## It stays so
+
+  mutual
+    pub still_made
+        : (before now : List Pip) → Grows before now → (x : Plain) → IsMade before x → IsMade now x
+    still_made before now grows (plain.File file) h = still_file before now grows file h
+    still_made before now grows (plain.Static dir) h = still_dir before now grows dir h
+    still_made before now grows (plain.Process number) h =
+        still_at (λ pip. IsProcess pip.kind) before now number grows h
+    still_made before now grows (plain.Artifact artifact) h = still_artifact before now grows artifact h
+    still_made before now grows (plain.Argument argument) h =
+        still_argument before now grows argument.artifact h
+    still_made before now grows (plain.Listed depth items) h = still_items before now grows items h
+    still_made before now grows (plain.Object depth members) h = still_members before now grows members h
+    still_made before now grows (plain.Function callee depth held) h = (h.0, still_items before now grows held h.1)
+    still_made before now grows _ h = tt
+
+    still_items
+        : (before now : List Pip) → Grows before now → (items : Items) → AreItemsMade before items
+        → AreItemsMade now items
+    still_items before now grows End h = tt
+    still_items before now grows (More x xs) h =
+        (still_made before now grows x h.0, still_items before now grows xs h.1)
+
+    still_members
+        : (before now : List Pip) → Grows before now → (members : Members) → AreMembersMade before members
+        → AreMembersMade now members
+    still_members before now grows Last h = tt
+    still_members before now grows (Next name x fs) h =
+        (still_made before now grows x h.0, still_members before now grows fs h.1)
+
+  pub all_still : (before now : List Pip) → Grows before now → (xs : List Plain) → AreMade before xs → AreMade now xs
+  all_still before now grows xs h = all_weaker (IsMade before) (IsMade now) (still_made before now grows) xs h
+
+  pub fields_still
+      : (before now : List Pip) → Grows before now → (fs : List PlainField) → AreFieldsMade before fs
+      → AreFieldsMade now fs
+  fields_still before now grows fs h =
+      all_weaker (λ (f : PlainField). IsMade before f.1) (λ (f : PlainField). IsMade now f.1)
+      (λ f k. still_made before now grows f.1 k) fs h

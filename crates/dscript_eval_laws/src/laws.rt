@@ -1,4 +1,5 @@
-//! What faults of evaluation say; that what it gives is a list of pips; and that a frame has a value for each local.
+//! What faults of evaluation say; that what it gives is a list of pips; and that a frame has a value for each local, as
+//! functions are called with the values that they capture.
 ghost use Rattle.std.specs.Prelude.{◌≡◌, ◌<◌, ℕ, IsSome, List, Some, Ok, Err, length, unwrap_or};
 ghost use Rattle.std.specs.List.{AllByRecursion};
 ghost use Rattle.bx_tree.specs.Paths.{Atoms};
@@ -8,6 +9,8 @@ ghost use Rattle.pip_model_types.specs.declared.pip.Pip.{Pip as AnyPip};
 ghost use Rattle.dscript_program.specs.ProgramData.{FunctionData, ProgramData};
 ghost use Rattle.dscript_value.specs.Plain.{Plain, Undefined};
 ghost use Rattle.dscript_eval_laws.specs.FoundLocals.{IsLocalOf, found_local};
+ghost use Rattle.dscript_eval_laws.specs.FullCalls.{DeclaredCaptureNothing, meaning_or};
+ghost use Rattle.dscript_eval_meaning.specs.Acts.{Acts as AnyActs};
 ghost use Rattle.dscript_eval_meaning.specs.Frames.{captures, function_frame, local_value, with_local};
 ghost use Rattle.dscript_eval_meaning.specs.States.{Frame as AnyFrame, State as AnyState};
 ghost use Rattle.dscript_eval_meaning.specs.declared.fault.EvalKind.{EvalKind as AnyKind};
@@ -38,4 +41,11 @@ pub fn frames_have_their_locals()
     ensures goes_on { (f : AnyFrame) (m : ℕ) (x : Plain) (n : ℕ) → IsSome (found_local f n)
         → IsSome (found_local (with_local m x f) n) }
     ensures held { (locals : List ℕ) (s : AnyState) → length (captures locals s) ≡ length locals }
+{}
+
+/// A function is called only with as many values as it captures locals: whatever is done where another number of values
+/// is held, a program whose declared functions capture nothing means the same.
+pub fn calls_hold_what_is_captured()
+    ensures { (program : ProgramData) (otherwise : AnyActs) (sources : Files) (budget : ℕ)
+        → DeclaredCaptureNothing program → meaning_or program otherwise sources budget ≡ meaning program sources budget }
 {}
