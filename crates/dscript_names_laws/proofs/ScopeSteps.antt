@@ -30,14 +30,16 @@ use Rattle.dscript_names_laws.proofs.Targets.{AllNumbers, IfOkFound, InBlocks, I
 
 filter_has : {X : Type 0} (p : X → Bool) (xs : List X) (x : X) → Has (filter p xs) x → Has xs x × (p x ≡ true)
 filter_has p [] x h = absurd h
-filter_has p (y ∷ ys) x h = by_first (p y) refl h
+filter_has p (y ∷ ys) x h = by_first (p y) refl (filter_has p ys x) h
   where
-    by_first : (b : Bool) → p y ≡ b → Has (cond b (y ∷ filter p ys) (filter p ys)) x → Has (y ∷ ys) x × (p x ≡ true)
-    by_first true e k = elim k [
+    by_first
+        : (b : Bool) → p y ≡ b → (Has (filter p ys) x → Has ys x × (p x ≡ true))
+        → Has (cond b (y ∷ filter p ys) (filter p ys)) x → Has (y ∷ ys) x × (p x ≡ true)
+    by_first true e rest k = elim k [
       | inl same ↦ (inl same, ap p (sym same) ∙ e)
-      | inr more ↦ let rest = filter_has p ys x more in (inr rest.0, rest.1)
+      | inr more ↦ let found = rest more in (inr found.0, found.1)
     ]
-    by_first false e k = let rest = filter_has p ys x k in (inr rest.0, rest.1)
+    by_first false e rest k = let found = rest k in (inr found.0, found.1)
 
 once_has : (ns : List ℕ) (n : ℕ) → Has (each_once ns) n → Has ns n
 once_has [] n h = absurd h
@@ -269,10 +271,10 @@ module _ (world : World) (table : List FunctionData) where
 
   -- a new local, which is of the kind and not below the first, and then what follows on its number
   pub new_scopes
-      : {B : Type 0} {R : B → List Use → Type 0} {next : ℕ → Binds B} (W : ℕ → Type 0) (first : ℕ) → ((n : ℕ) → first ≤ n → W n) → (here : Here)
+      : {B : Type 0} {R : B → List Use → Type 0} (next : ℕ → Binds B) (W : ℕ → Type 0) (first : ℕ) → ((n : ℕ) → first ≤ n → W n) → (here : Here)
       → ((now : Here) → now.locals ≡ here.locals + 1 → W here.locals → first ≤ here.locals → Scopes W first (λ c us. R c (Sets here.locals ∷ us)) (next here.locals) now)
       → Scopes W first R (next_local >>= next) here
-  new_scopes {R = R} {next = next} W first new here h = record {
+  new_scopes {R = R} next W first new here h = record {
     good = λ good.
         let now : Here = record here { locals = here.locals + 1 } in
         good_after W first IsSet R here (record { value = here.locals; after = now; functions = []; names = [] }) (next here.locals now) good

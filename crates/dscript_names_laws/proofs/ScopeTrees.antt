@@ -231,7 +231,7 @@ module _ (world : World) (table : List FunctionData) where
 
       pub expr_scopes : (W : ℕ → Type 0) (first : ℕ) (e : ExprTree) → Always W first IsExpr (bind_expr world site e)
       expr_scopes W first (tree.Arrow head e) = record {
-        at = λ here. arrow_scopes W first head [] _ here none_undeclared
+        at = λ here. arrow_scopes W first head [] (bind_expr world site e >>= λ b. gives (bound.Expr b)) here none_undeclared
             (λ inside. step world table ((expr_scopes (Within world table W here.locals) here.locals e).at inside) (λ now b ts up eb. done world table (one (uses_of b) ts eb)));
       }
       expr_scopes W first (tree.BlockArrow head ss) = record {
@@ -342,14 +342,14 @@ module _ (world : World) (table : List FunctionData) where
 
       stmt_scopes : (W : ℕ → Type 0) (first : ℕ) → Opens W first → (s : StmtTree) → Always W first IsStmt (bind_stmt world site s)
       stmt_scopes W first new (tree.Const x t e) = record {
-        at = λ here. new_scopes world table {next = λ n. bind_expr world site e >>= λ b. declare x n >>= λ m. gives (bound.Const n t b)} W first new here
+        at = λ here. new_scopes world table (λ n. bind_expr world site e >>= λ b. declare x n >>= λ m. gives (bound.Const n t b)) W first new here
             (λ now same kind low. step world table {next = λ b. declare x here.locals >>= λ m. gives (bound.Const here.locals t b)} ((expr_scopes W first e).at now)
             (λ later b us on eb. step world table {next = λ m. gives (bound.Const here.locals t b)}
             (declare_scopes world table W first x here.locals later kind low (below_later here.locals now.locals later.locals same on))
             (λ last m vs more em. done world table (before_none (Sets here.locals ∷ []) (uses_of b) (Sets here.locals ∷ []) us vs refl eb em))));
       }
       stmt_scopes W first new (tree.Let x t e) = record {
-        at = λ here. new_scopes world table {next = λ n. bind_maybe world site e >>= λ b. declare x n >>= λ m. gives (bound.Let n t b)} W first new here
+        at = λ here. new_scopes world table (λ n. bind_maybe world site e >>= λ b. declare x n >>= λ m. gives (bound.Let n t b)) W first new here
             (λ now same kind low. step world table {next = λ b. declare x here.locals >>= λ m. gives (bound.Let here.locals t b)} ((maybe_scopes W first e).at now)
             (λ later b us on eb. step world table {next = λ m. gives (bound.Let here.locals t b)}
             (declare_scopes world table W first x here.locals later kind low (below_later here.locals now.locals later.locals same on))
@@ -367,7 +367,7 @@ module _ (world : World) (table : List FunctionData) where
       }
       stmt_scopes W first new (tree.For kind x list s) = record {
         at = λ here. new_scopes world table
-            {next = λ n. bind_expr world site list >>= λ l. within (loop_local kind x n) (within (stmt_locals s) (bind_stmt world site s)) >>= λ b. gives (bound.For n l b)}
+            (λ n. bind_expr world site list >>= λ l. within (loop_local kind x n) (within (stmt_locals s) (bind_stmt world site s)) >>= λ b. gives (bound.For n l b))
             W first new here
             (λ now same kind' low. step world table ((expr_scopes W first list).at now)
             (λ later l us on el. step world table
