@@ -1,5 +1,5 @@
 -- What the members of values that are made give is made.
-use Rattle.std.proofs.Common.{◌≡◌, ℕ, Bool, true, ◌||◌, cond, List, [], ◌∷◌, ◌++◌, length, map, take, Option, Some, None, Ok, Err}
+use Rattle.std.proofs.Common.{◌≡◌, ℕ, Bool, true, cond, List, [], ◌∷◌, ◌++◌, length, map, take, Option, Some, None, Ok, Err}
 use Rattle.std.proofs.Common.{suc, refl, sym, inl, inr, arith}
 use Rattle.std.specs.Prelude.{Any as AnyOf, IsSomeAnd, find, slice_get}
 use Rattle.std.specs.List.{AllByRecursion, list_any}

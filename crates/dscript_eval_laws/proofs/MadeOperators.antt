@@ -21,7 +21,7 @@ use Rattle.dscript_sdk_values.specs.declared.fault.SdkFault.TheVariants.{BadPath
 use Rattle.dscript_sdk_values.specs.declared.limits.TheConstants.{MAX_LIST_ITEMS}
 use Rattle.dscript_sdk_values.specs.Arguments.{one_of, two_of}
 use Rattle.dscript_sdk_values.specs.Kinds.{items_in}
-use Rattle.dscript_sdk_values.specs.Outcomes.{◌>>=◌, unless_none}
+use Rattle.dscript_sdk_values.specs.Outcomes.{unless_none}
 use Rattle.dscript_eval_operators.specs.CallbackArguments.{Function, callback_in, function_in, reduction_in}
 use Rattle.dscript_eval_operators.specs.Comparisons.{compare_by, is_at_least, is_at_most, is_greater, is_less}
 use Rattle.dscript_eval_operators.specs.Equalities.{is_equal, is_unequal}

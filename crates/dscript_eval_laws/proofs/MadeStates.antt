@@ -1,5 +1,5 @@
 -- What evaluates to values that are made, and leaves a state in which all is made.
-use Rattle.std.proofs.Common.{◌≡◌, ℕ, zero, suc, ◌-◌, Bool, true, false, cond, List, [], ◌∷◌, take}
+use Rattle.std.proofs.Common.{ℕ, zero, suc, ◌-◌, Bool, true, false, cond, List, [], ◌∷◌, take}
 use Rattle.std.proofs.Common.{Result, Ok, Err, None}
 use Rattle.std.specs.Prelude.{nat_le, nat_lt, slice_get, slice_set, unwrap_or, ◌==◌}
 use Rattle.std.specs.List.{AllByRecursion}

@@ -1,5 +1,5 @@
 -- What a name stands for is there: a local of the blocks, a value that is declared, or an ambient call.
-use Rattle.std.proofs.Common.{◌≡◌, ◌⊎◌, ℕ, zero, suc, ◌+◌, ◌≤◌, ◌==◌, Bool, true, false, ◌&&◌, cond, List, [], ◌∷◌, ◌++◌, length, reverse, Option, Some, None}
+use Rattle.std.proofs.Common.{◌≡◌, ℕ, zero, suc, ◌+◌, ◌==◌, Bool, true, false, ◌&&◌, cond, List, [], ◌∷◌, ◌++◌, length, reverse, Option, Some, None}
 use Rattle.std.proofs.Common.{Result, Ok, Err, refl, sym, ap, ◌∙◌, subst, arith, append_assoc}
 use Rattle.std.specs.Prelude.{IsSomeAnd, find, ok_or, option_map, slice_get}
 use Rattle.std.specs.List.{AllByRecursion, position_from}
@@ -282,12 +282,12 @@ module _ (world : World) (P : ℕ → Type 0) where
   outside_found site is x parts =
       let written = x ∷ members_at parts in
       first_found (
-        option_map Ok (in_namespaces site.number site.file (reverse (beginnings site.around)) written)
-            ∷ in_imports world site.file written
-            ∷ option_map Ok (in_own_module world site.file written)
-            ∷ in_import_call world x parts
-            ∷ option_map Ok (shortest ambient_of 0 [] written)
-            ∷ []
+      option_map Ok (in_namespaces site.number site.file (reverse (beginnings site.around)) written)
+      ∷ in_imports world site.file written
+      ∷ option_map Ok (in_own_module world site.file written)
+      ∷ in_import_call world x parts
+      ∷ option_map Ok (shortest ambient_of 0 [] written)
+      ∷ []
       ) (
         as_level (in_namespaces site.number site.file (reverse (beginnings site.around)) written)
             (namespaces_found site.number site.file is (reverse (beginnings site.around)) written),
