@@ -31,7 +31,7 @@ use Rattle.memo_format.proofs.FormTexts.{selectors_again, selectors_sound}
 use Rattle.content_store.specs.Contents.{blob_put}
 use Rattle.run_record.specs.Digests.{weak_of}
 use Rattle.run_record.specs.Facts.{Facts}
-use Rattle.run_record.proofs.Digest.{is_digest}
+use Rattle.bx_digest.proofs.HashesAreDigests.{is_digest}
 use Rattle.two_phase.specs.Putting.{LeavesHonest, PutsUpTo}
 use Rattle.two_phase.proofs.Applied.{Made, made_of}
 use Rattle.two_phase_meaning.specs.Compared as met
@@ -47,16 +47,22 @@ use Rattle.violations.specs.Verdicts.{is_success}
 use Rattle.pip_view.proofs.TakenDirs.{process_is}
 use Rattle.pip_view_inputs.specs.Plain.{kind_process, process_in}
 use Rattle.one_thread.specs.OneThread.{Result, inputs_are_good, on_from, one_thread, result_of, run_count, verdicts_of}
-use Rattle.retire.specs.Builds.{IsFair, LeavesFair, LeavesUsable, Spares}
+use Rattle.sched_board_slots.specs.Slots.{slot_at}
+use Rattle.sched_board_slots.specs.declared.held.Held.{Held}
+use Rattle.sched_board_slots.specs.declared.held.Held.TheVariants as slots
+use Rattle.retire.specs.Accepting.{IsAccepted, without_run}
+use Rattle.retire.specs.Builds.{IsFair, LeavesFair, LeavesUsable}
+use Rattle.retire.specs.Counts.{CountsOver, CountsWithin}
 use Rattle.retire_compared.specs.Compared.{Compared, compared_at_pip, compared_from, desc_after, view_after}
 use Rattle.retire.specs.Runs.{IsOfSuccess, NoneReserved, RunsAs, results_before}
 use Rattle.retire.specs.Saving.{PutsEach}
 use Rattle.retire.proofs.AllHits.{all_hit}
+use Rattle.retire.proofs.Nothing.{none_is_accepted}
 use Rattle.retire.proofs.Putting.{each_told}
 use Rattle.retire.proofs.Records.{all_successes}
 use Rattle.retire.proofs.SoFar.{run_met, success_met, taken}
 use Rattle.retire.proofs.Twins.{one_process}
-use Rattle.retire_laws.specs.SecondBuild.{AllReadBack, NamesHeldPaths}
+use Rattle.retire_laws.specs.SecondBuild.{AllReadBack, HoldNoRun, NamesHeldPaths}
 
 -- ## Lists of selectors
 
@@ -384,11 +390,34 @@ module _ (pips : List Pip) (tree : Files) (budget : ℕ) (base : Holdings) (list
     apart = λ x y h k e. fair.apart x y (within kept before now was now_is left x h) (within kept before now was now_is left y k) e;
   }
 
-pub no_tool : (pips : List Pip) (tree : Files) (budget : ℕ) (kept : Holdings) (now : StoreTold) (hits ran : ℕ) → held_in now ≡ Some kept
+-- a build of a store with something usable for each process that succeeds counts no late run, where all succeed and no fault is counted
+pub no_late : (pips : List Pip) (tree : Files) (budget : ℕ) (kept : Holdings) (now : StoreTold) (hits late : ℕ) → held_in now ≡ Some kept
     → LeavesUsable pips tree budget now → list_all is_success (verdicts_of (one_thread pips tree budget)) ≡ true
-    → Spares pips tree budget kept hits 0 → hits + ran ≡ run_count pips (verdicts_of (one_thread pips tree budget)) → ran ≡ 0
-no_tool pips tree budget kept now hits ran now_is usable good spares count =
+    → CountsWithin pips tree budget kept hits late 0 → late ≡ 0
+no_late pips tree budget kept now hits late now_is usable good counts =
     let all = all_hit pips tree budget kept (usable kept now_is) good in
-    let least : length all.0 ≤ hits + 0 = spares.at_least all.0 all.1 in
+    let most : late + length all.0 ≤ run_count pips (verdicts_of (one_thread pips tree budget)) + 0 = counts.late_are all.0 all.1 in
     let every = all.2 in
-    omega (arith, least, every, count)
+    omega (arith, most, every)
+
+-- a slot that holds no run is no accepted run
+none_held : (d : Desc) (see : Ask → Answer) (slot : Held) → ((f : Facts) → slot ≡ slots.Ran f → ⊥) → IsAccepted d see slot → ⊥
+none_held d see slots.Empty none h = h
+none_held d see (slots.Ran f) none h = none f refl
+none_held d see (slots.Hit found) none h = h
+none_held d see (slots.Plain made) none h = h
+none_held d see slots.Skipped none h = h
+
+-- and it runs no tool at all where no slot holds a run
+pub no_tool : (pips : List Pip) (tree : Files) (budget : ℕ) (kept : Holdings) (now : StoreTold) (finished : List Held) (hits ran late : ℕ)
+    → held_in now ≡ Some kept → LeavesUsable pips tree budget now → list_all is_success (verdicts_of (one_thread pips tree budget)) ≡ true
+    → HoldNoRun finished → CountsOver pips tree budget kept finished hits late 0
+    → hits + ran ≡ run_count pips (verdicts_of (one_thread pips tree budget)) → ran ≡ 0
+no_tool pips tree budget kept now finished hits ran late now_is usable good none counts count =
+    let all = all_hit pips tree budget kept (usable kept now_is) good in
+    let by_slots = counts.counts all.0 all.1 in
+    let least : without_run counts.accepted all.0 ≤ hits + 0 = by_slots.hits_at_least in
+    let no_run : without_run counts.accepted all.0 ≡ length all.0 =
+    none_is_accepted pips tree budget kept finished counts.accepted (λ i d see h. none_held d see (slot_at finished i) (none i) h) counts.are_accepted all.0 all.1 in
+    let every = all.2 in
+    omega (arith, least, no_run, every, count)

@@ -8,7 +8,7 @@ mod watched;
 use bx_engine::command;
 use bx_io::{FailKeeper, Gate, Keeper, MemKeeper, MemSink, MemSource};
 pub use over_stores::{
-    ALL_HIT, ALL_RAN, FIRST_CALLS, TWO_RAN, are_built, is_built, is_built_without_cache,
+    ALL_HIT, ALL_RAN, FIRST_CALLS, INPUT, TWO_RAN, are_built, is_built, is_built_without_cache,
     is_rebuilt, left_after, runs_after_puts,
 };
 use std::alloc::{AllocError, Global};
@@ -80,12 +80,10 @@ pub const NO_FAULTS: Streams = Streams {
     notes_fail: 0,
 };
 
-/// The words of a build, which uses the store or not.
-fn words(alloc: Global, cached: bool) -> Result<Vec<String>, AllocError> {
+fn words(alloc: Global, texts: &[&str]) -> Result<Vec<String>, AllocError> {
     let mut words = Vec::new(alloc);
-    words.push(String::from_str(alloc, "build")?)?;
-    if !cached {
-        words.push(String::from_str(alloc, "--no-cache")?)?;
+    for text in texts {
+        words.push(String::from_str(alloc, text)?)?;
     }
     Ok(words)
 }
@@ -130,18 +128,18 @@ fn add_answer(
     })
 }
 
-/// Adds what a build of this source comes to.
+/// Adds what a call with these words comes to.
 fn add_call<H: Threads + Wait + Sync, K: Keeper, G: Gate>(
     rt: &H,
     alloc: Global,
-    cached: bool,
+    texts: &[&str],
     source: &mut MemSource,
     streams: Streams,
     keeper: &mut K,
     gate: &G,
     seen: &mut Vec<u8>,
 ) -> Result<(), AllocError> {
-    let words = words(alloc, cached)?;
+    let words = words(alloc, texts)?;
     let mut out = sink_of(alloc, streams, streams.out_fails)?;
     let mut notes = sink_of(alloc, streams, streams.notes_fail)?;
     let status = command(
@@ -159,10 +157,7 @@ pub fn add_command<H: Threads + Wait + Sync, K: Keeper>(
     keeper: &mut K,
     seen: &mut Vec<u8>,
 ) -> Result<(), AllocError> {
-    let mut words = Vec::new(alloc);
-    for text in texts {
-        words.push(String::from_str(alloc, text)?)?;
-    }
+    let words = words(alloc, texts)?;
     let mut source = source_of(alloc, b"", NO_FAULTS)?;
     let mut out = sink_of(alloc, NO_FAULTS, 0)?;
     let mut notes = sink_of(alloc, NO_FAULTS, 0)?;
@@ -180,10 +175,12 @@ pub fn add_command<H: Threads + Wait + Sync, K: Keeper>(
     add_answer(seen, &out, &notes, status.code())
 }
 
-/// Adds what a build of this input comes to: the output, `notes ` and the notes, and `status ` and the status.
+/// Adds what a build of this input by so many workers comes to: the output, `notes ` and the notes, and `status ` and
+/// the status.
 pub fn add_build<H: Threads + Wait + Sync, K: Keeper, G: Gate>(
     rt: &H,
     alloc: Global,
+    workers: &str,
     input: &str,
     streams: Streams,
     keeper: &mut K,
@@ -191,7 +188,8 @@ pub fn add_build<H: Threads + Wait + Sync, K: Keeper, G: Gate>(
     seen: &mut Vec<u8>,
 ) -> Result<(), AllocError> {
     let mut source = source_of(alloc, input.as_bytes(), streams)?;
-    add_call(rt, alloc, true, &mut source, streams, keeper, gate, seen)
+    let texts = ["build", "--workers", workers];
+    add_call(rt, alloc, &texts, &mut source, streams, keeper, gate, seen)
 }
 
 /// Adds what a build of this input comes to that does not use the store.
@@ -204,5 +202,15 @@ pub fn add_build_without_cache<H: Threads + Wait + Sync, K: Keeper, G: Gate>(
     seen: &mut Vec<u8>,
 ) -> Result<(), AllocError> {
     let mut source = source_of(alloc, input.as_bytes(), NO_FAULTS)?;
-    add_call(rt, alloc, false, &mut source, NO_FAULTS, keeper, gate, seen)
+    let texts = ["build", "--no-cache"];
+    add_call(
+        rt,
+        alloc,
+        &texts,
+        &mut source,
+        NO_FAULTS,
+        keeper,
+        gate,
+        seen,
+    )
 }
