@@ -320,7 +320,7 @@ module _ (act act' : Acts) (opens : (a : Act) → Alike Plain (act a) (act' a)) 
       does_alike (tree.If c s other) =
           both _ _ _ _ _ _ (same _ step)
           (bound _ _ _ _ _ _ (value_alike c) (λ x. choice _ _ _ _ _ _ (does_alike s) (otherwise_alike other)))
-      does_alike (tree.For n list s) =
+      does_alike (tree.For kind n list s) =
           both _ _ _ _ _ _ (same _ step) (bound _ _ _ _ _ _ (value_alike list)
           (λ xs. bound _ _ _ _ _ _ (same _ (answered (items_in xs)))
           (λ items. turns_alike n (does p act s) (does p act' s) (does_alike s) items)))
