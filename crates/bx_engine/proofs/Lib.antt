@@ -7,9 +7,14 @@ mod OutputsAreTrees
 mod RulesKept
 mod FairPlans
 mod StoresLeft
+mod LivesHonest
 mod BuildsAreShown
 mod ExpectedIsWritten
 mod ResponsesAreExpected
 mod CallsEnd
+mod OtherCalls
+mod Checked
+mod StoresCared
+mod Worked
 mod OneEnding
 mod SomeEnding

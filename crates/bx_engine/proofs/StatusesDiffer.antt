@@ -66,6 +66,9 @@ out_failed h = elim h [ inl a ↦ cc | inr b ↦ elim b [ inl c ↦ cc | inr d �
 out_of_memory : IsWhole statuses.OutOfMemory → ⊥
 out_of_memory h = elim h [ inl a ↦ cc | inr b ↦ elim b [ inl c ↦ cc | inr d ↦ elim d [ inl e ↦ cc | inr f ↦ cc ] ] ]
 
+keeper_failed : IsWhole statuses.KeeperFailed → ⊥
+keeper_failed h = elim h [ inl a ↦ cc | inr b ↦ elim b [ inl c ↦ cc | inr d ↦ elim d [ inl e ↦ cc | inr f ↦ cc ] ] ]
+
 no_command : IsWhole statuses.NoCommand → ⊥
 no_command whole = no_command_writes_nothing (inl whole)
 
@@ -97,7 +100,10 @@ quiet_refusal status whole quiet = elim quiet [
       | inl e ↦ absurd (not_whole status statuses.SourceFailed e source_failed whole)
       | inr f ↦ elim f [
         | inl g ↦ absurd (not_whole status statuses.OutFailed g out_failed whole)
-        | inr k ↦ absurd (not_whole status statuses.OutOfMemory k out_of_memory whole)
+        | inr k ↦ elim k [
+          | inl m ↦ absurd (not_whole status statuses.OutOfMemory m out_of_memory whole)
+          | inr n ↦ absurd (not_whole status statuses.KeeperFailed n keeper_failed whole)
+        ]
       ]
     ]
   ]
@@ -131,5 +137,15 @@ not_begun status came none = elim none [
   | inr b ↦ elim b [
     | inl c ↦ absurd (answered_or_not status came (inr c))
     | inr r ↦ r
+  ]
+]
+
+-- no build says that the store failed
+pub not_keeper : (status : Status) → IsWhole status ⊎ IsSilent status ⊎ (status ≡ statuses.OutFailed) → status ≡ statuses.KeeperFailed → ⊥
+not_keeper status came failed = elim came [
+  | inl whole ↦ not_whole status statuses.KeeperFailed failed keeper_failed whole
+  | inr more ↦ elim more [
+    | inl silent ↦ elim silent [ inl a ↦ cc | inr b ↦ elim b [ inl c ↦ cc | inr d ↦ cc ] ]
+    | inr cut ↦ cc
   ]
 ]

@@ -3,7 +3,7 @@ use Rattle.std.specs.Prelude.{◌≡◌, ℕ, List, ◌⊎◌}
 use Rattle.bx_engine_front.specs.declared.limits.Limits.{Limits}
 use Rattle.bx_io.specs.Causes.{Rose}
 use Rattle.bx_engine_words.specs.declared.order.Order.{Order}
-use Rattle.bx_engine_words.specs.declared.order.Order.TheVariants.{Build}
+use Rattle.bx_engine_words.specs.declared.order.Order.TheVariants.{Build, Check, Gen, Repair, Trim}
 use Rattle.bx_engine.specs.declared.status.Status.{Status}
 use Rattle.bx_engine.specs.Ending.{Ending, status_of, output_of}
 use Rattle.bx_engine.specs.Ends.{Ends}
@@ -17,14 +17,22 @@ pub record IsExpected (limits : Limits) (input : List ℕ) (status : Status) (by
   pub status_is : status ≡ status_of ending
   pub bytes_are : bytes ≡ output_of ending
 
--- the steps that an order allows; nothing else of it changes what is built
+-- no steps, where nothing is built
+abbrev pub no_steps : Limits
+no_steps = record { eval_budget = 0; tool_budget = 0 }
+
+-- the steps that an order allows a build; nothing else of it changes what is built
 abbrev pub limits_of : Order → Limits
 limits_of (Build workers cached eval_budget tool_budget) = record {
   eval_budget = eval_budget;
   tool_budget = tool_budget;
 }
+limits_of Check = no_steps
+limits_of Repair = no_steps
+limits_of (Trim keep) = no_steps
+limits_of (Gen seed pips) = no_steps
 
--- What an order comes to on this input. Each order is a build.
+-- What a build of an order comes to on this input.
 abbrev pub Expected : Order → List ℕ → Status → List ℕ → Type 0
 Expected order input status bytes = IsExpected (limits_of order) input status bytes
 

@@ -9,5 +9,8 @@ pub mod OutputTrees
 pub mod Responses
 pub mod Statuses
 pub mod Headline
+pub mod Care
+pub mod Lives
+pub mod Workloads
 pub mod Beyond
 pub mod Ended

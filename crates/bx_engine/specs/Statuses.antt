@@ -21,7 +21,7 @@ IsWhole status =
     (status ≡ statuses.Done) ⊎ (status ≡ statuses.FailuresFound) ⊎ (status ≡ statuses.InputRefused)
     ⊎ (status ≡ statuses.SpecificationRefused)
 
--- all pips of a build were gone through
+-- all pips of a build, or all names of a check, were gone through
 abbrev pub IsGone : Status → Type 0
 IsGone status = (status ≡ statuses.Done) ⊎ (status ≡ statuses.FailuresFound)
 
@@ -43,3 +43,4 @@ abbrev pub HasNoNotes : Status → Type 0
 HasNoNotes status =
     (status ≡ statuses.InputRefused) ⊎ (status ≡ statuses.SpecificationRefused)
     ⊎ (status ≡ statuses.SourceFailed) ⊎ (status ≡ statuses.OutFailed) ⊎ (status ≡ statuses.OutOfMemory)
+    ⊎ (status ≡ statuses.KeeperFailed)

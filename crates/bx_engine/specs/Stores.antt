@@ -5,16 +5,20 @@ use Rattle.bx_io.specs.Holdings.{Holdings, Keeps, StoreTold}
 use Rattle.bx_engine_front.specs.Specifications.{Plans}
 use Rattle.bx_engine_front.specs.declared.limits.Limits.{Limits}
 use Rattle.bx_engine_words.specs.declared.order.Order.{Order}
-use Rattle.bx_engine_words.specs.declared.order.Order.TheVariants.{Build}
+use Rattle.bx_engine_words.specs.declared.order.Order.TheVariants.{Build, Check, Gen, Repair, Trim}
 use Rattle.pip_model_types.specs.declared.pip.Pip.{Pip}
 use Rattle.two_phase.specs.Putting.{LeavesHonest}
 use Rattle.retire.specs.Builds.{Fair, LeavesFair}
 use Rattle.bx_engine.specs.Ends.{AreSources}
 use Rattle.bx_engine.specs.Expected.{limits_of}
 
--- whether the order lets the build use the store
+-- whether the order lets the call use the store
 abbrev pub uses_store : Order → Bool
 uses_store (Build workers cached eval_budget tool_budget) = cached
+uses_store Check = true
+uses_store Repair = true
+uses_store (Trim keep) = true
+uses_store (Gen seed pips) = false
 
 -- ## What is asked of the store
 

@@ -8,10 +8,16 @@ ghost use Rattle.bx_engine.specs.Counting.{IsNoted};
 ghost use Rattle.bx_engine.specs.Ending.{Ending};
 ghost use Rattle.bx_engine.specs.Ends.{Ends, IsEndless};
 ghost use Rattle.bx_engine.specs.Expected.{IsExpected};
+ghost use Rattle.bx_engine.specs.Lives.{Comes, Deed};
 ghost use Rattle.bx_engine.specs.Stores.{uses_store};
+ghost use Rattle.bx_io.specs.Holdings.{Holdings};
+ghost use Rattle.std.specs.FinMap.{empty};
+ghost use Rattle.two_phase_meaning.specs.Honest.{Honest};
 
 use crate::status::Status;
+use cache_care::{repairs_stay_honest, trims_stay_honest};
 use graph_check::one_answer;
+use two_phase_meaning::{empty_is_honest, puts_stay_honest};
 
 /// An input ends in one way at most, so one status and one output are expected of it, and where no store is
 /// used, one text of notes.
@@ -37,3 +43,15 @@ pub fn some_end()
     ensures { (limits : AnyLimits) (input : List ℕ) → (IsEndless limits input → ⊥)
         → ((ending : Ending) → Ends limits input ending → ⊥) → ⊥ }
 {}
+
+/// What becomes of a store is honest: from the store that holds nothing, or any honest one, by any builds, trims and repairs, each
+/// of them stopped after any of its changes, if there is no hash collision among the contents that each build compares.
+pub fn stores_stay_honest()
+    ensures honest { (S T : Holdings) (deeds : List Deed) → Honest S → Comes S deeds T → Honest T }
+    ensures from_nothing { (T : Holdings) (deeds : List Deed) → Comes empty deeds T → Honest T }
+{
+    empty_is_honest();
+    trims_stay_honest();
+    repairs_stay_honest();
+    puts_stay_honest();
+}

@@ -15,7 +15,7 @@ pub const READ_LIMIT: usize = MAX_BUNDLE_BYTES + 1;
 /// How many bytes a build asks the source for in one call at most.
 pub const READ_PIECE: usize = 65_536;
 
-/// The steps that an order allows.
+/// The steps that an order allows a build.
 pub(crate) fn limits_of(order: &Order) -> Limits
     ensures { result ≡ limits_of_order order.now }
 {
@@ -28,14 +28,20 @@ pub(crate) fn limits_of(order: &Order) -> Limits
             eval_budget: *eval_budget,
             tool_budget: *tool_budget,
         },
+        Order::Check | Order::Repair | Order::Trim { .. } | Order::Gen { .. } => Limits {
+            eval_budget: 0,
+            tool_budget: 0,
+        },
     }
 }
 
-/// Whether an order lets the build use the store.
+/// Whether an order lets the call use the store.
 pub(crate) fn is_cached(order: &Order) -> bool
     ensures { result ≡ uses_store order.now }
 {
     match order {
         Order::Build { cached, .. } => *cached,
+        Order::Check | Order::Repair | Order::Trim { .. } => true,
+        Order::Gen { .. } => false,
     }
 }

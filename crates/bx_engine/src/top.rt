@@ -1,6 +1,6 @@
 //! The top call.
 
-ghost use Rattle.std.specs.Prelude.{◌≡◌, ◌≢◌, false, map, string_bytes};
+ghost use Rattle.std.specs.Prelude.{◌≡◌, ◌≢◌, ℕ, false, map, string_bytes};
 ghost use Rattle.bx_engine.specs.Beyond.{GoesBeyond};
 ghost use Rattle.bx_engine.specs.Calls.{call_of, change_of, given_of, written_of};
 ghost use Rattle.bx_engine.specs.Ending.{usage_text};
@@ -8,13 +8,16 @@ ghost use Rattle.bx_engine.specs.Expected.{AppendsOrFails};
 ghost use Rattle.bx_engine.specs.Headline.{KeepsHeadline};
 ghost use Rattle.bx_engine.specs.Statuses.{HasNoBuild, HasNoNotes, IsSilent};
 ghost use Rattle.bx_engine.specs.Stores.{uses_store};
-ghost use Rattle.bx_engine_words.specs.Words.{Orders};
+ghost use Rattle.bx_engine_words.specs.Words.{IsBuild, IsCare, Orders, OrdersBuild};
+ghost use Rattle.bx_engine_words.specs.declared.order.Order.TheVariants as TheOrders;
 ghost use Rattle.bx_engine_words.specs.declared.order.Order.{Order as TheOrder};
 
 use crate::build::build;
+use crate::care::{check, repair, trim};
 use crate::status::Status;
+use crate::workload::write_workload;
 use crate::writing::write_all;
-use bx_engine_words::{WordFault, one_order, read_words};
+use bx_engine_words::{Order, WordFault, one_order, read_words};
 use bx_io::{Gate, Keeper, Sink, Source};
 use std::alloc::Global;
 use std::sync::Wait;
@@ -32,6 +35,9 @@ const USAGE: &str = "usage: bxl build|check|repair|trim|gen\n";
 /// once all of its output is composed, and to `notes` last. A fault of `notes` changes nothing else, and one
 /// of `keeper` nothing but the counts in the notes and what is saved. Each process that runs passes `gate`
 /// once. No call needs `rt` yet.
+///
+/// A check, a repair and a trim touch `keeper` and `notes` alone, and stop at the first call of `keeper` that fails. A
+/// workload goes to `out` alone.
 pub fn command<H: Threads + Wait + Sync, S: Source, O: Sink, N: Sink, K: Keeper, G: Gate>(
     rt: &H,
     alloc: Global,
@@ -48,8 +54,8 @@ pub fn command<H: Threads + Wait + Sync, S: Source, O: Sink, N: Sink, K: Keeper,
     ensures command { result ≢ Status.NoCommand
         → (order : TheOrder) × Orders (map string_bytes words.now) order }
 
-    // The promise of the program: of every input that the source gives, and of every order of the words.
-    ensures headline { KeepsHeadline (Orders (map string_bytes words.now)) (call_of result
+    // The promise of the program: of every input that the source gives, and of every order of the words to build.
+    ensures headline { KeepsHeadline (OrdersBuild (map string_bytes words.now)) (call_of result
         (given_of (S.given source.old) (S.given source.new) (S.left source.old) (S.left source.new)
         (S.ended source.new) (S.faults source.old) (S.faults source.new))
         (written_of (O.taken out.old) (O.taken out.new) (O.faults out.old) (O.faults out.new))
@@ -76,6 +82,14 @@ pub fn command<H: Threads + Wait + Sync, S: Source, O: Sink, N: Sink, K: Keeper,
         → uses_store order ≡ false → keeper.new ≡ keeper.old }
     ensures bound { K.bound keeper.new ≡ K.bound keeper.old }
 
+    // What else than a build leaves alone: the source; the output, but for a workload; the notes, for a workload.
+    ensures unasked { (order : TheOrder) → Orders (map string_bytes words.now) order → (IsBuild order → ⊥)
+        → source.new ≡ source.old }
+    ensures unwritten { (order : TheOrder) → Orders (map string_bytes words.now) order → IsCare order
+        → out.new ≡ out.old }
+    ensures untold { (seed pips : ℕ) → Orders (map string_bytes words.now) (TheOrders.Gen seed pips)
+        → notes.new ≡ notes.old }
+
     // Words that are no command are answered by the usage.
     ensures usage { result ≡ Status.NoCommand
         → AppendsOrFails usage_text (N.taken notes.old) (N.taken notes.new)
@@ -88,6 +102,12 @@ pub fn command<H: Threads + Wait + Sync, S: Source, O: Sink, N: Sink, K: Keeper,
             let _ = write_all(notes, USAGE.as_bytes());
             Status::NoCommand
         }
-        Ok(order) => build(alloc, &order, source, out, notes, keeper, gate),
+        Ok(order) => match order {
+            Order::Build { .. } => build(alloc, &order, source, out, notes, keeper, gate),
+            Order::Check => check(alloc, notes, keeper),
+            Order::Repair => repair(alloc, notes, keeper),
+            Order::Trim { keep } => trim(alloc, notes, keeper, keep),
+            Order::Gen { seed, pips } => write_workload(alloc, out, seed, pips),
+        },
     }
 }

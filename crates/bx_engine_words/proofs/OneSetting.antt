@@ -5,13 +5,17 @@ use Rattle.std.specs.Prelude.{◌↔◌, IsTrue}
 use Rattle.std.specs.List.{after_first, before_first, list_any}
 use Rattle.std.proofs.lemmas.Fmt.{decimal_injective}
 use Rattle.std.proofs.lemmas.Bool.{both_ways}
+use Rattle.std.proofs.lemmas.Option.{same_Some}
+use Rattle.bx_engine_words.specs.declared.command.Command.{Command}
+use Rattle.bx_engine_words.specs.declared.command.Command.TheVariants as commands
 use Rattle.bx_engine_words.specs.declared.order.Order.{Order}
 use Rattle.bx_engine_words.specs.declared.setting.NumberOption.{NumberOption}
 use Rattle.bx_engine_words.specs.declared.setting.NumberOption.TheVariants as options
 use Rattle.bx_engine_words.specs.declared.setting.Setting.{Setting}
 use Rattle.bx_engine_words.specs.declared.setting.Setting.TheVariants.{Number, NoCache}
 use Rattle.bx_engine_words.specs.Given.{IsNumber}
-use Rattle.bx_engine_words.specs.Settings.{AreSettings, BeginWith, IsValue, build_of, option_text}
+use Rattle.bx_engine_words.specs.Commands.{command_text, order_of}
+use Rattle.bx_engine_words.specs.Settings.{AreSettings, BeginWith, IsValue, option_text}
 use Rattle.bx_engine_words.specs.Words.{AreOptions, Orders}
 
 -- ## Options
@@ -24,21 +28,33 @@ pub name_before : (option : NumberOption) (v : List ℕ)
 name_before options.Workers v = refl
 name_before options.EvalBudget v = refl
 name_before options.ToolBudget v = refl
+name_before options.Keep v = refl
+name_before options.Seed v = refl
+name_before options.Pips v = refl
 
 pub value_after : (option : NumberOption) (v : List ℕ) → after_first is_equals (option_text option ++ codes "=" ++ v) ≡ v
 value_after options.Workers v = refl
 value_after options.EvalBudget v = refl
 value_after options.ToolBudget v = refl
+value_after options.Keep v = refl
+value_after options.Seed v = refl
+value_after options.Pips v = refl
 
 pub has_equals : (option : NumberOption) (v : List ℕ) → list_any is_equals (option_text option ++ codes "=" ++ v) ≡ true
 has_equals options.Workers v = refl
 has_equals options.EvalBudget v = refl
 has_equals options.ToolBudget v = refl
+has_equals options.Keep v = refl
+has_equals options.Seed v = refl
+has_equals options.Pips v = refl
 
 pub lacks_equals : (option : NumberOption) → list_any is_equals (option_text option) ≡ false
 lacks_equals options.Workers = refl
 lacks_equals options.EvalBudget = refl
 lacks_equals options.ToolBudget = refl
+lacks_equals options.Keep = refl
+lacks_equals options.Seed = refl
+lacks_equals options.Pips = refl
 
 joined_or_alone : (a b : NumberOption) (v : List ℕ) → option_text a ++ codes "=" ++ v ≡ option_text b → ⊥
 joined_or_alone a b v e =
@@ -52,32 +68,71 @@ abbrev letter : NumberOption → ℕ
 letter options.Workers = 119
 letter options.EvalBudget = 101
 letter options.ToolBudget = 116
+letter options.Keep = 107
+letter options.Seed = 115
+letter options.Pips = 112
 
 letter_in : (option : NumberOption) (v : List ℕ) → third (option_text option ++ codes "=" ++ v) ≡ letter option
 letter_in options.Workers v = refl
 letter_in options.EvalBudget v = refl
 letter_in options.ToolBudget v = refl
+letter_in options.Keep v = refl
+letter_in options.Seed v = refl
+letter_in options.Pips v = refl
 
 letter_alone : (option : NumberOption) → third (option_text option) ≡ letter option
 letter_alone options.Workers = refl
 letter_alone options.EvalBudget = refl
 letter_alone options.ToolBudget = refl
+letter_alone options.Keep = refl
+letter_alone options.Seed = refl
+letter_alone options.Pips = refl
 
 same_letters : (a b : NumberOption) → letter a ≡ letter b → a ≡ b
 same_letters options.Workers options.Workers e = refl
 same_letters options.Workers options.EvalBudget e = absurd (omega (arith, e))
 same_letters options.Workers options.ToolBudget e = absurd (omega (arith, e))
+same_letters options.Workers options.Keep e = absurd (omega (arith, e))
+same_letters options.Workers options.Seed e = absurd (omega (arith, e))
+same_letters options.Workers options.Pips e = absurd (omega (arith, e))
 same_letters options.EvalBudget options.Workers e = absurd (omega (arith, e))
 same_letters options.EvalBudget options.EvalBudget e = refl
 same_letters options.EvalBudget options.ToolBudget e = absurd (omega (arith, e))
+same_letters options.EvalBudget options.Keep e = absurd (omega (arith, e))
+same_letters options.EvalBudget options.Seed e = absurd (omega (arith, e))
+same_letters options.EvalBudget options.Pips e = absurd (omega (arith, e))
 same_letters options.ToolBudget options.Workers e = absurd (omega (arith, e))
 same_letters options.ToolBudget options.EvalBudget e = absurd (omega (arith, e))
 same_letters options.ToolBudget options.ToolBudget e = refl
+same_letters options.ToolBudget options.Keep e = absurd (omega (arith, e))
+same_letters options.ToolBudget options.Seed e = absurd (omega (arith, e))
+same_letters options.ToolBudget options.Pips e = absurd (omega (arith, e))
+same_letters options.Keep options.Workers e = absurd (omega (arith, e))
+same_letters options.Keep options.EvalBudget e = absurd (omega (arith, e))
+same_letters options.Keep options.ToolBudget e = absurd (omega (arith, e))
+same_letters options.Keep options.Keep e = refl
+same_letters options.Keep options.Seed e = absurd (omega (arith, e))
+same_letters options.Keep options.Pips e = absurd (omega (arith, e))
+same_letters options.Seed options.Workers e = absurd (omega (arith, e))
+same_letters options.Seed options.EvalBudget e = absurd (omega (arith, e))
+same_letters options.Seed options.ToolBudget e = absurd (omega (arith, e))
+same_letters options.Seed options.Keep e = absurd (omega (arith, e))
+same_letters options.Seed options.Seed e = refl
+same_letters options.Seed options.Pips e = absurd (omega (arith, e))
+same_letters options.Pips options.Workers e = absurd (omega (arith, e))
+same_letters options.Pips options.EvalBudget e = absurd (omega (arith, e))
+same_letters options.Pips options.ToolBudget e = absurd (omega (arith, e))
+same_letters options.Pips options.Keep e = absurd (omega (arith, e))
+same_letters options.Pips options.Seed e = absurd (omega (arith, e))
+same_letters options.Pips options.Pips e = refl
 
 other_letter : (option : NumberOption) → 110 ≡ letter option → ⊥
 other_letter options.Workers e = omega (arith, e)
 other_letter options.EvalBudget e = omega (arith, e)
 other_letter options.ToolBudget e = omega (arith, e)
+other_letter options.Keep e = omega (arith, e)
+other_letter options.Seed e = omega (arith, e)
+other_letter options.Pips e = omega (arith, e)
 
 pub same_names : (a b : NumberOption) → option_text a ≡ option_text b → a ≡ b
 same_names a b e = same_letters a b (sym (letter_alone a) ∙ ap third e ∙ letter_alone b)
@@ -96,6 +151,9 @@ pub small_value : (option : NumberOption) (n : ℕ) → IsValue option n → n <
 small_value options.Workers n h = omega (arith, h.most)
 small_value options.EvalBudget n h = omega (arith, h.most)
 small_value options.ToolBudget n h = omega (arith, h.most)
+small_value options.Keep n h = omega (arith, h.most)
+small_value options.Seed n h = omega (arith, h.most)
+small_value options.Pips n h = omega (arith, h.most)
 
 -- two texts are an option and its value in one way
 pub not_a_value : (name text : List ℕ) (option other : NumberOption) (m n : ℕ) (r : Bool) → name ≡ option_text option
@@ -108,7 +166,7 @@ not_a_value name text option other m n r named written small test outside h =
 
 -- ## Words
 
-first_same : {X : Type 0} {x y : X} {xs ys : List X} → x ∷ xs ≡ y ∷ ys → x ≡ y
+pub first_same : {X : Type 0} {x y : X} {xs ys : List X} → x ∷ xs ≡ y ∷ ys → x ≡ y
 first_same e = cc
 
 pub rest_same : {X : Type 0} {x y : X} {xs ys : List X} → x ∷ xs ≡ y ∷ ys → xs ≡ ys
@@ -189,11 +247,48 @@ one_settings words (s ∷ ss) (t ∷ ts) h k =
     ∙ ap (λ (xs : List Setting). t ∷ xs)
     (one_settings k.0 ss ts (subst (λ (rest : List (List ℕ)). AreSettings rest ss) one.1 h.2) k.2)
 
-one_options : (words : List (List ℕ)) (a b : Order) → AreOptions words a → AreOptions words b → a ≡ b
-one_options words a b h k =
-    h.order_is ∙ ap build_of (one_settings words h.settings k.settings h.settings_are k.settings_are) ∙ sym k.order_is
+first_byte : (a b : List ℕ) → a ≡ b → get_or a 0 0 ≡ get_or b 0 0
+first_byte a b e = ap (λ (t : List ℕ). get_or t 0 0) e
+
+-- commands with one word are one
+pub same_commands : (a b : Command) → command_text a ≡ command_text b → a ≡ b
+same_commands commands.Build commands.Build e = refl
+same_commands commands.Build commands.Check e = absurd (omega (arith, first_byte (command_text commands.Build) (command_text commands.Check) e))
+same_commands commands.Build commands.Repair e = absurd (omega (arith, first_byte (command_text commands.Build) (command_text commands.Repair) e))
+same_commands commands.Build commands.Trim e = absurd (omega (arith, first_byte (command_text commands.Build) (command_text commands.Trim) e))
+same_commands commands.Build commands.Gen e = absurd (omega (arith, first_byte (command_text commands.Build) (command_text commands.Gen) e))
+same_commands commands.Check commands.Build e = absurd (omega (arith, first_byte (command_text commands.Check) (command_text commands.Build) e))
+same_commands commands.Check commands.Check e = refl
+same_commands commands.Check commands.Repair e = absurd (omega (arith, first_byte (command_text commands.Check) (command_text commands.Repair) e))
+same_commands commands.Check commands.Trim e = absurd (omega (arith, first_byte (command_text commands.Check) (command_text commands.Trim) e))
+same_commands commands.Check commands.Gen e = absurd (omega (arith, first_byte (command_text commands.Check) (command_text commands.Gen) e))
+same_commands commands.Repair commands.Build e = absurd (omega (arith, first_byte (command_text commands.Repair) (command_text commands.Build) e))
+same_commands commands.Repair commands.Check e = absurd (omega (arith, first_byte (command_text commands.Repair) (command_text commands.Check) e))
+same_commands commands.Repair commands.Repair e = refl
+same_commands commands.Repair commands.Trim e = absurd (omega (arith, first_byte (command_text commands.Repair) (command_text commands.Trim) e))
+same_commands commands.Repair commands.Gen e = absurd (omega (arith, first_byte (command_text commands.Repair) (command_text commands.Gen) e))
+same_commands commands.Trim commands.Build e = absurd (omega (arith, first_byte (command_text commands.Trim) (command_text commands.Build) e))
+same_commands commands.Trim commands.Check e = absurd (omega (arith, first_byte (command_text commands.Trim) (command_text commands.Check) e))
+same_commands commands.Trim commands.Repair e = absurd (omega (arith, first_byte (command_text commands.Trim) (command_text commands.Repair) e))
+same_commands commands.Trim commands.Trim e = refl
+same_commands commands.Trim commands.Gen e = absurd (omega (arith, first_byte (command_text commands.Trim) (command_text commands.Gen) e))
+same_commands commands.Gen commands.Build e = absurd (omega (arith, first_byte (command_text commands.Gen) (command_text commands.Build) e))
+same_commands commands.Gen commands.Check e = absurd (omega (arith, first_byte (command_text commands.Gen) (command_text commands.Check) e))
+same_commands commands.Gen commands.Repair e = absurd (omega (arith, first_byte (command_text commands.Gen) (command_text commands.Repair) e))
+same_commands commands.Gen commands.Trim e = absurd (omega (arith, first_byte (command_text commands.Gen) (command_text commands.Trim) e))
+same_commands commands.Gen commands.Gen e = refl
+
+one_options : (command : Command) (words : List (List ℕ)) (a b : Order) → AreOptions command words a → AreOptions command words b → a ≡ b
+one_options command words a b h k =
+    same_Some a b
+    (sym h.order_is ∙ ap (order_of command) (one_settings words h.settings k.settings h.settings_are k.settings_are) ∙ k.order_is)
 
 pub one_order : (words : List (List ℕ)) (a b : Order) → Orders words a → Orders words b → a ≡ b
 one_order words a b h k =
-    let rest : h.options ≡ k.options = rest_same (sym h.words_are ∙ k.words_are) in
-    one_options k.options a b (subst (λ (options : List (List ℕ)). AreOptions options a) rest h.options_are) k.options_are
+    let both = sym h.words_are ∙ k.words_are in
+    let command : h.command ≡ k.command = same_commands h.command k.command (first_same both) in
+    let rest : h.options ≡ k.options = rest_same both in
+    one_options k.command k.options a b
+    (subst (λ (c : Command). AreOptions c k.options a) command
+    (subst (λ (options : List (List ℕ)). AreOptions h.command options a) rest h.options_are))
+    k.options_are

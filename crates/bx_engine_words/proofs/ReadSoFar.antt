@@ -4,13 +4,17 @@ use Rattle.std.specs.List.{AllByRecursion, IsDistinct, list_any}
 use Rattle.std.specs.Option.{is_some}
 use Rattle.std.proofs.lemmas.List.{append-nil}
 use Rattle.std.proofs.lemmas.Bool.{or_parts}
+use Rattle.std.specs.Prelude.{MatchOption}
+use Rattle.bx_engine_words.specs.declared.command.Command.{Command}
+use Rattle.bx_engine_words.specs.declared.command.Command.TheVariants as commands
 use Rattle.bx_engine_words.specs.declared.given.Given.{Given}
 use Rattle.bx_engine_words.specs.declared.order.Order.{Order}
 use Rattle.bx_engine_words.specs.declared.setting.NumberOption.{NumberOption}
 use Rattle.bx_engine_words.specs.declared.setting.NumberOption.TheVariants as options
 use Rattle.bx_engine_words.specs.declared.setting.Setting.{Setting}
 use Rattle.bx_engine_words.specs.declared.setting.Setting.TheVariants.{Number, NoCache}
-use Rattle.bx_engine_words.specs.Given.{build_with_given, given_of, is_given, with_setting}
+use Rattle.bx_engine_words.specs.Commands.{command_of, order_of}
+use Rattle.bx_engine_words.specs.Given.{given_of, is_given, order_with_given, with_setting}
 use Rattle.bx_engine_words.specs.Settings.{AreSettings, BeginWith, has_no_cache, is_same, same_option, value_of}
 use Rattle.bx_engine_words.specs.Words.{AreOptions}
 use Rattle.bx_engine_words.proofs.OneSetting.{none_begin, one_beginning}
@@ -37,6 +41,9 @@ given_among : (ss : List Setting) (s : Setting) → is_given (given_of ss) s ≡
 given_among ss (Number options.Workers n) = value_among options.Workers n ss
 given_among ss (Number options.EvalBudget n) = value_among options.EvalBudget n ss
 given_among ss (Number options.ToolBudget n) = value_among options.ToolBudget n ss
+given_among ss (Number options.Keep n) = value_among options.Keep n ss
+given_among ss (Number options.Seed n) = value_among options.Seed n ss
+given_among ss (Number options.Pips n) = value_among options.Pips n ss
 given_among ss NoCache = refl
 
 last_after : (b : Bool) (m n : ℕ) (o p : Option ℕ) → is_some (cond b (Some m) o) ≡ false
@@ -80,26 +87,30 @@ no_cache_last : (ss : List Setting) → has_no_cache (ss ++ NoCache ∷ []) ≡ 
 no_cache_last [] = refl
 no_cache_last (s ∷ ss) = ap (λ b. is_same s NoCache || b) (no_cache_last ss) ∙ or_true (is_same s NoCache)
 
-abbrev all_given : Option ℕ → Option ℕ → Option ℕ → Bool → Given
-all_given w e t c = record { workers = w; eval_budget = e; tool_budget = t; no_cache = c }
+abbrev all_given : (w e t k s p : Option ℕ) → Bool → Given
+all_given w e t k s p c =
+    record { workers = w; eval_budget = e; tool_budget = t; keep = k; seed = s; pips = p; no_cache = c }
 
-same_given : {w v e f t u : Option ℕ} {c d : Bool} → w ≡ v → e ≡ f → t ≡ u → c ≡ d → all_given w e t c ≡ all_given v f u d
-same_given a b c d = cc
+same_given : {w1 w2 e1 e2 t1 t2 k1 k2 s1 s2 p1 p2 : Option ℕ} {c d : Bool} → w1 ≡ w2 → e1 ≡ e2 → t1 ≡ t2 → k1 ≡ k2
+    → s1 ≡ s2 → p1 ≡ p2 → c ≡ d → all_given w1 e1 t1 k1 s1 p1 c ≡ all_given w2 e2 t2 k2 s2 p2 d
+same_given a b c d e f g = cc
 
 given_more : (ss : List Setting) (s : Setting) → is_given (given_of ss) s ≡ false
     → given_of (ss ++ s ∷ []) ≡ with_setting (given_of ss) s
 given_more ss (Number options.Workers n) free =
-    same_given (set_last options.Workers n ss free refl) (set_other options.EvalBudget options.Workers n ss refl)
-    (set_other options.ToolBudget options.Workers n ss refl) (number_cached options.Workers n ss)
+    same_given (set_last options.Workers n ss free refl) (set_other options.EvalBudget options.Workers n ss refl) (set_other options.ToolBudget options.Workers n ss refl) (set_other options.Keep options.Workers n ss refl) (set_other options.Seed options.Workers n ss refl) (set_other options.Pips options.Workers n ss refl) (number_cached options.Workers n ss)
 given_more ss (Number options.EvalBudget n) free =
-    same_given (set_other options.Workers options.EvalBudget n ss refl) (set_last options.EvalBudget n ss free refl)
-    (set_other options.ToolBudget options.EvalBudget n ss refl) (number_cached options.EvalBudget n ss)
+    same_given (set_other options.Workers options.EvalBudget n ss refl) (set_last options.EvalBudget n ss free refl) (set_other options.ToolBudget options.EvalBudget n ss refl) (set_other options.Keep options.EvalBudget n ss refl) (set_other options.Seed options.EvalBudget n ss refl) (set_other options.Pips options.EvalBudget n ss refl) (number_cached options.EvalBudget n ss)
 given_more ss (Number options.ToolBudget n) free =
-    same_given (set_other options.Workers options.ToolBudget n ss refl) (set_other options.EvalBudget options.ToolBudget n ss refl)
-    (set_last options.ToolBudget n ss free refl) (number_cached options.ToolBudget n ss)
+    same_given (set_other options.Workers options.ToolBudget n ss refl) (set_other options.EvalBudget options.ToolBudget n ss refl) (set_last options.ToolBudget n ss free refl) (set_other options.Keep options.ToolBudget n ss refl) (set_other options.Seed options.ToolBudget n ss refl) (set_other options.Pips options.ToolBudget n ss refl) (number_cached options.ToolBudget n ss)
+given_more ss (Number options.Keep n) free =
+    same_given (set_other options.Workers options.Keep n ss refl) (set_other options.EvalBudget options.Keep n ss refl) (set_other options.ToolBudget options.Keep n ss refl) (set_last options.Keep n ss free refl) (set_other options.Seed options.Keep n ss refl) (set_other options.Pips options.Keep n ss refl) (number_cached options.Keep n ss)
+given_more ss (Number options.Seed n) free =
+    same_given (set_other options.Workers options.Seed n ss refl) (set_other options.EvalBudget options.Seed n ss refl) (set_other options.ToolBudget options.Seed n ss refl) (set_other options.Keep options.Seed n ss refl) (set_last options.Seed n ss free refl) (set_other options.Pips options.Seed n ss refl) (number_cached options.Seed n ss)
+given_more ss (Number options.Pips n) free =
+    same_given (set_other options.Workers options.Pips n ss refl) (set_other options.EvalBudget options.Pips n ss refl) (set_other options.ToolBudget options.Pips n ss refl) (set_other options.Keep options.Pips n ss refl) (set_other options.Seed options.Pips n ss refl) (set_last options.Pips n ss free refl) (number_cached options.Pips n ss)
 given_more ss NoCache free =
-    same_given (set_no_cache options.Workers ss) (set_no_cache options.EvalBudget ss) (set_no_cache options.ToolBudget ss)
-    (no_cache_last ss)
+    same_given (set_no_cache options.Workers ss) (set_no_cache options.EvalBudget ss) (set_no_cache options.ToolBudget ss) (set_no_cache options.Keep ss) (set_no_cache options.Seed ss) (set_no_cache options.Pips ss) (no_cache_last ss)
 
 -- ## Each option once
 
@@ -137,20 +148,22 @@ distinct_before (x ∷ ss) s rest h = (in_middle (λ y. is_same x y ≡ false) s
 
 -- ## What was read
 
--- All but the rest of the words were read, as settings of different options, which say this. Settings that the
+-- All but the rest of the words were read, as settings of different options of the command, which say this. Settings that the
 -- words are begin with them.
-pub record ReadSoFar (words rest : List (List ℕ)) (given : Given) : Type 0 where
+pub record ReadSoFar (command : Command) (words rest : List (List ℕ)) (given : Given) : Type 0 where
   pub settings : List Setting
+  pub of_command : AllByRecursion (λ s. command_of s ≡ command) settings
   pub given_is : given ≡ given_of settings
   pub distinct : IsDistinct is_same settings
   pub more : (others : List Setting) → AreSettings rest others → AreSettings words (settings ++ others)
   pub only : (all : List Setting) → AreSettings words all
       → (others : List Setting) × (all ≡ settings ++ others) × AreSettings rest others
 
-pub none_read : (words : List (List ℕ)) (given : Given) → given ≡ given_of [] → ReadSoFar words words given
+pub none_read : (command : Command) (words : List (List ℕ)) (given : Given) → given ≡ given_of [] → ReadSoFar command words words given
 unfolding IsDistinct
-none_read words given is = record {
+none_read command words given is = record {
   settings = [];
+  of_command = tt;
   given_is = is;
   distinct = tt;
   more = λ others h. h;
@@ -169,12 +182,14 @@ next_only rest after s before all (t ∷ ts) b e k =
       subst (λ (r : List (List ℕ)). AreSettings r ts) (sym one.1) k.2,
     )
 
-one_more : (words rest after : List (List ℕ)) (given next : Given) (s : Setting) → ReadSoFar words rest given
-    → BeginWith rest s after → is_given given s ≡ false → next ≡ with_setting given s → ReadSoFar words after next
-one_more words rest after given next s h b free is =
+one_more : (command : Command) (words rest after : List (List ℕ)) (given next : Given) (s : Setting)
+    → ReadSoFar command words rest given → BeginWith rest s after → command_of s ≡ command → is_given given s ≡ false
+    → next ≡ with_setting given s → ReadSoFar command words after next
+one_more command words rest after given next s h b own free is =
     let new : is_given (given_of h.settings) s ≡ false = subst (λ (g : Given). is_given g s ≡ false) h.given_is free in
     record {
       settings = h.settings ++ s ∷ [];
+      of_command = add_last (λ x. command_of x ≡ command) h.settings s h.of_command own;
       given_is = is ∙ ap (λ (g : Given). with_setting g s) h.given_is ∙ sym (given_more h.settings s new);
       distinct = distinct_more h.settings s h.distinct
           (differs_new h.settings s (sym (given_among h.settings s) ∙ new));
@@ -193,17 +208,26 @@ left_begin : (rest : List (List ℕ)) (others : List Setting) → ((s : Setting)
 left_begin rest [] none some h = some h
 left_begin rest (s ∷ others) none some h = none s h.0 h.1
 
-no_setting_left : (words rest : List (List ℕ)) (given : Given) (order : Order) → ReadSoFar words rest given
-    → ((s : Setting) (after : List (List ℕ)) → BeginWith rest s after → ⊥) → (rest ≡ [] → ⊥) → AreOptions words order → ⊥
-no_setting_left words rest given order h none some are =
+no_setting_left : (command : Command) (words rest : List (List ℕ)) (given : Given) (order : Order) → ReadSoFar command words rest given
+    → ((s : Setting) (after : List (List ℕ)) → BeginWith rest s after → ⊥) → (rest ≡ [] → ⊥) → AreOptions command words order → ⊥
+no_setting_left command words rest given order h none some are =
     let o = h.only are.settings are.settings_are in left_begin rest o.0 none some o.2
 
 true_not : (b : Bool) → b ≡ true → b ≡ false → ⊥
 true_not b e f = cc
 
-given_twice : (words rest after : List (List ℕ)) (given : Given) (s : Setting) (order : Order) → ReadSoFar words rest given
-    → BeginWith rest s after → is_given given s ≡ true → AreOptions words order → ⊥
-given_twice words rest after given s order h b twice are =
+-- the setting is of another command
+other_command : (command : Command) (words rest after : List (List ℕ)) (given : Given) (s : Setting) (order : Order)
+    → ReadSoFar command words rest given → BeginWith rest s after → (command_of s ≡ command → ⊥) → AreOptions command words order → ⊥
+other_command command words rest after given s order h b other are =
+    let o = h.only are.settings are.settings_are in
+    let n = next_only rest after s h.settings are.settings o.0 b o.1 o.2 in
+    other (in_middle (λ x. command_of x ≡ command) h.settings s n.0
+    (subst (AllByRecursion (λ (x : Setting). command_of x ≡ command)) n.1 are.of_command))
+
+given_twice : (command : Command) (words rest after : List (List ℕ)) (given : Given) (s : Setting) (order : Order)
+    → ReadSoFar command words rest given → BeginWith rest s after → is_given given s ≡ true → AreOptions command words order → ⊥
+given_twice command words rest after given s order h b twice are =
     let o = h.only are.settings are.settings_are in
     let n = next_only rest after s h.settings are.settings o.0 b o.1 o.2 in
     true_not (is_given given s) twice
@@ -212,13 +236,39 @@ given_twice words rest after given s order h b twice are =
 
 -- ## Where they are
 
-pub all_read : (words rest : List (List ℕ)) (given : Given) (order : Order) → ReadSoFar words rest given → rest ≡ []
-    → order ≡ build_with_given given → AreOptions words order
-all_read words rest given order h none is = record {
+same_order : (command : Command) (ss : List Setting) → order_with_given command (given_of ss) ≡ order_of command ss
+same_order commands.Build ss = refl
+same_order commands.Check ss = refl
+same_order commands.Repair ss = refl
+same_order commands.Trim ss = refl
+same_order commands.Gen ss = refl
+
+-- the settings that were read say this order, if they say one
+order_read : (command : Command) (words rest : List (List ℕ)) (given : Given) (h : ReadSoFar command words rest given)
+    → order_with_given command given ≡ order_of command h.settings
+order_read command words rest given h = ap (order_with_given command) h.given_is ∙ same_order command h.settings
+
+no_more : (rest : List (List ℕ)) (others : List Setting) → rest ≡ [] → AreSettings rest others → others ≡ []
+no_more rest [] e h = refl
+no_more rest (s ∷ others) e h = absurd (none_begin rest s h.0 e h.1)
+
+none_or_some : (order : Order) → ◌≡◌ {A = Option Order} None (Some order) → ⊥
+none_or_some order e = cc
+
+-- nothing is left: the words are options of the order that was read, or of none
+pub all_read : (command : Command) (words rest : List (List ℕ)) (given : Given) (found : Option Order)
+    → ReadSoFar command words rest given → rest ≡ [] → found ≡ order_with_given command given
+    → MatchOption found ((order : Order) → AreOptions command words order → ⊥) (λ order. AreOptions command words order)
+all_read command words rest given None h none is = λ order are.
+    let o = h.only are.settings are.settings_are in
+    let same : are.settings ≡ h.settings = o.1 ∙ ap (λ (ss : List Setting). h.settings ++ ss) (no_more rest o.0 none o.2) ∙ append-nil h.settings in
+    none_or_some order (is ∙ order_read command words rest given h ∙ ap (order_of command) (sym same) ∙ are.order_is)
+all_read command words rest given (Some order) h none is = record {
   settings = h.settings;
   settings_are = subst (AreSettings words) (append-nil h.settings) (h.more [] none);
+  of_command = h.of_command;
   once = h.distinct;
-  order_is = is ∙ ap build_with_given h.given_is;
+  order_is = sym (order_read command words rest given h) ∙ sym is;
 }
 
 -- ## Words in memory
@@ -237,25 +287,31 @@ begins : (rest words : List (List ℕ)) (s : Setting) (after : List (List ℕ)) 
     → BeginWith rest s after
 begins rest words s after e h = subst (λ (ws : List (List ℕ)). BeginWith ws s after) (sym e) h
 
-pub next_is_none : (words rest others : List (List ℕ)) (first : List ℕ) (given : Given) (order : Order)
-    → ReadSoFar words rest given → rest ≡ first ∷ others
-    → ((s : Setting) (after : List (List ℕ)) → BeginWith (first ∷ others) s after → ⊥) → AreOptions words order → ⊥
-next_is_none words rest others first given order h e none are =
-    no_setting_left words rest given order h
+pub next_is_none : (command : Command) (words rest others : List (List ℕ)) (first : List ℕ) (given : Given) (order : Order)
+    → ReadSoFar command words rest given → rest ≡ first ∷ others
+    → ((s : Setting) (after : List (List ℕ)) → BeginWith (first ∷ others) s after → ⊥) → AreOptions command words order → ⊥
+next_is_none command words rest others first given order h e none are =
+    no_setting_left command words rest given order h
     (λ s after b. none s after (begins (first ∷ others) rest s after (sym e) b))
     (λ empty. first_or_none empty e) are
   where
     first_or_none : rest ≡ [] → rest ≡ first ∷ others → ⊥
     first_or_none a b = cc
 
-pub next_is_given : (words rest others after : List (List ℕ)) (first : List ℕ) (given : Given) (s : Setting) (order : Order)
-    → ReadSoFar words rest given → rest ≡ first ∷ others → BeginWith (first ∷ others) s after → is_given given s ≡ true
-    → AreOptions words order → ⊥
-next_is_given words rest others after first given s order h e b twice are =
-    given_twice words rest after given s order h (begins rest (first ∷ others) s after e b) twice are
+pub next_is_other : (command : Command) (words rest others after : List (List ℕ)) (first : List ℕ) (given : Given) (s : Setting)
+    (order : Order) → ReadSoFar command words rest given → rest ≡ first ∷ others → BeginWith (first ∷ others) s after
+    → (command_of s ≡ command → ⊥) → AreOptions command words order → ⊥
+next_is_other command words rest others after first given s order h e b other are =
+    other_command command words rest after given s order h (begins rest (first ∷ others) s after e b) other are
 
-pub next_is_new : (words rest others after : List (List ℕ)) (first : List ℕ) (given next : Given) (s : Setting)
-    → ReadSoFar words rest given → rest ≡ first ∷ others → BeginWith (first ∷ others) s after → is_given given s ≡ false
-    → next ≡ with_setting given s → ReadSoFar words after next
-next_is_new words rest others after first given next s h e b free is =
-    one_more words rest after given next s h (begins rest (first ∷ others) s after e b) free is
+pub next_is_given : (command : Command) (words rest others after : List (List ℕ)) (first : List ℕ) (given : Given) (s : Setting)
+    (order : Order) → ReadSoFar command words rest given → rest ≡ first ∷ others → BeginWith (first ∷ others) s after
+    → is_given given s ≡ true → AreOptions command words order → ⊥
+next_is_given command words rest others after first given s order h e b twice are =
+    given_twice command words rest after given s order h (begins rest (first ∷ others) s after e b) twice are
+
+pub next_is_new : (command : Command) (words rest others after : List (List ℕ)) (first : List ℕ) (given next : Given) (s : Setting)
+    → ReadSoFar command words rest given → rest ≡ first ∷ others → BeginWith (first ∷ others) s after → command_of s ≡ command
+    → is_given given s ≡ false → next ≡ with_setting given s → ReadSoFar command words after next
+next_is_new command words rest others after first given next s h e b own free is =
+    one_more command words rest after given next s h (begins rest (first ∷ others) s after e b) own free is

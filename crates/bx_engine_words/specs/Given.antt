@@ -1,16 +1,20 @@
 -- The settings that were read so far.
-use Rattle.std.specs.Prelude.{◌≡◌, ℕ, List, Bool, true, not, Some, ⊤}
+use Rattle.std.specs.Prelude.{◌≡◌, ℕ, List, Bool, true, not, Option, Some, ⊤}
 use Rattle.std.specs.Fmt.{decimal}
 use Rattle.std.specs.Option.{is_some, unwrap_or}
 use Rattle.bx_engine_words.specs.declared.given.Given.{Given}
 use Rattle.bx_engine_words.specs.declared.order.Order.{Order}
 use Rattle.bx_engine_words.specs.declared.order.Order.TheVariants.{Build}
+use Rattle.bx_engine_words.specs.declared.order.Order.TheVariants as orders
+use Rattle.bx_engine_words.specs.declared.command.Command.{Command}
+use Rattle.bx_engine_words.specs.declared.command.Command.TheVariants as commands
 use Rattle.bx_engine_words.specs.declared.order.TheConstants.{DEFAULT_EVAL_BUDGET, DEFAULT_TOOL_BUDGET}
 use Rattle.bx_engine_words.specs.declared.order.TheConstants.{DEFAULT_WORKERS}
 use Rattle.bx_engine_words.specs.declared.setting.NumberOption.{NumberOption}
 use Rattle.bx_engine_words.specs.declared.setting.NumberOption.TheVariants as options
 use Rattle.bx_engine_words.specs.declared.setting.Setting.{Setting}
 use Rattle.bx_engine_words.specs.declared.setting.Setting.TheVariants.{Number, NoCache}
+use Rattle.bx_engine_words.specs.Commands.{trim_to, workload}
 use Rattle.bx_engine_words.specs.Settings.{IsValue, has_no_cache, option_text, value_of}
 
 -- what these settings say
@@ -19,6 +23,9 @@ given_of settings = record {
   workers = value_of options.Workers settings;
   eval_budget = value_of options.EvalBudget settings;
   tool_budget = value_of options.ToolBudget settings;
+  keep = value_of options.Keep settings;
+  seed = value_of options.Seed settings;
+  pips = value_of options.Pips settings;
   no_cache = has_no_cache settings;
 }
 
@@ -27,34 +34,20 @@ abbrev pub is_given : Given → Setting → Bool
 is_given given (Number options.Workers n) = is_some given.workers
 is_given given (Number options.EvalBudget n) = is_some given.eval_budget
 is_given given (Number options.ToolBudget n) = is_some given.tool_budget
+is_given given (Number options.Keep n) = is_some given.keep
+is_given given (Number options.Seed n) = is_some given.seed
+is_given given (Number options.Pips n) = is_some given.pips
 is_given given NoCache = given.no_cache
 
 -- one setting more
 abbrev pub with_setting : Given → Setting → Given
-with_setting given (Number options.Workers n) = record {
-  workers = Some n;
-  eval_budget = given.eval_budget;
-  tool_budget = given.tool_budget;
-  no_cache = given.no_cache;
-}
-with_setting given (Number options.EvalBudget n) = record {
-  workers = given.workers;
-  eval_budget = Some n;
-  tool_budget = given.tool_budget;
-  no_cache = given.no_cache;
-}
-with_setting given (Number options.ToolBudget n) = record {
-  workers = given.workers;
-  eval_budget = given.eval_budget;
-  tool_budget = Some n;
-  no_cache = given.no_cache;
-}
-with_setting given NoCache = record {
-  workers = given.workers;
-  eval_budget = given.eval_budget;
-  tool_budget = given.tool_budget;
-  no_cache = true;
-}
+with_setting given (Number options.Workers n) = record given { workers = Some n }
+with_setting given (Number options.EvalBudget n) = record given { eval_budget = Some n }
+with_setting given (Number options.ToolBudget n) = record given { tool_budget = Some n }
+with_setting given (Number options.Keep n) = record given { keep = Some n }
+with_setting given (Number options.Seed n) = record given { seed = Some n }
+with_setting given (Number options.Pips n) = record given { pips = Some n }
+with_setting given NoCache = record given { no_cache = true }
 
 -- the two texts are an option and its value
 pub record IsNumber (name text : List ℕ) (option : NumberOption) (n : ℕ) : Type 0 where
@@ -77,3 +70,11 @@ abbrev pub build_with_given : Given → Order
 build_with_given given =
     Build (unwrap_or given.workers DEFAULT_WORKERS) (not given.no_cache)
     (unwrap_or given.eval_budget DEFAULT_EVAL_BUDGET) (unwrap_or given.tool_budget DEFAULT_TOOL_BUDGET)
+
+-- the order of a command with these settings, if none that it needs is missing
+abbrev pub order_with_given : Command → Given → Option Order
+order_with_given commands.Build given = Some (build_with_given given)
+order_with_given commands.Check given = Some orders.Check
+order_with_given commands.Repair given = Some orders.Repair
+order_with_given commands.Trim given = trim_to given.keep
+order_with_given commands.Gen given = workload given.seed given.pips

@@ -1,5 +1,5 @@
--- The settings of a build: an option with its value, in one word or in two.
-use Rattle.std.specs.Prelude.{◌≡◌, ℕ, ◌≤◌, List, [], ◌∷◌, ◌++◌, codes, ◌⊎◌}
+-- The settings of a command: an option with its value, in one word or in two.
+use Rattle.std.specs.Prelude.{◌≡◌, ℕ, ◌≤◌, ◌^◌, ◌-◌, List, [], ◌∷◌, ◌++◌, codes, ◌⊎◌}
 use Rattle.std.specs.Prelude.{Bool, true, false, not, if◌then◌else◌}
 use Rattle.std.specs.Prelude.{Option, Some, None, length, nat_lt, ◌||◌, ◌&&◌, ◌==◌}
 use Rattle.std.specs.Fmt.{decimal}
@@ -22,17 +22,35 @@ abbrev pub option_text : NumberOption → List ℕ
 option_text options.Workers = codes "--workers"
 option_text options.EvalBudget = codes "--eval-budget"
 option_text options.ToolBudget = codes "--tool-budget"
+option_text options.Keep = codes "--keep"
+option_text options.Seed = codes "--seed"
+option_text options.Pips = codes "--pips"
+
+-- the least value of an option
+abbrev pub least : NumberOption → ℕ
+least options.Workers = 1
+least options.EvalBudget = 1
+least options.ToolBudget = 1
+least options.Keep = 0
+least options.Seed = 0
+least options.Pips = 1
 
 -- the greatest value of an option
 abbrev pub greatest : NumberOption → ℕ
 greatest options.Workers = MAX_WORKERS
 greatest options.EvalBudget = MAX_EVAL_BUDGET
 greatest options.ToolBudget = MAX_TOOL_BUDGET
+greatest options.Keep = 64
+greatest options.Seed = 2 ^ 64 - 1
+greatest options.Pips = 16384
 
 abbrev pub same_option : NumberOption → NumberOption → Bool
 same_option options.Workers options.Workers = true
 same_option options.EvalBudget options.EvalBudget = true
 same_option options.ToolBudget options.ToolBudget = true
+same_option options.Keep options.Keep = true
+same_option options.Seed options.Seed = true
+same_option options.Pips options.Pips = true
 same_option _ _ = false
 
 -- the text begins with a plus, or with a zero before something else
@@ -44,7 +62,7 @@ odd_start (b ∷ bs) = b == 43 || (b == 48 && nat_lt 0 (length bs))
 
 -- the number is a value of the option
 pub record IsValue (option : NumberOption) (n : ℕ) : Type 0 where
-  pub least : 1 ≤ n
+  pub at_least : least option ≤ n
   pub most : n ≤ greatest option
 
 -- The words begin with this setting, and these come after it. A number is written in decimal digits without

@@ -1,19 +1,44 @@
 -- Which words are a command.
-use Rattle.std.specs.Prelude.{◌≡◌, ℕ, List, ◌∷◌, codes}
-use Rattle.std.specs.List.{IsDistinct}
+use Rattle.std.specs.Prelude.{◌≡◌, ℕ, List, ◌∷◌, Some, ⊤}
+use Rattle.std.specs.List.{AllByRecursion, IsDistinct}
+use Rattle.bx_engine_words.specs.declared.command.Command.{Command}
 use Rattle.bx_engine_words.specs.declared.order.Order.{Order}
+use Rattle.bx_engine_words.specs.declared.order.Order.TheVariants as orders
 use Rattle.bx_engine_words.specs.declared.setting.Setting.{Setting}
-use Rattle.bx_engine_words.specs.Settings.{AreSettings, build_of, is_same}
+use Rattle.bx_engine_words.specs.Commands.{command_of, command_text, order_of}
+use Rattle.bx_engine_words.specs.Settings.{AreSettings, is_same}
 
--- the words are settings of a build, each option once at most
-pub record AreOptions (words : List (List ℕ)) (order : Order) : Type 0 where
+-- the words are settings that the command has, each option once at most, and none that it needs is missing
+pub record AreOptions (command : Command) (words : List (List ℕ)) (order : Order) : Type 0 where
   pub settings : List Setting
   pub settings_are : AreSettings words settings
+  pub of_command : AllByRecursion (λ s. command_of s ≡ command) settings
   pub once : IsDistinct is_same settings
-  pub order_is : order ≡ build_of settings
+  pub order_is : order_of command settings ≡ Some order
 
--- The words, each by its bytes, are this order: the word `build`, and options of a build.
+-- The words, each by its bytes, are this order: the word of a command, and options of that.
 pub record Orders (words : List (List ℕ)) (order : Order) : Type 0 where
+  pub command : Command
   pub options : List (List ℕ)
-  pub words_are : words ≡ codes "build" ∷ options
-  pub options_are : AreOptions options order
+  pub words_are : words ≡ command_text command ∷ options
+  pub options_are : AreOptions command options order
+
+-- the order is to build
+abbrev pub IsBuild : Order → Type 0
+IsBuild (orders.Build workers cached eval_budget tool_budget) = ⊤
+IsBuild orders.Check = ⊥
+IsBuild orders.Repair = ⊥
+IsBuild (orders.Trim keep) = ⊥
+IsBuild (orders.Gen seed pips) = ⊥
+
+-- the words are this order, which is to build
+abbrev pub OrdersBuild : List (List ℕ) → Order → Type 0
+OrdersBuild words order = Orders words order × IsBuild order
+
+-- the order is to check, to repair or to trim the store
+abbrev pub IsCare : Order → Type 0
+IsCare (orders.Build workers cached eval_budget tool_budget) = ⊥
+IsCare orders.Check = ⊤
+IsCare orders.Repair = ⊤
+IsCare (orders.Trim keep) = ⊤
+IsCare (orders.Gen seed pips) = ⊥

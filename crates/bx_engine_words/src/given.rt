@@ -11,6 +11,9 @@ pub(crate) struct Given {
     pub workers: Option<u32>,
     pub eval_budget: Option<u64>,
     pub tool_budget: Option<u64>,
+    pub keep: Option<u32>,
+    pub seed: Option<u64>,
+    pub pips: Option<u32>,
     pub no_cache: bool,
 }
 
@@ -23,6 +26,9 @@ impl Given {
             workers: None,
             eval_budget: None,
             tool_budget: None,
+            keep: None,
+            seed: None,
+            pips: None,
             no_cache: false,
         }
     }
@@ -35,6 +41,9 @@ impl Given {
             Setting::Number(NumberOption::Workers, _) => self.workers.is_some(),
             Setting::Number(NumberOption::EvalBudget, _) => self.eval_budget.is_some(),
             Setting::Number(NumberOption::ToolBudget, _) => self.tool_budget.is_some(),
+            Setting::Number(NumberOption::Keep, _) => self.keep.is_some(),
+            Setting::Number(NumberOption::Seed, _) => self.seed.is_some(),
+            Setting::Number(NumberOption::Pips, _) => self.pips.is_some(),
             Setting::NoCache => self.no_cache,
         }
     }
@@ -55,6 +64,18 @@ impl Given {
             },
             Setting::Number(NumberOption::ToolBudget, number) => Given {
                 tool_budget: Some(number),
+                ..self
+            },
+            Setting::Number(NumberOption::Keep, number) => Given {
+                keep: Some(number as u32),
+                ..self
+            },
+            Setting::Number(NumberOption::Seed, number) => Given {
+                seed: Some(number),
+                ..self
+            },
+            Setting::Number(NumberOption::Pips, number) => Given {
+                pips: Some(number as u32),
                 ..self
             },
             Setting::NoCache => Given {

@@ -1,10 +1,11 @@
 //! The command line parser.
 //!
-//! `specs/Words.antt` has the arguments of each command as a grammar: a build is the word `build` with settings,
-//! each of one word or two, in any order. This crate depends on std alone. It carries the promise that arguments
+//! `specs/Words.antt` has the arguments of each command as a grammar: its word with settings, each of one word or
+//! two, in any order. This crate depends on std alone. It carries the promise that arguments
 //! are parsed as the one command that they are, and rejected exactly where they are none.
 #![tactic(auto)]
 
+mod command;
 mod given;
 mod laws;
 mod order;
@@ -13,7 +14,7 @@ mod words;
 
 pub use laws::one_order;
 pub use order::{
-    DEFAULT_EVAL_BUDGET, DEFAULT_TOOL_BUDGET, DEFAULT_WORKERS, MAX_EVAL_BUDGET, MAX_TOOL_BUDGET,
-    MAX_WORKERS, Order,
+    DEFAULT_EVAL_BUDGET, DEFAULT_TOOL_BUDGET, DEFAULT_WORKERS, MAX_EVAL_BUDGET, MAX_GENERATED_PIPS,
+    MAX_KEPT, MAX_TOOL_BUDGET, MAX_WORKERS, Order,
 };
 pub use words::{WordFault, read_words};

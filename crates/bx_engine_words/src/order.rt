@@ -18,6 +18,12 @@ pub const MAX_EVAL_BUDGET: u64 = 1_000_000_000;
 /// The greatest number of steps that one run of a tool may be given.
 pub const MAX_TOOL_BUDGET: u64 = 10_000_000;
 
+/// The greatest number of selectors that trimming leaves of a list.
+pub const MAX_KEPT: u32 = 64;
+
+/// The greatest number of pips of a generated workload.
+pub const MAX_GENERATED_PIPS: u32 = 16_384;
+
 /// What a call is to do.
 #[derive(Clone, Copy, Debug, PartialEq, Eq)]
 pub enum Order {
@@ -31,5 +37,21 @@ pub enum Order {
         eval_budget: u64,
         /// How many steps one run of a tool may take, from 1 to 10,000,000.
         tool_budget: u64,
+    },
+    /// Tells whether the store is honest, and what in it is not.
+    Check,
+    /// Drops from the store each entry that is not honest, and each name that is not well-formed.
+    Repair,
+    /// Drops from the store all but what the first selectors of each list lead to.
+    Trim {
+        /// How many selectors of each list stay, from 0 to 64.
+        keep: u32,
+    },
+    /// Writes the bundle of a large workload.
+    Gen {
+        /// What its numbers begin with.
+        seed: u64,
+        /// How many pips it has, from 1 to 16,384.
+        pips: u32,
     },
 }

@@ -1,24 +1,29 @@
-//! The settings of a build, each of one word or two.
+//! The settings of a command, each of one word or two.
 
 ghost use Rattle.std.specs.Prelude.{◌≡◌, ◌<◌, ◌^◌, ◌∷◌, ◌↔◌, ℕ, IsTrue, List, MatchOption, map, string_bytes};
 ghost use Rattle.std.specs.Fmt.{decimal};
+ghost use Rattle.bx_engine_words.specs.Commands.{command_of, command_of_option};
 ghost use Rattle.bx_engine_words.specs.Given.{IsNumber, IsNumberSetting};
 ghost use Rattle.bx_engine_words.specs.Settings.{BeginWith, IsValue, odd_start, option_text};
-ghost use Rattle.bx_engine_words.specs.Settings.{greatest as greatest_of};
+ghost use Rattle.bx_engine_words.specs.Settings.{greatest as greatest_of, least as least_of};
 ghost use Rattle.bx_engine_words.specs.declared.setting.NumberOption.{NumberOption as AnyOption};
 ghost use Rattle.bx_engine_words.specs.declared.setting.Setting.{Setting as AnySetting};
 
-use crate::order::{MAX_EVAL_BUDGET, MAX_TOOL_BUDGET, MAX_WORKERS};
+use crate::command::Command;
+use crate::order::{MAX_EVAL_BUDGET, MAX_GENERATED_PIPS, MAX_KEPT, MAX_TOOL_BUDGET, MAX_WORKERS};
 
-/// An option of a build whose value is a number.
+/// An option whose value is a number.
 #[derive(Clone, Copy, Debug, PartialEq, Eq)]
 pub(crate) enum NumberOption {
     Workers,
     EvalBudget,
     ToolBudget,
+    Keep,
+    Seed,
+    Pips,
 }
 
-/// An option of a build with its value, if it has one.
+/// An option with its value, if it has one.
 #[derive(Clone, Copy, Debug, PartialEq, Eq)]
 pub(crate) enum Setting {
     Number(NumberOption, u64),
@@ -36,7 +41,36 @@ impl NumberOption {
             "--workers" => Some(NumberOption::Workers),
             "--eval-budget" => Some(NumberOption::EvalBudget),
             "--tool-budget" => Some(NumberOption::ToolBudget),
+            "--keep" => Some(NumberOption::Keep),
+            "--seed" => Some(NumberOption::Seed),
+            "--pips" => Some(NumberOption::Pips),
             _ => None,
+        }
+    }
+
+    /// The command that has the option.
+    fn command(self) -> Command
+        ensures { result ≡ command_of_option self }
+    {
+        match self {
+            NumberOption::Workers | NumberOption::EvalBudget | NumberOption::ToolBudget => {
+                Command::Build
+            }
+            NumberOption::Keep => Command::Trim,
+            NumberOption::Seed | NumberOption::Pips => Command::Gen,
+        }
+    }
+
+    /// The least value.
+    fn least(self) -> u64
+        ensures { result ≡ least_of self }
+    {
+        match self {
+            NumberOption::Workers
+            | NumberOption::EvalBudget
+            | NumberOption::ToolBudget
+            | NumberOption::Pips => 1,
+            NumberOption::Keep | NumberOption::Seed => 0,
         }
     }
 
@@ -48,6 +82,9 @@ impl NumberOption {
             NumberOption::Workers => MAX_WORKERS as u64,
             NumberOption::EvalBudget => MAX_EVAL_BUDGET,
             NumberOption::ToolBudget => MAX_TOOL_BUDGET,
+            NumberOption::Keep => MAX_KEPT as u64,
+            NumberOption::Seed => u64::MAX,
+            NumberOption::Pips => MAX_GENERATED_PIPS as u64,
         }
     }
 
@@ -55,7 +92,19 @@ impl NumberOption {
     fn has_value(self, number: u64) -> bool
         ensures { IsTrue result ↔ IsValue self number }
     {
-        1 <= number && number <= self.greatest()
+        self.least() <= number && number <= self.greatest()
+    }
+}
+
+impl Setting {
+    /// The command that has the option.
+    pub(crate) fn command(self) -> Command
+        ensures { result ≡ command_of self }
+    {
+        match self {
+            Setting::Number(option, _) => option.command(),
+            Setting::NoCache => Command::Build,
+        }
     }
 }
 

@@ -9,7 +9,7 @@ ghost use Rattle.bx_io.specs.Holdings.{AreNames, Holdings};
 ghost use Rattle.bx_engine.specs.Beyond.{GoesBeyond};
 ghost use Rattle.bx_engine.specs.Calls.{call_of, change_of, given_of, written_of};
 ghost use Rattle.bx_engine.specs.Headline.{KeepsHeadline};
-ghost use Rattle.bx_engine_words.specs.Words.{Orders};
+ghost use Rattle.bx_engine_words.specs.Words.{Orders, OrdersBuild};
 
 use bx_engine::{Status, command};
 use bx_io::{Keeper, OpenGate, Sink, Source};
@@ -61,7 +61,7 @@ fn run<H: Threads + Wait + Sync>(
 ) -> Result<Done, AllocError>
     ghost first: { List ℕ × Holdings }
     requires { AreNames first.1 }
-    ensures headline { IfOk result (λ done. KeepsHeadline (Orders (map string_bytes words.now)) (call_of done.status
+    ensures headline { IfOk result (λ done. KeepsHeadline (OrdersBuild (map string_bytes words.now)) (call_of done.status
         (given_of [] (⟦<StdSource<Stdin> as Source>⟧.given done.source) (Some first.0)
         (⟦<StdSource<Stdin> as Source>⟧.left done.source) (⟦<StdSource<Stdin> as Source>⟧.ended done.source) 0
         (⟦<StdSource<Stdin> as Source>⟧.faults done.source))

@@ -23,8 +23,8 @@ pub enum Fetched {
     Memory,
 }
 
-// Bytes that were held under a digest, if it is theirs.
-fn checked(alloc: Global, bytes: Vec<u8>, digest: &Digest) -> Fetched
+/// Bytes that were held under a digest, if it is theirs: they are hashed.
+pub fn content_of(alloc: Global, bytes: Vec<u8>, digest: &Digest) -> Fetched
     ensures { Checks bytes.items digest.now result }
 {
     match Blob::hashed(alloc, bytes) {
@@ -57,7 +57,7 @@ pub fn get_blob<R: KeepReader>(alloc: Global, reader: &mut R, digest: &Digest) -
         return Fetched::Memory;
     };
     match reader.get(alloc, name.as_str()) {
-        Got::Found(bytes) => checked(alloc, bytes, digest),
+        Got::Found(bytes) => content_of(alloc, bytes, digest),
         Got::None => Fetched::NotWell,
         Got::Failed => Fetched::Fault,
         Got::Memory => Fetched::Memory,

@@ -23,9 +23,9 @@ pub enum FetchedEntry {
     Memory,
 }
 
-// The entry of a text that was held under a strong digest, if it is of that digest.
+/// The entry of a text that was held under a strong digest, if it is of that digest.
 #[tactic(auto, using(crate::proofs::HeldEntries::another_entry, crate::proofs::HeldEntries::no_entry))]
-fn checked(alloc: Global, bytes: Vec<u8>, strong: &Digest) -> FetchedEntry
+pub fn entry_of(alloc: Global, bytes: Vec<u8>, strong: &Digest) -> FetchedEntry
     ensures { ChecksEntry bytes.items strong.now result }
 {
     match read_entry(alloc, bytes.as_slice()) {
@@ -59,7 +59,7 @@ pub fn get_entry<R: KeepReader>(alloc: Global, reader: &mut R, strong: &Digest) 
         return FetchedEntry::Memory;
     };
     match reader.get(alloc, name.as_str()) {
-        Got::Found(bytes) => checked(alloc, bytes, strong),
+        Got::Found(bytes) => entry_of(alloc, bytes, strong),
         Got::None => FetchedEntry::NotWell,
         Got::Failed => FetchedEntry::Fault,
         Got::Memory => FetchedEntry::Memory,

@@ -10,6 +10,6 @@ mod content;
 mod entries;
 mod names;
 
-pub use content::{Fetched, get_blob, put_blob};
-pub use entries::{FetchedEntry, get_entry};
+pub use content::{Fetched, content_of, get_blob, put_blob};
+pub use entries::{FetchedEntry, entry_of, get_entry};
 pub use names::{blob_name, entry_name, list_name};

@@ -1,5 +1,5 @@
 -- A text has the seal that fits exactly where it is its body with that seal.
-use Rattle.std.proofs.Common.{◌≡◌, ℕ, ◌-◌, ◌<◌, cond, List, [], ◌∷◌, ◌++◌, length, take, drop, Option, Some, None, refl, sym, ap, ◌∙◌, arith, length-append}
+use Rattle.std.proofs.Common.{◌≡◌, ℕ, ◌-◌, ◌<◌, ◌≤◌, cond, List, [], ◌∷◌, ◌++◌, length, take, drop, Option, Some, None, refl, sym, ap, ◌∙◌, arith, length-append}
 use Rattle.std.specs.Str.{bytes_eq}
 use Rattle.std.proofs.lemmas.List.{take_at, drop_at, take-append-drop}
 use Rattle.std.proofs.lemmas.Option.{cond_some}
@@ -58,3 +58,12 @@ module _ (text body line : List ℕ) (first : body ≡ take (length text - 70) t
           let prefix : take (length text - 70) text ≡ b = ap (take (length text - 70)) is ∙ take_at b (seal_line b) (length text - 70) size in
           let back : drop (length text - 70) text ≡ seal_line b = ap (drop (length text - 70)) is ∙ drop_at b (seal_line b) (length text - 70) size in
           second ∙ back ∙ ap seal_line (sym (first ∙ prefix))
+
+-- ## A text with its seal
+
+pub sealed_long : (text body : List ℕ) → text ≡ sealed body → 70 ≤ length text
+sealed_long text body is = omega (arith, ap length is, length-append body (seal_line body), seal_bytes body)
+
+-- what comes before the line of the seal
+pub sealed_body : (text body : List ℕ) → text ≡ sealed body → take (length text - 70) text ≡ body
+sealed_body text body is = ap body_of is ∙ body_again body

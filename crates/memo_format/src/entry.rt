@@ -1,18 +1,19 @@
 //! Entries and their text.
 ghost use Rattle.std.specs.Prelude.{◌≡◌, ◌++◌, Err, IfOk, OnOk, Some, codes};
+ghost use Rattle.sha2.specs.Sha256.{sha256};
 ghost use Rattle.prints.specs.Lines.{begins, rises};
 ghost use Rattle.std.proofs.Common.{refl};
 ghost use Rattle.prints.specs.Reading.{Gives, Takes};
 ghost use Rattle.memo_format.specs.Answers.{ReadsForm};
 ghost use Rattle.memo_format.specs.declared.entry.Entry.{Entry as AnyEntry};
-ghost use Rattle.memo_format.specs.Entries.{IsEntry, IsOutput, OutputsRise, body_entry, entry_text};
+ghost use Rattle.memo_format.specs.Entries.{IsEntry, IsOutput, OutputsRise, body_entry, entry_body, entry_text};
 ghost use Rattle.memo_format.specs.Entries.{output_at};
 ghost use Rattle.memo_format.specs.Entries.{output_before, output_line, outputs_at, read_entry_text};
 ghost use Rattle.memo_format.specs.StoredForms.{output_form};
 
 use crate::fault::FormatFault;
-use crate::seal::{seal, unseal};
-use bx_digest::Digest;
+use crate::seal::{SEAL_BYTES, seal, unseal};
+use bx_digest::{Digest, digest_of};
 use bx_tree::Path;
 use prints::{Cursor, Line, PrintFault, append_digest, append_lines, append_path, read_lines};
 use std::alloc::{AllocError, Global};
@@ -125,6 +126,15 @@ pub fn write_entry(alloc: Global, entry: &Entry) -> Result<Vec<u8>, AllocError>
     append_lines::<OutputLine, OutputLine, OutputKind>(alloc, &mut text, entry.outputs.lines())?;
     seal(alloc, &mut text)?;
     Ok(text)
+}
+
+/// The digest that the seal of an entry names: that of its text before the line of the seal.
+pub fn seal_of(alloc: Global, entry: &Entry) -> Result<Digest, AllocError>
+    requires { OutputsRise entry.now.outputs }
+    ensures { IfOk result (λ digest. digest ≡ sha256 (entry_body entry.now)) }
+{
+    let text = write_entry(alloc, entry)?;
+    Ok(digest_of(&text[..text.len() - SEAL_BYTES]))
 }
 
 // The outputs, which rise by path.

@@ -16,7 +16,7 @@ mod seal;
 mod selector;
 
 pub use bx_tree::Memory;
-pub use entry::{Entry, OutputLine, OutputLines, read_entry, write_entry};
+pub use entry::{Entry, OutputLine, OutputLines, read_entry, seal_of, write_entry};
 pub use fault::FormatFault;
 pub use found::Found;
 pub use laws::{entry_texts, selector_texts};

@@ -6,7 +6,9 @@ mod over_stores;
 
 use bx_engine::command;
 use bx_io::{FailKeeper, Gate, Keeper, MemKeeper, MemSink, MemSource};
-pub use over_stores::{ALL_HIT, ALL_RAN, FIRST_CALLS, are_built, is_built, left_after};
+pub use over_stores::{
+    ALL_HIT, ALL_RAN, FIRST_CALLS, TWO_RAN, are_built, is_built, is_rebuilt, left_after,
+};
 use std::alloc::{AllocError, Global};
 use std::sync::Wait;
 use std::sync::atomic::AtomicU32;
@@ -96,8 +98,10 @@ fn add_answer(
     seen.extend_from_slice(notes.taken())?;
     seen.extend_from_slice(match code {
         0 => b"status 0",
+        1 => b"status 1",
         5 => b"status 5",
         6 => b"status 6",
+        8 => b"status 8",
         _ => b"status ?",
     })
 }
@@ -117,6 +121,36 @@ fn add_call<H: Threads + Wait + Sync, K: Keeper>(
     let mut notes = sink_of(alloc, streams, streams.notes_fail)?;
     let status = command(
         rt, alloc, &words, source, &mut out, &mut notes, keeper, gate,
+    );
+    add_answer(seen, &out, &notes, status.code())
+}
+
+/// Adds what a command of these words comes to, which takes no input: the output, `notes ` and the notes, and `status ` and
+/// the status.
+pub fn add_command<H: Threads + Wait + Sync, K: Keeper>(
+    rt: &H,
+    alloc: Global,
+    texts: &[&str],
+    keeper: &mut K,
+    seen: &mut Vec<u8>,
+) -> Result<(), AllocError> {
+    let mut words = Vec::new(alloc);
+    for text in texts {
+        words.push(String::from_str(alloc, text)?)?;
+    }
+    let mut source = source_of(alloc, b"", NO_FAULTS)?;
+    let mut out = sink_of(alloc, NO_FAULTS, 0)?;
+    let mut notes = sink_of(alloc, NO_FAULTS, 0)?;
+    let gate = CountGate::new();
+    let status = command(
+        rt,
+        alloc,
+        &words,
+        &mut source,
+        &mut out,
+        &mut notes,
+        keeper,
+        &gate,
     );
     add_answer(seen, &out, &notes, status.code())
 }

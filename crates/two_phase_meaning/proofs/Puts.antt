@@ -79,7 +79,7 @@ Grows S T = (x : List ℕ) → HoldsBlob S x → HoldsBlob T x
 still_content : (S T : Holdings) → Grows S T → (digest text : List ℕ) → IsContent S digest text → IsContent T digest text
 still_content S T grows digest text h = record { held = grows text h.held; digest_is = h.digest_is }
 
-still_honest : (S T : Holdings) → Grows S T → (e : Entry) → HonestEntry S e → HonestEntry T e
+pub still_honest : (S T : Holdings) → Grows S T → (e : Entry) → HonestEntry S e → HonestEntry T e
 still_honest S T grows e h = record {
   desc = h.desc;
   asks = h.asks;

@@ -1,0 +1,14 @@
+pub mod Dropping
+pub mod Repaired
+pub mod Named
+pub mod Trimmed
+pub mod Planned
+pub mod Sets
+pub mod NamedDigests
+pub mod Counted
+pub mod Listed
+pub mod Found
+pub mod Plans
+pub mod NamedTexts
+pub mod Cutting
+pub mod CareDone
