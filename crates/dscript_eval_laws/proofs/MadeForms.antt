@@ -585,7 +585,7 @@ module _ (F : ℕ → ℕ → Type 0) where
         does_kept (tree.If c s other) pips =
             way_after pips _ (λ now grows. bound F Plain Way (IsMade F) IsWayMade now _ _ (value_kept c now)
             (λ later x on made. choice Way IsWayMade later (is_true x) _ _ (does_kept s later) (otherwise_kept other later)))
-        does_kept (tree.For n list s) pips =
+        does_kept (tree.For kind n list s) pips =
             way_after pips _ (λ now grows. bound F Plain Way (IsMade F) IsWayMade now _ _ (value_kept list now)
             (λ later xs on made. bound F (List Plain) Way (AreMade F) IsWayMade later _ _
             (answer F (List Plain) (AreMade F) later (items_in xs) (λ last g. in_list F last xs (still_made F later last g xs made)))

@@ -320,7 +320,7 @@ module _ (E : Stop → Type 0) (act act' : Acts) (opens : (a : Act) → Alike E 
       does_alike (tree.If c s other) =
           both E _ _ _ _ _ _ (same E _ step)
           (bound E _ _ _ _ _ _ (value_alike c) (λ x. choice E _ _ _ _ _ _ (does_alike s) (otherwise_alike other)))
-      does_alike (tree.For n list s) =
+      does_alike (tree.For kind n list s) =
           both E _ _ _ _ _ _ (same E _ step) (bound E _ _ _ _ _ _ (value_alike list)
           (λ xs. bound E _ _ _ _ _ _ (same E _ (answered (items_in xs)))
           (λ items. turns_alike n (does p act s) (does p act' s) (does_alike s) items)))

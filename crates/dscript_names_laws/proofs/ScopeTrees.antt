@@ -367,7 +367,7 @@ module _ (world : World) (table : List FunctionData) where
       }
       stmt_scopes W first new (tree.For kind x list s) = record {
         at = λ here. new_scopes world table
-            (λ n. bind_expr world site list >>= λ l. within (loop_local kind x n) (within (stmt_locals s) (bind_stmt world site s)) >>= λ b. gives (bound.For n l b))
+            (λ n. bind_expr world site list >>= λ l. within (loop_local kind x n) (within (stmt_locals s) (bind_stmt world site s)) >>= λ b. gives (bound.For kind n l b))
             W first new here
             (λ now same kind' low. step world table ((expr_scopes W first list).at now)
             (λ later l us on el. step world table

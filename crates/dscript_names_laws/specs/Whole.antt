@@ -87,7 +87,7 @@ unfoldable mutual
   stmt_uses (Let n t e) = Sets n ∷ maybe_uses e
   stmt_uses (Assign n e) = Sets n ∷ uses_of e
   stmt_uses (If c s other) = uses_of c ++ stmt_uses s ++ else_uses other
-  stmt_uses (For n list s) = Sets n ∷ uses_of list ++ stmt_uses s
+  stmt_uses (For kind n list s) = Sets n ∷ uses_of list ++ stmt_uses s
   stmt_uses (Return e) = maybe_uses e
   stmt_uses (Value e) = uses_of e
   stmt_uses (Block ss) = stmts_uses ss
