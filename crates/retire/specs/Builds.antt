@@ -1,16 +1,21 @@
 -- What a build over a store gives and leaves.
-use Rattle.std.specs.Prelude.{◌≡◌, ℕ, ◌+◌, ◌≤◌, Bool, true, false, List, [], ◌∷◌, Option, Some, IsSome, ⊤}
+use Rattle.std.specs.Prelude.{◌≡◌, ◌⊎◌, ℕ, ◌+◌, ◌≤◌, Bool, true, false, List, [], ◌∷◌, length, Option, Some, IsSome, ⊤}
+use Rattle.bx_tree.specs.Members.{Has}
 use Rattle.bx_tree.specs.Trees.{Files}
 use Rattle.bx_io.specs.Holdings.{Holdings, StoreTold, held_in}
+use Rattle.observed.specs.declared.ask.Ask.{Ask}
+use Rattle.observed.specs.declared.access.Answer.{Answer}
+use Rattle.pip_model_types.specs.declared.desc.Desc.{Desc}
 use Rattle.pip_model_types.specs.declared.pip.Pip.{Pip}
 use Rattle.run_record.specs.Facts.{Facts}
 use Rattle.violations.specs.declared.verdict.Verdict.{Verdict}
 use Rattle.run_record.specs.Collisions.{NoCollision}
 use Rattle.two_phase_meaning.specs.Honest.{Honest}
+use Rattle.two_phase_meaning.specs.Usable.{Usable}
 use Rattle.one_thread.specs.OneThread.{one_thread, outputs_of, run_count, verdicts_of}
 use Rattle.two_phase.specs.Putting.{LeavesHonest}
 use Rattle.retire_compared.specs.Compared.{Compared}
-use Rattle.retire.specs.Runs.{AddsSuccesses, AllUsable, IsOfSuccess}
+use Rattle.retire.specs.Runs.{AddsSuccesses, AllUsable, IsOfSuccess, RunsAs, SucceedsAt}
 use Rattle.retire.specs.Saving.{PutsFirst}
 
 -- These are the verdicts and the files of the sequential build, and all processes that are not skipped
@@ -56,3 +61,10 @@ pub record LeavesFair (pips : List Pip) (tree : Files) (budget : ℕ) (held : Ho
 -- For each process that succeeds something is usable in the store that is left.
 abbrev pub LeavesUsable : List Pip → Files → ℕ → StoreTold → Type 0
 LeavesUsable pips tree budget now = (S : Holdings) → held_in now ≡ Some S → AllUsable pips tree budget S
+
+-- For each process that succeeds something is usable in the store that is left, but for at most so many of them.
+pub record LeavesUsableBut (pips : List Pip) (tree : Files) (budget : ℕ) (now : StoreTold) (faults : ℕ) : Type 0 where
+  pub without : List ℕ
+  pub few : length without ≤ faults
+  pub usable : (S : Holdings) → held_in now ≡ Some S → (i : ℕ) (d : Desc) (see : Ask → Answer)
+      → RunsAs pips tree budget i d see → SucceedsAt pips tree budget i → Usable S d see ⊎ Has without i

@@ -324,7 +324,8 @@ pub(crate) fn decide_all<R: KeepReader, G: Gate>(
     ensures number { IfOk result (λ d. length d.verdicts.items ≡ length frame.now.plan.now.pips) }
     ensures kept { IfOk result (λ d. AreKept frame.now.plan.now.pips (map slot_files d.slots.items)) }
     ensures records { IfOk result (λ d. AllByRecursion IsSuccess d.records.items) }
-    ensures few_records { IfOk result (λ d. length d.records.items ≤ MAX_PIPS) }
+    ensures ran { IfOk result (λ d. length d.records.items
+        ≤ d.ways.accepted + (d.ways.missed + d.ways.faulted)) }
     ensures unread { IsNone reader.new → IfOk result (λ d. (d.ways.hits ≡ 0) × (d.ways.faulted ≡ 0)) }
     ensures reader { IfOk result (λ d. ReadsIfAny
         (option_map (λ r. reader_data (R.held r) (R.bound r) (R.faults r)) reader.old)

@@ -37,7 +37,7 @@ invariant-pips g l = record {
       ≡ run_count l.fn.frame.plan.now.pips l.decided.verdicts.items;
   kept : AreKept l.fn.frame.plan.now.pips (map slot_files l.decided.slots.items);
   good : AllByRecursion IsSuccess l.decided.records.items;
-  few_records : length l.decided.records.items ≤ l.number;
+  ran : length l.decided.records.items ≤ l.decided.ways.accepted + (l.decided.ways.missed + l.decided.ways.faulted);
   shared : KeepsShared l.shared.files l.shared.dirs (all_shared (take l.number l.fn.frame.plan.now.pips) (map slot_files l.decided.slots.items));
   left_items : into_iter_items l.left ≡ drop l.number l.fn.finished.items;
   left_len : into_iter_len l.left + l.number ≡ length l.fn.finished.items;
