@@ -23,7 +23,7 @@ use Rattle.one_thread.proofs.KeptApart.{are_outputs}
 use Rattle.one_thread.specs.OneThread.{all_made, made_by, one_thread, outputs_of, put_all, run_count}
 use Rattle.retire.specs.Runs.{NoneReserved}
 use Rattle.retire.specs.Accepting.{AreAccepted}
-use Rattle.retire.specs.Builds.{Fair, IsBuild, IsFair, LeavesFair, LeavesUsable, LeavesUsableBut}
+use Rattle.retire.specs.Builds.{Fair, IsBuild, IsFair, IsOfRun, LeavesFair, LeavesUsable, LeavesUsableBut, SavesRuns}
 use Rattle.retire.specs.Counts.{CountsAgainst, CountsOver, CountsWithin, verdicts_there}
 use Rattle.retire.specs.Deciding.{FollowsAll, RecordsAll}
 use Rattle.retire.specs.HitSet.{IsHitSet}
@@ -31,6 +31,7 @@ use Rattle.retire.specs.Saving.{IsSuccess, OnlyPuts, PutsAllBut, PutsFirst, Save
 use Rattle.two_phase.specs.Reading.{ReaderData, ReadsIfAny, ReadsOn}
 use Rattle.retire.proofs.Told.{IsTold}
 use Rattle.sched_board_slots.specs.declared.held.Held.{Held}
+use Rattle.retire.proofs.Alike.{first_alike}
 use Rattle.retire.proofs.Leaving.{leaves_fair, leaves_usable_but}
 use Rattle.retire.proofs.Sparing.{others_and, without_few}
 use Rattle.retire.proofs.Putting.{keeps_but, keeps_first}
@@ -145,6 +146,17 @@ pub saves_most : (before between now : StoreTold) (fs given : List Facts) (most 
     → PutsFirst between given now → length fs ≤ most → SavesAtMost most before now
 saves_most before between now fs given most keeps good same puts few =
     (fs, few, good, keeps_first fs before between now keeps (subst (λ (gs : List Facts). PutsFirst between gs now) same puts))
+
+-- and where no lookup failed, none of them of a process that hit
+pub saves_runs : (pips : List Pip) (tree : Files) (budget : ℕ) (S : Holdings) (slots : List Held) (before between now : StoreTold) (fs given : List Facts)
+    → Keeps before between → (all : RecordsAll pips tree budget S fs) → AllByRecursion (IsOfRun pips tree budget S slots) all.facts → given ≡ fs
+    → PutsFirst between given now → SavesRuns pips tree budget S slots before now
+saves_runs pips tree budget S slots before between now fs given keeps all ran same puts = (
+  all.facts,
+  ran,
+  keeps_first all.facts before between now keeps
+      (first_alike fs all.facts between now all.alike (subst (λ (gs : List Facts). PutsFirst between gs now) same puts)),
+)
 
 pub leaves_saved : (pips : List Pip) (tree : Files) (budget : ℕ) (held : Holdings) (before between now : StoreTold) (fs given : List Facts) → held_in before ≡ Some held
     → Keeps before between → IsSome (held_in now) → RecordsAll pips tree budget held fs → IsFair pips tree budget held → given ≡ fs → PutsFirst between given now

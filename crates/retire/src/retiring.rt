@@ -8,7 +8,7 @@ ghost use Rattle.retire.specs.Runs.{NoneReserved};
 ghost use Rattle.std.specs.List.{AllByRecursion};
 ghost use Rattle.bx_io.specs.Holdings.{Keeps};
 ghost use Rattle.two_phase.specs.Reading.{reader_data};
-ghost use Rattle.retire.specs.Builds.{Fair, IsBuild, IsFair, LeavesFair, LeavesUsable, LeavesUsableBut};
+ghost use Rattle.retire.specs.Builds.{Fair, IsBuild, IsFair, LeavesFair, LeavesUsable, LeavesUsableBut, SavesRuns};
 ghost use Rattle.retire.specs.Counts.{CountsAlone, CountsOver, CountsWithin};
 ghost use Rattle.retire.specs.Saving.{IsSuccess, OnlyPuts, PutsAllBut, PutsFirst, SavesAtMost};
 ghost use Rattle.retire.specs.Settled.{IsSettledOver};
@@ -106,7 +106,12 @@ pub fn retire<K: Keeper, G: Gate>(
     ensures seen { IfOk result (λ r. r.tally.faults ≡ 0 → K.faults keeper.new ≡ K.faults keeper.old) }
     ensures bound { K.bound keeper.new ≡ K.bound keeper.old }
     ensures puts { OnlyPuts (K.known keeper.old) (K.known keeper.new) }
-    // No more records are saved than there were runs: so a hit is not saved again.
+    // A hit is not saved again: no more records are saved than there were runs; and where no fault was met, each is of a
+    // process with an accepted run or with nothing usable in the store.
+    ensures saved_runs { cached ≡ true → (S : Holdings) → held_in (K.known keeper.old) ≡ Some S
+        → IsSome (held_in (K.known keeper.new)) → IsFair plan.now.pips sources.now plan.now.tool_budget S
+        → IfOk result (λ r. r.tally.faults ≡ 0 → SavesRuns plan.now.pips sources.now plan.now.tool_budget S finished.slots.items
+        (K.known keeper.old) (K.known keeper.new)) }
     ensures saved { IfOk result (λ r. SavesAtMost r.tally.ran (K.known keeper.old) (K.known keeper.new)) }
     ensures unsaved { IfOk result (λ r. r.tally.ran ≡ 0 → Keeps (K.known keeper.old) (K.known keeper.new)) }
 {

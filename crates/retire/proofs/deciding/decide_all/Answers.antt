@@ -48,8 +48,8 @@ pips-init g c =
       follows = λ right. follows_none pips tree budget c.args.finished.items d.verdicts.items d.slots.items d.accepted.items no_vs no_ss no_marks;
       alone = λ none. counts_as pips [] d.verdicts.items [] d.accepted.items 0 d.ways.hits 0 d.ways.missed 0 d.ways.faulted no_vs no_marks hits missed faulted (counts_none pips [] [] refl refl);
       keeps = λ S told fair.
-          keeps_as pips tree budget S 0 [] d.verdicts.items [] d.slots.items [] d.accepted.items [] d.records.items 0 d.ways.hits 0 d.ways.missed 0 d.ways.faulted
-          no_vs no_ss no_marks no_fs hits missed faulted (keeps_none pips tree budget S [] [] [] [] refl refl refl refl);
+          keeps_as pips tree budget c.args.finished.items S 0 [] d.verdicts.items [] d.slots.items [] d.accepted.items [] d.records.items 0 d.ways.hits 0 d.ways.missed 0 d.ways.faulted
+          no_vs no_ss no_marks no_fs hits missed faulted (keeps_none pips tree budget c.args.finished.items S [] [] [] [] refl refl refl refl);
       settled = λ S over held. missed;
       verdicts_long = ap length no_vs;
       slots_long = ap length no_ss;
@@ -115,7 +115,7 @@ pips-preserved g c =
       keeps = λ S told fair.
           let right : IsRight pips tree budget now = inr (S, told, fair) in
           let right_then : IsRight pips tree budget before = right_before pips tree budget before now _ reads right in
-          keeps_as pips tree budget S (n + 1) _ done.verdicts.items _ done.slots.items _ done.accepted.items _ done.records.items _ done.ways.hits _ done.ways.missed _ done.ways.faulted
+          keeps_as pips tree budget held S (n + 1) _ done.verdicts.items _ done.slots.items _ done.accepted.items _ done.records.items _ done.ways.hits _ done.ways.missed _ done.ways.faulted
           add.verdicts add.slots add.accepted add.records add.hits add.missed add.faulted
           (keeps_more pips tree budget held n d.verdicts.items d.slots.items d.accepted.items (inv.follows right_then) now right next within
           c.in_ok-next.ensures.agrees (slice_get pips n) refl decides S told d.records.items d.ways.hits d.ways.missed d.ways.faulted

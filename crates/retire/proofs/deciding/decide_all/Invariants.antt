@@ -26,7 +26,7 @@ invariant-pips g l = record {
   keeps : (S : Holdings)
       → IsTold (option_map (λ r. reader_data (g.R.KeepReader.held r) (g.R.KeepReader.bound r) (g.R.KeepReader.faults r)) l.reader) S
       → IsFair l.fn.frame.plan.now.pips l.fn.frame.sources.now l.fn.frame.plan.now.tool_budget S
-      → KeepsTo l.fn.frame.plan.now.pips l.fn.frame.sources.now l.fn.frame.plan.now.tool_budget S l.number l.decided.verdicts.items l.decided.slots.items
+      → KeepsTo l.fn.frame.plan.now.pips l.fn.frame.sources.now l.fn.frame.plan.now.tool_budget l.fn.finished.items S l.number l.decided.verdicts.items l.decided.slots.items
       l.decided.accepted.items l.decided.records.items l.decided.ways.hits l.decided.ways.missed l.decided.ways.faulted;
   settled : (S : Holdings) → IsSettledOver l.fn.frame.plan.now l.fn.frame.sources.now S (is_some l.reader) l.fn.finished.items
       → IfSome (option_map (λ r. reader_data (g.R.KeepReader.held r) (g.R.KeepReader.bound r) (g.R.KeepReader.faults r)) l.reader) (λ r. r.held ≡ Some S)
