@@ -30,9 +30,9 @@ marks_more (g ∷ gs) [] f whole before between now each put = absurd each
 marks_more (g ∷ gs) (m ∷ ms) f whole before between now each put = (each.0, each.1, marks_more gs ms f whole each.0 between now each.2 put)
 
 -- one record more, of which the save failed or did not
-but_more : (fs : List Facts) (f : Facts) (before between now : StoreTold) (faults failed : ℕ) → PutsAllBut before fs between faults → failed ≤ 1
+but_more : (fs : List Facts) (f : Facts) (before between now : StoreTold) (faults failed : ℕ) → PutsAllBut before fs between faults
     → (failed ≡ 0 → PutsAll between now f) → PutsUpTo between now f → PutsAllBut before (fs ++ f ∷ []) now (faults + failed)
-but_more fs f before between now faults zero but few all up_to = record {
+but_more fs f before between now faults zero but all up_to = record {
   marks = but.marks ++ true ∷ [];
   few =
       let more : count_by not (but.marks ++ true ∷ []) ≡ count_by not but.marks + 0 = sum_by_push (λ b. cond (not b) 1 0) but.marks true in
@@ -40,7 +40,7 @@ but_more fs f before between now faults zero but few all up_to = record {
       omega (arith, more, most);
   each = marks_more fs but.marks f true before between now but.each (all refl);
 }
-but_more fs f before between now faults (suc k) but few all up_to = record {
+but_more fs f before between now faults (suc k) but all up_to = record {
   marks = but.marks ++ false ∷ [];
   few =
       let more : count_by not (but.marks ++ false ∷ []) ≡ count_by not but.marks + 1 = sum_by_push (λ b. cond (not b) 1 0) but.marks false in
@@ -59,11 +59,11 @@ each_next fs i f before between now l is each put =
     subst (λ (gs : List Facts). PutsEach before gs now) (next_taken fs i f l is) (each_more (take i fs) f before between now each put)
 
 pub but_next : (fs : List Facts) (i : ℕ) (f : Facts) (before between now : StoreTold) (faults failed : ℕ) → i < length fs → f ≡ get_or fs i f
-    → PutsAllBut before (take i fs) between faults → failed ≤ 1 → (failed ≡ 0 → PutsAll between now f) → PutsUpTo between now f
+    → PutsAllBut before (take i fs) between faults → (failed ≡ 0 → PutsAll between now f) → PutsUpTo between now f
     → PutsAllBut before (take (i + 1) fs) now (faults + failed)
-but_next fs i f before between now faults failed l is but few all up_to =
+but_next fs i f before between now faults failed l is but all up_to =
     subst (λ (gs : List Facts). PutsAllBut before gs now (faults + failed)) (next_taken fs i f l is)
-    (but_more (take i fs) f before between now faults failed but few all up_to)
+    (but_more (take i fs) f before between now faults failed but all up_to)
 
 pub none_saved : (before : StoreTold) (fs : List Facts) → PutsAllBut before (take 0 fs) before 0
 none_saved before fs = record { marks = []; few = omega arith; each = keeps_all before }

@@ -26,7 +26,7 @@ records-preserved g c =
     record {
       all =
           but_next c.args.records.now c.records.ran-index c.ran-item.result (g.K.Keeper.known c.args.keeper.now) (g.K.Keeper.known c.records.keeper)
-          (g.K.Keeper.known c.save_one.new.keeper) c.records.faults c.in_ok-failed.failed c.records-test.true c.ran-item.is inv.all step.few step.all step.first;
+          (g.K.Keeper.known c.save_one.new.keeper) c.records.faults c.in_ok-failed.failed c.records-test.true c.ran-item.is inv.all step.all step.first;
       each =
           each_next c.args.records.now c.records.ran-index c.ran-item.result (g.K.Keeper.known c.args.keeper.now) (g.K.Keeper.known c.records.keeper)
           (g.K.Keeper.known c.save_one.new.keeper) c.records-test.true c.ran-item.is inv.each step.first;
