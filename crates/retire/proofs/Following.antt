@@ -268,7 +268,7 @@ module _ (pips : List Pip) (tree : Files) (budget : ℕ) (slots : List Held) (n 
           | inr same ↦
               inl (there d' see (subst (λ k. RunsAs pips tree budget k d' see) same runs) (subst (SucceedsAt pips tree budget) same succeeds))
         ];
-        of_runs = λ zero. keeps.of_runs (omega (arith, zero));
+        of_runs = λ unfailed. keeps.of_runs (omega (arith, unfailed));
       }
       step_by (adding.one r f kept work alike s number sound there ran) = record {
         counted = counted_more;
@@ -284,11 +284,11 @@ module _ (pips : List Pip) (tree : Files) (budget : ℕ) (slots : List Held) (n 
               let is = there d' see (subst (λ k. RunsAs pips tree budget k d' see) same runs) in
               inr (f, has_last keeps.records f, is.0, is.1)
         ];
-        of_runs = λ zero.
-            all_push (IsOfRun pips tree budget S slots) keeps.records f (keeps.of_runs (omega (arith, zero))) (record {
+        of_runs = λ unfailed.
+            all_push (IsOfRun pips tree budget S slots) keeps.records f (keeps.of_runs (omega (arith, unfailed))) (record {
               success = s;
               ran =
-                  subst (λ k. IsAccepted f.desc s.see (slot_at slots k) ⊎ (Usable S f.desc s.see → ⊥)) (sym number) (ran (omega (arith, zero)));
+                  subst (λ k. IsAccepted f.desc s.see (slot_at slots k) ⊎ (Usable S f.desc s.see → ⊥)) (sym number) (ran (omega (arith, unfailed)));
             });
       }
 
