@@ -107,7 +107,7 @@ each_told (f ∷ fs) before now S is each =
     told_before each.1.first before each.0 there.0 there.1 each.1.applies
 
 -- all puts of a record are its puts up to the last place
-pub up_to_end : (before now : StoreTold) (f : Facts) → PutsAll before now f → PutsUpTo before now f
+abbrev pub up_to_end : (before now : StoreTold) (f : Facts) → PutsAll before now f → PutsUpTo before now f
 up_to_end before now f p = record {
   old = p.old;
   old_is = p.old_is;
