@@ -3,6 +3,7 @@ use Rattle.std.proofs.Common.{◌≡◌, ◌≢◌, ℕ, true, false, cond, List
 use Rattle.std.specs.Prelude.{if◌then◌else◌}
 use Rattle.std.specs.Borrow.{Bor}
 use Rattle.bx_tree.proofs.Lists.{none_left}
+use Rattle.dscript_ast.specs.declared.expr.LoopKind.{LoopKind}
 use Rattle.dscript_program.specs.BoundTree as tree
 use Rattle.dscript_program.specs.BoundTree.{StmtData, StmtRow, a_stmt, more_stmts, no_stmt, no_stmts, to_stmt, to_stmts}
 use Rattle.dscript_program.specs.ProgramData.{ProgramData}
@@ -124,7 +125,7 @@ does_begins p act (tree.Let n t None) s = refl
 does_begins p act (tree.Let n t (Some e)) s = refl
 does_begins p act (tree.Assign n e) s = refl
 does_begins p act (tree.If c m other) s = refl
-does_begins p act (tree.For n list m) s = refl
+does_begins p act (tree.For kind n list m) s = refl
 does_begins p act (tree.Return None) s = refl
 does_begins p act (tree.Return (Some e)) s = refl
 does_begins p act (tree.Value e) s = refl
@@ -157,10 +158,10 @@ branch_move v c m other =
     (stmt.Branch m other) (λ x s. refl)
 
 pub loop_move
-    : (v : View) (n : ℕ) (list : Bor BoundExpr) (body : Bor BoundStmt)
-    → goes_by (stmt_form v.program (acts_at v) (tree.For n (expr_data list.now) (stmt_data body.now))) v
+    : (v : View) (kind : LoopKind) (n : ℕ) (list : Bor BoundExpr) (body : Bor BoundStmt)
+    → goes_by (stmt_form v.program (acts_at v) (tree.For kind n (expr_data list.now) (stmt_data body.now))) v
     ≡ comes (record v { work = works.Expr (expr.Value list) ∷ works.Stmt (stmt.Start n body) ∷ v.work })
-loop_move v n list body =
+loop_move v kind n list body =
     then_stmt v list (λ x. answered (items_in x) >>= λ items. turns n (does v.program (acts_at v) (stmt_data body.now)) items)
     (stmt.Start n body) (λ x s. refl)
 

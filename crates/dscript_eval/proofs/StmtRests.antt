@@ -1,5 +1,6 @@
 -- What is left of a statement, by its form.
 use Rattle.std.proofs.Common.{◌≡◌, ℕ, List, Option, Result, map, option_map, ap, sym, ◌∙◌}
+use Rattle.dscript_ast.specs.declared.expr.LoopKind.{LoopKind}
 use Rattle.dscript_program.specs.BoundTree as tree
 use Rattle.dscript_program.specs.BoundTree.{StmtData, to_stmt, to_stmts}
 use Rattle.dscript_program.specs.Views.{expr_data, stmt_data}
@@ -45,9 +46,9 @@ if_from t a s s' o o' e p q =
     ∙ ap (λ y. tree.If (expr_data a) (stmt_data s') (to_stmt y)) (sym q)
 
 pub for_from
-    : (t : StmtData) (n : ℕ) (a : BoundExpr) (s s' : BoundStmt) → t ≡ tree.For n (expr_data a) (stmt_data s) → s' ≡ s
-    → t ≡ tree.For n (expr_data a) (stmt_data s')
-for_from t n a s s' e p = e ∙ ap (λ y. tree.For n (expr_data a) (stmt_data y)) (sym p)
+    : (t : StmtData) (k : LoopKind) (n : ℕ) (a : BoundExpr) (s s' : BoundStmt) → t ≡ tree.For k n (expr_data a) (stmt_data s) → s' ≡ s
+    → t ≡ tree.For k n (expr_data a) (stmt_data s')
+for_from t k n a s s' e p = e ∙ ap (λ y. tree.For k n (expr_data a) (stmt_data y)) (sym p)
 
 pub block_from
     : (t : StmtData) (v l : List BoundStmt) → t ≡ tree.Block (to_stmts (map stmt_data v)) → l ≡ v

@@ -17,7 +17,7 @@ use dscript_eval_meaning::{EvalFault, MAX_OPEN_CALLS};
 use dscript_program::Program;
 use dscript_sdk::SdkState;
 use dscript_value::Value;
-use pip_model_types::PipList;
+use pip_model_types::{Pip, PipList};
 use std::alloc::Global;
 
 // The machine before the first step.
@@ -51,8 +51,8 @@ fn start<'a>(
 }
 
 // The pips that calls left.
-fn into_pips(machine: Machine<'_>) -> PipList
-    ensures { result ≡ (seen machine.entry).state.calls.pips }
+fn into_pips(machine: Machine<'_>) -> Vec<Pip>
+    ensures { result.items ≡ (seen machine.entry).state.calls.pips }
 {
     let Machine {
         work,
@@ -102,7 +102,7 @@ pub fn evaluate(
     let codes = codes_of(alloc, program)?;
     let mut machine = start(alloc, program, codes.as_slice(), tree, budget)?;
     match run(&mut machine) {
-        Ok(()) => Ok(into_pips(machine)),
+        Ok(()) => Ok(PipList::of(into_pips(machine))),
         Err(stop) => {
             drop(machine);
             Err(fault_of(alloc, program, stop))

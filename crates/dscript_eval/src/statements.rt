@@ -1,5 +1,6 @@
 //! Statements.
 ghost use Rattle.std.specs.Prelude.{◌≡◌, Some, drop, option_map};
+ghost use Rattle.dscript_ast.specs.declared.expr.LoopKind.{LoopKind as AnyLoop};
 ghost use Rattle.dscript_program.specs.BoundTree as tree;
 ghost use Rattle.dscript_program.specs.BoundTree.{to_stmt};
 ghost use Rattle.dscript_program.specs.Views.{expr_data, stmt_data};
@@ -61,7 +62,7 @@ fn rest_of<'a>(machine: &mut Machine<'a>, statement: &'a BoundStmt) -> Result<()
             then,
             other_of(other),
         ),
-        BoundStmt::For(local, list, body) => loop_over(machine, *local, list, body),
+        BoundStmt::For(_, local, list, body) => loop_over(machine, *local, list, body),
         BoundStmt::Return(value) => return_from(machine, value),
         BoundStmt::Value(e) => value_unused(machine, e),
         BoundStmt::Block(statements) => all(machine, statements.as_slice()),
@@ -132,8 +133,8 @@ fn loop_over<'a>(
     list: &'a BoundExpr,
     body: &'a BoundStmt,
 ) -> Result<(), Stop>
-    ensures { Goes result machine.old machine.new (λ v. stmt_form v.program (acts_at v) (tree.For local
-        (expr_data list.now) (stmt_data body.now))) }
+    ensures { (kind : AnyLoop) → Goes result machine.old machine.new (λ v. stmt_form v.program (acts_at v)
+        (tree.For kind local (expr_data list.now) (stmt_data body.now))) }
 {
     if at_once(machine, list) {
         return start(machine, local, body);

@@ -227,7 +227,7 @@ pub fn spread_fields<'a>(
     ensures { IsDone result machine.old machine.new (works.Expr (expr.SpreadFields others.entry done)) }
 {
     let mut done = done;
-    match add_fields(&mut done, &machine.given) {
+    match add_fields(machine.alloc, &mut done, &machine.given) {
         Ok(()) => fields(machine, others, done),
         Err(fault) => Err(stop_of(fault, machine.frame.file)),
     }

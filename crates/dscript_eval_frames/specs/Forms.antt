@@ -144,7 +144,7 @@ module _ (p : ProgramData) (act : Acts) where
   stmt_form (tree.Assign n e) = bind_form n e
   stmt_form (tree.If c s other) =
       value p act c >>= λ x. if is_true x then does p act s else otherwise p act other
-  stmt_form (tree.For n list s) =
+  stmt_form (tree.For kind n list s) =
       value p act list >>= λ xs. answered (items_in xs) >>= λ items. turns n (does p act s) items
   stmt_form (tree.Return e) = return_form e
   stmt_form (tree.Value e) = value p act e >>= λ x. gives On

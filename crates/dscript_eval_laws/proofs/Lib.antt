@@ -1,3 +1,13 @@
 pub mod Said
 pub mod SaidForms
 pub mod SaidPrograms
+pub mod MadeValues
+pub mod MadeOutcomes
+pub mod MadeOperators
+pub mod MadeMembers
+pub mod MadeCalls
+pub mod MadeStates
+pub mod MadeForms
+pub mod MadePrograms
+pub mod FoundLocals
+pub mod FullCalls

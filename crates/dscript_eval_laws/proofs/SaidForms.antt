@@ -354,7 +354,7 @@ module _ (act : Acts) (opens : (a : Act) → Said Plain (act a)) where
       does_said (tree.If c s other) =
           both _ _ _ _ (spent 1)
           (bound _ _ _ _ (value_said c) (λ x. choice _ _ _ _ (does_said s) (otherwise_said other)))
-      does_said (tree.For n list s) =
+      does_said (tree.For kind n list s) =
           both _ _ _ _ (spent 1) (bound _ _ _ _ (value_said list)
           (λ xs. bound _ _ _ _ (answer _ (items_in xs))
           (λ items. turns_said n (does p act s) (does_said s) items)))

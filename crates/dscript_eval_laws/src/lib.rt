@@ -5,4 +5,7 @@
 
 mod laws;
 
-pub use laws::messages_are_of_specifications;
+pub use laws::{
+    calls_hold_what_is_captured, frames_have_their_locals, messages_are_of_specifications,
+    pips_are_a_list,
+};

@@ -354,7 +354,7 @@ module _ (act : Acts) (opens : (a : Act) → Counted Plain (act a)) where
       does_counted (tree.If c s other) =
           both _ _ _ _ (spent 1)
           (bound _ _ _ _ (value_counted c) (λ x. choice _ _ _ _ (does_counted s) (otherwise_counted other)))
-      does_counted (tree.For n list s) =
+      does_counted (tree.For kind n list s) =
           both _ _ _ _ (spent 1) (bound _ _ _ _ (value_counted list)
           (λ xs. bound _ _ _ _ (answer _ (items_in xs))
           (λ items. turns_counted n (does p act s) (does_counted s) items)))

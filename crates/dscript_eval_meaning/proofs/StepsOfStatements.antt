@@ -1,6 +1,7 @@
 -- How many steps statements take. Each program calls a function without arguments, which takes two.
 use Rattle.std.proofs.Common.{List, [], ◌∷◌, None, Some, refl}
 use Rattle.dscript_ast.specs.declared.operator.BinaryOp.TheVariants.{Add}
+use Rattle.dscript_ast.specs.declared.expr.LoopKind.TheVariants as loops
 use Rattle.dscript_program.specs.BoundTree as tree
 use Rattle.dscript_program.specs.BoundTree.{StmtData, a_stmt, no_stmt, to_stmts}
 use Rattle.dscript_program.specs.ProgramData.{ProgramData}
@@ -54,7 +55,7 @@ loop
     : Takes
     (run
     (tree.Let 0 None (Some (number 0))
-    ∷ tree.For 1 (list (number 1 ∷ number 2 ∷ []))
+    ∷ tree.For loops.Const 1 (list (number 1 ∷ number 2 ∷ []))
     (tree.Block (to_stmts (tree.Assign 0 (binary (local 0) Add (local 1)) ∷ [])))
     ∷ tree.Return (Some (local 0)) ∷ []))
     20
@@ -63,7 +64,7 @@ unfolding meaning evaluated acts a_constant value named applied body_value does 
 loop = (refl, refl)
 
 -- `for (const y of [1, 2]) return y;`: the second turn does not begin
-returning_loop : Takes (run (tree.For 1 (list (number 1 ∷ number 2 ∷ []))
+returning_loop : Takes (run (tree.For loops.Const 1 (list (number 1 ∷ number 2 ∷ []))
     (tree.Return (Some (local 1))) ∷ [])) 9
 unfolding meaning evaluated acts a_constant value named applied body_value does subject_call
 returning_loop = (refl, refl)

@@ -41,7 +41,7 @@ module _ (p : ProgramData) (act : Acts) where
     does (tree.Assign n e) = step >> value p act e >>= λ x. bind n x >> gives On
     does (tree.If c s other) =
         step >> value p act c >>= λ x. if is_true x then does s else otherwise other
-    does (tree.For n list s) =
+    does (tree.For kind n list s) =
         step >> value p act list >>= λ xs. answered (items_in xs) >>= λ items. turns n (does s) items
     does (tree.Return None) = step >> gives (Back Undefined)
     does (tree.Return (Some e)) = step >> value p act e >>= λ x. gives (Back x)

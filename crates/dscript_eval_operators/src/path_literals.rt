@@ -1,5 +1,5 @@
 //! Path, file and directory literals.
-ghost use Rattle.std.specs.Prelude.{◌≡◌, Ok, Err, Some, None, MatchOption, MatchResult};
+ghost use Rattle.std.specs.Prelude.{◌≡◌, Ok, Err, Some, None, MatchOption, MatchResult, OnErr};
 ghost use Rattle.dscript_value.specs.Plain.{plain_of};
 ghost use Rattle.dscript_sdk_values.specs.Outcomes.{Refuses};
 ghost use Rattle.dscript_eval_operators.specs.PathLiterals as spec;
@@ -27,16 +27,17 @@ fn base_of(hole: &Value) -> Option<&Path>
 }
 
 /// Adds the first hole of a literal to the text before it, or gives the hole's path, which is the base of a
-/// literal that begins with it.
+/// literal that begins with it. Where it fails, the text is as before.
 #[tactic(auto, unfolding(crate::specs::PathLiterals::first_hole))]
 pub fn add_first_hole(
     alloc: Global,
     text: &mut Vec<u8>,
     hole: &Value,
 ) -> Result<Option<Path>, SdkFault>
-    ensures { MatchResult result
+    ensures adds { MatchResult result
         (λ base. first_hole text.old.items (plain_of hole.now) ≡ Ok (base, text.new.items))
         (λ fault. Refuses fault (first_hole text.old.items (plain_of hole.now))) }
+    ensures unchanged { OnErr result (text.new.items ≡ text.old.items) }
 {
     if text.is_empty() {
         if let Some(base) = base_of(hole) {

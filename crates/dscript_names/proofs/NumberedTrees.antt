@@ -317,7 +317,7 @@ module _ (world : World) (site : Site) where
         done (three (takers_of x) (stmt_takers y) (else_takers z) ts us vs ex ey ez))))
     stmt_numbers (tree.For kind x list s) =
         step {next = λ n. bind_expr world site list >>= λ l. within (loop_local kind x n) (within
-        (stmt_locals s) (bind_stmt world site s)) >>= λ b. gives (bound.For n l b)} next_numbers
+        (stmt_locals s) (bind_stmt world site s)) >>= λ b. gives (bound.For kind n l b)} next_numbers
         (λ n ts en. step (expr_numbers list) (λ l us el.
         step (within_numbers (loop_local kind x n) (within_numbers (stmt_locals s) (stmt_numbers s)))
         (λ b vs eb.

@@ -139,8 +139,8 @@ module _ (world : World) (site : Site) where
     stmt_counts (tree.For kind x list s) =
         more (1 + (expr_size list + stmt_size s)) (1 + expr_size list + stmt_size s) (omega arith)
         (step {next = λ n. bind_expr world site list >>= λ l. within (loop_local kind x n) (within
-        (stmt_locals s) (bind_stmt world site s)) >>= λ b. gives (bound.For n l b)} next_counts
-        (λ n. step (expr_counts list) (λ l. last (bound.For n l)
+        (stmt_locals s) (bind_stmt world site s)) >>= λ b. gives (bound.For kind n l b)} next_counts
+        (λ n. step (expr_counts list) (λ l. last (bound.For kind n l)
         (within_counts (loop_local kind x n) (within_counts (stmt_locals s) (stmt_counts s))))))
     stmt_counts (tree.Return e) = last bound.Return (maybe_counts e)
     stmt_counts (tree.Value e) = last bound.Value (expr_counts e)

@@ -136,7 +136,7 @@ module _ (world : World) (site : Site) where
         gives (bound.If x y z)
     bind_stmt (tree.For kind x list s) =
         next_local >>= λ n. bind_expr list >>= λ l.
-        within (loop_local kind x n) (within (stmt_locals s) (bind_stmt s)) >>= λ b. gives (bound.For n l b)
+        within (loop_local kind x n) (within (stmt_locals s) (bind_stmt s)) >>= λ b. gives (bound.For kind n l b)
     bind_stmt (tree.Return e) = bind_maybe e >>= λ b. gives (bound.Return b)
     bind_stmt (tree.Value e) = bind_expr e >>= λ b. gives (bound.Value b)
     bind_stmt (tree.Block ss) =

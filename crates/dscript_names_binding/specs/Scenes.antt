@@ -111,4 +111,4 @@ abbrev pub for_after : World → Site → LoopKind → List ℕ → ExprTree →
 for_after world site kind x list s n =
     bind_expr world site list >>= λ l.
     within (loop_local kind x n) (within (stmt_locals s) (bind_stmt world site s)) >>= λ b.
-    gives (bound.For n l b)
+    gives (bound.For kind n l b)

@@ -57,7 +57,7 @@ impl Walker {
                 let number = self.next_local()?;
                 let list = self.expr(scene, list)?;
                 let body = self.turn(scene, body, kind, name, number)?;
-                Ok(BoundStmt::For(number, list, body))
+                Ok(BoundStmt::For(kind, number, list, body))
             }
             Stmt::Return(value) => {
                 let value = self.maybe(scene, value)?;

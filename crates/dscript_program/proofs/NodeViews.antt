@@ -3,6 +3,7 @@ use Rattle.std.proofs.Common.{◌≡◌, ℕ, ℤ, Bool, List, Option, Some, Non
 use Rattle.std.specs.declared.alloc.Global.{Global}
 use Rattle.std.specs.declared.boxed.Box.{Box}
 use Rattle.std.specs.declared.vec.Vec.{Vec}
+use Rattle.dscript_ast.specs.declared.expr.LoopKind.{LoopKind}
 use Rattle.dscript_ast.specs.declared.expr.PathKind.{PathKind}
 use Rattle.dscript_ast.specs.declared.operator.BinaryOp.{BinaryOp}
 use Rattle.dscript_ast.specs.declared.operator.UnaryOp.{UnaryOp}
@@ -128,9 +129,9 @@ pub stmt_data-If : (a : BoundExpr) (s : Box BoundStmt Global) (o : Option (Box B
 stmt_data-If a s None = ap stmt_data (sym (stmts.rolls-If a s None)) ∙ search (fold-roll-BoundStmt)
 stmt_data-If a s (Some o) = ap stmt_data (sym (stmts.rolls-If a s (Some o))) ∙ search (fold-roll-BoundStmt)
 
-pub stmt_data-For : (n : ℕ) (e : BoundExpr) (s : Box BoundStmt Global)
-    → stmt_data (stmts.For n e s) ≡ tree.For n (expr_data e) (stmt_data s.value)
-stmt_data-For n e s = ap stmt_data (sym (stmts.rolls-For n e s)) ∙ search (fold-roll-BoundStmt)
+pub stmt_data-For : (k : LoopKind) (n : ℕ) (e : BoundExpr) (s : Box BoundStmt Global)
+    → stmt_data (stmts.For k n e s) ≡ tree.For k n (expr_data e) (stmt_data s.value)
+stmt_data-For k n e s = ap stmt_data (sym (stmts.rolls-For k n e s)) ∙ search (fold-roll-BoundStmt)
 
 pub stmt_data-Return : (e : Option BoundExpr)
     → stmt_data (stmts.Return e) ≡ tree.Return (option_map expr_data e)

@@ -2,6 +2,7 @@
 use Rattle.std.specs.Prelude.{ℕ, ℤ, Bool, Option, Some, None, List, [], ◌∷◌}
 use Rattle.dscript_ast.specs.TypeTree.{TypeTree}
 use Rattle.dscript_ast.specs.declared.operator.BinaryOp.{BinaryOp}
+use Rattle.dscript_ast.specs.declared.expr.LoopKind.{LoopKind}
 use Rattle.dscript_ast.specs.declared.expr.PathKind.{PathKind}
 use Rattle.dscript_ast.specs.declared.operator.UnaryOp.{UnaryOp}
 use Rattle.dscript_program.specs.declared.target.Target.{Target}
@@ -105,7 +106,7 @@ mutual
     Let : ℕ → Option TypeTree → Option ExprData → StmtData
     Assign : ℕ → ExprData → StmtData
     If : ExprData → StmtData → MaybeStmt → StmtData
-    For : ℕ → ExprData → StmtData → StmtData
+    For : LoopKind → ℕ → ExprData → StmtData → StmtData
     Return : Option ExprData → StmtData
     Value : ExprData → StmtData
     Block : StmtRow → StmtData

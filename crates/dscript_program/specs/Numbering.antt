@@ -82,7 +82,7 @@ unfoldable mutual
   stmt_takers (Let n t e) = Declares n ∷ maybe_takers e
   stmt_takers (Assign n e) = takers_of e
   stmt_takers (If c s other) = takers_of c ++ stmt_takers s ++ else_takers other
-  stmt_takers (For n list s) = Declares n ∷ takers_of list ++ stmt_takers s
+  stmt_takers (For kind n list s) = Declares n ∷ takers_of list ++ stmt_takers s
   stmt_takers (Return e) = maybe_takers e
   stmt_takers (Value e) = takers_of e
   stmt_takers (Block ss) = stmts_takers ss

@@ -2,7 +2,7 @@
 
 use crate::target::Target;
 use bx_tree::Text;
-use dscript_ast::{BinaryOp, PathKind, TypeNode, UnaryOp};
+use dscript_ast::{BinaryOp, LoopKind, PathKind, TypeNode, UnaryOp};
 
 /// An expression in which each name is resolved.
 #[cycle(bound_expr)]
@@ -102,8 +102,8 @@ pub enum BoundStmt {
     Assign(u32, BoundExpr),
     /// A condition, the statement where it holds, and the statement after `else`.
     If(BoundExpr, Box<BoundStmt>, Option<Box<BoundStmt>>),
-    /// A loop: its local, the list, and the body.
-    For(u32, BoundExpr, Box<BoundStmt>),
+    /// A loop: the keyword of its variable, the local, the list, and the body.
+    For(LoopKind, u32, BoundExpr, Box<BoundStmt>),
     /// A return, with its value where one is written.
     Return(Option<BoundExpr>),
     /// An expression by itself.

@@ -12,7 +12,7 @@ use crate::site::Site;
 use bx_tree::{Memory, Path, Tree};
 use dscript_sdk_values::SdkFault;
 use dscript_value::Value;
-use pip_model_types::{Pip, PipKind, PipList};
+use pip_model_types::{Pip, PipKind};
 use std::alloc::Global;
 use std::marker::Model;
 
@@ -22,7 +22,7 @@ use std::marker::Model;
 #[derive(Drop)]
 pub struct SdkState<'a> {
     tree: &'a Tree,
-    pips: PipList,
+    pips: Vec<Pip>,
     counts: Counts,
 }
 
@@ -35,7 +35,7 @@ impl<'a> Model for SdkState<'a> {
 
     ghost coded = { Prim.hlevel (codes, counts_code) };
 
-    ghost view = { λ s. record { sources = s.tree.now; pips = s.pips; counts = s.counts } };
+    ghost view = { λ s. record { sources = s.tree.now; pips = s.pips.items; counts = s.counts } };
 }
 
 impl<'a> SdkState<'a> {
@@ -45,14 +45,14 @@ impl<'a> SdkState<'a> {
     {
         Ok(SdkState {
             tree,
-            pips: PipList::new(alloc),
+            pips: Vec::new(alloc),
             counts: Counts::new(alloc),
         })
     }
 
     /// The pips, in the order of the calls that made them.
-    pub fn into_pips(self) -> PipList
-        ensures { result ≡ self.entry.pips }
+    pub fn into_pips(self) -> Vec<Pip>
+        ensures { result.items ≡ self.entry.pips }
     {
         let SdkState {
             tree: _,
@@ -62,7 +62,8 @@ impl<'a> SdkState<'a> {
         pips
     }
 
-    /// Adds a pip that a call asks for, and gives its number.
+    /// Adds a pip that a call asks for, and gives its number. What it names as made is not looked at here: evaluation
+    /// makes no other pips than those that may come next.
     pub fn add(&mut self, site: &Site, kind: PipKind) -> Result<u32, SdkFault>
         ensures added { IfOk result (λ number. (value : ℕ → Plain)
             → with_pip site.now.file kind value self.old ≡ Ok (value number, self.new)) }
@@ -70,18 +71,19 @@ impl<'a> SdkState<'a> {
         ensures unchanged { OnErr result (self.new ≡ self.old) }
     {
         let spec = site.file.share()?;
-        let pip = Pip { spec, kind };
-        if self.pips.pips().len() >= MAX_NUMBERED_PIPS as usize || !self.pips.fits(&pip) {
+        let number = self.pips.len();
+        if number >= MAX_NUMBERED_PIPS as usize {
             return Err(SdkFault::Memory);
         }
-        Ok(self.pips.push(pip)?)
+        self.pips.push(Pip { spec, kind })?;
+        Ok(number as u32)
     }
 
     /// The pips, by number.
     pub fn pips(&self) -> &[Pip]
         ensures { result.now ≡ self.now.pips }
     {
-        self.pips.pips()
+        self.pips.as_slice()
     }
 
     /// The source files.

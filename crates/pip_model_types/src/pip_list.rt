@@ -36,6 +36,14 @@ impl PipList {
         }
     }
 
+    /// The list of these pips, each of which names as made only what a smaller one makes.
+    pub fn of(pips: Vec<Pip>) -> PipList
+        requires { IsPipList pips.items }
+        ensures { result ≡ pips.items }
+    {
+        PipList { pips }
+    }
+
     /// The pips, by number.
     pub fn pips(&self) -> &[Pip]
         ensures pips { result.now ≡ self.now }

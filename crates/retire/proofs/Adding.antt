@@ -43,7 +43,7 @@ use Rattle.retire.specs.Runs.{IsOfSuccess, RunsAs, SucceedsAt}
 use Rattle.retire.specs.Deciding as deciding
 use Rattle.retire.specs.Deciding.{Decides}
 use Rattle.retire.specs.Accepting.{IsAccepted}
-use Rattle.retire.specs.Counting.{is_accepted}
+use Rattle.retire.specs.Counting.{is_accepted, one_fault}
 use Rattle.retire.specs.Taking.{IsOfNow, TakesFrom, save_if, outcome_in, record_in, way_of}
 use Rattle.retire.specs.declared.deciding.Next.{Next}
 use Rattle.retire.specs.declared.taking.Taken.{Taken}
@@ -108,14 +108,15 @@ save_none false = refl
 -- ## One pip
 
 -- A pip adds nothing, and if it is a process that succeeds, something is usable for it; or it adds a record, which is that of its run but for pip numbers
--- in the description.
-pub data Adds (pips : List Pip) (tree : Files) (budget : ℕ) (S : Holdings) (n : ℕ) (kept : Option Facts) : Type 0 where
+-- in the description: and where its lookup did not fail, that run was accepted, or nothing is usable.
+pub data Adds (pips : List Pip) (tree : Files) (budget : ℕ) (S : Holdings) (n : ℕ) (slot : Held) (faults : ℕ) (kept : Option Facts) : Type 0 where
   nothing : kept ≡ None
       → ((d : Desc) (see : Ask → Answer) → RunsAs pips tree budget n d see → SucceedsAt pips tree budget n → Usable S d see × IsReadBack d)
-      → Adds pips tree budget S n kept
+      → Adds pips tree budget S n slot faults kept
   one : (r f : Facts) → kept ≡ Some r → IsSameWork r.desc f.desc → f ≡ at_desc f.desc r → (s : IsOfSuccess pips tree budget f) → s.pip ≡ n → Sound f
       → ((d : Desc) (see : Ask → Answer) → RunsAs pips tree budget n d see → (f.desc ≡ d) × (f.answers ≡ map see f.paths))
-      → Adds pips tree budget S n kept
+      → (faults ≡ 0 → IsAccepted f.desc s.see slot ⊎ (Usable S f.desc s.see → ⊥))
+      → Adds pips tree budget S n slot faults kept
 
 same_work : (d : Desc) → IsSameWork d d
 same_work d = record { process = refl; exe = refl; files = refl; budget = refl }
@@ -198,8 +199,10 @@ module _ (pips : List Pip) (tree : Files) (budget : ℕ) (n : ℕ) (vs : List Ve
 
     by_run : (p : ProcessDesc) (r f : Facts) → pip.kind ≡ Process p → slots_are_good pips (Process p) ss ≡ true → IsSameWork r.desc f.desc → f ≡ at_desc f.desc r
         → IsRun f (desc_now p) (view_now p) → Sound f → ended_result next.ended ≡ by_outcome pips tree (map slot_files ss) n f.outcome → (b : Bool)
-        → is_success next.ended.verdict ≡ b → next.saved ≡ save_if b (Some r) → Adds pips tree budget S n next.saved
-    by_run p r f is good work alike run sound result true e kept =
+        → is_success next.ended.verdict ≡ b → next.saved ≡ save_if b (Some r)
+        → (one_fault next.way ≡ 0 → IsAccepted f.desc (view_now p) slot ⊎ (Usable S f.desc (view_now p) → ⊥))
+        → Adds pips tree budget S n slot (one_fault next.way) next.saved
+    by_run p r f is good work alike run sound result true e kept ran =
         one r f kept work alike (record {
           pip = n;
           see = view_now p;
@@ -209,29 +212,34 @@ module _ (pips : List Pip) (tree : Files) (budget : ℕ) (n : ℕ) (vs : List Ve
           succeeds = succeeds e;
         }) refl sound
         (λ d see s. let same = only_run pip p at is d see s in (run.desc ∙ same.0, run.answers ∙ ap (λ (v : Ask → Answer). map v f.paths) same.1))
-    by_run p r f is good work alike run sound result false e kept =
+        ran
+    by_run p r f is good work alike run sound result false e kept ran =
         nothing kept (λ d see s yes. absurd (both_ways (is_success next.ended.verdict) e (is_good yes)))
 
     by_taken : (p : ProcessDesc) (t : Taken) → pip.kind ≡ Process p → slots_are_good pips (Process p) ss ≡ true → TakesFrom S (desc_now p) (view_now p) t
         → IsOfNow (desc_now p) (view_now p) slot t → ended_result next.ended ≡ by_outcome pips tree (map slot_files ss) n (outcome_in t)
-        → next.saved ≡ save_if (is_some reader && is_success next.ended.verdict) (record_in t) → Adds pips tree budget S n next.saved
-    by_taken p (takings.Accepted f) is good takes now result kept =
+        → next.way ≡ way_of t → next.saved ≡ save_if (is_some reader && is_success next.ended.verdict) (record_in t)
+        → Adds pips tree budget S n slot (one_fault next.way) next.saved
+    by_taken p (takings.Accepted f) is good takes now result way kept =
         by_run p f (at_desc (desc_now p) f) is good now.2.work refl (holds_run f (desc_now p) (view_now p) (depends (described f.desc)) now.1 now.2)
         (sound_at f (desc_now p) now.1 now.2.work) result (is_success next.ended.verdict) refl (saves_if (is_success next.ended.verdict) (Some f) kept refl)
-    by_taken p (takings.Hit found) is good takes now result kept =
+        (λ none. inl (subst (IsAccepted (desc_now p) (view_now p)) (sym now.0) now.2))
+    by_taken p (takings.Hit found) is good takes now result way kept =
         nothing (saves_if (is_success next.ended.verdict) None kept refl ∙ save_none (is_success next.ended.verdict)) (λ d see r yes.
         let same = only_run pip p at is d see r in
         let there : Usable S (desc_now p) (view_now p) × IsReadBack (desc_now p) = (hit_usable S (desc_now p) (view_now p) found takes.0, takes.1) in
         subst (λ (v : Ask → Answer). Usable S d v × IsReadBack d) same.1
         (subst (λ (x : Desc). Usable S x (view_now p) × IsReadBack x) same.0 there))
-    by_taken p (takings.Missed f) is good takes now result kept =
+    by_taken p (takings.Missed f) is good takes now result way kept =
         by_run p f f is good (same_work f.desc) refl now.2 now.1 result (is_success next.ended.verdict) refl (saves_if (is_success next.ended.verdict) (Some f) kept refl)
-    by_taken p (takings.Faulted f) is good takes now result kept =
+        (λ none. inr (λ usable. takes (subst (λ (x : Desc). Usable S x (view_now p)) now.2.desc usable)))
+    by_taken p (takings.Faulted f) is good takes now result way kept =
         by_run p f f is good (same_work f.desc) refl now.2 now.1 result (is_success next.ended.verdict) refl (saves_if (is_success next.ended.verdict) (Some f) kept refl)
+        (λ none. let one : one_fault next.way ≡ 1 = ap one_fault way in absurd (omega (arith, one, none)))
 
-    pub added_by : Decides pips tree budget reader slot ss n pip.kind next → Adds pips tree budget S n next.saved
+    pub added_by : Decides pips tree budget reader slot ss n pip.kind next → Adds pips tree budget S n slot (one_fault next.way) next.saved
     added_by (deciding.skipped e d) = nothing d.record_is (λ x see r yes. absurd (skips pip at e x see r))
     added_by (deciding.plain e none d) = nothing d.record_is (λ x see r yes. absurd (is_none pip at none x see r))
     added_by (deciding.process p e is d) =
         by_taken p d.taken is (subst (λ (k : PipKind). slots_are_good pips k ss ≡ true) is e)
-        (told_takes reader S (desc_now p) (view_now p) d.taken told d.takes) d.now d.result_is d.record_is
+        (told_takes reader S (desc_now p) (view_now p) d.taken told d.takes) d.now d.result_is d.way_is d.record_is

@@ -1,5 +1,5 @@
 -- What is put for a record is the same where the description is of the same work.
-use Rattle.std.proofs.Common.{◌≡◌, ℕ, zero, suc, List, [], ◌∷◌, ◌++◌, map, take, Some, sym, ap, ◌∙◌, subst, inl, inr}
+use Rattle.std.proofs.Common.{◌≡◌, ℕ, zero, suc, Bool, true, false, List, [], ◌∷◌, ◌++◌, map, take, Some, sym, ap, ◌∙◌, subst, inl, inr}
 use Rattle.sha2.specs.Sha256.{sha256}
 use Rattle.bx_tree.specs.Trees.{Files}
 use Rattle.bx_io.specs.Holdings.{Change, IsPrefix, Put, StoreTold}
@@ -25,7 +25,7 @@ use Rattle.two_phase_meaning.specs.Saving.{Spelled, answers_text, blobs_of, entr
 use Rattle.two_phase.specs.Putting.{IsListAt, PutsAll, PutsUpTo, planned}
 use Rattle.two_phase.specs.Applying.{AppliesAll}
 use Rattle.retire.specs.Deciding.{AreAlike}
-use Rattle.retire.specs.Saving.{PutsAllEach, PutsEach, PutsFirst}
+use Rattle.retire.specs.Saving.{PutsByMarks, PutsEach, PutsFirst, PutsIf}
 
 -- ## One record
 
@@ -134,12 +134,18 @@ first_alike rs fs before now h p = record {
   each = each_alike (take p.number rs) (take p.number fs) before now (alike_first p.number rs fs h) p.each;
 }
 
-pub all_alike : (rs fs : List Facts) (before now : StoreTold) → AreAlike rs fs → PutsAllEach before rs now → PutsAllEach before fs now
-all_alike [] [] before now h p = p
-all_alike [] (f ∷ fs) before now h p = absurd h
-all_alike (r ∷ rs) [] before now h p = absurd h
-all_alike (r ∷ rs) (f ∷ fs) before now h p = (
+-- one record, by its mark
+if_alike : (whole : Bool) (r : Facts) (d : Desc) → IsSameWork r.desc d → (before now : StoreTold) → PutsIf whole before now r → PutsIf whole before now (at_desc d r)
+if_alike true r d work before now p = all_of r d work before now p
+if_alike false r d work before now p = up_to r d work before now p
+
+pub marks_alike : (rs fs : List Facts) (marks : List Bool) (before now : StoreTold) → AreAlike rs fs → PutsByMarks before rs now marks → PutsByMarks before fs now marks
+marks_alike [] [] marks before now h p = p
+marks_alike [] (f ∷ fs) marks before now h p = absurd h
+marks_alike (r ∷ rs) [] marks before now h p = absurd h
+marks_alike (r ∷ rs) (f ∷ fs) [] before now h p = absurd p
+marks_alike (r ∷ rs) (f ∷ fs) (m ∷ ms) before now h p = (
   p.0,
-  subst (λ (g : Facts). PutsAll before p.0 g) (sym h.0.1) (all_of r f.desc h.0.0 before p.0 p.1),
-  all_alike rs fs p.0 now h.1 p.2,
+  subst (λ (g : Facts). PutsIf m before p.0 g) (sym h.0.1) (if_alike m r f.desc h.0.0 before p.0 p.1),
+  marks_alike rs fs ms p.0 now h.1 p.2,
 )

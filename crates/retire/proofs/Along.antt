@@ -1,6 +1,7 @@
 -- A build follows the sequential build, over an honest store or without one.
 use Rattle.std.proofs.Common.{◌≡◌, ℕ, true, cond, List, [], ◌∷◌, drop, length, map, take, Option, Some, refl, sym, ap, ◌∙◌, subst, inl, inr, arith}
 use Rattle.std.specs.Prelude.{slice_get}
+use Rattle.bx_tree.specs.Members.{Has}
 use Rattle.bx_tree.specs.Trees.{Files}
 use Rattle.bx_io.specs.Holdings.{Holdings}
 use Rattle.pip_model_types.specs.declared.desc.Desc.{Desc}
@@ -52,9 +53,12 @@ use Rattle.retire.specs.declared.taking.Taken.TheVariants as takings
 -- ## What a process takes
 
 leads_to : (S : Holdings) (d : Desc) (see : Ask → Answer) (list : List Selector) (f : FoundParts) → FirstLeadsTo S d see list f
-    → (s : Selector) × LeadsTo S d see s f
+    → (s : Selector) × Has list s × LeadsTo S d see s f
 leads_to S d see [] f h = absurd h
-leads_to S d see (s ∷ rest) f h = elim h [ inl here ↦ (s, here) | inr later ↦ leads_to S d see rest f later.1 ]
+leads_to S d see (s ∷ rest) f h = elim h [
+  | inl here ↦ (s, inl refl, here)
+  | inr later ↦ let lead = leads_to S d see rest f later.1 in (lead.0, inr lead.1, lead.2)
+]
 
 pub ran_is : (f : Facts) (d : Desc) (see : Ask → Answer) → IsRun f d see → f.outcome ≡ ran d see
 ran_is f d see run = sym run.run.outcome ∙ ap (λ (x : Desc). outcome_of (described x) (run_for d see)) run.desc
@@ -69,8 +73,9 @@ pub takes_outcome : (S : Holdings) (d : Desc) (see : Ask → Answer) (slot : Hel
 takes_outcome S d see slot (takings.Accepted f) honest apart h now = accepted_ran f d see now.1 now.2
 takes_outcome S d see slot (takings.Hit f) honest apart h now =
     let lead = leads_to S d see h.0.list f h.0.first in
-    let good : IsGoodRun (described d) see lead.1.usable.asks lead.1.usable.files = found S d see honest h.1 apart lead.0 lead.1.usable in
-    sym (good.outcome ∙ ap Good lead.1.files_are)
+    let good : IsGoodRun (described d) see lead.2.usable.asks lead.2.usable.files =
+    found S d see honest h.1 apart lead.0 lead.2.usable (h.0.list, h.0.held, (lead.0, lead.1, refl)) in
+    sym (good.outcome ∙ ap Good lead.2.files_are)
 takes_outcome S d see slot (takings.Missed f) honest apart h now = ran_is f d see now.2
 takes_outcome S d see slot (takings.Faulted f) honest apart h now = ran_is f d see now.2
 

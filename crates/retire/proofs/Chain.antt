@@ -59,7 +59,7 @@ module _ (M : List ℕ → Type 0) (apart : NoCollision M) where
       met_of : (z : List ℕ) → ComparedInSave held f z → M z
       met_of z h = elim h [ inl there ↦ within z there | inr put ↦ ready.met z put ]
 
-  step_within : (held : Holdings) (f : Facts) (before between : StoreTold) → Within held → IsReady M f → (p : PutsUpTo before between f)
+  pub step_within : (held : Holdings) (f : Facts) (before between : StoreTold) → Within held → IsReady M f → (p : PutsUpTo before between f)
       → (done : Made held before p.first between) → Within (holdings_after held done.made)
   step_within held f before between within ready p done x h =
       elim (contents_added held f (with_first (record_selector f) p.old) p.first p.is_first x (subst (λ (S : Holdings). HoldsBlob S x) done.same h)) [

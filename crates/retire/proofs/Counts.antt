@@ -197,7 +197,39 @@ good_at pips tree budget reader slot ss n next fs None d h = absurd d
 good_at pips tree budget reader slot ss n next fs (Some pip) d h =
     with_saved fs next.saved h (decided_good pips tree budget reader slot ss n pip.kind next d)
 
--- one pip adds one record at most
-pub few_more : (fs : List Facts) (kept : Option Facts) (n : ℕ) → length fs ≤ n → length (fs ++ option_to_list kept) ≤ n + 1
-few_more fs None n l = let same = ap length (append-nil fs) in omega (arith, same, l)
-few_more fs (Some f) n l = let more = length-append fs (f ∷ []) in omega (arith, more, l)
+-- ## Records of runs
+
+-- one, where the tool of the pip ran
+abbrev pub one_ran : Way → ℕ
+one_ran way = one_accepted way + (one_miss way + one_fault way)
+
+taken_ran : (t : Taken) (b : Bool) → length (option_to_list (save_if b (record_in t))) ≤ one_ran (way_of t)
+taken_ran (takings.Accepted f) true = omega arith
+taken_ran (takings.Accepted f) false = omega arith
+taken_ran (takings.Hit found) true = omega arith
+taken_ran (takings.Hit found) false = omega arith
+taken_ran (takings.Missed f) true = omega arith
+taken_ran (takings.Missed f) false = omega arith
+taken_ran (takings.Faulted f) true = omega arith
+taken_ran (takings.Faulted f) false = omega arith
+
+decided_ran : (pips : List Pip) (tree : Files) (budget : ℕ) (reader : Option ReaderData) (slot : Held) (ss : List Slot) (n : ℕ) (kind : PipKind) (next : Next)
+    → Decides pips tree budget reader slot ss n kind next → length (option_to_list next.saved) ≤ one_ran next.way
+decided_ran pips tree budget reader slot ss n kind next (deciding.skipped e d) =
+    let none = ap (λ (o : Option Facts). length (option_to_list o)) d.record_is in omega (arith, none)
+decided_ran pips tree budget reader slot ss n kind next (deciding.plain e none d) =
+    let none = ap (λ (o : Option Facts). length (option_to_list o)) d.record_is in omega (arith, none)
+decided_ran pips tree budget reader slot ss n kind next (deciding.process p e is d) =
+    let saved = ap (λ (o : Option Facts). length (option_to_list o)) d.record_is in
+    let ways = ap one_ran d.way_is in
+    let one = taken_ran d.taken (is_some reader && is_success next.ended.verdict) in
+    omega (arith, saved, ways, one)
+
+-- one pip adds one record at most, and none where no tool of it ran
+pub ran_more : (pips : List Pip) (tree : Files) (budget : ℕ) (reader : Option ReaderData) (slot : Held) (ss : List Slot) (n : ℕ) (next : Next) (fs : List Facts) (o : Option Pip)
+    → DecidesAt pips tree budget reader slot ss n o next → length (fs ++ option_to_list next.saved) ≤ length fs + one_ran next.way
+ran_more pips tree budget reader slot ss n next fs None d = absurd d
+ran_more pips tree budget reader slot ss n next fs (Some pip) d =
+    let long = length-append fs (option_to_list next.saved) in
+    let one = decided_ran pips tree budget reader slot ss n pip.kind next d in
+    omega (arith, long, one)

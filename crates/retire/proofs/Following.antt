@@ -1,5 +1,5 @@
 -- A build, one pip after another.
-use Rattle.std.proofs.Common.{◌≡◌, ℕ, suc, ◌+◌, ◌<◌, ◌≤◌, Bool, true, List, [], ◌∷◌, ◌++◌, drop, get_or, length, Option, Some, None, refl, sym, ap, ◌∙◌, subst, inl, inr, arith, append-nil, length-append}
+use Rattle.std.proofs.Common.{◌≡◌, ◌⊎◌, ℕ, suc, ◌+◌, ◌<◌, ◌≤◌, Bool, true, List, [], ◌∷◌, ◌++◌, drop, get_or, length, Option, Some, None, refl, sym, ap, ◌∙◌, subst, inl, inr, arith, append-nil, length-append}
 use Rattle.std.specs.Prelude.{◌↔◌, slice_get}
 use Rattle.std.specs.List.{AllByRecursion}
 use Rattle.std.specs.Option.{option_to_list}
@@ -16,6 +16,7 @@ use Rattle.pip_model_types.specs.declared.pip.Pip.{Pip}
 use Rattle.observed.specs.declared.ask.Ask.{Ask}
 use Rattle.observed.specs.declared.access.Answer.{Answer}
 use Rattle.run_record.specs.Facts.{Facts, Sound}
+use Rattle.two_phase_meaning.specs.Usable.{Usable}
 use Rattle.violations.specs.Verdicts.{is_success}
 use Rattle.violations.specs.declared.verdict.Verdict.{Verdict}
 use Rattle.one_thread.specs.OneThread.{Result, result_of}
@@ -23,7 +24,7 @@ use Rattle.one_thread.specs.Views.{ended_in, ended_result, is_good_slot, results
 use Rattle.one_thread.proofs.GoingThrough.{IsSoFar, begun, ended_is, files_built, next_built, results_more, verdicts_built}
 use Rattle.retire.specs.HitSet.{HitsFrom, IsHitSet, PipHits}
 use Rattle.retire.specs.Runs.{RunsAs, SucceedsAt}
-use Rattle.retire.specs.Builds.{Between}
+use Rattle.retire.specs.Builds.{Between, IsOfRun}
 use Rattle.retire.specs.Accepting.{AreAccepted, IsAccepted, is_marked, others_from, without_run}
 use Rattle.retire.specs.Counting.{is_accepted, one_fault, one_hit, one_miss}
 use Rattle.retire.specs.Counts.{CountsAgainst, verdicts_there}
@@ -50,7 +51,7 @@ pub record FollowsTo (pips : List Pip) (tree : Files) (budget : ℕ) (slots : Li
   pub accepted : (i : ℕ) (d : Desc) (see : Ask → Answer) → i < n → RunsAs pips tree budget i d see → (is_marked marks i ≡ true) ↔ IsAccepted d see (slot_at slots i)
 
 -- What is kept over a store: the hits against those that the store would spare, and for each that succeeds something usable or its record.
-pub record KeepsTo (pips : List Pip) (tree : Files) (budget : ℕ) (S : Holdings) (n : ℕ) (vs : List Verdict) (ss : List Slot) (marks : List Bool) (fs : List Facts)
+pub record KeepsTo (pips : List Pip) (tree : Files) (budget : ℕ) (slots : List Held) (S : Holdings) (n : ℕ) (vs : List Verdict) (ss : List Slot) (marks : List Bool) (fs : List Facts)
     (hits missed faulted : ℕ) : Type 0 where
   pub counted : (numbers : List ℕ) → IsHitSet pips tree budget S numbers
       → Counted pips vs marks numbers (HitsFrom pips tree budget S (results_of vs ss) n (drop n pips)) hits missed faulted
@@ -59,6 +60,7 @@ pub record KeepsTo (pips : List Pip) (tree : Files) (budget : ℕ) (S : Holdings
   pub successes : Between pips tree budget 0 n records
   pub sounds : AllByRecursion Sound records
   pub all_there : (i : ℕ) (d : Desc) (see : Ask → Answer) → i < n → RunsAs pips tree budget i d see → SucceedsAt pips tree budget i → IsThere S records d see
+  pub of_runs : faulted ≡ 0 → AllByRecursion (IsOfRun pips tree budget S slots) records
 
 -- no number is left
 abbrev pub IsEmpty : List ℕ → Type 0
@@ -114,19 +116,20 @@ counts_none pips vs marks no_vs no_marks =
     subst (λ (us : List Verdict). CountsTo pips us marks 0 0 0) (sym no_vs)
     (subst (λ (ms : List Bool). CountsTo pips [] ms 0 0 0) (sym no_marks) (counted_none pips [] IsEmpty refl))
 
-pub keeps_none : (pips : List Pip) (tree : Files) (budget : ℕ) (S : Holdings) (vs : List Verdict) (ss : List Slot) (marks : List Bool) (fs : List Facts) → vs ≡ [] → ss ≡ []
-    → marks ≡ [] → fs ≡ [] → KeepsTo pips tree budget S 0 vs ss marks fs 0 0 0
-keeps_none pips tree budget S vs ss marks fs no_vs no_ss no_marks no_fs =
-    subst (λ (gs : List Facts). KeepsTo pips tree budget S 0 vs ss marks gs 0 0 0) (sym no_fs)
-    (subst (λ (us : List Verdict). KeepsTo pips tree budget S 0 us ss marks [] 0 0 0) (sym no_vs)
-    (subst (λ (ts : List Slot). KeepsTo pips tree budget S 0 [] ts marks [] 0 0 0) (sym no_ss)
-    (subst (λ (ms : List Bool). KeepsTo pips tree budget S 0 [] [] ms [] 0 0 0) (sym no_marks) (record {
+pub keeps_none : (pips : List Pip) (tree : Files) (budget : ℕ) (slots : List Held) (S : Holdings) (vs : List Verdict) (ss : List Slot) (marks : List Bool) (fs : List Facts) → vs ≡ [] → ss ≡ []
+    → marks ≡ [] → fs ≡ [] → KeepsTo pips tree budget slots S 0 vs ss marks fs 0 0 0
+keeps_none pips tree budget slots S vs ss marks fs no_vs no_ss no_marks no_fs =
+    subst (λ (gs : List Facts). KeepsTo pips tree budget slots S 0 vs ss marks gs 0 0 0) (sym no_fs)
+    (subst (λ (us : List Verdict). KeepsTo pips tree budget slots S 0 us ss marks [] 0 0 0) (sym no_vs)
+    (subst (λ (ts : List Slot). KeepsTo pips tree budget slots S 0 [] ts marks [] 0 0 0) (sym no_ss)
+    (subst (λ (ms : List Bool). KeepsTo pips tree budget slots S 0 [] [] ms [] 0 0 0) (sym no_marks) (record {
       counted = λ numbers set. counted_none pips numbers (HitsFrom pips tree budget S (results_of [] []) 0 (drop 0 pips)) set;
       records = [];
       alike = tt;
       successes = omega arith;
       sounds = tt;
       all_there = λ i d see l runs succeeds. absurd (omega (arith, l));
+      of_runs = λ none. tt;
     }))))
 
 -- ## One pip more
@@ -210,7 +213,7 @@ module _ (pips : List Pip) (tree : Files) (budget : ℕ) (slots : List Held) (n 
 
     -- ## Over a store
 
-    module _ (S : Holdings) (told : IsTold reader S) (fs : List Facts) (hits missed faulted : ℕ) (keeps : KeepsTo pips tree budget S n vs ss marks fs hits missed faulted) where
+    module _ (S : Holdings) (told : IsTold reader S) (fs : List Facts) (hits missed faulted : ℕ) (keeps : KeepsTo pips tree budget slots S n vs ss marks fs hits missed faulted) where
       results_are : results_of vs ss ++ result_of pips tree budget (results_of vs ss) n pip.kind ∷ [] ≡ results_of new_vs new_ss
       results_are =
           ap (λ (r : Result). results_of vs ss ++ r ∷ [])
@@ -245,13 +248,13 @@ module _ (pips : List Pip) (tree : Files) (budget : ℕ) (slots : List Held) (n 
       last : slice_get (adding.all_verdicts pips tree budget) n ≡ Some next.ended.verdict
       last = verdict_last pips tree budget n vs ss next.ended.verdict next.ended.slot so.so_far.verdicts so.so_far.slots so_far_more
 
-      added : Adds pips tree budget S n next.saved
+      added : Adds pips tree budget S n (slot_at slots n) (one_fault next.way) next.saved
       added =
           added_by pips tree budget n vs ss so.so_far S reader told (slot_at slots n) pip next at (verdict_success pips tree budget n next.ended.verdict last)
           (success_verdict pips tree budget n next.ended.verdict last) d
 
-      step_by : Adds pips tree budget S n next.saved
-          → KeepsTo pips tree budget S (n + 1) new_vs new_ss new_marks (fs ++ option_to_list next.saved) (hits + one_hit next.way) (missed + one_miss next.way)
+      step_by : Adds pips tree budget S n (slot_at slots n) (one_fault next.way) next.saved
+          → KeepsTo pips tree budget slots S (n + 1) new_vs new_ss new_marks (fs ++ option_to_list next.saved) (hits + one_hit next.way) (missed + one_miss next.way)
           (faulted + one_fault next.way)
       step_by (adding.nothing none there) = record {
         counted = counted_more;
@@ -265,8 +268,9 @@ module _ (pips : List Pip) (tree : Files) (budget : ℕ) (slots : List Held) (n 
           | inr same ↦
               inl (there d' see (subst (λ k. RunsAs pips tree budget k d' see) same runs) (subst (SucceedsAt pips tree budget) same succeeds))
         ];
+        of_runs = λ unfailed. keeps.of_runs (omega (arith, unfailed));
       }
-      step_by (adding.one r f kept work alike s number sound there) = record {
+      step_by (adding.one r f kept work alike s number sound there ran) = record {
         counted = counted_more;
         records = keeps.records ++ f ∷ [];
         alike =
@@ -280,9 +284,15 @@ module _ (pips : List Pip) (tree : Files) (budget : ℕ) (slots : List Held) (n 
               let is = there d' see (subst (λ k. RunsAs pips tree budget k d' see) same runs) in
               inr (f, has_last keeps.records f, is.0, is.1)
         ];
+        of_runs = λ unfailed.
+            all_push (IsOfRun pips tree budget S slots) keeps.records f (keeps.of_runs (omega (arith, unfailed))) (record {
+              success = s;
+              ran =
+                  subst (λ k. IsAccepted f.desc s.see (slot_at slots k) ⊎ (Usable S f.desc s.see → ⊥)) (sym number) (ran (omega (arith, unfailed)));
+            });
       }
 
-      keeps_at : KeepsTo pips tree budget S (n + 1) new_vs new_ss new_marks (fs ++ option_to_list next.saved) (hits + one_hit next.way) (missed + one_miss next.way)
+      keeps_at : KeepsTo pips tree budget slots S (n + 1) new_vs new_ss new_marks (fs ++ option_to_list next.saved) (hits + one_hit next.way) (missed + one_miss next.way)
           (faulted + one_fault next.way)
       keeps_at = step_by added
 
@@ -298,8 +308,8 @@ module _ (pips : List Pip) (tree : Files) (budget : ℕ) (slots : List Held) (n 
   counts_more (Some pip) at d none hits missed faulted c = counts_at pip at d none hits missed faulted c
 
   pub keeps_more : (o : Option Pip) → slice_get pips n ≡ o → DecidesAt pips tree budget reader (slot_at slots n) ss n o next → (S : Holdings) → IsTold reader S
-      → (fs : List Facts) (hits missed faulted : ℕ) → KeepsTo pips tree budget S n vs ss marks fs hits missed faulted
-      → KeepsTo pips tree budget S (n + 1) new_vs new_ss new_marks (fs ++ option_to_list next.saved) (hits + one_hit next.way) (missed + one_miss next.way)
+      → (fs : List Facts) (hits missed faulted : ℕ) → KeepsTo pips tree budget slots S n vs ss marks fs hits missed faulted
+      → KeepsTo pips tree budget slots S (n + 1) new_vs new_ss new_marks (fs ++ option_to_list next.saved) (hits + one_hit next.way) (missed + one_miss next.way)
       (faulted + one_fault next.way)
   keeps_more None at d S told fs hits missed faulted keeps = absurd d
   keeps_more (Some pip) at d S told fs hits missed faulted keeps = keeps_at pip at d S told fs hits missed faulted keeps
@@ -322,17 +332,17 @@ counts_as pips vs us marks ms h k m j f g e1 e2 e3 e4 e5 so =
     (subst (λ (x : List Bool). CountsTo pips us x h m f) (sym e2)
     (subst (λ (x : List Verdict). CountsTo pips x marks h m f) (sym e1) so))))
 
-pub keeps_as : (pips : List Pip) (tree : Files) (budget : ℕ) (S : Holdings) (n : ℕ) (vs us : List Verdict) (ss ts : List Slot) (marks ms : List Bool) (fs gs : List Facts)
-    (h k m j f g : ℕ) → us ≡ vs → ts ≡ ss → ms ≡ marks → gs ≡ fs → k ≡ h → j ≡ m → g ≡ f → KeepsTo pips tree budget S n vs ss marks fs h m f
-    → KeepsTo pips tree budget S n us ts ms gs k j g
-keeps_as pips tree budget S n vs us ss ts marks ms fs gs h k m j f g e1 e2 e3 e4 e5 e6 e7 so =
-    subst (λ x. KeepsTo pips tree budget S n us ts ms gs k j x) (sym e7)
-    (subst (λ x. KeepsTo pips tree budget S n us ts ms gs k x f) (sym e6)
-    (subst (λ x. KeepsTo pips tree budget S n us ts ms gs x m f) (sym e5)
-    (subst (λ (x : List Facts). KeepsTo pips tree budget S n us ts ms x h m f) (sym e4)
-    (subst (λ (x : List Bool). KeepsTo pips tree budget S n us ts x fs h m f) (sym e3)
-    (subst (λ (x : List Slot). KeepsTo pips tree budget S n us x marks fs h m f) (sym e2)
-    (subst (λ (x : List Verdict). KeepsTo pips tree budget S n x ss marks fs h m f) (sym e1) so))))))
+pub keeps_as : (pips : List Pip) (tree : Files) (budget : ℕ) (slots : List Held) (S : Holdings) (n : ℕ) (vs us : List Verdict) (ss ts : List Slot) (marks ms : List Bool) (fs gs : List Facts)
+    (h k m j f g : ℕ) → us ≡ vs → ts ≡ ss → ms ≡ marks → gs ≡ fs → k ≡ h → j ≡ m → g ≡ f → KeepsTo pips tree budget slots S n vs ss marks fs h m f
+    → KeepsTo pips tree budget slots S n us ts ms gs k j g
+keeps_as pips tree budget slots S n vs us ss ts marks ms fs gs h k m j f g e1 e2 e3 e4 e5 e6 e7 so =
+    subst (λ x. KeepsTo pips tree budget slots S n us ts ms gs k j x) (sym e7)
+    (subst (λ x. KeepsTo pips tree budget slots S n us ts ms gs k x f) (sym e6)
+    (subst (λ x. KeepsTo pips tree budget slots S n us ts ms gs x m f) (sym e5)
+    (subst (λ (x : List Facts). KeepsTo pips tree budget slots S n us ts ms x h m f) (sym e4)
+    (subst (λ (x : List Bool). KeepsTo pips tree budget slots S n us ts x fs h m f) (sym e3)
+    (subst (λ (x : List Slot). KeepsTo pips tree budget slots S n us x marks fs h m f) (sym e2)
+    (subst (λ (x : List Verdict). KeepsTo pips tree budget slots S n x ss marks fs h m f) (sym e1) so))))))
 
 -- ## At the end
 
@@ -378,18 +388,21 @@ module _ (pips : List Pip) (tree : Files) (budget : ℕ) (slots : List Held) (n 
         late_at_most = omega (arith, all.late_at_most, zero);
       }
 
-  module _ (S : Holdings) (fs : List Facts) (hits missed faulted : ℕ) (keeps : KeepsTo pips tree budget S n vs ss marks fs hits missed faulted) where
-    pub records_all : RecordsAll pips tree budget S fs
-    records_all = record {
-      facts = keeps.records;
-      alike = keeps.alike;
-      high = n;
-      successes = keeps.successes;
-      sounds = keeps.sounds;
-      all_there = λ i d see runs succeeds.
-          let less : i < length pips = process_within pips i d tree budget see runs in
-          keeps.all_there i d see (omega (arith, less, past)) runs succeeds;
-    }
+  module _ (S : Holdings) (fs : List Facts) (hits missed faulted : ℕ) (keeps : KeepsTo pips tree budget slots S n vs ss marks fs hits missed faulted) where
+    pub records_all : (all : RecordsAll pips tree budget S fs) × (faulted ≡ 0 → AllByRecursion (IsOfRun pips tree budget S slots) all.facts)
+    records_all = (
+      record {
+        facts = keeps.records;
+        alike = keeps.alike;
+        high = n;
+        successes = keeps.successes;
+        sounds = keeps.sounds;
+        all_there = λ i d see runs succeeds.
+            let less : i < length pips = process_within pips i d tree budget see runs in
+            keeps.all_there i d see (omega (arith, less, past)) runs succeeds;
+      },
+      keeps.of_runs,
+    )
 
     pub counts_over : (numbers : List ℕ) → IsHitSet pips tree budget S numbers
         → CountsAgainst pips (verdicts_there pips tree budget) marks numbers hits (missed + faulted) faulted

@@ -1,4 +1,4 @@
--- Of slots that are all empty no run is accepted.
+-- Where no slot is an accepted run, what a store would spare is left to it.
 use Rattle.std.proofs.Common.{◌≡◌, ◌⊎◌, ℕ, zero, suc, ◌+◌, ◌<◌, Bool, false, List, [], ◌∷◌, ◌++◌, length, take, Some, refl, sym, ap, ◌∙◌, subst, inl, inr, arith, append_assoc, length-append}
 use Rattle.std.specs.Prelude.{slice_get}
 use Rattle.std.specs.List.{All, AllByRecursion}
@@ -32,7 +32,7 @@ empty_slot [] (suc i) h = inr refl
 empty_slot (s ∷ ss) zero h = inl (h 0 s (omega arith))
 empty_slot (s ∷ ss) (suc i) h = empty_slot ss i (λ k d l. h (suc k) d (omega (arith, l)))
 
-none_accepted : (slots : List Held) (i : ℕ) (d : Desc) (see : Ask → Answer) → All (λ (slot : Held). slot ≡ held.Empty) slots → IsAccepted d see (slot_at slots i) → ⊥
+pub none_accepted : (slots : List Held) (i : ℕ) (d : Desc) (see : Ask → Answer) → All (λ (slot : Held). slot ≡ held.Empty) slots → IsAccepted d see (slot_at slots i) → ⊥
 none_accepted slots i d see h holds = elim (empty_slot slots i h) [
   | inl empty ↦ subst (IsAccepted d see) empty holds
   | inr skipped ↦ subst (IsAccepted d see) skipped holds
@@ -58,11 +58,11 @@ one_longer : {X : Type 0} (xs : List X) (x : X) (i : ℕ) → length xs ≡ i �
 one_longer xs x i e = length-append xs (x ∷ []) ∙ ap (λ n. n + 1) e
 
 module _ (pips : List Pip) (tree : Files) (budget : ℕ) (S : Holdings) (slots : List Held) (marks : List Bool)
-    (empty : All (λ (slot : Held). slot ≡ held.Empty) slots) (are : AreAccepted pips tree budget slots marks) where
+    (none : (i : ℕ) (d : Desc) (see : Ask → Answer) → IsAccepted d see (slot_at slots i) → ⊥) (are : AreAccepted pips tree budget slots marks) where
   -- a process that runs has no mark
   unmarked : (i : ℕ) (d : Desc) (see : Ask → Answer) → RunsAs pips tree budget i d see → is_marked marks i ≡ false
   unmarked i d see runs = elim (cases_Bool (is_marked marks i)) [
-    | inl marked ↦ absurd (none_accepted slots i d see empty ((are i d see runs).0 marked))
+    | inl marked ↦ absurd (none i d see ((are i d see runs).0 marked))
     | inr other ↦ other
   ]
 

@@ -221,20 +221,29 @@ module _ (pips : List Pip) (tree : Files) (list : IsPipList pips) (keeps : Keeps
         ]
       ]
 
+  -- Two processes of the build of which the weak texts say the same are one.
+  one_by_parts : (budget : ℕ) (i j : ℕ) (d e : Desc) (see view : Ask → Answer) → RunsAs pips tree budget i d see → RunsAs pips tree budget j e view
+      → weak_parts d ≡ weak_parts e → i ≡ j
+  one_by_parts budget i j d e see view runs others parts =
+      let a = process_is (slice_get pips i) runs.process runs.is_process in
+      let b = process_is (slice_get pips j) others.process others.is_process in
+      twins i j a.0 b.0 runs.process others.process a.1 b.1 a.2 b.2
+      (one_description i j a.0 b.0 runs.process others.process
+      (inputs_after pips (Process runs.process) (results_before pips tree budget i))
+      (inputs_after pips (Process others.process) (results_before pips tree budget j)) budget a.1 b.1 a.2 b.2
+      (ap weak_parts runs.desc_is ∙ parts ∙ ap weak_parts (sym others.desc_is)))
+
+  pub one_described : (budget : ℕ) (i j : ℕ) (d e : Desc) (see view : Ask → Answer) → RunsAs pips tree budget i d see → RunsAs pips tree budget j e view → d ≡ e → i ≡ j
+  one_described budget i j d e see view runs others same = one_by_parts budget i j d e see view runs others (ap weak_parts same)
+
   -- Two processes of the build whose weak texts have one digest are one.
   pub one_process : (budget : ℕ) (S : Holdings) (i j : ℕ) (d e : Desc) (see view : Ask → Answer) → NoCollision (Compared pips tree budget S)
       → RunsAs pips tree budget i d see → RunsAs pips tree budget j e view → IsReadBack d → IsReadBack e → weak_of d ≡ weak_of e → i ≡ j
   one_process budget S i j d e see view apart runs others read_d read_e same =
-      let a = process_is (slice_get pips i) runs.process runs.is_process in
-      let b = process_is (slice_get pips j) others.process others.is_process in
       let text : weak_text (weak_parts d) ≡ weak_text (weak_parts e) =
       apart (weak_text (weak_parts d)) (weak_text (weak_parts e))
       (run_met pips tree budget S (weak_text (weak_parts d)) i d see runs (met.weak refl))
       (run_met pips tree budget S (weak_text (weak_parts e)) j e view others (met.weak refl)) same in
       let parts : weak_parts d ≡ weak_parts e =
       same_Some (weak_parts d) (weak_parts e) (sym read_d ∙ ap read_weak_text text ∙ read_e) in
-      twins i j a.0 b.0 runs.process others.process a.1 b.1 a.2 b.2
-      (one_description i j a.0 b.0 runs.process others.process
-      (inputs_after pips (Process runs.process) (results_before pips tree budget i))
-      (inputs_after pips (Process others.process) (results_before pips tree budget j)) budget a.1 b.1 a.2 b.2
-      (ap weak_parts runs.desc_is ∙ parts ∙ ap weak_parts (sym others.desc_is)))
+      one_by_parts budget i j d e see view runs others parts

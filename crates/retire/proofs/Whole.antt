@@ -1,8 +1,9 @@
 -- What a whole build gives and leaves, by what its steps say.
-use Rattle.std.proofs.Common.{◌≡◌, ℕ, ◌+◌, ◌≤◌, Bool, true, false, List, [], map, Option, Some, None, refl, sym, ap, ◌∙◌, subst, inl, arith}
+use Rattle.std.proofs.Common.{◌≡◌, ℕ, ◌+◌, ◌≤◌, Bool, true, false, List, [], ◌∷◌, length, map, Option, Some, None, refl, sym, ap, ◌∙◌, subst, inl, inr, arith}
 use Rattle.std.specs.Prelude.{IfSome, IsSome, is_some}
 use Rattle.std.specs.List.{AllByRecursion}
 use Rattle.std.proofs.lemmas.Option.{same_Some}
+use Rattle.bx_tree.specs.Members.{Has}
 use Rattle.bx_tree.specs.Trees.{Files}
 use Rattle.bx_io.specs.Causes.{IsWithin}
 use Rattle.bx_io.specs.Holdings.{Change, Holdings, Keeps, StoreTold, held_in, holdings_after}
@@ -22,17 +23,18 @@ use Rattle.one_thread.proofs.KeptApart.{are_outputs}
 use Rattle.one_thread.specs.OneThread.{all_made, made_by, one_thread, outputs_of, put_all, run_count}
 use Rattle.retire.specs.Runs.{NoneReserved}
 use Rattle.retire.specs.Accepting.{AreAccepted}
-use Rattle.retire.specs.Builds.{Fair, IsBuild, IsFair, LeavesFair, LeavesUsable}
+use Rattle.retire.specs.Builds.{Fair, IsBuild, IsFair, IsOfRun, LeavesFair, LeavesUsable, LeavesUsableBut, SavesRuns}
 use Rattle.retire.specs.Counts.{CountsAgainst, CountsOver, CountsWithin, verdicts_there}
 use Rattle.retire.specs.Deciding.{FollowsAll, RecordsAll}
 use Rattle.retire.specs.HitSet.{IsHitSet}
-use Rattle.retire.specs.Saving.{IsSuccess, OnlyPuts, PutsAllEach, PutsFirst}
+use Rattle.retire.specs.Saving.{IsSuccess, OnlyPuts, PutsAllBut, PutsFirst, SavesAtMost}
 use Rattle.two_phase.specs.Reading.{ReaderData, ReadsIfAny, ReadsOn}
 use Rattle.retire.proofs.Told.{IsTold}
 use Rattle.sched_board_slots.specs.declared.held.Held.{Held}
-use Rattle.retire.proofs.Leaving.{leaves_fair, leaves_usable}
+use Rattle.retire.proofs.Alike.{first_alike}
+use Rattle.retire.proofs.Leaving.{leaves_fair, leaves_usable_but}
 use Rattle.retire.proofs.Sparing.{others_and, without_few}
-use Rattle.retire.proofs.Putting.{keeps_all_each, keeps_first}
+use Rattle.retire.proofs.Putting.{keeps_but, keeps_first}
 use Rattle.two_phase.proofs.Prefixes.{some_of}
 
 -- ## What is given
@@ -139,6 +141,23 @@ pub only_put : (before between now : StoreTold) (fs given : List Facts) → Keep
 only_put before between now fs given keeps good same puts =
     (fs, good, keeps_first fs before between now keeps (subst (λ (gs : List Facts). PutsFirst between gs now) same puts))
 
+-- no more of them than there were runs
+pub saves_most : (before between now : StoreTold) (fs given : List Facts) (most : ℕ) → Keeps before between → AllByRecursion IsSuccess fs → given ≡ fs
+    → PutsFirst between given now → length fs ≤ most → SavesAtMost most before now
+saves_most before between now fs given most keeps good same puts few =
+    (fs, few, good, keeps_first fs before between now keeps (subst (λ (gs : List Facts). PutsFirst between gs now) same puts))
+
+-- and where no lookup failed, none of them of a process that hit
+pub saves_runs : (pips : List Pip) (tree : Files) (budget : ℕ) (S : Holdings) (slots : List Held) (before between now : StoreTold) (fs given : List Facts)
+    → Keeps before between → (all : RecordsAll pips tree budget S fs) → AllByRecursion (IsOfRun pips tree budget S slots) all.facts → given ≡ fs
+    → PutsFirst between given now → SavesRuns pips tree budget S slots before now
+saves_runs pips tree budget S slots before between now fs given keeps all ran same puts = (
+  all.facts,
+  ran,
+  keeps_first all.facts before between now keeps
+      (first_alike fs all.facts between now all.alike (subst (λ (gs : List Facts). PutsFirst between gs now) same puts)),
+)
+
 pub leaves_saved : (pips : List Pip) (tree : Files) (budget : ℕ) (held : Holdings) (before between now : StoreTold) (fs given : List Facts) → held_in before ≡ Some held
     → Keeps before between → IsSome (held_in now) → RecordsAll pips tree budget held fs → IsFair pips tree budget held → given ≡ fs → PutsFirst between given now
     → LeavesFair pips tree budget held before now
@@ -146,12 +165,26 @@ leaves_saved pips tree budget held before between now fs given was keeps tells f
     leaves_fair pips tree budget held before was fs follows fair now tells
     (keeps_first fs before between now keeps (subst (λ (gs : List Facts). PutsFirst between gs now) same puts))
 
-pub leaves_all : (pips : List Pip) (tree : Files) (budget : ℕ) (held : Holdings) (before between now : StoreTold) (fs given : List Facts) → held_in before ≡ Some held
-    → Keeps before between → RecordsAll pips tree budget held fs → IsFair pips tree budget held → given ≡ fs → IsPipList pips → KeepsRules pips tree → NoneReserved tree
-    → PutsAllEach between given now → LeavesUsable pips tree budget now
-leaves_all pips tree budget held before between now fs given was keeps follows fair same list rules free puts =
-    leaves_usable pips tree budget held before was fs follows fair list rules free now
-    (keeps_all_each fs before between now keeps (subst (λ (gs : List Facts). PutsAllEach between gs now) same puts))
+pub leaves_but : (pips : List Pip) (tree : Files) (budget : ℕ) (held : Holdings) (before between now : StoreTold) (fs given : List Facts) (failed faults : ℕ)
+    → held_in before ≡ Some held → Keeps before between → RecordsAll pips tree budget held fs → IsFair pips tree budget held → given ≡ fs → IsPipList pips
+    → KeepsRules pips tree → NoneReserved tree → PutsAllBut between given now failed → failed ≤ faults → LeavesUsableBut pips tree budget now faults
+leaves_but pips tree budget held before between now fs given failed faults was keeps follows fair same list rules free puts most =
+    let but =
+    leaves_usable_but pips tree budget held before was fs follows fair list rules free now failed
+    (keeps_but fs before between now failed keeps (subst (λ (gs : List Facts). PutsAllBut between gs now failed) same puts)) in
+    record { without = but.without; few = omega (arith, but.few, most); usable = but.usable }
+
+none_has : (numbers : List ℕ) (i : ℕ) → length numbers ≤ 0 → Has numbers i → ⊥
+none_has [] i l has = has
+none_has (n ∷ numbers) i l has = absurd (omega (arith, l))
+
+-- where no call failed, something is usable for each process that succeeds
+pub leaves_all : (pips : List Pip) (tree : Files) (budget : ℕ) (now : StoreTold) (faults : ℕ) → LeavesUsableBut pips tree budget now faults → faults ≡ 0
+    → LeavesUsable pips tree budget now
+leaves_all pips tree budget now faults but none S is i d see runs succeeds = elim (but.usable S is i d see runs succeeds) [
+  | inl usable ↦ usable
+  | inr missing ↦ absurd (none_has but.without i (omega (arith, but.few, none)) missing)
+]
 
 -- ## Counts of faults
 

@@ -1,16 +1,25 @@
 -- What a build over a store gives and leaves.
-use Rattle.std.specs.Prelude.{◌≡◌, ℕ, ◌+◌, ◌≤◌, Bool, true, false, List, [], ◌∷◌, Option, Some, IsSome, ⊤}
+use Rattle.std.specs.Prelude.{◌≡◌, ◌⊎◌, ℕ, ◌+◌, ◌≤◌, Bool, true, false, List, [], ◌∷◌, length, Option, Some, IsSome, ⊤}
+use Rattle.std.specs.List.{AllByRecursion}
+use Rattle.bx_tree.specs.Members.{Has}
 use Rattle.bx_tree.specs.Trees.{Files}
 use Rattle.bx_io.specs.Holdings.{Holdings, StoreTold, held_in}
+use Rattle.observed.specs.declared.ask.Ask.{Ask}
+use Rattle.observed.specs.declared.access.Answer.{Answer}
+use Rattle.pip_model_types.specs.declared.desc.Desc.{Desc}
 use Rattle.pip_model_types.specs.declared.pip.Pip.{Pip}
 use Rattle.run_record.specs.Facts.{Facts}
 use Rattle.violations.specs.declared.verdict.Verdict.{Verdict}
 use Rattle.run_record.specs.Collisions.{NoCollision}
 use Rattle.two_phase_meaning.specs.Honest.{Honest}
+use Rattle.two_phase_meaning.specs.Usable.{Usable}
 use Rattle.one_thread.specs.OneThread.{one_thread, outputs_of, run_count, verdicts_of}
 use Rattle.two_phase.specs.Putting.{LeavesHonest}
 use Rattle.retire_compared.specs.Compared.{Compared}
-use Rattle.retire.specs.Runs.{AddsSuccesses, AllUsable, IsOfSuccess}
+use Rattle.sched_board_slots.specs.Slots.{slot_at}
+use Rattle.sched_board_slots.specs.declared.held.Held.{Held}
+use Rattle.retire.specs.Accepting.{IsAccepted}
+use Rattle.retire.specs.Runs.{AddsSuccesses, AllUsable, IsOfSuccess, RunsAs, SucceedsAt}
 use Rattle.retire.specs.Saving.{PutsFirst}
 
 -- These are the verdicts and the files of the sequential build, and all processes that are not skipped
@@ -56,3 +65,21 @@ pub record LeavesFair (pips : List Pip) (tree : Files) (budget : ℕ) (held : Ho
 -- For each process that succeeds something is usable in the store that is left.
 abbrev pub LeavesUsable : List Pip → Files → ℕ → StoreTold → Type 0
 LeavesUsable pips tree budget now = (S : Holdings) → held_in now ≡ Some S → AllUsable pips tree budget S
+
+-- For each process that succeeds something is usable in the store that is left, but for at most so many of them.
+pub record LeavesUsableBut (pips : List Pip) (tree : Files) (budget : ℕ) (now : StoreTold) (faults : ℕ) : Type 0 where
+  pub without : List ℕ
+  pub few : length without ≤ faults
+  pub usable : (S : Holdings) → held_in now ≡ Some S → (i : ℕ) (d : Desc) (see : Ask → Answer)
+      → RunsAs pips tree budget i d see → SucceedsAt pips tree budget i → Usable S d see ⊎ Has without i
+
+-- The record is of a process that succeeds, with an accepted run in its slot, or for which the store has nothing usable:
+-- so of none that hits.
+pub record IsOfRun (pips : List Pip) (tree : Files) (budget : ℕ) (S : Holdings) (slots : List Held) (f : Facts) : Type 0 where
+  pub success : IsOfSuccess pips tree budget f
+  pub ran : IsAccepted f.desc success.see (slot_at slots success.pip) ⊎ (Usable S f.desc success.see → ⊥)
+
+-- Nothing was done but that such records were saved, each up to some place.
+abbrev pub SavesRuns : List Pip → Files → ℕ → Holdings → List Held → StoreTold → StoreTold → Type 0
+SavesRuns pips tree budget S slots before now =
+    (fs : List Facts) × AllByRecursion (IsOfRun pips tree budget S slots) fs × PutsFirst before fs now

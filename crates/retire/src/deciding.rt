@@ -15,7 +15,7 @@ ghost use Rattle.one_thread.specs.Views.{Agrees, ended_result, is_good_slot};
 ghost use Rattle.sched_board_slots.specs.Slots.{slot_at};
 ghost use Rattle.two_phase.specs.Reading.{ReadsIfAny, reader_data};
 ghost use Rattle.retire.specs.Accepting.{AreAccepted};
-ghost use Rattle.retire.specs.Builds.{IsFair};
+ghost use Rattle.retire.specs.Builds.{IsFair, IsOfRun};
 ghost use Rattle.retire.specs.Counting.{is_accepted, one_accepted, one_fault, one_hit, one_miss};
 ghost use Rattle.retire.specs.Counts.{CountsAgainst, verdicts_there};
 ghost use Rattle.retire.specs.Deciding.{DecidedBy, DecidesAt, FollowsAll, RecordsAll};
@@ -307,7 +307,9 @@ pub(crate) fn decide_all<R: KeepReader, G: Gate>(
         → IsFair frame.now.plan.now.pips frame.now.sources.now frame.now.plan.now.tool_budget S
         → IfOk result (λ d. FollowsAll frame.now.plan.now.pips frame.now.sources.now
         frame.now.plan.now.tool_budget d.verdicts.items d.slots.items
-        × RecordsAll frame.now.plan.now.pips frame.now.sources.now frame.now.plan.now.tool_budget S d.records.items
+        × ((all : RecordsAll frame.now.plan.now.pips frame.now.sources.now frame.now.plan.now.tool_budget S d.records.items)
+        × (d.ways.faulted ≡ 0 → AllByRecursion (IsOfRun frame.now.plan.now.pips frame.now.sources.now frame.now.plan.now.tool_budget S
+        finished.items) all.facts))
         × AreAccepted frame.now.plan.now.pips frame.now.sources.now frame.now.plan.now.tool_budget finished.items d.accepted.items
         × ((numbers : List ℕ)
         → IsHitSet frame.now.plan.now.pips frame.now.sources.now frame.now.plan.now.tool_budget S numbers
@@ -324,7 +326,8 @@ pub(crate) fn decide_all<R: KeepReader, G: Gate>(
     ensures number { IfOk result (λ d. length d.verdicts.items ≡ length frame.now.plan.now.pips) }
     ensures kept { IfOk result (λ d. AreKept frame.now.plan.now.pips (map slot_files d.slots.items)) }
     ensures records { IfOk result (λ d. AllByRecursion IsSuccess d.records.items) }
-    ensures few_records { IfOk result (λ d. length d.records.items ≤ MAX_PIPS) }
+    ensures ran { IfOk result (λ d. length d.records.items
+        ≤ d.ways.accepted + (d.ways.missed + d.ways.faulted)) }
     ensures unread { IsNone reader.new → IfOk result (λ d. (d.ways.hits ≡ 0) × (d.ways.faulted ≡ 0)) }
     ensures reader { IfOk result (λ d. ReadsIfAny
         (option_map (λ r. reader_data (R.held r) (R.bound r) (R.faults r)) reader.old)

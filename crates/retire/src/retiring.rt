@@ -8,9 +8,9 @@ ghost use Rattle.retire.specs.Runs.{NoneReserved};
 ghost use Rattle.std.specs.List.{AllByRecursion};
 ghost use Rattle.bx_io.specs.Holdings.{Keeps};
 ghost use Rattle.two_phase.specs.Reading.{reader_data};
-ghost use Rattle.retire.specs.Builds.{Fair, IsBuild, IsFair, LeavesFair, LeavesUsable};
+ghost use Rattle.retire.specs.Builds.{Fair, IsBuild, IsFair, LeavesFair, LeavesUsable, LeavesUsableBut, SavesRuns};
 ghost use Rattle.retire.specs.Counts.{CountsAlone, CountsOver, CountsWithin};
-ghost use Rattle.retire.specs.Saving.{IsSuccess, OnlyPuts, PutsAllEach, PutsFirst};
+ghost use Rattle.retire.specs.Saving.{IsSuccess, OnlyPuts, PutsAllBut, PutsFirst, SavesAtMost};
 ghost use Rattle.retire.specs.Settled.{IsSettledOver};
 
 use crate::deciding::{Ways, decide_all};
@@ -96,12 +96,24 @@ pub fn retire<K: Keeper, G: Gate>(
         → IsFair plan.now.pips sources.now plan.now.tool_budget S → NoneReserved sources.now
         → IfOk result (λ r. r.tally.faults ≡ 0
         → LeavesUsable plan.now.pips sources.now plan.now.tool_budget (K.known keeper.new)) }
+    ensures usable_but { cached ≡ true → (S : Holdings) → held_in (K.known keeper.old) ≡ Some S
+        → IsSome (held_in (K.known keeper.new)) → IsFair plan.now.pips sources.now plan.now.tool_budget S → NoneReserved sources.now
+        → IfOk result (λ r.
+        LeavesUsableBut plan.now.pips sources.now plan.now.tool_budget (K.known keeper.new) r.tally.faults) }
     ensures faults { (b : ℕ) → K.bound keeper.old ≡ Some b
         → IfOk result (λ r. K.faults keeper.old + r.tally.faults ≤ K.faults keeper.new + b) }
     ensures later { K.faults keeper.old ≤ K.faults keeper.new }
     ensures seen { IfOk result (λ r. r.tally.faults ≡ 0 → K.faults keeper.new ≡ K.faults keeper.old) }
     ensures bound { K.bound keeper.new ≡ K.bound keeper.old }
     ensures puts { OnlyPuts (K.known keeper.old) (K.known keeper.new) }
+    // A hit is not saved again: no more records are saved than there were runs; and where no fault was met, each is of a
+    // process with an accepted run or with nothing usable in the store.
+    ensures saved_runs { cached ≡ true → (S : Holdings) → held_in (K.known keeper.old) ≡ Some S
+        → IsSome (held_in (K.known keeper.new)) → IsFair plan.now.pips sources.now plan.now.tool_budget S
+        → IfOk result (λ r. r.tally.faults ≡ 0 → SavesRuns plan.now.pips sources.now plan.now.tool_budget S finished.slots.items
+        (K.known keeper.old) (K.known keeper.new)) }
+    ensures saved { IfOk result (λ r. SavesAtMost r.tally.ran (K.known keeper.old) (K.known keeper.new)) }
+    ensures unsaved { IfOk result (λ r. r.tally.ran ≡ 0 → Keeps (K.known keeper.old) (K.known keeper.new)) }
 {
     let frame = Frame {
         alloc,
@@ -162,8 +174,8 @@ fn save_if<K: Keeper>(
     requires few { length records.now ≤ MAX_PIPS }
     ensures none { cached ≡ false → keeper.new ≡ keeper.old }
     ensures no_faults { cached ≡ false → IfOk result (λ faults. faults ≡ 0) }
-    ensures all { cached ≡ true → IfOk result (λ faults. faults ≡ 0
-        → PutsAllEach (K.known keeper.old) records.now (K.known keeper.new)) }
+    ensures all { cached ≡ true
+        → IfOk result (PutsAllBut (K.known keeper.old) records.now (K.known keeper.new)) }
     ensures first { PutsFirst (K.known keeper.old) records.now (K.known keeper.new) }
     ensures bound { K.bound keeper.new ≡ K.bound keeper.old }
     ensures faults { IsSome (K.bound keeper.old)

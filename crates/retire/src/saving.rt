@@ -3,7 +3,7 @@ ghost use Rattle.std.specs.Prelude.{◌≡◌, ◌+◌, ◌≤◌, IfOk, IsSome,
 ghost use Rattle.std.specs.List.{AllByRecursion};
 ghost use Rattle.bx_io.specs.Holdings.{held_in};
 ghost use Rattle.two_phase_meaning.specs.Saving.{IsGood};
-ghost use Rattle.retire.specs.Saving.{IsSuccess, PutsAllEach, PutsFirst};
+ghost use Rattle.retire.specs.Saving.{IsSuccess, PutsAllBut, PutsFirst};
 ghost use Rattle.two_phase.specs.Held.{AreHeld};
 ghost use Rattle.two_phase.specs.Putting.{PutsAll, PutsUpTo};
 
@@ -48,8 +48,7 @@ pub(crate) fn save_all<K: Keeper>(
     records: &[Savable],
 ) -> Result<u64, Memory>
     requires { AllByRecursion IsSuccess records.now }
-    ensures all { IfOk result (λ faults. faults ≡ 0
-        → PutsAllEach (K.known keeper.old) records.now (K.known keeper.new)) }
+    ensures all { IfOk result (PutsAllBut (K.known keeper.old) records.now (K.known keeper.new)) }
     ensures first { PutsFirst (K.known keeper.old) records.now (K.known keeper.new) }
     ensures bound { K.bound keeper.new ≡ K.bound keeper.old }
     ensures faults { IsSome (K.bound keeper.old)

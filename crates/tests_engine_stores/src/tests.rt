@@ -2,7 +2,8 @@ use bx_io::FailKeeper;
 use std::alloc::{AllocError, Global};
 use std::test::Fail;
 use tests_with_engine::{
-    ALL_HIT, ALL_RAN, CountGate, FIRST_CALLS, are_built, empty_keeper, is_built, keeper_of,
+    ALL_HIT, ALL_RAN, CountGate, FIRST_CALLS, are_built, empty_keeper, is_built,
+    is_built_without_cache, keeper_of, left_after, runs_after_puts,
 };
 
 const ALL_RAN_WITH_A_FAULT: &str =
@@ -26,10 +27,53 @@ fn leaves_out_a_record_where_a_call_of_the_keeper_fails(rt: HostRuntime) -> Resu
         let series = [ALL_RAN_WITH_A_FAULT, ONE_RAN, ALL_HIT];
         assert!(rt; are_built(&rt, alloc, &mut keeper, &gate, &series)?);
     }
+    // A build in which all are taken from the store makes no call of the keeper, of which the next would fail.
     let mut keeper = keeper_of(alloc, FIRST_CALLS + 1)?;
-    assert!(rt; are_built(&rt, alloc, &mut keeper, &gate, &[ALL_RAN])?);
-    // The gate is passed once for each process that runs.
+    assert!(rt; are_built(&rt, alloc, &mut keeper, &gate, &[ALL_RAN, ALL_HIT])?);
+    // The gate is passed once for each process that runs, and not for one that is taken from the store.
     assert_eq!(rt; gate.passed(), 24 * 4 + 3);
+    Ok(())
+}
+
+/// With the cache and without it the gate is passed once by each process that runs, which are the pips 1 to 3. Without
+/// it the keeper is not called, of which the first call would fail.
+#[test]
+fn passes_the_gate_once_for_each_run(rt: HostRuntime) -> Result<(), Fail> {
+    let alloc = rt.alloc();
+    let with_cache = CountGate::new();
+    let mut keeper = keeper_of(alloc, 0)?;
+    assert!(rt; are_built(&rt, alloc, &mut keeper, &with_cache, &[ALL_RAN, ALL_HIT])?);
+    assert_eq!(rt; with_cache.passed_by_pip(), 1_010_100);
+    let without = CountGate::new();
+    let mut keeper = keeper_of(alloc, 1)?;
+    assert!(rt; is_built_without_cache(&rt, alloc, &mut keeper, &without)?);
+    assert_eq!(rt; without.passed_by_pip(), 1_010_100);
+    Ok(())
+}
+
+/// Nothing is put before all pips are decided. Of the 24 calls of the store three read lists, and the others are puts.
+#[test]
+fn saves_after_all_runs(rt: HostRuntime) -> Result<(), Fail> {
+    assert_eq!(rt; runs_after_puts(&rt, rt.alloc())?, (21, 0));
+    Ok(())
+}
+
+/// What the tests compare a build with is told from notes of the same length.
+#[test]
+fn tells_other_notes_of_one_length(rt: HostRuntime) -> Result<(), Fail> {
+    let alloc = rt.alloc();
+    let gate = CountGate::new();
+    assert!(rt; !is_built(&rt, alloc, "1", &mut keeper_of(alloc, 0)?, &gate, ALL_HIT)?);
+    assert!(rt;
+        !are_built(
+            &rt,
+            alloc,
+            &mut keeper_of(alloc, 0)?,
+            &gate,
+            &[ALL_RAN, ALL_RAN]
+        )?
+    );
+    assert!(rt; left_after(&rt, alloc, FIRST_CALLS, ALL_HIT)?.is_none());
     Ok(())
 }
 

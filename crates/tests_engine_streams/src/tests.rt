@@ -66,6 +66,14 @@ fn is_joined(seen: &[u8], out: &[u8], notes: &[u8], status: &str) -> bool {
     rest.strip_prefix(notes) == Some(status.as_bytes())
 }
 
+#[test]
+fn other_texts_of_one_length_are_told(rt: HostRuntime) {
+    assert!(rt; is_joined(b"abnotes cdstatus 0", b"ab", b"cd", "status 0"));
+    assert!(rt; !is_joined(b"axnotes cdstatus 0", b"ab", b"cd", "status 0"));
+    assert!(rt; !is_joined(b"abnotes cxstatus 0", b"ab", b"cd", "status 0"));
+    assert!(rt; !is_joined(b"abnotes cdstatus 5", b"ab", b"cd", "status 0"));
+}
+
 const ALL: usize = 10_000;
 
 /// How many calls move this many bytes.

@@ -50,6 +50,7 @@ fn is_found(alloc: Global, at: &str, bytes: Option<&[u8]>) -> Result<bool, Fail>
 fn a_file_is_found_at_its_path_alone(rt: HostRuntime) -> Result<(), Fail> {
     assert!(rt; is_found(rt.alloc(), "a/c", Some(b"hi"))?);
     assert!(rt; is_found(rt.alloc(), "a", None)?);
+    assert!(rt; !is_found(rt.alloc(), "a/c", Some(b"ho"))?);
     Ok(())
 }
 

@@ -3,11 +3,13 @@
 #![tactic(auto)]
 
 mod over_stores;
+mod watched;
 
 use bx_engine::command;
 use bx_io::{FailKeeper, Gate, Keeper, MemKeeper, MemSink, MemSource};
 pub use over_stores::{
-    ALL_HIT, ALL_RAN, FIRST_CALLS, INPUT, TWO_RAN, are_built, is_built, is_rebuilt, left_after,
+    ALL_HIT, ALL_RAN, FIRST_CALLS, INPUT, TWO_RAN, are_built, is_built, is_built_without_cache,
+    is_rebuilt, left_after, runs_after_puts,
 };
 use std::alloc::{AllocError, Global};
 use std::sync::Wait;
@@ -15,15 +17,28 @@ use std::sync::atomic::AtomicU32;
 use std::sync::atomic::Ordering::Relaxed;
 use std::thread::Threads;
 
-/// A gate that counts for how many runs it was passed.
+/// A gate that counts for how many runs it was passed, and for which pips.
 #[derive(Drop)]
 pub struct CountGate {
     passed: AtomicU32,
+    by_pip: AtomicU32,
+}
+
+/// What one run of a pip adds to the counts by pip: a one for the first pips, each at a place of its own.
+fn mark(pip: u32) -> u32 {
+    match pip {
+        0 => 1,
+        1 => 100,
+        2 => 10_000,
+        3 => 1_000_000,
+        _ => 100_000_000,
+    }
 }
 
 impl Gate for CountGate {
-    fn pass(&self, _pip: u32) {
+    fn pass(&self, pip: u32) {
         self.passed.fetch_add(1, Relaxed);
+        self.by_pip.fetch_add(mark(pip), Relaxed);
     }
 }
 
@@ -32,7 +47,13 @@ impl CountGate {
     pub fn new() -> CountGate {
         CountGate {
             passed: AtomicU32::new(0),
+            by_pip: AtomicU32::new(0),
         }
+    }
+
+    /// How many runs of each pip passed it: two decimal digits for each of the first four, the last two for pip 0.
+    pub fn passed_by_pip(&self) -> u32 {
+        self.by_pip.load(Relaxed)
     }
 
     /// How many runs passed it.
@@ -59,11 +80,10 @@ pub const NO_FAULTS: Streams = Streams {
     notes_fail: 0,
 };
 
-/// The words of a build by so many workers.
-fn words(alloc: Global, workers: &str) -> Result<Vec<String>, AllocError> {
+fn words(alloc: Global, texts: &[&str]) -> Result<Vec<String>, AllocError> {
     let mut words = Vec::new(alloc);
-    for word in ["build", "--workers", workers] {
-        words.push(String::from_str(alloc, word)?)?;
+    for text in texts {
+        words.push(String::from_str(alloc, text)?)?;
     }
     Ok(words)
 }
@@ -108,18 +128,18 @@ fn add_answer(
     })
 }
 
-/// Adds what a build of this source comes to.
+/// Adds what a call with these words comes to.
 fn add_call<H: Threads + Wait + Sync, K: Keeper, G: Gate>(
     rt: &H,
     alloc: Global,
-    workers: &str,
+    texts: &[&str],
     source: &mut MemSource,
     streams: Streams,
     keeper: &mut K,
     gate: &G,
     seen: &mut Vec<u8>,
 ) -> Result<(), AllocError> {
-    let words = words(alloc, workers)?;
+    let words = words(alloc, texts)?;
     let mut out = sink_of(alloc, streams, streams.out_fails)?;
     let mut notes = sink_of(alloc, streams, streams.notes_fail)?;
     let status = command(
@@ -137,10 +157,7 @@ pub fn add_command<H: Threads + Wait + Sync, K: Keeper>(
     keeper: &mut K,
     seen: &mut Vec<u8>,
 ) -> Result<(), AllocError> {
-    let mut words = Vec::new(alloc);
-    for text in texts {
-        words.push(String::from_str(alloc, text)?)?;
-    }
+    let words = words(alloc, texts)?;
     let mut source = source_of(alloc, b"", NO_FAULTS)?;
     let mut out = sink_of(alloc, NO_FAULTS, 0)?;
     let mut notes = sink_of(alloc, NO_FAULTS, 0)?;
@@ -171,5 +188,29 @@ pub fn add_build<H: Threads + Wait + Sync, K: Keeper, G: Gate>(
     seen: &mut Vec<u8>,
 ) -> Result<(), AllocError> {
     let mut source = source_of(alloc, input.as_bytes(), streams)?;
-    add_call(rt, alloc, workers, &mut source, streams, keeper, gate, seen)
+    let texts = ["build", "--workers", workers];
+    add_call(rt, alloc, &texts, &mut source, streams, keeper, gate, seen)
+}
+
+/// Adds what a build of this input comes to that does not use the store.
+pub fn add_build_without_cache<H: Threads + Wait + Sync, K: Keeper, G: Gate>(
+    rt: &H,
+    alloc: Global,
+    input: &str,
+    keeper: &mut K,
+    gate: &G,
+    seen: &mut Vec<u8>,
+) -> Result<(), AllocError> {
+    let mut source = source_of(alloc, input.as_bytes(), NO_FAULTS)?;
+    let texts = ["build", "--no-cache"];
+    add_call(
+        rt,
+        alloc,
+        &texts,
+        &mut source,
+        NO_FAULTS,
+        keeper,
+        gate,
+        seen,
+    )
 }

@@ -1,9 +1,12 @@
 //! A build that puts and gets results in all ways, over any store.
 
-use crate::{CountGate, NO_FAULTS, add_build, empty_keeper};
+use crate::watched::{OrderGate, WatchedKeeper};
+use crate::{CountGate, NO_FAULTS, add_build, add_build_without_cache, empty_keeper};
 use bx_io::{Gate, Keeper, MemKeeper, StopKeeper};
 use std::alloc::{AllocError, Global};
 use std::sync::Wait;
+use std::sync::atomic::AtomicU32;
+use std::sync::atomic::Ordering::Relaxed;
 use std::thread::Threads;
 
 /// Two files in C that are compiled, and linked.
@@ -136,6 +139,49 @@ pub fn is_built<H: Threads + Wait + Sync, K: Keeper, G: Gate>(
         Some(rest) => Ok(notes.is_empty() || rest == notes.as_bytes()),
         None => Ok(false),
     }
+}
+
+/// Whether a build that does not use its store gives its files, and notes that it ran every process.
+pub fn is_built_without_cache<H: Threads + Wait + Sync, K: Keeper>(
+    rt: &H,
+    alloc: Global,
+    keeper: &mut K,
+    gate: &CountGate,
+) -> Result<bool, AllocError> {
+    let mut seen = Vec::new(alloc);
+    add_build_without_cache(rt, alloc, INPUT, keeper, gate, &mut seen)?;
+    match seen.strip_prefix(OUTPUT.as_bytes()) {
+        Some(rest) => Ok(rest == ALL_RAN.as_bytes()),
+        None => Ok(false),
+    }
+}
+
+/// How many puts a first build by four workers makes, and how many of its runs begin after one of them.
+pub fn runs_after_puts<H: Threads + Wait + Sync>(
+    rt: &H,
+    alloc: Global,
+) -> Result<(u32, u32), AllocError> {
+    let puts = AtomicU32::new(0);
+    let gate = OrderGate {
+        puts: &puts,
+        late: AtomicU32::new(0),
+    };
+    let mut keeper = WatchedKeeper {
+        inner: empty_keeper(alloc, 0)?,
+        puts: &puts,
+    };
+    let mut seen = Vec::new(alloc);
+    add_build(
+        rt,
+        alloc,
+        "4",
+        INPUT,
+        NO_FAULTS,
+        &mut keeper,
+        &gate,
+        &mut seen,
+    )?;
+    Ok((puts.load(Relaxed), gate.late.load(Relaxed)))
 }
 
 /// Whether a build by four workers of the same files with another header comes to these notes.

@@ -31,7 +31,7 @@ use Rattle.run_record.specs.Collisions.{NoCollision, contents_of}
 use Rattle.run_record.specs.Digests.{IsReadBack, weak_of}
 use Rattle.two_phase_meaning.specs.Contents.{HoldsAll, desc_contents, given_contents}
 use Rattle.two_phase_meaning.specs.Honest.{Honest, HonestEntry, IsGoodRun}
-use Rattle.two_phase_meaning.specs.Compared.{ComparedInRun}
+use Rattle.two_phase_meaning.specs.Compared.{ComparedInRun, IsSelected}
 use Rattle.two_phase_meaning.specs.Compared as met
 use Rattle.two_phase_meaning.specs.Usable.{UsableBy, asked_text}
 use Rattle.two_phase_meaning.proofs.Same.{all_map, lines_are, same_answers, same_described, same_files}
@@ -54,8 +54,8 @@ module _ (S : Holdings) (d : Desc) (see : Ask → Answer) (honest : Honest S) (s
   held : (xs : List (List ℕ)) → HoldsAll S xs → AllByRecursion M xs
   held xs h = all_map (HoldsBlob S) M xs (λ x k. met.stored k) h
 
-  pub found : (s : Selector) (u : UsableBy S d see s) → IsGoodRun (described d) see u.asks u.files
-  found s u =
+  pub found : (s : Selector) (u : UsableBy S d see s) → IsSelected S d s.paths → IsGoodRun (described d) see u.asks u.files
+  found s u selected =
       let h : HonestEntry S u.entry = honest u.entry u.held.held in
       let weak_same : h.weak.0 ≡ weak_text (weak_parts d) = apart h.weak.0 (weak_text (weak_parts d)) (met.stored h.weak.1.held) (met.weak refl) (h.weak.1.digest_is ∙ u.weak_is) in
       let parts : weak_parts h.desc ≡ weak_parts d = same_Some (weak_parts h.desc) (weak_parts d) (sym h.weak.2 ∙ ap read_weak_text weak_same ∙ spells) in
@@ -66,7 +66,7 @@ module _ (S : Holdings) (d : Desc) (see : Ask → Answer) (honest : Honest S) (s
       let asks : h.asks ≡ u.asks = same_Some h.asks u.asks (sym h.paths.2 ∙ ap read_paths_text set_same ∙ u.paths.2) in
       let asked : List ℕ = asked_text d see s.paths u.asks in
       let strong_same : h.strong.0 ≡ asked =
-      apart h.strong.0 asked (met.stored h.strong.1.held) (met.strong s.paths u.asks (inr u.paths) refl) (h.strong.1.digest_is ∙ u.held.strong_is ∙ sym u.asked) in
+      apart h.strong.0 asked (met.stored h.strong.1.held) (met.strong s.paths u.asks (inr (selected, u.paths)) refl) (h.strong.1.digest_is ∙ u.held.strong_is ∙ sym u.asked) in
       let now : StrongParts = strong_parts (has_match u.asks) (weak_of d) s.paths (map see u.asks) in
       let is_strong : IsStrong now = record {
         weak = is_digest (weak_text (weak_parts d));
@@ -77,7 +77,7 @@ module _ (S : Holdings) (d : Desc) (see : Ask → Answer) (honest : Honest S) (s
       same_Some (strong_parts (has_match h.asks) u.entry.weak u.entry.paths h.given) now (sym h.strong.2 ∙ ap read_strong_text strong_same ∙ strong_again now is_strong) in
       let given : h.given ≡ map see u.asks =
       same_answers M apart h.given (map see u.asks) (ap (λ (x : StrongParts). x.lines) said) (held (given_contents h.given) h.answers)
-      (all_has M (given_contents (map see u.asks)) (λ x k. met.given s.paths u.asks (inr u.paths) k)) in
+      (all_has M (given_contents (map see u.asks)) (λ x k. met.given s.paths u.asks (inr (selected, u.paths)) k)) in
       let files : h.files ≡ u.files = same_files M apart h.files u.files (h.outputs ∙ sym u.outputs) (held (contents_of h.files) h.made) (held (contents_of u.files) u.made) in
       run_on_view (described d) see u.asks u.files
       (subst (λ (fs : Files). IsGoodRun (described d) (answered u.asks (map see u.asks)) u.asks fs) files

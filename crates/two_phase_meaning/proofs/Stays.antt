@@ -1,9 +1,10 @@
 -- What is usable stays so while records of other processes are put; and something is usable where one selector is.
-use Rattle.std.proofs.Common.{Bool, ◌≡◌, ℕ, List, [], ◌∷◌, map, Some, refl, sym, ap, ◌∙◌, subst, inl, inr}
+use Rattle.std.proofs.Common.{Bool, ◌≡◌, ℕ, List, [], ◌∷◌, ◌++◌, map, Some, refl, sym, ap, ◌∙◌, subst, inl, inr, append-nil}
 use Rattle.std.specs.FinMap.{get, insert}
 use Rattle.std.specs.List.{AllByRecursion}
 use Rattle.std.proofs.lemmas.Option.{same_Some}
 use Rattle.bx_tree.specs.Members.{Has}
+use Rattle.bx_tree.proofs.Lists.{all_front}
 use Rattle.bx_tree.proofs.Members.{all_has}
 use Rattle.sha2.specs.Sha256.{sha256}
 use Rattle.bx_digest.specs.Digests.{IsDigest}
@@ -11,7 +12,7 @@ use Rattle.pip_model_types.specs.declared.desc.Desc.{Desc}
 use Rattle.observed.specs.Texts.{has_match, paths_text}
 use Rattle.observed.specs.declared.ask.Ask.{Ask}
 use Rattle.observed.specs.declared.access.Answer.{Answer}
-use Rattle.bx_io.specs.Holdings.{Holdings, holdings_after}
+use Rattle.bx_io.specs.Holdings.{Change, Holdings, IsPrefix, holdings_after}
 use Rattle.bx_io.proofs.Changes.{after-append}
 use Rattle.run_record.specs.Facts.{Facts}
 use Rattle.prints.specs.Processes.{weak_parts}
@@ -30,7 +31,7 @@ use Rattle.run_record.specs.Digests.{weak_of}
 use Rattle.two_phase_meaning.specs.Saving.{ComparedInStay, answers_text, blobs_of, entry_put, list_put, paths_digest, puts_of, record_entry}
 use Rattle.two_phase_meaning.specs.Usable.{AnyUsable, Usable, UsableAt, UsableBy, asked_text}
 use Rattle.two_phase_meaning.proofs.Digests.{entry_no_blob, entry_no_list, list_no_blob, list_no_entry, same_entry_name, same_list_name}
-use Rattle.two_phase_meaning.proofs.Puts.{Grows, blobs_grow, entry_grows, list_grows, still_there}
+use Rattle.two_phase_meaning.proofs.Puts.{Grows, blobs_grow, cut, entry_grows, list_grows, still_there}
 use Rattle.two_phase_meaning.proofs.Same.{all_map, lines_are}
 
 -- puts of contents leave the lists and entries
@@ -75,75 +76,133 @@ module _ (S : Holdings) (f : Facts) (list : List Selector) where
       (λ e. absurd (list_no_entry (weak_of d) (sha256 (answers_text f)) e))
       (blobs_leave (blobs_of f) S (at_list (weak_of d)) bytes (λ digest e. list_no_blob (weak_of d) digest e) h))
 
-  -- an entry that another strong text names
-  entry_stays : (strong bytes : List ℕ) → (strong ≡ sha256 (answers_text f) → ⊥) → IsDigest strong → get S (at_entry strong) ≡ Some bytes
-      → get whole (at_entry strong) ≡ Some bytes
-  entry_stays strong bytes other is h =
-      still_there with_entry (at_list (weak_of f.desc)) (selectors_text list) (at_entry strong) bytes (λ e. absurd (entry_no_list strong (weak_of f.desc) e))
-      (still_there with_blobs (at_entry (sha256 (answers_text f))) (entry_text (record_entry f)) (at_entry strong) bytes
-      (λ e. absurd (other (same_entry_name strong (sha256 (answers_text f)) is (is_digest (answers_text f)) e)))
-      (blobs_leave (blobs_of f) S (at_entry strong) bytes (λ digest e. entry_no_blob strong digest e) h))
-
-  grows : (M : List ℕ → Type 0) → NoCollision M → ((x : List ℕ) → HoldsBlob S x → M x) → AllByRecursion M (blobs_of f) → Grows S whole
-  grows M apart within met x h =
-      list_grows with_entry (weak_of f.desc) (selectors_text list) x
-      (entry_grows with_blobs (sha256 (answers_text f)) (entry_text (record_entry f)) x (blobs_grow M apart (blobs_of f) met S within x h))
-
 pub lists_stay : (S : Holdings) (f : Facts) (d : Desc) → (weak_of f.desc ≡ weak_of d → ⊥) → (list held : List Selector) → HoldsList S (weak_of d) held
     → HoldsList (holdings_after S (puts_of f list)) (weak_of d) held
 lists_stay S f d others list held h =
     subst (λ (T : Holdings). HoldsList T (weak_of d) held) (sym (is_whole S f list)) (h.0, list_stays S f list d h.0 others h.1, h.2)
 
--- ## What is usable
+-- ## What any prefix of the puts leaves
+
+-- What is held under its own digest in the first is so in the other, and so are the list of a process, and an entry.
+record LeavesOther (S T : Holdings) (weak strong : List ℕ) : Type 0 where
+  contents : Grows S T
+  list : (bytes : List ℕ) → get S (at_list weak) ≡ Some bytes → get T (at_list weak) ≡ Some bytes
+  entry : (bytes : List ℕ) → get S (at_entry strong) ≡ Some bytes → get T (at_entry strong) ≡ Some bytes
 
 module _ (M : List ℕ → Type 0) (apart : NoCollision M) (S : Holdings) (within : (x : List ℕ) → HoldsBlob S x → M x)
     (f : Facts) (met : AllByRecursion M (blobs_of f)) (list : List Selector)
-    (d : Desc) (see : Ask → Answer) (others : weak_of f.desc ≡ weak_of d → ⊥) where
-  selector_stays : (s : Selector) (u : UsableBy S d see s) → M (asked_text d see s.paths u.asks)
-      → (v : UsableBy (whole S f list) d see s) × (v.asks ≡ u.asks)
-  selector_stays s u now_met =
-      let now : List ℕ = asked_text d see s.paths u.asks in
-      let more : Grows S (whole S f list) = grows S f list M apart within met in
-      let strong : sha256 now ≡ u.entry.strong = u.asked ∙ sym u.held.strong_is in
-      let apart_from : u.entry.strong ≡ sha256 (answers_text f) → ⊥ = λ e.
-      let text : answers_text f ≡ now = apart (answers_text f) now met.1.1.0 now_met (sym e ∙ sym strong) in
-      others (one_weak (has_match f.paths) (has_match u.asks) f.desc d (paths_digest f) s.paths f.answers (map see u.asks) (is_digest (paths_text f.paths)) (subst IsDigest u.paths.1.digest_is (is_digest u.paths.0)) text) in
-      let now_usable : UsableBy (whole S f list) d see s = record {
+    (d : Desc) (others : weak_of f.desc ≡ weak_of d → ⊥) (strong : List ℕ) (is : IsDigest strong) (another : strong ≡ sha256 (answers_text f) → ⊥) where
+  abbrev Leaves : Holdings → Type 0
+  Leaves T = LeavesOther S T (weak_of d) strong
+
+  after_blobs : (xs : List (List ℕ)) → AllByRecursion M xs → Leaves (holdings_after S (map blob_put xs))
+  after_blobs xs all = record {
+    contents = blobs_grow M apart xs all S within;
+    list = λ bytes h. blobs_leave xs S (at_list (weak_of d)) bytes (λ digest e. list_no_blob (weak_of d) digest e) h;
+    entry = λ bytes h. blobs_leave xs S (at_entry strong) bytes (λ digest e. entry_no_blob strong digest e) h;
+  }
+
+  after_entry : (T : Holdings) → Leaves T → Leaves (insert T (at_entry (sha256 (answers_text f))) (entry_text (record_entry f)))
+  after_entry T l = record {
+    contents = λ x h. entry_grows T (sha256 (answers_text f)) (entry_text (record_entry f)) x (l.contents x h);
+    list = λ bytes h.
+        still_there T (at_entry (sha256 (answers_text f))) (entry_text (record_entry f)) (at_list (weak_of d)) bytes
+        (λ e. absurd (list_no_entry (weak_of d) (sha256 (answers_text f)) e)) (l.list bytes h);
+    entry = λ bytes h.
+        still_there T (at_entry (sha256 (answers_text f))) (entry_text (record_entry f)) (at_entry strong) bytes
+        (λ e. absurd (another (same_entry_name strong (sha256 (answers_text f)) is (is_digest (answers_text f)) e))) (l.entry bytes h);
+  }
+
+  after_list : (T : Holdings) → Leaves T → Leaves (insert T (at_list (weak_of f.desc)) (selectors_text list))
+  after_list T l = record {
+    contents = λ x h. list_grows T (weak_of f.desc) (selectors_text list) x (l.contents x h);
+    list = λ bytes h.
+        still_there T (at_list (weak_of f.desc)) (selectors_text list) (at_list (weak_of d)) bytes
+        (λ e. absurd (others (sym (same_list_name (weak_of d) (weak_of f.desc) (is_digest (weak_text (weak_parts d))) (is_digest (weak_text (weak_parts f.desc))) e))))
+        (l.list bytes h);
+    entry = λ bytes h.
+        still_there T (at_list (weak_of f.desc)) (selectors_text list) (at_entry strong) bytes (λ e. absurd (entry_no_list strong (weak_of f.desc) e)) (l.entry bytes h);
+  }
+
+  after_tail : (T : Holdings) → Leaves T → (made : List Change) → IsPrefix made (entry_put f ∷ list_put f list ∷ []) → Leaves (holdings_after T made)
+  after_tail T l [] p = l
+  after_tail T l (a ∷ []) p =
+      let joined : a ∷ p.rest ≡ entry_put f ∷ list_put f list ∷ [] = p.joined in
+      let here : entry_put f ≡ a = cc in
+      subst (λ (c : Change). Leaves (holdings_after T (c ∷ []))) here (after_entry T l)
+  after_tail T l (a ∷ b ∷ []) p =
+      let joined : a ∷ b ∷ p.rest ≡ entry_put f ∷ list_put f list ∷ [] = p.joined in
+      let here : entry_put f ≡ a = cc in
+      let next : list_put f list ≡ b = cc in
+      subst (λ (c : Change). Leaves (holdings_after T (c ∷ b ∷ []))) here
+      (subst (λ (c : Change). Leaves (holdings_after T (entry_put f ∷ c ∷ []))) next
+      (after_list (insert T (at_entry (sha256 (answers_text f))) (entry_text (record_entry f))) (after_entry T l)))
+  after_tail T l (a ∷ b ∷ c ∷ more) p =
+      let joined : a ∷ b ∷ c ∷ (more ++ p.rest) ≡ entry_put f ∷ list_put f list ∷ [] = p.joined in absurd cc
+
+  in_part : (made : List Change) → IsPrefix made (puts_of f list) → Leaves (holdings_after S made)
+  in_part made p = elim (cut (blobs_of f) (entry_put f ∷ list_put f list ∷ []) made p) [
+    | inl part ↦
+        subst (λ (cs : List Change). Leaves (holdings_after S cs)) (sym part.3)
+        (after_blobs part.0 (all_front M part.0 part.1 (subst (AllByRecursion M) (sym part.2) met)))
+    | inr all ↦
+        let T : Holdings = holdings_after S (map blob_put (blobs_of f)) in
+        subst (λ (cs : List Change). Leaves (holdings_after S cs)) (sym all.1)
+        (subst Leaves (sym (after-append S (map blob_put (blobs_of f)) all.0)) (after_tail T (after_blobs (blobs_of f) met) all.0 all.2))
+  ]
+
+-- ## What is usable
+
+module _ (S T : Holdings) (d : Desc) (see : Ask → Answer) (s : Selector) where
+  by_left : (u : UsableBy S d see s) → LeavesOther S T (weak_of d) u.entry.strong → (v : UsableBy T d see s) × (v.asks ≡ u.asks)
+  by_left u left =
+      let now_usable : UsableBy T d see s = record {
         asks = u.asks;
-        paths = (u.paths.0, record { held = more u.paths.0 u.paths.1.held; digest_is = u.paths.1.digest_is }, u.paths.2);
+        paths = (u.paths.0, record { held = left.contents u.paths.0 u.paths.1.held; digest_is = u.paths.1.digest_is }, u.paths.2);
         asked = u.asked;
         entry = u.entry;
-        held = record {
-          held = (u.held.held.0, entry_stays S f list u.entry.strong u.held.held.0 apart_from (subst IsDigest strong (is_digest now)) u.held.held.1, u.held.held.2);
-          strong_is = u.held.strong_is;
-        };
+        held = record { held = (u.held.held.0, left.entry u.held.held.0 u.held.held.1, u.held.held.2); strong_is = u.held.strong_is };
         weak_is = u.weak_is;
         paths_are = u.paths_are;
         fit = u.fit;
         unnested = u.unnested;
         files = u.files;
         outputs = u.outputs;
-        made = all_map (HoldsBlob S) (HoldsBlob (whole S f list)) (contents_of u.files) more u.made;
+        made = all_map (HoldsBlob S) (HoldsBlob T) (contents_of u.files) left.contents u.made;
       } in
       (now_usable, refl)
 
-  pub stays : (s : Selector) (asks : List Ask) → M (asked_text d see s.paths asks) → UsableAt S d see s asks
-      → UsableAt (holdings_after S (puts_of f list)) d see s asks
-  stays s asks now_met u =
-      let kept = selector_stays s u.by (subst (λ (qs : List Ask). M (asked_text d see s.paths qs)) (sym u.asks_are) now_met) in
-      subst (λ (T : Holdings). UsableAt T d see s asks) (sym (is_whole S f list)) (record {
+  at_left : (asks : List Ask) (u : UsableAt S d see s asks) → LeavesOther S T (weak_of d) u.by.entry.strong → UsableAt T d see s asks
+  at_left asks u left =
+      let kept = by_left u.by left in
+      record {
         list = u.list;
-        held = (u.held.0, list_stays S f list d u.held.0 others u.held.1, u.held.2);
+        held = (u.held.0, left.list u.held.0 u.held.1, u.held.2);
         listed = u.listed;
         by = kept.0;
         asks_are = kept.1 ∙ u.asks_are;
-      })
+      }
+
+-- what is usable for a process stays so after any prefix of the puts of a record of another
+pub stays_in_part : (S : Holdings) (f : Facts) (d : Desc) (see : Ask → Answer) (s : Selector) (asks : List Ask) → NoCollision (ComparedInStay S f d see s.paths asks)
+    → (weak_of f.desc ≡ weak_of d → ⊥) → (list : List Selector) (made : List Change) → IsPrefix made (puts_of f list) → UsableAt S d see s asks
+    → UsableAt (holdings_after S made) d see s asks
+stays_in_part S f d see s asks apart others list made p u =
+    let M : List ℕ → Type 0 = ComparedInStay S f d see s.paths asks in
+    let met : AllByRecursion M (blobs_of f) = all_has M (blobs_of f) (λ x h. inl (inr h)) in
+    let now : List ℕ = asked_text d see s.paths u.by.asks in
+    let now_met : M now = inr (ap (λ (qs : List Ask). asked_text d see s.paths qs) (sym u.asks_are)) in
+    let strong : sha256 now ≡ u.by.entry.strong = u.by.asked ∙ sym u.by.held.strong_is in
+    let another : u.by.entry.strong ≡ sha256 (answers_text f) → ⊥ = λ e.
+    let text : answers_text f ≡ now = apart (answers_text f) now met.1.1.0 now_met (sym e ∙ sym strong) in
+    others (one_weak (has_match f.paths) (has_match u.by.asks) f.desc d (paths_digest f) s.paths f.answers (map see u.by.asks) (is_digest (paths_text f.paths)) (subst IsDigest u.by.paths.1.digest_is (is_digest u.by.paths.0)) text) in
+    at_left S (holdings_after S made) d see s asks u
+    (in_part M apart S (λ x h. inl (inl h)) f met list d others u.by.entry.strong (subst IsDigest strong (is_digest now)) another made p)
 
 pub stays_met : (S : Holdings) (f : Facts) (d : Desc) (see : Ask → Answer) (s : Selector) (asks : List Ask) → NoCollision (ComparedInStay S f d see s.paths asks)
     → (weak_of f.desc ≡ weak_of d → ⊥) → (list : List Selector) → UsableAt S d see s asks → UsableAt (holdings_after S (puts_of f list)) d see s asks
 stays_met S f d see s asks apart others list u =
-    let M : List ℕ → Type 0 = ComparedInStay S f d see s.paths asks in
-    stays M apart S (λ x h. inl (inl h)) f (all_has M (blobs_of f) (λ x h. inl (inr h))) list d see others s asks (inr refl) u
+    stays_in_part S f d see s asks apart others list (puts_of f list) (record { rest = []; joined = append-nil (puts_of f list) }) u
 
 -- ## One selector or any
 

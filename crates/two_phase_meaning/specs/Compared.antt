@@ -15,8 +15,10 @@ use Rattle.run_record.specs.Outcomes.{outcome_of}
 use Rattle.run_record.specs.declared.outcome.Outcome.TheVariants.{Good}
 use Rattle.prints.specs.Processes.{weak_parts}
 use Rattle.prints.specs.Weak.{weak_text}
-use Rattle.memo_format.specs.StoreNames.{HoldsBlob}
+use Rattle.memo_format.specs.StoreNames.{HoldsBlob, HoldsList}
+use Rattle.memo_format.specs.declared.selector.Selector.{Selector}
 use Rattle.run_record.specs.Collisions.{contents_of}
+use Rattle.run_record.specs.Digests.{weak_of}
 use Rattle.two_phase_meaning.specs.Contents.{HoldsPaths, desc_contents, given_contents}
 use Rattle.two_phase_meaning.specs.Usable.{asked_text}
 
@@ -24,15 +26,23 @@ use Rattle.two_phase_meaning.specs.Usable.{asked_text}
 abbrev pub own_paths : Desc → (Ask → Answer) → List Ask
 own_paths d see = path_set (described d) (run_for d see).accesses
 
--- a path set that is asked at one process, by the digest of its text: that of the run, or one that is held
+-- the list that is held for the process has a selector with a path set of this digest
+abbrev pub IsSelected : Holdings → Desc → List ℕ → Type 0
+IsSelected S d digest =
+    (list : List Selector) × HoldsList S (weak_of d) list × ((s : Selector) × Has list s × (s.paths ≡ digest))
+
+-- a path set that is asked at one process, by the digest of its text: that of the run, or one that is held and
+-- that a selector of the process names
 abbrev pub IsComparedPathSet : Holdings → Desc → (Ask → Answer) → List ℕ → List Ask → Type 0
 IsComparedPathSet S d see digest asks =
-    ((own_paths d see ≡ asks) × (sha256 (paths_text asks) ≡ digest)) ⊎ HoldsPaths S digest asks
+    ((own_paths d see ≡ asks) × (sha256 (paths_text asks) ≡ digest))
+    ⊎ (IsSelected S d digest × HoldsPaths S digest asks)
 
 -- What is compared at one process on its view: what the store holds under its own digest; the weak text, the
--- contents of the declared files and the path set of the run; of that path set and of each that the store
--- holds the strong text of asking it now, and the contents and names that it is answered; and the files
--- that the run made. There are finitely many of them, as the store holds finitely many texts.
+-- contents of the declared files and the path set of the run; of that path set, and of each that is held and that
+-- a selector of the process names, the strong text of asking it now, and the contents and names that it is
+-- answered; and the files that the run made. There are finitely many of them, as the store holds finitely many
+-- texts.
 pub data ComparedInRun (S : Holdings) (d : Desc) (see : Ask → Answer) (x : List ℕ) : Type 0 where
   stored : HoldsBlob S x → ComparedInRun S d see x
   weak : weak_text (weak_parts d) ≡ x → ComparedInRun S d see x

@@ -19,13 +19,14 @@ ghost use Rattle.run_record.specs.Digests.{IsReadBack, weak_of};
 ghost use Rattle.two_phase_meaning.specs.Saving.{ComparedInSave, ComparedInStay, FilesFit, IsGood, Spelled, list_at};
 ghost use Rattle.two_phase_meaning.specs.Saving.{blobs_of, outcome_files, puts_of, record_entry, record_selector, with_first};
 ghost use Rattle.two_phase_meaning.specs.Compared.{ComparedInRun};
-ghost use Rattle.two_phase_meaning.specs.Usable.{Usable, UsableAt, UsableBy, fits};
+ghost use Rattle.two_phase_meaning.specs.Usable.{Usable, UsableAt, fits};
 
-/// What a usable selector of an honest store leads to is what the run on the view gives.
+/// What a usable selector in the list of a process leads to, where the store is honest, is what the run on the
+/// view gives.
 pub fn hits()
     ensures { (S : Holdings) (d : AnyDesc) (see : AnyAsk → AnyAnswer) → Honest S → IsReadBack d
-        → NoCollision (ComparedInRun S d see) → (s : AnySelector) (u : UsableBy S d see s)
-        → IsGoodRun (described d) see u.asks u.files }
+        → NoCollision (ComparedInRun S d see) → (s : AnySelector) (asks : List AnyAsk)
+        → (u : UsableAt S d see s asks) → IsGoodRun (described d) see u.by.asks u.by.files }
 {}
 
 /// An honest store stays honest after each of the puts of a record of a success.

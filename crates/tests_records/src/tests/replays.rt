@@ -1,10 +1,12 @@
 //! Runs that are made again on their answers, and gates.
+ghost use Rattle.observed.specs.declared.access.Answer.TheVariants as answers;
+
 use super::fixture::{ASKED, One, WEAK, desc, record};
 use bx_io::Gate;
 use bx_tree::Path;
-use observed::Answer;
+use observed::{Answer, Ask, View};
 use run_record::{Cause, Outcome, Record, execute};
-use std::alloc::Global;
+use std::alloc::{AllocError, Global};
 use std::sync::atomic::AtomicU32;
 use std::sync::atomic::Ordering::Relaxed;
 use std::test::Fail;
@@ -39,6 +41,35 @@ fn the_gate_is_passed_once_for_the_pip(rt: HostRuntime) -> Result<(), Fail> {
     };
     run_as_seven(rt.alloc(), &gate)?;
     assert_eq!(rt; gate.sum.load(Relaxed), 7);
+    Ok(())
+}
+
+// A view in which all is absent, and which counts what it is asked.
+#[derive(Drop)]
+struct CountView {
+    asked: usize,
+}
+
+impl View for CountView {
+    ghost answers = { λ v q. answers.Absent };
+
+    fn ask(&mut self, _: Global, _: &Ask) -> Result<Answer, AllocError> {
+        self.asked = self.asked.saturating_add(1);
+        Ok(Answer::Absent)
+    }
+}
+
+#[test]
+fn each_ask_of_a_view_is_recorded(rt: HostRuntime) -> Result<(), Fail> {
+    let alloc = rt.alloc();
+    let gate = SumGate {
+        sum: AtomicU32::new(0),
+    };
+    let mut view = CountView { asked: 0 };
+    let record = execute(alloc, desc(alloc, WEAK)?, 7, &mut view, &gate)?;
+    assert_eq!(rt; view.asked, 2);
+    assert_eq!(rt; record.accesses().len(), 2);
+    assert_eq!(rt; record.paths().asks().len(), 2);
     Ok(())
 }
 

@@ -28,9 +28,9 @@ returns-in-If c =
 pub returns-in-For : goal.returns-in-For
 returns-in-For c =
     stmt_as _ (seen c.args.machine.now) _ _ _
-    (for_from _ c.in-For.local c.in-For.list c.in-For.body.value c.deref-in-For.result.now
-    (ap stmt_data c.in-For.is ∙ stmt_data-For c.in-For.local c.in-For.list c.in-For.body) c.deref-in-For.ensures)
-    c.loop_over.ensures
+    (for_from _ _ c.in-For.local c.in-For.list c.in-For.body.value c.deref-in-For.result.now
+    (ap stmt_data c.in-For.is ∙ stmt_data-For _ c.in-For.local c.in-For.list c.in-For.body) c.deref-in-For.ensures)
+    (c.loop_over.ensures _)
 
 pub returns-in-Return : goal.returns-in-Return
 returns-in-Return c =

@@ -1,5 +1,7 @@
-use Rattle.retire.proofs.Nothing.{none_is_accepted}
+use Rattle.retire.proofs.Nothing.{none_accepted, none_is_accepted}
 use Rattle.retire.proofs.build_laws.nothing_is_accepted.Goals as goal
 
 pub returns : goal.returns
-returns c = λ pips tree budget S slots accepted numbers empty are set. none_is_accepted pips tree budget S slots accepted empty are numbers set
+returns c =
+    λ pips tree budget S slots accepted numbers empty are set.
+    none_is_accepted pips tree budget S slots accepted (λ i d see h. none_accepted slots i d see empty h) are numbers set

@@ -20,7 +20,7 @@ use Rattle.two_phase.proofs.ReaderCalls.{more_read, none_read}
 use Rattle.retire.specs.Deciding.{DecidesAt}
 use Rattle.retire.specs.Saving.{IsSuccess}
 use Rattle.retire.specs.declared.deciding.Ways.{Ways}
-use Rattle.retire.proofs.Counts.{count_at_most, count_few, counted_at, counted_sum, few_more, good_at, none_counted}
+use Rattle.retire.proofs.Counts.{count_at_most, count_few, counted_at, counted_sum, good_at, none_counted, ran_more}
 use Rattle.retire.proofs.Following.{are_accepted, counts_all, counts_as, counts_more, counts_none, counts_over, follows_all, follows_as, follows_more, follows_none, keeps_as, keeps_more, keeps_none, records_all}
 use Rattle.retire.proofs.Placed.{kept_next}
 use Rattle.retire.proofs.SettledSlots.{missed_none, settled_right}
@@ -48,15 +48,15 @@ pips-init g c =
       follows = λ right. follows_none pips tree budget c.args.finished.items d.verdicts.items d.slots.items d.accepted.items no_vs no_ss no_marks;
       alone = λ none. counts_as pips [] d.verdicts.items [] d.accepted.items 0 d.ways.hits 0 d.ways.missed 0 d.ways.faulted no_vs no_marks hits missed faulted (counts_none pips [] [] refl refl);
       keeps = λ S told fair.
-          keeps_as pips tree budget S 0 [] d.verdicts.items [] d.slots.items [] d.accepted.items [] d.records.items 0 d.ways.hits 0 d.ways.missed 0 d.ways.faulted
-          no_vs no_ss no_marks no_fs hits missed faulted (keeps_none pips tree budget S [] [] [] [] refl refl refl refl);
+          keeps_as pips tree budget c.args.finished.items S 0 [] d.verdicts.items [] d.slots.items [] d.accepted.items [] d.records.items 0 d.ways.hits 0 d.ways.missed 0 d.ways.faulted
+          no_vs no_ss no_marks no_fs hits missed faulted (keeps_none pips tree budget c.args.finished.items S [] [] [] [] refl refl refl refl);
       settled = λ S over held. missed;
       verdicts_long = ap length no_vs;
       slots_long = ap length no_ss;
       counted = let count = ap (run_count pips) no_vs ∙ none_counted pips in omega (arith, accepted, hits, missed, faulted, count);
       kept = subst (λ (ss : List Slot). AreKept pips (map slot_files ss)) (sym no_ss) (none_are_kept pips);
       good = subst (AllByRecursion IsSuccess) (sym no_fs) tt;
-      few_records = let none = ap length no_fs in omega (arith, none);
+      ran = let none = ap length no_fs in omega (arith, none);
       shared = none_shared c.new-shared.result.files c.new-shared.result.dirs pips d.slots.items c.new-shared.ensures no_ss;
       left_items = c.into_iter-left.ensures.rest;
       left_len = let long = c.into_iter-left.ensures.len in omega (arith, long, c.args.finished.ok.0);
@@ -115,7 +115,7 @@ pips-preserved g c =
       keeps = λ S told fair.
           let right : IsRight pips tree budget now = inr (S, told, fair) in
           let right_then : IsRight pips tree budget before = right_before pips tree budget before now _ reads right in
-          keeps_as pips tree budget S (n + 1) _ done.verdicts.items _ done.slots.items _ done.accepted.items _ done.records.items _ done.ways.hits _ done.ways.missed _ done.ways.faulted
+          keeps_as pips tree budget held S (n + 1) _ done.verdicts.items _ done.slots.items _ done.accepted.items _ done.records.items _ done.ways.hits _ done.ways.missed _ done.ways.faulted
           add.verdicts add.slots add.accepted add.records add.hits add.missed add.faulted
           (keeps_more pips tree budget held n d.verdicts.items d.slots.items d.accepted.items (inv.follows right_then) now right next within
           c.in_ok-next.ensures.agrees (slice_get pips n) refl decides S told d.records.items d.ways.hits d.ways.missed d.ways.faulted
@@ -144,10 +144,10 @@ pips-preserved g c =
       good =
           subst (AllByRecursion IsSuccess) (sym add.records)
           (good_at pips tree budget now (slot_at held n) d.slots.items n next d.records.items (slice_get pips n) decides inv.good);
-      few_records =
+      ran =
           let all = ap length add.records in
-          let more = few_more d.records.items next.saved n inv.few_records in
-          omega (arith, all, more);
+          let more = ran_more pips tree budget now (slot_at held n) d.slots.items n next d.records.items (slice_get pips n) decides in
+          omega (arith, all, more, inv.ran, add.accepted_count, add.missed, add.faulted);
       shared =
           next_shared c.add_slot.new.self.files c.add_slot.new.self.dirs pips d.slots.items done.slots.items n next.ended.slot inv.slots_long within add.slots
           (c.in_ok-add_slot.ensures (all_shared (take n pips) (map slot_files d.slots.items)) inv.shared);
@@ -209,12 +209,8 @@ returns-clause-number g c =
     let within = subst (λ (ps : List Pip). c.pips.number ≤ length ps) c.pips-pips.ensures.pips c.pips.auto.number-end in
     omega (arith, long, past, within)
 
-pub returns-clause-few_records : goal.returns-clause-few_records
-returns-clause-few_records g c =
-    let few = c.pips.invariant.few_records in
-    let most = c.pips-pips.ensures.few in
-    let within = subst (λ (ps : List Pip). c.pips.number ≤ length ps) c.pips-pips.ensures.pips c.pips.auto.number-end in
-    omega (arith, few, most, within)
+pub returns-clause-ran : goal.returns-clause-ran
+returns-clause-ran g c = c.pips.invariant.ran
 
 pub returns-clause-unread : goal.returns-clause-unread
 returns-clause-unread g c =

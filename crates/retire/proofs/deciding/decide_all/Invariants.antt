@@ -26,7 +26,7 @@ invariant-pips g l = record {
   keeps : (S : Holdings)
       → IsTold (option_map (λ r. reader_data (g.R.KeepReader.held r) (g.R.KeepReader.bound r) (g.R.KeepReader.faults r)) l.reader) S
       → IsFair l.fn.frame.plan.now.pips l.fn.frame.sources.now l.fn.frame.plan.now.tool_budget S
-      → KeepsTo l.fn.frame.plan.now.pips l.fn.frame.sources.now l.fn.frame.plan.now.tool_budget S l.number l.decided.verdicts.items l.decided.slots.items
+      → KeepsTo l.fn.frame.plan.now.pips l.fn.frame.sources.now l.fn.frame.plan.now.tool_budget l.fn.finished.items S l.number l.decided.verdicts.items l.decided.slots.items
       l.decided.accepted.items l.decided.records.items l.decided.ways.hits l.decided.ways.missed l.decided.ways.faulted;
   settled : (S : Holdings) → IsSettledOver l.fn.frame.plan.now l.fn.frame.sources.now S (is_some l.reader) l.fn.finished.items
       → IfSome (option_map (λ r. reader_data (g.R.KeepReader.held r) (g.R.KeepReader.bound r) (g.R.KeepReader.faults r)) l.reader) (λ r. r.held ≡ Some S)
@@ -37,7 +37,7 @@ invariant-pips g l = record {
       ≡ run_count l.fn.frame.plan.now.pips l.decided.verdicts.items;
   kept : AreKept l.fn.frame.plan.now.pips (map slot_files l.decided.slots.items);
   good : AllByRecursion IsSuccess l.decided.records.items;
-  few_records : length l.decided.records.items ≤ l.number;
+  ran : length l.decided.records.items ≤ l.decided.ways.accepted + (l.decided.ways.missed + l.decided.ways.faulted);
   shared : KeepsShared l.shared.files l.shared.dirs (all_shared (take l.number l.fn.frame.plan.now.pips) (map slot_files l.decided.slots.items));
   left_items : into_iter_items l.left ≡ drop l.number l.fn.finished.items;
   left_len : into_iter_len l.left + l.number ≡ length l.fn.finished.items;

@@ -6,9 +6,9 @@ use Rattle.bx_io.proofs.Changes.{keeps_all, keeps_on}
 use Rattle.two_phase.specs.Reading.{ReaderData, reader_data}
 use Rattle.retire.specs.Saving.{IsSuccess}
 use Rattle.retire.specs.Settled.{IsSettledOver}
-use Rattle.retire.proofs.Putting.{first_told}
+use Rattle.retire.proofs.Putting.{first_told, none_most}
 use Rattle.retire.proofs.Told.{IsTold, mapped, none_given, none_mapped, same_there, some_mapped, told_some, told_there}
-use Rattle.retire.proofs.Whole.{IsBegun, all_faults, by_use, closed_faults, counted_over, follows_by, leaves_all, leaves_saved, leaves_same, none_put, only_put, placed, told_to_end, whole, within_by}
+use Rattle.retire.proofs.Whole.{IsBegun, all_faults, by_use, closed_faults, counted_over, follows_by, leaves_all, leaves_but, leaves_saved, leaves_same, none_put, only_put, placed, saves_most, saves_runs, told_to_end, whole, within_by}
 use Rattle.retire.proofs.retiring.retire.Goals as goal
 
 pub returns-clause-build : goal.returns-clause-build
@@ -158,7 +158,7 @@ returns-in_err-failed-clause-left g c =
     let last_told : IsTold last S = tells_of S is used there begun c.in_ok-decided.ensures.reader told tells_closed in
     let follows = c.in_ok-decided.ensures.follows S (told_some last S last_told) (sym (some_mapped (λ r. reader_data (g.K.Reader.KeepReader.held r) (g.K.Reader.KeepReader.bound r) (g.K.Reader.KeepReader.faults r)) c.decide_all.new.reader) ∙ told_there last S last_told) fair in
     leaves_saved c.args.plan.now.pips c.args.sources.now c.args.plan.now.tool_budget S start closed saved c.in_ok-decided.decided.records.items c.as_slice-2.result.now
-    is c.close_if.ensures.known tells follows.1 fair c.as_slice-2.ensures.value c.save_if.ensures.first)
+    is c.close_if.ensures.known tells follows.1.0 fair c.as_slice-2.ensures.value c.save_if.ensures.first)
 
 pub returns-clause-left : goal.returns-clause-left
 returns-clause-left g c =
@@ -181,7 +181,26 @@ returns-clause-left g c =
     let last_told : IsTold last S = tells_of S is used there begun c.in_ok-decided.ensures.reader told tells_closed in
     let follows = c.in_ok-decided.ensures.follows S (told_some last S last_told) (sym (some_mapped (λ r. reader_data (g.K.Reader.KeepReader.held r) (g.K.Reader.KeepReader.bound r) (g.K.Reader.KeepReader.faults r)) c.decide_all.new.reader) ∙ told_there last S last_told) fair in
     leaves_saved c.args.plan.now.pips c.args.sources.now c.args.plan.now.tool_budget S start closed saved c.in_ok-decided.decided.records.items c.as_slice-2.result.now
-    is c.close_if.ensures.known tells follows.1 fair c.as_slice-2.ensures.value c.save_if.ensures.first)
+    is c.close_if.ensures.known tells follows.1.0 fair c.as_slice-2.ensures.value c.save_if.ensures.first)
+
+pub returns-clause-usable_but : goal.returns-clause-usable_but
+returns-clause-usable_but g c =
+    λ used S is tells fair free.
+    let first : Option ReaderData = option_map (λ r. reader_data (g.K.Reader.KeepReader.held r) (g.K.Reader.KeepReader.bound r) (g.K.Reader.KeepReader.faults r)) c.in_ok-reader.reader in
+    let last : Option ReaderData = option_map (λ r. reader_data (g.K.Reader.KeepReader.held r) (g.K.Reader.KeepReader.bound r) (g.K.Reader.KeepReader.faults r)) c.decide_all.new.reader in
+    let start = g.K.Keeper.known c.args.keeper.now in
+    let closed = g.K.Keeper.known c.close_if.new.keeper in
+    let saved = g.K.Keeper.known c.save_if.new.keeper in
+    let tells_of = told_to_end start.held closed.held (g.K.Keeper.bound c.args.keeper.now) first last c.in_ok-decided.decided.ways.faulted c.args.cached in
+    let there : is_some first ≡ c.args.cached = some_mapped (λ r. reader_data (g.K.Reader.KeepReader.held r) (g.K.Reader.KeepReader.bound r) (g.K.Reader.KeepReader.faults r)) c.in_ok-reader.reader ∙ c.in_ok-reader.ensures.some in
+    let begun = mapped (λ r. reader_data (g.K.Reader.KeepReader.held r) (g.K.Reader.KeepReader.bound r) (g.K.Reader.KeepReader.faults r)) (IsBegun start.held (g.K.Keeper.bound c.args.keeper.now)) c.in_ok-reader.reader c.in_ok-reader.ensures.reader in
+    let told = λ (some : IsSome closed.held). mapped (λ r. reader_data (g.K.Reader.KeepReader.held r) (g.K.Reader.KeepReader.bound r) (g.K.Reader.KeepReader.faults r)) (λ r. IsSome r.held) c.decide_all.new.reader (c.close_if.ensures.reader some) in
+    let tells_closed : IsSome closed.held = first_told closed saved c.as_slice-2.result.now c.save_if.ensures.first tells in
+    let last_told : IsTold last S = tells_of S is used there begun c.in_ok-decided.ensures.reader told tells_closed in
+    let follows = c.in_ok-decided.ensures.follows S (told_some last S last_told) (sym (some_mapped (λ r. reader_data (g.K.Reader.KeepReader.held r) (g.K.Reader.KeepReader.bound r) (g.K.Reader.KeepReader.faults r)) c.decide_all.new.reader) ∙ told_there last S last_told) fair in
+    leaves_but c.args.plan.now.pips c.args.sources.now c.args.plan.now.tool_budget S start closed saved c.in_ok-decided.decided.records.items c.as_slice-2.result.now
+    c.in_ok-failed.failed _ is c.close_if.ensures.known follows.1.0 fair c.as_slice-2.ensures.value c.pips-pips.ensures.list c.requires.rules free
+    (c.in_ok-failed.ensures.all used) (omega (arith, c.tally_of.ensures.faults))
 
 pub returns-clause-usable : goal.returns-clause-usable
 returns-clause-usable g c =
@@ -199,9 +218,10 @@ returns-clause-usable g c =
     let tells_closed : IsSome closed.held = first_told closed saved c.as_slice-2.result.now c.save_if.ensures.first tells in
     let last_told : IsTold last S = tells_of S is used there begun c.in_ok-decided.ensures.reader told tells_closed in
     let follows = c.in_ok-decided.ensures.follows S (told_some last S last_told) (sym (some_mapped (λ r. reader_data (g.K.Reader.KeepReader.held r) (g.K.Reader.KeepReader.bound r) (g.K.Reader.KeepReader.faults r)) c.decide_all.new.reader) ∙ told_there last S last_told) fair in
-    leaves_all c.args.plan.now.pips c.args.sources.now c.args.plan.now.tool_budget S start closed saved c.in_ok-decided.decided.records.items c.as_slice-2.result.now
-    is c.close_if.ensures.known follows.1 fair c.as_slice-2.ensures.value c.pips-pips.ensures.list c.requires.rules free
-    (c.in_ok-failed.ensures.all used (omega (arith, none, c.tally_of.ensures.faults))) T now
+    leaves_all c.args.plan.now.pips c.args.sources.now c.args.plan.now.tool_budget saved _
+    (leaves_but c.args.plan.now.pips c.args.sources.now c.args.plan.now.tool_budget S start closed saved c.in_ok-decided.decided.records.items c.as_slice-2.result.now
+    c.in_ok-failed.failed _ is c.close_if.ensures.known follows.1.0 fair c.as_slice-2.ensures.value c.pips-pips.ensures.list c.requires.rules free
+    (c.in_ok-failed.ensures.all used) (omega (arith, c.tally_of.ensures.faults))) none T now
 
 pub returns-clause-faults : goal.returns-clause-faults
 returns-clause-faults g c =
@@ -241,18 +261,51 @@ returns-clause-puts g c =
     only_put (g.K.Keeper.known c.args.keeper.now) (g.K.Keeper.known c.close_if.new.keeper) (g.K.Keeper.known c.save_if.new.keeper) c.in_ok-decided.decided.records.items c.as_slice-2.result.now
     c.close_if.ensures.known c.in_ok-decided.ensures.records c.as_slice-2.ensures.value c.save_if.ensures.first
 
+pub returns-clause-saved_runs : goal.returns-clause-saved_runs
+returns-clause-saved_runs g c =
+    λ used S is tells fair none.
+    let first : Option ReaderData = option_map (λ r. reader_data (g.K.Reader.KeepReader.held r) (g.K.Reader.KeepReader.bound r) (g.K.Reader.KeepReader.faults r)) c.in_ok-reader.reader in
+    let last : Option ReaderData = option_map (λ r. reader_data (g.K.Reader.KeepReader.held r) (g.K.Reader.KeepReader.bound r) (g.K.Reader.KeepReader.faults r)) c.decide_all.new.reader in
+    let start = g.K.Keeper.known c.args.keeper.now in
+    let closed = g.K.Keeper.known c.close_if.new.keeper in
+    let saved = g.K.Keeper.known c.save_if.new.keeper in
+    let tells_of = told_to_end start.held closed.held (g.K.Keeper.bound c.args.keeper.now) first last c.in_ok-decided.decided.ways.faulted c.args.cached in
+    let there : is_some first ≡ c.args.cached = some_mapped (λ r. reader_data (g.K.Reader.KeepReader.held r) (g.K.Reader.KeepReader.bound r) (g.K.Reader.KeepReader.faults r)) c.in_ok-reader.reader ∙ c.in_ok-reader.ensures.some in
+    let begun = mapped (λ r. reader_data (g.K.Reader.KeepReader.held r) (g.K.Reader.KeepReader.bound r) (g.K.Reader.KeepReader.faults r)) (IsBegun start.held (g.K.Keeper.bound c.args.keeper.now)) c.in_ok-reader.reader c.in_ok-reader.ensures.reader in
+    let told = λ (some : IsSome closed.held). mapped (λ r. reader_data (g.K.Reader.KeepReader.held r) (g.K.Reader.KeepReader.bound r) (g.K.Reader.KeepReader.faults r)) (λ r. IsSome r.held) c.decide_all.new.reader (c.close_if.ensures.reader some) in
+    let tells_closed : IsSome closed.held = first_told closed saved c.as_slice-2.result.now c.save_if.ensures.first tells in
+    let last_told : IsTold last S = tells_of S is used there begun c.in_ok-decided.ensures.reader told tells_closed in
+    let follows = c.in_ok-decided.ensures.follows S (told_some last S last_told) (sym (some_mapped (λ r. reader_data (g.K.Reader.KeepReader.held r) (g.K.Reader.KeepReader.bound r) (g.K.Reader.KeepReader.faults r)) c.decide_all.new.reader) ∙ told_there last S last_told) fair in
+    saves_runs c.args.plan.now.pips c.args.sources.now c.args.plan.now.tool_budget S c.args.finished.slots.items start closed saved c.in_ok-decided.decided.records.items
+    c.as_slice-2.result.now c.close_if.ensures.known follows.1.0 (follows.1.1 (omega (arith, none, c.tally_of.ensures.faults))) c.as_slice-2.ensures.value
+    c.save_if.ensures.first
+
+pub returns-clause-saved : goal.returns-clause-saved
+returns-clause-saved g c =
+    saves_most (g.K.Keeper.known c.args.keeper.now) (g.K.Keeper.known c.close_if.new.keeper) (g.K.Keeper.known c.save_if.new.keeper) c.in_ok-decided.decided.records.items c.as_slice-2.result.now _
+    c.close_if.ensures.known c.in_ok-decided.ensures.records c.as_slice-2.ensures.value c.save_if.ensures.first (omega (arith, c.in_ok-decided.ensures.ran, c.tally_of.ensures.ran))
+
+pub returns-clause-unsaved : goal.returns-clause-unsaved
+returns-clause-unsaved g c =
+    λ none.
+    none_most (g.K.Keeper.known c.args.keeper.now) (g.K.Keeper.known c.save_if.new.keeper) _
+    (saves_most (g.K.Keeper.known c.args.keeper.now) (g.K.Keeper.known c.close_if.new.keeper) (g.K.Keeper.known c.save_if.new.keeper) c.in_ok-decided.decided.records.items c.as_slice-2.result.now _
+    c.close_if.ensures.known c.in_ok-decided.ensures.records c.as_slice-2.ensures.value c.save_if.ensures.first (omega (arith, c.in_ok-decided.ensures.ran, c.tally_of.ensures.ran))) none
+
 pub save_if-requires-clause-good : goal.save_if-requires-clause-good
 save_if-requires-clause-good g c = λ κs live. subst (AllByRecursion IsSuccess) (sym c.as_slice-2.ensures.value) c.in_ok-decided.ensures.records
 
 pub save_if-requires-clause-few : goal.save_if-requires-clause-few
 save_if-requires-clause-few g c =
     let same = ap length c.as_slice-2.ensures.value in
-    let few = c.in_ok-decided.ensures.few_records in
-    omega (arith, same, few)
+    let ran = c.in_ok-decided.ensures.ran in
+    let few = c.in_ok-decided.ensures.few in
+    omega (arith, same, ran, few)
 
 pub tally_of-requires-clause-failed : goal.tally_of-requires-clause-failed
 tally_of-requires-clause-failed g c =
     let same = ap length c.as_slice-2.ensures.value in
-    let few = c.in_ok-decided.ensures.few_records in
+    let ran = c.in_ok-decided.ensures.ran in
+    let few = c.in_ok-decided.ensures.few in
     let failed = c.in_ok-failed.ensures.few_faults in
-    omega (arith, same, few, failed)
+    omega (arith, same, ran, few, failed)

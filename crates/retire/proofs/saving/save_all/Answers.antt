@@ -1,12 +1,12 @@
 use Rattle.std.proofs.Common.{◌+◌, ◌∙◌, arith, refl}
 use Rattle.bx_io.proofs.Changes.{keeps_all}
 use Rattle.retire.specs.Saving.{IsSuccess}
-use Rattle.retire.proofs.Putting.{all_at_end, all_next, each_next, first_of, good_one, rose_more}
+use Rattle.retire.proofs.Putting.{but_at_end, but_next, each_next, first_of, good_one, none_saved, rose_more}
 use Rattle.retire.proofs.saving.save_all.Goals as goal
 
 pub records-init : goal.records-init
 records-init g c = record {
-  all = λ none. keeps_all (g.K.Keeper.known c.args.keeper.now);
+  all = none_saved (g.K.Keeper.known c.args.keeper.now) c.args.records.now;
   each = keeps_all (g.K.Keeper.known c.args.keeper.now);
   held = c.new-held.ensures (g.K.Keeper.known c.args.keeper.now).held;
   bound = refl;
@@ -24,9 +24,9 @@ records-preserved g c =
     let inv = c.records.invariant in
     let step = c.in_ok-failed.ensures in
     record {
-      all = λ none.
-          all_next c.args.records.now c.records.ran-index c.ran-item.result (g.K.Keeper.known c.args.keeper.now) (g.K.Keeper.known c.records.keeper)
-          (g.K.Keeper.known c.save_one.new.keeper) c.records-test.true c.ran-item.is (inv.all (omega (arith, none))) (step.all (omega (arith, none)));
+      all =
+          but_next c.args.records.now c.records.ran-index c.ran-item.result (g.K.Keeper.known c.args.keeper.now) (g.K.Keeper.known c.records.keeper)
+          (g.K.Keeper.known c.save_one.new.keeper) c.records.faults c.in_ok-failed.failed c.records-test.true c.ran-item.is inv.all step.all step.first;
       each =
           each_next c.args.records.now c.records.ran-index c.ran-item.result (g.K.Keeper.known c.args.keeper.now) (g.K.Keeper.known c.records.keeper)
           (g.K.Keeper.known c.save_one.new.keeper) c.records-test.true c.ran-item.is inv.each step.first;
@@ -40,9 +40,8 @@ records-preserved g c =
 
 pub returns-clause-all : goal.returns-clause-all
 returns-clause-all g c =
-    λ none.
-    all_at_end c.args.records.now c.records.ran-index (g.K.Keeper.known c.args.keeper.now) (g.K.Keeper.known c.records.keeper) c.records-test.false
-    (c.records.invariant.all none)
+    but_at_end c.args.records.now c.records.ran-index (g.K.Keeper.known c.args.keeper.now) (g.K.Keeper.known c.records.keeper) c.records.faults c.records-test.false
+    c.records.invariant.all
 
 pub returns-clause-first : goal.returns-clause-first
 returns-clause-first g c =

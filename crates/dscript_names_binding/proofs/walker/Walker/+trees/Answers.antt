@@ -763,7 +763,7 @@ pub stmt-returns-in_ok-body-in-For : goal.stmt-returns-in_ok-body-in-For
 unfolding bind_expr
 stmt-returns-in_ok-body-in-For t c =
     walked_at (ap (bind_stmt (world_at c.args.scene.now) (site_at c.args.scene.now)) (ap stmt_tree c.in-For.is ∙ stmt_tree-For _ _ c.in-For.list c.in-For.body))
-    (walked_then (for_after (world_at c.args.scene.now) (site_at c.args.scene.now) c.in-For.kind c.in-For.name (expr_tree c.in-For.list) (stmt_tree c.in-For.body.value)) c.in_ok-number-in-For.ensures (walked_then _ c.in_ok-list-in-For.ensures (walked_then _ c.in_ok-body-in-For.ensures (walked_gives (stmt_data-For _ _ _)))))
+    (walked_then (for_after (world_at c.args.scene.now) (site_at c.args.scene.now) c.in-For.kind c.in-For.name (expr_tree c.in-For.list) (stmt_tree c.in-For.body.value)) c.in_ok-number-in-For.ensures (walked_then _ c.in_ok-list-in-For.ensures (walked_then _ c.in_ok-body-in-For.ensures (walked_gives (stmt_data-For _ _ _ _)))))
 
 pub stmt-returns-in_err-stmts-in-Block : goal.stmt-returns-in_err-stmts-in-Block
 unfolding bind_expr

@@ -1,0 +1,2 @@
+pub mod FoundLocals
+pub mod FullCalls

@@ -1,0 +1,10 @@
+pub mod Occurring
+pub mod MetTypes
+pub mod MetTrees
+pub mod MetFiles
+pub mod Targets
+pub mod Tables
+pub mod ScopeBlocks
+pub mod ScopeSteps
+pub mod ScopeTrees
+pub mod WholePrograms

@@ -1,0 +1,4 @@
+pub mod Listed
+pub mod Existing
+pub mod Chains
+pub mod SecondBuilds

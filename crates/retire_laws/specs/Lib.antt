@@ -1,0 +1,3 @@
+pub mod ComparedList
+pub mod Series
+pub mod SecondBuild
