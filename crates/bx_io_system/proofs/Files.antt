@@ -1,6 +1,6 @@
 -- What becomes of files by one call after another.
 use Rattle.std.proofs.Common.{◌≡◌, ◌∙◌, ℕ, List, ◌++◌, length, length-append, arith, ap, sym, codes, Result, Ok, Err, Some, refl}
-use Rattle.std.proofs.Common.{None, Option, Vec, String, Global, rules}
+use Rattle.std.proofs.Common.{None, Option, Vec, String, Global, rules, subst}
 use Rattle.std.specs.Prelude.{option_map, option_copied, is_some, not}
 use Rattle.std.proofs.Common.{Bool, true, false, Bor}
 use Rattle.std.proofs.lemmas.Bool.{false≢true}
@@ -13,10 +13,12 @@ use Rattle.bx_io.specs.Stored.{holdings_of}
 use Rattle.bx_io.proofs.Mapped.{get-holdings_of}
 use Rattle.std.specs.declared.io.Error.{Error}
 use Rattle.bx_io.specs.Names.{IsName}
-use Rattle.bx_io_system.specs.Files.{Files, IsBegun, IsFault, IsFaultBut, Renames, Writes, SameBut}
+use Rattle.bx_io_system.specs.Files.{Creates, Files, IsBegun, IsFault, IsFaultBut, Places, Puts, Renames, SameNames, Writes, SameBut, begun_at, place_ending}
+use Rattle.std.specs.Fmt.{decimal}
+use Rattle.std.specs.IoError.{error_kind}
 use Rattle.std.proofs.Common.{[], ◌∷◌, IsSome, ◌≤◌}
 use Rattle.std.specs.declared.io.ErrorKind.{ErrorKind}
-use Rattle.std.specs.declared.io.ErrorKind.TheVariants.{NotFound}
+use Rattle.std.specs.declared.io.ErrorKind.TheVariants.{AlreadyExists, NotFound}
 use Rattle.bx_io.specs.Causes.{HasCause, counted, last_count}
 use Rattle.bx_io.specs.declared.keeper.Got.TheVariants as got
 use Rattle.bx_io.specs.declared.keeper.Listed.TheVariants as listed
@@ -28,21 +30,36 @@ use Rattle.bx_io_system.specs.declared.kind.Kind.{Kind}
 use Rattle.bx_io_system.specs.declared.kind.Kind.TheVariants as kinds
 
 -- a name with something behind it is no name
-pub begun_of : (name path : List ℕ) → IsName name → path ≡ name ++ codes ".new" → IsBegun path
-begun_of name path named is = omega (arith, named.count, ap length is, length-append name (codes ".new"))
+pub begun_of : (name path : List ℕ) (place : ℕ) → IsName name → path ≡ begun_at name place → IsBegun path
+begun_of name path place named is = omega (arith, named.count, ap length is, length-append name (place_ending place), length-append (codes ".new-") (decimal place))
 
 pub not_begun : (name path : List ℕ) → IsName name → IsBegun path → name ≡ path → ⊥
 not_begun name path named begun same = omega (arith, named.count, begun, ap length same)
 
--- a file that is written again
-pub written_again : (before mid between now : Files) (path bytes : List ℕ) (e : Error) (r : Result (Unit {0}) Error)
-    → Writes before mid path bytes (Err e) → between ≡ mid → Writes between now path bytes r → Writes before now path bytes r
-written_again before mid between now path bytes e (Ok x) first same next = (
-  next.0,
-  λ q other. next.1 q other ∙ ap (λ (files : Files). get files q) same ∙ first q other,
-)
-written_again before mid between now path bytes e (Err f) first same next =
-    λ q other. next q other ∙ ap (λ (files : Files). get files q) same ∙ first q other
+-- a file is made once more, as the first try changed nothing
+pub created_again : (before mid between now : Files) (path : List ℕ) (e : Error) (r : Result (Unit {0}) Error)
+    → Creates before mid path (Err e) → between ≡ mid → Creates between now path r → Creates before now path r
+created_again before mid between now path e r first same next = subst (λ (files : Files). Creates files now path r) (same ∙ first.0) next
+
+-- a place that was tried
+pub placed_there : (before now : Files) (path : List ℕ) → Creates before now path (Ok tt) → Places before now path true
+placed_there before now path created = created
+
+pub placed_not : (before now : Files) (path : List ℕ) (e : Error) → error_kind e ≡ AlreadyExists → Creates before now path (Err e) → Places before now path false
+placed_not before now path e is created = (created.0, created.1 is)
+
+-- a put whose file was begun beside the names
+pub put_begun : (before mid now : Files) (name bytes : List ℕ) (r : Result (Unit {0}) Error) → SameNames before mid → Puts mid now name bytes r → Puts before now name bytes r
+put_begun before mid now name bytes (Ok x) same puts = (puts.0, λ q named other. puts.1 q named other ∙ same q named)
+put_begun before mid now name bytes (Err e) same puts = λ q named. puts q named ∙ same q named
+
+-- a put whose file was removed again
+pub put_given_up : (before mid now : Files) (name bytes : List ℕ) (e : Error) → Puts before mid name bytes (Err e) → SameNames mid now → Puts before now name bytes (Err e)
+put_given_up before mid now name bytes e puts same = λ q named. same q named ∙ puts q named
+
+-- what was made at a place is no name
+pub made_beside : (before now : Files) (path : List ℕ) → IsBegun path → Places before now path true → SameNames before now
+made_beside before now path begun placed q named = placed.2 q (not_begun q path named begun)
 
 -- ## A map in memory
 

@@ -29,9 +29,10 @@ failures (e ∷ earlier) = failures_next e.0 (failures earlier)
 
 abbrev pub alone_next : Kind → Bool → Bool
 alone_next kinds.Alone before = true
+alone_next kinds.Started before = false
 alone_next _ before = before
 
--- whether it was granted that the folder is this store's alone
+-- whether it was granted, since the last start, that the folder is this store's alone
 abbrev pub alone_of : List Event → Bool
 alone_of [] = false
 alone_of (e ∷ earlier) = alone_next e.0 (alone_of earlier)
