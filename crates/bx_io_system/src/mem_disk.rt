@@ -43,6 +43,15 @@ impl MemDisk {
     }
 }
 
+// Notes a fault, and gives its error.
+fn fault(failed: &mut Record, kind: ErrorKind) -> io::Error
+    ensures kind { error_kind result ≡ kind }
+    ensures noted { failed.new ≡ record failed.old { events = (kinds.Failed, [], []) ∷ failed.old.events } }
+{
+    *failed = Record::noted(failed, &Kind::Failed, &[], &[]);
+    io::Error::from(kind)
+}
+
 // Adds the path of a file from a folder, if it lies in that.
 fn add_below(alloc: Global, inside: &str, file: &str, names: &mut Vec<String>) -> io::Result<()>
     ensures added { OnOk result ((q : List ℕ)
@@ -129,8 +138,7 @@ impl Disk for MemDisk {
     {
         let key = String::from_str(alloc, path)?;
         if self.map.get(path).is_some() {
-            self.failed = Record::noted(&self.failed, &Kind::Failed, &[], &[]);
-            return Err(io::Error::from(ErrorKind::AlreadyExists));
+            return Err(fault(&mut self.failed, ErrorKind::AlreadyExists));
         }
         self.map.insert(key, Vec::new(alloc))?;
         self.log = Record::noted(&self.log, &Kind::Created, path.as_bytes(), &[]);
@@ -146,8 +154,7 @@ impl Disk for MemDisk {
     {
         self.log = Record::noted(&self.log, &Kind::Wrote, path.as_bytes(), &[]);
         if bytes.len() > FILE_LIMIT {
-            self.failed = Record::noted(&self.failed, &Kind::Failed, &[], &[]);
-            return Err(io::Error::from(ErrorKind::FileTooLarge));
+            return Err(fault(&mut self.failed, ErrorKind::FileTooLarge));
         }
         let key = String::from_str(alloc, path)?;
         self.map.insert(key, bytes.to_vec(alloc)?)?;
@@ -175,8 +182,7 @@ impl Disk for MemDisk {
         self.log = Record::noted(&self.log, &Kind::Tried, path.as_bytes(), old.as_bytes());
         let key = String::from_str(alloc, path)?;
         let Some(bytes) = self.map.get(old) else {
-            self.failed = Record::noted(&self.failed, &Kind::Failed, &[], &[]);
-            return Err(io::Error::from(ErrorKind::NotFound));
+            return Err(fault(&mut self.failed, ErrorKind::NotFound));
         };
         let bytes = bytes.to_vec(alloc)?;
         self.map.insert(key, bytes)?;

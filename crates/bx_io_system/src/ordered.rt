@@ -63,7 +63,7 @@ fn is_ending(alloc: Global, text: &[u8]) -> Result<bool, AllocError>
     if text == b".new".as_slice() {
         return Ok(true);
     }
-    'places: for place in 0..PLACES {
+    'endings: for place in 0..PLACES {
         let ending = format!(in alloc; ".new-{place}")?;
         if text == ending.as_bytes() {
             return Ok(true);
@@ -666,7 +666,7 @@ impl<D: Disk> OrderedDisk<D> {
         }
         match self.disk.remove(alloc, path) {
             Err(error) if error.kind() == ErrorKind::NotFound => Ok(()),
-            removed => removed,
+            cleared => cleared,
         }
     }
 
