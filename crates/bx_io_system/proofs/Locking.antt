@@ -1,46 +1,146 @@
 -- What follows of a lock from the calls that were made.
-use Rattle.std.proofs.Common.{◌≡◌, ◌∙◌, ℕ, Bool, true, false, List, [], ◌∷◌, refl, sym, ap, subst}
-use Rattle.std.specs.Prelude.{not, ◌||◌, ◌&&◌, ◌==◌, length}
+use Rattle.std.proofs.Common.{◌≡◌, ◌∙◌, ℕ, Bool, true, false, List, [], ◌∷◌, refl, sym, ap, subst, Result, Ok, Err, inl, inr}
+use Rattle.std.specs.Prelude.{not, ◌||◌, ◌&&◌, ◌==◌, ◌⊎◌, length}
 use Rattle.std.specs.Str.{bytes_eq}
 use Rattle.std.proofs.lemmas.Bool.{false≢true}
 use Rattle.std.proofs.lemmas.Slice.Eq.{bytes_eq-Decides}
+use Rattle.std.specs.IoError.{error_kind}
+use Rattle.std.specs.declared.io.Error.{Error}
+use Rattle.std.specs.declared.io.ErrorKind.{ErrorKind}
+use Rattle.std.specs.declared.io.ErrorKind.TheVariants.{WouldBlock}
 use Rattle.bx_io.specs.declared.name.TheConstants.{NAME_LENGTH}
 use Rattle.bx_io_system.specs.Events.{Event}
-use Rattle.bx_io_system.specs.Files.{OwnsBut, OwnsNoMore, asked, asks_alone, is_created, is_created_at, is_excluded, is_locked, is_own, is_to_remove, lock_kind, locked_next, may_change, own_next}
+use Rattle.bx_io_system.specs.Files.{IsExcluded, OwnsBut, OwnsNoMore, above, asked, asks_alone, has_folders, has_new, is_created, is_created_at, is_durable, is_excluded, is_locked, is_own, is_to_remove, lock_event, lock_fault, lock_kind, locked_next, may_change, own_next, unsynced}
 use Rattle.bx_io_system.specs.declared.kind.Kind.{Kind}
 use Rattle.bx_io_system.specs.declared.kind.Kind.TheVariants as kinds
 
 -- ## Locks
 
--- what is asked excludes nobody
+-- what is asked
+
 pub excluded_asked : (alone : Bool) (earlier : List Event) → is_excluded (asked alone earlier) ≡ is_excluded earlier
 excluded_asked true earlier = refl
 excluded_asked false earlier = refl
-
-pub excluded_locked : (alone : Bool) (earlier : List Event) → is_excluded ((lock_kind alone, [], []) ∷ asked alone earlier) ≡ is_excluded earlier
-excluded_locked true earlier = refl
-excluded_locked false earlier = refl
 
 pub own_asked : (alone : Bool) (earlier : List Event) (path : List ℕ) → is_own path (asked alone earlier) ≡ is_own path earlier
 own_asked true earlier path = refl
 own_asked false earlier path = refl
 
-pub own_locked : (alone : Bool) (earlier : List Event) (path : List ℕ) → is_own path ((lock_kind alone, [], []) ∷ asked alone earlier) ≡ is_own path earlier
-own_locked true earlier path = refl
-own_locked false earlier path = refl
-
 pub asks_asked : (alone : Bool) (earlier : List Event) → asks_alone earlier ≡ alone → asks_alone (asked alone earlier) ≡ alone
 asks_asked true earlier is = refl
 asks_asked false earlier is = is
 
-pub asks_locked : (alone : Bool) (earlier : List Event) → asks_alone earlier ≡ alone → asks_alone ((lock_kind alone, [], []) ∷ asked alone earlier) ≡ alone
-asks_locked true earlier is = refl
-asks_locked false earlier is = is
+pub asks_once : (earlier : List Event) → asks_alone (asked true earlier) ≡ true
+asks_once earlier = refl
+
+pub unsynced_asked : (letter : ℕ) (alone : Bool) (earlier : List Event) → unsynced letter (asked alone earlier) ≡ unsynced letter earlier
+unsynced_asked letter true earlier = refl
+unsynced_asked letter false earlier = refl
+
+pub new_asked : (folder : List ℕ) (alone : Bool) (earlier : List Event) → has_new folder (asked alone earlier) ≡ has_new folder earlier
+new_asked folder true earlier = refl
+new_asked folder false earlier = refl
+
+pub durable_asked : (alone : Bool) (earlier : List Event) → is_durable (asked alone earlier) ≡ is_durable earlier
+durable_asked true earlier = refl
+durable_asked false earlier = refl
+
+-- what a wish for the lock came to
+
+own_fault : (kind : ErrorKind) (earlier : List Event) (path : List ℕ) → is_own path ((lock_fault kind, [], []) ∷ earlier) ≡ is_own path earlier
+own_fault WouldBlock earlier path = refl
+own_fault _ earlier path = refl
+
+own_event : (alone : Bool) (r : Result (Unit {0}) Error) (earlier : List Event) (path : List ℕ) → is_own path (lock_event alone r ∷ earlier) ≡ is_own path earlier
+own_event true (Ok x) earlier path = refl
+own_event false (Ok x) earlier path = refl
+own_event alone (Err e) earlier path = own_fault (error_kind e) earlier path
+
+pub own_lock : (alone : Bool) (r : Result (Unit {0}) Error) (earlier now : List Event) (path : List ℕ) → now ≡ lock_event alone r ∷ asked alone earlier → is_own path now ≡ is_own path earlier
+own_lock alone r earlier now path is = ap (is_own path) is ∙ own_event alone r (asked alone earlier) path ∙ own_asked alone earlier path
+
+asks_fault : (kind : ErrorKind) (earlier : List Event) → asks_alone ((lock_fault kind, [], []) ∷ earlier) ≡ asks_alone earlier
+asks_fault WouldBlock earlier = refl
+asks_fault _ earlier = refl
+
+asks_event : (alone : Bool) (r : Result (Unit {0}) Error) (earlier : List Event) → asks_alone (lock_event alone r ∷ earlier) ≡ asks_alone earlier
+asks_event true (Ok x) earlier = refl
+asks_event false (Ok x) earlier = refl
+asks_event alone (Err e) earlier = asks_fault (error_kind e) earlier
+
+pub asks_lock : (alone : Bool) (r : Result (Unit {0}) Error) (earlier now : List Event) → now ≡ lock_event alone r ∷ asked alone earlier → asks_alone earlier ≡ alone → asks_alone now ≡ alone
+asks_lock alone r earlier now is before = ap asks_alone is ∙ asks_event alone r (asked alone earlier) ∙ asks_asked alone earlier before
+
+pub asks_lock_alone : (r : Result (Unit {0}) Error) (earlier now : List Event) → now ≡ lock_event true r ∷ asked true earlier → asks_alone now ≡ true
+asks_lock_alone r earlier now is = ap asks_alone is ∙ asks_event true r (asked true earlier)
+
+unsynced_fault : (letter : ℕ) (kind : ErrorKind) (earlier : List Event) → unsynced letter ((lock_fault kind, [], []) ∷ earlier) ≡ unsynced letter earlier
+unsynced_fault letter WouldBlock earlier = refl
+unsynced_fault letter _ earlier = refl
+
+unsynced_event : (letter : ℕ) (alone : Bool) (r : Result (Unit {0}) Error) (earlier : List Event) → unsynced letter (lock_event alone r ∷ earlier) ≡ unsynced letter earlier
+unsynced_event letter true (Ok x) earlier = refl
+unsynced_event letter false (Ok x) earlier = refl
+unsynced_event letter alone (Err e) earlier = unsynced_fault letter (error_kind e) earlier
+
+pub unsynced_lock : (letter : ℕ) (alone : Bool) (r : Result (Unit {0}) Error) (earlier now : List Event) → now ≡ lock_event alone r ∷ asked alone earlier → unsynced letter now ≡ unsynced letter earlier
+unsynced_lock letter alone r earlier now is = ap (unsynced letter) is ∙ unsynced_event letter alone r (asked alone earlier) ∙ unsynced_asked letter alone earlier
+
+new_fault : (folder : List ℕ) (kind : ErrorKind) (earlier : List Event) → has_new folder ((lock_fault kind, [], []) ∷ earlier) ≡ has_new folder earlier
+new_fault folder WouldBlock earlier = refl
+new_fault folder _ earlier = refl
+
+new_event : (folder : List ℕ) (alone : Bool) (r : Result (Unit {0}) Error) (earlier : List Event) → has_new folder (lock_event alone r ∷ earlier) ≡ has_new folder earlier
+new_event folder true (Ok x) earlier = refl
+new_event folder false (Ok x) earlier = refl
+new_event folder alone (Err e) earlier = new_fault folder (error_kind e) earlier
+
+new_lock : (folder : List ℕ) (alone : Bool) (r : Result (Unit {0}) Error) (earlier : List Event) → has_new folder (lock_event alone r ∷ asked alone earlier) ≡ has_new folder earlier
+new_lock folder alone r earlier = new_event folder alone r (asked alone earlier) ∙ new_asked folder alone earlier
+
+pub folders_lock : (alone : Bool) (r : Result (Unit {0}) Error) (earlier now : List Event) → now ≡ lock_event alone r ∷ asked alone earlier → has_folders now ≡ has_folders earlier
+folders_lock alone r earlier now is =
+    ap has_folders is ∙ ap (λ (b : Bool). not b && not (has_new [] (lock_event alone r ∷ asked alone earlier))) (new_lock above alone r earlier)
+    ∙ ap (λ (b : Bool). not (has_new above earlier) && not b) (new_lock [] alone r earlier)
+
+durable_fault : (kind : ErrorKind) (earlier : List Event) → is_durable ((lock_fault kind, [], []) ∷ earlier) ≡ is_durable earlier
+durable_fault WouldBlock earlier = refl
+durable_fault _ earlier = refl
+
+durable_event : (alone : Bool) (r : Result (Unit {0}) Error) (earlier : List Event) → is_durable (lock_event alone r ∷ earlier) ≡ is_durable earlier
+durable_event true (Ok x) earlier = refl
+durable_event false (Ok x) earlier = refl
+durable_event alone (Err e) earlier = durable_fault (error_kind e) earlier
+
+pub durable_lock : (alone : Bool) (r : Result (Unit {0}) Error) (earlier now : List Event) → now ≡ lock_event alone r ∷ asked alone earlier → is_durable now ≡ is_durable earlier
+durable_lock alone r earlier now is = ap is_durable is ∙ durable_event alone r (asked alone earlier) ∙ durable_asked alone earlier
+
+excluded_fault : (kind : ErrorKind) (earlier : List Event) → is_excluded ((lock_fault kind, [], []) ∷ earlier) ≡ true → (kind ≡ WouldBlock) ⊎ (is_excluded earlier ≡ true)
+excluded_fault WouldBlock earlier is = inl refl
+excluded_fault _ earlier is = inr is
+
+excluded_event : (alone : Bool) (r : Result (Unit {0}) Error) (earlier : List Event) → is_excluded (lock_event alone r ∷ earlier) ≡ true → IsExcluded r ⊎ (is_excluded earlier ≡ true)
+excluded_event true (Ok x) earlier is = inr is
+excluded_event false (Ok x) earlier is = inr is
+excluded_event alone (Err e) earlier is = excluded_fault (error_kind e) earlier is
+
+excluded_either : (alone : Bool) (r : Result (Unit {0}) Error) (earlier : List Event) → (is_excluded earlier ≡ true → IsExcluded r) → IsExcluded r ⊎ (is_excluded (asked alone earlier) ≡ true) → IsExcluded r
+excluded_either alone r earlier stays (inl is) = is
+excluded_either alone r earlier stays (inr is) = stays (sym (excluded_asked alone earlier) ∙ is)
+
+-- a wish is refused where the folder is another one's, now or since before
+pub excluded_lock : (alone : Bool) (r : Result (Unit {0}) Error) (earlier now : List Event) → now ≡ lock_event alone r ∷ asked alone earlier → (is_excluded earlier ≡ true → IsExcluded r)
+    → is_excluded now ≡ true → IsExcluded r
+excluded_lock alone r earlier now is stays excluded =
+    excluded_either alone r earlier stays (excluded_event alone r (asked alone earlier) (sym (ap is_excluded is) ∙ excluded))
 
 -- the folder is locked as was asked
-pub locked_as_asked : (alone : Bool) (earlier : List Event) → asks_alone earlier ≡ alone → may_change ((lock_kind alone, [], []) ∷ asked alone earlier) ≡ true
-locked_as_asked true earlier is = refl
-locked_as_asked false earlier is = subst (λ (b : Bool). (not b || is_locked b earlier) ≡ true) (sym is) refl
+pub locked_as_asked : (alone : Bool) (earlier now : List Event) → now ≡ (lock_kind alone, [], []) ∷ asked alone earlier → asks_alone earlier ≡ alone → may_change now ≡ true
+locked_as_asked true earlier now is asks = ap may_change is
+locked_as_asked false earlier now is asks = ap may_change is ∙ subst (λ (b : Bool). (not b || is_locked b earlier) ≡ true) (sym asks) refl
+
+pub locked_alone : (earlier now : List Event) → now ≡ (kinds.Alone, [], []) ∷ asked true earlier → is_locked true now ≡ true
+locked_alone earlier now is = ap (is_locked true) is
 
 or_either : (b x y : Bool) → (x ≡ true → y ≡ true) → x ≡ true → (b || y) ≡ true
 or_either true x y so is = refl

@@ -272,6 +272,15 @@ abbrev pub lock_kind : Bool → Kind
 lock_kind true = kinds.Alone
 lock_kind false = kinds.Shared
 
+abbrev pub lock_fault : ErrorKind → Kind
+lock_fault WouldBlock = kinds.Excluded
+lock_fault _ = kinds.Failed
+
+-- what a wish for the lock came to
+abbrev pub lock_event : Bool → Result (Unit {0}) Error → Event
+lock_event alone (Ok x) = (lock_kind alone, [], [])
+lock_event alone (Err e) = (lock_fault (error_kind e), [], [])
+
 -- the calls with what is asked
 abbrev pub asked : Bool → List Event → List Event
 asked true earlier = (kinds.Asked, [], []) ∷ earlier

@@ -3,11 +3,11 @@
 ghost use Rattle.std.specs.Prelude.{◌≡◌, ◌≢◌, ◌<◌, ℕ, Bool, true, List, [], ◌∷◌, IfErr, IfOk, IsErr, OnOk, OnErr, length};
 ghost use Rattle.std.specs.FinMap.{get};
 ghost use Rattle.std.specs.IoError.{error_kind};
-ghost use Rattle.std.specs.declared.io.ErrorKind.TheVariants.{AlreadyExists, NotFound, WouldBlock};
+ghost use Rattle.std.specs.declared.io.ErrorKind.TheVariants.{AlreadyExists, NotFound};
 ghost use Rattle.bx_io.specs.Causes.{HasCause};
 ghost use Rattle.bx_io_system.specs.Events.{Event};
 ghost use Rattle.bx_io_system.specs.Files.{Creates, Files, IsExcluded, IsFault, IsFaultBut, ListsFiles, Looks, Reads, Removes, Renames, Writes};
-ghost use Rattle.bx_io_system.specs.Files.{HasNone, asked, is_created, is_excluded, is_seen, lock_kind, looked};
+ghost use Rattle.bx_io_system.specs.Files.{HasNone, asked, is_created, is_excluded, is_seen, lock_event, looked};
 ghost use Rattle.bx_io_system.specs.declared.kind.Kind.TheVariants as kinds;
 
 use std::alloc::{AllocError, Global};
@@ -55,10 +55,7 @@ pub trait Disk: Drop {
     /// locked it in a way that excludes this one, the error is `WouldBlock`; where the folder is not there, `NotFound`.
     fn lock(&mut self, alloc: Global, alone: bool) -> io::Result<()>
         ensures files { files self.new ≡ files self.old }
-        ensures locked { OnOk result (calls self.new ≡ (lock_kind alone, [], []) ∷ asked alone (calls self.old)) }
-        ensures refused { IfErr result (λ e. error_kind e ≡ WouldBlock
-            → calls self.new ≡ (kinds.Excluded, [], []) ∷ asked alone (calls self.old)) }
-        ensures failed { IfErr result (λ e. error_kind e ≢ WouldBlock → calls self.new ≡ asked alone (calls self.old)) }
+        ensures calls { calls self.new ≡ lock_event alone result ∷ asked alone (calls self.old) }
         ensures stays { is_excluded (calls self.old) ≡ true → IsExcluded result }
         ensures missing { is_known ≡ true → IfErr result (λ e. error_kind e ≡ NotFound → HasNone (files self.old)) }
         ensures cause { HasCause (faults self.old) (faults self.new) (IsFault result) };

@@ -1,13 +1,13 @@
 //! The files of a folder in memory.
 
-ghost use Rattle.std.specs.Prelude.{◌≡◌, ◌<◌, ◌⊎◌, ◌||◌, ℕ, List, [], ◌∷◌, ◌++◌, IfErr, IfOk, IsErr, IsOk, OnErr, OnOk, bytes_eq, false, is_some, length};
+ghost use Rattle.std.specs.Prelude.{◌≡◌, ◌<◌, ◌⊎◌, ◌||◌, ℕ, List, [], ◌∷◌, ◌++◌, IfErr, IfOk, IsErr, IsOk, Ok, OnErr, OnOk, bytes_eq, false, is_some, length};
 ghost use Rattle.std.specs.FinMap.{empty, get};
 ghost use Rattle.std.specs.IoError.{error_kind};
 ghost use Rattle.std.specs.declared.io.ErrorKind.TheVariants.{AlreadyExists, FileTooLarge, NotFound, OutOfMemory};
 ghost use Rattle.bx_io.specs.Causes.{HasCause};
 ghost use Rattle.bx_io.specs.Stored.{holdings_of};
 ghost use Rattle.bx_io_system.specs.Events.{failures};
-ghost use Rattle.bx_io_system.specs.Files.{Creates, IsFault, Reads, Removes, Renames, Writes, asked, is_among, is_excluded, lock_kind, looked, path_in};
+ghost use Rattle.bx_io_system.specs.Files.{Creates, IsFault, Reads, Removes, Renames, Writes, asked, is_among, is_excluded, lock_event, looked, path_in};
 ghost use Rattle.bx_io_system.specs.declared.kind.Kind.TheVariants as kinds;
 
 use crate::disk::{Disk, FILE_LIMIT};
@@ -89,9 +89,9 @@ impl Disk for MemDisk {
     {}
 
     fn lock(&mut self, _alloc: Global, alone: bool) -> io::Result<()>
-        ensures done { IsOk result }
+        ensures done { result ≡ Ok tt }
         ensures files { self.new.map ≡ self.old.map }
-        ensures calls { self.new.log.events ≡ (lock_kind alone, [], []) ∷ asked alone self.old.log.events }
+        ensures calls { self.new.log.events ≡ lock_event alone result ∷ asked alone self.old.log.events }
         ensures stays { is_excluded self.old.log.events ≡ false }
         ensures no_fault { self.new.failed ≡ self.old.failed }
     {

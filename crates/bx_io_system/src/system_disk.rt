@@ -341,9 +341,11 @@ impl<R: Files<File = File> + AllocGlobal + Clone + Drop> Disk for SystemDisk<R> 
                 Ok(())
             }
             Err(error) => {
-                if error.kind() == ErrorKind::WouldBlock {
-                    self.log = Record::noted(&self.log, &Kind::Excluded, &[], &[]);
-                }
+                let kind = match error.kind() {
+                    ErrorKind::WouldBlock => Kind::Excluded,
+                    _ => Kind::Failed,
+                };
+                self.log = Record::noted(&self.log, &kind, &[], &[]);
                 Err(error)
             }
         }
