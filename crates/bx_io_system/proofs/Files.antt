@@ -1,7 +1,7 @@
 -- What becomes of files by one call after another.
 use Rattle.std.proofs.Common.{◌≡◌, ◌∙◌, ℕ, List, ◌++◌, length, length-append, arith, ap, sym, codes, Result, Ok, Err, Some, refl}
 use Rattle.std.proofs.Common.{None, Option, Vec, String, Global, rules, subst}
-use Rattle.std.specs.Prelude.{option_map, option_copied, is_some, not}
+use Rattle.std.specs.Prelude.{option_map, option_copied, is_some, not, IsErr}
 use Rattle.std.proofs.Common.{Bool, true, false, Bor}
 use Rattle.std.proofs.lemmas.Bool.{false≢true}
 use Rattle.std.specs.FinMap.{get, gets, insert, remove, get-insert, get-remove}
@@ -13,7 +13,7 @@ use Rattle.bx_io.specs.Stored.{holdings_of}
 use Rattle.bx_io.proofs.Mapped.{get-holdings_of}
 use Rattle.std.specs.declared.io.Error.{Error}
 use Rattle.bx_io.specs.Names.{IsName}
-use Rattle.bx_io_system.specs.Files.{Creates, Files, IsBegun, IsFault, IsFaultBut, Places, Puts, Renames, SameNames, Writes, SameBut, begun_at, place_ending}
+use Rattle.bx_io_system.specs.Files.{Creates, Files, IsBegun, IsExcluded, IsFault, IsFaultBut, Places, Puts, Renames, SameNames, Writes, SameBut, begun_at, place_ending}
 use Rattle.std.specs.Fmt.{decimal}
 use Rattle.std.specs.IoError.{error_kind}
 use Rattle.std.proofs.Common.{[], ◌∷◌, IsSome, ◌≤◌}
@@ -153,6 +153,25 @@ listed_memory_failed h = cc
 pub failed_listing : (done : Result (Vec (String Global) Global) Error) → listed_of done ≡ listed.Failed → IsFault done
 failed_listing (Ok names) h = absurd (cc)
 failed_listing (Err e) h = λ is. listed_memory_failed (sym (ap list_fault_of is) ∙ h)
+
+-- ## A folder that another one locked
+
+pub excluded_look : (done : Result (Vec ℕ Global) Error) → IsExcluded done → got_of done ≡ got.Failed
+excluded_look (Ok bytes) is = absurd is
+excluded_look (Err e) is = ap fault_of is
+
+pub excluded_change : (done : Result (Unit {0}) Error) → IsExcluded done → put_of done ≡ Err put_faults.Failed
+excluded_change (Ok x) is = absurd is
+excluded_change (Err e) is = ap (λ (k : ErrorKind). Err (put_fault_of k)) is
+
+pub excluded_listing : (done : Result (Vec (String Global) Global) Error) → IsExcluded done → listed_of done ≡ listed.Failed
+excluded_listing (Ok names) is = absurd is
+excluded_listing (Err e) is = ap list_fault_of is
+
+-- an error is one of the store
+pub failed_put : (done : Result (Unit {0}) Error) → IsErr done → IsErr (put_of done)
+failed_put (Ok x) is = absurd (cc)
+failed_put (Err e) is = refl
 
 -- what has a cause has it where it follows from another that has it
 pub cause_of : (before now : ℕ) (fault answer : Type 0) → HasCause before now fault → (answer → fault) → HasCause before now answer

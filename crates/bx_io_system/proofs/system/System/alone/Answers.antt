@@ -1,6 +1,6 @@
 use Rattle.std.proofs.Common.{◌∙◌, sym}
 use Rattle.bx_io_system.proofs.Clearing.{clears_names}
-use Rattle.bx_io_system.proofs.Files.{cause_of, failed_change}
+use Rattle.bx_io_system.proofs.Files.{cause_of, excluded_change, failed_change}
 use Rattle.bx_io_system.proofs.Telling.{agrees_alone, named_alone, telling_alone}
 use Rattle.bx_io_system.proofs.system.System.alone.Goals as goal
 
@@ -18,3 +18,6 @@ invariant_of-self-clause-named g c = named_alone c.args.self.now.log c.was_asked
 pub returns-clause-disk : goal.returns-clause-disk
 returns-clause-disk g c =
     cause_of _ _ _ _ c.work_alone-done.ensures.cause (λ failed. failed_change c.work_alone-done.result (sym c.was_asked.ensures.answer ∙ failed))
+
+pub returns-clause-excluded : goal.returns-clause-excluded
+returns-clause-excluded g c is = c.was_asked.ensures.answer ∙ excluded_change c.work_alone-done.result (c.work_alone-done.ensures.excluded is)
