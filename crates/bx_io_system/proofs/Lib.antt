@@ -4,3 +4,4 @@ pub mod Files
 pub mod Listing
 pub mod Locking
 pub mod Clearing
+pub mod Places
