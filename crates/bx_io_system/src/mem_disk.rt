@@ -98,10 +98,11 @@ impl Disk for MemDisk {
         if alone {
             self.log = Record::noted(&self.log, &Kind::Asked, &[], &[]);
             self.log = Record::noted(&self.log, &Kind::Alone, &[], &[]);
+            Ok(())
         } else {
             self.log = Record::noted(&self.log, &Kind::Shared, &[], &[]);
+            Ok(())
         }
-        Ok(())
     }
 
     fn look(&mut self, _alloc: Global, path: &str) -> io::Result<bool>
@@ -111,11 +112,12 @@ impl Disk for MemDisk {
         ensures calls { IfOk result (λ is. self.new.log.events ≡ looked is path.now self.old.log.events) }
         ensures no_fault { self.new.failed ≡ self.old.failed }
     {
-        let is = self.map.get(path).is_some();
-        if is {
+        if self.map.get(path).is_some() {
             self.log = Record::noted(&self.log, &Kind::Seen, path.as_bytes(), &[]);
+            Ok(true)
+        } else {
+            Ok(false)
         }
-        Ok(is)
     }
 
     fn read(&mut self, alloc: Global, path: &str) -> io::Result<Vec<u8>>
@@ -186,10 +188,10 @@ impl Disk for MemDisk {
         };
         let bytes = bytes.to_vec(alloc)?;
         self.map.insert(key, bytes)?;
+        self.log = renamed;
         if old != path {
             self.map.remove(old);
         }
-        self.log = renamed;
         Ok(())
     }
 

@@ -7,7 +7,8 @@ ghost use Rattle.std.specs.IoError.{error_kind};
 ghost use Rattle.std.specs.declared.io.ErrorKind.TheVariants.{WouldBlock};
 ghost use Rattle.bx_io.specs.Causes.{HasCause};
 ghost use Rattle.bx_io_system.specs.Events.{failures};
-ghost use Rattle.bx_io_system.specs.Files.{IsExcluded, IsFaultBut, is_excluded, is_locked};
+ghost use Rattle.bx_io_system.specs.Files.{IsExcluded, IsFault, IsFaultBut, is_excluded, is_locked, lock_event, lock_fault};
+ghost use Rattle.bx_io_system.specs.declared.kind.Kind.TheVariants as kinds;
 
 use crate::disk::{Disk, FILE_LIMIT};
 use crate::kind::Kind;
@@ -236,6 +237,58 @@ impl<R: Files<File = File> + AllocGlobal + Clone + Drop> SystemDisk<R> {
             }
         }
     }
+
+    // Locks the folder, as others may do too.
+    fn lock_shared(&mut self, alloc: Global) -> io::Result<()>
+        ensures calls { self.new.log.events ≡ lock_event false result ∷ self.old.log.events }
+        ensures stays { is_excluded self.old.log.events ≡ true → IsExcluded result }
+        ensures cause { HasCause (failures self.old.failed.events) (failures self.new.failed.events) (IsFault result) }
+    {
+        let done = self.ask(alloc, false);
+        note_fault(&mut self.failed, &done, ErrorKind::OutOfMemory);
+        match done {
+            Ok(()) => {
+                self.log = Record::noted(&self.log, &Kind::Shared, &[], &[]);
+                Ok(())
+            }
+            Err(error) => {
+                self.log = Record::noted(&self.log, &kind_of_fault(error.kind()), &[], &[]);
+                Err(error)
+            }
+        }
+    }
+
+    // Locks the folder alone.
+    fn lock_alone(&mut self, alloc: Global) -> io::Result<()>
+        ensures calls { self.new.log.events
+            ≡ lock_event true result ∷ (kinds.Asked, [], []) ∷ self.old.log.events }
+        ensures stays { is_excluded self.old.log.events ≡ true → IsExcluded result }
+        ensures cause { HasCause (failures self.old.failed.events) (failures self.new.failed.events) (IsFault result) }
+    {
+        self.log = Record::noted(&self.log, &Kind::Asked, &[], &[]);
+        let done = self.ask(alloc, true);
+        note_fault(&mut self.failed, &done, ErrorKind::OutOfMemory);
+        match done {
+            Ok(()) => {
+                self.log = Record::noted(&self.log, &Kind::Alone, &[], &[]);
+                Ok(())
+            }
+            Err(error) => {
+                self.log = Record::noted(&self.log, &kind_of_fault(error.kind()), &[], &[]);
+                Err(error)
+            }
+        }
+    }
+}
+
+// What is noted of a wish for the lock that failed.
+fn kind_of_fault(kind: ErrorKind) -> Kind
+    ensures { result ≡ lock_fault kind }
+{
+    match kind {
+        ErrorKind::WouldBlock => Kind::Excluded,
+        _ => Kind::Failed,
+    }
 }
 
 // Adds the name of an entry of a folder, if it is that of a file. What is no text is no name, and what is gone by now is no
@@ -330,24 +383,9 @@ impl<R: Files<File = File> + AllocGlobal + Clone + Drop> Disk for SystemDisk<R> 
 
     fn lock(&mut self, alloc: Global, alone: bool) -> io::Result<()> {
         if alone {
-            self.log = Record::noted(&self.log, &Kind::Asked, &[], &[]);
-        }
-        let done = self.ask(alloc, alone);
-        note_fault(&mut self.failed, &done, ErrorKind::OutOfMemory);
-        match done {
-            Ok(()) => {
-                let kind = if alone { Kind::Alone } else { Kind::Shared };
-                self.log = Record::noted(&self.log, &kind, &[], &[]);
-                Ok(())
-            }
-            Err(error) => {
-                let kind = match error.kind() {
-                    ErrorKind::WouldBlock => Kind::Excluded,
-                    _ => Kind::Failed,
-                };
-                self.log = Record::noted(&self.log, &kind, &[], &[]);
-                Err(error)
-            }
+            self.lock_alone(alloc)
+        } else {
+            self.lock_shared(alloc)
         }
     }
 
@@ -355,10 +393,12 @@ impl<R: Files<File = File> + AllocGlobal + Clone + Drop> Disk for SystemDisk<R> 
         let full = path_of(alloc, self.folder.as_str(), path)?;
         let done = look_at(&self.rt, full.as_str());
         note_fault(&mut self.failed, &done, ErrorKind::OutOfMemory);
-        if matches!(&done, Ok(true)) {
+        if done? {
             self.log = Record::noted(&self.log, &Kind::Seen, path.as_bytes(), &[]);
+            Ok(true)
+        } else {
+            Ok(false)
         }
-        done
     }
 
     fn read(&mut self, alloc: Global, path: &str) -> io::Result<Vec<u8>> {
@@ -405,13 +445,21 @@ impl<R: Files<File = File> + AllocGlobal + Clone + Drop> Disk for SystemDisk<R> 
     fn rename(&mut self, alloc: Global, old: &str, path: &str) -> io::Result<()> {
         let done = rename_file(alloc, &self.rt, self.folder.as_str(), old, path);
         note_fault(&mut self.failed, &done, ErrorKind::OutOfMemory);
-        let kind = if done.is_ok() {
-            Kind::Renamed
-        } else {
-            Kind::Tried
-        };
-        self.log = Record::noted(&self.log, &kind, path.as_bytes(), old.as_bytes());
-        done
+        match done {
+            Ok(()) => {
+                self.log = Record::noted(
+                    &self.log,
+                    &Kind::Renamed,
+                    path.as_bytes(),
+                    old.as_bytes(),
+                );
+                Ok(())
+            }
+            Err(error) => {
+                self.log = Record::noted(&self.log, &Kind::Tried, path.as_bytes(), old.as_bytes());
+                Err(error)
+            }
+        }
     }
 
     fn remove(&mut self, alloc: Global, path: &str) -> io::Result<()> {
