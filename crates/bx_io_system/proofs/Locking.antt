@@ -1,5 +1,5 @@
 -- What follows of a lock from the calls that were made.
-use Rattle.std.proofs.Common.{◌≡◌, ◌∙◌, ℕ, Bool, true, false, List, [], ◌∷◌, refl, sym, ap, subst, Result, Ok, Err, inl, inr}
+use Rattle.std.proofs.Common.{◌≡◌, ◌∙◌, ℕ, Bool, true, false, List, [], ◌∷◌, refl, sym, ap, subst, Result, Ok, Err, OnOk, inl, inr}
 use Rattle.std.specs.Prelude.{not, ◌||◌, ◌&&◌, ◌==◌, ◌⊎◌, length}
 use Rattle.std.specs.Str.{bytes_eq}
 use Rattle.std.proofs.lemmas.Bool.{false≢true}
@@ -141,6 +141,15 @@ locked_as_asked false earlier now is asks = ap may_change is ∙ subst (λ (b : 
 
 pub locked_alone : (earlier now : List Event) → now ≡ (kinds.Alone, [], []) ∷ asked true earlier → is_locked true now ≡ true
 locked_alone earlier now is = ap (is_locked true) is
+
+pub locked_on_ok : (alone : Bool) (r : Result (Unit {0}) Error) (earlier now : List Event) → now ≡ lock_event alone r ∷ asked alone earlier → asks_alone earlier ≡ alone
+    → OnOk r (may_change now ≡ true)
+locked_on_ok alone (Ok x) earlier now is asks = locked_as_asked alone earlier now is asks
+locked_on_ok alone (Err e) earlier now is asks = tt
+
+pub alone_on_ok : (r : Result (Unit {0}) Error) (earlier now : List Event) → now ≡ lock_event true r ∷ asked true earlier → OnOk r (is_locked true now ≡ true)
+alone_on_ok (Ok x) earlier now is = locked_alone earlier now is
+alone_on_ok (Err e) earlier now is = tt
 
 or_either : (b x y : Bool) → (x ≡ true → y ≡ true) → x ≡ true → (b || y) ≡ true
 or_either true x y so is = refl

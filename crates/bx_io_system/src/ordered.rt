@@ -176,6 +176,20 @@ impl<D: Disk> OrderedDisk<D> {
         disk
     }
 
+    // Asks for the lock as was asked.
+    fn ask(&mut self, alloc: Global) -> io::Result<()>
+        ensures held { OnOk result (may_change (D.calls self.new.disk) ≡ true) }
+        ensures missing { D.is_known ≡ true → IfErr result (λ e. error_kind e ≡ NotFound → HasNone (D.files self.old.disk)) }
+        ensures files { D.files self.new.disk ≡ D.files self.old.disk }
+        ensures own { (path : List ℕ) → is_own path (D.calls self.new.disk) ≡ is_own path (D.calls self.old.disk) }
+        ensures alone { self.new.alone ≡ self.old.alone }
+        ensures excluded { is_excluded (D.calls self.new.disk) ≡ true → IsExcluded result }
+        ensures stays { is_excluded (D.calls self.old.disk) ≡ true → IsExcluded result }
+        ensures cause { HasCause (D.faults self.old.disk) (D.faults self.new.disk) (IsFault result) }
+    {
+        self.disk.lock(alloc, self.alone)
+    }
+
     // Locks the folder as was asked. Answers whether it is there.
     fn lock(&mut self, alloc: Global) -> io::Result<bool>
         ensures held { result ≡ Ok true → may_change (D.calls self.new.disk) ≡ true }
@@ -187,7 +201,7 @@ impl<D: Disk> OrderedDisk<D> {
         ensures stays { is_excluded (D.calls self.old.disk) ≡ true → IsExcluded result }
         ensures cause { HasCause (D.faults self.old.disk) (D.faults self.new.disk) (IsFault result) }
     {
-        match self.disk.lock(alloc, self.alone) {
+        match self.ask(alloc) {
             Ok(()) => Ok(true),
             Err(error) if error.kind() == ErrorKind::NotFound => Ok(false),
             Err(error) => Err(error),
@@ -329,7 +343,7 @@ impl<D: Disk> OrderedDisk<D> {
             return Ok(());
         }
         self.make_folder(alloc, "")?;
-        self.disk.lock(alloc, self.alone)
+        self.ask(alloc)
     }
 
     // Syncs the folders in which a folder was made, if one may have been.
@@ -719,6 +733,20 @@ impl<D: Disk> OrderedDisk<D> {
         self.clear_kind(alloc, "w")
     }
 
+    // Asks for the lock alone, from here on.
+    fn ask_alone(&mut self, alloc: Global) -> io::Result<()>
+        ensures held { OnOk result (is_locked true (D.calls self.new.disk) ≡ true) }
+        ensures missing { D.is_known ≡ true → IfErr result (λ e. error_kind e ≡ NotFound → HasNone (D.files self.old.disk)) }
+        ensures files { D.files self.new.disk ≡ D.files self.old.disk }
+        ensures alone { self.new.alone ≡ true }
+        ensures stays { is_excluded (D.calls self.old.disk) ≡ true → IsExcluded result }
+        ensures cause { HasCause (D.faults self.old.disk) (D.faults self.new.disk) (IsFault result) }
+    {
+        let done = self.disk.lock(alloc, true);
+        self.alone = true;
+        done
+    }
+
     // Locks the folder alone, from here on. Answers whether it is there.
     fn lock_alone(&mut self, alloc: Global) -> io::Result<bool>
         ensures held { result ≡ Ok true → is_locked true (D.calls self.new.disk) ≡ true }
@@ -728,9 +756,7 @@ impl<D: Disk> OrderedDisk<D> {
         ensures stays { is_excluded (D.calls self.old.disk) ≡ true → IsExcluded result }
         ensures cause { HasCause (D.faults self.old.disk) (D.faults self.new.disk) (IsFault result) }
     {
-        let done = self.disk.lock(alloc, true);
-        self.alone = true;
-        match done {
+        match self.ask_alone(alloc) {
             Ok(()) => Ok(true),
             Err(error) if error.kind() == ErrorKind::NotFound => Ok(false),
             Err(error) => Err(error),
