@@ -10,7 +10,7 @@ use Rattle.std.specs.declared.io.ErrorKind.{ErrorKind}
 use Rattle.std.specs.declared.io.ErrorKind.TheVariants.{WouldBlock}
 use Rattle.bx_io.specs.declared.name.TheConstants.{NAME_LENGTH}
 use Rattle.bx_io_system.specs.Events.{Event}
-use Rattle.bx_io_system.specs.Files.{IsExcluded, OwnsBut, OwnsNoMore, above, asked, asks_alone, has_folders, has_new, is_created, is_created_at, is_durable, is_excluded, is_locked, is_own, is_to_remove, lock_event, lock_fault, lock_kind, locked_next, may_change, own_next, unsynced}
+use Rattle.bx_io_system.specs.Files.{IsExcluded, OwnsBut, OwnsNoMore, above, asked, asks_alone, has_folders, has_new, is_created, is_created_at, is_durable, is_excluded, is_locked, is_own, is_to_remove, is_after, blob_letter, entry_letter, may_come, lock_event, lock_fault, lock_kind, locked_next, may_change, own_next, unsynced}
 use Rattle.bx_io_system.specs.declared.kind.Kind.{Kind}
 use Rattle.bx_io_system.specs.declared.kind.Kind.TheVariants as kinds
 
@@ -237,3 +237,18 @@ removes_own path earlier is = rw is refl
 
 pub removes_alone : (path : List ℕ) (earlier : List Event) → is_locked true earlier ≡ true → is_to_remove path earlier ≡ true
 removes_alone path earlier is = rw is (or_middle (is_own path earlier) (length path == NAME_LENGTH))
+
+-- ## One more call
+
+and_both : (a b : Bool) → a ≡ true → b ≡ true → (a && b) ≡ true
+and_both a b first second = rw (first, second) refl
+
+pub durable_next : (kind : Kind) (path old : List ℕ) (earlier now : List Event) → now ≡ (kind, path, old) ∷ earlier → may_come kind path old earlier ≡ true → is_durable earlier ≡ true
+    → is_durable now ≡ true
+durable_next kind path old earlier now is may durable = ap is_durable is ∙ and_both (may_come kind path old earlier) (is_durable earlier) may durable
+
+-- a removal may come now
+pub may_remove : (path old : List ℕ) (earlier : List Event) → may_change earlier ≡ true → is_to_remove path earlier ≡ true → is_after blob_letter entry_letter path earlier ≡ true
+    → may_come kinds.Removed path old earlier ≡ true
+may_remove path old earlier locked removes ready =
+    and_both (may_change earlier && is_to_remove path earlier) (is_after blob_letter entry_letter path earlier) (and_both (may_change earlier) (is_to_remove path earlier) locked removes) ready
