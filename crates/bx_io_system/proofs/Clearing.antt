@@ -21,7 +21,7 @@ use Rattle.bx_io_system.proofs.Listing.{Parts, are_same, below_held_parts, below
 
 ending_long : (text : List ℕ) → IsEnding text → 0 < length text
 ending_long text (inl is) = omega (arith, ap length is)
-ending_long text (inr place) = omega (arith, ap length place.2.1)
+ending_long text (inr place) = omega (arith, ap length place.2)
 
 pub left_long : (path : List ℕ) → IsLeft path → NAME_LENGTH < length path
 left_long path left = omega (arith, length-drop NAME_LENGTH path, ending_long (drop NAME_LENGTH path) left.ending)
@@ -50,7 +50,7 @@ place_plain =
 
 ending_plain : (text : List ℕ) → IsEnding text → IsPlain text
 ending_plain text (inl is) = subst IsPlain (sym is) old_plain
-ending_plain text (inr place) = subst IsPlain (sym place.2.1) (All-append IsNoSlash (codes ".new-") (decimal place.0) place_plain (decimal_plain place.0 (omega (arith, place.1))))
+ending_plain text (inr place) = subst IsPlain (sym place.2) (All-append IsNoSlash (codes ".new-") (decimal place.0) place_plain (decimal_plain place.0 (omega (arith, place.1))))
 
 -- such a path is one in the folder of a kind
 pub left_parts : (path : List ℕ) → IsLeft path → Parts path

@@ -76,9 +76,9 @@ rose_later before mid now later rose = omega (arith, later, rose)
 
 pub no_ending : (text : List ℕ) → (text ≡ codes ".new" → ⊥) → ((k : ℕ) → k < PLACES → text ≡ place_ending k → ⊥) → IsEnding text → ⊥
 no_ending text old places (inl is) = old is
-no_ending text old places (inr place) = places place.0 place.1 place.2.1
+no_ending text old places (inr place) = places place.0 place.1 place.2
 
-pub is_left_where : (path : List ℕ) (is : Bool) → IsName (take NAME_LENGTH path) → IsTrue is ↔ IsEnding (drop NAME_LENGTH path) → IsTrue is ↔ IsLeft path
+pub is_left_where : (path : List ℕ) (is : Bool) → IsName (take NAME_LENGTH path) → (IsTrue is ↔ IsEnding (drop NAME_LENGTH path)) → (IsTrue is ↔ IsLeft path)
 is_left_where path is named ending = (λ yes. record { name = named; ending = ending.0 yes }, λ left. ending.1 left.ending)
 
 -- a text that is too short has no name at its front
