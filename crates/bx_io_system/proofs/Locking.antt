@@ -1,6 +1,7 @@
 -- What follows of a lock from the calls that were made.
-use Rattle.std.proofs.Common.{◌≡◌, ◌∙◌, ℕ, Bool, true, false, List, [], ◌∷◌, refl, sym, ap, subst, Result, Ok, Err, OnOk, inl, inr}
-use Rattle.std.specs.Prelude.{not, ◌||◌, ◌&&◌, ◌==◌, ◌⊎◌, length}
+use Rattle.std.proofs.Common.{◌≡◌, ◌∙◌, ℕ, Bool, true, false, List, [], ◌∷◌, refl, sym, ap, subst, Result, Ok, Err, OnErr, OnOk, arith, inl, inr}
+use Rattle.std.specs.Prelude.{not, ◌||◌, ◌&&◌, ◌==◌, ◌⊎◌, length, slice_index}
+use borrow.Author.Tests.{eq-eqb, eqb-true, ne_eqb}
 use Rattle.std.specs.Str.{bytes_eq}
 use Rattle.std.proofs.lemmas.Bool.{false≢true}
 use Rattle.std.proofs.lemmas.Slice.Eq.{bytes_eq-Decides}
@@ -8,9 +9,10 @@ use Rattle.std.specs.IoError.{error_kind}
 use Rattle.std.specs.declared.io.Error.{Error}
 use Rattle.std.specs.declared.io.ErrorKind.{ErrorKind}
 use Rattle.std.specs.declared.io.ErrorKind.TheVariants.{WouldBlock}
+use Rattle.bx_io.specs.Names.{IsName}
 use Rattle.bx_io.specs.declared.name.TheConstants.{NAME_LENGTH}
 use Rattle.bx_io_system.specs.Events.{Event}
-use Rattle.bx_io_system.specs.Files.{IsExcluded, OwnsBut, OwnsNoMore, above, asked, asks_alone, has_folders, has_new, is_created, is_created_at, is_durable, is_excluded, is_locked, is_own, is_to_remove, is_after, blob_letter, entry_letter, may_come, lock_event, lock_fault, lock_kind, locked_next, may_change, own_next, unsynced}
+use Rattle.bx_io_system.specs.Files.{IsBegun, IsExcluded, OwnsBut, OwnsNoMore, above, asked, asks_alone, has_folders, has_new, is_created, is_created_at, is_durable, is_excluded, is_locked, is_name_in, is_own, is_ready, is_stored, is_to_remove, is_after, blob_letter, entry_letter, may_come, lock_event, lock_fault, lock_kind, locked_next, may_change, own_next, renamed_kind, unsynced}
 use Rattle.bx_io_system.specs.declared.kind.Kind.{Kind}
 use Rattle.bx_io_system.specs.declared.kind.Kind.TheVariants as kinds
 
@@ -218,6 +220,13 @@ owns_no_more begun before now others gone path is =
       | false ↦ λ other. sym (others path (λ same. false≢true (sym other ∙ subst (λ (p : List ℕ). bytes_eq begun p ≡ true) (sym same) (is_itself begun)))) ∙ is
     ] refl
 
+and_right : (a b : Bool) → (a && b) ≡ true → b ≡ true
+and_right true b is = is
+and_right false b is = absurd (false≢true is)
+
+pub removed_owns_no_more : (path : List ℕ) (earlier now : List Event) → now ≡ (kinds.Removed, path, []) ∷ earlier → OwnsNoMore earlier now
+removed_owns_no_more path earlier now is q own = and_right (not (bytes_eq path q)) (is_own q earlier) (sym (ap (is_own q) is) ∙ own)
+
 -- ## What may be removed
 
 or_last : (a b : Bool) → (a || (b || true)) ≡ true
@@ -252,3 +261,88 @@ pub may_remove : (path old : List ℕ) (earlier : List Event) → may_change ear
     → may_come kinds.Removed path old earlier ≡ true
 may_remove path old earlier locked removes ready =
     and_both (may_change earlier && is_to_remove path earlier) (is_after blob_letter entry_letter path earlier) (and_both (may_change earlier) (is_to_remove path earlier) locked removes) ready
+
+-- ## Files that are begun
+
+begun_apart : (letter : ℕ) (path : List ℕ) → IsBegun path → is_name_in letter path ≡ false
+begun_apart letter path begun = ap (λ (b : Bool). b && (slice_index path 0 == letter)) (ne_eqb (length path) NAME_LENGTH (λ is. omega (arith, is, begun)))
+
+pub begun_after : (letter other : ℕ) (path : List ℕ) (earlier : List Event) → IsBegun path → is_after letter other path earlier ≡ true
+begun_after letter other path earlier begun = ap (λ (b : Bool). not b || not (unsynced other earlier)) (begun_apart letter path begun)
+
+pub removes_named : (name : List ℕ) (earlier : List Event) → IsName name → is_to_remove name earlier ≡ true
+removes_named name earlier named = removes_name name earlier (eq-eqb (length name) NAME_LENGTH named.count)
+
+-- ## Renamings
+
+named_may_come : (r : Result (Unit {0}) Error) (path old : List ℕ) (earlier : List Event)
+    → ((may_change earlier && is_own old earlier) && (is_stored old earlier && is_ready path earlier && has_folders earlier)) ≡ true → may_come (renamed_kind r) path old earlier ≡ true
+named_may_come (Ok x) path old earlier may = may
+named_may_come (Err e) path old earlier may = may
+
+pub durable_named : (r : Result (Unit {0}) Error) (path old : List ℕ) (earlier now : List Event) → now ≡ (renamed_kind r, path, old) ∷ earlier → may_change earlier ≡ true → is_own old earlier ≡ true
+    → is_stored old earlier ≡ true → is_ready path earlier ≡ true → has_folders earlier ≡ true → is_durable earlier ≡ true → is_durable now ≡ true
+durable_named r path old earlier now is locked own stored ready folders durable =
+    durable_next (renamed_kind r) path old earlier now is (named_may_come r path old earlier (rw (locked, own, stored, ready, folders) refl)) durable
+
+unsynced_kind : (r : Result (Unit {0}) Error) (letter : ℕ) (path old : List ℕ) (earlier : List Event)
+    → unsynced letter ((renamed_kind r, path, old) ∷ earlier) ≡ (is_name_in letter path || unsynced letter earlier)
+unsynced_kind (Ok x) letter path old earlier = refl
+unsynced_kind (Err e) letter path old earlier = refl
+
+or_known : (a b known here : Bool) → (b ≡ true → known ≡ true) → (a ≡ true → here ≡ true) → (a || b) ≡ true → (known || here) ≡ true
+or_known true b true here before now is = refl
+or_known true b false here before now is = now refl
+or_known false b known here before now is = rw (before is) refl
+
+letter_here : (letter : ℕ) (path : List ℕ) → is_name_in letter path ≡ true → slice_index path 0 ≡ letter
+letter_here letter path is = eqb-true (slice_index path 0) letter (and_right (length path == NAME_LENGTH) (slice_index path 0 == letter) is)
+
+-- what is known to be unsynced after a renaming
+pub known_named : (r : Result (Unit {0}) Error) (letter : ℕ) (path old : List ℕ) (earlier now : List Event) (known here : Bool) → now ≡ (renamed_kind r, path, old) ∷ earlier
+    → (unsynced letter earlier ≡ true → known ≡ true) → (slice_index path 0 ≡ letter → here ≡ true) → unsynced letter now ≡ true → (known || here) ≡ true
+known_named r letter path old earlier now known here is before at unsynced_now =
+    or_known (is_name_in letter path) (unsynced letter earlier) known here before (λ named. at (letter_here letter path named))
+    (sym (unsynced_kind r letter path old earlier) ∙ sym (ap (unsynced letter) is) ∙ unsynced_now)
+
+folders_kind : (r : Result (Unit {0}) Error) (path old : List ℕ) (earlier : List Event) → has_folders ((renamed_kind r, path, old) ∷ earlier) ≡ has_folders earlier
+folders_kind (Ok x) path old earlier = refl
+folders_kind (Err e) path old earlier = refl
+
+pub folders_named : (r : Result (Unit {0}) Error) (path old : List ℕ) (earlier now : List Event) → now ≡ (renamed_kind r, path, old) ∷ earlier → has_folders now ≡ has_folders earlier
+folders_named r path old earlier now is = ap has_folders is ∙ folders_kind r path old earlier
+
+asks_kind : (r : Result (Unit {0}) Error) (path old : List ℕ) (earlier : List Event) → asks_alone ((renamed_kind r, path, old) ∷ earlier) ≡ asks_alone earlier
+asks_kind (Ok x) path old earlier = refl
+asks_kind (Err e) path old earlier = refl
+
+pub asks_named : (r : Result (Unit {0}) Error) (path old : List ℕ) (earlier now : List Event) → now ≡ (renamed_kind r, path, old) ∷ earlier → asks_alone now ≡ asks_alone earlier
+asks_named r path old earlier now is = ap asks_alone is ∙ asks_kind r path old earlier
+
+change_kind : (r : Result (Unit {0}) Error) (path old : List ℕ) (earlier : List Event) → may_change ((renamed_kind r, path, old) ∷ earlier) ≡ may_change earlier
+change_kind (Ok x) path old earlier = refl
+change_kind (Err e) path old earlier = refl
+
+pub change_named : (r : Result (Unit {0}) Error) (path old : List ℕ) (earlier now : List Event) → now ≡ (renamed_kind r, path, old) ∷ earlier → may_change now ≡ may_change earlier
+change_named r path old earlier now is = ap may_change is ∙ change_kind r path old earlier
+
+own_kind : (r : Result (Unit {0}) Error) (path old : List ℕ) (earlier : List Event) → OwnsBut old earlier ((renamed_kind r, path, old) ∷ earlier)
+own_kind (Ok x) path old earlier = own_but_renamed path old earlier
+own_kind (Err e) path old earlier = λ q apart. refl
+
+pub own_but_named : (r : Result (Unit {0}) Error) (path old : List ℕ) (earlier now : List Event) → now ≡ (renamed_kind r, path, old) ∷ earlier → OwnsBut old earlier now
+own_but_named r path old earlier now is = subst (OwnsBut old earlier) (sym is) (own_kind r path old earlier)
+
+gone_kind : (r : Result (Unit {0}) Error) (path old : List ℕ) (earlier : List Event) → OnOk r (is_own old ((renamed_kind r, path, old) ∷ earlier) ≡ false)
+gone_kind (Ok x) path old earlier = renamed_is_not_own path old earlier
+gone_kind (Err e) path old earlier = tt
+
+pub gone_named : (r : Result (Unit {0}) Error) (path old : List ℕ) (earlier now : List Event) → now ≡ (renamed_kind r, path, old) ∷ earlier → OnOk r (is_own old now ≡ false)
+gone_named r path old earlier now is = subst (λ (calls : List Event). OnOk r (is_own old calls ≡ false)) (sym is) (gone_kind r path old earlier)
+
+kept_kind : (r : Result (Unit {0}) Error) (path old : List ℕ) (earlier : List Event) → is_own old earlier ≡ true → OnErr r (is_own old ((renamed_kind r, path, old) ∷ earlier) ≡ true)
+kept_kind (Ok x) path old earlier own = tt
+kept_kind (Err e) path old earlier own = own
+
+pub kept_named : (r : Result (Unit {0}) Error) (path old : List ℕ) (earlier now : List Event) → now ≡ (renamed_kind r, path, old) ∷ earlier → is_own old earlier ≡ true → OnErr r (is_own old now ≡ true)
+kept_named r path old earlier now is own = subst (λ (calls : List Event). OnErr r (is_own old calls ≡ true)) (sym is) (kept_kind r path old earlier own)

@@ -265,6 +265,11 @@ has_new folder (e ∷ earlier) = has_new_next folder e.0 e.1 (has_new folder ear
 abbrev pub has_folders : List Event → Bool
 has_folders earlier = not (has_new above earlier) && not (has_new [] earlier)
 
+-- what a renaming came to
+abbrev pub renamed_kind : Result (Unit {0}) Error → Kind
+renamed_kind (Ok x) = kinds.Renamed
+renamed_kind (Err e) = kinds.Tried
+
 -- ## The lock of the folder
 
 -- to lock the folder alone, or shared with all that lock it so

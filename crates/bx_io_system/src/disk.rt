@@ -7,7 +7,7 @@ ghost use Rattle.std.specs.declared.io.ErrorKind.TheVariants.{AlreadyExists, Not
 ghost use Rattle.bx_io.specs.Causes.{HasCause};
 ghost use Rattle.bx_io_system.specs.Events.{Event};
 ghost use Rattle.bx_io_system.specs.Files.{Creates, Files, IsExcluded, IsFault, IsFaultBut, ListsFiles, Looks, Reads, Removes, Renames, Writes};
-ghost use Rattle.bx_io_system.specs.Files.{HasNone, asked, is_created, is_excluded, is_seen, lock_event, looked};
+ghost use Rattle.bx_io_system.specs.Files.{HasNone, asked, is_created, is_excluded, is_seen, lock_event, looked, renamed_kind};
 ghost use Rattle.bx_io_system.specs.declared.kind.Kind.TheVariants as kinds;
 
 use std::alloc::{AllocError, Global};
@@ -104,8 +104,7 @@ pub trait Disk: Drop {
     /// Gives a file another path, in place of what was there. At its own it is no more.
     fn rename(&mut self, alloc: Global, old: &str, path: &str) -> io::Result<()>
         ensures renamed { is_known ≡ true → Renames (files self.old) (files self.new) old.now path.now result }
-        ensures done { OnOk result (calls self.new ≡ (kinds.Renamed, path.now, old.now) ∷ calls self.old) }
-        ensures tried { OnErr result (calls self.new ≡ (kinds.Tried, path.now, old.now) ∷ calls self.old) }
+        ensures calls { calls self.new ≡ (renamed_kind result, path.now, old.now) ∷ calls self.old }
         ensures cause { HasCause (faults self.old) (faults self.new) (IsFault result) };
 
     /// Removes a file.

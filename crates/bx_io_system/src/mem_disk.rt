@@ -7,7 +7,7 @@ ghost use Rattle.std.specs.declared.io.ErrorKind.TheVariants.{AlreadyExists, Fil
 ghost use Rattle.bx_io.specs.Causes.{HasCause};
 ghost use Rattle.bx_io.specs.Stored.{holdings_of};
 ghost use Rattle.bx_io_system.specs.Events.{failures};
-ghost use Rattle.bx_io_system.specs.Files.{Creates, IsFault, Reads, Removes, Renames, Writes, asked, is_among, is_excluded, lock_event, looked, path_in};
+ghost use Rattle.bx_io_system.specs.Files.{Creates, IsFault, Reads, Removes, Renames, Writes, asked, is_among, is_excluded, lock_event, looked, path_in, renamed_kind};
 ghost use Rattle.bx_io_system.specs.declared.kind.Kind.TheVariants as kinds;
 
 use crate::disk::{Disk, FILE_LIMIT};
@@ -175,8 +175,7 @@ impl Disk for MemDisk {
 
     fn rename(&mut self, alloc: Global, old: &str, path: &str) -> io::Result<()>
         ensures renamed { Renames (holdings_of self.old.map) (holdings_of self.new.map) old.now path.now result }
-        ensures done { OnOk result (self.new.log.events ≡ (kinds.Renamed, path.now, old.now) ∷ self.old.log.events) }
-        ensures tried { OnErr result (self.new.log.events ≡ (kinds.Tried, path.now, old.now) ∷ self.old.log.events) }
+        ensures calls { self.new.log.events ≡ (renamed_kind result, path.now, old.now) ∷ self.old.log.events }
         ensures fault { IfErr result (λ e. (error_kind e ≡ NotFound) ⊎ (error_kind e ≡ OutOfMemory)) }
         ensures cause { HasCause (failures self.old.failed.events) (failures self.new.failed.events) (IsFault result) }
     {

@@ -492,12 +492,10 @@ impl<D: Disk> OrderedDisk<D> {
         ensures cause { HasCause (D.faults self.old.disk) (D.faults self.new.disk) (IsFault result) }
     {
         let letter = letter_of(name);
+        let done = self.disk.rename(alloc, begun, name);
         self.blobs = self.blobs || letter == b'b';
         self.entries = self.entries || letter == b'e';
-        match self.disk.rename(alloc, begun, name) {
-            Ok(()) => Ok(()),
-            Err(error) => Err(error),
-        }
+        done
     }
 
     // Writes a file that was made, and gives it its name.
