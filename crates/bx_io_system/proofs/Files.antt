@@ -48,6 +48,18 @@ placed_there before now path created = created
 pub placed_not : (before now : Files) (path : List ℕ) (e : Error) → error_kind e ≡ AlreadyExists → Creates before now path (Err e) → Places before now path false
 placed_not before now path e is created = (created.0, created.1 is)
 
+-- a file that could not be written is no name
+pub write_refused : (before now : Files) (begun bytes : List ℕ) (e : Error) → IsBegun begun → Writes before now begun bytes (Err e) → SameNames before now
+write_refused before now begun bytes e is writes q named = writes q (not_begun q begun named is)
+
+-- a file that was written and renamed
+pub put_named : (before mid now : Files) (begun name bytes : List ℕ) (r : Result (Unit {0}) Error) → IsBegun begun → Writes before mid begun bytes (Ok tt) → Renames mid now begun name r
+    → Puts before now name bytes r
+put_named before mid now begun name bytes (Ok x) is writes renames =
+    (renames.1 ∙ writes.0, λ q named other. renames.3 q (not_begun q begun named is) other ∙ writes.1 q (not_begun q begun named is))
+put_named before mid now begun name bytes (Err e) is writes renames =
+    λ q named. ap (λ (files : Files). get files q) renames ∙ writes.1 q (not_begun q begun named is)
+
 -- a put whose file was begun beside the names
 pub put_begun : (before mid now : Files) (name bytes : List ℕ) (r : Result (Unit {0}) Error) → SameNames before mid → Puts mid now name bytes r → Puts before now name bytes r
 put_begun before mid now name bytes (Ok x) same puts = (puts.0, λ q named other. puts.1 q named other ∙ same q named)
