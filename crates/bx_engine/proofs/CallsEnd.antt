@@ -1,17 +1,17 @@
 -- What is promised of a call, by how it ended.
-use Rattle.std.proofs.Common.{◌≡◌, ◌≢◌, ◌⊎◌, inl, inr, ℕ, List, Some, subst, sym, arith}
+use Rattle.std.proofs.Common.{◌≡◌, ◌≢◌, ◌⊎◌, ◌↔◌, inl, inr, ℕ, List, Some, subst, arith}
 use Rattle.bx_io.specs.Holdings.{Holdings, held_in}
-use Rattle.bx_engine_words.specs.Words.{IsBuild}
+use Rattle.bx_engine_words.specs.Words.{IsBuild, IsCare}
 use Rattle.bx_engine_words.specs.declared.order.Order.{Order}
-use Rattle.bx_engine_words.specs.declared.order.Order.TheVariants.{Check, Gen, Repair, Trim}
+use Rattle.bx_engine_words.specs.declared.order.Order.TheVariants.{Build, Check, Gen, Repair, Trim}
 use Rattle.two_phase_meaning.specs.Honest.{Honest}
-use Rattle.bx_engine.specs.Beyond.{Beyond, GoesBeyond, OfEachBuild, OfEachCall, OfInput}
+use Rattle.bx_engine.specs.Beyond.{Beyond, GoesBeyond, OfEachBuild, OfEachCall, OfInput, Unbegun}
 use Rattle.bx_engine.specs.Calls.{Call}
 use Rattle.bx_engine.specs.Ended.{Answered, Ended, Left, Unanswered}
 use Rattle.bx_engine.specs.Expected.{limits_of}
 use Rattle.bx_engine.specs.Headline.{Headline, KeepsHeadline}
 use Rattle.bx_engine.specs.Known.{IsInput, ReadOf}
-use Rattle.bx_engine.specs.Statuses.{IsSilent, IsWhole}
+use Rattle.bx_engine.specs.Statuses.{HasNoNotes, IsSilent, IsWhole}
 use Rattle.bx_engine.specs.Stores.{FairStore, uses_store}
 use Rattle.bx_engine.specs.declared.status.Status.{Status}
 use Rattle.bx_engine.specs.declared.status.Status.TheVariants as statuses
@@ -77,11 +77,14 @@ build_unanswered call u = record {
   puts = u.puts;
 }
 
-pub each_unanswered : (call : Call) → Unanswered call → OfEachCall call
-each_unanswered call u = record {
+pub each_unanswered : (call : Call) → Unanswered call → (HasNoNotes call.status → call.notes.now ≡ call.notes.before)
+    → (call.status ≡ statuses.NoCommand → Unbegun call) → OfEachCall call
+each_unanswered call u quiet unbegun = record {
   status = inr (inl u.silent);
   gives = u.gives;
   silent = λ s. u.out;
+  quiet = quiet;
+  unbegun = unbegun;
   source_cause = u.source_cause;
   source_no_fault = u.source_no_fault;
   out_cause = record { later = omega (arith, u.out_faults); rose = λ cut. absurd (not_silent call.status (inr cut) u.silent) };
@@ -147,13 +150,15 @@ build_answered order call a = record {
   puts = a.puts;
 }
 
-pub each_answered : (order : Order) (call : Call) → Answered order call → OfEachCall call
-each_answered order call a =
+pub each_answered : (order : Order) (call : Call) → Answered order call → (HasNoNotes call.status → call.notes.now ≡ call.notes.before) → OfEachCall call
+each_answered order call a quiet =
     let came = came_to order call a in
     record {
       status = elim came [ inl whole ↦ inl whole | inr cut ↦ inr (inr (inl cut)) ];
       gives = a.gives;
       silent = λ s. absurd (not_silent call.status came s);
+      quiet = quiet;
+      unbegun = λ n. absurd (not_silent call.status came (inl n));
       source_cause = record { later = omega (arith, a.source); rose = λ s. absurd (not_silent call.status came (inr (inl s))) };
       source_no_fault = λ n. a.source;
       out_cause = a.out_cause;
@@ -171,9 +176,17 @@ pub headline_ended : (order : Order) (call : Call) → call.status ≢ statuses.
 headline_ended order call begun (inl u) input asked fair = headline_unanswered call input order u.0 begun (u.1 input asked) fair
 headline_ended order call begun (inr a) input asked fair = headline_answered call input order a (a.read input asked) fair
 
--- an order that is to build is no other
-build_no_other : (order other : Order) → (IsBuild other → ⊥) → IsBuild order → order ≡ other → ⊥
+-- an order that is to build is none that is not
+pub build_no_other : (order other : Order) → (IsBuild other → ⊥) → IsBuild order → order ≡ other → ⊥
 build_no_other order other no_build builds same = no_build (subst IsBuild same builds)
+
+-- no order to build is one to care for the store
+pub build_no_care : (order : Order) → IsBuild order → IsCare order → ⊥
+build_no_care (Build workers cached eval_budget tool_budget) build care = care
+build_no_care Check build care = build
+build_no_care Repair build care = build
+build_no_care (Trim keep) build care = build
+build_no_care (Gen seed pips) build care = build
 
 -- ## Orders
 
@@ -184,43 +197,65 @@ headline_of asked order call one begun ended = λ o input is given fair.
     subst (λ (x : Order). (f : FairStore x input (held_in call.store.before) (held_in call.store.now)) → Headline call input x f) (one o is.0)
     (headline_ended order call begun ended input given) fair
 
+-- the status says that words are no order just where they are none
+pub some_order : (asked : Order → Type 0) (order : Order) (status : Status) → asked order → status ≢ statuses.NoCommand
+    → (status ≡ statuses.NoCommand) ↔ ((o : Order) → asked o → ⊥)
+some_order asked order status is begun = (λ e. absurd (begun e), λ none. absurd (none order is))
+
 -- of a build there is nothing to say of a check, a repair, a trim or a workload
-pub beyond_of : (asked : Order → Type 0) (order : Order) (call : Call) → ((o : Order) → asked o → order ≡ o) → IsBuild order → Ended order call
-    → GoesBeyond asked call
-beyond_of asked order call one builds (inl u) = record {
-  fair = λ o input is build given fair.
-      beyond_unanswered call input o u.0 (subst (λ (x : Order). Left call input x) (one o is) (u.1 input given)) fair;
-  of_input = λ o input is build given. input_unanswered call input o u.0;
-  of_each_build = λ o is build. build_unanswered call u.0;
-  check = λ is. absurd (build_no_other order Check (λ b. b) builds (one Check is));
-  repair = λ is. absurd (build_no_other order Repair (λ b. b) builds (one Repair is));
-  trim = λ keep is. absurd (build_no_other order (Trim keep) (λ b. b) builds (one (Trim keep) is));
-  gen = λ seed pips is. absurd (build_no_other order (Gen seed pips) (λ b. b) builds (one (Gen seed pips) is));
-  of_each_call = each_unanswered call u.0;
+pub beyond_of : (asked : Order → Type 0) (order : Order) (call : Call) → asked order → ((o : Order) → asked o → order ≡ o) → IsBuild order
+    → call.status ≢ statuses.NoCommand → (HasNoNotes call.status → call.notes.now ≡ call.notes.before) → Ended order call → GoesBeyond asked call
+beyond_of asked order call is one builds begun quiet (inl u) = record {
+  fair = λ o input asks build given fair.
+      beyond_unanswered call input o u.0 (subst (λ (x : Order). Left call input x) (one o asks) (u.1 input given)) fair;
+  of_input = λ o input asks build given. input_unanswered call input o u.0;
+  of_each_build = λ o asks build. build_unanswered call u.0;
+  check = λ asks. absurd (build_no_other order Check (λ b. b) builds (one Check asks));
+  repair = λ asks. absurd (build_no_other order Repair (λ b. b) builds (one Repair asks));
+  trim = λ keep asks. absurd (build_no_other order (Trim keep) (λ b. b) builds (one (Trim keep) asks));
+  of_each_care = λ o asks care. absurd (build_no_care o (subst IsBuild (one o asks) builds) care);
+  gen = λ seed pips asks. absurd (build_no_other order (Gen seed pips) (λ b. b) builds (one (Gen seed pips) asks));
+  none = some_order asked order call.status is begun;
+  of_each_call = each_unanswered call u.0 quiet (λ n. absurd (begun n));
 }
-beyond_of asked order call one builds (inr a) = record {
-  fair = λ o input is build given fair.
-      subst (λ (x : Order). (f : FairStore x input (held_in call.store.before) (held_in call.store.now)) → Beyond call input x f) (one o is)
+beyond_of asked order call is one builds begun quiet (inr a) = record {
+  fair = λ o input asks build given fair.
+      subst (λ (x : Order). (f : FairStore x input (held_in call.store.before) (held_in call.store.now)) → Beyond call input x f) (one o asks)
       (beyond_answered call input order a (a.read input given)) fair;
-  of_input = λ o input is build given.
-      subst (λ (x : Order). OfInput call input x) (one o is) (input_answered call input order a (a.read input given));
-  of_each_build = λ o is build. build_answered order call a;
-  check = λ is. absurd (build_no_other order Check (λ b. b) builds (one Check is));
-  repair = λ is. absurd (build_no_other order Repair (λ b. b) builds (one Repair is));
-  trim = λ keep is. absurd (build_no_other order (Trim keep) (λ b. b) builds (one (Trim keep) is));
-  gen = λ seed pips is. absurd (build_no_other order (Gen seed pips) (λ b. b) builds (one (Gen seed pips) is));
-  of_each_call = each_answered order call a;
+  of_input = λ o input asks build given.
+      subst (λ (x : Order). OfInput call input x) (one o asks) (input_answered call input order a (a.read input given));
+  of_each_build = λ o asks build. build_answered order call a;
+  check = λ asks. absurd (build_no_other order Check (λ b. b) builds (one Check asks));
+  repair = λ asks. absurd (build_no_other order Repair (λ b. b) builds (one Repair asks));
+  trim = λ keep asks. absurd (build_no_other order (Trim keep) (λ b. b) builds (one (Trim keep) asks));
+  of_each_care = λ o asks care. absurd (build_no_care o (subst IsBuild (one o asks) builds) care);
+  gen = λ seed pips asks. absurd (build_no_other order (Gen seed pips) (λ b. b) builds (one (Gen seed pips) asks));
+  none = some_order asked order call.status is begun;
+  of_each_call = each_answered order call a quiet;
 }
 
+-- that words are no command does not say that nothing was noted
+no_command_notes : (status : Status) → status ≡ statuses.NoCommand → HasNoNotes status → ⊥
+no_command_notes status none quiet = elim quiet [
+  | inl a ↦ cc
+  | inr b ↦ elim b [
+    | inl c ↦ cc
+    | inr d ↦ elim d [ inl e ↦ cc | inr f ↦ elim f [ inl g ↦ cc | inr k ↦ elim k [ inl m ↦ cc | inr n ↦ cc ] ] ]
+  ]
+]
+
 -- words that are no command come to no order
-pub beyond_none : (asked : Order → Type 0) (call : Call) → ((o : Order) → asked o → ⊥) → Unanswered call → GoesBeyond asked call
-beyond_none asked call none u = record {
-  fair = λ o input is build given fair. absurd (none o is);
-  of_input = λ o input is build given. absurd (none o is);
-  of_each_build = λ o is build. absurd (none o is);
-  check = λ is. absurd (none Check is);
-  repair = λ is. absurd (none Repair is);
-  trim = λ keep is. absurd (none (Trim keep) is);
-  gen = λ seed pips is. absurd (none (Gen seed pips) is);
-  of_each_call = each_unanswered call u;
+pub beyond_none : (asked : Order → Type 0) (call : Call) → ((o : Order) → asked o → ⊥) → call.status ≡ statuses.NoCommand → Unbegun call → Unanswered call
+    → GoesBeyond asked call
+beyond_none asked call none is unbegun u = record {
+  fair = λ o input asks build given fair. absurd (none o asks);
+  of_input = λ o input asks build given. absurd (none o asks);
+  of_each_build = λ o asks build. absurd (none o asks);
+  check = λ asks. absurd (none Check asks);
+  repair = λ asks. absurd (none Repair asks);
+  trim = λ keep asks. absurd (none (Trim keep) asks);
+  of_each_care = λ o asks care. absurd (none o asks);
+  gen = λ seed pips asks. absurd (none (Gen seed pips) asks);
+  none = (λ e. none, λ n. is);
+  of_each_call = each_unanswered call u (λ q. absurd (no_command_notes call.status is q)) (λ n. unbegun);
 }

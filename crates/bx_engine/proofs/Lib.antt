@@ -15,5 +15,7 @@ mod ResponsesAreExpected
 mod CallsEnd
 mod OtherCalls
 mod Checked
+mod StoresCared
+mod Worked
 mod OneEnding
 mod SomeEnding

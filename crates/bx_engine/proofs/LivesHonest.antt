@@ -1,12 +1,11 @@
 -- A store that is honest at first is honest all its life.
-use Rattle.std.proofs.Common.{◌≡◌, ◌⊎◌, ℕ, zero, suc, ◌+◌, List, [], ◌∷◌, take, is_some, sym, ap, subst, inl, inr}
+use Rattle.std.proofs.Common.{ℕ, zero, suc, ◌+◌, List, [], ◌∷◌, take, is_some, sym, ap, subst, inl, inr}
 use Rattle.std.specs.List.{AllByRecursion}
 use Rattle.bx_tree.specs.Trees.{Files}
-use Rattle.bx_io.specs.Holdings.{Change, Holdings, held_in, holdings_after}
+use Rattle.bx_io.specs.Holdings.{Change, Holdings, holdings_after}
 use Rattle.pip_model_types.specs.declared.pip.Pip.{Pip}
 use Rattle.tool_run.specs.Described.{described}
 use Rattle.tool_run.proofs.Depends.{depends}
-use Rattle.run_record.specs.Collisions.{NoCollision}
 use Rattle.run_record.specs.Facts.{Facts}
 use Rattle.run_record.proofs.Stored.{sound}
 use Rattle.two_phase_meaning.specs.Honest.{Honest}

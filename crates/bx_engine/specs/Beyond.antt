@@ -1,20 +1,21 @@
 -- What the program promises beyond its one page.
-use Rattle.std.specs.Prelude.{◌≡◌, ◌≢◌, ◌⊎◌, ℕ, List, Some}
+use Rattle.std.specs.Prelude.{◌≡◌, ◌≢◌, ◌⊎◌, ◌↔◌, ℕ, List, Some}
 use Rattle.bx_io.specs.Causes.{HasCause}
 use Rattle.bx_io.specs.Holdings.{Holdings, held_in}
-use Rattle.bx_engine_words.specs.Words.{IsBuild}
+use Rattle.bx_engine_words.specs.Words.{IsBuild, IsCare}
 use Rattle.bx_engine_words.specs.declared.order.Order.{Order}
 use Rattle.bx_engine_words.specs.declared.order.Order.TheVariants.{Check, Gen, Repair, Trim}
 use Rattle.retire.specs.Saving.{OnlyPuts}
 use Rattle.two_phase_meaning.specs.Honest.{Honest}
 use Rattle.bx_engine.specs.Calls.{Call}
 use Rattle.bx_engine.specs.Care.{OfCheck, OfRepair, OfTrim}
-use Rattle.bx_engine.specs.Counting.{AppendsNotes, IsShown}
+use Rattle.bx_engine.specs.Counting.{AppendsNoted, AppendsNotes, IsShown}
+use Rattle.bx_engine.specs.Ending.{usage_text}
 use Rattle.bx_engine.specs.Expected.{Answers, limits_of}
 use Rattle.bx_engine.specs.Known.{GivesPiece, IsInput, IsReadOut, LeavesRest}
 use Rattle.bx_engine.specs.Workloads.{OfGen}
 use Rattle.bx_engine.specs.OutputTrees.{IsTreeBegun, IsTreeWritten}
-use Rattle.bx_engine.specs.Statuses.{IsGone, IsRefusal, IsSilent, IsWhole}
+use Rattle.bx_engine.specs.Statuses.{HasNoNotes, IsGone, IsRefusal, IsSilent, IsWhole}
 use Rattle.bx_engine.specs.Stores.{FairStore, StoreLeft}
 use Rattle.bx_engine.specs.declared.status.Status.TheVariants as statuses
 
@@ -47,6 +48,18 @@ pub record OfEachBuild (call : Call) : Type 0 where
   -- nothing is done to the store but that records of runs that succeeded are put.
   pub puts : OnlyPuts call.store.before call.store.now
 
+-- Of every check, repair and trim, whatever its outside: the source and the output are left alone.
+pub record OfEachCare (call : Call) : Type 0 where
+  pub unasked : call.source.now ≡ call.source.before
+  pub unwritten : call.out.now ≡ call.out.before
+
+-- Of words that are no order: the source, the output and the store are left alone, and the notes are the usage.
+pub record Unbegun (call : Call) : Type 0 where
+  pub unasked : call.source.now ≡ call.source.before
+  pub unwritten : call.out.now ≡ call.out.before
+  pub unkept : call.store.now ≡ call.store.before
+  pub usage : AppendsNoted usage_text call.notes
+
 -- Of every call, whatever its words and its outside:
 pub record OfEachCall (call : Call) : Type 0 where
   -- the status is one of these;
@@ -54,8 +67,11 @@ pub record OfEachCall (call : Call) : Type 0 where
       ⊎ (call.status ≡ statuses.KeeperFailed)
   -- the source gave a piece, which is no longer told to be left;
   pub gives : GivesPiece call.source
-  -- nothing is written where the status says so;
+  -- nothing is written where the status says so, and nothing is noted;
   pub silent : IsSilent call.status → call.out.now ≡ call.out.before
+  pub quiet : HasNoNotes call.status → call.notes.now ≡ call.notes.before
+  -- nothing is begun where it says that the words are no order;
+  pub unbegun : call.status ≡ statuses.NoCommand → Unbegun call
   -- the status says that the source, the sink or the store failed only where its count of faults rose, and with any other status
   -- the count of the source and of the sink is as it was, and that of the store does not fall.
   pub source_cause : HasCause call.source.faults_before call.source.faults_now (call.status ≡ statuses.SourceFailed)
@@ -75,10 +91,13 @@ pub record GoesBeyond (asked : Order → Type 0) (call : Call) : Type 0 where
       → OfInput call input order
   -- and whatever its outside;
   pub of_each_build : (order : Order) → asked order → IsBuild order → OfEachBuild call
-  -- a check, a repair and a trim of a store; a workload;
+  -- a check, a repair and a trim of a store, and each of these; a workload;
   pub check : asked Check → OfCheck call.status call.notes call.store
   pub repair : asked Repair → OfRepair call.status call.notes call.store
   pub trim : (keep : ℕ) → asked (Trim keep) → OfTrim keep call.status call.notes call.store
-  pub gen : (seed pips : ℕ) → asked (Gen seed pips) → OfGen seed pips call.status call.out
+  pub of_each_care : (order : Order) → asked order → IsCare order → OfEachCare call
+  pub gen : (seed pips : ℕ) → asked (Gen seed pips) → OfGen seed pips call
+  -- just of words that are no order, the status says so;
+  pub none : (call.status ≡ statuses.NoCommand) ↔ ((order : Order) → asked order → ⊥)
   -- and whatever the words.
   pub of_each_call : OfEachCall call

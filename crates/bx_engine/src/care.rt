@@ -1,9 +1,11 @@
 //! A check, a repair and a trim of the store.
 
-ghost use Rattle.std.specs.Prelude.{◌≡◌, ◌⊎◌, Err, IfOk, IsSome, OnErr, OnOk, Some, if◌then◌else◌, map, string_bytes};
+ghost use Rattle.std.specs.Prelude.{◌≡◌, ◌⊎◌, ◌++◌, Err, IfOk, IsSome, OnErr, OnOk, Some, if◌then◌else◌, map, string_bytes};
+ghost use Rattle.std.specs.List.{flat_map};
 ghost use Rattle.bx_io.specs.Holdings.{Holdings, IsAlone, Keeps, MakesPrefix, held_in};
 ghost use Rattle.two_phase.specs.Calls.{KeeperCall};
 ghost use Rattle.cache_care_check.specs.CareLists.{has_bad_remark, line_remark};
+ghost use Rattle.cache_care.specs.Counts.{CountsMade};
 ghost use Rattle.cache_care.specs.Planning.{OnlyDrops};
 ghost use Rattle.cache_care.specs.Repairing.{DoesRepair, DoesRepairInPart};
 ghost use Rattle.cache_care.specs.Trimming.{DoesTrim, OnlyTrims, trims};
@@ -11,7 +13,7 @@ ghost use Rattle.bx_engine.specs.Calls.{change_of, written_of};
 ghost use Rattle.bx_engine.specs.Care.{OfCheck, OfRepair, OfTrim, care_line, check_text, count_text};
 ghost use Rattle.bx_engine.specs.Care.{ChangesAlone, fault_status};
 ghost use Rattle.bx_engine.specs.Expected.{AppendsOrFails};
-ghost use Rattle.bx_engine.specs.Statuses.{HasNoNotes};
+ghost use Rattle.bx_engine.specs.Statuses.{HasNoNotes, IsGone};
 
 use crate::status::Status;
 use crate::writing::write_all;
@@ -34,19 +36,30 @@ fn stopped(fault: CareFault) -> Status
     }
 }
 
-fn line(alloc: Global, line: &CareLine) -> Result<String, Memory>
-    ensures { IfOk result (λ text. string_bytes text ≡ care_line line.now) }
+// Adds the line of a name that is told.
+fn add_line(alloc: Global, text: &mut Vec<u8>, line: &CareLine) -> Result<(), Memory>
+    ensures { OnOk result (text.new.items ≡ text.old.items ++ care_line line.now) }
 {
     match line {
         CareLine::Damaged(name) => {
-            let text = format!(in alloc; "damaged {name}\n")?;
-            Ok(text)
+            let added = format!(in alloc; "damaged {name}\n")?;
+            text.extend_from_slice(added.as_bytes())
         }
         CareLine::Bad(name) => {
-            let text = format!(in alloc; "bad {name}\n")?;
-            Ok(text)
+            let added = format!(in alloc; "bad {name}\n")?;
+            text.extend_from_slice(added.as_bytes())
         }
     }
+}
+
+// Adds the line of each name that is told.
+fn add_lines(alloc: Global, text: &mut Vec<u8>, lines: &[CareLine]) -> Result<(), Memory>
+    ensures { OnOk result (text.new.items ≡ text.old.items ++ flat_map care_line lines.now) }
+{
+    'lines: for line in lines {
+        add_line(alloc, text, line)?;
+    }
+    Ok(())
 }
 
 // The notes of a check.
@@ -54,9 +67,7 @@ fn check_notes(alloc: Global, list: &CareList) -> Result<Vec<u8>, Memory>
     ensures { IfOk result (λ text. text.items ≡ check_text list.now) }
 {
     let mut text = Vec::new(alloc);
-    'lines: for told in list.lines.iter() {
-        text.extend_from_slice(line(alloc, told)?.as_bytes())?;
-    }
+    add_lines(alloc, &mut text, list.lines.as_slice())?;
     let names = list.names;
     let entries = list.entries;
     let counts = format!(in alloc; "names {names}\nentries {entries}\n")?;
@@ -86,6 +97,23 @@ fn status_of_check(list: &CareList) -> Status
     }
 }
 
+// Writes what a check tells.
+fn tell_list<N: Sink>(alloc: Global, notes: &mut N, list: &CareList) -> Status
+    ensures status { (result ≡ (if has_bad_remark (map line_remark list.now.lines.items)
+        then Status.FailuresFound else Status.Done)) ⊎ (result ≡ Status.OutOfMemory) }
+    ensures noted { IsGone result → AppendsOrFails (check_text list.now) (N.taken notes.old)
+        (N.taken notes.new) (N.faults notes.old) (N.faults notes.new) }
+    ensures no_notes { result ≡ Status.OutOfMemory → notes.new ≡ notes.old }
+{
+    match check_notes(alloc, list) {
+        Ok(text) => {
+            let _ = write_all(notes, text.as_slice());
+            status_of_check(list)
+        }
+        Err(_) => Status::OutOfMemory,
+    }
+}
+
 /// Tells which names of the store are damaged and which of its entries are not honest.
 pub(crate) fn check<N: Sink, K: Keeper>(alloc: Global, notes: &mut N, keeper: &mut K) -> Status
     ensures checked { OfCheck result
@@ -96,16 +124,9 @@ pub(crate) fn check<N: Sink, K: Keeper>(alloc: Global, notes: &mut N, keeper: &m
     ensures bound { K.bound keeper.new ≡ K.bound keeper.old }
 {
     check_tells();
-    let list = match check_store(alloc, keeper) {
-        Ok(list) => list,
-        Err(fault) => return stopped(fault),
-    };
-    match check_notes(alloc, &list) {
-        Ok(text) => {
-            let _ = write_all(notes, text.as_slice());
-            status_of_check(&list)
-        }
-        Err(_) => Status::OutOfMemory,
+    match check_store(alloc, keeper) {
+        Ok(list) => tell_list(alloc, notes, &list),
+        Err(fault) => stopped(fault),
     }
 }
 
@@ -145,6 +166,7 @@ fn repair_alone<K: Keeper>(alloc: Global, keeper: &mut K) -> Result<CareCount, C
         → IfOk result (DoesRepair S (K.known keeper.old) (K.known keeper.new)) }
     ensures cut { (S : Holdings) → held_in (K.known keeper.old) ≡ Some S → IsSome (held_in (K.known keeper.new))
         → OnErr result (DoesRepairInPart S (K.known keeper.old) (K.known keeper.new)) }
+    ensures counted { IfOk result (CountsMade (K.known keeper.old) (K.known keeper.new)) }
     ensures drops { OnlyDrops (K.known keeper.old) (K.known keeper.new) }
     ensures alone { ChangesAlone (K.known keeper.old) (K.known keeper.new) }
     ensures keeper { KeeperCall (K.bound keeper.old) (K.bound keeper.new) (K.faults keeper.old)
@@ -160,6 +182,7 @@ fn trim_alone<K: Keeper>(alloc: Global, keeper: &mut K, keep: u32) -> Result<Car
         → IfOk result (DoesTrim S keep (K.known keeper.old) (K.known keeper.new)) }
     ensures cut { (S : Holdings) → held_in (K.known keeper.old) ≡ Some S → IsSome (held_in (K.known keeper.new))
         → OnErr result (MakesPrefix (K.known keeper.old) (K.known keeper.new) (trims S keep)) }
+    ensures counted { IfOk result (CountsMade (K.known keeper.old) (K.known keeper.new)) }
     ensures trims { OnlyTrims (K.known keeper.old) (K.known keeper.new) }
     ensures alone { ChangesAlone (K.known keeper.old) (K.known keeper.new) }
     ensures keeper { KeeperCall (K.bound keeper.old) (K.bound keeper.new) (K.faults keeper.old)

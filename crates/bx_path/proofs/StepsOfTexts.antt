@@ -10,8 +10,8 @@ use Rattle.std.proofs.lemmas.List.{take_more, map_push, length-map, length-take-
 use Rattle.std.proofs.lemmas.Slice.Eq.{bytes_eq-Decides}
 use Rattle.std.specs.Prelude.{option_and_then}
 use Rattle.bx_tree.specs.Paths.{Atoms, IsAtom, IsPathText, Names, is_atom_byte, path_text}
-use Rattle.bx_tree.proofs.PathTexts.{one_path, join-append}
-use Rattle.bx_path.specs.Joining.{is_atom, parent, step, if_short, walk}
+use Rattle.bx_tree.proofs.PathTexts.{atoms_again, one_path, join-append}
+use Rattle.bx_path.specs.Joining.{is_atom, parent, step, if_short, join_of, walk}
 use Rattle.bx_tree.specs.Lent.{texts_now}
 use Rattle.bx_tree.proofs.Lists.{all_true, texts_differ, true_all}
 
@@ -112,3 +112,10 @@ none_from_no_path (a ∷ as') text l h e n = elim (cases_lt MAX_PATH_BYTES (leng
   | inl long ↦ ap (λ b. cond b (Some (a ∷ as')) None) (lt-leb (length (path_text (a ∷ as'))) MAX_PATH_BYTES long)
   | inr short ↦ absurd (n (a ∷ as', subst (λ t. Names t (a ∷ as')) (sym e) (named_by_atoms a as' h short)))
 ]
+
+-- the text of a path leads to it from the root
+pub joined_if_named : (text : List ℕ) (path : Atoms) → Names text path → join_of [] text ≡ Some path
+joined_if_named text path n =
+    ap (λ parts. option_and_then if_short (walk [] parts)) (atoms_again text path n)
+    ∙ ap (option_and_then if_short) (walk_down [] path n.is_path.atoms)
+    ∙ ap (λ b. cond b (Some path) None) (le-leb (length (path_text path)) MAX_PATH_BYTES n.is_path.short)

@@ -1,13 +1,13 @@
 //! Relative paths: the path that a text leads to from another path.
 
-ghost use Rattle.std.specs.Prelude.{◌≡◌, ◌==◌, None, Some, IfOk, OnOk, MatchResult};
+ghost use Rattle.std.specs.Prelude.{◌≡◌, ◌==◌, None, Some, IfOk, IfSome, OnOk, MatchResult};
 ghost use Rattle.std.specs.List.{AllByRecursion, join_with_byte, slice_split};
 ghost use Rattle.bx_tree.specs.Paths.{IsAtom};
 ghost use Rattle.bx_path.specs.Joining.{if_short, join_of, step};
 ghost use Rattle.bx_tree.specs.Lent.{texts_now};
 
 use bx_tree::{Memory, Path, PathFault, is_atom};
-use std::alloc::Global;
+use std::alloc::{AllocError, Global};
 
 /// The parts of a text between its `/`.
 pub fn parts_of(alloc: Global, text: &[u8]) -> Result<Vec<&[u8]>, Memory>
@@ -79,10 +79,22 @@ fn path_of(alloc: Global, atoms: &[&[u8]]) -> Result<Path, PathFault>
     Path::read(alloc, text.as_slice())
 }
 
-/// The path that a text leads to from another: its parts between `/` are taken in order, `.` stays,
-/// `..` goes up and an atom goes down. Any other part, `..` at the root, and an end of more than
-/// [`MAX_PATH_BYTES`](bx_tree::MAX_PATH_BYTES) bytes are a bad path.
-pub fn join(alloc: Global, base: &Path, text: &[u8]) -> Result<Path, PathFault>
+// The path with this text, if the text is one and leads from the root.
+fn named_from_root(alloc: Global, base: &Path, text: &[u8]) -> Result<Option<Path>, Memory>
+    ensures { IfOk result (λ found. IfSome found (λ path. join_of base.now text.now ≡ Some path)) }
+{
+    if !base.is_root() {
+        return Ok(None);
+    }
+    match Path::read(alloc, text) {
+        Ok(path) => Ok(Some(path)),
+        Err(PathFault::BadPath) => Ok(None),
+        Err(PathFault::Memory) => Err(AllocError),
+    }
+}
+
+// The path that a text leads to from another, step by step.
+fn walked(alloc: Global, base: &Path, text: &[u8]) -> Result<Path, PathFault>
     ensures { MatchResult result
         (λ path. join_of base.now text.now ≡ Some path)
         (λ fault. fault ≡ PathFault.BadPath → join_of base.now text.now ≡ None) }
@@ -93,4 +105,19 @@ pub fn join(alloc: Global, base: &Path, text: &[u8]) -> Result<Path, PathFault>
         take_step(&mut atoms, part)?;
     }
     path_of(alloc, atoms.as_slice())
+}
+
+/// The path that a text leads to from another: its parts between `/` are taken in order, `.` stays,
+/// `..` goes up and an atom goes down. Any other part, `..` at the root, and an end of more than
+/// [`MAX_PATH_BYTES`](bx_tree::MAX_PATH_BYTES) bytes are a bad path.
+pub fn join(alloc: Global, base: &Path, text: &[u8]) -> Result<Path, PathFault>
+    ensures { MatchResult result
+        (λ path. join_of base.now text.now ≡ Some path)
+        (λ fault. fault ≡ PathFault.BadPath → join_of base.now text.now ≡ None) }
+{
+    // Most texts are those of the paths that they lead to from the root.
+    match named_from_root(alloc, base, text)? {
+        Some(path) => Ok(path),
+        None => walked(alloc, base, text),
+    }
 }

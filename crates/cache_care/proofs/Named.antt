@@ -11,6 +11,7 @@ use Rattle.bx_tree.specs.Trees.{Files}
 use Rattle.bx_tree.proofs.Members.{all_has, has_all, has_back, has_front}
 use Rattle.bx_io.specs.Holdings.{Holdings}
 use Rattle.pip_model_types.specs.declared.desc.Desc.{Desc}
+use Rattle.observed.specs.Texts.{has_match}
 use Rattle.observed.specs.declared.access.Answer.{Answer}
 use Rattle.observed.specs.declared.access.Answer.TheVariants as answers
 use Rattle.run_record.specs.Collisions.{contents_of}
@@ -100,7 +101,7 @@ module _ (S : Holdings) (e : Entry) (h : HonestEntry S e) where
   weak_said : (content_at S e.weak >>= read_weak_text) ≡ Some (weak_parts h.desc)
   weak_said = ap (λ (o : Option (List ℕ)). o >>= read_weak_text) (content_is S e.weak h.weak.0 h.weak.1) ∙ h.weak.2
 
-  strong_said : (content_at S e.strong >>= read_strong_text) ≡ Some (strong_parts e.weak e.paths h.given)
+  strong_said : (content_at S e.strong >>= read_strong_text) ≡ Some (strong_parts (has_match h.asks) e.weak e.paths h.given)
   strong_said =
       ap (λ (o : Option (List ℕ)). o >>= read_strong_text) (content_is S e.strong h.strong.0 h.strong.1) ∙ h.strong.2
 

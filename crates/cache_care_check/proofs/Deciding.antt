@@ -8,7 +8,7 @@ use Rattle.sha2.specs.Sha256.{sha256}
 use Rattle.bx_tree.specs.Trees.{Files}
 use Rattle.bx_io.specs.Holdings.{Holdings}
 use Rattle.pip_model_types.specs.declared.desc.Desc.{Desc}
-use Rattle.observed.specs.Texts.{read_paths_text}
+use Rattle.observed.specs.Texts.{has_match, read_paths_text}
 use Rattle.observed.specs.declared.ask.Ask.{Ask}
 use Rattle.observed.specs.declared.access.Answer.{Answer}
 use Rattle.tool_run.specs.Described.{described}
@@ -66,8 +66,8 @@ one_answers S lines a b h k = same_answers (HoldsBlob S) (one_content S) a b (h.
 pub lines_length : (given : List Answer) → length (map line_of given) ≡ length given
 lines_length given = length-map given line_of
 
-abbrev pub strong_with : Entry → List AnswerLine → StrongParts
-strong_with e lines = record { weak = e.weak; paths = e.paths; lines = lines }
+abbrev pub strong_with : Entry → List Ask → List AnswerLine → StrongParts
+strong_with e asks lines = record { second = has_match asks; weak = e.weak; paths = e.paths; lines = lines }
 
 -- an entry whose texts are these is honest where the run on what they name gives its outputs
 pub keeps_is_honest : (S : Holdings) (e : Entry) (t : EntryTexts) → AreTexts S e t → KeepsTexts S e t → HonestEntry S e
@@ -78,7 +78,7 @@ keeps_is_honest S e t a k = record {
   files = k.files;
   weak = subst (HoldsWeak S e.weak) (sym k.desc_is.0) a.weak;
   paths = a.paths;
-  strong = subst (λ (ls : List AnswerLine). HoldsStrong S e.strong (strong_with e ls)) (sym k.given_are.0) a.strong;
+  strong = subst (λ (ls : List AnswerLine). HoldsStrong S e.strong (strong_with e t.paths ls)) (sym k.given_are.0) a.strong;
   one_each = sym (lines_length k.given) ∙ ap (λ (ls : List AnswerLine). length ls) k.given_are.0 ∙ a.one_each;
   declared = k.desc_is.1;
   answers = k.given_are.1;
@@ -103,8 +103,8 @@ honest_has_texts S e h = record {
 pub honest_keeps : (S : Holdings) (e : Entry) (t : EntryTexts) → AreTexts S e t → HonestEntry S e → KeepsTexts S e t
 honest_keeps S e t a h =
     let paths : h.asks ≡ t.paths = paths_is S e.paths h.asks t.paths h.paths a.paths in
-    let strong : strong_with e (map line_of h.given) ≡ strong_with e t.lines =
-    strong_is S e.strong (strong_with e (map line_of h.given)) (strong_with e t.lines) h.strong a.strong in
+    let strong : strong_with e h.asks (map line_of h.given) ≡ strong_with e t.paths t.lines =
+    strong_is S e.strong (strong_with e h.asks (map line_of h.given)) (strong_with e t.paths t.lines) h.strong a.strong in
     record {
       desc = h.desc;
       given = h.given;

@@ -1,8 +1,9 @@
 -- The texts that an entry names, found or not.
-use Rattle.std.proofs.Common.{◌≡◌, ℕ, List, length, Option, Some, None, Result, Ok, Err, IfOk, refl, sym, ap, ◌∙◌, subst}
+use Rattle.std.proofs.Common.{◌≡◌, ℕ, Bool, List, length, Option, Some, None, Result, Ok, Err, IfOk, refl, sym, ap, ◌∙◌, subst}
 use Rattle.std.specs.Prelude.{IfSome}
 use Rattle.bx_io.specs.Holdings.{Holdings}
 use Rattle.bx_io.specs.Told.{Stays}
+use Rattle.observed.specs.Texts.{has_match}
 use Rattle.observed.specs.declared.ask.Ask.{Ask}
 use Rattle.prints.specs.Processes.{IsWeak, without_pips}
 use Rattle.prints.specs.declared.strong_parts.AnswerLine.{AnswerLine}
@@ -38,16 +39,20 @@ no_text read told digest h = λ S is x there. h S is there.0 there.1
 
 -- ## The strong text
 
--- it names the other two texts, and has a line for each ask
+-- it is of the version of the path set, names the other two texts, and has a line for each ask
 abbrev pub IsOfEntry : Entry → List Ask → StrongParts → Type 0
-IsOfEntry e paths p = (p.weak ≡ e.weak) × ((p.paths ≡ e.paths) × (length p.lines ≡ length paths))
+IsOfEntry e paths p =
+    (p.second ≡ has_match paths) × ((p.weak ≡ e.weak) × ((p.paths ≡ e.paths) × (length p.lines ≡ length paths)))
 
-abbrev parts : List ℕ → List ℕ → List AnswerLine → StrongParts
-parts weak paths lines = record { weak = weak; paths = paths; lines = lines }
+abbrev parts : Bool → List ℕ → List ℕ → List AnswerLine → StrongParts
+parts second weak paths lines = record { second = second; weak = weak; paths = paths; lines = lines }
 
-same_parts : (p : StrongParts) (e : Entry) → p.weak ≡ e.weak → p.paths ≡ e.paths → p ≡ strong_with e p.lines
-same_parts p e h k =
-    ap (λ (w : List ℕ). parts w p.paths p.lines) h ∙ ap (λ (q : List ℕ). parts e.weak q p.lines) k
+same_parts : (p : StrongParts) (e : Entry) (asks : List Ask) → p.second ≡ has_match asks → p.weak ≡ e.weak → p.paths ≡ e.paths
+    → p ≡ strong_with e asks p.lines
+same_parts p e asks s h k =
+    ap (λ (b : Bool). parts b p.weak p.paths p.lines) s
+    ∙ ap (λ (w : List ℕ). parts (has_match asks) w p.paths p.lines) h
+    ∙ ap (λ (q : List ℕ). parts (has_match asks) e.weak q p.lines) k
 
 abbrev texts_with : WeakParts → List Ask → List AnswerLine → EntryTexts
 texts_with weak paths lines = record { weak = weak; paths = paths; lines = lines }
@@ -58,26 +63,29 @@ pub strong_added : (told : Option Holdings) (e : Entry) (weak : WeakParts) (path
 strong_added told e weak paths p h of = λ S is. record {
   weak_is = refl;
   paths_are = refl;
-  strong = subst (λ (q : StrongParts). HoldsStrong S e.strong q) (same_parts p e of.0 of.1.0) (h S is);
-  one_each = of.1.1;
+  strong = subst (λ (q : StrongParts). HoldsStrong S e.strong q) (same_parts p e paths of.0 of.1.0 of.1.1.0) (h S is);
+  one_each = of.1.1.1;
 }
 
 pub strong_left : (told : Option Holdings) (e : Entry) (weak : WeakParts) (paths : List Ask) (p : StrongParts)
     → FindsOne told (λ S q. HoldsStrong S e.strong q) (Some p) → (IsOfEntry e paths p → ⊥)
     → FindsOne told (λ S t. AddsStrong S e weak paths t) None
 strong_left told e weak paths p h other = λ S is t a.
-    let same : p ≡ strong_with e t.lines = strong_is S e.strong p (strong_with e t.lines) (h S is) a.strong in
+    let same : p ≡ strong_with e t.paths t.lines = strong_is S e.strong p (strong_with e t.paths t.lines) (h S is) a.strong in
     other (
-      ap (λ (q : StrongParts). q.weak) same,
+      ap (λ (q : StrongParts). q.second) same ∙ ap has_match a.paths_are,
       (
-        ap (λ (q : StrongParts). q.paths) same,
-        ap (λ (q : StrongParts). length q.lines) same ∙ a.one_each ∙ ap (λ (asks : List Ask). length asks) a.paths_are,
+        ap (λ (q : StrongParts). q.weak) same,
+        (
+          ap (λ (q : StrongParts). q.paths) same,
+          ap (λ (q : StrongParts). length q.lines) same ∙ a.one_each ∙ ap (λ (asks : List Ask). length asks) a.paths_are,
+        ),
       ),
     )
 
 pub no_strong : (told : Option Holdings) (e : Entry) (weak : WeakParts) (paths : List Ask)
     → FindsOne told (λ S q. HoldsStrong S e.strong q) None → FindsOne told (λ S t. AddsStrong S e weak paths t) None
-no_strong told e weak paths h = λ S is t a. h S is (strong_with e t.lines) a.strong
+no_strong told e weak paths h = λ S is t a. h S is (strong_with e t.paths t.lines) a.strong
 
 -- ## All three
 

@@ -4,6 +4,7 @@ use Rattle.sha2.specs.Sha256.{sha256}
 use Rattle.bx_tree.specs.Paths.{Atoms}
 use Rattle.bx_tree.specs.Trees.{Files}
 use Rattle.pip_model_types.specs.declared.desc.Desc.{Desc}
+use Rattle.observed.specs.Texts.{has_match}
 use Rattle.observed.specs.declared.ask.Ask.{Ask}
 use Rattle.observed.specs.declared.access.Answer.{Answer}
 use Rattle.bx_io.specs.Holdings.{Holdings}
@@ -22,18 +23,21 @@ use Rattle.two_phase_meaning.specs.Contents.{HoldsAll, HoldsPaths, HoldsStrong, 
 use Rattle.two_phase_meaning.specs.Honest.{IsGoodRun}
 use Rattle.cache_care_check.specs.declared.texts.EntryTexts.{EntryTexts}
 
--- The three texts that an entry names are held, the strong one names the other two, and it has a line for each ask.
+-- The three texts that an entry names are held, the strong one names the other two and is of the version of the path set, and
+-- it has a line for each ask.
 pub record AreTexts (S : Holdings) (e : Entry) (t : EntryTexts) : Type 0 where
   pub weak : HoldsWeak S e.weak t.weak
   pub paths : HoldsPaths S e.paths t.paths
-  pub strong : HoldsStrong S e.strong (record { weak = e.weak; paths = e.paths; lines = t.lines })
+  pub strong : HoldsStrong S e.strong
+      (record { second = has_match t.paths; weak = e.weak; paths = e.paths; lines = t.lines })
   pub one_each : length t.lines ≡ length t.paths
 
 -- The texts of an entry, of which the first two say this.
 pub record AddsStrong (S : Holdings) (e : Entry) (weak : WeakParts) (paths : List Ask) (t : EntryTexts) : Type 0 where
   pub weak_is : t.weak ≡ weak
   pub paths_are : t.paths ≡ paths
-  pub strong : HoldsStrong S e.strong (record { weak = e.weak; paths = e.paths; lines = t.lines })
+  pub strong : HoldsStrong S e.strong
+      (record { second = has_match t.paths; weak = e.weak; paths = e.paths; lines = t.lines })
   pub one_each : length t.lines ≡ length t.paths
 
 -- the process that a weak text says, with its contents, which are held

@@ -1,7 +1,7 @@
 //! The three texts that an entry names.
 ghost use Rattle.std.specs.Prelude.{◌≡◌, ◌≢◌, ◌↔◌, Err, IfOk, IfSome, IsTrue, length};
 ghost use Rattle.bx_io.specs.Holdings.{Keeps, held_in};
-ghost use Rattle.observed.specs.Texts.{read_paths_text};
+ghost use Rattle.observed.specs.Texts.{has_match, read_paths_text};
 ghost use Rattle.prints.specs.Processes.{IsWeak, without_pips};
 ghost use Rattle.prints.specs.ReadWeak.{read_weak_text};
 ghost use Rattle.prints.specs.Strong.{read_strong_text};
@@ -127,12 +127,14 @@ pub fn strong_of<K: Keeper>(
     }
 }
 
-// Whether a strong text names the weak text and the path set of an entry, and has a line for each ask.
+// Whether a strong text is of the version of the path set of an entry, names its weak text and that path set, and has a
+// line for each ask.
 fn is_strong_of(parts: &StrongParts, entry: &Entry, paths: &PathSet) -> bool
-    ensures { IsTrue result ↔ (parts.now.weak ≡ entry.now.weak) × ((parts.now.paths ≡ entry.now.paths)
-        × (length parts.now.lines ≡ length paths.now)) }
+    ensures { IsTrue result ↔ (parts.now.second ≡ has_match paths.now) × ((parts.now.weak ≡ entry.now.weak)
+        × ((parts.now.paths ≡ entry.now.paths) × (length parts.now.lines ≡ length paths.now))) }
 {
-    parts.weak == entry.weak
+    parts.second == paths.has_match()
+        && parts.weak == entry.weak
         && parts.paths == entry.paths
         && parts.lines.lines().len() == paths.asks().len()
 }

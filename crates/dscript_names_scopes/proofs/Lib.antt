@@ -6,5 +6,6 @@ pub mod OneString
 pub mod FirstValues
 pub mod Examples
 pub mod Placed
+pub mod ShortestPrefixes
 pub mod TableValues
 pub mod FoldSteps

@@ -20,7 +20,7 @@ use crate::found::Found;
 use crate::names::{FileNames, Imported, Viewer, World};
 use crate::scopes::Scopes;
 use crate::site::Site;
-use crate::spaces::{Space, is_sdk_namespace, shortest};
+use crate::spaces::{Space, is_sdk_namespace, shortest, shortest_ambient};
 use crate::stop::Stop;
 use crate::tables::values_of_modules;
 use bx_tree::{Memory, Text};
@@ -333,7 +333,7 @@ fn found_written(
     if let Some(found) = in_import_call(alloc, world, name, parts)? {
         return Ok(found);
     }
-    match shortest(alloc, &Space::Ambient, 0, &[], written)? {
+    match shortest_ambient(alloc, written)? {
         Some(found) => Ok(found),
         None => Err(Stop::Fault(SpecKind::UnknownName)),
     }

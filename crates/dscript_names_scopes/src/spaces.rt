@@ -1,9 +1,9 @@
 //! Where the values are that a dotted name may stand for, and the shortest prefix that stands for one.
 
-ghost use Rattle.std.specs.Prelude.{◌≡◌, ◌≤◌, IfOk};
+ghost use Rattle.std.specs.Prelude.{◌≡◌, ◌≤◌, [], IfOk, OnOk};
 ghost use Rattle.std.specs.List.{join_with_byte};
 ghost use Rattle.dscript_names_scopes.specs.Lookup.{ambient_of, is_sdk_namespace, sdk_call, shortest};
-ghost use Rattle.dscript_names_scopes.specs.Spaces.{target_in};
+ghost use Rattle.dscript_names_scopes.specs.Spaces.{target_in, with_part};
 
 use crate::dotted::{DottedName, shared};
 use crate::found::Found;
@@ -72,8 +72,6 @@ pub(crate) enum Space<'a> {
     Values(&'a ByModule, usize),
     /// In the module that is always there.
     Sdk,
-    /// Among all ambient calls.
-    Ambient,
 }
 
 impl Space<'_> {
@@ -88,7 +86,6 @@ impl Space<'_> {
             },
             Space::Values(values, module) => Ok(values.value(*module, name)),
             Space::Sdk => sdk(alloc, name.parts()),
-            Space::Ambient => ambient(alloc, name.parts()),
         }
     }
 }
@@ -112,6 +109,37 @@ pub(crate) fn shortest(
         name.push(first.share()?)?;
         if let Some(target) = space.target(alloc, &name)? {
             return Ok(Some(Found { target, parts }));
+        }
+        parts += 1;
+        left = rest;
+    }
+    Ok(None)
+}
+
+/// Adds a part of a dotted name to the text of those before it, with a dot before it if it is not the first.
+fn add_part(text: &mut Vec<u8>, is_first: bool, part: &Text) -> Result<(), Memory>
+    ensures { OnOk result (text.new.items ≡ with_part is_first text.old.items part.now) }
+{
+    if !is_first {
+        text.push(b'.')?;
+    }
+    text.extend_from_slice(part.bytes())
+}
+
+/// The shortest prefix of the names that is the name of an ambient call.
+pub(crate) fn shortest_ambient(alloc: Global, names: &[Text]) -> Result<Option<Found>, Memory>
+    ensures { IfOk result (λ found. found ≡ shortest ambient_of 0 [] names.now) }
+{
+    let mut text = Vec::with_capacity(alloc, FIRST_BYTES)?;
+    let mut left = names;
+    let mut parts = 0;
+    'prefixes: while let Some((first, rest)) = left.split_first() {
+        add_part(&mut text, parts == 0, first)?;
+        if let Some(call) = Ambient::named(text.as_slice()) {
+            return Ok(Some(Found {
+                target: Target::Ambient(call),
+                parts,
+            }));
         }
         parts += 1;
         left = rest;

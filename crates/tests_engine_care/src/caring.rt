@@ -1,6 +1,6 @@
 //! Commands over a store, and what they come to.
 
-use bx_io::Keeper;
+use bx_io::{Keeper, Listed};
 use std::alloc::{AllocError, Global};
 use std::sync::Wait;
 use std::thread::Threads;
@@ -28,4 +28,12 @@ pub(crate) fn is_honest<H: Threads + Wait + Sync, K: Keeper>(
     let mut seen = Vec::new(alloc);
     add_command(rt, alloc, &["check"], keeper, &mut seen)?;
     Ok(seen.ends_with(b"status 0"))
+}
+
+/// How many names a store holds, if it tells them.
+pub(crate) fn count_names<K: Keeper>(alloc: Global, keeper: &mut K) -> Option<u64> {
+    match keeper.names(alloc) {
+        Listed::Names(names) => Some(names.len() as u64),
+        Listed::Failed | Listed::Memory => None,
+    }
 }

@@ -1,4 +1,4 @@
-use bx_io::FailKeeper;
+use bx_io::StopKeeper;
 use std::test::Fail;
 use tests_with_engine::{ALL_HIT, CountGate, FIRST_CALLS, are_built, left_after};
 
@@ -10,7 +10,7 @@ fn goes_on_over_what_another_build_left_half_done(rt: HostRuntime) -> Result<(),
         let Some(left) = left_after(&rt, alloc, calls, "")? else {
             return Err("the build that is cut off gives something else".into());
         };
-        let mut keeper = FailKeeper::new(left, Vec::new(alloc));
+        let mut keeper = StopKeeper::new(left, u64::MAX);
         assert!(rt; are_built(&rt, alloc, &mut keeper, &CountGate::new(), &["", ALL_HIT])?);
     }
     Ok(())

@@ -1,1 +1,1 @@
-mod FairStores
+pub mod FairStores

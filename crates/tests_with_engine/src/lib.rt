@@ -6,7 +6,9 @@ mod over_stores;
 
 use bx_engine::command;
 use bx_io::{FailKeeper, Gate, Keeper, MemKeeper, MemSink, MemSource};
-pub use over_stores::{ALL_HIT, ALL_RAN, FIRST_CALLS, are_built, is_built, left_after};
+pub use over_stores::{
+    ALL_HIT, ALL_RAN, FIRST_CALLS, TWO_RAN, are_built, is_built, is_rebuilt, left_after,
+};
 use std::alloc::{AllocError, Global};
 use std::sync::Wait;
 use std::sync::atomic::AtomicU32;

@@ -110,6 +110,9 @@ pub const ALL_RAN: &str = "notes hits 0\nran 3\nlate 3\nstore-faults 0\nstarved 
 /// The notes of a build that runs none.
 pub const ALL_HIT: &str = "notes hits 3\nran 0\nlate 0\nstore-faults 0\nstarved 0\nstatus 0";
 
+/// The notes of a build with another header, over a store of the first build: one is compiled and both are linked again.
+pub const TWO_RAN: &str = "notes hits 1\nran 2\nlate 2\nstore-faults 0\nstarved 0\nstatus 0";
+
 /// How many calls of a store its first build makes. The first record is kept by ten: the list is read, and then
 /// put are the weak text, the path set, the strong text, the executable, the source file, the header, the object, the
 /// entry and the list. The second has another path set, the executable of the first and an object like its source
@@ -130,6 +133,28 @@ pub fn is_built<H: Threads + Wait + Sync, K: Keeper>(
         Some(rest) => Ok(notes.is_empty() || rest == notes.as_bytes()),
         None => Ok(false),
     }
+}
+
+/// Whether a build of the same files with another header comes to these notes.
+pub fn is_rebuilt<H: Threads + Wait + Sync, K: Keeper>(
+    rt: &H,
+    alloc: Global,
+    keeper: &mut K,
+    notes: &str,
+) -> Result<bool, AllocError> {
+    let input = INPUT.replace(alloc, "int h\n", "int H\n")?;
+    let gate = CountGate::new();
+    let mut seen = Vec::new(alloc);
+    add_build(
+        rt,
+        alloc,
+        input.as_str(),
+        NO_FAULTS,
+        keeper,
+        &gate,
+        &mut seen,
+    )?;
+    Ok(seen.ends_with(notes.as_bytes()))
 }
 
 /// Whether builds over this keeper come to these notes, one after the other.

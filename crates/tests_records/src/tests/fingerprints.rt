@@ -4,8 +4,8 @@ use bx_digest::digest_of;
 use bx_tree::Path;
 use observed::{Answer, PathSet};
 use pip_model_types::ProcessDesc;
-use prints::{AnswerLine, StrongParts, WeakParts, read_strong, read_weak, strong};
-use std::alloc::Global;
+use prints::{AnswerLine, PrintFault, StrongParts, WeakParts, read_strong, read_weak, strong};
+use std::alloc::{AllocError, Global};
 use std::test::Fail;
 
 // The weak text of a process with all that a description may have, over the digests of no bytes and of `abc`.
@@ -80,6 +80,66 @@ fn is_full(parts: &WeakParts) -> bool {
 fn a_weak_text_says_this(rt: HostRuntime) -> Result<(), Fail> {
     let parts = read_weak(rt.alloc(), FULL_WEAK.as_bytes())?;
     assert!(rt; is_full(&parts));
+    Ok(())
+}
+
+// Each form of a line, where no part of a line can be shorter.
+const EACH_FORM: &str = "bxl 1\n\
+exe t e3b0c44298fc1c149afbf4c8996fb92427ae41e4649b934ca495991b7852b855\n\
+cwd s\n\
+budget 5\n\
+console c\n\
+arg 2 /a\n\
+arg 0 \n\
+arg 3 a\nb\n\
+env 1 M 1 f\n\
+env 1 M 0 \n\
+in a ba7816bf8f01cfea414140de5dae2223b00361a396177a9cb410ff61f20015ad\n\
+indir full s\n\
+indir partial s\n\
+indir source-top s\n\
+indir source-all s\n\
+indir opaque s\n\
+out o\n\
+outdir exclusive d\n\
+outdir shared s\n";
+
+const NO_CONSOLE: &str = "bxl 1\n\
+exe t e3b0c44298fc1c149afbf4c8996fb92427ae41e4649b934ca495991b7852b855\n\
+cwd .\n\
+budget 5\n\
+no-console\n";
+
+fn without(alloc: Global, text: &[u8], place: usize) -> Result<Vec<u8>, AllocError> {
+    let mut rest = Vec::from_slice(alloc, text)?;
+    if place < rest.len() {
+        rest.remove(place);
+    }
+    Ok(rest)
+}
+
+fn is_refused(alloc: Global, text: &[u8]) -> bool {
+    matches!(read_weak(alloc, text), Err(PrintFault::BadPrint))
+}
+
+// The first place without whose byte a text is a weak text too, or its length.
+fn first_free(alloc: Global, text: &[u8]) -> Result<usize, AllocError> {
+    for place in 0..text.len() {
+        let rest = without(alloc, text, place)?;
+        if !is_refused(alloc, rest.as_slice()) {
+            return Ok(place);
+        }
+    }
+    Ok(text.len())
+}
+
+#[test]
+fn no_byte_of_a_weak_text_can_be_missing(rt: HostRuntime) -> Result<(), Fail> {
+    let alloc = rt.alloc();
+    for text in [EACH_FORM, NO_CONSOLE] {
+        assert!(rt; !is_refused(alloc, text.as_bytes()));
+        assert_eq!(rt; first_free(alloc, text.as_bytes())?, text.len());
+    }
     Ok(())
 }
 

@@ -1,6 +1,6 @@
 use Rattle.std.proofs.Common.{inr, refl}
 use Rattle.tests_engine_telling.proofs.FairStores.{fair_store}
-use Rattle.tests_engine_telling.proofs.over_files.Goals as goal
+use Rattle.tests_engine_folder.proofs.over_files.Goals as goal
 
 pub returns : goal.returns
 returns g c order held is told fair whole =

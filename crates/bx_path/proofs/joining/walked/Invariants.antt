@@ -2,7 +2,7 @@ use Rattle.std.proofs.Common.{◌≡◌, drop}
 use Rattle.std.specs.List.{AllByRecursion}
 use Rattle.bx_tree.specs.Paths.{IsAtom}
 use Rattle.bx_path.specs.Joining.{walk}
-use Rattle.bx_path.proofs.joining.join.Given as goal
+use Rattle.bx_path.proofs.joining.walked.Given as goal
 use Rattle.bx_tree.specs.Lent.{texts_now}
 
 abbrev pub invariant-loop-part : goal.invariant-loop-part
