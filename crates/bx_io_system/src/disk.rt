@@ -120,7 +120,8 @@ pub trait Disk: Drop {
         ensures cause { HasCause (faults self.old) (faults self.new) (IsFaultBut AlreadyExists result) };
 
     /// The names of the files in a folder, in any order. Files that lie deeper may be listed, too, by their
-    /// paths from the folder.
+    /// paths from the folder. That the error is `NotFound` says that there is no folder, and not that a file of it went away
+    /// meanwhile: that one is not listed.
     fn list(&mut self, alloc: Global, path: &str) -> io::Result<Vec<String>>
         ensures listed { is_known ≡ true → ListsFiles (files self.old) path.now result }
         ensures files { files self.new ≡ files self.old }

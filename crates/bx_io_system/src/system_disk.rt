@@ -1,10 +1,10 @@
 //! The files of a folder of the system. Each method makes the calls of the system that its task needs, and notes one that
 //! looks, locks, changes or syncs something, and one that failed.
 
-ghost use Rattle.std.specs.Prelude.{◌≡◌, ◌↔◌, ◌<◌, ◌≤◌, [], ◌∷◌, IfErr, IfOk, IsErr, IsSome, IsTrue, OnOk, Some, false, length, true};
+ghost use Rattle.std.specs.Prelude.{◌≡◌, ◌≢◌, ◌↔◌, ◌<◌, ◌≤◌, [], ◌∷◌, IfErr, IfOk, IsErr, IsSome, IsTrue, OnOk, Some, false, length, true};
 ghost use Rattle.std.specs.Fs.{IsFile, file_type, metadata_len};
 ghost use Rattle.std.specs.IoError.{error_kind};
-ghost use Rattle.std.specs.declared.io.ErrorKind.TheVariants.{WouldBlock};
+ghost use Rattle.std.specs.declared.io.ErrorKind.TheVariants.{NotFound, WouldBlock};
 ghost use Rattle.bx_io.specs.Causes.{HasCause};
 ghost use Rattle.bx_io_system.specs.Events.{failures};
 ghost use Rattle.bx_io_system.specs.Files.{IsExcluded, IsFault, IsFaultBut, is_excluded, is_locked, lock_event, lock_fault};
@@ -14,7 +14,7 @@ use crate::disk::{Disk, FILE_LIMIT};
 use crate::kind::Kind;
 use crate::record::Record;
 use std::alloc::{AllocError, Global};
-use std::fs::{self, DirEntry, File, Metadata, OpenFile, OpenOptions, TryLockError};
+use std::fs::{self, DirEntry, File, Metadata, OpenFile, OpenOptions, ReadDir, TryLockError};
 use std::io::{self, ErrorKind, Read, Write};
 use std::rt::Files;
 
@@ -291,16 +291,29 @@ fn kind_of_fault(kind: ErrorKind) -> Kind
     }
 }
 
+// The error of an entry of a folder. That an entry is not there does not say that the folder is not.
+fn entry_fault(error: io::Error) -> io::Error
+    ensures { error_kind result ≢ NotFound }
+{
+    if error.kind() == ErrorKind::NotFound {
+        return io::Error::from(ErrorKind::Other);
+    }
+    error
+}
+
 // Adds the name of an entry of a folder, if it is that of a file. What is no text is no name, and what is gone by now is no
 // file.
 fn add_file<R: Files + Drop>(
     alloc: Global,
     entry: io::Result<DirEntry<R>>,
     files: &mut Vec<String>,
-) -> io::Result<()> {
+) -> io::Result<()>
+    ensures { IfErr result (λ e. error_kind e ≢ NotFound) }
+{
     let entry = match entry {
+        Ok(entry) => entry,
         Err(error) if error.kind() == ErrorKind::InvalidFilename => return Ok(()),
-        entry => entry?,
+        Err(error) => return Err(entry_fault(error)),
     };
     match entry.metadata() {
         Ok(found) if is_counted(&found) => {
@@ -313,17 +326,28 @@ fn add_file<R: Files + Drop>(
     }
 }
 
+// The names of the files among the entries of a folder, which is there.
+fn files_among<R: Files + AllocGlobal + Clone + Drop>(
+    alloc: Global,
+    entries: ReadDir<R>,
+) -> io::Result<Vec<String>>
+    ensures { IfErr result (λ e. error_kind e ≢ NotFound) }
+{
+    let mut files = Vec::new(alloc);
+    'entries: for entry in entries {
+        add_file(alloc, entry, &mut files)?;
+    }
+    Ok(files)
+}
+
 // The names of the files in the folder at the system's path.
 fn list_files<R: Files + AllocGlobal + Clone + Drop>(
     rt: &R,
     alloc: Global,
     path: &str,
 ) -> io::Result<Vec<String>> {
-    let mut files = Vec::new(alloc);
-    'entries: for entry in fs::read_dir(rt, path)? {
-        add_file(alloc, entry, &mut files)?;
-    }
-    Ok(files)
+    let entries = fs::read_dir(rt, path)?;
+    files_among(alloc, entries)
 }
 
 impl<R: Files<File = File> + AllocGlobal + Clone + Drop> Disk for SystemDisk<R> {
