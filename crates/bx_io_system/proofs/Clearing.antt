@@ -1,5 +1,5 @@
 -- What is known of files that were begun: where they lie, and what their removal leaves.
-use Rattle.std.proofs.Common.{◌≡◌, ◌∙◌, ◌<◌, ◌≤◌, ◌+◌, ◌-◌, ℕ, Bool, true, false, List, [], ◌∷◌, ◌++◌, length, take, drop, codes, Some, None, refl, sym, ap, subst, inl, inr, arith, String, Vec, Global, string_bytes, get_or, Option, Result, Ok, Err}
+use Rattle.std.proofs.Common.{◌≡◌, ◌∙◌, ◌<◌, ◌≤◌, ◌+◌, ◌-◌, ℕ, Bool, true, false, List, [], ◌∷◌, ◌++◌, length, take, drop, codes, Some, None, refl, sym, ap, subst, inl, inr, arith, String, Vec, Global, string_bytes, get_or, Option, Result, Ok, Err, OnOk}
 use Rattle.std.specs.Prelude.{All, is_some, ◌||◌, ◌&&◌, ◌⊎◌, ◌^◌, ◌%◌}
 use Rattle.std.specs.Str.{bytes_eq}
 use Rattle.std.specs.Fmt.{decimal}
@@ -13,7 +13,7 @@ use Rattle.std.proofs.lemmas.List.{length-drop, take-append-drop, take_all}
 use Rattle.std.proofs.lemmas.List.Elements.{All-nil, All-cons, All-append}
 use Rattle.bx_io.specs.Names.{IsKindLetter, IsName}
 use Rattle.bx_io.specs.declared.name.TheConstants.{NAME_LENGTH}
-use Rattle.bx_io_system.specs.Files.{Clears, Files, HasNone, IsEnding, IsLeft, IsPlain, IsPlaceEnding, ListsFiles, SameBut, SameNames, has_file, is_below, path_in, place_ending}
+use Rattle.bx_io_system.specs.Files.{Clears, Files, HasNone, IsEnding, Removes, IsLeft, IsPlain, IsPlaceEnding, ListsFiles, SameBut, SameNames, has_file, is_below, path_in, place_ending}
 use Rattle.bx_io_system.specs.declared.ordered.TheConstants.{PLACES}
 use Rattle.bx_io_system.proofs.Listing.{Parts, are_same, below_held_parts, below_more, none_held_parts, parts_of, same_bytes}
 
@@ -88,6 +88,25 @@ clears_one before now path left gone same = record {
   others = λ q other. same q (λ is. other (subst IsLeft (sym is) left));
   fewer = λ q none. none_less (bytes_eq q path) q path before now refl gone same none;
 }
+
+pub clears_same : (before now : Files) → now ≡ before → Clears before now
+clears_same before now same = subst (Clears before) (sym same) (clears_none before)
+
+-- the removal of a file that was left, which may fail
+pub clears_removed : (before now : Files) (path : List ℕ) (r : Result (Unit {0}) Error) → IsLeft path → Removes before now path r → Clears before now
+clears_removed before now path (Ok x) left removes = clears_one before now path left removes.0 removes.1
+clears_removed before now path (Err e) left removes = clears_same before now removes.0
+
+pub cleared_removed : (before now : Files) (path : List ℕ) (r : Result (Unit {0}) Error) → Removes before now path r → OnOk r (IsLeft path → get now path ≡ None)
+cleared_removed before now path (Ok x) removes = λ left. removes.0
+cleared_removed before now path (Err e) removes = tt
+
+-- there was none
+pub cleared_absent : (before now : Files) (path : List ℕ) (e : Error) → Removes before now path (Err e) → error_kind e ≡ NotFound → get now path ≡ None
+cleared_absent before now path e removes missing = ap (λ (f : Files). get f path) removes.0 ∙ removes.1 missing
+
+pub no_file_yet : (kind : List ℕ) (files : List (String Global)) (path : List ℕ) (now : Files) → is_below kind path (take 0 files) ≡ true → get now path ≡ None
+no_file_yet kind files path now below = absurd (false≢true below)
 
 -- ## What is left of a folder
 

@@ -346,3 +346,7 @@ kept_kind (Err e) path old earlier own = own
 
 pub kept_named : (r : Result (Unit {0}) Error) (path old : List ℕ) (earlier now : List Event) → now ≡ (renamed_kind r, path, old) ∷ earlier → is_own old earlier ≡ true → OnErr r (is_own old now ≡ true)
 kept_named r path old earlier now is own = subst (λ (calls : List Event). OnErr r (is_own old calls ≡ true)) (sym is) (kept_kind r path old earlier own)
+
+-- the same files are its own
+pub owns_same : (before now : List Event) → ((path : List ℕ) → is_own path now ≡ is_own path before) → OwnsNoMore before now
+owns_same before now own path is = sym (own path) ∙ is

@@ -1,5 +1,5 @@
 -- The files of a folder by path, and the order in which they are changed and stored.
-use Rattle.std.specs.Prelude.{◌≡◌, ◌<◌, ℕ, Bool, true, false, ◌&&◌, ◌||◌, not, ◌==◌, nat_lt, List, [], ◌∷◌, length, slice_index, bytes_eq, Option, Some, None, Result, Ok, Err, Vec, String, string_bytes, All, option_map, ◌++◌, IsSome, IsErrAnd, is_some, take, drop, codes, ◌≢◌, ◌⊎◌, ⊤}
+use Rattle.std.specs.Prelude.{◌≡◌, ◌<◌, ℕ, Bool, true, false, ◌&&◌, ◌||◌, not, ◌==◌, nat_lt, List, [], ◌∷◌, length, slice_index, bytes_eq, Option, Some, None, Result, Ok, Err, Vec, String, string_bytes, All, option_map, ◌++◌, IsSome, IsErrAnd, is_some, take, drop, codes, ◌≢◌, ◌⊎◌}
 use Rattle.std.specs.List.{list_any}
 use Rattle.std.specs.FinMap.{get}
 use Rattle.std.specs.IoError.{error_kind}
@@ -38,7 +38,7 @@ HasNone files = (path : List ℕ) → get files path ≡ None
 -- whether there is a file at a path
 abbrev pub Looks : Files → List ℕ → Result Bool Error → Type 0
 Looks files path (Ok is) = is ≡ is_some (get files path)
-Looks files path (Err e) = ⊤
+Looks files path (Err e) = error_kind e ≡ NotFound → get files path ≡ None
 
 -- There was no file at the path, and there is an empty one, unless the call failed, which changes nothing. That a file is
 -- there already is an error of its own.

@@ -86,7 +86,8 @@ fn is_left(alloc: Global, path: &str) -> Result<bool, AllocError>
 // Whether a folder may be read that could not be locked, by the error of the lock: one that is not there, and one in which
 // nothing can be made, unless it is to be this handle's alone.
 fn is_readable(kind: ErrorKind, alone: bool) -> bool
-    ensures { IsTrue result → kind ≢ WouldBlock }
+    ensures excluded { IsTrue result → kind ≢ WouldBlock }
+    ensures missing { kind ≡ NotFound → IsTrue result }
 {
     kind == ErrorKind::NotFound
         || (!alone && kind != ErrorKind::WouldBlock && kind != ErrorKind::OutOfMemory)
@@ -212,6 +213,7 @@ impl<D: Disk> OrderedDisk<D> {
     fn enter(&mut self, alloc: Global) -> io::Result<()>
         ensures files { D.files self.new.disk ≡ D.files self.old.disk }
         ensures alone { self.new.alone ≡ self.old.alone }
+        ensures there { IfErr result (λ e. error_kind e ≢ NotFound) }
         ensures excluded { is_excluded (D.calls self.new.disk) ≡ true → IsExcluded result }
         ensures stays { is_excluded (D.calls self.old.disk) ≡ true → IsExcluded result }
         ensures cause { HasCause (D.faults self.old.disk) (D.faults self.new.disk) (IsFault result) }

@@ -3,4 +3,4 @@ use Rattle.bx_io_system.specs.Files.{place_ending}
 use Rattle.bx_io_system.proofs.ordered.is_ending.Given as goal
 
 abbrev pub invariant-endings : goal.invariant-endings
-invariant-endings l = (k : ℕ) → k < l.place → l.text ≡ place_ending k → ⊥
+invariant-endings l = (k : ℕ) → k < l.place-counter → l.text ≡ place_ending k → ⊥
