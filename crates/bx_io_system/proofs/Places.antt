@@ -81,6 +81,11 @@ no_ending text old places (inr place) = places place.0 place.1 place.2
 pub is_left_where : (path : List ℕ) (is : Bool) → IsName (take NAME_LENGTH path) → (IsTrue is ↔ IsEnding (drop NAME_LENGTH path)) → (IsTrue is ↔ IsLeft path)
 is_left_where path is named ending = (λ yes. record { name = named; ending = ending.0 yes }, λ left. ending.1 left.ending)
 
+pub is_left_ok : {E : Type 0} (path text : List ℕ) (r : Result Bool E) → IsName (take NAME_LENGTH path) → text ≡ drop NAME_LENGTH path → IfOk r (λ is. IsTrue is ↔ IsEnding text)
+    → IfOk r (λ is. IsTrue is ↔ IsLeft path)
+is_left_ok path text (Ok is) named same ending = is_left_where path is named (subst (λ (t : List ℕ). IsTrue is ↔ IsEnding t) same ending)
+is_left_ok path text (Err e) named same ending = tt
+
 -- a text that is too short has no name at its front
 pub short_is_not_left : (path : List ℕ) → length path < NAME_LENGTH → IsLeft path → ⊥
 short_is_not_left path short left = omega (arith, left.name.count, length-take NAME_LENGTH path, short)
