@@ -60,6 +60,14 @@ put_named before mid now begun name bytes (Ok x) is writes renames =
 put_named before mid now begun name bytes (Err e) is writes renames =
     λ q named. ap (λ (files : Files). get files q) renames ∙ writes.1 q (not_begun q begun named is)
 
+pub same_names : (before now : Files) → now ≡ before → SameNames before now
+same_names before now is q named = ap (λ (files : Files). get files q) is
+
+-- a put that failed
+pub puts_nothing : (before now : Files) (name bytes : List ℕ) (r : Result (Unit {0}) Error) → IsErr r → SameNames before now → Puts before now name bytes r
+puts_nothing before now name bytes (Ok x) failed same = absurd (cc)
+puts_nothing before now name bytes (Err e) failed same = same
+
 -- a put whose file was begun beside the names
 pub put_begun : (before mid now : Files) (name bytes : List ℕ) (r : Result (Unit {0}) Error) → SameNames before mid → Puts mid now name bytes r → Puts before now name bytes r
 put_begun before mid now name bytes (Ok x) same puts = (puts.0, λ q named other. puts.1 q named other ∙ same q named)

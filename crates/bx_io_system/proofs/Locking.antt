@@ -270,6 +270,10 @@ begun_apart letter path begun = ap (λ (b : Bool). b && (slice_index path 0 == l
 pub begun_after : (letter other : ℕ) (path : List ℕ) (earlier : List Event) → IsBegun path → is_after letter other path earlier ≡ true
 begun_after letter other path earlier begun = ap (λ (b : Bool). not b || not (unsynced other earlier)) (begun_apart letter path begun)
 
+-- the removal of such a file leaves what is to be synced
+pub unsynced_removed : (letter : ℕ) (path old : List ℕ) (earlier now : List Event) → now ≡ (kinds.Removed, path, old) ∷ earlier → IsBegun path → unsynced letter now ≡ unsynced letter earlier
+unsynced_removed letter path old earlier now is begun = ap (unsynced letter) is ∙ ap (λ (b : Bool). b || unsynced letter earlier) (begun_apart letter path begun)
+
 pub removes_named : (name : List ℕ) (earlier : List Event) → IsName name → is_to_remove name earlier ≡ true
 removes_named name earlier named = removes_name name earlier (eq-eqb (length name) NAME_LENGTH named.count)
 
