@@ -126,6 +126,17 @@ pub absent_at : (m : BTreeMap (String Global) (Vec ℕ Global)) (path : List ℕ
 absent_at m path None b some here value = read_none m path value
 absent_at m path (Some v) b some here value = absurd (true_is_not b some here)
 
+-- what a look at a map found
+pub present_at : (m : BTreeMap (String Global) (Vec ℕ Global)) (path : List ℕ) (lent : Option (Bor (Vec ℕ Global))) → is_some lent ≡ true → option_copied lent ≡ get_by_text m path
+    → IsSome (get (holdings_of m) path)
+present_at m path None some value = absurd (false≢true some)
+present_at m path (Some v) some value = ap is_some (get-holdings_of m path ∙ ap (option_map (λ (w : Vec ℕ Global). w.items)) (sym value))
+
+pub absent_from : (m : BTreeMap (String Global) (Vec ℕ Global)) (path : List ℕ) (lent : Option (Bor (Vec ℕ Global))) → is_some lent ≡ false → option_copied lent ≡ get_by_text m path
+    → get (holdings_of m) path ≡ None
+absent_from m path None none value = read_none m path value
+absent_from m path (Some v) none value = absurd (false≢true (sym none))
+
 -- ## Faults
 
 counted_most : (n : ℕ) → counted n ≤ last_count
