@@ -16,7 +16,7 @@ pub struct Counts {
     pub late: u64,
     /// The calls of the store, to look up or to keep, that failed.
     pub faults: u64,
-    /// The workers that left for want of memory or after a refusal.
+    /// The workers that gave up for want of memory, or as their plan lacks a pip of the board.
     pub starved: u64,
 }
 

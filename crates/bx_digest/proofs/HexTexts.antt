@@ -1,5 +1,5 @@
 -- The texts of digests are just the texts of 64 hexadecimal digits in lower case.
-use Rattle.std.proofs.Common.{false, ◌≡◌, ℕ, zero, suc, ◌+◌, ◌*◌, ◌/◌, ◌%◌, ◌<◌, List, [], ◌∷◌, length, get_or, slice_index, slice_index_or, refl, sym, ap, ◌∙◌, arith, lit<, Result, Ok, Err}
+use Rattle.std.proofs.Common.{false, ◌≡◌, ℕ, zero, suc, ◌+◌, ◌*◌, ◌/◌, ◌%◌, ◌<◌, List, [], ◌∷◌, length, slice_index, refl, sym, ap, ◌∙◌, arith, lit<, Result, Ok, Err}
 use Rattle.std.specs.List.{All, Contains}
 use Rattle.std.specs.Result.{MatchResult, is_err}
 use Rattle.std.proofs.lemmas.List.{get_or_default}

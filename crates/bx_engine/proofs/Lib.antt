@@ -13,6 +13,7 @@ mod BuildsAreShown
 mod ExpectedIsWritten
 mod ResponsesAreExpected
 mod CallsEnd
+mod Crews
 mod OtherCalls
 mod Checked
 mod StoresCared

@@ -9,6 +9,7 @@ use Rattle.bx_engine_front.proofs.OnePlan.{OneFailure, many_or_fault, many_or_pl
 use Rattle.bx_engine_front.specs.Refusals.{Refuses, refusal_of}
 use Rattle.bx_engine_front.specs.declared.limits.Limits.{Limits}
 use Rattle.build_report.specs.declared.refusal.Refusal.{Refusal}
+use Rattle.bx_engine_words.specs.Words.{workers_in}
 use Rattle.bx_engine_words.specs.declared.order.Order.{Order}
 use Rattle.build_report.specs.Notes.{notes_text}
 use Rattle.build_report.specs.declared.counts.Counts.{Counts}
@@ -18,7 +19,7 @@ use Rattle.bx_engine.specs.declared.fault.InputFault.{InputFault}
 use Rattle.bx_engine.specs.declared.fault.InputFault.TheVariants as input_faults
 use Rattle.bx_engine.specs.Ending.{Ending, InputRefused, SpecificationRefused, Built}
 use Rattle.bx_engine.specs.Calls.{StoreChange}
-use Rattle.bx_engine.specs.Counting.{CountsOf, IsNoted, NotesOf}
+use Rattle.bx_engine.specs.Counting.{CountsOf, HaveSameRuns, IsNoted, NotesOf, TellSameRuns}
 use Rattle.bx_engine.specs.Expected.{limits_of}
 use Rattle.bx_engine.specs.Stores.{uses_store}
 use Rattle.bx_engine.specs.declared.status.Status.{Status}
@@ -135,36 +136,39 @@ endless_or_ending limits input (Built pips results) h k =
 
 -- ## Notes
 
-counts_same : (c d : Counts) → c.hits ≡ d.hits → c.ran ≡ d.ran → c.late ≡ d.late → c.faults ≡ d.faults → c.starved ≡ d.starved
-    → notes_text c ≡ notes_text d
-counts_same c d hits ran late faults starved = cc
-
 -- without a store the processes that are not skipped all run
 all_ran : (hits ran n : ℕ) → hits ≡ 0 → hits + ran ≡ n → ran ≡ n
 all_ran hits ran n none all = omega (arith, none, all)
 
-no_store_counts : (pips : List Pip) (s t : Files) (budget : ℕ) (results : List Result) (a b : StoreChange) (c d : Counts)
-    → CountsOf false pips s budget results a c → CountsOf false pips t budget results b d → notes_text c ≡ notes_text d
-no_store_counts pips s t budget results a b c d h k =
-    let n = run_count pips (verdicts_of results) in
+no_store_counts : (workers : ℕ) (pips : List Pip) (s t : Files) (budget : ℕ) (results : List Result) (a b : StoreChange) (c d : Counts) (m n : List ℕ)
+    → CountsOf false workers pips s budget results a c → CountsOf false workers pips t budget results b d → m ≡ notes_text c → n ≡ notes_text d → HaveSameRuns m n
+no_store_counts workers pips s t budget results a b c d m n h k first second =
+    let all = run_count pips (verdicts_of results) in
     let none = h.counted.unused refl in
     let no = k.counted.unused refl in
-    let ran : c.ran ≡ d.ran = all_ran c.hits c.ran n none.0 h.hit_or_ran ∙ sym (all_ran d.hits d.ran n no.0 k.hit_or_ran) in
-    counts_same c d (none.0 ∙ sym no.0) ran (h.counted.all_late ∙ ran ∙ sym k.counted.all_late) (none.1 ∙ sym no.1)
-    (h.counted.none_starved ∙ sym k.counted.none_starved)
+    record {
+      first = c;
+      second = d;
+      first_is = first;
+      second_is = second;
+      hits = none.0 ∙ sym no.0;
+      ran = all_ran c.hits c.ran all none.0 h.hit_or_ran ∙ sym (all_ran d.hits d.ran all no.0 k.hit_or_ran);
+      faults = none.1 ∙ sym no.1;
+    }
 
 notes_same : (order : Order) (input : List ℕ) (a b : StoreChange) (ending : Ending) (m n : List ℕ) → uses_store order ≡ false
-    → NotesOf order input a ending m → NotesOf order input b ending n → m ≡ n
-notes_same order input a b (InputRefused fault) m n off h k = h ∙ sym k
-notes_same order input a b (SpecificationRefused refusal) m n off h k = h ∙ sym k
+    → NotesOf order input a ending m → NotesOf order input b ending n → TellSameRuns m n
+notes_same order input a b (InputRefused fault) m n off h k = inl (h ∙ sym k)
+notes_same order input a b (SpecificationRefused refusal) m n off h k = inl (h ∙ sym k)
 notes_same order input a b (Built pips results) m n off h k =
     let budget = (limits_of order).tool_budget in
-    let c : CountsOf false pips h.0 budget results a h.2 = subst (λ (u : Bool). CountsOf u pips h.0 budget results a h.2) off h.3 in
-    let d : CountsOf false pips k.0 budget results b k.2 = subst (λ (u : Bool). CountsOf u pips k.0 budget results b k.2) off k.3 in
-    h.4 ∙ no_store_counts pips h.0 k.0 budget results a b h.2 k.2 c d ∙ sym k.4
+    let workers = workers_in order in
+    let c : CountsOf false workers pips h.0 budget results a h.2 = subst (λ (u : Bool). CountsOf u workers pips h.0 budget results a h.2) off h.3 in
+    let d : CountsOf false workers pips k.0 budget results b k.2 = subst (λ (u : Bool). CountsOf u workers pips k.0 budget results b k.2) off k.3 in
+    inr (no_store_counts workers pips h.0 k.0 budget results a b h.2 k.2 m n c d h.4 k.4)
 
 pub one_text : (one : OneFailure) (order : Order) (input : List ℕ) (a b : StoreChange) (r s : Status) (m n : List ℕ) → uses_store order ≡ false
-    → IsNoted order input a r m → IsNoted order input b s n → m ≡ n
+    → IsNoted order input a r m → IsNoted order input b s n → TellSameRuns m n
 one_text one order input a b r s m n off h k =
     let e = one_ending one (limits_of order) input h.ending k.ending h.ends k.ends in
     notes_same order input a b k.ending m n off (subst (λ (x : Ending). NotesOf order input a x m) e h.text_is) k.text_is

@@ -8,6 +8,7 @@ use Rattle.bx_engine_front.specs.declared.fault.FrontFault.{FrontFault}
 use Rattle.bx_engine_front.specs.declared.fault.FrontFault.TheVariants as front_faults
 use Rattle.bx_io.specs.Holdings.{held_in}
 use Rattle.bx_tree.specs.Trees.{Files}
+use Rattle.bx_engine_words.specs.Words.{workers_in}
 use Rattle.bx_engine_words.specs.declared.order.Order.{Order}
 use Rattle.build_report.specs.Notes.{notes_text}
 use Rattle.build_report.specs.declared.refusal.Refusal.{Refusal}
@@ -121,7 +122,7 @@ is_fair order input change tree pips sources plans fair =
     fair_plan (uses_store order) (limits_of order) input (held_in change.before) (held_in change.now) tree pips fair sources plans
 
 plan_responds : (order : Order) (input : List ℕ) (change : StoreChange) (tree : Files) (pips : List Pip) (response : Response) → AreSources input tree
-    → Plans (limits_of order) tree pips → IsBuildResponse pips tree (limits_of order).tool_budget (uses_store order) change response
+    → Plans (limits_of order) tree pips → IsBuildResponse pips tree (limits_of order).tool_budget (uses_store order) (workers_in order) change response
     → Responds order input change response
 plan_responds order input change tree pips response sources plans b =
     let limits = limits_of order in
@@ -155,21 +156,22 @@ plan_responds order input change tree pips response sources plans b =
     }
 
 -- the plan is given with its own sources and budget
-pub build_responds : (order : Order) (input : List ℕ) (change : StoreChange) (tree given : Files) (pips : List Pip) (budget : ℕ) (cached : Bool) (response : Response)
+pub build_responds : (order : Order) (input : List ℕ) (change : StoreChange) (tree given : Files) (pips : List Pip) (budget : ℕ) (cached : Bool) (workers : ℕ) (response : Response)
     → IsBundle input tree → (HasReserved tree → ⊥) → Plans (limits_of order) tree pips → given ≡ tree → budget ≡ (limits_of order).tool_budget
-    → cached ≡ uses_store order → IsBuildResponse pips given budget cached change response → Responds order input change response
-build_responds order input change tree given pips budget cached response bundle free plans same steps on b =
+    → cached ≡ uses_store order → workers ≡ workers_in order → IsBuildResponse pips given budget cached workers change response → Responds order input change response
+build_responds order input change tree given pips budget cached workers response bundle free plans same steps on many b =
     let limits = limits_of order in
-    let here : IsBuildResponse pips tree budget cached change response =
-    subst (λ (t : Files). IsBuildResponse pips t budget cached change response) same b in
-    let there : IsBuildResponse pips tree limits.tool_budget cached change response =
-    subst (λ (n : ℕ). IsBuildResponse pips tree n cached change response) steps here in
-    let all : IsBuildResponse pips tree limits.tool_budget (uses_store order) change response =
-    subst (λ (c : Bool). IsBuildResponse pips tree limits.tool_budget c change response) on there in
+    let here : IsBuildResponse pips tree budget cached workers change response =
+    subst (λ (t : Files). IsBuildResponse pips t budget cached workers change response) same b in
+    let there : IsBuildResponse pips tree limits.tool_budget cached workers change response =
+    subst (λ (n : ℕ). IsBuildResponse pips tree n cached workers change response) steps here in
+    let all : IsBuildResponse pips tree limits.tool_budget (uses_store order) (workers_in order) change response =
+    subst (λ (n : ℕ). IsBuildResponse pips tree limits.tool_budget (uses_store order) n change response) many
+    (subst (λ (c : Bool). IsBuildResponse pips tree limits.tool_budget c workers change response) on there) in
     plan_responds order input change tree pips response (record { bundle = bundle; free = free }) plans all
 
 -- a build whose pips were gone through is no refusal
-pub build_not_refused : (pips : List Pip) (tree : Files) (budget : ℕ) (cached : Bool) (change : StoreChange) (response : Response)
-    → IsBuildResponse pips tree budget cached change response → IsRefusal response.status → ⊥
-build_not_refused pips tree budget cached change response h refused =
+pub build_not_refused : (pips : List Pip) (tree : Files) (budget : ℕ) (cached : Bool) (workers : ℕ) (change : StoreChange) (response : Response)
+    → IsBuildResponse pips tree budget cached workers change response → IsRefusal response.status → ⊥
+build_not_refused pips tree budget cached workers change response h refused =
     gone_or_refused response.status (gone_is response.status h.went.gone.verdicts h.went.status_is) refused

@@ -22,7 +22,7 @@ use Rattle.bx_engine.specs.declared.status.Status.TheVariants as statuses
 -- Of the same calls as the headline:
 pub record Beyond (call : Call) (input : List ℕ) (order : Order)
     (fair : FairStore order input (held_in call.store.before) (held_in call.store.now)) : Type 0 where
-  -- the notes have the counts of the sequential build;
+  -- the notes count the processes of the sequential build, by what the store has for them;
   pub notes : IsWhole call.status → AppendsNotes call input order
   -- an honest store was honest before each change and after it, and is as it was or as the sequential build leaves it.
   pub left : (held : Holdings) → held_in call.store.before ≡ Some held → Honest held

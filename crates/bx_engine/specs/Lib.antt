@@ -4,6 +4,7 @@ pub mod Expected
 pub mod Calls
 pub mod Known
 pub mod Stores
+pub mod Crews
 pub mod Counting
 pub mod OutputTrees
 pub mod Responses

@@ -1,5 +1,5 @@
 -- What a response says of a build.
-use Rattle.std.specs.Prelude.{◌≡◌, ℕ, Bool, List, []}
+use Rattle.std.specs.Prelude.{◌≡◌, ℕ, ◌+◌, ◌-◌, ◌^◌, Bool, List, [], min}
 use Rattle.build_report.specs.Notes.{notes_text}
 use Rattle.build_report.specs.declared.counts.Counts.{Counts}
 use Rattle.build_report.specs.declared.refusal.Refusal.{Refusal}
@@ -15,6 +15,7 @@ use Rattle.bx_engine_front.specs.declared.fault.FrontFault.{FrontFault}
 use Rattle.bx_engine_front.specs.declared.fault.FrontFault.TheVariants as front_faults
 use Rattle.bx_tree.specs.declared.bundle.BundleFault.{BundleFault}
 use Rattle.bx_tree.specs.declared.bundle.BundleFault.TheVariants as bundle_faults
+use Rattle.bx_engine_words.specs.Words.{workers_in}
 use Rattle.bx_engine_words.specs.declared.order.Order.{Order}
 use Rattle.bx_engine.specs.Calls.{StoreChange}
 use Rattle.bx_engine.specs.Counting.{CountsOf, Gone, IsNoted, gone_output, gone_status}
@@ -24,6 +25,7 @@ use Rattle.bx_engine.specs.Expected.{Expected, limits_of}
 use Rattle.bx_engine.specs.OutputTrees.{IsOutputText}
 use Rattle.bx_engine.specs.Statuses.{IsGone, IsRefusal, IsWhole}
 use Rattle.bx_engine.specs.Stores.{AsksFor, FairStore, uses_store}
+use Rattle.bx_engine.specs.declared.crew.Worked.{Worked}
 use Rattle.bx_engine.specs.declared.fault.InputFault.TheVariants as input_faults
 use Rattle.bx_engine.specs.declared.response.Response.{Response}
 use Rattle.bx_engine.specs.declared.status.Status.{Status}
@@ -66,47 +68,48 @@ IsResponseToBundle bundle_faults.Memory response = ⊥
 
 -- ## Builds
 
--- the counts of a build in which no worker starves
-abbrev pub counts_in : RetireTally → Counts
-counts_in tally = record {
+-- the counts of a build, by what was counted when its results were collected and by its workers, whose faults are added as long as
+-- the sum has 64 bits
+abbrev pub counts_in : RetireTally → Worked → Counts
+counts_in tally worked = record {
   hits = tally.hits;
   ran = tally.ran;
   late = tally.late;
-  faults = tally.faults;
-  starved = 0;
+  faults = min (tally.faults + worked.faults) (2 ^ 64 - 1);
+  starved = worked.starved;
 }
 
 -- The response has the status, the output and the notes of what these pips came to.
-pub record IsResponseOf (pips : List Pip) (retired : Retired) (response : Response) : Type 0 where
+pub record IsResponseOf (pips : List Pip) (retired : Retired) (worked : Worked) (response : Response) : Type 0 where
   pub status_is : response.status ≡ gone_status retired.verdicts.items
   pub bytes_are : response.bytes.items ≡ gone_output pips retired.verdicts.items retired.outputs
-  pub notes_are : response.notes.items ≡ notes_text (counts_in retired.tally)
+  pub notes_are : response.notes.items ≡ notes_text (counts_in retired.tally worked)
 
 -- The response is that of pips that were gone through.
-pub record IsGoneResponse (cached : Bool) (change : StoreChange) (response : Response) : Type 0 where
-  pub gone : Gone cached change
+pub record IsGoneResponse (cached : Bool) (workers : ℕ) (change : StoreChange) (response : Response) : Type 0 where
+  pub gone : Gone cached workers change
   pub status_is : response.status ≡ gone_status gone.verdicts
   pub bytes_are : response.bytes.items ≡ gone_output gone.pips gone.verdicts gone.files
   pub notes_are : response.notes.items ≡ notes_text gone.counts
 
--- The response of a build of these pips. Whatever the store, its bytes are an output; over a fair store it is
--- that of the sequential build, with its counts.
-pub record IsBuildResponse (pips : List Pip) (tree : Files) (budget : ℕ) (cached : Bool)
+-- The response of a build of these pips by so many workers. Whatever the store, its bytes are an output; over a fair
+-- store it is that of the sequential build, with the counts of the workers.
+pub record IsBuildResponse (pips : List Pip) (tree : Files) (budget : ℕ) (cached : Bool) (workers : ℕ)
     (change : StoreChange) (response : Response) : Type 0 where
-  pub went : IsGoneResponse cached change response
+  pub went : IsGoneResponse cached workers change response
   pub pips_are : went.gone.pips ≡ pips
   pub text : IsOutputText response.bytes.items
   pub shown : Fair pips tree budget cached (held_in change.before) (held_in change.now)
       → IsResponseTo (Built pips (one_thread pips tree budget)) (notes_text went.gone.counts) response
   pub built : Fair pips tree budget cached (held_in change.before) (held_in change.now) → NoneReserved tree
-      → CountsOf cached pips tree budget (one_thread pips tree budget) change went.gone.counts
+      → CountsOf cached workers pips tree budget (one_thread pips tree budget) change went.gone.counts
 
 -- ## Inputs
 
 -- The response is that of pips that were gone through and that the input asks for.
 pub record IsGoneTo (order : Order) (input : List ℕ) (change : StoreChange) (response : Response)
     : Type 0 where
-  pub went : IsGoneResponse (uses_store order) change response
+  pub went : IsGoneResponse (uses_store order) (workers_in order) change response
   pub asked : AsksFor (limits_of order) input went.gone.pips
 
 -- The response to this input. Whatever the store, its bytes are an output; a refusal is expected and has no

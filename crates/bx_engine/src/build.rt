@@ -8,6 +8,7 @@ ghost use Rattle.bx_engine.specs.Expected.{AppendsOrFails};
 ghost use Rattle.bx_engine.specs.Known.{Appends, AppendsPrefix};
 ghost use Rattle.bx_engine.specs.Statuses.{HasNoBuild, HasNoNotes, IsSilent, IsWhole};
 ghost use Rattle.bx_engine.specs.Stores.{uses_store};
+ghost use Rattle.bx_engine_words.specs.Words.{HasCrew};
 
 use crate::reading::{ReadFault, read_all};
 use crate::response::{Response, respond};
@@ -16,6 +17,8 @@ use crate::writing::write_all;
 use bx_engine_words::Order;
 use bx_io::{Gate, Keeper, Sink, Source};
 use std::alloc::Global;
+use std::sync::Wait;
+use std::thread::Threads;
 
 /// Writes the output, and then the notes.
 fn deliver<O: Sink, N: Sink>(out: &mut O, notes: &mut N, response: &Response) -> Status
@@ -42,7 +45,8 @@ fn deliver<O: Sink, N: Sink>(out: &mut O, notes: &mut N, response: &Response) ->
 }
 
 /// Builds what the source gives. How it ends is said once, and what `command` promises follows from that.
-pub(crate) fn build<S: Source, O: Sink, N: Sink, K: Keeper, G: Gate>(
+pub(crate) fn build<H: Threads + Wait + Sync, S: Source, O: Sink, N: Sink, K: Keeper, G: Gate>(
+    rt: &H,
     alloc: Global,
     order: &Order,
     source: &mut S,
@@ -51,6 +55,7 @@ pub(crate) fn build<S: Source, O: Sink, N: Sink, K: Keeper, G: Gate>(
     keeper: &mut K,
     gate: &G,
 ) -> Status
+    requires crew { HasCrew order.now }
     ensures begun { result ≢ Status.NoCommand }
     ensures ended { Ended order.now (call_of result
         (given_of (S.given source.old) (S.given source.new) (S.left source.old) (S.left source.new)
@@ -72,7 +77,7 @@ pub(crate) fn build<S: Source, O: Sink, N: Sink, K: Keeper, G: Gate>(
         Err(ReadFault::Failed) => return Status::SourceFailed,
         Err(ReadFault::Memory) => return Status::OutOfMemory,
     };
-    match respond(alloc, &input, order, keeper, gate) {
+    match respond(rt, alloc, &input, order, keeper, gate) {
         Err(_) => Status::OutOfMemory,
         Ok(response) => deliver(out, notes, &response),
     }

@@ -4,7 +4,7 @@ ghost use Rattle.std.specs.Prelude.{◌≡◌, ℕ, List, false};
 ghost use Rattle.bx_engine_front.specs.declared.limits.Limits.{Limits as AnyLimits};
 ghost use Rattle.bx_engine_words.specs.declared.order.Order.{Order as AnyOrder};
 ghost use Rattle.bx_engine.specs.Calls.{StoreChange};
-ghost use Rattle.bx_engine.specs.Counting.{IsNoted};
+ghost use Rattle.bx_engine.specs.Counting.{IsNoted, TellSameRuns};
 ghost use Rattle.bx_engine.specs.Ending.{Ending};
 ghost use Rattle.bx_engine.specs.Ends.{Ends, IsEndless};
 ghost use Rattle.bx_engine.specs.Expected.{IsExpected};
@@ -19,8 +19,8 @@ use cache_care::{repairs_stay_honest, trims_stay_honest};
 use graph_check::one_answer;
 use two_phase_meaning::{empty_is_honest, puts_stay_honest};
 
-/// An input ends in one way at most, so one status and one output are expected of it, and where no store is
-/// used, one text of notes.
+/// An input ends in one way at most, so one status and one output are expected of it; and where no store is used,
+/// its notes differ in the late runs and the starved workers at most.
 pub fn one_end()
     ensures ending { (limits : AnyLimits) (input : List ℕ) (d e : Ending)
         → Ends limits input d → Ends limits input e → d ≡ e }
@@ -29,7 +29,7 @@ pub fn one_end()
     ensures bytes { (limits : AnyLimits) (input : List ℕ) (r s : Status) (a b : List ℕ)
         → IsExpected limits input r a → IsExpected limits input s b → a ≡ b }
     ensures notes { (order : AnyOrder) (input : List ℕ) (c d : StoreChange) (r s : Status) (m n : List ℕ)
-        → uses_store order ≡ false → IsNoted order input c r m → IsNoted order input d s n → m ≡ n }
+        → uses_store order ≡ false → IsNoted order input c r m → IsNoted order input d s n → TellSameRuns m n }
     ensures endless { (limits : AnyLimits) (input : List ℕ) (e : Ending)
         → IsEndless limits input → Ends limits input e → ⊥ }
 {

@@ -1,8 +1,9 @@
-//! How much of the source a build reads, how long it may run, and whether it uses the store.
+//! How much of the source a build reads, how long it may run, with how many workers, and whether it uses the store.
 
 ghost use Rattle.std.specs.Prelude.{◌≡◌};
 ghost use Rattle.bx_engine.specs.Expected.{limits_of as limits_of_order};
 ghost use Rattle.bx_engine.specs.Stores.{uses_store};
+ghost use Rattle.bx_engine_words.specs.Words.{workers_in};
 
 use bx_engine_front::Limits;
 use bx_engine_words::Order;
@@ -43,5 +44,15 @@ pub(crate) fn is_cached(order: &Order) -> bool
         Order::Build { cached, .. } => *cached,
         Order::Check | Order::Repair | Order::Trim { .. } => true,
         Order::Gen { .. } => false,
+    }
+}
+
+/// How many workers an order asks for.
+pub(crate) fn workers_of(order: &Order) -> u32
+    ensures { result ≡ workers_in order.now }
+{
+    match order {
+        Order::Build { workers, .. } => *workers,
+        Order::Check | Order::Repair | Order::Trim { .. } | Order::Gen { .. } => 0,
     }
 }

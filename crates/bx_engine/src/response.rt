@@ -1,6 +1,6 @@
 //! What a build of an input comes to: its status, its output and its notes.
 
-ghost use Rattle.std.specs.Prelude.{◌≡◌, ◌≤◌, [], ℕ, List, Some, IsSome, false, IfOk, OnOk, if◌then◌else◌, length};
+ghost use Rattle.std.specs.Prelude.{◌≡◌, ◌<◌, ◌≤◌, [], ℕ, List, Some, IsSome, false, IfOk, OnOk, if◌then◌else◌, length};
 ghost use Rattle.std.specs.List.{AllByRecursion};
 ghost use Rattle.bx_io.specs.Holdings.{Holdings, held_in};
 ghost use Rattle.bx_tree.specs.Bundle.{IsBundle, IsInSize};
@@ -12,6 +12,7 @@ ghost use Rattle.two_phase_meaning.specs.Honest.{Honest};
 ghost use Rattle.retire.specs.Builds.{IsFair, LeavesFair};
 ghost use Rattle.bx_engine.specs.Calls.{change_of};
 ghost use Rattle.bx_engine.specs.Counting.{given_files};
+ghost use Rattle.bx_engine.specs.Crews.{AreThrough};
 ghost use Rattle.retire.specs.Saving.{OnlyPuts};
 ghost use Rattle.bx_engine.specs.Ending as endings;
 ghost use Rattle.bx_engine.specs.Expected.{limits_of};
@@ -19,20 +20,25 @@ ghost use Rattle.bx_engine.specs.Responses.{IsBuildResponse, IsReportOf, IsRespo
 ghost use Rattle.bx_engine.specs.Responses.{IsResponseToBundle, IsResponseToFault, Responds, counts_in};
 ghost use Rattle.bx_engine.specs.Statuses.{IsRefusal};
 ghost use Rattle.bx_engine.specs.Stores.{FairStore, StoreLeft, uses_store};
+ghost use Rattle.bx_engine_words.specs.Words.{HasCrew};
 
+use crate::crew::{Crewed, Worked, work_ahead};
 use crate::fault::{InputFault, input_name};
-use crate::limits::is_cached;
+use crate::limits::{is_cached, workers_of};
 use crate::output::output;
 use crate::planning::front;
 use crate::status::Status;
 use build_report::{Counts, all_succeeded, notes, refused_report, report};
-use bx_engine_front::{FrontFault, Refusal};
+use bx_engine_front::{FrontEnd, FrontFault, Refusal};
 use bx_engine_words::Order;
 use bx_io::{Gate, Keeper};
 use bx_tree::{BundleFault, Memory, Text, Tree, read_bundle, reserved};
 use pip_model::{Made, MadeFile, Plan, Sources};
-use retire::{RetireTally, Retired, retire_empty};
+use retire::{RetireTally, Retired, retire};
+use sched_core::MAX_WORKERS;
 use std::alloc::{AllocError, Global};
+use std::sync::{Arc, Wait};
+use std::thread::Threads;
 
 /// What a build comes to: its status, all bytes of its output, and its notes.
 #[derive(Drop)]
@@ -97,31 +103,34 @@ fn files_if(good: bool, outputs: &Made) -> &[MadeFile]
     if good { outputs.files() } else { &[] }
 }
 
-// The counts of a build in which no worker starves.
-fn counts(tally: RetireTally) -> Counts
-    ensures { result ≡ counts_in tally }
+// The counts of a build, of its workers and of what came after them.
+fn counts(tally: RetireTally, worked: Worked) -> Counts
+    ensures counts { result ≡ counts_in tally worked }
+    ensures more { tally.faults ≤ (counts_in tally worked).faults }
 {
     Counts {
         hits: tally.hits,
         ran: tally.ran,
         late: tally.late,
-        faults: tally.faults,
-        starved: 0,
+        faults: tally.faults.saturating_add(worked.faults),
+        starved: worked.starved,
     }
 }
 
 // The response of a build whose pips were gone through.
-fn show(alloc: Global, plan: &Plan, retired: &Retired) -> Result<Response, Memory>
+fn show(alloc: Global, plan: &Plan, retired: &Retired, worked: Worked) -> Result<Response, Memory>
     requires { length retired.now.verdicts.items ≡ length plan.now.pips }
-    ensures shown { IfOk result (IsResponseOf plan.now.pips retired.now) }
+    ensures shown { IfOk result (IsResponseOf plan.now.pips retired.now worked) }
+    ensures faults { retired.now.tally.faults ≤ (counts_in retired.now.tally worked).faults }
     ensures paths { OnOk result (AllByRecursion IsPath (paths_of (given_files retired.now.verdicts.items
         retired.now.outputs))) }
 {
+    let counts = counts(retired.tally, worked);
     let verdicts = retired.verdicts.as_slice();
     let good = all_succeeded(verdicts);
     let report = report(alloc, plan, verdicts)?;
     let bytes = output(alloc, files_if(good, &retired.outputs), report.as_slice())?;
-    let notes = notes(alloc, &counts(retired.tally))?;
+    let notes = notes(alloc, &counts)?;
     Ok(Response {
         status: status_if(good),
         bytes,
@@ -129,16 +138,21 @@ fn show(alloc: Global, plan: &Plan, retired: &Retired) -> Result<Response, Memor
     })
 }
 
-fn build_plan<K: Keeper, G: Gate>(
+// The response of a build of a plan where workers went ahead: the results are collected.
+fn collect<K: Keeper, G: Gate>(
     alloc: Global,
     plan: &Plan,
     sources: &Sources,
+    crewed: Crewed,
     keeper: &mut K,
     gate: &G,
     cached: bool,
 ) -> Result<Response, Memory>
-    requires { KeepsRules plan.now.pips sources.now }
-    ensures response { IfOk result (IsBuildResponse plan.now.pips sources.now plan.now.tool_budget cached
+    requires rules { KeepsRules plan.now.pips sources.now }
+    requires slots { length crewed.finished.slots.items ≡ length plan.now.pips }
+    ensures response { (workers : ℕ)
+        → AreThrough cached (K.bound keeper.old) workers crewed.worked.faults crewed.worked.starved
+        → IfOk result (IsBuildResponse plan.now.pips sources.now plan.now.tool_budget cached workers
         (change_of (K.known keeper.old) (K.known keeper.new) (K.bound keeper.old) (K.faults keeper.old)
         (K.faults keeper.new))) }
     ensures left { (held : Holdings) → held_in (K.known keeper.old) ≡ Some held
@@ -151,19 +165,54 @@ fn build_plan<K: Keeper, G: Gate>(
     ensures bound { K.bound keeper.new ≡ K.bound keeper.old }
     ensures later { K.faults keeper.old ≤ K.faults keeper.new }
 {
-    let retired = retire_empty(alloc, plan, sources, keeper, gate, cached)?;
-    show(alloc, plan, &retired)
+    let Crewed { finished, worked } = crewed;
+    let retired = retire(alloc, plan, sources, keeper, finished, gate, cached)?;
+    show(alloc, plan, &retired, worked)
+}
+
+// The response of a build of a plan: workers go ahead, and then the results are collected.
+fn build_plan<H: Threads + Wait + Sync, K: Keeper, G: Gate>(
+    rt: &H,
+    alloc: Global,
+    plan: Plan,
+    sources: Sources,
+    workers: u32,
+    keeper: &mut K,
+    gate: &G,
+    cached: bool,
+) -> Result<Response, Memory>
+    requires rules { KeepsRules plan.pips sources }
+    requires workers { (0 < workers) × (workers ≤ MAX_WORKERS) }
+    ensures response { IfOk result (IsBuildResponse plan.pips sources plan.tool_budget cached workers
+        (change_of (K.known keeper.old) (K.known keeper.new) (K.bound keeper.old) (K.faults keeper.old)
+        (K.faults keeper.new))) }
+    ensures left { (held : Holdings) → held_in (K.known keeper.old) ≡ Some held
+        → IsSome (held_in (K.known keeper.new))
+        → IsFair plan.pips sources plan.tool_budget held
+        → LeavesFair plan.pips sources plan.tool_budget held (K.known keeper.old)
+        (K.known keeper.new) }
+    ensures untouched { cached ≡ false → keeper.new ≡ keeper.old }
+    ensures puts { OnlyPuts (K.known keeper.old) (K.known keeper.new) }
+    ensures bound { K.bound keeper.new ≡ K.bound keeper.old }
+    ensures later { K.faults keeper.old ≤ K.faults keeper.new }
+{
+    let plans = Arc::new(alloc, plan)?;
+    let files = Arc::new(alloc, sources)?;
+    let crewed = work_ahead(rt, alloc, &plans, &files, workers, &*keeper, gate, cached)?;
+    collect(alloc, &*plans, &*files, crewed, keeper, gate, cached)
 }
 
 // The response to a source tree.
-fn respond_tree<K: Keeper, G: Gate>(
+fn respond_tree<H: Threads + Wait + Sync, K: Keeper, G: Gate>(
+    rt: &H,
     alloc: Global,
     tree: Tree,
     order: &Order,
     keeper: &mut K,
     gate: &G,
 ) -> Result<Response, Memory>
-    requires { IsInSize tree }
+    requires size { IsInSize tree }
+    requires crew { HasCrew order.now }
     ensures response { (input : List ℕ) → IsBundle input tree → IfOk result (Responds order.now input
         (change_of (K.known keeper.old) (K.known keeper.new) (K.bound keeper.old) (K.faults keeper.old)
         (K.faults keeper.new))) }
@@ -181,10 +230,12 @@ fn respond_tree<K: Keeper, G: Gate>(
         return refuse_input(alloc, InputFault::Reserved);
     }
     match front(alloc, tree, order) {
-        Ok(end) => build_plan(
+        Ok(FrontEnd { plan, sources }) => build_plan(
+            rt,
             alloc,
-            &end.plan,
-            &end.sources,
+            plan,
+            sources,
+            workers_of(order),
             keeper,
             gate,
             is_cached(order),
@@ -209,13 +260,15 @@ fn refuse_bundle(alloc: Global, fault: BundleFault) -> Result<Response, Memory>
 }
 
 /// What a build of this input comes to.
-pub(crate) fn respond<K: Keeper, G: Gate>(
+pub(crate) fn respond<H: Threads + Wait + Sync, K: Keeper, G: Gate>(
+    rt: &H,
     alloc: Global,
     input: &[u8],
     order: &Order,
     keeper: &mut K,
     gate: &G,
 ) -> Result<Response, Memory>
+    requires crew { HasCrew order.now }
     ensures response { IfOk result (Responds order.now input.now (change_of (K.known keeper.old)
         (K.known keeper.new) (K.bound keeper.old) (K.faults keeper.old) (K.faults keeper.new))) }
     ensures kept { IfOk result (λ response. IsRefusal response.status → keeper.new ≡ keeper.old) }
@@ -228,7 +281,7 @@ pub(crate) fn respond<K: Keeper, G: Gate>(
     ensures later { K.faults keeper.old ≤ K.faults keeper.new }
 {
     match read_bundle(alloc, input) {
-        Ok(tree) => respond_tree(alloc, tree, order, keeper, gate),
+        Ok(tree) => respond_tree(rt, alloc, tree, order, keeper, gate),
         Err(fault) => refuse_bundle(alloc, fault),
     }
 }

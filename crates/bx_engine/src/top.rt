@@ -17,7 +17,7 @@ use crate::care::{check, repair, trim};
 use crate::status::Status;
 use crate::workload::write_workload;
 use crate::writing::write_all;
-use bx_engine_words::{Order, WordFault, one_order, read_words};
+use bx_engine_words::{Order, WordFault, one_order, read_words, some_workers};
 use bx_io::{Gate, Keeper, Sink, Source};
 use std::alloc::Global;
 use std::sync::Wait;
@@ -29,12 +29,13 @@ const USAGE: &str = "usage: bxl build|check|repair|trim|gen\n";
 /// Does what the words ask for. The words are those after the program's name; docs/FORMATS.md has the
 /// commands, the statuses, the bundles that are read and written, and the notes.
 ///
-/// A build first reads `source` to its end, or to one byte past the limit on an input. Unless the words say
-/// `--no-cache`, it reuses the cached results of the store `keeper` instead of running processes, and after
-/// all pips are decided it saves there the records of the processes that ran and succeeded. It writes to `out`
-/// once all of its output is composed, and to `notes` last. A fault of `notes` changes nothing else, and one
-/// of `keeper` nothing but the counts in the notes and what is saved. Each process that runs passes `gate`
-/// once. No call needs `rt` yet.
+/// A build first reads `source` to its end, or to one byte past the limit on an input. Then as many workers as the
+/// words say go ahead, each in a thread of its own; what they came to is collected in order, and compared. Unless
+/// the words say `--no-cache`, cached results of the store `keeper` are reused instead of running processes, and
+/// after all pips are decided the records of the processes that ran and succeeded are saved there. It writes to
+/// `out` once all of its output is composed, and to `notes` last. A fault of `notes` changes nothing else, and one
+/// of `keeper` nothing but the counts in the notes and what is saved. Each run of a process passes `gate` once.
+/// Nothing but a build needs `rt`.
 ///
 /// A check, a repair and a trim touch `keeper` and `notes` alone, and stop at the first call of `keeper` that fails. A
 /// repair and a trim ask `keeper` first to work alone, and do nothing where another one uses the store. A workload goes to
@@ -96,15 +97,15 @@ pub fn command<H: Threads + Wait + Sync, S: Source, O: Sink, N: Sink, K: Keeper,
         → AppendsOrFails usage_text (N.taken notes.old) (N.taken notes.new)
         (N.faults notes.old) (N.faults notes.new) }
 {
-    let _ = rt;
     one_order();
+    some_workers();
     match read_words(words) {
         Err(WordFault::NoCommand) => {
             let _ = write_all(notes, USAGE.as_bytes());
             Status::NoCommand
         }
         Ok(order) => match order {
-            Order::Build { .. } => build(alloc, &order, source, out, notes, keeper, gate),
+            Order::Build { .. } => build(rt, alloc, &order, source, out, notes, keeper, gate),
             Order::Check => check(alloc, notes, keeper),
             Order::Repair => repair(alloc, notes, keeper),
             Order::Trim { keep } => trim(alloc, notes, keeper, keep),

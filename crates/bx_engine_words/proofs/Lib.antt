@@ -2,3 +2,4 @@ mod Numbers
 mod OneSetting
 mod ReadSoFar
 mod ReadWords
+mod Crews

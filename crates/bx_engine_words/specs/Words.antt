@@ -1,9 +1,10 @@
 -- Which words are a command.
-use Rattle.std.specs.Prelude.{◌≡◌, ℕ, List, ◌∷◌, Some, ⊤}
+use Rattle.std.specs.Prelude.{◌≡◌, ◌<◌, ◌≤◌, ℕ, List, ◌∷◌, Some, ⊤}
 use Rattle.std.specs.List.{AllByRecursion, IsDistinct}
 use Rattle.bx_engine_words.specs.declared.command.Command.{Command}
 use Rattle.bx_engine_words.specs.declared.order.Order.{Order}
 use Rattle.bx_engine_words.specs.declared.order.Order.TheVariants as orders
+use Rattle.bx_engine_words.specs.declared.order.TheConstants.{MAX_WORKERS}
 use Rattle.bx_engine_words.specs.declared.setting.Setting.{Setting}
 use Rattle.bx_engine_words.specs.Commands.{command_of, command_text, order_of}
 use Rattle.bx_engine_words.specs.Settings.{AreSettings, is_same}
@@ -42,3 +43,16 @@ IsCare orders.Check = ⊤
 IsCare orders.Repair = ⊤
 IsCare (orders.Trim keep) = ⊤
 IsCare (orders.Gen seed pips) = ⊥
+
+-- how many workers an order asks for
+abbrev pub workers_in : Order → ℕ
+workers_in (orders.Build workers cached eval_budget tool_budget) = workers
+workers_in orders.Check = 0
+workers_in orders.Repair = 0
+workers_in (orders.Trim keep) = 0
+workers_in (orders.Gen seed pips) = 0
+
+-- it asks for some, and for no more than there may be
+pub record HasCrew (order : Order) : Type 0 where
+  pub some : 0 < workers_in order
+  pub few : workers_in order ≤ MAX_WORKERS

@@ -12,7 +12,7 @@ mod order;
 mod setting;
 mod words;
 
-pub use laws::one_order;
+pub use laws::{one_order, some_workers};
 pub use order::{
     DEFAULT_EVAL_BUDGET, DEFAULT_TOOL_BUDGET, DEFAULT_WORKERS, MAX_EVAL_BUDGET, MAX_GENERATED_PIPS,
     MAX_KEPT, MAX_TOOL_BUDGET, MAX_WORKERS, Order,

@@ -13,7 +13,7 @@ use Rattle.bx_tree.specs.FileInputs.{input_path}
 use Rattle.bx_tree.specs.Paths.{Atoms}
 use Rattle.bx_tree.proofs.Lists.{all_append}
 use Rattle.bx_io.specs.Holdings.{Holdings}
-use Rattle.run_record.proofs.Digest.{is_digest}
+use Rattle.bx_digest.proofs.HashesAreDigests.{is_digest}
 use Rattle.prints.specs.Combining.{bind_some}
 use Rattle.prints.specs.Processes.{IsFileLine, IsWeak}
 use Rattle.prints.specs.ReadWeak.{read_weak_text}

@@ -16,7 +16,7 @@ use Rattle.memo_format.specs.StoreNames.{IsWellFormedName, at_blob, at_entry, at
 use Rattle.memo_format.specs.declared.entry.Entry.{Entry}
 use Rattle.memo_format.specs.declared.selector.Selector.{Selector}
 use Rattle.memo_format.proofs.FormTexts.{entry_sound}
-use Rattle.run_record.proofs.Digest.{is_digest}
+use Rattle.bx_digest.proofs.HashesAreDigests.{is_digest}
 use Rattle.content_store.specs.Contents.{IsContent}
 use Rattle.content_store.specs.HeldEntries.{ChecksEntry, IsHeld}
 use Rattle.content_store.specs.declared.entries.FetchedEntry.{FetchedEntry}

@@ -27,7 +27,7 @@ pub enum Fetched {
 pub fn content_of(alloc: Global, bytes: Vec<u8>, digest: &Digest) -> Fetched
     ensures { Checks bytes.items digest.now result }
 {
-    match Blob::hashed(alloc, bytes) {
+    match Blob::new(alloc, bytes) {
         Ok(blob) => {
             if blob.digest() == *digest {
                 Fetched::Found(blob)

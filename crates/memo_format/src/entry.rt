@@ -92,6 +92,11 @@ impl Line<OutputLine, OutputLine> for OutputKind {
         append_digest(alloc, text, &value.digest, b'\n')
     }
 
+    fn has_line(value: &OutputLine) {
+        let _path = value.path.text();
+        let _digest = value.digest.bytes();
+    }
+
     fn is_next(cursor: &Cursor) -> bool {
         cursor.begins(b"output ")
     }

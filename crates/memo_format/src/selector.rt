@@ -51,6 +51,11 @@ impl Line<Selector, Selector> for SelectorLine {
         append_digest(alloc, text, &value.strong, b'\n')
     }
 
+    fn has_line(value: &Selector) {
+        let _paths = value.paths.bytes();
+        let _strong = value.strong.bytes();
+    }
+
     fn is_next(cursor: &Cursor) -> bool {
         cursor.begins(b"select ")
     }

@@ -87,14 +87,14 @@ module _ (pips : List Pip) (list : IsPipList pips) (tree : Files) (budget i : �
   below j h = edge_back pips list i j
       (subst (λ o. IsSomeAnd o (λ (p : Pip). Contains (targets pips p.kind) j)) (sym at) (contains_has (targets pips pip.kind) j h))
 
-  goods : inputs_are_good pips pip.kind (first ++ more) ≡ inputs_are_good pips pip.kind first
+  pub goods : inputs_are_good pips pip.kind (first ++ more) ≡ inputs_are_good pips pip.kind first
   goods = all_alike (λ j. is_good (slice_get (first ++ more) j)) (λ j. is_good (slice_get first j)) (targets pips pip.kind)
       (λ j h. let l = below j h in ap is_good (slice_get-append first more j (omega (arith, l, long))))
 
   made : made_by (first ++ more) ≡ made_by first ++ made_by more
   made = map-append (λ (r : Result). r.files) first more
 
-  inputs : inputs_of pips pip.kind (made_by (first ++ more)) ≡ inputs_of pips pip.kind (made_by first)
+  pub inputs : inputs_of pips pip.kind (made_by (first ++ more)) ≡ inputs_of pips pip.kind (made_by first)
   inputs =
       ap (inputs_of pips pip.kind) made
       ∙ kept_before (targets pips pip.kind) 0 (made_by first) (made_by more)

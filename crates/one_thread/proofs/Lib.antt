@@ -14,3 +14,4 @@ pub mod OneMore
 pub mod KeptApart
 pub mod Reported
 pub mod LeastPaths
+pub mod NotSkipped

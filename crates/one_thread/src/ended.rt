@@ -102,26 +102,6 @@ fn inputs_are_good(plan: &Plan, pip: u32, slots: &[Slot]) -> bool
     all_good(inputs, slots)
 }
 
-/// What a process comes to that is otherwise successful.
-pub fn after_success(
-    plan: &Plan,
-    pip: u32,
-    made: &Made,
-    slots: &[Slot],
-) -> Result<PipResult, Memory>
-    requires pip { pip < length plan.now.pips }
-    requires slots { pip ≤ length slots.now }
-    ensures result { IfOk result (λ ended. ended_result ended ≡ builds.unless_clash made.now
-        (clash_at plan.now.pips (map slot_files slots.now) pip made.now)) }
-    ensures agrees { IfOk result Agrees }
-{
-    let clash = double_write(plan, pip, made, slots)?;
-    match clash {
-        Some(double_write) => Ok(failed(Verdict::Violated(double_write))),
-        None => Ok(succeeded(made.share()?)),
-    }
-}
-
 // What a process comes to one of whose accesses was denied.
 fn after_denial(
     plan: &Plan,
@@ -161,29 +141,36 @@ fn after_failure(
     }
 }
 
-/// What a process comes to by the outcome of its run.
-pub fn after_run(
-    plan: &Plan,
-    sources: &Sources,
+/// What a process comes to that is otherwise successful, where these are the shared files so far: the earlier processes
+/// are searched only for what clashes with one of these.
+pub fn after_success<G: Gate>(
+    frame: &Frame<'_, G>,
     pip: u32,
     slots: &[Slot],
-    outcome: &Outcome,
+    shared: &SharedFiles,
+    made: &Made,
 ) -> Result<PipResult, Memory>
-    requires pip { pip < length plan.now.pips }
+    requires pip { pip < length frame.now.plan.now.pips }
     requires slots { pip ≤ length slots.now }
-    ensures result { IfOk result (λ ended. ended_result ended
-        ≡ builds.by_outcome plan.now.pips sources.now (map slot_files slots.now) pip outcome.now) }
+    requires shared { KeepsShared shared.now.files shared.now.dirs
+        (all_shared (take pip frame.now.plan.now.pips) (map slot_files slots.now)) }
+    ensures result { IfOk result (λ ended. ended_result ended ≡ builds.unless_clash made.now
+        (clash_at frame.now.plan.now.pips (map slot_files slots.now) pip made.now)) }
     ensures agrees { IfOk result Agrees }
 {
-    match outcome {
-        Outcome::Good(made) => after_success(plan, pip, made, slots),
-        Outcome::Failed(cause) => after_failure(plan, sources, pip, cause),
+    let clashes = shared.has_clash(frame.alloc, frame.plan, pip, made)?;
+    if !clashes {
+        return Ok(succeeded(made.share()?));
+    }
+    let clash = double_write(frame.plan, pip, made, slots)?;
+    match clash {
+        Some(double_write) => Ok(failed(Verdict::Violated(double_write))),
+        None => Ok(succeeded(made.share()?)),
     }
 }
 
-// What a process comes to by the outcome of its run, where these are the shared files so far: the earlier processes
-// are searched only for what clashes with one of these.
-fn after_work<G: Gate>(
+/// What a process comes to by the outcome of its run, where these are the shared files so far.
+pub fn after_outcome<G: Gate>(
     frame: &Frame<'_, G>,
     pip: u32,
     slots: &[Slot],
@@ -198,13 +185,10 @@ fn after_work<G: Gate>(
         frame.now.sources.now (map slot_files slots.now) pip outcome.now) }
     ensures agrees { IfOk result Agrees }
 {
-    if let Outcome::Good(made) = outcome {
-        let clashes = shared.has_clash(frame.alloc, frame.plan, pip, made)?;
-        if !clashes {
-            return Ok(succeeded(made.share()?));
-        }
+    match outcome {
+        Outcome::Good(made) => after_success(frame, pip, slots, shared, made),
+        Outcome::Failed(cause) => after_failure(frame.plan, frame.sources, pip, cause),
     }
-    after_run(frame.plan, frame.sources, pip, slots, outcome)
 }
 
 fn run<G: Gate>(
@@ -227,7 +211,7 @@ fn run<G: Gate>(
     let described = desc(frame.alloc, frame.plan, frame.sources, pip, inputs)?;
     let mut view = PipView::new(frame.alloc, frame.plan, frame.sources, pip, inputs)?;
     let outcome = outcome_of_run(frame.alloc, &described, pip, &mut view, frame.gate)?;
-    after_work(frame, pip, slots, shared, &outcome)
+    after_outcome(frame, pip, slots, shared, &outcome)
 }
 
 // What a pip comes to that is no process.

@@ -16,9 +16,10 @@ mod outputs_apart;
 mod shared;
 
 pub use build::{Built, build_all};
-pub use ended::{Frame, PipResult, Started, after_run, after_success, is_good, start};
+pub use ended::{Frame, PipResult, Started, after_outcome, after_success, is_good, start};
 pub use gathering::outputs;
 pub use laws::each_result;
 pub use least::{least_clash_of_writes, least_missing_output};
 pub use lines::each_verdict_has_its_line;
 pub use outputs_apart::{kept_files_keep_apart, outputs_keep_apart};
+pub use shared::SharedFiles;

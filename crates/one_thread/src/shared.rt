@@ -33,16 +33,17 @@ fn made_in(slot: &Slot) -> &[MadeFile]
     }
 }
 
-/// The paths of files so far, and the directories in which these lie.
+/// An index of the files that the pips so far made in directories which they share: their paths, and the directories in
+/// which these lie. `KeepsShared` says which files those are.
 #[derive(Drop)]
-pub(crate) struct SharedFiles {
-    pub(crate) files: BTreeSet<Path>,
-    pub(crate) dirs: BTreeSet<Path>,
+pub struct SharedFiles {
+    pub files: BTreeSet<Path>,
+    pub dirs: BTreeSet<Path>,
 }
 
 impl SharedFiles {
     /// No files.
-    pub(crate) fn new(alloc: Global) -> SharedFiles
+    pub fn new(alloc: Global) -> SharedFiles
         ensures { KeepsShared result.files result.dirs [] }
     {
         let files = BTreeSet::new(alloc);
@@ -95,7 +96,7 @@ impl SharedFiles {
     }
 
     /// Adds what a pip made in directories which it shares, if it succeeded.
-    pub(crate) fn add_slot(
+    pub fn add_slot(
         &mut self,
         alloc: Global,
         plan: &Plan,

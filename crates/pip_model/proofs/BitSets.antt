@@ -53,12 +53,12 @@ bit_from_word now before other k e =
 no_bit : (w i : ℕ) → w ≡ 0 → bit_at w i ≡ 1 → ⊥
 no_bit w i e h = omega (arith, sym (ap (λ v. bit_at v i) e) ∙ h, bit_at-zero i)
 
-pub joined_all : (before other now : List ℕ) (i : ℕ) → length now ≤ i → length before ≡ length other → JoinedBelow before other now i
+pub joined_all : (before other now : List ℕ) (i : ℕ) → length other ≤ i → JoinedBelow before other now i
     → (k : ℕ) → HasBit now k ↔ (HasBit before k ⊎ HasBit other k)
-joined_all before other now i l same h k = elim (cases_lt (k / 64) i) [
+joined_all before other now i l h k = elim (cases_lt (k / 64) i) [
   | inl below ↦ bit_from_word now before other k (h.below (k / 64) below)
   | inr above ↦
-      let past : length other ≤ k / 64 = omega (arith, l, same, h.size, above) in
+      let past : length other ≤ k / 64 = omega (arith, l, above) in
       let kept = h.from (k / 64) above in (
         λ b. inl (sym (ap (λ w. bit_at w (k % 64)) kept) ∙ b),
         λ s. elim s [

@@ -1,11 +1,9 @@
 -- The files that seals list are found by their paths.
-use Rattle.std.proofs.Common.{zero, suc, ◌≡◌, ℕ, ◌+◌, ◌<◌, ◌≤◌, List, [], ◌∷◌, ◌++◌, ◌⊎◌, length, drop, get_or, map, take, refl, ap, sym, ◌∙◌, subst, inl, inr, arith, append_assoc, append-nil, add-one}
-use Rattle.std.specs.Prelude.{Any, Contains, IsSomeAnd, slice_get, slice_range}
+use Rattle.std.proofs.Common.{zero, suc, ◌≡◌, ℕ, ◌+◌, ◌<◌, ◌≤◌, List, [], ◌∷◌, ◌++◌, ◌⊎◌, length, drop, get_or, map, take, refl, ap, sym, ◌∙◌, inl, inr, arith, append_assoc, append-nil, add-one}
+use Rattle.std.specs.Prelude.{Any, Contains, slice_range}
 use Rattle.std.proofs.lemmas.List.{drop_all, get_or-map, length-map, take_more}
 use Rattle.std.proofs.lemmas.List.Elements.{Contains-append_left, Contains-append_right}
 use Rattle.std.proofs.Math.Seq.{drop-cons}
-use Rattle.bx_tree.specs.FileInputs.{input_path}
-use Rattle.bx_tree.specs.Paths.{Atoms, path_text}
 use Rattle.bx_tree.specs.declared.file_input.FileInput.{FileInput}
 use Rattle.bx_tree_paths.specs.Spans.{IsBetween, IsSpanOf}
 use Rattle.bx_tree_paths.proofs.BetweenTexts.{beside_place, place_in_span, text_between, under_between}

@@ -46,11 +46,11 @@ reach_along E F both i row h k = (
   λ w. (h k).1 (walk_along F E (λ i j. (both i j).1) i k w),
 )
 
-pub keeps_plan : (pips : List Pip) (all lists rows : List (List ℕ)) (words : ℕ) → length pips ≤ MAX_PIPS → AreAllInputs pips all → lists ≡ all
-    → length rows ≡ length lists → AreRows (ListEdge lists) words rows → (outputs : Numbered) → HasOutputsOf pips outputs
+pub keeps_plan : (pips : List Pip) (all lists rows : List (List ℕ)) → length pips ≤ MAX_PIPS → AreAllInputs pips all → lists ≡ all
+    → length rows ≡ length lists → AreRows (ListEdge lists) rows → (outputs : Numbered) → HasOutputsOf pips outputs
     → (listings : List Listing) → HasListingsOf pips listings → KeepsPlan pips all rows outputs listings
-keeps_plan pips all lists rows words few h same size are outputs outputs_of listings listings_of =
-    let by_all = subst (λ (ls : List (List ℕ)). AreRows (ListEdge ls) words rows) same are in
+keeps_plan pips all lists rows few h same size are outputs outputs_of listings listings_of =
+    let by_all = subst (λ (ls : List (List ℕ)). AreRows (ListEdge ls) rows) same are in
     let long : length rows ≡ length all = size ∙ ap length same in record {
       few = few;
       all_inputs = h;

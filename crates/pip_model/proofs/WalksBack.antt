@@ -1,5 +1,5 @@
 -- Walks along edges that lead to smaller numbers, and the rows of bits that are made of smaller rows.
-use Rattle.std.proofs.Common.{inl, inr, ◌⊎◌, ◌≡◌, ℕ, ◌<◌, List, [], ◌∷◌, ◌++◌, length, get_or, refl, sym, ◌∙◌, subst}
+use Rattle.std.proofs.Common.{inl, inr, ◌⊎◌, ◌≡◌, ℕ, ◌+◌, ◌/◌, ◌<◌, ◌≤◌, List, [], ◌∷◌, ◌++◌, length, length-append, get_or, refl, sym, ◌∙◌, subst, arith}
 use Rattle.std.specs.Prelude.{◌↔◌, IsSomeAnd}
 use Rattle.std.specs.List.{All, Contains}
 use Rattle.std.proofs.lemmas.List.Elements.{All-contains, All-push, Contains-append_left, Contains-push, Contains-push_cases}
@@ -52,19 +52,27 @@ row_reaches E i rows targets row edges each is k = (
     first_step i k (One a b e) ts into each = (b, (into b).1 e, inl refl)
     first_step i k (Step a b c e w) ts into each = let there = (into b).1 e in (b, there, inr ((each b there c).1 w))
 
+-- a row of no targets
+pub no_row : (rows : List (List ℕ)) (targets row : List ℕ) → length targets ≡ 0 → ((k : ℕ) → HasBit row k → ⊥) → IsRowOf rows targets row
+no_row rows targets row none empty k = (λ h. absurd (empty k h), λ (s, c, h). absurd (omega (arith, none, c.1)))
+
 -- one row more
-pub rows_more : (E : ℕ → ℕ → Type 0) (words : ℕ) (rows : List (List ℕ)) (row : List ℕ) → length row ≡ words → IsReachOf E (length rows) row
-    → AreRows E words rows → AreRows E words (rows ++ row ∷ [])
-rows_more E words rows row size reach h = record {
-  size = All-push (λ r. length r ≡ words) rows row h.size size;
-  each = holds_more (IsReachOf E) rows row h.each reach;
-}
+pub rows_more : (E : ℕ → ℕ → Type 0) (rows : List (List ℕ)) (row : List ℕ) → length row ≤ length rows / 64 + 1
+    → IsReachOf E (length rows) row → AreRows E rows → AreRows E (rows ++ row ∷ [])
+rows_more E rows row size reach h =
+    let long : length (rows ++ row ∷ []) ≡ length rows + 1 = length-append rows (row ∷ []) in
+    let fits : (r : List ℕ) → length r ≤ length rows / 64 + 1 → length r ≤ length (rows ++ row ∷ []) / 64 + 1 =
+    λ r l. omega (arith, l, long) in record {
+      size = All-push (λ r. length r ≤ length (rows ++ row ∷ []) / 64 + 1) rows row
+          (λ i d l. fits (get_or rows i d) (h.size i d l)) (fits row size);
+      each = holds_more (IsReachOf E) rows row h.each reach;
+    }
 
 -- the row of the next list of targets
-pub next_row : (lists : List (List ℕ)) (words : ℕ) (rows : List (List ℕ)) (targets row : List ℕ) → PointBack lists → length rows < length lists
-    → targets ≡ get_or lists (length rows) targets → length row ≡ words → IsRowOf rows targets row → AreRows (ListEdge lists) words rows
-    → AreRows (ListEdge lists) words (rows ++ row ∷ [])
-next_row lists words rows targets row back l e size is h =
+pub next_row : (lists : List (List ℕ)) (rows : List (List ℕ)) (targets row : List ℕ) → PointBack lists → length rows < length lists
+    → targets ≡ get_or lists (length rows) targets → length row ≤ length rows / 64 + 1 → IsRowOf rows targets row
+    → AreRows (ListEdge lists) rows → AreRows (ListEdge lists) (rows ++ row ∷ [])
+next_row lists rows targets row back l e size is h =
     let n = length rows in
     let at = there lists n targets l e in
     let edges : (j : ℕ) → Contains targets j ↔ ListEdge lists n j = λ j. (
@@ -72,7 +80,7 @@ next_row lists words rows targets row back l e size is h =
       λ x. subst (λ o. IsSomeAnd o (λ (ts : List ℕ). Contains ts j)) at x,
     ) in
     let below : All (λ t. t < n) targets = subst (All (λ t. t < n)) (sym e) (back n l targets) in
-    rows_more (ListEdge lists) words rows row size
+    rows_more (ListEdge lists) rows row size
     (row_reaches (ListEdge lists) n rows targets row edges
     (λ j c. h.each j (All-contains (λ t. t < n) targets j below c) []) is)
     h

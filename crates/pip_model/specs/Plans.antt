@@ -1,8 +1,9 @@
 -- What a plan keeps beside its pips.
-use Rattle.std.specs.Prelude.{◌≡◌, ◌↔◌, ℕ, ◌<◌, ◌≤◌, List, length, Contains}
+use Rattle.std.specs.Prelude.{◌≡◌, ◌↔◌, ℕ, ◌<◌, ◌≤◌, ◌+◌, ◌/◌, List, length, Contains}
 use Rattle.std.specs.List.{All, HoldsAt}
 use Rattle.std.specs.List.Sorted.{IsStrictlyIncreasing}
 use Rattle.pip_model_types.specs.declared.pip.Pip.{Pip}
+use Rattle.pip_model.specs.declared.bits.TheConstants.{WORD_BITS}
 use Rattle.pip_model.specs.declared.plan.TheConstants.{MAX_PIPS}
 use Rattle.pip_model.specs.Edges.{Edge}
 use Rattle.pip_model.specs.Bits.{HasBit}
@@ -25,9 +26,9 @@ pub record AreAllInputs (pips : List Pip) (all : List (List ℕ)) : Type 0 where
 abbrev pub IsReachOf : (ℕ → ℕ → Type 0) → ℕ → List ℕ → Type 0
 IsReachOf E i row = (k : ℕ) → HasBit row k ↔ Walk E i k
 
--- a row for each number below some number, each of this number of words
-pub record AreRows (E : ℕ → ℕ → Type 0) (words : ℕ) (rows : List (List ℕ)) : Type 0 where
-  pub size : All (λ row. length row ≡ words) rows
+-- a row for each number below some number, none with more words than that number needs
+pub record AreRows (E : ℕ → ℕ → Type 0) (rows : List (List ℕ)) : Type 0 where
+  pub size : All (λ row. length row ≤ length rows / WORD_BITS + 1) rows
   pub each : (i : ℕ) → i < length rows → HoldsAt (IsReachOf E i) rows i
 
 -- a plan: its pips, and the steps that each tool may take

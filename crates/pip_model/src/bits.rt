@@ -1,5 +1,5 @@
 //! Sets of numbers kept as bits.
-ghost use Rattle.std.specs.Prelude.{◌≡◌, ◌↔◌, ◌<◌, ◌*◌, ◌⊎◌, ℕ, length, IsTrue, IfOk};
+ghost use Rattle.std.specs.Prelude.{◌≡◌, ◌↔◌, ◌<◌, ◌≤◌, ◌*◌, ◌⊎◌, ℕ, length, IsTrue, IfOk};
 ghost use Rattle.pip_model.specs.Bits.{HasBit};
 
 use std::alloc::{AllocError, Global};
@@ -25,10 +25,10 @@ impl Model for BitSet {
 
 // Adds the bits of a word to another.
 fn join_words(row: &mut [u64], other: &[u64])
-    requires { length row.old ≡ length other.now }
+    requires { length other.now ≤ length row.old }
     ensures { (k : ℕ) → HasBit row.new k ↔ (HasBit row.old k ⊎ HasBit other.now k) }
 {
-    'words: for place in 0..row.len() {
+    'words: for place in 0..other.len() {
         row[place] |= other[place];
     }
 }
@@ -60,9 +60,9 @@ impl BitSet {
         add_bit(self.words.as_mut_slice(), number);
     }
 
-    // Adds the numbers of another set.
+    // Adds the numbers of another set, which has no more words.
     pub(crate) fn join(&mut self, other: &BitSet)
-        requires { length self.old ≡ length other.now }
+        requires { length other.now ≤ length self.old }
         ensures size { length self.new ≡ length self.old }
         ensures joined { (k : ℕ) → HasBit self.new k ↔ (HasBit self.old k ⊎ HasBit other.now k) }
     {

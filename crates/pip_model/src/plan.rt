@@ -6,7 +6,7 @@ ghost use Rattle.pip_model.specs.Listings.{ListsNear, has_wide};
 ghost use Rattle.pip_model.specs.Outputs.{numbers_from};
 ghost use Rattle.pip_model.specs.Plans.{AreInputs};
 
-use crate::bits::{BitSet, WORD_BITS};
+use crate::bits::BitSet;
 use crate::edges::{Inputs, all_inputs};
 use crate::listings::{Listings, by_listing};
 use crate::outputs::{ByPath, by_output};
@@ -50,8 +50,7 @@ impl Plan {
         ensures tool_budget { IfOk result (λ plan. plan.tool_budget ≡ tool_budget) }
     {
         let inputs = all_inputs(alloc, pips.pips())?;
-        let words = pips.pips().len() / WORD_BITS + 1;
-        let reach = all_rows(alloc, words, inputs.as_slice())?;
+        let reach = all_rows(alloc, inputs.as_slice())?;
         let outputs = by_output(alloc, pips.pips())?;
         let listings = by_listing(alloc, pips.pips())?;
         Ok(Plan {

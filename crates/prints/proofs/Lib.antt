@@ -6,3 +6,4 @@ pub mod Joining
 pub mod LineLists
 pub mod PartReading
 pub mod Rising
+pub mod AnswersHaveLines

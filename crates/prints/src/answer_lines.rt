@@ -86,6 +86,9 @@ impl Line<Answer, AnswerLine> for AnswerKind {
         }
     }
 
+    #[tactic(auto, using(crate::proofs::AnswersHaveLines::is_line))]
+    fn has_line(_value: &Answer) {}
+
     fn is_next(cursor: &Cursor) -> bool {
         !cursor.is_empty()
     }

@@ -31,6 +31,10 @@ pub trait Line<W, R> {
         ensures text { OnOk result (text.new.items ≡ text.old.items ++ line (says value.now)) }
         ensures fits { OnOk result (Fits (says value.now)) };
 
+    /// What is known of each value: that it has a line. It does nothing.
+    fn has_line(value: &W)
+        ensures { Fits (says value.now) };
+
     /// Whether a line of this kind comes next.
     fn is_next(cursor: &Cursor) -> bool
         ensures { result ≡ starts cursor.now };
@@ -61,6 +65,15 @@ pub fn append_lines<W, R, L: Line<W, R>>(
         L::append(alloc, text, value)?;
     }
     Ok(())
+}
+
+/// What is known of values: that each has a line. It does nothing.
+pub fn have_lines<W, R, L: Line<W, R>>(values: &[W])
+    ensures { AllByRecursion L.Fits (map L.says values.now) }
+{
+    'values: for value in values {
+        L::has_line(value);
+    }
 }
 
 /// Reads lines of one kind, as long as one comes next.

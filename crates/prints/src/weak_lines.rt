@@ -59,6 +59,10 @@ impl Line<Text, Text> for ArgKind {
         append_counted(alloc, text, value.bytes(), b'\n')
     }
 
+    fn has_line(value: &Text) {
+        let _count = value.bytes().len();
+    }
+
     fn is_next(cursor: &Cursor) -> bool {
         cursor.begins(b"arg ")
     }
@@ -93,6 +97,11 @@ impl Line<EnvPair, EnvPair> for EnvKind {
         text.extend_from_slice(b"env ")?;
         append_counted(alloc, text, value.name.bytes(), b' ')?;
         append_counted(alloc, text, value.value.bytes(), b'\n')
+    }
+
+    fn has_line(value: &EnvPair) {
+        let _name = value.name.bytes().len();
+        let _value = value.value.bytes().len();
     }
 
     fn is_next(cursor: &Cursor) -> bool {
@@ -131,6 +140,10 @@ impl Line<MadeFile, FileLine> for InKind {
         text.extend_from_slice(b"in ")?;
         append_path(text, &value.path, b' ')?;
         append_digest(alloc, text, &value.blob.digest(), b'\n')
+    }
+
+    fn has_line(value: &MadeFile) {
+        let _path = value.path.text();
     }
 
     fn is_next(cursor: &Cursor) -> bool {
@@ -225,6 +238,17 @@ impl Line<DirInput, DirLine> for IndirKind {
         }
     }
 
+    fn has_line(value: &DirInput) {
+        match value {
+            DirInput::Sealed(_, _, root) => {
+                let _root = root.text();
+            }
+            DirInput::Opaque(_, path) => {
+                let _path = path.text();
+            }
+        }
+    }
+
     fn is_next(cursor: &Cursor) -> bool {
         cursor.begins(b"indir ")
     }
@@ -260,6 +284,10 @@ impl Line<Path, Path> for OutKind {
     fn append(_alloc: Global, text: &mut Vec<u8>, value: &Path) -> Result<(), AllocError> {
         text.extend_from_slice(b"out ")?;
         append_path(text, value, b'\n')
+    }
+
+    fn has_line(value: &Path) {
+        let _path = value.text();
     }
 
     fn is_next(cursor: &Cursor) -> bool {
@@ -323,6 +351,10 @@ impl Line<OutDir, OutDir> for OutdirKind {
         text.extend_from_slice(sharing(value.shared).as_bytes())?;
         text.push(b' ')?;
         append_path(text, &value.path, b'\n')
+    }
+
+    fn has_line(value: &OutDir) {
+        let _path = value.path.text();
     }
 
     fn is_next(cursor: &Cursor) -> bool {

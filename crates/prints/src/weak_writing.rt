@@ -8,7 +8,7 @@ ghost use Rattle.prints.specs.Processes.{AreListsWeak, IsHeadWeak, weak_parts};
 ghost use Rattle.prints.specs.ReadWeak.{read_weak_text};
 ghost use Rattle.prints.specs.Weak.{console_line, head_text, lists_text, weak_text};
 
-use crate::line::append_lines;
+use crate::line::{append_lines, have_lines};
 use crate::part::{append_digest, append_number, append_path};
 use crate::printed::Printed;
 use crate::weak_lines::{
@@ -64,6 +64,51 @@ fn append_lists(alloc: Global, text: &mut Vec<u8>, desc: &Desc) -> Result<(), Al
     append_lines::<Path, Path, OutKind>(alloc, text, process.outs.paths())?;
     append_lines::<OutDir, OutDir, OutdirKind>(alloc, text, process.outdirs.dirs())?;
     Ok(())
+}
+
+// What is known of the console file.
+fn known_console(console: Option<&Path>)
+    ensures { IfSome (option_copied console.entry) IsPath }
+{
+    match console {
+        Some(path) => {
+            let _path = path.text();
+        }
+        None => {}
+    }
+}
+
+// What is known of the parts of a process that are there once.
+#[tactic(auto, using(bx_digest::proofs::HashesAreDigests::is_digest))]
+fn known_head(desc: &Desc)
+    ensures { IsHeadWeak (weak_parts desc.now) }
+{
+    let _exe = desc.process.exe.text();
+    let _dir = desc.process.dir.text();
+    let _budget = desc.budget;
+    known_console(desc.process.console.as_ref());
+}
+
+// What is known of its lists.
+fn known_lists(desc: &Desc)
+    ensures { AreListsWeak (weak_parts desc.now) }
+{
+    let process = &desc.process;
+    have_lines::<Text, Text, ArgKind>(process.args.texts());
+    have_lines::<EnvPair, EnvPair, EnvKind>(process.env.pairs());
+    have_lines::<MadeFile, FileLine, InKind>(desc.files.files());
+    have_lines::<DirInput, DirLine, IndirKind>(process.dirs.dirs());
+    have_lines::<Path, Path, OutKind>(process.outs.paths());
+    have_lines::<OutDir, OutDir, OutdirKind>(process.outdirs.dirs());
+}
+
+/// What is known of every process with its contents, without writing its weak text: that the text is read back as what it
+/// is written of. It changes nothing, and hashes nothing.
+pub fn reads_back(desc: &Desc)
+    ensures { read_weak_text (weak_text (weak_parts desc.now)) ≡ Some (weak_parts desc.now) }
+{
+    known_head(desc);
+    known_lists(desc);
 }
 
 /// The weak text of a process with its contents, with its digest.

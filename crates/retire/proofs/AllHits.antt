@@ -26,13 +26,13 @@ use Rattle.retire.proofs.Records.{success_is}
 -- ## Results that are left
 
 -- the results from pip i on
-abbrev rest_of : List Pip → Files → ℕ → List Result → ℕ → List Pip → List Result
+abbrev pub rest_of : List Pip → Files → ℕ → List Result → ℕ → List Pip → List Result
 rest_of pips tree budget results i [] = []
 rest_of pips tree budget results i (pip ∷ left) =
     result_of pips tree budget results i pip.kind
     ∷ rest_of pips tree budget (results ++ result_of pips tree budget results i pip.kind ∷ []) (i + 1) left
 
-on_rest : (pips : List Pip) (tree : Files) (budget : ℕ) (left : List Pip) (results : List Result) (i : ℕ)
+pub on_rest : (pips : List Pip) (tree : Files) (budget : ℕ) (left : List Pip) (results : List Result) (i : ℕ)
     → on_from pips tree budget results i left ≡ results ++ rest_of pips tree budget results i left
 on_rest pips tree budget [] results i = sym (append-nil results)
 on_rest pips tree budget (pip ∷ left) results i =

@@ -1,5 +1,5 @@
--- A build over an honest store follows the sequential build.
-use Rattle.std.proofs.Common.{◌≡◌, ℕ, true, cond, List, [], ◌∷◌, drop, length, map, take, Some, refl, sym, ap, ◌∙◌, subst, inl, inr, arith}
+-- A build follows the sequential build, over an honest store or without one.
+use Rattle.std.proofs.Common.{◌≡◌, ℕ, true, cond, List, [], ◌∷◌, drop, length, map, take, Option, Some, refl, sym, ap, ◌∙◌, subst, inl, inr, arith}
 use Rattle.std.specs.Prelude.{slice_get}
 use Rattle.bx_tree.specs.Trees.{Files}
 use Rattle.bx_io.specs.Holdings.{Holdings}
@@ -13,7 +13,10 @@ use Rattle.pip_model.specs.Edges.{targets}
 use Rattle.observed.specs.declared.ask.Ask.{Ask}
 use Rattle.observed.specs.declared.access.Answer.{Answer}
 use Rattle.tool_run.specs.Described.{described}
-use Rattle.run_record.specs.Facts.{Facts, IsRun, run_for}
+use Rattle.tool_run.proofs.Depends.{depends}
+use Rattle.run_record.specs.Facts.{Facts, IsRun, Sound, run_for}
+use Rattle.run_record.specs.Holding.{HoldsNow, at_desc}
+use Rattle.run_record.proofs.SameWork.{holds_run}
 use Rattle.run_record.specs.Outcomes.{outcome_of}
 use Rattle.run_record.specs.declared.outcome.Outcome.TheVariants.{Good}
 use Rattle.memo_format.specs.Found.{FoundParts}
@@ -35,10 +38,13 @@ use Rattle.two_phase.specs.Lookups.{FirstLeadsTo, LeadsTo}
 use Rattle.retire_compared.specs.Compared.{desc_after, view_after}
 use Rattle.retire.specs.Runs.{RunsAs, results_before}
 use Rattle.retire.proofs.SoFar.{run_met, taken}
+use Rattle.retire.proofs.Told.{IsRight, told_takes}
+use Rattle.two_phase.specs.Reading.{ReaderData}
+use Rattle.sched_board_slots.specs.declared.held.Held.{Held}
 use Rattle.retire.specs.Builds.{IsFair}
 use Rattle.retire.specs.Deciding as deciding
 use Rattle.retire.specs.Deciding.{DecidedBy, Decides}
-use Rattle.retire.specs.Taking.{TakesFrom, outcome_in}
+use Rattle.retire.specs.Taking.{IsOfNow, TakesAlone, TakesBy, TakesFrom, outcome_in}
 use Rattle.retire.specs.declared.deciding.Next.{Next}
 use Rattle.retire.specs.declared.taking.Taken.{Taken}
 use Rattle.retire.specs.declared.taking.Taken.TheVariants as takings
@@ -53,15 +59,27 @@ leads_to S d see (s ∷ rest) f h = elim h [ inl here ↦ (s, here) | inr later 
 pub ran_is : (f : Facts) (d : Desc) (see : Ask → Answer) → IsRun f d see → f.outcome ≡ ran d see
 ran_is f d see run = sym run.run.outcome ∙ ap (λ (x : Desc). outcome_of (described x) (run_for d see)) run.desc
 
+-- the outcome of an accepted run is that of the run now
+pub accepted_ran : (f : Facts) (d : Desc) (see : Ask → Answer) → Sound f → HoldsNow d see f → f.outcome ≡ ran d see
+accepted_ran f d see sound holds = ran_is (at_desc d f) d see (holds_run f d see (depends (described f.desc)) sound holds)
+
 -- over an honest store it is what its run gives
-pub takes_outcome : (S : Holdings) (d : Desc) (see : Ask → Answer) (t : Taken) → Honest S → NoCollision (ComparedInRun S d see) → TakesFrom S d see t
-    → outcome_in t ≡ ran d see
-takes_outcome S d see (takings.Hit f) honest apart h =
+pub takes_outcome : (S : Holdings) (d : Desc) (see : Ask → Answer) (slot : Held) (t : Taken) → Honest S → NoCollision (ComparedInRun S d see) → TakesFrom S d see t
+    → IsOfNow d see slot t → outcome_in t ≡ ran d see
+takes_outcome S d see slot (takings.Accepted f) honest apart h now = accepted_ran f d see now.1 now.2
+takes_outcome S d see slot (takings.Hit f) honest apart h now =
     let lead = leads_to S d see h.0.list f h.0.first in
     let good : IsGoodRun (described d) see lead.1.usable.asks lead.1.usable.files = found S d see honest h.1 apart lead.0 lead.1.usable in
     sym (good.outcome ∙ ap Good lead.1.files_are)
-takes_outcome S d see (takings.Missed f) honest apart h = ran_is f d see h.1
-takes_outcome S d see (takings.Faulted f) honest apart h = ran_is f d see h
+takes_outcome S d see slot (takings.Missed f) honest apart h now = ran_is f d see now.2
+takes_outcome S d see slot (takings.Faulted f) honest apart h now = ran_is f d see now.2
+
+-- so it is without a store
+pub takes_outcome_alone : (d : Desc) (see : Ask → Answer) (slot : Held) (t : Taken) → TakesAlone t → IsOfNow d see slot t → outcome_in t ≡ ran d see
+takes_outcome_alone d see slot (takings.Accepted f) h now = accepted_ran f d see now.1 now.2
+takes_outcome_alone d see slot (takings.Hit f) h now = absurd h
+takes_outcome_alone d see slot (takings.Missed f) h now = ran_is f d see now.2
+takes_outcome_alone d see slot (takings.Faulted f) h now = absurd h
 
 -- ## One pip
 
@@ -96,24 +114,30 @@ module _ (pips : List Pip) (tree : Files) (budget : ℕ) (n : ℕ) (vs : List Ve
         ∙ ap (λ (made : List Files). sees pips tree (inputs_of pips (Process p) made) n) (made_is vs ss even);
   }
 
-  module _ (S : Holdings) (fair : IsFair pips tree budget S) where
-    run_apart : (d : Desc) (see : Ask → Answer) → RunsAs pips tree budget n d see → NoCollision (ComparedInRun S d see)
-    run_apart d see runs x y h k e = fair.apart x y (run_met pips tree budget S x n d see runs h) (run_met pips tree budget S y n d see runs k) e
+  run_apart : (S : Holdings) → IsFair pips tree budget S → (d : Desc) (see : Ask → Answer) → RunsAs pips tree budget n d see → NoCollision (ComparedInRun S d see)
+  run_apart S fair d see runs x y h k e = fair.apart x y (run_met pips tree budget S x n d see runs h) (run_met pips tree budget S y n d see runs k) e
+
+  module _ (reader : Option ReaderData) (slot : Held) (right : IsRight pips tree budget reader) where
+    outcome_is : (d : Desc) (see : Ask → Answer) (t : Taken) → RunsAs pips tree budget n d see → TakesBy reader d see t → IsOfNow d see slot t → outcome_in t ≡ ran d see
+    outcome_is d see t runs takes now = elim right [
+      | inl none ↦ takes_outcome_alone d see slot t (subst (λ (r : Option ReaderData). TakesBy r d see t) none takes) now
+      | inr over ↦
+          takes_outcome over.0 d see slot t over.2.honest (run_apart over.0 over.2 d see runs) (told_takes reader over.0 d see t over.1 takes) now
+    ]
 
     by_process : (pip : Pip) (p : ProcessDesc) (next : Next) → slice_get pips n ≡ Some pip → pip.kind ≡ Process p → slots_are_good pips (Process p) ss ≡ true
-        → DecidedBy pips tree budget (Some S) (map slot_files ss) (inputs_of pips (Process p) (map slot_files ss)) n p next
+        → DecidedBy pips tree budget reader slot (map slot_files ss) (inputs_of pips (Process p) (map slot_files ss)) n p next
         → ended_result next.ended ≡ kind_ended pips tree budget ss n (Process p)
     by_process pip p next at is good d =
         let inputs = inputs_of pips (Process p) (map slot_files ss) in
         let desc = desc_of tree inputs budget p in
         let see = sees pips tree inputs n in
         d.result_is
-        ∙ ap (by_outcome pips tree (map slot_files ss) n)
-        (takes_outcome S desc see d.taken fair.honest (run_apart desc see (runs_as pip p at is good)) (d.takes S refl))
+        ∙ ap (by_outcome pips tree (map slot_files ss) n) (outcome_is desc see d.taken (runs_as pip p at is good) d.takes d.now)
         ∙ sym (ap (λ b. cond b (worked pips tree budget (map slot_files ss) inputs n (Process p)) (failed verdicts.Skipped)) good)
 
     -- what the pip comes to is what it comes to on one thread
-    pub decided_is : (pip : Pip) (next : Next) → slice_get pips n ≡ Some pip → Decides pips tree budget (Some S) ss n pip.kind next
+    pub decided_is : (pip : Pip) (next : Next) → slice_get pips n ≡ Some pip → Decides pips tree budget reader slot ss n pip.kind next
         → ended_result next.ended ≡ kind_ended pips tree budget ss n pip.kind
     decided_is pip next at (deciding.skipped e d) =
         d.result_is

@@ -1,11 +1,13 @@
 -- The ways in which pips came to their results, counted, and which records are saved.
-use Rattle.std.proofs.Common.{◌≡◌, ℕ, zero, suc, ◌+◌, ◌≤◌, Bool, true, false, cond, List, [], ◌∷◌, ◌++◌, length, map, Option, Some, None, refl, sym, ap, ◌∙◌, subst, arith, append-nil, length-append}
-use Rattle.std.specs.Prelude.{slice_get}
+use Rattle.std.proofs.Common.{◌≡◌, ℕ, zero, suc, ◌+◌, ◌≤◌, ◌&&◌, Bool, true, false, cond, List, [], ◌∷◌, ◌++◌, length, map, Option, Some, None, refl, sym, ap, ◌∙◌, subst, arith, append-nil, length-append}
+use Rattle.std.specs.Prelude.{is_some, slice_get}
+use Rattle.std.proofs.lemmas.Bool.{and_parts}
 use Rattle.std.specs.List.{AllByRecursion}
 use Rattle.std.specs.Option.{option_to_list}
 use Rattle.std.proofs.lemmas.Option.{same_Some}
 use Rattle.bx_tree.specs.Trees.{Files}
-use Rattle.bx_io.specs.Holdings.{Holdings}
+use Rattle.two_phase.specs.Reading.{ReaderData}
+use Rattle.sched_board_slots.specs.declared.held.Held.{Held}
 use Rattle.pip_model_types.specs.declared.desc.Desc.{Desc}
 use Rattle.pip_model_types.specs.declared.made.Slot.{Slot}
 use Rattle.observed.specs.declared.ask.Ask.{Ask}
@@ -15,10 +17,6 @@ use Rattle.pip_model_types.specs.declared.pip.PipKind.{PipKind}
 use Rattle.pip_model_types.specs.declared.pip.PipKind.TheVariants.{Process, Copy, Write, Seal}
 use Rattle.pip_model_types.specs.declared.pip.ProcessDesc.{ProcessDesc}
 use Rattle.run_record.specs.Facts.{Facts, Sound}
-use Rattle.run_record.specs.declared.outcome.Outcome.{Outcome}
-use Rattle.run_record.specs.declared.outcome.Outcome.TheVariants.{Good, Failed}
-use Rattle.run_record.specs.declared.outcome.Cause.{Cause}
-use Rattle.run_record.specs.declared.outcome.Cause.TheVariants as causes
 use Rattle.two_phase_meaning.specs.Saving.{IsGood}
 use Rattle.pip_view_inputs.specs.Plain.{desc_of, kind_process}
 use Rattle.pip_view_inputs.specs.Results.{inputs_of}
@@ -27,14 +25,12 @@ use Rattle.violations.specs.Slots.{slot_files}
 use Rattle.violations.specs.Verdicts.{is_skip, is_success}
 use Rattle.violations.specs.declared.verdict.Verdict.{Verdict}
 use Rattle.violations.specs.declared.verdict.Verdict.TheVariants as verdicts
-use Rattle.violations.specs.declared.verdict.Violation.{Violation}
-use Rattle.violations.specs.Classes.{class_of}
-use Rattle.violations.specs.DoubleWrites.{clash_at}
-use Rattle.one_thread.specs.OneThread.{Result, by_cause, by_outcome, run_count, runs, unless_clash, violated}
+use Rattle.one_thread.specs.OneThread.{Result, by_outcome, run_count, runs}
+use Rattle.one_thread.proofs.NotSkipped.{outcome_ran}
 use Rattle.one_thread.specs.Views.{ended_result}
-use Rattle.retire.specs.Counting.{one_fault, one_hit, one_miss}
+use Rattle.retire.specs.Counting.{one_accepted, one_fault, one_hit, one_miss}
 use Rattle.retire.specs.Deciding as deciding
-use Rattle.retire.specs.Deciding.{DecidedBy, Decides, DecidesAt}
+use Rattle.retire.specs.Deciding.{Decides, DecidesAt}
 use Rattle.retire.specs.Saving.{IsSuccess}
 use Rattle.retire.specs.Taking.{IsOfNow, save_if, outcome_in, record_in, way_of}
 use Rattle.retire.specs.declared.deciding.Next.{Next}
@@ -50,7 +46,7 @@ abbrev pub one_run : PipKind → Verdict → ℕ
 one_run kind v = cond (runs kind v) 1 0
 
 abbrev pub all_ways : Way → ℕ
-all_ways way = one_hit way + (one_miss way + one_fault way)
+all_ways way = one_accepted way + (one_hit way + (one_miss way + one_fault way))
 
 skipped_none : (kind : PipKind) → one_run kind verdicts.Skipped ≡ 0
 skipped_none (Process p) = refl
@@ -64,25 +60,7 @@ plain_none (Copy p) v e = refl
 plain_none (Write p) v e = refl
 plain_none (Seal p) v e = refl
 
-violated_ran : (o : Option Violation) → is_skip (violated o).verdict ≡ false
-violated_ran None = refl
-violated_ran (Some violation) = refl
-
-cause_ran : (pips : List Pip) (tree : Files) (i : ℕ) (cause : Cause) → is_skip (by_cause pips tree i cause).verdict ≡ false
-cause_ran pips tree i (causes.Exit code) = refl
-cause_ran pips tree i (causes.Tool end) = refl
-cause_ran pips tree i (causes.MissingOutput path) = refl
-cause_ran pips tree i (causes.Denied access) = violated_ran (class_of pips tree i access)
-
-clash_ran : (files : Files) (o : Option Violation) → is_skip (unless_clash files o).verdict ≡ false
-clash_ran files None = refl
-clash_ran files (Some violation) = refl
-
-outcome_ran : (pips : List Pip) (tree : Files) (made : List Files) (i : ℕ) (o : Outcome) → is_skip (by_outcome pips tree made i o).verdict ≡ false
-outcome_ran pips tree made i (Good files) = clash_ran files (clash_at pips made i files)
-outcome_ran pips tree made i (Failed cause) = cause_ran pips tree i cause
-
-process_one : (p : ProcessDesc) (v : Verdict) → is_skip v ≡ false → one_run (Process p) v ≡ 1
+pub process_one : (p : ProcessDesc) (v : Verdict) → is_skip v ≡ false → one_run (Process p) v ≡ 1
 process_one p verdicts.Succeeded e = refl
 process_one p verdicts.Skipped e = absurd cc
 process_one p (verdicts.Exit code) e = refl
@@ -91,17 +69,18 @@ process_one p (verdicts.MissingOutput path) e = refl
 process_one p (verdicts.Violated violation) e = refl
 
 one_way : (t : Taken) → all_ways (way_of t) ≡ 1
+one_way (takings.Accepted f) = refl
 one_way (takings.Hit found) = refl
 one_way (takings.Missed f) = refl
 one_way (takings.Faulted f) = refl
 
-way_counts : (pips : List Pip) (tree : Files) (budget : ℕ) (held : Option Holdings) (ss : List Slot) (n : ℕ) (kind : PipKind) (next : Next)
-    → Decides pips tree budget held ss n kind next → all_ways next.way ≡ one_run kind next.ended.verdict
-way_counts pips tree budget held ss n kind next (deciding.skipped e d) =
+pub way_counts : (pips : List Pip) (tree : Files) (budget : ℕ) (reader : Option ReaderData) (slot : Held) (ss : List Slot) (n : ℕ) (kind : PipKind) (next : Next)
+    → Decides pips tree budget reader slot ss n kind next → all_ways next.way ≡ one_run kind next.ended.verdict
+way_counts pips tree budget reader slot ss n kind next (deciding.skipped e d) =
     ap all_ways d.way_is ∙ sym (skipped_none kind) ∙ ap (λ (r : Result). one_run kind r.verdict) (sym d.result_is)
-way_counts pips tree budget held ss n kind next (deciding.plain e none d) =
+way_counts pips tree budget reader slot ss n kind next (deciding.plain e none d) =
     ap all_ways d.way_is ∙ sym (plain_none kind next.ended.verdict none)
-way_counts pips tree budget held ss n kind next (deciding.process p e is d) =
+way_counts pips tree budget reader slot ss n kind next (deciding.process p e is d) =
     let ran : is_skip next.ended.verdict ≡ false =
     ap (λ (r : Result). is_skip r.verdict) d.result_is ∙ outcome_ran pips tree (map slot_files ss) n (outcome_in d.taken) in
     ap all_ways d.way_is ∙ one_way d.taken ∙ sym (process_one p next.ended.verdict ran)
@@ -151,16 +130,17 @@ count_at_most (p ∷ ps) (w ∷ ws) =
     let more = cond_few (runs p.kind w) (run_count ps ws) (length ps) (count_at_most ps ws) in omega (arith, more)
 
 -- one pip more
-pub counted_at : (pips : List Pip) (tree : Files) (budget : ℕ) (held : Option Holdings) (ss : List Slot) (vs : List Verdict) (n : ℕ) (next : Next) (o : Option Pip)
-    → slice_get pips n ≡ o → length vs ≡ n → DecidesAt pips tree budget held ss n o next
+pub counted_at : (pips : List Pip) (tree : Files) (budget : ℕ) (reader : Option ReaderData) (slot : Held) (ss : List Slot) (vs : List Verdict) (n : ℕ) (next : Next) (o : Option Pip)
+    → slice_get pips n ≡ o → length vs ≡ n → DecidesAt pips tree budget reader slot ss n o next
     → run_count pips (vs ++ next.ended.verdict ∷ []) ≡ run_count pips vs + all_ways next.way
-counted_at pips tree budget held ss vs n next None at long d = absurd d
-counted_at pips tree budget held ss vs n next (Some pip) at long d =
+counted_at pips tree budget reader slot ss vs n next None at long d = absurd d
+counted_at pips tree budget reader slot ss vs n next (Some pip) at long d =
     count_more pips vs next.ended.verdict n pip long at
-    ∙ ap (λ k. run_count pips vs + k) (sym (way_counts pips tree budget held ss n pip.kind next d))
+    ∙ ap (λ k. run_count pips vs + k) (sym (way_counts pips tree budget reader slot ss n pip.kind next d))
 
-pub counted_sum : (h m f x y z r r' h' m' f' : ℕ) → h + (m + f) ≡ r → h' ≡ h + x → m' ≡ m + y → f' ≡ f + z → r' ≡ r + (x + (y + z)) → h' + (m' + f') ≡ r'
-counted_sum h m f x y z r r' h' m' f' sum hs ms fs rs = omega (arith, sum, hs, ms, fs, rs)
+pub counted_sum : (a h m f w x y z r r' a' h' m' f' : ℕ) → a + (h + (m + f)) ≡ r → a' ≡ a + w → h' ≡ h + x → m' ≡ m + y → f' ≡ f + z
+    → r' ≡ r + (w + (x + (y + z))) → a' + (h' + (m' + f')) ≡ r'
+counted_sum a h m f w x y z r r' a' h' m' f' sum as' hs ms fs rs = omega (arith, sum, as', hs, ms, fs, rs)
 
 -- ## Records of successes
 
@@ -168,28 +148,37 @@ some_or_none : (o : Option Facts) (f : Facts) → o ≡ None → o ≡ Some f �
 some_or_none o f h k = let never : None ≡ Some f = sym h ∙ k in cc
 
 saved_good : (pips : List Pip) (tree : Files) (made : List Files) (i : ℕ) (t : Taken) (r : Result) → r ≡ by_outcome pips tree made i (outcome_in t)
-    → (b : Bool) → is_success r.verdict ≡ b → (f : Facts) → save_if b (record_in t) ≡ Some f → IsGood f
-saved_good pips tree made i (takings.Hit found) r is b e f kept = absurd (some_or_none (save_if b None) f (save_none b) kept)
-saved_good pips tree made i (takings.Missed g) r is true e f kept = subst IsGood (same_Some g f kept) (success_good pips tree made i g.outcome r is e)
-saved_good pips tree made i (takings.Missed g) r is false e f kept = absurd cc
-saved_good pips tree made i (takings.Faulted g) r is true e f kept = subst IsGood (same_Some g f kept) (success_good pips tree made i g.outcome r is e)
-saved_good pips tree made i (takings.Faulted g) r is false e f kept = absurd cc
+    → (used good b : Bool) → is_success r.verdict ≡ good → (used && good) ≡ b → (f : Facts) → save_if b (record_in t) ≡ Some f → IsGood f
+saved_good pips tree made i (takings.Accepted g) r is used good true e both f kept =
+    subst IsGood (same_Some g f kept) (success_good pips tree made i g.outcome r is (e ∙ (and_parts used good both).1))
+saved_good pips tree made i (takings.Accepted g) r is used good false e both f kept = absurd cc
+saved_good pips tree made i (takings.Hit found) r is used good b e both f kept = absurd (some_or_none (save_if b None) f (save_none b) kept)
+saved_good pips tree made i (takings.Missed g) r is used good true e both f kept =
+    subst IsGood (same_Some g f kept) (success_good pips tree made i g.outcome r is (e ∙ (and_parts used good both).1))
+saved_good pips tree made i (takings.Missed g) r is used good false e both f kept = absurd cc
+saved_good pips tree made i (takings.Faulted g) r is used good true e both f kept =
+    subst IsGood (same_Some g f kept) (success_good pips tree made i g.outcome r is (e ∙ (and_parts used good both).1))
+saved_good pips tree made i (takings.Faulted g) r is used good false e both f kept = absurd cc
 
-saved_sound : (d : Desc) (see : Ask → Answer) (t : Taken) → IsOfNow d see t → (b : Bool) (f : Facts) → save_if b (record_in t) ≡ Some f → Sound f
-saved_sound d see (takings.Hit found) now b f kept = absurd (some_or_none (save_if b None) f (save_none b) kept)
-saved_sound d see (takings.Missed g) now true f kept = subst Sound (same_Some g f kept) now.0
-saved_sound d see (takings.Missed g) now false f kept = absurd cc
-saved_sound d see (takings.Faulted g) now true f kept = subst Sound (same_Some g f kept) now.0
-saved_sound d see (takings.Faulted g) now false f kept = absurd cc
+saved_sound : (d : Desc) (see : Ask → Answer) (slot : Held) (t : Taken) → IsOfNow d see slot t → (b : Bool) (f : Facts) → save_if b (record_in t) ≡ Some f → Sound f
+saved_sound d see slot (takings.Accepted g) now true f kept = subst Sound (same_Some g f kept) now.1
+saved_sound d see slot (takings.Accepted g) now false f kept = absurd cc
+saved_sound d see slot (takings.Hit found) now b f kept = absurd (some_or_none (save_if b None) f (save_none b) kept)
+saved_sound d see slot (takings.Missed g) now true f kept = subst Sound (same_Some g f kept) now.1
+saved_sound d see slot (takings.Missed g) now false f kept = absurd cc
+saved_sound d see slot (takings.Faulted g) now true f kept = subst Sound (same_Some g f kept) now.1
+saved_sound d see slot (takings.Faulted g) now false f kept = absurd cc
 
-decided_good : (pips : List Pip) (tree : Files) (budget : ℕ) (held : Option Holdings) (ss : List Slot) (n : ℕ) (kind : PipKind) (next : Next)
-    → Decides pips tree budget held ss n kind next → (f : Facts) → next.saved ≡ Some f → IsSuccess f
-decided_good pips tree budget held ss n kind next (deciding.skipped e d) f kept = absurd (some_or_none next.saved f d.record_is kept)
-decided_good pips tree budget held ss n kind next (deciding.plain e none d) f kept = absurd (some_or_none next.saved f d.record_is kept)
-decided_good pips tree budget held ss n kind next (deciding.process p e is d) f kept =
+decided_good : (pips : List Pip) (tree : Files) (budget : ℕ) (reader : Option ReaderData) (slot : Held) (ss : List Slot) (n : ℕ) (kind : PipKind) (next : Next)
+    → Decides pips tree budget reader slot ss n kind next → (f : Facts) → next.saved ≡ Some f → IsSuccess f
+decided_good pips tree budget reader slot ss n kind next (deciding.skipped e d) f kept = absurd (some_or_none next.saved f d.record_is kept)
+decided_good pips tree budget reader slot ss n kind next (deciding.plain e none d) f kept = absurd (some_or_none next.saved f d.record_is kept)
+decided_good pips tree budget reader slot ss n kind next (deciding.process p e is d) f kept =
     let inputs = inputs_of pips (Process p) (map slot_files ss) in (
-      saved_good pips tree (map slot_files ss) n d.taken (ended_result next.ended) d.result_is (is_success next.ended.verdict) refl f (sym d.record_is ∙ kept),
-      saved_sound (desc_of tree inputs budget p) (sees pips tree inputs n) d.taken d.now (is_success next.ended.verdict) f (sym d.record_is ∙ kept),
+      saved_good pips tree (map slot_files ss) n d.taken (ended_result next.ended) d.result_is (is_some reader) (is_success next.ended.verdict)
+          (is_some reader && is_success next.ended.verdict) refl refl f (sym d.record_is ∙ kept),
+      saved_sound (desc_of tree inputs budget p) (sees pips tree inputs n) slot d.taken d.now (is_some reader && is_success next.ended.verdict) f
+          (sym d.record_is ∙ kept),
     )
 
 all_and : (fs : List Facts) (f : Facts) → AllByRecursion IsSuccess fs → IsSuccess f → AllByRecursion IsSuccess (fs ++ f ∷ [])
@@ -202,11 +191,11 @@ with_saved fs None h good = subst (AllByRecursion IsSuccess) (sym (append-nil fs
 with_saved fs (Some f) h good = all_and fs f h (good f refl)
 
 -- the records of one pip more are of successes
-pub good_at : (pips : List Pip) (tree : Files) (budget : ℕ) (held : Option Holdings) (ss : List Slot) (n : ℕ) (next : Next) (fs : List Facts) (o : Option Pip)
-    → DecidesAt pips tree budget held ss n o next → AllByRecursion IsSuccess fs → AllByRecursion IsSuccess (fs ++ option_to_list next.saved)
-good_at pips tree budget held ss n next fs None d h = absurd d
-good_at pips tree budget held ss n next fs (Some pip) d h =
-    with_saved fs next.saved h (decided_good pips tree budget held ss n pip.kind next d)
+pub good_at : (pips : List Pip) (tree : Files) (budget : ℕ) (reader : Option ReaderData) (slot : Held) (ss : List Slot) (n : ℕ) (next : Next) (fs : List Facts) (o : Option Pip)
+    → DecidesAt pips tree budget reader slot ss n o next → AllByRecursion IsSuccess fs → AllByRecursion IsSuccess (fs ++ option_to_list next.saved)
+good_at pips tree budget reader slot ss n next fs None d h = absurd d
+good_at pips tree budget reader slot ss n next fs (Some pip) d h =
+    with_saved fs next.saved h (decided_good pips tree budget reader slot ss n pip.kind next d)
 
 -- one pip adds one record at most
 pub few_more : (fs : List Facts) (kept : Option Facts) (n : ℕ) → length fs ≤ n → length (fs ++ option_to_list kept) ≤ n + 1

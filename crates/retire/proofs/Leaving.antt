@@ -10,7 +10,6 @@ use Rattle.bx_tree.proofs.Members.{has_all}
 use Rattle.bx_io.specs.Holdings.{Holdings, StoreTold, held_in}
 use Rattle.pip_model_types.specs.Makers.{IsPipList}
 use Rattle.pip_model_types.specs.declared.desc.Desc.{Desc}
-use Rattle.pip_model_types.specs.declared.made.Slot.{Slot}
 use Rattle.pip_model_types.specs.declared.pip.Pip.{Pip}
 use Rattle.pip_model_types.specs.declared.pip.PipKind.TheVariants.{Process}
 use Rattle.observed.specs.Texts.{has_match}
@@ -26,14 +25,14 @@ use Rattle.two_phase_meaning.specs.Saving.{answers_text, paths_digest, record_se
 use Rattle.two_phase_meaning.specs.Compared as met
 use Rattle.two_phase_meaning.specs.Usable.{Usable, UsableAt, asked_text}
 use Rattle.two_phase_meaning.proofs.Stays.{at_one, usable_at}
-use Rattle.violations.specs.declared.verdict.Verdict.{Verdict}
 use Rattle.retire_compared.specs.Compared.{Compared, desc_after, view_after}
 use Rattle.retire.specs.Runs.{IsOfSuccess, NoneReserved, RunsAs, results_before}
 use Rattle.retire.proofs.SoFar.{run_met, success_met}
 use Rattle.retire.proofs.SuccessFits.{success_fits}
 use Rattle.retire.specs.Builds.{Between, IsFair, LeavesFair, LeavesUsable}
-use Rattle.retire.specs.Deciding.{FollowsAll, IsThere}
+use Rattle.retire.specs.Deciding.{IsThere, RecordsAll}
 use Rattle.retire.specs.Saving.{PutsAllEach, PutsFirst}
+use Rattle.retire.proofs.Alike.{all_alike, first_alike}
 use Rattle.retire.proofs.Chain.{IsReady, Leaves, chain}
 use Rattle.retire.proofs.Others.{NoneAt, all_others, none_is, spelled_each}
 use Rattle.retire.proofs.Records.{all_successes}
@@ -56,16 +55,20 @@ are_ready pips tree budget S (f ∷ fs) h sounds = (
 
 -- ## What a fair store is left as
 
-module _ (pips : List Pip) (tree : Files) (budget : ℕ) (held : Holdings) (before : StoreTold) (was : held_in before ≡ Some held) (vs : List Verdict) (ss : List Slot) (fs : List Facts)
-    (hits faults : ℕ) (follows : FollowsAll pips tree budget held vs ss fs hits faults) (fair : IsFair pips tree budget held) where
+module _ (pips : List Pip) (tree : Files) (budget : ℕ) (held : Holdings) (before : StoreTold) (was : held_in before ≡ Some held) (rs : List Facts)
+    (follows : RecordsAll pips tree budget held rs) (fair : IsFair pips tree budget held) where
+  abbrev fs : List Facts
+  fs = follows.facts
+
   all_of : AllByRecursion (IsOfSuccess pips tree budget) fs
   all_of = all_successes pips tree budget 0 follows.high fs follows.successes
 
   ready : AllByRecursion (IsReady (Compared pips tree budget held)) fs
   ready = are_ready pips tree budget held fs all_of follows.sounds
 
-  pub leaves_fair : (now : StoreTold) → IsSome (held_in now) → PutsFirst before fs now → LeavesFair pips tree budget held before now
-  leaves_fair now tells puts =
+  pub leaves_fair : (now : StoreTold) → IsSome (held_in now) → PutsFirst before rs now → LeavesFair pips tree budget held before now
+  leaves_fair now tells saved =
+      let puts : PutsFirst before fs now = first_alike rs fs before now follows.alike saved in
       let gs = take puts.number fs in
       let left : Leaves held before gs now =
       chain (Compared pips tree budget held) fair.apart gs held before now was tells (all_first (IsReady (Compared pips tree budget held)) puts.number fs ready)
@@ -164,6 +167,6 @@ module _ (pips : List Pip) (tree : Files) (budget : ℕ) (held : Holdings) (befo
       ]
     ]
 
-  pub leaves_usable : IsPipList pips → KeepsRules pips tree → NoneReserved tree → (now : StoreTold) → PutsAllEach before fs now → LeavesUsable pips tree budget now
-  leaves_usable list keeps free now puts S is i d see runs succeeds =
-      there_usable list keeps free now puts S is i d see runs (follows.all_there i d see runs succeeds)
+  pub leaves_usable : IsPipList pips → KeepsRules pips tree → NoneReserved tree → (now : StoreTold) → PutsAllEach before rs now → LeavesUsable pips tree budget now
+  leaves_usable list keeps free now saved S is i d see runs succeeds =
+      there_usable list keeps free now (all_alike rs fs before now follows.alike saved) S is i d see runs (follows.all_there i d see runs succeeds)

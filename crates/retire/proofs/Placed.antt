@@ -10,7 +10,8 @@ use Rattle.bx_tree.specs.Paths.{Atoms, IsBelow, has_path}
 use Rattle.bx_tree.specs.Trees.{Files, paths_of}
 use Rattle.bx_tree.specs.Members.{Has}
 use Rattle.bx_tree.proofs.Sets.{contains_has}
-use Rattle.bx_io.specs.Holdings.{Holdings}
+use Rattle.two_phase.specs.Reading.{ReaderData}
+use Rattle.sched_board_slots.specs.declared.held.Held.{Held}
 use Rattle.observed.specs.declared.ask.Ask.{Ask}
 use Rattle.observed.specs.declared.access.Answer.{Answer}
 use Rattle.bx_tree.specs.Below.{is_below}
@@ -41,7 +42,7 @@ use Rattle.retire.specs.Taking.{IsOfNow, outcome_in}
 use Rattle.retire.specs.declared.deciding.Next.{Next}
 use Rattle.retire.specs.declared.taking.Taken.{Taken}
 use Rattle.retire.specs.declared.taking.Taken.TheVariants as takings
-use Rattle.retire.proofs.Along.{ran_is}
+use Rattle.retire.proofs.Along.{accepted_ran, ran_is}
 use Rattle.pip_model_types.specs.Outputs.{is_console}
 
 -- ## What fits a process, it makes
@@ -90,46 +91,48 @@ module _ (pips : List Pip) (tree : Files) (budget : ℕ) (apart : Apart pips) (h
   abbrev made : List Files
   made = map slot_files ss
 
-  of_taken : (x : Desc) (see : Ask → Answer) (t : Taken) → pip.kind ≡ Process x.process → IsOfNow x see t
+  of_taken : (x : Desc) (see : Ask → Answer) (slot : Held) (t : Taken) → pip.kind ≡ Process x.process → IsOfNow x see slot t
       → AreOwnOutputs pips made n (Process x.process) (by_outcome pips tree made n (outcome_in t)).files
-  of_taken x see (takings.Hit f) is now =
-      of_unclashed pips apart hold tree made n pip at x.process f.made is (λ q h. fit_makes x.process (paths_of f.made) q now.fit h)
-      (λ p q a b below. now.unnested q p (contains_has (paths_of f.made) q b) (contains_has (paths_of f.made) p a) below)
+  of_taken x see slot (takings.Accepted f) is now =
+      of_outcome pips apart hold tree made n pip at x see is f.outcome (sym (accepted_ran f x see now.1 now.2))
+  of_taken x see slot (takings.Hit f) is now =
+      of_unclashed pips apart hold tree made n pip at x.process f.made is (λ q h. fit_makes x.process (paths_of f.made) q now.1.fit h)
+      (λ p q a b below. now.1.unnested q p (contains_has (paths_of f.made) q b) (contains_has (paths_of f.made) p a) below)
       (clash_at pips made n f.made) refl
-  of_taken x see (takings.Missed f) is now =
-      of_outcome pips apart hold tree made n pip at x see is f.outcome (sym (ran_is f x see now.1))
-  of_taken x see (takings.Faulted f) is now =
-      of_outcome pips apart hold tree made n pip at x see is f.outcome (sym (ran_is f x see now.1))
+  of_taken x see slot (takings.Missed f) is now =
+      of_outcome pips apart hold tree made n pip at x see is f.outcome (sym (ran_is f x see now.2))
+  of_taken x see slot (takings.Faulted f) is now =
+      of_outcome pips apart hold tree made n pip at x see is f.outcome (sym (ran_is f x see now.2))
 
   abbrev files_as : (next : Next) (r : Result) → ended_result next.ended ≡ r → slot_files next.ended.slot ≡ r.files
   files_as next r e = ap (λ (x : Result). x.files) e
 
-  placed : (held : Option Holdings) (next : Next) → Decides pips tree budget held ss n pip.kind next
+  placed : (reader : Option ReaderData) (slot : Held) (next : Next) → Decides pips tree budget reader slot ss n pip.kind next
       → AreOwnOutputs pips made n pip.kind (slot_files next.ended.slot)
-  placed held next (deciding.skipped e d) =
+  placed reader slot next (deciding.skipped e d) =
       subst (λ (fs : Files). AreOwnOutputs pips made n pip.kind fs) (sym (files_as next _ d.result_is)) (none_kept pips made n pip.kind)
-  placed held next (deciding.plain e none d) =
+  placed reader slot next (deciding.plain e none d) =
       subst (λ (fs : Files). AreOwnOutputs pips made n pip.kind fs) (sym (files_as next _ d.result_is))
       (of_kind pips apart hold tree made n pip at budget (inputs_of pips pip.kind made) pip.kind refl)
-  placed held next (deciding.process p e is d) =
+  placed reader slot next (deciding.process p e is d) =
       let inputs = inputs_of pips (Process p) made in
       subst (λ (k : PipKind). AreOwnOutputs pips made n k (slot_files next.ended.slot)) (sym is)
       (subst (λ (fs : Files). AreOwnOutputs pips made n (Process p) fs) (sym (files_as next _ d.result_is))
-      (of_taken (desc_of tree inputs budget p) (sees pips tree inputs n) d.taken is d.now))
+      (of_taken (desc_of tree inputs budget p) (sees pips tree inputs n) slot d.taken is d.now))
 
-  pub placed_at : (held : Option Holdings) (next : Next) → Decides pips tree budget held ss n pip.kind next
+  pub placed_at : (reader : Option ReaderData) (slot : Held) (next : Next) → Decides pips tree budget reader slot ss n pip.kind next
       → KeptAt pips made n (slot_files next.ended.slot)
-  placed_at held next d = record { pip = pip; at = at; keeps = placed held next d }
+  placed_at reader slot next d = record { pip = pip; at = at; keeps = placed reader slot next d }
 
 -- ## One pip more
 
-pub kept_next : (pips : List Pip) (tree : Files) (budget : ℕ) (apart : Apart pips) (hold : AllHold) (held : Option Holdings) (ss : List Slot) (n : ℕ) (next : Next)
-    (o : Option Pip) → slice_get pips n ≡ o → length ss ≡ n → DecidesAt pips tree budget held ss n o next → AreKept pips (map slot_files ss)
+pub kept_next : (pips : List Pip) (tree : Files) (budget : ℕ) (apart : Apart pips) (hold : AllHold) (reader : Option ReaderData) (slot : Held) (ss : List Slot) (n : ℕ) (next : Next)
+    (o : Option Pip) → slice_get pips n ≡ o → length ss ≡ n → DecidesAt pips tree budget reader slot ss n o next → AreKept pips (map slot_files ss)
     → AreKept pips (map slot_files (ss ++ next.ended.slot ∷ []))
-kept_next pips tree budget apart hold held ss n next None at long d kept = absurd d
-kept_next pips tree budget apart hold held ss n next (Some pip) at long d kept =
+kept_next pips tree budget apart hold reader slot ss n next None at long d kept = absurd d
+kept_next pips tree budget apart hold reader slot ss n next (Some pip) at long d kept =
     let made = map slot_files ss in
-    let here : KeptAt pips made n (slot_files next.ended.slot) = placed_at pips tree budget apart hold ss n pip at held next d in
+    let here : KeptAt pips made n (slot_files next.ended.slot) = placed_at pips tree budget apart hold ss n pip at reader slot next d in
     subst (AreKept pips) (sym (map-append slot_files ss (next.ended.slot ∷ [])))
     (one_more_kept pips made (slot_files next.ended.slot) kept
     (subst (λ k. KeptAt pips made k (slot_files next.ended.slot)) (sym (length-map ss slot_files ∙ long)) here))

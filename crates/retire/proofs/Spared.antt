@@ -1,5 +1,5 @@
--- Hits, and the processes that the store would spare.
-use Rattle.std.proofs.Common.{◌≡◌, ◌⊎◌, ℕ, ◌+◌, ◌≤◌, true, List, [], ◌∷◌, length, map, Some, None, refl, sym, ap, ◌∙◌, subst, inl, inr, arith}
+-- What the ways in which pips are decided say of the processes that the store would spare.
+use Rattle.std.proofs.Common.{◌≡◌, ℕ, true, List, [], ◌∷◌, length, map, Option, None, sym, ap, ◌∙◌, subst, inl, inr, arith}
 use Rattle.std.proofs.lemmas.Bool.{both_ways}
 use Rattle.bx_tree.specs.Trees.{Files}
 use Rattle.bx_io.specs.Holdings.{Holdings}
@@ -26,57 +26,25 @@ use Rattle.one_thread.proofs.GoingThrough.{IsSoFar, all_good, made_is}
 use Rattle.two_phase.specs.Lookups.{FirstLeadsTo, LookupHits}
 use Rattle.retire.specs.HitSet.{PipHits, WorkHits}
 use Rattle.retire_compared.specs.Compared.{desc_after, view_after}
-use Rattle.retire.specs.Counting.{one_fault, one_hit}
 use Rattle.retire.specs.Deciding as deciding
 use Rattle.retire.specs.Deciding.{DecidedBy, Decides}
-use Rattle.retire.specs.Taking.{TakesFrom, way_of}
+use Rattle.retire.specs.Taking.{TakesAlone, TakesBy, TakesFrom, way_of}
 use Rattle.retire.specs.declared.deciding.Next.{Next}
 use Rattle.retire.specs.declared.taking.Taken.{Taken}
 use Rattle.retire.specs.declared.taking.Taken.TheVariants as takings
 use Rattle.retire.specs.declared.taking.Way.{Way}
 use Rattle.retire.specs.declared.taking.Way.TheVariants as ways
+use Rattle.retire.proofs.Told.{IsTold, told_takes}
+use Rattle.two_phase.specs.Reading.{ReaderData}
+use Rattle.sched_board_slots.specs.declared.held.Held.{Held}
 
 -- what a way says of whether the store would spare the pip
 abbrev pub Tells : Type 0 → Way → Type 0
 Tells P ways.Plain = P → ⊥
+Tells P ways.Accepted = Unit {0}
 Tells P ways.Hit = P
 Tells P ways.Ran = P → ⊥
 Tells P ways.Faulted = Unit {0}
-
--- ## Counts
-
-pub record Counted (Q : List ℕ → Type 0) (hits faults all : ℕ) : Type 0 where
-  pub rest : List ℕ
-  pub goes_on : Q rest
-  pub at_most : hits + length rest ≤ all
-  pub at_least : all ≤ hits + faults + length rest
-
--- a set of numbers from n on: n and those after it, where the store would spare pip n, and else those after it
-abbrev pub Splits : Type 0 → (List ℕ → Type 0) → ℕ → List ℕ → Type 0
-Splits P Q n numbers = (P × ((rest : List ℕ) × (numbers ≡ n ∷ rest) × Q rest)) ⊎ ((P → ⊥) × Q numbers)
-
-pub counted_step : (P : Type 0) (Q : List ℕ → Type 0) (n : ℕ) (way : Way) (hits faults all : ℕ) → Tells P way → Counted (Splits P Q n) hits faults all
-    → Counted Q (hits + one_hit way) (faults + one_fault way) all
-counted_step P Q n ways.Plain hits faults all t c = elim c.goes_on [
-  | inl a ↦ absurd (t a.0)
-  | inr b ↦ let lo = c.at_most in let hi = c.at_least in record { rest = c.rest; goes_on = b.1; at_most = omega (arith, lo); at_least = omega (arith, hi) }
-]
-counted_step P Q n ways.Hit hits faults all t c = elim c.goes_on [
-  | inl a ↦
-      let lo = c.at_most in let hi = c.at_least in let long : length c.rest ≡ length (n ∷ a.1.0) = ap length a.1.1 in
-      record { rest = a.1.0; goes_on = a.1.2; at_most = omega (arith, lo, long); at_least = omega (arith, hi, long) }
-  | inr b ↦ absurd (b.0 t)
-]
-counted_step P Q n ways.Ran hits faults all t c = elim c.goes_on [
-  | inl a ↦ absurd (t a.0)
-  | inr b ↦ let lo = c.at_most in let hi = c.at_least in record { rest = c.rest; goes_on = b.1; at_most = omega (arith, lo); at_least = omega (arith, hi) }
-]
-counted_step P Q n ways.Faulted hits faults all t c = elim c.goes_on [
-  | inl a ↦
-      let lo = c.at_most in let hi = c.at_least in let long : length c.rest ≡ length (n ∷ a.1.0) = ap length a.1.1 in
-      record { rest = a.1.0; goes_on = a.1.2; at_most = omega (arith, lo, long); at_least = omega (arith, hi, long) }
-  | inr b ↦ let lo = c.at_most in let hi = c.at_least in record { rest = c.rest; goes_on = b.1; at_most = omega (arith, lo); at_least = omega (arith, hi) }
-]
 
 -- ## Ways
 
@@ -88,13 +56,15 @@ pub hit_usable : (S : Holdings) (d : Desc) (see : Ask → Answer) (f : FoundPart
 hit_usable S d see f h = record { list = h.list; held = h.held; any = any_first S d see h.list f h.first }
 
 way_tells : (S : Holdings) (d : Desc) (see : Ask → Answer) (t : Taken) → TakesFrom S d see t → Tells (Usable S d see) (way_of t)
+way_tells S d see (takings.Accepted f) h = tt
 way_tells S d see (takings.Hit f) h = hit_usable S d see f h.0
-way_tells S d see (takings.Missed f) h = h.0
+way_tells S d see (takings.Missed f) h = h
 way_tells S d see (takings.Faulted f) h = tt
 
 -- what a way says of one thing it says of another that is so just where the first is
 tells_same : (P P' : Type 0) (way : Way) → (P → P') → (P' → P) → Tells P way → Tells P' way
 tells_same P P' ways.Plain to back t = λ p. t (back p)
+tells_same P P' ways.Accepted to back t = tt
 tells_same P P' ways.Hit to back t = to t
 tells_same P P' ways.Ran to back t = λ p. t (back p)
 tells_same P P' ways.Faulted to back t = tt
@@ -125,10 +95,10 @@ module _ (pips : List Pip) (tree : Files) (budget : ℕ) (n : ℕ) (vs : List Ve
   view_same : (p : ProcessDesc) → view_after pips tree (results_of vs ss) n p ≡ view_now p
   view_same p = ap (λ (made : List Files). sees pips tree (inputs_of pips (Process p) made) n) (made_is vs ss even)
 
-  by_process : (p : ProcessDesc) (next : Next) → slots_are_good pips (Process p) ss ≡ true
-      → DecidedBy pips tree budget (Some S) (map slot_files ss) (inputs_of pips (Process p) (map slot_files ss)) n p next
+  by_process : (reader : Option ReaderData) (slot : Held) (p : ProcessDesc) (next : Next) → IsTold reader S → slots_are_good pips (Process p) ss ≡ true
+      → DecidedBy pips tree budget reader slot (map slot_files ss) (inputs_of pips (Process p) (map slot_files ss)) n p next
       → Tells (PipHits pips tree budget S (results_of vs ss) n (Process p)) next.way
-  by_process p next good d =
+  by_process reader slot p next told good d =
       subst (Tells (PipHits pips tree budget S (results_of vs ss) n (Process p))) (sym d.way_is)
       (tells_same (Usable S (desc_now p) (view_now p)) (PipHits pips tree budget S (results_of vs ss) n (Process p)) (way_of d.taken)
       (λ u. (
@@ -138,17 +108,35 @@ module _ (pips : List Pip) (tree : Files) (budget : ℕ) (n : ℕ) (vs : List Ve
       ))
       (λ h. subst (λ (v : Ask → Answer). Usable S (desc_now p) v) (view_same p)
       (subst (λ (e : Desc). Usable S e (view_after pips tree (results_of vs ss) n p)) (desc_same p) h.1))
-      (way_tells S (desc_now p) (view_now p) d.taken (d.takes S refl)))
+      (way_tells S (desc_now p) (view_now p) d.taken (told_takes reader S (desc_now p) (view_now p) d.taken told d.takes)))
 
   -- the way in which a pip is decided says whether the store would spare it
-  pub tells : (kind : PipKind) (next : Next) → Decides pips tree budget (Some S) ss n kind next
+  pub tells : (reader : Option ReaderData) (slot : Held) (kind : PipKind) (next : Next) → IsTold reader S → Decides pips tree budget reader slot ss n kind next
       → Tells (PipHits pips tree budget S (results_of vs ss) n kind) next.way
-  tells kind next (deciding.skipped e d) =
+  tells reader slot kind next told (deciding.skipped e d) =
       subst (Tells (PipHits pips tree budget S (results_of vs ss) n kind)) (sym d.way_is)
       (λ h. both_ways (slots_are_good pips kind ss) e (sym (goods kind) ∙ h.0))
-  tells kind next (deciding.plain e none d) =
+  tells reader slot kind next told (deciding.plain e none d) =
       subst (Tells (PipHits pips tree budget S (results_of vs ss) n kind)) (sym d.way_is)
       (λ h. no_process_hits pips tree budget S vs ss n kind none h.1)
-  tells kind next (deciding.process p e is d) =
+  tells reader slot kind next told (deciding.process p e is d) =
       subst (λ (k : PipKind). Tells (PipHits pips tree budget S (results_of vs ss) n k) next.way) (sym is)
-      (by_process p next (subst (λ (k : PipKind). slots_are_good pips k ss ≡ true) is e) d)
+      (by_process reader slot p next told (subst (λ (k : PipKind). slots_are_good pips k ss ≡ true) is e) d)
+
+-- without a store nothing is said but what runs and what was accepted
+alone_tells : (t : Taken) → TakesAlone t → Tells ⊥ (way_of t)
+alone_tells (takings.Accepted f) h = tt
+alone_tells (takings.Hit f) h = absurd h
+alone_tells (takings.Missed f) h = λ b. b
+alone_tells (takings.Faulted f) h = absurd h
+
+pub tells_alone : (reader : Option ReaderData) (slot : Held) (pips : List Pip) (tree : Files) (budget n : ℕ) (ss : List Slot) (kind : PipKind) (next : Next) → reader ≡ None
+    → Decides pips tree budget reader slot ss n kind next → Tells ⊥ next.way
+tells_alone reader slot pips tree budget n ss kind next none (deciding.skipped e d) = subst (Tells ⊥) (sym d.way_is) (λ b. b)
+tells_alone reader slot pips tree budget n ss kind next none (deciding.plain e no_process d) = subst (Tells ⊥) (sym d.way_is) (λ b. b)
+tells_alone reader slot pips tree budget n ss kind next none (deciding.process p e is d) =
+    subst (Tells ⊥) (sym d.way_is)
+    (alone_tells d.taken
+    (subst
+    (λ (r : Option ReaderData). TakesBy r (desc_of tree (inputs_of pips (Process p) (map slot_files ss)) budget p) (sees pips tree (inputs_of pips (Process p) (map slot_files ss)) n) d.taken)
+    none d.takes))

@@ -1,5 +1,5 @@
 -- What a build over a store gives and leaves.
-use Rattle.std.specs.Prelude.{◌≡◌, ℕ, ◌+◌, ◌≤◌, Bool, true, false, List, [], ◌∷◌, length, Option, Some, IsSome, ⊤}
+use Rattle.std.specs.Prelude.{◌≡◌, ℕ, ◌+◌, ◌≤◌, Bool, true, false, List, [], ◌∷◌, Option, Some, IsSome, ⊤}
 use Rattle.bx_tree.specs.Trees.{Files}
 use Rattle.bx_io.specs.Holdings.{Holdings, StoreTold, held_in}
 use Rattle.pip_model_types.specs.declared.pip.Pip.{Pip}
@@ -9,7 +9,6 @@ use Rattle.run_record.specs.Collisions.{NoCollision}
 use Rattle.two_phase_meaning.specs.Honest.{Honest}
 use Rattle.one_thread.specs.OneThread.{one_thread, outputs_of, run_count, verdicts_of}
 use Rattle.two_phase.specs.Putting.{LeavesHonest}
-use Rattle.retire.specs.HitSet.{IsHitSet}
 use Rattle.retire_compared.specs.Compared.{Compared}
 use Rattle.retire.specs.Runs.{AddsSuccesses, AllUsable, IsOfSuccess}
 use Rattle.retire.specs.Saving.{PutsFirst}
@@ -39,22 +38,6 @@ pub record IsFairStore (pips : List Pip) (tree : Files) (budget : ℕ) (before n
 abbrev pub Fair : List Pip → Files → ℕ → Bool → Option Holdings → Option Holdings → Type 0
 Fair pips tree budget false before now = ⊤
 Fair pips tree budget true before now = IsFairStore pips tree budget before now
-
--- The hits are at most the processes that the store would spare, and fall short of them by the faults at
--- most.
-pub record Spares (pips : List Pip) (tree : Files) (budget : ℕ) (S : Holdings) (hits faults : ℕ)
-    : Type 0 where
-  pub at_most : (numbers : List ℕ) → IsHitSet pips tree budget S numbers → hits ≤ length numbers
-  pub at_least : (numbers : List ℕ) → IsHitSet pips tree budget S numbers → length numbers ≤ hits + faults
-
--- The processes whose tools ran here are at least those that run and that the store would not spare, and
--- exceed them by the faults at most.
-pub record RunsLate (pips : List Pip) (tree : Files) (budget : ℕ) (S : Holdings) (late faults : ℕ)
-    : Type 0 where
-  pub at_least : (numbers : List ℕ) → IsHitSet pips tree budget S numbers
-      → run_count pips (verdicts_of (one_thread pips tree budget)) ≤ late + length numbers
-  pub at_most : (numbers : List ℕ) → IsHitSet pips tree budget S numbers
-      → late + length numbers ≤ run_count pips (verdicts_of (one_thread pips tree budget)) + faults
 
 -- records of processes that succeed, whose numbers rise from `low` on and are below `high`
 abbrev pub Between : List Pip → Files → ℕ → ℕ → ℕ → List Facts → Type 0

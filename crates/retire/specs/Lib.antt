@@ -1,8 +1,10 @@
 pub mod Saving
 pub mod Builds
+pub mod Runs
+pub mod HitSet
+pub mod Accepting
+pub mod Counts
+pub mod Settled
 pub mod Counting
-pub mod Reading
 pub mod Taking
 pub mod Deciding
-pub mod HitSet
-pub mod Runs

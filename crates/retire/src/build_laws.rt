@@ -1,5 +1,5 @@
 //! What holds of all builds over a store.
-ghost use Rattle.std.specs.Prelude.{◌≡◌, ℕ, List, length, true};
+ghost use Rattle.std.specs.Prelude.{◌≡◌, ℕ, All, Bool, List, length, true};
 ghost use Rattle.std.specs.List.{list_all};
 ghost use Rattle.bx_tree.specs.Trees.{Files};
 ghost use Rattle.bx_tree.specs.Members.{Has};
@@ -17,6 +17,9 @@ ghost use Rattle.one_thread.specs.OneThread.{one_thread, run_count, verdicts_of}
 ghost use Rattle.violations.specs.Verdicts.{is_success};
 ghost use Rattle.two_phase_meaning.specs.Saving.{FilesFit, blobs_of};
 ghost use Rattle.two_phase_meaning.specs.Compared.{ComparedInRun};
+ghost use Rattle.sched_board_slots.specs.declared.held.Held.{Held as AnyHeld};
+ghost use Rattle.sched_board_slots.specs.declared.held.Held.TheVariants as held;
+ghost use Rattle.retire.specs.Accepting.{AreAccepted, without_run};
 ghost use Rattle.retire.specs.HitSet.{IsHitSet};
 ghost use Rattle.retire_compared.specs.Compared.{Compared};
 ghost use Rattle.retire.specs.Runs.{AllUsable, IsOfSuccess, NoneReserved, RunsAs};
@@ -63,4 +66,12 @@ pub fn all_are_hits()
         → list_all is_success (verdicts_of (one_thread pips tree budget)) ≡ true
         → (numbers : List ℕ) × IsHitSet pips tree budget S numbers
         × (length numbers ≡ run_count pips (verdicts_of (one_thread pips tree budget))) }
+{}
+
+/// Of slots that are all empty no run is accepted: so the processes that a store would spare are all left to it, and all
+/// processes that run to it or to a run.
+pub fn nothing_is_accepted()
+    ensures { (pips : List Pip) (tree : Files) (budget : ℕ) (S : Holdings) (slots : List AnyHeld) (accepted : List Bool)
+        (numbers : List ℕ) → All (λ slot. slot ≡ held.Empty) slots → AreAccepted pips tree budget slots accepted
+        → IsHitSet pips tree budget S numbers → without_run accepted numbers ≡ length numbers }
 {}

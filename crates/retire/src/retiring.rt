@@ -1,21 +1,26 @@
 //! What a whole build gives.
-ghost use Rattle.std.specs.Prelude.{◌≡◌, ℕ, ◌+◌, ◌≤◌, false, true, IfOk, IsSome, Some, length};
+ghost use Rattle.std.specs.Prelude.{◌≡◌, ℕ, ◌+◌, ◌≤◌, false, true, IfOk, IfSome, IsSome, Some, is_some, length, option_map};
 ghost use Rattle.bx_io.specs.Holdings.{Holdings, held_in};
 ghost use Rattle.one_thread.specs.Outputs.{AreOutputs};
 ghost use Rattle.graph_check.specs.Rules.{KeepsRules};
 ghost use Rattle.one_thread.specs.OneThread as builds;
 ghost use Rattle.retire.specs.Runs.{NoneReserved};
-ghost use Rattle.retire.specs.Builds.{Fair, IsBuild, IsFair, LeavesFair, LeavesUsable, RunsLate};
-ghost use Rattle.retire.specs.Builds.{Spares};
-ghost use Rattle.retire.specs.Saving.{OnlyPuts};
+ghost use Rattle.std.specs.List.{AllByRecursion};
+ghost use Rattle.bx_io.specs.Holdings.{Keeps};
+ghost use Rattle.two_phase.specs.Reading.{reader_data};
+ghost use Rattle.retire.specs.Builds.{Fair, IsBuild, IsFair, LeavesFair, LeavesUsable};
+ghost use Rattle.retire.specs.Counts.{CountsAlone, CountsOver, CountsWithin};
+ghost use Rattle.retire.specs.Saving.{IsSuccess, OnlyPuts, PutsAllEach, PutsFirst};
+ghost use Rattle.retire.specs.Settled.{IsSettledOver};
 
-use crate::counting::run_count;
-use crate::deciding::decide_all;
+use crate::deciding::{Ways, decide_all};
+use crate::savable::Savable;
 use crate::saving::save_all;
-use bx_io::{Gate, Keeper};
+use bx_io::{Gate, KeepReader, Keeper};
 use bx_tree::Memory;
-use one_thread::{Frame, build_all, outputs, outputs_keep_apart};
-use pip_model::{Made, Plan, Sources};
+use one_thread::{Frame, outputs};
+use pip_model::{MAX_PIPS, Made, Plan, Sources};
+use sched_board_slots::Finished;
 use std::alloc::Global;
 use violations::Verdict;
 
@@ -24,11 +29,11 @@ use violations::Verdict;
 pub struct RetireTally {
     /// Those whose result was taken from the store.
     pub hits: u64,
-    /// The others.
+    /// The others: their tool ran, here or for their slot.
     pub ran: u64,
     /// Those whose tool ran here.
     pub late: u64,
-    /// The lookups and saves that failed.
+    /// The lookups and saves that failed here.
     pub faults: u64,
 }
 
@@ -40,18 +45,22 @@ pub struct Retired {
     pub tally: RetireTally,
 }
 
-/// Decides all pips, one after another, as the sequential build does. Where the store is used, cached results
-/// are reused instead of running processes, and after all pips are decided the records of the runs that
-/// succeeded are saved, by number.
-pub fn retire_empty<K: Keeper, G: Gate>(
+/// Decides all pips, one after another, as the sequential build does: a process by the run in its slot, where that is its run
+/// now; else by what the store has for it, where the store is used; else by a run here. Whoever filled the slots, and with
+/// what: each is compared first. After all pips are decided, the records of the runs that succeeded are saved, by number.
+pub fn retire<K: Keeper, G: Gate>(
     alloc: Global,
     plan: &Plan,
     sources: &Sources,
     keeper: &mut K,
+    finished: Finished,
     gate: &G,
     cached: bool,
 ) -> Result<Retired, Memory>
-    requires { KeepsRules plan.now.pips sources.now }
+    requires rules { KeepsRules plan.now.pips sources.now }
+    requires slots { length finished.slots.items ≡ length plan.now.pips }
+
+    // What the build gives.
     ensures build { Fair plan.now.pips sources.now plan.now.tool_budget cached (held_in (K.known keeper.old))
         (held_in (K.known keeper.new)) → IfOk result (λ r. IsBuild plan.now.pips sources.now plan.now.tool_budget r.verdicts.items r.outputs
         r.tally.hits r.tally.ran) }
@@ -59,98 +68,31 @@ pub fn retire_empty<K: Keeper, G: Gate>(
     ensures counted { IfOk result (λ r. r.tally.hits + r.tally.ran
         ≡ builds.run_count plan.now.pips r.verdicts.items) }
     ensures places { IfOk result (λ r. AreOutputs r.outputs) }
-    ensures late { IfOk result (λ r. r.tally.late ≡ r.tally.ran) }
-    ensures no_hits { cached ≡ false → IfOk result (λ r. (r.tally.hits ≡ 0) × (r.tally.faults ≡ 0)) }
+
+    // What it counts: with the store, and without it.
+    ensures late { IfOk result (λ r. r.tally.late ≤ r.tally.ran) }
+    ensures counts { cached ≡ true → (S : Holdings) → held_in (K.known keeper.old) ≡ Some S
+        → IsSome (held_in (K.known keeper.new)) → IsFair plan.now.pips sources.now plan.now.tool_budget S → IfOk result (λ r.
+        CountsOver plan.now.pips sources.now plan.now.tool_budget S finished.slots.items r.tally.hits r.tally.late r.tally.faults) }
+    ensures within { cached ≡ true → (S : Holdings) → held_in (K.known keeper.old) ≡ Some S
+        → IsSome (held_in (K.known keeper.new)) → IsFair plan.now.pips sources.now plan.now.tool_budget S → IfOk result (λ r.
+        CountsWithin plan.now.pips sources.now plan.now.tool_budget S r.tally.hits r.tally.late r.tally.faults) }
+    ensures alone { cached ≡ false → IfOk result (λ r.
+        CountsAlone plan.now.pips sources.now plan.now.tool_budget finished.slots.items r.tally.hits r.tally.late r.tally.faults) }
+
+    // Where the slots are those of a board of this plan and these sources on which nothing is left to do, a tool runs here only
+    // after a fault: so where no fault is met, none does.
+    ensures settled { (S : Holdings) → IsSettledOver plan.now sources.now S cached finished.slots.items
+        → (cached ≡ true → (held_in (K.known keeper.old) ≡ Some S) × IsSome (held_in (K.known keeper.new)))
+        → IfOk result (λ r. r.tally.late ≤ r.tally.faults) }
+
+    // What is left of the store.
     ensures untouched { cached ≡ false → keeper.new ≡ keeper.old }
-    ensures spared { cached ≡ true → (S : Holdings) → held_in (K.known keeper.old) ≡ Some S
-        → IsSome (held_in (K.known keeper.new)) → IsFair plan.now.pips sources.now plan.now.tool_budget S → IfOk result (λ r.
-        Spares plan.now.pips sources.now plan.now.tool_budget S r.tally.hits r.tally.faults) }
-    ensures runs { cached ≡ true → (S : Holdings) → held_in (K.known keeper.old) ≡ Some S
-        → IsSome (held_in (K.known keeper.new)) → IsFair plan.now.pips sources.now plan.now.tool_budget S → IfOk result (λ r.
-        RunsLate plan.now.pips sources.now plan.now.tool_budget S r.tally.late r.tally.faults) }
     ensures left { (S : Holdings) → held_in (K.known keeper.old) ≡ Some S
         → IsSome (held_in (K.known keeper.new)) → IsFair plan.now.pips sources.now plan.now.tool_budget S
         → LeavesFair plan.now.pips sources.now plan.now.tool_budget S (K.known keeper.old)
         (K.known keeper.new) }
     ensures usable { cached ≡ true → (S : Holdings) → held_in (K.known keeper.old) ≡ Some S
-        → IsFair plan.now.pips sources.now plan.now.tool_budget S → NoneReserved sources.now
-        → IfOk result (λ r. r.tally.faults ≡ 0
-        → LeavesUsable plan.now.pips sources.now plan.now.tool_budget (K.known keeper.new)) }
-    ensures faults { (b : ℕ) → K.bound keeper.old ≡ Some b
-        → IfOk result (λ r. K.faults keeper.old + r.tally.faults ≤ K.faults keeper.new + b) }
-    ensures later { K.faults keeper.old ≤ K.faults keeper.new }
-    ensures seen { IfOk result (λ r. r.tally.faults ≡ 0 → K.faults keeper.new ≡ K.faults keeper.old) }
-    ensures bound { K.bound keeper.new ≡ K.bound keeper.old }
-    ensures puts { OnlyPuts (K.known keeper.old) (K.known keeper.new) }
-{
-    if cached {
-        retire_cached(alloc, plan, sources, keeper, gate)
-    } else {
-        retire_plain(alloc, plan, sources, gate)
-    }
-}
-
-// Where the store is not used, each process that is not skipped runs.
-fn retire_plain<G: Gate>(
-    alloc: Global,
-    plan: &Plan,
-    sources: &Sources,
-    gate: &G,
-) -> Result<Retired, Memory>
-    requires { KeepsRules plan.now.pips sources.now }
-    ensures build { IfOk result (λ r. IsBuild plan.now.pips sources.now plan.now.tool_budget r.verdicts.items
-        r.outputs r.tally.hits r.tally.ran) }
-    ensures number { IfOk result (λ r. length r.verdicts.items ≡ length plan.now.pips) }
-    ensures counted { IfOk result (λ r. r.tally.hits + r.tally.ran
-        ≡ builds.run_count plan.now.pips r.verdicts.items) }
-    ensures places { IfOk result (λ r. AreOutputs r.outputs) }
-    ensures late { IfOk result (λ r. r.tally.late ≡ r.tally.ran) }
-    ensures no_hits { IfOk result (λ r. (r.tally.hits ≡ 0) × (r.tally.faults ≡ 0)) }
-{
-    outputs_keep_apart();
-    let built = build_all(alloc, plan, sources, gate)?;
-    let ran = run_count(plan.pips(), built.verdicts.as_slice());
-    let outputs = outputs(alloc, built.slots.as_slice())?;
-    Ok(Retired {
-        verdicts: built.verdicts,
-        outputs,
-        tally: RetireTally {
-            hits: 0,
-            ran,
-            late: ran,
-            faults: 0,
-        },
-    })
-}
-
-// Where the store is used, what is usable is taken, and records are saved after all pips are decided.
-fn retire_cached<K: Keeper, G: Gate>(
-    alloc: Global,
-    plan: &Plan,
-    sources: &Sources,
-    keeper: &mut K,
-    gate: &G,
-) -> Result<Retired, Memory>
-    requires { KeepsRules plan.now.pips sources.now }
-    ensures build { Fair plan.now.pips sources.now plan.now.tool_budget true (held_in (K.known keeper.old))
-        (held_in (K.known keeper.new)) → IfOk result (λ r. IsBuild plan.now.pips sources.now plan.now.tool_budget r.verdicts.items r.outputs
-        r.tally.hits r.tally.ran) }
-    ensures number { IfOk result (λ r. length r.verdicts.items ≡ length plan.now.pips) }
-    ensures counted { IfOk result (λ r. r.tally.hits + r.tally.ran
-        ≡ builds.run_count plan.now.pips r.verdicts.items) }
-    ensures places { IfOk result (λ r. AreOutputs r.outputs) }
-    ensures late { IfOk result (λ r. r.tally.late ≡ r.tally.ran) }
-    ensures spared { (S : Holdings) → held_in (K.known keeper.old) ≡ Some S
-        → IsSome (held_in (K.known keeper.new)) → IsFair plan.now.pips sources.now plan.now.tool_budget S → IfOk result (λ r.
-        Spares plan.now.pips sources.now plan.now.tool_budget S r.tally.hits r.tally.faults) }
-    ensures runs { (S : Holdings) → held_in (K.known keeper.old) ≡ Some S
-        → IsSome (held_in (K.known keeper.new)) → IsFair plan.now.pips sources.now plan.now.tool_budget S → IfOk result (λ r.
-        RunsLate plan.now.pips sources.now plan.now.tool_budget S r.tally.late r.tally.faults) }
-    ensures left { (S : Holdings) → held_in (K.known keeper.old) ≡ Some S
-        → IsSome (held_in (K.known keeper.new)) → IsFair plan.now.pips sources.now plan.now.tool_budget S
-        → LeavesFair plan.now.pips sources.now plan.now.tool_budget S (K.known keeper.old)
-        (K.known keeper.new) }
-    ensures usable { (S : Holdings) → held_in (K.known keeper.old) ≡ Some S
         → IsFair plan.now.pips sources.now plan.now.tool_budget S → NoneReserved sources.now
         → IfOk result (λ r. r.tally.faults ≡ 0
         → LeavesUsable plan.now.pips sources.now plan.now.tool_budget (K.known keeper.new)) }
@@ -168,20 +110,87 @@ fn retire_cached<K: Keeper, G: Gate>(
         gate,
     };
     let _pips = plan.pips();
-    let mut reader = keeper.reader(alloc)?;
-    let decided = decide_all(&frame, &mut reader)?;
-    keeper.close(reader);
+    let mut reader = reader_if(alloc, keeper, cached)?;
+    let decided = decide_all(&frame, &mut reader, finished.slots)?;
+    close_if(keeper, reader);
     let outputs = outputs(alloc, decided.slots.as_slice())?;
-    let failed = save_all(alloc, keeper, decided.records.as_slice())?;
-    let ways = decided.ways;
+    let failed = save_if(alloc, keeper, decided.records.as_slice(), cached)?;
     Ok(Retired {
         verdicts: decided.verdicts,
         outputs,
-        tally: RetireTally {
-            hits: ways.hits,
-            ran: ways.missed + ways.faulted,
-            late: ways.missed + ways.faulted,
-            faults: ways.faulted + failed,
-        },
+        tally: tally_of(decided.ways, failed),
     })
+}
+
+// A reader of the store, where it is used.
+fn reader_if<K: Keeper>(
+    alloc: Global,
+    keeper: &K,
+    cached: bool,
+) -> Result<Option<K::Reader>, Memory>
+    ensures some { IfOk result (λ reader. is_some reader ≡ cached) }
+    ensures reader { IfOk result (λ reader. IfSome reader (λ r. (K.Reader.held r ≡ held_in (K.known keeper.now))
+        × ((K.Reader.bound r ≡ K.bound keeper.now) × (K.Reader.faults r ≡ 0)))) }
+{
+    if !cached {
+        return Ok(None);
+    }
+    Ok(Some(keeper.reader(alloc)?))
+}
+
+// Gives a reader back, where there is one.
+fn close_if<K: Keeper>(keeper: &mut K, reader: Option<K::Reader>)
+    ensures none { is_some reader ≡ false → keeper.new ≡ keeper.old }
+    ensures known { Keeps (K.known keeper.old) (K.known keeper.new) }
+    ensures reader { IsSome (held_in (K.known keeper.new)) → IfSome reader (λ r. IsSome (K.Reader.held r)) }
+    ensures bound { K.bound keeper.new ≡ K.bound keeper.old }
+    ensures faults { K.faults keeper.new ≡ K.faults keeper.old }
+{
+    if let Some(reader) = reader {
+        keeper.close(reader);
+    }
+}
+
+// Saves the records, where the store is used; how many saves failed.
+fn save_if<K: Keeper>(
+    alloc: Global,
+    keeper: &mut K,
+    records: &[Savable],
+    cached: bool,
+) -> Result<u64, Memory>
+    requires good { AllByRecursion IsSuccess records.now }
+    requires few { length records.now ≤ MAX_PIPS }
+    ensures none { cached ≡ false → keeper.new ≡ keeper.old }
+    ensures no_faults { cached ≡ false → IfOk result (λ faults. faults ≡ 0) }
+    ensures all { cached ≡ true → IfOk result (λ faults. faults ≡ 0
+        → PutsAllEach (K.known keeper.old) records.now (K.known keeper.new)) }
+    ensures first { PutsFirst (K.known keeper.old) records.now (K.known keeper.new) }
+    ensures bound { K.bound keeper.new ≡ K.bound keeper.old }
+    ensures faults { IsSome (K.bound keeper.old)
+        → IfOk result (λ faults. K.faults keeper.old + faults ≤ K.faults keeper.new) }
+    ensures few_faults { IfOk result (λ faults. faults ≤ length records.now) }
+    ensures seen { IfOk result (λ faults. faults ≡ 0 → K.faults keeper.new ≡ K.faults keeper.old) }
+    ensures later { K.faults keeper.old ≤ K.faults keeper.new }
+{
+    if !cached {
+        return Ok(0);
+    }
+    save_all(alloc, keeper, records)
+}
+
+// The counts of a build whose processes came to their results in these ways, and so many of whose saves failed.
+fn tally_of(ways: Ways, failed: u64) -> RetireTally
+    requires ways { ways.accepted + (ways.hits + (ways.missed + ways.faulted)) ≤ MAX_PIPS }
+    requires failed { failed ≤ MAX_PIPS }
+    ensures hits { result.hits ≡ ways.hits }
+    ensures ran { result.ran ≡ ways.accepted + (ways.missed + ways.faulted) }
+    ensures late { result.late ≡ ways.missed + ways.faulted }
+    ensures faults { result.faults ≡ ways.faulted + failed }
+{
+    RetireTally {
+        hits: ways.hits,
+        ran: ways.accepted + (ways.missed + ways.faulted),
+        late: ways.missed + ways.faulted,
+        faults: ways.faulted + failed,
+    }
 }

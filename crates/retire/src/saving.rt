@@ -7,18 +7,18 @@ ghost use Rattle.retire.specs.Saving.{IsSuccess, PutsAllEach, PutsFirst};
 ghost use Rattle.two_phase.specs.Held.{AreHeld};
 ghost use Rattle.two_phase.specs.Putting.{PutsAll, PutsUpTo};
 
+use crate::savable::Savable;
 use bx_io::Keeper;
 use bx_tree::Memory;
-use run_record::Record;
 use std::alloc::{AllocError, Global};
-use two_phase::{HeldContents, SaveResult, keep};
+use two_phase::{HeldContents, SaveResult};
 
 // Saves a record up to the first refusal; how many faults there were, one at most.
 fn save_one<K: Keeper>(
     alloc: Global,
     keeper: &mut K,
     held: &mut HeldContents,
-    ran: &Record,
+    ran: &Savable,
 ) -> Result<u64, Memory>
     requires good { IsGood ran.now }
     requires held { AreHeld (held_in (K.known keeper.old)) held.old }
@@ -33,7 +33,7 @@ fn save_one<K: Keeper>(
     ensures seen { IfOk result (λ faults. faults ≡ 0 → K.faults keeper.new ≡ K.faults keeper.old) }
     ensures later { K.faults keeper.old ≤ K.faults keeper.new }
 {
-    match keep(alloc, keeper, held, ran) {
+    match ran.save(alloc, keeper, held) {
         SaveResult::Saved => Ok(0),
         SaveResult::Fault => Ok(1),
         SaveResult::Memory => Err(AllocError),
@@ -45,7 +45,7 @@ fn save_one<K: Keeper>(
 pub(crate) fn save_all<K: Keeper>(
     alloc: Global,
     keeper: &mut K,
-    records: &[Record],
+    records: &[Savable],
 ) -> Result<u64, Memory>
     requires { AllByRecursion IsSuccess records.now }
     ensures all { IfOk result (λ faults. faults ≡ 0

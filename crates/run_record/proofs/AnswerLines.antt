@@ -10,17 +10,9 @@ use Rattle.prints.specs.Strong.{IsAnswerLine, answer_at, answer_line, line_of}
 use Rattle.prints.specs.declared.strong_parts.AnswerLine.{AnswerLine}
 use Rattle.run_record.specs.Collisions.{AreOfAnswers, IsIn, IsOfAnswer, NoCollision}
 use Rattle.run_record.specs.Digests.{digest_asked, digest_of_line}
-use Rattle.run_record.proofs.Digest.{is_digest}
+use Rattle.prints.proofs.AnswersHaveLines.{is_line}
 
 -- ## Lines
-
-pub is_line : (answer : Answer) → IsAnswerLine (line_of answer)
-is_line answers.Absent = tt
-is_line (answers.Content bytes) = is_digest bytes
-is_line answers.File = tt
-is_line answers.Directory = tt
-is_line (answers.Names names) = is_digest names
-is_line answers.Denied = tt
 
 -- the line, with nothing after it
 abbrev alone : AnswerLine → AnswerLine × List ℕ

@@ -2,7 +2,8 @@ pub mod Recorded
 pub mod Stored
 pub mod Found
 pub mod LastAccess
-pub mod Digest
 pub mod AnswerLines
 pub mod Same
 pub mod Differ
+pub mod SameWork
+pub mod SameAnswers

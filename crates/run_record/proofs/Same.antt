@@ -41,10 +41,10 @@ one_list (p ∷ ps) (q ∷ qs) e =
 one_file : (f g : Atoms × List ℕ) → f.0 ≡ g.0 → f.1 ≡ g.1 → f ≡ g
 one_file f g path bytes = ap (λ (p : Atoms). (p, f.1)) path ∙ ap (λ (b : List ℕ). (g.0, b)) bytes
 
-abbrev content_digests : Files → List (List ℕ)
+abbrev pub content_digests : Files → List (List ℕ)
 content_digests = map (λ (f : Atoms × List ℕ). sha256 f.1)
 
-same_files : (M : List ℕ → Type 0) → NoCollision M → (fs gs : Files) → ((x : List ℕ) → Has (contents_of fs) x → M x) → ((x : List ℕ) → Has (contents_of gs) x → M x)
+pub same_files : (M : List ℕ → Type 0) → NoCollision M → (fs gs : Files) → ((x : List ℕ) → Has (contents_of fs) x → M x) → ((x : List ℕ) → Has (contents_of gs) x → M x)
     → paths_of fs ≡ paths_of gs → content_digests fs ≡ content_digests gs → fs ≡ gs
 same_files M apart [] [] in_fs in_gs paths digests = refl
 same_files M apart [] (g ∷ gs) in_fs in_gs paths digests = absurd cc
@@ -59,7 +59,7 @@ same_files M apart (f ∷ fs) (g ∷ gs) in_fs in_gs paths digests =
     ∙ ap (λ (xs : Files). g ∷ xs) (same_files M apart fs gs (λ x h. in_fs x (inr h)) (λ x h. in_gs x (inr h)) others other_digests)
 
 -- what a run uses of a process, by what the weak text says and the contents
-abbrev with_contents : WeakParts → List ℕ → Files → Description
+abbrev pub with_contents : WeakParts → List ℕ → Files → Description
 with_contents w exe files = record {
   tool = tool_of exe;
   exe = (w.process.exe, exe);
@@ -96,7 +96,7 @@ same_desc M apart d e of_d of_e read_d read_e digests =
 -- ## Runs
 
 -- the run on a view that gives the answers of a record is the record's
-same_view : (f : Facts) (see : Ask → Answer) → DependsOnPathSet (described f.desc) → Sound f → f.answers ≡ map see f.paths → Repeats f (described f.desc) see
+pub same_view : (f : Facts) (see : Ask → Answer) → DependsOnPathSet (described f.desc) → Sound f → f.answers ≡ map see f.paths → Repeats f (described f.desc) see
 same_view f see depends sound same =
     let stored = answered f.paths f.answers in
     let one : run_for f.desc see ≡ run_for f.desc stored =

@@ -4,3 +4,5 @@ pub mod Facts
 pub mod Collisions
 pub mod Digests
 pub mod Matches
+pub mod Holding
+pub mod Tables

@@ -10,6 +10,7 @@ ghost use Rattle.run_record.specs.Outcomes.{outcome_of};
 use crate::answered::Stored;
 use crate::answers::given_to;
 use crate::outcome::{Outcome, judge};
+use crate::tools::Tools;
 use bx_io::Gate;
 use observed::{Access, Answer, PathSet, View};
 use pip_model_types::Desc;
@@ -17,7 +18,6 @@ use std::alloc::{AllocError, Global};
 use std::marker::Model;
 use std::sync::Arc;
 use tool_run::{Ran, accesses_hold, noninterference, path_set_of, run, run_no_tool};
-use tool_text::{ToolFault, read_tool};
 
 // What a record holds, which is the run on its own answers.
 #[derive(Drop)]
@@ -122,25 +122,35 @@ fn are_same(paths: &PathSet, other: &PathSet) -> bool
 }
 
 // Runs the tool of a process, if its executable is one.
-fn run_process<V: View>(alloc: Global, desc: &Desc, view: &mut V) -> Result<Ran, AllocError>
+fn run_process<V: View>(
+    alloc: Global,
+    tools: &mut Tools,
+    desc: &Desc,
+    view: &mut V,
+) -> Result<Ran, AllocError>
     ensures ran { IfOk result (λ ran. seen ran ≡ run_for desc.now (V.answers view.old)) }
     ensures same { V.answers view.new ≡ V.answers view.old }
 {
-    match read_tool(alloc, desc.exe.bytes()) {
-        Ok(tool) => run(alloc, &tool, desc, view),
-        Err(ToolFault::BadTool) => run_no_tool(alloc),
-        Err(ToolFault::Memory) => Err(AllocError),
+    let read = tools.of(alloc, &desc.process.exe, &desc.exe)?;
+    match read.tool() {
+        Some(tool) => run(alloc, tool, desc, view),
+        None => run_no_tool(alloc),
     }
 }
 
 // The parts of the record of a run on a view.
-fn run_parts<V: View>(alloc: Global, desc: Desc, view: &mut V) -> Result<RecordParts, AllocError>
+fn run_parts<V: View>(
+    alloc: Global,
+    tools: &mut Tools,
+    desc: Desc,
+    view: &mut V,
+) -> Result<RecordParts, AllocError>
     ensures ran { IfOk result (λ made. IsRun made desc (V.answers view.old)) }
     ensures meaning { V.answers view.new ≡ V.answers view.old }
 {
     noninterference();
     accesses_hold();
-    let ran = run_process(alloc, &desc, view)?;
+    let ran = run_process(alloc, tools, &desc, view)?;
     let paths = path_set_of(alloc, &desc, &ran.accesses)?;
     let answers = given_to(alloc, &ran.accesses, paths.asks())?;
     let outcome = judge(alloc, &desc, &ran)?;
@@ -164,8 +174,23 @@ pub fn execute<V: View, G: Gate>(
     ensures ran { IfOk result (λ made. IsRun made desc (V.answers view.old)) }
     ensures meaning { V.answers view.new ≡ V.answers view.old }
 {
+    execute_with(alloc, &mut Tools::new(alloc), desc, pip, view, gate)
+}
+
+/// The same with tools that were read before: the text of the tool is read where it is not among them.
+pub fn execute_with<V: View, G: Gate>(
+    alloc: Global,
+    tools: &mut Tools,
+    desc: Desc,
+    pip: u32,
+    view: &mut V,
+    gate: &G,
+) -> Result<Record, AllocError>
+    ensures ran { IfOk result (λ made. IsRun made desc (V.answers view.old)) }
+    ensures meaning { V.answers view.new ≡ V.answers view.old }
+{
     gate.pass(pip);
-    let parts = run_parts(alloc, desc, view)?;
+    let parts = run_parts(alloc, tools, desc, view)?;
     Ok(Record {
         parts: Arc::new(alloc, parts)?,
     })
@@ -184,7 +209,7 @@ pub fn outcome_of_run<V: View, G: Gate>(
     ensures meaning { V.answers view.new ≡ V.answers view.old }
 {
     gate.pass(pip);
-    let ran = run_process(alloc, desc, view)?;
+    let ran = run_process(alloc, &mut Tools::new(alloc), desc, view)?;
     judge(alloc, desc, &ran)
 }
 
@@ -202,7 +227,7 @@ fn replayed_parts(
         (path_set (described desc) (run_for desc (answered paths.now answers.items)).accesses ≢ paths.now)) }
 {
     let mut view = Stored::new(paths, &answers);
-    let ran = run_process(alloc, &desc, &mut view)?;
+    let ran = run_process(alloc, &mut Tools::new(alloc), &desc, &mut view)?;
     let asked = path_set_of(alloc, &desc, &ran.accesses)?;
     if !are_same(&asked, paths) {
         return Ok(None);

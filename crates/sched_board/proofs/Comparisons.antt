@@ -1,6 +1,6 @@
 -- What comparing by digest says of what is shown.
-use Rattle.std.proofs.Common.{◌≡◌, ◌≢◌, ℕ, ◌+◌, true, List, map, Option, Some, None, refl, ap, sym, ◌∙◌, subst, inl, inr}
-use Rattle.std.specs.Prelude.{IfOk, IsSomeAnd, MatchOption, Result, Ok, Err, slice_get}
+use Rattle.std.proofs.Common.{◌≡◌, ◌≢◌, ◌↔◌, ℕ, ◌+◌, true, List, map, Option, Some, None, refl, ap, sym, ◌∙◌, subst, inl, inr}
+use Rattle.std.specs.Prelude.{IfOk, IfSome, IsSome, IsSomeAnd, MatchOption, Result, Ok, Err, slice_get}
 use Rattle.bx_tree.specs.Trees.{Files}
 use Rattle.pip_model_types.specs.declared.desc.Desc.{Desc}
 use Rattle.pip_model_types.specs.declared.pip.ProcessDesc.{ProcessDesc}
@@ -16,6 +16,9 @@ use Rattle.run_record.specs.declared.matching.LineDifference.{LineDifference}
 use Rattle.run_record.specs.declared.matching.Match.TheVariants as matching
 use Rattle.memo_format.specs.Found.{FoundParts}
 use Rattle.sched_board_slots.specs.Slots.{IsOwnFound, IsOwnRecord, is_good_outcome, own_desc, own_view}
+use Rattle.run_record.specs.Holding.{HoldsNow}
+use Rattle.run_record.proofs.SameWork.{read_both}
+use Rattle.sched_board_slots.proofs.Accepted.{holds_agrees}
 use Rattle.sched_board.specs.Board.{Difference}
 use Rattle.sched_board.specs.Publishing.{Compared, ComparedHit, ComparedRun, DiffersAt, ShownDiffers}
 use Rattle.sched_board.specs.declared.shown.Shown.TheVariants as shown
@@ -146,3 +149,14 @@ module _ (own : Desc) (see : Ask → Answer) (found : FoundParts) (held weak : L
             (subst (λ (x : List ℕ). FirstDiffer (stored_lines found.answers) (seen_lines found.paths) at.index at.held x) (sym second)
             (first_of stored asks r (Some at) es ea er h)),
       )
+
+-- a record that holds now is the board's own
+pub ran_holds : (plan : PlanData) (tree : Files) (inputs : ByPip) (pip : ℕ) (facts : Facts) (o : Option ProcessDesc) → IsSome o → Sound facts → IsReadBack facts.desc
+    → IfSome o (λ (process : ProcessDesc). true ≡ true ↔ HoldsNow (own_desc plan tree inputs process) (own_view plan tree inputs pip) facts)
+    → IsOwnRecord plan tree inputs pip facts o
+ran_holds plan tree inputs pip facts None some sound read holds = absurd cc
+ran_holds plan tree inputs pip facts (Some process) some sound read holds =
+    let own : Desc = own_desc plan tree inputs process in
+    let see : Ask → Answer = own_view plan tree inputs pip in
+    let now : HoldsNow own see facts = holds.0 refl in
+    (sound, read, read_both facts.desc own now.work read, holds_agrees own see facts now)

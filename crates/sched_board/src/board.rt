@@ -8,6 +8,7 @@ ghost use Rattle.sched_core.specs.Sets.{IsLeast, IsNever};
 ghost use Rattle.sched_core.specs.Sound.{IsSound};
 ghost use Rattle.sched_core.specs.Table.{allows, are_settled, busy_of, has_left, may_skip, may_start, next_state, node_at, pip_of, state_after_event, state_at, worker_of};
 ghost use Rattle.sched_board_slots.specs.Closing.{HoldsOneThread};
+ghost use Rattle.sched_board_slots.specs.Finished.{AreSettledSlots};
 ghost use Rattle.sched_board_slots.specs.Slots.{FitsState, own_inputs, slot_at};
 ghost use Rattle.sched_board.specs.Board.{CanComplete, IsBoard, IsBusy, IsFree, ShareData, filled, mark_amount, one_more, stepped, tells, with_looked, with_mark};
 ghost use Rattle.sched_board.specs.Claiming.{Claims};
@@ -20,7 +21,7 @@ use crate::tokens::{Job, Share, Shut};
 use bx_tree::Memory;
 use pip_model::{Plan, Sources};
 use pip_view_inputs::Inputs;
-use sched_board_slots::{Held, slots_follow_one_thread};
+use sched_board_slots::{Finished, Held, slots_follow_one_thread};
 use sched_core::{Core, Event, PipState, legal_events, settled_at_the_end};
 use std::alloc::Global;
 use std::marker::Model;
@@ -51,13 +52,6 @@ impl<L: Ledger, E: Ledger> Model for Board<L, E> {
 
     ghost invariant = { λ b. KeepsBoard (board_of (arc_value b.plan) (arc_value b.sources) b.core b.history.items b.slots.items)
         b.events.total b.marks.total (vec_capacity b.history) };
-}
-
-/// What is left of a board when all workers are done.
-#[derive(Drop)]
-pub struct Finished {
-    pub history: Vec<Event>,
-    pub slots: Vec<Held>,
 }
 
 // Makes an event that the core allows.
@@ -356,6 +350,7 @@ impl<L: Ledger, E: Ledger> Board<L, E> {
         ensures counted { length self.history ≡ sum_by (λ (share : ShareData). share.events) shares.items }
         ensures marked { Any (λ (share : ShareData). share.marked ≡ true) shares.items
             → (are_settled self.core.states ≡ true) × All (λ slot. slot ≢ Held.Empty) self.slots }
+        ensures settled { are_settled self.core.states ≡ true → AreSettledSlots self.plan self.sources self.slots }
         ensures one_holder { OneHolder self.core.nodes (length self.core.left) }
         ensures one_pip { OnePip self.core.nodes (length self.core.left) }
         ensures published_once { PublishedOnce self.core.nodes (length self.core.left) }

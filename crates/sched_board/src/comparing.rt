@@ -14,8 +14,9 @@ use observed::View;
 use pip_model::{Desc, Made, MadeFile, Plan, Sources};
 use pip_view::PipView;
 use pip_view_inputs::{Inputs, desc, plain};
+use prints::reads_back;
 use run_record::{Match, Record, first_difference, matches, weak_digest};
-use sched_board_slots::Held;
+use sched_board_slots::{Held, holds_now};
 use std::alloc::{AllocError, Global};
 
 /// What the inputs of a pip made, by the slots.
@@ -55,8 +56,8 @@ fn unlike_run<V: View>(
     }
 }
 
-// How the record of a run differs from the process and what it sees.
-fn compare_ran(
+// How the record of a run differs by digest from the process and what it sees.
+fn compare_digests(
     alloc: Global,
     plan: &Plan,
     sources: &Sources,
@@ -71,6 +72,28 @@ fn compare_ran(
     let own = desc(alloc, plan, sources, pip, inputs)?;
     let mut view = PipView::new(alloc, plan, sources, pip, inputs)?;
     unlike_run(alloc, &own, ran, &mut view)
+}
+
+// How the record of a run differs from the process and what it sees. One that holds byte by byte differs in no digest, so
+// nothing is written or hashed for it.
+fn compare_ran(
+    alloc: Global,
+    plan: &Plan,
+    sources: &Sources,
+    pip: u32,
+    inputs: &Inputs,
+    ran: &Record,
+) -> Result<Option<Unlike>, Memory>
+    requires there { pip < length plan.now.pips }
+    requires process { IsSome (process_in (slice_get plan.now.pips pip)) }
+    ensures { IfOk result (Compared plan.now sources.now inputs.now pip (Shown.Ran ran.now)) }
+{
+    reads_back(ran.desc());
+    let holds = holds_now(alloc, plan, sources, pip, inputs, ran)?;
+    if holds {
+        return Ok(None);
+    }
+    compare_digests(alloc, plan, sources, pip, inputs, ran)
 }
 
 // How what a lookup found differs from a process and a view.

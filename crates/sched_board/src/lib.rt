@@ -18,9 +18,9 @@ mod shown;
 mod tokens;
 
 pub use answers::{Claim, PublishFault, Unfit, Unlike};
-pub use board::{Board, Finished};
+pub use board::Board;
 pub use bx_tree::Memory;
 pub use opening::{Blank, NewBoard};
-pub use sched_board_slots::Held;
+pub use sched_board_slots::{Finished, Held};
 pub use shown::Shown;
 pub use tokens::{Job, Share, Shut};

@@ -1,5 +1,5 @@
 //! New boards.
-ghost use Rattle.std.specs.Prelude.{◌≡◌, ◌<◌, ◌≤◌, [], All, IfOk, map, replicate};
+ghost use Rattle.std.specs.Prelude.{◌≡◌, ◌<◌, ◌≤◌, [], All, IfOk, map};
 ghost use Rattle.std.specs.List.{range_with_len};
 ghost use Rattle.std.specs.Arc.{arc_value};
 ghost use Rattle.std.specs.Vec.{vec_len};
@@ -10,7 +10,7 @@ use crate::board::Board;
 use crate::tokens::Share;
 use bx_tree::Memory;
 use pip_model::{Plan, Sources};
-use sched_board_slots::{Held, graph_of};
+use sched_board_slots::{empty_slots, graph_of};
 use sched_core::{Core, Event, MAX_WORKERS};
 use std::alloc::Global;
 use std::sync::ledger::{Book, Ledger};
@@ -30,17 +30,6 @@ pub struct Blank<L: Ledger, E: Ledger> {
 pub struct NewBoard<L: Ledger, E: Ledger> {
     pub board: Board<L, E>,
     pub shares: Vec<Share<L, E>>,
-}
-
-// A slot for each pip.
-fn empty_slots(alloc: Global, pips: usize) -> Result<Vec<Held>, Memory>
-    ensures { IfOk result (λ slots. slots.items ≡ replicate pips Held.Empty) }
-{
-    let mut slots = Vec::new(alloc);
-    'pips: for _ in 0..pips {
-        slots.push(Held::Empty)?;
-    }
-    Ok(slots)
 }
 
 // The shares of all workers, by number.

@@ -2,7 +2,7 @@
 use Rattle.std.proofs.Common.{◌≡◌, ◌⊎◌, ℕ, zero, suc, ◌+◌, ◌<◌, Bool, true, false, cond, List, [], ◌∷◌, length, map, get_or, take, Option, Some, None, refl, ap, sym, ◌∙◌, subst, inl, inr, arith}
 use Rattle.std.specs.Prelude.{slice_get}
 use Rattle.std.specs.List.{list_any}
-use Rattle.std.proofs.lemmas.Bool.{both_ways, cases_Bool, or_cases}
+use Rattle.std.proofs.lemmas.Bool.{and_parts, both_ways, cases_Bool, or_cases}
 use Rattle.std.proofs.lemmas.List.{length-map}
 use Rattle.std.proofs.lemmas.Option.{get_or_from_slice_get, slice_get_within, same_Some}
 use Rattle.bx_tree.specs.Members.{Has}
@@ -20,6 +20,9 @@ use Rattle.pip_model.specs.Plans.{PlanData}
 use Rattle.pip_view_inputs.specs.Plain.{kind_process, plain_in, plain_of, process_in}
 use Rattle.pip_view_inputs.specs.Results.{ByPip, kind_inputs}
 use Rattle.run_record.specs.Collisions.{NoCollision, contents_of}
+use Rattle.run_record.specs.Facts.{Facts}
+use Rattle.run_record.specs.Holding.{HoldsNow}
+use Rattle.memo_format.specs.Found.{FoundParts}
 use Rattle.run_record.specs.declared.outcome.Cause.{Cause}
 use Rattle.run_record.specs.declared.outcome.Cause.TheVariants as causes
 use Rattle.run_record.specs.declared.outcome.Outcome.{Outcome}
@@ -28,17 +31,18 @@ use Rattle.two_phase_meaning.specs.Honest.{Honest}
 use Rattle.two_phase_meaning.specs.Saving.{outcome_files}
 use Rattle.violations.specs.Classes.{class_of}
 use Rattle.violations.specs.DoubleWrites.{clash_at, first_clash, least_clash, or_next, outdirs_in, shared_paths}
-use Rattle.violations.specs.Verdicts.{is_success, with_pip}
+use Rattle.violations.specs.Verdicts.{is_skip, is_success, with_pip}
 use Rattle.violations.specs.declared.verdict.DeedKind.TheVariants as deeds
 use Rattle.violations.specs.declared.verdict.Verdict.TheVariants as verdicts
 use Rattle.violations.specs.declared.verdict.Violation.{Violation}
 use Rattle.violations.specs.declared.verdict.ViolationKind.TheVariants as violations
 use Rattle.one_thread.specs.OneThread.{Result, by_cause, by_outcome, failed, inputs_are_good, is_good, made_by, result_of, succeeded, unless_clash, violated, worked}
 use Rattle.one_thread.proofs.EachResult.{number_of_results, result_of_all}
+use Rattle.one_thread.proofs.NotSkipped.{outcome_ran}
 use Rattle.retire_compared.specs.Compared.{inputs_after}
 use Rattle.sched_core.specs.Sound.{IsSound}
-use Rattle.sched_core.specs.States.{is_bad, is_begun, is_done_well, is_skipped}
-use Rattle.sched_core.specs.Table.{CoreState, all_good, node_inputs, state_at}
+use Rattle.sched_core.specs.States.{is_bad, is_begun, is_done_well, is_settled, is_skipped}
+use Rattle.sched_core.specs.Table.{CoreState, all_good, are_settled, node_inputs, state_at}
 use Rattle.sched_core.specs.declared.state.PipState.{PipState}
 use Rattle.sched_core.specs.declared.state.PipState.TheVariants as state
 use Rattle.sched_board_slots.specs.Closing.{ComparedWithSlots, FailsByDoubleWrite, FollowsSequential, HitsAreOf, IsNotSkipped, IsOfSlot, IsResultOf, held_outcome, sequential, sequential_desc, sequential_outcome, sequential_view}
@@ -49,6 +53,7 @@ use Rattle.sched_board_slots.specs.declared.held.Held.{Held}
 use Rattle.sched_board_slots.specs.declared.held.Held.TheVariants as held
 use Rattle.sched_board_slots.proofs.Inputs.{files_at, input_below, is_target, same_inputs}
 use Rattle.sched_board_slots.proofs.SlotRuns.{hit_outcome, plain_files, ran_outcome}
+use Rattle.sched_board_slots.proofs.Accepted.{run_is_accepted}
 
 -- ## Outcomes
 
@@ -426,3 +431,72 @@ module _ (plan : PlanData) (tree : Files) (core : CoreState) (slots : List Held)
         (result_by i pip.kind o ((below (i + 1) i (omega arith)).outcome pip o at going e));
     skipped = λ i r has is. (below (i + 1) i (omega arith)).skipped r has is;
   }
+
+  -- ## Where nothing is left to do
+
+  all_settled : (states : List PipState) (i : ℕ) → are_settled states ≡ true → is_settled (state_at states i) ≡ true
+  all_settled [] zero e = refl
+  all_settled [] (suc i) e = refl
+  all_settled (s ∷ states) zero e = (and_parts (is_settled s) (are_settled states) e).0
+  all_settled (s ∷ states) (suc i) e = all_settled states i (and_parts (is_settled s) (are_settled states) e).1
+
+  -- a process that runs is not skipped
+  never_skipped : (i : ℕ) (pip : Pip) (d : ProcessDesc) → slice_get plan.pips i ≡ Some pip → pip.kind ≡ Process d → IsNotSkipped plan tree (Process d)
+      → state_at core.states i ≡ state.Skipped → ⊥
+  never_skipped i pip d at is going skip =
+      let l : i < length plan.pips = slice_get_within plan.pips i pip at in
+      let r = result_at i l in
+      let work : r.0 ≡ works i (Process d) =
+      result_is i pip r.0 at r.1
+      ∙ ap (λ (k : PipKind). cond (inputs_are_good plan.pips k all) (works i k) (failed verdicts.Skipped)) is
+      ∙ ap (λ t. cond t (works i (Process d)) (failed verdicts.Skipped)) going in
+      both_ways (is_skip r.0.verdict)
+      (ap (λ (x : Result). is_skip x.verdict) work ∙ outcome_ran plan.pips tree (made_by all) i (sequential_outcome plan tree i (Process d)))
+      (ap is_skip ((below (i + 1) i (omega arith)).skipped r.0 r.1 skip))
+
+  abbrev IsSettledAt : ℕ → ProcessDesc → Type 0
+  IsSettledAt i d =
+      ((facts : Facts) × (slot_at slots i ≡ held.Ran facts) × HoldsNow (sequential_desc plan tree d) (sequential_view plan tree i d) facts)
+      ⊎ ((found : FoundParts) × (slot_at slots i ≡ held.Hit found))
+
+  by_slot : (i : ℕ) (pip : Pip) (d : ProcessDesc) (h : Held) (good : Bool) → slice_get plan.pips i ≡ Some pip → pip.kind ≡ Process d → IsNotSkipped plan tree (Process d)
+      → own_inputs plan slots i ≡ inputs_after plan.pips (Process d) all → slot_at slots i ≡ h → HoldsOwn plan tree slots i good h → IsSettledAt i d
+  by_slot i pip d held.Empty good at is going inputs slot own = absurd own
+  by_slot i pip d (held.Ran facts) good at is going inputs slot own =
+      let process : process_in (slice_get plan.pips i) ≡ Some d = ap process_in at ∙ ap kind_process is in
+      let mine : IsOwnRecord plan tree (own_inputs plan slots i) i facts (Some d) =
+      subst (λ (p : Option ProcessDesc). IsOwnRecord plan tree (own_inputs plan slots i) i facts p) process own.1 in
+      let on : IsOwnRecord plan tree (inputs_after plan.pips (Process d) all) i facts (Some d) =
+      subst (λ (ins : ByPip). IsOwnRecord plan tree ins i facts (Some d)) inputs mine in
+      inl (
+        facts,
+        slot,
+        run_is_accepted M apart (sequential_desc plan tree d) (sequential_view plan tree i d) facts on.0 on.1 on.2 on.3
+            (slot_of i (held.Ran facts) slot) (λ x k. closing.run i pip d at is going k),
+      )
+  by_slot i pip d (held.Hit found) good at is going inputs slot own = inr (found, slot)
+  by_slot i pip d (held.Plain made) good at is going inputs slot own =
+      let process : process_in (slice_get plan.pips i) ≡ Some d = ap process_in at ∙ ap kind_process is in
+      absurd (subst (λ (p : Option ProcessDesc). IsOwnPlain plan tree (own_inputs plan slots i) i made p) process own.1)
+  by_slot i pip d held.Skipped good at is going inputs slot own = absurd own
+
+  by_state : (i : ℕ) (pip : Pip) (d : ProcessDesc) (s : PipState) → slice_get plan.pips i ≡ Some pip → pip.kind ≡ Process d → IsNotSkipped plan tree (Process d)
+      → state_at core.states i ≡ s → is_settled s ≡ true → FitsState plan tree slots i s (slot_at slots i) → IsSettledAt i d
+  by_state i pip d state.Waiting at is going here e f = absurd cc
+  by_state i pip d (state.Held w) at is going here e f = absurd cc
+  by_state i pip d (state.Looked w hit) at is going here e f = absurd cc
+  by_state i pip d (state.Published w good) at is going here e f = absurd cc
+  by_state i pip d (state.Done good) at is going here e f =
+      let going_pip : IsNotSkipped plan tree pip.kind = subst (λ (k : PipKind). IsNotSkipped plan tree k) (sym is) going in
+      let inputs : own_inputs plan slots i ≡ inputs_after plan.pips (Process d) all =
+      own_is i pip at going_pip (sound.begun i (ap is_begun here)) (below i) ∙ ap (λ (k : PipKind). inputs_after plan.pips k all) is in
+      by_slot i pip d (slot_at slots i) good at is going inputs refl f
+  by_state i pip d state.Skipped at is going here e f = absurd (never_skipped i pip d at is going here)
+
+  -- the slot of a process that runs has the record of its run, byte by byte, or a hit
+  pub settled_slot : are_settled core.states ≡ true → (i : ℕ) (pip : Pip) (d : ProcessDesc) → slice_get plan.pips i ≡ Some pip → pip.kind ≡ Process d
+      → IsNotSkipped plan tree (Process d)
+      → ((facts : Facts) × (slot_at slots i ≡ held.Ran facts) × HoldsNow (sequential_desc plan tree d) (sequential_view plan tree i d) facts)
+      ⊎ ((found : FoundParts) × (slot_at slots i ≡ held.Hit found))
+  settled_slot settled i pip d at is going =
+      by_state i pip d (state_at core.states i) at is going refl (all_settled core.states i settled) (fit i)

@@ -3,3 +3,8 @@ pub mod SlotRuns
 pub mod Inputs
 pub mod Following
 pub mod GraphNodes
+pub mod SamePlaces
+pub mod SameDirs
+pub mod Accepted
+pub mod SameParts
+pub mod Tests

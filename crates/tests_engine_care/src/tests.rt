@@ -43,7 +43,7 @@ fn builds<R: Abort + Threads + Wait + Sync, K: Keeper>(
     notes: &str,
 ) {
     let gate = CountGate::new();
-    let is_built = must(rt, is_built(rt, alloc, keeper, &gate, notes));
+    let is_built = must(rt, is_built(rt, alloc, "4", keeper, &gate, notes));
     assert!(rt; is_built);
 }
 

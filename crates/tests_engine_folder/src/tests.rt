@@ -1,19 +1,21 @@
 use crate::over_files;
 use bx_io::{MemSink, MemSource};
 use bx_io_system::{FolderKeeper, MemDisk};
-use std::alloc::{AllocError, Global};
+use std::alloc::Global;
+use std::process::Abort;
 use std::sync::Wait;
 use std::test::Fail;
 use std::thread::Threads;
 use tests_with_engine::{ALL_HIT, ALL_RAN, CountGate, are_built};
 
 /// The status of a build of a text that is no bundle.
-fn refusal<H: Threads + Wait + Sync>(rt: &H, alloc: Global) -> Result<u8, AllocError> {
-    let mut words = Vec::new(alloc);
-    words.push(String::from_str(alloc, "build")?)?;
-    let mut source = MemSource::new(b"no bundle".to_vec(alloc)?, 1000, Vec::new(alloc));
-    let mut out = MemSink::new(alloc, 1000, 1000, Vec::new(alloc))?;
-    let mut notes = MemSink::new(alloc, 1000, 1000, Vec::new(alloc))?;
+fn refusal<H: Abort + Threads + Wait + Sync>(rt: &H, alloc: Global) -> u8 {
+    let word = String::from_str(alloc, "build").expect(rt, "memory");
+    let words = [word].to_vec(alloc).expect(rt, "memory");
+    let text = b"no bundle".to_vec(alloc).expect(rt, "memory");
+    let mut source = MemSource::new(text, 1000, Vec::new(alloc));
+    let mut out = MemSink::new(alloc, 1000, 1000, Vec::new(alloc)).expect(rt, "memory");
+    let mut notes = MemSink::new(alloc, 1000, 1000, Vec::new(alloc)).expect(rt, "memory");
     let disk = MemDisk::new(alloc);
     let mut keeper = FolderKeeper::new(disk);
     let gate = CountGate::new();
@@ -27,12 +29,12 @@ fn refusal<H: Threads + Wait + Sync>(rt: &H, alloc: Global) -> Result<u8, AllocE
         &mut keeper,
         &gate,
     );
-    Ok(status.code())
+    status.code()
 }
 
 #[test]
 fn a_text_that_is_no_bundle_is_refused(rt: HostRuntime) -> Result<(), Fail> {
-    assert_eq!(rt; refusal(&rt, rt.alloc())?, 3);
+    assert_eq!(rt; refusal(&rt, rt.alloc()), 3);
     Ok(())
 }
 
@@ -42,7 +44,8 @@ fn a_folder_in_memory_keeps_what_a_build_made(rt: HostRuntime) -> Result<(), Fai
     let alloc = rt.alloc();
     let mut keeper = FolderKeeper::new(MemDisk::new(alloc));
     let gate = CountGate::new();
-    assert!(rt; are_built(&rt, alloc, &mut keeper, &gate, &[ALL_RAN, ALL_HIT])?);
+    let built = are_built(&rt, alloc, &mut keeper, &gate, &[ALL_RAN, ALL_HIT]);
+    assert!(rt; built.expect(&rt, "memory"));
     assert_eq!(rt; gate.passed(), 3);
     Ok(())
 }

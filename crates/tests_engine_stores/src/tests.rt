@@ -1,16 +1,20 @@
 use bx_io::FailKeeper;
+use std::alloc::{AllocError, Global};
 use std::test::Fail;
 use tests_with_engine::{
-    ALL_HIT, ALL_RAN, CountGate, FIRST_CALLS, are_built, empty_keeper, keeper_of,
+    ALL_HIT, ALL_RAN, CountGate, FIRST_CALLS, are_built, empty_keeper, is_built, keeper_of,
 };
 
 const ALL_RAN_WITH_A_FAULT: &str =
-    "notes hits 0\nran 3\nlate 3\nstore-faults 1\nstarved 0\nstatus 0";
+    "notes hits 0\nran 3\nlate 0\nstore-faults 1\nstarved 0\nstatus 0";
 
-const ONE_RAN: &str = "notes hits 2\nran 1\nlate 1\nstore-faults 0\nstarved 0\nstatus 0";
+const ONE_RAN: &str = "notes hits 2\nran 1\nlate 0\nstore-faults 0\nstarved 0\nstatus 0";
 
 const ONE_RAN_WITH_A_FAULT: &str =
-    "notes hits 2\nran 1\nlate 1\nstore-faults 1\nstarved 0\nstatus 0";
+    "notes hits 2\nran 1\nlate 0\nstore-faults 1\nstarved 0\nstatus 0";
+
+const TWO_RAN_WITH_TWO_FAULTS: &str =
+    "notes hits 1\nran 2\nlate 1\nstore-faults 2\nstarved 0\nstatus 0";
 
 /// A record whose call fails is left out, and so is run once more.
 #[test]
@@ -29,25 +33,57 @@ fn leaves_out_a_record_where_a_call_of_the_keeper_fails(rt: HostRuntime) -> Resu
     Ok(())
 }
 
-/// Each lookup of the second build reads the list, the path set, the entry and the file. The first build finds no
-/// list: it calls the store for each of its three processes once.
+/// The notes of the first build by one worker where the call with this number fails. It finds no list: its worker calls the
+/// store for each of the three processes once.
+fn first_notes(number: u64) -> &'static str {
+    if number <= 3 {
+        ALL_RAN_WITH_A_FAULT
+    } else {
+        ALL_RAN
+    }
+}
+
+/// The notes of the second. Each lookup reads the list, the path set, the entry and the file. The process that the worker
+/// runs after its fault is looked up by nobody else; so where the results are collected the reader makes eight calls
+/// alone.
+fn second_notes(number: u64) -> &'static str {
+    match number {
+        0..=8 => TWO_RAN_WITH_TWO_FAULTS,
+        9..=12 => ONE_RAN_WITH_A_FAULT,
+        _ => ALL_HIT,
+    }
+}
+
+/// An empty store, of which each reader fails at its call with this number.
+fn failing_at(alloc: Global, number: u64) -> Result<FailKeeper, AllocError> {
+    Ok(FailKeeper::new(empty_keeper(alloc, 0)?, [number].to_vec(alloc)?))
+}
+
 #[test]
-fn runs_a_process_where_a_call_of_the_reader_fails(rt: HostRuntime) -> Result<(), Fail> {
+fn runs_a_process_where_a_call_of_a_reader_fails(rt: HostRuntime) -> Result<(), Fail> {
     let alloc = rt.alloc();
+    let gate = CountGate::new();
     for number in 1..=13u64 {
-        let mut keeper = FailKeeper::new(empty_keeper(alloc, 0)?, [number].to_vec(alloc)?);
-        let first = if number <= 3 {
-            ALL_RAN_WITH_A_FAULT
-        } else {
-            ALL_RAN
-        };
-        let second = if number == 13 {
-            ALL_HIT
-        } else {
-            ONE_RAN_WITH_A_FAULT
-        };
-        let gate = CountGate::new();
-        assert!(rt; are_built(&rt, alloc, &mut keeper, &gate, &[first, second])?);
+        let mut keeper = failing_at(alloc, number)?;
+        for notes in [first_notes(number), second_notes(number)] {
+            assert!(rt; is_built(&rt, alloc, "1", &mut keeper, &gate, notes)?);
+        }
+    }
+    Ok(())
+}
+
+/// With several workers it is open who looks up what.
+#[test]
+fn builds_the_same_where_calls_of_several_readers_fail(rt: HostRuntime) -> Result<(), Fail> {
+    let alloc = rt.alloc();
+    let gate = CountGate::new();
+    for workers in ["2", "4"] {
+        for number in 1..=13u64 {
+            let mut keeper = failing_at(alloc, number)?;
+            for notes in ["", ""] {
+                assert!(rt; is_built(&rt, alloc, workers, &mut keeper, &gate, notes)?);
+            }
+        }
     }
     Ok(())
 }

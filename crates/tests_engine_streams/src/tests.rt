@@ -42,7 +42,16 @@ fn comes_to<H: Threads + Wait + Sync>(
     let mut seen = Vec::new(alloc);
     let gate = CountGate::new();
     let mut keeper = keeper_of(alloc, 1)?;
-    add_build(rt, alloc, INPUT, streams, &mut keeper, &gate, &mut seen)?;
+    add_build(
+        rt,
+        alloc,
+        "4",
+        INPUT,
+        streams,
+        &mut keeper,
+        &gate,
+        &mut seen,
+    )?;
     Ok(is_joined(&seen, start(OUTPUT, written), start(NOTES, noted), status))
 }
 

@@ -5,10 +5,13 @@ use std::test::Fail;
 #[test]
 fn a_text_that_is_no_bundle_is_refused(rt: HostRuntime) -> Result<(), Fail> {
     let alloc = rt.alloc();
-    let words = [String::from_str(alloc, "build")?].to_vec(alloc)?;
-    let mut source = MemSource::new(b"no bundle".to_vec(alloc)?, 1000, Vec::new(alloc));
-    let mut out = MemSink::new(alloc, 1000, 1000, Vec::new(alloc))?;
-    let mut notes = MemSink::new(alloc, 1000, 1000, Vec::new(alloc))?;
+    let words = [String::from_str(alloc, "build").expect(&rt, "memory")]
+        .to_vec(alloc)
+        .expect(&rt, "memory");
+    let text = b"no bundle".to_vec(alloc).expect(&rt, "memory");
+    let mut source = MemSource::new(text, 1000, Vec::new(alloc));
+    let mut out = MemSink::new(alloc, 1000, 1000, Vec::new(alloc)).expect(&rt, "memory");
+    let mut notes = MemSink::new(alloc, 1000, 1000, Vec::new(alloc)).expect(&rt, "memory");
     let mut keeper = MemKeeper::new(alloc, Vec::new(alloc));
     let status = over_memory(
         &rt,

@@ -1,4 +1,4 @@
-//! Tests of `bx_io`: its stores in memory, each through its bound, where their calls fail, and of contents in them.
+//! Tests of `bx_io`: its stores in memory, each through its bound, where their calls fail.
 #![tactic(auto)]
 
 #[cfg(test)]

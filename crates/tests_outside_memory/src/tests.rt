@@ -1,4 +1,3 @@
 //! What the calls of an object answer is said by a text, a word for each.
 
-mod contents;
 mod keepers;

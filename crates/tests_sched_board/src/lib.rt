@@ -1,4 +1,4 @@
-//! Tests of what workers make on the scheduler's board, which no program uses yet, with ample memory.
+//! Tests of what workers make on the scheduler's board, with ample memory.
 #![tactic(auto)]
 
 #[cfg(test)]

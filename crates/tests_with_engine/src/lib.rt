@@ -7,7 +7,7 @@ mod over_stores;
 use bx_engine::command;
 use bx_io::{FailKeeper, Gate, Keeper, MemKeeper, MemSink, MemSource};
 pub use over_stores::{
-    ALL_HIT, ALL_RAN, FIRST_CALLS, TWO_RAN, are_built, is_built, is_rebuilt, left_after,
+    ALL_HIT, ALL_RAN, FIRST_CALLS, INPUT, TWO_RAN, are_built, is_built, is_rebuilt, left_after,
 };
 use std::alloc::{AllocError, Global};
 use std::sync::Wait;
@@ -59,10 +59,12 @@ pub const NO_FAULTS: Streams = Streams {
     notes_fail: 0,
 };
 
-/// The one word of a build.
-fn words(alloc: Global) -> Result<Vec<String>, AllocError> {
+/// The words of a build by so many workers.
+fn words(alloc: Global, workers: &str) -> Result<Vec<String>, AllocError> {
     let mut words = Vec::new(alloc);
-    words.push(String::from_str(alloc, "build")?)?;
+    for word in ["build", "--workers", workers] {
+        words.push(String::from_str(alloc, word)?)?;
+    }
     Ok(words)
 }
 
@@ -107,16 +109,17 @@ fn add_answer(
 }
 
 /// Adds what a build of this source comes to.
-fn add_call<H: Threads + Wait + Sync, K: Keeper>(
+fn add_call<H: Threads + Wait + Sync, K: Keeper, G: Gate>(
     rt: &H,
     alloc: Global,
+    workers: &str,
     source: &mut MemSource,
     streams: Streams,
     keeper: &mut K,
-    gate: &CountGate,
+    gate: &G,
     seen: &mut Vec<u8>,
 ) -> Result<(), AllocError> {
-    let words = words(alloc)?;
+    let words = words(alloc, workers)?;
     let mut out = sink_of(alloc, streams, streams.out_fails)?;
     let mut notes = sink_of(alloc, streams, streams.notes_fail)?;
     let status = command(
@@ -155,16 +158,18 @@ pub fn add_command<H: Threads + Wait + Sync, K: Keeper>(
     add_answer(seen, &out, &notes, status.code())
 }
 
-/// Adds what a build of this input comes to: the output, `notes ` and the notes, and `status ` and the status.
-pub fn add_build<H: Threads + Wait + Sync, K: Keeper>(
+/// Adds what a build of this input by so many workers comes to: the output, `notes ` and the notes, and `status ` and
+/// the status.
+pub fn add_build<H: Threads + Wait + Sync, K: Keeper, G: Gate>(
     rt: &H,
     alloc: Global,
+    workers: &str,
     input: &str,
     streams: Streams,
     keeper: &mut K,
-    gate: &CountGate,
+    gate: &G,
     seen: &mut Vec<u8>,
 ) -> Result<(), AllocError> {
     let mut source = source_of(alloc, input.as_bytes(), streams)?;
-    add_call(rt, alloc, &mut source, streams, keeper, gate, seen)
+    add_call(rt, alloc, workers, &mut source, streams, keeper, gate, seen)
 }

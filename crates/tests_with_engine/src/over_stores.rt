@@ -1,13 +1,13 @@
 //! A build that puts and gets results in all ways, over any store.
 
 use crate::{CountGate, NO_FAULTS, add_build, empty_keeper};
-use bx_io::{Keeper, MemKeeper, StopKeeper};
+use bx_io::{Gate, Keeper, MemKeeper, StopKeeper};
 use std::alloc::{AllocError, Global};
 use std::sync::Wait;
 use std::thread::Threads;
 
 /// Two files in C that are compiled, and linked.
-const INPUT: &str = r#"bundle 1
+pub const INPUT: &str = r#"bundle 1
 file 79 config.dsc
 config({resolvers: [{kind: "DScript", modules: [f`src/module.config.dsc`]}]});
 
@@ -105,13 +105,13 @@ end
 ";
 
 /// The notes of a build that runs every process.
-pub const ALL_RAN: &str = "notes hits 0\nran 3\nlate 3\nstore-faults 0\nstarved 0\nstatus 0";
+pub const ALL_RAN: &str = "notes hits 0\nran 3\nlate 0\nstore-faults 0\nstarved 0\nstatus 0";
 
 /// The notes of a build that runs none.
 pub const ALL_HIT: &str = "notes hits 3\nran 0\nlate 0\nstore-faults 0\nstarved 0\nstatus 0";
 
 /// The notes of a build with another header, over a store of the first build: one is compiled and both are linked again.
-pub const TWO_RAN: &str = "notes hits 1\nran 2\nlate 2\nstore-faults 0\nstarved 0\nstatus 0";
+pub const TWO_RAN: &str = "notes hits 1\nran 2\nlate 0\nstore-faults 0\nstarved 0\nstatus 0";
 
 /// How many calls of a store its first build makes. The first record is kept by ten: the list is read, and then
 /// put are the weak text, the path set, the strong text, the executable, the source file, the header, the object, the
@@ -119,23 +119,26 @@ pub const TWO_RAN: &str = "notes hits 1\nran 2\nlate 2\nstore-faults 0\nstarved 
 /// file: seven. The third has the path set of the second, and reads the objects: seven.
 pub const FIRST_CALLS: u64 = 24;
 
-/// Whether a build over a store gives its files, and these notes if any are wanted.
-pub fn is_built<H: Threads + Wait + Sync, K: Keeper>(
+/// Whether a build by so many workers over a store gives its files, and these notes if any are wanted.
+pub fn is_built<H: Threads + Wait + Sync, K: Keeper, G: Gate>(
     rt: &H,
     alloc: Global,
+    workers: &str,
     keeper: &mut K,
-    gate: &CountGate,
+    gate: &G,
     notes: &str,
 ) -> Result<bool, AllocError> {
     let mut seen = Vec::new(alloc);
-    add_build(rt, alloc, INPUT, NO_FAULTS, keeper, gate, &mut seen)?;
+    add_build(
+        rt, alloc, workers, INPUT, NO_FAULTS, keeper, gate, &mut seen,
+    )?;
     match seen.strip_prefix(OUTPUT.as_bytes()) {
         Some(rest) => Ok(notes.is_empty() || rest == notes.as_bytes()),
         None => Ok(false),
     }
 }
 
-/// Whether a build of the same files with another header comes to these notes.
+/// Whether a build by four workers of the same files with another header comes to these notes.
 pub fn is_rebuilt<H: Threads + Wait + Sync, K: Keeper>(
     rt: &H,
     alloc: Global,
@@ -148,6 +151,7 @@ pub fn is_rebuilt<H: Threads + Wait + Sync, K: Keeper>(
     add_build(
         rt,
         alloc,
+        "4",
         input.as_str(),
         NO_FAULTS,
         keeper,
@@ -157,16 +161,16 @@ pub fn is_rebuilt<H: Threads + Wait + Sync, K: Keeper>(
     Ok(seen.ends_with(notes.as_bytes()))
 }
 
-/// Whether builds over this keeper come to these notes, one after the other.
-pub fn are_built<H: Threads + Wait + Sync, K: Keeper>(
+/// Whether builds by four workers over this keeper come to these notes, one after the other.
+pub fn are_built<H: Threads + Wait + Sync, K: Keeper, G: Gate>(
     rt: &H,
     alloc: Global,
     keeper: &mut K,
-    gate: &CountGate,
+    gate: &G,
     series: &[&str],
 ) -> Result<bool, AllocError> {
     for notes in series {
-        if !is_built(rt, alloc, keeper, gate, notes)? {
+        if !is_built(rt, alloc, "4", keeper, gate, notes)? {
             return Ok(false);
         }
     }
@@ -181,7 +185,7 @@ pub fn left_after<H: Threads + Wait + Sync>(
     notes: &str,
 ) -> Result<Option<MemKeeper>, AllocError> {
     let mut cut = StopKeeper::new(empty_keeper(alloc, 0)?, calls);
-    if !is_built(rt, alloc, &mut cut, &CountGate::new(), notes)? {
+    if !is_built(rt, alloc, "4", &mut cut, &CountGate::new(), notes)? {
         return Ok(None);
     }
     Ok(Some(cut.into_inner()))

@@ -7,3 +7,4 @@ pub mod Applied
 pub mod Noted
 pub mod Prefixes
 pub mod Recorded
+pub mod ReaderCalls

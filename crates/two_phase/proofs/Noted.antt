@@ -20,7 +20,7 @@ use Rattle.bx_io.proofs.Changes.{keeps_all, makes_some}
 use Rattle.bx_io.proofs.Mapped.{same_holdings}
 use Rattle.memo_format.specs.StoreNames.{HoldsBlob, at_blob, at_entry, at_list}
 use Rattle.content_store.specs.Contents.{IsContent, blob_put}
-use Rattle.run_record.proofs.Digest.{is_digest}
+use Rattle.bx_digest.proofs.HashesAreDigests.{is_digest}
 use Rattle.two_phase_meaning.proofs.Digests.{blob_no_entry, blob_no_list, same_blob_name}
 use Rattle.two_phase_meaning.proofs.Puts.{still_there, there_now, same_name}
 use Rattle.two_phase.specs.Applying.{Applies, IsNoOp}

@@ -4,3 +4,4 @@ pub mod Finding
 pub mod Held
 pub mod Lookups
 pub mod Putting
+pub mod Reading

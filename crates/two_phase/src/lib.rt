@@ -19,5 +19,5 @@ mod store_fault;
 
 pub use held::HeldContents;
 pub use laws::saves_stay_honest;
-pub use lookups::{LookupResult, lookup};
-pub use saving::{SaveResult, keep};
+pub use lookups::{LookupResult, lookup, lookup_by};
+pub use saving::{SaveResult, keep, keep_with};

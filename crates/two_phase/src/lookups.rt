@@ -17,7 +17,7 @@ use bx_io::KeepReader;
 use memo_format::{Entry, Found, Selector};
 use observed::{Answer, PathSet, View, answers_to};
 use pip_model_types::Desc;
-use prints::strong_of;
+use prints::{reads_back, strong_of};
 use run_record::weak_digest;
 use std::alloc::{AllocError, Global};
 
@@ -214,13 +214,15 @@ fn first_usable<R: KeepReader, V: View>(
     Ok(None)
 }
 
-// The usable cached result of a process, if the store has one.
+// The usable cached result of a process with a weak digest, if the store has one.
 fn find_usable<R: KeepReader, V: View>(
     alloc: Global,
     reader: &mut R,
     desc: &Desc,
+    weak: &Digest,
     view: &mut V,
 ) -> Result<Option<Found>, StoreFault>
+    requires { weak.now ≡ weak_of desc.now }
     ensures found { IfOk result (FindsUsable (R.held reader.new) desc.now (V.answers view.old)) }
     ensures now { IfOk result (λ found. IfSome found (λ f.
         IsReadBack desc.now × IsCurrentHit desc.now (V.answers view.old) f)) }
@@ -228,15 +230,38 @@ fn find_usable<R: KeepReader, V: View>(
     ensures reader { ReaderCall (R.held reader.old) (R.held reader.new) (R.bound reader.old) (R.bound reader.new)
         (R.faults reader.old) (R.faults reader.new) (result ≡ Err StoreFault.Fault) }
 {
-    let digest = weak_digest(alloc, desc)?;
-    match selectors(alloc, reader, &digest)? {
-        Some(held) => first_usable(alloc, reader, desc, &digest, held.list(), view),
+    reads_back(desc);
+    match selectors(alloc, reader, weak)? {
+        Some(held) => first_usable(alloc, reader, desc, weak, held.list(), view),
         None => Ok(None),
     }
 }
 
-/// Looks up what the run of a process on this view made: what the first usable selector leads to. It stops at
-/// the first get that fails.
+/// Looks up what the run of a process on this view made, by the digest of its weak text: what the first usable selector
+/// leads to. It stops at the first get that fails.
+pub fn lookup_by<R: KeepReader, V: View>(
+    alloc: Global,
+    reader: &mut R,
+    desc: &Desc,
+    weak: &Digest,
+    view: &mut V,
+) -> LookupResult
+    requires { weak.now ≡ weak_of desc.now }
+    ensures answer { LookupGives (R.held reader.new) desc.now (V.answers view.old) result }
+    ensures now { LookupHitIsCurrent desc.now (V.answers view.old) result }
+    ensures same { V.answers view.new ≡ V.answers view.old }
+    ensures reader { ReaderCall (R.held reader.old) (R.held reader.new) (R.bound reader.old) (R.bound reader.new)
+        (R.faults reader.old) (R.faults reader.new) (result ≡ LookupResult.Fault) }
+{
+    match find_usable(alloc, reader, desc, weak, view) {
+        Ok(Some(found)) => LookupResult::Hit(found),
+        Ok(None) => LookupResult::Miss,
+        Err(StoreFault::Fault) => LookupResult::Fault,
+        Err(StoreFault::Memory) => LookupResult::Memory,
+    }
+}
+
+/// The same for a process whose weak text is written and hashed here.
 pub fn lookup<R: KeepReader, V: View>(
     alloc: Global,
     reader: &mut R,
@@ -249,10 +274,8 @@ pub fn lookup<R: KeepReader, V: View>(
     ensures reader { ReaderCall (R.held reader.old) (R.held reader.new) (R.bound reader.old) (R.bound reader.new)
         (R.faults reader.old) (R.faults reader.new) (result ≡ LookupResult.Fault) }
 {
-    match find_usable(alloc, reader, desc, view) {
-        Ok(Some(found)) => LookupResult::Hit(found),
-        Ok(None) => LookupResult::Miss,
-        Err(StoreFault::Fault) => LookupResult::Fault,
-        Err(StoreFault::Memory) => LookupResult::Memory,
+    match weak_digest(alloc, desc) {
+        Ok(weak) => lookup_by(alloc, reader, desc, &weak, view),
+        Err(_) => LookupResult::Memory,
     }
 }

@@ -4,7 +4,10 @@ ghost use Rattle.memo_format.specs.Entries.{entry_text, read_entry_text};
 ghost use Rattle.memo_format.specs.Found.{output_lines};
 ghost use Rattle.observed.specs.Texts.{paths_text, read_paths_text};
 ghost use Rattle.pip_model_types.specs.Made.{made_files};
+ghost use Rattle.prints.specs.Processes.{weak_parts};
+ghost use Rattle.prints.specs.Weak.{weak_text};
 ghost use Rattle.run_record.specs.Collisions.{contents_of};
+ghost use Rattle.run_record.specs.Digests.{weak_of};
 ghost use Rattle.two_phase_meaning.specs.Contents.{answer_contents, desc_contents, given_contents};
 ghost use Rattle.two_phase_meaning.specs.Saving.{IsGood, entry_with, outcome_files as files_of};
 ghost use Rattle.two_phase.specs.Putting.{IsWritten};
@@ -13,7 +16,7 @@ use bx_digest::{Blob, Digest};
 use memo_format::{Entry, OutputLines, outputs_of, write_entry};
 use observed::{Answer, PathSet};
 use pip_model_types::{Desc, Made, MadeFile};
-use prints::{Printed, strong_of, weak};
+use prints::{Printed, reads_back, strong_of};
 use run_record::{Outcome, Record};
 use std::alloc::{AllocError, Global};
 
@@ -35,7 +38,7 @@ fn print_paths(alloc: Global, paths: &PathSet) -> Result<Blob, AllocError>
     ensures read { IfOk result (λ text. read_paths_text text ≡ Some paths.now) }
 {
     let text = paths.text(alloc)?;
-    let blob = Blob::hashed(alloc, text)?;
+    let blob = Blob::new(alloc, text)?;
     Ok(blob)
 }
 
@@ -128,13 +131,15 @@ fn entry_text_of(
     write_entry(alloc, &entry)
 }
 
-// All that is put for a record of a success, but for its list.
-pub(crate) fn write(alloc: Global, ran: &Record) -> Result<Written, AllocError>
-    requires { IsGood ran.now }
+// All that is put for a record of a success, but for its list, by its weak text.
+pub(crate) fn write(alloc: Global, ran: &Record, weak: Printed) -> Result<Written, AllocError>
+    requires good { IsGood ran.now }
+    requires text { weak.text.items ≡ weak_text (weak_parts ran.now.desc) }
+    requires digest { weak.digest ≡ weak_of ran.now.desc }
     ensures { IfOk result (IsWritten ran.now) }
 {
+    reads_back(ran.desc());
     let made = made_by(ran.outcome());
-    let weak = weak(alloc, ran.desc())?;
     let asks = ran.paths();
     let second = asks.has_match();
     let paths = print_paths(alloc, asks)?;

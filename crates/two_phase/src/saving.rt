@@ -5,6 +5,9 @@ ghost use Rattle.bx_io.specs.Holdings.{Keeps, Makes, Put, held_in};
 ghost use Rattle.content_store.specs.Contents.{blob_put};
 ghost use Rattle.memo_format.specs.Selectors.{read_selectors_text};
 ghost use Rattle.memo_format.specs.StoreNames.{at_entry, at_list};
+ghost use Rattle.prints.specs.Processes.{weak_parts};
+ghost use Rattle.prints.specs.Weak.{weak_text};
+ghost use Rattle.run_record.specs.Digests.{weak_of};
 ghost use Rattle.two_phase_meaning.specs.Saving.{IsGood, or_none, same_selector};
 ghost use Rattle.two_phase_meaning.specs.Saving.{with_first as first_of};
 ghost use Rattle.two_phase.specs.Applying.{Applies, AppliesAll, AppliesPrefix};
@@ -18,7 +21,7 @@ use bx_digest::{Blob, Digest};
 use bx_io::{Got, Keeper, PutFault};
 use content_store::{blob_name, entry_name, list_name};
 use memo_format::{FormatFault, MAX_SELECTORS, Selector, read_selectors, write_selectors};
-use prints::Printed;
+use prints::{Printed, weak};
 use run_record::Record;
 use std::alloc::{AllocError, Global};
 
@@ -270,8 +273,11 @@ fn put_record<K: Keeper>(
     keeper: &mut K,
     held: &mut HeldContents,
     ran: &Record,
+    printed: Printed,
 ) -> Result<(), PutFault>
     requires good { IsGood ran.now }
+    requires text { printed.text.items ≡ weak_text (weak_parts ran.now.desc) }
+    requires digest { printed.digest ≡ weak_of ran.now.desc }
     requires held { AreHeld (held_in (K.known keeper.old)) held.old }
     ensures made { OnOk result (PutsAll (K.known keeper.old) (K.known keeper.new) ran.now) }
     ensures first { PutsUpTo (K.known keeper.old) (K.known keeper.new) ran.now }
@@ -279,14 +285,39 @@ fn put_record<K: Keeper>(
     ensures keeper { KeeperCall (K.bound keeper.old) (K.bound keeper.new) (K.faults keeper.old)
         (K.faults keeper.new) (result ≡ Err PutFault.Failed) }
 {
-    let written = write(alloc, ran)?;
+    let written = write(alloc, ran, printed)?;
     let list = next_list(alloc, keeper, &written)?;
     put_all(alloc, keeper, held, &written, list.as_slice())
 }
 
 /// Puts what a record of a success is: its texts and contents, then its entry, then the list of its process
 /// with its selector first. Path sets and contents of files that are noted as held are left out, and those
-/// that it puts are noted. It stops at the first refusal.
+/// that it puts are noted. It stops at the first refusal. The weak text of its process is given, with its digest.
+pub fn keep_with<K: Keeper>(
+    alloc: Global,
+    keeper: &mut K,
+    held: &mut HeldContents,
+    ran: &Record,
+    printed: Printed,
+) -> SaveResult
+    requires good { IsGood ran.now }
+    requires text { printed.text.items ≡ weak_text (weak_parts ran.now.desc) }
+    requires digest { printed.digest ≡ weak_of ran.now.desc }
+    requires held { AreHeld (held_in (K.known keeper.old)) held.old }
+    ensures saved { result ≡ SaveResult.Saved → PutsAll (K.known keeper.old) (K.known keeper.new) ran.now }
+    ensures first { PutsUpTo (K.known keeper.old) (K.known keeper.new) ran.now }
+    ensures held { AreHeld (held_in (K.known keeper.new)) held.new }
+    ensures keeper { KeeperCall (K.bound keeper.old) (K.bound keeper.new) (K.faults keeper.old)
+        (K.faults keeper.new) (result ≡ SaveResult.Fault) }
+{
+    match put_record(alloc, keeper, held, ran, printed) {
+        Ok(()) => SaveResult::Saved,
+        Err(PutFault::Failed) => SaveResult::Fault,
+        Err(PutFault::Memory) => SaveResult::Memory,
+    }
+}
+
+/// The same for a record whose weak text is written and hashed here.
 pub fn keep<K: Keeper>(
     alloc: Global,
     keeper: &mut K,
@@ -301,9 +332,8 @@ pub fn keep<K: Keeper>(
     ensures keeper { KeeperCall (K.bound keeper.old) (K.bound keeper.new) (K.faults keeper.old)
         (K.faults keeper.new) (result ≡ SaveResult.Fault) }
 {
-    match put_record(alloc, keeper, held, ran) {
-        Ok(()) => SaveResult::Saved,
-        Err(PutFault::Failed) => SaveResult::Fault,
-        Err(PutFault::Memory) => SaveResult::Memory,
+    match weak(alloc, ran.desc()) {
+        Ok(printed) => keep_with(alloc, keeper, held, ran, printed),
+        Err(_) => SaveResult::Memory,
     }
 }

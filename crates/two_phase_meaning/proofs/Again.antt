@@ -20,7 +20,7 @@ use Rattle.memo_format.specs.declared.selector.Selector.{Selector}
 use Rattle.memo_format.specs.declared.selector.TheConstants.{MAX_SELECTORS}
 use Rattle.memo_format.proofs.FormTexts.{selectors_again, selectors_sound}
 use Rattle.content_store.specs.Contents.{blob_put}
-use Rattle.run_record.proofs.Digest.{is_digest}
+use Rattle.bx_digest.proofs.HashesAreDigests.{is_digest}
 use Rattle.run_record.specs.Collisions.{NoCollision, contents_of}
 use Rattle.run_record.specs.Digests.{weak_of}
 use Rattle.two_phase_meaning.specs.Contents.{HoldsAll, desc_contents, given_contents}

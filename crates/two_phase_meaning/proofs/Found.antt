@@ -26,7 +26,7 @@ use Rattle.prints.proofs.StrongTexts.{strong_again}
 use Rattle.bx_digest.specs.Digests.{IsDigest}
 use Rattle.memo_format.specs.StoreNames.{HoldsBlob}
 use Rattle.memo_format.specs.declared.selector.Selector.{Selector}
-use Rattle.run_record.proofs.Digest.{is_digest}
+use Rattle.bx_digest.proofs.HashesAreDigests.{is_digest}
 use Rattle.run_record.specs.Collisions.{NoCollision, contents_of}
 use Rattle.run_record.specs.Digests.{IsReadBack, weak_of}
 use Rattle.two_phase_meaning.specs.Contents.{HoldsAll, desc_contents, given_contents}

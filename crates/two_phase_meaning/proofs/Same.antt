@@ -18,7 +18,7 @@ use Rattle.prints.specs.declared.weak_parts.WeakParts.{WeakParts}
 use Rattle.memo_format.specs.Found.{output_lines}
 use Rattle.memo_format.specs.declared.entry.OutputLine.{OutputLine}
 use Rattle.run_record.specs.Collisions.{NoCollision, contents_of}
-use Rattle.run_record.proofs.AnswerLines.{is_line}
+use Rattle.prints.proofs.AnswersHaveLines.{is_line}
 use Rattle.two_phase_meaning.specs.Contents.{answer_contents, desc_contents, given_contents}
 use Rattle.pip_model_types.specs.Outputs.{outdir_paths}
 

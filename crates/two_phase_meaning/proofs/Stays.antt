@@ -24,7 +24,7 @@ use Rattle.memo_format.specs.Selectors.{selectors_text}
 use Rattle.memo_format.specs.StoreNames.{HoldsBlob, HoldsList, at_blob, at_entry, at_list}
 use Rattle.memo_format.specs.declared.selector.Selector.{Selector}
 use Rattle.content_store.specs.Contents.{blob_put}
-use Rattle.run_record.proofs.Digest.{is_digest}
+use Rattle.bx_digest.proofs.HashesAreDigests.{is_digest}
 use Rattle.run_record.specs.Collisions.{NoCollision, contents_of}
 use Rattle.run_record.specs.Digests.{weak_of}
 use Rattle.two_phase_meaning.specs.Saving.{ComparedInStay, answers_text, blobs_of, entry_put, list_put, paths_digest, puts_of, record_entry}

@@ -1,4 +1,4 @@
-use Rattle.std.proofs.Common.{◌∙◌, ap, refl}
+use Rattle.std.proofs.Common.{◌∙◌, ap, arith, refl}
 use Rattle.std.proofs.lemmas.Bool.{false≢true}
 use Rattle.std.proofs.lemmas.Result.{IfOk-weaker}
 use Rattle.bx_io.proofs.Changes.{keeps_all}
@@ -25,22 +25,27 @@ returns-then-reserved-clause-left g c input held bundle is honest fair =
 
 -- ## A plan
 
+pub build_plan-requires-clause-workers : goal.build_plan-requires-clause-workers
+build_plan-requires-clause-workers g c =
+    λ κs live.
+    (omega (arith, c.workers_of.ensures, c.requires.crew.some), omega (arith, c.workers_of.ensures, c.requires.crew.few))
+
 pub returns-in-Ok-clause-response : goal.returns-in-Ok-clause-response
 returns-in-Ok-clause-response g c input bundle =
     IfOk-weaker c.build_plan.result _ _
     (λ response h.
-    build_responds c.args.order.now input _ c.args.tree c.in-Ok.end.sources c.in-Ok.end.plan.pips c.in-Ok.end.plan.tool_budget c.is_cached.result response
-    bundle (λ r. false≢true (c.if-reserved.ensures.1 r)) c.in-Ok.ensures.plan c.in-Ok.ensures.sources c.in-Ok.ensures.tool_budget c.is_cached.ensures h)
+    build_responds c.args.order.now input _ c.args.tree c.in-Ok.sources c.in-Ok.plan.pips c.in-Ok.plan.tool_budget c.is_cached.result c.workers_of.result response
+    bundle (λ r. false≢true (c.if-reserved.ensures.1 r)) c.in-Ok.ensures.plan c.in-Ok.ensures.sources c.in-Ok.ensures.tool_budget c.is_cached.ensures c.workers_of.ensures h)
     c.build_plan.ensures.response
 
 pub returns-in-Ok-clause-kept : goal.returns-in-Ok-clause-kept
 returns-in-Ok-clause-kept g c =
-    IfOk-weaker c.build_plan.result _ _ (λ response h refused. absurd (build_not_refused _ _ _ _ _ response h refused)) c.build_plan.ensures.response
+    IfOk-weaker c.build_plan.result _ _ (λ response h refused. absurd (build_not_refused _ _ _ _ _ _ response h refused)) c.build_plan.ensures.response
 
 pub returns-in-Ok-clause-left : goal.returns-in-Ok-clause-left
 returns-in-Ok-clause-left g c input held bundle is honest fair =
-    left_of_plan (uses_store c.args.order.now) (limits_of c.args.order.now) input c.args.tree c.in-Ok.end.sources c.in-Ok.end.plan.pips
-    c.in-Ok.end.plan.tool_budget held (g.K.Keeper.known c.args.keeper.now) (g.K.Keeper.known c.build_plan.new.keeper) is honest fair
+    left_of_plan (uses_store c.args.order.now) (limits_of c.args.order.now) input c.args.tree c.in-Ok.sources c.in-Ok.plan.pips
+    c.in-Ok.plan.tool_budget held (g.K.Keeper.known c.args.keeper.now) (g.K.Keeper.known c.build_plan.new.keeper) is honest fair
     (record { bundle = bundle; free = λ r. false≢true (c.if-reserved.ensures.1 r) }) c.in-Ok.ensures.plan c.in-Ok.ensures.sources
     c.in-Ok.ensures.tool_budget (c.build_plan.ensures.left held is)
     (λ off.

@@ -58,6 +58,9 @@ returns-in-Err-NoCommand-clause-usage g c none =
 -- ## A build
 -- the words are one order, which is the one that was built
 
+pub build-requires-clause-crew : goal.build-requires-clause-crew
+build-requires-clause-crew g c = λ κs live. c.some_workers.ensures _ c.in-Ok.order c.in-Ok.ensures (subst IsBuild (sym c.in-Build.is) tt)
+
 pub returns-in-Build-clause-no_command : goal.returns-in-Build-clause-no_command
 returns-in-Build-clause-no_command g c none = absurd (c.build.ensures.begun none)
 

@@ -11,9 +11,9 @@ returns-clause-result g c =
     let pips = c.args.frame.now.plan.now.pips in
     let tree = c.args.frame.now.sources.now in
     let made = map slot_files c.args.slots.now in
-    IfOk-weaker c.after_work.result _ _
+    IfOk-weaker c.after_outcome.result _ _
     (λ ended is.
     process_worked pips tree c.args.frame.now.plan.now.tool_budget made c.args.inputs.now c.args.pip (slice_get pips c.args.pip)
     c.in_ok-described.described _ c.in_ok-outcome.outcome (ended_result ended) c.in_ok-described.ensures c.in_ok-view.ensures
     c.in_ok-outcome.ensures.outcome is)
-    c.after_work.ensures.result
+    c.after_outcome.ensures.result

@@ -1,4 +1,4 @@
-use Rattle.std.proofs.Common.{◌≡◌, ◌<◌, ℕ, List, ap, arith, get_or, length, length-append, subst, sym, ◌∙◌}
+use Rattle.std.proofs.Common.{◌≡◌, ◌+◌, ◌/◌, ◌<◌, ◌≤◌, ℕ, List, ap, arith, get_or, length, length-append, subst, sym, ◌∙◌}
 use Rattle.pip_model.specs.Plans.{AreRows}
 use Rattle.pip_model.specs.Rows.{IsRowOf}
 use Rattle.pip_model.specs.Walks.{ListEdge}
@@ -14,11 +14,12 @@ inputs-preserved c =
     let within : length rows < length lists = omega (arith, c.inputs-test.true, c.inputs.invariant.size) in
     let here : targets ≡ get_or lists (length rows) targets =
     c.targets-item.is ∙ ap (λ n. get_or lists n targets) (sym c.inputs.invariant.size) in
+    let fits : length c.in_ok-row.row ≤ length rows / 64 + 1 = omega (arith, c.in_ok-row.ensures.size, c.len.ensures) in
     let row = subst (λ (ts : List ℕ). IsRowOf c.as_slice.result.now ts c.in_ok-row.row) c.numbers.ensures c.in_ok-row.ensures.row in
     record {
       size = omega (arith, simp length-append at (ap length items), c.inputs.invariant.size);
       rows =
-          subst (AreRows (ListEdge lists) c.args.words) (sym items)
-          (next_row lists c.args.words rows targets c.in_ok-row.row c.requires.back within here c.in_ok-row.ensures.size
+          subst (AreRows (ListEdge lists)) (sym items)
+          (next_row lists rows targets c.in_ok-row.row c.requires within here fits
           (subst (λ (rs : List (List ℕ)). IsRowOf rs targets c.in_ok-row.row) c.as_slice.ensures.value row) c.inputs.invariant.rows);
     }

@@ -6,5 +6,5 @@ use Rattle.pip_model.proofs.reach.all_rows.Given as goal
 abbrev pub invariant-inputs : goal.invariant-inputs
 invariant-inputs l = record {
   size : length l.rows.items ≡ l.targets-index;
-  rows : AreRows (ListEdge l.inputs) l.words l.rows.items;
+  rows : AreRows (ListEdge l.inputs) l.rows.items;
 }

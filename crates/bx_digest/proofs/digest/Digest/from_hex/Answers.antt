@@ -1,6 +1,5 @@
-use Rattle.std.proofs.Common.{◌≡◌, ℕ, Bool, true, false, List, length, refl, sym, ap, ◌∙◌, subst, Result, Ok, Err, Fits, w8, arith}
-use Rattle.std.specs.Result.{MatchResult}
-use Rattle.hex.specs.Hex.{encode_lower, decode_sized}
+use Rattle.std.proofs.Common.{refl, sym, ap, ◌∙◌, subst}
+use Rattle.hex.specs.Hex.{encode_lower}
 use Rattle.bx_digest.specs.Digests.{IsHexText}
 use Rattle.bx_digest.proofs.HexTexts.{decoded, hex_text_of_digest, left_is_digest}
 use Rattle.bx_digest.proofs.digest.Digest.from_hex.Goals as goal

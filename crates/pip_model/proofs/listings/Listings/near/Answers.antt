@@ -1,4 +1,4 @@
-use Rattle.std.proofs.Common.{◌≡◌, List, ℕ, map, sym, subst, ◌∙◌}
+use Rattle.std.proofs.Common.{◌≡◌, List, map, sym, subst, ◌∙◌}
 use Rattle.std.specs.List.{Contains}
 use Rattle.bx_tree_paths.specs.Searches.{RiseByText}
 use Rattle.pip_model.specs.Listings.{listing_path, listing_seal}

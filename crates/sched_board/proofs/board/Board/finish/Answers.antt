@@ -16,6 +16,18 @@ returns-clause-marked g c = λ some.
     let settled : are_settled c.args.self.core.states ≡ true = ap (λ (b : BoardData). are_settled b.core.states) (sym c.self.view_is) ∙ c.self.invariant.marked marks in
     (settled, none_empty c.args.self board settled)
 
+pub returns-clause-settled : goal.returns-clause-settled
+returns-clause-settled g c = λ settled.
+    let board : IsBoard c.args.self = subst IsBoard c.self.view_is c.self.invariant.board in
+    record {
+      core = c.args.self.core;
+      graph = board.graph;
+      sound = sound_board c.args.self board;
+      size = board.slots_size;
+      fit = board.fit;
+      settled = settled;
+    }
+
 pub returns-clause-starts_after_inputs : goal.returns-clause-starts_after_inputs
 returns-clause-starts_after_inputs g c = c.legal_events.ensures.starts_after_inputs c.args.self.core.nodes _
 
