@@ -40,13 +40,11 @@ IsNoSlash c = c ≡ 47 → ⊥
 
 old_plain : IsPlain (codes ".new")
 old_plain =
-    All-cons IsNoSlash 46 _ (λ is. omega (arith, is)) (All-cons IsNoSlash 110 _ (λ is. omega (arith, is)) (All-cons IsNoSlash 101 _ (λ is. omega (arith, is))
-    (All-cons IsNoSlash 119 _ (λ is. omega (arith, is)) (All-nil IsNoSlash))))
+    All-cons IsNoSlash 46 (110 ∷ 101 ∷ 119 ∷ []) (λ is. omega (arith, is)) (All-cons IsNoSlash 110 (101 ∷ 119 ∷ []) (λ is. omega (arith, is)) (All-cons IsNoSlash 101 (119 ∷ []) (λ is. omega (arith, is)) (All-cons IsNoSlash 119 [] (λ is. omega (arith, is)) (All-nil IsNoSlash))))
 
 place_plain : IsPlain (codes ".new-")
 place_plain =
-    All-cons IsNoSlash 46 _ (λ is. omega (arith, is)) (All-cons IsNoSlash 110 _ (λ is. omega (arith, is)) (All-cons IsNoSlash 101 _ (λ is. omega (arith, is))
-    (All-cons IsNoSlash 119 _ (λ is. omega (arith, is)) (All-cons IsNoSlash 45 _ (λ is. omega (arith, is)) (All-nil IsNoSlash)))))
+    All-cons IsNoSlash 46 (110 ∷ 101 ∷ 119 ∷ 45 ∷ []) (λ is. omega (arith, is)) (All-cons IsNoSlash 110 (101 ∷ 119 ∷ 45 ∷ []) (λ is. omega (arith, is)) (All-cons IsNoSlash 101 (119 ∷ 45 ∷ []) (λ is. omega (arith, is)) (All-cons IsNoSlash 119 (45 ∷ []) (λ is. omega (arith, is)) (All-cons IsNoSlash 45 [] (λ is. omega (arith, is)) (All-nil IsNoSlash)))))
 
 ending_plain : (text : List ℕ) → IsEnding text → IsPlain text
 ending_plain text (inl is) = subst IsPlain (sym is) old_plain

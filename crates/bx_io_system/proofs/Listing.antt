@@ -1,5 +1,5 @@
 -- What listings of a folder say of its files.
-use Rattle.std.proofs.Common.{◌≡◌, ℕ, Bool, true, false, cond, List, [], ◌∷◌, ◌++◌, length, take, Some, None, map, refl, sym, ap, subst, ◌∙◌, arith, String, Vec, Global, string_bytes, T, Result, Ok, Err, OnOk}
+use Rattle.std.proofs.Common.{◌≡◌, ℕ, Bool, true, false, cond, List, [], ◌∷◌, ◌++◌, length, take, Some, None, map, refl, sym, ap, subst, ◌∙◌, arith, String, Vec, Global, string_bytes, T, Result, Ok, Err, OnErr, OnOk}
 use Rattle.std.specs.Prelude.{◌||◌, ◌&&◌, All, is_some}
 use Rattle.std.specs.List.{AllByRecursion, dedup, dedup_from, list_any}
 use Rattle.std.specs.List.Sorted.{IsStrictlySortedBy}
@@ -316,6 +316,10 @@ path_elsewhere inside q path b not =
 pub on_ok : {X E : Type 0} (r : Result X E) (P Q : Type 0) → (P → Q) → OnOk r P → OnOk r Q
 on_ok (Ok x) P Q f p = f p
 on_ok (Err e) P Q f p = tt
+
+pub on_err_anyway : {X E : Type 0} (r : Result X E) (P : Type 0) → P → OnErr r P
+on_err_anyway (Ok x) P p = tt
+on_err_anyway (Err e) P p = p
 
 -- the names that are added are those of the files
 pub added_held : (kind : List ℕ) (files : Files) (v : Vec (String Global) Global) (lent : List (String Global)) (old now : List (String Global)) → length kind ≡ 1 → ListsFiles files kind (Ok v)

@@ -1,5 +1,5 @@
 -- What follows of a lock from the calls that were made.
-use Rattle.std.proofs.Common.{◌≡◌, ◌∙◌, ℕ, Bool, true, false, List, [], ◌∷◌, refl, sym, ap, subst, Result, Ok, Err, OnErr, OnOk, arith, inl, inr}
+use Rattle.std.proofs.Common.{◌≡◌, ◌∙◌, ℕ, Bool, true, false, List, [], ◌∷◌, refl, sym, ap, subst, Option, Some, IsSome, is_some, Result, Ok, Err, OnErr, OnOk, arith, inl, inr}
 use Rattle.std.specs.Prelude.{not, ◌||◌, ◌&&◌, ◌==◌, ◌⊎◌, length, slice_index}
 use borrow.Author.Tests.{eq-eqb, eqb-true, ne_eqb}
 use Rattle.std.specs.Str.{bytes_eq}
@@ -166,6 +166,15 @@ locked_any_next _ alone x y so is = so is
 pub locked_any : (alone : Bool) (earlier : List Event) → is_locked true earlier ≡ true → is_locked alone earlier ≡ true
 locked_any alone [] is = absurd (false≢true is)
 locked_any alone (e ∷ earlier) is = locked_any_next e.0 alone (is_locked true earlier) (is_locked alone earlier) (locked_any alone earlier) is
+
+-- where no lock is held, the folder was not locked
+pub no_lock : {X : Type 0} (alone : Bool) (earlier : List Event) (lock : Option X) → (is_locked false earlier ≡ true → IsSome lock) → is_some lock ≡ false → is_locked alone earlier ≡ true → ⊥
+no_lock true earlier lock kept none is = false≢true (sym none ∙ kept (locked_any false earlier is))
+no_lock false earlier lock kept none is = false≢true (sym none ∙ kept is)
+
+-- where no wish was refused, nobody excluded the handle
+pub not_refused : (earlier : List Event) (refused : Option ErrorKind) → (is_excluded earlier ≡ true → refused ≡ Some WouldBlock) → is_some refused ≡ false → is_excluded earlier ≡ true → ⊥
+not_refused earlier refused excluded none is = false≢true (sym none ∙ ap is_some (excluded is))
 
 pub may_change_alone : (earlier : List Event) → is_locked true earlier ≡ true → may_change earlier ≡ true
 may_change_alone earlier is = locked_any (asks_alone earlier) earlier is

@@ -1,9 +1,9 @@
 -- What follows of the places at which a put may begin its file.
-use Rattle.std.proofs.Common.{◌≡◌, ◌∙◌, ◌<◌, ◌≤◌, ◌+◌, ℕ, Bool, true, false, List, [], ◌++◌, Some, None, refl, sym, ap, subst, inl, inr, arith, IsSome, codes, length, take, drop, string_bytes, Result, Ok, Err}
+use Rattle.std.proofs.Common.{◌≡◌, ◌∙◌, ◌<◌, ◌≤◌, ◌+◌, ◌-◌, ℕ, Bool, true, false, List, [], ◌++◌, Some, None, refl, sym, ap, subst, inl, inr, arith, IsSome, codes, length, take, drop, string_bytes, Result, Ok, Err}
 use Rattle.std.specs.Prelude.{◌⊎◌, ◌↔◌, IfOk, IsTrue}
 use Rattle.std.specs.FinMap.{get}
 use Rattle.std.proofs.lemmas.Bool.{cases_eq, false≢true}
-use Rattle.std.proofs.lemmas.List.{length-take}
+use Rattle.std.proofs.lemmas.List.{length-drop, length-take, take_all}
 use Rattle.bx_io.specs.Causes.{HasCause, Rose, counted, last_count}
 use Rattle.bx_io.specs.Names.{IsName}
 use Rattle.bx_io.specs.declared.name.TheConstants.{NAME_LENGTH}
@@ -73,6 +73,10 @@ pub rose_later : (before mid now : ℕ) → before ≤ mid → Rose mid now → 
 rose_later before mid now later rose = omega (arith, later, rose)
 
 -- ## What follows a name
+
+-- what follows a front, up to the end
+pub rest_of : (n : ℕ) (text : List ℕ) → take (length text - n) (drop n text) ≡ drop n text
+rest_of n text = take_all (length text - n) (drop n text) (omega (arith, length-drop n text))
 
 pub no_ending : (text : List ℕ) → (text ≡ codes ".new" → ⊥) → ((k : ℕ) → k < PLACES → text ≡ place_ending k → ⊥) → IsEnding text → ⊥
 no_ending text old places (inl is) = old is

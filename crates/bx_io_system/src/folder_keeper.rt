@@ -13,9 +13,9 @@ use std::alloc::{AllocError, Global};
 
 /// A folder that holds each name as the plain file of that name, in a folder for each kind of name; other
 /// files in it are ignored. It is locked as long as the store is there, from its first call on: alone where that was asked
-/// first, and else shared. Where another one has locked it so that this store is excluded, each call fails. It held anything at first, and tells that with its own changes, as long as each
-/// answer of the disk agrees. Each error of the disk but that nothing is there is a fault, and raises the count
-/// by one, up to the greatest `u64`.
+/// first, and else shared. Where another one has locked it so that this store is excluded, each call fails. It held anything
+/// at first, and tells that with its own changes, as long as each answer of the disk agrees. Each error of the disk but that
+/// nothing is there is a fault, and raises the count by one, up to the greatest `u64`.
 #[derive(Drop)]
 pub struct FolderKeeper<D: Disk> {
     system: System<D>,
@@ -49,7 +49,7 @@ impl<D: Disk + Send> FolderKeeper<D> {
     {}
 }
 
-impl<D: Disk + Send> FolderReader<D> {
+impl<D: Disk> FolderReader<D> {
     // The folder with what was noted of it.
     fn into_system(self) -> System<D>
         ensures { result ≡ self.system }

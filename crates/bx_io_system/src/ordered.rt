@@ -459,7 +459,8 @@ impl<D: Disk> OrderedDisk<D> {
     {
         self.disk.write(alloc, begun, bytes)?;
         self.sync_folders(alloc)?;
-        self.disk.sync(alloc, begun)
+        self.disk.sync(alloc, begun)?;
+        Ok(())
     }
 
     // Removes a file that was begun.

@@ -14,9 +14,9 @@ returns-then-is_some-clause-cause c = rw c.fault.ensures.noted (failure_noted _ 
 
 pub returns-clause-created : goal.returns-clause-created
 returns-clause-created c =
-    let none : is_some c.get.result ≡ false = search rules in (
-      absent_from c.args.self.now.map c.args.path.now c.get.result none c.get.ensures.value,
-      written_to _ _ (string_bytes c.in_ok-key.key) c.args.path.now c.new.result.items []
-          (holdings_put (string_bytes c.in_ok-key.key) c.args.self.now.map c.insert.new.self c.new.result c.in_ok-insert.ensures.updates) (grind (arith, common_steps))
-          (grind (arith, common_steps)),
-    )
+    let none : is_some c.get.result ≡ false = search rules in
+    let there =
+    written_to _ _ (string_bytes c.in_ok-key.key) c.args.path.now c.new.result.items []
+    (holdings_put (string_bytes c.in_ok-key.key) c.args.self.now.map c.insert.new.self c.new.result c.in_ok-insert.ensures.updates) (grind (arith, common_steps))
+    (grind (arith, common_steps)) in
+    (absent_from c.args.self.now.map c.args.path.now c.get.result none c.get.ensures.value, there.0, there.1)

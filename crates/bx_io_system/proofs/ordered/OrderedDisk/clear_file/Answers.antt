@@ -4,7 +4,7 @@ use Rattle.std.specs.declared.io.ErrorKind.TheVariants.{NotFound}
 use borrow.Author.Tests.{both_ways}
 use Rattle.bx_io_system.specs.Files.{blob_letter, entry_letter}
 use Rattle.bx_io_system.specs.declared.kind.Kind.TheVariants as kinds
-use Rattle.bx_io_system.proofs.Clearing.{cleared_absent, cleared_removed, clears_none, clears_removed, left_long}
+use Rattle.bx_io_system.proofs.Clearing.{cleared_absent, clears_none, clears_removed, left_long}
 use Rattle.bx_io_system.proofs.Locking.{begun_after, durable_next, may_change_alone, may_remove, removes_alone, unsynced_removed}
 use Rattle.bx_io_system.proofs.ordered.OrderedDisk.clear_file.Goals as goal
 
@@ -19,9 +19,11 @@ returns-then-not-branch-clause-cleared g c known left = absurd (both_ways c.in_o
 
 pub invariant_of-self-clause-durable : goal.invariant_of-self-clause-durable
 invariant_of-self-clause-durable g c =
-    let begun = left_long c.args.path.now (c.in_ok-is_left.ensures.0 c.if-not-branch.false) in
-    durable_next kinds.Removed c.args.path.now [] _ _ c.remove.ensures.calls
-    (may_remove _ _ _ (may_change_alone _ c.requires) (removes_alone _ _ c.requires) (begun_after blob_letter entry_letter _ _ begun)) c.args.self.now.durable
+    let path = c.args.path.now in
+    let calls = g.D.Disk.calls c.args.self.now.disk in
+    let begun = left_long path (c.in_ok-is_left.ensures.0 c.if-not-branch.false) in
+    durable_next kinds.Removed path [] calls _ c.remove.ensures.calls
+    (may_remove path [] calls (may_change_alone calls c.requires) (removes_alone path calls c.requires) (begun_after blob_letter entry_letter path calls begun)) c.args.self.now.durable
 
 pub invariant_of-self-clause-blobs_known : goal.invariant_of-self-clause-blobs_known
 invariant_of-self-clause-blobs_known g c is =
@@ -47,4 +49,4 @@ returns-in_default-clause-clears g c known =
     clears_removed _ _ c.args.path.now c.remove.result (c.in_ok-is_left.ensures.0 c.if-not-branch.false) (c.remove.ensures.removed known)
 
 pub returns-in_default-clause-cleared : goal.returns-in_default-clause-cleared
-returns-in_default-clause-cleared g c known = cleared_removed _ _ c.args.path.now c.remove.result (c.remove.ensures.removed known)
+returns-in_default-clause-cleared g c known = tt

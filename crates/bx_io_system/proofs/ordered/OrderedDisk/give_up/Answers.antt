@@ -6,11 +6,13 @@ use Rattle.bx_io_system.proofs.ordered.OrderedDisk.give_up.Goals as goal
 
 pub invariant_of-self-clause-durable : goal.invariant_of-self-clause-durable
 invariant_of-self-clause-durable g c =
-    durable_next kinds.Removed c.args.begun.now [] _ _ c.remove.ensures.calls
-    (may_remove _ _ _ c.requires.locked (removes_own _ _ c.requires.own) (begun_after blob_letter entry_letter _ _ c.requires.begun)) c.args.self.now.durable
+    let path = c.args.begun.now in
+    let calls = g.D.Disk.calls c.args.self.now.disk in
+    durable_next kinds.Removed path [] calls _ c.remove.ensures.calls
+    (may_remove path [] calls c.requires.locked (removes_own path calls c.requires.own) (begun_after blob_letter entry_letter path calls c.requires.begun)) c.args.self.now.durable
 
 pub returns-clause-gone : goal.returns-clause-gone
-returns-clause-gone g c = rw c.remove.ensures.calls (removed_is_not_own _ _)
+returns-clause-gone g c = rw c.remove.ensures.calls (removed_is_not_own c.args.begun.now (g.D.Disk.calls c.args.self.now.disk))
 
 pub returns-clause-own : goal.returns-clause-own
-returns-clause-own g c q apart = rw c.remove.ensures.calls (own_but_removed _ _ q apart)
+returns-clause-own g c q apart = rw c.remove.ensures.calls (own_but_removed c.args.begun.now (g.D.Disk.calls c.args.self.now.disk) q apart)

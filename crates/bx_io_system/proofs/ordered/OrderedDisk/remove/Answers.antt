@@ -5,8 +5,10 @@ use Rattle.bx_io_system.proofs.ordered.OrderedDisk.remove.Goals as goal
 
 pub invariant_of-self-clause-durable : goal.invariant_of-self-clause-durable
 invariant_of-self-clause-durable g c =
-    durable_next kinds.Removed c.args.name.now [] _ _ c.remove-done.ensures.calls
-    (may_remove _ _ _ c.requires.locked (removes_named _ _ c.requires.is_name) c.requires.ready) c.args.self.now.durable
+    let name = c.args.name.now in
+    let calls = g.D.Disk.calls c.args.self.now.disk in
+    durable_next kinds.Removed name [] calls _ c.remove-done.ensures.calls
+    (may_remove name [] calls c.requires.locked (removes_named name calls c.requires.is_name) c.requires.ready) c.args.self.now.durable
 
 pub returns-clause-left : goal.returns-clause-left
 returns-clause-left g c path is = removed_owns_no_more _ _ _ c.remove-done.ensures.calls path is

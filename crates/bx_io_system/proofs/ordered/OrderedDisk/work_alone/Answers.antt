@@ -10,9 +10,9 @@ pub returns-then-branch-clause-clears : goal.returns-then-branch-clause-clears
 returns-then-branch-clause-clears g c known =
     subst (λ (files : Files). Clears files (g.D.Disk.files c.clear.new.self.disk)) c.lock_alone.ensures.files (c.clear.ensures.clears known)
 
-pub returns-clause-clears : goal.returns-clause-clears
-returns-clause-clears g c known = clears_same _ _ c.lock_alone.ensures.files
+pub returns-else-branch-clause-clears : goal.returns-else-branch-clause-clears
+returns-else-branch-clause-clears g c known = clears_same _ _ c.lock_alone.ensures.files
 
-pub returns-clause-cleared : goal.returns-clause-cleared
-returns-clause-cleared g c known path left =
+pub returns-else-branch-clause-cleared : goal.returns-else-branch-clause-cleared
+returns-else-branch-clause-cleared g c known path left =
     cleared_missing _ _ (c.in_ok-lock_alone.ensures.missing known (ap Ok c.if-branch.false)) c.lock_alone.ensures.files path left
