@@ -71,7 +71,7 @@ prefix_since before between now planned keeps p = record { made = p.made; first 
 
 in_part_since : (S : Holdings) (before between now : StoreTold) → Keeps before between → DoesRepairInPart S between now → DoesRepairInPart S before now
 in_part_since S before between now keeps (inl kept) = inl (keeps_on before between now keeps kept)
-in_part_since S before between now keeps (inr does) = inr (does.0, (does.1, prefix_since before between now does.0 keeps does.2))
+in_part_since S before between now keeps (inr does) = inr (does.0, does.1, prefix_since before between now does.0 keeps does.2)
 
 pub repairs_since : (S : Holdings) (r : Result CareCount CareFault) (before between now : StoreTold) → Keeps before between → OnlyDrops between now → held_in before ≡ Some S
     → IsSome (held_in now) → (held_in between ≡ Some S → IsSome (held_in now) → IfOk r (DoesRepair S between now)) → IfOk r (DoesRepair S before now)
