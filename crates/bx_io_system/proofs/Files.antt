@@ -48,9 +48,9 @@ placed_there before now path created = created
 pub placed_not : (before now : Files) (path : List ℕ) (e : Error) → error_kind e ≡ AlreadyExists → Creates before now path (Err e) → Places before now path false
 placed_not before now path e is created = (created.0, created.1 is)
 
--- a file that could not be written is no name
-pub write_refused : (before now : Files) (begun bytes : List ℕ) (e : Error) → IsBegun begun → Writes before now begun bytes (Err e) → SameNames before now
-write_refused before now begun bytes e is writes q named = writes q (not_begun q begun named is)
+-- a file that was begun is no name
+pub beside_names : (before now : Files) (begun : List ℕ) → IsBegun begun → SameBut before now begun → SameNames before now
+beside_names before now begun is same q named = same q (not_begun q begun named is)
 
 -- a file that was written and renamed
 pub put_named : (before mid now : Files) (begun name bytes : List ℕ) (r : Result (Unit {0}) Error) → IsBegun begun → Writes before mid begun bytes (Ok tt) → Renames mid now begun name r

@@ -1,5 +1,5 @@
 -- What follows of a lock from the calls that were made.
-use Rattle.std.proofs.Common.{◌≡◌, ◌∙◌, ℕ, Bool, true, false, List, [], ◌∷◌, refl, sym, ap, subst, Option, Some, IsSome, is_some, Result, Ok, Err, OnErr, OnOk, arith, inl, inr}
+use Rattle.std.proofs.Common.{◌≡◌, ◌∙◌, ℕ, Bool, true, false, List, [], ◌∷◌, refl, sym, ap, subst, Option, Some, IsSome, is_some, Result, Ok, Err, IfErr, OnErr, OnOk, arith, inl, inr}
 use Rattle.std.specs.Prelude.{not, ◌||◌, ◌&&◌, ◌==◌, ◌⊎◌, length, slice_index}
 use borrow.Author.Tests.{eq-eqb, eqb-true, ne_eqb}
 use Rattle.std.specs.Str.{bytes_eq}
@@ -8,7 +8,7 @@ use Rattle.std.proofs.lemmas.Slice.Eq.{bytes_eq-Decides}
 use Rattle.std.specs.IoError.{error_kind}
 use Rattle.std.specs.declared.io.Error.{Error}
 use Rattle.std.specs.declared.io.ErrorKind.{ErrorKind}
-use Rattle.std.specs.declared.io.ErrorKind.TheVariants.{WouldBlock}
+use Rattle.std.specs.declared.io.ErrorKind.TheVariants.{NotFound, WouldBlock}
 use Rattle.bx_io.specs.Names.{IsName}
 use Rattle.bx_io.specs.declared.name.TheConstants.{NAME_LENGTH}
 use Rattle.bx_io_system.specs.Events.{Event}
@@ -304,6 +304,42 @@ unsynced_removed letter path old earlier now is begun = ap (unsynced letter) is 
 
 pub removes_named : (name : List ℕ) (earlier : List Event) → IsName name → is_to_remove name earlier ≡ true
 removes_named name earlier named = removes_name name earlier (eq-eqb (length name) NAME_LENGTH named.count)
+
+-- ## Syncs
+
+is_missing : ErrorKind → Bool
+is_missing NotFound = true
+is_missing _ = false
+
+missing_or : (kind : ErrorKind) → (kind ≡ NotFound) ⊎ (is_missing kind ≡ false)
+missing_or NotFound = inl refl
+missing_or _ = inr refl
+
+by_missing : (P : List Event → Type 0) (path : List ℕ) (kind : ErrorKind) (before now : List Event) → (kind ≡ NotFound → now ≡ (kinds.Absent, path, []) ∷ before) → ((kind ≡ NotFound → ⊥) → now ≡ before)
+    → P ((kinds.Absent, path, []) ∷ before) → P before → (kind ≡ NotFound) ⊎ (is_missing kind ≡ false) → P now
+by_missing P path kind before now missing failed absent same (inl is) = subst P (sym (missing is)) absent
+by_missing P path kind before now missing failed absent same (inr other) = subst P (sym (failed (λ is. false≢true (sym other ∙ ap is_missing is)))) same
+
+-- what holds after a sync, whatever it came to
+pub after_sync : (P : List Event → Type 0) (path : List ℕ) (r : Result (Unit {0}) Error) (before now : List Event) → OnOk r (now ≡ (kinds.Synced, path, []) ∷ before)
+    → IfErr r (λ e. error_kind e ≡ NotFound → now ≡ (kinds.Absent, path, []) ∷ before) → IfErr r (λ e. (error_kind e ≡ NotFound → ⊥) → now ≡ before) → P ((kinds.Synced, path, []) ∷ before)
+    → P ((kinds.Absent, path, []) ∷ before) → P before → P now
+after_sync P path (Ok x) before now synced missing failed stored absent same = subst P (sym synced) stored
+after_sync P path (Err e) before now synced missing failed stored absent same = by_missing P path (error_kind e) before now missing failed absent same (missing_or (error_kind e))
+
+pub unsynced_before : (letter : ℕ) (path : List ℕ) (before : List Event) → unsynced letter ((kinds.Synced, path, []) ∷ before) ≡ true → unsynced letter before ≡ true
+unsynced_before letter path before is = and_right (not (bytes_eq path (letter ∷ []))) (unsynced letter before) is
+
+still_none : (x a y b : Bool) → (not a && not b) ≡ true → (not (x && a) && not (y && b)) ≡ true
+still_none x true y b is = absurd (false≢true is)
+still_none x false y true is = absurd (false≢true is)
+still_none true false true false is = refl
+still_none true false false false is = refl
+still_none false false true false is = refl
+still_none false false false false is = refl
+
+pub folders_synced : (path : List ℕ) (before : List Event) → has_folders before ≡ true → has_folders ((kinds.Synced, path, []) ∷ before) ≡ true
+folders_synced path before is = still_none (not (bytes_eq path above)) (has_new above before) (not (bytes_eq path [])) (has_new [] before) is
 
 -- ## Renamings
 

@@ -1,5 +1,5 @@
 use Rattle.std.proofs.Common.{◌∙◌}
-use Rattle.bx_io_system.proofs.Files.{put_named, puts_nothing, write_refused}
+use Rattle.bx_io_system.proofs.Files.{beside_names, put_named, puts_nothing}
 use Rattle.bx_io_system.proofs.Listing.{on_err_anyway}
 use Rattle.bx_io_system.proofs.Locking.{created_is_own}
 use Rattle.bx_io_system.proofs.Places.{goes_on_own_but, own_but_goes_on}
@@ -12,7 +12,7 @@ finish-requires-clause-own g c =
 pub returns-in_err-store-clause-put : goal.returns-in_err-store-clause-put
 returns-in_err-store-clause-put g c known =
     puts_nothing _ _ c.args.name.now c.args.bytes.now c.from_residual.result c.from_residual.ensures.0
-    (write_refused _ _ c.args.begun.now c.args.bytes.now _ c.requires.begun (c.in_err-store.ensures.written known))
+    (beside_names _ _ c.args.begun.now c.requires.begun (c.in_err-store.ensures.written known))
 
 pub returns-in_err-store-clause-kept : goal.returns-in_err-store-clause-kept
 returns-in_err-store-clause-kept g c =

@@ -38,7 +38,7 @@ returns-in-Some-clause-left g c path is =
     let own : OwnsBut (string_bytes c.in-Some.begun) (g.D.Disk.calls c.settle.new.self.disk) (g.D.Disk.calls c.begin.new.self.disk) =
     subst (λ (o : Option (String Global)). IfSome o (λ p. OwnsBut (string_bytes p) (g.D.Disk.calls c.settle.new.self.disk) (g.D.Disk.calls c.begin.new.self.disk)))
     c.in-Some.is c.in_ok-begun.ensures.own in
-    owns_no_more c.as_str.result.now _ _
+    owns_no_more c.as_str.result.now (g.D.Disk.calls c.args.self.now.disk) (g.D.Disk.calls c.complete.new.self.disk)
     (λ q apart.
     c.complete.ensures.own q apart ∙ own q (λ same. apart (same ∙ sym c.as_str.ensures.value)) ∙ c.settle.ensures.goes_on.own q ∙ c.hold.ensures.own q)
     c.complete.ensures.gone path is

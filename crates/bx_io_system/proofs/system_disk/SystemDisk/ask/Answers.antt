@@ -1,4 +1,4 @@
-use Rattle.std.proofs.Common.{◌≡◌, false, is_some, refl, rules}
+use Rattle.std.proofs.Common.{◌≡◌, false, is_some, refl, rules, true}
 use Rattle.bx_io_system.proofs.Locking.{no_lock}
 use Rattle.bx_io_system.proofs.system_disk.SystemDisk.ask.Goals as goal
 

@@ -1,4 +1,4 @@
-use Rattle.std.proofs.Common.{◌≡◌, false, is_some, rules}
+use Rattle.std.proofs.Common.{◌≡◌, false, is_some, rules, true}
 use Rattle.bx_io_system.proofs.Locking.{no_lock, not_refused}
 use Rattle.bx_io_system.proofs.system_disk.SystemDiskDisk.join.Goals as goal
 
