@@ -307,7 +307,7 @@ removes_named name earlier named = removes_name name earlier (eq-eqb (length nam
 
 -- ## Syncs
 
-is_missing : ErrorKind → Bool
+abbrev is_missing : ErrorKind → Bool
 is_missing NotFound = true
 is_missing _ = false
 
