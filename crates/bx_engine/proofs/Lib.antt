@@ -1,3 +1,4 @@
+mod AloneBefore
 mod WrittenPieces
 mod FaultIsNotMemory
 mod ReadingKeepsEnding

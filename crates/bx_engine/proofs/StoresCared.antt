@@ -13,7 +13,7 @@ use Rattle.cache_care.specs.Trimmed.{IsTrimmed}
 use Rattle.cache_care.specs.Trimming.{DoesTrim, OnlyTrims, trims}
 use Rattle.cache_care.specs.declared.planning.CareCount.{CareCount}
 use Rattle.bx_engine.specs.Calls.{StoreChange, Written}
-use Rattle.bx_engine.specs.Care.{BlamesStore, OfRepair, OfTrim, count_text}
+use Rattle.bx_engine.specs.Care.{BlamesStore, ChangesAlone, OfRepair, OfTrim, count_text}
 use Rattle.bx_engine.specs.Counting.{AppendsNoted}
 use Rattle.bx_engine.specs.declared.status.Status.{Status}
 use Rattle.bx_engine.specs.declared.status.Status.TheVariants as statuses
@@ -89,11 +89,12 @@ repair_left stay S before now honest part = elim part [
 
 -- a repair that did not come to its end
 pub repair_stopped : (status : Status) (notes : Written) (store : StoreChange) → RepairsStay → IsStopped status → BlamesStore status store
-    → OnlyDrops store.before store.now → RepairsInPart store → OfRepair status notes store
-repair_stopped status notes store stay ended blames drops part = record {
+    → OnlyDrops store.before store.now → ChangesAlone store.before store.now → RepairsInPart store → OfRepair status notes store
+repair_stopped status notes store stay ended blames drops alone part = record {
   one_of = inr ended;
   blames = blames;
   drops = drops;
+  alone = alone;
   repairs = λ done. absurd (not_gone status ended (inl done));
   in_part = part;
   repaired = λ S T was is done. absurd (not_gone status ended (inl done));
@@ -105,10 +106,10 @@ repair_stopped status notes store stay ended blames drops part = record {
 -- a repair that made all its changes
 pub repair_told : (status : Status) (count : CareCount) (notes : Written) (store : StoreChange) → RepairsStay → RepairsLeave
     → ((S T : Holdings) → IsRepaired S T → Honest T) → IsCounted status → BlamesStore status store → OnlyDrops store.before store.now
-    → CountsMade store.before store.now count
+    → ChangesAlone store.before store.now → CountsMade store.before store.now count
     → ((S : Holdings) → held_in store.before ≡ Some S → IsSome (held_in store.now) → DoesRepair S store.before store.now count)
     → (status ≡ statuses.Done → AppendsNoted (count_text count) notes) → OfRepair status notes store
-repair_told status count notes store stay leave heal came blames drops made does noted =
+repair_told status count notes store stay leave heal came blames drops alone made does noted =
     let part : RepairsInPart store =
     λ S was still. let d = does S was still in inr (d.changes, d.are, whole store.before store.now d.changes d.makes) in
     let repaired : (S T : Holdings) → held_in store.before ≡ Some S → held_in store.now ≡ Some T → IsRepaired S T =
@@ -119,6 +120,7 @@ repair_told status count notes store stay leave heal came blames drops made does
       one_of = of_counted status came;
       blames = blames;
       drops = drops;
+      alone = alone;
       repairs = λ done. record { count = count; noted = noted done; made = made; does = does };
       in_part = part;
       repaired = λ S T was is done. (repaired S T was is, heal S T (repaired S T was is));
@@ -143,11 +145,12 @@ trim_left stay S keep before now honest part = left_in_part S before now (trims 
 
 -- a trim that did not come to its end
 pub trim_stopped : (keep : ℕ) (status : Status) (notes : Written) (store : StoreChange) → TrimsStay → IsStopped status → BlamesStore status store
-    → OnlyTrims store.before store.now → TrimsInPart keep store → OfTrim keep status notes store
-trim_stopped keep status notes store stay ended blames only part = record {
+    → OnlyTrims store.before store.now → ChangesAlone store.before store.now → TrimsInPart keep store → OfTrim keep status notes store
+trim_stopped keep status notes store stay ended blames only alone part = record {
   one_of = inr ended;
   blames = blames;
   only = only;
+  alone = alone;
   trims = λ done. absurd (not_gone status ended (inl done));
   in_part = part;
   trimmed = λ S T was is done. absurd (not_gone status ended (inl done));
@@ -158,15 +161,16 @@ trim_stopped keep status notes store stay ended blames only part = record {
 
 -- a trim that made all its changes
 pub trim_told : (keep : ℕ) (status : Status) (count : CareCount) (notes : Written) (store : StoreChange) → TrimsStay → TrimsLeave → IsCounted status
-    → BlamesStore status store → OnlyTrims store.before store.now → CountsMade store.before store.now count
+    → BlamesStore status store → OnlyTrims store.before store.now → ChangesAlone store.before store.now → CountsMade store.before store.now count
     → ((S : Holdings) → held_in store.before ≡ Some S → IsSome (held_in store.now) → DoesTrim S keep store.before store.now count)
     → (status ≡ statuses.Done → AppendsNoted (count_text count) notes) → OfTrim keep status notes store
-trim_told keep status count notes store stay leave came blames only made does noted =
+trim_told keep status count notes store stay leave came blames only alone made does noted =
     let part : TrimsInPart keep store = λ S was still. whole store.before store.now (trims S keep) (does S was still).makes in
     record {
       one_of = of_counted status came;
       blames = blames;
       only = only;
+      alone = alone;
       trims = λ done. record { count = count; noted = noted done; made = made; does = does };
       in_part = part;
       trimmed = λ S T was is done.

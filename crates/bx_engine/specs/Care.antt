@@ -3,7 +3,7 @@ use Rattle.std.specs.Prelude.{◌≡◌, ◌≢◌, ◌⊎◌, ◌↔◌, ℕ, L
 use Rattle.std.specs.Fmt.{decimal}
 use Rattle.std.specs.List.{flat_map}
 use Rattle.bx_io.specs.Causes.{HasCause}
-use Rattle.bx_io.specs.Holdings.{Holdings, Keeps, MakesPrefix, held_in}
+use Rattle.bx_io.specs.Holdings.{Holdings, IsAlone, Keeps, MakesPrefix, StoreTold, held_in}
 use Rattle.two_phase.specs.Putting.{LeavesHonest}
 use Rattle.two_phase_meaning.specs.Honest.{Honest}
 use Rattle.cache_care_check.specs.CareLists.{IsCareList, has_bad_remark, line_remark}
@@ -48,6 +48,10 @@ pub record BlamesStore (status : Status) (store : StoreChange) : Type 0 where
   pub cause : HasCause store.faults_before store.faults_now (status ≡ statuses.KeeperFailed)
   pub no_fault : status ≢ statuses.KeeperFailed → store.faults_now ≡ store.faults_before
 
+-- The store works alone, or nothing was changed.
+abbrev pub ChangesAlone : StoreTold → StoreTold → Type 0
+ChangesAlone before now = IsAlone now ⊎ (now.changes ≡ before.changes)
+
 -- the status of a call that stopped
 abbrev pub fault_status : CareFault → Status
 fault_status faults.Failed = statuses.KeeperFailed
@@ -91,8 +95,9 @@ pub record OfRepair (status : Status) (notes : Written) (store : StoreChange) : 
   -- the status is one of these;
   pub one_of : (status ≡ statuses.Done) ⊎ (status ≡ statuses.OutOfMemory) ⊎ (status ≡ statuses.KeeperFailed)
   pub blames : BlamesStore status store
-  -- nothing was done but that names were dropped;
+  -- nothing was done but that names were dropped, and that while nobody else used the store;
   pub drops : OnlyDrops store.before store.now
+  pub alone : ChangesAlone store.before store.now
   -- the store was repaired, and its names are counted in the notes,
   pub repairs : status ≡ statuses.Done → Repairs notes store
   -- and over a store of which no answer disagreed with what it told, with any status, nothing was changed, or the changes of a
@@ -123,8 +128,9 @@ pub record OfTrim (keep : ℕ) (status : Status) (notes : Written) (store : Stor
   -- the status is one of these;
   pub one_of : (status ≡ statuses.Done) ⊎ (status ≡ statuses.OutOfMemory) ⊎ (status ≡ statuses.KeeperFailed)
   pub blames : BlamesStore status store
-  -- nothing was done but that names were dropped and lists put;
+  -- nothing was done but that names were dropped and lists put, and that while nobody else used the store;
   pub only : OnlyTrims store.before store.now
+  pub alone : ChangesAlone store.before store.now
   -- the store was trimmed, and its names are counted in the notes,
   pub trims : status ≡ statuses.Done → Trims keep notes store
   -- and over a store of which no answer disagreed with what it told, with any status, the changes of a trim were made up to some

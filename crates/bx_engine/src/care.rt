@@ -1,17 +1,23 @@
 //! A check, a repair and a trim of the store.
 
-ghost use Rattle.std.specs.Prelude.{◌≡◌, ◌⊎◌, ◌++◌, IfOk, OnOk, if◌then◌else◌, map, string_bytes};
+ghost use Rattle.std.specs.Prelude.{◌≡◌, ◌⊎◌, ◌++◌, Err, IfOk, IsSome, OnErr, OnOk, Some, if◌then◌else◌, map, string_bytes};
 ghost use Rattle.std.specs.List.{flat_map};
+ghost use Rattle.bx_io.specs.Holdings.{Holdings, IsAlone, Keeps, MakesPrefix, held_in};
+ghost use Rattle.two_phase.specs.Calls.{KeeperCall};
 ghost use Rattle.cache_care_check.specs.CareLists.{has_bad_remark, line_remark};
+ghost use Rattle.cache_care.specs.Counts.{CountsMade};
+ghost use Rattle.cache_care.specs.Planning.{OnlyDrops};
+ghost use Rattle.cache_care.specs.Repairing.{DoesRepair, DoesRepairInPart};
+ghost use Rattle.cache_care.specs.Trimming.{DoesTrim, OnlyTrims, trims};
 ghost use Rattle.bx_engine.specs.Calls.{change_of, written_of};
 ghost use Rattle.bx_engine.specs.Care.{OfCheck, OfRepair, OfTrim, care_line, check_text, count_text};
-ghost use Rattle.bx_engine.specs.Care.{fault_status};
+ghost use Rattle.bx_engine.specs.Care.{ChangesAlone, fault_status};
 ghost use Rattle.bx_engine.specs.Expected.{AppendsOrFails};
 ghost use Rattle.bx_engine.specs.Statuses.{HasNoNotes, IsGone};
 
 use crate::status::Status;
 use crate::writing::write_all;
-use bx_io::{Keeper, Sink};
+use bx_io::{Keeper, PutFault, Sink};
 use bx_tree::Memory;
 use cache_care::{
     CareCount, CareFault, CareLine, CareList, check_store, check_tells, has_bad, repair_store,
@@ -140,7 +146,53 @@ fn tell_count<N: Sink>(alloc: Global, notes: &mut N, count: CareCount) -> Status
     }
 }
 
-/// Drops from the store each bad entry, and then each damaged name.
+// Asks the store to work alone.
+fn ask_alone<K: Keeper>(alloc: Global, keeper: &mut K) -> Result<(), CareFault>
+    ensures granted { OnOk result (IsAlone (K.known keeper.new)) }
+    ensures known { Keeps (K.known keeper.old) (K.known keeper.new) }
+    ensures keeper { KeeperCall (K.bound keeper.old) (K.bound keeper.new) (K.faults keeper.old)
+        (K.faults keeper.new) (result ≡ Err CareFault.Failed) }
+{
+    match keeper.alone(alloc) {
+        Ok(()) => Ok(()),
+        Err(PutFault::Failed) => Err(CareFault::Failed),
+        Err(PutFault::Memory) => Err(CareFault::Memory),
+    }
+}
+
+// A repair of a store that works alone. Where that is refused nothing is done.
+fn repair_alone<K: Keeper>(alloc: Global, keeper: &mut K) -> Result<CareCount, CareFault>
+    ensures repaired { (S : Holdings) → held_in (K.known keeper.old) ≡ Some S → IsSome (held_in (K.known keeper.new))
+        → IfOk result (DoesRepair S (K.known keeper.old) (K.known keeper.new)) }
+    ensures cut { (S : Holdings) → held_in (K.known keeper.old) ≡ Some S → IsSome (held_in (K.known keeper.new))
+        → OnErr result (DoesRepairInPart S (K.known keeper.old) (K.known keeper.new)) }
+    ensures counted { IfOk result (CountsMade (K.known keeper.old) (K.known keeper.new)) }
+    ensures drops { OnlyDrops (K.known keeper.old) (K.known keeper.new) }
+    ensures alone { ChangesAlone (K.known keeper.old) (K.known keeper.new) }
+    ensures keeper { KeeperCall (K.bound keeper.old) (K.bound keeper.new) (K.faults keeper.old)
+        (K.faults keeper.new) (result ≡ Err CareFault.Failed) }
+{
+    ask_alone(alloc, keeper)?;
+    repair_store(alloc, keeper)
+}
+
+// A trim of a store that works alone. Where that is refused nothing is done.
+fn trim_alone<K: Keeper>(alloc: Global, keeper: &mut K, keep: u32) -> Result<CareCount, CareFault>
+    ensures trimmed { (S : Holdings) → held_in (K.known keeper.old) ≡ Some S → IsSome (held_in (K.known keeper.new))
+        → IfOk result (DoesTrim S keep (K.known keeper.old) (K.known keeper.new)) }
+    ensures cut { (S : Holdings) → held_in (K.known keeper.old) ≡ Some S → IsSome (held_in (K.known keeper.new))
+        → OnErr result (MakesPrefix (K.known keeper.old) (K.known keeper.new) (trims S keep)) }
+    ensures counted { IfOk result (CountsMade (K.known keeper.old) (K.known keeper.new)) }
+    ensures trims { OnlyTrims (K.known keeper.old) (K.known keeper.new) }
+    ensures alone { ChangesAlone (K.known keeper.old) (K.known keeper.new) }
+    ensures keeper { KeeperCall (K.bound keeper.old) (K.bound keeper.new) (K.faults keeper.old)
+        (K.faults keeper.new) (result ≡ Err CareFault.Failed) }
+{
+    ask_alone(alloc, keeper)?;
+    trim_store(alloc, keeper, keep)
+}
+
+/// Drops from the store each bad entry, and then each damaged name, where nobody else uses it.
 pub(crate) fn repair<N: Sink, K: Keeper>(alloc: Global, notes: &mut N, keeper: &mut K) -> Status
     ensures repaired { OfRepair result
         (written_of (N.taken notes.old) (N.taken notes.new) (N.faults notes.old) (N.faults notes.new))
@@ -152,13 +204,13 @@ pub(crate) fn repair<N: Sink, K: Keeper>(alloc: Global, notes: &mut N, keeper: &
     repairs_leave_repaired();
     repaired_is_honest();
     repairs_stay_honest();
-    match repair_store(alloc, keeper) {
+    match repair_alone(alloc, keeper) {
         Ok(count) => tell_count(alloc, notes, count),
         Err(fault) => stopped(fault),
     }
 }
 
-/// Leaves of each list of the store its first selectors, and what they lead to.
+/// Leaves of each list of the store its first selectors, and what they lead to, where nobody else uses it.
 pub(crate) fn trim<N: Sink, K: Keeper>(
     alloc: Global,
     notes: &mut N,
@@ -174,7 +226,7 @@ pub(crate) fn trim<N: Sink, K: Keeper>(
 {
     trims_leave_trimmed();
     trims_stay_honest();
-    match trim_store(alloc, keeper, keep) {
+    match trim_alone(alloc, keeper, keep) {
         Ok(count) => tell_count(alloc, notes, count),
         Err(fault) => stopped(fault),
     }

@@ -38,7 +38,8 @@ const USAGE: &str = "usage: bxl build|check|repair|trim|gen\n";
 /// Nothing but a build needs `rt`.
 ///
 /// A check, a repair and a trim touch `keeper` and `notes` alone, and stop at the first call of `keeper` that fails. A
-/// workload goes to `out` alone.
+/// repair and a trim ask `keeper` first to work alone, and do nothing where another one uses the store. A workload goes to
+/// `out` alone.
 pub fn command<H: Threads + Wait + Sync, S: Source, O: Sink, N: Sink, K: Keeper, G: Gate>(
     rt: &H,
     alloc: Global,

@@ -39,12 +39,13 @@ after_told-stays before between made stays = λ now h.
 -- ## Stores
 
 pub keeps_all : (known : StoreTold) → Keeps known known
-keeps_all known = record { held = λ held h. h; changes = refl }
+keeps_all known = record { held = λ held h. h; changes = refl; alone = λ alone. alone }
 
 pub keeps_on : (before between now : StoreTold) → Keeps before between → Keeps between now → Keeps before now
 keeps_on before between now first next = record {
   held = λ held h. first.held held (next.held held h);
   changes = next.changes ∙ first.changes;
+  alone = λ alone. next.alone (first.alone alone);
 }
 
 -- no change was made
@@ -52,12 +53,14 @@ pub makes_none : (before now : StoreTold) → Keeps before now → Makes before 
 makes_none before now keeps = record {
   held = λ held h. after_told-nil before.held ∙ keeps.held held h;
   changes = keeps.changes ∙ sym (append-nil before.changes);
+  alone = keeps.alone;
 }
 
 pub keeps_none : (before now : StoreTold) → Makes before [] now → Keeps before now
 keeps_none before now makes = record {
   held = λ held h. sym (after_told-nil before.held) ∙ makes.held held h;
   changes = makes.changes ∙ append-nil before.changes;
+  alone = makes.alone;
 }
 
 pub makes_both : (before between now : StoreTold) (first next : List Change) → Makes before first between → Makes between next now
@@ -67,18 +70,21 @@ makes_both before between now first next one other = record {
       let told = after_told-stays (after_told before.held first) between.held next one.held held (other.held held h) in
       after_told-append before.held first next ∙ told;
   changes = other.changes ∙ ap (λ changes. changes ++ next) one.changes ∙ append_assoc before.changes first next;
+  alone = λ alone. other.alone (one.alone alone);
 }
 
 pub keeps_makes : (before between now : StoreTold) (made : List Change) → Keeps before between → Makes between made now → Makes before made now
 keeps_makes before between now made keeps makes = record {
   held = λ held h. after_told-stays before.held between.held made keeps.held held (makes.held held h);
   changes = makes.changes ∙ ap (λ changes. changes ++ made) keeps.changes;
+  alone = λ alone. makes.alone (keeps.alone alone);
 }
 
 pub makes_keeps : (before between now : StoreTold) (made : List Change) → Makes before made between → Keeps between now → Makes before made now
 makes_keeps before between now made makes keeps = record {
   held = λ held h. makes.held held (keeps.held held h);
   changes = keeps.changes ∙ makes.changes;
+  alone = λ alone. keeps.alone (makes.alone alone);
 }
 
 -- what is still told after changes was told before them, with the changes
@@ -105,7 +111,7 @@ made_put (Err e) before now name other bytes same named are makes = tt
 
 -- a store in memory after a list of changes
 pub makes_state : (kept : StoreState) (made : List Change) → Makes (told_of kept) made (told_of (state_after kept made))
-makes_state kept made = record { held = λ held h. h; changes = refl }
+makes_state kept made = record { held = λ held h. h; changes = refl; alone = λ alone. alone }
 
 pub makes_state_is : (kept now : StoreState) (made : List Change) → now ≡ state_after kept made → Makes (told_of kept) made (told_of now)
 makes_state_is kept now made is = subst (λ (n : StoreState). Makes (told_of kept) made (told_of n)) (sym is) (makes_state kept made)

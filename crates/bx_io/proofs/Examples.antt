@@ -1,8 +1,8 @@
 -- Worked examples of changes, of their prefixes and of counts.
-use Rattle.std.proofs.Common.{◌≡◌, ◌∙◌, ℕ, List, [], ◌∷◌, Some, None, codes, refl, ap, arith, rules}
+use Rattle.std.proofs.Common.{◌≡◌, ◌∙◌, ℕ, false, true, List, [], ◌∷◌, Some, None, codes, refl, ap, arith, rules}
 use Rattle.std.specs.FinMap.{empty, get, gets}
 use Rattle.bx_io.specs.Causes.{Rose, last_count}
-use Rattle.bx_io.specs.Holdings.{Holdings, Change, Put, Drop, holdings_after, after_told, Makes, IsPrefix}
+use Rattle.bx_io.specs.Holdings.{Holdings, Change, Put, Drop, holdings_after, after_told, Keeps, Makes, IsPrefix, opened}
 use Rattle.bx_io.specs.Told.{Stays}
 use Rattle.bx_io.proofs.Mapped.{same_holdings}
 
@@ -69,16 +69,24 @@ all_may_be_lost : Stays (Some none) None
 all_may_be_lost = λ held h. absurd (cc)
 
 -- a change that changes nothing is listed too
-listed_anyway : Makes (record { held = Some none; changes = Put b two ∷ [] }) (Drop a ∷ []) (record { held = Some none; changes = Put b two ∷ Drop a ∷ [] })
-listed_anyway = record { held = λ held h. told_with_change ∙ h; changes = refl }
+listed_anyway : Makes (record { held = Some none; changes = Put b two ∷ []; alone = false }) (Drop a ∷ []) (record { held = Some none; changes = Put b two ∷ Drop a ∷ []; alone = false })
+listed_anyway = record { held = λ held h. told_with_change ∙ h; changes = refl; alone = λ alone. alone }
 
 -- the changes are known where nothing is told any more
-changes_without_telling : Makes (record { held = Some none; changes = [] }) (Put a one ∷ []) (record { held = None; changes = Put a one ∷ [] })
-changes_without_telling = record { held = λ held h. absurd (cc); changes = refl }
+changes_without_telling : Makes (opened none) (Put a one ∷ []) (record { held = None; changes = Put a one ∷ []; alone = false })
+changes_without_telling = record { held = λ held h. absurd (cc); changes = refl; alone = λ alone. alone }
 
 -- a change that was made cannot be left out of the list
-forgets_a_drop : Makes (record { held = Some none; changes = [] }) (Drop a ∷ []) (record { held = Some none; changes = [] }) → ⊥
+forgets_a_drop : Makes (opened none) (Drop a ∷ []) (opened none) → ⊥
 forgets_a_drop makes = let none_listed : [] ≡ Drop a ∷ [] = makes.changes in cc
+
+-- a store that works alone goes on to
+ends_alone : Keeps (record { held = Some none; changes = []; alone = true }) (opened none) → ⊥
+ends_alone keeps = let alone : false ≡ true = keeps.alone refl in cc
+
+-- and one that did not may begin to
+begins_alone : Keeps (opened none) (record { held = Some none; changes = []; alone = true })
+begins_alone = record { held = λ held h. h; changes = refl; alone = λ alone. refl }
 
 first_is_prefix : IsPrefix (Put a one ∷ []) (Put a one ∷ Put b two ∷ [])
 first_is_prefix = record { rest = Put b two ∷ []; joined = refl }

@@ -1,5 +1,5 @@
 -- What a store holds, and the changes that led there.
-use Rattle.std.specs.Prelude.{◌≡◌, ℕ, List, [], ◌∷◌, ◌++◌, Option, Some, option_map}
+use Rattle.std.specs.Prelude.{◌≡◌, ℕ, Bool, false, true, List, [], ◌∷◌, ◌++◌, Option, Some, option_map}
 use Rattle.std.specs.Ordering.{nat_cmp}
 use Rattle.std.specs.Cmp.Lexicographic.{slice_cmp}
 use Rattle.std.specs.FinMap.{FinMap, get, insert, remove}
@@ -43,15 +43,25 @@ pub record StoreState : Type 0 where
 abbrev pub state_after : StoreState → List Change → StoreState
 state_after kept made = record { held = holdings_after kept.held made; changes = kept.changes ++ made }
 
--- What is told of a store: what it holds, until an answer disagrees with that; and all changes that it made, in
--- order, which are always known.
+-- What is told of a store: what it holds, until an answer disagrees with that; all changes that it made, in order, which
+-- are always known; and whether it was granted that it works alone: from then on a call of it does nothing while another
+-- one uses what it holds.
 pub record StoreTold : Type 0 where
   pub held : Option Holdings
   pub changes : List Change
+  pub alone : Bool
 
--- a store that tells what it holds
+-- the store works alone
+abbrev pub IsAlone : StoreTold → Type 0
+IsAlone known = known.alone ≡ true
+
+-- a store that tells what it holds, and that nobody else uses
 abbrev pub told_of : StoreState → StoreTold
-told_of kept = record { held = Some kept.held; changes = kept.changes }
+told_of kept = record { held = Some kept.held; changes = kept.changes; alone = true }
+
+-- a store that was opened just now, and holds this
+abbrev pub opened : Holdings → StoreTold
+opened held = record { held = Some held; changes = []; alone = false }
 
 -- what a store is told to hold
 abbrev pub held_in : StoreTold → Option Holdings
@@ -61,15 +71,18 @@ held_in known = known.held
 abbrev pub after_told : Option Holdings → List Change → Option Holdings
 after_told told made = option_map (λ held. holdings_after held made) told
 
--- These changes were made, and nothing else. What is still told is what was told, with the changes.
+-- These changes were made, and nothing else. What is still told is what was told, with the changes. A store that works
+-- alone goes on to.
 pub record Makes (before : StoreTold) (made : List Change) (now : StoreTold) : Type 0 where
   pub held : Stays (after_told before.held made) now.held
   pub changes : now.changes ≡ before.changes ++ made
+  pub alone : IsAlone before → IsAlone now
 
--- Nothing was changed. What is still told is what was told.
+-- Nothing was changed. What is still told is what was told. A store that works alone goes on to.
 pub record Keeps (before now : StoreTold) : Type 0 where
   pub held : Stays before.held now.held
   pub changes : now.changes ≡ before.changes
+  pub alone : IsAlone before → IsAlone now
 
 -- The first list of changes is a prefix of the second.
 pub record IsPrefix (start whole : List Change) : Type 0 where

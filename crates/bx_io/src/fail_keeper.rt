@@ -1,6 +1,6 @@
 //! An in-memory store whose readers fail as its maker asked.
 
-ghost use Rattle.std.specs.Prelude.{◌≡◌, ◌<◌, Some, Err, IfOk, length};
+ghost use Rattle.std.specs.Prelude.{◌≡◌, ◌<◌, Some, Ok, Err, IfOk, length};
 ghost use Rattle.bx_io.specs.Calls.{ListsAll, Looks, Tries};
 ghost use Rattle.bx_io.specs.Causes.{HasCause, last_count};
 ghost use Rattle.bx_io.specs.Holdings.{AreNames, Put, Drop};
@@ -67,6 +67,14 @@ impl Keeper for FailKeeper {
     fn close(&mut self, _reader: FailReader)
         ensures { self.new ≡ self.old }
     {}
+
+    fn alone(&mut self, alloc: Global) -> Result<(), PutFault>
+        ensures granted { result ≡ Ok tt }
+        ensures same { self.new ≡ self.old }
+        ensures can_rise { self.new.inner.script.faults < last_count }
+    {
+        self.inner.alone(alloc)
+    }
 
     fn get(&mut self, alloc: Global, name: &str) -> Got
         requires { IsName name.now }

@@ -4,7 +4,7 @@ ghost use Rattle.std.specs.Prelude.{◌≡◌, ◌≢◌, ℕ, ◌-◌, ◌^◌,
 ghost use Rattle.std.specs.Prelude.{OnErr, Err, IsSome};
 ghost use Rattle.bx_io.specs.Causes.{CanRise, HasCause, IsWithin};
 ghost use Rattle.bx_io.specs.Names.{IsName};
-ghost use Rattle.bx_io.specs.Holdings.{AreNames, Holdings, Keeps, Makes, StoreTold, Put, Drop, held_in};
+ghost use Rattle.bx_io.specs.Holdings.{AreNames, Holdings, IsAlone, Keeps, Makes, StoreTold, Put, Drop, held_in};
 ghost use Rattle.bx_io.specs.Answers.{Finds, Lists, ListsNames};
 ghost use Rattle.bx_io.specs.Told.{Stays};
 
@@ -74,7 +74,7 @@ pub trait Keeper {
     /// Reads what the store held at one moment.
     type Reader: KeepReader;
 
-    // The held bytes by name, as long as no answer disagreed with them, and all changes so far.
+    // The held bytes by name, as long as no answer disagreed with them, all changes so far, and whether it works alone.
     ghost known: { Self → StoreTold };
 
     // How often the store has failed.
@@ -97,6 +97,18 @@ pub trait Keeper {
         ensures reader { IsSome (held_in (known self.new)) → IsSome (Self.Reader.held reader) }
         ensures bound { bound self.new ≡ bound self.old }
         ensures faults { faults self.new ≡ faults self.old };
+
+    /// Asks to work alone, before anything else is asked. Where it is granted, no call of the store or of its readers
+    /// does anything while another one uses what the store holds. It does not wait: where another one uses that now it
+    /// is refused, and each later call of the store, and of a reader that is made later, fails. What stopped puts left
+    /// behind may be taken away. This is no numbered call.
+    fn alone(&mut self, alloc: Global) -> Result<(), PutFault>
+        ensures granted { OnOk result (IsAlone (known self.new)) }
+        ensures known { Keeps (known self.old) (known self.new) }
+        ensures bound { bound self.new ≡ bound self.old }
+        ensures can_rise { CanRise (bound self.new) (faults self.new) }
+        ensures cause { HasCause (faults self.old) (faults self.new) (result ≡ Err PutFault.Failed) }
+        ensures no_fault { result ≢ Err PutFault.Failed → faults self.new ≡ faults self.old };
 
     /// The bytes that are held under the name, or that none are.
     fn get(&mut self, alloc: Global, name: &str) -> Got

@@ -1,6 +1,6 @@
 //! An in-memory store whose calls fail as its maker asked.
 
-ghost use Rattle.std.specs.Prelude.{◌≡◌, ◌<◌, [], ◌∷◌, Some, Err, OnOk, OnErr, option_map};
+ghost use Rattle.std.specs.Prelude.{◌≡◌, ◌<◌, [], ◌∷◌, Some, Ok, Err, OnOk, OnErr, option_map, true};
 ghost use Rattle.std.specs.FinMap.{empty, get};
 ghost use Rattle.bx_io.specs.Calls.{ListsAll, Looks, Tries};
 ghost use Rattle.bx_io.specs.Causes.{HasCause, last_count};
@@ -39,7 +39,8 @@ impl MemKeeper {
           kept = record { held = empty; changes = [] };
           script = record { failing = failing.items; calls = 0; faults = 0 };
         } }
-        ensures known { ⟦<MemKeeper as Keeper>⟧.known result ≡ record { held = Some empty; changes = [] } }
+        ensures known { ⟦<MemKeeper as Keeper>⟧.known result
+            ≡ record { held = Some empty; changes = []; alone = true } }
         ensures faults { ⟦<MemKeeper as Keeper>⟧.faults result ≡ 0 }
         ensures bound { ⟦<MemKeeper as Keeper>⟧.bound result ≡ Some 0 }
     {
@@ -98,6 +99,15 @@ impl Keeper for MemKeeper {
     fn close(&mut self, _reader: MemReader)
         ensures { self.new ≡ self.old }
     {}
+
+    fn alone(&mut self, _alloc: Global) -> Result<(), PutFault>
+        ensures granted { result ≡ Ok tt }
+        ensures same { self.new ≡ self.old }
+        ensures can_rise { self.new.script.faults < last_count }
+    {
+        let _faults = self.plan.faults();
+        Ok(())
+    }
 
     fn get(&mut self, alloc: Global, name: &str) -> Got
         requires { IsName name.now }

@@ -1,6 +1,6 @@
 //! An in-memory store that never fails.
 
-ghost use Rattle.std.specs.Prelude.{◌≡◌, ◌≢◌, [], ◌∷◌, Some, Err, OnOk, OnErr};
+ghost use Rattle.std.specs.Prelude.{◌≡◌, ◌≢◌, [], ◌∷◌, Some, Ok, Err, OnOk, OnErr, true};
 ghost use Rattle.std.specs.FinMap.{empty};
 ghost use Rattle.bx_io.specs.Answers.{IsAnswer, IsListing, ListsNames};
 ghost use Rattle.bx_io.specs.Holdings.{Put, Drop, state_after};
@@ -33,7 +33,7 @@ impl NoFaultKeeper {
     /// A store that holds nothing.
     pub fn new(alloc: Global) -> NoFaultKeeper
         ensures known { ⟦<NoFaultKeeper as Keeper>⟧.known result
-            ≡ record { held = Some empty; changes = [] } }
+            ≡ record { held = Some empty; changes = []; alone = true } }
         ensures faults { ⟦<NoFaultKeeper as Keeper>⟧.faults result ≡ 0 }
         ensures bound { ⟦<NoFaultKeeper as Keeper>⟧.bound result ≡ Some 0 }
     {
@@ -62,6 +62,13 @@ impl Keeper for NoFaultKeeper {
     fn close(&mut self, _reader: MemReader)
         ensures { self.new ≡ self.old }
     {}
+
+    fn alone(&mut self, _alloc: Global) -> Result<(), PutFault>
+        ensures granted { result ≡ Ok tt }
+        ensures same { self.new ≡ self.old }
+    {
+        Ok(())
+    }
 
     fn get(&mut self, alloc: Global, name: &str) -> Got
         requires { IsName name.now }

@@ -1,6 +1,6 @@
 //! An in-memory store that stops after a number of calls, as a machine that is switched off.
 
-ghost use Rattle.std.specs.Prelude.{◌≡◌, ◌≢◌, ◌+◌, ◌-◌, ◌<◌, ◌≤◌, ◌↔◌, [], ◌∷◌, Some, Err, OnOk, OnErr};
+ghost use Rattle.std.specs.Prelude.{◌≡◌, ◌≢◌, ◌+◌, ◌-◌, ◌<◌, ◌≤◌, ◌↔◌, [], ◌∷◌, Some, Ok, Err, OnOk, OnErr};
 ghost use Rattle.bx_io.specs.Answers.{IsAnswer, IsListing, ListsNames};
 ghost use Rattle.bx_io.specs.Calls.{ListsAll, Looks, Stops, Tries};
 ghost use Rattle.bx_io.specs.Causes.{HasCause, last_count};
@@ -120,6 +120,15 @@ impl Keeper for StopKeeper {
     fn close(&mut self, _reader: MemReader)
         ensures { self.new ≡ self.old }
     {}
+
+    fn alone(&mut self, _alloc: Global) -> Result<(), PutFault>
+        ensures granted { result ≡ Ok tt }
+        ensures same { self.new ≡ self.old }
+        ensures can_rise { faults_in self.new < last_count }
+    {
+        let _faults = self.inner.faults();
+        Ok(())
+    }
 
     fn get(&mut self, alloc: Global, name: &str) -> Got
         requires { IsName name.now }

@@ -1,7 +1,7 @@
 -- What becomes of files by one call after another.
 use Rattle.std.proofs.Common.{◌≡◌, ◌∙◌, ℕ, List, ◌++◌, length, length-append, arith, ap, sym, codes, Result, Ok, Err, Some, refl}
-use Rattle.std.proofs.Common.{None, Option, Vec, String, Global, rules}
-use Rattle.std.specs.Prelude.{option_map, option_copied, is_some, not}
+use Rattle.std.proofs.Common.{None, Option, Vec, String, Global, rules, subst}
+use Rattle.std.specs.Prelude.{option_map, option_copied, is_some, not, IsErr}
 use Rattle.std.proofs.Common.{Bool, true, false, Bor}
 use Rattle.std.proofs.lemmas.Bool.{false≢true}
 use Rattle.std.specs.FinMap.{get, gets, insert, remove, get-insert, get-remove}
@@ -13,10 +13,12 @@ use Rattle.bx_io.specs.Stored.{holdings_of}
 use Rattle.bx_io.proofs.Mapped.{get-holdings_of}
 use Rattle.std.specs.declared.io.Error.{Error}
 use Rattle.bx_io.specs.Names.{IsName}
-use Rattle.bx_io_system.specs.Files.{Files, IsBegun, IsFault, IsFaultBut, Renames, Writes, SameBut}
+use Rattle.bx_io_system.specs.Files.{Creates, Files, IsBegun, IsExcluded, IsFault, IsFaultBut, Places, Puts, Renames, SameNames, Writes, SameBut, begun_at, place_ending}
+use Rattle.std.specs.Fmt.{decimal}
+use Rattle.std.specs.IoError.{error_kind}
 use Rattle.std.proofs.Common.{[], ◌∷◌, IsSome, ◌≤◌}
 use Rattle.std.specs.declared.io.ErrorKind.{ErrorKind}
-use Rattle.std.specs.declared.io.ErrorKind.TheVariants.{NotFound}
+use Rattle.std.specs.declared.io.ErrorKind.TheVariants.{AlreadyExists, NotFound}
 use Rattle.bx_io.specs.Causes.{HasCause, counted, last_count}
 use Rattle.bx_io.specs.declared.keeper.Got.TheVariants as got
 use Rattle.bx_io.specs.declared.keeper.Listed.TheVariants as listed
@@ -28,21 +30,56 @@ use Rattle.bx_io_system.specs.declared.kind.Kind.{Kind}
 use Rattle.bx_io_system.specs.declared.kind.Kind.TheVariants as kinds
 
 -- a name with something behind it is no name
-pub begun_of : (name path : List ℕ) → IsName name → path ≡ name ++ codes ".new" → IsBegun path
-begun_of name path named is = omega (arith, named.count, ap length is, length-append name (codes ".new"))
+pub begun_of : (name path : List ℕ) (place : ℕ) → IsName name → path ≡ begun_at name place → IsBegun path
+begun_of name path place named is = omega (arith, named.count, ap length is, length-append name (place_ending place), length-append (codes ".new-") (decimal place))
 
 pub not_begun : (name path : List ℕ) → IsName name → IsBegun path → name ≡ path → ⊥
 not_begun name path named begun same = omega (arith, named.count, begun, ap length same)
 
--- a file that is written again
-pub written_again : (before mid between now : Files) (path bytes : List ℕ) (e : Error) (r : Result (Unit {0}) Error)
-    → Writes before mid path bytes (Err e) → between ≡ mid → Writes between now path bytes r → Writes before now path bytes r
-written_again before mid between now path bytes e (Ok x) first same next = (
-  next.0,
-  λ q other. next.1 q other ∙ ap (λ (files : Files). get files q) same ∙ first q other,
-)
-written_again before mid between now path bytes e (Err f) first same next =
-    λ q other. next q other ∙ ap (λ (files : Files). get files q) same ∙ first q other
+-- a file is made once more, as the first try changed nothing
+pub created_again : (before mid between now : Files) (path : List ℕ) (e : Error) (r : Result (Unit {0}) Error)
+    → Creates before mid path (Err e) → between ≡ mid → Creates between now path r → Creates before now path r
+created_again before mid between now path e r first same next = subst (λ (files : Files). Creates files now path r) (same ∙ first.0) next
+
+-- a place that was tried
+pub placed_there : (before now : Files) (path : List ℕ) → Creates before now path (Ok tt) → Places before now path true
+placed_there before now path created = created
+
+pub placed_not : (before now : Files) (path : List ℕ) (e : Error) → error_kind e ≡ AlreadyExists → Creates before now path (Err e) → Places before now path false
+placed_not before now path e is created = (created.0, created.1 is)
+
+-- a file that was begun is no name
+pub beside_names : (before now : Files) (begun : List ℕ) → IsBegun begun → SameBut before now begun → SameNames before now
+beside_names before now begun is same q named = same q (not_begun q begun named is)
+
+-- a file that was written and renamed
+pub put_named : (before mid now : Files) (begun name bytes : List ℕ) (r : Result (Unit {0}) Error) → IsBegun begun → Writes before mid begun bytes (Ok tt) → Renames mid now begun name r
+    → Puts before now name bytes r
+put_named before mid now begun name bytes (Ok x) is writes renames =
+    (renames.1 ∙ writes.0, λ q named other. renames.3 q (not_begun q begun named is) other ∙ writes.1 q (not_begun q begun named is))
+put_named before mid now begun name bytes (Err e) is writes renames =
+    λ q named. ap (λ (files : Files). get files q) renames ∙ writes.1 q (not_begun q begun named is)
+
+pub same_names : (before now : Files) → now ≡ before → SameNames before now
+same_names before now is q named = ap (λ (files : Files). get files q) is
+
+-- a put that failed
+pub puts_nothing : (before now : Files) (name bytes : List ℕ) (r : Result (Unit {0}) Error) → IsErr r → SameNames before now → Puts before now name bytes r
+puts_nothing before now name bytes (Ok x) failed same = absurd (cc)
+puts_nothing before now name bytes (Err e) failed same = same
+
+-- a put whose file was begun beside the names
+pub put_begun : (before mid now : Files) (name bytes : List ℕ) (r : Result (Unit {0}) Error) → SameNames before mid → Puts mid now name bytes r → Puts before now name bytes r
+put_begun before mid now name bytes (Ok x) same puts = (puts.0, λ q named other. puts.1 q named other ∙ same q named)
+put_begun before mid now name bytes (Err e) same puts = λ q named. puts q named ∙ same q named
+
+-- a put whose file was removed again
+pub put_given_up : (before mid now : Files) (name bytes : List ℕ) (e : Error) → Puts before mid name bytes (Err e) → SameNames mid now → Puts before now name bytes (Err e)
+put_given_up before mid now name bytes e puts same = λ q named. same q named ∙ puts q named
+
+-- what was made at a place is no name
+pub made_beside : (before now : Files) (path : List ℕ) → IsBegun path → Places before now path true → SameNames before now
+made_beside before now path begun placed q named = placed.2 q (not_begun q path named begun)
 
 -- ## A map in memory
 
@@ -88,6 +125,17 @@ pub absent_at : (m : BTreeMap (String Global) (Vec ℕ Global)) (path : List ℕ
     → option_copied lent ≡ get_by_text m path → get (holdings_of m) path ≡ None
 absent_at m path None b some here value = read_none m path value
 absent_at m path (Some v) b some here value = absurd (true_is_not b some here)
+
+-- what a look at a map found
+pub present_at : (m : BTreeMap (String Global) (Vec ℕ Global)) (path : List ℕ) (lent : Option (Bor (Vec ℕ Global))) → is_some lent ≡ true → option_copied lent ≡ get_by_text m path
+    → IsSome (get (holdings_of m) path)
+present_at m path None some value = absurd (false≢true some)
+present_at m path (Some v) some value = ap is_some (get-holdings_of m path ∙ ap (option_map (λ (w : Vec ℕ Global). w.items)) (sym value))
+
+pub absent_from : (m : BTreeMap (String Global) (Vec ℕ Global)) (path : List ℕ) (lent : Option (Bor (Vec ℕ Global))) → is_some lent ≡ false → option_copied lent ≡ get_by_text m path
+    → get (holdings_of m) path ≡ None
+absent_from m path None none value = read_none m path value
+absent_from m path (Some v) none value = absurd (false≢true (sym none))
 
 -- ## Faults
 
@@ -136,6 +184,25 @@ listed_memory_failed h = cc
 pub failed_listing : (done : Result (Vec (String Global) Global) Error) → listed_of done ≡ listed.Failed → IsFault done
 failed_listing (Ok names) h = absurd (cc)
 failed_listing (Err e) h = λ is. listed_memory_failed (sym (ap list_fault_of is) ∙ h)
+
+-- ## A folder that another one locked
+
+pub excluded_look : (done : Result (Vec ℕ Global) Error) → IsExcluded done → got_of done ≡ got.Failed
+excluded_look (Ok bytes) is = absurd is
+excluded_look (Err e) is = ap fault_of is
+
+pub excluded_change : (done : Result (Unit {0}) Error) → IsExcluded done → put_of done ≡ Err put_faults.Failed
+excluded_change (Ok x) is = absurd is
+excluded_change (Err e) is = ap (λ (k : ErrorKind). Err (put_fault_of k)) is
+
+pub excluded_listing : (done : Result (Vec (String Global) Global) Error) → IsExcluded done → listed_of done ≡ listed.Failed
+excluded_listing (Ok names) is = absurd is
+excluded_listing (Err e) is = ap list_fault_of is
+
+-- an error is one of the store
+pub failed_put : (done : Result (Unit {0}) Error) → IsErr done → IsErr (put_of done)
+failed_put (Ok x) is = absurd (cc)
+failed_put (Err e) is = refl
 
 -- what has a cause has it where it follows from another that has it
 pub cause_of : (before now : ℕ) (fault answer : Type 0) → HasCause before now fault → (answer → fault) → HasCause before now answer

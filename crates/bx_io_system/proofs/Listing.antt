@@ -1,5 +1,5 @@
 -- What listings of a folder say of its files.
-use Rattle.std.proofs.Common.{◌≡◌, ℕ, Bool, true, false, cond, List, [], ◌∷◌, ◌++◌, length, take, Some, None, map, refl, sym, ap, subst, ◌∙◌, arith, String, Vec, Global, string_bytes, T, Result, Ok, Err, OnOk}
+use Rattle.std.proofs.Common.{◌≡◌, ℕ, Bool, true, false, cond, List, [], ◌∷◌, ◌++◌, length, take, Some, None, map, refl, sym, ap, subst, ◌∙◌, arith, String, Vec, Global, string_bytes, T, Result, Ok, Err, OnErr, OnOk}
 use Rattle.std.specs.Prelude.{◌||◌, ◌&&◌, All, is_some}
 use Rattle.std.specs.List.{AllByRecursion, dedup, dedup_from, list_any}
 use Rattle.std.specs.List.Sorted.{IsStrictlySortedBy}
@@ -59,10 +59,10 @@ or_assoc : (a b c : Bool) → ((a || b) || c) ≡ (a || (b || c))
 or_assoc true b c = refl
 or_assoc false b c = refl
 
-same_bytes : (xs ys : List ℕ) → bytes_eq xs ys ≡ true → xs ≡ ys
+pub same_bytes : (xs ys : List ℕ) → bytes_eq xs ys ≡ true → xs ≡ ys
 same_bytes xs ys = (bytes_eq-Decides xs ys).0
 
-are_same : (xs ys : List ℕ) → xs ≡ ys → bytes_eq xs ys ≡ true
+pub are_same : (xs ys : List ℕ) → xs ≡ ys → bytes_eq xs ys ≡ true
 are_same xs ys = (bytes_eq-Decides xs ys).1
 
 -- ## Texts one after another
@@ -195,14 +195,15 @@ plain_digits : (xs : List ℕ) → All IsLowerHexDigit xs → IsPlain xs
 plain_digits [] h = All-nil (λ c. c ≡ 47 → ⊥)
 plain_digits (x ∷ xs) h = All-cons (λ c. c ≡ 47 → ⊥) x xs (hex_plain x (All-head IsLowerHexDigit x xs h)) (plain_digits xs (All-tail IsLowerHexDigit x xs h))
 
-record Parts (q : List ℕ) : Type 0 where
-  letter : ℕ
-  digits : List ℕ
-  is : q ≡ letter ∷ 47 ∷ digits
-  kind : IsKindLetter letter
-  plain : IsPlain digits
+-- a path in the folder of a kind
+pub record Parts (q : List ℕ) : Type 0 where
+  pub letter : ℕ
+  pub digits : List ℕ
+  pub is : q ≡ letter ∷ 47 ∷ digits
+  pub kind : IsKindLetter letter
+  pub plain : IsPlain digits
 
-parts_of : (q : List ℕ) → IsName q → Parts q
+pub parts_of : (q : List ℕ) → IsName q → Parts q
 parts_of [] named = absurd (omega (arith, named.count))
 parts_of (c ∷ []) named = absurd (omega (arith, named.count))
 parts_of (c ∷ s ∷ digits) named = record {
@@ -247,22 +248,31 @@ below_held_at k files v q lists parts =
     subst (λ (p : List ℕ). is_below (k ∷ []) p v.items ≡ has_file (k ∷ []) files p) (sym parts.is)
     (below_is parts.letter k parts.digits v.items ∙ ap (λ b. eqb parts.letter k && b) (lists parts.digits parts.plain) ∙ file_at parts.letter k parts.digits files)
 
--- the names among the files of the folder of a kind
-pub below_held : (kind : List ℕ) (files : Files) (v : Vec (String Global) Global) (q : List ℕ) → length kind ≡ 1 → ListsFiles files kind (Ok v) → IsName q → is_below kind q v.items ≡ has_file kind files q
-below_held kind files v q one lists named =
+-- the paths among the files of the folder of a kind
+pub below_held_parts : (kind : List ℕ) (files : Files) (v : Vec (String Global) Global) (q : List ℕ) → length kind ≡ 1 → ListsFiles files kind (Ok v) → Parts q → is_below kind q v.items ≡ has_file kind files q
+below_held_parts kind files v q one lists parts =
     let k = single kind one in
-    subst (λ (d : List ℕ). ListsFiles files d (Ok v) → is_below d q v.items ≡ has_file d files q) (sym k.1) (λ l. below_held_at k.0 files v q l (parts_of q named)) lists
+    subst (λ (d : List ℕ). ListsFiles files d (Ok v) → is_below d q v.items ≡ has_file d files q) (sym k.1) (λ l. below_held_at k.0 files v q l parts) lists
+
+-- the names among them
+pub below_held : (kind : List ℕ) (files : Files) (v : Vec (String Global) Global) (q : List ℕ) → length kind ≡ 1 → ListsFiles files kind (Ok v) → IsName q → is_below kind q v.items ≡ has_file kind files q
+below_held kind files v q one lists named = below_held_parts kind files v q one lists (parts_of q named)
 
 none_held_at : (k : ℕ) (files : Files) (e : Error) (q : List ℕ) → ListsFiles files (k ∷ []) (Err e) → error_kind e ≡ NotFound → Parts q → has_file (k ∷ []) files q ≡ false
 none_held_at k files e q lists missing parts =
     subst (λ (p : List ℕ). has_file (k ∷ []) files p ≡ false) (sym parts.is)
     (sym (file_at parts.letter k parts.digits files) ∙ ap (λ o. eqb parts.letter k && is_some o) (lists missing parts.digits parts.plain) ∙ and_false (eqb parts.letter k))
 
--- where the folder of a kind is not there it has no names
+-- where the folder of a kind is not there it has no files,
+pub none_held_parts : (kind : List ℕ) (files : Files) (e : Error) (q : List ℕ) → length kind ≡ 1 → ListsFiles files kind (Err e) → error_kind e ≡ NotFound → Parts q → has_file kind files q ≡ false
+none_held_parts kind files e q one lists missing parts =
+    let k = single kind one in
+    subst (λ (d : List ℕ). ListsFiles files d (Err e) → has_file d files q ≡ false) (sym k.1) (λ l. none_held_at k.0 files e q l missing parts) lists
+
+-- and so no names
 pub none_held : (kind : List ℕ) (files : Files) (e : Error) (q : List ℕ) (b : Bool) → length kind ≡ 1 → ListsFiles files kind (Err e) → error_kind e ≡ NotFound → IsName q → b ≡ (b || has_file kind files q)
 none_held kind files e q b one lists missing named =
-    let k = single kind one in
-    let none : has_file kind files q ≡ false = subst (λ (d : List ℕ). ListsFiles files d (Err e) → has_file d files q ≡ false) (sym k.1) (λ l. none_held_at k.0 files e q l missing (parts_of q named)) lists in
+    let none : has_file kind files q ≡ false = none_held_parts kind files e q one lists missing (parts_of q named) in
     sym (ap (λ h. b || h) none ∙ or_false b)
 
 -- each name is in the folder of one of the three kinds
@@ -306,6 +316,10 @@ path_elsewhere inside q path b not =
 pub on_ok : {X E : Type 0} (r : Result X E) (P Q : Type 0) → (P → Q) → OnOk r P → OnOk r Q
 on_ok (Ok x) P Q f p = f p
 on_ok (Err e) P Q f p = tt
+
+pub on_err_anyway : {X E : Type 0} (r : Result X E) (P : Type 0) → P → OnErr r P
+on_err_anyway (Ok x) P p = tt
+on_err_anyway (Err e) P p = p
 
 -- the names that are added are those of the files
 pub added_held : (kind : List ℕ) (files : Files) (v : Vec (String Global) Global) (lent : List (String Global)) (old now : List (String Global)) → length kind ≡ 1 → ListsFiles files kind (Ok v)

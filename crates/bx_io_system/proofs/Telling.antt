@@ -29,8 +29,8 @@ use Rattle.bx_io.specs.declared.keeper.Got.{Got}
 use Rattle.bx_io.specs.declared.keeper.Got.TheVariants as got
 use Rattle.bx_io.specs.declared.keeper.PutFault.{PutFault}
 use Rattle.bx_io.specs.declared.keeper.PutFault.TheVariants as put_faults
-use Rattle.bx_io_system.specs.Events.{Event, in_a_row, keep_if}
-use Rattle.bx_io_system.specs.Answers.{event_for, change_event, fault_of, got_of, list_fault_of, listed_event, listed_of, put_fault_of, put_of}
+use Rattle.bx_io_system.specs.Events.{Event, alone_of, in_a_row, keep_if}
+use Rattle.bx_io_system.specs.Answers.{alone_event, event_for, change_event, fault_of, got_of, list_fault_of, listed_event, listed_of, put_fault_of, put_of}
 use Rattle.std.specs.Prelude.{map, string_bytes, IfOk}
 use Rattle.std.specs.Str.{bytes_eq}
 use Rattle.std.specs.FinMap.{keys}
@@ -207,7 +207,61 @@ told_listed_on first held events closed answer tells is =
 -- ## What a store in a folder is told to be
 
 abbrev pub store_of : Holdings → List Event → Bool → StoreTold
-store_of first events closed = record { held = told first events closed; changes = made_of events }
+store_of first events closed = record { held = told first events closed; changes = made_of events; alone = alone_of events }
+
+pub alone_answer : (name : List ℕ) (answer : Got) (events : List Event) → alone_of (event_for name answer ∷ events) ≡ alone_of events
+alone_answer name (got.Found bytes) events = refl
+alone_answer name got.None events = refl
+alone_answer name got.Failed events = refl
+alone_answer name got.Memory events = refl
+
+pub alone_listed : (answer : Listed) (events : List Event) → alone_of (listed_event answer ∷ events) ≡ alone_of events
+alone_listed (listed.Names names) events = refl
+alone_listed listed.Failed events = refl
+alone_listed listed.Memory events = refl
+
+-- a change leaves it whether a store works alone
+pub alone_change : (change : Change) (r : Result (Unit {0}) PutFault) (events : List Event) → alone_of (change_event change r ∷ events) ≡ alone_of events
+alone_change (Put name bytes) (Ok x) events = refl
+alone_change (Drop name) (Ok x) events = refl
+alone_change change (Err put_faults.Failed) events = refl
+alone_change change (Err put_faults.Memory) events = refl
+
+-- what is told does not change where a store is asked to work alone
+next_alone : (r : Result (Unit {0}) PutFault) (was : Option Holdings) → next (alone_event r) was ≡ was
+next_alone (Ok x) None = refl
+next_alone (Ok x) (Some held) = refl
+next_alone (Err put_faults.Failed) None = refl
+next_alone (Err put_faults.Failed) (Some held) = refl
+next_alone (Err put_faults.Memory) None = refl
+next_alone (Err put_faults.Memory) (Some held) = refl
+
+pub told_alone : (first : Holdings) (events : List Event) (closed : Bool) (r : Result (Unit {0}) PutFault)
+    → told first (alone_event r ∷ events) closed ≡ told first events closed
+told_alone first events closed r = ap (gate closed) (next_alone r (seen first events))
+
+made_alone : (r : Result (Unit {0}) PutFault) (events : List Event) → made_of (alone_event r ∷ events) ≡ made_of events
+made_alone (Ok x) events = append-nil (made_of events)
+made_alone (Err put_faults.Failed) events = append-nil (made_of events)
+made_alone (Err put_faults.Memory) events = append-nil (made_of events)
+
+stays_alone : (r : Result (Unit {0}) PutFault) (events : List Event) → alone_of events ≡ true → alone_of (alone_event r ∷ events) ≡ true
+stays_alone (Ok x) events alone = refl
+stays_alone (Err put_faults.Failed) events alone = alone
+stays_alone (Err put_faults.Memory) events alone = alone
+
+pub keeps_alone : (first : Holdings) (events : List Event) (closed : Bool) (r : Result (Unit {0}) PutFault)
+    → Keeps (store_of first events closed) (store_of first (alone_event r ∷ events) closed)
+keeps_alone first events closed r = record {
+  held = λ held h. sym (told_alone first events closed r) ∙ h;
+  changes = made_alone r events;
+  alone = stays_alone r events;
+}
+
+-- where it was granted the store works alone
+pub granted_alone : (r : Result (Unit {0}) PutFault) (events : List Event) → OnOk r (alone_of (alone_event r ∷ events) ≡ true)
+granted_alone (Ok x) events = refl
+granted_alone (Err fault) events = tt
 
 made_answer : (name : List ℕ) (answer : Got) (events : List Event) → made_of (event_for name answer ∷ events) ≡ made_of events
 made_answer name (got.Found bytes) events = append-nil (made_of events)
@@ -233,6 +287,7 @@ pub keeps_answer : (first : Holdings) (events : List Event) (closed : Bool) (nam
 keeps_answer first events closed name answer = record {
   held = λ held h. (told_answer first events closed name answer held h).0;
   changes = made_answer name answer events;
+  alone = λ alone. alone_answer name answer events ∙ alone;
 }
 
 pub keeps_listed : (first : Holdings) (events : List Event) (closed : Bool) (answer : Listed)
@@ -240,6 +295,7 @@ pub keeps_listed : (first : Holdings) (events : List Event) (closed : Bool) (ans
 keeps_listed first events closed answer = record {
   held = λ held h. (told_listed first events closed answer held h).0;
   changes = made_listed answer events;
+  alone = λ alone. alone_listed answer events ∙ alone;
 }
 
 pub makes_change : (first : Holdings) (events : List Event) (closed : Bool) (change : Change)
@@ -247,6 +303,7 @@ pub makes_change : (first : Holdings) (events : List Event) (closed : Bool) (cha
 makes_change first events closed change = record {
   held = λ held h. sym (told_made first events closed change) ∙ h;
   changes = made_change change events;
+  alone = λ alone. alone_change change (Ok tt) events ∙ alone;
 }
 
 pub keeps_refused : (first : Holdings) (events : List Event) (closed : Bool) (change : Change) (fault : PutFault)
@@ -254,11 +311,12 @@ pub keeps_refused : (first : Holdings) (events : List Event) (closed : Bool) (ch
 keeps_refused first events closed change fault = record {
   held = λ held h. sym (told_refused first events closed change fault) ∙ h;
   changes = made_refused change fault events;
+  alone = λ alone. alone_change change (Err fault) events ∙ alone;
 }
 
 pub keeps_joined : (first : Holdings) (events : List Event) (closed theirs : Bool)
     → Keeps (store_of first events closed) (store_of first events (theirs && closed))
-keeps_joined first events closed theirs = record { held = joined_stays first events closed theirs; changes = refl }
+keeps_joined first events closed theirs = record { held = joined_stays first events closed theirs; changes = refl; alone = λ alone. alone }
 
 -- what became of a change
 pub makes_on_ok : (first : Holdings) (events : List Event) (closed : Bool) (change : Change) (r : Result (Unit {0}) PutFault)
@@ -470,6 +528,41 @@ pub noted_names : (before now : Record) (change : Change) (r : Result (Unit {0})
 noted_names before now change r is named names =
     subst (λ (log : Record). ToldNames (told log.held log.events log.closed)) (sym is)
     (named_changed before.held before.events before.closed change r named names)
+
+-- a store that was asked to work alone
+
+pub agrees_alone : (before now : Record) (files after : Holdings) (q : List ℕ) (r : Result (Unit {0}) PutFault) → now ≡ record before { events = alone_event r ∷ before.events }
+    → get after q ≡ get files q → told_at (told before.held before.events before.closed) q ≡ Some (get files q) → told_at (told now.held now.events now.closed) q ≡ Some (get after q)
+agrees_alone before now files after q r is same agrees =
+    subst (λ (log : Record). told_at (told log.held log.events log.closed) q ≡ Some (get after q)) (sym is)
+    (ap (λ (t : Option Holdings). told_at t q) (told_alone before.held before.events before.closed r) ∙ agrees ∙ ap Some (sym same))
+
+pub telling_alone : (before now : Record) (r : Result (Unit {0}) PutFault) → now ≡ record before { events = alone_event r ∷ before.events }
+    → IsSome (told before.held before.events before.closed) → IsSome (told now.held now.events now.closed)
+telling_alone before now r is telling =
+    subst (λ (log : Record). IsSome (told log.held log.events log.closed)) (sym is) (subst IsSome (sym (told_alone before.held before.events before.closed r)) telling)
+
+pub named_alone : (before now : Record) (r : Result (Unit {0}) PutFault) → now ≡ record before { events = alone_event r ∷ before.events }
+    → ToldNames (told before.held before.events before.closed) → ToldNames (told now.held now.events now.closed)
+named_alone before now r is names =
+    subst (λ (log : Record). ToldNames (told log.held log.events log.closed)) (sym is) (subst ToldNames (sym (told_alone before.held before.events before.closed r)) names)
+
+-- what works alone after an answer, a listing or a change did so before
+
+pub alone_before_answer : (before now : Record) (name : List ℕ) (answer : Got) → now ≡ record before { events = event_for name answer ∷ before.events }
+    → alone_of now.events ≡ true → alone_of before.events ≡ true
+alone_before_answer before now name answer is alone =
+    sym (alone_answer name answer before.events) ∙ ap (λ (log : Record). alone_of log.events) (sym is) ∙ alone
+
+pub alone_before_listing : (before now : Record) (answer : Listed) → now ≡ record before { events = listed_event answer ∷ before.events }
+    → alone_of now.events ≡ true → alone_of before.events ≡ true
+alone_before_listing before now answer is alone =
+    sym (alone_listed answer before.events) ∙ ap (λ (log : Record). alone_of log.events) (sym is) ∙ alone
+
+pub alone_before_change : (before now : Record) (change : Change) (r : Result (Unit {0}) PutFault) → now ≡ record before { events = change_event change r ∷ before.events }
+    → alone_of now.events ≡ true → alone_of before.events ≡ true
+alone_before_change before now change r is alone =
+    sym (alone_change change r before.events) ∙ ap (λ (log : Record). alone_of log.events) (sym is) ∙ alone
 
 -- ## Nothing is held
 

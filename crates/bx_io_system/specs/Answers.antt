@@ -64,6 +64,11 @@ abbrev pub change_event : Change → Result (Unit {0}) PutFault → Event
 change_event change (Ok x) = made_event change
 change_event change (Err e) = refused_event (name_of change) e
 
+-- how the answer to the wish to work alone is recorded
+abbrev pub alone_event : Result (Unit {0}) PutFault → Event
+alone_event (Ok x) = (kinds.Alone, [], [])
+alone_event (Err e) = refused_event [] e
+
 -- how a listing is recorded
 abbrev pub listed_event : Listed → Event
 listed_event (listed.Names names) = (kinds.Listed, [], in_a_row (map string_bytes names.items))

@@ -25,6 +25,18 @@ abbrev pub failures : List Event → ℕ
 failures [] = 0
 failures (e ∷ earlier) = failures_next e.0 (failures earlier)
 
+-- ## The lock of a folder
+
+abbrev pub alone_next : Kind → Bool → Bool
+alone_next kinds.Alone before = true
+alone_next kinds.Started before = false
+alone_next _ before = before
+
+-- whether it was granted, since the last start, that the folder is this store's alone
+abbrev pub alone_of : List Event → Bool
+alone_of [] = false
+alone_of (e ∷ earlier) = alone_next e.0 (alone_of earlier)
+
 -- ## Streams
 
 abbrev pub taken_next : Kind → List ℕ → List ℕ → List ℕ

@@ -2,7 +2,7 @@
 
 ghost use Rattle.std.specs.Prelude.{◌≡◌, ℕ, List, [], true, Some, IsSome};
 ghost use Rattle.std.specs.FinMap.{get};
-ghost use Rattle.bx_io.specs.Holdings.{AreNames, Holdings, held_in};
+ghost use Rattle.bx_io.specs.Holdings.{AreNames, Holdings, held_in, opened};
 ghost use Rattle.bx_io.specs.Names.{IsName};
 ghost use Rattle.bx_io_system.specs.Telling.{told};
 
@@ -12,9 +12,10 @@ use bx_io::{Got, KeepReader, Keeper, Listed, PutFault};
 use std::alloc::{AllocError, Global};
 
 /// A folder that holds each name as the plain file of that name, in a folder for each kind of name; other
-/// files in it are ignored. It held anything at first, and tells that with its own changes, as long as each
-/// answer of the disk agrees. Each error of the disk but that nothing is there is a fault, and raises the count
-/// by one, up to the greatest `u64`.
+/// files in it are ignored. It is locked as long as the store is there, from its first call on: alone where that was asked
+/// first, and else shared. Where another one has locked it so that this store is excluded, each call fails. It held anything
+/// at first, and tells that with its own changes, as long as each answer of the disk agrees. Each error of the disk but that
+/// nothing is there is a fault, and raises the count by one, up to the greatest `u64`.
 #[derive(Drop)]
 pub struct FolderKeeper<D: Disk> {
     system: System<D>,
@@ -34,7 +35,7 @@ impl<D: Disk + Send> FolderKeeper<D> {
         requires names { AreNames held }
         requires agrees { D.is_known ≡ true → (name : List ℕ) → IsName name
             → get held name ≡ get (D.files disk) name }
-        ensures known { ⟦<FolderKeeper<D> as Keeper>⟧.known result ≡ record { held = Some held; changes = [] } }
+        ensures known { ⟦<FolderKeeper<D> as Keeper>⟧.known result ≡ opened held }
         ensures faults { ⟦<FolderKeeper<D> as Keeper>⟧.faults result ≡ 0 }
     {
         FolderKeeper {
@@ -46,6 +47,16 @@ impl<D: Disk + Send> FolderKeeper<D> {
     pub fn goes_on_telling(&self)
         ensures { D.is_known ≡ true → IsSome (held_in (⟦<FolderKeeper<D> as Keeper>⟧.known self.now)) }
     {}
+}
+
+impl<D: Disk> FolderReader<D> {
+    // The folder with what was noted of it.
+    fn into_system(self) -> System<D>
+        ensures { result ≡ self.system }
+    {
+        let FolderReader { system } = self;
+        system
+    }
 }
 
 impl<D: Disk + Send> KeepReader for FolderReader<D> {
@@ -66,11 +77,13 @@ impl<D: Disk + Send> Keeper for FolderKeeper<D> {
     type Reader = FolderReader<D>;
 
     ghost use Rattle.std.specs.Prelude.{None};
+    ghost use Rattle.bx_io_system.specs.Events.{alone_of};
     ghost use Rattle.bx_io_system.specs.Telling.{made_of};
 
     ghost known = { λ k. record {
       held = told k.system.log.held k.system.log.events k.system.log.closed;
       changes = made_of k.system.log.events;
+      alone = alone_of k.system.log.events;
     } };
 
     ghost faults = { λ k. k.system.faults };
@@ -84,7 +97,11 @@ impl<D: Disk + Send> Keeper for FolderKeeper<D> {
     }
 
     fn close(&mut self, reader: FolderReader<D>) {
-        self.system.join(&reader.system);
+        self.system.join(reader.into_system());
+    }
+
+    fn alone(&mut self, alloc: Global) -> Result<(), PutFault> {
+        self.system.alone(alloc)
     }
 
     fn get(&mut self, alloc: Global, name: &str) -> Got {

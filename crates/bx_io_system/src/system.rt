@@ -1,19 +1,19 @@
 //! A folder with the record of what it answered.
 
-ghost use Rattle.std.specs.Prelude.{◌≡◌, ◌≢◌, ℕ, List, [], ◌∷◌, ◌&&◌, true, Err, IfOk, IsSome, Some};
+ghost use Rattle.std.specs.Prelude.{◌≡◌, ◌≢◌, ◌<◌, ℕ, List, [], ◌∷◌, ◌&&◌, true, Err, IfOk, IsErr, IsSome, None, OnOk, Some, length};
 ghost use Rattle.std.specs.FinMap.{get};
 ghost use Rattle.bx_io.specs.Answers.{ListsNames};
 ghost use Rattle.bx_io.specs.Causes.{HasCause};
 ghost use Rattle.bx_io.specs.Holdings.{AreNames, Holdings, Put, Drop};
 ghost use Rattle.bx_io.specs.Names.{IsName};
-ghost use Rattle.bx_io_system.specs.Answers.{change_event, event_for, got_of, listed_event, listed_of, put_of};
-ghost use Rattle.bx_io_system.specs.Events.{failures};
-ghost use Rattle.bx_io_system.specs.Files.{Reads, told_at};
+ghost use Rattle.bx_io_system.specs.Answers.{alone_event, change_event, event_for, got_of, listed_event, listed_of, put_of};
+ghost use Rattle.bx_io_system.specs.Events.{alone_of, failures};
+ghost use Rattle.bx_io_system.specs.Files.{IsLeft, OwnsNoMore, Reads, is_excluded, told_at};
 ghost use Rattle.bx_io_system.specs.Named.{ToldNames, ToldNames-prop};
 ghost use Rattle.bx_io_system.specs.Telling.{told, tells};
 ghost use Rattle.bx_io_system.specs.declared.kind.Kind.TheVariants as kinds;
 
-use crate::disk::Disk;
+use crate::disk::{Disk, FILE_LIMIT};
 use crate::kind::Kind;
 use crate::ordered::OrderedDisk;
 use crate::record::Record;
@@ -33,6 +33,7 @@ pub struct System<D: Disk> {
         → told_at (told log.held log.events log.closed) name ≡ Some (get (D.files disk.disk) name) },
     ghost telling: { D.is_known ≡ true → IsSome (told log.held log.events log.closed) },
     ghost named: { ToldNames (told log.held log.events log.closed) } by { ToldNames-prop _ },
+    ghost alone: { alone_of log.events ≡ true → disk.alone ≡ true },
 }
 
 // Notes that a change failed.
@@ -104,6 +105,24 @@ fn was_dropped(
             Ok(())
         }
         Err(error) => Err(refused(log, faults, name, error)),
+    }
+}
+
+// Notes what became of the wish to work alone.
+fn was_asked(log: &mut Record, faults: &mut u64, done: io::Result<()>) -> Result<(), PutFault>
+    requires counted { faults.old ≡ failures log.old.events }
+    ensures answer { result ≡ put_of done }
+    ensures noted { log.new ≡ record log.old { events = alone_event result ∷ log.old.events } }
+    ensures counted { faults.new ≡ failures log.new.events }
+    ensures cause { HasCause faults.old faults.new (result ≡ Err PutFault.Failed) }
+    ensures no_fault { result ≢ Err PutFault.Failed → faults.new ≡ faults.old }
+{
+    match done {
+        Ok(()) => {
+            *log = Record::noted(log, &Kind::Alone, &[], &[]);
+            Ok(())
+        }
+        Err(error) => Err(refused(log, faults, "", error)),
     }
 }
 
@@ -197,6 +216,20 @@ impl<D: Disk> System<D> {
         }
     }
 
+    /// Works alone from here on.
+    pub(crate) fn alone(&mut self, alloc: Global) -> Result<(), PutFault>
+        ensures noted { self.new.log ≡ record self.old.log { events = alone_event result ∷ self.old.log.events } }
+        ensures cleared { D.is_known ≡ true → OnOk result ((path : List ℕ) → IsLeft path
+            → get (D.files self.new.disk.disk) path ≡ None) }
+        ensures excluded { is_excluded (D.calls self.old.disk.disk) ≡ true → result ≡ Err PutFault.Failed }
+        ensures cause { HasCause self.old.faults self.new.faults (result ≡ Err PutFault.Failed) }
+        ensures no_fault { result ≢ Err PutFault.Failed → self.new.faults ≡ self.old.faults }
+        ensures disk { HasCause (D.faults self.old.disk.disk) (D.faults self.new.disk.disk) (result ≡ Err PutFault.Failed) }
+    {
+        let done = self.disk.work_alone(alloc);
+        was_asked(&mut self.log, &mut self.faults, done)
+    }
+
     /// The answer for a name.
     pub(crate) fn get(&mut self, alloc: Global, name: &str) -> Got
         requires { IsName name.now }
@@ -205,6 +238,7 @@ impl<D: Disk> System<D> {
         } }
         ensures cause { HasCause self.old.faults self.new.faults (result ≡ Got.Failed) }
         ensures no_fault { result ≢ Got.Failed → self.new.faults ≡ self.old.faults }
+        ensures excluded { is_excluded (D.calls self.old.disk.disk) ≡ true → result ≡ Got.Failed }
         ensures disk { HasCause (D.faults self.old.disk.disk) (D.faults self.new.disk.disk) (result ≡ Got.Failed) }
     {
         let done = self.disk.get(alloc, name);
@@ -219,6 +253,9 @@ impl<D: Disk> System<D> {
         } }
         ensures cause { HasCause self.old.faults self.new.faults (result ≡ Err PutFault.Failed) }
         ensures no_fault { result ≢ Err PutFault.Failed → self.new.faults ≡ self.old.faults }
+        ensures left { OwnsNoMore (D.calls self.old.disk.disk) (D.calls self.new.disk.disk) }
+        ensures large { FILE_LIMIT < length bytes.now → IsErr result }
+        ensures excluded { is_excluded (D.calls self.old.disk.disk) ≡ true → result ≡ Err PutFault.Failed }
         ensures disk { HasCause (D.faults self.old.disk.disk) (D.faults self.new.disk.disk) (result ≡ Err PutFault.Failed) }
     {
         let done = self.disk.put(alloc, name, bytes);
@@ -233,6 +270,7 @@ impl<D: Disk> System<D> {
         } }
         ensures cause { HasCause self.old.faults self.new.faults (result ≡ Err PutFault.Failed) }
         ensures no_fault { result ≢ Err PutFault.Failed → self.new.faults ≡ self.old.faults }
+        ensures excluded { is_excluded (D.calls self.old.disk.disk) ≡ true → result ≡ Err PutFault.Failed }
         ensures disk { HasCause (D.faults self.old.disk.disk) (D.faults self.new.disk.disk) (result ≡ Err PutFault.Failed) }
     {
         let done = self.disk.drop_name(alloc, name);
@@ -247,21 +285,33 @@ impl<D: Disk> System<D> {
         ensures names { ListsNames result }
         ensures cause { HasCause self.old.faults self.new.faults (result ≡ Listed.Failed) }
         ensures no_fault { result ≢ Listed.Failed → self.new.faults ≡ self.old.faults }
+        ensures excluded { is_excluded (D.calls self.old.disk.disk) ≡ true → result ≡ Listed.Failed }
         ensures disk { HasCause (D.faults self.old.disk.disk) (D.faults self.new.disk.disk) (result ≡ Listed.Failed) }
     {
         let done = self.disk.names(alloc);
         was_listed(&mut self.log, &mut self.faults, done)
     }
 
-    /// Joins the record of another one.
-    pub(crate) fn join(&mut self, other: &System<D>)
+    /// Takes another one back: joins its record, and keeps the lock of its folder.
+    pub(crate) fn join(&mut self, other: System<D>)
         ensures log { self.new.log ≡ record self.old.log {
-          closed = tells (told other.now.log.held other.now.log.events other.now.log.closed)
+          closed = tells (told other.log.held other.log.events other.log.closed)
               && self.old.log.closed;
         } }
         ensures faults { self.new.faults ≡ self.old.faults }
     {
         self.log = Record::joined(&self.log, &other.log);
+        self.disk.join(other.into_disk());
+    }
+
+    // The files of the folder alone.
+    fn into_disk(self) -> OrderedDisk<D> {
+        let System {
+            disk,
+            log: _,
+            faults: _,
+        } = self;
+        disk
     }
 
     /// The same folder, with a count of faults of its own.

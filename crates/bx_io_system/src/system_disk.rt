@@ -1,26 +1,41 @@
-//! The files of a folder of the system. Each method makes one call of the system, and notes one that changes or
-//! syncs something, and one that failed.
+//! The files of a folder of the system. Each method makes the calls of the system that its task needs, and notes one that
+//! looks, locks, changes or syncs something, and one that failed.
 
-ghost use Rattle.std.specs.Prelude.{◌≡◌, []};
+ghost use Rattle.std.specs.Prelude.{◌≡◌, ◌≢◌, ◌↔◌, ◌<◌, ◌≤◌, [], ◌∷◌, IfErr, IfOk, IsErr, IsSome, IsTrue, OnOk, Some, false, length, true};
+ghost use Rattle.std.specs.Fs.{IsFile, file_type, metadata_len};
+ghost use Rattle.std.specs.IoError.{error_kind};
+ghost use Rattle.std.specs.declared.io.ErrorKind.TheVariants.{NotFound, WouldBlock};
 ghost use Rattle.bx_io.specs.Causes.{HasCause};
 ghost use Rattle.bx_io_system.specs.Events.{failures};
-ghost use Rattle.bx_io_system.specs.Files.{IsFaultBut};
+ghost use Rattle.bx_io_system.specs.Files.{IsExcluded, IsFault, IsFaultBut, is_excluded, is_locked, lock_event, lock_fault};
+ghost use Rattle.bx_io_system.specs.declared.kind.Kind.TheVariants as kinds;
 
-use crate::disk::Disk;
+use crate::disk::{Disk, FILE_LIMIT};
 use crate::kind::Kind;
 use crate::record::Record;
 use std::alloc::{AllocError, Global};
-use std::fs::{self, DirEntry, File, OpenFile};
-use std::io::{self, ErrorKind};
+use std::fs::{self, DirEntry, File, Metadata, OpenFile, OpenOptions, ReadDir, TryLockError};
+use std::io::{self, ErrorKind, Read, Write};
 use std::rt::Files;
 
-/// A folder of the system. What its files hold is not known.
+/// The file of a folder that is locked. It is empty.
+const LOCK: &str = "lock";
+
+/// A folder of the system. What its files hold is not known. It is locked by an advisory lock of the system on the file
+/// `lock` in it, which ends with this handle or with the process.
 #[derive(Drop)]
 pub struct SystemDisk<R> {
     rt: R,
     folder: String,
+    lock: Option<File>,
+    is_alone: bool,
+    refused: Option<ErrorKind>,
+    begun: Option<File>,
     log: Record,
     failed: Record,
+    ghost kept: { is_locked false log.events ≡ true → IsSome lock },
+    ghost kept_alone: { is_locked true log.events ≡ true → is_alone ≡ true },
+    ghost excluded: { is_excluded log.events ≡ true → refused ≡ Some WouldBlock },
 }
 
 // Notes that a call failed, unless for want of memory, or with the error that is an answer.
@@ -40,12 +55,136 @@ fn path_of(alloc: Global, folder: &str, path: &str) -> Result<String, AllocError
     format!(in alloc; "{folder}/{path}")
 }
 
-// Waits until what lies at the system's path is stored.
+// Whether what the system found counts as a file.
+fn is_counted(found: &Metadata) -> bool
+    ensures { IsTrue result ↔ (IsFile (file_type found.now) × (metadata_len found.now ≤ FILE_LIMIT)) }
+{
+    found.is_file() && found.len() <= FILE_LIMIT as u64
+}
+
+// Whether a file is at the system's path.
+fn look_at<R: Files>(rt: &R, path: &str) -> io::Result<bool> {
+    match fs::symlink_metadata(rt, path) {
+        Ok(found) => Ok(is_counted(&found)),
+        Err(error) if error.kind() == ErrorKind::NotFound => Ok(false),
+        Err(error) => Err(error),
+    }
+}
+
+// The bytes of an open file, or that there are too many.
+fn read_open<F: Read + Drop>(alloc: Global, file: F) -> io::Result<Vec<u8>>
+    ensures { IfOk result (λ bytes. length bytes.items ≤ FILE_LIMIT) }
+{
+    let mut bytes = Vec::new(alloc);
+    let mut front = file.take(FILE_LIMIT as u64 + 1);
+    front.read_to_end(&mut bytes)?;
+    if bytes.len() > FILE_LIMIT {
+        return Err(io::Error::from(ErrorKind::NotFound));
+    }
+    Ok(bytes)
+}
+
+// The bytes of the file at the system's path. What is no file is not there.
+fn read_file<R: Files>(rt: &R, alloc: Global, path: &str) -> io::Result<Vec<u8>>
+    ensures { IfOk result (λ bytes. length bytes.items ≤ FILE_LIMIT) }
+{
+    let file = File::open(rt, path)?;
+    if !is_counted(&file.metadata()?) {
+        return Err(io::Error::from(ErrorKind::NotFound));
+    }
+    read_open(alloc, file)
+}
+
+// Makes an empty file at the system's path, where nothing is.
+fn create_file<R: Files<File = File>>(rt: &R, path: &str) -> io::Result<File> {
+    OpenOptions::new()
+        .write(true)
+        .create_new(true)
+        .open(rt, path)
+}
+
+// Writes the file that was made, and closes it.
+fn write_begun(begun: Option<File>, bytes: &[u8]) -> io::Result<()>
+    ensures { FILE_LIMIT < length bytes.now → IsErr result }
+{
+    if bytes.len() > FILE_LIMIT {
+        return Err(io::Error::from(ErrorKind::FileTooLarge));
+    }
+    match begun {
+        Some(file) => {
+            let mut file = file;
+            file.write_all(bytes)
+        }
+        None => Err(io::Error::from(ErrorKind::NotFound)),
+    }
+}
+
+// Gives the file at one path from the folder another one.
+fn rename_file<R: Files>(
+    alloc: Global,
+    rt: &R,
+    folder: &str,
+    old: &str,
+    path: &str,
+) -> io::Result<()> {
+    let old = path_of(alloc, folder, old)?;
+    let path = path_of(alloc, folder, path)?;
+    fs::rename(rt, old.as_str(), path.as_str())
+}
+
+// Waits until what lies at the system's path is stored. Only files and folders are opened.
 fn sync_path<R: Files>(rt: &R, path: &str) -> io::Result<()> {
+    let found = fs::metadata(rt, path)?;
+    if !found.is_dir() && !found.is_file() {
+        return Err(io::Error::from(ErrorKind::NotADirectory));
+    }
     File::open(rt, path)?.sync_all()
 }
 
-impl<R: Files + AllocGlobal + Clone + Drop> SystemDisk<R> {
+// Makes the file that is locked, or opens the one that another process has made meanwhile.
+fn make_lock<R: Files<File = File>>(rt: &R, path: &str) -> io::Result<File> {
+    match OpenOptions::new()
+        .write(true)
+        .create_new(true)
+        .open(rt, path)
+    {
+        Err(error) if error.kind() == ErrorKind::AlreadyExists => File::open(rt, path),
+        made => made,
+    }
+}
+
+// Opens the file that is locked, and makes it where it is missing. What is no plain file is not opened.
+fn open_lock<R: Files<File = File>>(rt: &R, path: &str) -> io::Result<File> {
+    match fs::symlink_metadata(rt, path) {
+        Ok(found) if found.is_file() => File::open(rt, path),
+        Ok(_) => Err(io::Error::from(ErrorKind::InvalidInput)),
+        Err(error) if error.kind() == ErrorKind::NotFound => make_lock(rt, path),
+        Err(error) => Err(error),
+    }
+}
+
+// Locks an open file, without waiting.
+fn try_lock(file: &File, alone: bool) -> io::Result<()> {
+    let done = if alone {
+        file.try_lock()
+    } else {
+        file.try_lock_shared()
+    };
+    match done {
+        Ok(()) => Ok(()),
+        Err(TryLockError::WouldBlock) => Err(io::Error::from(ErrorKind::WouldBlock)),
+        Err(TryLockError::Error(error)) => Err(error),
+    }
+}
+
+// Opens and locks the file at the system's path.
+fn lock_file<R: Files<File = File>>(rt: &R, path: &str, alone: bool) -> io::Result<File> {
+    let file = open_lock(rt, path)?;
+    try_lock(&file, alone)?;
+    Ok(file)
+}
+
+impl<R: Files<File = File> + AllocGlobal + Clone + Drop> SystemDisk<R> {
     /// The folder at this path, which need not be there.
     pub fn new(rt: R, folder: String) -> SystemDisk<R>
         ensures calls { ⟦<SystemDisk<R> as Disk>⟧.calls result ≡ [] }
@@ -54,42 +193,164 @@ impl<R: Files + AllocGlobal + Clone + Drop> SystemDisk<R> {
         SystemDisk {
             rt,
             folder,
+            lock: None,
+            is_alone: false,
+            refused: None,
+            begun: None,
             log: Record::new(),
             failed: Record::new(),
         }
     }
+
+    // Asks the system for the lock, and keeps what it answered.
+    fn ask(&mut self, alloc: Global, alone: bool) -> io::Result<()>
+        ensures log { self.new.log ≡ self.old.log }
+        ensures failed { self.new.failed ≡ self.old.failed }
+        ensures held { OnOk result (IsSome self.new.lock) }
+        ensures alone { OnOk result (alone ≡ true → self.new.is_alone ≡ true) }
+        ensures refused { IfErr result (λ e. error_kind e ≡ WouldBlock → self.new.refused ≡ Some WouldBlock) }
+        ensures stays { self.old.refused ≡ Some WouldBlock → IsExcluded result }
+    {
+        if let Some(kind) = self.refused {
+            return Err(io::Error::from(kind));
+        }
+        if self.lock.is_some() {
+            if alone && !self.is_alone {
+                self.refused = Some(ErrorKind::WouldBlock);
+                return Err(io::Error::from(ErrorKind::WouldBlock));
+            }
+            return Ok(());
+        }
+        let path = path_of(alloc, self.folder.as_str(), LOCK)?;
+        match lock_file(&self.rt, path.as_str(), alone) {
+            Ok(file) => {
+                self.lock = Some(file);
+                self.is_alone = alone;
+                Ok(())
+            }
+            Err(error) => {
+                let kind = error.kind();
+                if kind != ErrorKind::NotFound && kind != ErrorKind::OutOfMemory {
+                    self.refused = Some(kind);
+                }
+                Err(error)
+            }
+        }
+    }
+
+    // Locks the folder, as others may do too.
+    fn lock_shared(&mut self, alloc: Global) -> io::Result<()>
+        ensures calls { self.new.log.events ≡ lock_event false result ∷ self.old.log.events }
+        ensures stays { is_excluded self.old.log.events ≡ true → IsExcluded result }
+        ensures cause { HasCause (failures self.old.failed.events) (failures self.new.failed.events) (IsFault result) }
+    {
+        let done = self.ask(alloc, false);
+        note_fault(&mut self.failed, &done, ErrorKind::OutOfMemory);
+        match done {
+            Ok(()) => {
+                self.log = Record::noted(&self.log, &Kind::Shared, &[], &[]);
+                Ok(())
+            }
+            Err(error) => {
+                self.log = Record::noted(&self.log, &kind_of_fault(error.kind()), &[], &[]);
+                Err(error)
+            }
+        }
+    }
+
+    // Locks the folder alone.
+    fn lock_alone(&mut self, alloc: Global) -> io::Result<()>
+        ensures calls { self.new.log.events
+            ≡ lock_event true result ∷ (kinds.Asked, [], []) ∷ self.old.log.events }
+        ensures stays { is_excluded self.old.log.events ≡ true → IsExcluded result }
+        ensures cause { HasCause (failures self.old.failed.events) (failures self.new.failed.events) (IsFault result) }
+    {
+        self.log = Record::noted(&self.log, &Kind::Asked, &[], &[]);
+        let done = self.ask(alloc, true);
+        note_fault(&mut self.failed, &done, ErrorKind::OutOfMemory);
+        match done {
+            Ok(()) => {
+                self.log = Record::noted(&self.log, &Kind::Alone, &[], &[]);
+                Ok(())
+            }
+            Err(error) => {
+                self.log = Record::noted(&self.log, &kind_of_fault(error.kind()), &[], &[]);
+                Err(error)
+            }
+        }
+    }
 }
 
-// Adds the name of an entry of a folder, if it is that of a plain file. What is no text is no name.
+// What is noted of a wish for the lock that failed.
+fn kind_of_fault(kind: ErrorKind) -> Kind
+    ensures { result ≡ lock_fault kind }
+{
+    match kind {
+        ErrorKind::WouldBlock => Kind::Excluded,
+        _ => Kind::Failed,
+    }
+}
+
+// The error of an entry of a folder. That an entry is not there does not say that the folder is not.
+fn entry_fault(error: io::Error) -> io::Error
+    ensures { error_kind result ≢ NotFound }
+{
+    if error.kind() == ErrorKind::NotFound {
+        return io::Error::from(ErrorKind::Other);
+    }
+    error
+}
+
+// Adds the name of an entry of a folder, if it is that of a file. What is no text is no name, and what is gone by now is no
+// file.
 fn add_file<R: Files + Drop>(
     alloc: Global,
     entry: io::Result<DirEntry<R>>,
     files: &mut Vec<String>,
-) -> io::Result<()> {
+) -> io::Result<()>
+    ensures { IfErr result (λ e. error_kind e ≢ NotFound) }
+{
     let entry = match entry {
+        Ok(entry) => entry,
         Err(error) if error.kind() == ErrorKind::InvalidFilename => return Ok(()),
-        entry => entry?,
+        Err(error) => return Err(entry_fault(error)),
     };
-    if entry.file_type()?.is_file() {
-        files.push(String::from_str(alloc, entry.file_name())?)?;
+    match entry.metadata() {
+        Ok(found) if is_counted(&found) => {
+            files.push(String::from_str(alloc, entry.file_name())?)?;
+            Ok(())
+        }
+        Ok(_) => Ok(()),
+        Err(error) if error.kind() == ErrorKind::NotFound => Ok(()),
+        Err(error) => Err(error),
     }
-    Ok(())
 }
 
-// The names of the plain files in the folder at the system's path.
-fn list_files<R: Files + AllocGlobal + Clone + Drop>(
-    rt: &R,
+// The names of the files among the entries of a folder, which is there.
+fn files_among<R: Files + AllocGlobal + Clone + Drop>(
     alloc: Global,
-    path: &str,
-) -> io::Result<Vec<String>> {
+    entries: ReadDir<R>,
+) -> io::Result<Vec<String>>
+    ensures { IfErr result (λ e. error_kind e ≢ NotFound) }
+{
     let mut files = Vec::new(alloc);
-    'entries: for entry in fs::read_dir(rt, path)? {
+    'entries: for entry in entries {
         add_file(alloc, entry, &mut files)?;
     }
     Ok(files)
 }
 
-impl<R: Files + AllocGlobal + Clone + Drop> Disk for SystemDisk<R> {
+// The names of the files in the folder at the system's path.
+fn list_files<R: Files + AllocGlobal + Clone + Drop>(
+    rt: &R,
+    alloc: Global,
+    path: &str,
+) -> io::Result<Vec<String>> {
+    let entries = fs::read_dir(rt, path)?;
+    files_among(alloc, entries)
+}
+
+impl<R: Files<File = File> + AllocGlobal + Clone + Drop> Disk for SystemDisk<R> {
     ghost use Rattle.std.specs.Prelude.{false};
     ghost use Rattle.std.specs.FinMap.{empty};
 
@@ -102,23 +363,87 @@ impl<R: Files + AllocGlobal + Clone + Drop> Disk for SystemDisk<R> {
     ghost faults = { λ d. failures d.failed.events };
 
     fn again(&self, alloc: Global) -> Result<SystemDisk<R>, AllocError> {
-        Ok(SystemDisk::new(
-            self.rt.clone()?,
-            String::from_str(alloc, self.folder.as_str())?,
-        ))
+        // Where the system gives no second handle, this one keeps the lock, and the other one has none.
+        let lock = match &self.lock {
+            Some(file) => file.try_clone().ok(),
+            None => None,
+        };
+        let is_alone = self.is_alone && lock.is_some();
+        let refused = if self.lock.is_some() && lock.is_none() && self.refused.is_none() {
+            Some(ErrorKind::Other)
+        } else {
+            self.refused
+        };
+        Ok(SystemDisk {
+            rt: self.rt.clone()?,
+            folder: String::from_str(alloc, self.folder.as_str())?,
+            lock,
+            is_alone,
+            refused,
+            begun: None,
+            log: Record::new(),
+            failed: Record::new(),
+        })
+    }
+
+    fn join(&mut self, other: SystemDisk<R>) {
+        if self.lock.is_some() || self.refused.is_some() {
+            return;
+        }
+        let SystemDisk {
+            rt: _,
+            folder: _,
+            lock,
+            is_alone,
+            refused,
+            begun: _,
+            log: _,
+            failed: _,
+        } = other;
+        self.is_alone = is_alone;
+        self.refused = refused;
+        self.lock = lock;
+    }
+
+    fn lock(&mut self, alloc: Global, alone: bool) -> io::Result<()> {
+        if alone {
+            self.lock_alone(alloc)
+        } else {
+            self.lock_shared(alloc)
+        }
+    }
+
+    fn look(&mut self, alloc: Global, path: &str) -> io::Result<bool> {
+        let full = path_of(alloc, self.folder.as_str(), path)?;
+        let done = look_at(&self.rt, full.as_str());
+        note_fault(&mut self.failed, &done, ErrorKind::OutOfMemory);
+        if done? {
+            self.log = Record::noted(&self.log, &Kind::Seen, path.as_bytes(), &[]);
+            Ok(true)
+        } else {
+            Ok(false)
+        }
     }
 
     fn read(&mut self, alloc: Global, path: &str) -> io::Result<Vec<u8>> {
         let path = path_of(alloc, self.folder.as_str(), path)?;
-        let done = fs::read(&self.rt, path.as_str());
+        let done = read_file(&self.rt, alloc, path.as_str());
         note_fault(&mut self.failed, &done, ErrorKind::NotFound);
         done
     }
 
-    fn write(&mut self, alloc: Global, path: &str, bytes: &[u8]) -> io::Result<()> {
+    fn create(&mut self, alloc: Global, path: &str) -> io::Result<()> {
+        let full = path_of(alloc, self.folder.as_str(), path)?;
+        let done = create_file(&self.rt, full.as_str());
+        note_fault(&mut self.failed, &done, ErrorKind::OutOfMemory);
+        self.begun = Some(done?);
+        self.log = Record::noted(&self.log, &Kind::Created, path.as_bytes(), &[]);
+        Ok(())
+    }
+
+    fn write(&mut self, _alloc: Global, path: &str, bytes: &[u8]) -> io::Result<()> {
         self.log = Record::noted(&self.log, &Kind::Wrote, path.as_bytes(), &[]);
-        let path = path_of(alloc, self.folder.as_str(), path)?;
-        let done = fs::write(&self.rt, path.as_str(), bytes);
+        let done = write_begun(self.begun.take(), bytes);
         note_fault(&mut self.failed, &done, ErrorKind::OutOfMemory);
         done
     }
@@ -142,12 +467,23 @@ impl<R: Files + AllocGlobal + Clone + Drop> Disk for SystemDisk<R> {
     }
 
     fn rename(&mut self, alloc: Global, old: &str, path: &str) -> io::Result<()> {
-        self.log = Record::noted(&self.log, &Kind::Renamed, path.as_bytes(), old.as_bytes());
-        let old = path_of(alloc, self.folder.as_str(), old)?;
-        let path = path_of(alloc, self.folder.as_str(), path)?;
-        let done = fs::rename(&self.rt, old.as_str(), path.as_str());
+        let done = rename_file(alloc, &self.rt, self.folder.as_str(), old, path);
         note_fault(&mut self.failed, &done, ErrorKind::OutOfMemory);
-        done
+        match done {
+            Ok(()) => {
+                self.log = Record::noted(
+                    &self.log,
+                    &Kind::Renamed,
+                    path.as_bytes(),
+                    old.as_bytes(),
+                );
+                Ok(())
+            }
+            Err(error) => {
+                self.log = Record::noted(&self.log, &Kind::Tried, path.as_bytes(), old.as_bytes());
+                Err(error)
+            }
+        }
     }
 
     fn remove(&mut self, alloc: Global, path: &str) -> io::Result<()> {

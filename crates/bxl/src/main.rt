@@ -5,7 +5,7 @@
 #![tactic(auto)]
 
 ghost use Rattle.std.specs.Prelude.{◌≡◌, [], ℕ, List, IfOk, None, Some, map, string_bytes};
-ghost use Rattle.bx_io.specs.Holdings.{AreNames, Holdings};
+ghost use Rattle.bx_io.specs.Holdings.{AreNames, Holdings, opened};
 ghost use Rattle.bx_engine.specs.Beyond.{GoesBeyond};
 ghost use Rattle.bx_engine.specs.Calls.{call_of, change_of, given_of, written_of};
 ghost use Rattle.bx_engine.specs.Headline.{KeepsHeadline};
@@ -42,7 +42,7 @@ fn keeper(
     ghost held: { Holdings }
     requires { AreNames held }
     ensures known { IfOk result (λ keeper. ⟦<FolderKeeper<SystemDisk<HostRuntime>> as Keeper>⟧.known keeper
-        ≡ record { held = Some held; changes = [] }) }
+        ≡ opened held) }
     ensures faults { IfOk result (λ keeper.
         ⟦<FolderKeeper<SystemDisk<HostRuntime>> as Keeper>⟧.faults keeper ≡ 0) }
 {
@@ -69,7 +69,7 @@ fn run<H: Threads + Wait + Sync>(
         (⟦<StdSink<Stdout> as Sink>⟧.faults done.out))
         (written_of [] (⟦<StdSink<Stderr> as Sink>⟧.taken done.notes) 0
         (⟦<StdSink<Stderr> as Sink>⟧.faults done.notes))
-        (change_of (record { held = Some first.1; changes = [] })
+        (change_of (opened first.1)
         (⟦<FolderKeeper<SystemDisk<HostRuntime>> as Keeper>⟧.known done.keeper) None 0
         (⟦<FolderKeeper<SystemDisk<HostRuntime>> as Keeper>⟧.faults done.keeper)))) }
     ensures beyond { IfOk result (λ done. GoesBeyond (Orders (map string_bytes words.now)) (call_of done.status
@@ -80,7 +80,7 @@ fn run<H: Threads + Wait + Sync>(
         (⟦<StdSink<Stdout> as Sink>⟧.faults done.out))
         (written_of [] (⟦<StdSink<Stderr> as Sink>⟧.taken done.notes) 0
         (⟦<StdSink<Stderr> as Sink>⟧.faults done.notes))
-        (change_of (record { held = Some first.1; changes = [] })
+        (change_of (opened first.1)
         (⟦<FolderKeeper<SystemDisk<HostRuntime>> as Keeper>⟧.known done.keeper) None 0
         (⟦<FolderKeeper<SystemDisk<HostRuntime>> as Keeper>⟧.faults done.keeper)))) }
 {

@@ -53,6 +53,10 @@ impl Keeper for OneFailsKeeper {
 
     fn close(&mut self, _reader: FailReader) {}
 
+    fn alone(&mut self, alloc: Global) -> Result<(), PutFault> {
+        self.inner.alone(alloc)
+    }
+
     fn get(&mut self, alloc: Global, name: &str) -> Got {
         self.inner.get(alloc, name)
     }

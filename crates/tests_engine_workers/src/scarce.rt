@@ -67,6 +67,10 @@ impl Keeper for ScarceKeeper {
 
     fn close(&mut self, _reader: ScarceReader) {}
 
+    fn alone(&mut self, alloc: Global) -> Result<(), PutFault> {
+        self.inner.alone(alloc)
+    }
+
     fn get(&mut self, alloc: Global, name: &str) -> Got {
         self.inner.get(alloc, name)
     }

@@ -1,4 +1,4 @@
-use Rattle.bx_io_system.proofs.Telling.{joined_on, told_listed_on, told_made, told_on, told_refused}
+use Rattle.bx_io_system.proofs.Telling.{joined_on, told_alone, told_listed_on, told_made, told_on, told_refused}
 use Rattle.bx_io_system.proofs.laws.folder_tells_on.Goals as goal
 
 pub returns-clause-answer : goal.returns-clause-answer
@@ -12,6 +12,9 @@ returns-clause-made c = told_made
 
 pub returns-clause-refused : goal.returns-clause-refused
 returns-clause-refused c = told_refused
+
+pub returns-clause-alone : goal.returns-clause-alone
+returns-clause-alone c = told_alone
 
 pub returns-clause-joined : goal.returns-clause-joined
 returns-clause-joined c = joined_on

@@ -29,4 +29,4 @@ returns-else-ne-clause-renamed c =
     (grind (arith, common_steps)) here
 
 pub returns-in_default-clause-cause : goal.returns-in_default-clause-cause
-returns-in_default-clause-cause c = rw c.noted-self-in_default.ensures (failure_noted _ c.args.self.now.failed.events)
+returns-in_default-clause-cause c = rw c.fault.ensures.noted (failure_noted _ c.args.self.now.failed.events)

@@ -1,8 +1,11 @@
 use Rattle.std.proofs.Common.{arith, string_bytes}
 use Rattle.std.proofs.lemmas.Grind.{common_steps}
 use Rattle.bx_io.proofs.Mapped.{holdings_put}
-use Rattle.bx_io_system.proofs.Files.{written_to}
+use Rattle.bx_io_system.proofs.Files.{failure_noted, written_to}
 use Rattle.bx_io_system.proofs.mem_disk.MemDiskDisk.write.Goals as goal
+
+pub returns-then-bytes-gt-FILE_LIMIT-clause-cause : goal.returns-then-bytes-gt-FILE_LIMIT-clause-cause
+returns-then-bytes-gt-FILE_LIMIT-clause-cause c = rw c.fault.ensures.noted (failure_noted _ c.args.self.now.failed.events)
 
 pub returns-clause-written : goal.returns-clause-written
 returns-clause-written c =

@@ -1,7 +1,7 @@
 use Rattle.bx_io.specs.Holdings.{Drop}
-use Rattle.bx_io_system.proofs.Telling.{agrees_after_drop, noted_names, telling_noted}
+use Rattle.bx_io_system.proofs.Telling.{agrees_after_drop, alone_before_change, noted_names, telling_noted}
 use Rattle.bx_io_system.proofs.system.System.drop_name.Goals as goal
-use Rattle.bx_io_system.proofs.Files.{cause_of, failed_change}
+use Rattle.bx_io_system.proofs.Files.{cause_of, excluded_change, failed_change}
 use Rattle.std.proofs.Common.{◌∙◌, sym}
 
 pub invariant_of-self-clause-agrees : goal.invariant_of-self-clause-agrees
@@ -20,3 +20,10 @@ invariant_of-self-clause-named g c =
 pub returns-clause-disk : goal.returns-clause-disk
 returns-clause-disk g c =
     cause_of _ _ _ _ c.drop_name-done.ensures.cause (λ failed. failed_change c.drop_name-done.result (sym c.was_dropped.ensures.answer ∙ failed))
+
+pub invariant_of-self-clause-alone : goal.invariant_of-self-clause-alone
+invariant_of-self-clause-alone g c alone =
+    c.drop_name-done.ensures.alone ∙ c.args.self.now.alone (alone_before_change c.args.self.now.log c.was_dropped.new.log (Drop c.args.name.now) c.was_dropped.result c.was_dropped.ensures.noted alone)
+
+pub returns-clause-excluded : goal.returns-clause-excluded
+returns-clause-excluded g c is = c.was_dropped.ensures.answer ∙ excluded_change c.drop_name-done.result (c.drop_name-done.ensures.excluded is)

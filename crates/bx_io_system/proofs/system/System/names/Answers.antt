@@ -1,9 +1,9 @@
 use Rattle.std.proofs.Common.{◌∙◌, ap, IsSome, Some, subst, sym}
 use Rattle.std.specs.FinMap.{get}
 use Rattle.bx_io_system.specs.Files.{Files, told_at}
-use Rattle.bx_io_system.proofs.Telling.{listing_names, listing_noted}
+use Rattle.bx_io_system.proofs.Telling.{alone_before_listing, listing_names, listing_noted}
 use Rattle.bx_io_system.proofs.system.System.names.Goals as goal
-use Rattle.bx_io_system.proofs.Files.{cause_of, failed_listing}
+use Rattle.bx_io_system.proofs.Files.{cause_of, excluded_listing, failed_listing}
 
 pub invariant_of-self-clause-agrees : goal.invariant_of-self-clause-agrees
 invariant_of-self-clause-agrees g c q known named =
@@ -25,3 +25,10 @@ invariant_of-self-clause-named g c = listing_names c.args.self.now.log c.was_lis
 pub returns-clause-disk : goal.returns-clause-disk
 returns-clause-disk g c =
     cause_of _ _ _ _ c.names-done.ensures.cause (λ failed. failed_listing c.names-done.result (sym c.was_listed.ensures.answer ∙ failed))
+
+pub invariant_of-self-clause-alone : goal.invariant_of-self-clause-alone
+invariant_of-self-clause-alone g c alone =
+    c.names-done.ensures.alone ∙ c.args.self.now.alone (alone_before_listing c.args.self.now.log c.was_listed.new.log c.was_listed.result c.was_listed.ensures.noted alone)
+
+pub returns-clause-excluded : goal.returns-clause-excluded
+returns-clause-excluded g c is = c.was_listed.ensures.answer ∙ excluded_listing c.names-done.result (c.names-done.ensures.excluded is)
