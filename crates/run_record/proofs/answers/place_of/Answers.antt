@@ -11,8 +11,8 @@ pub returns-then-eq : goal.returns-then-eq
 returns-then-eq c = (
   c.if-guess-asks.true,
   λ d.
-  get_or_default c.args.asks.now c.args.guess d c.index-asks-guess.result c.if-guess-asks.true
-  ∙ sym c.index-asks-guess.is ∙ same_ask_is c.index-asks-guess.result c.args.ask.now (sym c.eq.ensures ∙ c.if-eq.true),
+      get_or_default c.args.asks.now c.args.guess d c.index-asks-guess.result c.if-guess-asks.true
+      ∙ sym c.index-asks-guess.is ∙ same_ask_is c.index-asks-guess.result c.args.ask.now (sym c.eq.ensures ∙ c.if-eq.true),
 )
 
 pub returns : goal.returns
