@@ -2,7 +2,7 @@
 use Rattle.std.proofs.Common.{◌≡◌, ◌∙◌, ℕ, false, true, List, [], ◌∷◌, Some, None, codes, refl, ap, arith, rules}
 use Rattle.std.specs.FinMap.{empty, get, gets}
 use Rattle.bx_io.specs.Causes.{Rose, last_count}
-use Rattle.bx_io.specs.Holdings.{Holdings, Change, Put, Drop, holdings_after, after_told, Keeps, Makes, IsPrefix, opened}
+use Rattle.bx_io.specs.Holdings.{Holdings, Put, Drop, holdings_after, after_told, Keeps, Makes, IsPrefix, opened}
 use Rattle.bx_io.specs.Told.{Stays}
 use Rattle.bx_io.proofs.Mapped.{same_holdings}
 

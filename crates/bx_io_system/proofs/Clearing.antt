@@ -1,6 +1,6 @@
 -- What is known of files that were begun: where they lie, and what their removal leaves.
 use Rattle.std.proofs.Common.{◌≡◌, ◌∙◌, ◌<◌, ◌≤◌, ◌+◌, ◌-◌, ℕ, Bool, true, false, List, [], ◌∷◌, ◌++◌, length, take, drop, codes, Some, None, refl, sym, ap, subst, inl, inr, arith, String, Vec, Global, string_bytes, get_or, Option, Result, Ok, Err, OnOk}
-use Rattle.std.specs.Prelude.{All, is_some, ◌||◌, ◌&&◌, ◌⊎◌, ◌^◌, ◌%◌}
+use Rattle.std.specs.Prelude.{is_some, ◌||◌, ◌&&◌, ◌⊎◌, ◌^◌, ◌%◌}
 use Rattle.std.specs.Str.{bytes_eq}
 use Rattle.std.specs.Fmt.{decimal}
 use Rattle.std.specs.FinMap.{get}
@@ -8,13 +8,12 @@ use Rattle.std.specs.IoError.{error_kind}
 use Rattle.std.specs.declared.io.Error.{Error}
 use Rattle.std.specs.declared.io.ErrorKind.TheVariants.{NotFound}
 use Rattle.std.proofs.lemmas.Bool.{false≢true}
-use Rattle.std.proofs.lemmas.Fmt.{decimal_by_steps, decimal_nonempty}
+use Rattle.std.proofs.lemmas.Fmt.{decimal_by_steps}
 use Rattle.std.proofs.lemmas.List.{length-drop, take-append-drop, take_all}
 use Rattle.std.proofs.lemmas.List.Elements.{All-nil, All-cons, All-append}
 use Rattle.bx_io.specs.Names.{IsKindLetter, IsName}
 use Rattle.bx_io.specs.declared.name.TheConstants.{NAME_LENGTH}
-use Rattle.bx_io_system.specs.Files.{Clears, Files, HasNone, IsEnding, Removes, IsLeft, IsPlain, IsPlaceEnding, ListsFiles, SameBut, SameNames, has_file, is_below, path_in, place_ending}
-use Rattle.bx_io_system.specs.declared.ordered.TheConstants.{PLACES}
+use Rattle.bx_io_system.specs.Files.{Clears, Files, HasNone, IsEnding, Removes, IsLeft, IsPlain, ListsFiles, SameBut, SameNames, has_file, is_below, path_in}
 use Rattle.bx_io_system.proofs.Listing.{Parts, are_same, below_held_parts, below_more, none_held_parts, parts_of, same_bytes}
 
 -- ## Paths

@@ -1,5 +1,5 @@
 -- What becomes of files by one call after another.
-use Rattle.std.proofs.Common.{◌≡◌, ◌∙◌, ℕ, List, ◌++◌, length, length-append, arith, ap, sym, codes, Result, Ok, Err, Some, refl}
+use Rattle.std.proofs.Common.{◌≡◌, ◌∙◌, ℕ, List, length, length-append, arith, ap, sym, codes, Result, Ok, Err, Some, refl}
 use Rattle.std.proofs.Common.{None, Option, Vec, String, Global, rules, subst}
 use Rattle.std.specs.Prelude.{option_map, option_copied, is_some, not, IsErr}
 use Rattle.std.proofs.Common.{Bool, true, false, Bor}

@@ -1,14 +1,14 @@
 -- What follows of the places at which a put may begin its file.
-use Rattle.std.proofs.Common.{◌≡◌, ◌∙◌, ◌<◌, ◌≤◌, ◌+◌, ◌-◌, ℕ, Bool, true, false, List, [], ◌++◌, Some, None, refl, sym, ap, subst, inl, inr, arith, IsSome, codes, length, take, drop, string_bytes, Result, Ok, Err}
+use Rattle.std.proofs.Common.{◌≡◌, ◌∙◌, ◌<◌, ◌≤◌, ◌+◌, ◌-◌, ℕ, Bool, true, false, List, refl, sym, subst, inl, inr, arith, IsSome, codes, length, take, drop, Result, Ok, Err}
 use Rattle.std.specs.Prelude.{◌⊎◌, ◌↔◌, IfOk, IsTrue}
 use Rattle.std.specs.FinMap.{get}
-use Rattle.std.proofs.lemmas.Bool.{cases_eq, false≢true}
+use Rattle.std.proofs.lemmas.Bool.{cases_eq}
 use Rattle.std.proofs.lemmas.List.{length-drop, length-take, take_all}
-use Rattle.bx_io.specs.Causes.{HasCause, Rose, counted, last_count}
+use Rattle.bx_io.specs.Causes.{Rose}
 use Rattle.bx_io.specs.Names.{IsName}
 use Rattle.bx_io.specs.declared.name.TheConstants.{NAME_LENGTH}
 use Rattle.bx_io_system.specs.Events.{Event}
-use Rattle.bx_io_system.specs.Files.{AreTaken, BeginsAt, Files, GoesOn, IsBegun, IsEnding, IsLeft, IsPlaceEnding, OwnsBut, Places, SameNames, begun_at, is_own, is_ready, may_change, place_ending}
+use Rattle.bx_io_system.specs.Files.{AreTaken, BeginsAt, Files, GoesOn, IsBegun, IsEnding, IsLeft, OwnsBut, Places, SameNames, begun_at, place_ending}
 use Rattle.bx_io_system.specs.declared.ordered.TheConstants.{PLACES}
 use Rattle.bx_io_system.proofs.Files.{made_beside}
 

@@ -2,7 +2,7 @@
 use Rattle.std.proofs.Common.{◌≡◌, ℕ, zero, suc, List, [], ◌∷◌, ◌++◌, drop, Option, Some, None, refl, sym, ◌∙◌, ap}
 use Rattle.std.specs.List.{AllByRecursion}
 use Rattle.dscript_ast.specs.ExprTree as tree
-use Rattle.dscript_ast.specs.ExprTree.{ParamTree, HeadTree, ExprTree, OperandTree, PartTree, ElementTree, PropTree, HoleTree, StmtTree, MaybeExpr, MaybeStmt, ExprTrees, OperandTrees, PartTrees, ElementTrees, PropTrees, HoleTrees, StmtTrees}
+use Rattle.dscript_ast.specs.ExprTree.{HeadTree, ExprTree, OperandTree, PartTree, ElementTree, PropTree, HoleTree, StmtTree, MaybeExpr, MaybeStmt, ExprTrees, OperandTrees, PartTrees, ElementTrees, PropTrees, HoleTrees, StmtTrees}
 use Rattle.dscript_program.specs.BoundTree as bound
 use Rattle.dscript_program.specs.BoundTree.{ExprData, OperandData, PartData, ElementData, PropData, HoleData, StmtData, MaybeStmt as MaybeBound, BodyData, to_elements, to_exprs, to_holes, to_operands, to_parts, to_props, to_stmts}
 use Rattle.dscript_program.specs.Numbering.{Taker, Declares, Holds, takers_of, operands_takers, part_takers, parts_takers, exprs_takers, elements_takers, prop_takers, props_takers, holes_takers, stmt_takers, maybe_takers, else_takers, stmts_takers, body_takers}

@@ -6,7 +6,7 @@ use Rattle.dscript_names_scopes.specs.Blocks.{block_locals, stmt_locals}
 use Rattle.dscript_names_binding.specs.Binding.{bind_expr, bind_exprs, bind_operand, bind_operands, bind_part, bind_parts, bind_element, bind_elements, bind_prop, bind_props, bind_hole, bind_holes, bind_stmt, bind_maybe, bind_else, bind_stmts, arrow, postfix, with_parts, loop_local, params_of}
 use Rattle.dscript_names_binding.specs.Walk.{Binds, ◌>>=◌, gives, in_turn, declare, within}
 use Rattle.dscript_program.specs.BoundTree as bound
-use Rattle.dscript_program.specs.BoundTree.{BodyData, ExprData, PartData, StmtData, to_elements, to_exprs, to_holes, to_operands, to_parts, to_props, to_stmts}
+use Rattle.dscript_program.specs.BoundTree.{BodyData, ExprData, PartData, to_elements, to_exprs, to_holes, to_operands, to_props, to_stmts}
 use Rattle.dscript_names_scopes.specs.Lookup.{Site}
 use Rattle.dscript_names_scopes.specs.Names.{World}
 use Rattle.dscript_names_scopes.specs.declared.local.Local.{Local}

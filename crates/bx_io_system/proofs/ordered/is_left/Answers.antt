@@ -1,5 +1,4 @@
-use Rattle.std.proofs.Common.{◌≡◌, ◌∙◌, ◌<◌, ◌-◌, ap, arith, drop, length, sym, take}
-use Rattle.std.specs.Prelude.{IsTrue}
+use Rattle.std.proofs.Common.{◌∙◌, ◌<◌, ◌-◌, ap, arith, drop, length, sym, take}
 use Rattle.std.proofs.lemmas.Bool.{false≢true}
 use Rattle.bx_io.specs.Names.{IsName}
 use Rattle.bx_io.specs.declared.name.TheConstants.{NAME_LENGTH}

@@ -1,4 +1,4 @@
-use Rattle.std.proofs.Common.{◌≡◌, ℕ, List, length, ap, subst, take_all, arith}
+use Rattle.std.proofs.Common.{ℕ, List, length, ap, subst, take_all, arith}
 use Rattle.dscript_names_scopes.specs.Tables.{AreWithin}
 use Rattle.dscript_names_scopes.proofs.Longest.{within_more}
 use Rattle.dscript_names_scopes.proofs.names.longest_of.Goals as goal

@@ -8,7 +8,7 @@ use Rattle.pip_model_types.specs.declared.made.Slot.{Slot}
 use Rattle.pip_model_types.specs.declared.pip.Pip.{Pip}
 use Rattle.violations.specs.Slots.{slot_files}
 use Rattle.one_thread.specs.Keeping.{AreKept}
-use Rattle.one_thread.specs.Shared.{KeepsShared, all_shared}
+use Rattle.one_thread.specs.Shared.{all_shared}
 use Rattle.one_thread.proofs.Meeting.{kept_apart}
 use Rattle.one_thread.proofs.OneMore.{none_are_kept}
 use Rattle.one_thread.proofs.SharedSets.{next_shared, none_shared}

@@ -1,4 +1,4 @@
-use Rattle.std.proofs.Common.{◌≡◌, ◌+◌, ◌∙◌, Option, ap, arith, length, refl, subst, sym}
+use Rattle.std.proofs.Common.{◌≡◌, ◌∙◌, Option, ap, arith, length, refl, subst, sym}
 use Rattle.std.specs.Prelude.{IfSome, IsSome, Some, is_some, option_map}
 use Rattle.std.specs.List.{AllByRecursion}
 use Rattle.bx_io.specs.Holdings.{Holdings, Keeps}

@@ -1,4 +1,4 @@
-use Rattle.std.proofs.Common.{◌≡◌, List, ap, map, slice_set, sym, ◌∙◌}
+use Rattle.std.proofs.Common.{List, ap, map, slice_set, sym, ◌∙◌}
 use Rattle.observed.specs.declared.access.Access.{Access}
 use Rattle.observed.specs.declared.access.Answer.{Answer}
 use Rattle.run_record.specs.Answered.{or_absent, with_access}

@@ -1,5 +1,4 @@
-use Rattle.std.proofs.Common.{◌≡◌, ◌∙◌, rules, true}
-use Rattle.bx_io_system.specs.Files.{blob_letter, entry_letter}
+use Rattle.std.proofs.Common.{◌∙◌}
 use Rattle.bx_io_system.proofs.Locking.{asks_named, change_named, durable_named, folders_named, gone_named, kept_named, own_but_named}
 use Rattle.bx_io_system.proofs.ordered.OrderedDisk.finish.Goals as goal
 

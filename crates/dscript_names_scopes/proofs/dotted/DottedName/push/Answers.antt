@@ -1,4 +1,4 @@
-use Rattle.std.proofs.Common.{◌≡◌, ◌++◌, ◌∷◌, [], ℕ, ap, fold, sym, ◌∙◌}
+use Rattle.std.proofs.Common.{◌∷◌, [], ℕ, ap, sym, ◌∙◌}
 use Rattle.std.proofs.lemmas.List.Sums.{fold-append}
 use Rattle.dscript_program.specs.ProgramData.{Dotted}
 use Rattle.dscript_names_scopes.specs.Hashes.{name_hash, text_hash}

@@ -1,4 +1,4 @@
-use Rattle.std.proofs.Common.{◌≡◌, ℕ, List, length, ap, sym, ◌∙◌, arith}
+use Rattle.std.proofs.Common.{ℕ, List, length, ap, sym, ◌∙◌, arith}
 use Rattle.dscript_names_scopes.specs.Declarations.{is_any}
 use Rattle.dscript_names_scopes.specs.Lookup.{value_in}
 use Rattle.dscript_names_scopes.specs.Names.{FileNames}
