@@ -119,6 +119,18 @@ fn write_begun(begun: Option<File>, bytes: &[u8]) -> io::Result<()>
     }
 }
 
+// Gives the file at one of the system's paths the other one. A folder there that is empty is no file, and makes way; one that
+// holds something stays, and the renaming fails.
+fn rename_over<R: Files>(rt: &R, old: &str, path: &str) -> io::Result<()> {
+    match fs::rename(rt, old, path) {
+        Err(error) if error.kind() == ErrorKind::IsADirectory => {
+            let _ = fs::remove_dir(rt, path);
+            fs::rename(rt, old, path)
+        }
+        renamed => renamed,
+    }
+}
+
 // Gives the file at one path from the folder another one.
 fn rename_file<R: Files>(
     alloc: Global,
@@ -129,7 +141,7 @@ fn rename_file<R: Files>(
 ) -> io::Result<()> {
     let old = path_of(alloc, folder, old)?;
     let path = path_of(alloc, folder, path)?;
-    fs::rename(rt, old.as_str(), path.as_str())
+    rename_over(rt, old.as_str(), path.as_str())
 }
 
 // Waits until what lies at the system's path is stored. Only files and folders are opened.

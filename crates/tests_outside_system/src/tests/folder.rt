@@ -139,6 +139,8 @@ fn say_folder<R: Files, K: Keeper>(
     if adds_others(rt, alloc)? {
         names(alloc, said, keeper)?;
         get(alloc, said, keeper, ENTRY)?;
+        put(alloc, said, keeper, LIST, "new")?;
+        get(alloc, said, keeper, LIST)?;
     }
     Ok(())
 }
@@ -153,21 +155,21 @@ fn open_store(
     Ok(FolderKeeper::new(disk))
 }
 
-/// A put that finds no place for its file loses nothing, and what was begun is no name, nor is a link or a folder.
+/// A put that finds no place for its file loses nothing, and what was begun is no name, nor is a link or a folder. A put
+/// replaces an empty folder.
 #[test]
 fn a_folder_keeps_what_was_put_in_plain_files(rt: HostRuntime) -> Result<(), Fail> {
     let alloc = rt.alloc();
     let mut said = Vec::new(alloc);
     let mut keeper = open_store(&rt, alloc, "test-folder")?;
     say_folder(&rt, alloc, &mut said, &mut keeper)?;
-    let wanted = "made one made made e none made failed abc b none ";
+    let wanted = "made one made made e none made failed abc b none made new ";
     assert_eq!(rt; said.as_slice(), wanted.as_bytes());
     fs::remove_dir_all(&rt, "test-folder")?;
     Ok(())
 }
 
-/// Says what one store answers while another one uses the folder, and what a third one does when both are gone, which takes
-/// away what was left at each place.
+/// Says what one store that wants to work alone answers while another one uses the folder.
 fn say_alone<K: Keeper>(
     alloc: Global,
     said: &mut Vec<u8>,
