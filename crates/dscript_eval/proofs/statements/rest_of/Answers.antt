@@ -30,7 +30,7 @@ returns-in-For c =
     stmt_as _ (seen c.args.machine.now) _ _ _
     (for_from _ _ c.in-For.local c.in-For.list c.in-For.body.value c.deref-in-For.result.now
     (ap stmt_data c.in-For.is ∙ stmt_data-For _ c.in-For.local c.in-For.list c.in-For.body) c.deref-in-For.ensures)
-    (c.loop_over.ensures _)
+    (c.loop_over.ensures c.in-For.field-0)
 
 pub returns-in-Return : goal.returns-in-Return
 returns-in-Return c =
