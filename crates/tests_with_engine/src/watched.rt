@@ -29,6 +29,10 @@ impl<K: Keeper + Drop> Keeper for WatchedKeeper<'_, K> {
         self.inner.close(reader)
     }
 
+    fn alone(&mut self, alloc: Global) -> Result<(), PutFault> {
+        self.inner.alone(alloc)
+    }
+
     fn get(&mut self, alloc: Global, name: &str) -> Got {
         self.inner.get(alloc, name)
     }
