@@ -6,5 +6,5 @@ use Rattle.bx_io_system.proofs.system_disk.SystemDisk.TheSendSync.{the_send as d
 use Rattle.tests_outside_system.proofs.tests.folder.open_store.Goals as goal
 
 pub new-requires-send-D : goal.new-requires-send-D
-new-requires-send-D g c κs =
+new-requires-send-D c κs =
     ((λ a is. absurd (not-mem-nil is)), (search (sendable, disk), (c.new-disk.ensures.calls, (none_named, search rules))))
