@@ -7,7 +7,7 @@ use Rattle.cache_care.specs.Counts.{CountsMade}
 use Rattle.cache_care.specs.Planning.{OnlyDrops}
 use Rattle.cache_care.specs.Repairing.{DoesRepair, DoesRepairInPart}
 use Rattle.cache_care.specs.Trimming.{DoesTrim, OnlyTrims, trims}
-use Rattle.cache_care.specs.declared.fault.CareFault.{CareFault}
+use Rattle.cache_care_check.specs.declared.fault.CareFault.{CareFault}
 use Rattle.cache_care.specs.declared.planning.CareCount.{CareCount}
 use Rattle.cache_care.proofs.CareDone.{told_between}
 use Rattle.cache_care.proofs.Plans.{none_prefix}
