@@ -1,5 +1,5 @@
 -- Builds one after another.
-use Rattle.std.proofs.Common.{◌≡◌, ℕ, zero, suc, List, [], ◌∷◌, ◌++◌, take, Some, None, refl, sym, ◌∙◌}
+use Rattle.std.proofs.Common.{◌≡◌, ℕ, zero, suc, List, [], ◌∷◌, ◌++◌, take, Some, None, sym, ◌∙◌}
 use Rattle.std.specs.Prelude.{IsSome}
 use Rattle.std.specs.FinMap.{empty, get-empty}
 use Rattle.std.specs.List.{AllByRecursion}
@@ -16,7 +16,7 @@ use Rattle.two_phase_meaning.proofs.Puts.{nothing_honest}
 use Rattle.retire.specs.Saving.{PutsEach}
 use Rattle.retire.proofs.Chain.{IsReady, chain}
 use Rattle.retire.proofs.Putting.{keeps_each}
-use Rattle.retire_laws.specs.Series.{AreListed, AreSavedInTurn, IsListed, empty_store}
+use Rattle.retire_laws.specs.Series.{AreListed, AreSavedInTurn, IsListed}
 
 join_each : (fs gs : List Facts) (before between now : StoreTold) → PutsEach before fs between → PutsEach between gs now → PutsEach before (fs ++ gs) now
 join_each [] gs before between now same each = keeps_each gs before between now same each
@@ -56,7 +56,7 @@ module _ (contents : List (List ℕ)) where
   holds_nothing : (x : List ℕ) → HoldsBlob empty x → Has contents x
   holds_nothing x h = let none : None ≡ Some x = sym (get-empty _ (at_blob (sha256 x))) ∙ h in absurd cc
 
-  pub stay_honest_from_empty : NoCollision (Has contents) → (builds : List (List Facts)) → AllByRecursion (AreListed contents) builds → (now : StoreTold)
-      → IsSome (held_in now) → AreSavedInTurn empty_store builds now → LeavesHonest empty empty_store now
-  stay_honest_from_empty apart builds listed now tells saved =
-      stay_honest apart builds listed empty empty_store now refl tells nothing_honest holds_nothing saved
+  pub stay_honest_from_empty : NoCollision (Has contents) → (builds : List (List Facts)) → AllByRecursion (AreListed contents) builds → (before now : StoreTold)
+      → held_in before ≡ Some empty → IsSome (held_in now) → AreSavedInTurn before builds now → LeavesHonest empty before now
+  stay_honest_from_empty apart builds listed before now was tells saved =
+      stay_honest apart builds listed empty before now was tells nothing_honest holds_nothing saved

@@ -1,16 +1,11 @@
 -- Builds over a store, one after another.
 use Rattle.std.specs.Prelude.{ℕ, List, [], ◌∷◌}
-use Rattle.std.specs.FinMap.{empty}
 use Rattle.std.specs.List.{AllByRecursion}
-use Rattle.bx_io.specs.Holdings.{Keeps, StoreTold, told_of}
+use Rattle.bx_io.specs.Holdings.{Keeps, StoreTold}
 use Rattle.bx_tree.specs.Members.{Has}
 use Rattle.run_record.specs.Facts.{Facts}
 use Rattle.two_phase_meaning.specs.Saving.{blobs_of}
 use Rattle.retire.specs.Saving.{IsSuccess, PutsFirst}
-
--- the store that holds nothing, and to which nothing was done
-abbrev pub empty_store : StoreTold
-empty_store = told_of (record { held = empty; changes = [] })
 
 -- A sound record of a success, whose texts and contents are among these.
 pub record IsListed (contents : List (List ℕ)) (f : Facts) : Type 0 where

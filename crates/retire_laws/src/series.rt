@@ -9,7 +9,7 @@ ghost use Rattle.run_record.specs.Collisions.{NoCollision};
 ghost use Rattle.run_record.specs.Facts.{Facts};
 ghost use Rattle.two_phase.specs.Putting.{LeavesHonest};
 ghost use Rattle.two_phase_meaning.specs.Honest.{Honest};
-ghost use Rattle.retire_laws.specs.Series.{AreListed, AreSavedInTurn, empty_store};
+ghost use Rattle.retire_laws.specs.Series.{AreListed, AreSavedInTurn};
 
 /// An honest store is honest before and after each change of any number of builds that go on from it, each perhaps
 /// cut off after any of its changes, where there is no hash collision among these contents, and what the store
@@ -25,6 +25,6 @@ pub fn stores_stay_honest()
 /// The same of a store that began empty.
 pub fn series_of_builds_stay_honest()
     ensures { (contents : List (List ℕ)) → NoCollision (Has contents) → (builds : List (List Facts))
-        → AllByRecursion (AreListed contents) builds → (now : AnyTold) → IsSome (held_in now)
-        → AreSavedInTurn empty_store builds now → LeavesHonest empty empty_store now }
+        → AllByRecursion (AreListed contents) builds → (before now : AnyTold) → held_in before ≡ Some empty
+        → IsSome (held_in now) → AreSavedInTurn before builds now → LeavesHonest empty before now }
 {}
