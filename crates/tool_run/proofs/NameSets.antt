@@ -128,6 +128,7 @@ both_sets names own both e =
     ∙ added_after (texts_now names) (texts_now own) []
 
 -- a listing with more names, where there are some
-pub listed_more : (seen : List ℕ) (own : List (List ℕ)) → (length own == 0) ≡ false → names_text (add_names (add_names [] (names_in seen)) own) ≡ listed seen own
-listed_more seen [] e = absurd cc
-listed_more seen (x ∷ xs) e = refl
+pub listed_more : (seen : List ℕ) (own : List (Bor (List ℕ))) → (length own ≡ 0 → ⊥)
+    → names_text (add_names (add_names [] (names_in seen)) (texts_now own)) ≡ listed seen (texts_now own)
+listed_more seen [] some = absurd (some refl)
+listed_more seen (x ∷ xs) some = refl
