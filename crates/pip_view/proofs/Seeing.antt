@@ -233,8 +233,8 @@ names_gathered v sources dir none first more both are_sources empty is_first is_
     let taken = own_names (taken_in v) dir in
     let opaque = own_names (opaque_in v) dir in
     let is_own : first ≡ own =
-        is_first ∙ ap (λ (ns : List (List ℕ)). ns ++ filter_map (next_atom dir) sources) empty
-        ∙ ap (filter_map (next_atom dir)) are_sources ∙ names_sources dir v.tree in
+    is_first ∙ ap (λ (ns : List (List ℕ)). ns ++ filter_map (next_atom dir) sources) empty
+    ∙ ap (filter_map (next_atom dir)) are_sources ∙ names_sources dir v.tree in
     ap (add_names []) (is_both ∙ ap (λ (ns : List (List ℕ)). ns ++ opaque) (is_more ∙ ap (λ (ns : List (List ℕ)). ns ++ taken) is_own))
     ∙ added_after (own ++ taken) opaque []
     ∙ ap (λ (ns : List (List ℕ)). add_names ns opaque) (added_after own taken [])

@@ -97,9 +97,9 @@ pub lent_set : (E : Bor (List ℕ) → Bor (List ℕ) → Bool) (names set : Lis
 lent_set E names set same h = one_set (texts_now set) (texts_now names) (texts_rise set h.rising)
     (λ n m. let t = lent_has set n m in has_lent names t.0 n (has_contained names t.0 (h.kept t.0 (contains_has set t.0 t.1))) t.2)
     (λ n m.
-        let t = lent_has names n m in
-        let y = h.all t.0 (contains_has names t.0 t.1) in
-        has_lent set y.0 n (has_contained set y.0 y.1) (sym (same t.0 y.0 y.2) ∙ t.2))
+    let t = lent_has names n m in
+    let y = h.all t.0 (contains_has names t.0 t.1) in
+    has_lent set y.0 n (has_contained set y.0 y.1) (sym (same t.0 y.0 y.2) ∙ t.2))
 
 less_from : (o : Ordering) → true ≡ is_lt o → o ≡ Less
 less_from Less e = refl
@@ -115,8 +115,8 @@ lent_rise (x ∷ xs) true h e =
     let text : Bor (List ℕ) → List ℕ = λ y. y.now in
     sorted_from_all_adjacent nat_list_cmp_total (texts_now all) []
     (λ k l.
-        let in' : k + 1 < length all = omega (arith, l, length-map all text) in
-        rw (get_or-map text all k x [] (omega arith), get_or-map text all (k + 1) x [] in') (less_from _ (h k x in')))
+    let in' : k + 1 < length all = omega (arith, l, length-map all text) in
+    rw (get_or-map text all k x [] (omega arith), get_or-map text all (k + 1) x [] in') (less_from _ (h k x in')))
 lent_rise names false h e = absurd cc
 
 -- names of two lists, one after the other

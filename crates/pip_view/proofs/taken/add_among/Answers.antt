@@ -19,7 +19,7 @@ returns c =
     let old = texts_now c.args.names.now.items in
     on_ok_weaker c.add_listed.result
     (λ e.
-        three_names dir (executable process) c.files.result.now listed old (texts_now c.add_executable.new.names.items)
-        (texts_now c.add_below.new.names.items) (texts_now c.add_listed.new.names.items) c.in_ok-add_executable.ensures c.in_ok-add_below.ensures e
-        ∙ ap (λ fs. old ++ taken_names dir (executable process ∷ fs ++ listed)) c.files.ensures.files)
+    three_names dir (executable process) c.files.result.now listed old (texts_now c.add_executable.new.names.items)
+    (texts_now c.add_below.new.names.items) (texts_now c.add_listed.new.names.items) c.in_ok-add_executable.ensures c.in_ok-add_below.ensures e
+    ∙ ap (λ fs. old ++ taken_names dir (executable process ∷ fs ++ listed)) c.files.ensures.files)
     c.add_listed.ensures
