@@ -19,7 +19,7 @@ ghost use Rattle.pip_view.specs.Seen.{SearchedAt, answer_elsewhere, answer_unnam
 ghost use Rattle.pip_view.specs.Seen.{named_in, names_in, opaque_in, taken_in, view_answers};
 ghost use Rattle.pip_view.specs.Sees.{sees};
 
-use crate::below::add_each;
+use crate::below::add_next;
 use crate::members::{add_members, find_member, has_member, opaque_by_pip, opaque_searched};
 use crate::taken::{add_taken, has_taken, taken_blob};
 use bx_digest::Blob;
@@ -157,7 +157,7 @@ fn add_sources<'a>(
     ensures { OnOk result (texts_now names.new.items
         ≡ texts_now names.old.items ++ filter_map (next_atom dir.now) (paths_of sources.entry.now)) }
 {
-    add_each(names, sources.paths_below(dir), dir, dir)
+    add_next(names, sources.paths_below(dir), dir)
 }
 
 // The directories that a pip takes, in order.
