@@ -11,7 +11,7 @@ returns-then-is_empty c =
 pub returns-then-text-first : goal.returns-then-text-first
 returns-then-text-first c =
     let less : length c.args.text.now < length c.args.first.now = grind arith in
-    c.cmp-2.ensures ∙ cut_before c.args.text.now c.args.first.now c.args.second.now less
+    c.cmp-then-text-first.ensures ∙ cut_before c.args.text.now c.args.first.now c.args.second.now less
 
 pub returns : goal.returns
 returns c =
@@ -19,7 +19,7 @@ returns c =
     let rest = c.split_at.result.1.now in
     let first = c.args.first.now in
     let second = c.args.second.now in
-    c.then.ensures ∙ ap (λ o. ordering_then o c.cmp-4.result) c.cmp-3.ensures
-    ∙ ap (λ o. ordering_then (slice_cmp nat_cmp head first) o) c.cmp-4.ensures
+    c.then.ensures ∙ ap (λ o. ordering_then o c.cmp-3.result) c.cmp-2.ensures
+    ∙ ap (λ o. ordering_then (slice_cmp nat_cmp head first) o) c.cmp-3.ensures
     ∙ sym (cut_at head rest first second c.split_at.ensures.front_len)
     ∙ ap (λ t. slice_cmp nat_cmp t (first ++ second)) (sym c.split_at.ensures.by_index.0)
