@@ -1,5 +1,7 @@
 -- Comparing a text with one that is given in two parts.
-use Rattle.std.proofs.Common.{◌≡◌, ℕ, ◌<◌, List, [], ◌∷◌, ◌++◌, length, refl, ap, sym, ◌∙◌, arith}
+use Rattle.std.proofs.Common.{◌≡◌, ◌==◌, ℕ, ◌<◌, true, List, [], ◌∷◌, ◌++◌, length, refl, ap, sym, ◌∙◌, append-nil, arith}
+use Rattle.std.proofs.Math.Dec.{eqb-suc-zero}
+use Rattle.std.proofs.lemmas.Bool.{false≢true}
 use Rattle.std.specs.Cmp.Lexicographic.{slice_cmp}
 use Rattle.std.specs.Ordering.{nat_cmp, ordering_then}
 use Rattle.std.specs.declared.cmp.Ordering.{Ordering}
@@ -9,6 +11,11 @@ then_assoc : (a b c : Ordering) → ordering_then (ordering_then a b) c ≡ orde
 then_assoc Less b c = refl
 then_assoc Equal b c = refl
 then_assoc Greater b c = refl
+
+-- an empty second part does not matter
+pub cut_none : (text first second : List ℕ) → (length second == 0) ≡ true → slice_cmp nat_cmp text first ≡ slice_cmp nat_cmp text (first ++ second)
+cut_none text first [] e = ap (slice_cmp nat_cmp text) (sym (append-nil first))
+cut_none text first (s ∷ ss) e = absurd (false≢true (sym (eqb-suc-zero (length ss)) ∙ e))
 
 -- what follows a longer text does not matter
 pub cut_before : (text first second : List ℕ) → length text < length first

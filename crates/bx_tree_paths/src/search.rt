@@ -18,6 +18,9 @@ use std::sync::ledger::{Blank, Ledger};
 fn compare_parts(text: &[u8], first: &[u8], second: &[u8]) -> Ordering
     ensures { result ≡ slice_cmp nat_cmp text.now (first.now ++ second.now) }
 {
+    if second.is_empty() {
+        return text.cmp(first);
+    }
     if text.len() < first.len() {
         return text.cmp(first);
     }

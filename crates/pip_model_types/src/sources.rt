@@ -1,8 +1,11 @@
 //! The source files by path.
-ghost use Rattle.std.specs.Prelude.{◌≡◌, ◌↔◌, ◌++◌, ◌∷◌, [], filter, IsSome, IfOk, OnOk, Contains};
+ghost use Rattle.std.specs.Prelude.{◌≡◌, ◌≢◌, ◌↔◌, ◌<◌, ◌++◌, ◌∷◌, [], filter, length, slice_get, true, All, Some};
+ghost use Rattle.std.specs.Prelude.{IsSome, IfOk, IfSome, MatchOption, OnOk, Contains};
+ghost use Rattle.std.specs.List.{HoldsAt};
 ghost use Rattle.std.specs.Option.{option_copied};
 ghost use Rattle.bx_tree.specs.Below.{is_below};
 ghost use Rattle.bx_tree.specs.Trees.{IsTree, file_at, paths_of};
+ghost use Rattle.bx_tree_paths.specs.Searches.{RiseByText};
 
 use bx_digest::Blob;
 use bx_tree::{Path, Tree, TreeFile};
@@ -46,6 +49,30 @@ fn add(
     Ok(())
 }
 
+// Whether this path is at a place.
+fn is_at(paths: &[Path], place: usize, path: &Path) -> bool
+    ensures { result ≡ true → (place < length paths.now) × HoldsAt (λ p. p ≡ path.now) paths.now place }
+{
+    place < paths.len() && paths[place] == *path
+}
+
+// The place of a path among paths in order, looked for after a place and at it first.
+fn place_near(paths: &[Path], near: usize, path: &Path) -> Option<usize>
+    requires { RiseByText (λ p. p) paths.now }
+    ensures { MatchOption result
+        (All (λ p. p ≢ path.now) paths.now)
+        (λ place. (place < length paths.now) × HoldsAt (λ p. p ≡ path.now) paths.now place) }
+{
+    let next = near.saturating_add(1);
+    if is_at(paths, next, path) {
+        return Some(next);
+    }
+    if is_at(paths, near, path) {
+        return Some(near);
+    }
+    place_of(paths, path)
+}
+
 impl Sources {
     /// The files of a tree.
     pub fn new(alloc: Global, tree: Tree) -> Result<Sources, AllocError>
@@ -70,6 +97,21 @@ impl Sources {
     {
         match place_of(self.paths(), path) {
             Some(place) => Some(&self.blobs[place]),
+            None => None,
+        }
+    }
+
+    /// The file at a path, if there is one. It is looked for after a place and at it first; where it is found is the
+    /// place for the next one.
+    pub fn find_near(&self, near: &mut usize, path: &Path) -> Option<&Blob>
+        ensures value { option_copied result ≡ file_at self.now path.now }
+        ensures place { IfSome result (λ blob. slice_get (paths_of self.now) near.new ≡ Some path.now) }
+    {
+        match place_near(self.paths(), *near, path) {
+            Some(place) => {
+                *near = place;
+                Some(&self.blobs[place])
+            }
             None => None,
         }
     }

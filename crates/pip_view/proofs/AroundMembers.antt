@@ -1,5 +1,6 @@
 -- What is asked of the members of directories is answered by the directories around the path.
-use Rattle.std.proofs.Common.{◌≡◌, ℕ, ◌≤◌, Bool, true, false, ◌||◌, cond, nat_le, List, [], ◌∷◌, ◌++◌, ◌⊎◌, filter, Option, Some, None, refl, ap, sym, subst, ◌∙◌, inl, inr, arith}
+use Rattle.std.proofs.Common.{◌≡◌, ℕ, ◌≤◌, Bool, true, false, ◌||◌, cond, length, nat_le, List, [], ◌∷◌, ◌++◌, ◌⊎◌, filter, Option, Some, None, refl, ap, sym, subst, ◌∙◌, inl, inr, arith}
+use Rattle.std.specs.Borrow.{Bor}
 use Rattle.std.specs.Prelude.{Any, Contains, IfSome, slice_get}
 use Rattle.std.specs.List.{AllByRecursion, cons_option, list_any}
 use Rattle.std.specs.Option.{unwrap_or}
@@ -23,7 +24,7 @@ use Rattle.pip_model_types.specs.declared.dir_inputs.SealForm.TheVariants.{Full,
 use Rattle.pip_view_directories.specs.Around.{AreAround, IsAround}
 use Rattle.pip_view_directories.specs.Ranges.{AreOthers, is_other}
 use Rattle.pip_view_directories.proofs.Rising.{at_head, filter_from, filter_keeps, head_or_rest, in_decides, in_rest, is_in, some_by_test}
-use Rattle.pip_view.specs.Gathered.{members_of, opaque_members, opaque_of}
+use Rattle.pip_view.specs.Gathered.{dirs_now, members_of, opaque_members, opaque_of}
 use Rattle.pip_view.specs.InputFiles.{by_pip, insert_by_pip, is_opaque, is_source_of}
 use Rattle.pip_view.specs.Seen.{KeepsView, SearchedAt, ViewData, is_sealed_at, lies_near, opaque_in}
 use Rattle.pip_view.proofs.ByPip.{insert_all}
@@ -295,3 +296,8 @@ pub sealed_searched : (v : ViewData) (path : Atoms) (found : Option (List DirInp
     → list_any (is_source_of path) (unwrap_or found (dirs_at (slice_get v.pips v.pip))) ≡ is_sealed_at v path
 sealed_searched v path None h = refl
 sealed_searched v path (Some found) h = h.sealed
+
+-- no directories
+pub no_dirs : (dirs : List (Bor DirInput)) → length dirs ≡ 0 → dirs_now dirs ≡ []
+no_dirs [] e = refl
+no_dirs (d ∷ ds) e = absurd (omega (arith, e))

@@ -1,6 +1,5 @@
 pub mod Together
 pub mod SourceMembers
-pub mod NameSets
 pub mod Seeing
 pub mod ByPip
 pub mod Agreeing

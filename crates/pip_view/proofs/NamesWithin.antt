@@ -3,6 +3,7 @@ use Rattle.std.proofs.Common.{◌≡◌, ℕ, ◌+◌, ◌<◌, ◌≤◌, Bool,
 use Rattle.std.specs.List.{cons_option, filter_map, list_any}
 use Rattle.std.proofs.Math.Dec.{eqb-suc-zero}
 use Rattle.std.proofs.lemmas.List.{take_all, take_more}
+use Rattle.std.proofs.lemmas.List.Elements.{filter_map-append}
 use Rattle.bx_tree.specs.Below.{is_below, next_atom}
 use Rattle.bx_tree.specs.Paths.{Atoms}
 use Rattle.bx_tree.proofs.AtomsBelow.{none_next}
@@ -87,3 +88,19 @@ module _ {X : Type 0} (path : X → Atoms) where
           ≡ cons_option (next_atom dir (path x)) (filter_map (λ z. next_atom dir (path z)) xs)
       by_test true e so_far = ap (cons_option (next_atom dir (path x))) so_far
       by_test false e so_far = so_far ∙ sym (ap (λ o. cons_option o (filter_map (λ z. next_atom dir (path z)) xs)) (none_next dir (path x) e))
+
+-- ## Names of paths in the listing of a directory
+
+pub next_more : (dir : Atoms) (ps : List Atoms) (i : ℕ) (p : Atoms) (start names new : List (List ℕ)) → i < length ps → p ≡ get_or ps i p
+    → new ≡ names ++ cons_option (next_atom dir p) [] → names ≡ start ++ filter_map (next_atom dir) (take i ps)
+    → new ≡ start ++ filter_map (next_atom dir) (take (i + 1) ps)
+next_more dir ps i p start names new l is e so_far =
+    e ∙ ap (λ ns. ns ++ cons_option (next_atom dir p) []) so_far
+    ∙ append_assoc start (filter_map (next_atom dir) (take i ps)) (cons_option (next_atom dir p) [])
+    ∙ ap (λ ns. start ++ ns)
+    (sym (filter_map-append (next_atom dir) (take i ps) (p ∷ []))
+    ∙ ap (filter_map (next_atom dir)) (ap (λ q. take i ps ++ q ∷ []) is ∙ sym (take_more ps i p l)))
+
+pub next_all : (dir : Atoms) (ps : List Atoms) (i : ℕ) (start names : List (List ℕ)) → length ps ≤ i
+    → names ≡ start ++ filter_map (next_atom dir) (take i ps) → names ≡ start ++ filter_map (next_atom dir) ps
+next_all dir ps i start names l so_far = so_far ∙ ap (λ qs. start ++ filter_map (next_atom dir) qs) (take_all i ps l)

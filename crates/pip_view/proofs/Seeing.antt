@@ -30,7 +30,8 @@ use Rattle.pip_view.specs.Sees.{as_input, as_source, looked, names_below, pip_se
 use Rattle.pip_view.specs.Seen.{AnswerAs, ViewData, answer_by_source, answer_elsewhere, answer_unnamed, is_sealed_at, is_unseen_at, named_by, named_in, names_in, opaque_by, opaque_in, taken_by, taken_in, view_answers}
 use Rattle.pip_view_inputs.specs.Plain.{kind_process, process_in}
 use Rattle.pip_view.proofs.ByPip.{named_split}
-use Rattle.pip_view.proofs.NameSets.{IsNameSet, added_after, one_addition, set_has, set_kept}
+use Rattle.tool_run.specs.NameSets.{IsNameSet}
+use Rattle.tool_run.proofs.NameSets.{added_after, one_addition, set_has, set_kept}
 use Rattle.pip_view.proofs.Together.{below_sources, names_sources}
 use Rattle.pip_view.proofs.SourceMembers.{at_both, below_both, names_both, or_else, sealed_at, sealed_below, sealed_names, sealed_sources}
 use Rattle.pip_model_types.specs.Kinds.{taken_dirs}
@@ -225,14 +226,18 @@ split_in v = named_are v (process_in (slice_get v.pips v.pip))
 
 -- the names that are gathered for a listing
 pub names_gathered : (v : ViewData) (sources : List Atoms) (dir : Atoms) (none first more both : List (List ℕ))
-    → sources ≡ paths_of v.tree → none ≡ [] → first ≡ add_names none (filter_map (next_atom dir) sources)
-    → more ≡ add_names first (own_names (taken_in v) dir) → both ≡ add_names more (own_names (opaque_in v) dir) → both ≡ names_in v dir
+    → sources ≡ paths_of v.tree → none ≡ [] → first ≡ none ++ filter_map (next_atom dir) sources
+    → more ≡ first ++ own_names (taken_in v) dir → both ≡ more ++ own_names (opaque_in v) dir → add_names [] both ≡ names_in v dir
 names_gathered v sources dir none first more both are_sources empty is_first is_more is_both =
-    is_both
-    ∙ ap (λ (ns : List (List ℕ)). add_names ns (own_names (opaque_in v) dir))
-    (is_more ∙ ap (λ (ns : List (List ℕ)). add_names ns (own_names (taken_in v) dir))
-    (is_first ∙ ap (λ (ns : List (List ℕ)). add_names ns (filter_map (next_atom dir) sources)) empty
-    ∙ ap (add_names []) (ap (filter_map (next_atom dir)) are_sources ∙ names_sources dir v.tree)))
+    let own = own_names v.tree dir in
+    let taken = own_names (taken_in v) dir in
+    let opaque = own_names (opaque_in v) dir in
+    let is_own : first ≡ own =
+    is_first ∙ ap (λ (ns : List (List ℕ)). ns ++ filter_map (next_atom dir) sources) empty
+    ∙ ap (filter_map (next_atom dir)) are_sources ∙ names_sources dir v.tree in
+    ap (add_names []) (is_both ∙ ap (λ (ns : List (List ℕ)). ns ++ opaque) (is_more ∙ ap (λ (ns : List (List ℕ)). ns ++ taken) is_own))
+    ∙ added_after (own ++ taken) opaque []
+    ∙ ap (λ (ns : List (List ℕ)). add_names ns opaque) (added_after own taken [])
 
 names_are_in : (v : ViewData) (dir : Atoms) → names_in v dir ≡ add_names (add_names [] (own_names v.tree dir)) (own_names (named_in v) dir)
 names_are_in v dir =

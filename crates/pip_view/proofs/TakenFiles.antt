@@ -155,11 +155,12 @@ no_names_left pips below dirs i names whole l so_far =
     sym (append-nil names) ∙ ap (λ ds. names ++ taken_names below (dirs_files pips ds)) (sym (drop_all i dirs l)) ∙ so_far
 
 -- the names of all lists, one after another
-pub three_names : (dir : Atoms) (first : FileInput) (files listed : List FileInput) (none one two three : List (List ℕ)) → none ≡ []
+pub three_names : (dir : Atoms) (first : FileInput) (files listed : List FileInput) (none one two three : List (List ℕ))
     → one ≡ none ++ taken_names dir (first ∷ []) → two ≡ one ++ taken_names dir files → three ≡ two ++ taken_names dir listed
-    → three ≡ taken_names dir (first ∷ files ++ listed)
-three_names dir first files listed none one two three empty a b c =
-    c ∙ ap (λ ns. ns ++ taken_names dir listed) (b ∙ ap (λ ns. ns ++ taken_names dir files) (a ∙ ap (λ ns. ns ++ taken_names dir (first ∷ [])) empty))
-    ∙ append_assoc (taken_names dir (first ∷ [])) (taken_names dir files) (taken_names dir listed)
-    ∙ ap (λ ns. taken_names dir (first ∷ []) ++ ns) (sym (names_after dir files listed))
-    ∙ sym (names_after dir (first ∷ []) (files ++ listed))
+    → three ≡ none ++ taken_names dir (first ∷ files ++ listed)
+three_names dir first files listed none one two three a b c =
+    c ∙ ap (λ ns. ns ++ taken_names dir listed) (b ∙ ap (λ ns. ns ++ taken_names dir files) a)
+    ∙ append_assoc (none ++ taken_names dir (first ∷ [])) (taken_names dir files) (taken_names dir listed)
+    ∙ append_assoc none (taken_names dir (first ∷ [])) (taken_names dir files ++ taken_names dir listed)
+    ∙ ap (λ ns. none ++ ns)
+    (ap (λ ns. taken_names dir (first ∷ []) ++ ns) (sym (names_after dir files listed)) ∙ sym (names_after dir (first ∷ []) (files ++ listed)))

@@ -1,7 +1,7 @@
 //! What lies below a directory, in a list that rises by path: of source files, of files that a process takes, or of
 //! files that a pip made.
 ghost use Rattle.std.specs.Prelude.{◌≡◌, ◌++◌, ◌∷◌, [], OnOk};
-ghost use Rattle.std.specs.List.{filter_map, list_any};
+ghost use Rattle.std.specs.List.{cons_option, filter_map, list_any};
 ghost use Rattle.bx_tree.specs.Below.{is_below, next_atom as next_atom_of};
 ghost use Rattle.bx_tree.specs.Lent.{texts_now};
 ghost use Rattle.bx_tree_paths.specs.Searches.{RiseByText};
@@ -57,6 +57,32 @@ pub(crate) fn add_each<'a, T: HasPath>(
 {
     'items: for item in items {
         add_name(names, item, dir, top)?;
+    }
+    Ok(())
+}
+
+// Adds the name of an item in the listing of a directory, if it lies below it.
+fn add_next_name<'a>(names: &mut Vec<&'a [u8]>, path: &'a Path, dir: &Path) -> Result<(), Memory>
+    ensures { OnOk result (texts_now names.new.items
+        ≡ texts_now names.old.items ++ cons_option (next_atom_of dir.now path.entry.now) []) }
+{
+    if let Some(name) = next_atom(dir, path) {
+        names.push(name)?;
+    }
+    Ok(())
+}
+
+// Adds the names of items in the listing of a directory, of those that lie below it.
+pub(crate) fn add_next<'a>(
+    names: &mut Vec<&'a [u8]>,
+    paths: &'a [Path],
+    dir: &Path,
+) -> Result<(), Memory>
+    ensures { OnOk result (texts_now names.new.items
+        ≡ texts_now names.old.items ++ filter_map (next_atom_of dir.now) paths.entry.now) }
+{
+    'paths: for path in paths {
+        add_next_name(names, path, dir)?;
     }
     Ok(())
 }

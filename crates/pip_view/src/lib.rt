@@ -8,7 +8,6 @@
 
 mod below;
 mod laws;
-mod listing;
 mod members;
 mod taken;
 mod view;
@@ -17,6 +16,3 @@ pub use bx_tree::Memory;
 pub use laws::view_agrees;
 pub use pip_view_inputs::{Inputs, desc, plain};
 pub use view::PipView;
-
-// The names of a listing.
-type Names = std::collections::BTreeSet<Vec<u8>>;

@@ -13,18 +13,14 @@ ghost use Rattle.pip_model_types.specs.declared.dir_inputs.DirInput.{DirInput as
 ghost use Rattle.pip_view.specs.Gathered.{below_of, deeper as deeper_of, dirs_now, members_of};
 ghost use Rattle.pip_view.specs.Gathered.{opaque_members, opaque_of, with_opaque};
 ghost use Rattle.pip_view.specs.InputFiles.{by_pip, insert_by_pip as with_dir, is_opaque as opaque};
-ghost use Rattle.tool_run.specs.Listings.{add_names as with_names};
-ghost use Rattle.tool_run.specs.NameSets.{names_now};
 ghost use Rattle.bx_tree.specs.Lent.{texts_now};
 
-use crate::Names;
 use crate::below::{add_within, has_below};
 use bx_digest::Blob;
 use bx_tree::{Memory, Path};
 use pip_model::{DirInput, DirInputs, MadeFile};
 use pip_view_inputs::{Inputs, made_at};
 use std::alloc::Global;
-use tool_run::add_names;
 
 fn is_opaque(dir: &DirInput) -> bool
     ensures { result ≡ opaque dir.now }
@@ -236,34 +232,18 @@ fn add_members_of<'a>(
     }
 }
 
-// The names, in the listing of a path, of the members of these directories.
-fn names_of<'a>(
-    alloc: Global,
+// Adds the names, in the listing of a path, of the members of these directories.
+pub(crate) fn add_members<'a>(
+    names: &mut Vec<&'a [u8]>,
     inputs: &'a Inputs,
     dirs: &[&DirInput],
     path: &Path,
-) -> Result<Vec<&'a [u8]>, Memory>
-    ensures { IfOk result (λ names. texts_now names.items
-        ≡ own_names (members_of inputs.entry.now (dirs_now dirs.now)) path.now) }
-{
-    let mut names = Vec::new(alloc);
-    'dirs: for dir in dirs {
-        add_members_of(&mut names, inputs, dir, path)?;
-    }
-    Ok(names)
-}
-
-// Adds the names, in the listing of a path, of the members of these directories.
-pub(crate) fn add_members(
-    alloc: Global,
-    names: &mut Names,
-    inputs: &Inputs,
-    dirs: &[&DirInput],
-    path: &Path,
 ) -> Result<(), Memory>
-    ensures { OnOk result (names_now names.new.keys ≡ with_names (names_now names.old.keys)
-        (own_names (members_of inputs.now (dirs_now dirs.now)) path.now)) }
+    ensures { OnOk result (texts_now names.new.items ≡ texts_now names.old.items
+        ++ own_names (members_of inputs.entry.now (dirs_now dirs.now)) path.now) }
 {
-    let found = names_of(alloc, inputs, dirs, path)?;
-    add_names(alloc, names, found.as_slice())
+    'dirs: for dir in dirs {
+        add_members_of(names, inputs, dir, path)?;
+    }
+    Ok(())
 }

@@ -2,8 +2,6 @@
 ghost use Rattle.std.specs.Prelude.{◌≡◌, ◌++◌, ◌∷◌, [], IfOk, OnOk, slice_get};
 ghost use Rattle.std.specs.Option.{option_copied};
 ghost use Rattle.bx_tree.specs.Trees.{file_at as found_at};
-ghost use Rattle.tool_run.specs.Listings.{add_names as with_names};
-ghost use Rattle.tool_run.specs.NameSets.{names_now};
 ghost use Rattle.pip_view_inputs.specs.Contents.{input_bytes};
 ghost use Rattle.pip_view_directories.specs.Near.{AreTaken};
 ghost use Rattle.pip_model_types.specs.Inputs.{RiseByPath};
@@ -12,7 +10,6 @@ ghost use Rattle.pip_view.specs.Taken.{any_below, dir_files, dirs_files, executa
 ghost use Rattle.pip_view.specs.Taken.{taken_bytes, taken_files, taken_names};
 ghost use Rattle.bx_tree.specs.Lent.{texts_now};
 
-use crate::Names;
 use crate::below::{add_below, has_below};
 use bx_digest::Blob;
 use bx_tree::{FileInput, Memory, Path, next_atom};
@@ -22,7 +19,6 @@ use pip_model_types::{no_inputs, pip_at};
 use pip_view_directories::{near_dirs, searched};
 use pip_view_inputs::{Inputs, input_file, source_blob};
 use std::alloc::Global;
-use tool_run::add_names;
 
 // The files that a pip lists, in order.
 fn listed_files(pips: &[Pip], pip: u32) -> &[FileInput]
@@ -212,38 +208,35 @@ fn add_executable<'a>(
     Ok(())
 }
 
-// The names below a directory of the executable, the declared files and those that these directories list.
-fn names_among<'a>(
-    alloc: Global,
+// Adds the names below a directory of the executable, the declared files and those that these directories list.
+fn add_among<'a>(
+    names: &mut Vec<&'a [u8]>,
     pips: &'a [Pip],
     process: &'a ProcessDesc,
     dirs: &[DirInput],
     dir: &Path,
-) -> Result<Vec<&'a [u8]>, Memory>
-    ensures { IfOk result (λ names. texts_now names.items ≡ taken_names dir.now
+) -> Result<(), Memory>
+    ensures { OnOk result (texts_now names.new.items ≡ texts_now names.old.items ++ taken_names dir.now
         (executable process.entry.now ∷ process.entry.now.files ++ dirs_files pips.entry.now dirs.now)) }
 {
-    let mut names = Vec::new(alloc);
-    add_executable(&mut names, process, dir)?;
-    add_below(&mut names, process.files.files(), dir)?;
-    add_listed(&mut names, pips, dirs, dir)?;
-    Ok(names)
+    add_executable(names, process, dir)?;
+    add_below(names, process.files.files(), dir)?;
+    add_listed(names, pips, dirs, dir)
 }
 
 /// Adds the names of the files below a directory that a process takes.
-pub(crate) fn add_taken(
+pub(crate) fn add_taken<'a>(
     alloc: Global,
-    names: &mut Names,
-    plan: &Plan,
-    process: &ProcessDesc,
+    names: &mut Vec<&'a [u8]>,
+    plan: &'a Plan,
+    process: &'a ProcessDesc,
     dir: &Path,
 ) -> Result<(), Memory>
     requires { AreTaken plan.now.pips process.now.dirs }
-    ensures { OnOk result (names_now names.new.keys ≡ with_names (names_now names.old.keys)
-        (taken_names dir.now (taken_files plan.now.pips process.now))) }
+    ensures { OnOk result (texts_now names.new.items ≡ texts_now names.old.items
+        ++ taken_names dir.now (taken_files plan.entry.now.pips process.entry.now)) }
 {
     let near = near_dirs(alloc, plan, &process.dirs, dir)?;
     let dirs = searched(&near, process.dirs.dirs());
-    let taken = names_among(alloc, plan.pips(), process, dirs, dir)?;
-    add_names(alloc, names, taken.as_slice())
+    add_among(names, plan.pips(), process, dirs, dir)
 }

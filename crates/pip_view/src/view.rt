@@ -1,8 +1,9 @@
 //! What a pip sees.
-ghost use Rattle.std.specs.Prelude.{◌≡◌, ◌≢◌, ◌<◌, ◌||◌, IfOk, IfSome, OnOk, false, if◌then◌else◌, length};
+ghost use Rattle.std.specs.Prelude.{◌≡◌, ◌≢◌, ◌<◌, ◌||◌, ◌++◌, IfOk, IfSome, OnOk, false, if◌then◌else◌, length};
 ghost use Rattle.std.specs.Prelude.{slice_get, true};
 ghost use Rattle.std.specs.List.{filter_map, list_any};
 ghost use Rattle.bx_tree.specs.Below.{is_directly_in, next_atom};
+ghost use Rattle.bx_tree.specs.Lent.{texts_now};
 ghost use Rattle.std.specs.Option.{option_copied};
 ghost use Rattle.bx_tree.specs.Paths.{is_root};
 ghost use Rattle.bx_tree.specs.Trees.{file_at, paths_of};
@@ -10,8 +11,6 @@ ghost use Rattle.tool_run_writes.specs.Writes.{has_below as file_below, own_name
 ghost use Rattle.pip_view_inputs.specs.Plain.{process_in};
 ghost use Rattle.pip_view_directories.specs.Near.{AreTaken};
 ghost use Rattle.pip_model_types.specs.Dirs.{RiseByForm};
-ghost use Rattle.tool_run.specs.Listings.{add_names as with_names};
-ghost use Rattle.tool_run.specs.NameSets.{names_now};
 ghost use Rattle.violations.specs.Producing.{dirs_at as dirs_of_pip};
 ghost use Rattle.pip_view.specs.InputFiles as files;
 ghost use Rattle.pip_view.specs.Sees as seen;
@@ -20,9 +19,7 @@ ghost use Rattle.pip_view.specs.Seen.{SearchedAt, answer_elsewhere, answer_unnam
 ghost use Rattle.pip_view.specs.Seen.{named_in, names_in, opaque_in, taken_in, view_answers};
 ghost use Rattle.pip_view.specs.Sees.{sees};
 
-use crate::Names;
-use crate::below::add_each;
-use crate::listing::asked_lines;
+use crate::below::add_next;
 use crate::members::{add_members, find_member, has_member, opaque_by_pip, opaque_searched};
 use crate::taken::{add_taken, has_taken, taken_blob};
 use bx_digest::Blob;
@@ -32,9 +29,8 @@ use pip_model::{DirInput, DirInputs, Pip, Plan, ProcessDesc, SealForm, Sources};
 use pip_view_directories::{around_dirs, other_dirs, searched};
 use pip_view_inputs::{Inputs, process_at};
 use std::alloc::Global;
-use std::collections::BTreeSet;
 use std::marker::Model;
-use tool_run::add_names;
+use tool_run::{asked_names, in_order, lines};
 use violations::least_unseen;
 
 /// What a pip sees of the source files and of what its inputs made, without what its own run writes.
@@ -46,6 +42,8 @@ pub struct PipView<'a> {
     pip: u32,
     opaque: Vec<&'a DirInput>,
     others: DirInputs,
+    // Where the last source file was found that was looked for.
+    place: usize,
 }
 
 impl<'a> Model for PipView<'a> {
@@ -151,18 +149,15 @@ fn directory_if(there: bool) -> Answer
 }
 
 // Adds the names of the source files that lie below a directory.
-fn add_sources(
-    alloc: Global,
-    names: &mut Names,
-    sources: &Sources,
+fn add_sources<'a>(
+    names: &mut Vec<&'a [u8]>,
+    sources: &'a Sources,
     dir: &Path,
 ) -> Result<(), Memory>
-    ensures { OnOk result (names_now names.new.keys
-        ≡ with_names (names_now names.old.keys) (filter_map (next_atom dir.now) (paths_of sources.now))) }
+    ensures { OnOk result (texts_now names.new.items
+        ≡ texts_now names.old.items ++ filter_map (next_atom dir.now) (paths_of sources.entry.now)) }
 {
-    let mut below = Vec::new(alloc);
-    add_each(&mut below, sources.paths_below(dir), dir, dir)?;
-    add_names(alloc, names, below.as_slice())
+    add_next(names, sources.paths_below(dir), dir)
 }
 
 // The directories that a pip takes, in order.
@@ -199,6 +194,7 @@ impl<'a> PipView<'a> {
             pip,
             opaque,
             others,
+            place: 0,
         })
     }
 
@@ -233,6 +229,9 @@ impl<'a> PipView<'a> {
     fn member(&self, alloc: Global, path: &Path) -> Result<Option<Blob>, Memory>
         ensures { IfOk result (λ found. found ≡ file_at (opaque_in self.now) path.now) }
     {
+        if self.opaque.is_empty() {
+            return Ok(None);
+        }
         let near = self.near(alloc, path)?;
         let opaque = opaque_searched(alloc, &near, self.opaque.as_slice())?;
         share_found(find_member(self.inputs, opaque.as_slice(), path))
@@ -266,6 +265,9 @@ impl<'a> PipView<'a> {
     fn has_member(&self, alloc: Global, path: &Path) -> Result<bool, Memory>
         ensures { IfOk result (λ yes. yes ≡ file_below (opaque_in self.now) path.now) }
     {
+        if self.opaque.is_empty() {
+            return Ok(false);
+        }
         let near = self.near(alloc, path)?;
         let opaque = opaque_searched(alloc, &near, self.opaque.as_slice())?;
         Ok(has_member(self.inputs, opaque.as_slice(), path))
@@ -283,9 +285,14 @@ impl<'a> PipView<'a> {
     }
 
     // Adds the names of the files below a directory that the pip takes by name.
-    fn add_taken(&self, alloc: Global, names: &mut Names, dir: &Path) -> Result<(), Memory>
-        ensures { OnOk result (names_now names.new.keys
-            ≡ with_names (names_now names.old.keys) (own_names (taken_in self.now) dir.now)) }
+    fn add_taken<'s>(
+        &'s self,
+        alloc: Global,
+        names: &mut Vec<&'s [u8]>,
+        dir: &Path,
+    ) -> Result<(), Memory>
+        ensures { OnOk result (texts_now names.new.items
+            ≡ texts_now names.old.items ++ own_names (taken_in self.entry.now) dir.now) }
     {
         match self.process() {
             Some(process) => add_taken(alloc, names, self.plan, process, dir),
@@ -294,13 +301,18 @@ impl<'a> PipView<'a> {
     }
 
     // Adds the names of the members of opaque directories below a directory.
-    fn add_members(&self, alloc: Global, names: &mut Names, dir: &Path) -> Result<(), Memory>
-        ensures { OnOk result (names_now names.new.keys
-            ≡ with_names (names_now names.old.keys) (own_names (opaque_in self.now) dir.now)) }
+    fn add_members<'s>(
+        &'s self,
+        alloc: Global,
+        names: &mut Vec<&'s [u8]>,
+        dir: &Path,
+    ) -> Result<(), Memory>
+        ensures { OnOk result (texts_now names.new.items
+            ≡ texts_now names.old.items ++ own_names (opaque_in self.entry.now) dir.now) }
     {
         let near = self.near(alloc, dir)?;
         let opaque = opaque_searched(alloc, &near, self.opaque.as_slice())?;
-        add_members(alloc, names, self.inputs, opaque.as_slice(), dir)
+        add_members(names, self.inputs, opaque.as_slice(), dir)
     }
 
     // Whether another pip can produce a path by an output that is no input of the pip.
@@ -319,16 +331,16 @@ impl<'a> PipView<'a> {
         Ok(is_sealed(path, searched(&near, all)))
     }
 
-    // The names in a directory.
-    fn gather(&self, alloc: Global, dir: &Path) -> Result<Names, Memory>
-        ensures names { IfOk result (λ names. names_now names.keys ≡ names_in self.now dir.now) }
-        ensures there { IfOk result (λ names. self.now.pip < length self.now.pips) }
+    // The names in a directory, in order and each once.
+    fn gather(&self, alloc: Global, dir: &Path) -> Result<Vec<&[u8]>, Memory>
+        ensures names { IfOk result (λ names. texts_now names.items ≡ names_in self.entry.now dir.now) }
+        ensures there { IfOk result (λ names. self.entry.now.pip < length self.entry.now.pips) }
     {
-        let mut names = BTreeSet::new(alloc);
-        add_sources(alloc, &mut names, self.sources, dir)?;
+        let mut names = Vec::new(alloc);
+        add_sources(&mut names, self.sources, dir)?;
         self.add_taken(alloc, &mut names, dir)?;
         self.add_members(alloc, &mut names, dir)?;
-        Ok(names)
+        in_order(names)
     }
 
     // The names of a listing, those that its pattern matches if it has one.
@@ -337,7 +349,8 @@ impl<'a> PipView<'a> {
         ensures { IfOk result (λ answer. answer ≡ view_answers self.now ask.now) }
     {
         let names = self.gather(alloc, &ask.path)?;
-        let text = asked_lines(alloc, &ask.kind, &names)?;
+        let asked = asked_names(alloc, &ask.kind, names)?;
+        let text = lines(alloc, asked.as_slice())?;
         Ok(Answer::Names(Blob::new(alloc, text)?))
     }
 
@@ -375,21 +388,31 @@ impl<'a> PipView<'a> {
         Ok(as_source(&ask.kind))
     }
 
-    // What is answered of a path at which no named input file is.
-    fn unnamed(&self, alloc: Global, ask: &Ask) -> Result<Answer, Memory>
-        ensures { IfOk result (λ answer. answer ≡ answer_unnamed self.now ask.now.kind ask.now.path
-            (file_below (named_in self.now) ask.now.path)) }
+    // The source file at a path. It is looked for near the last one, since most asks come in the order of paths.
+    fn find_source(&mut self, path: &Path) -> Option<&'a Blob>
+        ensures found { option_copied result ≡ file_at self.old.tree path.now }
+        ensures same { self.new ≡ self.old }
     {
-        match self.sources.find(&ask.path) {
+        self.sources.find_near(&mut self.place, path)
+    }
+
+    // What is answered of a path at which no named input file is.
+    fn unnamed(&mut self, alloc: Global, ask: &Ask) -> Result<Answer, Memory>
+        ensures answer { IfOk result (λ answer. answer ≡ answer_unnamed self.old ask.now.kind ask.now.path
+            (file_below (named_in self.old) ask.now.path)) }
+        ensures same { self.new ≡ self.old }
+    {
+        match self.find_source(&ask.path) {
             Some(blob) => self.source(alloc, ask, blob),
             None => self.elsewhere(alloc, &ask.path),
         }
     }
 
     // What a read or a probe is answered.
-    fn looked(&self, alloc: Global, ask: &Ask) -> Result<Answer, Memory>
+    fn looked(&mut self, alloc: Global, ask: &Ask) -> Result<Answer, Memory>
         requires { is_listing ask.now.kind ≡ false }
-        ensures { IfOk result (λ answer. answer ≡ view_answers self.now ask.now) }
+        ensures answer { IfOk result (λ answer. answer ≡ view_answers self.old ask.now) }
+        ensures same { self.new ≡ self.old }
     {
         let named = self.named(alloc, &ask.path)?;
         match named {

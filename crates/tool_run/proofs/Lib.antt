@@ -9,4 +9,5 @@ pub mod Appended
 pub mod FromRoot
 pub mod Numbers
 pub mod Splitting
-pub mod NamesAdded
+pub mod NameSets
+pub mod SomeNames

@@ -1,7 +1,9 @@
--- A set of names of the program as contracts see it.
-use Rattle.std.specs.Prelude.{ℕ, List, map}
-use Rattle.std.proofs.Common.{Vec, Global}
+-- Names in the order of their bytes, each once.
+use Rattle.std.specs.Prelude.{ℕ, List}
+use Rattle.std.specs.Cmp.Lexicographic.{slice_cmp}
+use Rattle.std.specs.List.Sorted.{IsStrictlySortedBy}
+use Rattle.std.specs.Ordering.{nat_cmp}
 
--- the bytes of each name, without where they lie in memory
-abbrev pub names_now : List (Vec ℕ Global) → List (List ℕ)
-names_now = map (λ (name : Vec ℕ Global). name.items)
+-- each name comes before those after it
+abbrev pub IsNameSet : List (List ℕ) → Type 0
+IsNameSet = IsStrictlySortedBy (slice_cmp nat_cmp)

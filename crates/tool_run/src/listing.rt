@@ -6,15 +6,14 @@ ghost use Rattle.tool_run.specs.Listings.{listed};
 ghost use Rattle.tool_run_writes.specs.Writes.{own_names as names_below};
 
 use crate::content::Content;
-use crate::name_lines::{add_names, lines, matching, names_of_lines};
+use crate::name_lines::{in_order, lines, matching, names_of_lines};
 use bx_digest::Blob;
 use observed::{Ask, AskKind};
 use std::alloc::{AllocError, Global};
-use std::collections::BTreeSet;
 use tool_run_writes::Writes;
 
-// Those of the names that a listing asks for.
-fn asked_names<'a>(
+/// Those of the names that a listing asks for.
+pub fn asked_names<'a>(
     alloc: Global,
     kind: &AskKind,
     names: Vec<&'a [u8]>,
@@ -41,9 +40,9 @@ pub(crate) fn with_own_names(
     if own.is_empty() {
         return Ok(Content::of_file(seen.share()?));
     }
-    let seen = names_of_lines(alloc, seen.bytes())?;
-    let mut names = BTreeSet::new(alloc);
-    add_names(alloc, &mut names, seen.as_slice())?;
-    add_names(alloc, &mut names, own.as_slice())?;
-    Ok(Content::of(lines(alloc, &names)?))
+    let mut own = own;
+    let mut names = names_of_lines(alloc, seen.bytes())?;
+    names.append(&mut own)?;
+    let all = in_order(names)?;
+    Ok(Content::of(lines(alloc, all.as_slice())?))
 }

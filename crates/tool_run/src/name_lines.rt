@@ -1,13 +1,13 @@
 //! Names: the lines of a text, in order and each once.
-ghost use Rattle.std.specs.Prelude.{◌≡◌, ◌++◌, [], ◌∷◌, IfOk, OnOk, filter};
+ghost use Rattle.std.specs.Prelude.{◌≡◌, [], true, IfOk, filter};
 ghost use Rattle.bx_path.specs.Globbing.{is_match};
 ghost use Rattle.tool_run.specs.Listings.{add_names as with_names, names_in, names_text};
-ghost use Rattle.tool_run.specs.NameSets.{names_now};
+ghost use Rattle.tool_run.specs.NameSets.{IsNameSet};
 ghost use Rattle.bx_tree.specs.Lent.{texts_now};
+ghost use Rattle.bx_tree.specs.Sets.{IsSetUpTo};
 
 use observed::Pattern;
 use std::alloc::{AllocError, Global};
-use std::collections::BTreeSet;
 
 /// The lines of a text that are not empty.
 pub fn names_of_lines(alloc: Global, text: &[u8]) -> Result<Vec<&[u8]>, AllocError>
@@ -18,28 +18,40 @@ pub fn names_of_lines(alloc: Global, text: &[u8]) -> Result<Vec<&[u8]>, AllocErr
         .collect(alloc)
 }
 
-/// Adds names to a set.
-pub fn add_names(
-    alloc: Global,
-    set: &mut BTreeSet<Vec<u8>>,
-    names: &[&[u8]],
-) -> Result<(), AllocError>
-    ensures { OnOk result
-        (names_now set.new.keys ≡ with_names (names_now set.old.keys) (texts_now names.now)) }
+// Whether each name comes before the next one.
+fn rise(names: &[&[u8]]) -> bool
+    ensures { result ≡ true → IsNameSet (texts_now names.now) }
 {
-    'names: for name in names {
-        set.insert(Vec::from_slice(alloc, name)?)?;
+    names.is_sorted_by(|name, next| name.cmp(next).is_lt())
+}
+
+// The elements in rising order, each once.
+fn sorted<T: Ord + Drop>(items: Vec<T>) -> Result<Vec<T>, AllocError>
+    ensures { IfOk result (λ set. IsSetUpTo T.eq T.cmp items.items set.items) }
+{
+    let mut items = items;
+    items.sort()?;
+    items.dedup();
+    Ok(items)
+}
+
+/// The names in the order of their bytes, each once. Names that are so already are not moved.
+pub fn in_order(names: Vec<&[u8]>) -> Result<Vec<&[u8]>, AllocError>
+    ensures { IfOk result (λ set. texts_now set.items ≡ with_names [] (texts_now names.entry.items)) }
+{
+    if rise(names.as_slice()) {
+        return Ok(names);
     }
-    Ok(())
+    sorted(names)
 }
 
 /// Names, each with a newline after it.
-pub fn lines(alloc: Global, names: &BTreeSet<Vec<u8>>) -> Result<Vec<u8>, AllocError>
-    ensures { IfOk result (λ text. text.items ≡ names_text (names_now names.now.keys)) }
+pub fn lines(alloc: Global, names: &[&[u8]]) -> Result<Vec<u8>, AllocError>
+    ensures { IfOk result (λ text. text.items ≡ names_text (texts_now names.now)) }
 {
     let mut text = Vec::new(alloc);
     'names: for name in names {
-        text.extend_from_slice(name.as_slice())?;
+        text.extend_from_slice(name)?;
         text.push(b'\n')?;
     }
     Ok(text)
@@ -61,33 +73,4 @@ pub fn matching<'a>(
         }
     }
     Ok(matching)
-}
-
-// Adds a name and a newline, if a pattern matches the name.
-fn append_matching(text: &mut Vec<u8>, pattern: &Pattern, name: &[u8]) -> Result<(), AllocError>
-    ensures { OnOk result (text.new.items
-        ≡ text.old.items ++ names_text (filter (is_match pattern.now) (name.now ∷ []))) }
-{
-    if !pattern.matches(name) {
-        return Ok(());
-    }
-    text.extend_from_slice(name)?;
-    text.push(b'\n')?;
-    Ok(())
-}
-
-/// Those of the names that a pattern matches, each with a newline after it.
-pub fn matching_lines(
-    alloc: Global,
-    pattern: &Pattern,
-    names: &BTreeSet<Vec<u8>>,
-) -> Result<Vec<u8>, AllocError>
-    ensures { IfOk result (λ text.
-        text.items ≡ names_text (filter (is_match pattern.now) (names_now names.now.keys))) }
-{
-    let mut text = Vec::new(alloc);
-    'names: for name in names {
-        append_matching(&mut text, pattern, name.as_slice())?;
-    }
-    Ok(text)
 }

@@ -1,8 +1,7 @@
-use Rattle.std.proofs.Common.{◌≡◌, map, Vec, Global, ℕ}
-use Rattle.std.specs.Borrow.{Bor}
+use Rattle.std.proofs.Common.{◌≡◌, take}
+use Rattle.bx_tree.specs.Lent.{texts_now}
 use Rattle.tool_run.specs.Listings.{names_text}
-use Rattle.tool_run.specs.NameSets.{names_now}
 use Rattle.tool_run.proofs.name_lines.lines.Given as goal
 
 abbrev pub invariant-names : goal.invariant-names
-invariant-names l = l.text.items ≡ names_text (names_now (map (λ (name : Bor (Vec ℕ Global)). name.now) l.yielded))
+invariant-names l = l.text.items ≡ names_text (texts_now (take l.name-index l.names))

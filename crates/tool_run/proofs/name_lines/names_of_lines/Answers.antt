@@ -3,7 +3,7 @@ use Rattle.std.specs.Slice.Iter as slice
 use Rattle.std.proofs.lemmas.Iterator.Consumers.{YieldsList-from_filter, map_from_collect}
 use Rattle.std.proofs.lemmas.Iterator.Splits.{YieldsList-from_slice_split}
 use Rattle.tool_run.specs.Listings.{is_some_name}
-use Rattle.tool_run.proofs.NamesAdded.{some_name}
+use Rattle.tool_run.proofs.SomeNames.{some_name}
 use Rattle.tool_run.proofs.name_lines.names_of_lines.Goals as goal
 
 pub returns : goal.returns

@@ -1,11 +1,22 @@
-use Rattle.std.proofs.Common.{◌≡◌, ℕ, List, Option, IfOk, ap, subst, ◌∙◌}
+use Rattle.std.proofs.Common.{◌≡◌, ℕ, List, [], Option, None, IfOk, ap, length, rules, subst, sym, vec_len, ◌∙◌}
+use Rattle.std.proofs.lemmas.Bool.{eqb-true}
 use Rattle.std.specs.Borrow.{Bor}
 use Rattle.bx_tree.specs.Trees.{file_at}
 use Rattle.pip_model_types.specs.declared.dir_inputs.DirInput.{DirInput}
 use Rattle.pip_view.specs.Gathered.{dirs_now, members_of, opaque_of}
 use Rattle.pip_view.specs.Seen.{KeepsView, ViewData}
-use Rattle.pip_view.proofs.AroundMembers.{at_searched}
+use Rattle.pip_view.proofs.AroundMembers.{at_searched, no_dirs}
 use Rattle.pip_view.proofs.view.PipView.member.Goals as goal
+
+pub returns-then-is_empty : goal.returns-then-is_empty
+returns-then-is_empty c =
+    let opaque = c.self.inside.opaque.items in
+    let others = c.self.inside.others in
+    let keeps = subst (λ (v : ViewData). KeepsView v (dirs_now opaque) others) c.self.view_is c.self.invariant in
+    let long : vec_len c.self.inside.opaque ≡ length opaque = search rules in
+    let none : length opaque ≡ 0 = sym long ∙ eqb-true (vec_len c.self.inside.opaque) 0 (sym c.is_empty.ensures ∙ c.if-is_empty.true) in
+    at_searched c.args.self.now c.args.path.now (dirs_now opaque) others [] None keeps
+    (sym (no_dirs opaque none)) tt
 
 pub returns : goal.returns
 returns c =
