@@ -6,3 +6,4 @@ pub mod Digests
 pub mod Matches
 pub mod Holding
 pub mod Tables
+pub mod Traces

@@ -54,7 +54,7 @@ fn has_names(answer: &Answer, names: &Blob) -> bool
 }
 
 // Whether answers are the same: of one kind, and with the same bytes.
-fn is_same_answer(a: &Answer, b: &Answer) -> bool
+pub(crate) fn is_same_answer(a: &Answer, b: &Answer) -> bool
     ensures { IsTrue result ↔ a.now ≡ b.now }
 {
     match a {

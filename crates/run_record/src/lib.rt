@@ -18,6 +18,7 @@ mod matching_laws;
 mod outcome;
 mod record;
 mod tools;
+mod trace;
 
 pub use answer_lines::line_digest;
 pub use holding::{answers_hold, what_holds_is_run};

@@ -11,6 +11,7 @@ use crate::answered::Stored;
 use crate::answers::given_to;
 use crate::outcome::{Outcome, judge};
 use crate::tools::Tools;
+use crate::trace::{Trace, are_same_paths};
 use bx_io::Gate;
 use observed::{Access, Answer, PathSet, View};
 use pip_model_types::Desc;
@@ -23,30 +24,29 @@ use tool_run::{Ran, accesses_hold, noninterference, path_set_of, run, run_no_too
 #[derive(Drop)]
 struct RecordParts {
     desc: Desc,
-    paths: PathSet,
-    answers: Vec<Answer>,
-    accesses: Vec<Access>,
+    trace: Arc<Trace>,
     outcome: Outcome,
 }
 
 impl Model for RecordParts {
+    ghost use Rattle.std.specs.Arc.{arc_value};
     ghost use Rattle.run_record.specs.Facts.{Facts, Sound};
 
     ghost Value = { Facts };
 
     ghost view = { λ r. record {
       desc = r.desc;
-      paths = r.paths;
-      answers = r.answers.items;
-      accesses = r.accesses.items;
+      paths = (arc_value r.trace).paths;
+      answers = (arc_value r.trace).answers;
+      accesses = (arc_value r.trace).accesses;
       outcome = r.outcome;
     } };
 
     ghost invariant = { λ r. Sound (record {
       desc = r.desc;
-      paths = r.paths;
-      answers = r.answers.items;
-      accesses = r.accesses.items;
+      paths = (arc_value r.trace).paths;
+      answers = (arc_value r.trace).answers;
+      accesses = (arc_value r.trace).accesses;
       outcome = r.outcome;
     }) };
 }
@@ -89,7 +89,7 @@ impl Record {
     pub fn paths(&self) -> &PathSet
         ensures { result.now ≡ self.now.paths }
     {
-        &self.parts.paths
+        &self.parts.trace.paths
     }
 
     /// The answers, one to each ask of the path set, in its order.
@@ -97,14 +97,14 @@ impl Record {
         ensures value { result.now ≡ self.now.answers }
         ensures number { length result.now ≡ length self.now.paths }
     {
-        self.parts.answers.as_slice()
+        self.parts.trace.answers.as_slice()
     }
 
     /// The accesses, in order.
     pub fn accesses(&self) -> &[Access]
         ensures { result.now ≡ self.now.accesses }
     {
-        self.parts.accesses.as_slice()
+        self.parts.trace.accesses.as_slice()
     }
 
     /// What the run came to.
@@ -113,12 +113,6 @@ impl Record {
     {
         &self.parts.outcome
     }
-}
-
-fn are_same(paths: &PathSet, other: &PathSet) -> bool
-    ensures { IsTrue result ↔ paths.now ≡ other.now }
-{
-    paths.asks() == other.asks()
 }
 
 // Runs the tool of a process, if its executable is one.
@@ -154,11 +148,17 @@ fn run_parts<V: View>(
     let paths = path_set_of(alloc, &desc, &ran.accesses)?;
     let answers = given_to(alloc, &ran.accesses, paths.asks())?;
     let outcome = judge(alloc, &desc, &ran)?;
+    let trace = tools.share(
+        alloc,
+        Trace {
+            paths,
+            answers,
+            accesses: ran.accesses,
+        },
+    )?;
     Ok(RecordParts {
         desc,
-        paths,
-        answers,
-        accesses: ran.accesses,
+        trace,
         outcome,
     })
 }
@@ -229,15 +229,18 @@ fn replayed_parts(
     let mut view = Stored::new(paths, &answers);
     let ran = run_process(alloc, &mut Tools::new(alloc), &desc, &mut view)?;
     let asked = path_set_of(alloc, &desc, &ran.accesses)?;
-    if !are_same(&asked, paths) {
+    if !are_same_paths(&asked, paths) {
         return Ok(None);
     }
     let outcome = judge(alloc, &desc, &ran)?;
-    Ok(Some(RecordParts {
-        desc,
+    let trace = Trace {
         paths: asked,
         answers,
         accesses: ran.accesses,
+    };
+    Ok(Some(RecordParts {
+        desc,
+        trace: Arc::new(alloc, trace)?,
         outcome,
     }))
 }

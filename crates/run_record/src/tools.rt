@@ -1,8 +1,10 @@
-//! Tools that were read, so that the text of a tool is read once and not for each run.
+//! Tools that were read, so that the text of a tool is read once and not for each run; and what the last run saw.
 ghost use Rattle.std.specs.Prelude.{◌≡◌, IfOk, true};
+ghost use Rattle.std.specs.Arc.{arc_value};
 ghost use Rattle.std.specs.Option.{option_copied};
 ghost use Rattle.tool_text.specs.Reading.{tool_of};
 
+use crate::trace::Trace;
 use bx_digest::Blob;
 use bx_tree::Path;
 use std::alloc::{AllocError, Global};
@@ -93,10 +95,11 @@ impl ReadTool {
 }
 
 /// Tools by the paths of their files. What was read at a path is used only where the text there is still the one that
-/// was read, so any table is right for any build.
+/// was read, so any table is right for any build. And what the last run saw, which the next one shares if it sees the same.
 #[derive(Drop)]
 pub struct Tools {
     read: BTreeMap<Path, ReadTool>,
+    last: Option<Arc<Trace>>,
 }
 
 impl Tools {
@@ -104,6 +107,7 @@ impl Tools {
     pub fn new(alloc: Global) -> Tools {
         Tools {
             read: BTreeMap::new(alloc),
+            last: None,
         }
     }
 
@@ -125,5 +129,19 @@ impl Tools {
         let shared = read.share()?;
         self.read.insert(path.share()?, read)?;
         Ok(shared)
+    }
+
+    // What a run saw, shared with the last run if that saw the same.
+    pub(crate) fn share(&mut self, alloc: Global, trace: Trace) -> Result<Arc<Trace>, AllocError>
+        ensures { IfOk result (λ shared. arc_value shared ≡ trace) }
+    {
+        if let Some(last) = &self.last {
+            if last.is_same(&trace) {
+                return last.clone();
+            }
+        }
+        let made = Arc::new(alloc, trace)?;
+        self.last = Some(made.clone()?);
+        Ok(made)
     }
 }

@@ -1,9 +1,11 @@
-use Rattle.std.proofs.Common.{◌∙◌, List, map, ap}
+use Rattle.std.proofs.Common.{◌∙◌, List, map, ap, subst, sym}
 use Rattle.observed.specs.declared.access.Access.{Access}
 use Rattle.tool_run.specs.Described.{described}
 use Rattle.tool_run.specs.Run.{path_set}
 use Rattle.tool_run.specs.Seen.{seen}
 use Rattle.run_record.specs.Answered.{given_in}
+use Rattle.run_record.specs.Facts.{IsRun, Sound}
+use Rattle.run_record.specs.Traces.{TraceData}
 use Rattle.run_record.proofs.Stored.{made_run, sound}
 use Rattle.run_record.proofs.record.run_parts.Goals as goal
 
@@ -12,19 +14,23 @@ invariant_of-result g c =
     let d = c.args.desc in
     let a = g.V.View.answers c.args.view.now in
     let r = seen c.in_ok-ran.ran in
-    sound _ d a (c.noninterference.ensures (described d)) (made_run d a r c.in_ok-paths.paths c.in_ok-answers.answers.items c.in_ok-outcome.outcome
+    let o = c.in_ok-outcome.outcome in
+    subst (λ (t : TraceData). Sound (record { desc = d; paths = t.paths; answers = t.answers; accesses = t.accesses; outcome = o })) (sym c.in_ok-trace.ensures)
+    (sound _ d a (c.noninterference.ensures (described d)) (made_run d a r c.in_ok-paths.paths c.in_ok-answers.answers.items o
     (c.accesses_hold.ensures (described d) a) c.in_ok-ran.ensures.ran
     (c.in_ok-paths.ensures ∙ ap (path_set (described d)) c.deref.ensures.value)
     (c.in_ok-answers.ensures ∙ ap (λ (xs : List Access). map (given_in xs) c.asks.result.now) c.deref-2.ensures.value ∙ ap (map (given_in r.accesses)) c.asks.ensures.asks)
-    c.in_ok-outcome.ensures)
+    c.in_ok-outcome.ensures))
 
 pub returns-clause-ran : goal.returns-clause-ran
 returns-clause-ran g c =
     let d = c.args.desc in
     let a = g.V.View.answers c.args.view.now in
     let r = seen c.in_ok-ran.ran in
-    made_run d a r c.in_ok-paths.paths c.in_ok-answers.answers.items c.in_ok-outcome.outcome
+    let o = c.in_ok-outcome.outcome in
+    subst (λ (t : TraceData). IsRun (record { desc = d; paths = t.paths; answers = t.answers; accesses = t.accesses; outcome = o }) d a) (sym c.in_ok-trace.ensures)
+    (made_run d a r c.in_ok-paths.paths c.in_ok-answers.answers.items o
     (c.accesses_hold.ensures (described d) a) c.in_ok-ran.ensures.ran
     (c.in_ok-paths.ensures ∙ ap (path_set (described d)) c.deref.ensures.value)
     (c.in_ok-answers.ensures ∙ ap (λ (xs : List Access). map (given_in xs) c.asks.result.now) c.deref-2.ensures.value ∙ ap (map (given_in r.accesses)) c.asks.ensures.asks)
-    c.in_ok-outcome.ensures
+    c.in_ok-outcome.ensures)

@@ -1,6 +1,6 @@
 use Rattle.std.proofs.Common.{◌∙◌, sym}
 use Rattle.run_record.proofs.Found.{sets_decide}
-use Rattle.run_record.proofs.record.are_same.Goals as goal
+use Rattle.run_record.proofs.trace.are_same_paths.Goals as goal
 
 pub returns : goal.returns
 returns c =
