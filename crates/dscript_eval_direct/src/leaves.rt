@@ -195,12 +195,7 @@ fn directory_now(alloc: Global, known: &Known<'_>) -> Option<Path>
 }
 
 // What a path, file or directory literal of this text gives.
-fn rooted_now(
-    alloc: Global,
-    known: &Known<'_>,
-    letter: PathKind,
-    text: &Text,
-) -> Option<Value>
+fn rooted_now(alloc: Global, known: &Known<'_>, letter: PathKind, text: &Text) -> Option<Value>
     ensures { IfSome result (λ x.
         path_literal letter (directory_in (knowledge known.now)) None text.now ≡ Ok (plain_of x)) }
 {

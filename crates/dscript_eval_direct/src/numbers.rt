@@ -131,12 +131,7 @@ fn named_number(known: &Known<'_>, target: Target, left: &mut u64) -> Option<i32
 // What an expression gives, if that is a number.
 #[cycle(number)]
 #[tactic(auto, using(dscript_program::proofs::NodeViews::bound_views))]
-fn number_of(
-    known: &Known<'_>,
-    e: &BoundExpr,
-    left: &mut u64,
-    nesting: u32,
-) -> Option<i32>
+fn number_of(known: &Known<'_>, e: &BoundExpr, left: &mut u64, nesting: u32) -> Option<i32>
     ensures { IfSome result (λ n. IsAtOnce (knowledge known.now) (expr_data e.now) left.old
         (plain.Number n) left.new) }
 {
@@ -307,12 +302,7 @@ fn operand_flag(
 }
 
 // The number that an expression gives, and the steps that are left.
-fn number_found(
-    known: &Known<'_>,
-    e: &BoundExpr,
-    left: u64,
-    nesting: u32,
-) -> Option<(Value, u64)>
+fn number_found(known: &Known<'_>, e: &BoundExpr, left: u64, nesting: u32) -> Option<(Value, u64)>
     ensures { IfSome result (λ r. IsAtOnce (knowledge known.now) (expr_data e.now) left
         (plain_of r.0) r.1) }
 {
@@ -324,12 +314,7 @@ fn number_found(
 }
 
 // What a comparison of two numbers gives, and the steps that are left.
-fn flag_found(
-    known: &Known<'_>,
-    e: &BoundExpr,
-    left: u64,
-    nesting: u32,
-) -> Option<(Value, u64)>
+fn flag_found(known: &Known<'_>, e: &BoundExpr, left: u64, nesting: u32) -> Option<(Value, u64)>
     ensures { IfSome result (λ r. IsAtOnce (knowledge known.now) (expr_data e.now) left
         (plain_of r.0) r.1) }
 {

@@ -87,9 +87,7 @@ fn made_now(
         (plain_of r.0) r.1) }
 {
     match e {
-        BoundExpr::Chain(e, more) => {
-            chain_now(alloc, known, e, more.as_slice(), left, nesting)
-        }
+        BoundExpr::Chain(e, more) => { chain_now(alloc, known, e, more.as_slice(), left, nesting) }
         BoundExpr::Cond(condition, then, other) => {
             cond_now(alloc, known, condition, then, other, left, nesting)
         }
@@ -375,19 +373,12 @@ fn part_now(
     match part {
         BoundPart::Member(name) => member_now(known, value, name, left),
         BoundPart::Index(e) => index_now(alloc, known, e, value, left, nesting),
-        BoundPart::Call(args) => {
-            apply_now(alloc, known, args.as_slice(), value, left, nesting)
-        }
+        BoundPart::Call(args) => { apply_now(alloc, known, args.as_slice(), value, left, nesting) }
     }
 }
 
 // What an object has in the field with a name.
-fn member_now(
-    known: &Known<'_>,
-    value: Value,
-    name: &Text,
-    left: u64,
-) -> Option<(Value, u64)>
+fn member_now(known: &Known<'_>, value: Value, name: &Text, left: u64) -> Option<(Value, u64)>
     ensures { IfSome result (λ r. (more : PartRow) (y : Plain) (later : ℕ)
         → FollowsAtOnce (knowledge known.now) more (plain_of r.0) r.1 y later
         → FollowsAtOnce (knowledge known.now) (more_parts (tree.Member name.now) more)
