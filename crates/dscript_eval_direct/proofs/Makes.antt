@@ -313,8 +313,8 @@ module _ (known : Knowledge) where
   rooted_gives letters.Directory text x left rooted is le p act s knows =
       spent 1 (path_value p letters.Directory None text) s left le
       ∙ in_directory letters.Directory text x p s (left - 1) knows is
-  rooted_gives letters.Relative text x left rooted is le = absurd (let never : false ≡ true = rooted in cc)
-  rooted_gives letters.Atom text x left rooted is le = absurd (let never : false ≡ true = rooted in cc)
+  rooted_gives letters.Relative text x left rooted is le p act s knows = absurd (let never : false ≡ true = rooted in cc)
+  rooted_gives letters.Atom text x left rooted is le p act s knows = absurd (let never : false ≡ true = rooted in cc)
 
   pub path_gives
       : (letter : PathKind) (text : List ℕ) (holes : List BoundHole) (x : Plain) (left later : ℕ) → length holes ≡ 0
