@@ -1,5 +1,5 @@
 -- What comes where an expression was evaluated at once.
-use Rattle.std.proofs.Common.{◌≡◌, ℕ, ◌∷◌, MatchResult, Result, Ok, Err, ap, sym, ◌∙◌}
+use Rattle.std.proofs.Common.{◌≡◌, ℕ, ◌∷◌, MatchResult, Result, Ok, ap, sym, ◌∙◌}
 use Rattle.std.specs.Borrow.{Bor}
 use Rattle.dscript_program.specs.BoundTree.{ExprData}
 use Rattle.dscript_program.specs.Views.{expr_data}

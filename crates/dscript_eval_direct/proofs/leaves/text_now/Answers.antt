@@ -1,4 +1,3 @@
-use Rattle.std.proofs.Common.{map}
 use Rattle.dscript_program.specs.BoundTree as tree
 use Rattle.dscript_value.specs.Plain.{plain_of}
 use Rattle.dscript_eval_direct.specs.Now.{knowledge}

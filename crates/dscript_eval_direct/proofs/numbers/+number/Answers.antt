@@ -8,7 +8,6 @@ use Rattle.dscript_program.specs.BoundTree.{to_operands}
 use Rattle.dscript_program.specs.Views.{expr_data, operand_data}
 use Rattle.dscript_program.proofs.NodeViews.{expr_data-Chain, expr_data-Cond, expr_data-Name, expr_data-Number}
 use Rattle.dscript_value.specs.Plain as plain
-use Rattle.dscript_value.specs.Plain.{plain_of}
 use Rattle.dscript_eval_frames.proofs.Rows.{operator_count_row}
 use Rattle.dscript_eval_operators.specs.Operators.{is_settled, operated}
 use Rattle.dscript_eval_direct.specs.Now.{GoesAtOnce, IsAtOnce, knowledge}

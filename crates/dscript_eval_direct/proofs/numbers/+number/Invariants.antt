@@ -2,7 +2,7 @@ use Rattle.std.proofs.Common.{◌+◌, ◌*◌, ℕ, length, map}
 use Rattle.dscript_program.specs.BoundTree.{to_operands}
 use Rattle.dscript_program.specs.Views.{operand_data}
 use Rattle.dscript_value.specs.Plain as plain
-use Rattle.dscript_value.specs.Plain.{Plain, plain_of}
+use Rattle.dscript_value.specs.Plain.{Plain}
 use Rattle.dscript_eval_direct.specs.Now.{GoesAtOnce, knowledge}
 use Rattle.dscript_eval_direct.proofs.numbers.+number.Given as goal
 

@@ -1,6 +1,6 @@
-use Rattle.std.proofs.Common.{map, subst, sym}
+use Rattle.std.proofs.Common.{subst, sym}
 use Rattle.dscript_program.specs.Views.{expr_data}
-use Rattle.dscript_value.specs.Plain.{Plain, plain_of}
+use Rattle.dscript_value.specs.Plain.{Plain}
 use Rattle.dscript_eval_direct.specs.Now.{IsAtOnce, knowledge}
 use Rattle.dscript_eval_direct.proofs.numbers.flag_found.Goals as goal
 

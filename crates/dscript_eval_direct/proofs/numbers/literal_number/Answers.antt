@@ -1,9 +1,8 @@
-use Rattle.std.proofs.Common.{◌≡◌, rules, map, ap}
+use Rattle.std.proofs.Common.{◌≡◌, rules, ap}
 use mir.Syntax.{w32}
 use mir.Val.{to_z, of_z}
 use Rattle.dscript_program.specs.BoundTree as tree
 use Rattle.dscript_value.specs.Plain as plain
-use Rattle.dscript_value.specs.Plain.{plain_of}
 use Rattle.dscript_eval_direct.specs.Now.{knowledge}
 use Rattle.dscript_eval_direct.proofs.Steps.{at_later, number_gives}
 use Rattle.dscript_eval_direct.proofs.numbers.literal_number.Goals as goal

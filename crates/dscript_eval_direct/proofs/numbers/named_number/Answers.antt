@@ -1,9 +1,8 @@
-use Rattle.std.proofs.Common.{◌≡◌, ℤ, rules, map, subst, sym}
+use Rattle.std.proofs.Common.{◌≡◌, ℤ, rules, subst, sym}
 use mir.Syntax.{w32}
 use mir.Val.{to_z, of_z}
 use Rattle.dscript_program.specs.BoundTree as tree
 use Rattle.dscript_value.specs.Plain as plain
-use Rattle.dscript_value.specs.Plain.{plain_of}
 use Rattle.dscript_eval_direct.specs.Now.{IsAtOnce, knowledge}
 use Rattle.dscript_eval_direct.proofs.Steps.{at_later, local_gives}
 use Rattle.dscript_eval_direct.proofs.numbers.named_number.Goals as goal

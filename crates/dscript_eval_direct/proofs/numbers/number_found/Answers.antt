@@ -1,9 +1,9 @@
-use Rattle.std.proofs.Common.{◌≡◌, rules, map, ap, subst, sym, ◌∙◌}
+use Rattle.std.proofs.Common.{◌≡◌, rules, ap, subst, sym, ◌∙◌}
 use mir.Syntax.{w32}
 use mir.Val.{to_z, of_z}
 use Rattle.dscript_program.specs.Views.{expr_data}
 use Rattle.dscript_value.specs.Plain as plain
-use Rattle.dscript_value.specs.Plain.{Plain, plain_of}
+use Rattle.dscript_value.specs.Plain.{Plain}
 use Rattle.dscript_eval_direct.specs.Now.{IsAtOnce, knowledge}
 use Rattle.dscript_eval_direct.proofs.numbers.number_found.Goals as goal
 

@@ -1,4 +1,3 @@
-use Rattle.std.proofs.Common.{map}
 use Rattle.dscript_value.specs.Plain.{plain_of}
 use Rattle.dscript_eval_direct.specs.Now.{knowledge}
 use Rattle.dscript_eval_direct.proofs.Makes.{member_gives}
