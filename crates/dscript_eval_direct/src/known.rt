@@ -7,6 +7,7 @@ use dscript_program::Program;
 use dscript_value::Value;
 
 /// What is known of where an expression is evaluated.
+#[derive(Drop)]
 pub struct Known<'a> {
     pub program: &'a Program,
     /// The number of the file of the running body.
