@@ -18,7 +18,7 @@ use Rattle.dscript_eval_meaning.specs.Lookups.{function_at}
 use Rattle.dscript_eval_meaning.specs.Meaning.{acts, function_call}
 use Rattle.dscript_eval_meaning.specs.States.{State}
 use Rattle.dscript_eval_meaning.specs.Statements.{On, body_value}
-use Rattle.dscript_eval_direct.specs.Now.{IsAtOnce, Knows}
+use Rattle.dscript_eval_direct.specs.Now.{IsAtOnce, Knowledge, Knows}
 use Rattle.dscript_eval_frames.specs.Forms.{acts_at}
 use Rattle.dscript_eval_frames.specs.Views.{View}
 use Rattle.dscript_eval_frames.specs.Works.{Answer, comes_with, function_of, item_of, items_from, run}
@@ -51,21 +51,25 @@ take_length (suc n) [] = omega arith
 take_length (suc n) (x ∷ xs) = let h = take_length n xs in omega (arith, h)
 
 pub knows_args
-    : (f : FunctionData) (held args known : List Plain) → known ≡ take (length f.params) args
-    → length f.params ≤ f.local_count → Knows known f.first_local (function_frame f held args)
-knows_args f held args known is le = record {
-  first_is = refl;
-  own_are = λ k x there. filled_at f.local_count (take (length f.params) args) k x
+    : (v : View) (f : FunctionData) (held args : List Plain) (k : Knowledge) → v.program.files ≡ k.files → f.file ≡ k.file
+    → f.first_local ≡ k.first → k.own ≡ take (length f.params) args → v.state.constants ≡ k.constants
+    → length f.params ≤ f.local_count → Knows k v.program (record v.state { frame = function_frame f held args })
+knows_args v f held args k files file first own constants le = record {
+  files_are = files;
+  file_is = file;
+  first_is = first;
+  own_are = λ n x there. filled_at f.local_count (take (length f.params) args) n x
       (let h = take_length (length f.params) args in omega (arith, h, le))
-      (ap (λ xs. slice_get xs k) (sym is) ∙ there);
+      (ap (λ xs. slice_get xs n) (sym own) ∙ there);
+  constants_are = constants;
 }
 
 -- ## Bodies
 
 pub body_given
-    : (v w : View) (f : FunctionData) (e : ExprData) (args known : List Plain) (left : ℕ) (x : Plain) (later : ℕ)
-    → IsAtOnce known f.first_local e left x later
-    → ((held : List Plain) → Knows known f.first_local (function_frame f held args)) → left ≡ v.state.left
+    : (v w : View) (f : FunctionData) (e : ExprData) (args : List Plain) (known : Knowledge) (left : ℕ) (x : Plain) (later : ℕ)
+    → IsAtOnce known e left x later
+    → ((held : List Plain) → Knows known v.program (record v.state { frame = function_frame f held args })) → left ≡ v.state.left
     → w ≡ record v { given = x; state = record v.state { left = later } } → IsBodyGiven v w f e args
 body_given v w f e args known left x later now knows left_is is = record {
   value = λ held act.

@@ -14,7 +14,7 @@ use Rattle.dscript_eval_meaning.specs.Frames.{bind, with_local}
 use Rattle.dscript_eval_meaning.specs.States.{Frame, State}
 use Rattle.dscript_eval_meaning.specs.Statements.{Way, On, does, otherwise}
 use Rattle.dscript_eval_frames.specs.Costs.{stmt_cost}
-use Rattle.dscript_eval_direct.specs.Now.{IsAtOnce, Knows}
+use Rattle.dscript_eval_direct.specs.Now.{IsAtOnce, Knowledge, Knows}
 use Rattle.dscript_eval_direct.proofs.Steps.{spent}
 use Rattle.dscript_eval_frames.specs.Forms.{acts_at, bind_form, stmt_form}
 use Rattle.dscript_eval_frames.specs.Views.{View}
@@ -25,11 +25,11 @@ use Rattle.dscript_eval.specs.AtOnce.{IsPassed, bind_step, does_at, if_step}
 use Rattle.dscript_eval.proofs.StmtMoves.{all_move, does_begins, no_other-is}
 
 pub bound_passes
-    : (v w : View) (n : ℕ) (e : ExprData) (known : List Plain) (first after : ℕ) (x : Plain) (later : ℕ) (frame : Frame)
-    → 1 ≤ v.state.left → after ≡ v.state.left - 1 → IsAtOnce known first e after x later → Knows known first v.state.frame
+    : (v w : View) (n : ℕ) (e : ExprData) (known : Knowledge) (after : ℕ) (x : Plain) (later : ℕ) (frame : Frame)
+    → 1 ≤ v.state.left → after ≡ v.state.left - 1 → IsAtOnce known e after x later → Knows known v.program v.state
     → frame ≡ with_local n x v.state.frame → w ≡ record v { state = record v.state { left = later; frame = frame } }
     → IsPassed v w (bind_step n e)
-bound_passes v w n e known first after x later frame le after_is now knows frame_is is = record {
+bound_passes v w n e known after x later frame le after_is now knows frame_is is = record {
   value = spent 1 (bind_form v.program (acts_at v) n e) v.state v.state.left le
       ∙ ap (λ k. bind_form v.program (acts_at v) n e (record v.state { left = k })) (sym after_is)
       ∙ ap (λ r. followed r (λ y. bind n y >> gives On)) (now v.program (acts_at v) v.state knows)
@@ -39,11 +39,11 @@ bound_passes v w n e known first after x later frame le after_is now knows frame
 }
 
 pub untaken_passes
-    : (v w : View) (c : ExprData) (m : StmtData) (known : List Plain) (first after : ℕ) (x : Plain) (later : ℕ)
-    → 1 ≤ v.state.left → after ≡ v.state.left - 1 → IsAtOnce known first c after x later → is_true x ≡ false
-    → Knows known first v.state.frame → w ≡ record v { state = record v.state { left = later } }
+    : (v w : View) (c : ExprData) (m : StmtData) (known : Knowledge) (after : ℕ) (x : Plain) (later : ℕ)
+    → 1 ≤ v.state.left → after ≡ v.state.left - 1 → IsAtOnce known c after x later → is_true x ≡ false
+    → Knows known v.program v.state → w ≡ record v { state = record v.state { left = later } }
     → IsPassed v w (if_step c m)
-untaken_passes v w c m known first after x later le after_is now never knows is =
+untaken_passes v w c m known after x later le after_is now never knows is =
     let p = v.program in
     let act = acts_at v in
     record {

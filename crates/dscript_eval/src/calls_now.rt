@@ -8,7 +8,7 @@ ghost use Rattle.dscript_eval.specs.AtOnce.{IsBodyGiven, IsCalled};
 ghost use Rattle.dscript_eval.specs.CallbackArgs.{args_of};
 
 use crate::callbacks::number_of;
-use dscript_eval_direct::{MAX_NESTING, value_now};
+use dscript_eval_direct::{Known, MAX_NESTING, value_now};
 use dscript_eval_frames::{Callback, Callbacks, Machine, first_of, item_ref};
 use dscript_program::{Body, BoundExpr, Function};
 use dscript_value::{Callee, Value};
@@ -23,15 +23,14 @@ fn body_at_once(machine: &mut Machine<'_>, code: &Function, e: &BoundExpr, args:
     if count > code.local_count as usize {
         return false;
     }
-    let known = first_of(args, count);
-    match value_now(
-        machine.alloc,
-        known,
-        code.first_local,
-        e,
-        machine.left,
-        MAX_NESTING,
-    ) {
+    let known = Known {
+        program: machine.program,
+        file: code.file,
+        first: code.first_local,
+        own: first_of(args, count),
+        constants: machine.constants.as_slice(),
+    };
+    match value_now(machine.alloc, &known, e, machine.left, MAX_NESTING) {
         Some((value, left)) => {
             machine.left = left;
             machine.give(value);

@@ -6,7 +6,7 @@ ghost use Rattle.dscript_program.specs.Views.{expr_data, stmt_data};
 ghost use Rattle.dscript_eval_frames.specs.Views.{seen};
 ghost use Rattle.dscript_eval.specs.AtOnce.{IsPassed, bind_step, does_at, if_step};
 
-use dscript_eval_direct::{MAX_NESTING, value_now};
+use dscript_eval_direct::{Known, MAX_NESTING, value_now};
 use dscript_eval_frames::Machine;
 use dscript_eval_operators::is_true;
 use dscript_program::{BoundExpr, BoundStmt};
@@ -20,9 +20,8 @@ fn bound_at_once(machine: &mut Machine<'_>, local: u32, e: &BoundExpr) -> bool
     let Some(left) = machine.left.checked_sub(1) else {
         return false;
     };
-    let (alloc, first) = (machine.alloc, machine.frame.first);
-    let known = machine.frame.own.as_slice();
-    match value_now(alloc, known, first, e, left, MAX_NESTING) {
+    let known = Known::of(machine);
+    match value_now(machine.alloc, &known, e, left, MAX_NESTING) {
         Some((value, after)) => match machine.frame.bind(local, value) {
             Ok(()) => {
                 machine.left = after;
@@ -43,9 +42,8 @@ fn untaken_at_once(machine: &mut Machine<'_>, condition: &BoundExpr) -> bool
     let Some(left) = machine.left.checked_sub(1) else {
         return false;
     };
-    let (alloc, first) = (machine.alloc, machine.frame.first);
-    let known = machine.frame.own.as_slice();
-    match value_now(alloc, known, first, condition, left, MAX_NESTING) {
+    let known = Known::of(machine);
+    match value_now(machine.alloc, &known, condition, left, MAX_NESTING) {
         Some((choice, after)) => {
             let holds = is_true(&choice);
             drop(choice);

@@ -6,8 +6,9 @@ ghost use Rattle.dscript_program.specs.Views.{expr_data, operand_data};
 ghost use Rattle.dscript_value.specs.Plain as plain;
 ghost use Rattle.dscript_value.specs.Plain.{Plain, plain_of};
 ghost use Rattle.dscript_eval_operators.specs.Operators.{is_settled, operated};
-ghost use Rattle.dscript_eval_direct.specs.Now.{GoesAtOnce, IsAtOnce};
+ghost use Rattle.dscript_eval_direct.specs.Now.{GoesAtOnce, IsAtOnce, knowledge};
 
+use crate::known::Known;
 use crate::leaves::{flag_value, number_value};
 use dscript_ast::BinaryOp;
 use dscript_eval_frames::operand_parts;
@@ -88,20 +89,20 @@ fn number_at(known: &[Value], place: usize) -> Option<i32>
 }
 
 // What a local holds, if that is a number.
-fn local_number(known: &[Value], first: u32, local: u32) -> Option<i32>
-    ensures own { IfSome result (λ n. nat_lt local first ≡ false) }
+fn local_number(known: &Known<'_>, local: u32) -> Option<i32>
+    ensures own { IfSome result (λ n. nat_lt local known.now.first ≡ false) }
     ensures held { IfSome result (λ n.
-        slice_get (map plain_of known.now) (local - first) ≡ Some (plain.Number n)) }
+        slice_get (map plain_of known.now.own.now) (local - known.now.first) ≡ Some (plain.Number n)) }
 {
-    if local < first {
+    if local < known.first {
         return None;
     }
-    number_at(known, (local - first) as usize)
+    number_at(known.own, (local - known.first) as usize)
 }
 
 // What a number gives.
-fn literal_number(known: &[Value], first: u32, number: i32, left: &mut u64) -> Option<i32>
-    ensures { IfSome result (λ n. IsAtOnce (map plain_of known.now) first (tree.Number number) left.old
+fn literal_number(known: &Known<'_>, number: i32, left: &mut u64) -> Option<i32>
+    ensures { IfSome result (λ n. IsAtOnce (knowledge known.now) (tree.Number number) left.old
         (plain.Number n) left.new) }
 {
     if spend(left, 1) {
@@ -111,13 +112,13 @@ fn literal_number(known: &[Value], first: u32, number: i32, left: &mut u64) -> O
 }
 
 // What a name gives, if that is a number.
-fn named_number(known: &[Value], first: u32, target: Target, left: &mut u64) -> Option<i32>
-    ensures { IfSome result (λ n. IsAtOnce (map plain_of known.now) first (tree.Name target) left.old
+fn named_number(known: &Known<'_>, target: Target, left: &mut u64) -> Option<i32>
+    ensures { IfSome result (λ n. IsAtOnce (knowledge known.now) (tree.Name target) left.old
         (plain.Number n) left.new) }
 {
     match target {
         Target::Local(local) => {
-            let number = local_number(known, first, local)?;
+            let number = local_number(known, local)?;
             if spend(left, 1) {
                 return Some(number);
             }
@@ -130,22 +131,16 @@ fn named_number(known: &[Value], first: u32, target: Target, left: &mut u64) -> 
 // What an expression gives, if that is a number.
 #[cycle(number)]
 #[tactic(auto, using(dscript_program::proofs::NodeViews::bound_views))]
-fn number_of(
-    known: &[Value],
-    first: u32,
-    e: &BoundExpr,
-    left: &mut u64,
-    nesting: u32,
-) -> Option<i32>
-    ensures { IfSome result (λ n. IsAtOnce (map plain_of known.now) first (expr_data e.now) left.old
+fn number_of(known: &Known<'_>, e: &BoundExpr, left: &mut u64, nesting: u32) -> Option<i32>
+    ensures { IfSome result (λ n. IsAtOnce (knowledge known.now) (expr_data e.now) left.old
         (plain.Number n) left.new) }
 {
     match e {
-        BoundExpr::Number(number) => literal_number(known, first, *number, left),
-        BoundExpr::Name(target) => named_number(known, first, *target, left),
-        BoundExpr::Chain(e, more) => chain_number(known, first, e, more.as_slice(), left, nesting),
+        BoundExpr::Number(number) => literal_number(known, *number, left),
+        BoundExpr::Name(target) => named_number(known, *target, left),
+        BoundExpr::Chain(e, more) => chain_number(known, e, more.as_slice(), left, nesting),
         BoundExpr::Cond(condition, then, other) => {
-            cond_number(known, first, condition, then, other, left, nesting)
+            cond_number(known, condition, then, other, left, nesting)
         }
         _ => None,
     }
@@ -154,14 +149,13 @@ fn number_of(
 // What a chain gives, if that is a number.
 #[cycle(number)]
 fn chain_number(
-    known: &[Value],
-    first: u32,
+    known: &Known<'_>,
     e: &BoundExpr,
     more: &[BoundOperand],
     left: &mut u64,
     nesting: u32,
 ) -> Option<i32>
-    ensures { IfSome result (λ n. IsAtOnce (map plain_of known.now) first (tree.Chain (expr_data e.now)
+    ensures { IfSome result (λ n. IsAtOnce (knowledge known.now) (tree.Chain (expr_data e.now)
         (to_operands (map operand_data more.now))) left.old (plain.Number n) left.new) }
 {
     if nesting == 0 || !begins_arithmetic(more) {
@@ -170,27 +164,26 @@ fn chain_number(
     if !spend(left, more.len() as u64) {
         return None;
     }
-    let number = number_of(known, first, e, left, nesting - 1)?;
-    operands_number(known, first, more, number, left, nesting - 1)
+    let number = number_of(known, e, left, nesting - 1)?;
+    operands_number(known, more, number, left, nesting - 1)
 }
 
 // What a chain gives, from the number of its first operand on.
 #[cycle(number)]
 fn operands_number(
-    known: &[Value],
-    first: u32,
+    known: &Known<'_>,
     more: &[BoundOperand],
     number: i32,
     left: &mut u64,
     nesting: u32,
 ) -> Option<i32>
-    ensures { IfSome result (λ n. GoesAtOnce (map plain_of known.now) first
+    ensures { IfSome result (λ n. GoesAtOnce (knowledge known.now)
         (to_operands (map operand_data more.now)) (plain.Number number) left.old (plain.Number n) left.new) }
 {
     let mut answer = number;
     let mut rest = more;
     'operands: while let Some((operand, others)) = rest.split_first() {
-        match operand_number(known, first, operand, answer, left, nesting) {
+        match operand_number(known, operand, answer, left, nesting) {
             Some(next) => answer = next,
             None => return None,
         }
@@ -202,20 +195,19 @@ fn operands_number(
 // The number after an operand of a chain, by the number before it.
 #[cycle(number)]
 fn operand_number(
-    known: &[Value],
-    first: u32,
+    known: &Known<'_>,
     operand: &BoundOperand,
     number: i32,
     left: &mut u64,
     nesting: u32,
 ) -> Option<i32>
     ensures { IfSome result (λ n. (more : OperandRow) (y : Plain) (later : ℕ)
-        → GoesAtOnce (map plain_of known.now) first more (plain.Number n) left.new y later
-        → GoesAtOnce (map plain_of known.now) first (more_operands (operand_data operand.now) more)
+        → GoesAtOnce (knowledge known.now) more (plain.Number n) left.new y later
+        → GoesAtOnce (knowledge known.now) (more_operands (operand_data operand.now) more)
         (plain.Number number) left.old y later) }
 {
     let (operator, e) = operand_parts(operand);
-    match number_of(known, first, e, left, nesting) {
+    match number_of(known, e, left, nesting) {
         Some(right) => arithmetic(operator, number, right),
         None => None,
     }
@@ -224,15 +216,14 @@ fn operand_number(
 // What a condition chooses, if that is a number.
 #[cycle(number)]
 fn cond_number(
-    known: &[Value],
-    first: u32,
+    known: &Known<'_>,
     condition: &BoundExpr,
     then: &BoundExpr,
     other: &BoundExpr,
     left: &mut u64,
     nesting: u32,
 ) -> Option<i32>
-    ensures { IfSome result (λ n. IsAtOnce (map plain_of known.now) first (tree.Cond
+    ensures { IfSome result (λ n. IsAtOnce (knowledge known.now) (tree.Cond
         (expr_data condition.now) (expr_data then.now) (expr_data other.now)) left.old (plain.Number n)
         left.new) }
 {
@@ -242,23 +233,23 @@ fn cond_number(
     if !spend(left, 1) {
         return None;
     }
-    let holds = flag_of(known, first, condition, left, nesting - 1)?;
+    let holds = flag_of(known, condition, left, nesting - 1)?;
     if holds {
-        number_of(known, first, then, left, nesting - 1)
+        number_of(known, then, left, nesting - 1)
     } else {
-        number_of(known, first, other, left, nesting - 1)
+        number_of(known, other, left, nesting - 1)
     }
 }
 
 // What an expression gives, if that is a comparison of two numbers.
 #[cycle(number)]
 #[tactic(auto, using(dscript_program::proofs::NodeViews::bound_views))]
-fn flag_of(known: &[Value], first: u32, e: &BoundExpr, left: &mut u64, nesting: u32) -> Option<bool>
-    ensures { IfSome result (λ b. IsAtOnce (map plain_of known.now) first (expr_data e.now) left.old
+fn flag_of(known: &Known<'_>, e: &BoundExpr, left: &mut u64, nesting: u32) -> Option<bool>
+    ensures { IfSome result (λ b. IsAtOnce (knowledge known.now) (expr_data e.now) left.old
         (plain.Flag b) left.new) }
 {
     match e {
-        BoundExpr::Chain(e, more) => chain_flag(known, first, e, more.as_slice(), left, nesting),
+        BoundExpr::Chain(e, more) => chain_flag(known, e, more.as_slice(), left, nesting),
         _ => None,
     }
 }
@@ -266,14 +257,13 @@ fn flag_of(known: &[Value], first: u32, e: &BoundExpr, left: &mut u64, nesting: 
 // What a comparison of two numbers gives.
 #[cycle(number)]
 fn chain_flag(
-    known: &[Value],
-    first: u32,
+    known: &Known<'_>,
     e: &BoundExpr,
     more: &[BoundOperand],
     left: &mut u64,
     nesting: u32,
 ) -> Option<bool>
-    ensures { IfSome result (λ b. IsAtOnce (map plain_of known.now) first (tree.Chain (expr_data e.now)
+    ensures { IfSome result (λ b. IsAtOnce (knowledge known.now) (tree.Chain (expr_data e.now)
         (to_operands (map operand_data more.now))) left.old (plain.Flag b) left.new) }
 {
     let (operand, others) = more.split_first()?;
@@ -286,63 +276,50 @@ fn chain_flag(
     if !spend(left, 1) {
         return None;
     }
-    let number = number_of(known, first, e, left, nesting - 1)?;
-    operand_flag(known, first, operand, number, left, nesting - 1)
+    let number = number_of(known, e, left, nesting - 1)?;
+    operand_flag(known, operand, number, left, nesting - 1)
 }
 
 // What the last operator of a chain gives, by the number before it.
 #[cycle(number)]
 fn operand_flag(
-    known: &[Value],
-    first: u32,
+    known: &Known<'_>,
     operand: &BoundOperand,
     number: i32,
     left: &mut u64,
     nesting: u32,
 ) -> Option<bool>
     ensures { IfSome result (λ b. (more : OperandRow) (y : Plain) (later : ℕ)
-        → GoesAtOnce (map plain_of known.now) first more (plain.Flag b) left.new y later
-        → GoesAtOnce (map plain_of known.now) first (more_operands (operand_data operand.now) more)
+        → GoesAtOnce (knowledge known.now) more (plain.Flag b) left.new y later
+        → GoesAtOnce (knowledge known.now) (more_operands (operand_data operand.now) more)
         (plain.Number number) left.old y later) }
 {
     let (operator, e) = operand_parts(operand);
-    match number_of(known, first, e, left, nesting) {
+    match number_of(known, e, left, nesting) {
         Some(right) => comparison(operator, number, right),
         None => None,
     }
 }
 
 // The number that an expression gives, and the steps that are left.
-fn number_found(
-    known: &[Value],
-    first: u32,
-    e: &BoundExpr,
-    left: u64,
-    nesting: u32,
-) -> Option<(Value, u64)>
-    ensures { IfSome result (λ r. IsAtOnce (map plain_of known.now) first (expr_data e.now) left
+fn number_found(known: &Known<'_>, e: &BoundExpr, left: u64, nesting: u32) -> Option<(Value, u64)>
+    ensures { IfSome result (λ r. IsAtOnce (knowledge known.now) (expr_data e.now) left
         (plain_of r.0) r.1) }
 {
     let mut after = left;
-    match number_of(known, first, e, &mut after, nesting) {
+    match number_of(known, e, &mut after, nesting) {
         Some(number) => Some((number_value(number), after)),
         None => None,
     }
 }
 
 // What a comparison of two numbers gives, and the steps that are left.
-fn flag_found(
-    known: &[Value],
-    first: u32,
-    e: &BoundExpr,
-    left: u64,
-    nesting: u32,
-) -> Option<(Value, u64)>
-    ensures { IfSome result (λ r. IsAtOnce (map plain_of known.now) first (expr_data e.now) left
+fn flag_found(known: &Known<'_>, e: &BoundExpr, left: u64, nesting: u32) -> Option<(Value, u64)>
+    ensures { IfSome result (λ r. IsAtOnce (knowledge known.now) (expr_data e.now) left
         (plain_of r.0) r.1) }
 {
     let mut after = left;
-    match flag_of(known, first, e, &mut after, nesting) {
+    match flag_of(known, e, &mut after, nesting) {
         Some(flag) => Some((flag_value(flag), after)),
         None => None,
     }
@@ -350,17 +327,16 @@ fn flag_found(
 
 /// What an expression gives, if that is a number or a comparison of numbers, and the steps that are left.
 pub fn numbers_now(
-    known: &[Value],
-    first: u32,
+    known: &Known<'_>,
     e: &BoundExpr,
     left: u64,
     nesting: u32,
 ) -> Option<(Value, u64)>
-    ensures { IfSome result (λ r. IsAtOnce (map plain_of known.now) first (expr_data e.now) left
+    ensures { IfSome result (λ r. IsAtOnce (knowledge known.now) (expr_data e.now) left
         (plain_of r.0) r.1) }
 {
-    match number_found(known, first, e, left, nesting) {
+    match number_found(known, e, left, nesting) {
         Some(found) => Some(found),
-        None => flag_found(known, first, e, left, nesting),
+        None => flag_found(known, e, left, nesting),
     }
 }

@@ -2,15 +2,17 @@
 ghost use Rattle.std.specs.Prelude.{◌≡◌, ◌-◌, ℕ, [], map, IfSome, Ok};
 ghost use Rattle.dscript_program.specs.BoundTree as tree;
 ghost use Rattle.dscript_program.specs.BoundTree.{OperandRow, PartRow, more_operands, more_parts};
-ghost use Rattle.dscript_program.specs.BoundTree.{to_elements, to_operands, to_parts, to_props};
+ghost use Rattle.dscript_program.specs.BoundTree.{to_elements, to_exprs, to_operands, to_parts, to_props};
 ghost use Rattle.dscript_program.specs.Views.{element_data, expr_data, operand_data, part_data, prop_data};
 ghost use Rattle.dscript_value.specs.Plain.{Plain, plain_field, plain_of};
 ghost use Rattle.dscript_eval_operators.specs.Operators.{operated};
-ghost use Rattle.dscript_eval_direct.specs.Now.{FollowsAtOnce, GoesAtOnce, GoesOnAtOnce, HasFieldsAtOnce, IsAtOnce};
+ghost use Rattle.dscript_eval_direct.specs.Now.{FollowsAtOnce, GoesAtOnce, GoesOnAtOnce, HasArgumentsAtOnce};
+ghost use Rattle.dscript_eval_direct.specs.Now.{HasFieldsAtOnce, IsAtOnce, knowledge};
 
+use crate::known::Known;
 use crate::leaves::{
-    add_field, add_item, field_in, indexed_now, list_now, named_now, named_parts, number_now,
-    object_now, text_now,
+    add_field, add_item, called_now, field_in, indexed_now, list_now, named_now, named_parts,
+    number_now, object_now, path_now, plain_call, room_for, text_now,
 };
 use crate::numbers::numbers_now;
 use bx_tree::Text;
@@ -49,22 +51,24 @@ fn operated_now(
 #[tactic(auto, using(dscript_program::proofs::NodeViews::bound_views))]
 pub fn value_now(
     alloc: Global,
-    known: &[Value],
-    first: u32,
+    known: &Known<'_>,
     e: &BoundExpr,
     left: u64,
     nesting: u32,
 ) -> Option<(Value, u64)>
-    ensures { IfSome result (λ r. IsAtOnce (map plain_of known.now) first (expr_data e.now) left
+    ensures { IfSome result (λ r. IsAtOnce (knowledge known.now) (expr_data e.now) left
         (plain_of r.0) r.1) }
 {
     match e {
-        BoundExpr::Number(number) => number_now(known, first, *number, left),
-        BoundExpr::Str(text) => text_now(known, first, text, left),
-        BoundExpr::Name(target) => named_now(known, first, *target, left),
-        _ => match numbers_now(known, first, e, left, nesting) {
+        BoundExpr::Number(number) => number_now(known, *number, left),
+        BoundExpr::Str(text) => text_now(known, text, left),
+        BoundExpr::Name(target) => named_now(alloc, known, *target, left),
+        BoundExpr::Path(letter, text, holes) => {
+            path_now(alloc, known, *letter, text, holes.as_slice(), left)
+        }
+        _ => match numbers_now(known, e, left, nesting) {
             Some(found) => Some(found),
-            None => made_now(alloc, known, first, e, left, nesting),
+            None => made_now(alloc, known, e, left, nesting),
         },
     }
 }
@@ -74,26 +78,23 @@ pub fn value_now(
 #[tactic(auto, using(dscript_program::proofs::NodeViews::bound_views))]
 fn made_now(
     alloc: Global,
-    known: &[Value],
-    first: u32,
+    known: &Known<'_>,
     e: &BoundExpr,
     left: u64,
     nesting: u32,
 ) -> Option<(Value, u64)>
-    ensures { IfSome result (λ r. IsAtOnce (map plain_of known.now) first (expr_data e.now) left
+    ensures { IfSome result (λ r. IsAtOnce (knowledge known.now) (expr_data e.now) left
         (plain_of r.0) r.1) }
 {
     match e {
-        BoundExpr::Chain(e, more) => {
-            chain_now(alloc, known, first, e, more.as_slice(), left, nesting)
-        }
+        BoundExpr::Chain(e, more) => { chain_now(alloc, known, e, more.as_slice(), left, nesting) }
         BoundExpr::Cond(condition, then, other) => {
-            cond_now(alloc, known, first, condition, then, other, left, nesting)
+            cond_now(alloc, known, condition, then, other, left, nesting)
         }
-        BoundExpr::List(es) => elements_now(alloc, known, first, es.as_slice(), left, nesting),
-        BoundExpr::Object(ps) => properties_now(alloc, known, first, ps.as_slice(), left, nesting),
+        BoundExpr::List(es) => elements_now(alloc, known, es.as_slice(), left, nesting),
+        BoundExpr::Object(ps) => properties_now(alloc, known, ps.as_slice(), left, nesting),
         BoundExpr::Postfix(e, parts) => {
-            postfix_now(alloc, known, first, e, parts.as_slice(), left, nesting)
+            postfix_now(alloc, known, e, parts.as_slice(), left, nesting)
         }
         _ => None,
     }
@@ -103,43 +104,41 @@ fn made_now(
 #[cycle(now)]
 fn chain_now(
     alloc: Global,
-    known: &[Value],
-    first: u32,
+    known: &Known<'_>,
     e: &BoundExpr,
     more: &[BoundOperand],
     left: u64,
     nesting: u32,
 ) -> Option<(Value, u64)>
-    ensures { IfSome result (λ r. IsAtOnce (map plain_of known.now) first (tree.Chain (expr_data e.now)
+    ensures { IfSome result (λ r. IsAtOnce (knowledge known.now) (tree.Chain (expr_data e.now)
         (to_operands (map operand_data more.now))) left (plain_of r.0) r.1) }
 {
     if nesting == 0 {
         return None;
     }
     let after = left.checked_sub(more.len() as u64)?;
-    let (value, after) = value_now(alloc, known, first, e, after, nesting - 1)?;
-    operands_now(alloc, known, first, more, value, after, nesting - 1)
+    let (value, after) = value_now(alloc, known, e, after, nesting - 1)?;
+    operands_now(alloc, known, more, value, after, nesting - 1)
 }
 
 // What a chain gives, from the value of its first operand on.
 #[cycle(now)]
 fn operands_now(
     alloc: Global,
-    known: &[Value],
-    first: u32,
+    known: &Known<'_>,
     more: &[BoundOperand],
     value: Value,
     left: u64,
     nesting: u32,
 ) -> Option<(Value, u64)>
-    ensures { IfSome result (λ r. GoesAtOnce (map plain_of known.now) first
+    ensures { IfSome result (λ r. GoesAtOnce (knowledge known.now)
         (to_operands (map operand_data more.now)) (plain_of value) left (plain_of r.0) r.1) }
 {
     let mut answer = value;
     let mut after = left;
     let mut rest = more;
     'operands: while let Some((operand, others)) = rest.split_first() {
-        match operand_now(alloc, known, first, operand, answer, after, nesting) {
+        match operand_now(alloc, known, operand, answer, after, nesting) {
             Some((next, later)) => {
                 answer = next;
                 after = later;
@@ -155,23 +154,22 @@ fn operands_now(
 #[cycle(now)]
 fn operand_now(
     alloc: Global,
-    known: &[Value],
-    first: u32,
+    known: &Known<'_>,
     operand: &BoundOperand,
     value: Value,
     left: u64,
     nesting: u32,
 ) -> Option<(Value, u64)>
     ensures { IfSome result (λ r. (more : OperandRow) (y : Plain) (later : ℕ)
-        → GoesAtOnce (map plain_of known.now) first more (plain_of r.0) r.1 y later
-        → GoesAtOnce (map plain_of known.now) first (more_operands (operand_data operand.now) more)
+        → GoesAtOnce (knowledge known.now) more (plain_of r.0) r.1 y later
+        → GoesAtOnce (knowledge known.now) (more_operands (operand_data operand.now) more)
         (plain_of value) left y later) }
 {
     let (operator, e) = operand_parts(operand);
     if is_settled(operator, &value) {
         return Some((value, left));
     }
-    match value_now(alloc, known, first, e, left, nesting) {
+    match value_now(alloc, known, e, left, nesting) {
         Some((right, later)) => operated_now(alloc, operator, value, right, later),
         None => {
             drop(value);
@@ -184,28 +182,27 @@ fn operand_now(
 #[cycle(now)]
 fn cond_now(
     alloc: Global,
-    known: &[Value],
-    first: u32,
+    known: &Known<'_>,
     condition: &BoundExpr,
     then: &BoundExpr,
     other: &BoundExpr,
     left: u64,
     nesting: u32,
 ) -> Option<(Value, u64)>
-    ensures { IfSome result (λ r. IsAtOnce (map plain_of known.now) first (tree.Cond
+    ensures { IfSome result (λ r. IsAtOnce (knowledge known.now) (tree.Cond
         (expr_data condition.now) (expr_data then.now) (expr_data other.now)) left (plain_of r.0) r.1) }
 {
     if nesting == 0 {
         return None;
     }
     let after = left.checked_sub(1)?;
-    let (choice, after) = value_now(alloc, known, first, condition, after, nesting - 1)?;
+    let (choice, after) = value_now(alloc, known, condition, after, nesting - 1)?;
     let holds = is_true(&choice);
     drop(choice);
     if holds {
-        value_now(alloc, known, first, then, after, nesting - 1)
+        value_now(alloc, known, then, after, nesting - 1)
     } else {
-        value_now(alloc, known, first, other, after, nesting - 1)
+        value_now(alloc, known, other, after, nesting - 1)
     }
 }
 
@@ -213,20 +210,19 @@ fn cond_now(
 #[cycle(now)]
 fn elements_now(
     alloc: Global,
-    known: &[Value],
-    first: u32,
+    known: &Known<'_>,
     es: &[BoundElement],
     left: u64,
     nesting: u32,
 ) -> Option<(Value, u64)>
-    ensures { IfSome result (λ r. IsAtOnce (map plain_of known.now) first (tree.Elements
+    ensures { IfSome result (λ r. IsAtOnce (knowledge known.now) (tree.Elements
         (to_elements (map element_data es.now))) left (plain_of r.0) r.1) }
 {
     if nesting == 0 {
         return None;
     }
     let after = left.checked_sub(1)?;
-    let (items, after) = items_now(alloc, known, first, es, after, nesting - 1)?;
+    let (items, after) = items_now(alloc, known, es, after, nesting - 1)?;
     let value = list_now(alloc, items)?;
     Some((value, after))
 }
@@ -235,16 +231,15 @@ fn elements_now(
 #[cycle(now)]
 fn items_now(
     alloc: Global,
-    known: &[Value],
-    first: u32,
+    known: &Known<'_>,
     es: &[BoundElement],
     left: u64,
     nesting: u32,
 ) -> Option<(Vec<Value>, u64)>
-    ensures { IfSome result (λ r. GoesOnAtOnce (map plain_of known.now) first
+    ensures { IfSome result (λ r. GoesOnAtOnce (knowledge known.now)
         (to_elements (map element_data es.now)) [] left (map plain_of r.0.items) r.1) }
 {
-    let mut made = Vec::new(alloc);
+    let mut made = room_for(alloc, es.len())?;
     let mut after = left;
     let mut rest = es;
     'elements: while let Some((element, others)) = rest.split_first() {
@@ -252,7 +247,7 @@ fn items_now(
         if is_spread {
             return None;
         }
-        let (value, later) = value_now(alloc, known, first, e, after, nesting)?;
+        let (value, later) = value_now(alloc, known, e, after, nesting)?;
         if !add_item(&mut made, value) {
             return None;
         }
@@ -266,20 +261,19 @@ fn items_now(
 #[cycle(now)]
 fn properties_now(
     alloc: Global,
-    known: &[Value],
-    first: u32,
+    known: &Known<'_>,
     ps: &[BoundProp],
     left: u64,
     nesting: u32,
 ) -> Option<(Value, u64)>
-    ensures { IfSome result (λ r. IsAtOnce (map plain_of known.now) first (tree.Object
+    ensures { IfSome result (λ r. IsAtOnce (knowledge known.now) (tree.Object
         (to_props (map prop_data ps.now))) left (plain_of r.0) r.1) }
 {
     if nesting == 0 {
         return None;
     }
     let after = left.checked_sub(1)?;
-    let (fields, after) = fields_now(alloc, known, first, ps, after, nesting - 1)?;
+    let (fields, after) = fields_now(alloc, known, ps, after, nesting - 1)?;
     let value = object_now(alloc, fields)?;
     Some((value, after))
 }
@@ -288,21 +282,20 @@ fn properties_now(
 #[cycle(now)]
 fn fields_now(
     alloc: Global,
-    known: &[Value],
-    first: u32,
+    known: &Known<'_>,
     ps: &[BoundProp],
     left: u64,
     nesting: u32,
 ) -> Option<(Vec<Field>, u64)>
-    ensures { IfSome result (λ r. HasFieldsAtOnce (map plain_of known.now) first
+    ensures { IfSome result (λ r. HasFieldsAtOnce (knowledge known.now)
         (to_props (map prop_data ps.now)) left (map plain_field r.0.items) r.1) }
 {
-    let mut made = Vec::new(alloc);
+    let mut made = room_for(alloc, ps.len())?;
     let mut after = left;
     let mut rest = ps;
     'properties: while let Some((property, others)) = rest.split_first() {
         let (name, e) = named_parts(property)?;
-        let (value, later) = value_now(alloc, known, first, e, after, nesting)?;
+        let (value, later) = value_now(alloc, known, e, after, nesting)?;
         if !add_field(&mut made, name, value) {
             return None;
         }
@@ -312,46 +305,44 @@ fn fields_now(
     Some((made, after))
 }
 
-// What an expression gives with the members and indices after it.
+// What an expression gives with the members, indices and calls after it.
 #[cycle(now)]
 fn postfix_now(
     alloc: Global,
-    known: &[Value],
-    first: u32,
+    known: &Known<'_>,
     e: &BoundExpr,
     parts: &[BoundPart],
     left: u64,
     nesting: u32,
 ) -> Option<(Value, u64)>
-    ensures { IfSome result (λ r. IsAtOnce (map plain_of known.now) first (tree.Postfix (expr_data e.now)
+    ensures { IfSome result (λ r. IsAtOnce (knowledge known.now) (tree.Postfix (expr_data e.now)
         (to_parts (map part_data parts.now))) left (plain_of r.0) r.1) }
 {
     if nesting == 0 {
         return None;
     }
-    let (value, after) = value_now(alloc, known, first, e, left, nesting - 1)?;
-    parts_now(alloc, known, first, parts, value, after, nesting - 1)
+    let (value, after) = value_now(alloc, known, e, left, nesting - 1)?;
+    parts_now(alloc, known, parts, value, after, nesting - 1)
 }
 
-// What a value gives with the members and indices after it.
+// What a value gives with the members, indices and calls after it.
 #[cycle(now)]
 fn parts_now(
     alloc: Global,
-    known: &[Value],
-    first: u32,
+    known: &Known<'_>,
     parts: &[BoundPart],
     value: Value,
     left: u64,
     nesting: u32,
 ) -> Option<(Value, u64)>
-    ensures { IfSome result (λ r. FollowsAtOnce (map plain_of known.now) first
+    ensures { IfSome result (λ r. FollowsAtOnce (knowledge known.now)
         (to_parts (map part_data parts.now)) (plain_of value) left (plain_of r.0) r.1) }
 {
     let mut answer = value;
     let mut after = left;
     let mut rest = parts;
     'parts: while let Some((part, others)) = rest.split_first() {
-        match part_now(alloc, known, first, part, answer, after, nesting) {
+        match part_now(alloc, known, part, answer, after, nesting) {
             Some((next, later)) => {
                 answer = next;
                 after = later;
@@ -363,41 +354,34 @@ fn parts_now(
     Some((answer, after))
 }
 
-// What a value gives with a member or an index.
+// What a value gives with a member, an index or a call.
 #[cycle(now)]
 #[tactic(auto, using(dscript_program::proofs::NodeViews::bound_views))]
 fn part_now(
     alloc: Global,
-    known: &[Value],
-    first: u32,
+    known: &Known<'_>,
     part: &BoundPart,
     value: Value,
     left: u64,
     nesting: u32,
 ) -> Option<(Value, u64)>
     ensures { IfSome result (λ r. (more : PartRow) (y : Plain) (later : ℕ)
-        → FollowsAtOnce (map plain_of known.now) first more (plain_of r.0) r.1 y later
-        → FollowsAtOnce (map plain_of known.now) first (more_parts (part_data part.now) more)
+        → FollowsAtOnce (knowledge known.now) more (plain_of r.0) r.1 y later
+        → FollowsAtOnce (knowledge known.now) (more_parts (part_data part.now) more)
         (plain_of value) left y later) }
 {
     match part {
-        BoundPart::Member(name) => member_now(known, first, value, name, left),
-        BoundPart::Index(e) => index_now(alloc, known, first, e, value, left, nesting),
-        BoundPart::Call(_) => None,
+        BoundPart::Member(name) => member_now(known, value, name, left),
+        BoundPart::Index(e) => index_now(alloc, known, e, value, left, nesting),
+        BoundPart::Call(args) => { apply_now(alloc, known, args.as_slice(), value, left, nesting) }
     }
 }
 
 // What an object has in the field with a name.
-fn member_now(
-    known: &[Value],
-    first: u32,
-    value: Value,
-    name: &Text,
-    left: u64,
-) -> Option<(Value, u64)>
+fn member_now(known: &Known<'_>, value: Value, name: &Text, left: u64) -> Option<(Value, u64)>
     ensures { IfSome result (λ r. (more : PartRow) (y : Plain) (later : ℕ)
-        → FollowsAtOnce (map plain_of known.now) first more (plain_of r.0) r.1 y later
-        → FollowsAtOnce (map plain_of known.now) first (more_parts (tree.Member name.now) more)
+        → FollowsAtOnce (knowledge known.now) more (plain_of r.0) r.1 y later
+        → FollowsAtOnce (knowledge known.now) (more_parts (tree.Member name.now) more)
         (plain_of value) left y later) }
 {
     let after = left.checked_sub(1)?;
@@ -413,20 +397,19 @@ fn member_now(
 #[cycle(now)]
 fn index_now(
     alloc: Global,
-    known: &[Value],
-    first: u32,
+    known: &Known<'_>,
     e: &BoundExpr,
     value: Value,
     left: u64,
     nesting: u32,
 ) -> Option<(Value, u64)>
     ensures { IfSome result (λ r. (more : PartRow) (y : Plain) (later : ℕ)
-        → FollowsAtOnce (map plain_of known.now) first more (plain_of r.0) r.1 y later
-        → FollowsAtOnce (map plain_of known.now) first (more_parts (tree.Index (expr_data e.now)) more)
+        → FollowsAtOnce (knowledge known.now) more (plain_of r.0) r.1 y later
+        → FollowsAtOnce (knowledge known.now) (more_parts (tree.Index (expr_data e.now)) more)
         (plain_of value) left y later) }
 {
     let after = left.checked_sub(1)?;
-    match value_now(alloc, known, first, e, after, nesting) {
+    match value_now(alloc, known, e, after, nesting) {
         Some((at, later)) => {
             let found = indexed_now(value, at)?;
             Some((found, later))
@@ -436,4 +419,53 @@ fn index_now(
             None
         }
     }
+}
+
+// What the call of a value gives, if that is an ambient call that changes nothing.
+#[cycle(now)]
+fn apply_now(
+    alloc: Global,
+    known: &Known<'_>,
+    args: &[BoundExpr],
+    value: Value,
+    left: u64,
+    nesting: u32,
+) -> Option<(Value, u64)>
+    ensures { IfSome result (λ r. (more : PartRow) (y : Plain) (later : ℕ)
+        → FollowsAtOnce (knowledge known.now) more (plain_of r.0) r.1 y later
+        → FollowsAtOnce (knowledge known.now) (more_parts (tree.Call (to_exprs (map expr_data args.now))) more)
+        (plain_of value) left y later) }
+{
+    let name = plain_call(&value)?;
+    drop(value);
+    let after = left.checked_sub(1)?;
+    let (values, after) = arguments_now(alloc, known, args, after, nesting)?;
+    let answer = called_now(alloc, name, values.as_slice())?;
+    Some((answer, after))
+}
+
+// The arguments of a call.
+#[cycle(now)]
+fn arguments_now(
+    alloc: Global,
+    known: &Known<'_>,
+    args: &[BoundExpr],
+    left: u64,
+    nesting: u32,
+) -> Option<(Vec<Value>, u64)>
+    ensures { IfSome result (λ r. HasArgumentsAtOnce (knowledge known.now) (to_exprs (map expr_data args.now))
+        left (map plain_of r.0.items) r.1) }
+{
+    let mut made = room_for(alloc, args.len())?;
+    let mut after = left;
+    let mut rest = args;
+    'arguments: while let Some((e, others)) = rest.split_first() {
+        let (value, later) = value_now(alloc, known, e, after, nesting)?;
+        if !add_item(&mut made, value) {
+            return None;
+        }
+        after = later;
+        rest = others;
+    }
+    Some((made, after))
 }

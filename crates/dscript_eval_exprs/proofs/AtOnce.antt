@@ -1,17 +1,13 @@
 -- What comes where an expression was evaluated at once.
-use Rattle.std.proofs.Common.{◌≡◌, ℕ, List, ◌∷◌, map, slice_get, MatchResult, Result, Ok, Err, refl, ap, sym, ◌∙◌}
+use Rattle.std.proofs.Common.{◌≡◌, ℕ, ◌∷◌, MatchResult, Result, Ok, ap, sym, ◌∙◌}
 use Rattle.std.specs.Borrow.{Bor}
 use Rattle.dscript_program.specs.BoundTree.{ExprData}
 use Rattle.dscript_program.specs.Views.{expr_data}
 use Rattle.dscript_program.specs.declared.bound.BoundExpr.{BoundExpr}
-use Rattle.dscript_value.specs.Plain.{Plain, plain_of}
-use Rattle.dscript_value.specs.declared.value.Value.{Value}
+use Rattle.dscript_value.specs.Plain.{Plain}
 use Rattle.dscript_eval_meaning.specs.Evaluating.{followed}
 use Rattle.dscript_eval_meaning.specs.Statements.{On}
-use Rattle.dscript_eval_frames.specs.Frames.{frame_of}
-use Rattle.dscript_eval_frames.proofs.OwnLocals.{own_first}
-use Rattle.dscript_eval_frames.specs.declared.frame.Frame.{Frame}
-use Rattle.dscript_eval_direct.specs.Now.{IsAtOnce, Knows}
+use Rattle.dscript_eval_direct.specs.Now.{IsAtOnce, Knowledge, Knows}
 use Rattle.dscript_eval_frames.specs.Forms.{acts_at, value_at}
 use Rattle.dscript_eval_frames.specs.Keeps.{PreservesAnswer}
 use Rattle.dscript_eval_frames.specs.Views.{View}
@@ -24,21 +20,12 @@ use Rattle.dscript_eval_frames.specs.declared.work.Work.TheVariants as works
 use Rattle.dscript_eval_frames.proofs.Kept.{keeps_at, kept}
 use Rattle.dscript_eval_exprs.specs.AtOnce.{IsGiven}
 
--- a frame has its own locals
-pub knows_own
-    : (f : Frame) (known : List Value) → known ≡ f.own.items → Knows (map plain_of known) f.first (frame_of f)
-knows_own f known is = record {
-  first_is = refl;
-  own_are = λ k x there. own_first f.own.items f.far f.count k x
-      (ap (λ (l : List Value). slice_get (map plain_of l) k) (sym is) ∙ there);
-}
-
--- what the known locals give is what the machine gives
+-- what is given by what is known is what the machine gives
 pub given_by
-    : (v w : View) (e : ExprData) (known : List Plain) (first left : ℕ) (x : Plain) (later : ℕ)
-    → IsAtOnce known first e left x later → Knows known first v.state.frame → left ≡ v.state.left
+    : (v w : View) (e : ExprData) (known : Knowledge) (left : ℕ) (x : Plain) (later : ℕ)
+    → IsAtOnce known e left x later → Knows known v.program v.state → left ≡ v.state.left
     → w ≡ record v { given = x; state = record v.state { left = later } } → IsGiven v w e
-given_by v w e known first left x later now knows left_is is = record {
+given_by v w e known left x later now knows left_is is = record {
   value = ap (λ n. value_at v e (record v.state { left = n })) (sym left_is)
       ∙ now v.program (acts_at v) v.state knows
       ∙ ap (λ (z : View). Ok (z.given, z.state)) (sym is);

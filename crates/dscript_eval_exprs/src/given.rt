@@ -4,7 +4,7 @@ ghost use Rattle.dscript_program.specs.Views.{expr_data};
 ghost use Rattle.dscript_eval_frames.specs.Views.{seen};
 ghost use Rattle.dscript_eval_exprs.specs.AtOnce.{IsGiven};
 
-use dscript_eval_direct::{MAX_NESTING, value_now};
+use dscript_eval_direct::{Known, MAX_NESTING, value_now};
 use dscript_eval_frames::Machine;
 use dscript_program::BoundExpr;
 
@@ -13,9 +13,8 @@ pub fn at_once(machine: &mut Machine<'_>, e: &BoundExpr) -> bool
     ensures given { result ≡ true → IsGiven (seen machine.old) (seen machine.new) (expr_data e.now) }
     ensures none { result ≡ false → seen machine.new ≡ seen machine.old }
 {
-    let (alloc, first, steps) = (machine.alloc, machine.frame.first, machine.left);
-    let known = machine.frame.own.as_slice();
-    match value_now(alloc, known, first, e, steps, MAX_NESTING) {
+    let known = Known::of(machine);
+    match value_now(machine.alloc, &known, e, machine.left, MAX_NESTING) {
         Some((value, left)) => {
             machine.left = left;
             machine.give(value);

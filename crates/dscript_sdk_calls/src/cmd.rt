@@ -12,7 +12,7 @@ ghost use Rattle.dscript_sdk_calls.specs.CmdOption as options;
 ghost use Rattle.dscript_value.specs.Plain.{plain_of};
 ghost use Rattle.dscript_sdk_values.specs.PathTexts.{path_argument};
 
-use crate::paths::path_bytes;
+use crate::paths::{length_with_path, path_bytes};
 use bx_tree::{Memory, Path, Text};
 use dscript_sdk_values::{FromValue, MAX_TEXT_BYTES, SdkFault, first_argument, two_arguments};
 use dscript_value::{Argument, Artifact, Value, artifact_path};
@@ -48,10 +48,7 @@ fn artifact_after(alloc: Global, before: &Text, artifact: &Artifact) -> Result<V
         (λ value. artifact_argument before.now artifact.now ≡ Ok (plain_of value))
         (λ fault. Refuses fault (artifact_argument before.now artifact.now)) }
 {
-    let mut whole = before.bytes().to_vec(alloc)?;
-    let path = path_bytes(alloc, artifact_path(artifact))?;
-    whole.extend_from_slice(path.as_slice())?;
-    if whole.len() > MAX_TEXT_BYTES {
+    if length_with_path(before.bytes(), artifact_path(artifact)) > MAX_TEXT_BYTES {
         return Err(SdkFault::Range);
     }
     let text = before.share()?;

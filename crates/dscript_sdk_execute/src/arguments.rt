@@ -7,7 +7,7 @@ ghost use Rattle.dscript_sdk_execute.specs.Execute.{written};
 use crate::dependency::Dependency;
 use crate::output::Output;
 use bx_tree::{Memory, Text};
-use dscript_sdk_calls::path_bytes;
+use dscript_sdk_calls::{path_bytes, path_bytes_after};
 use dscript_sdk_values::share_file;
 use dscript_value::{Argument, Artifact, artifact_path};
 use pip_model_types::OutDir;
@@ -25,9 +25,7 @@ fn written_argument(alloc: Global, argument: &Argument) -> Result<Option<Text>, 
             Ok(Some(Text::new(alloc, bytes)?))
         }
         (Some(text), Some(artifact)) => {
-            let mut bytes = text.bytes().to_vec(alloc)?;
-            let path = path_bytes(alloc, artifact_path(artifact))?;
-            bytes.extend_from_slice(path.as_slice())?;
+            let bytes = path_bytes_after(alloc, text.bytes(), artifact_path(artifact))?;
             Ok(Some(Text::new(alloc, bytes)?))
         }
     }

@@ -2,8 +2,8 @@ use Rattle.std.proofs.Common.{◌+◌, ◌*◌, ℕ, length, map}
 use Rattle.dscript_program.specs.BoundTree.{to_operands}
 use Rattle.dscript_program.specs.Views.{operand_data}
 use Rattle.dscript_value.specs.Plain as plain
-use Rattle.dscript_value.specs.Plain.{Plain, plain_of}
-use Rattle.dscript_eval_direct.specs.Now.{GoesAtOnce}
+use Rattle.dscript_value.specs.Plain.{Plain}
+use Rattle.dscript_eval_direct.specs.Now.{GoesAtOnce, knowledge}
 use Rattle.dscript_eval_direct.proofs.numbers.+number.Given as goal
 
 abbrev pub decreases-number_of : goal.decreases-number_of
@@ -33,8 +33,8 @@ decreases-operands_number l = 4 * l.nesting + 5
 abbrev pub invariant-operands_number-operands : goal.invariant-operands_number-operands
 invariant-operands_number-operands l =
     (y : Plain) (later : ℕ)
-    → GoesAtOnce (map plain_of l.known) l.first (to_operands (map operand_data l.rest)) (plain.Number l.answer) l.left y later
-    → GoesAtOnce (map plain_of l.known) l.first (to_operands (map operand_data l.more)) (plain.Number l.number) l.fn.left y later
+    → GoesAtOnce (knowledge l.known) (to_operands (map operand_data l.rest)) (plain.Number l.answer) l.left y later
+    → GoesAtOnce (knowledge l.known) (to_operands (map operand_data l.more)) (plain.Number l.number) l.fn.left y later
 
 abbrev pub decreases-operands_number-operands : goal.decreases-operands_number-operands
 decreases-operands_number-operands l = length l.rest

@@ -1,16 +1,16 @@
-use Rattle.std.proofs.Common.{◌≡◌, rules, map, ap}
+use Rattle.std.proofs.Common.{◌≡◌, rules, ap}
 use mir.Syntax.{w32}
 use mir.Val.{to_z, of_z}
 use Rattle.dscript_program.specs.BoundTree as tree
 use Rattle.dscript_value.specs.Plain as plain
-use Rattle.dscript_value.specs.Plain.{plain_of}
+use Rattle.dscript_eval_direct.specs.Now.{knowledge}
 use Rattle.dscript_eval_direct.proofs.Steps.{at_later, number_gives}
 use Rattle.dscript_eval_direct.proofs.numbers.literal_number.Goals as goal
 
 pub returns-then-spend : goal.returns-then-spend
 returns-then-spend c =
     let same : to_z w32 (of_z w32 c.args.number) ≡ c.args.number = search rules in
-    at_later (map plain_of c.args.known.now) c.args.first (tree.Number c.args.number) c.args.left.now
+    at_later (knowledge c.args.known.now) (tree.Number c.args.number) c.args.left.now
     (plain.Number (to_z w32 (of_z w32 c.args.number))) _ _ (c.spend.ensures.spent c.if-spend.true)
-    (number_gives (map plain_of c.args.known.now) c.args.first c.args.number (plain.Number (to_z w32 (of_z w32 c.args.number)))
+    (number_gives (knowledge c.args.known.now) c.args.number (plain.Number (to_z w32 (of_z w32 c.args.number)))
     c.args.left.now (ap plain.Number same) (c.spend.ensures.enough c.if-spend.true))
