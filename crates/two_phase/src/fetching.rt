@@ -6,19 +6,19 @@ ghost use Rattle.content_store.specs.Contents.{IsContent};
 ghost use Rattle.content_store.specs.HeldEntries.{IsHeld};
 ghost use Rattle.memo_format.specs.Entries.{IsEntry, OutputsRise};
 ghost use Rattle.memo_format.specs.Found.{output_lines};
+ghost use Rattle.memo_format.specs.PathsTexts.{PathsText};
 ghost use Rattle.memo_format.specs.Selectors.{read_selectors_text};
 ghost use Rattle.memo_format.specs.StoreNames.{HoldsList};
-ghost use Rattle.observed.specs.Texts.{read_paths_text};
 ghost use Rattle.two_phase_meaning.specs.Contents.{HoldsPaths};
 ghost use Rattle.two_phase.specs.Calls.{ReaderCall};
 ghost use Rattle.two_phase.specs.Finding.{AddsTo, AreOutputs, FindsOne, PutsIn};
 
+use crate::path_sets::PathSets;
 use crate::store_fault::StoreFault;
 use bx_digest::{Blob, Digest};
 use bx_io::{Got, KeepReader};
-use content_store::{Fetched, FetchedEntry, get_blob, get_entry, list_name};
-use memo_format::{Entry, FormatFault, OutputLine, Selector, read_selectors};
-use observed::{PathSet, SetFault};
+use content_store::{Fetched, FetchedEntry, blob_name, get_blob, get_entry, list_name};
+use memo_format::{Entry, FormatFault, OutputLine, ReadPaths, Selector, read_selectors};
 use pip_model_types::Made;
 use std::alloc::Global;
 use std::marker::Model;
@@ -66,31 +66,24 @@ fn content<R: KeepReader>(
     }
 }
 
-// The path set of a text, if it is one.
-fn read_set(alloc: Global, text: &[u8]) -> Result<Option<PathSet>, StoreFault>
-    ensures read { IfOk result (λ set. read_paths_text text.now ≡ set) }
-    ensures no_fault { result ≢ Err StoreFault.Fault }
-{
-    match PathSet::read(alloc, text) {
-        Ok(set) => Ok(Some(set)),
-        Err(SetFault::BadSet) => Ok(None),
-        Err(SetFault::Memory) => Err(StoreFault::Memory),
-    }
-}
-
-// The path set whose text has a digest.
+// The path set whose text has a digest, with that text.
 pub(crate) fn path_set<R: KeepReader>(
     alloc: Global,
     reader: &mut R,
+    sets: &mut PathSets,
     digest: &Digest,
-) -> Result<Option<PathSet>, StoreFault>
-    ensures found { IfOk result (FindsOne (R.held reader.new) (λ S asks. HoldsPaths S digest.now asks)) }
+) -> Result<Option<ReadPaths>, StoreFault>
+    ensures found { IfOk result (FindsOne (R.held reader.new) (λ S (p : PathsText). HoldsPaths S digest.now p.asks)) }
+    ensures digest { IfOk result (λ found. IfSome found (λ paths. paths.digest ≡ digest.now)) }
     ensures reader { ReaderCall (R.held reader.old) (R.held reader.new) (R.bound reader.old) (R.bound reader.new)
         (R.faults reader.old) (R.faults reader.new) (result ≡ Err StoreFault.Fault) }
 {
-    match content(alloc, reader, digest)? {
-        Some(text) => read_set(alloc, text.bytes()),
-        None => Ok(None),
+    let name = blob_name(alloc, digest)?;
+    match reader.get(alloc, name.as_str()) {
+        Got::Found(bytes) => sets.set_of(alloc, digest, bytes),
+        Got::None => Ok(None),
+        Got::Failed => Err(StoreFault::Fault),
+        Got::Memory => Err(StoreFault::Memory),
     }
 }
 
@@ -101,7 +94,7 @@ pub(crate) fn entry<R: KeepReader>(
     strong: &Digest,
 ) -> Result<Option<Entry>, StoreFault>
     ensures found { IfOk result (FindsOne (R.held reader.new) (λ S e. IsHeld S strong.now e)) }
-    ensures entry { IfOk result (λ found. IfSome found IsEntry) }
+    ensures entry { IfOk result (λ found. IfSome found (λ e. IsEntry e × (e.strong ≡ strong.now))) }
     ensures reader { ReaderCall (R.held reader.old) (R.held reader.new) (R.bound reader.old) (R.bound reader.new)
         (R.faults reader.old) (R.faults reader.new) (result ≡ Err StoreFault.Fault) }
 {

@@ -1,0 +1,16 @@
+-- Path sets that are read of what a store holds.
+use Rattle.std.specs.Prelude.{◌≡◌, ℕ, List, Option, Some, None}
+use Rattle.sha2.specs.Sha256.{sha256}
+use Rattle.observed.specs.Texts.{read_paths_text}
+use Rattle.observed.specs.declared.ask.Ask.{Ask}
+use Rattle.memo_format.specs.PathsTexts.{IsPathsText, PathsText}
+
+-- The text is read as a path set, or it is the text of none.
+abbrev pub ReadsText : List ℕ → Option PathsText → Type 0
+ReadsText text None = (asks : List Ask) → read_paths_text text ≡ Some asks → ⊥
+ReadsText text (Some p) = IsPathsText p × (p.text ≡ text)
+
+-- Bytes that are held under a digest are read as a path set, or have another digest or are the text of none.
+abbrev pub ReadsSet : List ℕ → List ℕ → Option PathsText → Type 0
+ReadsSet bytes digest None = (asks : List Ask) → sha256 bytes ≡ digest → read_paths_text bytes ≡ Some asks → ⊥
+ReadsSet bytes digest (Some p) = IsPathsText p × ((p.text ≡ bytes) × (p.digest ≡ digest))

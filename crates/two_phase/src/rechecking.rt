@@ -1,0 +1,233 @@
+//! Whether a store still has what was found in it. Nothing is hashed for that but the seals of the list and of the entry: what is
+//! held is compared, byte by byte, with what was found.
+ghost use Rattle.std.specs.Prelude.{◌≡◌, ◌↔◌, ℕ, Err, IfOk, IsTrue, List, Some};
+ghost use Rattle.std.specs.List.{list_any};
+ghost use Rattle.sha2.specs.Sha256.{sha256};
+ghost use Rattle.bx_io.specs.Holdings.{Holdings};
+ghost use Rattle.bx_tree.specs.Trees.{paths_of};
+ghost use Rattle.memo_format.specs.StoreNames.{HoldsBlob, HoldsEntry};
+ghost use Rattle.pip_model_types.specs.Made.{made_files};
+ghost use Rattle.run_record.specs.Collisions.{contents_of};
+ghost use Rattle.two_phase_meaning.specs.Contents.{HoldsAll, HoldsPaths};
+ghost use Rattle.two_phase_meaning.specs.Saving.{same_selector};
+ghost use Rattle.two_phase_meaning.specs.Usable.{fits as all_fit};
+ghost use Rattle.two_phase.specs.Calls.{ReaderCall};
+ghost use Rattle.two_phase.specs.Kept.{IsListed, Keeps, entry_selector};
+
+use crate::fetching::{entry, selectors};
+use crate::fitting::fits;
+use crate::saving::is_same;
+use crate::store_fault::StoreFault;
+use bx_digest::Digest;
+use bx_io::{Got, KeepReader};
+use content_store::blob_name;
+use memo_format::{Entry, Found, OutputLine, ReadPaths, Selector};
+use pip_model_types::{MadeFile, ProcessDesc};
+use std::alloc::Global;
+
+/// The answer to the question whether a store still has what was found.
+#[derive(Clone, Copy, Debug, PartialEq, Eq)]
+pub enum Recheck {
+    /// It has all of it, and the files are what the process may make.
+    Kept,
+    /// It has not all of it, or they are not.
+    Changed,
+    /// The reader failed.
+    Fault,
+    /// There was no memory.
+    Memory,
+}
+
+// ## Entries
+
+// Whether one of the selectors of a list leads to an entry.
+fn has_selector(list: &[Selector], entry: &Entry) -> bool
+    ensures { result ≡ list_any (same_selector (entry_selector entry.now)) list.now }
+{
+    let own = Selector {
+        paths: entry.paths,
+        strong: entry.strong,
+    };
+    list.iter().any(|selector| is_same(&own, selector))
+}
+
+// Whether an output is another, by path and digest.
+fn is_same_output(a: &OutputLine, b: &OutputLine) -> bool
+    ensures { IsTrue result ↔ a.now ≡ b.now }
+{
+    a.path == b.path && a.digest == b.digest
+}
+
+// Whether outputs are the same, in order.
+fn are_same_outputs(a: &[OutputLine], b: &[OutputLine]) -> bool
+    ensures { IsTrue result ↔ a.now ≡ b.now }
+{
+    if a.len() != b.len() {
+        return false;
+    }
+    'outputs: for place in 0..a.len() {
+        if !is_same_output(&a[place], &b[place]) {
+            return false;
+        }
+    }
+    true
+}
+
+// Whether an entry is another.
+fn is_same_entry(a: &Entry, b: &Entry) -> bool
+    ensures { IsTrue result → a.now ≡ b.now }
+{
+    if a.weak != b.weak || a.paths != b.paths || a.strong != b.strong {
+        return false;
+    }
+    are_same_outputs(a.outputs.lines(), b.outputs.lines())
+}
+
+// ## What is held
+
+// Whether the list of an entry's weak text has its selector.
+fn is_listed<R: KeepReader>(
+    alloc: Global,
+    reader: &mut R,
+    entry: &Entry,
+) -> Result<bool, StoreFault>
+    ensures listed { IfOk result (λ listed. IsTrue listed → (S : Holdings) → R.held reader.new ≡ Some S → IsListed S entry.now) }
+    ensures reader { ReaderCall (R.held reader.old) (R.held reader.new) (R.bound reader.old) (R.bound reader.new)
+        (R.faults reader.old) (R.faults reader.new) (result ≡ Err StoreFault.Fault) }
+{
+    match selectors(alloc, reader, &entry.weak)? {
+        Some(held) => Ok(has_selector(held.list(), entry)),
+        None => Ok(false),
+    }
+}
+
+// Whether an entry is held under its own strong digest.
+fn has_entry<R: KeepReader>(
+    alloc: Global,
+    reader: &mut R,
+    own: &Entry,
+) -> Result<bool, StoreFault>
+    ensures held { IfOk result (λ held. IsTrue held → (S : Holdings) → R.held reader.new ≡ Some S → HoldsEntry S own.now) }
+    ensures reader { ReaderCall (R.held reader.old) (R.held reader.new) (R.bound reader.old) (R.bound reader.new)
+        (R.faults reader.old) (R.faults reader.new) (result ≡ Err StoreFault.Fault) }
+{
+    match entry(alloc, reader, &own.strong)? {
+        Some(held) => Ok(is_same_entry(&held, own)),
+        None => Ok(false),
+    }
+}
+
+// Whether a content is held under its digest.
+fn has_content<R: KeepReader>(
+    alloc: Global,
+    reader: &mut R,
+    digest: &Digest,
+    content: &[u8],
+) -> Result<bool, StoreFault>
+    requires { digest.now ≡ sha256 content.now }
+    ensures held { IfOk result (λ held. IsTrue held → (S : Holdings) → R.held reader.new ≡ Some S → HoldsBlob S content.now) }
+    ensures reader { ReaderCall (R.held reader.old) (R.held reader.new) (R.bound reader.old) (R.bound reader.new)
+        (R.faults reader.old) (R.faults reader.new) (result ≡ Err StoreFault.Fault) }
+{
+    let name = blob_name(alloc, digest)?;
+    match reader.get(alloc, name.as_str()) {
+        Got::Found(bytes) => Ok(bytes.as_slice() == content),
+        Got::None => Ok(false),
+        Got::Failed => Err(StoreFault::Fault),
+        Got::Memory => Err(StoreFault::Memory),
+    }
+}
+
+// Whether the text of a path set is held under its digest.
+fn has_paths<R: KeepReader>(
+    alloc: Global,
+    reader: &mut R,
+    paths: &ReadPaths,
+) -> Result<bool, StoreFault>
+    ensures held { IfOk result (λ held. IsTrue held → (S : Holdings) → R.held reader.new ≡ Some S
+        → HoldsPaths S paths.now.digest paths.now.asks) }
+    ensures reader { ReaderCall (R.held reader.old) (R.held reader.new) (R.bound reader.old) (R.bound reader.new)
+        (R.faults reader.old) (R.faults reader.new) (result ≡ Err StoreFault.Fault) }
+{
+    let digest = paths.digest();
+    has_content(alloc, reader, &digest, paths.text().bytes())
+}
+
+// Whether the contents of files are held, each under its digest.
+fn has_files<R: KeepReader>(
+    alloc: Global,
+    reader: &mut R,
+    files: &[MadeFile],
+) -> Result<bool, StoreFault>
+    ensures held { IfOk result (λ held. IsTrue held → (S : Holdings) → R.held reader.new ≡ Some S
+        → HoldsAll S (contents_of (made_files files.now))) }
+    ensures reader { ReaderCall (R.held reader.old) (R.held reader.new) (R.bound reader.old) (R.bound reader.new)
+        (R.faults reader.old) (R.faults reader.new) (result ≡ Err StoreFault.Fault) }
+{
+    'files: for file in files {
+        let digest = file.blob.digest();
+        let held = has_content(alloc, reader, &digest, file.blob.bytes())?;
+        if !held {
+            return Ok(false);
+        }
+    }
+    Ok(true)
+}
+
+// Whether all of what was found is held.
+fn is_kept<R: KeepReader>(
+    alloc: Global,
+    reader: &mut R,
+    found: &Found,
+) -> Result<bool, StoreFault>
+    ensures kept { IfOk result (λ kept. IsTrue kept → Keeps (R.held reader.new) found.now) }
+    ensures reader { ReaderCall (R.held reader.old) (R.held reader.new) (R.bound reader.old) (R.bound reader.new)
+        (R.faults reader.old) (R.faults reader.new) (result ≡ Err StoreFault.Fault) }
+{
+    let entry = found.entry();
+    let listed = is_listed(alloc, reader, entry)?;
+    if !listed {
+        return Ok(false);
+    }
+    let there = has_entry(alloc, reader, entry)?;
+    if !there {
+        return Ok(false);
+    }
+    let read = has_paths(alloc, reader, found.read_paths())?;
+    if !read {
+        return Ok(false);
+    }
+    has_files(alloc, reader, found.made().files())
+}
+
+// Whether files that were found are what a process declares to make and may make.
+fn fits_process(process: &ProcessDesc, found: &Found) -> bool
+    ensures { result ≡ all_fit process.now (paths_of found.now.made) }
+{
+    let _rising = found.made().files();
+    fits(process, found.entry().outputs.lines())
+}
+
+/// Whether a store still has what was found, and its files are what a process may make: the selector in the list, the entry, the
+/// path set and the files, byte by byte. It stops at the first get that fails.
+pub fn recheck<R: KeepReader>(
+    alloc: Global,
+    reader: &mut R,
+    process: &ProcessDesc,
+    found: &Found,
+) -> Recheck
+    ensures kept { result ≡ Recheck.Kept → Keeps (R.held reader.new) found.now }
+    ensures fit { result ≡ Recheck.Kept → IsTrue (all_fit process.now (paths_of found.now.made)) }
+    ensures reader { ReaderCall (R.held reader.old) (R.held reader.new) (R.bound reader.old) (R.bound reader.new)
+        (R.faults reader.old) (R.faults reader.new) (result ≡ Recheck.Fault) }
+{
+    if !fits_process(process, found) {
+        return Recheck::Changed;
+    }
+    match is_kept(alloc, reader, found) {
+        Ok(true) => Recheck::Kept,
+        Ok(false) => Recheck::Changed,
+        Err(StoreFault::Fault) => Recheck::Fault,
+        Err(StoreFault::Memory) => Recheck::Memory,
+    }
+}
