@@ -288,6 +288,26 @@ pub fn lookup_by<R: KeepReader, V: View>(
 }
 
 /// The same for a process whose weak text is written and hashed here.
+pub fn lookup_with<R: KeepReader, V: View>(
+    alloc: Global,
+    reader: &mut R,
+    sets: &mut PathSets,
+    desc: &Desc,
+    view: &mut V,
+) -> LookupResult
+    ensures answer { LookupGives (R.held reader.new) desc.now (V.answers view.old) result }
+    ensures now { LookupHitIsCurrent desc.now (V.answers view.old) result }
+    ensures same { V.answers view.new ≡ V.answers view.old }
+    ensures reader { ReaderCall (R.held reader.old) (R.held reader.new) (R.bound reader.old) (R.bound reader.new)
+        (R.faults reader.old) (R.faults reader.new) (result ≡ LookupResult.Fault) }
+{
+    match weak_digest(alloc, desc) {
+        Ok(weak) => lookup_by(alloc, reader, sets, desc, &weak, view),
+        Err(_) => LookupResult::Memory,
+    }
+}
+
+/// The same where no path set was read before.
 pub fn lookup<R: KeepReader, V: View>(
     alloc: Global,
     reader: &mut R,
@@ -301,8 +321,5 @@ pub fn lookup<R: KeepReader, V: View>(
         (R.faults reader.old) (R.faults reader.new) (result ≡ LookupResult.Fault) }
 {
     let mut sets = PathSets::new(alloc);
-    match weak_digest(alloc, desc) {
-        Ok(weak) => lookup_by(alloc, reader, &mut sets, desc, &weak, view),
-        Err(_) => LookupResult::Memory,
-    }
+    lookup_with(alloc, reader, &mut sets, desc, view)
 }

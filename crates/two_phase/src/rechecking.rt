@@ -27,7 +27,7 @@ use std::alloc::Global;
 
 /// The answer to the question whether a store still has what was found.
 #[derive(Clone, Copy, Debug, PartialEq, Eq)]
-pub enum Recheck {
+pub enum Rechecked {
     /// It has all of it, and the files are what the process may make.
     Kept,
     /// It has not all of it, or they are not.
@@ -215,19 +215,19 @@ pub fn recheck<R: KeepReader>(
     reader: &mut R,
     process: &ProcessDesc,
     found: &Found,
-) -> Recheck
-    ensures kept { result ≡ Recheck.Kept → Keeps (R.held reader.new) found.now }
-    ensures fit { result ≡ Recheck.Kept → IsTrue (all_fit process.now (paths_of found.now.made)) }
+) -> Rechecked
+    ensures kept { result ≡ Rechecked.Kept → Keeps (R.held reader.new) found.now }
+    ensures fit { result ≡ Rechecked.Kept → IsTrue (all_fit process.now (paths_of found.now.made)) }
     ensures reader { ReaderCall (R.held reader.old) (R.held reader.new) (R.bound reader.old) (R.bound reader.new)
-        (R.faults reader.old) (R.faults reader.new) (result ≡ Recheck.Fault) }
+        (R.faults reader.old) (R.faults reader.new) (result ≡ Rechecked.Fault) }
 {
     if !fits_process(process, found) {
-        return Recheck::Changed;
+        return Rechecked::Changed;
     }
     match is_kept(alloc, reader, found) {
-        Ok(true) => Recheck::Kept,
-        Ok(false) => Recheck::Changed,
-        Err(StoreFault::Fault) => Recheck::Fault,
-        Err(StoreFault::Memory) => Recheck::Memory,
+        Ok(true) => Rechecked::Kept,
+        Ok(false) => Rechecked::Changed,
+        Err(StoreFault::Fault) => Rechecked::Fault,
+        Err(StoreFault::Memory) => Rechecked::Memory,
     }
 }
