@@ -1,6 +1,7 @@
 //! What a lookup finds.
-ghost use Rattle.std.specs.Prelude.{◌≡◌, IfOk, IfSome, length};
+ghost use Rattle.std.specs.Prelude.{◌≡◌, IfOk, IfSome, Some, length};
 ghost use Rattle.bx_tree.specs.Trees.{NoneNested, paths_of};
+ghost use Rattle.memo_format.specs.Entries.{read_entry_text};
 ghost use Rattle.memo_format.specs.Found.{IsFound, IsFoundFor, found_parts, output_lines, strong_of_found};
 
 use crate::entry::Entry;
@@ -15,13 +16,15 @@ use std::sync::Arc;
 #[derive(Drop)]
 struct FoundFields {
     entry: Entry,
+    text: Vec<u8>,
     paths: ReadPaths,
     answers: Vec<Answer>,
     made: Made,
 }
 
 impl Model for FoundFields {
-    ghost use Rattle.std.specs.Prelude.{◌≡◌};
+    ghost use Rattle.std.specs.Prelude.{◌≡◌, Some};
+    ghost use Rattle.memo_format.specs.Entries.{read_entry_text};
     ghost use Rattle.memo_format.specs.Found.{FoundParts, IsFound, found_parts};
 
     ghost Value = { FoundParts };
@@ -29,7 +32,7 @@ impl Model for FoundFields {
     ghost view = { λ f. found_parts f.entry f.paths.asks f.answers.items f.made };
 
     ghost invariant = { λ f. IsFound (found_parts f.entry f.paths.asks f.answers.items f.made)
-        × (f.paths.digest ≡ f.entry.paths) };
+        × ((f.paths.digest ≡ f.entry.paths) × (read_entry_text f.text.items ≡ Some f.entry)) };
 }
 
 // A process with the contents of its files, shared.
@@ -104,15 +107,17 @@ fn share_work(work: &Option<Work>) -> Result<Option<Work>, AllocError>
 }
 
 impl Found {
-    /// An entry with its path set, the answers to its asks, and the files of its outputs.
+    /// An entry, of which this is the text, with its path set, the answers to its asks, and the files of its outputs.
     pub fn new(
         alloc: Global,
         entry: Entry,
+        text: Vec<u8>,
         paths: ReadPaths,
         answers: Vec<Answer>,
         made: Made,
     ) -> Result<Found, AllocError>
         requires one_each { length answers.items ≡ length paths.asks }
+        requires text { read_entry_text text.items ≡ Some entry }
         requires paths { paths.digest ≡ entry.paths }
         requires strong { strong_of_found (found_parts entry paths.asks answers.items made) ≡ entry.strong }
         requires made { output_lines made ≡ entry.outputs }
@@ -124,6 +129,7 @@ impl Found {
     {
         let fields = FoundFields {
             entry,
+            text,
             paths,
             answers,
             made,
@@ -173,6 +179,13 @@ impl Found {
         ensures found { IsFound self.now }
     {
         &self.fields.entry
+    }
+
+    /// The text of the entry.
+    pub fn entry_text(&self) -> &[u8]
+        ensures { read_entry_text result.now ≡ Some self.now.entry }
+    {
+        self.fields.text.as_slice()
     }
 
     /// The path set.

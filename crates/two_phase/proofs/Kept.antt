@@ -20,16 +20,15 @@ use Rattle.pip_model_types.specs.Made.{RisingFiles, made_files}
 use Rattle.pip_model_types.specs.declared.desc.Desc.{Desc}
 use Rattle.pip_model_types.specs.declared.made.MadeFile.{MadeFile}
 use Rattle.prints.specs.Strong.{strong_parts, strong_text}
-use Rattle.memo_format.specs.Entries.{OutputsRise, output_paths}
+use Rattle.memo_format.specs.Entries.{OutputsRise, output_paths, read_entry_text}
 use Rattle.std.specs.List.Sorted.{IsStrictlySortedBy}
 use Rattle.bx_tree.specs.Paths.{Atoms, path_cmp}
 use Rattle.memo_format.specs.Found.{FoundParts, IsFound, output_lines}
 use Rattle.memo_format.specs.PathsTexts.{IsPathsText, PathsText}
-use Rattle.memo_format.specs.StoreNames.{HoldsBlob, HoldsEntry, HoldsList, at_blob}
+use Rattle.memo_format.specs.StoreNames.{HoldsBlob, HoldsEntry, HoldsList, at_blob, at_entry}
 use Rattle.memo_format.specs.declared.entry.Entry.{Entry}
 use Rattle.memo_format.specs.declared.entry.OutputLine.{OutputLine}
 use Rattle.memo_format.specs.declared.selector.Selector.{Selector}
-use Rattle.content_store.specs.HeldEntries.{IsHeld}
 use Rattle.run_record.specs.Collisions.{contents_of}
 use Rattle.run_record.specs.Digests.{weak_of}
 use Rattle.two_phase_meaning.specs.Contents.{HoldsAll, HoldsPaths}
@@ -64,12 +63,9 @@ listed_in held e list b h is yes S told = (list, h S told, has_one (entry_select
 
 -- ## Entries
 
-pub entry_there : (held : Option Holdings) (own e : Entry) (b : Bool) → FindsOne held (λ S x. IsHeld S own.strong x) (Some e) → (IsTrue b → e ≡ own) → IsTrue b
-    → (S : Holdings) → held ≡ Some S → HoldsEntry S own
-entry_there held own e b h same yes S told = subst (HoldsEntry S) (same yes) (h S told).held
-
-pub same_entry : (a b : Entry) → a.weak ≡ b.weak → a.paths ≡ b.paths → a.strong ≡ b.strong → a.outputs ≡ b.outputs → a ≡ b
-same_entry a b weak paths strong outputs = grind
+pub entry_there : (held : Option Holdings) (e : Entry) (name text : List ℕ) (bytes : Vec ℕ Global) → name ≡ at_entry e.strong → read_entry_text text ≡ Some e
+    → held_names.Finds held name (got.Found bytes) → bytes.items ≡ text → (S : Holdings) → held ≡ Some S → HoldsEntry S e
+entry_there held e name text bytes named read h same S told = (bytes.items, ap (get S) (sym named) ∙ h S told, ap read_entry_text same ∙ read)
 
 -- ## Contents
 

@@ -1,9 +1,11 @@
--- Path sets that are read of what a store holds.
+-- Path sets and entries that are read of what a store holds.
 use Rattle.std.specs.Prelude.{◌≡◌, ℕ, List, Option, Some, None}
 use Rattle.sha2.specs.Sha256.{sha256}
 use Rattle.observed.specs.Texts.{read_paths_text}
 use Rattle.observed.specs.declared.ask.Ask.{Ask}
+use Rattle.memo_format.specs.Entries.{IsEntry, read_entry_text}
 use Rattle.memo_format.specs.PathsTexts.{IsPathsText, PathsText}
+use Rattle.memo_format.specs.declared.entry.Entry.{Entry}
 
 -- The text is read as a path set, or it is the text of none.
 abbrev pub ReadsText : List ℕ → Option PathsText → Type 0
@@ -14,3 +16,16 @@ ReadsText text (Some p) = IsPathsText p × (p.text ≡ text)
 abbrev pub ReadsSet : List ℕ → List ℕ → Option PathsText → Type 0
 ReadsSet bytes digest None = (asks : List Ask) → sha256 bytes ≡ digest → read_paths_text bytes ≡ Some asks → ⊥
 ReadsSet bytes digest (Some p) = IsPathsText p × ((p.text ≡ bytes) × (p.digest ≡ digest))
+
+-- an entry with its text
+pub record EntryText : Type 0 where
+  pub entry : Entry
+  pub text : List ℕ
+
+abbrev pub IsEntryText : EntryText → Type 0
+IsEntryText e = IsEntry e.entry × (read_entry_text e.text ≡ Some e.entry)
+
+-- A text that is held under a strong digest is read as an entry of it, or it is the text of none.
+abbrev pub ReadsEntry : List ℕ → List ℕ → Option EntryText → Type 0
+ReadsEntry text strong None = (e : Entry) → read_entry_text text ≡ Some e → e.strong ≡ strong → ⊥
+ReadsEntry text strong (Some e) = IsEntryText e × ((e.text ≡ text) × (e.entry.strong ≡ strong))

@@ -4,7 +4,7 @@ ghost use Rattle.sha2.specs.Sha256.{sha256};
 ghost use Rattle.bx_tree.specs.Trees.{NoneNested, paths_of};
 ghost use Rattle.content_store.specs.Contents.{IsContent};
 ghost use Rattle.content_store.specs.HeldEntries.{IsHeld};
-ghost use Rattle.memo_format.specs.Entries.{IsEntry, OutputsRise};
+ghost use Rattle.memo_format.specs.Entries.{OutputsRise};
 ghost use Rattle.memo_format.specs.Found.{output_lines};
 ghost use Rattle.memo_format.specs.PathsTexts.{PathsText};
 ghost use Rattle.memo_format.specs.Selectors.{read_selectors_text};
@@ -12,13 +12,14 @@ ghost use Rattle.memo_format.specs.StoreNames.{HoldsList};
 ghost use Rattle.two_phase_meaning.specs.Contents.{HoldsPaths};
 ghost use Rattle.two_phase.specs.Calls.{ReaderCall};
 ghost use Rattle.two_phase.specs.Finding.{AddsTo, AreOutputs, FindsOne, PutsIn};
+ghost use Rattle.two_phase.specs.ReadSets.{EntryText, IsEntryText, ReadsEntry};
 
 use crate::path_sets::PathSets;
 use crate::store_fault::StoreFault;
 use bx_digest::{Blob, Digest};
 use bx_io::{Got, KeepReader};
-use content_store::{Fetched, FetchedEntry, blob_name, get_blob, get_entry, list_name};
-use memo_format::{Entry, FormatFault, OutputLine, ReadPaths, Selector, read_selectors};
+use content_store::{Fetched, blob_name, entry_name, get_blob, list_name};
+use memo_format::{Entry, FormatFault, OutputLine, ReadPaths, Selector, read_entry, read_selectors};
 use pip_model_types::Made;
 use std::alloc::Global;
 use std::marker::Model;
@@ -37,6 +38,21 @@ impl Model for SelectorList {
     ghost Value = { List Selector };
 
     ghost view = { λ s. s.list.items };
+}
+
+// An entry with its text. Contracts see both.
+#[derive(Drop)]
+pub(crate) struct HeldEntry {
+    pub(crate) entry: Entry,
+    pub(crate) text: Vec<u8>,
+}
+
+impl Model for HeldEntry {
+    ghost use Rattle.two_phase.specs.ReadSets.{EntryText};
+
+    ghost Value = { EntryText };
+
+    ghost view = { λ e. record { entry = e.entry; text = e.text.items } };
 }
 
 impl SelectorList {
@@ -87,22 +103,45 @@ pub(crate) fn path_set<R: KeepReader>(
     }
 }
 
-// The entry of a strong digest.
+// The entry of a text that was held under a strong digest, with that text, if it is of that digest.
+fn read_held_entry(
+    alloc: Global,
+    text: Vec<u8>,
+    strong: &Digest,
+) -> Result<Option<HeldEntry>, StoreFault>
+    ensures read { IfOk result (ReadsEntry text.items strong.now) }
+    ensures no_fault { result ≢ Err StoreFault.Fault }
+{
+    match read_entry(alloc, text.as_slice()) {
+        Ok(entry) => {
+            if entry.strong == *strong {
+                Ok(Some(HeldEntry { entry, text }))
+            } else {
+                Ok(None)
+            }
+        }
+        Err(FormatFault::BadForm) => Ok(None),
+        Err(FormatFault::Memory) => Err(StoreFault::Memory),
+    }
+}
+
+// The entry of a strong digest, with its text.
 pub(crate) fn entry<R: KeepReader>(
     alloc: Global,
     reader: &mut R,
     strong: &Digest,
-) -> Result<Option<Entry>, StoreFault>
-    ensures found { IfOk result (FindsOne (R.held reader.new) (λ S e. IsHeld S strong.now e)) }
-    ensures entry { IfOk result (λ found. IfSome found (λ e. IsEntry e × (e.strong ≡ strong.now))) }
+) -> Result<Option<HeldEntry>, StoreFault>
+    ensures found { IfOk result (FindsOne (R.held reader.new) (λ S (e : EntryText). IsHeld S strong.now e.entry)) }
+    ensures entry { IfOk result (λ found. IfSome found (λ e. IsEntryText e × (e.entry.strong ≡ strong.now))) }
     ensures reader { ReaderCall (R.held reader.old) (R.held reader.new) (R.bound reader.old) (R.bound reader.new)
         (R.faults reader.old) (R.faults reader.new) (result ≡ Err StoreFault.Fault) }
 {
-    match get_entry(alloc, reader, strong) {
-        FetchedEntry::Found(entry) => Ok(Some(entry)),
-        FetchedEntry::NotWell => Ok(None),
-        FetchedEntry::Fault => Err(StoreFault::Fault),
-        FetchedEntry::Memory => Err(StoreFault::Memory),
+    let name = entry_name(alloc, strong)?;
+    match reader.get(alloc, name.as_str()) {
+        Got::Found(text) => read_held_entry(alloc, text, strong),
+        Got::None => Ok(None),
+        Got::Failed => Err(StoreFault::Fault),
+        Got::Memory => Err(StoreFault::Memory),
     }
 }
 

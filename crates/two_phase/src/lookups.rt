@@ -8,9 +8,10 @@ ghost use Rattle.run_record.specs.Digests.{IsReadBack, weak_of};
 ghost use Rattle.two_phase_meaning.specs.Usable.{fits as all_fit};
 ghost use Rattle.two_phase.specs.Calls.{ReaderCall};
 ghost use Rattle.two_phase.specs.Finding.{FindsOne, HasParts, IsEntryFor, IsNamedBy, IsOf, IsOn, IsStrongMatch, IsWith};
+ghost use Rattle.two_phase.specs.ReadSets.{EntryText, IsEntryText};
 ghost use Rattle.two_phase.specs.Lookups.{FindsFirst, FindsUsable, IsCurrentHit, LeadsTo, LookupGives, LookupHitIsCurrent};
 
-use crate::fetching::{entry, outputs, path_set, selectors};
+use crate::fetching::{HeldEntry, entry, outputs, path_set, selectors};
 use crate::fitting::fits;
 use crate::path_sets::PathSets;
 use crate::store_fault::StoreFault;
@@ -75,26 +76,27 @@ fn is_taken(entry: &Entry, desc: &Desc, weak: &Digest, paths: &Digest) -> bool
     entry.weak == *weak && entry.paths == *paths && fits(&desc.process, entry.outputs.lines())
 }
 
-// The entry to which a selector of a process leads, if its outputs fit.
+// The entry to which a selector of a process leads, with its text, if its outputs fit.
 fn entry_for<R: KeepReader>(
     alloc: Global,
     reader: &mut R,
     desc: &Desc,
     weak: &Digest,
     selector: &Selector,
-) -> Result<Option<Entry>, StoreFault>
+) -> Result<Option<HeldEntry>, StoreFault>
     requires { weak.now ≡ weak_of desc.now }
-    ensures found { IfOk result (FindsOne (R.held reader.new) (λ S e. IsEntryFor S desc.now selector.now e)) }
-    ensures entry { IfOk result (λ found. IfSome found (λ e. IsNamedBy desc.now selector.now e × OutputsRise e.outputs)) }
+    ensures found { IfOk result (FindsOne (R.held reader.new)
+        (λ S (e : EntryText). IsEntryFor S desc.now selector.now e.entry)) }
+    ensures entry { IfOk result (λ found. IfSome found (λ e. IsNamedBy desc.now selector.now e.entry × IsEntryText e)) }
     ensures fit { IfOk result (λ found. IfSome found (λ e.
-        IsTrue (all_fit desc.now.process (output_paths e.outputs)))) }
+        IsTrue (all_fit desc.now.process (output_paths e.entry.outputs)))) }
     ensures reader { ReaderCall (R.held reader.old) (R.held reader.new) (R.bound reader.old) (R.bound reader.new)
         (R.faults reader.old) (R.faults reader.new) (result ≡ Err StoreFault.Fault) }
 {
     match entry(alloc, reader, &selector.strong)? {
-        Some(entry) => {
-            if is_taken(&entry, desc, weak, &selector.paths) {
-                Ok(Some(entry))
+        Some(held) => {
+            if is_taken(&held.entry, desc, weak, &selector.paths) {
+                Ok(Some(held))
             } else {
                 Ok(None)
             }
@@ -107,24 +109,25 @@ fn entry_for<R: KeepReader>(
 fn with_outputs<R: KeepReader>(
     alloc: Global,
     reader: &mut R,
-    entry: Entry,
+    held: HeldEntry,
     paths: ReadPaths,
     answers: Vec<Answer>,
 ) -> Result<Option<Found>, StoreFault>
-    requires rise { OutputsRise entry.outputs }
+    requires entry { IsEntryText held }
     requires one_each { length answers.items ≡ length paths.asks }
-    requires paths { paths.digest ≡ entry.paths }
-    requires strong { sha256 (strong_text (strong_parts (has_match paths.asks) entry.weak entry.paths answers.items))
-        ≡ entry.strong }
+    requires paths { paths.digest ≡ held.entry.paths }
+    requires strong { sha256 (strong_text
+        (strong_parts (has_match paths.asks) held.entry.weak held.entry.paths answers.items)) ≡ held.entry.strong }
     ensures found { IfOk result (FindsOne (R.held reader.new)
-        (λ S found. IsWith S entry paths.asks answers.items found)) }
-    ensures parts { IfOk result (λ found. IfSome found (HasParts entry paths.asks answers.items)) }
+        (λ S found. IsWith S held.entry paths.asks answers.items found)) }
+    ensures parts { IfOk result (λ found. IfSome found (HasParts held.entry paths.asks answers.items)) }
     ensures reader { ReaderCall (R.held reader.old) (R.held reader.new) (R.bound reader.old) (R.bound reader.new)
         (R.faults reader.old) (R.faults reader.new) (result ≡ Err StoreFault.Fault) }
 {
-    match outputs(alloc, reader, entry.outputs.lines())? {
+    match outputs(alloc, reader, held.entry.outputs.lines())? {
         Some(made) => {
-            let found = Found::new(alloc, entry, paths, answers, made)?;
+            let HeldEntry { entry, text } = held;
+            let found = Found::new(alloc, entry, text, paths, answers, made)?;
             Ok(Some(found))
         }
         None => Ok(None),
@@ -153,7 +156,7 @@ fn found_by<R: KeepReader>(
         (R.faults reader.old) (R.faults reader.new) (result ≡ Err StoreFault.Fault) }
 {
     match entry_for(alloc, reader, desc, weak, selector)? {
-        Some(entry) => with_outputs(alloc, reader, entry, paths, answers),
+        Some(held) => with_outputs(alloc, reader, held, paths, answers),
         None => Ok(None),
     }
 }

@@ -1,10 +1,11 @@
-//! Whether a store still has what was found in it. Nothing is hashed for that but the seals of the list and of the entry: what is
-//! held is compared, byte by byte, with what was found.
-ghost use Rattle.std.specs.Prelude.{◌≡◌, ◌↔◌, ℕ, Err, IfOk, IsTrue, List, Some};
+//! Whether a store still has what was found in it. Nothing is hashed for that but the seal of the list: what is held is compared,
+//! byte by byte, with what was found.
+ghost use Rattle.std.specs.Prelude.{◌≡◌, Err, IfOk, IsTrue, Some};
 ghost use Rattle.std.specs.List.{list_any};
 ghost use Rattle.sha2.specs.Sha256.{sha256};
 ghost use Rattle.bx_io.specs.Holdings.{Holdings};
 ghost use Rattle.bx_tree.specs.Trees.{paths_of};
+ghost use Rattle.memo_format.specs.Entries.{read_entry_text};
 ghost use Rattle.memo_format.specs.StoreNames.{HoldsBlob, HoldsEntry};
 ghost use Rattle.pip_model_types.specs.Made.{made_files};
 ghost use Rattle.run_record.specs.Collisions.{contents_of};
@@ -14,14 +15,14 @@ ghost use Rattle.two_phase_meaning.specs.Usable.{fits as all_fit};
 ghost use Rattle.two_phase.specs.Calls.{ReaderCall};
 ghost use Rattle.two_phase.specs.Kept.{IsListed, Keeps, entry_selector};
 
-use crate::fetching::{entry, selectors};
+use crate::fetching::selectors;
 use crate::fitting::fits;
 use crate::saving::is_same;
 use crate::store_fault::StoreFault;
 use bx_digest::Digest;
 use bx_io::{Got, KeepReader};
-use content_store::blob_name;
-use memo_format::{Entry, Found, OutputLine, ReadPaths, Selector};
+use content_store::{blob_name, entry_name};
+use memo_format::{Entry, Found, ReadPaths, Selector};
 use pip_model_types::{MadeFile, ProcessDesc};
 use std::alloc::Global;
 
@@ -38,7 +39,7 @@ pub enum Rechecked {
     Memory,
 }
 
-// ## Entries
+// ## Selectors
 
 // Whether one of the selectors of a list leads to an entry.
 fn has_selector(list: &[Selector], entry: &Entry) -> bool
@@ -49,38 +50,6 @@ fn has_selector(list: &[Selector], entry: &Entry) -> bool
         strong: entry.strong,
     };
     list.iter().any(|selector| is_same(&own, selector))
-}
-
-// Whether an output is another, by path and digest.
-fn is_same_output(a: &OutputLine, b: &OutputLine) -> bool
-    ensures { IsTrue result ↔ a.now ≡ b.now }
-{
-    a.path == b.path && a.digest == b.digest
-}
-
-// Whether outputs are the same, in order.
-fn are_same_outputs(a: &[OutputLine], b: &[OutputLine]) -> bool
-    ensures { IsTrue result ↔ a.now ≡ b.now }
-{
-    if a.len() != b.len() {
-        return false;
-    }
-    'outputs: for place in 0..a.len() {
-        if !is_same_output(&a[place], &b[place]) {
-            return false;
-        }
-    }
-    true
-}
-
-// Whether an entry is another.
-fn is_same_entry(a: &Entry, b: &Entry) -> bool
-    ensures { IsTrue result → a.now ≡ b.now }
-{
-    if a.weak != b.weak || a.paths != b.paths || a.strong != b.strong {
-        return false;
-    }
-    are_same_outputs(a.outputs.lines(), b.outputs.lines())
 }
 
 // ## What is held
@@ -101,19 +70,24 @@ fn is_listed<R: KeepReader>(
     }
 }
 
-// Whether an entry is held under its own strong digest.
+// Whether the text of an entry is held under the entry's strong digest.
 fn has_entry<R: KeepReader>(
     alloc: Global,
     reader: &mut R,
-    own: &Entry,
+    entry: &Entry,
+    text: &[u8],
 ) -> Result<bool, StoreFault>
-    ensures held { IfOk result (λ held. IsTrue held → (S : Holdings) → R.held reader.new ≡ Some S → HoldsEntry S own.now) }
+    requires { read_entry_text text.now ≡ Some entry.now }
+    ensures held { IfOk result (λ held. IsTrue held → (S : Holdings) → R.held reader.new ≡ Some S → HoldsEntry S entry.now) }
     ensures reader { ReaderCall (R.held reader.old) (R.held reader.new) (R.bound reader.old) (R.bound reader.new)
         (R.faults reader.old) (R.faults reader.new) (result ≡ Err StoreFault.Fault) }
 {
-    match entry(alloc, reader, &own.strong)? {
-        Some(held) => Ok(is_same_entry(&held, own)),
-        None => Ok(false),
+    let name = entry_name(alloc, &entry.strong)?;
+    match reader.get(alloc, name.as_str()) {
+        Got::Found(bytes) => Ok(bytes.as_slice() == text),
+        Got::None => Ok(false),
+        Got::Failed => Err(StoreFault::Fault),
+        Got::Memory => Err(StoreFault::Memory),
     }
 }
 
@@ -189,7 +163,7 @@ fn is_kept<R: KeepReader>(
     if !listed {
         return Ok(false);
     }
-    let there = has_entry(alloc, reader, entry)?;
+    let there = has_entry(alloc, reader, entry, found.entry_text())?;
     if !there {
         return Ok(false);
     }
