@@ -11,7 +11,7 @@ use Rattle.bx_io.specs.declared.keeper.Got.TheVariants as got
 use Rattle.observed.specs.Texts.{read_paths_text}
 use Rattle.observed.specs.declared.ask.Ask.{Ask}
 use Rattle.pip_model_types.specs.declared.desc.Desc.{Desc}
-use Rattle.memo_format.specs.Entries.{IsEntry, entry_text, output_paths, read_entry_text}
+use Rattle.memo_format.specs.Entries.{IsEntry, output_paths, read_entry_text}
 use Rattle.memo_format.specs.Selectors.{read_selectors_text}
 use Rattle.memo_format.specs.StoreNames.{HoldsList, at_blob, at_entry, at_list}
 use Rattle.memo_format.specs.declared.entry.Entry.{Entry}
@@ -127,9 +127,9 @@ no_asks held digest h = λ S is asks. h S is (record { text = []; digest = []; a
 -- ## Entries
 
 -- the entry of a text, with the text
-pub entry_read : (text bytes strong : List ℕ) (e : EntryText) → IsEntry e.entry → bytes ≡ text → e.text ≡ text → bytes ≡ entry_text e.entry → e.entry.strong ≡ strong
+pub entry_read : (text bytes strong : List ℕ) (e : EntryText) → IsEntry e.entry → bytes ≡ text → e.text ≡ text → e.entry.strong ≡ strong
     → read_entry_text bytes ≡ Some e.entry → ReadsEntry text strong (Some e)
-entry_read text bytes strong e is same own written strong_is read = ((is, ap read_entry_text (own ∙ sym same) ∙ read), (own, strong_is))
+entry_read text bytes strong e is same own strong_is read = ((is, ap read_entry_text (own ∙ sym same) ∙ read), (own, strong_is))
 
 pub entry_other : (text bytes strong : List ℕ) (e : Entry) → bytes ≡ text → read_entry_text bytes ≡ Some e → (e.strong ≡ strong → ⊥) → ReadsEntry text strong None
 entry_other text bytes strong e same read other = λ x there is.
