@@ -70,6 +70,13 @@ fn is_listed<R: KeepReader>(
     }
 }
 
+// Whether bytes are the same.
+fn are_same_bytes(a: &[u8], b: &[u8]) -> bool
+    ensures { IsTrue result → a.now ≡ b.now }
+{
+    a == b
+}
+
 // Whether the text of an entry is held under the entry's strong digest.
 fn has_entry<R: KeepReader>(
     alloc: Global,
@@ -84,7 +91,7 @@ fn has_entry<R: KeepReader>(
 {
     let name = entry_name(alloc, &entry.strong)?;
     match reader.get(alloc, name.as_str()) {
-        Got::Found(bytes) => Ok(bytes.as_slice() == text),
+        Got::Found(bytes) => Ok(are_same_bytes(bytes.as_slice(), text)),
         Got::None => Ok(false),
         Got::Failed => Err(StoreFault::Fault),
         Got::Memory => Err(StoreFault::Memory),
@@ -105,7 +112,7 @@ fn has_content<R: KeepReader>(
 {
     let name = blob_name(alloc, digest)?;
     match reader.get(alloc, name.as_str()) {
-        Got::Found(bytes) => Ok(bytes.as_slice() == content),
+        Got::Found(bytes) => Ok(are_same_bytes(bytes.as_slice(), content)),
         Got::None => Ok(false),
         Got::Failed => Err(StoreFault::Fault),
         Got::Memory => Err(StoreFault::Memory),
@@ -199,8 +206,13 @@ pub fn recheck<R: KeepReader>(
         return Rechecked::Changed;
     }
     match is_kept(alloc, reader, found) {
-        Ok(true) => Rechecked::Kept,
-        Ok(false) => Rechecked::Changed,
+        Ok(kept) => {
+            if kept {
+                Rechecked::Kept
+            } else {
+                Rechecked::Changed
+            }
+        }
         Err(StoreFault::Fault) => Rechecked::Fault,
         Err(StoreFault::Memory) => Rechecked::Memory,
     }
