@@ -19,7 +19,7 @@ use Rattle.memo_format.specs.declared.entry.OutputLine.{OutputLine}
 use Rattle.memo_format.specs.declared.selector.Selector.{Selector}
 use Rattle.content_store.specs.Contents.{Fetches, IsContent}
 use Rattle.content_store.specs.HeldEntries.{IsHeld}
-use Rattle.content_store.proofs.HeldEntries.{none_and_some}
+use Rattle.content_store.proofs.HeldEntries.{another_entry, none_and_some}
 use Rattle.content_store.specs.declared.content.Fetched.TheVariants as fetched
 use Rattle.two_phase_meaning.specs.Contents.{HoldsPaths}
 use Rattle.two_phase_meaning.specs.Saving.{or_none, selectors_in}
@@ -67,8 +67,8 @@ no_put held files o h = inl h
 -- ## Path sets
 
 -- a text of none
-pub text_bad : (text bytes : List ℕ) → bytes ≡ text → read_paths_text bytes ≡ None → ReadsText text None
-text_bad text bytes same none = λ asks e. none_and_some (read_paths_text bytes) asks none (ap read_paths_text same ∙ e)
+pub text_bad : (text : List ℕ) (asks : List Ask) → read_paths_text text ≡ None → read_paths_text text ≡ Some asks → ⊥
+text_bad text asks none there = none_and_some (read_paths_text text) asks none there
 
 -- that of bytes which have the digest
 pub set_read : {E : Type 0} (bytes digest text : List ℕ) (r : Result (Option PathsText) E) → text ≡ bytes → sha256 bytes ≡ digest → IfOk r (ReadsText text)
@@ -76,9 +76,6 @@ pub set_read : {E : Type 0} (bytes digest text : List ℕ) (r : Result (Option P
 set_read bytes digest text (Ok None) same is h = λ asks e read. h asks (ap read_paths_text same ∙ read)
 set_read bytes digest text (Ok (Some p)) same is h = (h.0, h.1 ∙ same, h.0.digest_is ∙ ap sha256 (h.1 ∙ same) ∙ is)
 set_read bytes digest text (Err e) same is h = tt
-
-pub other_bytes : (bytes digest : List ℕ) → (sha256 bytes ≡ digest → ⊥) → ReadsSet bytes digest None
-other_bytes bytes digest other = λ asks e read. other e
 
 -- one that was read before
 pub set_kept : (bytes slice digest : List ℕ) (o : Option PathsText) (p : PathsText) → slice ≡ bytes → o ≡ Some p
@@ -131,12 +128,12 @@ pub entry_read : (text bytes strong : List ℕ) (e : EntryText) → IsEntry e.en
     → read_entry_text bytes ≡ Some e.entry → ReadsEntry text strong (Some e)
 entry_read text bytes strong e is same own strong_is read = ((is, ap read_entry_text (own ∙ sym same) ∙ read), (own, strong_is))
 
-pub entry_other : (text bytes strong : List ℕ) (e : Entry) → bytes ≡ text → read_entry_text bytes ≡ Some e → (e.strong ≡ strong → ⊥) → ReadsEntry text strong None
-entry_other text bytes strong e same read other = λ x there is.
-    other (ap (λ (y : Entry). y.strong) (same_Some e x (sym read ∙ ap read_entry_text same ∙ there)) ∙ is)
+pub entry_other : (text strong : List ℕ) (e other : Entry) → read_entry_text text ≡ Some e → (e.strong ≡ strong → ⊥) → read_entry_text text ≡ Some other
+    → other.strong ≡ strong → ⊥
+entry_other text strong e other read apart there is = another_entry text strong e other read apart there is
 
-pub entry_bad : (text bytes strong : List ℕ) → bytes ≡ text → read_entry_text bytes ≡ None → ReadsEntry text strong None
-entry_bad text bytes strong same none = λ e there is. none_and_some (read_entry_text bytes) e none (ap read_entry_text same ∙ there)
+pub entry_bad : (text strong : List ℕ) (other : Entry) → read_entry_text text ≡ None → read_entry_text text ≡ Some other → other.strong ≡ strong → ⊥
+entry_bad text strong other none there is = none_and_some (read_entry_text text) other none there
 
 -- as a call finds the text
 pub entry_held : {E : Type 0} (held : Option Holdings) (strong name : List ℕ) (text : Vec ℕ Global) (r : Result (Option EntryText) E) → name ≡ at_entry strong

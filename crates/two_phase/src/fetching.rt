@@ -104,6 +104,7 @@ pub(crate) fn path_set<R: KeepReader>(
 }
 
 // The entry of a text that was held under a strong digest, with that text, if it is of that digest.
+#[tactic(auto, using(crate::proofs::Fetched::entry_other, crate::proofs::Fetched::entry_bad))]
 fn read_held_entry(
     alloc: Global,
     text: Vec<u8>,

@@ -19,6 +19,7 @@ pub struct PathSets {
 }
 
 // The path set of a text, with that text, if it is one.
+#[tactic(auto, using(crate::proofs::Fetched::text_bad))]
 fn read_text(alloc: Global, text: Blob) -> Result<Option<ReadPaths>, StoreFault>
     ensures read { IfOk result (ReadsText text) }
     ensures no_fault { result ≢ Err StoreFault.Fault }
