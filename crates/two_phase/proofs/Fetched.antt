@@ -11,7 +11,7 @@ use Rattle.bx_io.specs.declared.keeper.Got.TheVariants as got
 use Rattle.observed.specs.Texts.{read_paths_text}
 use Rattle.observed.specs.declared.ask.Ask.{Ask}
 use Rattle.pip_model_types.specs.declared.desc.Desc.{Desc}
-use Rattle.memo_format.specs.Entries.{IsEntry, output_paths, read_entry_text}
+use Rattle.memo_format.specs.Entries.{output_paths, read_entry_text}
 use Rattle.memo_format.specs.Selectors.{read_selectors_text}
 use Rattle.memo_format.specs.StoreNames.{HoldsList, at_blob, at_entry, at_list}
 use Rattle.memo_format.specs.declared.entry.Entry.{Entry}
@@ -27,7 +27,8 @@ use Rattle.run_record.specs.Digests.{weak_of}
 use Rattle.two_phase_meaning.specs.Usable.{fits}
 use Rattle.memo_format.specs.PathsTexts.{IsPathsText, PathsText}
 use Rattle.two_phase.specs.Putting.{IsListAt}
-use Rattle.two_phase.specs.ReadSets.{EntryText, IsEntryText, ReadsEntry, ReadsSet, ReadsText}
+use Rattle.two_phase.specs.ReadSets.{IsEntryText, ReadsEntry, ReadsSet, ReadsText, entry_in}
+use Rattle.two_phase.specs.declared.fetching.HeldEntry.{HeldEntry}
 use Rattle.two_phase.specs.Finding.{AddsTo, FindsOne, IsEntryFor, PutsIn}
 
 -- ## One thing is held under a name
@@ -123,11 +124,7 @@ no_asks held digest h = λ S is asks. h S is (record { text = []; digest = []; a
 
 -- ## Entries
 
--- the entry of a text, with the text
-pub entry_read : (text bytes strong : List ℕ) (e : EntryText) → IsEntry e.entry → bytes ≡ text → e.text ≡ text → e.entry.strong ≡ strong
-    → read_entry_text bytes ≡ Some e.entry → ReadsEntry text strong (Some e)
-entry_read text bytes strong e is same own strong_is read = ((is, ap read_entry_text (own ∙ sym same) ∙ read), (own, strong_is))
-
+-- the entry of a text
 pub entry_other : (text strong : List ℕ) (e other : Entry) → read_entry_text text ≡ Some e → (e.strong ≡ strong → ⊥) → read_entry_text text ≡ Some other
     → other.strong ≡ strong → ⊥
 entry_other text strong e other read apart there is = another_entry text strong e other read apart there is
@@ -136,12 +133,13 @@ pub entry_bad : (text strong : List ℕ) (other : Entry) → read_entry_text tex
 entry_bad text strong other none there is = none_and_some (read_entry_text text) other none there
 
 -- as a call finds the text
-pub entry_held : {E : Type 0} (held : Option Holdings) (strong name : List ℕ) (text : Vec ℕ Global) (r : Result (Option EntryText) E) → name ≡ at_entry strong
-    → held_names.Finds held name (got.Found text) → IfOk r (ReadsEntry text.items strong) → IfOk r (FindsOne held (λ S (e : EntryText). IsHeld S strong e.entry))
+pub entry_held : {E : Type 0} (held : Option Holdings) (strong name : List ℕ) (text : Vec ℕ Global) (r : Result (Option HeldEntry) E) → name ≡ at_entry strong
+    → held_names.Finds held name (got.Found text) → IfOk r (ReadsEntry text.items strong)
+    → IfOk r (λ o. FindsOne held (λ S e. IsHeld S strong e) (entry_in o))
 entry_held held strong name text (Ok None) named h read = λ S is e there.
     let same : text.items ≡ there.held.0 =
     same_Some text.items there.held.0 (sym (h S is) ∙ ap (get S) (named ∙ ap at_entry (sym there.strong_is)) ∙ there.held.1) in
-    read e.entry (ap read_entry_text same ∙ there.held.2) there.strong_is
+    read e (ap read_entry_text same ∙ there.held.2) there.strong_is
 entry_held held strong name text (Ok (Some e)) named h read = λ S is. record {
   held = (
     text.items,
@@ -152,27 +150,16 @@ entry_held held strong name text (Ok (Some e)) named h read = λ S is. record {
 }
 entry_held held strong name text (Err x) named h read = tt
 
-pub entry_named : {E : Type 0} (text strong : List ℕ) (r : Result (Option EntryText) E) → IfOk r (ReadsEntry text strong)
-    → IfOk r (λ o. IfSome o (λ (e : EntryText). IsEntryText e × (e.entry.strong ≡ strong)))
+pub entry_named : {E : Type 0} (text strong : List ℕ) (r : Result (Option HeldEntry) E) → IfOk r (ReadsEntry text strong)
+    → IfOk r (λ o. IfSome o (λ (e : HeldEntry). IsEntryText e × (e.entry.strong ≡ strong)))
 entry_named text strong (Ok None) read = tt
 entry_named text strong (Ok (Some e)) read = (read.0, read.1.1)
 entry_named text strong (Err x) read = tt
 
 pub no_entry : (held : Option Holdings) (strong name : List ℕ) → name ≡ at_entry strong → held_names.Finds held name got.None
-    → FindsOne held (λ S (e : EntryText). IsHeld S strong e.entry) None
+    → FindsOne held (λ S e. IsHeld S strong e) None
 no_entry held strong name named h = λ S is e there.
     none_and_some (get S name) there.held.0 (h S is) (ap (get S) (named ∙ ap at_entry (sym there.strong_is)) ∙ there.held.1)
-
--- without the text
-pub entry_alone : (held : Option Holdings) (P : Holdings → Entry → Type 0) (e : EntryText) → FindsOne held (λ S (x : EntryText). P S x.entry) (Some e)
-    → FindsOne held P (Some e.entry)
-entry_alone held P e h = h
-
-pub none_alone : (held : Option Holdings) (P : Holdings → Entry → Type 0) → FindsOne held (λ S (x : EntryText). P S x.entry) None → FindsOne held P None
-none_alone held P h = λ S is e. h S is (record { entry = e; text = [] })
-
-pub none_with_text : (held : Option Holdings) (P : Holdings → Entry → Type 0) → FindsOne held P None → FindsOne held (λ S (x : EntryText). P S x.entry) None
-none_with_text held P h = λ S is e. h S is e.entry
 
 -- what an entry must be to be taken
 abbrev pub IsTaken : Desc → Selector → Entry → Type 0

@@ -12,7 +12,7 @@ ghost use Rattle.memo_format.specs.StoreNames.{HoldsList};
 ghost use Rattle.two_phase_meaning.specs.Contents.{HoldsPaths};
 ghost use Rattle.two_phase.specs.Calls.{ReaderCall};
 ghost use Rattle.two_phase.specs.Finding.{AddsTo, AreOutputs, FindsOne, PutsIn};
-ghost use Rattle.two_phase.specs.ReadSets.{EntryText, IsEntryText, ReadsEntry};
+ghost use Rattle.two_phase.specs.ReadSets.{IsEntryText, ReadsEntry, entry_in};
 
 use crate::path_sets::PathSets;
 use crate::store_fault::StoreFault;
@@ -40,19 +40,11 @@ impl Model for SelectorList {
     ghost view = { λ s. s.list.items };
 }
 
-// An entry with its text. Contracts see both.
+// An entry with its text.
 #[derive(Drop)]
 pub(crate) struct HeldEntry {
     pub(crate) entry: Entry,
     pub(crate) text: Vec<u8>,
-}
-
-impl Model for HeldEntry {
-    ghost use Rattle.two_phase.specs.ReadSets.{EntryText};
-
-    ghost Value = { EntryText };
-
-    ghost view = { λ e. record { entry = e.entry; text = e.text.items } };
 }
 
 impl SelectorList {
@@ -132,8 +124,8 @@ pub(crate) fn entry<R: KeepReader>(
     reader: &mut R,
     strong: &Digest,
 ) -> Result<Option<HeldEntry>, StoreFault>
-    ensures found { IfOk result (FindsOne (R.held reader.new) (λ S (e : EntryText). IsHeld S strong.now e.entry)) }
-    ensures entry { IfOk result (λ found. IfSome found (λ e. IsEntryText e × (e.entry.strong ≡ strong.now))) }
+    ensures found { IfOk result (λ found. FindsOne (R.held reader.new) (λ S e. IsHeld S strong.now e) (entry_in found)) }
+    ensures entry { IfOk result (λ found. IfSome found (λ h. IsEntryText h × (h.entry.strong ≡ strong.now))) }
     ensures reader { ReaderCall (R.held reader.old) (R.held reader.new) (R.bound reader.old) (R.bound reader.new)
         (R.faults reader.old) (R.faults reader.new) (result ≡ Err StoreFault.Fault) }
 {

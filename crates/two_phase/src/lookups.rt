@@ -8,7 +8,7 @@ ghost use Rattle.run_record.specs.Digests.{IsReadBack, weak_of};
 ghost use Rattle.two_phase_meaning.specs.Usable.{fits as all_fit};
 ghost use Rattle.two_phase.specs.Calls.{ReaderCall};
 ghost use Rattle.two_phase.specs.Finding.{FindsOne, HasParts, IsEntryFor, IsNamedBy, IsOf, IsOn, IsStrongMatch, IsWith};
-ghost use Rattle.two_phase.specs.ReadSets.{EntryText, IsEntryText};
+ghost use Rattle.two_phase.specs.ReadSets.{IsEntryText, entry_in};
 ghost use Rattle.two_phase.specs.Lookups.{FindsFirst, FindsUsable, IsCurrentHit, LeadsTo, LookupGives, LookupHitIsCurrent};
 
 use crate::fetching::{HeldEntry, entry, outputs, path_set, selectors};
@@ -85,11 +85,11 @@ fn entry_for<R: KeepReader>(
     selector: &Selector,
 ) -> Result<Option<HeldEntry>, StoreFault>
     requires { weak.now ≡ weak_of desc.now }
-    ensures found { IfOk result (FindsOne (R.held reader.new)
-        (λ S (e : EntryText). IsEntryFor S desc.now selector.now e.entry)) }
-    ensures entry { IfOk result (λ found. IfSome found (λ e. IsNamedBy desc.now selector.now e.entry × IsEntryText e)) }
-    ensures fit { IfOk result (λ found. IfSome found (λ e.
-        IsTrue (all_fit desc.now.process (output_paths e.entry.outputs)))) }
+    ensures found { IfOk result (λ found. FindsOne (R.held reader.new)
+        (λ S e. IsEntryFor S desc.now selector.now e) (entry_in found)) }
+    ensures entry { IfOk result (λ found. IfSome found (λ h. IsNamedBy desc.now selector.now h.entry × IsEntryText h)) }
+    ensures fit { IfOk result (λ found. IfSome found (λ h.
+        IsTrue (all_fit desc.now.process (output_paths h.entry.outputs)))) }
     ensures reader { ReaderCall (R.held reader.old) (R.held reader.new) (R.bound reader.old) (R.bound reader.new)
         (R.faults reader.old) (R.faults reader.new) (result ≡ Err StoreFault.Fault) }
 {
