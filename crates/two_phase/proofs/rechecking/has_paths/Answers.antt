@@ -7,7 +7,7 @@ use Rattle.two_phase.proofs.rechecking.has_paths.Goals as goal
 
 pub has_content-requires : goal.has_content-requires
 has_content-requires g c =
-    c.digest.ensures.digest ∙ c.text.ensures.read.digest_is ∙ ap sha256 (sym (c.bytes.ensures ∙ c.text.ensures.text))
+    c.digest-digest.ensures.digest ∙ c.text.ensures.read.digest_is ∙ ap sha256 (sym (c.bytes.ensures ∙ c.text.ensures.text))
 
 pub returns-clause-held : goal.returns-clause-held
 returns-clause-held g c =
