@@ -19,7 +19,6 @@ use Rattle.run_record.specs.Holding.{HoldsNow, at_desc}
 use Rattle.run_record.proofs.SameWork.{holds_run}
 use Rattle.run_record.specs.Outcomes.{outcome_of}
 use Rattle.run_record.specs.declared.outcome.Outcome.TheVariants.{Good}
-use Rattle.memo_format.specs.Found.{FoundParts}
 use Rattle.run_record.specs.Collisions.{NoCollision}
 use Rattle.two_phase_meaning.specs.Honest.{Honest, IsGoodRun}
 use Rattle.two_phase_meaning.specs.Compared.{ComparedInRun}

@@ -1,5 +1,5 @@
 -- Hits in slots that are of now, and that the store still has.
-use Rattle.std.proofs.Common.{◌≡◌, ℕ, true, Option, Some, None, Result, Ok, Err, IfOk, refl, sym, ap, ◌∙◌, subst, arith}
+use Rattle.std.proofs.Common.{◌≡◌, ℕ, Option, Some, None, Result, Ok, Err, IfOk, sym, subst}
 use Rattle.std.specs.Prelude.{IfSome, IsSomeAnd, IsTrue}
 use Rattle.bx_tree.specs.Trees.{Files, paths_of}
 use Rattle.pip_model_types.specs.declared.desc.Desc.{Desc}

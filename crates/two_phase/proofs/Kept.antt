@@ -1,5 +1,5 @@
 -- What a store still has of what was found in it.
-use Rattle.std.proofs.Common.{◌≡◌, ℕ, ◌+◌, ◌<◌, ◌≤◌, Bool, true, false, List, [], ◌∷◌, length, get_or, drop, map, Option, Some, None, Result, Ok, Err, IfOk, Vec, Global, refl, sym, ap, ◌∙◌, subst, inl, inr}
+use Rattle.std.proofs.Common.{◌≡◌, ℕ, ◌+◌, ◌<◌, ◌≤◌, Bool, true, false, List, [], ◌∷◌, length, get_or, drop, Option, Some, Vec, Global, refl, sym, ap, ◌∙◌, subst, inl, inr}
 use Rattle.std.specs.Prelude.{IsTrue}
 use Rattle.std.specs.FinMap.{get}
 use Rattle.std.specs.List.{list_any}
@@ -13,7 +13,7 @@ use Rattle.bx_io.specs.Told.{Stays}
 use Rattle.bx_io.specs.declared.keeper.Got.TheVariants as got
 use Rattle.bx_tree.specs.Members.{Has}
 use Rattle.bx_tree.specs.Trees.{Files, NoneNested, paths_of}
-use Rattle.observed.specs.Texts.{has_match, read_paths_text}
+use Rattle.observed.specs.Texts.{has_match}
 use Rattle.observed.specs.declared.ask.Ask.{Ask}
 use Rattle.observed.specs.declared.access.Answer.{Answer}
 use Rattle.pip_model_types.specs.Made.{RisingFiles, made_files}
@@ -23,7 +23,7 @@ use Rattle.prints.specs.Strong.{strong_parts, strong_text}
 use Rattle.memo_format.specs.Entries.{OutputsRise, output_paths, read_entry_text}
 use Rattle.std.specs.List.Sorted.{IsStrictlySortedBy}
 use Rattle.bx_tree.specs.Paths.{Atoms, path_cmp}
-use Rattle.memo_format.specs.Found.{FoundParts, IsFound, output_lines}
+use Rattle.memo_format.specs.Found.{FoundParts, IsFound}
 use Rattle.memo_format.specs.PathsTexts.{IsPathsText, PathsText}
 use Rattle.memo_format.specs.StoreNames.{HoldsBlob, HoldsEntry, HoldsList, at_blob, at_entry}
 use Rattle.memo_format.specs.declared.entry.Entry.{Entry}

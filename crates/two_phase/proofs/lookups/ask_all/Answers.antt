@@ -1,4 +1,3 @@
-use Rattle.std.proofs.Common.{ap, ◌∙◌}
 use Rattle.two_phase.proofs.Tried.{written_digest}
 use Rattle.two_phase.proofs.lookups.ask_all.Goals as goal
 

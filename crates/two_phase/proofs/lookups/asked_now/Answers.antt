@@ -1,5 +1,4 @@
-use Rattle.std.proofs.Common.{◌≡◌, List, ap, ◌∙◌, sym, true≢false}
-use Rattle.std.specs.Prelude.{map}
+use Rattle.std.proofs.Common.{◌∙◌, sym, true≢false}
 use Rattle.std.proofs.lemmas.Slice.Eq.{bytes_eq-Decides}
 use Rattle.two_phase.proofs.Tried.{asked_given, asked_number, not_asked, of_now, one_digest}
 use Rattle.two_phase.proofs.lookups.asked_now.Goals as goal
