@@ -12,6 +12,7 @@ mod fault;
 mod found;
 mod laws;
 mod outputs;
+mod read_paths;
 mod seal;
 mod selector;
 
@@ -21,4 +22,5 @@ pub use fault::FormatFault;
 pub use found::Found;
 pub use laws::{entry_texts, selector_texts};
 pub use outputs::{digest_of_outputs, outputs_of};
+pub use read_paths::ReadPaths;
 pub use selector::{MAX_SELECTORS, Selector, read_selectors, write_selectors};

@@ -1,7 +1,6 @@
 -- A build follows the sequential build, over an honest store or without one.
 use Rattle.std.proofs.Common.{◌≡◌, ℕ, true, cond, List, [], ◌∷◌, drop, length, map, take, Option, Some, refl, sym, ap, ◌∙◌, subst, inl, inr, arith}
 use Rattle.std.specs.Prelude.{slice_get}
-use Rattle.bx_tree.specs.Members.{Has}
 use Rattle.bx_tree.specs.Trees.{Files}
 use Rattle.bx_io.specs.Holdings.{Holdings}
 use Rattle.pip_model_types.specs.declared.desc.Desc.{Desc}
@@ -20,8 +19,6 @@ use Rattle.run_record.specs.Holding.{HoldsNow, at_desc}
 use Rattle.run_record.proofs.SameWork.{holds_run}
 use Rattle.run_record.specs.Outcomes.{outcome_of}
 use Rattle.run_record.specs.declared.outcome.Outcome.TheVariants.{Good}
-use Rattle.memo_format.specs.Found.{FoundParts}
-use Rattle.memo_format.specs.declared.selector.Selector.{Selector}
 use Rattle.run_record.specs.Collisions.{NoCollision}
 use Rattle.two_phase_meaning.specs.Honest.{Honest, IsGoodRun}
 use Rattle.two_phase_meaning.specs.Compared.{ComparedInRun}
@@ -35,7 +32,6 @@ use Rattle.violations.specs.declared.verdict.Verdict.TheVariants as verdicts
 use Rattle.one_thread.specs.OneThread.{Result, by_outcome, failed, inputs_are_good, ran, worked}
 use Rattle.one_thread.specs.Views.{ended_result, kind_ended, results_of, slots_are_good}
 use Rattle.one_thread.proofs.GoingThrough.{IsSoFar, all_good, made_is}
-use Rattle.two_phase.specs.Lookups.{FirstLeadsTo, LeadsTo}
 use Rattle.retire_compared.specs.Compared.{desc_after, view_after}
 use Rattle.retire.specs.Runs.{RunsAs, results_before}
 use Rattle.retire.proofs.SoFar.{run_met, taken}
@@ -52,14 +48,6 @@ use Rattle.retire.specs.declared.taking.Taken.TheVariants as takings
 
 -- ## What a process takes
 
-leads_to : (S : Holdings) (d : Desc) (see : Ask → Answer) (list : List Selector) (f : FoundParts) → FirstLeadsTo S d see list f
-    → (s : Selector) × Has list s × LeadsTo S d see s f
-leads_to S d see [] f h = absurd h
-leads_to S d see (s ∷ rest) f h = elim h [
-  | inl here ↦ (s, inl refl, here)
-  | inr later ↦ let lead = leads_to S d see rest f later.1 in (lead.0, inr lead.1, lead.2)
-]
-
 pub ran_is : (f : Facts) (d : Desc) (see : Ask → Answer) → IsRun f d see → f.outcome ≡ ran d see
 ran_is f d see run = sym run.run.outcome ∙ ap (λ (x : Desc). outcome_of (described x) (run_for d see)) run.desc
 
@@ -72,10 +60,9 @@ pub takes_outcome : (S : Holdings) (d : Desc) (see : Ask → Answer) (slot : Hel
     → IsOfNow d see slot t → outcome_in t ≡ ran d see
 takes_outcome S d see slot (takings.Accepted f) honest apart h now = accepted_ran f d see now.1 now.2
 takes_outcome S d see slot (takings.Hit f) honest apart h now =
-    let lead = leads_to S d see h.0.list f h.0.first in
-    let good : IsGoodRun (described d) see lead.2.usable.asks lead.2.usable.files =
-    found S d see honest h.1 apart lead.0 lead.2.usable (h.0.list, h.0.held, (lead.0, lead.1, refl)) in
-    sym (good.outcome ∙ ap Good lead.2.files_are)
+    let good : IsGoodRun (described d) see h.0.leads.usable.asks h.0.leads.usable.files =
+    found S d see honest h.1 apart h.0.selector h.0.leads.usable (h.0.list, h.0.held, (h.0.selector, h.0.listed, refl)) in
+    sym (good.outcome ∙ ap Good h.0.leads.files_are)
 takes_outcome S d see slot (takings.Missed f) honest apart h now = ran_is f d see now.2
 takes_outcome S d see slot (takings.Faulted f) honest apart h now = ran_is f d see now.2
 

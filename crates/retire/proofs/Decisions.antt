@@ -15,6 +15,7 @@ use Rattle.observed.specs.declared.access.Answer.{Answer}
 use Rattle.run_record.specs.Facts.{Facts, Sound}
 use Rattle.run_record.specs.Holding.{HoldsNow}
 use Rattle.prints.specs.declared.printed.Printed.{Printed}
+use Rattle.two_phase.proofs.Kept.{hit_leads}
 use Rattle.two_phase.specs.Lookups.{LookupGives, LookupHitIsCurrent}
 use Rattle.two_phase.specs.declared.lookups.LookupResult.TheVariants as results
 use Rattle.two_phase.specs.Reading.{ReaderData}
@@ -85,7 +86,8 @@ now_in (Some p) tree inputs budget d see view slot t same seen h =
 
 pub hit_sought : (r : ReaderData) (d : Desc) (see : Ask → Answer) (f : FoundParts) → LookupGives r.held d see (results.Hit f) → LookupHitIsCurrent d see (results.Hit f)
     → SeeksBy (Some r) d see (sought.Hit f)
-hit_sought r d see f gives now = (refl, now.1, λ q e S h. (gives S (ap (λ (x : ReaderData). x.held) (same_Some r q e) ∙ h), now.0))
+hit_sought r d see f gives now =
+    (refl, now.1, λ q e S h. (hit_leads S d see f (gives S (ap (λ (x : ReaderData). x.held) (same_Some r q e) ∙ h)), now.0))
 
 pub miss_sought : (r : ReaderData) (d : Desc) (see : Ask → Answer) (weak : Printed) → LookupGives r.held d see results.Miss → IsWeakOf d weak
     → SeeksBy (Some r) d see (sought.Miss weak)

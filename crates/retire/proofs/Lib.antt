@@ -25,3 +25,4 @@ pub mod RecordMet
 pub mod Nothing
 pub mod SuccessFits
 pub mod Twins
+pub mod Rechecks

@@ -14,7 +14,8 @@ use Rattle.observed.specs.declared.ask.Ask.{Ask}
 use Rattle.observed.specs.declared.access.Answer.{Answer}
 use Rattle.memo_format.specs.Found.{FoundParts}
 use Rattle.memo_format.specs.declared.selector.Selector.{Selector}
-use Rattle.two_phase_meaning.specs.Usable.{AnyUsable, Usable}
+use Rattle.bx_tree.specs.Members.{Has}
+use Rattle.two_phase_meaning.specs.Usable.{AnyUsable, Usable, UsableBy}
 use Rattle.pip_view_inputs.specs.Plain.{desc_of, kind_process}
 use Rattle.pip_view_inputs.specs.Results.{inputs_of}
 use Rattle.violations.specs.Slots.{slot_files}
@@ -23,7 +24,7 @@ use Rattle.violations.specs.declared.verdict.Verdict.{Verdict}
 use Rattle.one_thread.specs.OneThread.{inputs_are_good}
 use Rattle.one_thread.specs.Views.{results_of, slots_are_good}
 use Rattle.one_thread.proofs.GoingThrough.{IsSoFar, all_good, made_is}
-use Rattle.two_phase.specs.Lookups.{FirstLeadsTo, LookupHits}
+use Rattle.two_phase.specs.Lookups.{LeadsIn}
 use Rattle.retire.specs.HitSet.{PipHits, WorkHits}
 use Rattle.retire_compared.specs.Compared.{desc_after, view_after}
 use Rattle.retire.specs.Deciding as deciding
@@ -48,12 +49,12 @@ Tells P ways.Faulted = Unit {0}
 
 -- ## Ways
 
-any_first : (S : Holdings) (d : Desc) (see : Ask → Answer) (list : List Selector) (f : FoundParts) → FirstLeadsTo S d see list f → AnyUsable S d see list
-any_first S d see [] f h = absurd h
-any_first S d see (s ∷ rest) f h = elim h [ inl here ↦ inl here.usable | inr later ↦ inr (any_first S d see rest f later.1) ]
+any_listed : (S : Holdings) (d : Desc) (see : Ask → Answer) (list : List Selector) (s : Selector) → Has list s → UsableBy S d see s → AnyUsable S d see list
+any_listed S d see [] s h u = absurd h
+any_listed S d see (x ∷ rest) s h u = elim h [ inl here ↦ inl (subst (UsableBy S d see) (sym here) u) | inr later ↦ inr (any_listed S d see rest s later u) ]
 
-pub hit_usable : (S : Holdings) (d : Desc) (see : Ask → Answer) (f : FoundParts) → LookupHits S d see f → Usable S d see
-hit_usable S d see f h = record { list = h.list; held = h.held; any = any_first S d see h.list f h.first }
+pub hit_usable : (S : Holdings) (d : Desc) (see : Ask → Answer) (f : FoundParts) → LeadsIn S d see f → Usable S d see
+hit_usable S d see f h = record { list = h.list; held = h.held; any = any_listed S d see h.list h.selector h.listed h.leads.usable }
 
 way_tells : (S : Holdings) (d : Desc) (see : Ask → Answer) (t : Taken) → TakesFrom S d see t → Tells (Usable S d see) (way_of t)
 way_tells S d see (takings.Accepted f) h = tt

@@ -11,12 +11,16 @@ use Rattle.run_record.specs.declared.outcome.Outcome.{Outcome}
 use Rattle.run_record.specs.declared.outcome.Outcome.TheVariants.{Good}
 use Rattle.run_record.specs.Digests.{IsReadBack}
 use Rattle.two_phase_meaning.specs.Usable.{Usable}
-use Rattle.two_phase.specs.Lookups.{IsCurrentHit, LookupHits}
+use Rattle.memo_format.specs.Found.{FoundParts}
+use Rattle.two_phase.specs.Kept.{Keeps}
+use Rattle.two_phase.specs.Lookups.{IsCurrentHit, LeadsIn}
 use Rattle.two_phase.specs.Reading.{ReaderData}
 use Rattle.sched_board_slots.specs.declared.held.Held.{Held}
 use Rattle.sched_board_slots.specs.declared.held.Held.TheVariants as held
 use Rattle.retire.specs.Accepting.{IsAccepted}
 use Rattle.retire.specs.Saving.{IsWeakOf}
+use Rattle.retire.specs.declared.taking.Again.{Again}
+use Rattle.retire.specs.declared.taking.Again.TheVariants as agains
 use Rattle.retire.specs.declared.taking.Sought.{Sought}
 use Rattle.retire.specs.declared.taking.Sought.TheVariants as sought
 use Rattle.retire.specs.declared.taking.Taken.{Taken}
@@ -32,10 +36,10 @@ IsOfNow d see slot (taken.Hit found) = (IsAccepted d see slot → ⊥) × IsCurr
 IsOfNow d see slot (taken.Missed ran) = (IsAccepted d see slot → ⊥) × Sound ran × IsRun ran d see
 IsOfNow d see slot (taken.Faulted ran) = (IsAccepted d see slot → ⊥) × Sound ran × IsRun ran d see
 
--- Over what a store holds: what was found is the hit of a lookup, and a miss says that nothing is usable.
+-- Over what a store holds: a usable selector leads to what was found, and a miss says that nothing is usable.
 abbrev pub TakesFrom : Holdings → Desc → (Ask → Answer) → Taken → Type 0
 TakesFrom S d see (taken.Accepted ran) = ⊤
-TakesFrom S d see (taken.Hit found) = LookupHits S d see found × IsReadBack d
+TakesFrom S d see (taken.Hit found) = LeadsIn S d see found × IsReadBack d
 TakesFrom S d see (taken.Missed ran) = Usable S d see → ⊥
 TakesFrom S d see (taken.Faulted ran) = ⊤
 
@@ -58,7 +62,7 @@ abbrev pub SeeksBy : Option ReaderData → Desc → (Ask → Answer) → Sought 
 SeeksBy reader d see sought.Unused = reader ≡ prelude.None
 SeeksBy reader d see (sought.Hit found) =
     IsSome reader × IsCurrentHit d see found
-    × ((r : ReaderData) → reader ≡ Some r → (S : Holdings) → r.held ≡ Some S → LookupHits S d see found × IsReadBack d)
+    × ((r : ReaderData) → reader ≡ Some r → (S : Holdings) → r.held ≡ Some S → LeadsIn S d see found × IsReadBack d)
 SeeksBy reader d see (sought.Miss weak) =
     IsSome reader × IsWeakOf d weak × ((r : ReaderData) → reader ≡ Some r → (S : Holdings) → r.held ≡ Some S → Usable S d see → ⊥)
 SeeksBy reader d see (sought.Fault weak) = IsSome reader × IsWeakOf d weak
@@ -68,6 +72,18 @@ seek_fault sought.Unused = 0
 seek_fault (sought.Hit found) = 0
 seek_fault (sought.Miss weak) = 0
 seek_fault (sought.Fault weak) = 1
+
+-- ## Hits in slots
+
+-- A reader, if there is one, has what was found, by what it tells to be held. Without one nothing is known.
+abbrev pub KeepsBy : Option ReaderData → FoundParts → Type 0
+KeepsBy prelude.None found = ⊥
+KeepsBy (Some reader) found = Keeps reader.held found
+
+abbrev pub again_fault : Again → ℕ
+again_fault agains.Kept = 0
+again_fault agains.Changed = 0
+again_fault agains.Faulted = 1
 
 -- ## What is taken
 

@@ -1,15 +1,18 @@
 //! What a process comes to: by the run in its slot, by what a store has for it, or else by its run here.
-ghost use Rattle.std.specs.Prelude.{◌≡◌, ◌<◌, IfOk, IfSome, IsSome, MatchOption, length, option_map, slice_get};
+ghost use Rattle.std.specs.Prelude.{◌≡◌, ◌<◌, IfOk, IfSome, IsSome, IsTrue, MatchOption, length, option_map, slice_get};
+ghost use Rattle.bx_tree.specs.Trees.{paths_of};
 ghost use Rattle.pip_view_inputs.specs.Plain.{desc_of, process_in};
 ghost use Rattle.pip_model_types.specs.declared.pip.ProcessDesc.{ProcessDesc as AnyProcess};
 ghost use Rattle.pip_view.specs.Sees.{sees};
 ghost use Rattle.run_record.specs.Facts.{IsRun, Sound};
 ghost use Rattle.run_record.specs.Holding.{HoldsNow};
+ghost use Rattle.two_phase.specs.Lookups.{IsCurrentHit};
 ghost use Rattle.two_phase.specs.Reading.{ReadsIfAny, reader_data};
+ghost use Rattle.two_phase_meaning.specs.Usable.{fits};
 ghost use Rattle.retire.specs.Accepting.{IsAccepted};
 ghost use Rattle.retire.specs.Counting.{one_fault};
 ghost use Rattle.retire.specs.Saving.{IsWeakOf};
-ghost use Rattle.retire.specs.Taking.{IsOfNow, SeeksBy, TakesBy, seek_fault, way_of};
+ghost use Rattle.retire.specs.Taking.{IsOfNow, KeepsBy, SeeksBy, TakesBy, again_fault, seek_fault, way_of};
 
 use crate::savable::Savable;
 use bx_io::{Gate, KeepReader};
@@ -17,13 +20,14 @@ use bx_tree::Memory;
 use memo_format::Found;
 use observed::View;
 use one_thread::Frame;
-use pip_model_types::Desc;
+use pip_model_types::{Desc, ProcessDesc};
 use pip_view::{Inputs, PipView, desc};
+use pip_view_inputs::process_at;
 use prints::{Printed, weak};
 use run_record::{Record, Tools, execute_with};
-use sched_board_slots::{Held, holds_now};
+use sched_board_slots::{Held, hit_holds, holds_now};
 use std::alloc::{AllocError, Global};
-use two_phase::{LookupResult, lookup_by};
+use two_phase::{LookupResult, PathSets, Rechecked, lookup_by, recheck};
 
 // How a pip came to its result.
 #[derive(Clone, Copy, Debug, PartialEq, Eq)]
@@ -60,6 +64,14 @@ enum Sought {
     Hit(Found),
     Miss(Printed),
     Fault(Printed),
+}
+
+// What was found of a hit in a slot: that it is of now and the store still has it, or not, or that the reader failed.
+#[derive(Clone, Copy, Debug, PartialEq, Eq)]
+enum Again {
+    Kept,
+    Changed,
+    Faulted,
 }
 
 // The run in a slot, if it is one and holds now.
@@ -109,7 +121,8 @@ fn seek<R: KeepReader, V: View>(
         return Ok(Sought::Unused);
     };
     let weak = weak(alloc, desc)?;
-    match lookup_by(alloc, reader, desc, &weak.digest, view) {
+    let mut sets = PathSets::new(alloc);
+    match lookup_by(alloc, reader, &mut sets, desc, &weak.digest, view) {
         LookupResult::Hit(found) => Ok(Sought::Hit(found)),
         LookupResult::Miss => Ok(Sought::Miss(weak)),
         LookupResult::Fault => Ok(Sought::Fault(weak)),
@@ -179,8 +192,128 @@ fn found_or_run<R: KeepReader, G: Gate>(
     }
 }
 
+// ## Hits in slots
+
+// Whether a reader, if there is one, still has what was found, with files that a process may make.
+fn recheck_by<R: KeepReader>(
+    alloc: Global,
+    reader: &mut Option<R>,
+    process: &ProcessDesc,
+    found: &Found,
+) -> Result<Again, Memory>
+    ensures kept { IfOk result (λ again. again ≡ Again.Kept → KeepsBy
+        (option_map (λ r. reader_data (R.held r) (R.bound r) (R.faults r)) reader.new) found.now) }
+    ensures fit { IfOk result (λ again. again ≡ Again.Kept → IsTrue (fits process.now (paths_of found.now.made))) }
+    ensures reader { IfOk result (λ again. ReadsIfAny
+        (option_map (λ r. reader_data (R.held r) (R.bound r) (R.faults r)) reader.old)
+        (option_map (λ r. reader_data (R.held r) (R.bound r) (R.faults r)) reader.new) (again_fault again)) }
+{
+    let Some(reader) = reader else {
+        return Ok(Again::Changed);
+    };
+    match recheck(alloc, reader, process, found) {
+        Rechecked::Kept => Ok(Again::Kept),
+        Rechecked::Changed => Ok(Again::Changed),
+        Rechecked::Fault => Ok(Again::Faulted),
+        Rechecked::Memory => Err(AllocError),
+    }
+}
+
+// Whether a hit in the slot of a process is of now, byte by byte, and the store still has it. Its strong text is not written again.
+fn found_again<R: KeepReader, G: Gate>(
+    frame: &Frame<'_, G>,
+    reader: &mut Option<R>,
+    pip: u32,
+    inputs: &Inputs,
+    found: &Found,
+) -> Result<Again, Memory>
+    requires process { IsSome (process_in (slice_get frame.now.plan.now.pips pip)) }
+    requires pip { pip < length frame.now.plan.now.pips }
+    ensures taken { IfOk result (λ again. again ≡ Again.Kept → IfSome (process_in (slice_get frame.now.plan.now.pips pip))
+        (λ (process : AnyProcess). TakesBy
+        (option_map (λ r. reader_data (R.held r) (R.bound r) (R.faults r)) reader.new)
+        (desc_of frame.now.sources.now inputs.now frame.now.plan.now.tool_budget process)
+        (sees frame.now.plan.now.pips frame.now.sources.now inputs.now pip) (Taken.Hit found.now))) }
+    ensures now { IfOk result (λ again. again ≡ Again.Kept → IfSome (process_in (slice_get frame.now.plan.now.pips pip))
+        (λ (process : AnyProcess). IsCurrentHit
+        (desc_of frame.now.sources.now inputs.now frame.now.plan.now.tool_budget process)
+        (sees frame.now.plan.now.pips frame.now.sources.now inputs.now pip) found.now)) }
+    ensures reader { IfOk result (λ again. ReadsIfAny
+        (option_map (λ r. reader_data (R.held r) (R.bound r) (R.faults r)) reader.old)
+        (option_map (λ r. reader_data (R.held r) (R.bound r) (R.faults r)) reader.new) (again_fault again)) }
+{
+    let Some(process) = process_at(frame.plan.pips(), pip) else {
+        unreachable!()
+    };
+    let _kept = found.entry();
+    let holds = hit_holds(frame.alloc, frame.plan, frame.sources, pip, inputs, found)?;
+    if !holds {
+        return Ok(Again::Changed);
+    }
+    recheck_by(frame.alloc, reader, process, found)
+}
+
+// The run of a process.
+fn run_here<G: Gate>(
+    frame: &Frame<'_, G>,
+    tools: &mut Tools,
+    pip: u32,
+    inputs: &Inputs,
+) -> Result<Savable, Memory>
+    requires process { IsSome (process_in (slice_get frame.now.plan.now.pips pip)) }
+    requires pip { pip < length frame.now.plan.now.pips }
+    ensures ran { IfOk result (λ ran. IfSome (process_in (slice_get frame.now.plan.now.pips pip))
+        (λ (process : AnyProcess). IsRun ran
+        (desc_of frame.now.sources.now inputs.now frame.now.plan.now.tool_budget process)
+        (sees frame.now.plan.now.pips frame.now.sources.now inputs.now pip))) }
+    ensures sound { IfOk result Sound }
+{
+    let described = desc(frame.alloc, frame.plan, frame.sources, pip, inputs)?;
+    let mut view = PipView::new(frame.alloc, frame.plan, frame.sources, pip, inputs)?;
+    run_on(frame, tools, described, pip, &mut view, None)
+}
+
+// A hit in the slot of a process, where it is of now and the store still has it; or what the store has for the process; or else
+// its run.
+fn taken_hit<R: KeepReader, G: Gate>(
+    frame: &Frame<'_, G>,
+    reader: &mut Option<R>,
+    tools: &mut Tools,
+    pip: u32,
+    inputs: &Inputs,
+    found: Found,
+) -> Result<Taken, Memory>
+    requires process { IsSome (process_in (slice_get frame.now.plan.now.pips pip)) }
+    requires pip { pip < length frame.now.plan.now.pips }
+    ensures taken { IfOk result (λ taken. IfSome (process_in (slice_get frame.now.plan.now.pips pip))
+        (λ (process : AnyProcess). TakesBy
+        (option_map (λ r. reader_data (R.held r) (R.bound r) (R.faults r)) reader.new)
+        (desc_of frame.now.sources.now inputs.now frame.now.plan.now.tool_budget process)
+        (sees frame.now.plan.now.pips frame.now.sources.now inputs.now pip) taken)) }
+    ensures now { IfOk result (λ taken. IfSome (process_in (slice_get frame.now.plan.now.pips pip))
+        (λ (process : AnyProcess). IsOfNow
+        (desc_of frame.now.sources.now inputs.now frame.now.plan.now.tool_budget process)
+        (sees frame.now.plan.now.pips frame.now.sources.now inputs.now pip) (Held.Hit found) taken)) }
+    ensures reader { IfOk result (λ taken. ReadsIfAny
+        (option_map (λ r. reader_data (R.held r) (R.bound r) (R.faults r)) reader.old)
+        (option_map (λ r. reader_data (R.held r) (R.bound r) (R.faults r)) reader.new)
+        (one_fault (way_of taken))) }
+{
+    let again = found_again(frame, reader, pip, inputs, &found)?;
+    match again {
+        Again::Kept => Ok(Taken::Hit(found)),
+        Again::Changed => found_or_run(frame, reader, tools, pip, inputs),
+        Again::Faulted => {
+            let ran = run_here(frame, tools, pip, inputs)?;
+            Ok(Taken::Faulted(ran))
+        }
+    }
+}
+
+// ## Slots
+
 // The run in the slot of a process, if it holds now; or what the store has for the process; or else its run.
-pub(crate) fn taken_for<R: KeepReader, G: Gate>(
+fn taken_else<R: KeepReader, G: Gate>(
     frame: &Frame<'_, G>,
     reader: &mut Option<R>,
     tools: &mut Tools,
@@ -208,4 +341,36 @@ pub(crate) fn taken_for<R: KeepReader, G: Gate>(
         return Ok(Taken::Accepted(ran));
     }
     found_or_run(frame, reader, tools, pip, inputs)
+}
+
+// What is in the slot of a process, where it is of now: its run, or what the store has for it; or what the store has for it
+// elsewhere; or else its run here.
+pub(crate) fn taken_for<R: KeepReader, G: Gate>(
+    frame: &Frame<'_, G>,
+    reader: &mut Option<R>,
+    tools: &mut Tools,
+    pip: u32,
+    inputs: &Inputs,
+    slot: Held,
+) -> Result<Taken, Memory>
+    requires process { IsSome (process_in (slice_get frame.now.plan.now.pips pip)) }
+    requires pip { pip < length frame.now.plan.now.pips }
+    ensures taken { IfOk result (λ taken. IfSome (process_in (slice_get frame.now.plan.now.pips pip))
+        (λ (process : AnyProcess). TakesBy
+        (option_map (λ r. reader_data (R.held r) (R.bound r) (R.faults r)) reader.new)
+        (desc_of frame.now.sources.now inputs.now frame.now.plan.now.tool_budget process)
+        (sees frame.now.plan.now.pips frame.now.sources.now inputs.now pip) taken)) }
+    ensures now { IfOk result (λ taken. IfSome (process_in (slice_get frame.now.plan.now.pips pip))
+        (λ (process : AnyProcess). IsOfNow
+        (desc_of frame.now.sources.now inputs.now frame.now.plan.now.tool_budget process)
+        (sees frame.now.plan.now.pips frame.now.sources.now inputs.now pip) slot taken)) }
+    ensures reader { IfOk result (λ taken. ReadsIfAny
+        (option_map (λ r. reader_data (R.held r) (R.bound r) (R.faults r)) reader.old)
+        (option_map (λ r. reader_data (R.held r) (R.bound r) (R.faults r)) reader.new)
+        (one_fault (way_of taken))) }
+{
+    match slot {
+        Held::Hit(found) => taken_hit(frame, reader, tools, pip, inputs, found),
+        other => taken_else(frame, reader, tools, pip, inputs, other),
+    }
 }

@@ -15,10 +15,10 @@ use Rattle.run_record.specs.Matches.{Compares, FirstDiffer}
 use Rattle.run_record.specs.declared.matching.LineDifference.{LineDifference}
 use Rattle.run_record.specs.declared.matching.Match.TheVariants as matching
 use Rattle.memo_format.specs.Found.{FoundParts}
-use Rattle.sched_board_slots.specs.Slots.{IsOwnFound, IsOwnRecord, is_good_outcome, own_desc, own_view}
+use Rattle.sched_board_slots.specs.Slots.{HitHolds, IsOwnFound, IsOwnRecord, is_good_outcome, own_desc, own_view}
 use Rattle.run_record.specs.Holding.{HoldsNow}
 use Rattle.run_record.proofs.SameWork.{read_both}
-use Rattle.sched_board_slots.proofs.Accepted.{holds_agrees}
+use Rattle.sched_board_slots.proofs.Accepted.{hit_agrees, holds_agrees}
 use Rattle.sched_board.specs.Board.{Difference}
 use Rattle.sched_board.specs.Publishing.{Compared, ComparedHit, ComparedRun, DiffersAt, ShownDiffers}
 use Rattle.sched_board.specs.declared.shown.Shown.TheVariants as shown
@@ -160,3 +160,10 @@ ran_holds plan tree inputs pip facts (Some process) some sound read holds =
     let see : Ask → Answer = own_view plan tree inputs pip in
     let now : HoldsNow own see facts = holds.0 refl in
     (sound, read, read_both facts.desc own now.work read, holds_agrees own see facts now)
+
+-- so is what was found and holds now
+pub hit_holds_now : (plan : PlanData) (tree : Files) (inputs : ByPip) (pip : ℕ) (found : FoundParts) (o : Option ProcessDesc) → IsSome o
+    → IfSome o (λ (process : ProcessDesc). HitHolds (own_desc plan tree inputs process) (own_view plan tree inputs pip) found) → IsOwnFound plan tree inputs pip found o
+hit_holds_now plan tree inputs pip found None some holds = absurd cc
+hit_holds_now plan tree inputs pip found (Some process) some holds =
+    (holds.found_for.read, hit_agrees (own_desc plan tree inputs process) (own_view plan tree inputs pip) found holds)

@@ -16,7 +16,7 @@ use pip_view::PipView;
 use pip_view_inputs::{Inputs, desc, plain};
 use prints::reads_back;
 use run_record::{Match, Record, first_difference, matches, weak_digest};
-use sched_board_slots::{Held, holds_now};
+use sched_board_slots::{Held, hit_holds, holds_now};
 use std::alloc::{AllocError, Global};
 
 /// What the inputs of a pip made, by the slots.
@@ -117,8 +117,8 @@ fn unlike_hit<V: View>(
     }
 }
 
-// How what a lookup found differs from the process and what it sees.
-fn compare_hit(
+// How what a lookup found differs by digest from the process and what it sees.
+fn compare_hit_digests(
     alloc: Global,
     plan: &Plan,
     sources: &Sources,
@@ -133,6 +133,27 @@ fn compare_hit(
     let own = desc(alloc, plan, sources, pip, inputs)?;
     let mut view = PipView::new(alloc, plan, sources, pip, inputs)?;
     unlike_hit(alloc, &own, found, &mut view)
+}
+
+// How what a lookup found differs from the process and what it sees. What holds byte by byte differs in no digest, so nothing
+// is written or hashed for it.
+fn compare_hit(
+    alloc: Global,
+    plan: &Plan,
+    sources: &Sources,
+    pip: u32,
+    inputs: &Inputs,
+    found: &Found,
+) -> Result<Option<Unlike>, Memory>
+    requires there { pip < length plan.now.pips }
+    requires process { IsSome (process_in (slice_get plan.now.pips pip)) }
+    ensures { IfOk result (Compared plan.now sources.now inputs.now pip (Shown.Hit found.now)) }
+{
+    let holds = hit_holds(alloc, plan, sources, pip, inputs, found)?;
+    if holds {
+        return Ok(None);
+    }
+    compare_hit_digests(alloc, plan, sources, pip, inputs, found)
 }
 
 // Whether files have the same paths, and contents of the same digests.

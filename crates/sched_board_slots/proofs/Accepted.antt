@@ -6,6 +6,7 @@ use Rattle.observed.specs.declared.access.Answer.{Answer}
 use Rattle.tool_run.specs.Described.{described}
 use Rattle.tool_run.specs.Description.{Description}
 use Rattle.tool_run.specs.Run.{Run, path_set, run_of}
+use Rattle.memo_format.specs.Found.{FoundParts}
 use Rattle.run_record.specs.Answered.{answered}
 use Rattle.run_record.specs.Collisions.{AreOfAnswers, NoCollision}
 use Rattle.run_record.specs.Digests.{IsReadBack, digest_asked, digest_of_line}
@@ -14,7 +15,7 @@ use Rattle.run_record.specs.Holding.{HoldsNow}
 use Rattle.run_record.proofs.AnswerLines.{same_answers}
 use Rattle.run_record.proofs.SameWork.{one_weak, same_described, work_of}
 use Rattle.sched_board_slots.specs.Closing.{IsOfRun, IsOfSlot}
-use Rattle.sched_board_slots.specs.Slots.{RecordAgrees}
+use Rattle.sched_board_slots.specs.Slots.{FoundAgrees, HitHolds, RecordAgrees}
 use Rattle.sched_board_slots.specs.declared.held.Held.TheVariants as held
 use Rattle.sched_board_slots.proofs.OneRun.{run_is}
 
@@ -26,6 +27,9 @@ lines_now see (q ∷ qs) = ap (λ (xs : List (List ℕ)). digest_asked see q ∷
 pub holds_agrees : (own : Desc) (see : Ask → Answer) (facts : Facts) → HoldsNow own see facts → RecordAgrees own see facts
 holds_agrees own see facts holds =
     (one_weak facts.desc own holds.work, ap (map digest_of_line) holds.answers ∙ lines_now see facts.paths)
+
+pub hit_agrees : (own : Desc) (see : Ask → Answer) (found : FoundParts) → HitHolds own see found → FoundAgrees own see found
+hit_agrees own see found holds = (holds.found_for.weak, ap (map digest_of_line) holds.answers ∙ lines_now see found.paths)
 
 module _ (M : List ℕ → Type 0) (apart : NoCollision M) where
   pub run_is_accepted : (own : Desc) (see : Ask → Answer) (facts : Facts) → Sound facts → IsReadBack facts.desc → IsReadBack own → RecordAgrees own see facts

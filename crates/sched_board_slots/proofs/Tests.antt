@@ -13,8 +13,11 @@ use Rattle.pip_model_types.specs.declared.outputs.OutDir.{OutDir}
 use Rattle.pip_model_types.specs.declared.pip.ProcessDesc.{ProcessDesc}
 use Rattle.observed.specs.declared.ask.Ask.{Ask}
 use Rattle.observed.specs.declared.access.Answer.{Answer}
+use Rattle.memo_format.specs.Found.{FoundParts, IsFoundFor}
 use Rattle.run_record.specs.Facts.{Facts}
 use Rattle.run_record.specs.Holding.{HoldsNow, IsSameWork}
+use Rattle.run_record.proofs.SameWork.{one_weak, read_both}
+use Rattle.sched_board_slots.specs.Slots.{HitHolds}
 
 -- ## Tests of a part
 
@@ -91,3 +94,16 @@ holds_by own see view facts stored asks r seen es ea work is = (
   },
   λ now. is.1 (es ∙ now.answers ∙ sym (ap (map see) ea) ∙ sym (ap (λ (v : Ask → Answer). map v asks) seen)),
 )
+
+-- ## Hits
+
+-- what was found for one description was found for each of the same work
+pub found_for_same : (f : FoundParts) (d e : Desc) → IsFoundFor f d → IsSameWork d e → IsFoundFor f e
+found_for_same f d e is same = record { weak = is.weak ∙ one_weak d e same; read = read_both d e same is.read }
+
+pub hit_by : (own : Desc) (see view : Ask → Answer) (f : FoundParts) (stored : List Answer) (asks : List Ask) (r : Bool) → view ≡ see → stored ≡ f.answers
+    → asks ≡ f.paths → IsFoundFor f own → (r ≡ true) ↔ (stored ≡ map view asks) → r ≡ true → HitHolds own see f
+hit_by own see view f stored asks r seen es ea is hold yes = record {
+  found_for = is;
+  answers = sym es ∙ hold.0 yes ∙ ap (λ (v : Ask → Answer). map v asks) seen ∙ ap (map see) ea;
+}

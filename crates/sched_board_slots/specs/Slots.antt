@@ -17,7 +17,7 @@ use Rattle.run_record.specs.declared.matching.Match.TheVariants as matching
 use Rattle.two_phase_meaning.specs.Saving.{outcome_files}
 use Rattle.run_record.specs.declared.outcome.Outcome.{Outcome}
 use Rattle.run_record.specs.declared.outcome.Outcome.TheVariants.{Good, Failed}
-use Rattle.memo_format.specs.Found.{FoundParts, output_lines}
+use Rattle.memo_format.specs.Found.{FoundParts, IsFoundFor, output_lines}
 use Rattle.sched_core.specs.declared.state.PipState.{PipState}
 use Rattle.sched_core.specs.declared.state.PipState.TheVariants as state
 use Rattle.sched_core.specs.Table.{state_at}
@@ -82,6 +82,13 @@ FoundAgrees desc see found =
 -- Files agree: they have the same paths, and contents of the same digests.
 abbrev pub FilesAgree : Files → Files → Type 0
 FilesAgree files others = output_lines files ≡ output_lines others
+
+-- ## Agreement byte by byte
+
+-- What was found holds: it was found for this process, and has what the process sees.
+pub record HitHolds (desc : Desc) (see : Ask → Answer) (found : FoundParts) : Type 0 where
+  pub found_for : IsFoundFor found desc
+  pub answers : found.answers ≡ map see found.paths
 
 -- ## What may stand in a slot
 

@@ -8,9 +8,11 @@ ghost use Rattle.pip_view_inputs.specs.Results.{files_by};
 ghost use Rattle.prints.specs.Processes.{numbered_from, with_pip};
 ghost use Rattle.run_record.specs.Holding.{HoldsNow, IsSameWork};
 ghost use Rattle.sched_board_slots.specs.SameProcesses.{AreSamePlaces, IsSameCall};
-ghost use Rattle.sched_board_slots.specs.Slots.{own_desc, own_view};
+ghost use Rattle.memo_format.specs.Found.{IsFoundFor};
+ghost use Rattle.sched_board_slots.specs.Slots.{HitHolds, own_desc, own_view};
 
 use bx_tree::{FileInput, Memory, Path, Text};
+use memo_format::Found;
 use pip_model::{Desc, DirInput, EnvPair, MadeFile, OutDir, Plan, ProcessDesc, Sources};
 use pip_view::PipView;
 use pip_view_inputs::{Inputs, made_at, process_at};
@@ -283,4 +285,50 @@ pub fn holds_now(
     let mut view = PipView::new(alloc, plan, sources, pip, inputs)?;
     let paths = ran.paths();
     answers_hold(alloc, paths.asks(), ran.answers(), &mut view)
+}
+
+// ## Hits
+
+// Whether something was found for a process with the contents of its files. It is false where what it was found for is not with
+// it.
+fn is_found_for(
+    sources: &Sources,
+    inputs: &Inputs,
+    process: &ProcessDesc,
+    budget: u64,
+    found: &Found,
+) -> bool
+    ensures { IsTrue result → IsFoundFor found.now (desc_of sources.now inputs.now budget process.now) }
+{
+    match found.work() {
+        Some(work) => is_work_of(sources, inputs, process, budget, work),
+        None => false,
+    }
+}
+
+/// Whether what a lookup found holds now: it was found for the process that the pip is, with the contents of its files, and its
+/// answers are what that process sees, byte by byte. Nothing is written or hashed. It is false where that process is not with
+/// what was found.
+pub fn hit_holds(
+    alloc: Global,
+    plan: &Plan,
+    sources: &Sources,
+    pip: u32,
+    inputs: &Inputs,
+    found: &Found,
+) -> Result<bool, Memory>
+    requires there { pip < length plan.now.pips }
+    requires process { IsSome (process_in (slice_get plan.now.pips pip)) }
+    ensures { IfOk result (λ holds. holds ≡ true → IfSome (process_in (slice_get plan.now.pips pip)) (λ (process : AnyProcess).
+        HitHolds (own_desc plan.now sources.now inputs.now process) (own_view plan.now sources.now inputs.now pip) found.now)) }
+{
+    let Some(process) = process_at(plan.pips(), pip) else {
+        unreachable!()
+    };
+    if !is_found_for(sources, inputs, process, plan.tool_budget(), found) {
+        return Ok(false);
+    }
+    let mut view = PipView::new(alloc, plan, sources, pip, inputs)?;
+    let paths = found.paths();
+    answers_hold(alloc, paths.asks(), found.answers(), &mut view)
 }

@@ -18,5 +18,5 @@ pub use bx_tree::Memory;
 pub use finished::{Finished, empty_slots};
 pub use graph::graph_of;
 pub use held::Held;
-pub use holding::holds_now;
+pub use holding::{hit_holds, holds_now};
 pub use laws::slots_follow_one_thread;

@@ -1,5 +1,5 @@
 -- What is found under names, and that nothing else is.
-use Rattle.std.proofs.Common.{◌≡◌, ℕ, true, List, [], Option, Some, None, Result, Ok, Err, IfOk, Vec, Global, sym, ap, ◌∙◌, subst, inl, inr}
+use Rattle.std.proofs.Common.{◌≡◌, ℕ, true, List, [], Option, Some, None, Result, Ok, Err, IfOk, IfSome, Vec, Global, sym, ap, ◌∙◌, subst, inl, inr}
 use Rattle.std.specs.FinMap.{get}
 use Rattle.std.proofs.lemmas.Option.{same_Some}
 use Rattle.sha2.specs.Sha256.{sha256}
@@ -18,15 +18,17 @@ use Rattle.memo_format.specs.declared.entry.Entry.{Entry}
 use Rattle.memo_format.specs.declared.entry.OutputLine.{OutputLine}
 use Rattle.memo_format.specs.declared.selector.Selector.{Selector}
 use Rattle.content_store.specs.Contents.{Fetches, IsContent}
-use Rattle.content_store.specs.HeldEntries.{FetchesEntry, IsHeld}
-use Rattle.content_store.proofs.HeldEntries.{none_and_some}
+use Rattle.content_store.specs.HeldEntries.{IsHeld}
+use Rattle.content_store.proofs.HeldEntries.{another_entry, none_and_some}
 use Rattle.content_store.specs.declared.content.Fetched.TheVariants as fetched
-use Rattle.content_store.specs.declared.entries.FetchedEntry.TheVariants as fetched_entries
 use Rattle.two_phase_meaning.specs.Contents.{HoldsPaths}
 use Rattle.two_phase_meaning.specs.Saving.{or_none, selectors_in}
 use Rattle.run_record.specs.Digests.{weak_of}
 use Rattle.two_phase_meaning.specs.Usable.{fits}
+use Rattle.memo_format.specs.PathsTexts.{IsPathsText, PathsText}
 use Rattle.two_phase.specs.Putting.{IsListAt}
+use Rattle.two_phase.specs.ReadSets.{IsEntryText, ReadsEntry, ReadsSet, ReadsText, entry_in}
+use Rattle.two_phase.specs.declared.fetching.HeldEntry.{HeldEntry}
 use Rattle.two_phase.specs.Finding.{AddsTo, FindsOne, IsEntryFor, PutsIn}
 
 -- ## One thing is held under a name
@@ -65,28 +67,99 @@ no_put held files o h = inl h
 
 -- ## Path sets
 
-pub set_read : (held : Option Holdings) (digest text : List ℕ) (set : Option (List Ask)) → FindsOne held (λ S y. IsContent S digest y) (Some text)
-    → read_paths_text text ≡ set → FindsOne held (λ S asks. HoldsPaths S digest asks) set
-set_read held digest text None h e = λ S is asks there.
-    none_and_some (read_paths_text text) asks e (ap read_paths_text (one_content S digest text there.0 (h S is) there.1) ∙ there.2)
-set_read held digest text (Some asks) h e = λ S is. (text, h S is, e)
+-- a text of none
+pub text_bad : (text : List ℕ) (asks : List Ask) → read_paths_text text ≡ None → read_paths_text text ≡ Some asks → ⊥
+text_bad text asks none there = none_and_some (read_paths_text text) asks none there
 
--- as a call answers it
-pub set_given : {E : Type 0} (held : Option Holdings) (digest text bytes : List ℕ) (r : Result (Option (List Ask)) E) → FindsOne held (λ S y. IsContent S digest y) (Some text)
-    → bytes ≡ text → IfOk r (λ set. read_paths_text bytes ≡ set) → IfOk r (FindsOne held (λ S asks. HoldsPaths S digest asks))
-set_given held digest text bytes (Ok set) h same e = set_read held digest text set h (ap read_paths_text (sym same) ∙ e)
-set_given held digest text bytes (Err x) h same e = tt
+-- that of bytes which have the digest
+pub set_read : {E : Type 0} (bytes digest text : List ℕ) (r : Result (Option PathsText) E) → text ≡ bytes → sha256 bytes ≡ digest → IfOk r (ReadsText text)
+    → IfOk r (ReadsSet bytes digest)
+set_read bytes digest text (Ok None) same is h = λ asks e read. h asks (ap read_paths_text same ∙ read)
+set_read bytes digest text (Ok (Some p)) same is h = (h.0, h.1 ∙ same, h.0.digest_is ∙ ap sha256 (h.1 ∙ same) ∙ is)
+set_read bytes digest text (Err e) same is h = tt
 
-pub no_set : (held : Option Holdings) (digest : List ℕ) → FindsOne held (λ S y. IsContent S digest y) None → FindsOne held (λ S asks. HoldsPaths S digest asks) None
-no_set held digest h = λ S is asks there. h S is there.0 there.1
+-- one that was read before
+pub set_kept : (bytes slice digest : List ℕ) (o : Option PathsText) (p : PathsText) → slice ≡ bytes → o ≡ Some p
+    → IfSome o (λ p. IsPathsText p × ((p.text ≡ slice) × (p.digest ≡ digest))) → ReadsSet bytes digest (Some p)
+set_kept bytes slice digest o p same is h =
+    let kept : IsPathsText p × ((p.text ≡ slice) × (p.digest ≡ digest)) =
+    subst (λ (o : Option PathsText). IfSome o (λ p. IsPathsText p × ((p.text ≡ slice) × (p.digest ≡ digest)))) is h in
+    (kept.0, kept.1.0 ∙ same, kept.1.1)
+
+-- as a call finds the bytes
+pub set_held : {E : Type 0} (held : Option Holdings) (digest name : List ℕ) (bytes : Vec ℕ Global) (r : Result (Option PathsText) E) → name ≡ at_blob digest
+    → held_names.Finds held name (got.Found bytes) → IfOk r (ReadsSet bytes.items digest) → IfOk r (FindsOne held (λ S (p : PathsText). HoldsPaths S digest p.asks))
+set_held held digest name bytes (Ok None) named h read = λ S is p there.
+    let same : bytes.items ≡ there.0 =
+    same_Some bytes.items there.0 (sym (h S is) ∙ ap (get S) (named ∙ ap at_blob (sym there.1.digest_is)) ∙ there.1.held) in
+    read p.asks (ap sha256 same ∙ there.1.digest_is) (ap read_paths_text same ∙ there.2)
+set_held held digest name bytes (Ok (Some p)) named h read = λ S is.
+    let digest_is : sha256 bytes.items ≡ digest = sym (ap sha256 read.1.0) ∙ sym read.0.digest_is ∙ read.1.1 in
+    (
+      bytes.items,
+      record { held = ap (λ d. get S (at_blob d)) digest_is ∙ ap (get S) (sym named) ∙ h S is; digest_is = digest_is },
+      ap read_paths_text (sym read.1.0) ∙ read.0.read,
+    )
+set_held held digest name bytes (Err x) named h read = tt
+
+pub set_named : {E : Type 0} (bytes digest : List ℕ) (r : Result (Option PathsText) E) → IfOk r (ReadsSet bytes digest)
+    → IfOk r (λ o. IfSome o (λ (p : PathsText). p.digest ≡ digest))
+set_named bytes digest (Ok None) read = tt
+set_named bytes digest (Ok (Some p)) read = read.1.1
+set_named bytes digest (Err x) read = tt
+
+pub no_set : (held : Option Holdings) (digest name : List ℕ) → name ≡ at_blob digest → held_names.Finds held name got.None
+    → FindsOne held (λ S (p : PathsText). HoldsPaths S digest p.asks) None
+no_set held digest name named h = λ S is p there.
+    none_and_some (get S name) there.0 (h S is) (ap (get S) (named ∙ ap at_blob (sym there.1.digest_is)) ∙ there.1.held)
+
+-- by its asks
+pub set_asks : (held : Option Holdings) (digest : List ℕ) (p : PathsText) → FindsOne held (λ S (p : PathsText). HoldsPaths S digest p.asks) (Some p)
+    → FindsOne held (λ S asks. HoldsPaths S digest asks) (Some p.asks)
+set_asks held digest p h = h
+
+pub no_asks : (held : Option Holdings) (digest : List ℕ) → FindsOne held (λ S (p : PathsText). HoldsPaths S digest p.asks) None
+    → FindsOne held (λ S asks. HoldsPaths S digest asks) None
+no_asks held digest h = λ S is asks. h S is (record { text = []; digest = []; asks = asks })
 
 -- ## Entries
 
-pub entry_found : (held : Option Holdings) (strong : List ℕ) (e : Entry) → FetchesEntry held strong (fetched_entries.Found e) → FindsOne held (λ S x. IsHeld S strong x) (Some e)
-entry_found held strong e h = h
+-- the entry of a text
+pub entry_other : (text strong : List ℕ) (e other : Entry) → read_entry_text text ≡ Some e → (e.strong ≡ strong → ⊥) → read_entry_text text ≡ Some other
+    → other.strong ≡ strong → ⊥
+entry_other text strong e other read apart there is = another_entry text strong e other read apart there is
 
-pub no_entry : (held : Option Holdings) (strong : List ℕ) → FetchesEntry held strong fetched_entries.NotWell → FindsOne held (λ S x. IsHeld S strong x) None
-no_entry held strong h = h
+pub entry_bad : (text strong : List ℕ) (other : Entry) → read_entry_text text ≡ None → read_entry_text text ≡ Some other → other.strong ≡ strong → ⊥
+entry_bad text strong other none there is = none_and_some (read_entry_text text) other none there
+
+-- as a call finds the text
+pub entry_held : {E : Type 0} (held : Option Holdings) (strong name : List ℕ) (text : Vec ℕ Global) (r : Result (Option HeldEntry) E) → name ≡ at_entry strong
+    → held_names.Finds held name (got.Found text) → IfOk r (ReadsEntry text.items strong)
+    → IfOk r (λ o. FindsOne held (λ S e. IsHeld S strong e) (entry_in o))
+entry_held held strong name text (Ok None) named h read = λ S is e there.
+    let same : text.items ≡ there.held.0 =
+    same_Some text.items there.held.0 (sym (h S is) ∙ ap (get S) (named ∙ ap at_entry (sym there.strong_is)) ∙ there.held.1) in
+    read e (ap read_entry_text same ∙ there.held.2) there.strong_is
+entry_held held strong name text (Ok (Some e)) named h read = λ S is. record {
+  held = (
+    text.items,
+    ap (λ s. get S (at_entry s)) read.1.1 ∙ ap (get S) (sym named) ∙ h S is,
+    ap read_entry_text (sym read.1.0) ∙ read.0.1,
+  );
+  strong_is = read.1.1;
+}
+entry_held held strong name text (Err x) named h read = tt
+
+pub entry_named : {E : Type 0} (text strong : List ℕ) (r : Result (Option HeldEntry) E) → IfOk r (ReadsEntry text strong)
+    → IfOk r (λ o. IfSome o (λ (e : HeldEntry). IsEntryText e × (e.entry.strong ≡ strong)))
+entry_named text strong (Ok None) read = tt
+entry_named text strong (Ok (Some e)) read = (read.0, read.1.1)
+entry_named text strong (Err x) read = tt
+
+pub no_entry : (held : Option Holdings) (strong name : List ℕ) → name ≡ at_entry strong → held_names.Finds held name got.None
+    → FindsOne held (λ S e. IsHeld S strong e) None
+no_entry held strong name named h = λ S is e there.
+    none_and_some (get S name) there.held.0 (h S is) (ap (get S) (named ∙ ap at_entry (sym there.strong_is)) ∙ there.held.1)
 
 -- what an entry must be to be taken
 abbrev pub IsTaken : Desc → Selector → Entry → Type 0

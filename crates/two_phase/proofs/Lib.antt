@@ -8,3 +8,4 @@ pub mod Noted
 pub mod Prefixes
 pub mod Recorded
 pub mod ReaderCalls
+pub mod Kept

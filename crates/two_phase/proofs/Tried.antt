@@ -1,6 +1,7 @@
 -- What selectors lead to, one after another.
 use Rattle.std.proofs.Common.{Bool, ◌≡◌, ℕ, ◌+◌, ◌<◌, ◌≤◌, List, [], ◌∷◌, length, get_or, drop, map, Option, Some, None, Result, Ok, Err, IfOk, IfSome, refl, sym, ap, ◌∙◌, subst, inl, inr}
 use Rattle.std.specs.Prelude.{IsTrue}
+use Rattle.std.proofs.lemmas.List.{length-map}
 use Rattle.sha2.specs.Sha256.{sha256}
 use Rattle.bx_tree.specs.Paths.{Atoms}
 use Rattle.bx_io.specs.Holdings.{Holdings}
@@ -11,6 +12,7 @@ use Rattle.observed.specs.declared.access.Answer.{Answer}
 use Rattle.pip_model_types.specs.declared.desc.Desc.{Desc}
 use Rattle.memo_format.specs.Entries.{output_paths}
 use Rattle.memo_format.specs.Found.{FoundParts, found_parts}
+use Rattle.memo_format.specs.PathsTexts.{PathsText}
 use Rattle.memo_format.specs.StoreNames.{HoldsList}
 use Rattle.memo_format.specs.declared.entry.Entry.{Entry}
 use Rattle.prints.specs.Strong.{strong_parts, strong_text}
@@ -19,7 +21,7 @@ use Rattle.two_phase_meaning.specs.Contents.{HoldsPaths}
 use Rattle.run_record.specs.Digests.{IsReadBack, weak_of}
 use Rattle.two_phase_meaning.specs.Usable.{AnyUsable, UsableBy, asked_text, fits}
 use Rattle.two_phase_meaning.proofs.FilesFit.{paths_lines}
-use Rattle.two_phase.specs.Finding.{AreOutputs, FindsOne, HasParts, IsEntryFor, IsOf, IsOn, IsStrongMatch, IsWith}
+use Rattle.two_phase.specs.Finding.{AreOutputs, FindsOne, HasParts, IsEntryFor, IsNamedBy, IsOf, IsOn, IsStrongMatch, IsWith}
 use Rattle.two_phase.specs.Lookups.{FindsFirst, FindsUsable, IsCurrentHit, LeadsTo, LookupGives, Onward}
 use Rattle.two_phase.specs.declared.lookups.LookupResult.TheVariants as lookup_results
 use Rattle.two_phase.proofs.Fetched.{finds_on, one_entry, one_list, one_set}
@@ -75,14 +77,36 @@ pub no_entry_on : (held : Option Holdings) (d : Desc) (s : Selector) (asks : Lis
     → FindsOne held (λ S f. IsOn S d s asks given f) None
 no_entry_on held d s asks given h = λ S is f there. h S is f.entry there.entry
 
+-- the digest of the strong text of answers, by the entry that a selector names
+pub strong_named : (asks : List Ask) (d : Desc) (s : Selector) (e : Entry) (given : List Answer) → IsNamedBy d s e
+    → sha256 (strong_text (strong_parts (has_match asks) (weak_of d) s.paths given)) ≡ s.strong
+    → sha256 (strong_text (strong_parts (has_match asks) e.weak e.paths given)) ≡ e.strong
+strong_named asks d s e given named is =
+    ap (λ w. sha256 (strong_text (strong_parts (has_match asks) w e.paths given))) named.weak_is
+    ∙ ap (λ p. sha256 (strong_text (strong_parts (has_match asks) (weak_of d) p given))) named.paths_are
+    ∙ is ∙ sym named.strong_is
+
 -- the digest of the strong text that was written
-pub one_digest : (asks : List Ask) (d : Desc) (second : Bool) (weak paths : List ℕ) (given written : List Answer) (digest : List ℕ) → second ≡ has_match asks → weak ≡ weak_of d
-    → written ≡ given → digest ≡ sha256 (strong_text (strong_parts second weak paths written))
-    → digest ≡ sha256 (strong_text (strong_parts (has_match asks) (weak_of d) paths given))
-one_digest asks d second weak paths given written digest second_is weak_is given_is is =
-    is ∙ ap (λ s. sha256 (strong_text (strong_parts s weak paths written))) second_is
-    ∙ ap (λ w. sha256 (strong_text (strong_parts (has_match asks) w paths written))) weak_is
-    ∙ ap (λ as'. sha256 (strong_text (strong_parts (has_match asks) (weak_of d) paths as'))) given_is
+pub one_digest : (p : PathsText) (d : Desc) (weak paths : List ℕ) (given : List Answer) (digest : List ℕ) → p.digest ≡ paths → weak ≡ weak_of d
+    → digest ≡ sha256 (strong_text (strong_parts (has_match p.asks) weak p.digest given))
+    → digest ≡ sha256 (strong_text (strong_parts (has_match p.asks) (weak_of d) paths given))
+one_digest p d weak paths given digest paths_is weak_is is =
+    is
+    ∙ ap (λ w. sha256 (strong_text (strong_parts (has_match p.asks) w p.digest given))) weak_is
+    ∙ ap (λ q. sha256 (strong_text (strong_parts (has_match p.asks) (weak_of d) q given))) paths_is
+
+-- as it is written and hashed by a call
+pub written_digest : (asks set : List Ask) (second : Bool) (weak paths named text digest : List ℕ) (given written : List Answer) → set ≡ asks → second ≡ has_match set
+    → named ≡ paths → written ≡ given → text ≡ strong_text (strong_parts second weak named written) → digest ≡ sha256 text
+    → digest ≡ sha256 (strong_text (strong_parts (has_match asks) weak paths given))
+written_digest asks set second weak paths named text digest given written set_is second_is named_is given_is text_is is =
+    is ∙ ap sha256 text_is
+    ∙ ap (λ s. sha256 (strong_text (strong_parts s weak named written))) (second_is ∙ ap has_match set_is)
+    ∙ ap (λ p. sha256 (strong_text (strong_parts (has_match asks) weak p written))) named_is
+    ∙ ap (λ as'. sha256 (strong_text (strong_parts (has_match asks) weak paths as'))) given_is
+
+pub asked_number : (asks : List Ask) (given : List Answer) (see : Ask → Answer) → given ≡ map see asks → length given ≡ length asks
+asked_number asks given see is = ap length is ∙ length-map asks see
 
 -- answers that are those of now, and give the strong digest
 pub asked_found : (held : Option Holdings) (d : Desc) (see : Ask → Answer) (s : Selector) (asks : List Ask) (given : List Answer) (r : Option FoundParts)

@@ -61,6 +61,12 @@ pub record IsEntryFor (S : Holdings) (d : Desc) (s : Selector) (e : Entry) : Typ
   pub paths_are : e.paths ≡ s.paths
   pub fit : IsTrue (fits d.process (output_paths e.outputs))
 
+-- The entry names the weak text of the process, and the selector's path set and strong text.
+pub record IsNamedBy (d : Desc) (s : Selector) (e : Entry) : Type 0 where
+  pub weak_is : e.weak ≡ weak_of d
+  pub paths_are : e.paths ≡ s.paths
+  pub strong_is : e.strong ≡ s.strong
+
 -- The entry with its outputs, under this path set and these answers.
 pub record IsWith (S : Holdings) (e : Entry) (asks : List Ask) (given : List Answer) (found : FoundParts)
     : Type 0 where

@@ -2,6 +2,8 @@ pub mod Applying
 pub mod Calls
 pub mod Finding
 pub mod Held
+pub mod Kept
 pub mod Lookups
 pub mod Putting
+pub mod ReadSets
 pub mod Reading

@@ -1,5 +1,6 @@
 -- What a lookup answers.
 use Rattle.std.specs.Prelude.{◌≡◌, ◌⊎◌, List, [], ◌∷◌, map, Option, Some, None, IsTrue, ⊤}
+use Rattle.bx_tree.specs.Members.{Has}
 use Rattle.bx_tree.specs.Trees.{NoneNested, paths_of}
 use Rattle.pip_model_types.specs.declared.desc.Desc.{Desc}
 use Rattle.observed.specs.declared.ask.Ask.{Ask}
@@ -42,6 +43,14 @@ pub record LookupHits (S : Holdings) (d : Desc) (see : Ask → Answer) (found : 
   pub list : List Selector
   pub held : HoldsList S (weak_of d) list
   pub first : FirstLeadsTo S d see list found
+
+-- Some selector of the list that is held for the process is usable, and leads to this.
+pub record LeadsIn (S : Holdings) (d : Desc) (see : Ask → Answer) (found : FoundParts) : Type 0 where
+  pub list : List Selector
+  pub held : HoldsList S (weak_of d) list
+  pub selector : Selector
+  pub listed : Has list selector
+  pub leads : LeadsTo S d see selector found
 
 -- What is found is a hit, and where nothing is found, nothing is usable.
 abbrev pub IsUsable : Holdings → Desc → (Ask → Answer) → Option FoundParts → Type 0

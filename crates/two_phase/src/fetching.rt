@@ -4,21 +4,22 @@ ghost use Rattle.sha2.specs.Sha256.{sha256};
 ghost use Rattle.bx_tree.specs.Trees.{NoneNested, paths_of};
 ghost use Rattle.content_store.specs.Contents.{IsContent};
 ghost use Rattle.content_store.specs.HeldEntries.{IsHeld};
-ghost use Rattle.memo_format.specs.Entries.{IsEntry, OutputsRise};
+ghost use Rattle.memo_format.specs.Entries.{OutputsRise};
 ghost use Rattle.memo_format.specs.Found.{output_lines};
+ghost use Rattle.memo_format.specs.PathsTexts.{PathsText};
 ghost use Rattle.memo_format.specs.Selectors.{read_selectors_text};
 ghost use Rattle.memo_format.specs.StoreNames.{HoldsList};
-ghost use Rattle.observed.specs.Texts.{read_paths_text};
 ghost use Rattle.two_phase_meaning.specs.Contents.{HoldsPaths};
 ghost use Rattle.two_phase.specs.Calls.{ReaderCall};
 ghost use Rattle.two_phase.specs.Finding.{AddsTo, AreOutputs, FindsOne, PutsIn};
+ghost use Rattle.two_phase.specs.ReadSets.{IsEntryText, ReadsEntry, entry_in};
 
+use crate::path_sets::PathSets;
 use crate::store_fault::StoreFault;
 use bx_digest::{Blob, Digest};
 use bx_io::{Got, KeepReader};
-use content_store::{Fetched, FetchedEntry, get_blob, get_entry, list_name};
-use memo_format::{Entry, FormatFault, OutputLine, Selector, read_selectors};
-use observed::{PathSet, SetFault};
+use content_store::{Fetched, blob_name, entry_name, get_blob, list_name};
+use memo_format::{Entry, FormatFault, OutputLine, ReadPaths, Selector, read_entry, read_selectors};
 use pip_model_types::Made;
 use std::alloc::Global;
 use std::marker::Model;
@@ -37,6 +38,13 @@ impl Model for SelectorList {
     ghost Value = { List Selector };
 
     ghost view = { λ s. s.list.items };
+}
+
+// An entry with its text.
+#[derive(Drop)]
+pub(crate) struct HeldEntry {
+    pub(crate) entry: Entry,
+    pub(crate) text: Vec<u8>,
 }
 
 impl SelectorList {
@@ -66,50 +74,67 @@ fn content<R: KeepReader>(
     }
 }
 
-// The path set of a text, if it is one.
-fn read_set(alloc: Global, text: &[u8]) -> Result<Option<PathSet>, StoreFault>
-    ensures read { IfOk result (λ set. read_paths_text text.now ≡ set) }
-    ensures no_fault { result ≢ Err StoreFault.Fault }
-{
-    match PathSet::read(alloc, text) {
-        Ok(set) => Ok(Some(set)),
-        Err(SetFault::BadSet) => Ok(None),
-        Err(SetFault::Memory) => Err(StoreFault::Memory),
-    }
-}
-
-// The path set whose text has a digest.
+// The path set whose text has a digest, with that text.
 pub(crate) fn path_set<R: KeepReader>(
     alloc: Global,
     reader: &mut R,
+    sets: &mut PathSets,
     digest: &Digest,
-) -> Result<Option<PathSet>, StoreFault>
-    ensures found { IfOk result (FindsOne (R.held reader.new) (λ S asks. HoldsPaths S digest.now asks)) }
+) -> Result<Option<ReadPaths>, StoreFault>
+    ensures found { IfOk result (FindsOne (R.held reader.new) (λ S (p : PathsText). HoldsPaths S digest.now p.asks)) }
+    ensures digest { IfOk result (λ found. IfSome found (λ paths. paths.digest ≡ digest.now)) }
     ensures reader { ReaderCall (R.held reader.old) (R.held reader.new) (R.bound reader.old) (R.bound reader.new)
         (R.faults reader.old) (R.faults reader.new) (result ≡ Err StoreFault.Fault) }
 {
-    match content(alloc, reader, digest)? {
-        Some(text) => read_set(alloc, text.bytes()),
-        None => Ok(None),
+    let name = blob_name(alloc, digest)?;
+    match reader.get(alloc, name.as_str()) {
+        Got::Found(bytes) => sets.set_of(alloc, digest, bytes),
+        Got::None => Ok(None),
+        Got::Failed => Err(StoreFault::Fault),
+        Got::Memory => Err(StoreFault::Memory),
     }
 }
 
-// The entry of a strong digest.
+// The entry of a text that was held under a strong digest, with that text, if it is of that digest.
+#[tactic(auto, using(crate::proofs::Fetched::entry_other, crate::proofs::Fetched::entry_bad))]
+fn read_held_entry(
+    alloc: Global,
+    text: Vec<u8>,
+    strong: &Digest,
+) -> Result<Option<HeldEntry>, StoreFault>
+    ensures read { IfOk result (ReadsEntry text.items strong.now) }
+    ensures no_fault { result ≢ Err StoreFault.Fault }
+{
+    match read_entry(alloc, text.as_slice()) {
+        Ok(entry) => {
+            if entry.strong == *strong {
+                Ok(Some(HeldEntry { entry, text }))
+            } else {
+                Ok(None)
+            }
+        }
+        Err(FormatFault::BadForm) => Ok(None),
+        Err(FormatFault::Memory) => Err(StoreFault::Memory),
+    }
+}
+
+// The entry of a strong digest, with its text.
 pub(crate) fn entry<R: KeepReader>(
     alloc: Global,
     reader: &mut R,
     strong: &Digest,
-) -> Result<Option<Entry>, StoreFault>
-    ensures found { IfOk result (FindsOne (R.held reader.new) (λ S e. IsHeld S strong.now e)) }
-    ensures entry { IfOk result (λ found. IfSome found IsEntry) }
+) -> Result<Option<HeldEntry>, StoreFault>
+    ensures found { IfOk result (λ found. FindsOne (R.held reader.new) (λ S e. IsHeld S strong.now e) (entry_in found)) }
+    ensures entry { IfOk result (λ found. IfSome found (λ h. IsEntryText h × (h.entry.strong ≡ strong.now))) }
     ensures reader { ReaderCall (R.held reader.old) (R.held reader.new) (R.bound reader.old) (R.bound reader.new)
         (R.faults reader.old) (R.faults reader.new) (result ≡ Err StoreFault.Fault) }
 {
-    match get_entry(alloc, reader, strong) {
-        FetchedEntry::Found(entry) => Ok(Some(entry)),
-        FetchedEntry::NotWell => Ok(None),
-        FetchedEntry::Fault => Err(StoreFault::Fault),
-        FetchedEntry::Memory => Err(StoreFault::Memory),
+    let name = entry_name(alloc, strong)?;
+    match reader.get(alloc, name.as_str()) {
+        Got::Found(text) => read_held_entry(alloc, text, strong),
+        Got::None => Ok(None),
+        Got::Failed => Err(StoreFault::Fault),
+        Got::Memory => Err(StoreFault::Memory),
     }
 }
 

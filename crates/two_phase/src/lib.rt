@@ -13,11 +13,15 @@ mod fitting;
 mod held;
 mod laws;
 mod lookups;
+mod path_sets;
+mod rechecking;
 mod recording;
 mod saving;
 mod store_fault;
 
 pub use held::HeldContents;
 pub use laws::saves_stay_honest;
-pub use lookups::{LookupResult, lookup, lookup_by};
+pub use lookups::{LookupResult, lookup, lookup_by, lookup_with};
+pub use path_sets::PathSets;
+pub use rechecking::{Rechecked, recheck};
 pub use saving::{SaveResult, keep, keep_with};

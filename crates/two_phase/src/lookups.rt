@@ -1,21 +1,24 @@
 //! Lookups.
-ghost use Rattle.std.specs.Prelude.{◌≡◌, ◌↔◌, Err, IfOk, IfSome, IsTrue, length};
+ghost use Rattle.std.specs.Prelude.{◌≡◌, ◌↔◌, Err, IfOk, IfSome, IsTrue, length, map};
 ghost use Rattle.sha2.specs.Sha256.{sha256};
 ghost use Rattle.memo_format.specs.Entries.{OutputsRise, output_paths};
+ghost use Rattle.observed.specs.Texts.{has_match};
 ghost use Rattle.prints.specs.Strong.{strong_parts, strong_text};
 ghost use Rattle.run_record.specs.Digests.{IsReadBack, weak_of};
 ghost use Rattle.two_phase_meaning.specs.Usable.{fits as all_fit};
 ghost use Rattle.two_phase.specs.Calls.{ReaderCall};
-ghost use Rattle.two_phase.specs.Finding.{FindsOne, HasParts, IsEntryFor, IsOf, IsOn, IsStrongMatch, IsWith};
+ghost use Rattle.two_phase.specs.Finding.{FindsOne, HasParts, IsEntryFor, IsNamedBy, IsOf, IsOn, IsStrongMatch, IsWith};
+ghost use Rattle.two_phase.specs.ReadSets.{IsEntryText, entry_in};
 ghost use Rattle.two_phase.specs.Lookups.{FindsFirst, FindsUsable, IsCurrentHit, LeadsTo, LookupGives, LookupHitIsCurrent};
 
-use crate::fetching::{entry, outputs, path_set, selectors};
+use crate::fetching::{HeldEntry, entry, outputs, path_set, selectors};
 use crate::fitting::fits;
+use crate::path_sets::PathSets;
 use crate::store_fault::StoreFault;
 use bx_digest::Digest;
 use bx_io::KeepReader;
-use memo_format::{Entry, Found, Selector};
-use observed::{Answer, PathSet, View, answers_to};
+use memo_format::{Entry, Found, ReadPaths, Selector};
+use observed::{Answer, View, answers_to};
 use pip_model_types::Desc;
 use prints::{reads_back, strong_of};
 use run_record::weak_digest;
@@ -34,19 +37,34 @@ pub enum LookupResult {
     Memory,
 }
 
-// The digest of the strong text of answers.
-fn digest_of_answers(
+// What the asks of a path set are answered now, with the digest of their strong text.
+#[derive(Drop)]
+struct Asked {
+    answers: Vec<Answer>,
+    digest: Digest,
+}
+
+// What a view answers now to the asks of a path set, under a weak text with this digest.
+fn ask_all<V: View>(
     alloc: Global,
-    second: bool,
     weak: &Digest,
-    paths: &Digest,
-    answers: &[Answer],
-) -> Result<Digest, AllocError>
-    ensures { IfOk result (λ digest.
-        digest ≡ sha256 (strong_text (strong_parts second weak.now paths.now answers.now))) }
+    paths: &ReadPaths,
+    view: &mut V,
+) -> Result<Asked, AllocError>
+    ensures answers { IfOk result (λ asked. asked.answers.items ≡ map (V.answers view.old) paths.now.asks) }
+    ensures digest { IfOk result (λ asked. asked.digest ≡ sha256 (strong_text
+        (strong_parts (has_match paths.now.asks) weak.now paths.now.digest asked.answers.items))) }
+    ensures same { V.answers view.new ≡ V.answers view.old }
 {
-    let printed = strong_of(alloc, second, weak, paths, answers)?;
-    Ok(printed.digest)
+    let asks = paths.asks();
+    let answers = answers_to(alloc, asks, view)?;
+    let second = asks.has_match();
+    let named = paths.digest();
+    let printed = strong_of(alloc, second, weak, &named, answers.as_slice())?;
+    Ok(Asked {
+        answers,
+        digest: printed.digest,
+    })
 }
 
 // Whether an entry is one of a process with this weak digest and of a path set, and its outputs fit.
@@ -58,27 +76,27 @@ fn is_taken(entry: &Entry, desc: &Desc, weak: &Digest, paths: &Digest) -> bool
     entry.weak == *weak && entry.paths == *paths && fits(&desc.process, entry.outputs.lines())
 }
 
-// The entry to which a selector of a process leads, if its outputs fit.
+// The entry to which a selector of a process leads, with its text, if its outputs fit.
 fn entry_for<R: KeepReader>(
     alloc: Global,
     reader: &mut R,
     desc: &Desc,
     weak: &Digest,
     selector: &Selector,
-) -> Result<Option<Entry>, StoreFault>
+) -> Result<Option<HeldEntry>, StoreFault>
     requires { weak.now ≡ weak_of desc.now }
-    ensures found { IfOk result (FindsOne (R.held reader.new) (λ S e. IsEntryFor S desc.now selector.now e)) }
-    ensures entry { IfOk result (λ found. IfSome found (λ e.
-        (e.weak ≡ weak_of desc.now) × OutputsRise e.outputs)) }
-    ensures fit { IfOk result (λ found. IfSome found (λ e.
-        IsTrue (all_fit desc.now.process (output_paths e.outputs)))) }
+    ensures found { IfOk result (λ found. FindsOne (R.held reader.new)
+        (λ S e. IsEntryFor S desc.now selector.now e) (entry_in found)) }
+    ensures entry { IfOk result (λ found. IfSome found (λ h. IsNamedBy desc.now selector.now h.entry × IsEntryText h)) }
+    ensures fit { IfOk result (λ found. IfSome found (λ h.
+        IsTrue (all_fit desc.now.process (output_paths h.entry.outputs)))) }
     ensures reader { ReaderCall (R.held reader.old) (R.held reader.new) (R.bound reader.old) (R.bound reader.new)
         (R.faults reader.old) (R.faults reader.new) (result ≡ Err StoreFault.Fault) }
 {
     match entry(alloc, reader, &selector.strong)? {
-        Some(entry) => {
-            if is_taken(&entry, desc, weak, &selector.paths) {
-                Ok(Some(entry))
+        Some(held) => {
+            if is_taken(&held.entry, desc, weak, &selector.paths) {
+                Ok(Some(held))
             } else {
                 Ok(None)
             }
@@ -91,21 +109,25 @@ fn entry_for<R: KeepReader>(
 fn with_outputs<R: KeepReader>(
     alloc: Global,
     reader: &mut R,
-    entry: Entry,
-    paths: PathSet,
+    held: HeldEntry,
+    paths: ReadPaths,
     answers: Vec<Answer>,
 ) -> Result<Option<Found>, StoreFault>
-    requires rise { OutputsRise entry.outputs }
-    requires one_each { length answers.items ≡ length paths }
+    requires entry { IsEntryText held }
+    requires one_each { length answers.items ≡ length paths.asks }
+    requires paths { paths.digest ≡ held.entry.paths }
+    requires strong { sha256 (strong_text
+        (strong_parts (has_match paths.asks) held.entry.weak held.entry.paths answers.items)) ≡ held.entry.strong }
     ensures found { IfOk result (FindsOne (R.held reader.new)
-        (λ S found. IsWith S entry paths answers.items found)) }
-    ensures parts { IfOk result (λ found. IfSome found (HasParts entry paths answers.items)) }
+        (λ S found. IsWith S held.entry paths.asks answers.items found)) }
+    ensures parts { IfOk result (λ found. IfSome found (HasParts held.entry paths.asks answers.items)) }
     ensures reader { ReaderCall (R.held reader.old) (R.held reader.new) (R.bound reader.old) (R.bound reader.new)
         (R.faults reader.old) (R.faults reader.new) (result ≡ Err StoreFault.Fault) }
 {
-    match outputs(alloc, reader, entry.outputs.lines())? {
+    match outputs(alloc, reader, held.entry.outputs.lines())? {
         Some(made) => {
-            let found = Found::new(alloc, entry, paths, answers, made)?;
+            let HeldEntry { entry, text } = held;
+            let found = Found::new(alloc, entry, text, paths, answers, made)?;
             Ok(Some(found))
         }
         None => Ok(None),
@@ -119,19 +141,22 @@ fn found_by<R: KeepReader>(
     desc: &Desc,
     weak: &Digest,
     selector: &Selector,
-    paths: PathSet,
+    paths: ReadPaths,
     answers: Vec<Answer>,
 ) -> Result<Option<Found>, StoreFault>
     requires weak { weak.now ≡ weak_of desc.now }
-    requires one_each { length answers.items ≡ length paths }
+    requires one_each { length answers.items ≡ length paths.asks }
+    requires paths { paths.digest ≡ selector.now.paths }
+    requires strong { sha256 (strong_text
+        (strong_parts (has_match paths.asks) (weak_of desc.now) selector.now.paths answers.items)) ≡ selector.now.strong }
     ensures found { IfOk result (FindsOne (R.held reader.new)
-        (λ S found. IsOn S desc.now selector.now paths answers.items found)) }
-    ensures of { IfOk result (λ found. IfSome found (IsOf desc.now paths answers.items)) }
+        (λ S found. IsOn S desc.now selector.now paths.asks answers.items found)) }
+    ensures of { IfOk result (λ found. IfSome found (IsOf desc.now paths.asks answers.items)) }
     ensures reader { ReaderCall (R.held reader.old) (R.held reader.new) (R.bound reader.old) (R.bound reader.new)
         (R.faults reader.old) (R.faults reader.new) (result ≡ Err StoreFault.Fault) }
 {
     match entry_for(alloc, reader, desc, weak, selector)? {
-        Some(entry) => with_outputs(alloc, reader, entry, paths, answers),
+        Some(held) => with_outputs(alloc, reader, held, paths, answers),
         None => Ok(None),
     }
 }
@@ -144,22 +169,22 @@ fn asked_now<R: KeepReader, V: View>(
     desc: &Desc,
     weak: &Digest,
     selector: &Selector,
-    paths: PathSet,
+    paths: ReadPaths,
     view: &mut V,
 ) -> Result<Option<Found>, StoreFault>
-    requires { weak.now ≡ weak_of desc.now }
+    requires weak { weak.now ≡ weak_of desc.now }
+    requires paths { paths.digest ≡ selector.now.paths }
     ensures found { IfOk result (FindsOne (R.held reader.new)
-        (λ S found. IsStrongMatch S desc.now (V.answers view.old) selector.now paths found)) }
+        (λ S found. IsStrongMatch S desc.now (V.answers view.old) selector.now paths.asks found)) }
     ensures now { IfOk result (λ found. IfSome found (IsCurrentHit desc.now (V.answers view.old))) }
     ensures same { V.answers view.new ≡ V.answers view.old }
     ensures reader { ReaderCall (R.held reader.old) (R.held reader.new) (R.bound reader.old) (R.bound reader.new)
         (R.faults reader.old) (R.faults reader.new) (result ≡ Err StoreFault.Fault) }
 {
-    let answers = answers_to(alloc, &paths, view)?;
-    let second = paths.has_match();
-    let digest = digest_of_answers(alloc, second, weak, &selector.paths, answers.as_slice())?;
+    let asked = ask_all(alloc, weak, &paths, view)?;
+    let digest = asked.digest;
     if digest == selector.strong {
-        found_by(alloc, reader, desc, weak, selector, paths, answers)
+        found_by(alloc, reader, desc, weak, selector, paths, asked.answers)
     } else {
         Ok(None)
     }
@@ -169,6 +194,7 @@ fn asked_now<R: KeepReader, V: View>(
 fn follow<R: KeepReader, V: View>(
     alloc: Global,
     reader: &mut R,
+    sets: &mut PathSets,
     desc: &Desc,
     weak: &Digest,
     selector: &Selector,
@@ -182,7 +208,7 @@ fn follow<R: KeepReader, V: View>(
     ensures reader { ReaderCall (R.held reader.old) (R.held reader.new) (R.bound reader.old) (R.bound reader.new)
         (R.faults reader.old) (R.faults reader.new) (result ≡ Err StoreFault.Fault) }
 {
-    match path_set(alloc, reader, &selector.paths)? {
+    match path_set(alloc, reader, sets, &selector.paths)? {
         Some(paths) => asked_now(alloc, reader, desc, weak, selector, paths, view),
         None => Ok(None),
     }
@@ -192,6 +218,7 @@ fn follow<R: KeepReader, V: View>(
 fn first_usable<R: KeepReader, V: View>(
     alloc: Global,
     reader: &mut R,
+    sets: &mut PathSets,
     desc: &Desc,
     weak: &Digest,
     list: &[Selector],
@@ -206,7 +233,7 @@ fn first_usable<R: KeepReader, V: View>(
         (R.faults reader.old) (R.faults reader.new) (result ≡ Err StoreFault.Fault) }
 {
     'selectors: for selector in list {
-        match follow(alloc, reader, desc, weak, selector, view)? {
+        match follow(alloc, reader, sets, desc, weak, selector, view)? {
             Some(found) => return Ok(Some(found)),
             None => (),
         }
@@ -218,6 +245,7 @@ fn first_usable<R: KeepReader, V: View>(
 fn find_usable<R: KeepReader, V: View>(
     alloc: Global,
     reader: &mut R,
+    sets: &mut PathSets,
     desc: &Desc,
     weak: &Digest,
     view: &mut V,
@@ -232,16 +260,17 @@ fn find_usable<R: KeepReader, V: View>(
 {
     reads_back(desc);
     match selectors(alloc, reader, weak)? {
-        Some(held) => first_usable(alloc, reader, desc, weak, held.list(), view),
+        Some(held) => first_usable(alloc, reader, sets, desc, weak, held.list(), view),
         None => Ok(None),
     }
 }
 
 /// Looks up what the run of a process on this view made, by the digest of its weak text: what the first usable selector
-/// leads to. It stops at the first get that fails.
+/// leads to. It stops at the first get that fails. Path sets that were read before are not read again.
 pub fn lookup_by<R: KeepReader, V: View>(
     alloc: Global,
     reader: &mut R,
+    sets: &mut PathSets,
     desc: &Desc,
     weak: &Digest,
     view: &mut V,
@@ -253,7 +282,7 @@ pub fn lookup_by<R: KeepReader, V: View>(
     ensures reader { ReaderCall (R.held reader.old) (R.held reader.new) (R.bound reader.old) (R.bound reader.new)
         (R.faults reader.old) (R.faults reader.new) (result ≡ LookupResult.Fault) }
 {
-    match find_usable(alloc, reader, desc, weak, view) {
+    match find_usable(alloc, reader, sets, desc, weak, view) {
         Ok(Some(found)) => LookupResult::Hit(found),
         Ok(None) => LookupResult::Miss,
         Err(StoreFault::Fault) => LookupResult::Fault,
@@ -262,6 +291,26 @@ pub fn lookup_by<R: KeepReader, V: View>(
 }
 
 /// The same for a process whose weak text is written and hashed here.
+pub fn lookup_with<R: KeepReader, V: View>(
+    alloc: Global,
+    reader: &mut R,
+    sets: &mut PathSets,
+    desc: &Desc,
+    view: &mut V,
+) -> LookupResult
+    ensures answer { LookupGives (R.held reader.new) desc.now (V.answers view.old) result }
+    ensures now { LookupHitIsCurrent desc.now (V.answers view.old) result }
+    ensures same { V.answers view.new ≡ V.answers view.old }
+    ensures reader { ReaderCall (R.held reader.old) (R.held reader.new) (R.bound reader.old) (R.bound reader.new)
+        (R.faults reader.old) (R.faults reader.new) (result ≡ LookupResult.Fault) }
+{
+    match weak_digest(alloc, desc) {
+        Ok(weak) => lookup_by(alloc, reader, sets, desc, &weak, view),
+        Err(_) => LookupResult::Memory,
+    }
+}
+
+/// The same where no path set was read before.
 pub fn lookup<R: KeepReader, V: View>(
     alloc: Global,
     reader: &mut R,
@@ -274,8 +323,6 @@ pub fn lookup<R: KeepReader, V: View>(
     ensures reader { ReaderCall (R.held reader.old) (R.held reader.new) (R.bound reader.old) (R.bound reader.new)
         (R.faults reader.old) (R.faults reader.new) (result ≡ LookupResult.Fault) }
 {
-    match weak_digest(alloc, desc) {
-        Ok(weak) => lookup_by(alloc, reader, desc, &weak, view),
-        Err(_) => LookupResult::Memory,
-    }
+    let mut sets = PathSets::new(alloc);
+    lookup_with(alloc, reader, &mut sets, desc, view)
 }

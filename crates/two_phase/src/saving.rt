@@ -36,7 +36,8 @@ pub enum SaveResult {
     Memory,
 }
 
-fn is_same(a: &Selector, b: &Selector) -> bool
+// Whether a selector is another.
+pub(crate) fn is_same(a: &Selector, b: &Selector) -> bool
     ensures { result ≡ same_selector a.now b.now }
 {
     a.paths == b.paths && a.strong == b.strong

@@ -1,5 +1,6 @@
 //! What a worker shows of a pip: what the cache has for it, or its run. Nothing here needs the board.
-ghost use Rattle.std.specs.Prelude.{◌≡◌, ◌<◌, ◌↔◌, IfOk, IsSome, length, slice_get, true};
+ghost use Rattle.std.specs.Prelude.{◌≡◌, ◌<◌, ◌↔◌, IfOk, IfSome, IsSome, length, slice_get, true};
+ghost use Rattle.memo_format.specs.Found.{IsFoundFor};
 ghost use Rattle.pip_view_inputs.specs.Plain.{process_in};
 ghost use Rattle.sched_board.specs.Publishing.{fits_kind};
 ghost use Rattle.worker.specs.Steps.{HasPip};
@@ -17,7 +18,7 @@ use run_record::execute_with;
 use sched_board::Shown;
 use std::alloc::{AllocError, Global};
 use std::sync::ledger::Ledger;
-use two_phase::{LookupResult, lookup};
+use two_phase::{LookupResult, lookup_with};
 
 // What a worker works with.
 #[derive(Clone, Copy)]
@@ -44,13 +45,14 @@ impl<R: KeepReader, L: Ledger, E: Ledger> Worker<R, L, E> {
         desc: &Desc,
         view: &mut V,
     ) -> Result<Option<Found>, Memory>
+        ensures found { IfOk result (λ found. IfSome found (λ f. IsFoundFor f desc.now)) }
         ensures meaning { V.answers view.new ≡ V.answers view.old }
         ensures goes { GoesOn self.old self.new }
     {
         let Some(reader) = &mut self.reader else {
             return Ok(None);
         };
-        match lookup(alloc, reader, desc, view) {
+        match lookup_with(alloc, reader, &mut self.sets, desc, view) {
             LookupResult::Hit(found) => Ok(Some(found)),
             LookupResult::Miss => Ok(None),
             LookupResult::Fault => {
@@ -76,7 +78,7 @@ impl<R: KeepReader, L: Ledger, E: Ledger> Worker<R, L, E> {
         let described = desc(site.alloc, site.plan, site.sources, pip, inputs)?;
         let mut view = PipView::new(site.alloc, site.plan, site.sources, pip, inputs)?;
         if let Some(found) = self.look_up(site.alloc, &described, &mut view)? {
-            return Ok(Shown::Hit(found));
+            return Ok(Shown::Hit(found.for_work(site.alloc, described)?));
         }
         let ran = execute_with(
             site.alloc,

@@ -10,6 +10,7 @@ use sched_board::Share;
 use std::alloc::Global;
 use std::marker::Model;
 use std::sync::ledger::Ledger;
+use two_phase::PathSets;
 
 /// A worker of a build, with its reader of the cache, its share of the board and its tally.
 #[derive(Drop)]
@@ -18,6 +19,7 @@ pub struct Worker<R: KeepReader, L: Ledger, E: Ledger> {
     pub(crate) share: Share<L, E>,
     pub(crate) tally: Tally,
     pub(crate) tools: Tools,
+    pub(crate) sets: PathSets,
 }
 
 impl<R: KeepReader, L: Ledger, E: Ledger> Model for Worker<R, L, E> {
@@ -49,6 +51,7 @@ impl<R: KeepReader, L: Ledger, E: Ledger> Worker<R, L, E> {
                 left: None,
             },
             tools: Tools::new(alloc),
+            sets: PathSets::new(alloc),
         }
     }
 

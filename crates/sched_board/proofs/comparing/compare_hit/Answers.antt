@@ -1,7 +1,12 @@
-use Rattle.sched_board.proofs.Comparisons.{hit_answer}
+use Rattle.std.proofs.Common.{refl}
+use Rattle.std.specs.Prelude.{slice_get}
+use Rattle.pip_view_inputs.specs.Plain.{process_in}
+use Rattle.sched_board.proofs.Comparisons.{hit_holds_now}
 use Rattle.sched_board.proofs.comparing.compare_hit.Goals as goal
 
-pub returns : goal.returns
-returns c =
-    hit_answer c.args.plan.now c.args.sources.now c.args.inputs.now c.args.pip c.in_ok-own.own _ c.in_ok-view.ensures c.args.found.now c.unlike_hit.result
-    c.in_ok-own.ensures c.unlike_hit.ensures
+pub returns-then-holds : goal.returns-then-holds
+returns-then-holds c = (
+  refl,
+  hit_holds_now c.args.plan.now c.args.sources.now c.args.inputs.now c.args.pip c.args.found.now (process_in (slice_get c.args.plan.now.pips c.args.pip)) c.requires.process
+      (c.in_ok-holds.ensures c.if-holds.true),
+)

@@ -9,16 +9,16 @@ use Rattle.two_phase.proofs.lookups.with_outputs.Goals as goal
 pub returns-in_ok-found-in-Some-clause-found : goal.returns-in_ok-found-in-Some-clause-found
 returns-in_ok-found-in-Some-clause-found g c =
     let all = subst (λ (os : List OutputLine). FindsOne (g.R.KeepReader.held c.outputs.new.reader) (λ S fs. AreOutputs S os fs) c.in_ok-made.field-0) c.lines.ensures c.in_ok-made.ensures.found in
-    let found = subst (λ (o : Option Files). FindsOne (g.R.KeepReader.held c.outputs.new.reader) (λ S fs. AreOutputs S c.args.entry.outputs fs) o) c.in-Some.is all in
-    with_found (g.R.KeepReader.held c.outputs.new.reader) c.args.entry c.args.paths c.args.answers.items c.in_ok-found-in-Some.found
-    (subst (λ (fs : Files). FindsOne (g.R.KeepReader.held c.outputs.new.reader) (λ S x. AreOutputs S c.args.entry.outputs x) (Some fs)) (sym c.in_ok-found-in-Some.ensures.made) found)
+    let found = subst (λ (o : Option Files). FindsOne (g.R.KeepReader.held c.outputs.new.reader) (λ S fs. AreOutputs S c.args.held.entry.outputs fs) o) c.in-Some.is all in
+    with_found (g.R.KeepReader.held c.outputs.new.reader) c.args.held.entry c.args.paths.asks c.args.answers.items c.in_ok-found-in-Some.found
+    (subst (λ (fs : Files). FindsOne (g.R.KeepReader.held c.outputs.new.reader) (λ S x. AreOutputs S c.args.held.entry.outputs x) (Some fs)) (sym c.in_ok-found-in-Some.ensures.made) found)
     c.in_ok-found-in-Some.ensures.entry c.in_ok-found-in-Some.ensures.paths c.in_ok-found-in-Some.ensures.answers
 
 pub returns-in-None-clause-found : goal.returns-in-None-clause-found
 returns-in-None-clause-found g c =
     let all = subst (λ (os : List OutputLine). FindsOne (g.R.KeepReader.held c.outputs.new.reader) (λ S fs. AreOutputs S os fs) c.in_ok-made.field-0) c.lines.ensures c.in_ok-made.ensures.found in
-    no_outputs (g.R.KeepReader.held c.outputs.new.reader) c.args.entry c.args.paths c.args.answers.items
-    (subst (λ (o : Option Files). FindsOne (g.R.KeepReader.held c.outputs.new.reader) (λ S fs. AreOutputs S c.args.entry.outputs fs) o) c.in-None.is all)
+    no_outputs (g.R.KeepReader.held c.outputs.new.reader) c.args.held.entry c.args.paths.asks c.args.answers.items
+    (subst (λ (o : Option Files). FindsOne (g.R.KeepReader.held c.outputs.new.reader) (λ S fs. AreOutputs S c.args.held.entry.outputs fs) o) c.in-None.is all)
 
 pub returns-in_ok-found-in-Some-clause-parts : goal.returns-in_ok-found-in-Some-clause-parts
 returns-in_ok-found-in-Some-clause-parts g c = record {

@@ -4,7 +4,7 @@ use Rattle.pip_view_inputs.specs.Plain.{process_in}
 use Rattle.pip_view.specs.Sees.{sees}
 use Rattle.two_phase.proofs.ReaderCalls.{none_read}
 use Rattle.retire.proofs.Decisions.{accepted_in, else_in, found_none, found_run}
-use Rattle.retire.proofs.taking.taken_for.Goals as goal
+use Rattle.retire.proofs.taking.taken_else.Goals as goal
 
 pub returns-in-Some-clause-taken : goal.returns-in-Some-clause-taken
 returns-in-Some-clause-taken g c =
