@@ -94,8 +94,7 @@ set_held held digest name bytes (Ok None) named h read = λ S is p there.
     same_Some bytes.items there.0 (sym (h S is) ∙ ap (get S) (named ∙ ap at_blob (sym there.1.digest_is)) ∙ there.1.held) in
     read p.asks (ap sha256 same ∙ there.1.digest_is) (ap read_paths_text same ∙ there.2)
 set_held held digest name bytes (Ok (Some p)) named h read = λ S is.
-    let digest_is : sha256 bytes.items ≡ digest = sym (ap sha256 read.1.0) ∙ sym read.0.digest_is ∙ read.1.1 in
-    (
+    let digest_is : sha256 bytes.items ≡ digest = sym (ap sha256 read.1.0) ∙ sym read.0.digest_is ∙ read.1.1 in (
       bytes.items,
       record { held = ap (λ d. get S (at_blob d)) digest_is ∙ ap (get S) (sym named) ∙ h S is; digest_is = digest_is },
       ap read_paths_text (sym read.1.0) ∙ read.0.read,

@@ -19,7 +19,9 @@ use crate::store_fault::StoreFault;
 use bx_digest::{Blob, Digest};
 use bx_io::{Got, KeepReader};
 use content_store::{Fetched, blob_name, entry_name, get_blob, list_name};
-use memo_format::{Entry, FormatFault, OutputLine, ReadPaths, Selector, read_entry, read_selectors};
+use memo_format::{
+    Entry, FormatFault, OutputLine, ReadPaths, Selector, read_entry, read_selectors,
+};
 use pip_model_types::Made;
 use std::alloc::Global;
 use std::marker::Model;

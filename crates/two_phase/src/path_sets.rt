@@ -32,7 +32,11 @@ fn read_text(alloc: Global, text: Blob) -> Result<Option<ReadPaths>, StoreFault>
 }
 
 // The path set of bytes that are held under a digest, if they have that digest and are the text of one.
-fn read_held(alloc: Global, digest: &Digest, bytes: Vec<u8>) -> Result<Option<ReadPaths>, StoreFault>
+fn read_held(
+    alloc: Global,
+    digest: &Digest,
+    bytes: Vec<u8>,
+) -> Result<Option<ReadPaths>, StoreFault>
     ensures read { IfOk result (ReadsSet bytes.items digest.now) }
     ensures no_fault { result ≢ Err StoreFault.Fault }
 {

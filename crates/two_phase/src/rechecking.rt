@@ -156,11 +156,7 @@ fn has_files<R: KeepReader>(
 }
 
 // Whether all of what was found is held.
-fn is_kept<R: KeepReader>(
-    alloc: Global,
-    reader: &mut R,
-    found: &Found,
-) -> Result<bool, StoreFault>
+fn is_kept<R: KeepReader>(alloc: Global, reader: &mut R, found: &Found) -> Result<bool, StoreFault>
     ensures kept { IfOk result (λ kept. IsTrue kept → Keeps (R.held reader.new) found.now) }
     ensures reader { ReaderCall (R.held reader.old) (R.held reader.new) (R.bound reader.old) (R.bound reader.new)
         (R.faults reader.old) (R.faults reader.new) (result ≡ Err StoreFault.Fault) }
