@@ -21,6 +21,13 @@ use std::rt::Files;
 /// The file of a folder that is locked. It is empty.
 const LOCK: &str = "lock";
 
+// A file that was made, by its path of the system. It stays open until it is stored.
+#[derive(Drop)]
+struct Begun {
+    path: String,
+    file: File,
+}
+
 /// A folder of the system. What its files hold is not known. It is locked by an advisory lock of the system on the file
 /// `lock` in it, which ends with this handle or with the process.
 #[derive(Drop)]
@@ -30,7 +37,7 @@ pub struct SystemDisk<R> {
     lock: Option<File>,
     is_alone: bool,
     refused: Option<ErrorKind>,
-    begun: Option<File>,
+    begun: Option<Begun>,
     log: Record,
     failed: Record,
     ghost kept: { is_locked false log.events ≡ true → IsSome lock },
@@ -103,19 +110,35 @@ fn create_file<R: Files<File = File>>(rt: &R, path: &str) -> io::Result<File> {
         .open(rt, path)
 }
 
-// Writes the file that was made, and closes it.
-fn write_begun(begun: Option<File>, bytes: &[u8]) -> io::Result<()>
+// Writes the file that was made, and gives it back.
+fn write_begun(begun: Option<Begun>, bytes: &[u8]) -> io::Result<Begun>
     ensures { FILE_LIMIT < length bytes.now → IsErr result }
 {
     if bytes.len() > FILE_LIMIT {
         return Err(io::Error::from(ErrorKind::FileTooLarge));
     }
     match begun {
-        Some(file) => {
-            let mut file = file;
-            file.write_all(bytes)
+        Some(made) => {
+            let mut made = made;
+            made.file.write_all(bytes)?;
+            Ok(made)
         }
         None => Err(io::Error::from(ErrorKind::NotFound)),
+    }
+}
+
+// Takes the file that was made, if it is the one at this path of the system.
+fn take_at(begun: &mut Option<Begun>, path: &str) -> Option<Begun> {
+    match begun.take() {
+        Some(made) => {
+            if made.path.as_str() == path {
+                Some(made)
+            } else {
+                *begun = Some(made);
+                None
+            }
+        }
+        None => None,
     }
 }
 
@@ -151,6 +174,14 @@ fn sync_path<R: Files>(rt: &R, path: &str) -> io::Result<()> {
         return Err(io::Error::from(ErrorKind::NotADirectory));
     }
     File::open(rt, path)?.sync_all()
+}
+
+// Waits until the file that was made is stored, or else what lies at the system's path.
+fn sync_made<R: Files>(rt: &R, made: Option<Begun>, path: &str) -> io::Result<()> {
+    match made {
+        Some(made) => made.file.sync_all(),
+        None => sync_path(rt, path),
+    }
 }
 
 // Makes the file that is locked, or opens the one that another process has made meanwhile.
@@ -448,7 +479,10 @@ impl<R: Files<File = File> + AllocGlobal + Clone + Drop> Disk for SystemDisk<R> 
         let full = path_of(alloc, self.folder.as_str(), path)?;
         let done = create_file(&self.rt, full.as_str());
         note_fault(&mut self.failed, &done, ErrorKind::OutOfMemory);
-        self.begun = Some(done?);
+        self.begun = Some(Begun {
+            path: full,
+            file: done?,
+        });
         self.log = Record::noted(&self.log, &Kind::Created, path.as_bytes(), &[]);
         Ok(())
     }
@@ -457,12 +491,14 @@ impl<R: Files<File = File> + AllocGlobal + Clone + Drop> Disk for SystemDisk<R> 
         self.log = Record::noted(&self.log, &Kind::Wrote, path.as_bytes(), &[]);
         let done = write_begun(self.begun.take(), bytes);
         note_fault(&mut self.failed, &done, ErrorKind::OutOfMemory);
-        done
+        self.begun = Some(done?);
+        Ok(())
     }
 
     fn sync(&mut self, alloc: Global, path: &str) -> io::Result<()> {
         let full = path_of(alloc, self.folder.as_str(), path)?;
-        let done = sync_path(&self.rt, full.as_str());
+        let made = take_at(&mut self.begun, full.as_str());
+        let done = sync_made(&self.rt, made, full.as_str());
         note_fault(&mut self.failed, &done, ErrorKind::OutOfMemory);
         match done {
             Ok(()) => {
