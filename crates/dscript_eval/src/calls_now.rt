@@ -23,6 +23,7 @@ fn body_at_once(machine: &mut Machine<'_>, code: &Function, e: &BoundExpr, args:
     if count > code.local_count as usize {
         return false;
     }
+    let (alloc, steps) = (machine.alloc, machine.left);
     let known = Known {
         program: machine.program,
         file: code.file,
@@ -30,7 +31,7 @@ fn body_at_once(machine: &mut Machine<'_>, code: &Function, e: &BoundExpr, args:
         own: first_of(args, count),
         constants: machine.constants.as_slice(),
     };
-    match value_now(machine.alloc, &known, e, machine.left, MAX_NESTING) {
+    match value_now(alloc, &known, e, steps, MAX_NESTING) {
         Some((value, left)) => {
             machine.left = left;
             machine.give(value);

@@ -20,8 +20,9 @@ fn bound_at_once(machine: &mut Machine<'_>, local: u32, e: &BoundExpr) -> bool
     let Some(left) = machine.left.checked_sub(1) else {
         return false;
     };
+    let alloc = machine.alloc;
     let known = Known::of(machine);
-    match value_now(machine.alloc, &known, e, left, MAX_NESTING) {
+    match value_now(alloc, &known, e, left, MAX_NESTING) {
         Some((value, after)) => match machine.frame.bind(local, value) {
             Ok(()) => {
                 machine.left = after;
@@ -42,8 +43,9 @@ fn untaken_at_once(machine: &mut Machine<'_>, condition: &BoundExpr) -> bool
     let Some(left) = machine.left.checked_sub(1) else {
         return false;
     };
+    let alloc = machine.alloc;
     let known = Known::of(machine);
-    match value_now(machine.alloc, &known, condition, left, MAX_NESTING) {
+    match value_now(alloc, &known, condition, left, MAX_NESTING) {
         Some((choice, after)) => {
             let holds = is_true(&choice);
             drop(choice);

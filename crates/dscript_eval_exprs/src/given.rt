@@ -13,8 +13,9 @@ pub fn at_once(machine: &mut Machine<'_>, e: &BoundExpr) -> bool
     ensures given { result ≡ true → IsGiven (seen machine.old) (seen machine.new) (expr_data e.now) }
     ensures none { result ≡ false → seen machine.new ≡ seen machine.old }
 {
+    let (alloc, steps) = (machine.alloc, machine.left);
     let known = Known::of(machine);
-    match value_now(machine.alloc, &known, e, machine.left, MAX_NESTING) {
+    match value_now(alloc, &known, e, steps, MAX_NESTING) {
         Some((value, left)) => {
             machine.left = left;
             machine.give(value);
