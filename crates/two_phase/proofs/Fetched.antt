@@ -75,7 +75,7 @@ text_bad text asks none there = none_and_some (read_paths_text text) asks none t
 pub set_read : {E : Type 0} (bytes digest text : List ℕ) (r : Result (Option PathsText) E) → text ≡ bytes → sha256 bytes ≡ digest → IfOk r (ReadsText text)
     → IfOk r (ReadsSet bytes digest)
 set_read bytes digest text (Ok None) same is h = λ asks e read. h asks (ap read_paths_text same ∙ read)
-set_read bytes digest text (Ok (Some p)) same is h = (h.0, h.1 ∙ same, h.0.digest_is ∙ ap sha256 (h.1 ∙ same) ∙ is)
+set_read bytes digest text (Ok (Some p)) same is h = (h.0, (h.1 ∙ same, h.0.digest_is ∙ ap sha256 (h.1 ∙ same) ∙ is))
 set_read bytes digest text (Err e) same is h = tt
 
 -- one that was read before
@@ -84,7 +84,7 @@ pub set_kept : (bytes slice digest : List ℕ) (o : Option PathsText) (p : Paths
 set_kept bytes slice digest o p same is h =
     let kept : IsPathsText p × ((p.text ≡ slice) × (p.digest ≡ digest)) =
     subst (λ (o : Option PathsText). IfSome o (λ p. IsPathsText p × ((p.text ≡ slice) × (p.digest ≡ digest)))) is h in
-    (kept.0, kept.1.0 ∙ same, kept.1.1)
+    (kept.0, (kept.1.0 ∙ same, kept.1.1))
 
 -- as a call finds the bytes
 pub set_held : {E : Type 0} (held : Option Holdings) (digest name : List ℕ) (bytes : Vec ℕ Global) (r : Result (Option PathsText) E) → name ≡ at_blob digest

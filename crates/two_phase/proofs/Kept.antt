@@ -59,7 +59,7 @@ has_one s (x ∷ xs) h = elim (or_cases (same_selector s x) (list_any (same_sele
 -- as a call answers it
 pub listed_in : (held : Option Holdings) (e : Entry) (list : List Selector) (b : Bool) → FindsOne held (λ S l. HoldsList S e.weak l) (Some list)
     → b ≡ list_any (same_selector (entry_selector e)) list → IsTrue b → (S : Holdings) → held ≡ Some S → IsListed S e
-listed_in held e list b h is yes S told = (list, h S told, has_one (entry_selector e) list (sym is ∙ yes))
+listed_in held e list b h is it S told = (list, h S told, has_one (entry_selector e) list (sym is ∙ it))
 
 -- ## Entries
 
@@ -109,7 +109,7 @@ kept_all h1 h2 h3 h4 f p files s12 s23 s34 asks digest made listed entry paths a
     record {
       listed = listed S (s12 S told2);
       entry = entry S told2;
-      paths = subst (λ (as : List Ask). HoldsPaths S f.entry.paths as) asks (subst (λ (d : List ℕ). HoldsPaths S d p.asks) digest (paths S told3));
+      paths = subst (λ (qs : List Ask). HoldsPaths S f.entry.paths qs) asks (subst (λ (d : List ℕ). HoldsPaths S d p.asks) digest (paths S told3));
       made = subst (λ (fs : Files). HoldsAll S (contents_of fs)) made (all S told);
     }
 
@@ -135,7 +135,7 @@ kept_leads S d see f is kept now = record {
       asks = f.paths;
       paths = kept.paths;
       asked =
-          ap (λ (as : List Answer). sha256 (strong_text (strong_parts (has_match f.paths) (weak_of d) f.entry.paths as))) (sym now.answers_are)
+          ap (λ (given : List Answer). sha256 (strong_text (strong_parts (has_match f.paths) (weak_of d) f.entry.paths given))) (sym now.answers_are)
           ∙ ap (λ (w : List ℕ). sha256 (strong_text (strong_parts (has_match f.paths) w f.entry.paths f.answers))) (sym now.weak_is)
           ∙ is.strong;
       entry = f.entry;

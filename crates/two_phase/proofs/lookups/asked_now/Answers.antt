@@ -24,11 +24,11 @@ returns-then-eq-clause-now g c =
     of_now c.args.desc.now (g.V.View.answers c.args.view.now) c.args.paths.asks c.in_ok-asked.asked.answers.items c.found_by.result c.in_ok-asked.ensures.answers
     c.found_by.ensures.of
 
-pub found_by-requires-strong : goal.found_by-requires-strong
-found_by-requires-strong g c =
+pub found_by-requires-clause-strong : goal.found_by-requires-clause-strong
+found_by-requires-clause-strong g c = λ κs live.
     let s = c.args.selector.now in
     sym (one_digest c.args.paths c.args.desc.now c.args.weak.now s.paths c.in_ok-asked.asked.answers.items c.in_ok-asked.asked.digest c.requires.paths c.requires.weak c.in_ok-asked.ensures.digest)
     ∙ (bytes_eq-Decides c.in_ok-asked.asked.digest s.strong).0 (sym c.eq.ensures ∙ c.if-eq.true)
 
-pub found_by-requires-one_each : goal.found_by-requires-one_each
-found_by-requires-one_each g c = asked_number c.args.paths.asks c.in_ok-asked.asked.answers.items (g.V.View.answers c.args.view.now) c.in_ok-asked.ensures.answers
+pub found_by-requires-clause-one_each : goal.found_by-requires-clause-one_each
+found_by-requires-clause-one_each g c = λ κs live. asked_number c.args.paths.asks c.in_ok-asked.asked.answers.items (g.V.View.answers c.args.view.now) c.in_ok-asked.ensures.answers

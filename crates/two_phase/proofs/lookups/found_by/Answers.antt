@@ -20,20 +20,20 @@ returns-in-None-clause-found g c =
     no_entry_on (g.R.KeepReader.held c.entry_for.new.reader) c.args.desc.now c.args.selector.now c.args.paths.asks c.args.answers.items
     (subst (λ (o : Option HeldEntry). FindsOne (g.R.KeepReader.held c.entry_for.new.reader) (λ S x. IsEntryFor S c.args.desc.now c.args.selector.now x) (entry_in o)) c.in-None.is c.in_ok-held.ensures.found)
 
-pub with_outputs-requires-strong : goal.with_outputs-requires-strong
-with_outputs-requires-strong g c =
+pub with_outputs-requires-clause-strong : goal.with_outputs-requires-clause-strong
+with_outputs-requires-clause-strong g c = λ κs live.
     let d = c.args.desc.now in
     let entry = subst (λ (o : Option HeldEntry). IfSome o (λ (e : HeldEntry). IsNamedBy d c.args.selector.now e.entry × IsEntryText e)) c.in-Some.is c.in_ok-held.ensures.entry in
     strong_named c.args.paths.asks d c.args.selector.now c.in-Some.held.entry c.args.answers.items entry.0 c.requires.strong
 
-pub with_outputs-requires-paths : goal.with_outputs-requires-paths
-with_outputs-requires-paths g c =
+pub with_outputs-requires-clause-paths : goal.with_outputs-requires-clause-paths
+with_outputs-requires-clause-paths g c = λ κs live.
     let d = c.args.desc.now in
     let entry = subst (λ (o : Option HeldEntry). IfSome o (λ (e : HeldEntry). IsNamedBy d c.args.selector.now e.entry × IsEntryText e)) c.in-Some.is c.in_ok-held.ensures.entry in
     c.requires.paths ∙ sym entry.0.paths_are
 
-pub with_outputs-requires-entry : goal.with_outputs-requires-entry
-with_outputs-requires-entry g c =
+pub with_outputs-requires-clause-entry : goal.with_outputs-requires-clause-entry
+with_outputs-requires-clause-entry g c = λ κs live.
     let d = c.args.desc.now in
     let entry = subst (λ (o : Option HeldEntry). IfSome o (λ (e : HeldEntry). IsNamedBy d c.args.selector.now e.entry × IsEntryText e)) c.in-Some.is c.in_ok-held.ensures.entry in
     entry.1

@@ -1,3 +1,4 @@
+use denote.Param.Send.{sendable}
 use Rattle.std.proofs.Common.{Some, ap, sym, ◌∙◌, subst}
 use Rattle.std.proofs.lemmas.Result.{IfOk-weaker}
 use Rattle.memo_format.specs.StoreNames.{HoldsEntry}
@@ -6,7 +7,7 @@ use Rattle.two_phase.proofs.Kept.{kept_all}
 use Rattle.two_phase.proofs.rechecking.is_kept.Goals as goal
 
 pub has_entry-requires : goal.has_entry-requires
-has_entry-requires g c = c.entry_text.ensures ∙ ap Some (sym c.entry-entry.ensures.entry)
+has_entry-requires g c = (search (sendable, c.type_bounds.send-R), c.entry_text.ensures ∙ ap Some (sym c.entry-entry.ensures.entry))
 
 pub returns-clause-kept : goal.returns-clause-kept
 returns-clause-kept g c =
