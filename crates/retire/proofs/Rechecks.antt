@@ -1,5 +1,5 @@
 -- Hits in slots that are of now, and that the store still has.
-use Rattle.std.proofs.Common.{◌≡◌, ℕ, Option, Some, None, Result, Ok, Err, IfOk, sym, subst}
+use Rattle.std.proofs.Common.{◌≡◌, ℕ, ◌+◌, Option, Some, None, Result, Ok, Err, IfOk, sym, subst, arith}
 use Rattle.std.specs.Prelude.{IfSome, IsSomeAnd, IsTrue}
 use Rattle.bx_tree.specs.Trees.{Files, paths_of}
 use Rattle.pip_model_types.specs.declared.desc.Desc.{Desc}
@@ -96,5 +96,7 @@ run_in o tree inputs budget d see view (Err e) same seen run = tt
 -- what was read after nothing had failed
 pub read_after : {M T : Type 0} (a b c : Option ReaderData) (count : T → ℕ) (r : Result T M) → ReadsIfAny a b 0 → IfOk r (λ t. ReadsIfAny b c (count t))
     → IfOk r (λ t. ReadsIfAny a c (count t))
-read_after a b c count (Ok t) first more = more_read a b c 0 (count t) first more
+read_after a b c count (Ok t) first more =
+    let same : 0 + count t ≡ count t = omega arith in
+    subst (λ (n : ℕ). ReadsIfAny a c n) same (more_read a b c 0 (count t) first more)
 read_after a b c count (Err e) first more = tt

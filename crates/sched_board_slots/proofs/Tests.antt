@@ -103,7 +103,7 @@ found_for_same f d e is same = record { weak = is.weak ∙ one_weak d e same; re
 
 pub hit_by : (own : Desc) (see view : Ask → Answer) (f : FoundParts) (stored : List Answer) (asks : List Ask) (r : Bool) → view ≡ see → stored ≡ f.answers
     → asks ≡ f.paths → IsFoundFor f own → (r ≡ true) ↔ (stored ≡ map view asks) → r ≡ true → HitHolds own see f
-hit_by own see view f stored asks r seen es ea is hold yes = record {
+hit_by own see view f stored asks r seen es ea is hold held = record {
   found_for = is;
-  answers = sym es ∙ hold.0 yes ∙ ap (λ (v : Ask → Answer). map v asks) seen ∙ ap (map see) ea;
+  answers = sym es ∙ hold.0 held ∙ ap (λ (v : Ask → Answer). map v asks) seen ∙ ap (map see) ea;
 }
