@@ -21,9 +21,9 @@ use std::rt::Files;
 /// The file of a folder that is locked. It is empty.
 const LOCK: &str = "lock";
 
-// A file that was made, by its path of the system. It stays open until it is stored.
+// A file or a folder that is open, by its path of the system.
 #[derive(Drop)]
-struct Begun {
+struct Opened {
     path: String,
     file: File,
 }
@@ -37,7 +37,11 @@ pub struct SystemDisk<R> {
     lock: Option<File>,
     is_alone: bool,
     refused: Option<ErrorKind>,
-    begun: Option<Begun>,
+    // the file that was made last, until it is stored
+    begun: Option<Opened>,
+    // the two folders that were synced last
+    newer: Option<Opened>,
+    older: Option<Opened>,
     log: Record,
     failed: Record,
     ghost kept: { is_locked false log.events ≡ true → IsSome lock },
@@ -111,7 +115,7 @@ fn create_file<R: Files<File = File>>(rt: &R, path: &str) -> io::Result<File> {
 }
 
 // Writes the file that was made, and gives it back.
-fn write_begun(begun: Option<Begun>, bytes: &[u8]) -> io::Result<Begun>
+fn write_begun(begun: Option<Opened>, bytes: &[u8]) -> io::Result<Opened>
     ensures { FILE_LIMIT < length bytes.now → IsErr result }
 {
     if bytes.len() > FILE_LIMIT {
@@ -128,7 +132,7 @@ fn write_begun(begun: Option<Begun>, bytes: &[u8]) -> io::Result<Begun>
 }
 
 // Takes the file that was made, if it is the one at this path of the system.
-fn take_at(begun: &mut Option<Begun>, path: &str) -> Option<Begun> {
+fn take_at(begun: &mut Option<Opened>, path: &str) -> Option<Opened> {
     match begun.take() {
         Some(made) => {
             if made.path.as_str() == path {
@@ -167,21 +171,57 @@ fn rename_file<R: Files>(
     rename_over(rt, old.as_str(), path.as_str())
 }
 
-// Waits until what lies at the system's path is stored. Only files and folders are opened.
-fn sync_path<R: Files>(rt: &R, path: &str) -> io::Result<()> {
-    let found = fs::metadata(rt, path)?;
+// Waits until the file that was made is stored, and closes it.
+fn sync_made(made: Opened) -> io::Result<Option<Opened>> {
+    made.file.sync_all()?;
+    Ok(None)
+}
+
+// Waits until what is open is stored, if it is what lies at this path of the system.
+fn sync_open(open: &Option<Opened>, path: &str) -> Option<io::Result<()>> {
+    match open {
+        Some(opened) => {
+            if opened.path.as_str() == path {
+                Some(opened.file.sync_all())
+            } else {
+                None
+            }
+        }
+        None => None,
+    }
+}
+
+// Waits until what lies at the system's path is stored. Only files and folders are opened. A folder stays open.
+fn sync_path<R: Files<File = File>>(rt: &R, path: String) -> io::Result<Option<Opened>> {
+    let found = fs::metadata(rt, path.as_str())?;
     if !found.is_dir() && !found.is_file() {
         return Err(io::Error::from(ErrorKind::NotADirectory));
     }
-    File::open(rt, path)?.sync_all()
+    let file = File::open(rt, path.as_str())?;
+    file.sync_all()?;
+    if found.is_dir() {
+        Ok(Some(Opened { path, file }))
+    } else {
+        Ok(None)
+    }
 }
 
-// Waits until the file that was made is stored, or else what lies at the system's path.
-fn sync_made<R: Files>(rt: &R, made: Option<Begun>, path: &str) -> io::Result<()> {
-    match made {
-        Some(made) => made.file.sync_all(),
-        None => sync_path(rt, path),
+// The same, by one of two folders that are open, if it is one of them.
+fn sync_folder<R: Files<File = File>>(
+    rt: &R,
+    newer: &Option<Opened>,
+    older: &Option<Opened>,
+    path: String,
+) -> io::Result<Option<Opened>> {
+    if let Some(done) = sync_open(newer, path.as_str()) {
+        done?;
+        return Ok(None);
     }
+    if let Some(done) = sync_open(older, path.as_str()) {
+        done?;
+        return Ok(None);
+    }
+    sync_path(rt, path)
 }
 
 // Makes the file that is locked, or opens the one that another process has made meanwhile.
@@ -240,6 +280,8 @@ impl<R: Files<File = File> + AllocGlobal + Clone + Drop> SystemDisk<R> {
             is_alone: false,
             refused: None,
             begun: None,
+            newer: None,
+            older: None,
             log: Record::new(),
             failed: Record::new(),
         }
@@ -424,6 +466,8 @@ impl<R: Files<File = File> + AllocGlobal + Clone + Drop> Disk for SystemDisk<R> 
             is_alone,
             refused,
             begun: None,
+            newer: None,
+            older: None,
             log: Record::new(),
             failed: Record::new(),
         })
@@ -440,6 +484,8 @@ impl<R: Files<File = File> + AllocGlobal + Clone + Drop> Disk for SystemDisk<R> 
             is_alone,
             refused,
             begun: _,
+            newer: _,
+            older: _,
             log: _,
             failed: _,
         } = other;
@@ -479,7 +525,7 @@ impl<R: Files<File = File> + AllocGlobal + Clone + Drop> Disk for SystemDisk<R> 
         let full = path_of(alloc, self.folder.as_str(), path)?;
         let done = create_file(&self.rt, full.as_str());
         note_fault(&mut self.failed, &done, ErrorKind::OutOfMemory);
-        self.begun = Some(Begun {
+        self.begun = Some(Opened {
             path: full,
             file: done?,
         });
@@ -497,11 +543,17 @@ impl<R: Files<File = File> + AllocGlobal + Clone + Drop> Disk for SystemDisk<R> 
 
     fn sync(&mut self, alloc: Global, path: &str) -> io::Result<()> {
         let full = path_of(alloc, self.folder.as_str(), path)?;
-        let made = take_at(&mut self.begun, full.as_str());
-        let done = sync_made(&self.rt, made, full.as_str());
+        let done = match take_at(&mut self.begun, full.as_str()) {
+            Some(made) => sync_made(made),
+            None => sync_folder(&self.rt, &self.newer, &self.older, full),
+        };
         note_fault(&mut self.failed, &done, ErrorKind::OutOfMemory);
         match done {
-            Ok(()) => {
+            Ok(folder) => {
+                if folder.is_some() {
+                    self.older = self.newer.take();
+                    self.newer = folder;
+                }
                 self.log = Record::noted(&self.log, &Kind::Synced, path.as_bytes(), &[]);
                 Ok(())
             }
@@ -515,6 +567,7 @@ impl<R: Files<File = File> + AllocGlobal + Clone + Drop> Disk for SystemDisk<R> 
     }
 
     fn rename(&mut self, alloc: Global, old: &str, path: &str) -> io::Result<()> {
+        self.begun = None;
         let done = rename_file(alloc, &self.rt, self.folder.as_str(), old, path);
         note_fault(&mut self.failed, &done, ErrorKind::OutOfMemory);
         match done {
@@ -536,6 +589,7 @@ impl<R: Files<File = File> + AllocGlobal + Clone + Drop> Disk for SystemDisk<R> 
 
     fn remove(&mut self, alloc: Global, path: &str) -> io::Result<()> {
         self.log = Record::noted(&self.log, &Kind::Removed, path.as_bytes(), &[]);
+        self.begun = None;
         let path = path_of(alloc, self.folder.as_str(), path)?;
         let done = fs::remove_file(&self.rt, path.as_str());
         note_fault(&mut self.failed, &done, ErrorKind::NotFound);
@@ -544,6 +598,8 @@ impl<R: Files<File = File> + AllocGlobal + Clone + Drop> Disk for SystemDisk<R> 
 
     fn make_folder(&mut self, alloc: Global, path: &str) -> io::Result<()> {
         self.log = Record::noted(&self.log, &Kind::Made, path.as_bytes(), &[]);
+        self.newer = None;
+        self.older = None;
         let path = path_of(alloc, self.folder.as_str(), path)?;
         let done = fs::create_dir(&self.rt, path.as_str());
         note_fault(&mut self.failed, &done, ErrorKind::AlreadyExists);
