@@ -37,6 +37,7 @@ use pip_model::{Made, MadeFile, Plan, Sources};
 use retire::{RetireTally, Retired, retire};
 use sched_core::MAX_WORKERS;
 use std::alloc::{AllocError, Global};
+use std::mem::forget;
 use std::sync::{Arc, Wait};
 use std::thread::Threads;
 
@@ -138,7 +139,7 @@ fn show(alloc: Global, plan: &Plan, retired: &Retired, worked: Worked) -> Result
     })
 }
 
-// The response of a build of a plan where workers went ahead: the results are collected.
+// The response of a build of a plan where workers went ahead: the results are collected. Their memory is left to the system.
 fn collect<K: Keeper, G: Gate>(
     alloc: Global,
     plan: &Plan,
@@ -167,10 +168,13 @@ fn collect<K: Keeper, G: Gate>(
 {
     let Crewed { finished, worked } = crewed;
     let retired = retire(alloc, plan, sources, keeper, finished, gate, cached)?;
-    show(alloc, plan, &retired, worked)
+    let response = show(alloc, plan, &retired, worked);
+    forget(retired);
+    response
 }
 
-// The response of a build of a plan: workers go ahead, and then the results are collected.
+// The response of a build of a plan: workers go ahead, and then the results are collected. The memory of the plan and of the
+// source files is left to the system.
 fn build_plan<H: Threads + Wait + Sync, K: Keeper, G: Gate>(
     rt: &H,
     alloc: Global,
@@ -199,7 +203,10 @@ fn build_plan<H: Threads + Wait + Sync, K: Keeper, G: Gate>(
     let plans = Arc::new(alloc, plan)?;
     let files = Arc::new(alloc, sources)?;
     let crewed = work_ahead(rt, alloc, &plans, &files, workers, &*keeper, gate, cached)?;
-    collect(alloc, &*plans, &*files, crewed, keeper, gate, cached)
+    let response = collect(alloc, &*plans, &*files, crewed, keeper, gate, cached);
+    forget(plans);
+    forget(files);
+    response
 }
 
 // The response to a source tree.

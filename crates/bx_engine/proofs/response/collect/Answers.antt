@@ -9,7 +9,7 @@ returns-clause-response g c =
     let change : StoreChange =
     change_of (g.K.Keeper.known c.args.keeper.now) (g.K.Keeper.known c.retire.new.keeper) (g.K.Keeper.bound c.args.keeper.now)
     (g.K.Keeper.faults c.args.keeper.now) (g.K.Keeper.faults c.retire.new.keeper) in
-    both_ok c.show.result _ _ _
+    both_ok c.show-response.result _ _ _
     (λ response shown paths.
     build_response c.args.plan.now.pips c.args.sources.now c.args.plan.now.tool_budget c.args.cached workers change c.in_ok-retired.retired c.args.crewed.worked response
     (record {
@@ -24,6 +24,6 @@ returns-clause-response g c =
       faults = r.faults;
       seen = r.seen;
       through = through;
-      more = c.show.ensures.faults;
+      more = c.show-response.ensures.faults;
     }) shown paths)
-    c.show.ensures.shown c.show.ensures.paths
+    c.show-response.ensures.shown c.show-response.ensures.paths
