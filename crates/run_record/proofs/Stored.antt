@@ -4,6 +4,7 @@ use Rattle.std.proofs.lemmas.List.{length-map}
 use Rattle.observed.specs.Asks.{same_ask}
 use Rattle.observed.specs.Orders.{same_ask_is, same_ask_itself}
 use Rattle.observed.specs.declared.ask.Ask.{Ask}
+use Rattle.observed.specs.declared.access.Access.{Access}
 use Rattle.observed.specs.declared.access.Answer.{Answer}
 use Rattle.pip_model_types.specs.declared.desc.Desc.{Desc}
 use Rattle.tool_run.specs.Description.{Description}
@@ -17,6 +18,7 @@ use Rattle.run_record.specs.Outcomes.{outcome_of}
 use Rattle.run_record.specs.Answered.{answered, given_in}
 use Rattle.run_record.proofs.Recorded.{all_given}
 use Rattle.run_record.specs.Facts.{AreOf, Facts, IsRun, Sound, run_for}
+use Rattle.run_record.specs.Traces.{facts_of}
 
 chosen : (t : Bool) (a : Ask → Answer) (x q : Ask) (other : Answer) → same_ask x q ≡ t → (same_ask x q ≡ false → other ≡ a q) → cond t (a x) other ≡ a q
 chosen true a x q other e on = ap a (same_ask_is x q e)
@@ -61,3 +63,19 @@ made_run d a r paths stored outcome holds ran set given judged =
       };
       answers = given ∙ ap (map (given_in r.accesses)) set ∙ all_given (described d) a r.accesses all ∙ ap (map a) (sym set);
     }
+
+-- ## Accesses that are not kept
+
+-- the accesses of sound facts are those of the run on their own answers: what holds of the facts holds with these in place of them
+pub with_own : (P : Facts → Type 0) (f : Facts) → Sound f → P f → P (facts_of f.desc (record { paths = f.paths; answers = f.answers }) f.outcome)
+with_own P f sound holds = subst (λ (xs : List Access). P (record f { accesses = xs })) (sym sound.run.accesses) holds
+
+-- and the run on what is stored gives them again
+pub made_again : (f : Facts) (d : Desc) (paths : List Ask) (stored : List Answer) (see : Ask → Answer) (r : Run) → Sound f → d ≡ f.desc → paths ≡ f.paths → stored ≡ f.answers
+    → see ≡ answered paths stored → r ≡ run_for d see → r.accesses ≡ f.accesses
+made_again f d paths stored see r sound desc_is paths_are stored_are sees is =
+    ap (λ (x : Run). x.accesses) (is ∙ ap (run_for d) sees
+    ∙ ap (λ (x : Desc). run_for x (answered paths stored)) desc_is
+    ∙ ap (λ (qs : List Ask). run_for f.desc (answered qs stored)) paths_are
+    ∙ ap (λ (as' : List Answer). run_for f.desc (answered f.paths as')) stored_are)
+    ∙ sound.run.accesses

@@ -20,7 +20,7 @@ use std::marker::Model;
 use std::sync::Arc;
 use tool_run::{Ran, accesses_hold, noninterference, path_set_of, run, run_no_tool};
 
-// What a record holds, which is the run on its own answers.
+// What a record holds, which is the run on its own answers. The accesses are not kept: that run gives them.
 #[derive(Drop)]
 struct RecordParts {
     desc: Desc,
@@ -31,24 +31,13 @@ struct RecordParts {
 impl Model for RecordParts {
     ghost use Rattle.std.specs.Arc.{arc_value};
     ghost use Rattle.run_record.specs.Facts.{Facts, Sound};
+    ghost use Rattle.run_record.specs.Traces.{facts_of};
 
     ghost Value = { Facts };
 
-    ghost view = { λ r. record {
-      desc = r.desc;
-      paths = (arc_value r.trace).paths;
-      answers = (arc_value r.trace).answers;
-      accesses = (arc_value r.trace).accesses;
-      outcome = r.outcome;
-    } };
+    ghost view = { λ r. facts_of r.desc (arc_value r.trace) r.outcome };
 
-    ghost invariant = { λ r. Sound (record {
-      desc = r.desc;
-      paths = (arc_value r.trace).paths;
-      answers = (arc_value r.trace).answers;
-      accesses = (arc_value r.trace).accesses;
-      outcome = r.outcome;
-    }) };
+    ghost invariant = { λ r. Sound (facts_of r.desc (arc_value r.trace) r.outcome) };
 }
 
 /// A run of a process, with an answer to each ask of its path set: the run on these answers alone has
@@ -100,11 +89,13 @@ impl Record {
         self.parts.trace.answers.as_slice()
     }
 
-    /// The accesses, in order.
-    pub fn accesses(&self) -> &[Access]
-        ensures { result.now ≡ self.now.accesses }
+    /// The accesses, in order. They are not kept: the tool runs again, on the record's own answers.
+    pub fn accesses(&self, alloc: Global) -> Result<Vec<Access>, AllocError>
+        ensures { IfOk result (λ accesses. accesses.items ≡ self.now.accesses) }
     {
-        self.parts.trace.accesses.as_slice()
+        let mut view = Stored::new(self.paths(), self.answers());
+        let ran = run_process(alloc, &mut Tools::new(alloc), self.desc(), &mut view)?;
+        Ok(ran.accesses)
     }
 
     /// What the run came to.
@@ -148,14 +139,7 @@ fn run_parts<V: View>(
     let paths = path_set_of(alloc, &desc, &ran.accesses)?;
     let answers = given_to(alloc, &ran.accesses, paths.asks())?;
     let outcome = judge(alloc, &desc, &ran)?;
-    let trace = tools.share(
-        alloc,
-        Trace {
-            paths,
-            answers,
-            accesses: ran.accesses,
-        },
-    )?;
+    let trace = tools.share(alloc, Trace { paths, answers })?;
     Ok(RecordParts {
         desc,
         trace,
@@ -236,7 +220,6 @@ fn replayed_parts(
     let trace = Trace {
         paths: asked,
         answers,
-        accesses: ran.accesses,
     };
     Ok(Some(RecordParts {
         desc,

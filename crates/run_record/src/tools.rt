@@ -1,4 +1,5 @@
-//! Tools that were read, so that the text of a tool is read once and not for each run; and what the last run saw.
+//! Tools that were read, so that the text of a tool is read once and not for each run; and what the last run asked and was
+//! answered.
 ghost use Rattle.std.specs.Prelude.{◌≡◌, IfOk, true};
 ghost use Rattle.std.specs.Arc.{arc_value};
 ghost use Rattle.std.specs.Option.{option_copied};
@@ -95,7 +96,8 @@ impl ReadTool {
 }
 
 /// Tools by the paths of their files. What was read at a path is used only where the text there is still the one that
-/// was read, so any table is right for any build. And what the last run saw, which the next one shares if it sees the same.
+/// was read, so any table is right for any build. And what the last run asked and was answered, which the next one shares if it
+/// asks the same and is answered the same.
 #[derive(Drop)]
 pub struct Tools {
     read: BTreeMap<Path, ReadTool>,
@@ -131,7 +133,7 @@ impl Tools {
         Ok(shared)
     }
 
-    // What a run saw, shared with the last run if that saw the same.
+    // What a run asked and was answered, shared with the last run if that is the same.
     pub(crate) fn share(&mut self, alloc: Global, trace: Trace) -> Result<Arc<Trace>, AllocError>
         ensures { IfOk result (λ shared. arc_value shared ≡ trace) }
     {

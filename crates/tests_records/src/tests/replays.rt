@@ -68,16 +68,18 @@ fn each_ask_of_a_view_is_recorded(rt: HostRuntime) -> Result<(), Fail> {
     let mut view = CountView { asked: 0 };
     let record = execute(alloc, desc(alloc, WEAK)?, 7, &mut view, &gate)?;
     assert_eq!(rt; view.asked, 2);
-    assert_eq!(rt; record.accesses().len(), 2);
+    let accesses = record.accesses(alloc)?;
+    assert_eq!(rt; accesses.len(), 2);
     assert_eq!(rt; record.paths().asks().len(), 2);
     Ok(())
 }
 
 // The code with which a run of two accesses ended.
-fn code_of(record: &Record) -> Option<u8> {
+fn code_of(alloc: Global, record: &Record) -> Result<Option<u8>, Fail> {
+    let accesses = record.accesses(alloc)?;
     match record.outcome() {
-        Outcome::Failed(Cause::Exit(code)) if record.accesses().len() == 2 => Some(*code),
-        _ => None,
+        Outcome::Failed(Cause::Exit(code)) if accesses.len() == 2 => Ok(Some(*code)),
+        _ => Ok(None),
     }
 }
 
@@ -85,7 +87,7 @@ fn code_of(record: &Record) -> Option<u8> {
 fn code(alloc: Global, paths: &str, answer: &Answer) -> Result<Option<u8>, Fail> {
     match record(alloc, paths, answer)? {
         Some(again) => {
-            let code = code_of(&again);
+            let code = code_of(alloc, &again)?;
             drop(again);
             Ok(code)
         }
