@@ -4,6 +4,7 @@ ghost use Rattle.bx_tree.specs.Trees.{NoneNested, paths_of};
 ghost use Rattle.memo_format.specs.Entries.{read_entry_text};
 ghost use Rattle.memo_format.specs.Found.{IsFound, IsFoundFor, found_parts, output_lines, strong_of_found};
 
+use crate::answer_list::AnswerList;
 use crate::entry::Entry;
 use crate::read_paths::ReadPaths;
 use observed::{Answer, PathSet};
@@ -18,7 +19,7 @@ struct FoundFields {
     entry: Entry,
     text: Vec<u8>,
     paths: ReadPaths,
-    answers: Vec<Answer>,
+    answers: AnswerList,
     made: Made,
 }
 
@@ -29,9 +30,9 @@ impl Model for FoundFields {
 
     ghost Value = { FoundParts };
 
-    ghost view = { λ f. found_parts f.entry f.paths.asks f.answers.items f.made };
+    ghost view = { λ f. found_parts f.entry f.paths.asks f.answers f.made };
 
-    ghost invariant = { λ f. IsFound (found_parts f.entry f.paths.asks f.answers.items f.made)
+    ghost invariant = { λ f. IsFound (found_parts f.entry f.paths.asks f.answers f.made)
         × ((f.paths.digest ≡ f.entry.paths) × (read_entry_text f.text.items ≡ Some f.entry)) };
 }
 
@@ -113,18 +114,18 @@ impl Found {
         entry: Entry,
         text: Vec<u8>,
         paths: ReadPaths,
-        answers: Vec<Answer>,
+        answers: AnswerList,
         made: Made,
     ) -> Result<Found, AllocError>
-        requires one_each { length answers.items ≡ length paths.asks }
+        requires one_each { length answers ≡ length paths.asks }
         requires text { read_entry_text text.items ≡ Some entry }
         requires paths { paths.digest ≡ entry.paths }
-        requires strong { strong_of_found (found_parts entry paths.asks answers.items made) ≡ entry.strong }
+        requires strong { strong_of_found (found_parts entry paths.asks answers made) ≡ entry.strong }
         requires made { output_lines made ≡ entry.outputs }
         requires unnested { NoneNested (paths_of made) }
         ensures entry { IfOk result (λ found. found.entry ≡ entry) }
         ensures paths { IfOk result (λ found. found.paths ≡ paths.asks) }
-        ensures answers { IfOk result (λ found. found.answers ≡ answers.items) }
+        ensures answers { IfOk result (λ found. found.answers ≡ answers) }
         ensures made { IfOk result (λ found. found.made ≡ made) }
     {
         let fields = FoundFields {
@@ -209,7 +210,7 @@ impl Found {
         ensures answers { result.now ≡ self.now.answers }
         ensures found { IsFound self.now }
     {
-        self.fields.answers.as_slice()
+        self.fields.answers.answers()
     }
 
     /// The files of the outputs.

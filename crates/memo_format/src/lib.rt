@@ -7,6 +7,7 @@
 //! form, or has another seal, is rejected.
 #![tactic(auto)]
 
+mod answer_list;
 mod entry;
 mod fault;
 mod found;
@@ -16,6 +17,7 @@ mod read_paths;
 mod seal;
 mod selector;
 
+pub use answer_list::AnswerList;
 pub use bx_tree::Memory;
 pub use entry::{Entry, OutputLine, OutputLines, read_entry, seal_of, write_entry};
 pub use fault::FormatFault;

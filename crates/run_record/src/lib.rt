@@ -27,3 +27,4 @@ pub use matching_laws::one_match;
 pub use outcome::{Cause, Outcome};
 pub use record::{Record, execute, execute_with, outcome_of_run, replay};
 pub use tools::Tools;
+pub use trace::are_same_answers;

@@ -30,8 +30,8 @@ pub(crate) fn are_same_paths(paths: &PathSet, other: &PathSet) -> bool
     paths.asks() == other.asks()
 }
 
-// Whether answers are the same, in order.
-fn are_same_answers(a: &[Answer], b: &[Answer]) -> bool
+/// Whether answers are the same, in order.
+pub fn are_same_answers(a: &[Answer], b: &[Answer]) -> bool
     ensures { result ≡ true → a.now ≡ b.now }
 {
     if a.len() != b.len() {

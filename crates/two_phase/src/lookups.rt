@@ -109,6 +109,7 @@ fn entry_for<R: KeepReader>(
 fn with_outputs<R: KeepReader>(
     alloc: Global,
     reader: &mut R,
+    sets: &mut PathSets,
     held: HeldEntry,
     paths: ReadPaths,
     answers: Vec<Answer>,
@@ -127,6 +128,7 @@ fn with_outputs<R: KeepReader>(
     match outputs(alloc, reader, held.entry.outputs.lines())? {
         Some(made) => {
             let HeldEntry { entry, text } = held;
+            let answers = sets.share(alloc, answers)?;
             let found = Found::new(alloc, entry, text, paths, answers, made)?;
             Ok(Some(found))
         }
@@ -138,6 +140,7 @@ fn with_outputs<R: KeepReader>(
 fn found_by<R: KeepReader>(
     alloc: Global,
     reader: &mut R,
+    sets: &mut PathSets,
     desc: &Desc,
     weak: &Digest,
     selector: &Selector,
@@ -156,7 +159,7 @@ fn found_by<R: KeepReader>(
         (R.faults reader.old) (R.faults reader.new) (result ≡ Err StoreFault.Fault) }
 {
     match entry_for(alloc, reader, desc, weak, selector)? {
-        Some(held) => with_outputs(alloc, reader, held, paths, answers),
+        Some(held) => with_outputs(alloc, reader, sets, held, paths, answers),
         None => Ok(None),
     }
 }
@@ -166,6 +169,7 @@ fn found_by<R: KeepReader>(
 fn asked_now<R: KeepReader, V: View>(
     alloc: Global,
     reader: &mut R,
+    sets: &mut PathSets,
     desc: &Desc,
     weak: &Digest,
     selector: &Selector,
@@ -184,7 +188,16 @@ fn asked_now<R: KeepReader, V: View>(
     let asked = ask_all(alloc, weak, &paths, view)?;
     let digest = asked.digest;
     if digest == selector.strong {
-        found_by(alloc, reader, desc, weak, selector, paths, asked.answers)
+        found_by(
+            alloc,
+            reader,
+            sets,
+            desc,
+            weak,
+            selector,
+            paths,
+            asked.answers,
+        )
     } else {
         Ok(None)
     }
@@ -209,7 +222,7 @@ fn follow<R: KeepReader, V: View>(
         (R.faults reader.old) (R.faults reader.new) (result ≡ Err StoreFault.Fault) }
 {
     match path_set(alloc, reader, sets, &selector.paths)? {
-        Some(paths) => asked_now(alloc, reader, desc, weak, selector, paths, view),
+        Some(paths) => asked_now(alloc, reader, sets, desc, weak, selector, paths, view),
         None => Ok(None),
     }
 }

@@ -1,4 +1,4 @@
-//! Path sets that were read, so that one text is hashed and read once.
+//! Path sets that were read, so that one text is hashed and read once, and the answers that the last hit was given.
 ghost use Rattle.std.specs.Prelude.{◌≡◌, ◌≢◌, Err, IfOk, IfSome};
 ghost use Rattle.memo_format.specs.PathsTexts.{IsPathsText};
 ghost use Rattle.two_phase.specs.ReadSets.{ReadsSet, ReadsText};
@@ -6,16 +6,19 @@ ghost use Rattle.two_phase.specs.ReadSets.{ReadsSet, ReadsText};
 use crate::store_fault::StoreFault;
 use bx_digest::{Blob, Digest};
 use content_store::{Fetched, content_of};
-use memo_format::ReadPaths;
-use observed::{PathSet, SetFault};
+use memo_format::{AnswerList, ReadPaths};
+use observed::{Answer, PathSet, SetFault};
+use run_record::are_same_answers;
 use std::alloc::{AllocError, Global};
 use std::collections::BTreeMap;
 
 /// Path sets that were read, by the digests of their texts. What was read is used only where a store has the same bytes
-/// under the digest, so any table is right for any store.
+/// under the digest, so any table is right for any store. And the answers of the last hit, which the next one shares if its
+/// asks are answered the same.
 #[derive(Drop)]
 pub struct PathSets {
     read: BTreeMap<Vec<u8>, ReadPaths>,
+    last: Option<AnswerList>,
 }
 
 // The path set of a text, with that text, if it is one.
@@ -72,6 +75,7 @@ impl PathSets {
     pub fn new(alloc: Global) -> PathSets {
         PathSets {
             read: BTreeMap::new(alloc),
+            last: None,
         }
     }
 
@@ -112,5 +116,23 @@ impl PathSets {
         };
         self.keep(alloc, &read)?;
         Ok(Some(read))
+    }
+
+    // The answers of a hit, shared with the last hit if that was answered the same.
+    pub(crate) fn share(
+        &mut self,
+        alloc: Global,
+        answers: Vec<Answer>,
+    ) -> Result<AnswerList, AllocError>
+        ensures { IfOk result (λ shared. shared ≡ answers.items) }
+    {
+        if let Some(last) = &self.last {
+            if are_same_answers(last.answers(), answers.as_slice()) {
+                return last.share();
+            }
+        }
+        let made = AnswerList::of(alloc, answers)?;
+        self.last = Some(made.share()?);
+        Ok(made)
     }
 }
