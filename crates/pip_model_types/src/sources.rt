@@ -102,10 +102,10 @@ impl Sources {
     }
 
     /// The file at a path, if there is one. It is looked for after a place and at it first; where it is found is the
-    /// place for the next one.
+    /// place for the next one, and where there is none the place stays.
     pub fn find_near(&self, near: &mut usize, path: &Path) -> Option<&Blob>
         ensures value { option_copied result ≡ file_at self.now path.now }
-        ensures place { IfSome result (λ blob. slice_get (paths_of self.now) near.new ≡ Some path.now) }
+        ensures place { MatchOption result (near.new ≡ near.old) (λ blob. slice_get (paths_of self.now) near.new ≡ Some path.now) }
     {
         match place_near(self.paths(), *near, path) {
             Some(place) => {

@@ -32,7 +32,7 @@ pub(crate) fn are_same_paths(paths: &PathSet, other: &PathSet) -> bool
 
 /// Whether answers are the same, in order.
 pub fn are_same_answers(a: &[Answer], b: &[Answer]) -> bool
-    ensures { result ≡ true → a.now ≡ b.now }
+    ensures { IsTrue result ↔ a.now ≡ b.now }
 {
     if a.len() != b.len() {
         return false;
@@ -48,7 +48,7 @@ pub fn are_same_answers(a: &[Answer], b: &[Answer]) -> bool
 impl Trace {
     // Whether the same was asked and answered.
     pub(crate) fn is_same(&self, other: &Trace) -> bool
-        ensures { result ≡ true → self.now ≡ other.now }
+        ensures { IsTrue result ↔ self.now ≡ other.now }
     {
         are_same_paths(&self.paths, &other.paths)
             && are_same_answers(self.answers.as_slice(), other.answers.as_slice())
