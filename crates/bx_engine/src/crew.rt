@@ -14,6 +14,7 @@ ghost use Rattle.bx_engine.specs.Crews.{AreThrough, IsFresh, IsThrough};
 use bx_io::{Gate, KeepReader, Keeper};
 use bx_tree::Memory;
 use pip_model::{Plan, Sources};
+use recent_contents::RecentReader;
 use sched_board::{Blank, Board, Finished, NewBoard, Share};
 use sched_core::MAX_WORKERS;
 use std::alloc::Global;
@@ -90,15 +91,15 @@ fn reader_if<K: Keeper>(
     alloc: Global,
     keeper: &K,
     cached: bool,
-) -> Result<Option<K::Reader>, Memory>
+) -> Result<Option<RecentReader<K::Reader>>, Memory>
     ensures some { IfOk result (λ reader. is_some reader ≡ cached) }
     ensures reader { IfOk result (λ reader. IfSome reader
-        (λ r. (K.Reader.bound r ≡ K.bound keeper.now) × (K.Reader.faults r ≡ 0))) }
+        (λ r. (K.Reader.bound r.reader ≡ K.bound keeper.now) × (K.Reader.faults r.reader ≡ 0))) }
 {
     if !cached {
         return Ok(None);
     }
-    Ok(Some(keeper.reader(alloc)?))
+    Ok(Some(RecentReader::new(alloc, keeper.reader(alloc)?)))
 }
 
 // A new worker for each share, with a reader of its own where the store is used.
@@ -107,7 +108,7 @@ fn crew_of<L: Ledger, E: Ledger, K: Keeper>(
     shares: Vec<Share<L, E>>,
     keeper: &K,
     cached: bool,
-) -> Result<Vec<Worker<K::Reader, L, E>>, Memory>
+) -> Result<Vec<Worker<RecentReader<K::Reader>, L, E>>, Memory>
     ensures number { IfOk result (λ crew. vec_len crew ≡ vec_len shares) }
     ensures fresh { IfOk result (λ crew. All (IsFresh cached (K.bound keeper.now)) crew.items) }
 {

@@ -13,15 +13,17 @@ ghost use Rattle.retire.specs.Counts.{CountsAlone, CountsOver, CountsWithin};
 ghost use Rattle.retire.specs.Saving.{IsSuccess, OnlyPuts, PutsAllBut, PutsFirst, SavesAtMost};
 ghost use Rattle.retire.specs.Settled.{IsSettledOver};
 
-use crate::deciding::{Ways, decide_all};
+use crate::deciding::{Decided, Ways, decide_all};
 use crate::savable::Savable;
 use crate::saving::save_all;
 use bx_io::{Gate, KeepReader, Keeper};
 use bx_tree::Memory;
 use one_thread::{Frame, outputs};
 use pip_model::{MAX_PIPS, Made, Plan, Sources};
+use recent_contents::RecentReader;
 use sched_board_slots::Finished;
 use std::alloc::Global;
+use std::mem::forget;
 use violations::Verdict;
 
 /// How the processes of a build that were not skipped came to their results.
@@ -47,7 +49,8 @@ pub struct Retired {
 
 /// Decides all pips, one after another, as the sequential build does: a process by the run in its slot, where that is its run
 /// now; else by what the store has for it, where the store is used; else by a run here. Whoever filled the slots, and with
-/// what: each is compared first. After all pips are decided, the records of the runs that succeeded are saved, by number.
+/// what: each is compared first. After all pips are decided, the records of the runs that succeeded are saved, by number. The
+/// memory of what was decided is left to the system.
 pub fn retire<K: Keeper, G: Gate>(
     alloc: Global,
     plan: &Plan,
@@ -127,10 +130,18 @@ pub fn retire<K: Keeper, G: Gate>(
     close_if(keeper, reader);
     let outputs = outputs(alloc, decided.slots.as_slice())?;
     let failed = save_if(alloc, keeper, decided.records.as_slice(), cached)?;
+    let Decided {
+        verdicts,
+        slots,
+        accepted: _,
+        records,
+        ways,
+    } = decided;
+    forget((slots, records));
     Ok(Retired {
-        verdicts: decided.verdicts,
+        verdicts,
         outputs,
-        tally: tally_of(decided.ways, failed),
+        tally: tally_of(ways, failed),
     })
 }
 
@@ -139,27 +150,27 @@ fn reader_if<K: Keeper>(
     alloc: Global,
     keeper: &K,
     cached: bool,
-) -> Result<Option<K::Reader>, Memory>
+) -> Result<Option<RecentReader<K::Reader>>, Memory>
     ensures some { IfOk result (λ reader. is_some reader ≡ cached) }
-    ensures reader { IfOk result (λ reader. IfSome reader (λ r. (K.Reader.held r ≡ held_in (K.known keeper.now))
-        × ((K.Reader.bound r ≡ K.bound keeper.now) × (K.Reader.faults r ≡ 0)))) }
+    ensures reader { IfOk result (λ reader. IfSome reader (λ r. (K.Reader.held r.reader ≡ held_in (K.known keeper.now))
+        × ((K.Reader.bound r.reader ≡ K.bound keeper.now) × (K.Reader.faults r.reader ≡ 0)))) }
 {
     if !cached {
         return Ok(None);
     }
-    Ok(Some(keeper.reader(alloc)?))
+    Ok(Some(RecentReader::new(alloc, keeper.reader(alloc)?)))
 }
 
 // Gives a reader back, where there is one.
-fn close_if<K: Keeper>(keeper: &mut K, reader: Option<K::Reader>)
+fn close_if<K: Keeper>(keeper: &mut K, reader: Option<RecentReader<K::Reader>>)
     ensures none { is_some reader ≡ false → keeper.new ≡ keeper.old }
     ensures known { Keeps (K.known keeper.old) (K.known keeper.new) }
-    ensures reader { IsSome (held_in (K.known keeper.new)) → IfSome reader (λ r. IsSome (K.Reader.held r)) }
+    ensures reader { IsSome (held_in (K.known keeper.new)) → IfSome reader (λ r. IsSome (K.Reader.held r.reader)) }
     ensures bound { K.bound keeper.new ≡ K.bound keeper.old }
     ensures faults { K.faults keeper.new ≡ K.faults keeper.old }
 {
     if let Some(reader) = reader {
-        keeper.close(reader);
+        keeper.close(reader.into_reader());
     }
 }
 

@@ -1,4 +1,4 @@
-//! Tests of `content_store`: contents in stores in memory, of which calls fail.
+//! Tests of `content_store` and `recent_contents`: contents in stores in memory, of which calls fail.
 #![tactic(auto)]
 
 #[cfg(test)]

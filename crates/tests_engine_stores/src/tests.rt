@@ -87,13 +87,13 @@ fn first_notes(number: u64) -> &'static str {
     }
 }
 
-/// The notes of the second. Each lookup reads the list, the path set, the entry and the file. The process that the worker
-/// runs after its fault is looked up by nobody else; so where the results are collected the reader makes eight calls
-/// alone.
+/// The notes of the second. Each lookup reads the list, the path set, the entry and the file, but the third process has the path
+/// set of the second, which a reader remembers. The process that the worker runs after its fault is looked up by nobody else; so
+/// where the results are collected the reader makes seven or eight calls alone.
 fn second_notes(number: u64) -> &'static str {
     match number {
         0..=8 => TWO_RAN_WITH_TWO_FAULTS,
-        9..=12 => ONE_RAN_WITH_A_FAULT,
+        9..=11 => ONE_RAN_WITH_A_FAULT,
         _ => ALL_HIT,
     }
 }

@@ -29,7 +29,7 @@ shares-preserved g c =
       omega (arith, split, more, joined, c.shares.invariant.2),
       subst (All (IsFresh c.args.cached (g.K.Keeper.bound c.args.keeper.now))) (sym c.in_ok-push.ensures.items)
           (All-push (IsFresh c.args.cached (g.K.Keeper.bound c.args.keeper.now)) c.shares.crew.items c.new.result c.shares.invariant.3
-          (fresh (λ r. reader_data (g.K.Reader.KeepReader.held r) (g.K.Reader.KeepReader.bound r) (g.K.Reader.KeepReader.faults r)) c.args.cached
+          (fresh (λ r. reader_data (g.K.Reader.KeepReader.held r.reader) (g.K.Reader.KeepReader.bound r.reader) (g.K.Reader.KeepReader.faults r.reader)) c.args.cached
           (g.K.Keeper.bound c.args.keeper.now) c.new.result c.in_ok-reader.reader c.in-Some.share c.new.ensures.worker c.in_ok-reader.ensures.some
           c.in_ok-reader.ensures.reader)),
     )

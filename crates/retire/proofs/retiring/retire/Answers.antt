@@ -14,24 +14,24 @@ use Rattle.retire.proofs.retiring.retire.Goals as goal
 pub returns-clause-build : goal.returns-clause-build
 returns-clause-build g c =
     λ fair.
-    let first : Option ReaderData = option_map (λ r. reader_data (g.K.Reader.KeepReader.held r) (g.K.Reader.KeepReader.bound r) (g.K.Reader.KeepReader.faults r)) c.in_ok-reader.reader in
-    let last : Option ReaderData = option_map (λ r. reader_data (g.K.Reader.KeepReader.held r) (g.K.Reader.KeepReader.bound r) (g.K.Reader.KeepReader.faults r)) c.decide_all.new.reader in
+    let first : Option ReaderData = option_map (λ r. reader_data (g.K.Reader.KeepReader.held r.reader) (g.K.Reader.KeepReader.bound r.reader) (g.K.Reader.KeepReader.faults r.reader)) c.in_ok-reader.reader in
+    let last : Option ReaderData = option_map (λ r. reader_data (g.K.Reader.KeepReader.held r.reader) (g.K.Reader.KeepReader.bound r.reader) (g.K.Reader.KeepReader.faults r.reader)) c.decide_all.new.reader in
     let start = g.K.Keeper.known c.args.keeper.now in
     let closed = g.K.Keeper.known c.close_if.new.keeper in
     let saved = g.K.Keeper.known c.save_if.new.keeper in
     let tells_of = told_to_end start.held closed.held (g.K.Keeper.bound c.args.keeper.now) first last c.in_ok-decided.decided.ways.faulted c.args.cached in
-    let there : is_some first ≡ c.args.cached = some_mapped (λ r. reader_data (g.K.Reader.KeepReader.held r) (g.K.Reader.KeepReader.bound r) (g.K.Reader.KeepReader.faults r)) c.in_ok-reader.reader ∙ c.in_ok-reader.ensures.some in
-    let begun = mapped (λ r. reader_data (g.K.Reader.KeepReader.held r) (g.K.Reader.KeepReader.bound r) (g.K.Reader.KeepReader.faults r)) (IsBegun start.held (g.K.Keeper.bound c.args.keeper.now)) c.in_ok-reader.reader c.in_ok-reader.ensures.reader in
-    let told = λ (some : IsSome closed.held). mapped (λ r. reader_data (g.K.Reader.KeepReader.held r) (g.K.Reader.KeepReader.bound r) (g.K.Reader.KeepReader.faults r)) (λ r. IsSome r.held) c.decide_all.new.reader (c.close_if.ensures.reader some) in
+    let there : is_some first ≡ c.args.cached = some_mapped (λ r. reader_data (g.K.Reader.KeepReader.held r.reader) (g.K.Reader.KeepReader.bound r.reader) (g.K.Reader.KeepReader.faults r.reader)) c.in_ok-reader.reader ∙ c.in_ok-reader.ensures.some in
+    let begun = mapped (λ r. reader_data (g.K.Reader.KeepReader.held r.reader) (g.K.Reader.KeepReader.bound r.reader) (g.K.Reader.KeepReader.faults r.reader)) (IsBegun start.held (g.K.Keeper.bound c.args.keeper.now)) c.in_ok-reader.reader c.in_ok-reader.ensures.reader in
+    let told = λ (some : IsSome closed.held). mapped (λ r. reader_data (g.K.Reader.KeepReader.held r.reader) (g.K.Reader.KeepReader.bound r.reader) (g.K.Reader.KeepReader.faults r.reader)) (λ r. IsSome r.held) c.decide_all.new.reader (c.close_if.ensures.reader some) in
     let there_now : is_some c.decide_all.new.reader ≡ c.args.cached =
-    sym (some_mapped (λ r. reader_data (g.K.Reader.KeepReader.held r) (g.K.Reader.KeepReader.bound r) (g.K.Reader.KeepReader.faults r)) c.decide_all.new.reader) ∙ sym (same_there first last c.in_ok-decided.decided.ways.faulted c.in_ok-decided.ensures.reader) ∙ there in
+    sym (some_mapped (λ r. reader_data (g.K.Reader.KeepReader.held r.reader) (g.K.Reader.KeepReader.bound r.reader) (g.K.Reader.KeepReader.faults r.reader)) c.decide_all.new.reader) ∙ sym (same_there first last c.in_ok-decided.decided.ways.faulted c.in_ok-decided.ensures.reader) ∙ there in
     let follows =
     follows_by c.args.plan.now.pips c.args.sources.now c.args.plan.now.tool_budget c.args.cached start.held saved.held _
     (λ unused. (c.in_ok-decided.ensures.alone (there_now ∙ unused)).0)
     (λ used S is tells fair_S.
     let tells_closed : IsSome closed.held = first_told closed saved c.as_slice-2.result.now c.save_if.ensures.first tells in
     let last_told : IsTold last S = tells_of S is used there begun c.in_ok-decided.ensures.reader told tells_closed in
-    (c.in_ok-decided.ensures.follows S (told_some last S last_told) (sym (some_mapped (λ r. reader_data (g.K.Reader.KeepReader.held r) (g.K.Reader.KeepReader.bound r) (g.K.Reader.KeepReader.faults r)) c.decide_all.new.reader) ∙ told_there last S last_told) fair_S).0)
+    (c.in_ok-decided.ensures.follows S (told_some last S last_told) (sym (some_mapped (λ r. reader_data (g.K.Reader.KeepReader.held r.reader) (g.K.Reader.KeepReader.bound r.reader) (g.K.Reader.KeepReader.faults r.reader)) c.decide_all.new.reader) ∙ told_there last S last_told) fair_S).0)
     fair in
     whole c.args.plan.now.pips c.args.sources.now c.args.plan.now.tool_budget c.as_slice.result.now c.in_ok-decided.decided.slots.items c.in_ok-decided.decided.verdicts.items
     c.in_ok-decided.decided.verdicts.items c.in_ok-outputs.outputs _ _ c.in_ok-decided.decided.ways.accepted c.in_ok-decided.decided.ways.hits
@@ -41,18 +41,18 @@ returns-clause-build g c =
 pub returns-clause-counts : goal.returns-clause-counts
 returns-clause-counts g c =
     λ used S is tells fair.
-    let first : Option ReaderData = option_map (λ r. reader_data (g.K.Reader.KeepReader.held r) (g.K.Reader.KeepReader.bound r) (g.K.Reader.KeepReader.faults r)) c.in_ok-reader.reader in
-    let last : Option ReaderData = option_map (λ r. reader_data (g.K.Reader.KeepReader.held r) (g.K.Reader.KeepReader.bound r) (g.K.Reader.KeepReader.faults r)) c.decide_all.new.reader in
+    let first : Option ReaderData = option_map (λ r. reader_data (g.K.Reader.KeepReader.held r.reader) (g.K.Reader.KeepReader.bound r.reader) (g.K.Reader.KeepReader.faults r.reader)) c.in_ok-reader.reader in
+    let last : Option ReaderData = option_map (λ r. reader_data (g.K.Reader.KeepReader.held r.reader) (g.K.Reader.KeepReader.bound r.reader) (g.K.Reader.KeepReader.faults r.reader)) c.decide_all.new.reader in
     let start = g.K.Keeper.known c.args.keeper.now in
     let closed = g.K.Keeper.known c.close_if.new.keeper in
     let saved = g.K.Keeper.known c.save_if.new.keeper in
     let tells_of = told_to_end start.held closed.held (g.K.Keeper.bound c.args.keeper.now) first last c.in_ok-decided.decided.ways.faulted c.args.cached in
-    let there : is_some first ≡ c.args.cached = some_mapped (λ r. reader_data (g.K.Reader.KeepReader.held r) (g.K.Reader.KeepReader.bound r) (g.K.Reader.KeepReader.faults r)) c.in_ok-reader.reader ∙ c.in_ok-reader.ensures.some in
-    let begun = mapped (λ r. reader_data (g.K.Reader.KeepReader.held r) (g.K.Reader.KeepReader.bound r) (g.K.Reader.KeepReader.faults r)) (IsBegun start.held (g.K.Keeper.bound c.args.keeper.now)) c.in_ok-reader.reader c.in_ok-reader.ensures.reader in
-    let told = λ (some : IsSome closed.held). mapped (λ r. reader_data (g.K.Reader.KeepReader.held r) (g.K.Reader.KeepReader.bound r) (g.K.Reader.KeepReader.faults r)) (λ r. IsSome r.held) c.decide_all.new.reader (c.close_if.ensures.reader some) in
+    let there : is_some first ≡ c.args.cached = some_mapped (λ r. reader_data (g.K.Reader.KeepReader.held r.reader) (g.K.Reader.KeepReader.bound r.reader) (g.K.Reader.KeepReader.faults r.reader)) c.in_ok-reader.reader ∙ c.in_ok-reader.ensures.some in
+    let begun = mapped (λ r. reader_data (g.K.Reader.KeepReader.held r.reader) (g.K.Reader.KeepReader.bound r.reader) (g.K.Reader.KeepReader.faults r.reader)) (IsBegun start.held (g.K.Keeper.bound c.args.keeper.now)) c.in_ok-reader.reader c.in_ok-reader.ensures.reader in
+    let told = λ (some : IsSome closed.held). mapped (λ r. reader_data (g.K.Reader.KeepReader.held r.reader) (g.K.Reader.KeepReader.bound r.reader) (g.K.Reader.KeepReader.faults r.reader)) (λ r. IsSome r.held) c.decide_all.new.reader (c.close_if.ensures.reader some) in
     let tells_closed : IsSome closed.held = first_told closed saved c.as_slice-2.result.now c.save_if.ensures.first tells in
     let last_told : IsTold last S = tells_of S is used there begun c.in_ok-decided.ensures.reader told tells_closed in
-    let follows = c.in_ok-decided.ensures.follows S (told_some last S last_told) (sym (some_mapped (λ r. reader_data (g.K.Reader.KeepReader.held r) (g.K.Reader.KeepReader.bound r) (g.K.Reader.KeepReader.faults r)) c.decide_all.new.reader) ∙ told_there last S last_told) fair in
+    let follows = c.in_ok-decided.ensures.follows S (told_some last S last_told) (sym (some_mapped (λ r. reader_data (g.K.Reader.KeepReader.held r.reader) (g.K.Reader.KeepReader.bound r.reader) (g.K.Reader.KeepReader.faults r.reader)) c.decide_all.new.reader) ∙ told_there last S last_told) fair in
     counted_over c.args.plan.now.pips c.args.sources.now c.args.plan.now.tool_budget S c.args.finished.slots.items c.in_ok-decided.decided.accepted.items
     c.in_ok-decided.decided.ways.hits c.in_ok-decided.decided.ways.missed c.in_ok-decided.decided.ways.faulted c.in_ok-failed.failed _ _ _ follows.2
     (λ numbers set. follows.3 numbers set) c.tally_of.ensures.hits c.tally_of.ensures.late c.tally_of.ensures.faults
@@ -60,18 +60,18 @@ returns-clause-counts g c =
 pub returns-clause-within : goal.returns-clause-within
 returns-clause-within g c =
     λ used S is tells fair.
-    let first : Option ReaderData = option_map (λ r. reader_data (g.K.Reader.KeepReader.held r) (g.K.Reader.KeepReader.bound r) (g.K.Reader.KeepReader.faults r)) c.in_ok-reader.reader in
-    let last : Option ReaderData = option_map (λ r. reader_data (g.K.Reader.KeepReader.held r) (g.K.Reader.KeepReader.bound r) (g.K.Reader.KeepReader.faults r)) c.decide_all.new.reader in
+    let first : Option ReaderData = option_map (λ r. reader_data (g.K.Reader.KeepReader.held r.reader) (g.K.Reader.KeepReader.bound r.reader) (g.K.Reader.KeepReader.faults r.reader)) c.in_ok-reader.reader in
+    let last : Option ReaderData = option_map (λ r. reader_data (g.K.Reader.KeepReader.held r.reader) (g.K.Reader.KeepReader.bound r.reader) (g.K.Reader.KeepReader.faults r.reader)) c.decide_all.new.reader in
     let start = g.K.Keeper.known c.args.keeper.now in
     let closed = g.K.Keeper.known c.close_if.new.keeper in
     let saved = g.K.Keeper.known c.save_if.new.keeper in
     let tells_of = told_to_end start.held closed.held (g.K.Keeper.bound c.args.keeper.now) first last c.in_ok-decided.decided.ways.faulted c.args.cached in
-    let there : is_some first ≡ c.args.cached = some_mapped (λ r. reader_data (g.K.Reader.KeepReader.held r) (g.K.Reader.KeepReader.bound r) (g.K.Reader.KeepReader.faults r)) c.in_ok-reader.reader ∙ c.in_ok-reader.ensures.some in
-    let begun = mapped (λ r. reader_data (g.K.Reader.KeepReader.held r) (g.K.Reader.KeepReader.bound r) (g.K.Reader.KeepReader.faults r)) (IsBegun start.held (g.K.Keeper.bound c.args.keeper.now)) c.in_ok-reader.reader c.in_ok-reader.ensures.reader in
-    let told = λ (some : IsSome closed.held). mapped (λ r. reader_data (g.K.Reader.KeepReader.held r) (g.K.Reader.KeepReader.bound r) (g.K.Reader.KeepReader.faults r)) (λ r. IsSome r.held) c.decide_all.new.reader (c.close_if.ensures.reader some) in
+    let there : is_some first ≡ c.args.cached = some_mapped (λ r. reader_data (g.K.Reader.KeepReader.held r.reader) (g.K.Reader.KeepReader.bound r.reader) (g.K.Reader.KeepReader.faults r.reader)) c.in_ok-reader.reader ∙ c.in_ok-reader.ensures.some in
+    let begun = mapped (λ r. reader_data (g.K.Reader.KeepReader.held r.reader) (g.K.Reader.KeepReader.bound r.reader) (g.K.Reader.KeepReader.faults r.reader)) (IsBegun start.held (g.K.Keeper.bound c.args.keeper.now)) c.in_ok-reader.reader c.in_ok-reader.ensures.reader in
+    let told = λ (some : IsSome closed.held). mapped (λ r. reader_data (g.K.Reader.KeepReader.held r.reader) (g.K.Reader.KeepReader.bound r.reader) (g.K.Reader.KeepReader.faults r.reader)) (λ r. IsSome r.held) c.decide_all.new.reader (c.close_if.ensures.reader some) in
     let tells_closed : IsSome closed.held = first_told closed saved c.as_slice-2.result.now c.save_if.ensures.first tells in
     let last_told : IsTold last S = tells_of S is used there begun c.in_ok-decided.ensures.reader told tells_closed in
-    let follows = c.in_ok-decided.ensures.follows S (told_some last S last_told) (sym (some_mapped (λ r. reader_data (g.K.Reader.KeepReader.held r) (g.K.Reader.KeepReader.bound r) (g.K.Reader.KeepReader.faults r)) c.decide_all.new.reader) ∙ told_there last S last_told) fair in
+    let follows = c.in_ok-decided.ensures.follows S (told_some last S last_told) (sym (some_mapped (λ r. reader_data (g.K.Reader.KeepReader.held r.reader) (g.K.Reader.KeepReader.bound r.reader) (g.K.Reader.KeepReader.faults r.reader)) c.decide_all.new.reader) ∙ told_there last S last_told) fair in
     within_by c.args.plan.now.pips c.args.sources.now c.args.plan.now.tool_budget S c.in_ok-decided.decided.verdicts.items c.in_ok-decided.decided.accepted.items
     c.in_ok-decided.decided.ways.hits c.in_ok-decided.decided.ways.missed c.in_ok-decided.decided.ways.faulted c.in_ok-decided.decided.ways.accepted _ _ _ c.in_ok-failed.failed
     follows.0.verdicts_are c.in_ok-decided.ensures.counted (λ numbers set. follows.3 numbers set) c.tally_of.ensures.hits c.tally_of.ensures.late c.tally_of.ensures.faults
@@ -79,11 +79,11 @@ returns-clause-within g c =
 pub returns-clause-alone : goal.returns-clause-alone
 returns-clause-alone g c =
     λ unused.
-    let first : Option ReaderData = option_map (λ r. reader_data (g.K.Reader.KeepReader.held r) (g.K.Reader.KeepReader.bound r) (g.K.Reader.KeepReader.faults r)) c.in_ok-reader.reader in
-    let last : Option ReaderData = option_map (λ r. reader_data (g.K.Reader.KeepReader.held r) (g.K.Reader.KeepReader.bound r) (g.K.Reader.KeepReader.faults r)) c.decide_all.new.reader in
-    let there : is_some first ≡ c.args.cached = some_mapped (λ r. reader_data (g.K.Reader.KeepReader.held r) (g.K.Reader.KeepReader.bound r) (g.K.Reader.KeepReader.faults r)) c.in_ok-reader.reader ∙ c.in_ok-reader.ensures.some in
+    let first : Option ReaderData = option_map (λ r. reader_data (g.K.Reader.KeepReader.held r.reader) (g.K.Reader.KeepReader.bound r.reader) (g.K.Reader.KeepReader.faults r.reader)) c.in_ok-reader.reader in
+    let last : Option ReaderData = option_map (λ r. reader_data (g.K.Reader.KeepReader.held r.reader) (g.K.Reader.KeepReader.bound r.reader) (g.K.Reader.KeepReader.faults r.reader)) c.decide_all.new.reader in
+    let there : is_some first ≡ c.args.cached = some_mapped (λ r. reader_data (g.K.Reader.KeepReader.held r.reader) (g.K.Reader.KeepReader.bound r.reader) (g.K.Reader.KeepReader.faults r.reader)) c.in_ok-reader.reader ∙ c.in_ok-reader.ensures.some in
     let there_now : is_some c.decide_all.new.reader ≡ c.args.cached =
-    sym (some_mapped (λ r. reader_data (g.K.Reader.KeepReader.held r) (g.K.Reader.KeepReader.bound r) (g.K.Reader.KeepReader.faults r)) c.decide_all.new.reader) ∙ sym (same_there first last c.in_ok-decided.decided.ways.faulted c.in_ok-decided.ensures.reader) ∙ there in
+    sym (some_mapped (λ r. reader_data (g.K.Reader.KeepReader.held r.reader) (g.K.Reader.KeepReader.bound r.reader) (g.K.Reader.KeepReader.faults r.reader)) c.decide_all.new.reader) ∙ sym (same_there first last c.in_ok-decided.decided.ways.faulted c.in_ok-decided.ensures.reader) ∙ there in
     let alone = c.in_ok-decided.ensures.alone (there_now ∙ unused) in
     let none = c.in_ok-decided.ensures.unread (there_now ∙ unused) in
     let failed = c.in_ok-failed.ensures.no_faults unused in
@@ -102,20 +102,20 @@ returns-clause-alone g c =
 pub returns-clause-settled : goal.returns-clause-settled
 returns-clause-settled g c =
     λ S settled given.
-    let first : Option ReaderData = option_map (λ r. reader_data (g.K.Reader.KeepReader.held r) (g.K.Reader.KeepReader.bound r) (g.K.Reader.KeepReader.faults r)) c.in_ok-reader.reader in
-    let last : Option ReaderData = option_map (λ r. reader_data (g.K.Reader.KeepReader.held r) (g.K.Reader.KeepReader.bound r) (g.K.Reader.KeepReader.faults r)) c.decide_all.new.reader in
+    let first : Option ReaderData = option_map (λ r. reader_data (g.K.Reader.KeepReader.held r.reader) (g.K.Reader.KeepReader.bound r.reader) (g.K.Reader.KeepReader.faults r.reader)) c.in_ok-reader.reader in
+    let last : Option ReaderData = option_map (λ r. reader_data (g.K.Reader.KeepReader.held r.reader) (g.K.Reader.KeepReader.bound r.reader) (g.K.Reader.KeepReader.faults r.reader)) c.decide_all.new.reader in
     let start = g.K.Keeper.known c.args.keeper.now in
     let closed = g.K.Keeper.known c.close_if.new.keeper in
     let saved = g.K.Keeper.known c.save_if.new.keeper in
     let tells_of = told_to_end start.held closed.held (g.K.Keeper.bound c.args.keeper.now) first last c.in_ok-decided.decided.ways.faulted c.args.cached in
-    let there : is_some first ≡ c.args.cached = some_mapped (λ r. reader_data (g.K.Reader.KeepReader.held r) (g.K.Reader.KeepReader.bound r) (g.K.Reader.KeepReader.faults r)) c.in_ok-reader.reader ∙ c.in_ok-reader.ensures.some in
-    let begun = mapped (λ r. reader_data (g.K.Reader.KeepReader.held r) (g.K.Reader.KeepReader.bound r) (g.K.Reader.KeepReader.faults r)) (IsBegun start.held (g.K.Keeper.bound c.args.keeper.now)) c.in_ok-reader.reader c.in_ok-reader.ensures.reader in
-    let told = λ (some : IsSome closed.held). mapped (λ r. reader_data (g.K.Reader.KeepReader.held r) (g.K.Reader.KeepReader.bound r) (g.K.Reader.KeepReader.faults r)) (λ r. IsSome r.held) c.decide_all.new.reader (c.close_if.ensures.reader some) in
+    let there : is_some first ≡ c.args.cached = some_mapped (λ r. reader_data (g.K.Reader.KeepReader.held r.reader) (g.K.Reader.KeepReader.bound r.reader) (g.K.Reader.KeepReader.faults r.reader)) c.in_ok-reader.reader ∙ c.in_ok-reader.ensures.some in
+    let begun = mapped (λ r. reader_data (g.K.Reader.KeepReader.held r.reader) (g.K.Reader.KeepReader.bound r.reader) (g.K.Reader.KeepReader.faults r.reader)) (IsBegun start.held (g.K.Keeper.bound c.args.keeper.now)) c.in_ok-reader.reader c.in_ok-reader.ensures.reader in
+    let told = λ (some : IsSome closed.held). mapped (λ r. reader_data (g.K.Reader.KeepReader.held r.reader) (g.K.Reader.KeepReader.bound r.reader) (g.K.Reader.KeepReader.faults r.reader)) (λ r. IsSome r.held) c.decide_all.new.reader (c.close_if.ensures.reader some) in
     let there_now : is_some c.decide_all.new.reader ≡ c.args.cached =
-    sym (some_mapped (λ r. reader_data (g.K.Reader.KeepReader.held r) (g.K.Reader.KeepReader.bound r) (g.K.Reader.KeepReader.faults r)) c.decide_all.new.reader) ∙ sym (same_there first last c.in_ok-decided.decided.ways.faulted c.in_ok-decided.ensures.reader) ∙ there in
+    sym (some_mapped (λ r. reader_data (g.K.Reader.KeepReader.held r.reader) (g.K.Reader.KeepReader.bound r.reader) (g.K.Reader.KeepReader.faults r.reader)) c.decide_all.new.reader) ∙ sym (same_there first last c.in_ok-decided.decided.ways.faulted c.in_ok-decided.ensures.reader) ∙ there in
     let held : IfSome last (λ (r : ReaderData). r.held ≡ Some S) =
     by_use c.args.cached _
-    (λ unused. none_given last (λ (r : ReaderData). r.held ≡ Some S) (none_mapped (λ r. reader_data (g.K.Reader.KeepReader.held r) (g.K.Reader.KeepReader.bound r) (g.K.Reader.KeepReader.faults r)) c.decide_all.new.reader (there_now ∙ unused)))
+    (λ unused. none_given last (λ (r : ReaderData). r.held ≡ Some S) (none_mapped (λ r. reader_data (g.K.Reader.KeepReader.held r.reader) (g.K.Reader.KeepReader.bound r.reader) (g.K.Reader.KeepReader.faults r.reader)) c.decide_all.new.reader (there_now ∙ unused)))
     (λ used.
     told_some last S
     (tells_of S (given used).0 used there begun c.in_ok-decided.ensures.reader told
@@ -140,15 +140,15 @@ returns-in_err-outputs-clause-left g c =
 pub returns-in_err-failed-clause-left : goal.returns-in_err-failed-clause-left
 returns-in_err-failed-clause-left g c =
     λ S is tells fair.
-    let first : Option ReaderData = option_map (λ r. reader_data (g.K.Reader.KeepReader.held r) (g.K.Reader.KeepReader.bound r) (g.K.Reader.KeepReader.faults r)) c.in_ok-reader.reader in
-    let last : Option ReaderData = option_map (λ r. reader_data (g.K.Reader.KeepReader.held r) (g.K.Reader.KeepReader.bound r) (g.K.Reader.KeepReader.faults r)) c.decide_all.new.reader in
+    let first : Option ReaderData = option_map (λ r. reader_data (g.K.Reader.KeepReader.held r.reader) (g.K.Reader.KeepReader.bound r.reader) (g.K.Reader.KeepReader.faults r.reader)) c.in_ok-reader.reader in
+    let last : Option ReaderData = option_map (λ r. reader_data (g.K.Reader.KeepReader.held r.reader) (g.K.Reader.KeepReader.bound r.reader) (g.K.Reader.KeepReader.faults r.reader)) c.decide_all.new.reader in
     let start = g.K.Keeper.known c.args.keeper.now in
     let closed = g.K.Keeper.known c.close_if.new.keeper in
     let saved = g.K.Keeper.known c.save_if.new.keeper in
     let tells_of = told_to_end start.held closed.held (g.K.Keeper.bound c.args.keeper.now) first last c.in_ok-decided.decided.ways.faulted c.args.cached in
-    let there : is_some first ≡ c.args.cached = some_mapped (λ r. reader_data (g.K.Reader.KeepReader.held r) (g.K.Reader.KeepReader.bound r) (g.K.Reader.KeepReader.faults r)) c.in_ok-reader.reader ∙ c.in_ok-reader.ensures.some in
-    let begun = mapped (λ r. reader_data (g.K.Reader.KeepReader.held r) (g.K.Reader.KeepReader.bound r) (g.K.Reader.KeepReader.faults r)) (IsBegun start.held (g.K.Keeper.bound c.args.keeper.now)) c.in_ok-reader.reader c.in_ok-reader.ensures.reader in
-    let told = λ (some : IsSome closed.held). mapped (λ r. reader_data (g.K.Reader.KeepReader.held r) (g.K.Reader.KeepReader.bound r) (g.K.Reader.KeepReader.faults r)) (λ r. IsSome r.held) c.decide_all.new.reader (c.close_if.ensures.reader some) in
+    let there : is_some first ≡ c.args.cached = some_mapped (λ r. reader_data (g.K.Reader.KeepReader.held r.reader) (g.K.Reader.KeepReader.bound r.reader) (g.K.Reader.KeepReader.faults r.reader)) c.in_ok-reader.reader ∙ c.in_ok-reader.ensures.some in
+    let begun = mapped (λ r. reader_data (g.K.Reader.KeepReader.held r.reader) (g.K.Reader.KeepReader.bound r.reader) (g.K.Reader.KeepReader.faults r.reader)) (IsBegun start.held (g.K.Keeper.bound c.args.keeper.now)) c.in_ok-reader.reader c.in_ok-reader.ensures.reader in
+    let told = λ (some : IsSome closed.held). mapped (λ r. reader_data (g.K.Reader.KeepReader.held r.reader) (g.K.Reader.KeepReader.bound r.reader) (g.K.Reader.KeepReader.faults r.reader)) (λ r. IsSome r.held) c.decide_all.new.reader (c.close_if.ensures.reader some) in
     by_use c.args.cached _
     (λ unused.
     leaves_same c.args.plan.now.pips c.args.sources.now c.args.plan.now.tool_budget S start saved is
@@ -156,22 +156,22 @@ returns-in_err-failed-clause-left g c =
     (λ used.
     let tells_closed : IsSome closed.held = first_told closed saved c.as_slice-2.result.now c.save_if.ensures.first tells in
     let last_told : IsTold last S = tells_of S is used there begun c.in_ok-decided.ensures.reader told tells_closed in
-    let follows = c.in_ok-decided.ensures.follows S (told_some last S last_told) (sym (some_mapped (λ r. reader_data (g.K.Reader.KeepReader.held r) (g.K.Reader.KeepReader.bound r) (g.K.Reader.KeepReader.faults r)) c.decide_all.new.reader) ∙ told_there last S last_told) fair in
+    let follows = c.in_ok-decided.ensures.follows S (told_some last S last_told) (sym (some_mapped (λ r. reader_data (g.K.Reader.KeepReader.held r.reader) (g.K.Reader.KeepReader.bound r.reader) (g.K.Reader.KeepReader.faults r.reader)) c.decide_all.new.reader) ∙ told_there last S last_told) fair in
     leaves_saved c.args.plan.now.pips c.args.sources.now c.args.plan.now.tool_budget S start closed saved c.in_ok-decided.decided.records.items c.as_slice-2.result.now
     is c.close_if.ensures.known tells follows.1.0 fair c.as_slice-2.ensures.value c.save_if.ensures.first)
 
 pub returns-clause-left : goal.returns-clause-left
 returns-clause-left g c =
     λ S is tells fair.
-    let first : Option ReaderData = option_map (λ r. reader_data (g.K.Reader.KeepReader.held r) (g.K.Reader.KeepReader.bound r) (g.K.Reader.KeepReader.faults r)) c.in_ok-reader.reader in
-    let last : Option ReaderData = option_map (λ r. reader_data (g.K.Reader.KeepReader.held r) (g.K.Reader.KeepReader.bound r) (g.K.Reader.KeepReader.faults r)) c.decide_all.new.reader in
+    let first : Option ReaderData = option_map (λ r. reader_data (g.K.Reader.KeepReader.held r.reader) (g.K.Reader.KeepReader.bound r.reader) (g.K.Reader.KeepReader.faults r.reader)) c.in_ok-reader.reader in
+    let last : Option ReaderData = option_map (λ r. reader_data (g.K.Reader.KeepReader.held r.reader) (g.K.Reader.KeepReader.bound r.reader) (g.K.Reader.KeepReader.faults r.reader)) c.decide_all.new.reader in
     let start = g.K.Keeper.known c.args.keeper.now in
     let closed = g.K.Keeper.known c.close_if.new.keeper in
     let saved = g.K.Keeper.known c.save_if.new.keeper in
     let tells_of = told_to_end start.held closed.held (g.K.Keeper.bound c.args.keeper.now) first last c.in_ok-decided.decided.ways.faulted c.args.cached in
-    let there : is_some first ≡ c.args.cached = some_mapped (λ r. reader_data (g.K.Reader.KeepReader.held r) (g.K.Reader.KeepReader.bound r) (g.K.Reader.KeepReader.faults r)) c.in_ok-reader.reader ∙ c.in_ok-reader.ensures.some in
-    let begun = mapped (λ r. reader_data (g.K.Reader.KeepReader.held r) (g.K.Reader.KeepReader.bound r) (g.K.Reader.KeepReader.faults r)) (IsBegun start.held (g.K.Keeper.bound c.args.keeper.now)) c.in_ok-reader.reader c.in_ok-reader.ensures.reader in
-    let told = λ (some : IsSome closed.held). mapped (λ r. reader_data (g.K.Reader.KeepReader.held r) (g.K.Reader.KeepReader.bound r) (g.K.Reader.KeepReader.faults r)) (λ r. IsSome r.held) c.decide_all.new.reader (c.close_if.ensures.reader some) in
+    let there : is_some first ≡ c.args.cached = some_mapped (λ r. reader_data (g.K.Reader.KeepReader.held r.reader) (g.K.Reader.KeepReader.bound r.reader) (g.K.Reader.KeepReader.faults r.reader)) c.in_ok-reader.reader ∙ c.in_ok-reader.ensures.some in
+    let begun = mapped (λ r. reader_data (g.K.Reader.KeepReader.held r.reader) (g.K.Reader.KeepReader.bound r.reader) (g.K.Reader.KeepReader.faults r.reader)) (IsBegun start.held (g.K.Keeper.bound c.args.keeper.now)) c.in_ok-reader.reader c.in_ok-reader.ensures.reader in
+    let told = λ (some : IsSome closed.held). mapped (λ r. reader_data (g.K.Reader.KeepReader.held r.reader) (g.K.Reader.KeepReader.bound r.reader) (g.K.Reader.KeepReader.faults r.reader)) (λ r. IsSome r.held) c.decide_all.new.reader (c.close_if.ensures.reader some) in
     by_use c.args.cached _
     (λ unused.
     leaves_same c.args.plan.now.pips c.args.sources.now c.args.plan.now.tool_budget S start saved is
@@ -179,25 +179,25 @@ returns-clause-left g c =
     (λ used.
     let tells_closed : IsSome closed.held = first_told closed saved c.as_slice-2.result.now c.save_if.ensures.first tells in
     let last_told : IsTold last S = tells_of S is used there begun c.in_ok-decided.ensures.reader told tells_closed in
-    let follows = c.in_ok-decided.ensures.follows S (told_some last S last_told) (sym (some_mapped (λ r. reader_data (g.K.Reader.KeepReader.held r) (g.K.Reader.KeepReader.bound r) (g.K.Reader.KeepReader.faults r)) c.decide_all.new.reader) ∙ told_there last S last_told) fair in
+    let follows = c.in_ok-decided.ensures.follows S (told_some last S last_told) (sym (some_mapped (λ r. reader_data (g.K.Reader.KeepReader.held r.reader) (g.K.Reader.KeepReader.bound r.reader) (g.K.Reader.KeepReader.faults r.reader)) c.decide_all.new.reader) ∙ told_there last S last_told) fair in
     leaves_saved c.args.plan.now.pips c.args.sources.now c.args.plan.now.tool_budget S start closed saved c.in_ok-decided.decided.records.items c.as_slice-2.result.now
     is c.close_if.ensures.known tells follows.1.0 fair c.as_slice-2.ensures.value c.save_if.ensures.first)
 
 pub returns-clause-usable_but : goal.returns-clause-usable_but
 returns-clause-usable_but g c =
     λ used S is tells fair free.
-    let first : Option ReaderData = option_map (λ r. reader_data (g.K.Reader.KeepReader.held r) (g.K.Reader.KeepReader.bound r) (g.K.Reader.KeepReader.faults r)) c.in_ok-reader.reader in
-    let last : Option ReaderData = option_map (λ r. reader_data (g.K.Reader.KeepReader.held r) (g.K.Reader.KeepReader.bound r) (g.K.Reader.KeepReader.faults r)) c.decide_all.new.reader in
+    let first : Option ReaderData = option_map (λ r. reader_data (g.K.Reader.KeepReader.held r.reader) (g.K.Reader.KeepReader.bound r.reader) (g.K.Reader.KeepReader.faults r.reader)) c.in_ok-reader.reader in
+    let last : Option ReaderData = option_map (λ r. reader_data (g.K.Reader.KeepReader.held r.reader) (g.K.Reader.KeepReader.bound r.reader) (g.K.Reader.KeepReader.faults r.reader)) c.decide_all.new.reader in
     let start = g.K.Keeper.known c.args.keeper.now in
     let closed = g.K.Keeper.known c.close_if.new.keeper in
     let saved = g.K.Keeper.known c.save_if.new.keeper in
     let tells_of = told_to_end start.held closed.held (g.K.Keeper.bound c.args.keeper.now) first last c.in_ok-decided.decided.ways.faulted c.args.cached in
-    let there : is_some first ≡ c.args.cached = some_mapped (λ r. reader_data (g.K.Reader.KeepReader.held r) (g.K.Reader.KeepReader.bound r) (g.K.Reader.KeepReader.faults r)) c.in_ok-reader.reader ∙ c.in_ok-reader.ensures.some in
-    let begun = mapped (λ r. reader_data (g.K.Reader.KeepReader.held r) (g.K.Reader.KeepReader.bound r) (g.K.Reader.KeepReader.faults r)) (IsBegun start.held (g.K.Keeper.bound c.args.keeper.now)) c.in_ok-reader.reader c.in_ok-reader.ensures.reader in
-    let told = λ (some : IsSome closed.held). mapped (λ r. reader_data (g.K.Reader.KeepReader.held r) (g.K.Reader.KeepReader.bound r) (g.K.Reader.KeepReader.faults r)) (λ r. IsSome r.held) c.decide_all.new.reader (c.close_if.ensures.reader some) in
+    let there : is_some first ≡ c.args.cached = some_mapped (λ r. reader_data (g.K.Reader.KeepReader.held r.reader) (g.K.Reader.KeepReader.bound r.reader) (g.K.Reader.KeepReader.faults r.reader)) c.in_ok-reader.reader ∙ c.in_ok-reader.ensures.some in
+    let begun = mapped (λ r. reader_data (g.K.Reader.KeepReader.held r.reader) (g.K.Reader.KeepReader.bound r.reader) (g.K.Reader.KeepReader.faults r.reader)) (IsBegun start.held (g.K.Keeper.bound c.args.keeper.now)) c.in_ok-reader.reader c.in_ok-reader.ensures.reader in
+    let told = λ (some : IsSome closed.held). mapped (λ r. reader_data (g.K.Reader.KeepReader.held r.reader) (g.K.Reader.KeepReader.bound r.reader) (g.K.Reader.KeepReader.faults r.reader)) (λ r. IsSome r.held) c.decide_all.new.reader (c.close_if.ensures.reader some) in
     let tells_closed : IsSome closed.held = first_told closed saved c.as_slice-2.result.now c.save_if.ensures.first tells in
     let last_told : IsTold last S = tells_of S is used there begun c.in_ok-decided.ensures.reader told tells_closed in
-    let follows = c.in_ok-decided.ensures.follows S (told_some last S last_told) (sym (some_mapped (λ r. reader_data (g.K.Reader.KeepReader.held r) (g.K.Reader.KeepReader.bound r) (g.K.Reader.KeepReader.faults r)) c.decide_all.new.reader) ∙ told_there last S last_told) fair in
+    let follows = c.in_ok-decided.ensures.follows S (told_some last S last_told) (sym (some_mapped (λ r. reader_data (g.K.Reader.KeepReader.held r.reader) (g.K.Reader.KeepReader.bound r.reader) (g.K.Reader.KeepReader.faults r.reader)) c.decide_all.new.reader) ∙ told_there last S last_told) fair in
     leaves_but c.args.plan.now.pips c.args.sources.now c.args.plan.now.tool_budget S start closed saved c.in_ok-decided.decided.records.items c.as_slice-2.result.now
     c.in_ok-failed.failed _ is c.close_if.ensures.known follows.1.0 fair c.as_slice-2.ensures.value c.pips-pips.ensures.list c.requires.rules free
     (c.in_ok-failed.ensures.all used) (omega (arith, c.tally_of.ensures.faults))
@@ -205,19 +205,19 @@ returns-clause-usable_but g c =
 pub returns-clause-usable : goal.returns-clause-usable
 returns-clause-usable g c =
     λ used S is fair free none T now.
-    let first : Option ReaderData = option_map (λ r. reader_data (g.K.Reader.KeepReader.held r) (g.K.Reader.KeepReader.bound r) (g.K.Reader.KeepReader.faults r)) c.in_ok-reader.reader in
-    let last : Option ReaderData = option_map (λ r. reader_data (g.K.Reader.KeepReader.held r) (g.K.Reader.KeepReader.bound r) (g.K.Reader.KeepReader.faults r)) c.decide_all.new.reader in
+    let first : Option ReaderData = option_map (λ r. reader_data (g.K.Reader.KeepReader.held r.reader) (g.K.Reader.KeepReader.bound r.reader) (g.K.Reader.KeepReader.faults r.reader)) c.in_ok-reader.reader in
+    let last : Option ReaderData = option_map (λ r. reader_data (g.K.Reader.KeepReader.held r.reader) (g.K.Reader.KeepReader.bound r.reader) (g.K.Reader.KeepReader.faults r.reader)) c.decide_all.new.reader in
     let start = g.K.Keeper.known c.args.keeper.now in
     let closed = g.K.Keeper.known c.close_if.new.keeper in
     let saved = g.K.Keeper.known c.save_if.new.keeper in
     let tells_of = told_to_end start.held closed.held (g.K.Keeper.bound c.args.keeper.now) first last c.in_ok-decided.decided.ways.faulted c.args.cached in
-    let there : is_some first ≡ c.args.cached = some_mapped (λ r. reader_data (g.K.Reader.KeepReader.held r) (g.K.Reader.KeepReader.bound r) (g.K.Reader.KeepReader.faults r)) c.in_ok-reader.reader ∙ c.in_ok-reader.ensures.some in
-    let begun = mapped (λ r. reader_data (g.K.Reader.KeepReader.held r) (g.K.Reader.KeepReader.bound r) (g.K.Reader.KeepReader.faults r)) (IsBegun start.held (g.K.Keeper.bound c.args.keeper.now)) c.in_ok-reader.reader c.in_ok-reader.ensures.reader in
-    let told = λ (some : IsSome closed.held). mapped (λ r. reader_data (g.K.Reader.KeepReader.held r) (g.K.Reader.KeepReader.bound r) (g.K.Reader.KeepReader.faults r)) (λ r. IsSome r.held) c.decide_all.new.reader (c.close_if.ensures.reader some) in
+    let there : is_some first ≡ c.args.cached = some_mapped (λ r. reader_data (g.K.Reader.KeepReader.held r.reader) (g.K.Reader.KeepReader.bound r.reader) (g.K.Reader.KeepReader.faults r.reader)) c.in_ok-reader.reader ∙ c.in_ok-reader.ensures.some in
+    let begun = mapped (λ r. reader_data (g.K.Reader.KeepReader.held r.reader) (g.K.Reader.KeepReader.bound r.reader) (g.K.Reader.KeepReader.faults r.reader)) (IsBegun start.held (g.K.Keeper.bound c.args.keeper.now)) c.in_ok-reader.reader c.in_ok-reader.ensures.reader in
+    let told = λ (some : IsSome closed.held). mapped (λ r. reader_data (g.K.Reader.KeepReader.held r.reader) (g.K.Reader.KeepReader.bound r.reader) (g.K.Reader.KeepReader.faults r.reader)) (λ r. IsSome r.held) c.decide_all.new.reader (c.close_if.ensures.reader some) in
     let tells : IsSome saved.held = subst (λ (o : Option Holdings). IsSome o) (sym now) refl in
     let tells_closed : IsSome closed.held = first_told closed saved c.as_slice-2.result.now c.save_if.ensures.first tells in
     let last_told : IsTold last S = tells_of S is used there begun c.in_ok-decided.ensures.reader told tells_closed in
-    let follows = c.in_ok-decided.ensures.follows S (told_some last S last_told) (sym (some_mapped (λ r. reader_data (g.K.Reader.KeepReader.held r) (g.K.Reader.KeepReader.bound r) (g.K.Reader.KeepReader.faults r)) c.decide_all.new.reader) ∙ told_there last S last_told) fair in
+    let follows = c.in_ok-decided.ensures.follows S (told_some last S last_told) (sym (some_mapped (λ r. reader_data (g.K.Reader.KeepReader.held r.reader) (g.K.Reader.KeepReader.bound r.reader) (g.K.Reader.KeepReader.faults r.reader)) c.decide_all.new.reader) ∙ told_there last S last_told) fair in
     leaves_all c.args.plan.now.pips c.args.sources.now c.args.plan.now.tool_budget saved _
     (leaves_but c.args.plan.now.pips c.args.sources.now c.args.plan.now.tool_budget S start closed saved c.in_ok-decided.decided.records.items c.as_slice-2.result.now
     c.in_ok-failed.failed _ is c.close_if.ensures.known follows.1.0 fair c.as_slice-2.ensures.value c.pips-pips.ensures.list c.requires.rules free
@@ -226,9 +226,9 @@ returns-clause-usable g c =
 pub returns-clause-faults : goal.returns-clause-faults
 returns-clause-faults g c =
     λ b is.
-    let begun = mapped (λ r. reader_data (g.K.Reader.KeepReader.held r) (g.K.Reader.KeepReader.bound r) (g.K.Reader.KeepReader.faults r)) (IsBegun (g.K.Keeper.known c.args.keeper.now).held (g.K.Keeper.bound c.args.keeper.now)) c.in_ok-reader.reader c.in_ok-reader.ensures.reader in
+    let begun = mapped (λ r. reader_data (g.K.Reader.KeepReader.held r.reader) (g.K.Reader.KeepReader.bound r.reader) (g.K.Reader.KeepReader.faults r.reader)) (IsBegun (g.K.Keeper.known c.args.keeper.now).held (g.K.Keeper.bound c.args.keeper.now)) c.in_ok-reader.reader c.in_ok-reader.ensures.reader in
     let all =
-    all_faults (g.K.Keeper.known c.args.keeper.now).held (option_map (λ r. reader_data (g.K.Reader.KeepReader.held r) (g.K.Reader.KeepReader.bound r) (g.K.Reader.KeepReader.faults r)) c.in_ok-reader.reader) (option_map (λ r. reader_data (g.K.Reader.KeepReader.held r) (g.K.Reader.KeepReader.bound r) (g.K.Reader.KeepReader.faults r)) c.decide_all.new.reader) (g.K.Keeper.bound c.args.keeper.now)
+    all_faults (g.K.Keeper.known c.args.keeper.now).held (option_map (λ r. reader_data (g.K.Reader.KeepReader.held r.reader) (g.K.Reader.KeepReader.bound r.reader) (g.K.Reader.KeepReader.faults r.reader)) c.in_ok-reader.reader) (option_map (λ r. reader_data (g.K.Reader.KeepReader.held r.reader) (g.K.Reader.KeepReader.bound r.reader) (g.K.Reader.KeepReader.faults r.reader)) c.decide_all.new.reader) (g.K.Keeper.bound c.args.keeper.now)
     c.in_ok-decided.decided.ways.faulted b (g.K.Keeper.faults c.args.keeper.now) (g.K.Keeper.faults c.save_if.new.keeper) c.in_ok-failed.failed
     c.in_ok-decided.ensures.reader begun is
     (closed_faults (g.K.Keeper.bound c.args.keeper.now) (g.K.Keeper.bound c.close_if.new.keeper) _ _ _ _ c.close_if.ensures.bound c.close_if.ensures.faults c.in_ok-failed.ensures.faults) in
@@ -264,18 +264,18 @@ returns-clause-puts g c =
 pub returns-clause-saved_runs : goal.returns-clause-saved_runs
 returns-clause-saved_runs g c =
     λ used S is tells fair none.
-    let first : Option ReaderData = option_map (λ r. reader_data (g.K.Reader.KeepReader.held r) (g.K.Reader.KeepReader.bound r) (g.K.Reader.KeepReader.faults r)) c.in_ok-reader.reader in
-    let last : Option ReaderData = option_map (λ r. reader_data (g.K.Reader.KeepReader.held r) (g.K.Reader.KeepReader.bound r) (g.K.Reader.KeepReader.faults r)) c.decide_all.new.reader in
+    let first : Option ReaderData = option_map (λ r. reader_data (g.K.Reader.KeepReader.held r.reader) (g.K.Reader.KeepReader.bound r.reader) (g.K.Reader.KeepReader.faults r.reader)) c.in_ok-reader.reader in
+    let last : Option ReaderData = option_map (λ r. reader_data (g.K.Reader.KeepReader.held r.reader) (g.K.Reader.KeepReader.bound r.reader) (g.K.Reader.KeepReader.faults r.reader)) c.decide_all.new.reader in
     let start = g.K.Keeper.known c.args.keeper.now in
     let closed = g.K.Keeper.known c.close_if.new.keeper in
     let saved = g.K.Keeper.known c.save_if.new.keeper in
     let tells_of = told_to_end start.held closed.held (g.K.Keeper.bound c.args.keeper.now) first last c.in_ok-decided.decided.ways.faulted c.args.cached in
-    let there : is_some first ≡ c.args.cached = some_mapped (λ r. reader_data (g.K.Reader.KeepReader.held r) (g.K.Reader.KeepReader.bound r) (g.K.Reader.KeepReader.faults r)) c.in_ok-reader.reader ∙ c.in_ok-reader.ensures.some in
-    let begun = mapped (λ r. reader_data (g.K.Reader.KeepReader.held r) (g.K.Reader.KeepReader.bound r) (g.K.Reader.KeepReader.faults r)) (IsBegun start.held (g.K.Keeper.bound c.args.keeper.now)) c.in_ok-reader.reader c.in_ok-reader.ensures.reader in
-    let told = λ (some : IsSome closed.held). mapped (λ r. reader_data (g.K.Reader.KeepReader.held r) (g.K.Reader.KeepReader.bound r) (g.K.Reader.KeepReader.faults r)) (λ r. IsSome r.held) c.decide_all.new.reader (c.close_if.ensures.reader some) in
+    let there : is_some first ≡ c.args.cached = some_mapped (λ r. reader_data (g.K.Reader.KeepReader.held r.reader) (g.K.Reader.KeepReader.bound r.reader) (g.K.Reader.KeepReader.faults r.reader)) c.in_ok-reader.reader ∙ c.in_ok-reader.ensures.some in
+    let begun = mapped (λ r. reader_data (g.K.Reader.KeepReader.held r.reader) (g.K.Reader.KeepReader.bound r.reader) (g.K.Reader.KeepReader.faults r.reader)) (IsBegun start.held (g.K.Keeper.bound c.args.keeper.now)) c.in_ok-reader.reader c.in_ok-reader.ensures.reader in
+    let told = λ (some : IsSome closed.held). mapped (λ r. reader_data (g.K.Reader.KeepReader.held r.reader) (g.K.Reader.KeepReader.bound r.reader) (g.K.Reader.KeepReader.faults r.reader)) (λ r. IsSome r.held) c.decide_all.new.reader (c.close_if.ensures.reader some) in
     let tells_closed : IsSome closed.held = first_told closed saved c.as_slice-2.result.now c.save_if.ensures.first tells in
     let last_told : IsTold last S = tells_of S is used there begun c.in_ok-decided.ensures.reader told tells_closed in
-    let follows = c.in_ok-decided.ensures.follows S (told_some last S last_told) (sym (some_mapped (λ r. reader_data (g.K.Reader.KeepReader.held r) (g.K.Reader.KeepReader.bound r) (g.K.Reader.KeepReader.faults r)) c.decide_all.new.reader) ∙ told_there last S last_told) fair in
+    let follows = c.in_ok-decided.ensures.follows S (told_some last S last_told) (sym (some_mapped (λ r. reader_data (g.K.Reader.KeepReader.held r.reader) (g.K.Reader.KeepReader.bound r.reader) (g.K.Reader.KeepReader.faults r.reader)) c.decide_all.new.reader) ∙ told_there last S last_told) fair in
     saves_runs c.args.plan.now.pips c.args.sources.now c.args.plan.now.tool_budget S c.args.finished.slots.items start closed saved c.in_ok-decided.decided.records.items
     c.as_slice-2.result.now c.close_if.ensures.known follows.1.0 (follows.1.1 (omega (arith, none, c.tally_of.ensures.faults))) c.as_slice-2.ensures.value
     c.save_if.ensures.first
