@@ -19,7 +19,6 @@ use dscript_program::{Program, SpecFault};
 use graph_check::check;
 use pip_model::{PipList, Plan, Sources};
 use std::alloc::Global;
-use std::mem::forget;
 
 /// The plan of a build, with the source files that it reads.
 #[derive(Drop)]
@@ -59,8 +58,7 @@ fn evaluated(
     }
 }
 
-// The pips of a tree. The memory of its program is left to the system, which takes it back when the process ends: to free it
-// node by node costs a tenth of a build.
+// The pips of a tree.
 fn pips_of(alloc: Global, tree: &Tree, limits: &Limits) -> Result<PipList, FrontFault>
     requires { IsInSize tree.now }
     ensures { MatchResult result
@@ -68,11 +66,7 @@ fn pips_of(alloc: Global, tree: &Tree, limits: &Limits) -> Result<PipList, Front
         (λ fault. IsRefused limits.now tree.now fault) }
 {
     match program_of(alloc, tree) {
-        Ok(program) => {
-            let pips = evaluated(alloc, &program, tree, limits);
-            forget(program);
-            pips
-        }
+        Ok(program) => evaluated(alloc, &program, tree, limits),
         Err(fault) => Err(file_refusal(alloc, fault)),
     }
 }

@@ -21,7 +21,7 @@ use std::rt::Files;
 /// The file of a folder that is locked. It is empty.
 const LOCK: &str = "lock";
 
-// A file or a folder that is open, by its path of the system.
+// A file or a folder that is open, by its path from the folder.
 #[derive(Drop)]
 struct Opened {
     path: String,
@@ -63,7 +63,12 @@ fn note_fault<X>(failed: &mut Record, done: &io::Result<X>, answer: ErrorKind)
 
 // The system's path of a path from the folder.
 fn path_of(alloc: Global, folder: &str, path: &str) -> Result<String, AllocError> {
-    format!(in alloc; "{folder}/{path}")
+    let length = folder.len().saturating_add(path.len()).saturating_add(1);
+    let mut full = String::with_capacity(alloc, length)?;
+    full.push_str(folder)?;
+    full.push_str("/")?;
+    full.push_str(path)?;
+    Ok(full)
 }
 
 // Whether what the system found counts as a file.
@@ -131,7 +136,7 @@ fn write_begun(begun: Option<Opened>, bytes: &[u8]) -> io::Result<Opened>
     }
 }
 
-// Takes the file that was made, if it is the one at this path of the system.
+// Takes the file that was made, if it is the one at this path.
 fn take_at(begun: &mut Option<Opened>, path: &str) -> Option<Opened> {
     match begun.take() {
         Some(made) => {
@@ -177,7 +182,7 @@ fn sync_made(made: Opened) -> io::Result<Option<Opened>> {
     Ok(None)
 }
 
-// Waits until what is open is stored, if it is what lies at this path of the system.
+// Waits until what is open is stored, if it is what lies at this path.
 fn sync_open(open: &Option<Opened>, path: &str) -> Option<io::Result<()>> {
     match open {
         Some(opened) => {
@@ -191,15 +196,22 @@ fn sync_open(open: &Option<Opened>, path: &str) -> Option<io::Result<()>> {
     }
 }
 
-// Waits until what lies at the system's path is stored. Only files and folders are opened. A folder stays open.
-fn sync_path<R: Files<File = File>>(rt: &R, path: String) -> io::Result<Option<Opened>> {
-    let found = fs::metadata(rt, path.as_str())?;
+// Waits until what lies at a path from the folder is stored. Only files and folders are opened. A folder stays open.
+fn sync_path<R: Files<File = File>>(
+    alloc: Global,
+    rt: &R,
+    folder: &str,
+    path: &str,
+) -> io::Result<Option<Opened>> {
+    let full = path_of(alloc, folder, path)?;
+    let found = fs::metadata(rt, full.as_str())?;
     if !found.is_dir() && !found.is_file() {
         return Err(io::Error::from(ErrorKind::NotADirectory));
     }
-    let file = File::open(rt, path.as_str())?;
+    let file = File::open(rt, full.as_str())?;
     file.sync_all()?;
     if found.is_dir() {
+        let path = String::from_str(alloc, path)?;
         Ok(Some(Opened { path, file }))
     } else {
         Ok(None)
@@ -208,20 +220,22 @@ fn sync_path<R: Files<File = File>>(rt: &R, path: String) -> io::Result<Option<O
 
 // The same, by one of two folders that are open, if it is one of them.
 fn sync_folder<R: Files<File = File>>(
+    alloc: Global,
     rt: &R,
     newer: &Option<Opened>,
     older: &Option<Opened>,
-    path: String,
+    folder: &str,
+    path: &str,
 ) -> io::Result<Option<Opened>> {
-    if let Some(done) = sync_open(newer, path.as_str()) {
+    if let Some(done) = sync_open(newer, path) {
         done?;
         return Ok(None);
     }
-    if let Some(done) = sync_open(older, path.as_str()) {
+    if let Some(done) = sync_open(older, path) {
         done?;
         return Ok(None);
     }
-    sync_path(rt, path)
+    sync_path(alloc, rt, folder, path)
 }
 
 // Makes the file that is locked, or opens the one that another process has made meanwhile.
@@ -523,10 +537,11 @@ impl<R: Files<File = File> + AllocGlobal + Clone + Drop> Disk for SystemDisk<R> 
 
     fn create(&mut self, alloc: Global, path: &str) -> io::Result<()> {
         let full = path_of(alloc, self.folder.as_str(), path)?;
+        let own = String::from_str(alloc, path)?;
         let done = create_file(&self.rt, full.as_str());
         note_fault(&mut self.failed, &done, ErrorKind::OutOfMemory);
         self.begun = Some(Opened {
-            path: full,
+            path: own,
             file: done?,
         });
         self.log = Record::noted(&self.log, &Kind::Created, path.as_bytes(), &[]);
@@ -542,10 +557,16 @@ impl<R: Files<File = File> + AllocGlobal + Clone + Drop> Disk for SystemDisk<R> 
     }
 
     fn sync(&mut self, alloc: Global, path: &str) -> io::Result<()> {
-        let full = path_of(alloc, self.folder.as_str(), path)?;
-        let done = match take_at(&mut self.begun, full.as_str()) {
+        let done = match take_at(&mut self.begun, path) {
             Some(made) => sync_made(made),
-            None => sync_folder(&self.rt, &self.newer, &self.older, full),
+            None => sync_folder(
+                alloc,
+                &self.rt,
+                &self.newer,
+                &self.older,
+                self.folder.as_str(),
+                path,
+            ),
         };
         note_fault(&mut self.failed, &done, ErrorKind::OutOfMemory);
         match done {
