@@ -33,7 +33,7 @@ use Rattle.one_thread.specs.Starting.{needs_run}
 use Rattle.one_thread.specs.Views.{ended_in, ended_result, slots_are_good}
 use Rattle.one_thread.proofs.OnePip.{not_skipped, skipped}
 use Rattle.retire.specs.Accepting.{IsAccepted}
-use Rattle.retire.specs.Saving.{IsWeakOf}
+use Rattle.run_record.specs.Digests.{IsWeakOf}
 use Rattle.retire.specs.declared.taking.Sought.TheVariants as sought
 use Rattle.retire.specs.Deciding as deciding
 use Rattle.retire.specs.Deciding.{DecidedBy, DecidesAt}

@@ -26,3 +26,4 @@ pub mod Nothing
 pub mod SuccessFits
 pub mod Twins
 pub mod Rechecks
+pub mod GoingOver

@@ -8,3 +8,4 @@ pub mod Settled
 pub mod Counting
 pub mod Taking
 pub mod Deciding
+pub mod Over

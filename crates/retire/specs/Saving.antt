@@ -2,19 +2,9 @@
 use Rattle.std.specs.Prelude.{◌≡◌, ◌≤◌, ℕ, Bool, true, false, not, List, [], ◌∷◌, count_by, length, take}
 use Rattle.std.specs.List.{AllByRecursion}
 use Rattle.bx_io.specs.Holdings.{Keeps, StoreTold}
-use Rattle.pip_model_types.specs.declared.desc.Desc.{Desc}
-use Rattle.prints.specs.Processes.{weak_parts}
-use Rattle.prints.specs.Weak.{weak_text}
-use Rattle.prints.specs.declared.printed.Printed.{Printed}
-use Rattle.run_record.specs.Digests.{weak_of}
 use Rattle.run_record.specs.Facts.{Facts, Sound}
 use Rattle.two_phase_meaning.specs.Saving.{IsGood}
 use Rattle.two_phase.specs.Putting.{PutsAll, PutsUpTo}
-
--- the text is the weak text of the process, with its digest
-pub record IsWeakOf (d : Desc) (printed : Printed) : Type 0 where
-  pub text : printed.text.items ≡ weak_text (weak_parts d)
-  pub digest : printed.digest ≡ weak_of d
 
 -- The puts of each of the records were made, one record after another, each up to some place.
 abbrev pub PutsEach : StoreTold → List Facts → StoreTold → Type 0

@@ -18,7 +18,7 @@ use Rattle.two_phase.specs.Reading.{ReaderData}
 use Rattle.sched_board_slots.specs.declared.held.Held.{Held}
 use Rattle.sched_board_slots.specs.declared.held.Held.TheVariants as held
 use Rattle.retire.specs.Accepting.{IsAccepted}
-use Rattle.retire.specs.Saving.{IsWeakOf}
+use Rattle.run_record.specs.Digests.{IsWeakOf}
 use Rattle.retire.specs.declared.taking.Again.{Again}
 use Rattle.retire.specs.declared.taking.Again.TheVariants as agains
 use Rattle.retire.specs.declared.taking.Sought.{Sought}

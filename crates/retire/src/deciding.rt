@@ -20,6 +20,7 @@ ghost use Rattle.retire.specs.Counting.{is_accepted, one_accepted, one_fault, on
 ghost use Rattle.retire.specs.Counts.{CountsAgainst, verdicts_there};
 ghost use Rattle.retire.specs.Deciding.{DecidedBy, DecidesAt, FollowsAll, RecordsAll};
 ghost use Rattle.retire.specs.HitSet.{IsHitSet};
+ghost use Rattle.retire.specs.Over.{RunsSome};
 ghost use Rattle.retire.specs.Saving.{IsSuccess};
 ghost use Rattle.retire.specs.Settled.{IsSettledOver};
 ghost use Rattle.retire.specs.Taking as takes;
@@ -320,6 +321,11 @@ pub(crate) fn decide_all<R: KeepReader, G: Gate>(
     ensures settled { (S : Holdings) → IsSettledOver frame.now.plan.now frame.now.sources.now S (is_some reader.new) finished.items
         → IfSome (option_map (λ r. reader_data (R.held r) (R.bound r) (R.faults r)) reader.new) (λ r. r.held ≡ Some S)
         → IfOk result (λ d. d.ways.missed ≡ 0) }
+    // Over any store, where no lookup fails.
+    ensures over { (S : Holdings)
+        → IfSome (option_map (λ r. reader_data (R.held r) (R.bound r) (R.faults r)) reader.new) (λ r. r.held ≡ Some S)
+        → IsSome reader.new → IfOk result (λ d. d.ways.faulted ≡ 0 → RunsSome frame.now.plan.now.pips frame.now.sources.now
+        frame.now.plan.now.tool_budget S finished.items (d.ways.accepted + d.ways.missed)) }
     ensures counted { IfOk result (λ d. d.ways.accepted + (d.ways.hits + (d.ways.missed + d.ways.faulted))
         ≡ run_count frame.now.plan.now.pips d.verdicts.items) }
     ensures few { IfOk result (λ d. d.ways.accepted + (d.ways.hits + (d.ways.missed + d.ways.faulted)) ≤ MAX_PIPS) }

@@ -10,6 +10,7 @@ ghost use Rattle.bx_io.specs.Holdings.{Keeps};
 ghost use Rattle.two_phase.specs.Reading.{reader_data};
 ghost use Rattle.retire.specs.Builds.{Fair, IsBuild, IsFair, LeavesFair, LeavesUsable, LeavesUsableBut, SavesRuns};
 ghost use Rattle.retire.specs.Counts.{CountsAlone, CountsOver, CountsWithin};
+ghost use Rattle.retire.specs.Over.{RunsSome};
 ghost use Rattle.retire.specs.Saving.{IsSuccess, OnlyPuts, PutsAllBut, PutsFirst, SavesAtMost};
 ghost use Rattle.retire.specs.Settled.{IsSettledOver};
 
@@ -82,6 +83,12 @@ pub fn retire<K: Keeper, G: Gate>(
         CountsWithin plan.now.pips sources.now plan.now.tool_budget S r.tally.hits r.tally.late r.tally.faults) }
     ensures alone { cached ≡ false → IfOk result (λ r.
         CountsAlone plan.now.pips sources.now plan.now.tool_budget finished.slots.items r.tally.hits r.tally.late r.tally.faults) }
+
+    // Over any store that it tells of, honest or not, which processes run where no call fails: those whose slot is accepted, and
+    // those for which nothing is usable.
+    ensures over { cached ≡ true → (S : Holdings) → held_in (K.known keeper.old) ≡ Some S
+        → IsSome (held_in (K.known keeper.new)) → IfOk result (λ r. r.tally.faults ≡ 0
+        → RunsSome plan.now.pips sources.now plan.now.tool_budget S finished.slots.items r.tally.ran) }
 
     // Where the slots are those of a board of this plan and these sources on which nothing is left to do, a tool runs here only
     // after a fault: so where no fault is met, none does.

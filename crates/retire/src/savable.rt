@@ -5,7 +5,7 @@ ghost use Rattle.two_phase.specs.Calls.{KeeperCall};
 ghost use Rattle.two_phase.specs.Held.{AreHeld};
 ghost use Rattle.two_phase.specs.Putting.{PutsAll, PutsUpTo};
 ghost use Rattle.two_phase_meaning.specs.Saving.{IsGood};
-ghost use Rattle.retire.specs.Saving.{IsWeakOf};
+ghost use Rattle.run_record.specs.Digests.{IsWeakOf};
 
 use bx_io::Keeper;
 use prints::Printed;
@@ -24,7 +24,7 @@ pub(crate) struct Savable {
 impl Model for Savable {
     ghost use Rattle.std.specs.Prelude.{IfSome};
     ghost use Rattle.run_record.specs.Facts.{Facts};
-    ghost use Rattle.retire.specs.Saving.{IsWeakOf};
+    ghost use Rattle.run_record.specs.Digests.{IsWeakOf};
 
     ghost Value = { Facts };
 

@@ -11,7 +11,7 @@ ghost use Rattle.two_phase.specs.Reading.{ReadsIfAny, reader_data};
 ghost use Rattle.two_phase_meaning.specs.Usable.{fits};
 ghost use Rattle.retire.specs.Accepting.{IsAccepted};
 ghost use Rattle.retire.specs.Counting.{one_fault};
-ghost use Rattle.retire.specs.Saving.{IsWeakOf};
+ghost use Rattle.run_record.specs.Digests.{IsWeakOf};
 ghost use Rattle.retire.specs.Taking.{IsOfNow, KeepsBy, SeeksBy, TakesBy, again_fault, seek_fault, way_of};
 
 use crate::savable::Savable;

@@ -8,10 +8,16 @@ use Rattle.prints.specs.Processes.{weak_parts}
 use Rattle.prints.specs.ReadWeak.{read_weak_text}
 use Rattle.prints.specs.Strong.{answer_line, line_of}
 use Rattle.prints.specs.Weak.{weak_text}
+use Rattle.prints.specs.declared.printed.Printed.{Printed}
 
 -- the digest of the weak text of a process
 abbrev pub weak_of : Desc → List ℕ
 weak_of d = sha256 (weak_text (weak_parts d))
+
+-- the text is the weak text of the process, with its digest
+pub record IsWeakOf (d : Desc) (printed : Printed) : Type 0 where
+  pub text : printed.text.items ≡ weak_text (weak_parts d)
+  pub digest : printed.digest ≡ weak_of d
 
 -- the digest of the line that says an answer
 abbrev pub digest_of_line : Answer → List ℕ

@@ -1,9 +1,11 @@
 //! Records of runs, each with the answers that it depends on.
-ghost use Rattle.std.specs.Prelude.{◌≡◌, ◌≢◌, ◌↔◌, IsTrue, IfOk, IfSome, IfNone, length};
+ghost use Rattle.std.specs.Prelude.{◌≡◌, ◌≢◌, ◌↔◌, IsTrue, IfOk, IfSome, IfNone, length, option_map};
+ghost use Rattle.std.specs.Arc.{arc_value};
 ghost use Rattle.tool_run.specs.Seen.{seen};
 ghost use Rattle.tool_run.specs.Described.{described};
 ghost use Rattle.tool_run.specs.Run.{path_set};
 ghost use Rattle.run_record.specs.Answered.{answered};
+ghost use Rattle.run_record.specs.Digests.{IsWeakOf};
 ghost use Rattle.run_record.specs.Facts.{IsRun, Replays, Sound, run_for};
 ghost use Rattle.run_record.specs.Outcomes.{outcome_of};
 
@@ -15,6 +17,7 @@ use crate::trace::{Trace, are_same_paths};
 use bx_io::Gate;
 use observed::{Access, Answer, PathSet, View};
 use pip_model_types::Desc;
+use prints::Printed;
 use std::alloc::{AllocError, Global};
 use std::marker::Model;
 use std::sync::Arc;
@@ -41,19 +44,35 @@ impl Model for RecordParts {
 }
 
 /// A run of a process, with an answer to each ask of its path set: the run on these answers alone has
-/// this path set, these accesses and this outcome. It is shared.
+/// this path set, these accesses and this outcome. It is shared. With it may be the weak text of the process, where that was
+/// written for a lookup; contracts see the run.
 #[derive(Drop)]
 pub struct Record {
     parts: Arc<RecordParts>,
+    weak: Option<Arc<Printed>>,
 }
 
 impl Model for Record {
     ghost use Rattle.std.specs.Arc.{arc_value};
+    ghost use Rattle.std.specs.Prelude.{IfSome};
+    ghost use Rattle.run_record.specs.Digests.{IsWeakOf};
     ghost use Rattle.run_record.specs.Facts.{Facts};
 
     ghost Value = { Facts };
 
     ghost view = { λ r. arc_value r.parts };
+
+    ghost invariant = { λ r. IfSome r.weak (λ w. IsWeakOf (arc_value r.parts).desc (arc_value w)) };
+}
+
+// A weak text, shared, if there is one.
+fn share_weak(weak: &Option<Arc<Printed>>) -> Result<Option<Arc<Printed>>, AllocError>
+    ensures { IfOk result (λ shared. option_map arc_value shared ≡ option_map arc_value weak.now) }
+{
+    match weak {
+        Some(weak) => Ok(Some(weak.clone()?)),
+        None => Ok(None),
+    }
 }
 
 impl Record {
@@ -63,7 +82,30 @@ impl Record {
     {
         Ok(Record {
             parts: self.parts.clone()?,
+            weak: share_weak(&self.weak)?,
         })
+    }
+
+    /// The record with the weak text of its process.
+    pub fn with_weak(self, alloc: Global, weak: Printed) -> Result<Record, AllocError>
+        requires { IsWeakOf self.desc weak }
+        ensures { IfOk result (λ r. r ≡ self) }
+    {
+        let weak = Arc::new(alloc, weak)?;
+        Ok(Record {
+            parts: self.parts,
+            weak: Some(weak),
+        })
+    }
+
+    /// The weak text of the process, if it is there.
+    pub fn weak(&self) -> Option<&Printed>
+        ensures { IfSome result (λ weak. IsWeakOf self.now.desc weak.now) }
+    {
+        match &self.weak {
+            Some(weak) => Some(&**weak),
+            None => None,
+        }
     }
 
     /// The process. A record is the run on its own answers.
@@ -177,6 +219,7 @@ pub fn execute_with<V: View, G: Gate>(
     let parts = run_parts(alloc, tools, desc, view)?;
     Ok(Record {
         parts: Arc::new(alloc, parts)?,
+        weak: None,
     })
 }
 
@@ -245,6 +288,7 @@ pub fn replay(
     match replayed_parts(alloc, desc, paths, answers)? {
         Some(parts) => Ok(Some(Record {
             parts: Arc::new(alloc, parts)?,
+            weak: None,
         })),
         None => Ok(None),
     }

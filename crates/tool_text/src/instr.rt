@@ -212,8 +212,8 @@ fn instr_in(alloc: Global, table: &Table, text: &[u8]) -> Result<Instr, ToolFaul
     instr_of(alloc, table, op, texts.as_slice())
 }
 
-// The instruction of a line.
-pub(crate) fn line_of(alloc: Global, table: &Table, line: &[u8]) -> Result<Instr, ToolFault>
+/// The instruction of a line, by the places of the labels.
+pub fn line_of(alloc: Global, table: &Table, line: &[u8]) -> Result<Instr, ToolFault>
     ensures { ReadsTool result (line_read (place_in table.now) line.now) }
 {
     let (_, rest) = label_parts(line);

@@ -18,8 +18,8 @@ pub struct Table {
 }
 
 impl Table {
-    // The place of a label.
-    pub(crate) fn find(&self, label: &[u8]) -> Result<usize, ToolFault>
+    /// The place of a label. Where no line has it, the fault is that the text is no tool.
+    pub fn find(&self, label: &[u8]) -> Result<usize, ToolFault>
         ensures { ReadsTool result (place_in self.now label.now) }
     {
         match self.by_label.get(label) {

@@ -20,7 +20,13 @@ mod tool;
 
 pub use bytes::{is_number, value_below};
 pub use fault::ToolFault;
+pub use instr::line_of;
+pub use labels::Table;
 pub use laws::one_tool;
 pub use limits::{MAX_EXIT, REGISTERS};
-pub use reading::read_tool;
+pub use lines::{cut, label_parts, says, skip_blanks, spoken};
+pub use op::{Op, op_of};
+pub use operands::{code_of, operand_of, register_of};
+pub use reading::{is_of_second, read_tool};
+pub use separating::texts_of;
 pub use tool::{Instr, Operand, Register, Tool};

@@ -23,8 +23,8 @@ fn place_of(text: &[u8], byte: u8) -> usize
     text.len()
 }
 
-// What precedes the first such byte of a text, and what follows it.
-pub(crate) fn cut(text: &[u8], byte: u8) -> (&[u8], &[u8])
+/// What precedes the first such byte of a text, and what follows it: all and nothing where it has none.
+pub fn cut(text: &[u8], byte: u8) -> (&[u8], &[u8])
     ensures before { result.0.now ≡ before_byte byte text.entry.now }
     ensures after { result.1.now ≡ after_byte byte text.entry.now }
 {
@@ -35,8 +35,8 @@ pub(crate) fn cut(text: &[u8], byte: u8) -> (&[u8], &[u8])
     }
 }
 
-// The label of a line, if it has one, and what follows the label and its `:`.
-pub(crate) fn label_parts(line: &[u8]) -> (Option<&[u8]>, &[u8])
+/// The label of a line, if it has one, and what follows the label and its `:`.
+pub fn label_parts(line: &[u8]) -> (Option<&[u8]>, &[u8])
     ensures label { option_copied result.0 ≡ label_read line.entry.now }
     ensures rest { result.1.now ≡ rest_of line.entry.now }
 {
@@ -48,8 +48,8 @@ pub(crate) fn label_parts(line: &[u8]) -> (Option<&[u8]>, &[u8])
     }
 }
 
-// A text without the spaces and tabs before it.
-pub(crate) fn skip_blanks(text: &[u8]) -> &[u8]
+/// A text without the spaces and tabs before it.
+pub fn skip_blanks(text: &[u8]) -> &[u8]
     ensures { result.now ≡ without_blanks text.entry.now }
 {
     let mut rest = text;
@@ -59,8 +59,8 @@ pub(crate) fn skip_blanks(text: &[u8]) -> &[u8]
     rest
 }
 
-// Whether a line says something: it is not empty and does not begin with `#`.
-fn says(line: &[u8]) -> bool
+/// Whether a line says something: it is not empty and does not begin with `#`.
+pub fn says(line: &[u8]) -> bool
     ensures { result ≡ says_something line.now }
 {
     match line.split_first() {
@@ -69,8 +69,8 @@ fn says(line: &[u8]) -> bool
     }
 }
 
-// The lines that say something.
-pub(crate) fn spoken<'a>(alloc: Global, lines: &[&'a [u8]]) -> Result<Vec<&'a [u8]>, AllocError>
+/// The lines that say something.
+pub fn spoken<'a>(alloc: Global, lines: &[&'a [u8]]) -> Result<Vec<&'a [u8]>, AllocError>
     ensures { IfOk result (λ spoken. texts_now spoken.items ≡ filter says_something (texts_now lines.now)) }
 {
     let mut spoken = Vec::new(alloc);

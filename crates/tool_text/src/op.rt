@@ -24,8 +24,8 @@ pub enum Op {
     Write,
 }
 
-// The operation that a word names.
-pub(crate) fn op_of(word: &[u8]) -> Option<Op>
+/// The operation that a word names.
+pub fn op_of(word: &[u8]) -> Option<Op>
     ensures { result ≡ op_named word.now }
 {
     match word {

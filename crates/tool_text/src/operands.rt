@@ -24,7 +24,8 @@ fn numbered(digits: &[u8]) -> Result<Register, ToolFault>
     }
 }
 
-pub(crate) fn register_of(text: &[u8]) -> Result<Register, ToolFault>
+/// The register that a text is.
+pub fn register_of(text: &[u8]) -> Result<Register, ToolFault>
     ensures { ReadsTool result (register_read text.now) }
 {
     match text.split_first() {
@@ -85,7 +86,8 @@ fn digits_text(alloc: Global, text: &[u8]) -> Result<Text, ToolFault>
     Ok(Text::new(alloc, Vec::from_slice(alloc, text)?)?)
 }
 
-pub(crate) fn operand_of(alloc: Global, text: &[u8]) -> Result<Operand, ToolFault>
+/// The value that a text is: a register, a string, or digits.
+pub fn operand_of(alloc: Global, text: &[u8]) -> Result<Operand, ToolFault>
     ensures { ReadsTool result (operand_read text.now) }
 {
     let Some((first, rest)) = text.split_first() else {
@@ -103,8 +105,8 @@ pub(crate) fn operand_of(alloc: Global, text: &[u8]) -> Result<Operand, ToolFaul
     Ok(Operand::Constant(digits_text(alloc, text)?))
 }
 
-// The exit code that digits write.
-pub(crate) fn code_of(text: &[u8]) -> Result<u8, ToolFault>
+/// The exit code that digits write.
+pub fn code_of(text: &[u8]) -> Result<u8, ToolFault>
     ensures { ReadsTool result (code_read text.now) }
 {
     if !is_digits(text) {

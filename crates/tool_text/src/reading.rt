@@ -28,8 +28,8 @@ fn tool_in(alloc: Global, lines: &[&[u8]]) -> Result<Tool, ToolFault>
     Ok(Tool::new(instrs))
 }
 
-// Whether an instruction stands in tools of the second version alone.
-fn is_of_second(instr: &Instr) -> bool
+/// Whether an instruction stands in tools of the second version alone.
+pub fn is_of_second(instr: &Instr) -> bool
     ensures { result ≡ of_second instr.now }
 {
     match instr {

@@ -68,8 +68,8 @@ fn trimmed(text: &[u8]) -> &[u8]
     rest
 }
 
-// The texts of the operands of a line, without the spaces around them.
-pub(crate) fn texts_of(alloc: Global, text: &[u8]) -> Result<Vec<&[u8]>, AllocError>
+/// The texts of the operands of a line, without the spaces around them.
+pub fn texts_of(alloc: Global, text: &[u8]) -> Result<Vec<&[u8]>, AllocError>
     ensures { IfOk result (λ texts. texts_now texts.items ≡ operand_texts text.entry.now) }
 {
     let mut texts = Vec::new(alloc);

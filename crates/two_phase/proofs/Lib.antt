@@ -1,5 +1,5 @@
 pub mod Used
-pub mod Fits
+pub mod FoundOutputs
 pub mod Fetched
 pub mod Outputs
 pub mod Tried

@@ -62,8 +62,8 @@ fn may_make_all(process: &ProcessDesc, outputs: &[OutputLine]) -> bool
     true
 }
 
-// Whether outputs, which rise by path, are what a process declares to make and may make.
-pub(crate) fn fits(process: &ProcessDesc, outputs: &[OutputLine]) -> bool
+/// Whether outputs, which rise by path, are what a process declares to make and may make.
+pub fn fits(process: &ProcessDesc, outputs: &[OutputLine]) -> bool
     requires { OutputsRise outputs.now }
     ensures { result ≡ all_fit process.now (output_paths outputs.now) }
 {

@@ -19,6 +19,7 @@ mod recording;
 mod saving;
 mod store_fault;
 
+pub use fitting::fits;
 pub use held::HeldContents;
 pub use laws::saves_stay_honest;
 pub use lookups::{LookupResult, lookup, lookup_by, lookup_with};

@@ -7,7 +7,7 @@ ghost use Rattle.memo_format.specs.Selectors.{read_selectors_text};
 ghost use Rattle.memo_format.specs.StoreNames.{at_entry, at_list};
 ghost use Rattle.prints.specs.Processes.{weak_parts};
 ghost use Rattle.prints.specs.Weak.{weak_text};
-ghost use Rattle.run_record.specs.Digests.{weak_of};
+ghost use Rattle.run_record.specs.Digests.{IsWeakOf, weak_of};
 ghost use Rattle.two_phase_meaning.specs.Saving.{IsGood, or_none, same_selector};
 ghost use Rattle.two_phase_meaning.specs.Saving.{with_first as first_of};
 ghost use Rattle.two_phase.specs.Applying.{Applies, AppliesAll, AppliesPrefix};
@@ -147,7 +147,7 @@ fn put_content<K: Keeper>(
         return Ok(());
     }
     put_bytes(alloc, keeper, &digest, content.bytes())?;
-    held.note(alloc, &digest, content);
+    held.note(&digest, content);
     Ok(())
 }
 
@@ -318,7 +318,17 @@ pub fn keep_with<K: Keeper>(
     }
 }
 
-/// The same for a record whose weak text is written and hashed here.
+// The weak text of the process of a record: the one that came with it, or else written and hashed here.
+fn weak_with(alloc: Global, ran: &Record) -> Result<Printed, AllocError>
+    ensures { IfOk result (IsWeakOf ran.now.desc) }
+{
+    match ran.weak() {
+        Some(weak) => weak.copy(alloc),
+        None => weak(alloc, ran.desc()),
+    }
+}
+
+/// The same with the weak text that came with the record; where none did, it is written and hashed here.
 pub fn keep<K: Keeper>(
     alloc: Global,
     keeper: &mut K,
@@ -333,7 +343,7 @@ pub fn keep<K: Keeper>(
     ensures keeper { KeeperCall (K.bound keeper.old) (K.bound keeper.new) (K.faults keeper.old)
         (K.faults keeper.new) (result ≡ SaveResult.Fault) }
 {
-    match weak(alloc, ran.desc()) {
+    match weak_with(alloc, ran) {
         Ok(printed) => keep_with(alloc, keeper, held, ran, printed),
         Err(_) => SaveResult::Memory,
     }

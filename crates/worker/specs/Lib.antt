@@ -1,3 +1,4 @@
 pub mod Workers
 pub mod Ended
 pub mod Steps
+pub mod Looking

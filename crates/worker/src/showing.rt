@@ -1,6 +1,7 @@
 //! What a worker shows of a pip: what the cache has for it, or its run. Nothing here needs the board.
 ghost use Rattle.std.specs.Prelude.{◌≡◌, ◌<◌, ◌↔◌, IfOk, IfSome, IsSome, length, slice_get, true};
-ghost use Rattle.memo_format.specs.Found.{IsFoundFor};
+ghost use Rattle.run_record.specs.Digests.{IsWeakOf};
+ghost use Rattle.worker.specs.Looking.{IsLooked};
 ghost use Rattle.pip_view_inputs.specs.Plain.{process_in};
 ghost use Rattle.sched_board.specs.Publishing.{fits_kind};
 ghost use Rattle.worker.specs.Steps.{HasPip};
@@ -14,11 +15,19 @@ use observed::View;
 use pip_model::{Desc, Plan, Sources};
 use pip_view::PipView;
 use pip_view_inputs::{Inputs, desc, plain, process_at};
-use run_record::execute_with;
+use prints::{Printed, weak};
+use run_record::{Record, execute_with};
 use sched_board::Shown;
 use std::alloc::{AllocError, Global};
 use std::sync::ledger::Ledger;
-use two_phase::{LookupResult, lookup_with};
+use two_phase::{LookupResult, lookup_by};
+
+// What a lookup came to. Where it found nothing, the weak text that it was by, if there was a cache.
+#[derive(Drop)]
+enum Looked {
+    Hit(Found),
+    Nothing(Option<Printed>),
+}
 
 // What a worker works with.
 #[derive(Clone, Copy)]
@@ -44,22 +53,42 @@ impl<R: KeepReader, L: Ledger, E: Ledger> Worker<R, L, E> {
         alloc: Global,
         desc: &Desc,
         view: &mut V,
-    ) -> Result<Option<Found>, Memory>
-        ensures found { IfOk result (λ found. IfSome found (λ f. IsFoundFor f desc.now)) }
+    ) -> Result<Looked, Memory>
+        ensures looked { IfOk result (IsLooked desc.now) }
         ensures meaning { V.answers view.new ≡ V.answers view.old }
         ensures goes { GoesOn self.old self.new }
     {
         let Some(reader) = &mut self.reader else {
-            return Ok(None);
+            return Ok(Looked::Nothing(None));
         };
-        match lookup_with(alloc, reader, &mut self.sets, desc, view) {
-            LookupResult::Hit(found) => Ok(Some(found)),
-            LookupResult::Miss => Ok(None),
+        let weak = weak(alloc, desc)?;
+        match lookup_by(alloc, reader, &mut self.sets, desc, &weak.digest, view) {
+            LookupResult::Hit(found) => Ok(Looked::Hit(found)),
+            LookupResult::Miss => Ok(Looked::Nothing(Some(weak))),
             LookupResult::Fault => {
                 self.tally.faults = self.tally.faults.saturating_add(1);
-                Ok(None)
+                Ok(Looked::Nothing(Some(weak)))
             }
             LookupResult::Memory => Err(AllocError),
+        }
+    }
+
+    // The run of a process on a view, with the weak text of its lookup.
+    fn ran<V: View, G: Gate>(
+        &mut self,
+        site: &Site<'_, G>,
+        desc: Desc,
+        pip: u32,
+        view: &mut V,
+        weak: Option<Printed>,
+    ) -> Result<Record, Memory>
+        requires { IfSome weak (IsWeakOf desc) }
+        ensures goes { GoesOn self.old self.new }
+    {
+        let ran = execute_with(site.alloc, &mut self.tools, desc, pip, view, site.gate)?;
+        match weak {
+            Some(weak) => ran.with_weak(site.alloc, weak),
+            None => Ok(ran),
         }
     }
 
@@ -77,18 +106,13 @@ impl<R: KeepReader, L: Ledger, E: Ledger> Worker<R, L, E> {
     {
         let described = desc(site.alloc, site.plan, site.sources, pip, inputs)?;
         let mut view = PipView::new(site.alloc, site.plan, site.sources, pip, inputs)?;
-        if let Some(found) = self.look_up(site.alloc, &described, &mut view)? {
-            return Ok(Shown::Hit(found.for_work(site.alloc, described)?));
+        match self.look_up(site.alloc, &described, &mut view)? {
+            Looked::Hit(found) => Ok(Shown::Hit(found.for_work(site.alloc, described)?)),
+            Looked::Nothing(weak) => {
+                let ran = self.ran(site, described, pip, &mut view, weak)?;
+                Ok(Shown::Ran(ran))
+            }
         }
-        let ran = execute_with(
-            site.alloc,
-            &mut self.tools,
-            described,
-            pip,
-            &mut view,
-            site.gate,
-        )?;
-        Ok(Shown::Ran(ran))
     }
 
     // What a pip comes to, where its inputs made these files.

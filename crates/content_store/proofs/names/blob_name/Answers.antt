@@ -5,5 +5,5 @@ use Rattle.content_store.proofs.names.blob_name.Goals as goal
 
 pub returns-clause-is_name : goal.returns-clause-is_name
 returns-clause-is_name c =
-    subst IsName (sym (c.in_ok-name.ensures.ok ∙ ap (λ (hex : List ℕ). 98 ∷ 47 ∷ hex) c.in_ok-hex.ensures))
+    subst IsName (sym c.in_ok-name.ensures)
     (name_is 98 c.args.digest.now (inl refl) c.bytes-bytes.ensures.is_digest)

@@ -5,5 +5,5 @@ use Rattle.content_store.proofs.names.entry_name.Goals as goal
 
 pub returns-clause-is_name : goal.returns-clause-is_name
 returns-clause-is_name c =
-    subst IsName (sym (c.in_ok-name.ensures.ok ∙ ap (λ (hex : List ℕ). 101 ∷ 47 ∷ hex) c.in_ok-hex.ensures))
+    subst IsName (sym c.in_ok-name.ensures)
     (name_is 101 c.args.strong.now (inr (inr refl)) c.bytes-bytes.ensures.is_digest)

@@ -22,6 +22,8 @@ use Rattle.retire.specs.Saving.{IsSuccess}
 use Rattle.retire.specs.declared.deciding.Ways.{Ways}
 use Rattle.retire.proofs.Counts.{count_at_most, count_few, counted_at, counted_sum, good_at, none_counted, ran_more}
 use Rattle.retire.proofs.Following.{are_accepted, counts_all, counts_as, counts_more, counts_none, counts_over, follows_all, follows_as, follows_more, follows_none, keeps_as, keeps_more, keeps_none, records_all}
+use Rattle.retire.specs.Counting.{one_accepted, one_fault, one_miss}
+use Rattle.retire.proofs.GoingOver.{over_all, over_as, over_more, over_none}
 use Rattle.retire.proofs.Placed.{kept_next}
 use Rattle.retire.proofs.SettledSlots.{missed_none, settled_right}
 use Rattle.retire.proofs.Slots.{front_is, no_numbers, rest_is}
@@ -50,6 +52,9 @@ pips-init g c =
       keeps = λ S told fair.
           keeps_as pips tree budget c.args.finished.items S 0 [] d.verdicts.items [] d.slots.items [] d.accepted.items [] d.records.items 0 d.ways.hits 0 d.ways.missed 0 d.ways.faulted
           no_vs no_ss no_marks no_fs hits missed faulted (keeps_none pips tree budget c.args.finished.items S [] [] [] [] refl refl refl refl);
+      over = λ S told no.
+          over_as pips tree budget S c.args.finished.items 0 [] d.verdicts.items [] d.slots.items 0 (d.ways.accepted + d.ways.missed) no_vs no_ss (omega (arith, accepted, missed))
+          (over_none pips tree budget S c.args.finished.items);
       settled = λ S over held. missed;
       verdicts_long = ap length no_vs;
       slots_long = ap length no_ss;
@@ -120,6 +125,14 @@ pips-preserved g c =
           (keeps_more pips tree budget held n d.verdicts.items d.slots.items d.accepted.items (inv.follows right_then) now right next within
           c.in_ok-next.ensures.agrees (slice_get pips n) refl decides S told d.records.items d.ways.hits d.ways.missed d.ways.faulted
           (inv.keeps S (told_before before now _ S reads told) fair));
+      over = λ S told no.
+          let none : d.ways.faulted ≡ 0 = let sum = add.faulted in omega (arith, sum, no) in
+          let none_here : one_fault next.way ≡ 0 = let sum = add.faulted in omega (arith, sum, no) in
+          over_as pips tree budget S held (n + 1) _ done.verdicts.items _ done.slots.items (d.ways.accepted + one_accepted next.way + (d.ways.missed + one_miss next.way))
+          (done.ways.accepted + done.ways.missed) add.verdicts add.slots
+          (let one = add.accepted_count in let two = add.missed in omega (arith, one, two))
+          (over_more pips tree budget S held n d.verdicts.items d.slots.items d.ways.accepted d.ways.missed
+          (inv.over S (told_before before now _ S reads told) none) within now told next c.in_ok-next.ensures.agrees (slice_get pips n) refl decides none_here);
       settled = λ S over given.
           let list = c.pips-pips.ensures.list in
           let some_now : is_some now ≡ is_some c.decide.new.reader = some_mapped (λ r. reader_data (g.R.KeepReader.held r) (g.R.KeepReader.bound r) (g.R.KeepReader.faults r)) c.decide.new.reader in
@@ -176,6 +189,18 @@ returns-clause-alone g c =
       counts_all pips tree budget held c.pips.number d.verdicts.items d.slots.items d.accepted.items so past d.ways.hits d.ways.missed d.ways.faulted zero
           (c.pips.invariant.alone no_reader),
     )
+
+pub returns-clause-over : goal.returns-clause-over
+returns-clause-over g c =
+    λ S told some no.
+    let pips = c.args.frame.now.plan.now.pips in
+    let tree = c.args.frame.now.sources.now in
+    let budget = c.args.frame.now.plan.now.tool_budget in
+    let held = c.args.finished.items in
+    let d = c.pips.decided in
+    let past = subst (λ (ps : List Pip). length ps ≤ c.pips.number) c.pips-pips.ensures.pips c.pips-test.false in
+    let tells : IsTold (option_map (λ r. reader_data (g.R.KeepReader.held r) (g.R.KeepReader.bound r) (g.R.KeepReader.faults r)) c.pips.reader) S = told_of (option_map (λ r. reader_data (g.R.KeepReader.held r) (g.R.KeepReader.bound r) (g.R.KeepReader.faults r)) c.pips.reader) S told (some_mapped (λ r. reader_data (g.R.KeepReader.held r) (g.R.KeepReader.bound r) (g.R.KeepReader.faults r)) c.pips.reader ∙ some) in
+    over_all pips tree budget S held c.pips.number d.verdicts.items d.slots.items (d.ways.accepted + d.ways.missed) (c.pips.invariant.over S tells no) past
 
 pub returns-clause-follows : goal.returns-clause-follows
 returns-clause-follows g c =

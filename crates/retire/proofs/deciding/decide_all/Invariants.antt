@@ -12,6 +12,7 @@ use Rattle.retire.specs.Builds.{IsFair}
 use Rattle.retire.specs.Saving.{IsSuccess}
 use Rattle.retire.specs.Settled.{IsSettledOver}
 use Rattle.retire.proofs.Following.{CountsTo, FollowsTo, KeepsTo}
+use Rattle.retire.proofs.GoingOver.{GoesOver}
 use Rattle.retire.proofs.Told.{IsRight, IsTold}
 use Rattle.retire.proofs.deciding.decide_all.Given as goal
 
@@ -28,6 +29,11 @@ invariant-pips g l = record {
       → IsFair l.fn.frame.plan.now.pips l.fn.frame.sources.now l.fn.frame.plan.now.tool_budget S
       → KeepsTo l.fn.frame.plan.now.pips l.fn.frame.sources.now l.fn.frame.plan.now.tool_budget l.fn.finished.items S l.number l.decided.verdicts.items l.decided.slots.items
       l.decided.accepted.items l.decided.records.items l.decided.ways.hits l.decided.ways.missed l.decided.ways.faulted;
+  over : (S : Holdings)
+      → IsTold (option_map (λ r. reader_data (g.R.KeepReader.held r) (g.R.KeepReader.bound r) (g.R.KeepReader.faults r)) l.reader) S
+      → l.decided.ways.faulted ≡ 0
+      → GoesOver l.fn.frame.plan.now.pips l.fn.frame.sources.now l.fn.frame.plan.now.tool_budget S l.fn.finished.items l.number l.decided.verdicts.items
+      l.decided.slots.items (l.decided.ways.accepted + l.decided.ways.missed);
   settled : (S : Holdings) → IsSettledOver l.fn.frame.plan.now l.fn.frame.sources.now S (is_some l.reader) l.fn.finished.items
       → IfSome (option_map (λ r. reader_data (g.R.KeepReader.held r) (g.R.KeepReader.bound r) (g.R.KeepReader.faults r)) l.reader) (λ r. r.held ≡ Some S)
       → l.decided.ways.missed ≡ 0;

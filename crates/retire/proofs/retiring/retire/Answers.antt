@@ -1,4 +1,4 @@
-use Rattle.std.proofs.Common.{◌≡◌, ◌∙◌, Option, ap, arith, length, refl, subst, sym}
+use Rattle.std.proofs.Common.{◌≡◌, ◌+◌, ◌∙◌, Option, ap, arith, length, refl, subst, sym}
 use Rattle.std.specs.Prelude.{IfSome, IsSome, Some, is_some, option_map}
 use Rattle.std.specs.List.{AllByRecursion}
 use Rattle.bx_io.specs.Holdings.{Holdings, Keeps}
@@ -75,6 +75,26 @@ returns-clause-within g c =
     within_by c.args.plan.now.pips c.args.sources.now c.args.plan.now.tool_budget S c.in_ok-decided.decided.verdicts.items c.in_ok-decided.decided.accepted.items
     c.in_ok-decided.decided.ways.hits c.in_ok-decided.decided.ways.missed c.in_ok-decided.decided.ways.faulted c.in_ok-decided.decided.ways.accepted _ _ _ c.in_ok-failed.failed
     follows.0.verdicts_are c.in_ok-decided.ensures.counted (λ numbers set. follows.3 numbers set) c.tally_of.ensures.hits c.tally_of.ensures.late c.tally_of.ensures.faults
+
+pub returns-clause-over : goal.returns-clause-over
+returns-clause-over g c =
+    λ used S is tells no.
+    let first : Option ReaderData = option_map (λ r. reader_data (g.K.Reader.KeepReader.held r.reader) (g.K.Reader.KeepReader.bound r.reader) (g.K.Reader.KeepReader.faults r.reader)) c.in_ok-reader.reader in
+    let last : Option ReaderData = option_map (λ r. reader_data (g.K.Reader.KeepReader.held r.reader) (g.K.Reader.KeepReader.bound r.reader) (g.K.Reader.KeepReader.faults r.reader)) c.decide_all.new.reader in
+    let start = g.K.Keeper.known c.args.keeper.now in
+    let closed = g.K.Keeper.known c.close_if.new.keeper in
+    let saved = g.K.Keeper.known c.save_if.new.keeper in
+    let ways = c.in_ok-decided.decided.ways in
+    let tells_of = told_to_end start.held closed.held (g.K.Keeper.bound c.args.keeper.now) first last ways.faulted c.args.cached in
+    let there : is_some first ≡ c.args.cached = some_mapped (λ r. reader_data (g.K.Reader.KeepReader.held r.reader) (g.K.Reader.KeepReader.bound r.reader) (g.K.Reader.KeepReader.faults r.reader)) c.in_ok-reader.reader ∙ c.in_ok-reader.ensures.some in
+    let begun = mapped (λ r. reader_data (g.K.Reader.KeepReader.held r.reader) (g.K.Reader.KeepReader.bound r.reader) (g.K.Reader.KeepReader.faults r.reader)) (IsBegun start.held (g.K.Keeper.bound c.args.keeper.now)) c.in_ok-reader.reader c.in_ok-reader.ensures.reader in
+    let told = λ (some : IsSome closed.held). mapped (λ r. reader_data (g.K.Reader.KeepReader.held r.reader) (g.K.Reader.KeepReader.bound r.reader) (g.K.Reader.KeepReader.faults r.reader)) (λ r. IsSome r.held) c.decide_all.new.reader (c.close_if.ensures.reader some) in
+    let tells_closed : IsSome closed.held = first_told closed saved c.as_slice-2.result.now c.save_if.ensures.first tells in
+    let last_told : IsTold last S = tells_of S is used there begun c.in_ok-decided.ensures.reader told tells_closed in
+    let tally = c.tally_of.ensures in
+    let none : ways.faulted ≡ 0 = omega (arith, tally.faults, no) in
+    let over = c.in_ok-decided.ensures.over S (told_some last S last_told) (sym (some_mapped (λ r. reader_data (g.K.Reader.KeepReader.held r.reader) (g.K.Reader.KeepReader.bound r.reader) (g.K.Reader.KeepReader.faults r.reader)) c.decide_all.new.reader) ∙ told_there last S last_told) none in
+    (over.0, over.1, over.2 ∙ (let same : ways.accepted + ways.missed ≡ c.tally_of.result.ran = omega (arith, tally.ran, none) in same))
 
 pub returns-clause-alone : goal.returns-clause-alone
 returns-clause-alone g c =

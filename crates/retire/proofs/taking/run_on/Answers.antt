@@ -2,7 +2,7 @@ use Rattle.std.proofs.Common.{subst, sym}
 use Rattle.std.specs.Prelude.{IfSome}
 use Rattle.pip_model_types.specs.declared.desc.Desc.{Desc}
 use Rattle.run_record.specs.Facts.{Facts, IsRun, Sound}
-use Rattle.retire.specs.Saving.{IsWeakOf}
+use Rattle.run_record.specs.Digests.{IsWeakOf}
 use Rattle.retire.proofs.taking.run_on.Goals as goal
 
 pub of-requires : goal.of-requires

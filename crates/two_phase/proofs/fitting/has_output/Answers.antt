@@ -3,7 +3,7 @@ use Rattle.std.proofs.lemmas.Fn.{always_returns_same}
 use Rattle.bx_tree.specs.Paths.{path_cmp}
 use Rattle.memo_format.specs.declared.entry.OutputLine.{OutputLine}
 use Rattle.pip_model_types.proofs.Placed.{place_from_search}
-use Rattle.two_phase.proofs.Fits.{output_found}
+use Rattle.two_phase.proofs.FoundOutputs.{output_found}
 use Rattle.two_phase.proofs.fitting.has_output.Goals as goal
 
 pub returns : goal.returns

@@ -1,9 +1,4 @@
-use Rattle.std.proofs.Common.{ap, ◌∙◌}
-use Rattle.sha2.specs.Sha256.{sha256}
 use Rattle.bx_io.proofs.Changes.{keeps_all}
-use Rattle.pip_model_types.specs.declared.desc.Desc.{Desc}
-use Rattle.prints.specs.Processes.{weak_parts}
-use Rattle.prints.specs.Weak.{weak_text}
 use Rattle.two_phase.proofs.Prefixes.{nothing_put}
 use Rattle.two_phase.proofs.saving.keep.Goals as goal
 
@@ -12,8 +7,7 @@ returns-in-Err-clause-first g c =
     nothing_put (g.K.Keeper.known c.args.keeper.now) (g.K.Keeper.known c.args.keeper.now) c.args.ran.now (keeps_all (g.K.Keeper.known c.args.keeper.now))
 
 pub keep_with-requires-clause-text : goal.keep_with-requires-clause-text
-keep_with-requires-clause-text g c = λ κs live. c.in-Ok.ensures.text ∙ ap (λ (d : Desc). weak_text (weak_parts d)) c.desc.ensures.value
+keep_with-requires-clause-text g c = λ κs live. c.in-Ok.ensures.text
 
 pub keep_with-requires-clause-digest : goal.keep_with-requires-clause-digest
-keep_with-requires-clause-digest g c = λ κs live.
-    c.in-Ok.ensures.digest ∙ ap sha256 (c.in-Ok.ensures.text ∙ ap (λ (d : Desc). weak_text (weak_parts d)) c.desc.ensures.value)
+keep_with-requires-clause-digest g c = λ κs live. c.in-Ok.ensures.digest

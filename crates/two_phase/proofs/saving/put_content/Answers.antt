@@ -4,7 +4,7 @@ use Rattle.two_phase.proofs.saving.put_content.Goals as goal
 
 pub returns-then-has-clause-made : goal.returns-then-has-clause-made
 returns-then-has-clause-made g c =
-    left_out (g.K.Keeper.known c.args.keeper.now) c.args.held.now c.digest-digest.result c.args.content.now c.requires (c.if-has.ensures refl)
+    left_out (g.K.Keeper.known c.args.keeper.now) c.args.held.now _ c.args.content.now c.requires (c.if-has.ensures refl)
 
 pub returns-clause-held : goal.returns-clause-held
 returns-clause-held g c =
