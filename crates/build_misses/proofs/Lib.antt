@@ -1,0 +1,4 @@
+pub mod Fair
+pub mod TheRest
+pub mod Going
+pub mod Decisions

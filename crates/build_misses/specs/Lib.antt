@@ -1,0 +1,3 @@
+pub mod Reasoned
+pub mod MissSet
+pub mod Going

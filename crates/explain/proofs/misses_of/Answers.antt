@@ -1,0 +1,5 @@
+use Rattle.bx_io_system.proofs.Telling.{none_named}
+use Rattle.explain.proofs.misses_of.Goals as goal
+
+pub ask-requires : goal.ask-requires
+ask-requires g c = none_named

@@ -1,0 +1,3 @@
+pub mod AllEdges
+pub mod AllNodes
+pub mod LayersOf

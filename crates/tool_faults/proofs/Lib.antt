@@ -1,0 +1,4 @@
+pub mod Exact
+pub mod FirstPlaces
+pub mod LinesFrom
+pub mod WasRead
