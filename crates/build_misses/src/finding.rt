@@ -1,11 +1,13 @@
 //! Going through a build without saving anything.
-ghost use Rattle.std.specs.Prelude.{◌≡◌, ◌++◌, ◌<◌, ◌≤◌, ℕ, Err, IfOk, IfSome, IsSome, OnOk, Some, is_some, length, map, slice_get, take};
+ghost use Rattle.std.specs.Prelude.{◌≡◌, ◌≢◌, ◌++◌, ◌∷◌, ◌<◌, ◌≤◌, [], ℕ, Err, IfOk, IfSome, IsSome, List, Ok, OnOk, Some, is_some, length, map, slice_get, take};
 ghost use Rattle.bx_io.specs.Holdings.{Holdings};
+ghost use Rattle.bx_tree.specs.Paths.{Atoms};
 ghost use Rattle.two_phase.specs.Calls.{ReaderCall};
 ghost use Rattle.pip_model_types.specs.declared.pip.ProcessDesc.{ProcessDesc as AnyProcess};
 ghost use Rattle.pip_view_inputs.specs.Plain.{desc_of, process_in};
 ghost use Rattle.pip_view.specs.Sees.{sees};
 ghost use Rattle.violations.specs.Slots.{slot_files};
+ghost use Rattle.violations.specs.DoubleWrites.{outdirs_in, shared_paths};
 ghost use Rattle.one_thread.specs.OneThread.{by_outcome};
 ghost use Rattle.one_thread.specs.Shared.{KeepsShared, all_shared};
 ghost use Rattle.one_thread.specs.Views.{Agrees, ended_result};
@@ -25,6 +27,7 @@ use one_thread::{Frame, PipResult, SharedFiles, Started, after_outcome, after_su
 use pip_model::{Plan, Slot, Sources};
 use pip_view::Inputs;
 use std::alloc::Global;
+use violations::Verdict;
 
 /// A process that would run, and why.
 #[derive(Drop)]
@@ -38,6 +41,15 @@ pub struct Miss {
 struct Next {
     ended: PipResult,
     reason: Option<Reason>,
+}
+
+// What the pips so far came to, what they made in shared directories, and which of them run.
+#[derive(Drop)]
+struct Gone {
+    verdicts: Vec<Verdict>,
+    slots: Vec<Slot>,
+    shared: SharedFiles,
+    misses: Vec<Miss>,
 }
 
 // What a process comes to by what it takes.
@@ -62,7 +74,8 @@ fn process_result<G: Gate>(
     }
 }
 
-fn next_of(ended: PipResult, taken: Taken) -> Next
+// That with the reason.
+fn with_reason(ended: PipResult, taken: Taken) -> Next
     ensures ended { result.ended ≡ ended }
     ensures reason { result.reason ≡ reason_in taken }
 {
@@ -75,6 +88,17 @@ fn next_of(ended: PipResult, taken: Taken) -> Next
             ended,
             reason: Some(reason),
         },
+    }
+}
+
+fn next_of(ended: Result<PipResult, Memory>, taken: Taken) -> Result<Next, ReadFault>
+    ensures ended { IfOk result (λ next. ended ≡ Ok next.ended) }
+    ensures reason { IfOk result (λ next. next.reason ≡ reason_in taken) }
+    ensures no_fault { result ≢ Err ReadFault.Failed }
+{
+    match ended {
+        Ok(ended) => Ok(with_reason(ended, taken)),
+        Err(_) => Err(ReadFault::Memory),
     }
 }
 
@@ -108,8 +132,8 @@ fn go_process<R: KeepReader, G: Gate>(
         (R.faults reader.old) (R.faults reader.new) (result ≡ Err ReadFault.Failed) }
 {
     let taken = taken_for(frame, reader, known, pip, inputs)?;
-    let ended = process_result(frame, pip, slots, shared, &taken)?;
-    Ok(next_of(ended, taken))
+    let ended = process_result(frame, pip, slots, shared, &taken);
+    next_of(ended, taken)
 }
 
 // What a pip comes to over what the reader holds.
@@ -153,6 +177,67 @@ fn add_miss(misses: &mut Vec<Miss>, pip: u32, reason: Option<Reason>) -> Result<
     Ok(())
 }
 
+impl Gone {
+    // No pips.
+    fn none(alloc: Global) -> Gone
+        ensures verdicts { result.verdicts.items ≡ [] }
+        ensures slots { result.slots.items ≡ [] }
+        ensures shared { KeepsShared result.shared.files result.shared.dirs [] }
+        ensures misses { result.misses.items ≡ [] }
+    {
+        Gone {
+            verdicts: Vec::new(alloc),
+            slots: Vec::new(alloc),
+            shared: SharedFiles::new(alloc),
+            misses: Vec::new(alloc),
+        }
+    }
+
+    // What one more pip came to, with this number.
+    fn add_ended(
+        &mut self,
+        alloc: Global,
+        plan: &Plan,
+        pip: u32,
+        ended: PipResult,
+    ) -> Result<(), Memory>
+        ensures verdicts { OnOk result (self.new.verdicts.items ≡ self.old.verdicts.items ++ ended.verdict ∷ []) }
+        ensures slots { OnOk result (self.new.slots.items ≡ self.old.slots.items ++ ended.slot ∷ []) }
+        ensures shared { OnOk result ((paths : List Atoms) → KeepsShared self.old.shared.files self.old.shared.dirs paths
+            → KeepsShared self.new.shared.files self.new.shared.dirs
+            (paths ++ shared_paths (outdirs_in (slice_get plan.now.pips pip)) (slot_files ended.slot))) }
+        ensures misses { self.new.misses ≡ self.old.misses }
+    {
+        let PipResult { verdict, slot } = ended;
+        self.shared.add_slot(alloc, plan, pip, &slot)?;
+        self.verdicts.push(verdict)?;
+        self.slots.push(slot)?;
+        Ok(())
+    }
+
+    // One more pip, with this number.
+    fn add(&mut self, alloc: Global, plan: &Plan, pip: u32, next: Next) -> Result<(), Memory>
+        ensures verdicts { OnOk result (self.new.verdicts.items ≡ self.old.verdicts.items ++ next.ended.verdict ∷ []) }
+        ensures slots { OnOk result (self.new.slots.items ≡ self.old.slots.items ++ next.ended.slot ∷ []) }
+        ensures shared { OnOk result ((paths : List Atoms) → KeepsShared self.old.shared.files self.old.shared.dirs paths
+            → KeepsShared self.new.shared.files self.new.shared.dirs
+            (paths ++ shared_paths (outdirs_in (slice_get plan.now.pips pip)) (slot_files next.ended.slot))) }
+        ensures misses { OnOk result (self.new.misses.items ≡ self.old.misses.items ++ miss_if next.reason pip) }
+    {
+        let Next { ended, reason } = next;
+        add_miss(&mut self.misses, pip, reason)?;
+        self.add_ended(alloc, plan, pip, ended)
+    }
+
+    // Those that run.
+    fn into_misses(self) -> Vec<Miss>
+        ensures { result.items ≡ self.misses.items }
+    {
+        let Gone { misses, .. } = self;
+        misses
+    }
+}
+
 // Goes through all pips, one after another.
 fn go_through<R: KeepReader, G: Gate>(
     frame: &Frame<'_, G>,
@@ -165,20 +250,14 @@ fn go_through<R: KeepReader, G: Gate>(
         (R.faults reader.old) (R.faults reader.new) (result ≡ Err ReadFault.Failed) }
 {
     let pips = frame.plan.pips();
-    let mut verdicts = Vec::new(frame.alloc);
-    let mut slots = Vec::new(frame.alloc);
-    let mut shared = SharedFiles::new(frame.alloc);
-    let mut misses = Vec::new(frame.alloc);
+    let mut gone = Gone::none(frame.alloc);
     'pips: for number in 0..pips.len() {
         let pip = number as u32;
-        let next = go_on(frame, reader, known, pip, slots.as_slice(), &shared)?;
-        shared.add_slot(frame.alloc, frame.plan, pip, &next.ended.slot)?;
-        let Next { ended, reason } = next;
-        verdicts.push(ended.verdict)?;
-        slots.push(ended.slot)?;
-        add_miss(&mut misses, pip, reason)?;
+        let slots = gone.slots.as_slice();
+        let next = go_on(frame, reader, known, pip, slots, &gone.shared)?;
+        gone.add(frame.alloc, frame.plan, pip, next)?;
     }
-    Ok(misses)
+    Ok(gone.into_misses())
 }
 
 /// The processes that the next build of this plan over what the reader holds would run, by number, and why. Nothing is

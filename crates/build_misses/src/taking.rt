@@ -1,11 +1,12 @@
 //! What a process comes to over a store: what is usable for it, or else its run, with the reason.
-ghost use Rattle.std.specs.Prelude.{◌≡◌, ◌<◌, Err, IfOk, IfSome, IsSome, Some, is_some, length, slice_get};
+ghost use Rattle.std.specs.Prelude.{◌≡◌, ◌≢◌, ◌<◌, Err, IfOk, IfSome, IsSome, Some, is_some, length, slice_get};
 ghost use Rattle.bx_io.specs.Holdings.{Holdings};
 ghost use Rattle.pip_model_types.specs.declared.pip.ProcessDesc.{ProcessDesc as AnyProcess};
 ghost use Rattle.pip_view_inputs.specs.Plain.{desc_of, process_in};
 ghost use Rattle.pip_view.specs.Sees.{sees};
 ghost use Rattle.two_phase_meaning.specs.Usable.{Usable};
 ghost use Rattle.two_phase.specs.Calls.{ReaderCall};
+ghost use Rattle.one_thread.specs.OneThread.{ran as run_of};
 ghost use Rattle.build_misses.specs.Going.{outcome_in, reason_in};
 ghost use Rattle.retire.specs.Over.{TakesOver, no_slot};
 ghost use Rattle.build_misses.specs.Reasoned.{WhyAt};
@@ -29,6 +30,24 @@ pub(crate) enum Taken {
     Missed(Record, Reason),
 }
 
+// The run of a process with the reason.
+fn run_for<V: View, G: Gate>(
+    frame: &Frame<'_, G>,
+    pip: u32,
+    desc: Desc,
+    view: &mut V,
+    reason: Reason,
+) -> Result<Taken, ReadFault>
+    ensures outcome { IfOk result (λ taken. outcome_in taken ≡ run_of desc (V.answers view.old)) }
+    ensures reason { IfOk result (λ taken. reason_in taken ≡ Some reason) }
+    ensures no_fault { result ≢ Err ReadFault.Failed }
+{
+    match execute(frame.alloc, desc, pip, view, frame.gate) {
+        Ok(ran) => Ok(Taken::Missed(ran, reason)),
+        Err(_) => Err(ReadFault::Memory),
+    }
+}
+
 // The run of a process for which nothing is usable, and why.
 fn missed<R: KeepReader, V: View, G: Gate>(
     frame: &Frame<'_, G>,
@@ -47,8 +66,7 @@ fn missed<R: KeepReader, V: View, G: Gate>(
         (R.faults reader.old) (R.faults reader.new) (result ≡ Err ReadFault.Failed) }
 {
     let reason = reason_of(frame.alloc, reader, known, &desc, view)?;
-    let ran = execute(frame.alloc, desc, pip, view, frame.gate)?;
-    Ok(Taken::Missed(ran, reason))
+    run_for(frame, pip, desc, view, reason)
 }
 
 // What a process takes on a view: a cached result, or else its run.

@@ -182,7 +182,7 @@ build_no_other order other no_build builds same = no_build (subst IsBuild same b
 
 -- no order to build is one to care for the store
 pub build_no_care : (order : Order) → IsBuild order → IsCare order → ⊥
-build_no_care (Build workers cached eval_budget tool_budget) build care = care
+build_no_care (Build workers cached eval_budget tool_budget types) build care = care
 build_no_care Check build care = build
 build_no_care Repair build care = build
 build_no_care (Trim keep) build care = build

@@ -1,5 +1,5 @@
 -- What a whole call comes to: its status, and what it writes to `out`.
-use Rattle.std.specs.Prelude.{◌≡◌, ℕ, List, ◌⊎◌}
+use Rattle.std.specs.Prelude.{◌≡◌, ℕ, false, List, ◌⊎◌}
 use Rattle.bx_engine_front.specs.declared.limits.Limits.{Limits}
 use Rattle.bx_io.specs.Causes.{Rose}
 use Rattle.bx_engine_words.specs.declared.order.Order.{Order}
@@ -19,13 +19,14 @@ pub record IsExpected (limits : Limits) (input : List ℕ) (status : Status) (by
 
 -- no steps, where nothing is built
 abbrev pub no_steps : Limits
-no_steps = record { eval_budget = 0; tool_budget = 0 }
+no_steps = record { eval_budget = 0; tool_budget = 0; types = false }
 
--- the steps that an order allows a build; nothing else of it changes what is built
+-- the steps that an order allows a build, and whether it asks for its types; nothing else of it changes what is built
 abbrev pub limits_of : Order → Limits
-limits_of (Build workers cached eval_budget tool_budget) = record {
+limits_of (Build workers cached eval_budget tool_budget types) = record {
   eval_budget = eval_budget;
   tool_budget = tool_budget;
+  types = types;
 }
 limits_of Check = no_steps
 limits_of Repair = no_steps

@@ -14,7 +14,7 @@ use Rattle.bx_engine.specs.Expected.{limits_of}
 
 -- whether the order lets the call use the store
 abbrev pub uses_store : Order → Bool
-uses_store (Build workers cached eval_budget tool_budget) = cached
+uses_store (Build workers cached eval_budget tool_budget types) = cached
 uses_store Check = true
 uses_store Repair = true
 uses_store (Trim keep) = true

@@ -1,4 +1,5 @@
-//! How much of the source a build reads, how long it may run, with how many workers, and whether it uses the store.
+//! How much of the source a build reads, how long it may run, with how many workers, whether types are checked, and whether the
+//! store is used.
 
 ghost use Rattle.std.specs.Prelude.{◌≡◌};
 ghost use Rattle.bx_engine.specs.Expected.{limits_of as limits_of_order};
@@ -16,7 +17,7 @@ pub const READ_LIMIT: usize = MAX_BUNDLE_BYTES + 1;
 /// How many bytes a build asks the source for in one call at most.
 pub const READ_PIECE: usize = 65_536;
 
-/// The steps that an order allows a build.
+/// The steps that an order allows a build, and whether it asks for its types.
 pub(crate) fn limits_of(order: &Order) -> Limits
     ensures { result ≡ limits_of_order order.now }
 {
@@ -24,14 +25,17 @@ pub(crate) fn limits_of(order: &Order) -> Limits
         Order::Build {
             eval_budget,
             tool_budget,
+            types,
             ..
         } => Limits {
             eval_budget: *eval_budget,
             tool_budget: *tool_budget,
+            types: *types,
         },
         Order::Check | Order::Repair | Order::Trim { .. } | Order::Gen { .. } => Limits {
             eval_budget: 0,
             tool_budget: 0,
+            types: false,
         },
     }
 }

@@ -4,3 +4,4 @@ pub mod OneProgram
 pub mod OnePlan
 pub mod SomePlan
 pub mod Passes
+pub mod TypedTrees

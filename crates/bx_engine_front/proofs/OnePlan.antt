@@ -1,15 +1,17 @@
 -- A tree comes to one plan or to one fault.
-use Rattle.std.proofs.Common.{◌≡◌, ℕ, List, ap, sym, subst, ◌∙◌}
-use Rattle.std.specs.Prelude.{Result, Ok, Err, Option}
+use Rattle.std.proofs.Common.{◌≡◌, ℕ, ◌<◌, Bool, true, false, List, [], ◌∷◌, zero, suc, length, slice_get, inl, inr, ap, sym, subst, ◌∙◌, arith}
+use Rattle.std.specs.Prelude.{Result, Ok, Err, Option, Some}
+use Rattle.std.proofs.lemmas.Bool.{cases_lt}
 use Rattle.bx_tree.specs.Paths.{Atoms}
 use Rattle.bx_tree.specs.Trees.{Files}
 use Rattle.dscript_eval_meaning.specs.Meaning.{Refusal, Refused as Stopped, Unnumbered, meaning}
 use Rattle.dscript_eval_meaning.specs.declared.fault.EvalKind.{EvalKind}
-use Rattle.dscript_program.specs.ProgramData.{ProgramData}
+use Rattle.dscript_program.specs.ProgramData.{FileData, ProgramData}
+use Rattle.dscript_types_meaning.specs.Typed.{IsFirstUntyped, is_typed_file}
 use Rattle.graph_check.specs.Rules.{KeepsRules, IsFirstBrokenRule as IsFirstBroken}
 use Rattle.graph_check.specs.declared.fault.GraphKind.{GraphKind}
 use Rattle.pip_model_types.specs.declared.pip.Pip.{Pip}
-use Rattle.bx_engine_front.specs.Specifications.{AsksForTooMany, HasFault, IsProgram, MakesPips, Plans, SpecificationFault, OfProgram, OfEvaluation, OfGraph}
+use Rattle.bx_engine_front.specs.Specifications.{AsksForTooMany, HasFault, IsProgram, MakesPips, PassesTypes, Plans, SpecificationFault, OfProgram, OfTypes, OfEvaluation, OfGraph}
 use Rattle.bx_engine_front.specs.declared.limits.Limits.{Limits}
 use Rattle.bx_engine_front.proofs.OneProgram.{malformed_or_program, one_malformed, one_program}
 
@@ -44,6 +46,50 @@ one_list limits tree p q h k =
 pub one_plan_lem : (limits : Limits) (tree : Files) (p q : List Pip) → Plans limits tree p → Plans limits tree q → p ≡ q
 one_plan_lem limits tree p q h k = one_list limits tree p q h.makes k.makes
 
+-- ## Types
+
+-- what is got from a list is within it
+get_within : {X : Type 0} (xs : List X) (n : ℕ) (x : X) → slice_get xs n ≡ Some x → n < length xs
+get_within [] n x e = absurd cc
+get_within (y ∷ ys) zero x e = omega arith
+get_within (y ∷ ys) (suc n) x e = omega (arith, get_within ys n x e)
+
+-- the file of a number is one file
+one_place : (p : ProgramData) (n : ℕ) (f g : FileData) → slice_get p.files n ≡ Some f → slice_get p.files n ≡ Some g → f ≡ g
+one_place p n f g h k = cc
+
+true_or_false : (b : Bool) → b ≡ true → b ≡ false → ⊥
+true_or_false b h k = cc
+
+-- the first untyped files of a program have one number
+one_number : (p : ProgramData) (a b : Atoms) (h : IsFirstUntyped p a) (k : IsFirstUntyped p b) → h.number ≡ k.number
+one_number p a b h k = elim (cases_lt h.number k.number) [
+  | inl l ↦ absurd (true_or_false (is_typed_file p h.number) (k.before h.number l) h.untyped)
+  | inr l ↦ elim (cases_lt k.number h.number) [
+    | inl m ↦ absurd (true_or_false (is_typed_file p k.number) (h.before k.number m) k.untyped)
+    | inr m ↦ omega (arith, l, m)
+  ]
+]
+
+one_untyped : (p : ProgramData) (a b : Atoms) → IsFirstUntyped p a → IsFirstUntyped p b → a ≡ b
+one_untyped p a b h k =
+    let same = subst (λ n. slice_get p.files n ≡ Some h.file) (one_number p a b h k) h.is in
+    sym h.at ∙ ap (λ (f : FileData). f.path) (one_place p k.number h.file k.file same k.is) ∙ k.at
+
+-- a program that passes is untyped nowhere
+passes_or_untyped : (limits : Limits) (p : ProgramData) (a : Atoms) → limits.types ≡ true → PassesTypes limits p → IsFirstUntyped p a → ⊥
+passes_or_untyped limits p a asked passes h =
+    true_or_false (is_typed_file p h.number) (passes asked h.number (get_within p.files h.number h.file h.is)) h.untyped
+
+-- two programs of a tree are one
+same_tree_passes : (limits : Limits) (tree : Files) (p q : ProgramData) → IsProgram tree p → IsProgram tree q → PassesTypes limits p → PassesTypes limits q
+same_tree_passes limits tree p q h k passes = subst (PassesTypes limits) (one_program tree p q h k) passes
+
+typed_or_untyped : (limits : Limits) (tree : Files) (p : ProgramData) (a : Atoms) → IsProgram tree p → PassesTypes limits p
+    → HasFault limits tree (OfTypes a) → ⊥
+typed_or_untyped limits tree p a h passes k =
+    passes_or_untyped limits k.1 a k.0 (same_tree_passes limits tree p k.1 h k.2 passes) k.3
+
 -- ## Faults
 
 pips_or_fault : (limits : Limits) (tree : Files) (pips : List Pip) (p : ProgramData) (which : EvalKind) (file : Atoms) (message : Option (List ℕ))
@@ -69,22 +115,31 @@ one_rule one limits tree a b f g h k =
 
 pub one_fault : (one : OneFailure) (limits : Limits) (tree : Files) (f g : SpecificationFault) → HasFault limits tree f → HasFault limits tree g → f ≡ g
 one_fault one limits tree (OfProgram f) (OfProgram g) h k = ap OfProgram (one_malformed tree f g h k)
+one_fault one limits tree (OfProgram f) (OfTypes a) h k = absurd (malformed_or_program tree f k.1 h k.2)
+one_fault one limits tree (OfTypes a) (OfProgram g) h k = absurd (malformed_or_program tree g h.1 k h.2)
+one_fault one limits tree (OfTypes a) (OfTypes b) h k =
+    ap OfTypes (one_untyped k.1 a b (subst (λ (p : ProgramData). IsFirstUntyped p a) (one_program tree h.1 k.1 h.2 k.2) h.3) k.3)
+one_fault one limits tree (OfTypes a) (OfEvaluation which file message) h k = absurd (typed_or_untyped limits tree k.0 a k.1 k.2 h)
+one_fault one limits tree (OfTypes a) (OfGraph rule file) h k = absurd (typed_or_untyped limits tree k.1.program a k.1.is_program k.1.types h)
+one_fault one limits tree (OfEvaluation which file message) (OfTypes b) h k = absurd (typed_or_untyped limits tree h.0 b h.1 h.2 k)
+one_fault one limits tree (OfGraph rule file) (OfTypes b) h k = absurd (typed_or_untyped limits tree h.1.program b h.1.is_program h.1.types k)
 one_fault one limits tree (OfProgram f) (OfEvaluation which file message) h k = absurd (malformed_or_program tree f k.0 h k.1)
 one_fault one limits tree (OfProgram f) (OfGraph rule file) h k = absurd (malformed_or_program tree f k.1.program h k.1.is_program)
 one_fault one limits tree (OfEvaluation which file message) (OfProgram g) h k = absurd (malformed_or_program tree g h.0 k h.1)
 one_fault one limits tree (OfEvaluation a f m) (OfEvaluation b g n) h k =
-    two_stops a b f g m n (meaning k.0 tree limits.eval_budget) (sym (one_meaning limits tree h.0 k.0 h.1 k.1) ∙ h.2) k.2
+    two_stops a b f g m n (meaning k.0 tree limits.eval_budget) (sym (one_meaning limits tree h.0 k.0 h.1 k.1) ∙ h.3) k.3
 one_fault one limits tree (OfEvaluation which file message) (OfGraph rule g) h k =
-    absurd (pips_or_fault limits tree k.0 h.0 which file message k.1 h.1 h.2)
+    absurd (pips_or_fault limits tree k.0 h.0 which file message k.1 h.1 h.3)
 one_fault one limits tree (OfGraph rule file) (OfProgram g) h k = absurd (malformed_or_program tree g h.1.program k h.1.is_program)
 one_fault one limits tree (OfGraph rule file) (OfEvaluation which g message) h k =
-    absurd (pips_or_fault limits tree h.0 k.0 which g message h.1 k.1 k.2)
+    absurd (pips_or_fault limits tree h.0 k.0 which g message h.1 k.1 k.3)
 one_fault one limits tree (OfGraph a f) (OfGraph b g) h k = one_rule one limits tree a b f g h k
 
 pub plan_or_fault : (one : OneFailure) (limits : Limits) (tree : Files) (pips : List Pip) (fault : SpecificationFault) → Plans limits tree pips
     → HasFault limits tree fault → ⊥
 plan_or_fault one limits tree pips (OfProgram f) h k = malformed_or_program tree f h.makes.program k h.makes.is_program
-plan_or_fault one limits tree pips (OfEvaluation which file message) h k = pips_or_fault limits tree pips k.0 which file message h.makes k.1 k.2
+plan_or_fault one limits tree pips (OfTypes a) h k = typed_or_untyped limits tree h.makes.program a h.makes.is_program h.makes.types k
+plan_or_fault one limits tree pips (OfEvaluation which file message) h k = pips_or_fault limits tree pips k.0 which file message h.makes k.1 k.3
 plan_or_fault one limits tree pips (OfGraph rule file) h k =
     one.never k.0 tree rule k.2 file (subst (λ (ps : List Pip). KeepsRules ps tree) (one_list limits tree pips k.0 h.makes k.1) h.rules) k.3
 
@@ -100,7 +155,8 @@ many_or_plan limits tree pips h k = many_or_list limits tree pips h k.makes
 
 pub many_or_fault : (limits : Limits) (tree : Files) (fault : SpecificationFault) → AsksForTooMany limits tree → HasFault limits tree fault → ⊥
 many_or_fault limits tree (OfProgram f) h k = malformed_or_program tree f h.program k h.is_program
+many_or_fault limits tree (OfTypes a) h k = typed_or_untyped limits tree h.program a h.is_program h.types k
 many_or_fault limits tree (OfEvaluation which file message) h k =
-    stop_or_many which file message (meaning k.0 tree limits.eval_budget) k.2
+    stop_or_many which file message (meaning k.0 tree limits.eval_budget) k.3
     (sym (one_meaning limits tree h.program k.0 h.is_program k.1) ∙ h.unnumbered)
 many_or_fault limits tree (OfGraph rule file) h k = many_or_list limits tree k.0 h k.1

@@ -1,6 +1,6 @@
 -- What the passes come to, one after the other.
 use Rattle.std.proofs.Common.{◌≡◌, List, inl, inr, subst, sym}
-use Rattle.std.specs.Prelude.{Ok}
+use Rattle.std.specs.Prelude.{Ok, true}
 use Rattle.std.specs.List.{AllByRecursion}
 use Rattle.bx_tree.specs.Bundle.{IsInSize}
 use Rattle.bx_tree.specs.Trees.{Files}
@@ -18,16 +18,19 @@ use Rattle.dscript_names_workspace.specs.Finding.{Finds}
 use Rattle.dscript_names_workspace.specs.Views as of_trees
 use Rattle.dscript_names_workspace.specs.Workspaces.{Found}
 use Rattle.dscript_names_workspace.proofs.SomeAnswer.{kept}
+use Rattle.dscript_types.specs.Faults.{Refuses as RefusesTypes}
+use Rattle.dscript_types.specs.declared.fault.TypeFault.{TypeFault}
+use Rattle.dscript_types.specs.declared.fault.TypeFault.TheVariants as type_faults
 use Rattle.graph_check.specs.Rules.{KeepsRules, IsRefusal as IsBroken}
 use Rattle.graph_check.specs.declared.fault.GraphFault.{GraphFault}
 use Rattle.graph_check.specs.declared.fault.GraphFault.TheVariants as graph_faults
 use Rattle.pip_model_types.specs.declared.pip.Pip.{Pip}
 use Rattle.bx_engine_front.specs.FileFaults.{RefusesFiles, RefusesTree}
-use Rattle.bx_engine_front.specs.Faults.{IsRefusal, IsRefused, ShowsEvaluation, ShowsFile, ShowsRule}
+use Rattle.bx_engine_front.specs.Faults.{IsRefusal, IsRefused, ShowsEvaluation, ShowsFile, ShowsRule, ShowsTypes}
 use Rattle.bx_engine_front.specs.Names.{AreParsed}
 use Rattle.bx_engine_front.specs.Projects.{IsShort, is_among, paths_of_modules, project_files}
 use Rattle.bx_engine_front.specs.Refusals.{refusal_of}
-use Rattle.bx_engine_front.specs.Specifications.{HasFault, IsProgram, MakesPips, Plans, SpecificationFault, OfProgram, OfEvaluation, OfGraph}
+use Rattle.bx_engine_front.specs.Specifications.{HasFault, IsProgram, MakesPips, PassesTypes, Plans, SpecificationFault, OfProgram, OfTypes, OfEvaluation, OfGraph}
 use Rattle.bx_engine_front.specs.declared.fault.FrontFault.{FrontFault}
 use Rattle.bx_engine_front.specs.declared.fault.FrontFault.TheVariants as front_faults
 use Rattle.bx_engine_front.specs.declared.limits.Limits.{Limits}
@@ -83,11 +86,17 @@ tree_refused limits tree (spec_faults.Fault kind path place) answer h is =
     shown limits tree (OfProgram (record { kind = kind; file = path; place = place })) answer h is
 tree_refused limits tree spec_faults.Memory answer h is = no_memory limits tree answer is
 
+pub types_refused : (limits : Limits) (tree : Files) (program : ProgramData) (fault : TypeFault) (answer : FrontFault) → limits.types ≡ true
+    → IsProgram tree program → RefusesTypes program fault → ShowsTypes fault answer → IsRefused limits tree answer
+types_refused limits tree program (type_faults.Untyped file) answer asked h first is =
+    shown limits tree (OfTypes file) answer (asked, program, h, first) is
+types_refused limits tree program type_faults.Memory answer asked h first is = no_memory limits tree answer is
+
 pub program_refused : (limits : Limits) (tree : Files) (program : ProgramData) (fault : EvalFault) (answer : FrontFault) → IsProgram tree program
-    → Stops program tree limits.eval_budget fault → ShowsEvaluation fault answer → IsRefused limits tree answer
-program_refused limits tree program (eval_faults.Fault kind file message) answer h stops is =
-    shown limits tree (OfEvaluation kind file message) answer (program, h, stops) is
-program_refused limits tree program eval_faults.Memory answer h stops is = no_memory limits tree answer is
+    → PassesTypes limits program → Stops program tree limits.eval_budget fault → ShowsEvaluation fault answer → IsRefused limits tree answer
+program_refused limits tree program (eval_faults.Fault kind file message) answer h types stops is =
+    shown limits tree (OfEvaluation kind file message) answer (program, h, types, stops) is
+program_refused limits tree program eval_faults.Memory answer h types stops is = no_memory limits tree answer is
 
 pub pips_refused : (limits : Limits) (tree : Files) (pips : List Pip) (fault : GraphFault) (answer : FrontFault) → MakesPips limits tree pips
     → IsBroken pips tree fault → ShowsRule fault answer → IsRefused limits tree answer

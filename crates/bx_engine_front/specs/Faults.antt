@@ -6,10 +6,12 @@ use Rattle.dscript_eval_meaning.specs.declared.fault.EvalFault.{EvalFault}
 use Rattle.dscript_eval_meaning.specs.declared.fault.EvalFault.TheVariants as eval_faults
 use Rattle.dscript_program.specs.declared.spec_fault.SpecFault.{SpecFault}
 use Rattle.dscript_program.specs.declared.spec_fault.SpecFault.TheVariants as spec_faults
+use Rattle.dscript_types.specs.declared.fault.TypeFault.{TypeFault}
+use Rattle.dscript_types.specs.declared.fault.TypeFault.TheVariants as type_faults
 use Rattle.graph_check.specs.declared.fault.GraphFault.{GraphFault}
 use Rattle.graph_check.specs.declared.fault.GraphFault.TheVariants as graph_faults
 use Rattle.bx_engine_front.specs.Refusals.{Refuses, refusal_of}
-use Rattle.bx_engine_front.specs.Specifications.{SpecificationFault, OfProgram, OfEvaluation, OfGraph}
+use Rattle.bx_engine_front.specs.Specifications.{SpecificationFault, OfProgram, OfTypes, OfEvaluation, OfGraph}
 use Rattle.bx_engine_front.specs.declared.fault.FrontFault.{FrontFault}
 use Rattle.bx_engine_front.specs.declared.fault.FrontFault.TheVariants as front_faults
 use Rattle.bx_engine_front.specs.declared.limits.Limits.{Limits}
@@ -33,6 +35,11 @@ abbrev pub ShowsFile : SpecFault → FrontFault → Type 0
 ShowsFile (spec_faults.Fault kind path place) answer =
     Shows (OfProgram (record { kind = kind; file = path; place = place })) answer
 ShowsFile spec_faults.Memory answer = answer ≡ front_faults.Memory
+
+-- the answer shows a file in which some expression has no type, where there is one
+abbrev pub ShowsTypes : TypeFault → FrontFault → Type 0
+ShowsTypes (type_faults.Untyped file) answer = Shows (OfTypes file) answer
+ShowsTypes type_faults.Memory answer = answer ≡ front_faults.Memory
 
 -- the answer shows a fault of evaluation, where there is one
 abbrev pub ShowsEvaluation : EvalFault → FrontFault → Type 0

@@ -9,7 +9,7 @@ use Rattle.dscript_program.specs.declared.spec_fault.SpecKind.{SpecKind}
 use Rattle.dscript_program.specs.declared.spec_fault.SpecKind.TheVariants as files
 use Rattle.graph_check.specs.declared.fault.GraphKind.{GraphKind}
 use Rattle.graph_check.specs.declared.fault.GraphKind.TheVariants as graph
-use Rattle.bx_engine_front.specs.Specifications.{HasFault, SpecificationFault, OfProgram, OfEvaluation, OfGraph}
+use Rattle.bx_engine_front.specs.Specifications.{HasFault, SpecificationFault, OfProgram, OfTypes, OfEvaluation, OfGraph}
 use Rattle.bx_engine_front.specs.declared.limits.Limits.{Limits}
 
 -- ## Names of kinds
@@ -50,6 +50,7 @@ rule_name graph.Limit = codes "Limit"
 -- cannot be read.
 abbrev pub refusal_of : SpecificationFault → Refusal
 refusal_of (OfProgram fault) = Specification (file_kind_name fault.kind) fault.file None fault.place
+refusal_of (OfTypes file) = Specification (codes "Type") file None None
 refusal_of (OfEvaluation kind file message) = Specification (evaluation_kind_name kind) file message None
 refusal_of (OfGraph rule file) = Specification (rule_name rule) file None None
 

@@ -5,17 +5,18 @@ ghost use Rattle.bx_tree.specs.Bundle.{IsInSize};
 ghost use Rattle.dscript_program.specs.Views.{program_data};
 ghost use Rattle.bx_engine_front.specs.FileFaults.{RefusesTree};
 ghost use Rattle.bx_engine_front.specs.Faults.{IsRefused};
-ghost use Rattle.bx_engine_front.specs.Specifications.{IsProgram, MakesPips, Plans};
+ghost use Rattle.bx_engine_front.specs.Specifications.{IsProgram, MakesPips, PassesTypes, Plans};
 
 use crate::fault::FrontFault;
 use crate::limits::Limits;
 use crate::projects::{parse_projects, project_files};
-use crate::refusing::{evaluation_refusal, file_refusal, graph_refusal};
+use crate::refusing::{evaluation_refusal, file_refusal, graph_refusal, type_refusal};
 use bx_tree::Tree;
 use dscript_eval::evaluate;
 use dscript_names::resolve;
 use dscript_names_workspace::find_workspace;
 use dscript_program::{Program, SpecFault};
+use dscript_types::check_types;
 use graph_check::check;
 use pip_model::{PipList, Plan, Sources};
 use std::alloc::Global;
@@ -40,14 +41,33 @@ fn program_of(alloc: Global, tree: &Tree) -> Result<Program, SpecFault>
     resolve(&work, parsed)
 }
 
-// The pips of a program, which is that of a tree.
+// Checks the types of a program, which is that of a tree, where that is asked for.
+fn checked(alloc: Global, program: &Program, tree: &Tree, limits: &Limits) -> Result<(), FrontFault>
+    requires { IsProgram tree.now (program_data program.now) }
+    ensures { MatchResult result
+        (λ _. PassesTypes limits.now (program_data program.now))
+        (λ fault. IsRefused limits.now tree.now fault) }
+{
+    // The tree is named in the clauses alone.
+    let _tree = tree;
+    if !limits.types {
+        return Ok(());
+    }
+    match check_types(alloc, program) {
+        Ok(()) => Ok(()),
+        Err(fault) => Err(type_refusal(alloc, fault)),
+    }
+}
+
+// The pips of a program, which is that of a tree and passes the check of its types.
 fn evaluated(
     alloc: Global,
     program: &Program,
     tree: &Tree,
     limits: &Limits,
 ) -> Result<PipList, FrontFault>
-    requires { IsProgram tree.now (program_data program.now) }
+    requires program { IsProgram tree.now (program_data program.now) }
+    requires types { PassesTypes limits.now (program_data program.now) }
     ensures { MatchResult result
         (λ pips. MakesPips limits.now tree.now pips)
         (λ fault. IsRefused limits.now tree.now fault) }
@@ -66,7 +86,10 @@ fn pips_of(alloc: Global, tree: &Tree, limits: &Limits) -> Result<PipList, Front
         (λ fault. IsRefused limits.now tree.now fault) }
 {
     match program_of(alloc, tree) {
-        Ok(program) => evaluated(alloc, &program, tree, limits),
+        Ok(program) => {
+            checked(alloc, &program, tree, limits)?;
+            evaluated(alloc, &program, tree, limits)
+        }
         Err(fault) => Err(file_refusal(alloc, fault)),
     }
 }

@@ -2,7 +2,7 @@
 
 ghost use Rattle.std.specs.Prelude.{◌≡◌, IfOk};
 ghost use Rattle.build_report.specs.declared.refusal.Refusal.TheVariants.{Specification};
-ghost use Rattle.bx_engine_front.specs.Faults.{IsRefusal, ShowsEvaluation, ShowsFile, ShowsRule};
+ghost use Rattle.bx_engine_front.specs.Faults.{IsRefusal, ShowsEvaluation, ShowsFile, ShowsRule, ShowsTypes};
 
 use crate::fault::FrontFault;
 use crate::kinds::{evaluation_kind_name, file_kind_name, rule_name};
@@ -10,6 +10,7 @@ use build_report::Refusal;
 use bx_tree::{Memory, Path, Text};
 use dscript_eval::EvalFault;
 use dscript_program::{Place, SpecFault};
+use dscript_types::TypeFault;
 use graph_check::GraphFault;
 use std::alloc::Global;
 
@@ -49,6 +50,16 @@ pub(crate) fn file_refusal(alloc: Global, fault: SpecFault) -> FrontFault
             refusal(alloc, file_kind_name(kind), file, None, place)
         }
         SpecFault::Memory => FrontFault::Memory,
+    }
+}
+
+/// The refusal of a program in which some expression has no type.
+pub(crate) fn type_refusal(alloc: Global, fault: TypeFault) -> FrontFault
+    ensures { ShowsTypes fault result }
+{
+    match fault {
+        TypeFault::Untyped { file } => refusal(alloc, "Type", file, None, None),
+        TypeFault::Memory => FrontFault::Memory,
     }
 }
 

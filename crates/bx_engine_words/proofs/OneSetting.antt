@@ -12,7 +12,7 @@ use Rattle.bx_engine_words.specs.declared.order.Order.{Order}
 use Rattle.bx_engine_words.specs.declared.setting.NumberOption.{NumberOption}
 use Rattle.bx_engine_words.specs.declared.setting.NumberOption.TheVariants as options
 use Rattle.bx_engine_words.specs.declared.setting.Setting.{Setting}
-use Rattle.bx_engine_words.specs.declared.setting.Setting.TheVariants.{Number, NoCache}
+use Rattle.bx_engine_words.specs.declared.setting.Setting.TheVariants.{Number, NoCache, Types}
 use Rattle.bx_engine_words.specs.Given.{IsNumber}
 use Rattle.bx_engine_words.specs.Commands.{command_text, order_of}
 use Rattle.bx_engine_words.specs.Settings.{AreSettings, BeginWith, IsValue, option_text}
@@ -147,6 +147,38 @@ no_cache_or_joined option v e =
 no_cache_or_alone : (option : NumberOption) → codes "--no-cache" ≡ option_text option → ⊥
 no_cache_or_alone option e = other_letter option (sym no_cache_letter ∙ ap third e ∙ letter_alone option)
 
+-- the byte in which `--types` differs from all others
+abbrev fourth : List ℕ → ℕ
+fourth text = get_or text 3 0
+
+fourth_in : (option : NumberOption) (v : List ℕ) → 121 ≡ fourth (option_text option ++ codes "=" ++ v) → ⊥
+fourth_in options.Workers v e = omega (arith, e)
+fourth_in options.EvalBudget v e = omega (arith, e)
+fourth_in options.ToolBudget v e = omega (arith, e)
+fourth_in options.Keep v e = omega (arith, e)
+fourth_in options.Seed v e = omega (arith, e)
+fourth_in options.Pips v e = omega (arith, e)
+
+fourth_alone : (option : NumberOption) → 121 ≡ fourth (option_text option) → ⊥
+fourth_alone options.Workers e = omega (arith, e)
+fourth_alone options.EvalBudget e = omega (arith, e)
+fourth_alone options.ToolBudget e = omega (arith, e)
+fourth_alone options.Keep e = omega (arith, e)
+fourth_alone options.Seed e = omega (arith, e)
+fourth_alone options.Pips e = omega (arith, e)
+
+types_letter : fourth (codes "--types") ≡ 121
+types_letter = refl
+
+types_or_joined : (option : NumberOption) (v : List ℕ) → codes "--types" ≡ option_text option ++ codes "=" ++ v → ⊥
+types_or_joined option v e = fourth_in option v (sym types_letter ∙ ap fourth e)
+
+types_or_alone : (option : NumberOption) → codes "--types" ≡ option_text option → ⊥
+types_or_alone option e = fourth_alone option (sym types_letter ∙ ap fourth e)
+
+types_or_no_cache : codes "--types" ≡ codes "--no-cache" → ⊥
+types_or_no_cache e = let differ : 121 ≡ 111 = ap fourth e in omega (arith, differ)
+
 pub small_value : (option : NumberOption) (n : ℕ) → IsValue option n → n < 2 ^ 64
 small_value options.Workers n h = omega (arith, h.most)
 small_value options.EvalBudget n h = omega (arith, h.most)
@@ -212,11 +244,23 @@ no_cache_or_number words option n rest more h k = elim k.1 [
   | inr y ↦ no_cache_or_alone option (first_same (sym h ∙ y))
 ]
 
+types_or_number : (words : List (List ℕ)) (option : NumberOption) (n : ℕ) (rest more : List (List ℕ))
+    → BeginWith words Types rest → BeginWith words (Number option n) more → ⊥
+types_or_number words option n rest more h k = elim k.1 [
+  | inl y ↦ types_or_joined option (decimal n) (first_same (sym h ∙ y))
+  | inr y ↦ types_or_alone option (first_same (sym h ∙ y))
+]
+
 pub one_beginning : (words : List (List ℕ)) (s t : Setting) (rest more : List (List ℕ)) → BeginWith words s rest
     → BeginWith words t more → SameStart s t rest more
 one_beginning words NoCache NoCache rest more h k = (refl, rest_same (sym h ∙ k))
+one_beginning words NoCache Types rest more h k = absurd (types_or_no_cache (first_same (sym k ∙ h)))
 one_beginning words NoCache (Number b n) rest more h k = absurd (no_cache_or_number words b n rest more h k)
+one_beginning words Types NoCache rest more h k = absurd (types_or_no_cache (first_same (sym h ∙ k)))
+one_beginning words Types Types rest more h k = (refl, rest_same (sym h ∙ k))
+one_beginning words Types (Number b n) rest more h k = absurd (types_or_number words b n rest more h k)
 one_beginning words (Number a m) NoCache rest more h k = absurd (no_cache_or_number words a m more rest k h)
+one_beginning words (Number a m) Types rest more h k = absurd (types_or_number words a m more rest k h)
 one_beginning words (Number a m) (Number b n) rest more h k = both_numbers words a b m n rest more h k
 
 cons_or_none : {X : Type 0} {words : List X} {x : X} {xs : List X} → words ≡ [] → words ≡ x ∷ xs → ⊥
@@ -224,12 +268,14 @@ cons_or_none e f = cc
 
 pub none_begin : (words : List (List ℕ)) (s : Setting) (rest : List (List ℕ)) → words ≡ [] → BeginWith words s rest → ⊥
 none_begin words NoCache rest e h = cons_or_none e h
+none_begin words Types rest e h = cons_or_none e h
 none_begin words (Number option n) rest e h = elim h.1 [ inl x ↦ cons_or_none e x | inr x ↦ cons_or_none e x ]
 
 -- fewer words come after a setting
 pub fewer_after : (words : List (List ℕ)) (s : Setting) (rest : List (List ℕ)) → BeginWith words s rest
     → length rest < length words
 fewer_after words NoCache rest h = omega (arith, ap length h)
+fewer_after words Types rest h = omega (arith, ap length h)
 fewer_after words (Number option n) rest h = elim h.1 [
   | inl x ↦ omega (arith, ap length x)
   | inr x ↦ omega (arith, ap length x)

@@ -13,7 +13,7 @@ use Rattle.bx_engine_words.specs.declared.order.TheConstants.{MAX_WORKERS}
 use Rattle.bx_engine_words.specs.declared.setting.NumberOption.{NumberOption}
 use Rattle.bx_engine_words.specs.declared.setting.NumberOption.TheVariants as options
 use Rattle.bx_engine_words.specs.declared.setting.Setting.{Setting}
-use Rattle.bx_engine_words.specs.declared.setting.Setting.TheVariants.{Number, NoCache}
+use Rattle.bx_engine_words.specs.declared.setting.Setting.TheVariants.{Number, NoCache, Types}
 
 -- ## Options
 
@@ -69,6 +69,7 @@ pub record IsValue (option : NumberOption) (n : ℕ) : Type 0 where
 -- a zero before them, in the word of its option after a `=`, or in the next word.
 abbrev pub BeginWith : List (List ℕ) → Setting → List (List ℕ) → Type 0
 BeginWith words NoCache rest = words ≡ codes "--no-cache" ∷ rest
+BeginWith words Types rest = words ≡ codes "--types" ∷ rest
 BeginWith words (Number option n) rest =
     IsValue option n
     × ((words ≡ (option_text option ++ codes "=" ++ decimal n) ∷ rest)
@@ -86,6 +87,7 @@ AreSettings words (s ∷ settings) =
 abbrev pub is_same : Setting → Setting → Bool
 is_same (Number a m) (Number b n) = same_option a b
 is_same NoCache NoCache = true
+is_same Types Types = true
 is_same _ _ = false
 
 -- the number that an option is set to
@@ -94,13 +96,17 @@ value_of option [] = None
 value_of option (Number other n ∷ settings) =
     if same_option other option then Some n else value_of option settings
 value_of option (NoCache ∷ settings) = value_of option settings
+value_of option (Types ∷ settings) = value_of option settings
 
 abbrev pub has_no_cache : List Setting → Bool
 has_no_cache settings = list_any (λ s. is_same s NoCache) settings
+
+abbrev pub has_types : List Setting → Bool
+has_types settings = list_any (λ s. is_same s Types) settings
 
 -- the build with these settings, and with the default of each option that is not set
 abbrev pub build_of : List Setting → Order
 build_of settings =
     Build (unwrap_or (value_of options.Workers settings) DEFAULT_WORKERS) (not (has_no_cache settings))
     (unwrap_or (value_of options.EvalBudget settings) DEFAULT_EVAL_BUDGET)
-    (unwrap_or (value_of options.ToolBudget settings) DEFAULT_TOOL_BUDGET)
+    (unwrap_or (value_of options.ToolBudget settings) DEFAULT_TOOL_BUDGET) (has_types settings)

@@ -26,7 +26,7 @@ pub record Orders (words : List (List ℕ)) (order : Order) : Type 0 where
 
 -- the order is to build
 abbrev pub IsBuild : Order → Type 0
-IsBuild (orders.Build workers cached eval_budget tool_budget) = ⊤
+IsBuild (orders.Build workers cached eval_budget tool_budget types) = ⊤
 IsBuild orders.Check = ⊥
 IsBuild orders.Repair = ⊥
 IsBuild (orders.Trim keep) = ⊥
@@ -38,7 +38,7 @@ OrdersBuild words order = Orders words order × IsBuild order
 
 -- the order is to check, to repair or to trim the store
 abbrev pub IsCare : Order → Type 0
-IsCare (orders.Build workers cached eval_budget tool_budget) = ⊥
+IsCare (orders.Build workers cached eval_budget tool_budget types) = ⊥
 IsCare orders.Check = ⊤
 IsCare orders.Repair = ⊤
 IsCare (orders.Trim keep) = ⊤
@@ -46,7 +46,7 @@ IsCare (orders.Gen seed pips) = ⊥
 
 -- how many workers an order asks for
 abbrev pub workers_in : Order → ℕ
-workers_in (orders.Build workers cached eval_budget tool_budget) = workers
+workers_in (orders.Build workers cached eval_budget tool_budget types) = workers
 workers_in orders.Check = 0
 workers_in orders.Repair = 0
 workers_in (orders.Trim keep) = 0

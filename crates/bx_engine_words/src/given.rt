@@ -15,6 +15,7 @@ pub(crate) struct Given {
     pub seed: Option<u64>,
     pub pips: Option<u32>,
     pub no_cache: bool,
+    pub types: bool,
 }
 
 impl Given {
@@ -30,6 +31,7 @@ impl Given {
             seed: None,
             pips: None,
             no_cache: false,
+            types: false,
         }
     }
 
@@ -45,6 +47,7 @@ impl Given {
             Setting::Number(NumberOption::Seed, _) => self.seed.is_some(),
             Setting::Number(NumberOption::Pips, _) => self.pips.is_some(),
             Setting::NoCache => self.no_cache,
+            Setting::Types => self.types,
         }
     }
 
@@ -80,6 +83,10 @@ impl Given {
             },
             Setting::NoCache => Given {
                 no_cache: true,
+                ..self
+            },
+            Setting::Types => Given {
+                types: true,
                 ..self
             },
         }

@@ -37,6 +37,8 @@ pub enum Order {
         eval_budget: u64,
         /// How many steps one run of a tool may take, from 1 to 10,000,000.
         tool_budget: u64,
+        /// Whether the types of the specification are checked before it is evaluated.
+        types: bool,
     },
     /// Tells whether the store is honest, and what in it is not.
     Check,

@@ -28,6 +28,7 @@ pub(crate) enum NumberOption {
 pub(crate) enum Setting {
     Number(NumberOption, u64),
     NoCache,
+    Types,
 }
 
 impl NumberOption {
@@ -103,7 +104,7 @@ impl Setting {
     {
         match self {
             Setting::Number(option, _) => option.command(),
-            Setting::NoCache => Command::Build,
+            Setting::NoCache | Setting::Types => Command::Build,
         }
     }
 }
@@ -153,6 +154,9 @@ pub(crate) fn read_setting<'a>(first: &str, rest: &'a [String]) -> Option<(Setti
 {
     if first == "--no-cache" {
         return Some((Setting::NoCache, rest));
+    }
+    if first == "--types" {
+        return Some((Setting::Types, rest));
     }
     if let Some((name, text)) = first.split_once('=') {
         return Some((read_value(name, text)?, rest));

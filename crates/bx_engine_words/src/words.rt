@@ -26,6 +26,7 @@ fn build_with(given: Given) -> Order
         cached: !given.no_cache,
         eval_budget: given.eval_budget.unwrap_or(DEFAULT_EVAL_BUDGET),
         tool_budget: given.tool_budget.unwrap_or(DEFAULT_TOOL_BUDGET),
+        types: given.types,
     }
 }
 
@@ -69,9 +70,9 @@ fn read_options(command: Command, words: &[String]) -> Option<Order>
 }
 
 /// The order that the words after the program's name are: the word of a command, and then its options, in any order and
-/// each once at most. `build` has `--workers`, `--eval-budget`, `--tool-budget` and `--no-cache`; `trim` needs `--keep`, and
-/// `gen` needs `--seed` and `--pips`; `check` and `repair` have none. A number follows a `=` in the word of its option, or is
-/// the next word.
+/// each once at most. `build` has `--workers`, `--eval-budget`, `--tool-budget`, `--no-cache` and `--types`; `trim` needs
+/// `--keep`, and `gen` needs `--seed` and `--pips`; `check` and `repair` have none. A number follows a `=` in the word of its
+/// option, or is the next word.
 pub fn read_words(words: &[String]) -> Result<Order, WordFault>
     ensures { MatchResult result
         (λ order. Orders (map string_bytes words.now) order)

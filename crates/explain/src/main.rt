@@ -62,7 +62,7 @@ fn done(text: Result<Vec<u8>, Memory>) -> Ending {
 
 // Reads a text to its end, or to one byte more than a number of bytes.
 fn read_up_to(alloc: Global, input: impl Read + Drop, most: usize) -> io::Result<Vec<u8>> {
-    let mut input = input.take(most as u64 + 1);
+    let mut input = input.take((most as u64).saturating_add(1));
     let mut text = Vec::new(alloc);
     input.read_to_end(&mut text)?;
     Ok(text)
@@ -164,6 +164,7 @@ fn run_graph(rt: &HostRuntime, alloc: Global, as_page: bool, report: Option<&str
     let limits = Limits {
         eval_budget: DEFAULT_EVAL_BUDGET,
         tool_budget: DEFAULT_TOOL_BUDGET,
+        types: false,
     };
     let end = match read_plan(rt, alloc, &limits) {
         Ok(end) => end,

@@ -42,21 +42,6 @@ impl Page {
         Ok(())
     }
 
-    pub(crate) fn open_both(
-        &mut self,
-        tag: Tag,
-        attr: Attr,
-        value: &str,
-        other: Attr,
-        more: &str,
-    ) -> Result<(), Memory> {
-        let value = self.shared(value.as_bytes())?;
-        let more = self.shared(more.as_bytes())?;
-        self.pieces
-            .push(Piece::OpenBoth(tag, attr, value, other, more))?;
-        Ok(())
-    }
-
     pub(crate) fn close(&mut self, tag: Tag) -> Result<(), Memory> {
         self.pieces.push(Piece::Close(tag))?;
         Ok(())

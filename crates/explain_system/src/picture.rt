@@ -134,7 +134,7 @@ fn add_box(
     let target = format!(in alloc; "#p{number}")?;
     let shown = format!(in alloc; "{number}")?;
     page.open_with(Tag::Link, Attr::Href, target.as_str())?;
-    page.open_both(Tag::Group, Attr::Transform, at.as_str(), Attr::Class, class)?;
+    page.open_with(Tag::Group, Attr::Transform, at.as_str())?;
     page.open_with(Tag::Box, Attr::Class, class)?;
     page.close(Tag::Box)?;
     page.open_with(Tag::Label, Attr::Transform, "translate(22 13)")?;

@@ -62,10 +62,12 @@ fn limits_of(order: Order) -> Option<Limits> {
             cached: true,
             eval_budget,
             tool_budget,
+            types,
             ..
         } => Some(Limits {
             eval_budget,
             tool_budget,
+            types,
         }),
         _ => None,
     }

@@ -29,6 +29,7 @@ pub fn planned(alloc: Global, bundle: &str) -> Result<FrontEnd, Fail>
         cached: false,
         eval_budget: 10_000_000,
         tool_budget: 100_000,
+        types: false,
     };
     match front(alloc, tree, &order) {
         Ok(end) => Ok(end),

@@ -2,4 +2,4 @@ use Rattle.bx_io_system.proofs.Telling.{none_named}
 use Rattle.explain.proofs.misses_of.Goals as goal
 
 pub ask-requires : goal.ask-requires
-ask-requires g c = none_named
+ask-requires c = none_named

@@ -8,8 +8,8 @@ use Rattle.build_misses.proofs.finding.go_through.Given as goal
 abbrev pub invariant-pips : goal.invariant-pips
 invariant-pips g l = record {
   goes : GoesTo l.fn.frame.plan.now.pips l.fn.frame.sources.now l.fn.frame.plan.now.tool_budget (g.R.KeepReader.held l.reader) l.number
-      l.verdicts.items l.slots.items l.misses.items;
-  shared : KeepsShared l.shared.files l.shared.dirs (all_shared (take l.number l.fn.frame.plan.now.pips) (map slot_files l.slots.items));
+      l.gone.verdicts.items l.gone.slots.items l.gone.misses.items;
+  shared : KeepsShared l.gone.shared.files l.gone.shared.dirs (all_shared (take l.number l.fn.frame.plan.now.pips) (map slot_files l.gone.slots.items));
   reads : ReaderCall (g.R.KeepReader.held l.fn.reader) (g.R.KeepReader.held l.reader) (g.R.KeepReader.bound l.fn.reader) (g.R.KeepReader.bound l.reader)
       (g.R.KeepReader.faults l.fn.reader) (g.R.KeepReader.faults l.reader) ⊥;
 }

@@ -1,15 +1,17 @@
-use Rattle.std.proofs.Common.{refl, subst}
-use Rattle.run_record.specs.Facts.{IsRun}
-use Rattle.retire.specs.Over as over
-use Rattle.retire.proofs.Along.{ran_is}
-use Rattle.build_misses.specs.Reasoned as reasoned
+use Rattle.two_phase.proofs.Used.{reads_as}
+use Rattle.build_misses.proofs.Decisions.{run_given, told_given}
 use Rattle.build_misses.proofs.taking.missed.Goals as goal
 
 pub returns-clause-taken : goal.returns-clause-taken
-returns-clause-taken g c = λ S told.
-    over.miss (λ no_run. no_run) (c.requires.unusable S (c.in_ok-reason.ensures.reader.held_is S told))
-    (ran_is c.in_ok-ran.ran c.args.desc (g.V.View.answers c.args.view.now)
-    (subst (IsRun c.in_ok-ran.ran c.args.desc) c.in_ok-reason.ensures.same c.in_ok-ran.ensures.ran)) refl
+returns-clause-taken g c =
+    run_given (g.R.KeepReader.held c.reason_of.new.reader) c.args.desc (g.V.View.answers c.reason_of.new.view) (g.V.View.answers c.args.view.now) c.in_ok-reason.reason c.run_for.result
+    c.in_ok-reason.ensures.same (λ S told. c.requires.unusable S (c.in_ok-reason.ensures.reader.held_is S told)) c.run_for.ensures.outcome c.run_for.ensures.reason
 
 pub returns-clause-reason : goal.returns-clause-reason
-returns-clause-reason g c = λ S told. reasoned.told c.in_ok-reason.reason refl (c.in_ok-reason.ensures.reason S told)
+returns-clause-reason g c =
+    told_given (g.R.KeepReader.held c.reason_of.new.reader) c.args.desc (g.V.View.answers c.args.view.now) c.in_ok-reason.reason c.run_for.result c.in_ok-reason.ensures.reason
+    c.run_for.ensures.reason
+
+pub returns-clause-reader : goal.returns-clause-reader
+returns-clause-reader g c =
+    reads_as _ _ _ _ _ _ _ _ (λ b. absurd (c.run_for.ensures.no_fault b)) (λ a. cc) c.in_ok-reason.ensures.reader

@@ -1,0 +1,5 @@
+pub mod Tables
+pub mod Passing
+pub mod Seeing
+pub mod Looking
+pub mod Judged

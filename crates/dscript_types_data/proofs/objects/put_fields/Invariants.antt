@@ -1,0 +1,9 @@
+use Rattle.std.proofs.Common.{◌≡◌, map}
+use Rattle.dscript_types_data.specs.Views.{field_data}
+use Rattle.dscript_types_meaning.specs.Objects.{put_fields}
+use Rattle.dscript_types_data.proofs.objects.put_fields.Given as goal
+
+abbrev pub invariant-fields : goal.invariant-fields
+invariant-fields l =
+    put_fields (map field_data l.done.items) (map field_data l.field-iterator.rest.items)
+    ≡ put_fields (map field_data l.fn.done.items) (map field_data l.initial.field-iterator.rest.items)

@@ -1,0 +1,9 @@
+use Rattle.std.proofs.Common.{◌≡◌, ◌++◌, drop, map}
+use Rattle.dscript_types_data.specs.Views.{member_data}
+use Rattle.dscript_types_meaning.specs.Types.{members_of}
+use Rattle.dscript_types_data.proofs.unions.add_members.Given as goal
+
+abbrev pub invariant-members : goal.invariant-members
+invariant-members l =
+    map member_data l.members.items ++ map member_data (drop l.member-index l.member-items)
+    ≡ map member_data l.fn.members.items ++ members_of l.t

@@ -1,0 +1,5 @@
+pub mod Counted
+pub mod Filled
+pub mod Branches
+pub mod Opened
+pub mod Opening

@@ -1,0 +1,5 @@
+pub mod Findings
+pub mod Matching
+pub mod Tables
+pub mod Codes
+pub mod Views

@@ -1,0 +1,14 @@
+pub mod FirstTypes
+pub mod Going
+pub mod KnownTypes
+pub mod Shorter
+pub mod Listed
+pub mod Naming
+pub mod Parts
+pub mod Meant
+pub mod Large
+pub mod Written
+pub mod Trees
+pub mod Around
+pub mod Single
+pub mod Nested

@@ -1,0 +1,16 @@
+use Rattle.std.proofs.Common.{◌≡◌, length, map}
+use Rattle.std.specs.Option.{option_or}
+use Rattle.dscript_program.specs.ProgramData.{Dotted}
+use Rattle.dscript_program.specs.Views.{decl_data}
+use Rattle.dscript_names_scopes.specs.Declarations.{is_any}
+use Rattle.dscript_types_meaning.specs.Lookups.{type_in}
+use Rattle.dscript_types_notes.specs.Names.{at_name}
+use Rattle.dscript_types_notes.proofs.names.types_of_file.Given as goal
+
+abbrev pub invariant-last : goal.invariant-last
+invariant-last l = (name : Dotted) →
+    option_or (type_in is_any (map decl_data l.left) name) (at_name l.types name)
+    ≡ type_in is_any (map decl_data l.fn.decls) name
+
+abbrev pub decreases-last : goal.decreases-last
+decreases-last l = length l.left

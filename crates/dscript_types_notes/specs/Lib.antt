@@ -1,0 +1,4 @@
+pub mod KnownNames
+pub mod Names
+pub mod Found
+pub mod Means

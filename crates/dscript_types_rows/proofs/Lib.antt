@@ -1,0 +1,9 @@
+pub mod Over
+pub mod Accessed
+pub mod Prefixes
+pub mod Alike
+pub mod Closed
+pub mod Held
+pub mod Arguments
+pub mod Looked
+pub mod Executed
