@@ -1,73 +1,64 @@
 //! How two descriptions of processes differ, in lines.
 
 use crate::misses::{Told, add_maker};
-use crate::shown::{add, add_path, add_quoted, add_shown, end_line};
+use crate::shown::Lines;
 use bx_digest::Digest;
-use bx_tree::{FileInput, Memory, Path, Text};
+use bx_tree::{FileInput, Path, Text};
 use pip_model::{DirInput, EnvPair, OutDir, ProcessDesc, SealForm};
 use prints::WeakParts;
 
 const INDENT: &str = "    ";
 
 // Adds that a path was one and is another.
-fn add_paths(text: &mut Vec<u8>, words: &str, was: &Path, is: &Path) -> Result<(), Memory> {
-    add(text, INDENT)?;
-    add(text, words)?;
-    add(text, " was ")?;
-    add_path(text, was)?;
-    add(text, ", is ")?;
-    add_path(text, is)?;
-    end_line(text)
+fn add_paths(text: &mut Lines, words: &str, was: &Path, is: &Path) {
+    text.add(INDENT);
+    text.add(words);
+    text.add(" was ");
+    text.path(was);
+    text.add(", is ");
+    text.path(is);
+    text.end_line();
 }
 
 // Adds how what stands once differs: tool, working directory, budget. The console file is one of the outputs, which are the same.
-fn add_heads(
-    told: &Told<'_>,
-    text: &mut Vec<u8>,
-    was: &WeakParts,
-    is: &WeakParts,
-) -> Result<(), Memory> {
+fn add_heads(told: &Told<'_>, text: &mut Lines, was: &WeakParts, is: &WeakParts) {
     if !was.process.exe.is_same(&is.process.exe) {
-        add_paths(text, "tool", &was.process.exe, &is.process.exe)?;
+        add_paths(text, "tool", &was.process.exe, &is.process.exe);
     } else if was.exe != is.exe {
-        add(text, INDENT)?;
-        add(text, "tool ")?;
-        add_path(text, &is.process.exe)?;
-        add(text, " changed\n")?;
+        text.add(INDENT);
+        text.add("tool ");
+        text.path(&is.process.exe);
+        text.add(" changed\n");
     }
     if !was.process.dir.is_same(&is.process.dir) {
-        add_paths(text, "working directory", &was.process.dir, &is.process.dir)?;
+        add_paths(text, "working directory", &was.process.dir, &is.process.dir);
     }
     if was.budget != is.budget {
         let (old, new) = (was.budget, is.budget);
-        add(
-            text,
-            format!(in told.alloc; "{INDENT}tool budget was {old}, is {new}\n")?.as_str(),
-        )?;
+        text.made(format!(in told.alloc; "{INDENT}tool budget was {old}, is {new}\n"));
     }
-    Ok(())
 }
 
 // Adds that a text under a name was one and is another, is new, or is gone.
-fn add_change(text: &mut Vec<u8>, was: Option<&Text>, is: Option<&Text>) -> Result<(), Memory> {
+fn add_change(text: &mut Lines, was: Option<&Text>, is: Option<&Text>) {
     match (was, is) {
         (Some(was), Some(is)) => {
-            add(text, " was ")?;
-            add_quoted(text, was.bytes())?;
-            add(text, ", is ")?;
-            add_quoted(text, is.bytes())?;
+            text.add(" was ");
+            text.quoted(was.bytes());
+            text.add(", is ");
+            text.quoted(is.bytes());
         }
         (None, Some(is)) => {
-            add(text, " is new: ")?;
-            add_quoted(text, is.bytes())?;
+            text.add(" is new: ");
+            text.quoted(is.bytes());
         }
         (Some(was), None) => {
-            add(text, " is gone: ")?;
-            add_quoted(text, was.bytes())?;
+            text.add(" is gone: ");
+            text.quoted(was.bytes());
         }
         (None, None) => (),
     }
-    end_line(text)
+    text.end_line();
 }
 
 fn same_text(was: Option<&Text>, is: Option<&Text>) -> bool {
@@ -77,18 +68,14 @@ fn same_text(was: Option<&Text>, is: Option<&Text>) -> bool {
     }
 }
 
-fn add_args(told: &Told<'_>, text: &mut Vec<u8>, was: &[Text], is: &[Text]) -> Result<(), Memory> {
+fn add_args(told: &Told<'_>, text: &mut Lines, was: &[Text], is: &[Text]) {
     'args: for place in 0..was.len().max(is.len()) {
         if !same_text(was.get(place), is.get(place)) {
             let number = place.saturating_add(1);
-            add(
-                text,
-                format!(in told.alloc; "{INDENT}argument {number}")?.as_str(),
-            )?;
-            add_change(text, was.get(place), is.get(place))?;
+            text.made(format!(in told.alloc; "{INDENT}argument {number}"));
+            add_change(text, was.get(place), is.get(place));
         }
     }
-    Ok(())
 }
 
 fn value_of<'a>(pairs: &'a [EnvPair], name: &Text) -> Option<&'a Text> {
@@ -100,35 +87,28 @@ fn value_of<'a>(pairs: &'a [EnvPair], name: &Text) -> Option<&'a Text> {
     None
 }
 
-fn add_variable(
-    text: &mut Vec<u8>,
-    name: &Text,
-    was: Option<&Text>,
-    is: Option<&Text>,
-) -> Result<(), Memory> {
-    add(text, INDENT)?;
-    add(text, "variable ")?;
-    add_shown(text, name.bytes())?;
-    add_change(text, was, is)
+fn add_variable(text: &mut Lines, name: &Text, was: Option<&Text>, is: Option<&Text>) {
+    text.add(INDENT);
+    text.add("variable ");
+    text.shown(name.bytes());
+    add_change(text, was, is);
 }
 
-fn add_variables(text: &mut Vec<u8>, was: &[EnvPair], is: &[EnvPair]) -> Result<(), Memory> {
+fn add_variables(text: &mut Lines, was: &[EnvPair], is: &[EnvPair]) {
     'now: for pair in is {
         let old = value_of(was, &pair.name);
         if !same_text(old, Some(&pair.value)) {
-            add_variable(text, &pair.name, old, Some(&pair.value))?;
+            add_variable(text, &pair.name, old, Some(&pair.value));
         }
     }
-    Ok(())
 }
 
-fn add_gone_variables(text: &mut Vec<u8>, was: &[EnvPair], is: &[EnvPair]) -> Result<(), Memory> {
+fn add_gone_variables(text: &mut Lines, was: &[EnvPair], is: &[EnvPair]) {
     'before: for pair in was {
         if value_of(is, &pair.name).is_none() {
-            add_variable(text, &pair.name, Some(&pair.value), None)?;
+            add_variable(text, &pair.name, Some(&pair.value), None);
         }
     }
-    Ok(())
 }
 
 // The digest of a declared file, by its path.
@@ -140,13 +120,13 @@ fn digest_of<'a>(parts: &'a WeakParts, path: &Path) -> Option<&'a Digest> {
     }
 }
 
-fn add_input(told: &Told<'_>, text: &mut Vec<u8>, path: &Path, words: &str) -> Result<(), Memory> {
-    add(text, INDENT)?;
-    add(text, "input ")?;
-    add_path(text, path)?;
-    add(text, words)?;
-    add_maker(told, text, path)?;
-    end_line(text)
+fn add_input(told: &Told<'_>, text: &mut Lines, path: &Path, words: &str) {
+    text.add(INDENT);
+    text.add("input ");
+    text.path(path);
+    text.add(words);
+    add_maker(told, text, path);
+    text.end_line();
 }
 
 // What became of an input that had the first digest, if it was one, and has the second.
@@ -160,33 +140,21 @@ fn change_of(old: Option<&Digest>, new: Option<&Digest>) -> Option<&'static str>
     }
 }
 
-fn add_inputs(
-    told: &Told<'_>,
-    text: &mut Vec<u8>,
-    was: &WeakParts,
-    is: &WeakParts,
-) -> Result<(), Memory> {
+fn add_inputs(told: &Told<'_>, text: &mut Lines, was: &WeakParts, is: &WeakParts) {
     'files: for file in is.process.files.files() {
         let path = file.path();
         if let Some(words) = change_of(digest_of(was, path), digest_of(is, path)) {
-            add_input(told, text, path, words)?;
+            add_input(told, text, path, words);
         }
     }
-    Ok(())
 }
 
-fn add_gone_inputs(
-    told: &Told<'_>,
-    text: &mut Vec<u8>,
-    was: &[FileInput],
-    is: &WeakParts,
-) -> Result<(), Memory> {
+fn add_gone_inputs(told: &Told<'_>, text: &mut Lines, was: &[FileInput], is: &WeakParts) {
     'files: for file in was {
         if digest_of(is, file.path()).is_none() {
-            add_input(told, text, file.path(), " is gone")?;
+            add_input(told, text, file.path(), " is gone");
         }
     }
-    Ok(())
 }
 
 fn form_word(dir: &DirInput) -> &'static str {
@@ -209,22 +177,16 @@ fn has_dir(dirs: &[DirInput], dir: &DirInput) -> bool {
 }
 
 // Adds the directories of a description that another lacks.
-fn add_dirs(
-    text: &mut Vec<u8>,
-    dirs: &[DirInput],
-    others: &[DirInput],
-    words: &str,
-) -> Result<(), Memory> {
+fn add_dirs(text: &mut Lines, dirs: &[DirInput], others: &[DirInput], words: &str) {
     'dirs: for dir in dirs {
         if !has_dir(others, dir) {
-            add(text, INDENT)?;
-            add(text, "input directory ")?;
-            add(text, form_word(dir))?;
-            add_path(text, dir.path())?;
-            add(text, words)?;
+            text.add(INDENT);
+            text.add("input directory ");
+            text.add(form_word(dir));
+            text.path(dir.path());
+            text.add(words);
         }
     }
-    Ok(())
 }
 
 fn sharing_word(dir: &OutDir) -> &'static str {
@@ -232,45 +194,39 @@ fn sharing_word(dir: &OutDir) -> &'static str {
 }
 
 // Adds which output directories, of the same paths, are shared now, or no more.
-fn add_sharing(text: &mut Vec<u8>, was: &[OutDir], is: &[OutDir]) -> Result<(), Memory> {
+fn add_sharing(text: &mut Lines, was: &[OutDir], is: &[OutDir]) {
     'dirs: for (old, new) in was.iter().zip(is) {
         if old.shared != new.shared {
-            add(text, INDENT)?;
-            add(text, "output directory ")?;
-            add_path(text, &new.path)?;
-            add(text, " was ")?;
-            add(text, sharing_word(old))?;
-            add(text, ", is ")?;
-            add(text, sharing_word(new))?;
-            end_line(text)?;
+            text.add(INDENT);
+            text.add("output directory ");
+            text.path(&new.path);
+            text.add(" was ");
+            text.add(sharing_word(old));
+            text.add(", is ");
+            text.add(sharing_word(new));
+            text.end_line();
         }
     }
-    Ok(())
 }
 
-fn add_lists(text: &mut Vec<u8>, was: &ProcessDesc, is: &ProcessDesc) -> Result<(), Memory> {
-    add_variables(text, was.env.pairs(), is.env.pairs())?;
-    add_gone_variables(text, was.env.pairs(), is.env.pairs())?;
-    add_dirs(text, is.dirs.dirs(), was.dirs.dirs(), " is new\n")?;
-    add_dirs(text, was.dirs.dirs(), is.dirs.dirs(), " is gone\n")?;
-    add_sharing(text, was.outdirs.dirs(), is.outdirs.dirs())
+fn add_lists(text: &mut Lines, was: &ProcessDesc, is: &ProcessDesc) {
+    add_variables(text, was.env.pairs(), is.env.pairs());
+    add_gone_variables(text, was.env.pairs(), is.env.pairs());
+    add_dirs(text, is.dirs.dirs(), was.dirs.dirs(), " is new\n");
+    add_dirs(text, was.dirs.dirs(), is.dirs.dirs(), " is gone\n");
+    add_sharing(text, was.outdirs.dirs(), is.outdirs.dirs());
 }
 
 /// Adds how the description that was stored differs from the one that is looked for.
-pub(crate) fn add_differences(
-    told: &Told<'_>,
-    text: &mut Vec<u8>,
-    was: &WeakParts,
-    is: &WeakParts,
-) -> Result<(), Memory> {
-    add_heads(told, text, was, is)?;
+pub(crate) fn add_differences(told: &Told<'_>, text: &mut Lines, was: &WeakParts, is: &WeakParts) {
+    add_heads(told, text, was, is);
     add_args(
         told,
         text,
         was.process.args.texts(),
         is.process.args.texts(),
-    )?;
-    add_inputs(told, text, was, is)?;
-    add_gone_inputs(told, text, was.process.files.files(), is)?;
-    add_lists(text, &was.process, &is.process)
+    );
+    add_inputs(told, text, was, is);
+    add_gone_inputs(told, text, was.process.files.files(), is);
+    add_lists(text, &was.process, &is.process);
 }

@@ -2,7 +2,7 @@
 
 ghost use Rattle.bx_tree.specs.Bundle.{IsInSize};
 
-use crate::shown::{add, add_shown};
+use crate::shown::Lines;
 use build_report::refused_report;
 use bundle_system::bundle_message;
 use bx_engine_front::{FrontEnd, FrontFault, Limits, Refusal, plan_of};
@@ -26,15 +26,15 @@ fn refusing(message: Result<String, AllocError>) -> Refused {
 // Why a specification is refused, in one line: the lines of its report after the first two.
 fn refusal_message(alloc: Global, refusal: &Refusal) -> Result<Vec<u8>, Memory> {
     let report = refused_report(alloc, refusal)?;
-    let mut text = Vec::new(alloc);
-    add(&mut text, "standard input: refused")?;
+    let mut text = Lines::new(alloc);
+    text.add("standard input: refused");
     'lines: for (number, line) in lines_of(alloc, report.as_slice())?.iter().enumerate() {
         if number >= 2 && !line.is_empty() {
-            add(&mut text, ", ")?;
-            add_shown(&mut text, line)?;
+            text.add(", ");
+            text.shown(line);
         }
     }
-    Ok(text)
+    text.end()
 }
 
 fn refuse_specification(alloc: Global, refusal: &Refusal) -> Refused {

@@ -1,7 +1,7 @@
 //! Why processes would run, in lines.
 
 use crate::differences::add_differences;
-use crate::shown::{add, add_path, add_shown, end_line};
+use crate::shown::Lines;
 use build_misses::Miss;
 use bx_digest::{Blob, Digest};
 use bx_tree::{Memory, Path, lines_of};
@@ -49,27 +49,19 @@ fn can_make(plan: &Plan, number: u32, path: &Path) -> bool {
 }
 
 /// Adds which process of the list makes a path, if one does.
-pub(crate) fn add_maker(told: &Told<'_>, text: &mut Vec<u8>, path: &Path) -> Result<(), Memory> {
+pub(crate) fn add_maker(told: &Told<'_>, text: &mut Lines, path: &Path) {
     'misses: for miss in told.misses {
         let number = miss.pip;
         if can_make(told.plan, number, path) {
-            return add(
-                text,
-                format!(in told.alloc; ", follows from pip {number}")?.as_str(),
-            );
+            text.made(format!(in told.alloc; ", follows from pip {number}"));
+            return;
         }
     }
-    Ok(())
 }
 
-fn add_name(
-    told: &Told<'_>,
-    text: &mut Vec<u8>,
-    kind: &str,
-    digest: &Digest,
-) -> Result<(), Memory> {
-    add(text, kind)?;
-    add(text, digest.hex(told.alloc)?.as_str())
+fn add_name(told: &Told<'_>, text: &mut Lines, kind: &str, digest: &Digest) {
+    text.add(kind);
+    text.made(digest.hex(told.alloc));
 }
 
 fn line_words(line: &AnswerLine) -> &'static str {
@@ -116,181 +108,169 @@ fn has_name(names: &[&[u8]], name: &[u8]) -> bool {
 }
 
 // Adds that the names which are not among others are new, or gone.
-fn add_names(
-    text: &mut Vec<u8>,
-    names: &[&[u8]],
-    others: &[&[u8]],
-    what: &str,
-) -> Result<(), Memory> {
+fn add_names(text: &mut Lines, names: &[&[u8]], others: &[&[u8]], what: &str) {
     let mut count: usize = 0;
     'names: for name in names {
         if !has_name(others, name) {
-            add(text, if count == 0 { "; " } else { ", " })?;
-            add_shown(text, name)?;
+            text.add(if count == 0 { "; " } else { ", " });
+            text.shown(name);
             count = count.saturating_add(1);
         }
     }
     match count {
-        0 => return Ok(()),
-        1 => add(text, " is ")?,
-        _ => add(text, " are ")?,
+        0 => return,
+        1 => text.add(" is "),
+        _ => text.add(" are "),
     }
-    add(text, what)
+    text.add(what);
 }
 
 // Adds names, with commas between them.
-fn add_list(text: &mut Vec<u8>, names: &[&[u8]]) -> Result<(), Memory> {
+fn add_list(text: &mut Lines, names: &[&[u8]]) {
     if names.is_empty() {
-        return add(text, "none");
+        text.add("none");
+        return;
     }
     'names: for (place, name) in names.iter().enumerate() {
-        add(text, if place == 0 { "" } else { ", " })?;
-        add_shown(text, name)?;
+        text.add(if place == 0 { "" } else { ", " });
+        text.shown(name);
     }
-    Ok(())
 }
 
-fn add_listing(text: &mut Vec<u8>, ask: &Ask) -> Result<(), Memory> {
-    add(text, "the names in ")?;
-    add_path(text, &ask.path)?;
+fn add_listing(text: &mut Lines, ask: &Ask) {
+    text.add("the names in ");
+    text.path(&ask.path);
     match &ask.kind {
         AskKind::Match(pattern) => {
-            add(text, " that match ")?;
-            add_shown(text, pattern.text())
+            text.add(" that match ");
+            text.shown(pattern.text())
         }
-        _ => Ok(()),
+        _ => (),
     }
 }
 
 // Adds how the names in a directory changed.
 fn add_names_changed(
     told: &Told<'_>,
-    text: &mut Vec<u8>,
+    text: &mut Lines,
     ask: &Ask,
     names: &Option<Blob>,
     now: &Blob,
-) -> Result<(), Memory> {
-    add_listing(text, ask)?;
+) {
+    add_listing(text, ask);
     let Some(old) = names else {
-        return add(text, " changed");
+        text.add(" changed");
+        return;
     };
-    let old = names_of(told.alloc, old.bytes())?;
-    let new = names_of(told.alloc, now.bytes())?;
-    add(text, " were ")?;
-    add_list(text, old.as_slice())?;
-    add_names(text, new.as_slice(), old.as_slice(), "new")?;
-    add_names(text, old.as_slice(), new.as_slice(), "gone")
+    let (Ok(old), Ok(new)) = (
+        names_of(told.alloc, old.bytes()),
+        names_of(told.alloc, now.bytes()),
+    ) else {
+        text.fail();
+        return;
+    };
+    text.add(" were ");
+    add_list(text, old.as_slice());
+    add_names(text, new.as_slice(), old.as_slice(), "new");
+    add_names(text, old.as_slice(), new.as_slice(), "gone");
 }
 
 // Adds how the answer to an ask changed.
 fn add_answer(
     told: &Told<'_>,
-    text: &mut Vec<u8>,
+    text: &mut Lines,
     ask: &Ask,
     line: &AnswerLine,
     now: &Answer,
     names: &Option<Blob>,
-) -> Result<(), Memory> {
+) {
     if let (AnswerLine::Names(_), Answer::Names(now)) = (line, now) {
-        return add_names_changed(told, text, ask, names, now);
+        add_names_changed(told, text, ask, names, now);
+        return;
     }
-    add_path(text, &ask.path)?;
+    text.path(&ask.path);
     if let (AnswerLine::Content(_), Answer::Content(_)) = (line, now) {
-        add(text, " changed")?;
-        return add_maker(told, text, &ask.path);
+        text.add(" changed");
+        add_maker(told, text, &ask.path);
+        return;
     }
-    add(text, " was ")?;
-    add(text, line_words(line))?;
-    add(text, ", is ")?;
-    add(text, answer_words(now))?;
-    add_maker(told, text, &ask.path)
+    text.add(" was ");
+    text.add(line_words(line));
+    text.add(", is ");
+    text.add(answer_words(now));
+    add_maker(told, text, &ask.path);
 }
 
 // Adds why a selector is not usable.
-fn add_no_fit(
-    told: &Told<'_>,
-    text: &mut Vec<u8>,
-    selector: &Selector,
-    why: &NoFit,
-) -> Result<(), Memory> {
+fn add_no_fit(told: &Told<'_>, text: &mut Lines, selector: &Selector, why: &NoFit) {
     match why {
         NoFit::NoPaths => {
-            add_name(told, text, "the path set b/", &selector.paths)?;
-            add(text, " is missing or damaged")
+            add_name(told, text, "the path set b/", &selector.paths);
+            text.add(" is missing or damaged")
         }
         NoFit::Answered(ask, line, now, names) => add_answer(told, text, ask, line, now, names),
         NoFit::AnsweredOtherwise => {
-            add_name(told, text, "the answers b/", &selector.strong)?;
-            add(text, " are missing or damaged")
+            add_name(told, text, "the answers b/", &selector.strong);
+            text.add(" are missing or damaged")
         }
         NoFit::NoEntry => {
-            add_name(told, text, "the entry e/", &selector.strong)?;
-            add(text, " is missing or damaged")
+            add_name(told, text, "the entry e/", &selector.strong);
+            text.add(" is missing or damaged")
         }
         NoFit::OtherEntry => {
-            add_name(told, text, "the entry e/", &selector.strong)?;
-            add(text, " is of another process")
+            add_name(told, text, "the entry e/", &selector.strong);
+            text.add(" is of another process")
         }
         NoFit::NoOutput(output) => {
-            add(text, "the output ")?;
-            add_path(text, &output.path)?;
-            add_name(told, text, " in b/", &output.digest)?;
-            add(text, " is missing or damaged")
+            text.add("the output ");
+            text.path(&output.path);
+            add_name(told, text, " in b/", &output.digest);
+            text.add(" is missing or damaged")
         }
     }
 }
 
 // Adds why none of the selectors is usable, a line each.
-fn add_no_fits(
-    told: &Told<'_>,
-    text: &mut Vec<u8>,
-    selectors: &[Selector],
-    why: &[NoFit],
-) -> Result<(), Memory> {
+fn add_no_fits(told: &Told<'_>, text: &mut Lines, selectors: &[Selector], why: &[NoFit]) {
     if why.is_empty() {
-        return add(text, "  no result is stored for it\n");
+        text.add("  no result is stored for it\n");
+        return;
     }
     'why: for (place, why) in why.iter().enumerate() {
-        add(text, "  ")?;
+        text.add("  ");
         if selectors.len() > 1 {
             let number = place.saturating_add(1);
-            add(
-                text,
-                format!(in told.alloc; "stored result {number}: ")?.as_str(),
-            )?;
+            text.made(format!(in told.alloc; "stored result {number}: "));
         }
         if let Some(selector) = selectors.get(place) {
-            add_no_fit(told, text, selector, why)?;
+            add_no_fit(told, text, selector, why);
         }
-        end_line(text)?;
+        text.end_line();
     }
-    Ok(())
 }
 
 // Adds the lines of a miss.
-fn add_miss(told: &Told<'_>, text: &mut Vec<u8>, miss: &Miss) -> Result<(), Memory> {
+fn add_miss(told: &Told<'_>, text: &mut Lines, miss: &Miss) {
     let number = miss.pip;
-    add(text, format!(in told.alloc; "pip {number}")?.as_str())?;
+    text.made(format!(in told.alloc; "pip {number}"));
     let Some(pip) = told.plan.pips().get(number as usize) else {
-        return end_line(text);
+        text.end_line();
+        return;
     };
     if let Some(path) = first_output(&pip.kind) {
-        text.push(b' ')?;
-        add_path(text, path)?;
+        text.byte(b' ');
+        text.path(path);
     }
-    end_line(text)?;
+    text.end_line();
     match &miss.reason {
-        Reason::NoList(None) => add(text, "  nothing with its outputs is stored\n"),
+        Reason::NoList(None) => text.add("  nothing with its outputs is stored\n"),
         Reason::NoList(Some(near)) => {
-            add(
-                text,
-                "  no result for its description; the nearest stored one differs:\n",
-            )?;
+            text.add("  no result for its description; the nearest stored one differs:\n");
             add_differences(told, text, &near.stored, &near.own)
         }
         Reason::BadList(weak) => {
-            add_name(told, text, "  the selector list w/", weak)?;
-            add(text, " is damaged\n")
+            add_name(told, text, "  the selector list w/", weak);
+            text.add(" is damaged\n")
         }
         Reason::NoneFits(selectors, why) => {
             add_no_fits(told, text, selectors.list(), why.list())
@@ -315,14 +295,11 @@ pub fn miss_lines(alloc: Global, plan: &Plan, misses: &[Miss]) -> Result<Vec<u8>
         plan,
         misses,
     };
-    let mut text = Vec::new(alloc);
+    let mut text = Lines::new(alloc);
     'misses: for miss in misses {
-        add_miss(&told, &mut text, miss)?;
+        add_miss(&told, &mut text, miss);
     }
     let (count, all) = (misses.len(), processes(plan));
-    add(
-        &mut text,
-        format!(in alloc; "{count} of {all} processes would run\n")?.as_str(),
-    )?;
-    Ok(text)
+    text.made(format!(in alloc; "{count} of {all} processes would run\n"));
+    text.end()
 }

@@ -109,39 +109,33 @@ fn course(alloc: Global, spots: &[Spot], number: usize, inputs: &[u32]) -> Resul
     Ok(course)
 }
 
-fn add_lines(alloc: Global, page: &mut Page, plan: &Plan, spots: &[Spot]) -> Result<(), Memory> {
+fn add_lines(alloc: Global, page: &mut Page, plan: &Plan, spots: &[Spot]) {
     let pips = plan.pips();
     'pips: for number in 0..pips.len() {
         let inputs = plan.inputs(number as u32);
         if !inputs.is_empty() {
-            let course = course(alloc, spots, number, inputs)?;
-            page.open_with(Tag::Line, Attr::Course, course.as_str())?;
-            page.close(Tag::Line)?;
+            let course = course(alloc, spots, number, inputs);
+            page.open_made(Tag::Line, Attr::Course, course);
+            page.close(Tag::Line);
         }
     }
-    Ok(())
 }
 
-fn add_box(
-    alloc: Global,
-    page: &mut Page,
-    number: usize,
-    spot: Spot,
-    class: &str,
-) -> Result<(), Memory> {
+fn add_box(alloc: Global, page: &mut Page, number: usize, spot: Spot, class: &str) {
     let (x, y) = (spot.x, spot.y);
-    let at = format!(in alloc; "translate({x} {y})")?;
-    let target = format!(in alloc; "#p{number}")?;
-    let shown = format!(in alloc; "{number}")?;
-    page.open_with(Tag::Link, Attr::Href, target.as_str())?;
-    page.open_with(Tag::Group, Attr::Transform, at.as_str())?;
-    page.open_with(Tag::Box, Attr::Class, class)?;
-    page.close(Tag::Box)?;
-    page.open_with(Tag::Label, Attr::Transform, "translate(22 13)")?;
-    page.text(shown.as_bytes())?;
-    page.close(Tag::Label)?;
-    page.close(Tag::Group)?;
-    page.close(Tag::Link)
+    page.open_made(Tag::Link, Attr::Href, format!(in alloc; "#p{number}"));
+    page.open_made(
+        Tag::Group,
+        Attr::Transform,
+        format!(in alloc; "translate({x} {y})"),
+    );
+    page.open_with(Tag::Box, Attr::Class, class);
+    page.close(Tag::Box);
+    page.open_with(Tag::Label, Attr::Transform, "translate(22 13)");
+    page.made(format!(in alloc; "{number}"));
+    page.close(Tag::Label);
+    page.close(Tag::Group);
+    page.close(Tag::Link);
 }
 
 /// Adds the picture of a graph.
@@ -155,11 +149,15 @@ pub(crate) fn add_picture(
     let spots = spots(alloc, layers.as_slice())?;
     let width = width(spots.as_slice());
     let height = height(spots.as_slice());
-    let area = format!(in alloc; "-4 -8 {width} {height}")?;
-    page.open_with(Tag::Picture, Attr::ViewBox, area.as_str())?;
-    add_lines(alloc, page, plan, spots.as_slice())?;
+    page.open_made(
+        Tag::Picture,
+        Attr::ViewBox,
+        format!(in alloc; "-4 -8 {width} {height}"),
+    );
+    add_lines(alloc, page, plan, spots.as_slice());
     'spots: for (number, spot) in spots.iter().enumerate() {
-        add_box(alloc, page, number, *spot, class_of(ends, number))?;
+        add_box(alloc, page, number, *spot, class_of(ends, number));
     }
-    page.close(Tag::Picture)
+    page.close(Tag::Picture);
+    Ok(())
 }

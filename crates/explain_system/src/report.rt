@@ -1,6 +1,6 @@
 //! Reading a report, and telling how pips ended in sentences.
 
-use crate::shown::{add, add_shown};
+use crate::shown::Lines;
 use bx_tree::{Memory, lines_of};
 use pip_graph::{Ended, kind_word};
 use pip_model::{Pip, Plan};
@@ -35,61 +35,55 @@ fn sentence(
     shown: &[u8],
     after: &str,
 ) -> Result<Option<Vec<u8>>, Memory> {
-    let mut text = Vec::new(alloc);
-    add(&mut text, before)?;
-    add_shown(&mut text, shown)?;
-    add(&mut text, after)?;
-    Ok(Some(text))
+    let mut text = Lines::new(alloc);
+    text.add(before);
+    text.shown(shown);
+    text.add(after);
+    Ok(Some(text.end()?))
+}
+
+fn is(word: &[u8], name: &str) -> bool {
+    word == name.as_bytes()
 }
 
 // What a violation of this kind that concerns no other pip was.
 fn alone(alloc: Global, kind: &[u8], path: &[u8]) -> Result<Option<Vec<u8>>, Memory> {
-    match kind {
-        b"MissingSourceDependency" => {
-            sentence(
-                alloc,
-                "It read the source file ",
-                path,
-                ", which it does not declare.",
-            )
-        }
-        b"UndeclaredOutput" => {
-            sentence(
-                alloc,
-                "It wrote ",
-                path,
-                ", which it does not declare to make.",
-            )
-        }
-        _ => Ok(None),
+    if is(kind, "MissingSourceDependency") {
+        let after = ", which it does not declare.";
+        return sentence(alloc, "It read the source file ", path, after);
     }
+    if is(kind, "UndeclaredOutput") {
+        return sentence(
+            alloc,
+            "It wrote ",
+            path,
+            ", which it does not declare to make.",
+        );
+    }
+    Ok(None)
 }
 
-// What follows the path in the sentence of a violation that concerns another pip.
+// What stands before, between and after the path and the other pip in the sentence of a violation that concerns another pip.
 fn between(kind: &[u8]) -> Option<(&'static str, &'static str, &'static str)> {
-    match kind {
-        b"UndeclaredOrderedRead" => Some((
-            "It read ",
-            ", which another pip can make. It waits for that pip, but does not take the file: pip ",
-            ".",
-        )),
-        b"UndeclaredReadCycle" => Some((
-            "It read ",
-            ", which another pip can make, and that pip waits for it: pip ",
-            ".",
-        )),
-        b"ReadRace" => Some((
-            "It read ",
-            ", which another pip can make, and nothing says which of the two comes first: pip ",
-            ".",
-        )),
-        b"DoubleWrite" => Some((
-            "It wrote ",
-            " in a directory that it shares, where another pip had written: pip ",
-            ".",
-        )),
-        _ => None,
+    if is(kind, "UndeclaredOrderedRead") {
+        let middle =
+            ", which another pip can make. It waits for that pip, but does not take the file: pip ";
+        return Some(("It read ", middle, "."));
     }
+    if is(kind, "UndeclaredReadCycle") {
+        let middle = ", which another pip can make, and that pip waits for it: pip ";
+        return Some(("It read ", middle, "."));
+    }
+    if is(kind, "ReadRace") {
+        let middle =
+            ", which another pip can make, and nothing says which of the two comes first: pip ";
+        return Some(("It read ", middle, "."));
+    }
+    if is(kind, "DoubleWrite") {
+        let middle = " in a directory that it shares, where another pip had written: pip ";
+        return Some(("It wrote ", middle, "."));
+    }
+    None
 }
 
 // What a violation was that concerns another pip.
@@ -102,13 +96,13 @@ fn with_other(
     let Some((start, middle, end)) = between(kind) else {
         return Ok(None);
     };
-    let mut text = Vec::new(alloc);
-    add(&mut text, start)?;
-    add_shown(&mut text, path)?;
-    add(&mut text, middle)?;
-    add_shown(&mut text, other)?;
-    add(&mut text, end)?;
-    Ok(Some(text))
+    let mut text = Lines::new(alloc);
+    text.add(start);
+    text.shown(path);
+    text.add(middle);
+    text.shown(other);
+    text.add(end);
+    Ok(Some(text.end()?))
 }
 
 // The word at a place, or nothing.
@@ -121,14 +115,16 @@ fn word_at<'a>(words: &[&'a [u8]], place: usize) -> &'a [u8] {
 
 // The sentence of a failure that two words say.
 fn by_two(alloc: Global, first: &[u8], second: &[u8]) -> Result<Option<Vec<u8>>, Memory> {
-    match first {
-        b"exit" => sentence(alloc, "Its tool ended with the code ", second, "."),
-        b"tool" => sentence(alloc, "Its tool was at fault: ", second, "."),
-        b"missing-output" => {
-            sentence(alloc, "It did not write ", second, ", which it declares.")
-        }
-        _ => Ok(None),
+    if is(first, "exit") {
+        return sentence(alloc, "Its tool ended with the code ", second, ".");
     }
+    if is(first, "tool") {
+        return sentence(alloc, "Its tool was at fault: ", second, ".");
+    }
+    if is(first, "missing-output") {
+        return sentence(alloc, "It did not write ", second, ", which it declares.");
+    }
+    Ok(None)
 }
 
 // The sentence of a failure, by the words after `failed`.
@@ -137,9 +133,7 @@ fn failure(alloc: Global, words: &[&[u8]]) -> Result<Option<Vec<u8>>, Memory> {
     match words.len() {
         2 => by_two(alloc, first, word_at(words, 1)),
         3 => alone(alloc, first, path),
-        5 if word_at(words, 3) == b"pip".as_slice() => {
-            with_other(alloc, first, path, word_at(words, 4))
-        }
+        5 if is(word_at(words, 3), "pip") => { with_other(alloc, first, path, word_at(words, 4)) }
         _ => Ok(None),
     }
 }
@@ -150,28 +144,33 @@ fn end_with(ended: Ended, sentence: Option<Vec<u8>>) -> Option<PipEnd> {
     Some(PipEnd { ended, sentence })
 }
 
+// How a pip ended of which its report says one word.
+fn end_by_word(alloc: Global, word: &[u8]) -> Result<Option<PipEnd>, Memory> {
+    if is(word, "succeeded") {
+        let said = sentence(alloc, "It succeeded.", b"", "")?;
+        return Ok(end_with(Ended::Succeeded, said));
+    }
+    if is(word, "skipped") {
+        let why = "It was skipped: a pip that it waits for did not succeed.";
+        let said = sentence(alloc, why, b"", "")?;
+        return Ok(end_with(Ended::Skipped, said));
+    }
+    Ok(None)
+}
+
 // How a pip ended, by the words of the end of its line.
 fn end_of(alloc: Global, words: &[&[u8]]) -> Result<Option<PipEnd>, Memory> {
     let Some((first, more)) = words.split_first() else {
         return Ok(None);
     };
-    let first: &[u8] = first;
-    match first {
-        b"succeeded" if more.is_empty() => {
-            let said = sentence(alloc, "It succeeded.", b"", "")?;
-            Ok(end_with(Ended::Succeeded, said))
-        }
-        b"skipped" if more.is_empty() => {
-            let why = "It was skipped: a pip that it waits for did not succeed.";
-            let said = sentence(alloc, why, b"", "")?;
-            Ok(end_with(Ended::Skipped, said))
-        }
-        b"failed" => {
-            let said = failure(alloc, more)?;
-            Ok(end_with(Ended::Failed, said))
-        }
-        _ => Ok(None),
+    if more.is_empty() {
+        return end_by_word(alloc, first);
     }
+    if !is(first, "failed") {
+        return Ok(None);
+    }
+    let said = failure(alloc, more)?;
+    Ok(end_with(Ended::Failed, said))
 }
 
 // How the pip with this number ended, by its line.
@@ -206,8 +205,7 @@ fn all_ends(alloc: Global, pips: &[Pip], lines: &[&[u8]]) -> Result<Option<Vec<P
 }
 
 fn is_head(first: &[u8], second: &[u8]) -> bool {
-    first == b"report 1".as_slice()
-        && (second == b"verdict succeeded".as_slice() || second == b"verdict failed".as_slice())
+    is(first, "report 1") && (is(second, "verdict succeeded") || is(second, "verdict failed"))
 }
 
 // The lines of a report between its first two and the last one, which is empty.

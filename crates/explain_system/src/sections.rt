@@ -31,63 +31,62 @@ fn add_waiting(waiting: &mut [Vec<usize>], number: usize, inputs: &[u32]) -> Res
 }
 
 // A line with a title and a text.
-fn add_line(page: &mut Page, title: &str, bytes: &[u8]) -> Result<(), Memory> {
-    page.open(Tag::Paragraph)?;
-    page.text(title.as_bytes())?;
-    page.element(Tag::Code, bytes)?;
-    page.close(Tag::Paragraph)
+fn add_line(page: &mut Page, title: &str, bytes: &[u8]) {
+    page.open(Tag::Paragraph);
+    page.text(title.as_bytes());
+    page.element(Tag::Code, bytes);
+    page.close(Tag::Paragraph);
 }
 
-fn add_path(page: &mut Page, title: &str, path: &Path) -> Result<(), Memory> {
-    add_line(page, title, path.text().as_bytes())
+fn add_path(page: &mut Page, title: &str, path: &Path) {
+    add_line(page, title, path.text().as_bytes());
 }
 
-fn add_args(page: &mut Page, args: &[Text]) -> Result<(), Memory> {
+fn add_args(page: &mut Page, args: &[Text]) {
     if args.is_empty() {
-        return Ok(());
+        return;
     }
-    page.element(Tag::Paragraph, b"arguments")?;
-    page.open(Tag::List)?;
+    page.element(Tag::Paragraph, b"arguments");
+    page.open(Tag::List);
     'args: for arg in args {
-        page.open(Tag::Item)?;
-        page.element(Tag::Code, arg.bytes())?;
-        page.close(Tag::Item)?;
+        page.open(Tag::Item);
+        page.element(Tag::Code, arg.bytes());
+        page.close(Tag::Item);
     }
-    page.close(Tag::List)
+    page.close(Tag::List);
 }
 
-fn add_variables(page: &mut Page, pairs: &[EnvPair]) -> Result<(), Memory> {
+fn add_variables(page: &mut Page, pairs: &[EnvPair]) {
     'pairs: for pair in pairs {
-        page.open(Tag::Paragraph)?;
-        page.text(b"variable ")?;
-        page.element(Tag::Code, pair.name.bytes())?;
-        page.text(b" is ")?;
-        page.element(Tag::Code, pair.value.bytes())?;
-        page.close(Tag::Paragraph)?;
+        page.open(Tag::Paragraph);
+        page.text(b"variable ");
+        page.element(Tag::Code, pair.name.bytes());
+        page.text(b" is ");
+        page.element(Tag::Code, pair.value.bytes());
+        page.close(Tag::Paragraph);
     }
-    Ok(())
 }
 
-fn add_input(page: &mut Page, file: &FileInput) -> Result<(), Memory> {
-    page.open(Tag::Item)?;
-    page.text(file.path().text().as_bytes())?;
+fn add_input(page: &mut Page, file: &FileInput) {
+    page.open(Tag::Item);
+    page.text(file.path().text().as_bytes());
     if let FileInput::Made(_, pip) = file {
-        page.text(b", made by pip ")?;
-        page.link(*pip as usize)?;
+        page.text(b", made by pip ");
+        page.link(*pip as usize);
     }
-    page.close(Tag::Item)
+    page.close(Tag::Item);
 }
 
-fn add_inputs(page: &mut Page, title: &[u8], files: &[FileInput]) -> Result<(), Memory> {
+fn add_inputs(page: &mut Page, title: &[u8], files: &[FileInput]) {
     if files.is_empty() {
-        return Ok(());
+        return;
     }
-    page.element(Tag::Paragraph, title)?;
-    page.open(Tag::List)?;
+    page.element(Tag::Paragraph, title);
+    page.open(Tag::List);
     'files: for file in files {
-        add_input(page, file)?;
+        add_input(page, file);
     }
-    page.close(Tag::List)
+    page.close(Tag::List);
 }
 
 fn form_words(form: SealForm) -> &'static str {
@@ -99,47 +98,47 @@ fn form_words(form: SealForm) -> &'static str {
     }
 }
 
-fn add_dir(page: &mut Page, dir: &DirInput) -> Result<(), Memory> {
-    page.open(Tag::Item)?;
-    page.text(dir.path().text().as_bytes())?;
-    page.text(b"/")?;
+fn add_dir(page: &mut Page, dir: &DirInput) {
+    page.open(Tag::Item);
+    page.text(dir.path().text().as_bytes());
+    page.text(b"/");
     match dir {
-        DirInput::Sealed(_, form, _) => page.text(form_words(*form).as_bytes())?,
-        DirInput::Opaque(_, _) => page.text(b", an output of pip ")?,
+        DirInput::Sealed(_, form, _) => page.text(form_words(*form).as_bytes()),
+        DirInput::Opaque(_, _) => page.text(b", an output of pip "),
     }
-    page.link(dir.pip() as usize)?;
-    page.close(Tag::Item)
+    page.link(dir.pip() as usize);
+    page.close(Tag::Item);
 }
 
-fn add_dirs(page: &mut Page, dirs: &[DirInput]) -> Result<(), Memory> {
+fn add_dirs(page: &mut Page, dirs: &[DirInput]) {
     if dirs.is_empty() {
-        return Ok(());
+        return;
     }
-    page.element(Tag::Paragraph, b"input directories")?;
-    page.open(Tag::List)?;
+    page.element(Tag::Paragraph, b"input directories");
+    page.open(Tag::List);
     'dirs: for dir in dirs {
-        add_dir(page, dir)?;
+        add_dir(page, dir);
     }
-    page.close(Tag::List)
+    page.close(Tag::List);
 }
 
-fn add_process(page: &mut Page, process: &ProcessDesc) -> Result<(), Memory> {
-    add_path(page, "tool ", &process.exe)?;
-    add_path(page, "working directory ", &process.dir)?;
-    add_args(page, process.args.texts())?;
-    add_variables(page, process.env.pairs())?;
-    add_inputs(page, b"inputs", process.files.files())?;
-    add_dirs(page, process.dirs.dirs())
+fn add_process(page: &mut Page, process: &ProcessDesc) {
+    add_path(page, "tool ", &process.exe);
+    add_path(page, "working directory ", &process.dir);
+    add_args(page, process.args.texts());
+    add_variables(page, process.env.pairs());
+    add_inputs(page, b"inputs", process.files.files());
+    add_dirs(page, process.dirs.dirs());
 }
 
 // What a pip does.
-fn add_kind(page: &mut Page, kind: &PipKind) -> Result<(), Memory> {
+fn add_kind(page: &mut Page, kind: &PipKind) {
     match kind {
         PipKind::Process(process) => add_process(page, process),
         PipKind::Copy(copy) => {
-            page.element(Tag::Paragraph, b"copies")?;
-            page.open(Tag::List)?;
-            add_input(page, &copy.from)?;
+            page.element(Tag::Paragraph, b"copies");
+            page.open(Tag::List);
+            add_input(page, &copy.from);
             page.close(Tag::List)
         }
         PipKind::Write(write) => add_line(page, "text ", write.text.bytes()),
@@ -147,14 +146,14 @@ fn add_kind(page: &mut Page, kind: &PipKind) -> Result<(), Memory> {
     }
 }
 
-fn add_links(page: &mut Page, title: &[u8], pips: &[usize]) -> Result<(), Memory> {
-    page.open(Tag::Paragraph)?;
-    page.text(title)?;
+fn add_links(page: &mut Page, title: &[u8], pips: &[usize]) {
+    page.open(Tag::Paragraph);
+    page.text(title);
     'pips: for pip in pips {
-        page.text(b" ")?;
-        page.link(*pip)?;
+        page.text(b" ");
+        page.link(*pip);
     }
-    page.close(Tag::Paragraph)
+    page.close(Tag::Paragraph);
 }
 
 // The numbers of pips for links.
@@ -174,23 +173,22 @@ fn add_section(
     ends: &[PipEnd],
     inputs: &[usize],
     waiting: &[usize],
-) -> Result<(), Memory> {
-    let id = format!(in alloc; "p{number}")?;
+) {
     let word = kind_word(&pip.kind);
-    page.open_with(Tag::Section, Attr::Id, id.as_str())?;
-    page.open_with(Tag::Subheading, Attr::Class, class_of(ends, number))?;
-    page.text(format!(in alloc; "pip {number}, {word}")?.as_bytes())?;
-    page.close(Tag::Subheading)?;
+    page.open_made(Tag::Section, Attr::Id, format!(in alloc; "p{number}"));
+    page.open_with(Tag::Subheading, Attr::Class, class_of(ends, number));
+    page.made(format!(in alloc; "pip {number}, {word}"));
+    page.close(Tag::Subheading);
     if let Some(end) = ends.get(number) {
-        page.element(Tag::Paragraph, &end.sentence)?;
+        page.element(Tag::Paragraph, &end.sentence);
     }
-    add_path(page, "asked for in ", &pip.spec)?;
-    add_kind(page, &pip.kind)?;
-    page.element(Tag::Paragraph, b"outputs")?;
-    add_outputs(page, &pip.kind)?;
-    add_links(page, b"waits for", inputs)?;
-    add_links(page, b"waited for by", waiting)?;
-    page.close(Tag::Section)
+    add_path(page, "asked for in ", &pip.spec);
+    add_kind(page, &pip.kind);
+    page.element(Tag::Paragraph, b"outputs");
+    add_outputs(page, &pip.kind);
+    add_links(page, b"waits for", inputs);
+    add_links(page, b"waited for by", waiting);
+    page.close(Tag::Section);
 }
 
 /// Adds the section of each pip.
@@ -213,7 +211,7 @@ pub(crate) fn add_sections(
                 ends,
                 inputs.as_slice(),
                 users,
-            )?;
+            );
         }
     }
     Ok(())

@@ -1,6 +1,6 @@
 //! What is wrong in a tool, and what its lines do, in words.
 
-use crate::shown::{add, add_shown};
+use crate::shown::Lines;
 use bx_tree::{Memory, lines_of};
 use std::alloc::Global;
 use tool_faults::{LineFault, OperandKind, Wrong};
@@ -31,58 +31,52 @@ fn wrong_words(alloc: Global, wrong: Wrong) -> Result<String, Memory> {
 }
 
 // A line with this number, without the spaces that make its lines of one width.
-fn add_fault(
-    alloc: Global,
-    text: &mut Vec<u8>,
-    lines: &[&[u8]],
-    fault: LineFault,
-) -> Result<(), Memory> {
+fn add_fault(alloc: Global, text: &mut Lines, lines: &[&[u8]], fault: LineFault) {
     let number = fault.line;
-    let what = wrong_words(alloc, fault.wrong)?;
-    add(text, format!(in alloc; "line {number}: {what}: ")?.as_str())?;
+    text.made(format!(in alloc; "line {number}: "));
+    text.made(wrong_words(alloc, fault.wrong));
+    text.add(": ");
     if let Some(line) = lines.get(number.saturating_sub(1)) {
-        add_shown(text, line)?;
+        text.shown(line);
     }
-    text.push(b'\n')?;
-    Ok(())
+    text.end_line();
 }
 
 /// A line for each fault of a tool's text.
 pub fn fault_lines(alloc: Global, tool: &[u8], faults: &[LineFault]) -> Result<Vec<u8>, Memory> {
     let lines = lines_of(alloc, tool)?;
-    let mut text = Vec::new(alloc);
+    let mut text = Lines::new(alloc);
     'faults: for fault in faults {
-        add_fault(alloc, &mut text, lines.as_slice(), *fault)?;
+        add_fault(alloc, &mut text, lines.as_slice(), *fault);
     }
-    Ok(text)
+    text.end()
 }
 
-fn add_register(alloc: Global, text: &mut Vec<u8>, register: Register) -> Result<(), Memory> {
+fn add_register(alloc: Global, text: &mut Lines, register: Register) {
     let number = register.number();
-    add(text, format!(in alloc; "r{number}")?.as_str())
+    text.made(format!(in alloc; "r{number}"));
 }
 
 // A byte of a string as a tool spells it.
-fn add_spelled(text: &mut Vec<u8>, byte: u8) -> Result<(), Memory> {
+fn add_spelled(text: &mut Lines, byte: u8) {
     match byte {
-        b'\n' => add(text, "\\n"),
-        b'\t' => add(text, "\\t"),
-        b'"' => add(text, "\\\""),
-        b'\\' => add(text, "\\\\"),
-        _ => add_shown(text, &[byte]),
+        b'\n' => text.add("\\n"),
+        b'\t' => text.add("\\t"),
+        b'"' => text.add("\\\""),
+        b'\\' => text.add("\\\\"),
+        _ => text.shown(&[byte]),
     }
 }
 
-fn add_string(text: &mut Vec<u8>, bytes: &[u8]) -> Result<(), Memory> {
-    text.push(b'"')?;
+fn add_string(text: &mut Lines, bytes: &[u8]) {
+    text.byte(b'"');
     'bytes: for byte in bytes {
-        add_spelled(text, *byte)?;
+        add_spelled(text, *byte);
     }
-    text.push(b'"')?;
-    Ok(())
+    text.byte(b'"');
 }
 
-fn add_operand(alloc: Global, text: &mut Vec<u8>, operand: &Operand) -> Result<(), Memory> {
+fn add_operand(alloc: Global, text: &mut Lines, operand: &Operand) {
     match operand {
         Operand::Register(register) => add_register(alloc, text, *register),
         Operand::Constant(bytes) => add_string(text, bytes.bytes()),
@@ -90,37 +84,31 @@ fn add_operand(alloc: Global, text: &mut Vec<u8>, operand: &Operand) -> Result<(
 }
 
 // Adds words, an operand, more words, and a register.
-fn add_use(
-    alloc: Global,
-    text: &mut Vec<u8>,
-    words: &str,
-    path: &Operand,
-    register: Register,
-) -> Result<(), Memory> {
-    add(text, words)?;
-    add_operand(alloc, text, path)?;
-    add(text, " into ")?;
-    add_register(alloc, text, register)
+fn add_use(alloc: Global, text: &mut Lines, words: &str, path: &Operand, register: Register) {
+    text.add(words);
+    add_operand(alloc, text, path);
+    text.add(" into ");
+    add_register(alloc, text, register);
 }
 
 // Adds what an instruction does to files.
-fn add_instr(alloc: Global, text: &mut Vec<u8>, instr: &Instr) -> Result<(), Memory> {
+fn add_instr(alloc: Global, text: &mut Lines, instr: &Instr) {
     match instr {
         Instr::Read(r, path, _) => add_use(alloc, text, "reads the file at ", path, *r),
         Instr::Probe(r, path) => add_use(alloc, text, "probes ", path, *r),
         Instr::List(r, path) => add_use(alloc, text, "lists ", path, *r),
         Instr::Match(r, path, pattern) => {
-            add(text, "lists the names that match ")?;
-            add_operand(alloc, text, pattern)?;
+            text.add("lists the names that match ");
+            add_operand(alloc, text, pattern);
             add_use(alloc, text, " in ", path, *r)
         }
         Instr::Write(path, value) => {
-            add(text, "writes ")?;
-            add_operand(alloc, text, value)?;
-            add(text, " to the file at ")?;
+            text.add("writes ");
+            add_operand(alloc, text, value);
+            text.add(" to the file at ");
             add_operand(alloc, text, path)
         }
-        _ => Ok(()),
+        _ => (),
     }
 }
 
@@ -138,14 +126,14 @@ fn has_file(instr: &Instr) -> bool {
 /// A line for each instruction of a tool that reads, probes, lists or writes. The numbers are those of the lines of its
 /// instructions.
 pub fn use_lines(alloc: Global, tool: &Tool, numbers: &[usize]) -> Result<Vec<u8>, Memory> {
-    let mut text = Vec::new(alloc);
+    let mut text = Lines::new(alloc);
     'instrs: for (place, instr) in tool.lines().iter().enumerate() {
         if has_file(instr) {
             let number = numbers.get(place).copied().unwrap_or(0);
-            add(&mut text, format!(in alloc; "line {number}: ")?.as_str())?;
-            add_instr(alloc, &mut text, instr)?;
-            text.push(b'\n')?;
+            text.made(format!(in alloc; "line {number}: "));
+            add_instr(alloc, &mut text, instr);
+            text.end_line();
         }
     }
-    Ok(text)
+    text.end()
 }
