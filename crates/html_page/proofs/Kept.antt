@@ -122,13 +122,6 @@ piece_kept (pieces.OpenWith tag attr value) rest h =
     markup_kept InText InValue (tag_start tag ++ attr_start attr) (Given value ∷ Markup (quote ++ codes ">") ∷ rest)
     (after_tag tag (attr_start attr) ∙ after_attr attr)
     (value_kept value (Markup (quote ++ codes ">") ∷ rest) (markup_kept InValue InText (quote ++ codes ">") rest refl h))
-piece_kept (pieces.OpenBoth tag attr value other more) rest h =
-    markup_kept InText InValue (tag_start tag ++ attr_start attr)
-    (Given value ∷ Markup (quote ++ attr_start other) ∷ Given more ∷ Markup (quote ++ codes ">") ∷ rest)
-    (after_tag tag (attr_start attr) ∙ after_attr attr)
-    (value_kept value (Markup (quote ++ attr_start other) ∷ Given more ∷ Markup (quote ++ codes ">") ∷ rest)
-    (markup_kept InValue InValue (quote ++ attr_start other) (Given more ∷ Markup (quote ++ codes ">") ∷ rest) (after_attr other)
-    (value_kept more (Markup (quote ++ codes ">") ∷ rest) (markup_kept InValue InText (quote ++ codes ">") rest refl h))))
 piece_kept (pieces.Close tag) rest h = markup_kept InText InText (closing tag) rest (after_closing tag) h
 piece_kept (pieces.Text text) rest h = text_kept text rest h
 

@@ -67,9 +67,6 @@ abbrev pub parts_of : Piece → List Part
 parts_of (pieces.Open tag) = Markup (tag_start tag ++ codes ">") ∷ []
 parts_of (pieces.OpenWith tag attr value) =
     Markup (tag_start tag ++ attr_start attr) ∷ Given value ∷ Markup (quote ++ codes ">") ∷ []
-parts_of (pieces.OpenBoth tag attr value other more) =
-    Markup (tag_start tag ++ attr_start attr) ∷ Given value
-    ∷ Markup (quote ++ attr_start other) ∷ Given more ∷ Markup (quote ++ codes ">") ∷ []
 parts_of (pieces.Close tag) = Markup (closing tag) ∷ []
 parts_of (pieces.Text text) = Given text ∷ []
 

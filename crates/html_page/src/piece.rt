@@ -39,12 +39,11 @@ pub enum Attr {
     ViewBox,
 }
 
-/// A piece of a page: the beginning of an element, perhaps with one attribute or two, its end, or a text.
+/// A piece of a page: the beginning of an element, perhaps with an attribute, its end, or a text.
 #[derive(Drop)]
 pub enum Piece {
     Open(Tag),
     OpenWith(Tag, Attr, Text),
-    OpenBoth(Tag, Attr, Text, Attr, Text),
     Close(Tag),
     Text(Text),
 }

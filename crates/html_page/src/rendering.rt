@@ -96,13 +96,6 @@ fn add_piece(text: &mut Vec<u8>, piece: &Piece) -> Result<(), Memory>
             add_attr(text, *attr, value.bytes())?;
             text.extend_from_slice(b"\">")
         }
-        Piece::OpenBoth(tag, attr, value, other, more) => {
-            add_start(text, *tag)?;
-            add_attr(text, *attr, value.bytes())?;
-            text.push(b'"')?;
-            add_attr(text, *other, more.bytes())?;
-            text.extend_from_slice(b"\">")
-        }
         Piece::Close(tag) => add_close(text, *tag),
         Piece::Text(given) => add_escaped(text, given.bytes()),
     }
