@@ -1,7 +1,8 @@
 //! Puts and drops of names in a folder, in an order that a loss of power cannot turn round.
 
-ghost use Rattle.std.specs.Prelude.{◌≡◌, ◌≢◌, ◌<◌, ◌≤◌, ◌||◌, ◌↔◌, IfErr, IfSome, IsErr, IsTrue, ℕ, List, bytes_eq, length, true, false, [], None, Ok, OnErr, OnOk, IfOk, codes, slice_index, string_bytes, take};
+ghost use Rattle.std.specs.Prelude.{◌≡◌, ◌≢◌, ◌<◌, ◌≤◌, ◌||◌, ◌↔◌, ◌++◌, IfErr, IfSome, IsErr, IsTrue, ℕ, List, bytes_eq, length, true, false, [], None, Ok, OnErr, OnOk, IfOk, codes, slice_index, string_bytes, take};
 ghost use Rattle.std.specs.FinMap.{get};
+ghost use Rattle.std.specs.Fmt.{decimal};
 ghost use Rattle.std.specs.IoError.{error_kind};
 ghost use Rattle.std.specs.declared.io.ErrorKind.TheVariants.{AlreadyExists, NotFound, OutOfMemory, WouldBlock};
 ghost use Rattle.bx_io.specs.Causes.{HasCause};
@@ -19,6 +20,9 @@ use std::io::{self, ErrorKind};
 
 /// How many puts of one name may be under way at the same time.
 pub const PLACES: u64 = 64;
+
+// The most bytes that follow a name where a file is begun.
+const LONGEST_ENDING: usize = 7;
 
 /// The files of a folder, with what has to be synced before the next change: the folder of the contents before an
 /// entry that follows them; that of the entries before a list, and before a content is dropped; and before a file
@@ -47,13 +51,27 @@ fn letter_of(name: &str) -> u8
     bytes[0]
 }
 
+// Adds a number to a text.
+fn push_number(alloc: Global, text: &mut String, number: u64) -> Result<(), AllocError>
+    ensures { OnOk result (string_bytes text.new ≡ string_bytes text.old ++ decimal number) }
+{
+    if number == 0 {
+        return text.push_str("0");
+    }
+    text.push_str(format!(in alloc; "{number}")?.as_str())
+}
+
 // Where the file of a name may be begun.
 fn begun_path(alloc: Global, name: &str, place: u64) -> Result<String, AllocError>
     requires { IsName name.now }
     ensures at { IfOk result (λ begun. string_bytes begun ≡ begun_at name.now place) }
     ensures begun { IfOk result (λ begun. IsBegun (string_bytes begun)) }
 {
-    format!(in alloc; "{name}.new-{place}")
+    let mut begun = String::with_capacity(alloc, NAME_LENGTH + LONGEST_ENDING)?;
+    begun.push_str(name)?;
+    begun.push_str(".new-")?;
+    push_number(alloc, &mut begun, place)?;
+    Ok(begun)
 }
 
 // Whether this is what follows a name where a file is begun, now or before there were places.
@@ -209,8 +227,10 @@ impl<D: Disk> OrderedDisk<D> {
         }
     }
 
-    // Locks the folder before something is read. Where there is no lock, but nobody excludes this handle, it is read without.
-    fn enter(&mut self, alloc: Global) -> io::Result<()>
+    // Locks the folder before something is read, and answers whether it is there. Where there is no lock, but nobody excludes
+    // this handle, it is read without.
+    fn enter(&mut self, alloc: Global) -> io::Result<bool>
+        ensures missing { D.is_known ≡ true → result ≡ Ok false → HasNone (D.files self.old.disk) }
         ensures files { D.files self.new.disk ≡ D.files self.old.disk }
         ensures alone { self.new.alone ≡ self.old.alone }
         ensures there { IfErr result (λ e. error_kind e ≢ NotFound) }
@@ -219,9 +239,8 @@ impl<D: Disk> OrderedDisk<D> {
         ensures cause { HasCause (D.faults self.old.disk) (D.faults self.new.disk) (IsFault result) }
     {
         match self.lock(alloc) {
-            Ok(_) => Ok(()),
-            Err(error) if is_readable(error.kind(), self.alone) => Ok(()),
-            Err(error) => Err(error),
+            Err(error) if is_readable(error.kind(), self.alone) => Ok(true),
+            locked => locked,
         }
     }
 
@@ -233,8 +252,7 @@ impl<D: Disk> OrderedDisk<D> {
         ensures excluded { is_excluded (D.calls self.old.disk) ≡ true → IsExcluded result }
         ensures cause { HasCause (D.faults self.old.disk) (D.faults self.new.disk) (IsFaultBut NotFound result) }
     {
-        self.enter(alloc)?;
-        if self.disk.look(alloc, name)? {
+        if self.enter(alloc)? && self.disk.look(alloc, name)? {
             self.disk.read(alloc, name)
         } else {
             Err(io::Error::from(ErrorKind::NotFound))

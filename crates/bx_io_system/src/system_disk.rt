@@ -21,7 +21,7 @@ use std::rt::Files;
 /// The file of a folder that is locked. It is empty.
 const LOCK: &str = "lock";
 
-// A file or a folder that is open, by its path from the folder.
+// A file that is open, by the system's path of it, or a folder, by its path from the folder.
 #[derive(Drop)]
 struct Opened {
     path: String,
@@ -39,6 +39,8 @@ pub struct SystemDisk<R> {
     refused: Option<ErrorKind>,
     // the file that was made last, until it is stored
     begun: Option<Opened>,
+    // the system's path of the file that was stored last
+    stored: Option<String>,
     // the two folders that were synced last
     newer: Option<Opened>,
     older: Option<Opened>,
@@ -136,11 +138,17 @@ fn write_begun(begun: Option<Opened>, bytes: &[u8]) -> io::Result<Opened>
     }
 }
 
-// Takes the file that was made, if it is the one at this path.
-fn take_at(begun: &mut Option<Opened>, path: &str) -> Option<Opened> {
+// Whether a system's path of this folder is that of a path from it.
+fn is_at(full: &str, folder: &str, path: &str) -> bool {
+    let length = folder.len().saturating_add(path.len()).saturating_add(1);
+    full.len() == length && full.as_bytes().ends_with(path.as_bytes())
+}
+
+// Takes the file that was made, if it is the one at this path from the folder.
+fn take_at(begun: &mut Option<Opened>, folder: &str, path: &str) -> Option<Opened> {
     match begun.take() {
         Some(made) => {
-            if made.path.as_str() == path {
+            if is_at(made.path.as_str(), folder, path) {
                 Some(made)
             } else {
                 *begun = Some(made);
@@ -163,22 +171,50 @@ fn rename_over<R: Files>(rt: &R, old: &str, path: &str) -> io::Result<()> {
     }
 }
 
+// The system's path of a path from the folder: that of the file that was stored last, if it lies there.
+fn path_at(
+    alloc: Global,
+    stored: Option<String>,
+    folder: &str,
+    path: &str,
+) -> Result<String, AllocError> {
+    match stored {
+        Some(full) if is_at(full.as_str(), folder, path) => Ok(full),
+        _ => path_of(alloc, folder, path),
+    }
+}
+
+// The system's path of what another path from the folder begins with, as a part of the system's path of that.
+fn path_within<'a>(full: &'a str, old: &str, path: &str) -> Option<&'a str> {
+    if !old.as_bytes().starts_with(path.as_bytes()) {
+        return None;
+    }
+    let more = old.len().saturating_sub(path.len());
+    full.get(..full.len().saturating_sub(more))
+}
+
 // Gives the file at one path from the folder another one.
 fn rename_file<R: Files>(
     alloc: Global,
     rt: &R,
+    stored: Option<String>,
     folder: &str,
     old: &str,
     path: &str,
 ) -> io::Result<()> {
-    let old = path_of(alloc, folder, old)?;
+    let full = path_at(alloc, stored, folder, old)?;
+    if let Some(path) = path_within(full.as_str(), old, path) {
+        return rename_over(rt, full.as_str(), path);
+    }
     let path = path_of(alloc, folder, path)?;
-    rename_over(rt, old.as_str(), path.as_str())
+    rename_over(rt, full.as_str(), path.as_str())
 }
 
-// Waits until the file that was made is stored, and closes it.
-fn sync_made(made: Opened) -> io::Result<Option<Opened>> {
-    made.file.sync_all()?;
+// Waits until the file that was made is stored, and closes it. Its path is kept.
+fn sync_made(made: Opened, stored: &mut Option<String>) -> io::Result<Option<Opened>> {
+    let Opened { path, file } = made;
+    file.sync_all()?;
+    *stored = Some(path);
     Ok(None)
 }
 
@@ -238,25 +274,20 @@ fn sync_folder<R: Files<File = File>>(
     sync_path(alloc, rt, folder, path)
 }
 
-// Makes the file that is locked, or opens the one that another process has made meanwhile.
-fn make_lock<R: Files<File = File>>(rt: &R, path: &str) -> io::Result<File> {
-    match OpenOptions::new()
-        .write(true)
-        .create_new(true)
-        .open(rt, path)
-    {
-        Err(error) if error.kind() == ErrorKind::AlreadyExists => File::open(rt, path),
-        made => made,
+// Opens the file that is locked, which is there. What is no plain file is not opened.
+fn open_there<R: Files<File = File>>(rt: &R, path: &str) -> io::Result<File> {
+    if fs::symlink_metadata(rt, path)?.is_file() {
+        File::open(rt, path)
+    } else {
+        Err(io::Error::from(ErrorKind::InvalidInput))
     }
 }
 
-// Opens the file that is locked, and makes it where it is missing. What is no plain file is not opened.
+// Makes the file that is locked, or opens it where it is there. So one call tells that the folder is missing.
 fn open_lock<R: Files<File = File>>(rt: &R, path: &str) -> io::Result<File> {
-    match fs::symlink_metadata(rt, path) {
-        Ok(found) if found.is_file() => File::open(rt, path),
-        Ok(_) => Err(io::Error::from(ErrorKind::InvalidInput)),
-        Err(error) if error.kind() == ErrorKind::NotFound => make_lock(rt, path),
-        Err(error) => Err(error),
+    match create_file(rt, path) {
+        Err(error) if error.kind() == ErrorKind::AlreadyExists => open_there(rt, path),
+        made => made,
     }
 }
 
@@ -294,6 +325,7 @@ impl<R: Files<File = File> + AllocGlobal + Clone + Drop> SystemDisk<R> {
             is_alone: false,
             refused: None,
             begun: None,
+            stored: None,
             newer: None,
             older: None,
             log: Record::new(),
@@ -480,6 +512,7 @@ impl<R: Files<File = File> + AllocGlobal + Clone + Drop> Disk for SystemDisk<R> 
             is_alone,
             refused,
             begun: None,
+            stored: None,
             newer: None,
             older: None,
             log: Record::new(),
@@ -498,6 +531,7 @@ impl<R: Files<File = File> + AllocGlobal + Clone + Drop> Disk for SystemDisk<R> 
             is_alone,
             refused,
             begun: _,
+            stored: _,
             newer: _,
             older: _,
             log: _,
@@ -537,11 +571,10 @@ impl<R: Files<File = File> + AllocGlobal + Clone + Drop> Disk for SystemDisk<R> 
 
     fn create(&mut self, alloc: Global, path: &str) -> io::Result<()> {
         let full = path_of(alloc, self.folder.as_str(), path)?;
-        let own = String::from_str(alloc, path)?;
         let done = create_file(&self.rt, full.as_str());
         note_fault(&mut self.failed, &done, ErrorKind::OutOfMemory);
         self.begun = Some(Opened {
-            path: own,
+            path: full,
             file: done?,
         });
         self.log = Record::noted(&self.log, &Kind::Created, path.as_bytes(), &[]);
@@ -557,8 +590,8 @@ impl<R: Files<File = File> + AllocGlobal + Clone + Drop> Disk for SystemDisk<R> 
     }
 
     fn sync(&mut self, alloc: Global, path: &str) -> io::Result<()> {
-        let done = match take_at(&mut self.begun, path) {
-            Some(made) => sync_made(made),
+        let done = match take_at(&mut self.begun, self.folder.as_str(), path) {
+            Some(made) => sync_made(made, &mut self.stored),
             None => sync_folder(
                 alloc,
                 &self.rt,
@@ -589,7 +622,14 @@ impl<R: Files<File = File> + AllocGlobal + Clone + Drop> Disk for SystemDisk<R> 
 
     fn rename(&mut self, alloc: Global, old: &str, path: &str) -> io::Result<()> {
         self.begun = None;
-        let done = rename_file(alloc, &self.rt, self.folder.as_str(), old, path);
+        let done = rename_file(
+            alloc,
+            &self.rt,
+            self.stored.take(),
+            self.folder.as_str(),
+            old,
+            path,
+        );
         note_fault(&mut self.failed, &done, ErrorKind::OutOfMemory);
         match done {
             Ok(()) => {
