@@ -8,7 +8,7 @@ use Rattle.dscript_types_notes.specs.declared.spaces.FoundType.{FoundType}
 use Rattle.dscript_types_notes.specs.declared.spaces.Space.TheVariants as spaces
 use Rattle.dscript_types_notes.proofs.Going.{if_ok}
 use Rattle.dscript_types_notes.proofs.Naming.{found_by}
-use Rattle.dscript_types_notes.proofs.spaces.found_type.Goals as goal
+use Rattle.dscript_types_notes.proofs.spaces.found_around.Goals as goal
 
 pub returns-in-Some : goal.returns-in-Some
 returns-in-Some c =
