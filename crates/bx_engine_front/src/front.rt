@@ -20,6 +20,10 @@ use dscript_types::check_types;
 use graph_check::check;
 use pip_model::{PipList, Plan, Sources};
 use std::alloc::Global;
+use std::mem::forget;
+
+/// As many pips at most are few.
+const FEW_PIPS: usize = 256;
 
 /// The plan of a build, with the source files that it reads.
 #[derive(Drop)]
@@ -78,6 +82,14 @@ fn evaluated(
     }
 }
 
+// Lets go of a program whose pips are made. Where these are few, what follows needs little memory, and the program's is left
+// to the system, since to give it back is to go over all of it.
+fn let_go(program: Program, pips: &PipList) {
+    if pips.pips().len() <= FEW_PIPS {
+        forget(program);
+    }
+}
+
 // The pips of a tree.
 fn pips_of(alloc: Global, tree: &Tree, limits: &Limits) -> Result<PipList, FrontFault>
     requires { IsInSize tree.now }
@@ -88,7 +100,9 @@ fn pips_of(alloc: Global, tree: &Tree, limits: &Limits) -> Result<PipList, Front
     match program_of(alloc, tree) {
         Ok(program) => {
             checked(alloc, &program, tree, limits)?;
-            evaluated(alloc, &program, tree, limits)
+            let pips = evaluated(alloc, &program, tree, limits)?;
+            let_go(program, &pips);
+            Ok(pips)
         }
         Err(fault) => Err(file_refusal(alloc, fault)),
     }

@@ -4,7 +4,7 @@ use Rattle.std.proofs.lemmas.List.{drop_all}
 use Rattle.dscript_types_data.specs.declared.types.Field.{Field}
 use Rattle.dscript_types_data.specs.declared.types.Member.{Member}
 use Rattle.dscript_types_data.specs.Views.{at_most, field_data, member_data, union_data}
-use Rattle.dscript_types_meaning.specs.Sizes.{fields_nodes, members_nodes, type_nodes, union_node}
+use Rattle.dscript_types_meaning.specs.Sizes.{fields_nodes, member_nodes, members_nodes, type_nodes, union_node}
 use Rattle.dscript_types_meaning.specs.Types.{to_fields, to_members}
 
 -- a union of one member has no node of its own, and all others have one
@@ -36,3 +36,11 @@ unfolding members_nodes
 union_counted ms i n l small e =
     let f = ap (λ (xs : List Member). at_most (n + members_nodes (to_members (map member_data xs)))) (sym (drop_all i ms l)) ∙ e in
     omega (arith, small, f)
+
+-- a union of one member
+pub one_counted
+    : (m n : Member) (k : ℕ) → k ≡ at_most (member_nodes (member_data m)) → n ≡ m → k ≡ at_most (type_nodes (union_data (n ∷ [])))
+unfolding member_nodes
+one_counted m n k e is =
+    let f : k ≡ at_most (member_nodes (member_data n)) = e ∙ ap (λ (x : Member). at_most (member_nodes (member_data x))) (sym is) in
+    omega (arith, f)

@@ -4,3 +4,4 @@ pub mod Counting
 pub mod Sets
 pub mod Placing
 pub mod Fitted
+pub mod Few

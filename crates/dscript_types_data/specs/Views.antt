@@ -1,13 +1,16 @@
 -- What contracts see of members and fields.
-use Rattle.std.specs.Prelude.{◌≡◌, ℕ, ◌-◌, ◌^◌, List, map, min}
+use Rattle.std.specs.Prelude.{◌≡◌, ℕ, ◌-◌, ◌^◌, ◌≤◌, List, [], ◌∷◌, length, map, min}
+use Rattle.std.specs.Rc.{rc_value}
 use Rattle.std.specs.declared.alloc.Global.{Global}
 use Rattle.std.specs.declared.vec.Vec.{Vec}
 use Rattle.dscript_types_data.specs.declared.types.Field.{Field}
 use Rattle.dscript_types_data.specs.declared.types.Member.{Member}
 use Rattle.dscript_types_data.specs.declared.types.Member.TheVariants as members
+use Rattle.dscript_types_data.specs.declared.types.Members.{Members}
+use Rattle.dscript_types_data.specs.declared.types.Members.TheVariants as amounts
 use Rattle.dscript_types_meaning.specs.Sizes.{fields_nodes, member_nodes, type_nodes}
 use Rattle.dscript_types_meaning.specs.Types.{FieldData, MemberData, TypeData, Union, Values, Lists, Objects}
-use Rattle.dscript_types_meaning.specs.Types.{to_fields, to_members}
+use Rattle.dscript_types_meaning.specs.Types.{members_of, to_fields, to_members}
 
 abbrev pub member_data : Member → MemberData
 member_data (members.Values kind) = Values kind
@@ -16,6 +19,12 @@ member_data (members.Objects fields) = Objects (to_fields fields)
 
 abbrev pub field_data : Field → FieldData
 field_data f = record { name = f.name; optional = f.optional; type_data = f.type_data }
+
+-- the members of a type, one after another
+abbrev pub held : Members → List Member
+held amounts.Never = []
+held (amounts.One member) = rc_value member ∷ []
+held (amounts.Many members) = (rc_value members).items
 
 -- the union of members that are in their order
 abbrev pub union_data : List Member → TypeData
@@ -36,3 +45,7 @@ AreCounted nodes fields = nodes ≡ at_most (fields_nodes (to_fields fields))
 
 abbrev pub NodesOf : MemberData → ℕ → Type 0
 NodesOf m nodes = nodes ≡ at_most (member_nodes m)
+
+-- one member at most
+abbrev pub IsFew : TypeData → Type 0
+IsFew t = length (members_of t) ≤ 1

@@ -1,6 +1,6 @@
 //! Types, members and fields.
 ghost use Rattle.std.specs.Prelude.{◌≡◌, IfOk, map};
-ghost use Rattle.dscript_types_data.specs.Views.{AreCounted, IsCounted, NodesOf, field_data, member_data, union_data};
+ghost use Rattle.dscript_types_data.specs.Views.{AreCounted, IsCounted, NodesOf, field_data, held, member_data, union_data};
 ghost use Rattle.dscript_types_meaning.specs.Sizes as sizes;
 ghost use Rattle.dscript_types_meaning.specs.Sizes.{within_limit};
 ghost use Rattle.dscript_types_meaning.specs.Types.{kind_type, list_type, members_of, never, object_type, of_one};
@@ -11,14 +11,24 @@ use dscript_types_meaning::{Kind, MAX_TYPE_NODES};
 use std::alloc::Global;
 use std::marker::Model;
 use std::rc::Rc;
+use std::slice;
 
 /// A type: the union of its members. Contracts see it as plain data.
 #[cycle(types)]
 #[derive(Drop)]
 pub struct Type {
-    members: Rc<Vec<Member>>,
+    members: Members,
     // how many nodes it has; the greatest number where there are more
     nodes: u32,
+}
+
+// The members of a type. Most types have one, which takes one block of memory, and none takes no memory at all.
+#[cycle(types)]
+#[derive(Drop)]
+enum Members {
+    Never,
+    One(Rc<Member>),
+    Many(Rc<Vec<Member>>),
 }
 
 /// The values of a kind, the lists of items of a type, or the objects with fields.
@@ -56,20 +66,19 @@ impl Model for Type {
 
     ghost coded = { types_coded };
 
-    ghost use Rattle.std.specs.Rc.{rc_value};
-    ghost use Rattle.dscript_types_data.specs.Views.{IsCounted, union_data};
+    ghost use Rattle.dscript_types_data.specs.Views.{IsCounted, held, union_data};
     ghost use Rattle.dscript_types_data.specs.Weight.{type_size};
 
-    ghost view = { λ t. union_data (rc_value t.members).items };
+    ghost view = { λ t. union_data (held t.members) };
 
-    ghost invariant = { λ t. IsCounted t.nodes (union_data (rc_value t.members).items) };
+    ghost invariant = { λ t. IsCounted t.nodes (union_data (held t.members)) };
 
     ghost size = { type_size };
 
     ghost use Rattle.std.proofs.Common.{arith};
-    ghost use Rattle.dscript_types_data.specs.Falls.{members_fall};
+    ghost use Rattle.dscript_types_data.specs.Falls.{held_falls};
 
-    ghost size_decreases = { λ t h. omega (arith, members_fall (rc_value t.members).items) };
+    ghost size_decreases = { λ t h. omega (arith, held_falls t.members) };
 }
 
 impl Model for Fields {
@@ -105,7 +114,7 @@ impl Type {
     {
         let nodes = nodes_of_union(members.as_slice());
         Ok(Type {
-            members: Rc::new(alloc, members)?,
+            members: Members::Many(Rc::new(alloc, members)?),
             nodes,
         })
     }
@@ -114,14 +123,21 @@ impl Type {
     pub(crate) fn of_one(alloc: Global, member: Member) -> Result<Type, Memory>
         ensures { IfOk result (λ t. t ≡ of_one (member_data member)) }
     {
-        Type::of_members(alloc, vec![in alloc; member]?)
+        let nodes = member.nodes();
+        Ok(Type {
+            members: Members::One(Rc::new(alloc, member)?),
+            nodes,
+        })
     }
 
     /// The type that no value has.
-    pub fn never(alloc: Global) -> Result<Type, Memory>
+    pub fn never(_alloc: Global) -> Result<Type, Memory>
         ensures { IfOk result (λ t. t ≡ never) }
     {
-        Type::of_members(alloc, Vec::new(alloc))
+        Ok(Type {
+            members: Members::Never,
+            nodes: 1,
+        })
     }
 
     /// The values of a kind.
@@ -172,7 +188,7 @@ impl Type {
     pub fn members(&self) -> &[Member]
         ensures { map member_data result.now ≡ members_of self.now }
     {
-        self.members.as_slice()
+        self.members.all()
     }
 
     /// The type, shared.
@@ -180,9 +196,33 @@ impl Type {
         ensures { IfOk result (λ t. t ≡ self.now) }
     {
         Ok(Type {
-            members: self.members.clone()?,
+            members: self.members.share()?,
             nodes: self.nodes,
         })
+    }
+}
+
+impl Members {
+    // All of them, in their order.
+    fn all(&self) -> &[Member]
+        ensures { result.now ≡ held self.now }
+    {
+        match self {
+            Members::Never => &[],
+            Members::One(member) => slice::from_ref(&**member),
+            Members::Many(members) => members.as_slice(),
+        }
+    }
+
+    // The same, shared.
+    fn share(&self) -> Result<Members, Memory>
+        ensures { IfOk result (λ members. held members ≡ held self.now) }
+    {
+        match self {
+            Members::Never => Ok(Members::Never),
+            Members::One(member) => Ok(Members::One(member.clone()?)),
+            Members::Many(members) => Ok(Members::Many(members.clone()?)),
+        }
     }
 }
 

@@ -1,10 +1,11 @@
 //! Unions.
-ghost use Rattle.std.specs.Prelude.{◌≡◌, ◌++◌, IfOk, map};
-ghost use Rattle.dscript_types_data.specs.Views.{member_data};
+ghost use Rattle.std.specs.Prelude.{◌≡◌, ◌++◌, IfOk, IfSome, map};
+ghost use Rattle.dscript_types_data.specs.Views.{IsFew, member_data};
 ghost use Rattle.dscript_types_meaning.specs.Types.{members_of};
 ghost use Rattle.dscript_types_meaning.specs.Unions as unions;
 
 use crate::members::is_undefined;
+use crate::order::compare_members;
 use crate::types::{Member, Type};
 use bx_tree::Memory;
 use dscript_types_meaning::Kind;
@@ -57,8 +58,43 @@ fn add_members(members: &mut Vec<Member>, t: &Type) -> Result<(), Memory>
     Ok(())
 }
 
+// The one of two types that is the union of both, where each has one member at most.
+fn joined<'a>(a: &'a Type, b: &'a Type) -> Option<&'a Type>
+    ensures { IfSome result (λ t. IsFew t.now × (t.now ≡ unions.join a.now b.now)) }
+{
+    let left = a.members();
+    let right = b.members();
+    if left.len() > 1 {
+        return None;
+    }
+    if right.len() > 1 {
+        return None;
+    }
+    let Some((one, _)) = left.split_first() else {
+        return Some(b);
+    };
+    let Some((other, _)) = right.split_first() else {
+        return Some(a);
+    };
+    if compare_members(one, other).is_eq() {
+        Some(b)
+    } else {
+        None
+    }
+}
+
 /// The union of two types.
 pub fn join(alloc: Global, a: &Type, b: &Type) -> Result<Type, Memory>
+    ensures { IfOk result (λ t. t ≡ unions.join a.now b.now) }
+{
+    match joined(a, b) {
+        Some(t) => t.share(),
+        None => join_members(alloc, a, b),
+    }
+}
+
+// The union of two types, by their members.
+fn join_members(alloc: Global, a: &Type, b: &Type) -> Result<Type, Memory>
     ensures { IfOk result (λ t. t ≡ unions.join a.now b.now) }
 {
     let mut members = Vec::new(alloc);
@@ -67,8 +103,40 @@ pub fn join(alloc: Global, a: &Type, b: &Type) -> Result<Type, Memory>
     union_of(alloc, members)
 }
 
+// The one of these types that is the union of all, where each has one member at most.
+fn joined_all(types: &[Type]) -> Option<&Type>
+    ensures { IfSome result (λ t. t.now ≡ unions.join_all types.now) }
+{
+    let Some((last, others)) = types.split_last() else {
+        return None;
+    };
+    if last.members().len() > 1 {
+        return None;
+    }
+    let mut answer = last;
+    let mut left = others;
+    'types: while let Some((t, before)) = left.split_last() {
+        match joined(t, answer) {
+            Some(u) => answer = u,
+            None => return None,
+        }
+        left = before;
+    }
+    Some(answer)
+}
+
 /// The union of types.
 pub fn join_all(alloc: Global, types: &[Type]) -> Result<Type, Memory>
+    ensures { IfOk result (λ t. t ≡ unions.join_all types.now) }
+{
+    match joined_all(types) {
+        Some(t) => t.share(),
+        None => join_all_members(alloc, types),
+    }
+}
+
+// The union of types, by their members.
+fn join_all_members(alloc: Global, types: &[Type]) -> Result<Type, Memory>
     ensures { IfOk result (λ t. t ≡ unions.join_all types.now) }
 {
     let mut members = Vec::new(alloc);
@@ -116,8 +184,40 @@ pub fn without_undefined(alloc: Global, t: &Type) -> Result<Type, Memory>
     union_of(alloc, members)
 }
 
+// The items of a type that is one list type, where they have one member at most.
+fn only_items(t: &Type) -> Option<&Type>
+    ensures { IfSome result (λ item. item.now ≡ unions.items_of t.now) }
+{
+    let Some((member, others)) = t.members().split_first() else {
+        return None;
+    };
+    if !others.is_empty() {
+        return None;
+    }
+    match member {
+        Member::Lists(item) => {
+            if item.members().len() > 1 {
+                return None;
+            }
+            Some(item)
+        }
+        Member::Values(_) => None,
+        Member::Objects(_) => None,
+    }
+}
+
 /// The items of the lists of a type.
 pub fn items_of(alloc: Global, t: &Type) -> Result<Type, Memory>
+    ensures { IfOk result (λ u. u ≡ unions.items_of t.now) }
+{
+    match only_items(t) {
+        Some(item) => item.share(),
+        None => all_items(alloc, t),
+    }
+}
+
+// The items of the lists of a type, by their members.
+fn all_items(alloc: Global, t: &Type) -> Result<Type, Memory>
     ensures { IfOk result (λ u. u ≡ unions.items_of t.now) }
 {
     let mut members = Vec::new(alloc);

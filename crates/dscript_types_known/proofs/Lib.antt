@@ -3,3 +3,4 @@ pub mod Filled
 pub mod Branches
 pub mod Opened
 pub mod Opening
+pub mod Recently

@@ -1,5 +1,5 @@
 -- What contracts see of findings, locals and tables.
-use Rattle.std.specs.Prelude.{List, map, Option, Some, None, if◌then◌else◌, ◌==◌, ◌/◌, ◌%◌, ◌-◌}
+use Rattle.std.specs.Prelude.{ℕ, List, map, Option, Some, None, if◌then◌else◌, ◌==◌, ◌/◌, ◌%◌, ◌-◌}
 use Rattle.std.specs.Option.{option_map}
 use Rattle.std.specs.declared.alloc.Global.{Global}
 use Rattle.std.specs.declared.rc.Rc.{Rc}
@@ -12,6 +12,9 @@ use Rattle.dscript_types_known.specs.declared.locals.Hold.{Hold}
 use Rattle.dscript_types_known.specs.declared.locals.Hold.TheVariants as holds
 use Rattle.dscript_types_known.specs.declared.locals.Local.{Local}
 use Rattle.dscript_types_known.specs.declared.locals.Locals.{Locals}
+use Rattle.dscript_types_known.specs.declared.locals.Recent.{Recent}
+use Rattle.dscript_types_known.specs.declared.locals.Recent.TheOpen.{Recent-F}
+use Rattle.dscript_types_known.specs.declared.locals.Recent.TheFolds.{fold-Recent}
 use Rattle.dscript_types_known.specs.declared.locals.Branch.{Branch}
 use Rattle.dscript_types_known.specs.declared.locals.Branch.TheOpen.{Branch-F}
 use Rattle.dscript_types_known.specs.declared.locals.Branch.TheFolds.{fold-Branch}
@@ -54,5 +57,26 @@ abbrev pub branch_at : Option (Rc Branch Global) → FoundLocals
 branch_at None number = None
 branch_at (Some branch) number = in_branch branch.value number
 
+-- the local of a number among those that were added last, or else another
+abbrev pub of_recent : Option (Rc (ℕ → Option FoundLocal → Option FoundLocal) Global) → ℕ → Option FoundLocal → Option FoundLocal
+of_recent None number other = other
+of_recent (Some recent) number other = recent.value number other
+
+abbrev pub recent_step : Recent-F (ℕ → Option FoundLocal → Option FoundLocal) → ℕ → Option FoundLocal → Option FoundLocal
+recent_step r number other =
+    if number == r.number then Some (found_local r.local) else of_recent r.older number other
+
+abbrev pub in_recent : Recent → ℕ → Option FoundLocal → Option FoundLocal
+in_recent = fold-Recent (ℕ → Option FoundLocal → Option FoundLocal) recent_step
+
+abbrev pub recent_over : Option (Rc Recent Global) → ℕ → Option FoundLocal → Option FoundLocal
+recent_over None number other = other
+recent_over (Some recent) number other = in_recent recent.value number other
+
+-- what there is, or else the other
+abbrev pub first_of : Option FoundLocal → Option FoundLocal → Option FoundLocal
+first_of None other = other
+first_of (Some l) other = Some l
+
 abbrev pub locals_at : Locals → FoundLocals
-locals_at locals number = branch_at locals.root number
+locals_at locals number = recent_over locals.recent number (branch_at locals.root number)

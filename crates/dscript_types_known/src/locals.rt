@@ -1,8 +1,8 @@
 //! The locals that an expression sees.
-ghost use Rattle.std.specs.Prelude.{◌≡◌, ℕ, ◌==◌, IfOk, None, Some, if◌then◌else◌};
+ghost use Rattle.std.specs.Prelude.{◌≡◌, ℕ, ◌==◌, IfOk, Option, None, Some, if◌then◌else◌};
 ghost use Rattle.std.specs.Option.{option_copied, option_map};
-ghost use Rattle.dscript_types_known.specs.Matching.{captured_inside};
-ghost use Rattle.dscript_types_known.specs.Views.{branch_at, found_local, in_branch, locals_at};
+ghost use Rattle.dscript_types_known.specs.Matching.{FoundLocal, captured_inside};
+ghost use Rattle.dscript_types_known.specs.Views.{branch_at, first_of, found_local, in_branch, locals_at, recent_over};
 
 use crate::finding::Finding;
 use bx_tree::Memory;
@@ -28,10 +28,26 @@ pub struct Local {
     pub hold: Hold,
 }
 
+/// How many locals at most are kept one after another.
+const MAX_RECENT: u32 = 8;
+
 /// Locals by number. What is added to them makes further ones, and these stay as they are, since all parts are shared.
 #[derive(Drop)]
 pub struct Locals {
+    // those that were added last
+    recent: Option<Rc<Recent>>,
+    // how many these are
+    count: u32,
+    // the others
     root: Option<Rc<Branch>>,
+}
+
+// A local with its number, and those that were added before it.
+#[derive(Drop)]
+struct Recent {
+    number: u32,
+    local: Local,
+    older: Option<Rc<Recent>>,
 }
 
 // The local whose number is 0, and the others by their numbers less one: those that are even, and those that are odd,
@@ -74,14 +90,21 @@ impl Locals {
     pub fn new() -> Locals
         ensures { (number : ℕ) → locals_at result number ≡ None }
     {
-        Locals { root: None }
+        Locals {
+            recent: None,
+            count: 0,
+            root: None,
+        }
     }
 
     /// The local of a number.
     pub fn get(&self, number: u32) -> Option<&Local>
         ensures { option_map found_local (option_copied result) ≡ locals_at self.now number }
     {
-        local_in(&self.root, number)
+        match recent_local(&self.recent, number) {
+            Some(local) => Some(local),
+            None => local_in(&self.root, number),
+        }
     }
 
     /// The same locals, shared.
@@ -89,6 +112,8 @@ impl Locals {
         ensures { IfOk result (λ locals. (number : ℕ) → locals_at locals number ≡ locals_at self.now number) }
     {
         Ok(Locals {
+            recent: share_recent(&self.recent)?,
+            count: self.count,
             root: share_branch(&self.root)?,
         })
     }
@@ -98,9 +123,87 @@ impl Locals {
         ensures { IfOk result (λ locals. (other : ℕ) → locals_at locals other
             ≡ (if other == number then Some (found_local local) else locals_at self.now other)) }
     {
+        if self.count >= MAX_RECENT {
+            return self.settled(alloc)?.adding(alloc, number, local);
+        }
+        self.adding(alloc, number, local)
+    }
+
+    // These locals and another, whose number is among those that were added last.
+    fn adding(&self, alloc: Global, number: u32, local: Local) -> Result<Locals, Memory>
+        ensures { IfOk result (λ locals. (other : ℕ) → locals_at locals other
+            ≡ (if other == number then Some (found_local local) else locals_at self.now other)) }
+    {
+        let older = share_recent(&self.recent)?;
         Ok(Locals {
-            root: Some(with_local(alloc, &self.root, number, local)?),
+            recent: Some(Rc::new(
+                alloc,
+                Recent {
+                    number,
+                    local,
+                    older,
+                },
+            )?),
+            count: self.count.saturating_add(1),
+            root: share_branch(&self.root)?,
         })
+    }
+
+    // The same locals, none of which counts as added last.
+    fn settled(&self, alloc: Global) -> Result<Locals, Memory>
+        ensures { IfOk result (λ locals. (number : ℕ) → locals_at locals number ≡ locals_at self.now number) }
+    {
+        Ok(Locals {
+            recent: None,
+            count: 0,
+            root: with_recent(alloc, &self.recent, &self.root)?,
+        })
+    }
+}
+
+// The local of a number among those that were added last.
+fn recent_local(recent: &Option<Rc<Recent>>, number: u32) -> Option<&Local>
+    ensures { (other : Option FoundLocal) → recent_over recent.now number other
+        ≡ first_of (option_map found_local (option_copied result)) other }
+{
+    match recent {
+        Some(entry) => {
+            if entry.number == number {
+                Some(&entry.local)
+            } else {
+                recent_local(&entry.older, number)
+            }
+        }
+        None => None,
+    }
+}
+
+fn share_recent(recent: &Option<Rc<Recent>>) -> Result<Option<Rc<Recent>>, Memory>
+    ensures { IfOk result (λ copy. (number : ℕ) (other : Option FoundLocal)
+        → recent_over copy number other ≡ recent_over recent.now number other) }
+{
+    match recent {
+        Some(recent) => Ok(Some(recent.clone()?)),
+        None => Ok(None),
+    }
+}
+
+// The branch with the locals that were added last, from the oldest on.
+fn with_recent(
+    alloc: Global,
+    recent: &Option<Rc<Recent>>,
+    root: &Option<Rc<Branch>>,
+) -> Result<Option<Rc<Branch>>, Memory>
+    ensures { IfOk result (λ new. (number : ℕ)
+        → branch_at new number ≡ recent_over recent.now number (branch_at root.now number)) }
+{
+    match recent {
+        Some(entry) => {
+            let below = with_recent(alloc, &entry.older, root)?;
+            let local = entry.local.share()?;
+            Ok(Some(with_local(alloc, &below, entry.number, local)?))
+        }
+        None => share_branch(root),
     }
 }
 

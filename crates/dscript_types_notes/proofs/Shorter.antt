@@ -31,6 +31,23 @@ shortest_last {X} f before left [] x whole split none is =
     sym (or_nothing (option_map (λ (found : X). (found, [])) (f (before ++ x ∷ [])))) ∙ ap (shortest f before) (sym split) ∙ is
 shortest_last {X} f before left (y ∷ rest) x whole split none is = absurd (omega (arith, none))
 
+-- a name of one part has no other prefix
+pub shortest_alone
+    : {X : Type 0} (f : Dotted → Option X) (name written : Dotted) → name ≡ written → length written ≡ 1
+    → option_map (λ (found : X). (found, [])) (f name) ≡ shortest f [] written
+shortest_alone {X} f name [] is l = absurd (omega (arith, l))
+shortest_alone {X} f name (x ∷ []) is l =
+    ap (λ (d : Dotted). option_map (λ (found : X). (found, [])) (f d)) is
+    ∙ sym (or_nothing (option_map (λ (found : X). (found, [])) (f (x ∷ []))))
+shortest_alone {X} f name (x ∷ y ∷ names) is l = absurd (omega (arith, l))
+
+-- what is found first counts, and else the other
+pub or_first : {Y : Type 0} (a b : Option Y) (y : Y) → Some y ≡ a → Some y ≡ option_or a b
+or_first a b y e = ap (λ o. option_or o b) e
+
+pub or_second : {Y : Type 0} (a b o : Option Y) → None ≡ a → o ≡ b → o ≡ option_or a b
+or_second a b o none e = e ∙ ap (λ p. option_or p b) none
+
 -- the place of a number in a file
 abbrev pub placed : ℕ → Option ℕ → Option Place
 placed file o = option_map (λ (decl : ℕ). (file, decl)) o
@@ -96,6 +113,10 @@ module _ (f : Dotted → Option Place) (written : Dotted) where
       → None ≡ shortest f around written → out_from around ≡ whole → None ≡ whole
   out_nowhere around whole e none is =
       none ∙ ap (λ (d : Dotted). shortest f d written) e ∙ sym (or_none (shortest f [] written)) ∙ sym (ap out_from e) ∙ is
+
+  -- around what stands in no namespace there is the file alone
+  pub out_alone : (around : Dotted) → around ≡ [] → out_from around ≡ shortest f [] written
+  out_alone around e = ap out_from e ∙ or_none (shortest f [] written)
 
   -- what is found there comes first
   found_in_last : (around : Dotted) (o : Option (Place × Dotted)) (found : Place × Dotted)

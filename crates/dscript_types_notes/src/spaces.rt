@@ -1,6 +1,6 @@
 //! Where the type of a dotted name is declared.
-ghost use Rattle.std.specs.Prelude.{◌≡◌, IfOk, reverse};
-ghost use Rattle.std.specs.Option.{option_map};
+ghost use Rattle.std.specs.Prelude.{◌≡◌, [], IfOk, length, reverse};
+ghost use Rattle.std.specs.Option.{option_map, option_or};
 ghost use Rattle.dscript_names_scopes.specs.Lookup.{beginnings};
 ghost use Rattle.dscript_program.specs.Views.{program_data};
 ghost use Rattle.dscript_types_meaning.specs.Lookups as rules;
@@ -141,9 +141,53 @@ fn module_of(world: &World<'_>, file: u32) -> u32
     }
 }
 
+// The type of a name of one part, in a file and then among those that its module exports.
+fn found_alone<'a>(
+    alloc: Global,
+    names: &TypeNames,
+    file: u32,
+    owner: u32,
+    written: &'a [Text],
+) -> Result<Option<FoundType<'a>>, Memory>
+    requires { length written.now ≡ 1 }
+    ensures { IfOk result (λ found. option_map found_data found
+        ≡ option_or (rules.shortest (found_in names.now (spaces.File file)) [] written.now)
+        (rules.shortest (found_in names.now (spaces.Module owner)) [] written.now)) }
+{
+    let name = named(alloc, written)?;
+    if let Some(found) = found_whole(names, Space::File(file), &name, &[]) {
+        return Ok(Some(found));
+    }
+    Ok(found_whole(names, Space::Module(owner), &name, &[]))
+}
+
 /// The type of a dotted name in the namespaces outwards of a file, and then among those that its module exports.
 #[tactic(auto, unfolding(dscript_types_meaning::specs::Lookups::found_type))]
 pub fn found_type<'a>(
+    world: &World<'_>,
+    file: u32,
+    before: &[Text],
+    written: &'a [Text],
+) -> Result<Option<FoundType<'a>>, Memory>
+    requires { IsIndexOf (program_data world.now.program.now) world.now.names.now }
+    ensures { IfOk result (λ found. option_map found_data found
+        ≡ rules.found_type (program_data world.now.program.now) file before.now written.now) }
+{
+    if before.is_empty() && written.len() == 1 {
+        return found_alone(
+            world.alloc,
+            world.names,
+            file,
+            module_of(world, file),
+            written,
+        );
+    }
+    found_around(world, file, before, written)
+}
+
+// The type of a dotted name in any namespace.
+#[tactic(auto, unfolding(dscript_types_meaning::specs::Lookups::found_type))]
+fn found_around<'a>(
     world: &World<'_>,
     file: u32,
     before: &[Text],

@@ -2,7 +2,7 @@ use Rattle.std.proofs.Common.{rules, ◌≡◌, ◌&&◌, ◌∙◌, true, false
 use Rattle.std.specs.List.{list_any}
 use Rattle.dscript_types_data.proofs.Fitted.{field_lighter, fits_rows, member_goes, member_of_type, member_stops, fields_unfit, objects_fit}
 use Rattle.dscript_types_data.specs.Views.{field_data, member_data}
-use Rattle.dscript_types_meaning.specs.Fits.{all_fit, are_required, fields_fit, member_fits}
+use Rattle.dscript_types_meaning.specs.Fits.{all_fit, are_required, member_fits}
 use Rattle.dscript_types_meaning.specs.Types.{members_of, to_members}
 use Rattle.dscript_types_data.proofs.fitting.+fitting.Goals as goal
 

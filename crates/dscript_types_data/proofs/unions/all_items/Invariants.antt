@@ -3,7 +3,7 @@ use Rattle.std.specs.List.{flat_map}
 use Rattle.dscript_types_data.specs.Views.{member_data}
 use Rattle.dscript_types_meaning.specs.Types.{members_of}
 use Rattle.dscript_types_meaning.specs.Unions.{item_of}
-use Rattle.dscript_types_data.proofs.unions.items_of.Given as goal
+use Rattle.dscript_types_data.proofs.unions.all_items.Given as goal
 
 abbrev pub invariant-members : goal.invariant-members
 invariant-members l =

@@ -2,7 +2,7 @@ use Rattle.std.proofs.Common.{◌≡◌, ◌++◌, drop, map}
 use Rattle.std.specs.List.{flat_map}
 use Rattle.dscript_types_data.specs.Views.{member_data}
 use Rattle.dscript_types_meaning.specs.Types.{members_of}
-use Rattle.dscript_types_data.proofs.unions.join_all.Given as goal
+use Rattle.dscript_types_data.proofs.unions.join_all_members.Given as goal
 
 abbrev pub invariant-types : goal.invariant-types
 invariant-types l =
