@@ -6,7 +6,6 @@ use Rattle.std.specs.declared.vec.Vec.{Vec}
 use Rattle.dscript_program.specs.BoundTree.{ExprData, ExprRow, OperandRow}
 use Rattle.dscript_program.specs.ProgramData.{ProgramData}
 use Rattle.dscript_program.specs.declared.ambient.Ambient.{Ambient as AmbientCall}
-use Rattle.dscript_program.specs.declared.program.Function.{Function}
 use Rattle.dscript_program.specs.declared.target.Target.{Target}
 use Rattle.dscript_sdk_members.specs.Names.{member_named}
 use Rattle.dscript_sdk_members.specs.declared.member.Member.{Member}

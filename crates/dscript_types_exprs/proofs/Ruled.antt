@@ -4,7 +4,7 @@ use Rattle.std.specs.Option.{option_and_then}
 use Rattle.dscript_ast.specs.TypeTree.{TypeTree}
 use Rattle.dscript_program.specs.BoundTree.{ExprData}
 use Rattle.dscript_program.specs.ProgramData.{ProgramData}
-use Rattle.dscript_types_known.specs.Findings.{Finding, Found, Nothing, Open, Tells}
+use Rattle.dscript_types_known.specs.Findings.{Finding, Tells}
 use Rattle.dscript_types_known.specs.Matching.{FoundLocal, LocalMatches}
 use Rattle.dscript_types_known.specs.Views.{locals_at}
 use Rattle.dscript_types_meaning.specs.Annotations.{meant}

@@ -16,7 +16,10 @@ use dscript_sdk_members::Member;
 use dscript_types_data::{Type, items_of};
 use dscript_types_known::Finding;
 use dscript_types_notes::World;
-use dscript_types_scenes::{Scene, Seen, Shape, Subject, Typing, above_body, below, callback_scene, declared_answer, given_to, is, member_answer, shape_of};
+use dscript_types_scenes::{
+    Scene, Seen, Shape, Subject, Typing, above_body, below, callback_scene, declared_answer,
+    given_to, is, member_answer, shape_of,
+};
 
 /// The call of a member of a type, all of whose values are lists, that calls its first argument.
 #[cycle(exprs)]

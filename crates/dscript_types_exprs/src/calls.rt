@@ -19,7 +19,9 @@ use dscript_types_data::Type;
 use dscript_types_known::Finding;
 use dscript_types_notes::World;
 use dscript_types_rows::{ambient_type, indexed, method_type};
-use dscript_types_scenes::{Scene, Seen, Subject, Typing, callback_member, function_type, is, member_of, whole};
+use dscript_types_scenes::{
+    Scene, Seen, Subject, Typing, callback_member, function_type, is, member_of, whole,
+};
 
 /// The members, indices and calls after a subject.
 #[cycle(exprs)]

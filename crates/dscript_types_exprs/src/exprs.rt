@@ -19,7 +19,10 @@ use dscript_types_data::{Type, join};
 use dscript_types_meaning::Kind;
 use dscript_types_notes::World;
 use dscript_types_rows::{operated, prefixed};
-use dscript_types_scenes::{Scene, Subject, Typing, following, is, named, narrowed, of_kind, only, operand_parts, outcome_of, whole};
+use dscript_types_scenes::{
+    Scene, Subject, Typing, following, is, named, narrowed, of_kind, only, operand_parts,
+    outcome_of, whole,
+};
 
 /// What an expression comes to as a subject.
 #[cycle(exprs)]

@@ -16,7 +16,10 @@ use dscript_ast::PathKind;
 use dscript_program::{BoundExpr, BoundHole};
 use dscript_types_meaning::Kind;
 use dscript_types_notes::World;
-use dscript_types_scenes::{Allowed, Scene, Seen, Subject, Typing, after_holes, first_hole, hole_parts, letter_kind, may_hold};
+use dscript_types_scenes::{
+    Allowed, Scene, Seen, Subject, Typing, after_holes, first_hole, hole_parts, letter_kind,
+    may_hold,
+};
 
 /// A template, whose holes take all that has a text.
 #[cycle(exprs)]

@@ -19,7 +19,10 @@ use dscript_program::{BoundExpr, BoundStmt};
 use dscript_types_data::Type;
 use dscript_types_known::{Finding, Hold, Local};
 use dscript_types_notes::{World, meaning};
-use dscript_types_scenes::{Added, Rule, Scene, Walk, fit_of, fits_note, fits_variable, loop_hold, loop_items, loop_rule, narrowed, note_of, other_of, with_added, without_value};
+use dscript_types_scenes::{
+    Added, Rule, Scene, Walk, fit_of, fits_note, fits_variable, loop_hold, loop_items, loop_rule,
+    narrowed, note_of, other_of, with_added, without_value,
+};
 
 /// Statements, one after another, each with the locals that those before it declare.
 #[cycle(exprs)]

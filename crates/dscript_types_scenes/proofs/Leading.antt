@@ -4,11 +4,8 @@ use Rattle.std.proofs.lemmas.Bool.{eqb-true}
 use Rattle.dscript_ast.specs.declared.expr.PathKind.{PathKind}
 use Rattle.dscript_types_meaning.specs.Expressions as rules
 use Rattle.dscript_types_meaning.specs.Operators.{leading_hole, literal_hole}
-use Rattle.dscript_types_scenes.proofs.Going.{begins}
 use Rattle.dscript_types_scenes.specs.Holes.{hole_type, leading_if}
 use Rattle.dscript_types_scenes.specs.declared.holes.Allowed.{Allowed}
-
--- ## The first hole
 
 module _ (letter : PathKind) (leads : rules.first_hole letter [] ≡ leading_hole)
     (other : (x : ℕ) (xs : List ℕ) → rules.first_hole letter (x ∷ xs) ≡ literal_hole) where

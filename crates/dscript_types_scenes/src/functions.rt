@@ -17,6 +17,7 @@ ghost use Rattle.dscript_types_scenes.specs.Scenes.{FindsAnywhere, TypesAs};
 ghost use Rattle.dscript_types_scenes.specs.Walks.{finding_types};
 ghost use Rattle.dscript_types_scenes.specs.declared.scene.Scene.{Scene as AnyScene};
 
+use crate::ends::may_end;
 use crate::found::{Seen, Typing, larger};
 use crate::given::{parameter_types, parameters_fit};
 use bx_tree::Memory;
@@ -206,7 +207,11 @@ pub struct Inside {
 }
 
 /// The union of what is returned, with undefined where the end may be reached.
-pub fn inferred(alloc: Global, ends: bool, returns: Finding<Vec<Type>>) -> Result<Finding<Type>, Memory>
+pub fn inferred(
+    alloc: Global,
+    ends: bool,
+    returns: Finding<Vec<Type>>,
+) -> Result<Finding<Type>, Memory>
     ensures { IfOk result (λ f. finding_data f ≡ inferred_from ends (finding_types returns)) }
 {
     match returns {

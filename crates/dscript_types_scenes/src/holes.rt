@@ -69,7 +69,11 @@ pub fn letter_kind(letter: PathKind) -> Kind
 }
 
 /// A value of a kind, after holes.
-pub fn after_holes(world: &World<'_>, found: Typing<()>, kind: Kind) -> Result<Typing<Subject>, Memory>
+pub fn after_holes(
+    world: &World<'_>,
+    found: Typing<()>,
+    kind: Kind,
+) -> Result<Typing<Subject>, Memory>
     ensures { IfOk result (λ typing. typing ≡ after_typing found (kind_type kind)) }
 {
     match found {

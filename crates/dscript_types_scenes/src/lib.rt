@@ -26,7 +26,8 @@ pub use conditions::{following, narrowed, outcome_of};
 pub use ends::may_end;
 pub use found::{Seen, Subject, Typing};
 pub use functions::{
-    Inside, above_body, annotated, callback_member, declared_answer, function_type, inferred, member_answer,
+    Inside, above_body, annotated, callback_member, declared_answer, function_type, inferred,
+    member_answer,
 };
 pub use given::given_to;
 pub use holes::{Allowed, after_holes, first_hole, letter_kind, may_hold};
