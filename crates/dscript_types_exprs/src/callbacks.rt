@@ -13,7 +13,7 @@ use crate::calls::types_of;
 use bx_tree::Memory;
 use dscript_program::{BoundExpr, Function};
 use dscript_sdk_members::Member;
-use dscript_types_data::{Type, items_of};
+use dscript_types_data::{Type, is_list_type, items_of};
 use dscript_types_known::Finding;
 use dscript_types_notes::World;
 use dscript_types_scenes::{

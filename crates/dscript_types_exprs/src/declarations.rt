@@ -1,6 +1,6 @@
 //! What declarations come to.
 ghost use Rattle.std.specs.Option.{option_copied};
-ghost use Rattle.std.specs.Prelude.{◌≡◌, IfOk, Some, ℕ};
+ghost use Rattle.std.specs.Prelude.{◌≡◌, ℕ, [], IfOk, Some};
 ghost use Rattle.dscript_program.specs.Views.{body_data, decl_data, expr_data, function_data};
 ghost use Rattle.dscript_types_exprs.specs.Bodies.{DeclIsRight, IsRightIn, in_function};
 ghost use Rattle.dscript_types_exprs.specs.Statements.{use_of};

@@ -15,5 +15,5 @@ pub mod Leading
 pub mod Standing
 pub mod Values
 pub mod Answering
-pub mod Named
-pub mod Narrowed
+pub mod Naming
+pub mod Narrowing

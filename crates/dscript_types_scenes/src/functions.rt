@@ -23,7 +23,7 @@ use crate::given::{parameter_types, parameters_fit};
 use bx_tree::Memory;
 use dscript_program::{Body, DeclKind, Target};
 use dscript_sdk_members::Member;
-use dscript_types_data::{Type, fits, items_of, join_all, undefined_type};
+use dscript_types_data::{Type, fits, is_list_type, items_of, join_all, undefined_type};
 use dscript_types_known::{Finding, one_more};
 use dscript_types_notes::{Place, World, names_around};
 use std::alloc::Global;

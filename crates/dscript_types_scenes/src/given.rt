@@ -1,5 +1,5 @@
 //! What functions are given, and what their parameters take.
-ghost use Rattle.std.specs.Prelude.{◌∷◌, ◌≡◌, IfOk, map};
+ghost use Rattle.std.specs.Prelude.{◌∷◌, ◌≡◌, [], IfOk, map};
 ghost use Rattle.dscript_ast.specs.Views.{note_tree, param_tree};
 ghost use Rattle.dscript_sdk_members.specs.declared.member.Member.TheVariants as members;
 ghost use Rattle.dscript_types_known.specs.Views.{finding_data};

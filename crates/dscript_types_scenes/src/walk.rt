@@ -1,5 +1,5 @@
 //! What a walk over a body has come to.
-ghost use Rattle.std.specs.Prelude.{◌≡◌, IfOk, Some};
+ghost use Rattle.std.specs.Prelude.{◌≡◌, [], IfOk, Some};
 ghost use Rattle.dscript_types_known.specs.Findings.{Found};
 ghost use Rattle.dscript_types_scenes.specs.Typings.{both_right};
 ghost use Rattle.dscript_types_scenes.specs.Walks.{finding_types, judged, returned};

@@ -1,6 +1,6 @@
 use Rattle.dscript_program.specs.Views.{expr_data}
 use Rattle.dscript_types_notes.proofs.Going.{if_ok}
-use Rattle.dscript_types_scenes.proofs.Narrowed.{followed}
+use Rattle.dscript_types_scenes.proofs.Narrowing.{followed}
 use Rattle.dscript_types_scenes.proofs.Scening.{same_goes}
 use Rattle.dscript_types_scenes.proofs.conditions.following.Goals as goal
 

@@ -3,7 +3,7 @@ use Rattle.std.specs.Option.{option_copied, option_map}
 use Rattle.dscript_program.specs.Views.{expr_data}
 use Rattle.dscript_types_known.specs.Views.{found_local}
 use Rattle.dscript_types_notes.proofs.Going.{if_ok}
-use Rattle.dscript_types_scenes.proofs.Narrowed.{says_nothing, says_of_missing, says_of_other, says_of_seen}
+use Rattle.dscript_types_scenes.proofs.Narrowing.{says_nothing, says_of_missing, says_of_other, says_of_seen}
 use Rattle.dscript_types_scenes.proofs.conditions.narrowed.Goals as goal
 
 pub returns-in_default : goal.returns-in_default

@@ -2,7 +2,7 @@ use Rattle.std.proofs.Common.{ap, refl}
 use Rattle.dscript_types_known.specs.Views.{found_local, hold_data}
 use Rattle.dscript_types_meaning.specs.Narrowing.{narrow_held}
 use Rattle.dscript_types_notes.proofs.Going.{if_ok}
-use Rattle.dscript_types_scenes.proofs.Narrowed.{is_narrowed, not_narrowed}
+use Rattle.dscript_types_scenes.proofs.Narrowing.{is_narrowed, not_narrowed}
 use Rattle.dscript_types_scenes.proofs.conditions.narrowed_local.Goals as goal
 
 pub returns-in_ok-finding-in-Fixed : goal.returns-in_ok-finding-in-Fixed

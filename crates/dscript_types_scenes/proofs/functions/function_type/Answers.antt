@@ -9,7 +9,7 @@ use Rattle.dscript_types_notes.proofs.Written.{seen_as}
 use Rattle.dscript_types_notes.specs.Means.{raised}
 use Rattle.dscript_types_scenes.proofs.Answering.{function_there, got, no_function_there, parameters_as}
 use Rattle.dscript_types_scenes.proofs.Asking.{asks, function_missing, no_function, none_there, parameters_nothing, parameters_open, unfit}
-use Rattle.dscript_types_scenes.proofs.Named.{entry_tells}
+use Rattle.dscript_types_scenes.proofs.Naming.{entry_tells}
 use Rattle.dscript_types_scenes.proofs.Standing.{around_last, at_decl, at_kind}
 use Rattle.dscript_types_scenes.specs.Declarations.{parameters_of}
 use Rattle.dscript_types_scenes.specs.Walks.{finding_types}

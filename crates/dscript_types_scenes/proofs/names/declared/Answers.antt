@@ -4,7 +4,7 @@ use Rattle.dscript_program.specs.Views.{decl_data, kind_data}
 use Rattle.dscript_program.specs.declared.target.Target.TheVariants as targets
 use Rattle.dscript_types_meaning.specs.Expressions as rules
 use Rattle.dscript_types_meaning.specs.Expressions.{named_kind}
-use Rattle.dscript_types_scenes.proofs.Named.{constant_declared, function_declared, none_declared, type_declared}
+use Rattle.dscript_types_scenes.proofs.Naming.{constant_declared, function_declared, none_declared, type_declared}
 use Rattle.dscript_types_scenes.specs.Scenes.{TypesAs}
 use Rattle.dscript_types_scenes.specs.Typings.{subject_data}
 use Rattle.dscript_types_scenes.specs.declared.found.Subject.TheVariants as subjects

@@ -3,7 +3,7 @@ use Rattle.std.specs.Option.{option_copied, option_map}
 use Rattle.dscript_program.specs.declared.target.Target.TheVariants as targets
 use Rattle.dscript_types_known.specs.Views.{found_local}
 use Rattle.dscript_types_meaning.specs.Expressions as rules
-use Rattle.dscript_types_scenes.proofs.Named.{local_found, local_missing}
+use Rattle.dscript_types_scenes.proofs.Naming.{local_found, local_missing}
 use Rattle.dscript_types_scenes.specs.Scenes.{TypesAs}
 use Rattle.dscript_types_scenes.specs.Typings.{subject_data}
 use Rattle.dscript_types_scenes.proofs.names.local.Goals as goal

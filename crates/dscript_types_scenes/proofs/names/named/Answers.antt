@@ -1,5 +1,5 @@
 use Rattle.dscript_types_notes.proofs.Going.{if_ok}
-use Rattle.dscript_types_scenes.proofs.Named.{ambient_named, by_target}
+use Rattle.dscript_types_scenes.proofs.Naming.{ambient_named, by_target}
 use Rattle.dscript_types_scenes.specs.declared.found.Subject.TheVariants as subjects
 use Rattle.dscript_types_scenes.specs.declared.found.Typing.TheVariants as typings
 use Rattle.dscript_types_scenes.proofs.names.named.Goals as goal

@@ -11,7 +11,7 @@ use Rattle.dscript_types_meaning.specs.Narrowing.{Told, following, narrow_held, 
 use Rattle.dscript_types_meaning.specs.Types.{TypeData}
 use Rattle.dscript_types_meaning.specs.Unions.{without_undefined}
 use Rattle.dscript_types_notes.specs.declared.world.World.{World}
-use Rattle.dscript_types_scenes.proofs.Named.{unseen_local}
+use Rattle.dscript_types_scenes.proofs.Naming.{unseen_local}
 use Rattle.dscript_types_scenes.proofs.Scening.{same_matches, tells_mapped, with_matches}
 use Rattle.dscript_types_scenes.specs.Scenes.{Closed, GoesTo, IsSameScene, IsSceneWith, Matches}
 use Rattle.dscript_types_scenes.specs.declared.scene.Scene.{Scene}
