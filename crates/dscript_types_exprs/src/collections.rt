@@ -13,7 +13,9 @@ ghost use Rattle.dscript_types_scenes.specs.Typings.{subject_data};
 use crate::exprs::type_of;
 use bx_tree::{Memory, Text};
 use dscript_program::{BoundElement, BoundExpr, BoundProp};
-use dscript_types_data::{Field, Type, is_list_type, items_of, join_all, put_field, spread_fields, write_fields};
+use dscript_types_data::{
+    Field, Type, is_list_type, items_of, join_all, put_field, spread_fields, write_fields,
+};
 use dscript_types_meaning::MAX_TYPE_NODES;
 use dscript_types_notes::World;
 use dscript_types_scenes::{Scene, Seen, Subject, Typing, element_parts, is, named, only, whole};
