@@ -7,7 +7,6 @@ use Rattle.dscript_sdk_members.specs.declared.member.Member.{Member}
 use Rattle.dscript_types_meaning.specs.Access.{indexed, method_type}
 use Rattle.dscript_types_meaning.specs.Ambients.{ambient_type}
 use Rattle.dscript_types_meaning.specs.Contexts.{◌>>=◌, Context, Known, Types, only}
-use Rattle.dscript_types_meaning.specs.Expressions as subjects
 use Rattle.dscript_types_meaning.specs.Expressions as rules
 use Rattle.dscript_types_meaning.specs.Expressions.{arguments, expr_type, first_of, further_arguments, is, subject_call}
 use Rattle.dscript_types_meaning.specs.Functions.{callback_type, function_type}
@@ -26,7 +25,7 @@ use Rattle.dscript_types_scenes.specs.declared.scene.Scene.{Scene}
 -- Where a typing says what the rules come to, the next one says what they come to after it.
 abbrev pub GoesOn
     : {X Y : Type 0} → (X → Y) → World → Scene → Typing X → Typing Subject
-    → (ProgramData → Known → Context → Y → Types subjects.Subject) → Type 0
+    → (ProgramData → Known → Context → Y → Types rules.Subject) → Type 0
 GoesOn {Y = Y} f w scene found end answer =
     (n more : ℕ) (c : Context) → n ≤ more → n ≤ w.left → Matches (Closed w more) n scene c
     → (before : Types Y) → TypesTo f (program_of w) (Closed w more) n found before
@@ -35,7 +34,7 @@ GoesOn {Y = Y} f w scene found end answer =
 
 -- likewise after something that was seen
 abbrev pub SeesOn
-    : World → Scene → Seen → Typing Subject → (ProgramData → Known → Context → Types subjects.Subject) → Type 0
+    : World → Scene → Seen → Typing Subject → (ProgramData → Known → Context → Types rules.Subject) → Type 0
 SeesOn w scene seen end answer =
     GoesOn (λ (u : Unit {0}). u) w scene (typings.Found tt seen) end (λ p known c u. answer p known c)
 
