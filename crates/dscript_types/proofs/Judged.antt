@@ -11,8 +11,8 @@ use Rattle.dscript_program.specs.declared.program.BoundFile.{BoundFile}
 use Rattle.dscript_program.specs.declared.program.Function.{Function}
 use Rattle.dscript_program.specs.declared.program.Program.{Program}
 use Rattle.dscript_types_exprs.specs.Bodies.{DeclIsRight}
-use Rattle.dscript_types_exprs.specs.Scenes.{Closed}
-use Rattle.dscript_types_exprs.specs.Typings.{FromOn}
+use Rattle.dscript_types_scenes.specs.Scenes.{Closed}
+use Rattle.dscript_types_scenes.specs.Typings.{FromOn}
 use Rattle.dscript_types_meaning.specs.Lookups.{decls_at, decls_in}
 use Rattle.dscript_types_meaning.specs.Typed.{IsTyped, decl_has_types, is_typed_file, reach}
 use Rattle.dscript_types_notes.specs.Means.{program_of}

@@ -6,7 +6,7 @@ use Rattle.dscript_types_known.specs.Tables.{IsClosedTo, IsRight, TableData, ask
 use Rattle.dscript_types_meaning.specs.Lookups.{decl_at}
 use Rattle.dscript_types_meaning.specs.Typed.{found, known_within, reach}
 use Rattle.dscript_types_meaning.specs.Types.{TypeData}
-use Rattle.dscript_types_exprs.specs.Scenes.{FindsAnywhere}
+use Rattle.dscript_types_scenes.specs.Scenes.{FindsAnywhere}
 use Rattle.dscript_types_notes.specs.Means.{program_of}
 use Rattle.dscript_types_notes.specs.declared.world.World.{World}
 use Rattle.dscript_types.specs.Passes.{FindsIn, GoesOver, IsFull, IsShut, anywhere}

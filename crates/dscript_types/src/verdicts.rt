@@ -2,7 +2,7 @@
 ghost use Rattle.std.specs.Prelude.{◌≡◌, IfOk, MatchOption, map};
 ghost use Rattle.dscript_program.specs.Views.{decl_data};
 ghost use Rattle.dscript_types.specs.Passes.{IsFull, IsUntypedFirst};
-ghost use Rattle.dscript_types_exprs.specs.Typings.{FromOn};
+ghost use Rattle.dscript_types_scenes.specs.Typings.{FromOn};
 ghost use Rattle.dscript_types_meaning.specs.Lookups.{decls_at};
 ghost use Rattle.dscript_types_meaning.specs.Typed.{IsTyped, is_typed_file, reach};
 ghost use Rattle.dscript_types_notes.specs.Means.{IsSound, program_of};

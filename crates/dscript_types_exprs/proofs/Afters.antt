@@ -1,31 +1,31 @@
 -- The members, indices and calls after a subject, one after another.
-use Rattle.std.proofs.Common.{◌≡◌, ℕ, ◌+◌, ◌<◌, ◌≤◌, List, drop, get_or, length, map, Some, None, refl, ap, sym, subst, ◌∙◌}
+use Rattle.std.proofs.Common.{◌+◌, ◌<◌, ◌∙◌, ◌≡◌, ◌≤◌, ℕ, List, None, Some, ap, drop, get_or, length, map, refl, subst, sym}
 use Rattle.dscript_program.specs.BoundTree as tree
 use Rattle.dscript_program.specs.BoundTree.{ExprData, ExprRow, PartData, PartRow, to_parts}
 use Rattle.dscript_program.specs.ProgramData.{ProgramData}
 use Rattle.dscript_program.specs.Views.{part_data}
 use Rattle.dscript_program.specs.declared.bound.BoundPart.{BoundPart}
 use Rattle.dscript_types_meaning.specs.Access.{indexed}
-use Rattle.dscript_types_meaning.specs.Contexts.{Context, Known, Standing, Types, gives, only, ◌>>=◌}
+use Rattle.dscript_types_meaning.specs.Contexts.{◌>>=◌, Context, Known, Standing, Types, gives, only}
 use Rattle.dscript_types_meaning.specs.Expressions as rules
 use Rattle.dscript_types_meaning.specs.Expressions.{after, arguments, expr_type, first_of, further_arguments, subject_call, whole}
 use Rattle.dscript_types_meaning.specs.Typed.{known_within}
 use Rattle.dscript_types_meaning.specs.Types.{TypeData}
+use Rattle.dscript_types_notes.proofs.Meant.{drop_all, drop_next}
 use Rattle.dscript_types_notes.specs.Means.{program_of}
 use Rattle.dscript_types_notes.specs.declared.world.World.{World}
-use Rattle.dscript_types_notes.proofs.Meant.{drop_all, drop_next}
-use Rattle.dscript_types_exprs.specs.declared.found.Subject.{Subject}
-use Rattle.dscript_types_exprs.specs.declared.found.Subject.TheVariants as subjects
-use Rattle.dscript_types_exprs.specs.declared.found.Typing.{Typing}
-use Rattle.dscript_types_exprs.specs.declared.found.Typing.TheVariants as typings
-use Rattle.dscript_types_exprs.specs.declared.scene.Scene.{Scene}
-use Rattle.dscript_types_exprs.specs.Calls.{call_subject, index_subject, named_typing}
-use Rattle.dscript_types_exprs.specs.Scenes.{Closed, GoesOn, Matches}
-use Rattle.dscript_types_exprs.specs.Subjects.{whole_of}
-use Rattle.dscript_types_exprs.specs.Typings.{TypesTo, subject_data}
-use Rattle.dscript_types_exprs.proofs.Going.{ends, nil_right, no_bodies, part_by_part, starts}
+use Rattle.dscript_types_scenes.proofs.Going.{ends, nil_right, no_bodies, part_by_part, starts}
+use Rattle.dscript_types_scenes.proofs.Values.{whole_typed}
+use Rattle.dscript_types_scenes.specs.Scenes.{Closed, Matches}
+use Rattle.dscript_types_scenes.specs.Subjects.{named_typing, whole_of}
+use Rattle.dscript_types_scenes.specs.Typings.{TypesTo, subject_data}
+use Rattle.dscript_types_scenes.specs.declared.found.Subject.{Subject}
+use Rattle.dscript_types_scenes.specs.declared.found.Subject.TheVariants as subjects
+use Rattle.dscript_types_scenes.specs.declared.found.Typing.{Typing}
+use Rattle.dscript_types_scenes.specs.declared.found.Typing.TheVariants as typings
+use Rattle.dscript_types_scenes.specs.declared.scene.Scene.{Scene}
 use Rattle.dscript_types_exprs.proofs.Listing.{and_same}
-use Rattle.dscript_types_exprs.proofs.Values.{whole_typed}
+use Rattle.dscript_types_exprs.specs.Calls.{GoesOn, call_subject, index_subject}
 
 gives_then : {X Y : Type 0} (x : X) (k : X → Types Y) → (gives x >>= k) ≡ k x
 gives_then x k = no_bodies (k x)

@@ -1,5 +1,5 @@
 -- What functions answer that stand as callbacks.
-use Rattle.std.proofs.Common.{◌≡◌, ℕ, zero, suc, ◌+◌, ◌-◌, ◌<◌, ◌≤◌, max, Bool, true, ◌&&◌, Option, Some, None, List, [], ◌∷◌, refl, ap, sym, subst, ◌∙◌, inl, inr, ◌⊎◌, arith}
+use Rattle.std.proofs.Common.{◌&&◌, ◌+◌, ◌-◌, ◌<◌, ◌∙◌, ◌∷◌, ◌≡◌, ◌≤◌, ◌⊎◌, ℕ, Bool, List, None, Option, Some, [], ap, arith, inl, inr, max, refl, subst, suc, sym, true, zero}
 use Rattle.std.proofs.Math.Nat.{le-max_left, le-max_right}
 use Rattle.std.proofs.lemmas.Bool.{cases_lt}
 use Rattle.std.specs.List.{list_all}
@@ -11,23 +11,23 @@ use Rattle.dscript_types_known.specs.declared.finding.Finding.{Finding as AnyFin
 use Rattle.dscript_types_known.specs.declared.finding.Finding.TheVariants as findings
 use Rattle.dscript_types_known.specs.declared.finding.Pending.{Pending}
 use Rattle.dscript_types_meaning.specs.Bodies.{body_uses, callback_uses, inferred}
-use Rattle.dscript_types_meaning.specs.Contexts.{Callback, Context, Known, Local, Standing, Types, only, with_bodies, ◌>>=◌}
+use Rattle.dscript_types_meaning.specs.Contexts.{◌>>=◌, Callback, Context, Known, Local, Standing, Types, only, with_bodies}
 use Rattle.dscript_types_meaning.specs.Functions.{answer_standing, arrow_answer, callback_context, given_locals}
 use Rattle.dscript_types_meaning.specs.Lookups.{function_at}
 use Rattle.dscript_types_meaning.specs.Typed.{answer_of_callback, body_passes, has_type, known_within}
 use Rattle.dscript_types_meaning.specs.Types.{TypeData}
 use Rattle.dscript_types_notes.specs.Means.{program_of}
 use Rattle.dscript_types_notes.specs.declared.world.World.{World}
-use Rattle.dscript_types_exprs.specs.declared.found.Seen.{Seen}
-use Rattle.dscript_types_exprs.specs.declared.found.Typing.{Typing}
-use Rattle.dscript_types_exprs.specs.declared.found.Typing.TheVariants as typings
-use Rattle.dscript_types_exprs.specs.declared.scene.Scene.{Scene}
-use Rattle.dscript_types_exprs.specs.Bodies.{IsRightAs}
-use Rattle.dscript_types_exprs.specs.Callbacks.{FindsScene, body_typing}
-use Rattle.dscript_types_exprs.specs.Scenes.{Closed, FindsAs, IsBelow, Matches, TypesAs}
-use Rattle.dscript_types_exprs.specs.Typings.{FromOn, are_right}
+use Rattle.dscript_types_scenes.proofs.Going.{no_bodies}
+use Rattle.dscript_types_scenes.specs.Functions.{FindsScene, body_typing}
+use Rattle.dscript_types_scenes.specs.Scenes.{Closed, FindsAs, IsBelow, Matches, TypesAs}
+use Rattle.dscript_types_scenes.specs.Typings.{FromOn, are_right}
+use Rattle.dscript_types_scenes.specs.declared.found.Seen.{Seen}
+use Rattle.dscript_types_scenes.specs.declared.found.Typing.{Typing}
+use Rattle.dscript_types_scenes.specs.declared.found.Typing.TheVariants as typings
+use Rattle.dscript_types_scenes.specs.declared.scene.Scene.{Scene}
 use Rattle.dscript_types_exprs.proofs.Below.{closed_above, closed_below, matches_under, same_program}
-use Rattle.dscript_types_exprs.proofs.Going.{no_bodies}
+use Rattle.dscript_types_exprs.specs.Bodies.{IsRightAs}
 
 abbrev typed_as : TypeData → TypeData
 typed_as t = t

@@ -1,46 +1,39 @@
 -- Callbacks: what they get, what they answer, and what the members give that call them.
-use Rattle.std.proofs.Common.{if◌then◌else◌, ◌≡◌, ℕ, ◌≤◌, Bool, true, false, Option, Some, None, List, [], ◌∷◌, length, map, refl, ap, sym, subst, ◌∙◌}
-use Rattle.std.specs.List.{list_all}
+use Rattle.std.proofs.Common.{◌∙◌, ◌≡◌, ◌≤◌, ℕ, Bool, List, None, Option, Some, [], ap, false, if◌then◌else◌, refl, subst, sym, true}
 use Rattle.std.specs.declared.alloc.Global.{Global}
 use Rattle.std.specs.declared.vec.Vec.{Vec}
 use Rattle.dscript_program.specs.BoundTree as tree
 use Rattle.dscript_program.specs.BoundTree.{ExprData, ExprRow}
 use Rattle.dscript_program.specs.ProgramData.{FunctionData, ProgramData}
-use Rattle.dscript_program.specs.declared.target.Target.{Target}
 use Rattle.dscript_program.specs.declared.target.Target.TheVariants as targets
 use Rattle.dscript_sdk_members.specs.declared.member.Member.{Member}
-use Rattle.dscript_sdk_members.specs.declared.member.Member.TheVariants as members
-use Rattle.dscript_types_data.specs.declared.types.Member.{Member as TypeMember}
-use Rattle.dscript_types_data.specs.Views.{member_data}
-use Rattle.dscript_types_known.specs.Views.{finding_data}
-use Rattle.dscript_types_known.specs.declared.finding.Finding.{Finding as AnyFinding}
 use Rattle.dscript_types_known.specs.declared.finding.Pending.{Pending}
-use Rattle.dscript_types_meaning.specs.Contexts.{Context, Known, Types, needs, no_type, only, ◌>>=◌, ◌>>◌}
-use Rattle.dscript_types_meaning.specs.Expressions as rules
+use Rattle.dscript_types_meaning.specs.Contexts.{◌>>=◌, ◌>>◌, Context, Known, Types, needs, no_type, only}
 use Rattle.dscript_types_meaning.specs.Expressions.{arguments, further_arguments, is}
+use Rattle.dscript_types_meaning.specs.Expressions as rules
 use Rattle.dscript_types_meaning.specs.Functions.{arrow_answer, by_answer, callback_answer, callback_type, given_to}
 use Rattle.dscript_types_meaning.specs.Lookups.{function_at}
-use Rattle.dscript_types_meaning.specs.Operators.{number_type}
 use Rattle.dscript_types_meaning.specs.Typed.{known_within}
-use Rattle.dscript_types_meaning.specs.Types.{TypeData, members_of, never}
+use Rattle.dscript_types_meaning.specs.Types.{TypeData, never}
 use Rattle.dscript_types_meaning.specs.Unions.{is_list_type, is_never, items_of}
 use Rattle.dscript_types_notes.specs.Means.{program_of}
 use Rattle.dscript_types_notes.specs.declared.world.World.{World}
-use Rattle.dscript_types_exprs.specs.declared.found.Seen.{Seen}
-use Rattle.dscript_types_exprs.specs.declared.found.Subject.{Subject}
-use Rattle.dscript_types_exprs.specs.declared.found.Typing.{Typing}
-use Rattle.dscript_types_exprs.specs.declared.found.Typing.TheVariants as typings
-use Rattle.dscript_types_exprs.specs.declared.scene.Scene.{Scene}
-use Rattle.dscript_types_exprs.specs.Callbacks.{callback_subject, target_answer}
-use Rattle.dscript_types_exprs.specs.Items.{items_now}
-use Rattle.dscript_types_exprs.specs.Scenes.{Closed, FindsAnywhere, Matches, SeesOn, TypesAs}
-use Rattle.dscript_types_exprs.specs.Shapes.{Arrow, Chain, Name, Other, ShapeData, Unary, Undefined, shape_of}
-use Rattle.dscript_types_exprs.specs.Subjects.{in_finding, is_whole, only_found}
-use Rattle.dscript_types_exprs.specs.Typings.{TypesTo, subject_data}
+use Rattle.dscript_types_scenes.proofs.Going.{Going, both_seen, ends_none, goes_on, no_bodies, opens, part_by_part, starts, stops}
+use Rattle.dscript_types_scenes.proofs.Values.{ends_is}
+use Rattle.dscript_types_scenes.specs.Functions.{target_answer}
+use Rattle.dscript_types_scenes.specs.Scenes.{Closed, Matches, TypesAs}
+use Rattle.dscript_types_scenes.specs.Shapes.{Arrow, Chain, Name, Other, ShapeData, Unary, Undefined, shape_of}
+use Rattle.dscript_types_scenes.specs.Subjects.{is_whole, only_found}
+use Rattle.dscript_types_scenes.specs.Typings.{TypesTo, subject_data}
+use Rattle.dscript_types_scenes.specs.declared.found.Seen.{Seen}
+use Rattle.dscript_types_scenes.specs.declared.found.Subject.{Subject}
+use Rattle.dscript_types_scenes.specs.declared.found.Typing.{Typing}
+use Rattle.dscript_types_scenes.specs.declared.found.Typing.TheVariants as typings
+use Rattle.dscript_types_scenes.specs.declared.scene.Scene.{Scene}
 use Rattle.dscript_types_exprs.proofs.Calling.{at_part, part_fails, part_nothing, part_open}
 use Rattle.dscript_types_exprs.proofs.Choosing.{typed_as}
-use Rattle.dscript_types_exprs.proofs.Going.{Going, both_seen, ends_none, goes_on, no_bodies, opens, part_by_part, starts, stops}
-use Rattle.dscript_types_exprs.proofs.Values.{ends_is, finding_typed}
+use Rattle.dscript_types_exprs.specs.Calls.{SeesOn, callback_subject}
+use Rattle.dscript_types_exprs.specs.Parts.{items_now}
 
 -- ## What stands as a callback
 
@@ -105,47 +98,6 @@ pub no_arrow_answers
 no_arrow_answers w scene e given number is none =
     answers_as w scene e given (Arrow number) is typings.Nothing (λ p known c. no_type)
     (λ n c. ap (arrow_answer (program_of w) (known_within (program_of w) n) number c given) none) (λ n more c below within m. refl)
-
--- what is found anywhere
-pub finds_typed
-    : (w : World) (scene : Scene) (f : AnyFinding TypeData) (answer : ProgramData → Known → Option TypeData)
-    → FindsAnywhere w (finding_data f) answer → TypesAs typed_as w scene (in_finding f) (λ p known c. only (answer p known))
-finds_typed w scene f answer finds n more c below within m =
-    finding_typed (program_of w) (Closed w more) n f (answer (program_of w) (known_within (program_of w) n)) (finds n more below within)
-
-pub by_target
-    : (w : World) (scene : Scene) (given : List TypeData) (target other : Target) (found : Typing TypeData) → target ≡ other
-    → TypesAs typed_as w scene found (λ p known c. target_answer p known given other)
-    → TypesAs typed_as w scene found (λ p known c. target_answer p known given target)
-by_target w scene given target other found is says =
-    subst (λ (t : Target). TypesAs typed_as w scene found (λ p known c. target_answer p known given t)) (sym is) says
-
--- ## What callbacks get, and what the members give
-
-pub not_reduce
-    : (m : Member) (item : TypeData) (further : List TypeData) → (m ≡ members.Reduce → ⊥)
-    → Some (item ∷ number_type ∷ []) ≡ given_to m item further
-not_reduce members.Reduce item further fails = absurd (fails refl)
-not_reduce _ item further fails = refl
-
-pub not_called_back
-    : (m : Member) (item : TypeData) (further : List TypeData) (answer : TypeData) → (m ≡ members.Map → ⊥) → (m ≡ members.Filter → ⊥)
-    → (m ≡ members.MapMany → ⊥) → (m ≡ members.Reduce → ⊥) → None ≡ by_answer m item further answer
-not_called_back members.Map item further answer a b c d = absurd (a refl)
-not_called_back members.Filter item further answer a b c d = absurd (b refl)
-not_called_back members.MapMany item further answer a b c d = absurd (c refl)
-not_called_back members.Reduce item further answer a b c d = absurd (d refl)
-not_called_back _ item further answer a b c d = refl
-
--- a type without members is never
-pub no_members_never : (ms : List TypeMember) (t : TypeData) → map member_data ms ≡ members_of t → length ms ≡ 0 → is_never t ≡ true
-no_members_never [] t is e = ap (list_all (λ m. false)) (sym is)
-no_members_never (m ∷ ms) t is e = cc
-
-pub members_not_never
-    : (ms : List TypeMember) (t : TypeData) → map member_data ms ≡ members_of t → (length ms ≡ 0 → ⊥) → is_never t ≡ false
-members_not_never [] t is some = absurd (some refl)
-members_not_never (m ∷ ms) t is some = ap (list_all (λ m. false)) (sym is)
 
 -- ## Calls with a callback
 

@@ -1,5 +1,5 @@
 -- What is the same in the body of a callback.
-use Rattle.std.proofs.Common.{◌≡◌, ℕ, Option, Some, None, ap, sym, subst, arith}
+use Rattle.std.proofs.Common.{◌≡◌, ℕ, None, Option, Some, ap, arith, subst, sym}
 use Rattle.dscript_program.specs.ProgramData.{ProgramData}
 use Rattle.dscript_program.specs.Views.{program_data}
 use Rattle.dscript_types_known.specs.Matching.{FoundLocal, LocalMatches}
@@ -11,8 +11,8 @@ use Rattle.dscript_types_notes.proofs.Parts.{tells_under}
 use Rattle.dscript_types_notes.specs.Means.{IsSound, program_of}
 use Rattle.dscript_types_notes.specs.Names.{IsIndexOf}
 use Rattle.dscript_types_notes.specs.declared.world.World.{World}
-use Rattle.dscript_types_exprs.specs.declared.scene.Scene.{Scene}
-use Rattle.dscript_types_exprs.specs.Scenes.{Closed, IsBelow, Matches}
+use Rattle.dscript_types_scenes.specs.Scenes.{Closed, IsBelow, Matches}
+use Rattle.dscript_types_scenes.specs.declared.scene.Scene.{Scene}
 
 local_under
     : (more less : Type 0) (n : ℕ) (f : Option FoundLocal) (l : Option Local) → (more → less)

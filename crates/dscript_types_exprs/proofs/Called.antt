@@ -1,52 +1,43 @@
 -- Calls, by what is called.
-use Rattle.std.proofs.Common.{◌≡◌, ℕ, zero, suc, Bool, true, ◌+◌, ◌<◌, ◌≤◌, max, Option, Some, None, List, [], ◌∷◌, get_or, length, map, refl, ap, sym, subst, ◌∙◌, inl, inr, arith}
+use Rattle.std.proofs.Common.{◌∙◌, ◌≡◌, ℕ, Bool, List, None, Option, Some, ap, inl, inr, refl, subst, sym, true}
 use Rattle.std.proofs.lemmas.Bool.{cases_lt}
-use Rattle.std.specs.Borrow.{Bor}
-use Rattle.std.specs.List.{slice_get}
-use Rattle.std.proofs.lemmas.Option.{slice_get_read}
-use Rattle.std.specs.Option.{IfSome, MatchOption, option_copied, option_map}
 use Rattle.std.specs.declared.alloc.Global.{Global}
 use Rattle.std.specs.declared.vec.Vec.{Vec}
 use Rattle.dscript_program.specs.BoundTree.{ExprData, ExprRow, OperandRow}
 use Rattle.dscript_program.specs.ProgramData.{ProgramData}
-use Rattle.dscript_program.specs.Views.{function_data}
 use Rattle.dscript_program.specs.declared.ambient.Ambient.{Ambient as AmbientCall}
-use Rattle.dscript_program.specs.declared.program.Function.{Function}
 use Rattle.dscript_program.specs.declared.target.Target.{Target}
 use Rattle.dscript_sdk_members.specs.Names.{member_named}
 use Rattle.dscript_sdk_members.specs.declared.member.Member.{Member}
-use Rattle.dscript_types_known.specs.Views.{finding_data}
-use Rattle.dscript_types_known.specs.declared.finding.Finding.{Finding as AnyFinding}
 use Rattle.dscript_types_meaning.specs.Access.{method_type}
 use Rattle.dscript_types_meaning.specs.Ambients.{ambient_type}
 use Rattle.dscript_types_meaning.specs.Bodies.{Alone, is_right_at}
-use Rattle.dscript_types_meaning.specs.Contexts.{Context, Known, Types, only, ◌>>=◌}
+use Rattle.dscript_types_meaning.specs.Contexts.{◌>>=◌, Context, Known, Types, only}
 use Rattle.dscript_types_meaning.specs.Expressions as rules
 use Rattle.dscript_types_meaning.specs.Expressions.{arguments, first_of, further_arguments, if_callback, is, member_call, named, subject_call}
 use Rattle.dscript_types_meaning.specs.Functions.{callback_type, function_type, given_to}
-use Rattle.dscript_types_meaning.specs.Lookups.{function_at}
 use Rattle.dscript_types_meaning.specs.Narrowing.{following, outcome_of}
 use Rattle.dscript_types_meaning.specs.Typed.{known_within}
 use Rattle.dscript_types_meaning.specs.Types.{TypeData}
 use Rattle.dscript_types_meaning.specs.Unions.{items_of}
 use Rattle.dscript_types_notes.specs.Means.{program_of}
 use Rattle.dscript_types_notes.specs.declared.world.World.{World}
-use Rattle.dscript_types_exprs.specs.declared.found.Seen.{Seen}
-use Rattle.dscript_types_exprs.specs.declared.found.Subject.{Subject}
-use Rattle.dscript_types_exprs.specs.declared.found.Typing.{Typing}
-use Rattle.dscript_types_exprs.specs.declared.found.Typing.TheVariants as typings
-use Rattle.dscript_types_exprs.specs.declared.scene.Scene.{Scene}
-use Rattle.dscript_types_exprs.specs.declared.walk.Rule.TheVariants as met
-use Rattle.dscript_types_exprs.specs.Callbacks.{callback_subject, types_in}
-use Rattle.dscript_types_exprs.specs.Calls.{ambient_subject, call_subject, function_subject, method_subject}
-use Rattle.dscript_types_exprs.specs.Scenes.{Closed, FindsAnywhere, GoesOn, GoesTo, SeesOn, TypesAs}
-use Rattle.dscript_types_exprs.specs.Subjects.{whole_of}
-use Rattle.dscript_types_exprs.specs.Typings.{TypesTo, subject_data}
-use Rattle.dscript_types_exprs.specs.Walks.{RulesAs}
+use Rattle.dscript_types_scenes.proofs.Going.{part_by_part}
+use Rattle.dscript_types_scenes.proofs.Ruling.{always_met}
+use Rattle.dscript_types_scenes.proofs.Values.{whole_typed}
+use Rattle.dscript_types_scenes.specs.Functions.{types_in}
+use Rattle.dscript_types_scenes.specs.Scenes.{Closed, GoesTo, TypesAs}
+use Rattle.dscript_types_scenes.specs.Subjects.{whole_of}
+use Rattle.dscript_types_scenes.specs.Typings.{TypesTo, subject_data}
+use Rattle.dscript_types_scenes.specs.Walks.{RulesAs}
+use Rattle.dscript_types_scenes.specs.declared.found.Seen.{Seen}
+use Rattle.dscript_types_scenes.specs.declared.found.Subject.{Subject}
+use Rattle.dscript_types_scenes.specs.declared.found.Typing.{Typing}
+use Rattle.dscript_types_scenes.specs.declared.found.Typing.TheVariants as typings
+use Rattle.dscript_types_scenes.specs.declared.scene.Scene.{Scene}
+use Rattle.dscript_types_scenes.specs.declared.walk.Rule.TheVariants as met
 use Rattle.dscript_types_exprs.proofs.Choosing.{typed_as}
-use Rattle.dscript_types_exprs.proofs.Going.{part_by_part}
-use Rattle.dscript_types_exprs.proofs.Ruling.{always_met}
-use Rattle.dscript_types_exprs.proofs.Values.{whole_typed}
+use Rattle.dscript_types_exprs.specs.Calls.{GoesOn, SeesOn, ambient_subject, call_subject, callback_subject, function_subject, method_subject}
 
 -- ## After something that was found
 
@@ -146,16 +137,6 @@ pub value_call
 unfolding subject_call
 value_call w scene seen es t n more c below within m before found = then_nothing before
 
--- ## What is given, said in another way
-
-pub finds_as
-    : (w : World) (given slice : List TypeData) → slice ≡ given → (file decl : ℕ) (x y : AnyFinding TypeData) → x ≡ y
-    → FindsAnywhere w (finding_data x) (λ p known. function_type p known file decl slice)
-    → FindsAnywhere w (finding_data y) (λ p known. function_type p known file decl given)
-finds_as w given slice same file decl x y e finds =
-    subst (λ (f : AnyFinding TypeData). FindsAnywhere w (finding_data f) (λ p known. function_type p known file decl given)) e
-    (subst (λ (ts : List TypeData). FindsAnywhere w (finding_data x) (λ p known. function_type p known file decl ts)) same finds)
-
 pub given_is
     : (member : Member) (t item : TypeData) (types slice : List TypeData) (o : Option (Vec TypeData Global)) → item ≡ items_of t
     → slice ≡ types → types_in o ≡ given_to member item slice → given_to member (items_of t) types ≡ types_in o
@@ -176,52 +157,6 @@ pub following_as
     → GoesTo w here new (λ p known c. following outcome left c) → GoesTo w here new (λ p known c. following (outcome_of more) left c)
 following_as w here new left more outcome e goes =
     subst (λ (o : Option Bool). GoesTo w here new (λ p known c. following o left c)) e goes
-
--- ## Functions by number
-
-get_map : (fs : List Function) (i : ℕ) → slice_get (map function_data fs) i ≡ option_map function_data (slice_get fs i)
-get_map [] i = refl
-get_map (f ∷ fs) zero = refl
-get_map (f ∷ fs) (suc i) = get_map fs i
-
-none_at : {X : Type 0} (xs : List X) (i : ℕ) → length xs ≤ i → slice_get xs i ≡ None
-none_at [] i l = refl
-none_at (x ∷ xs) zero l = absurd (omega (arith, l))
-none_at (x ∷ xs) (suc i) l = none_at xs i (omega (arith, l))
-
--- what a slice has there
-pub got
-    : (slice : List Function) (number : ℕ) (r : Option (Bor Function)) (has : Bor Function → Type 0)
-    → IfSome r (λ f. f.now ≡ get_or slice number f.now)
-    → MatchOption r (length slice ≤ number) (λ f. (number < length slice) × has f)
-    → option_copied r ≡ slice_get slice number
-got slice number None has at there = sym (none_at slice number there)
-got slice number (Some f) has at there = sym (slice_get_read slice (length slice) number f.now refl there.0 at)
-
-module _ (w : World) (slice : List Function) (number : ℕ) (r : Option (Bor Function)) (is_slice : slice ≡ w.program.now.functions.items)
-    (gets : option_copied r ≡ slice_get slice number) where
-  function_got : function_at (program_of w) number ≡ option_map function_data (option_copied r)
-  function_got =
-      get_map w.program.now.functions.items number
-      ∙ ap (λ fs. option_map function_data (slice_get fs number)) (sym is_slice) ∙ ap (option_map function_data) (sym gets)
-
-  pub function_there : (f : Bor Function) → r ≡ Some f → function_at (program_of w) number ≡ Some (function_data f.now)
-  function_there f e = function_got ∙ ap (λ o. option_map function_data (option_copied o)) e
-
-  pub no_function_there : r ≡ None → function_at (program_of w) number ≡ None
-  no_function_there e = function_got ∙ ap (λ o. option_map function_data (option_copied o)) e
-
--- ## What was seen
-
-abbrev pub seen_of : ℕ → Option ℕ → Seen
-seen_of rank right = record { rank = rank; right = right }
-
-pub seen_is
-    : (first rank next larger : ℕ) (inner right : Option ℕ) → right ≡ option_map (λ (from : ℕ). max first (from + 1)) inner
-    → next ≡ rank + 1 → larger ≡ max first next
-    → seen_of larger right ≡ seen_of (max first (rank + 1)) (option_map (λ (from : ℕ). max first (from + 1)) inner)
-seen_is first rank next larger inner right rights nexts largest =
-    ap (λ (k : ℕ). seen_of k right) (largest ∙ ap (max first) nexts) ∙ ap (seen_of (max first (rank + 1))) rights
 
 -- any type may stand by itself
 pub any_rule

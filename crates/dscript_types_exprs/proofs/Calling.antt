@@ -1,24 +1,25 @@
 -- Indices and calls after something that was seen.
-use Rattle.std.proofs.Common.{◌≡◌, ℕ, ◌≤◌, Option, Some, None, refl, ap, ◌∙◌}
+use Rattle.std.proofs.Common.{◌∙◌, ◌≡◌, ◌≤◌, ℕ, None, Option, Some, ap, refl}
 use Rattle.dscript_program.specs.ProgramData.{ProgramData}
 use Rattle.dscript_types_known.specs.Views.{finding_data}
 use Rattle.dscript_types_known.specs.declared.finding.Finding.{Finding as AnyFinding}
 use Rattle.dscript_types_known.specs.declared.finding.Finding.TheVariants as findings
 use Rattle.dscript_types_known.specs.declared.finding.Pending.{Pending}
-use Rattle.dscript_types_meaning.specs.Contexts.{Context, Known, Types, only, ◌>>=◌}
+use Rattle.dscript_types_meaning.specs.Contexts.{◌>>=◌, Context, Known, Types, only}
 use Rattle.dscript_types_meaning.specs.Expressions as rules
 use Rattle.dscript_types_meaning.specs.Typed.{known_within}
 use Rattle.dscript_types_meaning.specs.Types.{TypeData}
 use Rattle.dscript_types_notes.specs.Means.{program_of}
 use Rattle.dscript_types_notes.specs.declared.world.World.{World}
-use Rattle.dscript_types_exprs.specs.declared.found.Seen.{Seen}
-use Rattle.dscript_types_exprs.specs.declared.found.Typing.TheVariants as typings
-use Rattle.dscript_types_exprs.specs.declared.scene.Scene.{Scene}
-use Rattle.dscript_types_exprs.specs.Scenes.{Closed, FindsAnywhere, GoesOn, Matches, TypesAs}
-use Rattle.dscript_types_exprs.specs.Subjects.{is_whole, only_found}
-use Rattle.dscript_types_exprs.specs.Typings.{TypesTo, subject_data}
-use Rattle.dscript_types_exprs.proofs.Going.{Going, both_seen, ends_none, ends_open, goes_on, opens, starts, stops}
-use Rattle.dscript_types_exprs.proofs.Values.{ends_is, finding_typed}
+use Rattle.dscript_types_scenes.proofs.Going.{Going, both_seen, ends_none, ends_open, goes_on, opens, starts, stops}
+use Rattle.dscript_types_scenes.proofs.Values.{ends_is, finding_typed}
+use Rattle.dscript_types_scenes.specs.Scenes.{Closed, FindsAnywhere, Matches, TypesAs}
+use Rattle.dscript_types_scenes.specs.Subjects.{is_whole, only_found}
+use Rattle.dscript_types_scenes.specs.Typings.{TypesTo, subject_data}
+use Rattle.dscript_types_scenes.specs.declared.found.Seen.{Seen}
+use Rattle.dscript_types_scenes.specs.declared.found.Typing.TheVariants as typings
+use Rattle.dscript_types_scenes.specs.declared.scene.Scene.{Scene}
+use Rattle.dscript_types_exprs.specs.Calls.{GoesOn}
 
 abbrev nothing_found : AnyFinding TypeData
 nothing_found = findings.Nothing

@@ -1,5 +1,5 @@
 -- The operands of a chain, one after another.
-use Rattle.std.proofs.Common.{◌≡◌, ℕ, ◌+◌, ◌<◌, ◌≤◌, Bool, Option, Some, List, drop, get_or, length, map, ap, sym, ◌∙◌, subst}
+use Rattle.std.proofs.Common.{◌+◌, ◌<◌, ◌∙◌, ◌≡◌, ◌≤◌, ℕ, Bool, List, Option, Some, ap, drop, get_or, length, map, subst, sym}
 use Rattle.dscript_ast.specs.declared.operator.BinaryOp.{BinaryOp}
 use Rattle.dscript_program.specs.BoundTree as tree
 use Rattle.dscript_program.specs.BoundTree.{ExprData, to_operands}
@@ -7,7 +7,7 @@ use Rattle.dscript_program.specs.ProgramData.{ProgramData}
 use Rattle.dscript_program.specs.Views.{operand_data}
 use Rattle.dscript_program.specs.declared.bound.BoundOperand.{BoundOperand}
 use Rattle.dscript_types_known.specs.declared.finding.Pending.{Pending}
-use Rattle.dscript_types_meaning.specs.Contexts.{Context, Known, Types, only, ◌>>=◌}
+use Rattle.dscript_types_meaning.specs.Contexts.{◌>>=◌, Context, Known, Types, only}
 use Rattle.dscript_types_meaning.specs.Expressions as rules
 use Rattle.dscript_types_meaning.specs.Expressions.{operands, subject}
 use Rattle.dscript_types_meaning.specs.Narrowing.{following, outcome_of}
@@ -17,16 +17,16 @@ use Rattle.dscript_types_meaning.specs.Types.{TypeData}
 use Rattle.dscript_types_notes.proofs.Meant.{drop_all, drop_next}
 use Rattle.dscript_types_notes.specs.Means.{program_of}
 use Rattle.dscript_types_notes.specs.declared.world.World.{World}
-use Rattle.dscript_types_exprs.specs.declared.found.Seen.{Seen}
-use Rattle.dscript_types_exprs.specs.declared.found.Typing.TheVariants as typings
-use Rattle.dscript_types_exprs.specs.declared.scene.Scene.{Scene}
-use Rattle.dscript_types_exprs.specs.Scenes.{Closed, GoesTo, IsSameScene, Matches, TypesAs}
-use Rattle.dscript_types_exprs.specs.Subjects.{is_whole, only_found}
-use Rattle.dscript_types_exprs.specs.Typings.{subject_data}
+use Rattle.dscript_types_scenes.proofs.Going.{Going, both_seen, goes_on, opens, part_by_part, starts, stops}
+use Rattle.dscript_types_scenes.proofs.Scening.{same_matches}
+use Rattle.dscript_types_scenes.proofs.Values.{ends_is}
+use Rattle.dscript_types_scenes.specs.Scenes.{Closed, GoesTo, IsSameScene, Matches, TypesAs}
+use Rattle.dscript_types_scenes.specs.Subjects.{is_whole, only_found}
+use Rattle.dscript_types_scenes.specs.Typings.{subject_data}
+use Rattle.dscript_types_scenes.specs.declared.found.Seen.{Seen}
+use Rattle.dscript_types_scenes.specs.declared.found.Typing.TheVariants as typings
+use Rattle.dscript_types_scenes.specs.declared.scene.Scene.{Scene}
 use Rattle.dscript_types_exprs.proofs.Choosing.{operand_of, typed_as, value_of}
-use Rattle.dscript_types_exprs.proofs.Going.{Going, both_seen, goes_on, opens, part_by_part, starts, stops}
-use Rattle.dscript_types_exprs.proofs.Scening.{same_matches}
-use Rattle.dscript_types_exprs.proofs.Values.{ends_is}
 
 module _ (w : World) (scene : Scene) (first : ExprData) (more : List BoundOperand) where
   abbrev pub chain_of : ProgramData → Known → Context → Types rules.Subject

@@ -1,14 +1,14 @@
 -- Conditions and chains.
-use Rattle.std.proofs.Common.{◌≡◌, ℕ, ◌≤◌, true, false, Option, List, refl, ap, sym, ◌∙◌}
+use Rattle.std.proofs.Common.{◌∙◌, ◌≡◌, ◌≤◌, ℕ, List, Option, ap, false, refl, sym, true}
 use Rattle.dscript_ast.specs.declared.operator.BinaryOp.{BinaryOp}
 use Rattle.dscript_ast.specs.declared.operator.UnaryOp.{UnaryOp}
-use Rattle.dscript_program.specs.BoundTree as tree
 use Rattle.dscript_program.specs.BoundTree.{ExprData}
+use Rattle.dscript_program.specs.BoundTree as tree
 use Rattle.dscript_program.specs.ProgramData.{ProgramData}
 use Rattle.dscript_types_known.specs.declared.finding.Pending.{Pending}
-use Rattle.dscript_types_meaning.specs.Contexts.{Context, Known, Types, only, ◌>>=◌}
-use Rattle.dscript_types_meaning.specs.Expressions as rules
+use Rattle.dscript_types_meaning.specs.Contexts.{◌>>=◌, Context, Known, Types, only}
 use Rattle.dscript_types_meaning.specs.Expressions.{expr_type, subject}
+use Rattle.dscript_types_meaning.specs.Expressions as rules
 use Rattle.dscript_types_meaning.specs.Narrowing.{narrowed}
 use Rattle.dscript_types_meaning.specs.Operators.{operated, prefixed}
 use Rattle.dscript_types_meaning.specs.Sizes.{within_limit}
@@ -17,14 +17,14 @@ use Rattle.dscript_types_meaning.specs.Types.{TypeData}
 use Rattle.dscript_types_meaning.specs.Unions.{join}
 use Rattle.dscript_types_notes.specs.Means.{program_of}
 use Rattle.dscript_types_notes.specs.declared.world.World.{World}
-use Rattle.dscript_types_exprs.specs.declared.found.Seen.{Seen}
-use Rattle.dscript_types_exprs.specs.declared.found.Typing.TheVariants as typings
-use Rattle.dscript_types_exprs.specs.declared.scene.Scene.{Scene}
-use Rattle.dscript_types_exprs.specs.Scenes.{Closed, GoesTo, Matches, TypesAs}
-use Rattle.dscript_types_exprs.specs.Subjects.{is_whole, only_found}
-use Rattle.dscript_types_exprs.specs.Typings.{subject_data}
-use Rattle.dscript_types_exprs.proofs.Going.{Going, both_seen, goes_on, opens, starts, stops}
-use Rattle.dscript_types_exprs.proofs.Values.{ends_is, ends_only}
+use Rattle.dscript_types_scenes.proofs.Going.{Going, both_seen, goes_on, opens, starts, stops}
+use Rattle.dscript_types_scenes.proofs.Values.{ends_is, ends_only}
+use Rattle.dscript_types_scenes.specs.Scenes.{Closed, GoesTo, Matches, TypesAs}
+use Rattle.dscript_types_scenes.specs.Subjects.{is_whole, only_found}
+use Rattle.dscript_types_scenes.specs.Typings.{subject_data}
+use Rattle.dscript_types_scenes.specs.declared.found.Seen.{Seen}
+use Rattle.dscript_types_scenes.specs.declared.found.Typing.TheVariants as typings
+use Rattle.dscript_types_scenes.specs.declared.scene.Scene.{Scene}
 
 abbrev pub typed_as : TypeData → TypeData
 typed_as t = t

@@ -1,12 +1,12 @@
 -- Statements, and the locals that they declare.
-use Rattle.std.proofs.Common.{◌≡◌, ℕ, ◌+◌, ◌<◌, ◌≤◌, true, false, List, [], ◌∷◌, ◌++◌, drop, get_or, length, map, Option, Some, None, append_assoc, refl, ap, sym, subst, ◌∙◌}
+use Rattle.std.proofs.Common.{◌++◌, ◌+◌, ◌<◌, ◌∙◌, ◌∷◌, ◌≡◌, ◌≤◌, ℕ, List, None, Option, Some, [], ap, append_assoc, drop, false, get_or, length, map, refl, subst, sym, true}
 use Rattle.std.specs.List.{filter_map}
 use Rattle.std.specs.declared.alloc.Global.{Global}
 use Rattle.std.specs.declared.vec.Vec.{Vec}
 use Rattle.dscript_ast.specs.TypeTree.{TypeTree}
 use Rattle.dscript_ast.specs.declared.expr.LoopKind.{LoopKind}
-use Rattle.dscript_program.specs.BoundTree as tree
 use Rattle.dscript_program.specs.BoundTree.{ExprData, MaybeStmt, StmtData, a_stmt, no_stmt, to_stmts}
+use Rattle.dscript_program.specs.BoundTree as tree
 use Rattle.dscript_program.specs.ProgramData.{ProgramData}
 use Rattle.dscript_program.specs.Views.{body_data, expr_data, stmt_data}
 use Rattle.dscript_program.specs.declared.bound.Body.{Body}
@@ -21,23 +21,25 @@ use Rattle.dscript_types_meaning.specs.Contexts.{Context, Hold, Known, Variable,
 use Rattle.dscript_types_meaning.specs.Narrowing.{narrowed}
 use Rattle.dscript_types_meaning.specs.Typed.{known_within}
 use Rattle.dscript_types_meaning.specs.Types.{TypeData}
+use Rattle.dscript_types_notes.proofs.Meant.{drop_all, drop_next}
 use Rattle.dscript_types_notes.specs.Means.{IsAt, program_of}
 use Rattle.dscript_types_notes.specs.declared.world.Place.{Place}
 use Rattle.dscript_types_notes.specs.declared.world.World.{World}
-use Rattle.dscript_types_notes.proofs.Meant.{drop_all, drop_next}
-use Rattle.dscript_types_exprs.specs.declared.found.Typing.{Typing}
-use Rattle.dscript_types_exprs.specs.declared.scene.Scene.{Scene}
-use Rattle.dscript_types_exprs.specs.declared.walk.Rule.{Rule}
-use Rattle.dscript_types_exprs.specs.declared.walk.Walk.{Walk}
-use Rattle.dscript_types_exprs.specs.Scenes.{Closed, FindsAs, GoesTo, IsSameScene, IsSceneWith, Matches, TypesAs, with_found}
-use Rattle.dscript_types_exprs.specs.Statements.{GoesToWith, IsSceneAfter, type_of_variable, use_of, value_uses}
-use Rattle.dscript_types_exprs.specs.Typings.{both_right}
-use Rattle.dscript_types_exprs.specs.Walks.{IsWalk, RulesAs, Walks, finding_types, judged, returned}
+use Rattle.dscript_types_scenes.proofs.Going.{nil_right}
+use Rattle.dscript_types_scenes.proofs.Ruling.{rules_at}
+use Rattle.dscript_types_scenes.proofs.Scening.{locals_with, same_matches, with_matches}
+use Rattle.dscript_types_scenes.specs.Scenes.{Closed, FindsAs, GoesTo, IsSameScene, IsSceneWith, Matches, TypesAs, with_found}
+use Rattle.dscript_types_scenes.specs.Statements.{IsSceneAfter}
+use Rattle.dscript_types_scenes.specs.Typings.{both_right}
+use Rattle.dscript_types_scenes.specs.Walks.{RulesAs, finding_types, judged, returned}
+use Rattle.dscript_types_scenes.specs.declared.found.Typing.{Typing}
+use Rattle.dscript_types_scenes.specs.declared.scene.Scene.{Scene}
+use Rattle.dscript_types_scenes.specs.declared.walk.Rule.{Rule}
+use Rattle.dscript_types_scenes.specs.declared.walk.Walk.{Walk}
 use Rattle.dscript_types_exprs.proofs.Choosing.{typed_as, value_of}
-use Rattle.dscript_types_exprs.proofs.Going.{nil_right}
-use Rattle.dscript_types_exprs.proofs.Ruling.{rules_at}
-use Rattle.dscript_types_exprs.proofs.Scening.{locals_with, same_matches, with_matches}
 use Rattle.dscript_types_exprs.proofs.Walking.{Uses, walks_in, walks_out, walks_over, walks_then}
+use Rattle.dscript_types_exprs.specs.Statements.{GoesToWith, type_of_variable, use_of, value_uses}
+use Rattle.dscript_types_exprs.specs.Walks.{IsWalk, Walks}
 
 -- ## One expression
 

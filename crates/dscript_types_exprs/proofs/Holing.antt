@@ -1,34 +1,33 @@
 -- Holes of templates and literals.
-use Rattle.std.proofs.Common.{◌≡◌, ℕ, ◌+◌, ◌<◌, ◌≤◌, ◌==◌, Bool, true, false, List, [], ◌∷◌, drop, get_or, length, map, refl, ap, sym, subst, ◌∙◌, arith}
-use Rattle.std.proofs.lemmas.Bool.{eqb-true}
-use Rattle.dscript_ast.specs.declared.expr.PathKind.{PathKind}
+use Rattle.std.proofs.Common.{◌+◌, ◌<◌, ◌∙◌, ◌≡◌, ◌≤◌, ℕ, Bool, List, ap, drop, false, get_or, length, map, refl, subst, sym, true}
 use Rattle.dscript_program.specs.BoundTree as tree
 use Rattle.dscript_program.specs.BoundTree.{ExprData, HoleRow, to_holes}
 use Rattle.dscript_program.specs.ProgramData.{ProgramData}
 use Rattle.dscript_program.specs.Views.{hole_data}
 use Rattle.dscript_program.specs.declared.bound.BoundHole.{BoundHole}
 use Rattle.dscript_types_known.specs.declared.finding.Pending.{Pending}
-use Rattle.dscript_types_meaning.specs.Contexts.{Context, Known, Types, gives, needs, ◌>>=◌, ◌>>◌}
+use Rattle.dscript_types_meaning.specs.Contexts.{◌>>=◌, ◌>>◌, Context, Known, Types, gives, needs}
 use Rattle.dscript_types_meaning.specs.Expressions as rules
 use Rattle.dscript_types_meaning.specs.Expressions.{expr_type, holes_fit, literal_fits}
 use Rattle.dscript_types_meaning.specs.Fits.{fits}
-use Rattle.dscript_types_meaning.specs.Operators.{leading_hole, literal_hole}
+use Rattle.dscript_types_meaning.specs.Operators.{literal_hole}
 use Rattle.dscript_types_meaning.specs.Typed.{known_within}
 use Rattle.dscript_types_meaning.specs.Types.{TypeData}
+use Rattle.dscript_types_notes.proofs.Meant.{drop_all, drop_next}
 use Rattle.dscript_types_notes.specs.Means.{program_of}
 use Rattle.dscript_types_notes.specs.declared.world.World.{World}
-use Rattle.dscript_types_notes.proofs.Meant.{drop_all, drop_next}
-use Rattle.dscript_types_exprs.specs.declared.found.Seen.{Seen}
-use Rattle.dscript_types_exprs.specs.declared.found.Subject.TheVariants as subjects
-use Rattle.dscript_types_exprs.specs.declared.found.Typing.{Typing}
-use Rattle.dscript_types_exprs.specs.declared.found.Typing.TheVariants as typings
-use Rattle.dscript_types_exprs.specs.declared.found.Subject.{Subject}
-use Rattle.dscript_types_exprs.specs.declared.literals.Allowed.{Allowed}
-use Rattle.dscript_types_exprs.specs.declared.scene.Scene.{Scene}
-use Rattle.dscript_types_exprs.specs.Holes.{after_typing, hole_type, leading_if, nothing}
-use Rattle.dscript_types_exprs.specs.Scenes.{Closed, Matches, TypesAs}
-use Rattle.dscript_types_exprs.specs.Typings.{TypesTo, subject_data}
-use Rattle.dscript_types_exprs.proofs.Going.{Going, at_once, begins, both_seen, ends, ends_found, ends_none, ends_open, goes_on, opens, part_by_part, starts, stops}
+use Rattle.dscript_types_scenes.proofs.Going.{Going, at_once, begins, both_seen, ends, ends_found, ends_none, ends_open, goes_on, opens, part_by_part, starts, stops}
+use Rattle.dscript_types_scenes.specs.Holes.{after_typing, hole_type}
+use Rattle.dscript_types_scenes.specs.Scenes.{Closed, Matches, TypesAs}
+use Rattle.dscript_types_scenes.specs.Typings.{TypesTo, subject_data}
+use Rattle.dscript_types_scenes.specs.declared.found.Seen.{Seen}
+use Rattle.dscript_types_scenes.specs.declared.found.Subject.{Subject}
+use Rattle.dscript_types_scenes.specs.declared.found.Subject.TheVariants as subjects
+use Rattle.dscript_types_scenes.specs.declared.found.Typing.{Typing}
+use Rattle.dscript_types_scenes.specs.declared.found.Typing.TheVariants as typings
+use Rattle.dscript_types_scenes.specs.declared.holes.Allowed.{Allowed}
+use Rattle.dscript_types_scenes.specs.declared.scene.Scene.{Scene}
+use Rattle.dscript_types_exprs.specs.Parts.{nothing}
 
 abbrev typed_as : TypeData → TypeData
 typed_as t = t
@@ -286,20 +285,3 @@ module _ (w : World) (scene : Scene) where
       let p = program_of w in let known = known_within p n in
       subst (λ (f : Typing Subject). TypesTo subject_data p (Closed w more) n f (m p known c >> rules.is t)) (sym is)
       (after_typed p (Closed w more) n found (m p known c) t (says n more c below within at))
-
--- ## The first hole
-
-module _ (letter : PathKind) (leads : rules.first_hole letter [] ≡ leading_hole)
-    (other : (x : ℕ) (xs : List ℕ) → rules.first_hole letter (x ∷ xs) ≡ literal_hole) where
-  by_text : (text : List ℕ) (b : Bool) → (length text == 0) ≡ b → hole_type (leading_if b) ≡ rules.first_hole letter text
-  by_text [] true e = sym leads
-  by_text [] false e = cc
-  by_text (x ∷ xs) true e = let none : length (x ∷ xs) ≡ 0 = eqb-true (length (x ∷ xs)) 0 e in absurd (omega (arith, none))
-  by_text (x ∷ xs) false e = sym (other x xs)
-
-  pub first_leads
-      : (text slice : List ℕ) (begins : Bool) (hole : Allowed) → slice ≡ text → begins ≡ (length slice == 0) → hole ≡ leading_if begins
-      → hole_type hole ≡ rules.first_hole letter text
-  first_leads text slice begins hole same is made =
-      ap hole_type made
-      ∙ by_text text begins (ap (λ (xs : List ℕ). length xs == 0) (sym same) ∙ sym is)

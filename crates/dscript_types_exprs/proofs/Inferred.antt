@@ -1,6 +1,5 @@
 -- What bodies answer.
-use Rattle.std.proofs.Common.{◌≡◌, ℕ, suc, ◌<◌, ◌≤◌, Bool, Option, Some, None, List, [], ◌++◌, refl, ap, sym, subst, inl, inr, arith}
-use Rattle.std.proofs.lemmas.Bool.{cases_lt}
+use Rattle.std.proofs.Common.{◌++◌, ◌≡◌, ℕ, Bool, List, None, Option, Some, [], ap, arith, refl, subst, suc, sym}
 use Rattle.std.specs.List.{filter_map, list_all}
 use Rattle.std.specs.Option.{option_and_then}
 use Rattle.dscript_program.specs.BoundTree.{BodyData}
@@ -12,24 +11,17 @@ use Rattle.dscript_types_meaning.specs.Sizes.{within_limit}
 use Rattle.dscript_types_meaning.specs.Typed.{has_type, known_within}
 use Rattle.dscript_types_meaning.specs.Types.{TypeData}
 use Rattle.dscript_types_meaning.specs.Unions.{join_all}
-use Rattle.dscript_types_notes.specs.Means.{found_if, program_of}
+use Rattle.dscript_types_notes.specs.Means.{program_of}
 use Rattle.dscript_types_notes.specs.declared.world.World.{World}
-use Rattle.dscript_types_exprs.specs.Bodies.{IsRightAs, WalkedAs, inferred_from}
-use Rattle.dscript_types_exprs.specs.Scenes.{Closed, FindsAs}
-use Rattle.dscript_types_exprs.specs.Typings.{FromOn}
-use Rattle.dscript_types_exprs.specs.Walks.{Walks, finding_types}
-use Rattle.dscript_types_exprs.specs.declared.scene.Scene.{Scene}
-use Rattle.dscript_types_exprs.specs.declared.walk.Walk.{Walk}
-
--- what there may not be, from a rank on
-pub tells_if
-    : {X : Type 0} (closed : Type 0) (n rank : ℕ) (o answer : Option X) → (rank ≤ n → answer ≡ o) → (n < rank → answer ≡ None)
-    → Tells closed n (found_if o rank) answer
-tells_if closed n rank None answer here before = elim (cases_lt n rank) [
-  | inl less ↦ before less
-  | inr more_or ↦ here more_or
-]
-tells_if closed n rank (Some x) answer here before = (here, before)
+use Rattle.dscript_types_scenes.proofs.Scening.{tells_if}
+use Rattle.dscript_types_scenes.specs.Functions.{inferred_from}
+use Rattle.dscript_types_scenes.specs.Scenes.{Closed, FindsAs}
+use Rattle.dscript_types_scenes.specs.Typings.{FromOn}
+use Rattle.dscript_types_scenes.specs.Walks.{finding_types}
+use Rattle.dscript_types_scenes.specs.declared.scene.Scene.{Scene}
+use Rattle.dscript_types_scenes.specs.declared.walk.Walk.{Walk}
+use Rattle.dscript_types_exprs.specs.Bodies.{IsRightAs, WalkedAs}
+use Rattle.dscript_types_exprs.specs.Walks.{Walks}
 
 module _ (closed : Type 0) (n : ℕ) (ends : Bool) where
   abbrev joined : List TypeData → Option TypeData

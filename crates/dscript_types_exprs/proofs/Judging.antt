@@ -1,21 +1,21 @@
 -- Whether an expression has a type where it stands, by what is found of it.
-use Rattle.std.proofs.Common.{◌≡◌, ℕ, ◌<◌, ◌≤◌, max, Bool, true, false, ◌&&◌, Option, Some, None, List, refl, ap, sym, subst, ◌∙◌, inl, inr, arith}
+use Rattle.std.proofs.Common.{◌&&◌, ◌<◌, ◌∙◌, ◌≡◌, ◌≤◌, ℕ, Bool, List, None, Option, Some, ap, arith, false, inl, inr, max, refl, subst, sym, true}
 use Rattle.std.proofs.Math.Nat.{le-max_left, le-max_right, max-le}
 use Rattle.std.proofs.lemmas.Bool.{cases_lt}
 use Rattle.std.specs.List.{list_all}
 use Rattle.dscript_program.specs.ProgramData.{ProgramData}
-use Rattle.dscript_types_meaning.specs.Contexts.{Standing, Types, gives, needs, with_bodies, ◌>>=◌, ◌>>◌}
+use Rattle.dscript_types_meaning.specs.Contexts.{◌>>=◌, ◌>>◌, Standing, Types, gives, needs, with_bodies}
 use Rattle.dscript_types_meaning.specs.Typed.{body_passes, has_type, with_bodies_that}
 use Rattle.dscript_types_meaning.specs.Types.{TypeData}
-use Rattle.dscript_types_exprs.specs.declared.found.Seen.{Seen}
-use Rattle.dscript_types_exprs.specs.declared.found.Typing.{Typing}
-use Rattle.dscript_types_exprs.specs.declared.found.Typing.TheVariants as typings
-use Rattle.dscript_types_exprs.specs.declared.walk.Rule.{Rule}
-use Rattle.dscript_types_exprs.specs.declared.walk.Rule.TheVariants as rules
-use Rattle.dscript_types_exprs.specs.Typings.{FromOn, TypesTo, both_right}
-use Rattle.dscript_types_exprs.specs.Walks.{RuleSays, judged}
-use Rattle.dscript_types_exprs.proofs.FromOns.{both_from}
-use Rattle.dscript_types_exprs.proofs.Going.{nil_right}
+use Rattle.dscript_types_scenes.proofs.FromOns.{both_from}
+use Rattle.dscript_types_scenes.proofs.Going.{nil_right}
+use Rattle.dscript_types_scenes.specs.Typings.{FromOn, TypesTo, both_right}
+use Rattle.dscript_types_scenes.specs.Walks.{RuleSays, judged}
+use Rattle.dscript_types_scenes.specs.declared.found.Seen.{Seen}
+use Rattle.dscript_types_scenes.specs.declared.found.Typing.{Typing}
+use Rattle.dscript_types_scenes.specs.declared.found.Typing.TheVariants as typings
+use Rattle.dscript_types_scenes.specs.declared.walk.Rule.{Rule}
+use Rattle.dscript_types_scenes.specs.declared.walk.Rule.TheVariants as rules
 
 abbrev pub typed_as : TypeData → TypeData
 typed_as t = t

@@ -1,5 +1,5 @@
 -- Items and arguments, one after another.
-use Rattle.std.proofs.Common.{◌≡◌, ℕ, ◌+◌, ◌<◌, ◌≤◌, Bool, true, false, List, [], ◌∷◌, ◌++◌, Option, Some, None, append_assoc, drop, get_or, length, map, refl, ap, sym, subst, ◌∙◌}
+use Rattle.std.proofs.Common.{◌++◌, ◌+◌, ◌<◌, ◌∙◌, ◌∷◌, ◌≡◌, ◌≤◌, ℕ, Bool, List, None, Option, Some, [], ap, append_assoc, drop, false, get_or, length, map, refl, subst, sym, true}
 use Rattle.std.specs.declared.alloc.Global.{Global}
 use Rattle.std.specs.declared.vec.Vec.{Vec}
 use Rattle.dscript_program.specs.BoundTree as tree
@@ -9,26 +9,26 @@ use Rattle.dscript_program.specs.Views.{element_data, expr_data}
 use Rattle.dscript_program.specs.declared.bound.BoundElement.{BoundElement}
 use Rattle.dscript_program.specs.declared.bound.BoundExpr.{BoundExpr}
 use Rattle.dscript_types_known.specs.declared.finding.Pending.{Pending}
-use Rattle.dscript_types_meaning.specs.Contexts.{Context, Known, Standing, Types, gives, needs, only, with_bodies, ◌>>=◌, ◌>>◌}
-use Rattle.dscript_types_meaning.specs.Expressions as rules
+use Rattle.dscript_types_meaning.specs.Contexts.{◌>>=◌, ◌>>◌, Context, Known, Standing, Types, gives, needs, only, with_bodies}
 use Rattle.dscript_types_meaning.specs.Expressions.{arguments, expr_type, items, subject}
+use Rattle.dscript_types_meaning.specs.Expressions as rules
 use Rattle.dscript_types_meaning.specs.Sizes.{within_limit}
 use Rattle.dscript_types_meaning.specs.Typed.{known_within}
 use Rattle.dscript_types_meaning.specs.Types.{TypeData, list_type}
 use Rattle.dscript_types_meaning.specs.Unions.{is_list_type, items_of, join_all}
+use Rattle.dscript_types_notes.proofs.Meant.{drop_all, drop_next}
 use Rattle.dscript_types_notes.specs.Means.{program_of}
 use Rattle.dscript_types_notes.specs.declared.world.World.{World}
-use Rattle.dscript_types_notes.proofs.Meant.{drop_all, drop_next}
-use Rattle.dscript_types_exprs.specs.declared.found.Seen.{Seen}
-use Rattle.dscript_types_exprs.specs.declared.found.Typing.{Typing}
-use Rattle.dscript_types_exprs.specs.declared.found.Typing.TheVariants as typings
-use Rattle.dscript_types_exprs.specs.declared.scene.Scene.{Scene}
-use Rattle.dscript_types_exprs.specs.Items.{item_type, items_now}
-use Rattle.dscript_types_exprs.specs.Scenes.{Closed, Matches, TypesAs}
-use Rattle.dscript_types_exprs.specs.Subjects.{is_whole, only_found}
-use Rattle.dscript_types_exprs.specs.Typings.{TypesTo, subject_data}
-use Rattle.dscript_types_exprs.proofs.Going.{Going, at_once, begins, both_seen, ends, ends_none, goes_on, nil_right, opens, part_by_part, starts, stops}
-use Rattle.dscript_types_exprs.proofs.Values.{ends_is}
+use Rattle.dscript_types_scenes.proofs.Going.{Going, at_once, begins, both_seen, ends, ends_none, goes_on, nil_right, opens, part_by_part, starts, stops}
+use Rattle.dscript_types_scenes.proofs.Values.{ends_is}
+use Rattle.dscript_types_scenes.specs.Scenes.{Closed, Matches, TypesAs}
+use Rattle.dscript_types_scenes.specs.Subjects.{is_whole, only_found}
+use Rattle.dscript_types_scenes.specs.Typings.{TypesTo, subject_data}
+use Rattle.dscript_types_scenes.specs.declared.found.Seen.{Seen}
+use Rattle.dscript_types_scenes.specs.declared.found.Typing.{Typing}
+use Rattle.dscript_types_scenes.specs.declared.found.Typing.TheVariants as typings
+use Rattle.dscript_types_scenes.specs.declared.scene.Scene.{Scene}
+use Rattle.dscript_types_exprs.specs.Parts.{item_type, items_now}
 
 -- ## One part and then another
 

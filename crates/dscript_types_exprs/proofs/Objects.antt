@@ -1,5 +1,5 @@
 -- The properties of objects, one after another.
-use Rattle.std.proofs.Common.{◌≡◌, ℕ, ◌+◌, ◌<◌, ◌≤◌, List, [], ◌∷◌, drop, get_or, length, map, Option, Some, None, refl, ap, sym, subst, ◌∙◌, arith}
+use Rattle.std.proofs.Common.{◌+◌, ◌<◌, ◌∙◌, ◌∷◌, ◌≡◌, ◌≤◌, ℕ, List, None, Option, Some, [], ap, arith, drop, get_or, length, map, refl, subst, sym}
 use Rattle.std.specs.Option.{option_and_then, option_map}
 use Rattle.std.specs.declared.alloc.Global.{Global}
 use Rattle.std.specs.declared.vec.Vec.{Vec}
@@ -8,10 +8,10 @@ use Rattle.dscript_program.specs.BoundTree.{ExprData, PropData, PropRow, to_prop
 use Rattle.dscript_program.specs.ProgramData.{ProgramData}
 use Rattle.dscript_program.specs.Views.{prop_data}
 use Rattle.dscript_program.specs.declared.bound.BoundProp.{BoundProp}
-use Rattle.dscript_types_data.specs.declared.types.Field.{Field}
 use Rattle.dscript_types_data.specs.Views.{fields_now}
+use Rattle.dscript_types_data.specs.declared.types.Field.{Field}
 use Rattle.dscript_types_known.specs.declared.finding.Pending.{Pending}
-use Rattle.dscript_types_meaning.specs.Contexts.{Context, Known, Standing, Types, gives, only, with_bodies, ◌>>=◌}
+use Rattle.dscript_types_meaning.specs.Contexts.{◌>>=◌, Context, Known, Standing, Types, gives, only, with_bodies}
 use Rattle.dscript_types_meaning.specs.Expressions as rules
 use Rattle.dscript_types_meaning.specs.Expressions.{expr_type, fields, subject}
 use Rattle.dscript_types_meaning.specs.Fits.{field_named}
@@ -20,21 +20,21 @@ use Rattle.dscript_types_meaning.specs.Sizes.{within_limit}
 use Rattle.dscript_types_meaning.specs.Typed.{known_within}
 use Rattle.dscript_types_meaning.specs.Types.{FieldData, TypeData, object_type}
 use Rattle.dscript_types_meaning.specs.declared.limits.TheConstants.{MAX_TYPE_NODES}
-use Rattle.dscript_types_notes.specs.Means.{program_of}
-use Rattle.dscript_types_notes.specs.declared.world.World.{World}
 use Rattle.dscript_types_notes.proofs.Large.{object_large, over_limit, put_longer}
 use Rattle.dscript_types_notes.proofs.Meant.{drop_all, drop_next}
-use Rattle.dscript_types_exprs.specs.declared.found.Seen.{Seen}
-use Rattle.dscript_types_exprs.specs.declared.found.Typing.{Typing}
-use Rattle.dscript_types_exprs.specs.declared.found.Typing.TheVariants as typings
-use Rattle.dscript_types_exprs.specs.declared.scene.Scene.{Scene}
-use Rattle.dscript_types_exprs.specs.Items.{property_fields, with_property}
-use Rattle.dscript_types_exprs.specs.Scenes.{Closed, Matches, TypesAs}
-use Rattle.dscript_types_exprs.specs.Subjects.{is_whole, only_found}
-use Rattle.dscript_types_exprs.specs.Typings.{TypesTo, subject_data}
-use Rattle.dscript_types_exprs.proofs.Going.{Going, at_once, begins, both_seen, ends, ends_if, ends_none, goes_on, no_bodies, opens, part_by_part, starts, stops}
+use Rattle.dscript_types_notes.specs.Means.{program_of}
+use Rattle.dscript_types_notes.specs.declared.world.World.{World}
+use Rattle.dscript_types_scenes.proofs.Going.{Going, at_once, begins, both_seen, ends, ends_if, ends_none, goes_on, no_bodies, opens, part_by_part, starts, stops}
+use Rattle.dscript_types_scenes.proofs.Values.{ends_is}
+use Rattle.dscript_types_scenes.specs.Scenes.{Closed, Matches, TypesAs}
+use Rattle.dscript_types_scenes.specs.Subjects.{is_whole, only_found}
+use Rattle.dscript_types_scenes.specs.Typings.{TypesTo, subject_data}
+use Rattle.dscript_types_scenes.specs.declared.found.Seen.{Seen}
+use Rattle.dscript_types_scenes.specs.declared.found.Typing.{Typing}
+use Rattle.dscript_types_scenes.specs.declared.found.Typing.TheVariants as typings
+use Rattle.dscript_types_scenes.specs.declared.scene.Scene.{Scene}
 use Rattle.dscript_types_exprs.proofs.Listing.{and_same}
-use Rattle.dscript_types_exprs.proofs.Values.{ends_is}
+use Rattle.dscript_types_exprs.specs.Parts.{property_fields, with_property}
 
 gives_then : {X Y : Type 0} (x : X) (k : X → Types Y) → (gives x >>= k) ≡ k x
 gives_then x k = no_bodies (k x)

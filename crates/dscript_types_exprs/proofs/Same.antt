@@ -1,9 +1,7 @@
 -- What is said of one thing is said of what is the same.
-use Rattle.std.proofs.Common.{◌≡◌, Option, Some, List, map, subst, ap, ◌∙◌}
+use Rattle.std.proofs.Common.{◌∙◌, ◌≡◌, List, Option, Some, ap, subst}
 use Rattle.std.specs.declared.alloc.Global.{Global}
 use Rattle.std.specs.declared.vec.Vec.{Vec}
-use Rattle.dscript_ast.specs.Views.{param_tree}
-use Rattle.dscript_ast.specs.declared.expr.Param.{Param}
 use Rattle.dscript_program.specs.BoundTree as tree
 use Rattle.dscript_program.specs.BoundTree.{ExprData, HoleRow, PropData}
 use Rattle.dscript_types_data.specs.Views.{fields_now}
@@ -11,20 +9,18 @@ use Rattle.dscript_types_data.specs.declared.types.Field.{Field}
 use Rattle.dscript_types_known.specs.Findings.{Finding}
 use Rattle.dscript_types_known.specs.declared.finding.Finding.{Finding as AnyFinding}
 use Rattle.dscript_types_meaning.specs.Expressions as rules
-use Rattle.dscript_types_meaning.specs.Functions.{all_parameters, callback_answer}
+use Rattle.dscript_types_meaning.specs.Functions.{callback_answer}
 use Rattle.dscript_types_meaning.specs.Types.{FieldData, TypeData}
-use Rattle.dscript_types_notes.specs.Means.{Says}
-use Rattle.dscript_types_notes.specs.declared.world.Place.{Place}
 use Rattle.dscript_types_notes.specs.declared.world.World.{World}
-use Rattle.dscript_types_exprs.specs.Holes.{nothing}
-use Rattle.dscript_types_exprs.specs.Scenes.{TypesAs}
-use Rattle.dscript_types_exprs.specs.Subjects.{is_whole, only_found}
-use Rattle.dscript_types_exprs.specs.Walks.{finding_types, returned}
-use Rattle.dscript_types_exprs.specs.declared.found.Seen.{Seen}
-use Rattle.dscript_types_exprs.specs.declared.found.Subject.{Subject}
-use Rattle.dscript_types_exprs.specs.declared.found.Typing.{Typing}
-use Rattle.dscript_types_exprs.specs.declared.scene.Scene.{Scene}
+use Rattle.dscript_types_scenes.specs.Scenes.{TypesAs}
+use Rattle.dscript_types_scenes.specs.Subjects.{is_whole, only_found}
+use Rattle.dscript_types_scenes.specs.Walks.{finding_types, returned}
+use Rattle.dscript_types_scenes.specs.declared.found.Seen.{Seen}
+use Rattle.dscript_types_scenes.specs.declared.found.Subject.{Subject}
+use Rattle.dscript_types_scenes.specs.declared.found.Typing.{Typing}
+use Rattle.dscript_types_scenes.specs.declared.scene.Scene.{Scene}
 use Rattle.dscript_types_exprs.proofs.Choosing.{typed_as}
+use Rattle.dscript_types_exprs.specs.Parts.{nothing}
 
 -- a value after what was seen
 pub whole_with
@@ -63,11 +59,3 @@ module _ (w : World) (scene : Scene) where
       → TypesAs typed_as w scene found (λ p known c. callback_answer p known c (Some e) us)
   answer_as found e ts us same says =
       subst (λ (gs : List TypeData). TypesAs typed_as w scene found (λ p known c. callback_answer p known c (Some e) gs)) same says
-
--- the parameters of a function
-pub parameters_as
-    : (w : World) (place : Place) (f : Finding (List TypeData)) (ps qs : List Param) → ps ≡ qs
-    → Says w place f (λ p known c. all_parameters p known c (map param_tree ps))
-    → Says w place f (λ p known c. all_parameters p known c (map param_tree qs))
-parameters_as w place f ps qs same says =
-    subst (λ (rs : List Param). Says w place f (λ p known c. all_parameters p known c (map param_tree rs))) same says

@@ -1,5 +1,5 @@
 -- A walk over the expressions of a body, one after another.
-use Rattle.std.proofs.Common.{◌≡◌, ℕ, suc, Bool, true, false, ◌&&◌, Option, Some, None, List, [], ◌∷◌, ◌++◌, append_assoc, refl, ap, sym, subst, ◌∙◌, inl, inr, arith}
+use Rattle.std.proofs.Common.{◌&&◌, ◌++◌, ◌∙◌, ◌∷◌, ◌≡◌, ℕ, Bool, List, None, Option, Some, [], ap, append_assoc, arith, false, inl, inr, refl, subst, suc, sym, true}
 use Rattle.std.proofs.Math.Nat.{le-max_left, le-max_right}
 use Rattle.std.proofs.lemmas.Bool.{cases_lt}
 use Rattle.std.proofs.lemmas.List.Elements.{filter_map-append}
@@ -15,18 +15,19 @@ use Rattle.dscript_types_meaning.specs.Typed.{has_type, known_within}
 use Rattle.dscript_types_meaning.specs.Types.{TypeData}
 use Rattle.dscript_types_notes.specs.Means.{program_of}
 use Rattle.dscript_types_notes.specs.declared.world.World.{World}
-use Rattle.dscript_types_exprs.specs.declared.found.Seen.{Seen}
-use Rattle.dscript_types_exprs.specs.declared.found.Typing.{Typing}
-use Rattle.dscript_types_exprs.specs.declared.found.Typing.TheVariants as typings
-use Rattle.dscript_types_exprs.specs.declared.scene.Scene.{Scene}
-use Rattle.dscript_types_exprs.specs.declared.walk.Rule.{Rule}
-use Rattle.dscript_types_exprs.specs.declared.walk.Walk.{Walk}
-use Rattle.dscript_types_exprs.specs.Scenes.{Closed, GoesTo}
-use Rattle.dscript_types_exprs.specs.Typings.{FromOn, TypesTo, both_right}
-use Rattle.dscript_types_exprs.specs.Walks.{IsWalk, RuleSays, Walks, finding_types, judged, returned}
-use Rattle.dscript_types_exprs.proofs.FromOns.{both_from}
-use Rattle.dscript_types_exprs.proofs.Going.{nil_right, under_both}
+use Rattle.dscript_types_scenes.proofs.FromOns.{both_from}
+use Rattle.dscript_types_scenes.proofs.Going.{nil_right, under_both}
+use Rattle.dscript_types_scenes.specs.Scenes.{Closed, GoesTo}
+use Rattle.dscript_types_scenes.specs.Typings.{FromOn, TypesTo, both_right}
+use Rattle.dscript_types_scenes.specs.Walks.{RuleSays, finding_types, judged, returned}
+use Rattle.dscript_types_scenes.specs.declared.found.Seen.{Seen}
+use Rattle.dscript_types_scenes.specs.declared.found.Typing.{Typing}
+use Rattle.dscript_types_scenes.specs.declared.found.Typing.TheVariants as typings
+use Rattle.dscript_types_scenes.specs.declared.scene.Scene.{Scene}
+use Rattle.dscript_types_scenes.specs.declared.walk.Rule.{Rule}
+use Rattle.dscript_types_scenes.specs.declared.walk.Walk.{Walk}
 use Rattle.dscript_types_exprs.proofs.Judging.{judged_says, typed_as}
+use Rattle.dscript_types_exprs.specs.Walks.{IsWalk, Walks}
 
 -- ## Walks, one after another
 

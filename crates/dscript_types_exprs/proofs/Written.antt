@@ -1,30 +1,27 @@
 -- Expressions, node by node.
-use Rattle.std.proofs.Common.{IfOk, Result, Ok, Err, ◌≡◌, Some, None, refl, sym, subst}
+use Rattle.std.proofs.Common.{◌≡◌, Err, IfOk, None, Ok, Result, Some, subst, sym}
 use Rattle.dscript_program.specs.BoundTree as tree
 use Rattle.dscript_program.specs.BoundTree.{ExprData, PartRow}
 use Rattle.dscript_program.specs.ProgramData.{ProgramData}
-use Rattle.dscript_program.specs.declared.ambient.Ambient.{Ambient}
-use Rattle.dscript_program.specs.declared.target.Target.{Target}
-use Rattle.dscript_program.specs.declared.target.Target.TheVariants as targets
-use Rattle.dscript_types_meaning.specs.Contexts.{Context, Known, Types, gives}
+use Rattle.dscript_types_meaning.specs.Contexts.{Context, Known, Types}
 use Rattle.dscript_types_meaning.specs.Expressions as rules
-use Rattle.dscript_types_meaning.specs.Expressions.{named, subject}
+use Rattle.dscript_types_meaning.specs.Expressions.{subject}
 use Rattle.dscript_types_meaning.specs.Typed.{known_within}
 use Rattle.dscript_types_meaning.specs.Types.{TypeData}
 use Rattle.dscript_types_notes.specs.Means.{program_of}
 use Rattle.dscript_types_notes.specs.declared.world.World.{World}
-use Rattle.dscript_types_exprs.specs.declared.found.Seen.{Seen}
-use Rattle.dscript_types_exprs.specs.declared.found.Subject.{Subject}
-use Rattle.dscript_types_exprs.specs.declared.found.Subject.TheVariants as subjects
-use Rattle.dscript_types_exprs.specs.declared.found.Typing.{Typing}
-use Rattle.dscript_types_exprs.specs.declared.found.Typing.TheVariants as typings
-use Rattle.dscript_types_exprs.specs.declared.scene.Scene.{Scene}
-use Rattle.dscript_types_exprs.specs.Scenes.{Closed, GoesOn, TypesAs}
-use Rattle.dscript_types_exprs.specs.Subjects.{is_whole, only_found, whole_of}
-use Rattle.dscript_types_exprs.specs.Typings.{TypesTo, subject_data}
+use Rattle.dscript_types_scenes.proofs.Going.{at_once}
+use Rattle.dscript_types_scenes.proofs.Values.{value_typed, whole_typed}
+use Rattle.dscript_types_scenes.specs.Scenes.{Closed, TypesAs}
+use Rattle.dscript_types_scenes.specs.Subjects.{is_whole, only_found, whole_of}
+use Rattle.dscript_types_scenes.specs.Typings.{TypesTo, subject_data}
+use Rattle.dscript_types_scenes.specs.declared.found.Subject.{Subject}
+use Rattle.dscript_types_scenes.specs.declared.found.Subject.TheVariants as subjects
+use Rattle.dscript_types_scenes.specs.declared.found.Typing.{Typing}
+use Rattle.dscript_types_scenes.specs.declared.found.Typing.TheVariants as typings
+use Rattle.dscript_types_scenes.specs.declared.scene.Scene.{Scene}
 use Rattle.dscript_types_exprs.proofs.Choosing.{typed_as, value_of}
-use Rattle.dscript_types_exprs.proofs.Going.{at_once, begins, ends}
-use Rattle.dscript_types_exprs.proofs.Values.{value_typed, whole_typed}
+use Rattle.dscript_types_exprs.specs.Calls.{GoesOn}
 
 -- a typing, as it is seen
 pub as_found
@@ -79,26 +76,3 @@ module _ (w : World) (scene : Scene) where
       let p = program_of w in let known = known_within p n in
       subst (λ (t : Typing TypeData). TypesTo typed_as p (Closed w more) n t (value_of e p known c)) (sym is)
       (whole_typed p (Closed w more) n found (subject p known c e) (says n more c below within m))
-
-  -- an ambient call
-  pub ambient_named
-      : (call : Ambient) (seen : Seen) → seen ≡ at_once
-      → TypesAs subject_data w scene (typings.Found (subjects.Ambient call) seen) (λ p known c. named p known c (targets.Ambient call))
-  unfolding named
-  ambient_named call seen is n more c below within m =
-      let p = program_of w in let known = known_within p n in
-      subst
-      (λ (s : Seen). TypesTo subject_data p (Closed w more) n (typings.Found (subjects.Ambient call) s)
-      (named p known c (targets.Ambient call)))
-      (sym is)
-      (ends p (Closed w more) n subject_data at_once _ _
-      (begins p (Closed w more) n (named p known c (targets.Ambient call)) (gives (rules.Ambient call)) refl)
-      (subjects.Ambient call) refl)
-
-  -- by what a name stands for
-  pub by_target
-      : (target other : Target) (found : Typing Subject) → target ≡ other
-      → TypesAs subject_data w scene found (λ p known c. named p known c other)
-      → TypesAs subject_data w scene found (λ p known c. named p known c target)
-  by_target target other found is says =
-      subst (λ (t : Target). TypesAs subject_data w scene found (λ p known c. named p known c t)) (sym is) says

@@ -1,12 +1,5 @@
-pub mod Typings
-pub mod Subjects
-pub mod Shapes
-pub mod Scenes
-pub mod Holes
-pub mod Items
+pub mod Parts
 pub mod Calls
-pub mod Callbacks
 pub mod Walks
 pub mod Statements
 pub mod Bodies
-pub mod Declarations

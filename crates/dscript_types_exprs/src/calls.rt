@@ -1,35 +1,27 @@
 //! Members, indices and calls.
-ghost use Rattle.std.specs.Prelude.{◌≡◌, IfOk, map};
+ghost use Rattle.std.specs.Prelude.{IfOk, map};
 ghost use Rattle.dscript_program.specs.BoundTree as tree;
 ghost use Rattle.dscript_program.specs.BoundTree.{to_exprs, to_parts};
 ghost use Rattle.dscript_program.specs.Views.{expr_data, part_data};
-ghost use Rattle.dscript_sdk_members.specs.ListMembers.{is_callback};
-ghost use Rattle.dscript_sdk_members.specs.Names.{member_named};
-ghost use Rattle.dscript_types_exprs.specs.Calls.{ambient_subject, call_subject, function_subject, index_subject};
-ghost use Rattle.dscript_types_exprs.specs.Calls.{method_subject, named_typing};
-ghost use Rattle.dscript_types_exprs.specs.Items.{items_now};
-ghost use Rattle.dscript_types_exprs.specs.Scenes.{FindsAnywhere, GoesOn, SeesOn, TypesAs};
-ghost use Rattle.dscript_types_exprs.specs.Typings.{subject_data};
-ghost use Rattle.dscript_types_known.specs.Views.{finding_data};
+ghost use Rattle.dscript_types_exprs.specs.Calls.{GoesOn, SeesOn, ambient_subject, call_subject, function_subject};
+ghost use Rattle.dscript_types_exprs.specs.Calls.{index_subject, method_subject};
+ghost use Rattle.dscript_types_exprs.specs.Parts.{items_now};
 ghost use Rattle.dscript_types_meaning.specs.Expressions as rules;
-ghost use Rattle.dscript_types_meaning.specs.Fits.{fits};
-ghost use Rattle.dscript_types_meaning.specs.Functions as functions;
-ghost use Rattle.dscript_types_meaning.specs.Unions.{undefined_type};
-ghost use Rattle.dscript_types_notes.specs.Means.{IsSound, raised};
+ghost use Rattle.dscript_types_notes.specs.Means.{IsSound};
+ghost use Rattle.dscript_types_scenes.specs.Scenes.{TypesAs};
+ghost use Rattle.dscript_types_scenes.specs.Typings.{subject_data};
 
-use crate::callbacks::{rest_of, with_callback};
-use crate::declarations::parameter_types;
-use crate::exprs::{is, type_of, whole};
-use crate::found::{Seen, Subject, Typing, larger};
-use crate::scene::Scene;
+use crate::callbacks::with_callback;
+use crate::exprs::type_of;
 use bx_tree::{Memory, Text};
-use dscript_program::{Ambient, BoundExpr, BoundPart, DeclKind};
-use dscript_sdk_members::Member;
-use dscript_types_data::{Type, fits, undefined_type};
+use dscript_program::{Ambient, BoundExpr, BoundPart};
+use dscript_types_data::Type;
 use dscript_types_known::Finding;
-use dscript_types_notes::{Place, World, names_around};
+use dscript_types_notes::World;
 use dscript_types_rows::{ambient_type, indexed, method_type};
-use std::alloc::Global;
+use dscript_types_scenes::{
+    Scene, Seen, Subject, Typing, callback_member, function_type, is, member_of, whole,
+};
 
 /// The members, indices and calls after a subject.
 #[cycle(exprs)]
@@ -66,17 +58,6 @@ fn after_one(
         BoundPart::Member(name) => member_of(whole(world, found)?, name),
         BoundPart::Index(index) => at_index(world, scene, whole(world, found)?, index),
         BoundPart::Call(arguments) => called(world, scene, found, arguments.as_slice()),
-    }
-}
-
-// A member of a value.
-fn member_of(found: Typing<Type>, name: &Text) -> Result<Typing<Subject>, Memory>
-    ensures { IfOk result (λ typing. typing ≡ named_typing found name.now) }
-{
-    match found {
-        Typing::Found(t, seen) => Ok(Typing::Found(Subject::Named(t, name.share()?), seen)),
-        Typing::Nothing => Ok(Typing::Nothing),
-        Typing::Open(pending) => Ok(Typing::Open(pending)),
     }
 }
 
@@ -147,31 +128,6 @@ fn subject_call(
         Subject::Ambient(call) => ambient_call(world, scene, call, seen, arguments),
         Subject::Whole(_) => Ok(Typing::Nothing),
     }
-}
-
-// The member of this name, if it calls functions.
-fn callback_member(name: &[u8]) -> Option<Member>
-    ensures { result ≡ rules.if_callback (member_named name.now) }
-{
-    let Some(member) = Member::named(name) else {
-        return None;
-    };
-    if calls_back(member) {
-        Some(member)
-    } else {
-        None
-    }
-}
-
-// Whether a member of lists calls functions.
-#[tactic(auto, unfolding(dscript_sdk_members::specs::ListMembers::is_callback))]
-fn calls_back(member: Member) -> bool
-    ensures { result ≡ is_callback member }
-{
-    matches!(
-        member,
-        Member::Map | Member::Filter | Member::MapMany | Member::Reduce
-    )
 }
 
 // The call of a member function that calls no functions.
@@ -275,84 +231,4 @@ pub(crate) fn types_of(
         }
     }
     Ok(Typing::Found(types, seen))
-}
-
-// Whether the first of what is given fits a type, or undefined where nothing is given.
-fn first_fits(undefined: &Type, given: &[Type], t: &Type) -> bool
-    requires { undefined.now ≡ undefined_type }
-    ensures { result ≡ fits (functions.first_or_undefined given.now) t.now }
-{
-    match given.split_first() {
-        Some((g, _)) => fits(g, t),
-        None => fits(undefined, t),
-    }
-}
-
-// Each parameter gets what is given, or undefined where nothing is.
-fn parameters_fit(alloc: Global, types: &[Type], given: &[Type]) -> Result<bool, Memory>
-    ensures { IfOk result (λ fit. fit ≡ functions.parameters_fit types.now given.now) }
-{
-    let undefined = undefined_type(alloc)?;
-    let mut left = types;
-    let mut right = given;
-    'parameters: while let Some((t, more)) = left.split_first() {
-        if !first_fits(&undefined, right, t) {
-            return Ok(false);
-        }
-        left = more;
-        right = rest_of(right);
-    }
-    Ok(true)
-}
-
-/// What a declared function answers where this is given.
-pub(crate) fn function_type(
-    world: &World<'_>,
-    file: u32,
-    decl: u32,
-    given: &[Type],
-) -> Result<Finding<Type>, Memory>
-    requires { IsSound world.now }
-    ensures { IfOk result (λ f. FindsAnywhere world.now (finding_data f)
-        (λ p known. functions.function_type p known file decl given.now)) }
-{
-    let Some(declaration) = world.decl(file, decl) else {
-        return Ok(Finding::Nothing);
-    };
-    let (parameters, number) = match &declaration.kind {
-        DeclKind::Function(parameters, _, number) => (parameters, number),
-        DeclKind::Const(_, _) => return Ok(Finding::Nothing),
-        DeclKind::Interface(_, _, _) => return Ok(Finding::Nothing),
-        DeclKind::TypeAlias(_, _) => return Ok(Finding::Nothing),
-    };
-    let Some(function) = world.program.functions().get(*number as usize) else {
-        return Ok(Finding::Nothing);
-    };
-    let around = names_around(world.alloc, declaration)?;
-    let place = Place {
-        file,
-        around: around.as_slice(),
-        parameters: parameters.as_slice(),
-    };
-    let (types, rank) = match parameter_types(world, &place, function.params.as_slice())? {
-        Finding::Found(types, rank) => (types, rank),
-        Finding::Nothing => return Ok(Finding::Nothing),
-        Finding::Open(pending) => return Ok(Finding::Open(pending)),
-    };
-    let fit = parameters_fit(world.alloc, types.as_slice(), given)?;
-    if !fit {
-        return Ok(Finding::Nothing);
-    }
-    raised(rank, world.table.get(file, decl)?)
-}
-
-// What is found from a rank on at the earliest.
-fn raised(rank: u64, finding: Finding<Type>) -> Result<Finding<Type>, Memory>
-    ensures { IfOk result (λ f. finding_data f ≡ raised rank (finding_data finding)) }
-{
-    match finding {
-        Finding::Found(t, from) => Ok(Finding::Found(t, larger(rank, from))),
-        Finding::Nothing => Ok(Finding::Nothing),
-        Finding::Open(pending) => Ok(Finding::Open(pending)),
-    }
 }

@@ -4,17 +4,13 @@ ghost use Rattle.dscript_program.specs.BoundTree as tree;
 ghost use Rattle.dscript_program.specs.BoundTree.{more_props, no_props, to_elements, to_props};
 ghost use Rattle.dscript_program.specs.Views.{element_data, expr_data, prop_data};
 ghost use Rattle.dscript_types_data.specs.Views.{fields_now};
-ghost use Rattle.dscript_types_exprs.specs.Items.{item_type, items_now, property_fields, with_property};
-ghost use Rattle.dscript_types_exprs.specs.Scenes.{TypesAs};
-ghost use Rattle.dscript_types_exprs.specs.Typings.{subject_data};
+ghost use Rattle.dscript_types_exprs.specs.Parts.{item_type, items_now, property_fields, with_property};
 ghost use Rattle.dscript_types_meaning.specs.Expressions as rules;
 ghost use Rattle.dscript_types_notes.specs.Means.{IsSound};
+ghost use Rattle.dscript_types_scenes.specs.Scenes.{TypesAs};
+ghost use Rattle.dscript_types_scenes.specs.Typings.{subject_data};
 
-use crate::exprs::{is, only, type_of, whole};
-use crate::found::{Seen, Subject, Typing};
-use crate::names::named;
-use crate::nodes::element_parts;
-use crate::scene::Scene;
+use crate::exprs::type_of;
 use bx_tree::{Memory, Text};
 use dscript_program::{BoundElement, BoundExpr, BoundProp};
 use dscript_types_data::{
@@ -22,6 +18,7 @@ use dscript_types_data::{
 };
 use dscript_types_meaning::MAX_TYPE_NODES;
 use dscript_types_notes::World;
+use dscript_types_scenes::{Scene, Seen, Subject, Typing, element_parts, is, named, only, whole};
 
 /// A list: its items have the union of the types of all.
 #[cycle(exprs)]

@@ -1,104 +1,28 @@
 //! What declarations come to.
-ghost use Rattle.std.specs.Prelude.{◌≡◌, ℕ, [], IfOk, Some, map};
 ghost use Rattle.std.specs.Option.{option_copied};
-ghost use Rattle.dscript_ast.specs.Views.{param_tree};
-ghost use Rattle.dscript_program.specs.Views.{body_data, decl_data, expr_data, function_data, kind_data};
-ghost use Rattle.dscript_types_exprs.specs.Bodies.{DeclIsRight, IsRightIn};
-ghost use Rattle.dscript_types_exprs.specs.Declarations.{FindsLocals, IsPlaceOf, in_function, parameters_of};
-ghost use Rattle.dscript_types_exprs.specs.Scenes.{FindsAnywhere};
-ghost use Rattle.dscript_types_exprs.specs.Statements.{note_of, use_of};
-ghost use Rattle.dscript_types_exprs.specs.Walks.{finding_types};
+ghost use Rattle.std.specs.Prelude.{◌≡◌, ℕ, [], IfOk, Some};
+ghost use Rattle.dscript_program.specs.Views.{body_data, decl_data, expr_data, function_data};
+ghost use Rattle.dscript_types_exprs.specs.Bodies.{DeclIsRight, IsRightIn, in_function};
+ghost use Rattle.dscript_types_exprs.specs.Statements.{use_of};
 ghost use Rattle.dscript_types_known.specs.Tables.{ask_of};
 ghost use Rattle.dscript_types_known.specs.Views.{finding_data};
 ghost use Rattle.dscript_types_meaning.specs.Bodies as rules;
-ghost use Rattle.dscript_types_meaning.specs.Functions as functions;
 ghost use Rattle.dscript_types_meaning.specs.Lookups.{decl_at};
 ghost use Rattle.dscript_types_meaning.specs.Typed.{found};
-ghost use Rattle.dscript_types_notes.specs.Means.{IsSound, Says, found_if, program_of};
+ghost use Rattle.dscript_types_notes.specs.Means.{IsSound, Says, program_of};
+ghost use Rattle.dscript_types_scenes.specs.Scenes.{FindsAnywhere};
+ghost use Rattle.dscript_types_scenes.specs.Statements.{note_of};
 
-use crate::bodies::{body, may_end, walked};
+use crate::bodies::{body, walked};
 use crate::exprs::type_of;
-use crate::found::larger;
-use crate::nodes::note_of;
-use crate::scene::{Scene, next_number};
 use crate::statements::declared;
-use crate::walk::Walk;
-use bx_tree::{Memory, Text};
-use dscript_ast::{Param, TypeNode};
-use dscript_program::{Body, BoundDecl, BoundExpr, DeclKind, Function};
-use dscript_types_data::{Type, fits, undefined_type};
-use dscript_types_known::{Finding, Hold, Local, Locals};
-use dscript_types_notes::{Place, World, declared_type, meaning, names_around, noted};
-use std::alloc::Global;
-
-// The type of a parameter of a declared function: without an annotation it has none.
-fn declared_parameter(
-    world: &World<'_>,
-    place: &Place<'_>,
-    param: &Param,
-) -> Result<Finding<Type>, Memory>
-    requires { IsSound world.now }
-    ensures { IfOk result (λ f. Says world.now place.now (finding_data f)
-        (λ p known c. functions.declared_parameter p known c (param_tree param.now))) }
-{
-    match note_of(&param.type_node) {
-        Some(node) => noted(world, place, param.optional, node),
-        None => Ok(Finding::Nothing),
-    }
-}
-
-/// The types of all parameters of a declared function, if each has one.
-pub(crate) fn parameter_types(
-    world: &World<'_>,
-    place: &Place<'_>,
-    params: &[Param],
-) -> Result<Finding<Vec<Type>>, Memory>
-    requires { IsSound world.now }
-    ensures { IfOk result (λ f. Says world.now place.now (finding_types f)
-        (λ p known c. functions.all_parameters p known c (map param_tree params.now))) }
-{
-    let mut types = Vec::with_capacity(world.alloc, params.len())?;
-    let mut rank = 0;
-    'params: for param in params {
-        match declared_parameter(world, place, param)? {
-            Finding::Found(t, from) => {
-                types.push(t)?;
-                rank = larger(rank, from);
-            }
-            Finding::Nothing => return Ok(Finding::Nothing),
-            Finding::Open(pending) => return Ok(Finding::Open(pending)),
-        }
-    }
-    Ok(Finding::Found(types, rank))
-}
-
-// The parameters of a declared function as locals.
-fn function_locals(
-    world: &World<'_>,
-    place: &Place<'_>,
-    function: &Function,
-) -> Result<Locals, Memory>
-    requires { IsSound world.now }
-    ensures { IfOk result (λ locals. FindsLocals world.now place.now locals
-        (λ p known c. functions.declared_locals p known c function.now.first_local
-        (map param_tree function.now.params.items))) }
-{
-    let mut locals = Locals::new();
-    let mut number = function.first_local;
-    'params: for param in &function.params {
-        let finding = declared_parameter(world, place, param)?;
-        locals = locals.with(
-            world.alloc,
-            number,
-            Local {
-                finding,
-                hold: Hold::Fixed,
-            },
-        )?;
-        number = next_number(number)?;
-    }
-    Ok(locals)
-}
+use bx_tree::Memory;
+use dscript_ast::TypeNode;
+use dscript_program::{BoundDecl, BoundExpr, DeclKind, Function};
+use dscript_types_data::Type;
+use dscript_types_known::{Finding, Locals};
+use dscript_types_notes::{Place, World, declared_type, meaning, names_around};
+use dscript_types_scenes::{Scene, Walk, annotated, function_locals, note_of, place_of};
 
 // The type of a constant, from its annotation or its value.
 fn constant_type(
@@ -119,21 +43,6 @@ fn constant_type(
     match note {
         Some(node) => meaning(world, &scene.place, node),
         None => Ok(type_of(world, &scene, value)?.finding()),
-    }
-}
-
-// With an annotation a function answers that type, unless it may give an undefined that does not fit it.
-fn annotated(alloc: Global, body: &Body, t: Type, rank: u64) -> Result<Finding<Type>, Memory>
-    ensures { IfOk result (λ f. finding_data f ≡ found_if (rules.annotated (body_data body.now) t) rank) }
-{
-    if !may_end(body) {
-        return Ok(Finding::Found(t, rank));
-    }
-    let undefined = undefined_type(alloc)?;
-    if fits(&undefined, &t) {
-        Ok(Finding::Found(t, rank))
-    } else {
-        Ok(Finding::Nothing)
     }
 }
 
@@ -184,29 +93,6 @@ pub fn look(world: &World<'_>, file: u32, decl: &BoundDecl) -> Result<Finding<Ty
         },
         DeclKind::Interface(_, _, _) => declared_type(world, &place, &decl.kind),
         DeclKind::TypeAlias(_, _) => declared_type(world, &place, &decl.kind),
-    }
-}
-
-// Where what belongs to a declaration stands. Only the type parameters of functions hide names.
-fn place_of<'a>(file: u32, around: &'a [Text], kind: &'a DeclKind) -> Place<'a>
-    ensures { IsPlaceOf result file around.now (kind_data kind.now) }
-{
-    Place {
-        file,
-        around,
-        parameters: parameters_of(kind),
-    }
-}
-
-// The type parameters of a declaration that hide names.
-fn parameters_of(kind: &DeclKind) -> &[Text]
-    ensures { result.now ≡ parameters_of (kind_data kind.now) }
-{
-    match kind {
-        DeclKind::Function(parameters, _, _) => parameters.as_slice(),
-        DeclKind::Const(_, _) => &[],
-        DeclKind::Interface(_, _, _) => &[],
-        DeclKind::TypeAlias(_, _) => &[],
     }
 }
 

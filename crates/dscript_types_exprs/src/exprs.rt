@@ -1,34 +1,28 @@
 //! Expressions.
-ghost use Rattle.std.specs.Prelude.{◌≡◌, IfOk, Some, map};
+ghost use Rattle.std.specs.Prelude.{IfOk, map};
 ghost use Rattle.dscript_program.specs.BoundTree as tree;
 ghost use Rattle.dscript_program.specs.BoundTree.{to_operands};
 ghost use Rattle.dscript_program.specs.Views.{expr_data, operand_data};
-ghost use Rattle.dscript_types_exprs.specs.Scenes.{GoesTo, TypesAs};
-ghost use Rattle.dscript_types_exprs.specs.Subjects.{in_finding, is_whole, only_found, operand_typed, whole_of};
-ghost use Rattle.dscript_types_exprs.specs.Typings.{subject_data};
-ghost use Rattle.dscript_types_exprs.specs.declared.found.Typing.TheVariants as typings;
+ghost use Rattle.dscript_types_exprs.specs.Parts.{operand_typed};
 ghost use Rattle.dscript_types_meaning.specs.Expressions as rules;
-ghost use Rattle.dscript_types_meaning.specs.Narrowing as narrowing;
-ghost use Rattle.dscript_types_meaning.specs.Types.{kind_type};
 ghost use Rattle.dscript_types_notes.specs.Means.{IsSound};
-ghost use Rattle.dscript_types_notes.specs.declared.world.World.{World as AnyWorld};
+ghost use Rattle.dscript_types_scenes.specs.Scenes.{TypesAs};
+ghost use Rattle.dscript_types_scenes.specs.Typings.{subject_data};
 
 use crate::calls::after;
 use crate::collections::{list, object};
-use crate::conditions::{narrowed, outcome_of};
-use crate::found::{Seen, Subject, Typing};
 use crate::literals::{literal, template};
-use crate::names::named;
-use crate::nodes::operand_parts;
-use crate::scene::Scene;
 use bx_tree::Memory;
 use dscript_ast::{BinaryOp, UnaryOp};
 use dscript_program::{BoundExpr, BoundOperand};
 use dscript_types_data::{Type, join};
-use dscript_types_known::Finding;
 use dscript_types_meaning::Kind;
 use dscript_types_notes::World;
-use dscript_types_rows::{member_type, operated, prefixed};
+use dscript_types_rows::{operated, prefixed};
+use dscript_types_scenes::{
+    Scene, Subject, Typing, following, is, named, narrowed, of_kind, only, operand_parts,
+    outcome_of, whole,
+};
 
 /// What an expression comes to as a subject.
 #[cycle(exprs)]
@@ -88,70 +82,6 @@ pub(crate) fn type_of(
     whole(world, subject(world, scene, expr)?)
 }
 
-/// The type of a subject as a value.
-pub(crate) fn whole(world: &World<'_>, found: Typing<Subject>) -> Result<Typing<Type>, Memory>
-    ensures { IfOk result (λ typing. typing ≡ whole_of found) }
-{
-    match found {
-        Typing::Found(subject, seen) => subject_type(world, subject, seen),
-        Typing::Nothing => Ok(Typing::Nothing),
-        Typing::Open(pending) => Ok(Typing::Open(pending)),
-    }
-}
-
-// The type of a subject that was found.
-fn subject_type(world: &World<'_>, subject: Subject, seen: Seen) -> Result<Typing<Type>, Memory>
-    ensures { IfOk result (λ typing. typing ≡ whole_of (typings.Found subject seen)) }
-{
-    match subject {
-        Subject::Whole(t) => Ok(Typing::Found(t, seen)),
-        Subject::Named(t, name) => Ok(only(member_type(world.alloc, &t, name.bytes())?, seen)),
-        Subject::Function { .. } => Ok(Typing::Nothing),
-        Subject::Ambient(_) => Ok(Typing::Nothing),
-    }
-}
-
-/// What there may not be, after this was seen.
-pub(crate) fn only<X: Drop>(found: Option<X>, seen: Seen) -> Typing<X>
-    ensures { result ≡ only_found found seen }
-{
-    match found {
-        Some(x) => Typing::Found(x, seen),
-        None => Typing::Nothing,
-    }
-}
-
-/// A value of a type, if there is one.
-pub(crate) fn is(found: Option<Type>, seen: Seen) -> Typing<Subject>
-    ensures { result ≡ is_whole (only_found found seen) }
-{
-    match found {
-        Some(t) => Typing::Found(Subject::Whole(t), seen),
-        None => Typing::Nothing,
-    }
-}
-
-/// A value of the type that is found.
-pub(crate) fn as_subject(finding: Finding<Type>) -> Typing<Subject>
-    ensures { result ≡ is_whole (in_finding finding) }
-{
-    match finding {
-        Finding::Found(t, rank) => is(Some(t), Seen::from_rank(rank)),
-        Finding::Nothing => Typing::Nothing,
-        Finding::Open(pending) => Typing::Open(pending),
-    }
-}
-
-/// A value of a kind.
-pub(crate) fn of_kind(world: &World<'_>, kind: Kind) -> Result<Typing<Subject>, Memory>
-    ensures { IfOk result (λ found. found ≡ is_whole (only_found (Some (kind_type kind)) (record { rank = 0; right = Some 0 }))) }
-{
-    Ok(is(
-        Some(world.names.kind(world.alloc, kind)?),
-        Seen::from_rank(0),
-    ))
-}
-
 // The two sides of a condition, each under what it says.
 #[cycle(exprs)]
 fn choice(
@@ -189,22 +119,6 @@ fn choice(
         join(world.alloc, &t, &u)?.within_limit(),
         first.and(second).and(third),
     ))
-}
-
-// The place of the operand that follows another.
-fn following<'a>(
-    world: &World<'_>,
-    outcome: Option<bool>,
-    left: &BoundExpr,
-    scene: &Scene<'a>,
-) -> Result<Scene<'a>, Memory>
-    ensures { IfOk result (λ new. (w : AnyWorld) → GoesTo w scene.now new
-        (λ p known c. narrowing.following outcome (expr_data left.now) c)) }
-{
-    match outcome {
-        Some(outcome) => narrowed(world.alloc, outcome, left, scene),
-        None => scene.share(),
-    }
 }
 
 // An operand of a chain after one with this type, and the type of both.

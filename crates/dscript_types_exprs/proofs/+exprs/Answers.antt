@@ -1,4 +1,4 @@
-use Rattle.std.proofs.Common.{IfOk, Option, if◌then◌else◌, None, Some, ap, arith, length, map, refl, subst, sym, ◌+◌, ◌<◌, ◌∙◌}
+use Rattle.std.proofs.Common.{◌+◌, ◌<◌, ◌∙◌, IfOk, None, Option, Some, ap, arith, if◌then◌else◌, length, map, refl, subst, sym}
 use Rattle.std.proofs.lemmas.List.{length-map}
 use Rattle.std.specs.Option.{option_copied, option_map}
 use Rattle.bx_tree.proofs.Lists.{none_left}
@@ -6,6 +6,8 @@ use Rattle.dscript_ast.specs.TypeTree.{TypeTree}
 use Rattle.dscript_ast.specs.Views.{type_tree}
 use Rattle.dscript_program.proofs.NodeViews.{expr_data-Arrow, expr_data-Chain, expr_data-Cond, expr_data-False, expr_data-List, expr_data-Name, expr_data-Number, expr_data-Object, expr_data-Path, expr_data-Postfix, expr_data-Str, expr_data-Template, expr_data-True, expr_data-Unary, expr_data-Undefined, part_data-Call, part_data-Index, part_data-Member, prop_data-Named, prop_data-Quoted, prop_data-Short, prop_data-Spread, stmt_data-Assign, stmt_data-Block, stmt_data-Const, stmt_data-Empty, stmt_data-For, stmt_data-If, stmt_data-Let, stmt_data-Return, stmt_data-Value}
 use Rattle.dscript_program.specs.BoundTree.{to_elements, to_exprs, to_holes, to_operands, to_parts, to_props, to_stmts}
+use Rattle.dscript_program.specs.BoundTree as tree
+use Rattle.dscript_program.specs.ProgramData.{ProgramData}
 use Rattle.dscript_program.specs.Views.{body_data, element_data, expr_data, function_data, hole_data, operand_data, part_data, prop_data, stmt_data}
 use Rattle.dscript_sdk_members.specs.Names.{member_named}
 use Rattle.dscript_types_data.specs.Views.{field_data, fields_now}
@@ -14,51 +16,51 @@ use Rattle.dscript_types_known.specs.declared.locals.Hold.TheVariants as holds
 use Rattle.dscript_types_meaning.specs.Access.{indexed, method_type}
 use Rattle.dscript_types_meaning.specs.Ambients.{ambient_type}
 use Rattle.dscript_types_meaning.specs.Bodies.{Alone, Assigned, Declared, Looped, Returned, after_stmt, body_uses, fits_note, stmt_uses, stmts_uses, type_of_value}
-use Rattle.dscript_types_meaning.specs.Contexts.{Fixed, Variable, only, with_local, ◌>>=◌}
+use Rattle.dscript_types_meaning.specs.Bodies as bodies
+use Rattle.dscript_types_meaning.specs.Contexts.{◌>>=◌, Fixed, Variable, only, with_local}
 use Rattle.dscript_types_meaning.specs.Expressions.{expr_type, fields, subject, subject_call}
+use Rattle.dscript_types_meaning.specs.Expressions as rules
+use Rattle.dscript_types_meaning.specs.Functions as functions
 use Rattle.dscript_types_meaning.specs.Operators.{boolean_type, literal_hole, number_type, template_hole, text_type}
 use Rattle.dscript_types_meaning.specs.Types.{never}
 use Rattle.dscript_types_meaning.specs.Unions.{is_never, join_all, undefined_type}
 use Rattle.dscript_types_meaning.specs.declared.limits.TheConstants.{MAX_TYPE_NODES}
-use Rattle.dscript_types_notes.specs.Means.{program_of}
 use Rattle.dscript_types_notes.proofs.Going.{if_ok}
-use Rattle.dscript_types_exprs.specs.Bodies.{inferred_from}
-use Rattle.dscript_types_exprs.specs.Callbacks.{FindsScene, target_answer, types_in}
-use Rattle.dscript_types_exprs.specs.Calls.{call_subject, index_subject}
-use Rattle.dscript_types_exprs.specs.Holes.{after_typing, hole_type, nothing}
-use Rattle.dscript_types_exprs.specs.Items.{item_type, items_now}
-use Rattle.dscript_types_exprs.specs.Scenes.{FindsAs, GoesOn, IsBelow, SeesOn, TypesAs}
-use Rattle.dscript_types_exprs.specs.Shapes.{Chain, Name, Other, Unary, Undefined, shape_data}
-use Rattle.dscript_types_exprs.specs.Statements.{maybe_of, note_of, type_of_variable, use_of, value_uses}
-use Rattle.dscript_types_exprs.specs.Subjects.{is_whole, only_found}
-use Rattle.dscript_types_exprs.specs.Typings.{subject_data}
-use Rattle.dscript_types_exprs.specs.Walks.{RulesAs, Walks, finding_types}
+use Rattle.dscript_types_notes.specs.Means.{program_of}
+use Rattle.dscript_types_scenes.proofs.Answering.{finds_as, function_there, got, no_function_there}
+use Rattle.dscript_types_scenes.proofs.Going.{both_seen}
+use Rattle.dscript_types_scenes.proofs.Weights.{below_measure, body_weight, element_lighter, element_weight, elements_weight, else_weight, expr_lighter, expr_weight, exprs_weight, hole_lighter, hole_weight, holes_weight, maybe_weight, measure, operand_lighter, operand_weight, operands_weight, part_lighter, part_weight, parts_weight, prop_lighter, prop_weight, props_weight, stmt_lighter, stmt_weight, stmts_weight}
+use Rattle.dscript_types_scenes.specs.Functions.{FindsScene, inferred_from, target_answer, types_in}
+use Rattle.dscript_types_scenes.specs.Holes.{after_typing, hole_type}
+use Rattle.dscript_types_scenes.specs.Scenes.{FindsAs, IsBelow, TypesAs}
+use Rattle.dscript_types_scenes.specs.Shapes.{Chain, Name, Other, Unary, Undefined, shape_data}
+use Rattle.dscript_types_scenes.specs.Statements.{maybe_of, note_of}
+use Rattle.dscript_types_scenes.specs.Subjects.{is_whole, only_found}
+use Rattle.dscript_types_scenes.specs.Typings.{subject_data}
+use Rattle.dscript_types_scenes.specs.Walks.{RulesAs, finding_types}
+use Rattle.dscript_types_scenes.specs.declared.found.Typing.TheVariants as typings
+use Rattle.dscript_types_scenes.specs.declared.walk.Rule.TheVariants as ruled
 use Rattle.dscript_types_exprs.proofs.Afters.{after_begin, after_end, after_goes, call_after, index_after, member_after, part_as}
 use Rattle.dscript_types_exprs.proofs.Arrowing.{arrow_lowest, arrow_nowhere, arrow_opens, arrow_told, context_of}
 use Rattle.dscript_types_exprs.proofs.Backing.{CalledBack, answers_as, arrow_answers, back_alone, back_found, back_no_list, back_none, back_not_given, back_nothing, back_open, back_opens, no_arrow_answers, no_callback}
 use Rattle.dscript_types_exprs.proofs.Below.{same_program, sound_below}
-use Rattle.dscript_types_exprs.proofs.Called.{ambient_called, any_rule, declared_call, finds_as, following_as, function_there, given_is, goes_seen, got, name_as_value, named_call, no_function_there, value_call}
+use Rattle.dscript_types_exprs.proofs.Called.{ambient_called, any_rule, declared_call, following_as, given_is, goes_seen, name_as_value, named_call, value_call}
 use Rattle.dscript_types_exprs.proofs.Calling.{after_nothing, after_open, finds_nothing, finds_open, finds_value, part_is, part_nothing, part_open}
 use Rattle.dscript_types_exprs.proofs.Chaining.{chain_begins, chain_ends, chain_goes, chain_nothing, chain_of, chain_open, chain_opens, chain_seen, chain_stops}
 use Rattle.dscript_types_exprs.proofs.Choosing.{choice_found, choice_nothing, choice_open, choice_second_nothing, choice_second_open, choice_third_nothing, choice_third_open, operand_found, operand_nothing, operand_of, operand_open, prefixes_found, prefixes_nothing, prefixes_open, typed_as, value_of}
 use Rattle.dscript_types_exprs.proofs.Declaring.{after_let, declares, goes_none, goes_some, let_uses, return_uses, stays, stmts_begin, stmts_end, stmts_go, use_out, use_over, uses_of_block, uses_of_expr, walks_as, walks_each, walks_either, walks_if}
-use Rattle.dscript_types_exprs.proofs.Going.{both_seen}
 use Rattle.dscript_types_exprs.proofs.Holing.{after_holes_as, hole_in, hole_is_found, hole_is_nothing, hole_is_open, hole_is_refused, holes_begin, holes_end_at, holes_go_on, holes_open_at, holes_stop_at, literal_nothing, literal_open, literal_plain, literal_then, literal_then_nothing, literal_then_open, value_in}
 use Rattle.dscript_types_exprs.proofs.Inferred.{body_answers, body_is_right, walks_from_nothing}
-use Rattle.dscript_types_exprs.proofs.Listing.{item_value, arguments_begin, arguments_end, arguments_go, arguments_open, arguments_stop, item_no_list, item_nothing, item_open, item_plain, item_spread, items_begin, items_end, items_go, items_of_row, items_open, items_stop, list_found, list_nothing, list_open}
-use Rattle.dscript_types_exprs.proofs.Written.{as_found, as_value, no_node, of_a_kind, of_node, parts_after, subject_of}
+use Rattle.dscript_types_exprs.proofs.Listing.{arguments_begin, arguments_end, arguments_go, arguments_open, arguments_stop, item_no_list, item_nothing, item_open, item_plain, item_spread, item_value, items_begin, items_end, items_go, items_of_row, items_open, items_stop, list_found, list_nothing, list_open}
 use Rattle.dscript_types_exprs.proofs.Objects.{holds_value, object_begin, object_end, object_goes, object_many, object_of, object_open, object_stop, spread_fails, spread_nothing, spread_of, spread_open, spread_writes}
+use Rattle.dscript_types_exprs.proofs.Ruled.{items_found, loop_says, no_note_says, note_says, noted_value, value_found, variable_says}
 use Rattle.dscript_types_exprs.proofs.Same.{added_as, answer_as, literal_as, property_as, whole_with}
-use Rattle.dscript_types_exprs.proofs.Ruling.{items_found, loop_says, no_note_says, note_says, noted_value, value_found, variable_says}
 use Rattle.dscript_types_exprs.proofs.Walking.{walks_none}
-use Rattle.dscript_types_exprs.proofs.Weights.{below_measure, body_weight, element_lighter, element_weight, elements_weight, else_weight, expr_lighter, expr_weight, exprs_weight, hole_lighter, hole_weight, holes_weight, maybe_weight, measure, operand_lighter, operand_weight, operands_weight, part_lighter, part_weight, parts_weight, prop_lighter, prop_weight, props_weight, stmt_lighter, stmt_weight, stmts_weight}
-use Rattle.dscript_program.specs.BoundTree as tree
-use Rattle.dscript_program.specs.ProgramData.{ProgramData}
-use Rattle.dscript_types_meaning.specs.Bodies as bodies
-use Rattle.dscript_types_meaning.specs.Expressions as rules
-use Rattle.dscript_types_meaning.specs.Functions as functions
-use Rattle.dscript_types_exprs.specs.declared.found.Typing.TheVariants as typings
-use Rattle.dscript_types_exprs.specs.declared.walk.Rule.TheVariants as ruled
+use Rattle.dscript_types_exprs.proofs.Written.{as_found, as_value, no_node, of_a_kind, of_node, parts_after, subject_of}
+use Rattle.dscript_types_exprs.specs.Calls.{GoesOn, SeesOn, call_subject, index_subject}
+use Rattle.dscript_types_exprs.specs.Parts.{item_type, items_now, nothing}
+use Rattle.dscript_types_exprs.specs.Statements.{type_of_variable, use_of, value_uses}
+use Rattle.dscript_types_exprs.specs.Walks.{Walks}
 use Rattle.dscript_types_exprs.proofs.+exprs.Goals as goal
 
 pub exprs::subject-returns-in-Number : goal.exprs::subject-returns-in-Number

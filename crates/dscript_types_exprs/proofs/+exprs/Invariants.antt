@@ -4,14 +4,14 @@ use Rattle.dscript_program.specs.BoundTree.{to_elements, to_exprs, to_holes, to_
 use Rattle.dscript_program.specs.Views.{body_data, element_data, expr_data, hole_data, operand_data, part_data, prop_data, stmt_data}
 use Rattle.dscript_types_data.specs.Views.{fields_now}
 use Rattle.dscript_types_notes.specs.Means.{program_of}
-use Rattle.dscript_types_exprs.specs.Statements.{maybe_of, note_of}
+use Rattle.dscript_types_scenes.proofs.Weights.{body_weight, elements_weight, else_weight, expr_weight, exprs_weight, holes_weight, maybe_weight, measure, operands_weight, part_weight, parts_weight, prop_weight, props_weight, stmt_weight, stmts_weight}
+use Rattle.dscript_types_scenes.specs.Statements.{maybe_of, note_of}
 use Rattle.dscript_types_exprs.proofs.Afters.{AfterGoes}
 use Rattle.dscript_types_exprs.proofs.Chaining.{ChainGoes}
 use Rattle.dscript_types_exprs.proofs.Declaring.{StmtsGo}
 use Rattle.dscript_types_exprs.proofs.Holing.{HolesGo}
 use Rattle.dscript_types_exprs.proofs.Listing.{ArgumentsGo, ItemsGo}
 use Rattle.dscript_types_exprs.proofs.Objects.{ObjectGoes}
-use Rattle.dscript_types_exprs.proofs.Weights.{body_weight, else_weight, elements_weight, expr_weight, exprs_weight, holes_weight, maybe_weight, measure, operands_weight, part_weight, parts_weight, prop_weight, props_weight, stmt_weight, stmts_weight}
 use Rattle.dscript_types_exprs.proofs.+exprs.Given as goal
 
 abbrev pub decreases-exprs::subject : goal.decreases-exprs::subject

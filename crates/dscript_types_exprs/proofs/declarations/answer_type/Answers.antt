@@ -6,7 +6,7 @@ use Rattle.dscript_types_known.specs.Views.{finding_data}
 use Rattle.dscript_types_meaning.specs.Annotations.{meant}
 use Rattle.dscript_types_notes.proofs.Going.{if_ok}
 use Rattle.dscript_types_notes.specs.Means.{Says}
-use Rattle.dscript_types_exprs.specs.Statements.{note_of}
+use Rattle.dscript_types_scenes.specs.Statements.{note_of}
 use Rattle.dscript_types_exprs.proofs.Declared.{annotated_nothing, annotated_open, annotated_says, answer_says}
 use Rattle.dscript_types_exprs.proofs.declarations.answer_type.Goals as goal
 

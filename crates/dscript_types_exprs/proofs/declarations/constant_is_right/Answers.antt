@@ -2,9 +2,10 @@ use Rattle.std.proofs.Common.{refl}
 use Rattle.std.specs.Option.{option_copied}
 use Rattle.dscript_program.specs.Views.{expr_data}
 use Rattle.dscript_types_meaning.specs.Bodies.{Declared}
-use Rattle.dscript_types_exprs.specs.Statements.{note_of, use_of}
+use Rattle.dscript_types_scenes.specs.Statements.{note_of}
 use Rattle.dscript_types_exprs.proofs.Declared.{outermost_right}
 use Rattle.dscript_types_exprs.proofs.Inferred.{walks_from_nothing}
+use Rattle.dscript_types_exprs.specs.Statements.{use_of}
 use Rattle.dscript_types_exprs.proofs.declarations.constant_is_right.Goals as goal
 
 pub returns : goal.returns

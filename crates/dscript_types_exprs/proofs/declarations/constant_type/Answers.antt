@@ -4,9 +4,9 @@ use Rattle.dscript_ast.specs.Views.{type_tree}
 use Rattle.dscript_program.specs.Views.{expr_data}
 use Rattle.dscript_types_known.specs.Views.{finding_data}
 use Rattle.dscript_types_notes.proofs.Going.{if_ok}
-use Rattle.dscript_types_exprs.specs.Statements.{note_of}
+use Rattle.dscript_types_scenes.specs.Statements.{note_of}
 use Rattle.dscript_types_exprs.proofs.Declared.{noted_says, value_says}
-use Rattle.dscript_types_exprs.proofs.Ruling.{value_found}
+use Rattle.dscript_types_exprs.proofs.Ruled.{value_found}
 use Rattle.dscript_types_exprs.proofs.declarations.constant_type.Goals as goal
 
 pub returns-in-Some : goal.returns-in-Some

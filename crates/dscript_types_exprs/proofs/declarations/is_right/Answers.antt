@@ -3,9 +3,10 @@ use Rattle.std.specs.Option.{option_copied}
 use Rattle.dscript_program.specs.Views.{around_names, decl_data, expr_data, function_data, kind_data}
 use Rattle.dscript_types_meaning.specs.Bodies.{body_uses, kind_uses}
 use Rattle.dscript_types_notes.proofs.Going.{if_ok}
-use Rattle.dscript_types_exprs.specs.Statements.{note_of}
-use Rattle.dscript_types_exprs.proofs.Called.{function_there, got, no_function_there}
-use Rattle.dscript_types_exprs.proofs.Declared.{around_last, constant_kind, constant_right, function_kind, function_right, function_missing, nothing_right, placed_as, walked_right}
+use Rattle.dscript_types_scenes.proofs.Answering.{function_there, got, no_function_there}
+use Rattle.dscript_types_scenes.proofs.Standing.{around_last}
+use Rattle.dscript_types_scenes.specs.Statements.{note_of}
+use Rattle.dscript_types_exprs.proofs.Declared.{constant_kind, constant_right, function_kind, function_missing, function_right, nothing_right, placed_as, walked_right}
 use Rattle.dscript_types_exprs.proofs.declarations.is_right.Goals as goal
 
 pub returns-in-Const : goal.returns-in-Const

@@ -5,9 +5,11 @@ use Rattle.dscript_types_known.specs.Views.{finding_data}
 use Rattle.dscript_types_meaning.specs.Bodies.{answered, type_of_value}
 use Rattle.dscript_types_meaning.specs.Typed.{found}
 use Rattle.dscript_types_notes.proofs.Going.{if_ok}
-use Rattle.dscript_types_exprs.specs.Declarations.{in_function, parameters_of}
-use Rattle.dscript_types_exprs.proofs.Called.{function_there, got, no_function_there}
-use Rattle.dscript_types_exprs.proofs.Declared.{answer_found, around_last, constant_found, looks, no_answer_found, note_says, placed_as, type_found}
+use Rattle.dscript_types_scenes.proofs.Answering.{function_there, got, no_function_there}
+use Rattle.dscript_types_scenes.proofs.Standing.{around_last}
+use Rattle.dscript_types_scenes.specs.Declarations.{parameters_of}
+use Rattle.dscript_types_exprs.proofs.Declared.{answer_found, constant_found, looks, no_answer_found, note_says, placed_as, type_found}
+use Rattle.dscript_types_exprs.specs.Bodies.{in_function}
 use Rattle.dscript_types_exprs.proofs.declarations.look.Goals as goal
 
 pub returns-in-Const : goal.returns-in-Const

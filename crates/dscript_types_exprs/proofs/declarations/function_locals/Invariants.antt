@@ -1,6 +1,0 @@
-use Rattle.dscript_types_exprs.proofs.Declared.{LocalsGo}
-use Rattle.dscript_types_exprs.proofs.declarations.function_locals.Given as goal
-
-abbrev pub invariant-params : goal.invariant-params
-invariant-params l =
-    LocalsGo l.world l.place l.function.first_local l.function.params.items l.param-index l.locals l.number

@@ -1,5 +1,0 @@
-use Rattle.dscript_types_exprs.proofs.Parameters.{ParametersGo}
-use Rattle.dscript_types_exprs.proofs.declarations.parameter_types.Given as goal
-
-abbrev pub invariant-params : goal.invariant-params
-invariant-params l = ParametersGo l.world l.place l.params l.param-index l.rank l.types.items

@@ -1,0 +1,6 @@
+use Rattle.dscript_types_meaning.specs.Narrowing.{is_or}
+use Rattle.dscript_types_scenes.proofs.Ending.{EachGoes}
+use Rattle.dscript_types_scenes.proofs.conditions.are_or.Given as goal
+
+abbrev pub invariant-operands : goal.invariant-operands
+invariant-operands l = EachGoes is_or l.more l.operand-index

@@ -1,0 +1,9 @@
+pub mod Typings
+pub mod Subjects
+pub mod Shapes
+pub mod Scenes
+pub mod Holes
+pub mod Walks
+pub mod Statements
+pub mod Functions
+pub mod Declarations
