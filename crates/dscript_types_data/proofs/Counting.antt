@@ -2,8 +2,10 @@
 use Rattle.std.proofs.Common.{◌≡◌, ℕ, ◌+◌, ◌^◌, ◌<◌, ◌≤◌, List, [], ◌∷◌, map, drop, length, refl, ap, sym, ◌∙◌, arith}
 use Rattle.std.proofs.lemmas.List.{drop_all}
 use Rattle.dscript_types_data.specs.declared.types.Field.{Field}
+use Rattle.dscript_types_data.specs.declared.types.Group.{Group}
+use Rattle.dscript_types_data.specs.declared.types.Group.TheVariants as groups
 use Rattle.dscript_types_data.specs.declared.types.Member.{Member}
-use Rattle.dscript_types_data.specs.Views.{at_most, field_data, member_data, union_data}
+use Rattle.dscript_types_data.specs.Views.{at_most, field_data, held, member_data, union_data}
 use Rattle.dscript_types_meaning.specs.Sizes.{fields_nodes, member_nodes, members_nodes, type_nodes, union_node}
 use Rattle.dscript_types_meaning.specs.Types.{to_fields, to_members}
 
@@ -39,8 +41,9 @@ union_counted ms i n l small e =
 
 -- a union of one member
 pub one_counted
-    : (m n : Member) (k : ℕ) → k ≡ at_most (member_nodes (member_data m)) → n ≡ m → k ≡ at_most (type_nodes (union_data (n ∷ [])))
+    : (m : Member) (g : Group) (k : ℕ) → k ≡ at_most (member_nodes (member_data m)) → g ≡ groups.One m
+    → k ≡ at_most (type_nodes (union_data (held g)))
 unfolding member_nodes
-one_counted m n k e is =
-    let f : k ≡ at_most (member_nodes (member_data n)) = e ∙ ap (λ (x : Member). at_most (member_nodes (member_data x))) (sym is) in
-    omega (arith, f)
+one_counted m g k e is =
+    let one : k ≡ at_most (type_nodes (union_data (held (groups.One m)))) = omega (arith, e) in
+    one ∙ ap (λ (x : Group). at_most (type_nodes (union_data (held x)))) (sym is)

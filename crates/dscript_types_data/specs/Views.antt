@@ -1,13 +1,12 @@
 -- What contracts see of members and fields.
 use Rattle.std.specs.Prelude.{◌≡◌, ℕ, ◌-◌, ◌^◌, ◌≤◌, List, [], ◌∷◌, length, map, min}
-use Rattle.std.specs.Rc.{rc_value}
 use Rattle.std.specs.declared.alloc.Global.{Global}
 use Rattle.std.specs.declared.vec.Vec.{Vec}
 use Rattle.dscript_types_data.specs.declared.types.Field.{Field}
 use Rattle.dscript_types_data.specs.declared.types.Member.{Member}
 use Rattle.dscript_types_data.specs.declared.types.Member.TheVariants as members
-use Rattle.dscript_types_data.specs.declared.types.Members.{Members}
-use Rattle.dscript_types_data.specs.declared.types.Members.TheVariants as amounts
+use Rattle.dscript_types_data.specs.declared.types.Group.{Group}
+use Rattle.dscript_types_data.specs.declared.types.Group.TheVariants as groups
 use Rattle.dscript_types_meaning.specs.Sizes.{fields_nodes, member_nodes, type_nodes}
 use Rattle.dscript_types_meaning.specs.Types.{FieldData, MemberData, TypeData, Union, Values, Lists, Objects}
 use Rattle.dscript_types_meaning.specs.Types.{members_of, to_fields, to_members}
@@ -21,10 +20,9 @@ abbrev pub field_data : Field → FieldData
 field_data f = record { name = f.name; optional = f.optional; type_data = f.type_data }
 
 -- the members of a type, one after another
-abbrev pub held : Members → List Member
-held amounts.Never = []
-held (amounts.One member) = rc_value member ∷ []
-held (amounts.Many members) = (rc_value members).items
+abbrev pub held : Group → List Member
+held (groups.One member) = member ∷ []
+held (groups.Many members) = members.items
 
 -- the union of members that are in their order
 abbrev pub union_data : List Member → TypeData

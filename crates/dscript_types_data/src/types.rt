@@ -17,18 +17,17 @@ use std::slice;
 #[cycle(types)]
 #[derive(Drop)]
 pub struct Type {
-    members: Members,
+    members: Rc<Group>,
     // how many nodes it has; the greatest number where there are more
     nodes: u32,
 }
 
-// The members of a type. Most types have one, which takes one block of memory, and none takes no memory at all.
+// The members of a type. Most types have one, which takes no memory of its own.
 #[cycle(types)]
 #[derive(Drop)]
-enum Members {
-    Never,
-    One(Rc<Member>),
-    Many(Rc<Vec<Member>>),
+enum Group {
+    One(Member),
+    Many(Vec<Member>),
 }
 
 /// The values of a kind, the lists of items of a type, or the objects with fields.
@@ -66,19 +65,20 @@ impl Model for Type {
 
     ghost coded = { types_coded };
 
+    ghost use Rattle.std.specs.Rc.{rc_value};
     ghost use Rattle.dscript_types_data.specs.Views.{IsCounted, held, union_data};
     ghost use Rattle.dscript_types_data.specs.Weight.{type_size};
 
-    ghost view = { λ t. union_data (held t.members) };
+    ghost view = { λ t. union_data (held (rc_value t.members)) };
 
-    ghost invariant = { λ t. IsCounted t.nodes (union_data (held t.members)) };
+    ghost invariant = { λ t. IsCounted t.nodes (union_data (held (rc_value t.members))) };
 
     ghost size = { type_size };
 
     ghost use Rattle.std.proofs.Common.{arith};
     ghost use Rattle.dscript_types_data.specs.Falls.{held_falls};
 
-    ghost size_decreases = { λ t h. omega (arith, held_falls t.members) };
+    ghost size_decreases = { λ t h. omega (arith, held_falls (rc_value t.members)) };
 }
 
 impl Model for Fields {
@@ -114,7 +114,7 @@ impl Type {
     {
         let nodes = nodes_of_union(members.as_slice());
         Ok(Type {
-            members: Members::Many(Rc::new(alloc, members)?),
+            members: Rc::new(alloc, Group::Many(members))?,
             nodes,
         })
     }
@@ -125,19 +125,16 @@ impl Type {
     {
         let nodes = member.nodes();
         Ok(Type {
-            members: Members::One(Rc::new(alloc, member)?),
+            members: Rc::new(alloc, Group::One(member))?,
             nodes,
         })
     }
 
     /// The type that no value has.
-    pub fn never(_alloc: Global) -> Result<Type, Memory>
+    pub fn never(alloc: Global) -> Result<Type, Memory>
         ensures { IfOk result (λ t. t ≡ never) }
     {
-        Ok(Type {
-            members: Members::Never,
-            nodes: 1,
-        })
+        Type::of_members(alloc, Vec::new(alloc))
     }
 
     /// The values of a kind.
@@ -196,32 +193,20 @@ impl Type {
         ensures { IfOk result (λ t. t ≡ self.now) }
     {
         Ok(Type {
-            members: self.members.share()?,
+            members: self.members.clone()?,
             nodes: self.nodes,
         })
     }
 }
 
-impl Members {
+impl Group {
     // All of them, in their order.
     fn all(&self) -> &[Member]
         ensures { result.now ≡ held self.now }
     {
         match self {
-            Members::Never => &[],
-            Members::One(member) => slice::from_ref(&**member),
-            Members::Many(members) => members.as_slice(),
-        }
-    }
-
-    // The same, shared.
-    fn share(&self) -> Result<Members, Memory>
-        ensures { IfOk result (λ members. held members ≡ held self.now) }
-    {
-        match self {
-            Members::Never => Ok(Members::Never),
-            Members::One(member) => Ok(Members::One(member.clone()?)),
-            Members::Many(members) => Ok(Members::Many(members.clone()?)),
+            Group::One(member) => slice::from_ref(member),
+            Group::Many(members) => members.as_slice(),
         }
     }
 }
