@@ -12,7 +12,7 @@ params-init c = given_begin c.args.world.now c.args.scene.now (function_data c.a
 pub params-preserved : goal.params-preserved
 params-preserved c =
     given_goes c.args.world.now c.args.scene.now (function_data c.args.function.now) c.args.function.now.params.items c.args.given.now c.params.param-index c.params.locals c.params.rank c.params.number c.params.left.now c.params.invariant c.param-item.result (subst (λ ps. c.params.param-index < length ps) c.deref-param-items.ensures.value c.params-test.true) (subst (λ ps. c.param-item.result ≡ get_or ps c.params.param-index c.param-item.result) c.deref-param-items.ensures.value c.param-item.is)
-    c.in-Found.t c.in-Found.from _ _ _ _
+    c.in-Found.t c.in-Found.from _ _ c.in_ok-locals-2.locals _
     (subst (λ f. FindsAs c.args.world.now c.args.scene.now (finding_data f) (parameter_of c.args.world.now c.args.scene.now (function_data c.args.function.now) c.args.function.now.params.items c.args.given.now c.params.param-index c.params.locals c.params.rank c.params.number c.params.left.now c.params.invariant c.param-item.result (subst (λ ps. c.params.param-index < length ps) c.deref-param-items.ensures.value c.params-test.true) (subst (λ ps. c.param-item.result ≡ get_or ps c.params.param-index c.param-item.result) c.deref-param-items.ensures.value c.param-item.is))) c.in-Found.is c.in_ok-t.ensures)
     c.larger-rank.ensures c.in_ok-number.ensures c.rest_of-left.ensures c.in_ok-locals-2.ensures
 

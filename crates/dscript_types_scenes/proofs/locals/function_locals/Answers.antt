@@ -3,11 +3,11 @@ use Rattle.dscript_types_scenes.proofs.Standing.{locals_begin, locals_end, local
 use Rattle.dscript_types_scenes.proofs.locals.function_locals.Goals as goal
 
 pub params-init : goal.params-init
-params-init c = locals_begin c.args.world.now c.args.place.now c.args.function.now.first_local c.args.function.now.params.items _ c.new-locals.ensures
+params-init c = locals_begin c.args.world.now c.args.place.now c.args.function.now.first_local c.args.function.now.params.items c.new-locals.result c.new-locals.ensures
 
 pub params-preserved : goal.params-preserved
 params-preserved c =
-    locals_go c.args.world.now c.args.place.now c.args.function.now.first_local c.args.function.now.params.items c.params.param-index c.params.locals _ c.params.number _ c.param-item.result _ c.params.invariant
+    locals_go c.args.world.now c.args.place.now c.args.function.now.first_local c.args.function.now.params.items c.params.param-index c.params.locals c.in_ok-locals.locals c.params.number _ c.param-item.result _ c.params.invariant
     (subst (λ ps. c.params.param-index < length ps) c.deref-param-items.ensures.value c.params-test.true) (subst (λ ps. c.param-item.result ≡ get_or ps c.params.param-index c.param-item.result) c.deref-param-items.ensures.value c.param-item.is) c.in_ok-number.ensures c.in_ok-finding.ensures c.in_ok-locals.ensures
 
 pub returns : goal.returns
