@@ -12,6 +12,6 @@ mod refusal;
 
 pub use built::{all_succeeded, report};
 pub use bx_tree::Memory;
-pub use counts::{Counts, notes};
+pub use counts::{Counts, GraphLine, notes};
 pub use laws::one_set_of_counts;
 pub use refusal::{MAX_SHOWN_BYTES, Refusal, refused_report};

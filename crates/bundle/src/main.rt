@@ -18,7 +18,7 @@ use std::process::ExitCode;
 use std::rt::Files;
 
 // What a build makes at the top of a folder, and what it keeps there. None of it is source.
-const LEFT_OUT: [&str; 3] = ["out", "report.txt", ".bxl-cache"];
+const LEFT_OUT: [&str; 4] = ["out", "report.txt", ".bxl-cache", ".bxl-graphs"];
 
 const USAGE: &str = "usage: bundle pack FOLDER | unpack [--replace] FOLDER | list\n";
 

@@ -1,5 +1,5 @@
 -- The response of a build, by what its pips came to.
-use Rattle.std.proofs.Common.{◌≡◌, ℕ, ◌+◌, ◌-◌, ◌*◌, ◌^◌, ◌≤◌, Bool, true, false, List, length, min, Some, refl, ap, ◌∙◌, arith}
+use Rattle.std.proofs.Common.{◌≡◌, ℕ, ◌+◌, ◌-◌, ◌*◌, ◌^◌, ◌≤◌, Bool, true, false, List, length, min, Option, Some, refl, ap, ◌∙◌, arith}
 use Rattle.std.specs.Prelude.{IfOk, IsSome, OnOk, Result as Answer, Ok, Err}
 use Rattle.std.specs.List.{AllByRecursion}
 use Rattle.bx_tree.specs.Paths.{IsPath}
@@ -7,6 +7,7 @@ use Rattle.bx_tree.specs.Trees.{Files, paths_of}
 use Rattle.bx_io.specs.Holdings.{Holdings, held_in}
 use Rattle.one_thread.specs.Outputs.{AreOutputs}
 use Rattle.build_report.specs.Notes.{notes_text}
+use Rattle.build_report.specs.declared.counts.GraphLine.{GraphLine}
 use Rattle.pip_model_types.specs.declared.pip.Pip.{Pip}
 use Rattle.one_thread.specs.OneThread.{one_thread, outputs_of, run_count, verdicts_of}
 use Rattle.violations.specs.declared.verdict.Verdict.{Verdict}
@@ -46,9 +47,9 @@ pub record Went (pips : List Pip) (tree : Files) (budget : ℕ) (cached : Bool) 
 one_times_more : (b n : ℕ) → b * (n + 1) ≡ b * n + b
 one_times_more b n = grind arith
 
-are_counts : (pips : List Pip) (tree : Files) (budget : ℕ) (cached : Bool) (workers : ℕ) (change : StoreChange) (retired : Retired) (worked : Worked)
-    → Went pips tree budget cached workers change retired worked → AreCounts cached workers change (counts_in retired.tally worked)
-are_counts pips tree budget cached workers change retired worked went = record {
+are_counts : (pips : List Pip) (tree : Files) (budget : ℕ) (cached : Bool) (workers : ℕ) (change : StoreChange) (retired : Retired) (worked : Worked) (line : Option GraphLine)
+    → Went pips tree budget cached workers change retired worked → AreCounts cached workers change (counts_in retired.tally worked line)
+are_counts pips tree budget cached workers change retired worked line went = record {
   some_late = went.late;
   few_starved = went.through.few_starved;
   few_faults = λ b is.
@@ -63,16 +64,16 @@ are_counts pips tree budget cached workers change retired worked went = record {
       (own.0, omega (arith, own.1, others));
 }
 
-abbrev gone_response : (pips : List Pip) (tree : Files) (budget : ℕ) (cached : Bool) (workers : ℕ) (change : StoreChange) (retired : Retired) (worked : Worked) (response : Response)
-    → Went pips tree budget cached workers change retired worked → IsResponseOf pips retired worked response → IsGoneResponse cached workers change response
-gone_response pips tree budget cached workers change retired worked response went h = record {
+abbrev gone_response : (pips : List Pip) (tree : Files) (budget : ℕ) (cached : Bool) (workers : ℕ) (change : StoreChange) (retired : Retired) (worked : Worked) (line : Option GraphLine) (response : Response)
+    → Went pips tree budget cached workers change retired worked → IsResponseOf pips retired worked line response → IsGoneResponse cached workers change response
+gone_response pips tree budget cached workers change retired worked line response went h = record {
   gone = record {
     pips = pips;
     verdicts = retired.verdicts.items;
     files = retired.outputs;
-    counts = counts_in retired.tally worked;
+    counts = counts_in retired.tally worked line;
     one_each = went.number;
-    counted = are_counts pips tree budget cached workers change retired worked went;
+    counted = are_counts pips tree budget cached workers change retired worked line went;
     hit_or_ran = went.counted;
   };
   status_is = h.status_is;
@@ -80,11 +81,11 @@ gone_response pips tree budget cached workers change retired worked response wen
   notes_are = h.notes_are;
 }
 
-counts_of : (pips : List Pip) (tree : Files) (budget : ℕ) (cached : Bool) (workers : ℕ) (change : StoreChange) (retired : Retired) (worked : Worked)
+counts_of : (pips : List Pip) (tree : Files) (budget : ℕ) (cached : Bool) (workers : ℕ) (change : StoreChange) (retired : Retired) (worked : Worked) (line : Option GraphLine)
     → Went pips tree budget cached workers change retired worked → Fair pips tree budget cached (held_in change.before) (held_in change.now) → NoneReserved tree
-    → CountsOf cached workers pips tree budget (one_thread pips tree budget) change (counts_in retired.tally worked)
-counts_of pips tree budget cached workers change retired worked went fair free = record {
-  counted = are_counts pips tree budget cached workers change retired worked went;
+    → CountsOf cached workers pips tree budget (one_thread pips tree budget) change (counts_in retired.tally worked line)
+counts_of pips tree budget cached workers change retired worked line went fair free = record {
+  counted = are_counts pips tree budget cached workers change retired worked line went;
   hit_or_ran = went.counted ∙ ap (λ (vs : List Verdict). run_count pips vs) (went.build fair).verdicts_are;
   within = λ on S is.
       let at = fair_at pips tree budget cached (held_in change.before) (held_in change.now) fair on in
@@ -100,10 +101,10 @@ counts_of pips tree budget cached workers change retired worked went fair free =
 }
 
 -- the response to these results
-shown : (pips : List Pip) (tree : Files) (budget : ℕ) (retired : Retired) (worked : Worked) (response : Response)
-    → IsBuild pips tree budget retired.verdicts.items retired.outputs retired.tally.hits retired.tally.ran → IsResponseOf pips retired worked response
-    → IsResponseTo (Built pips (one_thread pips tree budget)) (notes_text (counts_in retired.tally worked)) response
-shown pips tree budget retired worked response build h =
+shown : (pips : List Pip) (tree : Files) (budget : ℕ) (retired : Retired) (worked : Worked) (line : Option GraphLine) (response : Response)
+    → IsBuild pips tree budget retired.verdicts.items retired.outputs retired.tally.hits retired.tally.ran → IsResponseOf pips retired worked line response
+    → IsResponseTo (Built pips (one_thread pips tree budget)) (notes_text (counts_in retired.tally worked line)) response
+shown pips tree budget retired worked line response build h =
     let results = one_thread pips tree budget in
     let status : response.status ≡ gone_status (verdicts_of results) =
     h.status_is ∙ ap (λ (vs : List Verdict). gone_status vs) build.verdicts_are in
@@ -116,15 +117,16 @@ shown pips tree budget retired worked response build h =
       notes_are = h.notes_are;
     }
 
-pub build_response : (pips : List Pip) (tree : Files) (budget : ℕ) (cached : Bool) (workers : ℕ) (change : StoreChange) (retired : Retired) (worked : Worked) (response : Response)
-    → Went pips tree budget cached workers change retired worked → IsResponseOf pips retired worked response
-    → AllByRecursion IsPath (paths_of (given_files retired.verdicts.items retired.outputs)) → IsBuildResponse pips tree budget cached workers change response
-build_response pips tree budget cached workers change retired worked response went h paths = record {
-  went = gone_response pips tree budget cached workers change retired worked response went h;
+pub build_response : (pips : List Pip) (tree : Files) (budget : ℕ) (cached : Bool) (workers : ℕ) (change : StoreChange) (retired : Retired) (worked : Worked) (line : Option GraphLine) (response : Response)
+    → Went pips tree budget cached workers change retired worked → IsResponseOf pips retired worked line response
+    → AllByRecursion IsPath (paths_of (given_files retired.verdicts.items retired.outputs)) → IsBuildResponse pips tree budget cached workers change line response
+build_response pips tree budget cached workers change retired worked line response went h paths = record {
+  went = gone_response pips tree budget cached workers change retired worked line response went h;
   pips_are = refl;
+  line_is = refl;
   text = gone_text pips retired.verdicts.items retired.outputs response.bytes.items h.bytes_are went.places paths;
-  shown = λ fair. shown pips tree budget retired worked response (went.build fair) h;
-  built = λ fair free. counts_of pips tree budget cached workers change retired worked went fair free;
+  shown = λ fair. shown pips tree budget retired worked line response (went.build fair) h;
+  built = λ fair free. counts_of pips tree budget cached workers change retired worked line went fair free;
 }
 
 -- what follows from two facts of an answer

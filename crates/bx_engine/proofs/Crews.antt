@@ -3,6 +3,7 @@ use Rattle.std.proofs.Common.{◌≡◌, ℕ, zero, suc, ◌+◌, ◌*◌, ◌-�
 use Rattle.std.specs.Prelude.{IfOk, IfSome, IsSome, is_some, count_by, option_map}
 use Rattle.std.specs.List.{All, sum_by}
 use Rattle.std.proofs.lemmas.List.Sums.{sum_by-cons}
+use Rattle.std.proofs.lemmas.Nat.{mul-le}
 use Rattle.bx_io.specs.Causes.{IsWithin}
 use Rattle.two_phase.specs.Reading.{ReaderData, ReadsIfAny, ReadsOn}
 use Rattle.worker.specs.Ended.{has_ended}
@@ -117,4 +118,16 @@ all_through cached bound ws faults starved faults_are starved_are h = record {
   few_faults = λ b is. let few = sum_few cached bound b ws is h in omega (arith, few, faults_are);
   unread = λ off. let none = sum_none cached bound ws off h in omega (arith, none, faults_are);
   few_starved = let few = starved_few ws in omega (arith, few, starved_are);
+}
+
+-- what holds of some workers holds of more
+pub more_workers : (cached : Bool) (bound : Option ℕ) (some many faults starved : ℕ) → some ≤ many
+    → AreThrough cached bound some faults starved → AreThrough cached bound many faults starved
+more_workers cached bound some many faults starved more through = record {
+  few_faults = λ b is.
+      let few = through.few_faults b is in
+      let times : b * some ≤ b * many = mul-le b some b many (omega arith) more in
+      omega (arith, few, times);
+  unread = through.unread;
+  few_starved = let few = through.few_starved in omega (arith, few, more);
 }

@@ -8,12 +8,11 @@ use Rattle.bx_tree.specs.Trees.{Files, IsReserved, paths_of}
 use Rattle.bx_io.specs.Holdings.{Holdings}
 use Rattle.bx_engine_front.specs.Specifications.{Plans}
 use Rattle.bx_engine_front.specs.declared.limits.Limits.{Limits}
-use Rattle.bx_engine_words.specs.declared.order.Order.{Order}
 use Rattle.pip_model_types.specs.declared.pip.Pip.{Pip}
 use Rattle.retire.specs.Runs.{NoneReserved}
 use Rattle.retire.specs.Builds.{Fair, IsFair, IsFairStore}
 use Rattle.bx_engine.specs.Ends.{AreSources, HasReserved}
-use Rattle.bx_engine.specs.Stores.{FairStore, FairWhere}
+use Rattle.bx_engine.specs.Stores.{FairWhere}
 
 -- the store of an input is fair for the plan of that input
 pub fair_plan : (cached : Bool) (limits : Limits) (input : List ℕ) (before now : Option Holdings) (tree : Files) (pips : List Pip)
@@ -30,9 +29,6 @@ fair_at pips tree budget cached before now fair on = subst (λ (b : Bool). Fair 
 pub fair_is : (pips : List Pip) (tree : Files) (budget : ℕ) (before now : Option Holdings) (S : Holdings) → IsFairStore pips tree budget before now
     → before ≡ Some S → IsFair pips tree budget S
 fair_is pips tree budget before now S at is = subst (IsFair pips tree budget) (same_Some at.held S (sym at.told ∙ is)) at.fair
-
-pub fair_same : (a b : Order) (input : List ℕ) (before now : Option Holdings) → a ≡ b → FairStore b input before now → FairStore a input before now
-fair_same a b input before now e fair = subst (λ (o : Order). FairStore o input before now) (sym e) fair
 
 -- a file whose path is reserved
 reserved_there : (tree : Files) (path : Atoms) → Contains (paths_of tree) path → IsReserved path → HasReserved tree

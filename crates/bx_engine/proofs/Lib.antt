@@ -5,7 +5,6 @@ mod ReadingKeepsEnding
 mod StatusesDiffer
 mod ReportPath
 mod OutputsAreTrees
-mod RulesKept
 mod FairPlans
 mod StoresLeft
 mod LivesHonest
@@ -15,8 +14,10 @@ mod ResponsesAreExpected
 mod CallsEnd
 mod Crews
 mod OtherCalls
+mod PlainCalls
 mod Checked
 mod StoresCared
 mod Worked
 mod OneEnding
+mod GraphsOfCalls
 mod SomeEnding

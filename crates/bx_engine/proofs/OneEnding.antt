@@ -1,5 +1,5 @@
 -- An input ends in one way.
-use Rattle.std.proofs.Common.{◌≡◌, ℕ, ◌+◌, Bool, false, ◌⊎◌, inl, inr, List, refl, ap, sym, subst, ◌∙◌, arith}
+use Rattle.std.proofs.Common.{◌≡◌, ℕ, ◌+◌, Bool, true, false, ◌⊎◌, inl, inr, List, Option, refl, ap, sym, subst, ◌∙◌, arith}
 use Rattle.bx_tree.specs.Trees.{Files}
 use Rattle.bx_tree.specs.Bundle.{Faults, IsBundle}
 use Rattle.bx_tree.specs.declared.bundle.BundleFault.{BundleFault}
@@ -9,10 +9,11 @@ use Rattle.bx_engine_front.proofs.OnePlan.{OneFailure, many_or_fault, many_or_pl
 use Rattle.bx_engine_front.specs.Refusals.{Refuses, refusal_of}
 use Rattle.bx_engine_front.specs.declared.limits.Limits.{Limits}
 use Rattle.build_report.specs.declared.refusal.Refusal.{Refusal}
-use Rattle.bx_engine_words.specs.Words.{workers_in}
+use Rattle.bx_engine_words.specs.Words.{asks_graphs, workers_in}
 use Rattle.bx_engine_words.specs.declared.order.Order.{Order}
 use Rattle.build_report.specs.Notes.{notes_text}
 use Rattle.build_report.specs.declared.counts.Counts.{Counts}
+use Rattle.build_report.specs.declared.counts.GraphLine.{GraphLine}
 use Rattle.one_thread.specs.OneThread.{Result, one_thread, run_count, verdicts_of}
 use Rattle.pip_model_types.specs.declared.pip.Pip.{Pip}
 use Rattle.bx_engine.specs.declared.fault.InputFault.{InputFault}
@@ -21,7 +22,8 @@ use Rattle.bx_engine.specs.Ending.{Ending, InputRefused, SpecificationRefused, B
 use Rattle.bx_engine.specs.Calls.{StoreChange}
 use Rattle.bx_engine.specs.Counting.{CountsOf, HaveSameRuns, IsNoted, NotesOf, TellSameRuns}
 use Rattle.bx_engine.specs.Expected.{limits_of}
-use Rattle.bx_engine.specs.Stores.{uses_store}
+use Rattle.bx_engine.specs.Graphs.{TellsLineWhere}
+use Rattle.bx_engine.specs.Stores.{TellsLine, uses_store}
 use Rattle.bx_engine.specs.declared.status.Status.{Status}
 use Rattle.bx_engine.specs.Ends.{AreSources, Builds, Ends, HasReserved, IsEndless, RefusesInput}
 
@@ -86,7 +88,7 @@ refused_or_not input f sources h k = elim (kinds_of_refusal input f h) [
 
 -- ## Specifications
 
-one_source : (input : List ℕ) (s t : Files) → AreSources input s → AreSources input t → s ≡ t
+pub one_source : (input : List ℕ) (s t : Files) → AreSources input s → AreSources input t → s ≡ t
 one_source input s t h k = one_tree input s t h.bundle k.bundle
 
 one_refusal : (one : OneFailure) (limits : Limits) (sources : Files) (r s : Refusal) → Refuses limits sources r → Refuses limits sources s → r ≡ s
@@ -141,8 +143,9 @@ all_ran : (hits ran n : ℕ) → hits ≡ 0 → hits + ran ≡ n → ran ≡ n
 all_ran hits ran n none all = omega (arith, none, all)
 
 no_store_counts : (workers : ℕ) (pips : List Pip) (s t : Files) (budget : ℕ) (results : List Result) (a b : StoreChange) (c d : Counts) (m n : List ℕ)
-    → CountsOf false workers pips s budget results a c → CountsOf false workers pips t budget results b d → m ≡ notes_text c → n ≡ notes_text d → HaveSameRuns m n
-no_store_counts workers pips s t budget results a b c d m n h k first second =
+    → CountsOf false workers pips s budget results a c → CountsOf false workers pips t budget results b d → c.graph ≡ d.graph → m ≡ notes_text c
+    → n ≡ notes_text d → HaveSameRuns m n
+no_store_counts workers pips s t budget results a b c d m n h k line first second =
     let all = run_count pips (verdicts_of results) in
     let none = h.counted.unused refl in
     let no = k.counted.unused refl in
@@ -154,21 +157,39 @@ no_store_counts workers pips s t budget results a b c d m n h k first second =
       hits = none.0 ∙ sym no.0;
       ran = all_ran c.hits c.ran all none.0 h.hit_or_ran ∙ sym (all_ran d.hits d.ran all no.0 k.hit_or_ran);
       faults = none.1 ∙ sym no.1;
+      graph = line;
     }
 
-notes_same : (order : Order) (input : List ℕ) (a b : StoreChange) (ending : Ending) (m n : List ℕ) → uses_store order ≡ false
-    → NotesOf order input a ending m → NotesOf order input b ending n → TellSameRuns m n
-notes_same order input a b (InputRefused fault) m n off h k = inl (h ∙ sym k)
-notes_same order input a b (SpecificationRefused refusal) m n off h k = inl (h ∙ sym k)
-notes_same order input a b (Built pips results) m n off h k =
+-- without a store there is one line at most
+line_alone : (order : Order) (input : List ℕ) (g h : Option StoreChange) (pips : List Pip) (a b : Option GraphLine) → uses_store order ≡ false
+    → TellsLine order input g pips a → TellsLine order input h pips b → a ≡ b
+line_alone order input g h pips a b off first second = by_asks (asks_graphs order) (uses_store order) off first second
+  where
+    by_asks : (asks cached : Bool) → cached ≡ false → TellsLineWhere asks cached g (limits_of order) input pips a
+        → TellsLineWhere asks cached h (limits_of order) input pips b → a ≡ b
+    by_asks false cached e first second = first ∙ sym second
+    by_asks true false e first second = first ∙ sym second
+    by_asks true true e first second = absurd (true_or_false e)
+      where
+        true_or_false : true ≡ false → ⊥
+        true_or_false e = cc
+
+notes_same : (order : Order) (input : List ℕ) (a b : StoreChange) (g h : Option StoreChange) (ending : Ending) (m n : List ℕ) → uses_store order ≡ false
+    → NotesOf order input a g ending m → NotesOf order input b h ending n → TellSameRuns m n
+notes_same order input a b g h (InputRefused fault) m n off first second = inl (first ∙ sym second)
+notes_same order input a b g h (SpecificationRefused refusal) m n off first second = inl (first ∙ sym second)
+notes_same order input a b g h (Built pips results) m n off first second =
     let budget = (limits_of order).tool_budget in
     let workers = workers_in order in
-    let c : CountsOf false workers pips h.0 budget results a h.2 = subst (λ (u : Bool). CountsOf u workers pips h.0 budget results a h.2) off h.3 in
-    let d : CountsOf false workers pips k.0 budget results b k.2 = subst (λ (u : Bool). CountsOf u workers pips k.0 budget results b k.2) off k.3 in
-    inr (no_store_counts workers pips h.0 k.0 budget results a b h.2 k.2 m n c d h.4 k.4)
+    let c : CountsOf false workers pips first.0 budget results a first.2 =
+    subst (λ (u : Bool). CountsOf u workers pips first.0 budget results a first.2) off first.3 in
+    let d : CountsOf false workers pips second.0 budget results b second.2 =
+    subst (λ (u : Bool). CountsOf u workers pips second.0 budget results b second.2) off second.3 in
+    inr (no_store_counts workers pips first.0 second.0 budget results a b first.2 second.2 m n c d
+    (line_alone order input g h pips first.2.graph second.2.graph off first.4 second.4) first.5 second.5)
 
-pub one_text : (one : OneFailure) (order : Order) (input : List ℕ) (a b : StoreChange) (r s : Status) (m n : List ℕ) → uses_store order ≡ false
-    → IsNoted order input a r m → IsNoted order input b s n → TellSameRuns m n
-one_text one order input a b r s m n off h k =
-    let e = one_ending one (limits_of order) input h.ending k.ending h.ends k.ends in
-    notes_same order input a b k.ending m n off (subst (λ (x : Ending). NotesOf order input a x m) e h.text_is) k.text_is
+pub one_text : (one : OneFailure) (order : Order) (input : List ℕ) (a b : StoreChange) (g h : Option StoreChange) (r s : Status) (m n : List ℕ)
+    → uses_store order ≡ false → IsNoted order input a g r m → IsNoted order input b h s n → TellSameRuns m n
+one_text one order input a b g h r s m n off first second =
+    let e = one_ending one (limits_of order) input first.ending second.ending first.ends second.ends in
+    notes_same order input a b g h second.ending m n off (subst (λ (x : Ending). NotesOf order input a g x m) e first.text_is) second.text_is

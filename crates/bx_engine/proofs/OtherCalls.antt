@@ -1,5 +1,5 @@
 -- What is promised of a call that builds nothing: a check, a repair, a trim, a workload.
-use Rattle.std.proofs.Common.{◌≡◌, ◌≢◌, ◌⊎◌, inl, inr, ℕ, sym, subst, arith}
+use Rattle.std.proofs.Common.{◌≡◌, ◌≢◌, ◌⊎◌, inl, inr, ℕ, Bool, false, true≢false, sym, subst, arith}
 use Rattle.bx_io.specs.Causes.{HasCause}
 use Rattle.bx_engine_words.specs.Words.{IsBuild, IsCare}
 use Rattle.bx_engine_words.specs.declared.order.Order.{Order}
@@ -10,6 +10,7 @@ use Rattle.bx_engine.specs.Care.{BlamesStore, OfCheck, OfRepair, OfTrim}
 use Rattle.bx_engine.specs.Headline.{KeepsHeadline}
 use Rattle.bx_engine.specs.Known.{GivesPiece}
 use Rattle.bx_engine.specs.Statuses.{HasNoBuild, HasNoNotes, IsGone, IsSilent}
+use Rattle.bx_engine.specs.Stores.{uses_store}
 use Rattle.bx_engine.specs.Workloads.{OfGen}
 use Rattle.bx_engine.specs.declared.status.Status.{Status}
 use Rattle.bx_engine.specs.declared.status.Status.TheVariants as statuses
@@ -134,6 +135,8 @@ beyond_check asked call order one is alone each = record {
   fair = λ o input asks build given fair. absurd (subst IsBuild (sym (one o asks)) build);
   of_input = λ o input asks build given. absurd (subst IsBuild (sym (one o asks)) build);
   of_each_build = λ o asks build. absurd (subst IsBuild (sym (one o asks)) build);
+  unused = λ o asks off. absurd (true≢false (subst (λ (x : Order). uses_store x ≡ false) (sym (one o asks)) off));
+  unused_graphs = λ o asks off. alone.no_graphs;
   check = λ asks. is;
   repair = λ asks. let same : Check ≡ Repair = one Repair asks in absurd cc;
   trim = λ keep asks. let same : Check ≡ Trim keep = one (Trim keep) asks in absurd cc;
@@ -149,6 +152,8 @@ beyond_repair asked call order one is alone each = record {
   fair = λ o input asks build given fair. absurd (subst IsBuild (sym (one o asks)) build);
   of_input = λ o input asks build given. absurd (subst IsBuild (sym (one o asks)) build);
   of_each_build = λ o asks build. absurd (subst IsBuild (sym (one o asks)) build);
+  unused = λ o asks off. absurd (true≢false (subst (λ (x : Order). uses_store x ≡ false) (sym (one o asks)) off));
+  unused_graphs = λ o asks off. alone.no_graphs;
   check = λ asks. let same : Repair ≡ Check = one Check asks in absurd cc;
   repair = λ asks. is;
   trim = λ keep asks. let same : Repair ≡ Trim keep = one (Trim keep) asks in absurd cc;
@@ -167,6 +172,8 @@ beyond_trim asked keep call order one is alone each = record {
   fair = λ o input asks build given fair. absurd (subst IsBuild (sym (one o asks)) build);
   of_input = λ o input asks build given. absurd (subst IsBuild (sym (one o asks)) build);
   of_each_build = λ o asks build. absurd (subst IsBuild (sym (one o asks)) build);
+  unused = λ o asks off. absurd (true≢false (subst (λ (x : Order). uses_store x ≡ false) (sym (one o asks)) off));
+  unused_graphs = λ o asks off. alone.no_graphs;
   check = λ asks. let same : Trim keep ≡ Check = one Check asks in absurd cc;
   repair = λ asks. let same : Trim keep ≡ Repair = one Repair asks in absurd cc;
   trim = λ n asks. subst (λ (k : ℕ). OfTrim k call.status call.notes call.store) (same_keep keep n (one (Trim n) asks)) is;
@@ -188,6 +195,8 @@ beyond_gen asked seed pips call order one is each = record {
   fair = λ o input asks build given fair. absurd (subst IsBuild (sym (one o asks)) build);
   of_input = λ o input asks build given. absurd (subst IsBuild (sym (one o asks)) build);
   of_each_build = λ o asks build. absurd (subst IsBuild (sym (one o asks)) build);
+  unused = λ o asks off. is.unkept;
+  unused_graphs = λ o asks off. is.no_graphs;
   check = λ asks. let same : Gen seed pips ≡ Check = one Check asks in absurd cc;
   repair = λ asks. let same : Gen seed pips ≡ Repair = one Repair asks in absurd cc;
   trim = λ keep asks. let same : Gen seed pips ≡ Trim keep = one (Trim keep) asks in absurd cc;

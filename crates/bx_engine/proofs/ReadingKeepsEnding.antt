@@ -1,5 +1,5 @@
 -- An input that is read up to one byte past the limit ends as the whole input does.
-use Rattle.std.proofs.Common.{◌≡◌, ℕ, Bool, true, false, ◌<◌, ◌≤◌, inl, inr, List, [], ◌++◌, length, drop}
+use Rattle.std.proofs.Common.{◌≡◌, ◌⊎◌, ℕ, Bool, true, false, ◌<◌, ◌≤◌, inl, inr, List, [], ◌++◌, length, drop}
 use Rattle.std.proofs.Common.{refl, sym, ap, append_assoc, subst, ◌∙◌, arith}
 use Rattle.std.specs.Prelude.{Some, None, IsSome}
 use Rattle.std.specs.declared.option.Option.{Option}
@@ -17,10 +17,14 @@ use Rattle.bx_engine.specs.declared.limits.TheConstants.{READ_LIMIT}
 use Rattle.bx_tree.specs.declared.limits.TheConstants.{MAX_BUNDLE_BYTES}
 use Rattle.bx_engine.specs.Ends.{Ends}
 use Rattle.bx_io.specs.Holdings.{Holdings, StoreTold}
+use Rattle.bx_engine.specs.Beyond.{ReportsRule}
 use Rattle.bx_engine.specs.Calls.{Call, Given, StoreChange}
 use Rattle.bx_engine.specs.Counting.{AppendsNotes, IsNoted, IsShown, NotesOf}
 use Rattle.bx_engine.specs.Expected.{IsExpected, Answers, Begins, limits_of}
-use Rattle.bx_engine.specs.Stores.{AsksFor, FairWhere, LeftOfBuild, StoreLeft}
+use Rattle.bx_engine.specs.Graphs.{FairGraphsWhere, KeepsOfInput, TellsLineWhere}
+use Rattle.bx_engine.specs.Stores.{AsksFor, FairGraphStore, FairStore, FairWhere, KeepRulesOf, LeftOfBuild, StoreLeft, TellsLine, uses_graphs, uses_store}
+use Rattle.bx_engine_words.specs.Words.{asks_graphs}
+use Rattle.build_report.specs.declared.counts.GraphLine.{GraphLine}
 use Rattle.bx_engine.specs.Ending.{Ending, InputRefused, SpecificationRefused, Built}
 use Rattle.bx_engine_front.specs.declared.limits.Limits.{Limits}
 use Rattle.pip_model_types.specs.declared.pip.Pip.{Pip}
@@ -161,28 +165,28 @@ begins_whole order input bytes before now r b = record {
 
 -- ## Notes
 
-long_notes : (order : Order) (a b : List ℕ) (change : StoreChange) (ending : Ending) (text : List ℕ) → IsLong a → Ends (limits_of order) a ending
-    → NotesOf order a change ending text → NotesOf order b change ending text
-long_notes order a b change (InputRefused fault) text h e n = n
-long_notes order a b change (SpecificationRefused refusal) text h e n = n
-long_notes order a b change (Built pips results) text h e n = absurd (not_long a h e.1.bundle.whole)
+long_notes : (order : Order) (a b : List ℕ) (change : StoreChange) (graphs : Option StoreChange) (ending : Ending) (text : List ℕ) → IsLong a → Ends (limits_of order) a ending
+    → NotesOf order a change graphs ending text → NotesOf order b change graphs ending text
+long_notes order a b change graphs (InputRefused fault) text h e n = n
+long_notes order a b change graphs (SpecificationRefused refusal) text h e n = n
+long_notes order a b change graphs (Built pips results) text h e n = absurd (not_long a h e.1.bundle.whole)
 
-noted_whole : (order : Order) (input bytes : List ℕ) (change : StoreChange) (status : Status) (text : List ℕ)
-    → ReadOf input bytes → IsNoted order bytes change status text → IsNoted order input change status text
-noted_whole order input bytes change status text r n = elim r.whole [
-  | inl is ↦ subst (λ i. IsNoted order i change status text) is n
+noted_whole : (order : Order) (input bytes : List ℕ) (change : StoreChange) (graphs : Option StoreChange) (status : Status) (text : List ℕ)
+    → ReadOf input bytes → IsNoted order bytes change graphs status text → IsNoted order input change graphs status text
+noted_whole order input bytes change graphs status text r n = elim r.whole [
+  | inl is ↦ subst (λ i. IsNoted order i change graphs status text) is n
   | inr long ↦ record {
     ending = n.ending;
     ends = long_ends (limits_of order) bytes input n.ending long.0 long.1 n.ends;
     status_is = n.status_is;
-    text_is = long_notes order bytes input change n.ending text long.0 n.ends n.text_is;
+    text_is = long_notes order bytes input change graphs n.ending text long.0 n.ends n.text_is;
   }
 ]
 
 pub notes_whole : (call : Call) (input bytes : List ℕ) (order : Order) → ReadOf input bytes → AppendsNotes call bytes order → AppendsNotes call input order
 notes_whole call input bytes order r t = record {
   text = t.text;
-  noted = noted_whole order input bytes call.store call.status t.text r t.noted;
+  noted = noted_whole order input bytes call.store call.graphs call.status t.text r t.noted;
   appended = t.appended;
 }
 
@@ -198,6 +202,66 @@ pub fair_read : (cached : Bool) (limits : Limits) (input bytes : List ℕ) (befo
 fair_read cached limits input bytes before now r fair = elim r.whole [
   | inl is ↦ subst (λ (i : List ℕ). FairWhere cached limits i before now) (sym is) fair
   | inr long ↦ long_fair cached limits bytes before now long.0
+]
+
+long_graphs : (graphs : Option StoreChange) (used : Bool) (limits : Limits) (input : List ℕ) → IsLong input → FairGraphsWhere graphs used limits input
+long_graphs None used limits input h = tt
+long_graphs (Some change) false limits input h = tt
+long_graphs (Some change) true limits input h = λ sources s. absurd (not_long input h s.bundle.whole)
+
+-- and so is a store of graphs
+pub graphs_read : (graphs : Option StoreChange) (used : Bool) (limits : Limits) (input bytes : List ℕ) → ReadOf input bytes
+    → FairGraphsWhere graphs used limits input → FairGraphsWhere graphs used limits bytes
+graphs_read graphs used limits input bytes r fair = elim r.whole [
+  | inl is ↦ subst (λ (i : List ℕ). FairGraphsWhere graphs used limits i) (sym is) fair
+  | inr long ↦ long_graphs graphs used limits bytes long.0
+]
+
+pub stores_read : (order : Order) (input bytes : List ℕ) (before now : Option Holdings) (graphs : Option StoreChange) → ReadOf input bytes
+    → FairStore order input before now graphs → FairStore order bytes before now graphs
+stores_read order input bytes before now graphs r fair = record {
+  store = fair_read (uses_store order) (limits_of order) input bytes before now r fair.store;
+  graph_store = graphs_read graphs (uses_graphs order) (limits_of order) input bytes r fair.graph_store;
+}
+
+-- a refusal of what was read is one of the input
+pub refused_whole : (order : Order) (input bytes : List ℕ) (status : Status) (before now : List ℕ) (graphs : Option StoreChange) → ReadOf input bytes
+    → Answers order bytes status before now
+    ⊎ (ReportsRule before now × (FairGraphStore order bytes graphs → Answers order bytes status before now))
+    → Answers order input status before now
+    ⊎ (ReportsRule before now × (FairGraphStore order input graphs → Answers order input status before now))
+refused_whole order input bytes status before now graphs r h = elim h [
+  | inl answers ↦ inl (answers_whole order input bytes status before now r answers)
+  | inr rule ↦ inr (
+    rule.0,
+    λ fair. answers_whole order input bytes status before now r (rule.1 (graphs_read graphs (uses_graphs order) (limits_of order) input bytes r fair)),
+  )
+]
+
+long_line : (asks cached : Bool) (graphs : Option StoreChange) (limits : Limits) (a b : List ℕ) (pips : List Pip) (line : Option GraphLine) → IsLong b
+    → TellsLineWhere asks cached graphs limits a pips line → TellsLineWhere asks cached graphs limits b pips line
+long_line false cached graphs limits a b pips line h t = t
+long_line true false graphs limits a b pips line h t = t
+long_line true true None limits a b pips line h t = (t.0, t.1, tt)
+long_line true true (Some change) limits a b pips line h t = (t.0, t.1, λ sources are. absurd (not_long b h are.bundle.whole))
+
+line_whole : (order : Order) (input bytes : List ℕ) (graphs : Option StoreChange) (pips : List Pip) (line : Option GraphLine) → ReadOf input bytes
+    → TellsLine order bytes graphs pips line → TellsLine order input graphs pips line
+line_whole order input bytes graphs pips line r t = elim r.whole [
+  | inl is ↦ subst (λ (i : List ℕ). TellsLine order i graphs pips line) is t
+  | inr long ↦ long_line (asks_graphs order) (uses_store order) graphs (limits_of order) bytes input pips line long.1 t
+]
+
+long_keeps : (graphs : Option StoreChange) (limits : Limits) (input : List ℕ) → IsLong input → KeepsOfInput graphs limits input
+long_keeps None limits input h = tt
+long_keeps (Some change) limits input h = λ sources are. absurd (not_long input h are.bundle.whole)
+
+-- what was put is what the input makes
+pub keeps_whole : (graphs : Option StoreChange) (limits : Limits) (input bytes : List ℕ) → ReadOf input bytes → KeepsOfInput graphs limits bytes
+    → KeepsOfInput graphs limits input
+keeps_whole graphs limits input bytes r kept = elim r.whole [
+  | inl is ↦ subst (λ (i : List ℕ). KeepsOfInput graphs limits i) is kept
+  | inr long ↦ long_keeps graphs limits input long.1
 ]
 
 came_whole : (limits : Limits) (input bytes : List ℕ) (held : Holdings) (before now : StoreTold) → ReadOf input bytes
@@ -226,10 +290,20 @@ asked_whole limits input bytes pips r h = elim r.whole [
   | inr long ↦ absurd (not_long bytes long.0 h.1.bundle.whole)
 ]
 
+rules_whole : (input bytes : List ℕ) (pips : List Pip) → ReadOf input bytes → KeepRulesOf bytes pips → KeepRulesOf input pips
+rules_whole input bytes pips r h = elim r.whole [
+  | inl is ↦ subst (λ (i : List ℕ). KeepRulesOf i pips) is h
+  | inr long ↦ absurd (not_long bytes long.0 h.1.bundle.whole)
+]
+
 pub shown_whole : (call : Call) (input bytes : List ℕ) (order : Order) → ReadOf input bytes → IsShown call bytes order → IsShown call input order
 shown_whole call input bytes order read s = record {
   gone = s.gone;
-  asked = asked_whole (limits_of order) input bytes s.gone.pips read s.asked;
+  asked = λ fair.
+      asked_whole (limits_of order) input bytes s.gone.pips read
+      (s.asked (λ hit. graphs_read call.graphs (uses_graphs order) (limits_of order) input bytes read (fair hit)));
+  rules = rules_whole input bytes s.gone.pips read s.rules;
+  line = line_whole order input bytes call.graphs s.gone.pips s.gone.counts.graph read s.line;
   status_is = s.status_is;
   written = s.written;
   noted = s.noted;

@@ -1,6 +1,6 @@
 -- What was seen of a call of the engine.
-use Rattle.std.specs.Prelude.{ℕ, Bool, List, Option}
-use Rattle.bx_io.specs.Holdings.{StoreTold}
+use Rattle.std.specs.Prelude.{ℕ, Bool, List, Option, Some, None}
+pub use Rattle.bx_engine_front.specs.StoreChanges.{StoreChange, change_of}
 use Rattle.bx_engine.specs.declared.status.Status.{Status}
 
 -- the bytes that a source gave and those that it told to be left, before a call and after it, whether the end was what
@@ -40,30 +40,15 @@ written_of before now faults_before faults_now = record {
   faults_now = faults_now;
 }
 
--- what a store told, how often its readers may fail, and its count of faults, before a call and after it
-pub record StoreChange : Type 0 where
-  pub before : StoreTold
-  pub now : StoreTold
-  pub bound : Option ℕ
-  pub faults_before : ℕ
-  pub faults_now : ℕ
-
-abbrev pub change_of : StoreTold → StoreTold → Option ℕ → ℕ → ℕ → StoreChange
-change_of before now bound faults_before faults_now = record {
-  before = before;
-  now = now;
-  bound = bound;
-  faults_before = faults_before;
-  faults_now = faults_now;
-}
-
--- a call: its status, what its source gave, what was written to the output and to the notes, and the store
+-- A call: its status, what its source gave, what was written to the output and to the notes, the store, and the store of
+-- graphs, where it was given one.
 pub record Call : Type 0 where
   pub status : Status
   pub source : Given
   pub out : Written
   pub notes : Written
   pub store : StoreChange
+  pub graphs : Option StoreChange
 
 abbrev pub call_of : Status → Given → Written → Written → StoreChange → Call
 call_of status source out notes store = record {
@@ -72,4 +57,15 @@ call_of status source out notes store = record {
   out = out;
   notes = notes;
   store = store;
+  graphs = None;
+}
+
+abbrev pub graph_call_of : Status → Given → Written → Written → StoreChange → StoreChange → Call
+graph_call_of status source out notes store graphs = record {
+  status = status;
+  source = source;
+  out = out;
+  notes = notes;
+  store = store;
+  graphs = Some graphs;
 }

@@ -1,5 +1,5 @@
 -- What the notes of a build count, and what a build writes whatever its store.
-use Rattle.std.specs.Prelude.{◌≡◌, ◌⊎◌, ℕ, ◌+◌, ◌*◌, ◌≤◌, Bool, true, false, List, [], ◌∷◌, ◌++◌, length, Some}
+use Rattle.std.specs.Prelude.{◌≡◌, ◌⊎◌, ℕ, ◌+◌, ◌*◌, ◌≤◌, Bool, true, false, List, [], ◌∷◌, ◌++◌, length, Option, Some}
 use Rattle.std.specs.Prelude.{if◌then◌else◌}
 use Rattle.std.specs.List.{list_all}
 use Rattle.bx_tree.specs.Bundle.{bundle}
@@ -10,6 +10,7 @@ use Rattle.bx_engine_words.specs.declared.order.Order.{Order}
 use Rattle.build_report.specs.Notes.{notes_text}
 use Rattle.build_report.specs.Reports.{report_text}
 use Rattle.build_report.specs.declared.counts.Counts.{Counts}
+use Rattle.build_report.specs.declared.counts.GraphLine.TheVariants.{Hit}
 use Rattle.pip_model_types.specs.declared.pip.Pip.{Pip}
 use Rattle.one_thread.specs.OneThread.{Result, run_count, verdicts_of}
 use Rattle.retire.specs.Builds.{LeavesUsable}
@@ -21,7 +22,7 @@ use Rattle.bx_engine.specs.Known.{Appends}
 use Rattle.bx_engine.specs.Ending.{Ending, InputRefused, SpecificationRefused, Built, report_path, status_of}
 use Rattle.bx_engine.specs.Ends.{AreSources, Ends}
 use Rattle.bx_engine.specs.Expected.{AppendsOrFails, limits_of}
-use Rattle.bx_engine.specs.Stores.{AsksFor, uses_store}
+use Rattle.bx_engine.specs.Stores.{AsksFor, FairGraphStore, KeepRulesOf, TellsLine, uses_store}
 use Rattle.bx_engine.specs.declared.status.Status.{Status}
 use Rattle.bx_engine.specs.declared.status.Status.TheVariants as statuses
 
@@ -67,11 +68,15 @@ abbrev pub gone_output : List Pip → List Verdict → Files → List ℕ
 gone_output pips verdicts files =
     bundle (given_files verdicts files ++ (report_path, report_text pips verdicts) ∷ [])
 
--- The status, the output and the notes of a call are those of pips that were gone through, and that the input asks
--- for.
+-- The status, the output and the notes of a call are those of pips that were gone through, which keep all rules of the
+-- graph, and that the input asks for, if the store of graphs is fair where they were taken from it. A line of the notes
+-- says where the pips came from.
 pub record IsShown (call : Call) (input : List ℕ) (order : Order) : Type 0 where
   pub gone : Gone (uses_store order) (workers_in order) call.store
-  pub asked : AsksFor (limits_of order) input gone.pips
+  pub asked : (gone.counts.graph ≡ Some Hit → FairGraphStore order input call.graphs)
+      → AsksFor (limits_of order) input gone.pips
+  pub rules : KeepRulesOf input gone.pips
+  pub line : TellsLine order input call.graphs gone.pips gone.counts.graph
   pub status_is : call.status ≡ gone_status gone.verdicts
   pub written : Appends call.out.before call.out.now (gone_output gone.pips gone.verdicts gone.files)
   pub noted : AppendsNoted (notes_text gone.counts) call.notes
@@ -91,31 +96,31 @@ pub record CountsOf (cached : Bool) (workers : ℕ) (pips : List Pip) (tree : Fi
   pub usable : cached ≡ true → counts.faults ≡ 0 → LeavesUsable pips tree budget change.now
 
 -- These are the notes of an input that ends so: none of one that is refused, and the counts of a build.
-abbrev pub NotesOf : Order → List ℕ → StoreChange → Ending → List ℕ → Type 0
-NotesOf order input change (InputRefused fault) text = text ≡ []
-NotesOf order input change (SpecificationRefused refusal) text = text ≡ []
-NotesOf order input change (Built pips results) text =
+abbrev pub NotesOf : Order → List ℕ → StoreChange → Option StoreChange → Ending → List ℕ → Type 0
+NotesOf order input change graphs (InputRefused fault) text = text ≡ []
+NotesOf order input change graphs (SpecificationRefused refusal) text = text ≡ []
+NotesOf order input change graphs (Built pips results) text =
     (sources : Files) × AreSources input sources × (counts : Counts)
     × CountsOf (uses_store order) (workers_in order) pips sources (limits_of order).tool_budget results change counts
-    × (text ≡ notes_text counts)
+    × TellsLine order input graphs pips counts.graph × (text ≡ notes_text counts)
 
 -- These are the notes of an order on this input, where it has this status.
-pub record IsNoted (order : Order) (input : List ℕ) (change : StoreChange) (status : Status) (text : List ℕ)
-    : Type 0 where
+pub record IsNoted (order : Order) (input : List ℕ) (change : StoreChange) (graphs : Option StoreChange) (status : Status)
+    (text : List ℕ) : Type 0 where
   pub ending : Ending
   pub ends : Ends (limits_of order) input ending
   pub status_is : status ≡ status_of ending
-  pub text_is : NotesOf order input change ending text
+  pub text_is : NotesOf order input change graphs ending text
 
 -- those notes of a call were appended, or a prefix of them and the sink's count of faults rose
 pub record AppendsNotes (call : Call) (input : List ℕ) (order : Order) : Type 0 where
   pub text : List ℕ
-  pub noted : IsNoted order input call.store call.status text
+  pub noted : IsNoted order input call.store call.graphs call.status text
   pub appended : AppendsNoted text call.notes
 
 -- ## Without a store
 
--- These two texts of notes have the same hits, runs and store faults.
+-- These two texts of notes have the same hits, runs and store faults, and say the same of where the pips came from.
 pub record HaveSameRuns (m n : List ℕ) : Type 0 where
   pub first : Counts
   pub second : Counts
@@ -124,6 +129,7 @@ pub record HaveSameRuns (m n : List ℕ) : Type 0 where
   pub hits : first.hits ≡ second.hits
   pub ran : first.ran ≡ second.ran
   pub faults : first.faults ≡ second.faults
+  pub graph : first.graph ≡ second.graph
 
 -- They are the same, or differ in their late runs and starved workers at most.
 abbrev pub TellSameRuns : List ℕ → List ℕ → Type 0

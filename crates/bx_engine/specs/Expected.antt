@@ -23,7 +23,7 @@ no_steps = record { eval_budget = 0; tool_budget = 0; types = false }
 
 -- the steps that an order allows a build, and whether it asks for its types; nothing else of it changes what is built
 abbrev pub limits_of : Order → Limits
-limits_of (Build workers cached eval_budget tool_budget types) = record {
+limits_of (Build workers cached eval_budget tool_budget types graphs) = record {
   eval_budget = eval_budget;
   tool_budget = tool_budget;
   types = types;

@@ -3,7 +3,8 @@
 -- For every input, every honest store, every number of workers and every interleaving of their events, if there is no
 -- hash collision among the contents compared, the build writes exactly the bytes and gives exactly the status of the
 -- sequential build that uses no cache, unless it runs out of memory or the source or the sink failed; and the store
--- that it leaves is honest.
+-- that it leaves is honest. Where pips may be taken from a store of graphs, that is so for every honest one, and it is
+-- left honest.
 use Rattle.std.specs.Prelude.{◌≡◌, ◌⊎◌, ℕ, List, Some}
 use Rattle.bx_io.specs.Causes.{Rose}
 use Rattle.bx_io.specs.Holdings.{Holdings, held_in}
@@ -11,6 +12,7 @@ use Rattle.bx_engine_words.specs.declared.order.Order.{Order}
 use Rattle.two_phase_meaning.specs.Honest.{Honest}
 use Rattle.bx_engine.specs.Calls.{Call}
 use Rattle.bx_engine.specs.Expected.{Answers, Begins}
+use Rattle.bx_engine.specs.Graphs.{HonestGraphsLeft}
 use Rattle.bx_engine.specs.Known.{IsInput, IsReadOut}
 use Rattle.bx_engine.specs.Statuses.{IsWhole}
 use Rattle.bx_engine.specs.Stores.{FairStore}
@@ -23,9 +25,9 @@ pub record Headline (call : Call)
     -- every number of workers, of which neither the expected status nor the expected bytes know anything, so that all
     -- interleavings of their events come to the same,
     (order : Order)
-    -- and every honest store of which no answer disagreed with what it told, if there is no hash collision among the
-    -- contents compared:
-    (fair : FairStore order input (held_in call.store.before) (held_in call.store.now))
+    -- and every honest store and honest store of graphs of which no answer disagreed with what they told, if there is no
+    -- hash collision among the contents compared:
+    (fair : FairStore order input (held_in call.store.before) (held_in call.store.now) call.graphs)
     : Type 0 where
   -- the build reads the source to its end, or to one byte past the limit on inputs,
   pub read : IsWhole call.status ⊎ (call.status ≡ statuses.OutFailed) → IsReadOut call.source
@@ -42,13 +44,14 @@ pub record Headline (call : Call)
   -- there is no other status;
   pub status : IsWhole call.status ⊎ (call.status ≡ statuses.OutOfMemory) ⊎ (call.status ≡ statuses.SourceFailed)
       ⊎ (call.status ≡ statuses.OutFailed)
-  -- and the store that it leaves is honest.
+  -- and the stores that it leaves are honest.
   pub honest : (held now : Holdings) → held_in call.store.before ≡ Some held → Honest held
       → held_in call.store.now ≡ Some now → Honest now
+  pub honest_graphs : HonestGraphsLeft call.graphs
 
 -- A call keeps the headline where the words come to one of these orders.
 abbrev pub KeepsHeadline : (Order → Type 0) → Call → Type 0
 KeepsHeadline asked call =
     (order : Order) (input : List ℕ) → asked order → IsInput call.source input
-    → (fair : FairStore order input (held_in call.store.before) (held_in call.store.now))
+    → (fair : FairStore order input (held_in call.store.before) (held_in call.store.now) call.graphs)
     → Headline call input order fair

@@ -2,8 +2,10 @@ pub mod Ending
 pub mod Ends
 pub mod Expected
 pub mod Calls
+pub mod Graphs
 pub mod Known
 pub mod Stores
+pub mod TreeGraphs
 pub mod Crews
 pub mod Counting
 pub mod OutputTrees

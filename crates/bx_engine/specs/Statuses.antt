@@ -33,6 +33,11 @@ IsRefusal status = (status ≡ statuses.InputRefused) ⊎ (status ≡ statuses.S
 abbrev pub HasNoBuild : Status → Type 0
 HasNoBuild status = (status ≡ statuses.NoCommand) ⊎ (status ≡ statuses.SourceFailed) ⊎ IsRefusal status
 
+-- no tree of source files was read
+abbrev pub HasNoTree : Status → Type 0
+HasNoTree status =
+    (status ≡ statuses.NoCommand) ⊎ (status ≡ statuses.SourceFailed) ⊎ (status ≡ statuses.InputRefused)
+
 -- nothing was written to `out`
 abbrev pub IsSilent : Status → Type 0
 IsSilent status =

@@ -2,6 +2,7 @@
 use Rattle.std.specs.Prelude.{◌≡◌, ◌⊎◌, ℕ}
 use Rattle.bx_engine_generate.specs.Generated.{generated}
 use Rattle.bx_engine.specs.Calls.{Call, Written}
+use Rattle.bx_engine.specs.Graphs.{SameGraphs}
 use Rattle.bx_engine.specs.Known.{Appends, AppendsPrefix}
 use Rattle.bx_engine.specs.declared.status.Status.{Status}
 use Rattle.bx_engine.specs.declared.status.Status.TheVariants as statuses
@@ -20,3 +21,4 @@ pub record OfGen (seed pips : ℕ) (call : Call) : Type 0 where
   pub unasked : call.source.now ≡ call.source.before
   pub untold : call.notes.now ≡ call.notes.before
   pub unkept : call.store.now ≡ call.store.before
+  pub no_graphs : SameGraphs call.graphs

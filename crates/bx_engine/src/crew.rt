@@ -284,9 +284,8 @@ fn work_with<
     Ok(Crewed { finished, worked })
 }
 
-/// Lets so many workers work on a plan, before its results are collected: each pip has a slot afterwards, whatever is in it.
-/// The keeper is asked for a reader for each worker, where the store is used, and is not changed.
-pub(crate) fn work_ahead<H: Threads + Wait + Sync, K: Keeper, G: Gate>(
+// Lets exactly so many workers work on a plan.
+fn work_as<H: Threads + Wait + Sync, K: Keeper, G: Gate>(
     rt: &H,
     alloc: Global,
     plan: &Arc<Plan>,
@@ -307,4 +306,38 @@ pub(crate) fn work_ahead<H: Threads + Wait + Sync, K: Keeper, G: Gate>(
     work_with::<Brand, Brand, H, K, G>(
         rt, alloc, events, marks, plan, sources, workers, keeper, gate, cached,
     )
+}
+
+// How many of so many workers are of use: one for each pip at most, and one at least.
+fn useful(workers: u32, pips: usize) -> u32
+    requires { 0 < workers }
+    ensures some { 0 < result }
+    ensures few { result ≤ workers }
+{
+    match u32::try_from(pips) {
+        Ok(pips) => workers.min(pips.max(1)),
+        Err(_) => workers,
+    }
+}
+
+/// Lets workers work on a plan, so many at most and no more than it has pips, before its results are collected: each pip has a
+/// slot afterwards, whatever is in it. The keeper is asked for a reader for each worker, where the store is used, and is not
+/// changed.
+pub(crate) fn work_ahead<H: Threads + Wait + Sync, K: Keeper, G: Gate>(
+    rt: &H,
+    alloc: Global,
+    plan: &Arc<Plan>,
+    sources: &Arc<Sources>,
+    workers: u32,
+    keeper: &K,
+    gate: &G,
+    cached: bool,
+) -> Result<Crewed, Memory>
+    requires workers { (0 < workers) × (workers ≤ MAX_WORKERS) }
+    ensures slots { IfOk result (λ left. length left.finished.slots.items ≡ length (arc_value plan.now).pips) }
+    ensures through { IfOk result (λ left. AreThrough cached (K.bound keeper.now) workers left.worked.faults
+        left.worked.starved) }
+{
+    let crew = useful(workers, plan.pips().len());
+    work_as(rt, alloc, plan, sources, crew, keeper, gate, cached)
 }

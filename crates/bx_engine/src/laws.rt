@@ -1,6 +1,6 @@
 //! Laws of what a build comes to.
 
-ghost use Rattle.std.specs.Prelude.{◌≡◌, ℕ, List, false};
+ghost use Rattle.std.specs.Prelude.{◌≡◌, ℕ, List, Option, false};
 ghost use Rattle.bx_engine_front.specs.declared.limits.Limits.{Limits as AnyLimits};
 ghost use Rattle.bx_engine_words.specs.declared.order.Order.{Order as AnyOrder};
 ghost use Rattle.bx_engine.specs.Calls.{StoreChange};
@@ -28,8 +28,9 @@ pub fn one_end()
         → IsExpected limits input r a → IsExpected limits input s b → r ≡ s }
     ensures bytes { (limits : AnyLimits) (input : List ℕ) (r s : Status) (a b : List ℕ)
         → IsExpected limits input r a → IsExpected limits input s b → a ≡ b }
-    ensures notes { (order : AnyOrder) (input : List ℕ) (c d : StoreChange) (r s : Status) (m n : List ℕ)
-        → uses_store order ≡ false → IsNoted order input c r m → IsNoted order input d s n → TellSameRuns m n }
+    ensures notes { (order : AnyOrder) (input : List ℕ) (c d : StoreChange) (g h : Option StoreChange)
+        (r s : Status) (m n : List ℕ) → uses_store order ≡ false → IsNoted order input c g r m
+        → IsNoted order input d h s n → TellSameRuns m n }
     ensures endless { (limits : AnyLimits) (input : List ℕ) (e : Ending)
         → IsEndless limits input → Ends limits input e → ⊥ }
 {

@@ -1,10 +1,10 @@
-//! How much of the source a build reads, how long it may run, with how many workers, whether types are checked, and whether the
-//! store is used.
+//! How much of the source a build reads, how long it may run, with how many workers, whether types are checked, and which
+//! stores it uses.
 
 ghost use Rattle.std.specs.Prelude.{◌≡◌};
 ghost use Rattle.bx_engine.specs.Expected.{limits_of as limits_of_order};
-ghost use Rattle.bx_engine.specs.Stores.{uses_store};
-ghost use Rattle.bx_engine_words.specs.Words.{workers_in};
+ghost use Rattle.bx_engine.specs.Stores.{uses_graphs as uses_graphs_in, uses_store};
+ghost use Rattle.bx_engine_words.specs.Words.{asks_graphs as asks_graphs_in, workers_in};
 
 use bx_engine_front::Limits;
 use bx_engine_words::Order;
@@ -49,6 +49,23 @@ pub(crate) fn is_cached(order: &Order) -> bool
         Order::Check | Order::Repair | Order::Trim { .. } => true,
         Order::Gen { .. } => false,
     }
+}
+
+/// Whether an order asks for the store of graphs.
+pub(crate) fn asks_graphs(order: &Order) -> bool
+    ensures { result ≡ asks_graphs_in order.now }
+{
+    match order {
+        Order::Build { graphs, .. } => *graphs,
+        Order::Check | Order::Repair | Order::Trim { .. } | Order::Gen { .. } => false,
+    }
+}
+
+/// Whether an order lets the call use the store of graphs.
+pub(crate) fn uses_graphs(order: &Order) -> bool
+    ensures { result ≡ uses_graphs_in order.now }
+{
+    asks_graphs(order) && is_cached(order)
 }
 
 /// How many workers an order asks for.

@@ -18,17 +18,18 @@ ghost use Rattle.bx_engine.specs.Ending as endings;
 ghost use Rattle.bx_engine.specs.Expected.{limits_of};
 ghost use Rattle.bx_engine.specs.Responses.{IsBuildResponse, IsReportOf, IsResponseOf, IsResponseTo};
 ghost use Rattle.bx_engine.specs.Responses.{IsResponseToBundle, IsResponseToFault, Responds, counts_in};
-ghost use Rattle.bx_engine.specs.Statuses.{IsRefusal};
-ghost use Rattle.bx_engine.specs.Stores.{FairStore, StoreLeft, uses_store};
+ghost use Rattle.bx_engine.specs.Graphs.{KeepsGraphs, KeepsOfInput, LeavesGraphs};
+ghost use Rattle.bx_engine.specs.Statuses.{HasNoTree, IsRefusal};
+ghost use Rattle.bx_engine.specs.Stores.{FairGraphStore, FairStore, StoreLeft, uses_graphs, uses_store};
 ghost use Rattle.bx_engine_words.specs.Words.{HasCrew};
 
 use crate::crew::{Crewed, Worked, work_ahead};
 use crate::fault::{InputFault, input_name};
 use crate::limits::{is_cached, workers_of};
 use crate::output::output;
-use crate::planning::front;
+use crate::planning::plan_for;
 use crate::status::Status;
-use build_report::{Counts, all_succeeded, notes, refused_report, report};
+use build_report::{Counts, GraphLine, all_succeeded, notes, refused_report, report};
 use bx_engine_front::{FrontFault, Refusal};
 use bx_engine_words::Order;
 use bx_io::{Gate, Keeper};
@@ -104,10 +105,10 @@ fn files_if(good: bool, outputs: &Made) -> &[MadeFile]
     if good { outputs.files() } else { &[] }
 }
 
-// The counts of a build, of its workers and of what came after them.
-fn counts(tally: RetireTally, worked: Worked) -> Counts
-    ensures counts { result ≡ counts_in tally worked }
-    ensures more { tally.faults ≤ (counts_in tally worked).faults }
+// The counts of a build, of its workers and of what came after them, and where its pips came from.
+fn counts(tally: RetireTally, worked: Worked, line: Option<GraphLine>) -> Counts
+    ensures counts { result ≡ counts_in tally worked line }
+    ensures more { tally.faults ≤ (counts_in tally worked line).faults }
 {
     Counts {
         hits: tally.hits,
@@ -115,18 +116,25 @@ fn counts(tally: RetireTally, worked: Worked) -> Counts
         late: tally.late,
         faults: tally.faults.saturating_add(worked.faults),
         starved: worked.starved,
+        graph: line,
     }
 }
 
 // The response of a build whose pips were gone through.
-fn show(alloc: Global, plan: &Plan, retired: &Retired, worked: Worked) -> Result<Response, Memory>
+fn show(
+    alloc: Global,
+    plan: &Plan,
+    retired: &Retired,
+    worked: Worked,
+    line: Option<GraphLine>,
+) -> Result<Response, Memory>
     requires { length retired.now.verdicts.items ≡ length plan.now.pips }
-    ensures shown { IfOk result (IsResponseOf plan.now.pips retired.now worked) }
-    ensures faults { retired.now.tally.faults ≤ (counts_in retired.now.tally worked).faults }
+    ensures shown { IfOk result (IsResponseOf plan.now.pips retired.now worked line) }
+    ensures faults { retired.now.tally.faults ≤ (counts_in retired.now.tally worked line).faults }
     ensures paths { OnOk result (AllByRecursion IsPath (paths_of (given_files retired.now.verdicts.items
         retired.now.outputs))) }
 {
-    let counts = counts(retired.tally, worked);
+    let counts = counts(retired.tally, worked, line);
     let verdicts = retired.verdicts.as_slice();
     let good = all_succeeded(verdicts);
     let report = report(alloc, plan, verdicts)?;
@@ -145,6 +153,7 @@ fn collect<K: Keeper, G: Gate>(
     plan: &Plan,
     sources: &Sources,
     crewed: Crewed,
+    line: Option<GraphLine>,
     keeper: &mut K,
     gate: &G,
     cached: bool,
@@ -155,7 +164,7 @@ fn collect<K: Keeper, G: Gate>(
         → AreThrough cached (K.bound keeper.old) workers crewed.worked.faults crewed.worked.starved
         → IfOk result (IsBuildResponse plan.now.pips sources.now plan.now.tool_budget cached workers
         (change_of (K.known keeper.old) (K.known keeper.new) (K.bound keeper.old) (K.faults keeper.old)
-        (K.faults keeper.new))) }
+        (K.faults keeper.new)) line) }
     ensures left { (held : Holdings) → held_in (K.known keeper.old) ≡ Some held
         → IsSome (held_in (K.known keeper.new))
         → IsFair plan.now.pips sources.now plan.now.tool_budget held
@@ -168,7 +177,7 @@ fn collect<K: Keeper, G: Gate>(
 {
     let Crewed { finished, worked } = crewed;
     let retired = retire(alloc, plan, sources, keeper, finished, gate, cached)?;
-    let response = show(alloc, plan, &retired, worked);
+    let response = show(alloc, plan, &retired, worked, line);
     forget(retired);
     response
 }
@@ -181,6 +190,7 @@ fn build_plan<H: Threads + Wait + Sync, K: Keeper, G: Gate>(
     plan: Plan,
     sources: Sources,
     workers: u32,
+    line: Option<GraphLine>,
     keeper: &mut K,
     gate: &G,
     cached: bool,
@@ -189,7 +199,7 @@ fn build_plan<H: Threads + Wait + Sync, K: Keeper, G: Gate>(
     requires workers { (0 < workers) × (workers ≤ MAX_WORKERS) }
     ensures response { IfOk result (IsBuildResponse plan.pips sources plan.tool_budget cached workers
         (change_of (K.known keeper.old) (K.known keeper.new) (K.bound keeper.old) (K.faults keeper.old)
-        (K.faults keeper.new))) }
+        (K.faults keeper.new)) line) }
     ensures left { (held : Holdings) → held_in (K.known keeper.old) ≡ Some held
         → IsSome (held_in (K.known keeper.new))
         → IsFair plan.pips sources plan.tool_budget held
@@ -203,46 +213,65 @@ fn build_plan<H: Threads + Wait + Sync, K: Keeper, G: Gate>(
     let plans = Arc::new(alloc, plan)?;
     let files = Arc::new(alloc, sources)?;
     let crewed = work_ahead(rt, alloc, &plans, &files, workers, &*keeper, gate, cached)?;
-    let response = collect(alloc, &*plans, &*files, crewed, keeper, gate, cached);
+    let response = collect(alloc, &*plans, &*files, crewed, line, keeper, gate, cached);
     forget(plans);
     forget(files);
     response
 }
 
 // The response to a source tree.
-fn respond_tree<H: Threads + Wait + Sync, K: Keeper, G: Gate>(
+fn respond_tree<H: Threads + Wait + Sync, K: Keeper, M: Keeper, G: Gate>(
     rt: &H,
     alloc: Global,
     tree: Tree,
     order: &Order,
     keeper: &mut K,
+    graphs: &mut M,
     gate: &G,
 ) -> Result<Response, Memory>
     requires size { IsInSize tree }
     requires crew { HasCrew order.now }
     ensures response { (input : List ℕ) → IsBundle input tree → IfOk result (Responds order.now input
         (change_of (K.known keeper.old) (K.known keeper.new) (K.bound keeper.old) (K.faults keeper.old)
-        (K.faults keeper.new))) }
+        (K.faults keeper.new))
+        (Some (change_of (M.known graphs.old) (M.known graphs.new) (M.bound graphs.old) (M.faults graphs.old)
+        (M.faults graphs.new)))) }
     ensures kept { IfOk result (λ response. IsRefusal response.status → keeper.new ≡ keeper.old) }
     ensures left { (input : List ℕ) (held : Holdings) → IsBundle input tree
         → held_in (K.known keeper.old) ≡ Some held → Honest held
         → FairStore order.now input (held_in (K.known keeper.old)) (held_in (K.known keeper.new))
+        (Some (change_of (M.known graphs.old) (M.known graphs.new) (M.bound graphs.old) (M.faults graphs.old)
+        (M.faults graphs.new)))
         → StoreLeft (limits_of order.now) input held (K.known keeper.old) (K.known keeper.new) }
+    ensures graphs_kept { (input : List ℕ) → IsBundle input tree
+        → KeepsOfInput (Some (change_of (M.known graphs.old) (M.known graphs.new) (M.bound graphs.old) (M.faults graphs.old)
+        (M.faults graphs.new))) (limits_of order.now) input }
+    ensures graphs_left { (input : List ℕ) → IsBundle input tree
+        → FairGraphStore order.now input (Some (change_of (M.known graphs.old) (M.known graphs.new) (M.bound graphs.old) (M.faults graphs.old)
+        (M.faults graphs.new)))
+        → LeavesGraphs (Some (change_of (M.known graphs.old) (M.known graphs.new) (M.bound graphs.old) (M.faults graphs.old)
+        (M.faults graphs.new))) }
     ensures untouched { uses_store order.now ≡ false → keeper.new ≡ keeper.old }
+    ensures no_graphs { uses_graphs order.now ≡ false → graphs.new ≡ graphs.old }
+    ensures no_tree { IfOk result (λ response. HasNoTree response.status → graphs.new ≡ graphs.old) }
     ensures puts { OnlyPuts (K.known keeper.old) (K.known keeper.new) }
+    ensures graph_puts { KeepsGraphs (change_of (M.known graphs.old) (M.known graphs.new) (M.bound graphs.old) (M.faults graphs.old)
+        (M.faults graphs.new)) }
     ensures bound { K.bound keeper.new ≡ K.bound keeper.old }
+    ensures graph_bound { M.bound graphs.new ≡ M.bound graphs.old }
     ensures later { K.faults keeper.old ≤ K.faults keeper.new }
 {
     if reserved(&tree) {
         return refuse_input(alloc, InputFault::Reserved);
     }
-    match front(alloc, tree, order) {
-        Ok(end) => build_plan(
+    match plan_for(alloc, tree, order, graphs) {
+        Ok(planned) => build_plan(
             rt,
             alloc,
-            end.plan,
-            end.sources,
+            planned.end.plan,
+            planned.end.sources,
             workers_of(order),
+            planned.line,
             keeper,
             gate,
             is_cached(order),
@@ -267,28 +296,46 @@ fn refuse_bundle(alloc: Global, fault: BundleFault) -> Result<Response, Memory>
 }
 
 /// What a build of this input comes to.
-pub(crate) fn respond<H: Threads + Wait + Sync, K: Keeper, G: Gate>(
+pub(crate) fn respond<H: Threads + Wait + Sync, K: Keeper, M: Keeper, G: Gate>(
     rt: &H,
     alloc: Global,
     input: &[u8],
     order: &Order,
     keeper: &mut K,
+    graphs: &mut M,
     gate: &G,
 ) -> Result<Response, Memory>
     requires crew { HasCrew order.now }
-    ensures response { IfOk result (Responds order.now input.now (change_of (K.known keeper.old)
-        (K.known keeper.new) (K.bound keeper.old) (K.faults keeper.old) (K.faults keeper.new))) }
+    ensures response { IfOk result (Responds order.now input.now
+        (change_of (K.known keeper.old) (K.known keeper.new) (K.bound keeper.old) (K.faults keeper.old)
+        (K.faults keeper.new))
+        (Some (change_of (M.known graphs.old) (M.known graphs.new) (M.bound graphs.old) (M.faults graphs.old)
+        (M.faults graphs.new)))) }
     ensures kept { IfOk result (λ response. IsRefusal response.status → keeper.new ≡ keeper.old) }
     ensures left { (held : Holdings) → held_in (K.known keeper.old) ≡ Some held → Honest held
         → FairStore order.now input.now (held_in (K.known keeper.old)) (held_in (K.known keeper.new))
+        (Some (change_of (M.known graphs.old) (M.known graphs.new) (M.bound graphs.old) (M.faults graphs.old)
+        (M.faults graphs.new)))
         → StoreLeft (limits_of order.now) input.now held (K.known keeper.old) (K.known keeper.new) }
+    ensures graphs_kept { KeepsOfInput (Some (change_of (M.known graphs.old) (M.known graphs.new) (M.bound graphs.old)
+        (M.faults graphs.old) (M.faults graphs.new))) (limits_of order.now) input.now }
+    ensures graphs_left { FairGraphStore order.now input.now
+        (Some (change_of (M.known graphs.old) (M.known graphs.new) (M.bound graphs.old) (M.faults graphs.old)
+        (M.faults graphs.new)))
+        → LeavesGraphs (Some (change_of (M.known graphs.old) (M.known graphs.new) (M.bound graphs.old) (M.faults graphs.old)
+        (M.faults graphs.new))) }
     ensures untouched { uses_store order.now ≡ false → keeper.new ≡ keeper.old }
+    ensures no_graphs { uses_graphs order.now ≡ false → graphs.new ≡ graphs.old }
+    ensures no_tree { IfOk result (λ response. HasNoTree response.status → graphs.new ≡ graphs.old) }
     ensures puts { OnlyPuts (K.known keeper.old) (K.known keeper.new) }
+    ensures graph_puts { KeepsGraphs (change_of (M.known graphs.old) (M.known graphs.new) (M.bound graphs.old) (M.faults graphs.old)
+        (M.faults graphs.new)) }
     ensures bound { K.bound keeper.new ≡ K.bound keeper.old }
+    ensures graph_bound { M.bound graphs.new ≡ M.bound graphs.old }
     ensures later { K.faults keeper.old ≤ K.faults keeper.new }
 {
     match read_bundle(alloc, input) {
-        Ok(tree) => respond_tree(rt, alloc, tree, order, keeper, gate),
+        Ok(tree) => respond_tree(rt, alloc, tree, order, keeper, graphs, gate),
         Err(fault) => refuse_bundle(alloc, fault),
     }
 }

@@ -5,3 +5,4 @@ pub mod OnePlan
 pub mod SomePlan
 pub mod Passes
 pub mod TypedTrees
+pub mod GraphPlans

@@ -10,8 +10,8 @@ use Rattle.dscript_names_scopes.specs.Declarations.{ParsedData}
 use Rattle.dscript_names_workspace.proofs.OneAnswer.{one_answer}
 use Rattle.dscript_names_workspace.specs.Finding.{Finds}
 use Rattle.dscript_names_workspace.specs.Workspaces.{Found, Refused}
-use Rattle.bx_engine_front.specs.Names.{AreParsed}
-use Rattle.bx_engine_front.specs.Projects.{IsFirstProjectFault, project_files}
+use Rattle.dscript_names.specs.ProjectFiles.{AreParsed, project_files}
+use Rattle.bx_engine_front.specs.Projects.{IsFirstProjectFault}
 use Rattle.bx_engine_front.specs.Specifications.{HasModules, IsMalformed, IsProgram}
 use Rattle.bx_engine_front.proofs.ProjectFaults.{fault_or_none, one_first_fault, one_parsing, parsed_well}
 
@@ -26,7 +26,7 @@ same_refusal f g e = cc
 not_both : (m : List ModuleData) (f : FaultData) → Found m ≡ Refused f → ⊥
 not_both m f e = cc
 
-one_workspace : (tree : Files) (m n : List ModuleData) → Finds tree (Found m) → Finds tree (Found n) → m ≡ n
+pub one_workspace : (tree : Files) (m n : List ModuleData) → Finds tree (Found m) → Finds tree (Found n) → m ≡ n
 one_workspace tree m n h k = same_modules m n (one_answer tree (Found m) (Found n) h k)
 
 found_or_refused : (tree : Files) (m : List ModuleData) (f : FaultData) → Finds tree (Found m) → Finds tree (Refused f) → ⊥

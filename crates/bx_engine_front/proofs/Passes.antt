@@ -26,11 +26,11 @@ use Rattle.graph_check.specs.declared.fault.GraphFault.{GraphFault}
 use Rattle.graph_check.specs.declared.fault.GraphFault.TheVariants as graph_faults
 use Rattle.pip_model_types.specs.declared.pip.Pip.{Pip}
 use Rattle.bx_engine_front.specs.FileFaults.{RefusesFiles, RefusesTree}
-use Rattle.bx_engine_front.specs.Faults.{IsRefusal, IsRefused, ShowsEvaluation, ShowsFile, ShowsRule, ShowsTypes}
-use Rattle.bx_engine_front.specs.Names.{AreParsed}
-use Rattle.bx_engine_front.specs.Projects.{IsShort, is_among, paths_of_modules, project_files}
+use Rattle.bx_engine_front.specs.Faults.{IsOfRule, IsRefusal, IsRefused, ShowsEvaluation, ShowsFile, ShowsRule, ShowsTypes}
+use Rattle.dscript_names.specs.ProjectFiles.{AreParsed, is_among, paths_of_modules, project_files}
+use Rattle.bx_engine_front.specs.Projects.{IsShort}
 use Rattle.bx_engine_front.specs.Refusals.{refusal_of}
-use Rattle.bx_engine_front.specs.Specifications.{HasFault, IsProgram, MakesPips, PassesTypes, Plans, SpecificationFault, OfProgram, OfTypes, OfEvaluation, OfGraph}
+use Rattle.bx_engine_front.specs.Specifications.{HasFault, IsProgram, IsProgramOf, MakesPips, PassesTypes, Plans, SpecificationFault, OfProgram, OfTypes, OfEvaluation, OfGraph}
 use Rattle.bx_engine_front.specs.declared.fault.FrontFault.{FrontFault}
 use Rattle.bx_engine_front.specs.declared.fault.FrontFault.TheVariants as front_faults
 use Rattle.bx_engine_front.specs.declared.limits.Limits.{Limits}
@@ -60,6 +60,13 @@ program_found tree modules parsed program h k is = record {
   reads = record { finds = h; parses = k };
   names = is;
 }
+
+pub program_of_modules : (tree : Files) (modules : List ModuleData) (parsed : List ParsedData) (program : ProgramData) → Finds tree (Found modules)
+    → AreParsed (project_files tree modules) parsed → named modules parsed ≡ Ok program → IsProgramOf tree modules program
+program_of_modules tree modules parsed program h k is = record { parsed = parsed; reads = record { finds = h; parses = k }; names = is }
+
+pub some_program : (tree : Files) (modules : List ModuleData) (program : ProgramData) → IsProgramOf tree modules program → IsProgram tree program
+some_program tree modules program h = record { modules = modules; parsed = h.parsed; reads = h.reads; names = h.names }
 
 -- project files are short where all source files are
 pub short_projects : (tree projects : Files) (modules : List ModuleData) → IsInSize tree → projects ≡ project_files tree modules
@@ -103,6 +110,16 @@ pub pips_refused : (limits : Limits) (tree : Files) (pips : List Pip) (fault : G
 pips_refused limits tree pips (graph_faults.Fault rule pip file) answer h first is =
     shown limits tree (OfGraph rule file) answer (pips, h, pip, first) is
 pips_refused limits tree pips graph_faults.Memory answer h first is = no_memory limits tree answer is
+
+memory_of_rule : (answer : FrontFault) → answer ≡ front_faults.Memory → IsOfRule answer
+memory_of_rule (front_faults.Refused refusal) is = absurd cc
+memory_of_rule front_faults.Memory is = tt
+
+-- what shows a rule is of a rule
+pub of_rule : (fault : GraphFault) (answer : FrontFault) → ShowsRule fault answer → IsOfRule answer
+of_rule (graph_faults.Fault rule pip file) (front_faults.Refused refusal) is = (rule, file, is)
+of_rule (graph_faults.Fault rule pip file) front_faults.Memory is = tt
+of_rule graph_faults.Memory answer is = memory_of_rule answer is
 
 -- the plan of the pips over the sources that the tree became
 pub planned : (limits : Limits) (tree : Files) (pips planned_pips : List Pip) (sources : Files) → MakesPips limits tree pips → sources ≡ tree

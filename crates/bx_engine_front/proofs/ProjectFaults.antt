@@ -13,7 +13,7 @@ use Rattle.dscript_parse.proofs.OneReading.{one_failure, one_file, one_refusal}
 use Rattle.dscript_parse.proofs.SomeReading.{some_reading}
 use Rattle.dscript_names_scopes.specs.Declarations.{ParsedData}
 use Rattle.dscript_names_workspace.specs.Finding.{fault_at}
-use Rattle.bx_engine_front.specs.Names.{AreParsed, IsParsed}
+use Rattle.dscript_names.specs.ProjectFiles.{AreParsed, IsParsed}
 use Rattle.bx_engine_front.specs.Projects.{IsFirstProjectFault, IsIllFormed, IsWellFormed}
 
 -- ## One file

@@ -25,9 +25,8 @@ use Rattle.dscript_names.specs.Views.{parsed_data}
 use Rattle.dscript_names.specs.declared.parsed.Parsed.{Parsed}
 use Rattle.dscript_names_scopes.specs.Declarations.{ParsedData}
 use Rattle.bx_engine_front.specs.FileFaults.{RefusesFile, RefusesFiles}
-use Rattle.bx_engine_front.specs.Names.{AreParsed, IsParsed, all_parsed}
-use Rattle.bx_engine_front.specs.Projects.{IsFirstProjectFault, IsShort, files_among, is_among, lent_files}
-use Rattle.bx_engine_front.specs.Projects.{paths_of_modules, project_files}
+use Rattle.dscript_names.specs.ProjectFiles.{AreParsed, IsParsed, all_parsed, files_among, is_among, paths_of_modules, project_files}
+use Rattle.bx_engine_front.specs.Projects.{IsFirstProjectFault, IsShort, lent_files}
 
 -- ## Reading one by one
 

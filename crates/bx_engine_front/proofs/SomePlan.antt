@@ -15,7 +15,7 @@ use Rattle.dscript_names_workspace.specs.Finding.{Finds}
 use Rattle.dscript_names_workspace.specs.Workspaces.{Answer, Found, Refused}
 use Rattle.graph_check.proofs.Verdicts.{some_answer_lem}
 use Rattle.pip_model_types.specs.declared.pip.Pip.{Pip}
-use Rattle.bx_engine_front.specs.Projects.{project_files}
+use Rattle.dscript_names.specs.ProjectFiles.{project_files}
 use Rattle.bx_engine_front.specs.Specifications.{HasAnswer, HasModules, IsProgram, MakesPips, PassesTypes, OfProgram, OfTypes, OfEvaluation, OfGraph}
 use Rattle.bx_engine_front.specs.declared.limits.Limits.{Limits}
 use Rattle.bx_engine_front.proofs.ProjectFaults.{some_first_fault, some_parsing}

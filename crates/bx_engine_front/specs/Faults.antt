@@ -1,5 +1,6 @@
 -- What the faults say with which a tree is refused.
 use Rattle.std.specs.Prelude.{◌≡◌, ⊤}
+use Rattle.bx_tree.specs.Paths.{Atoms}
 use Rattle.bx_tree.specs.Trees.{Files}
 use Rattle.build_report.specs.declared.refusal.Refusal.{Refusal}
 use Rattle.dscript_eval_meaning.specs.declared.fault.EvalFault.{EvalFault}
@@ -10,6 +11,7 @@ use Rattle.dscript_types.specs.declared.fault.TypeFault.{TypeFault}
 use Rattle.dscript_types.specs.declared.fault.TypeFault.TheVariants as type_faults
 use Rattle.graph_check.specs.declared.fault.GraphFault.{GraphFault}
 use Rattle.graph_check.specs.declared.fault.GraphFault.TheVariants as graph_faults
+use Rattle.graph_check.specs.declared.fault.GraphKind.{GraphKind}
 use Rattle.bx_engine_front.specs.Refusals.{Refuses, refusal_of}
 use Rattle.bx_engine_front.specs.Specifications.{SpecificationFault, OfProgram, OfTypes, OfEvaluation, OfGraph}
 use Rattle.bx_engine_front.specs.declared.fault.FrontFault.{FrontFault}
@@ -50,3 +52,8 @@ ShowsEvaluation eval_faults.Memory answer = answer ≡ front_faults.Memory
 abbrev pub ShowsRule : GraphFault → FrontFault → Type 0
 ShowsRule (graph_faults.Fault rule pip file) answer = Shows (OfGraph rule file) answer
 ShowsRule graph_faults.Memory answer = answer ≡ front_faults.Memory
+
+-- a rule of the graph fails, or memory is wanting
+abbrev pub IsOfRule : FrontFault → Type 0
+IsOfRule (front_faults.Refused refusal) = (rule : GraphKind) × (file : Atoms) × (refusal ≡ refusal_of (OfGraph rule file))
+IsOfRule front_faults.Memory = ⊤

@@ -1,6 +1,7 @@
 pub mod Projects
-pub mod Names
 pub mod Specifications
 pub mod Refusals
 pub mod FileFaults
 pub mod Faults
+pub mod StoreChanges
+pub mod Graphs

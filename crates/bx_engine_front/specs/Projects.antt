@@ -1,8 +1,7 @@
--- The project files of a workspace: which they are, what each comes to, and the first fault in them.
-use Rattle.std.specs.Prelude.{◌≡◌, ℕ, ◌≤◌, Bool, List, [], ◌∷◌, filter, map, length, ◌⊎◌}
+-- The project files of a workspace: what each comes to, and the first fault in them.
+use Rattle.std.specs.Prelude.{◌≡◌, ℕ, ◌≤◌, List, [], ◌∷◌, map, length, ◌⊎◌}
 use Rattle.std.specs.Borrow.{Bor}
-use Rattle.std.specs.List.{flat_map}
-use Rattle.bx_tree.specs.Paths.{Atoms, has_path}
+use Rattle.bx_tree.specs.Paths.{Atoms}
 use Rattle.bx_tree.specs.Trees.{Files}
 use Rattle.bx_tree.specs.Views.{file_of}
 use Rattle.bx_tree.specs.declared.limits.TheConstants.{MAX_FILE_BYTES}
@@ -12,27 +11,8 @@ use Rattle.dscript_ast.specs.declared.file.Form.TheVariants as forms
 use Rattle.dscript_program.specs.declared.place.Place.{Place}
 use Rattle.dscript_program.specs.declared.spec_fault.SpecKind.TheVariants as kinds
 use Rattle.dscript_program.specs.SpecFaults.{FaultData}
-use Rattle.dscript_program.specs.Workspaces.{ModuleData}
 use Rattle.dscript_parse.specs.Reading.{HasNoTokens, IsFile, IsNoFile}
 use Rattle.dscript_names_workspace.specs.Finding.{fault_at}
-
--- ## Which they are
-
--- the paths of the files of all modules, one module after the other
-abbrev pub paths_of_modules : List ModuleData → List Atoms
-paths_of_modules modules = flat_map (λ m. m.files) modules
-
--- the file is at one of these paths
-abbrev pub is_among : List Atoms → Atoms × List ℕ → Bool
-is_among paths file = has_path paths file.0
-
--- the files at these paths, in the order of the tree
-abbrev pub files_among : List Atoms → Files → Files
-files_among paths sources = filter (is_among paths) sources
-
--- the files of all modules, in the order of the tree
-abbrev pub project_files : Files → List ModuleData → Files
-project_files sources modules = files_among (paths_of_modules modules) sources
 
 -- the file is no longer than a file may be
 abbrev pub IsShort : Atoms × List ℕ → Type 0

@@ -15,8 +15,8 @@ use Rattle.dscript_names_workspace.specs.Workspaces.{Found, Refused}
 use Rattle.graph_check.specs.Rules.{KeepsRules, IsFirstBrokenRule as IsFirstBroken}
 use Rattle.graph_check.specs.declared.fault.GraphKind.{GraphKind}
 use Rattle.pip_model_types.specs.declared.pip.Pip.{Pip}
-use Rattle.bx_engine_front.specs.Names.{AreParsed}
-use Rattle.bx_engine_front.specs.Projects.{IsFirstProjectFault, project_files}
+use Rattle.dscript_names.specs.ProjectFiles.{AreParsed, project_files}
+use Rattle.bx_engine_front.specs.Projects.{IsFirstProjectFault}
 use Rattle.bx_engine_front.specs.declared.limits.Limits.{Limits}
 
 -- ## Programs
@@ -25,6 +25,12 @@ use Rattle.bx_engine_front.specs.declared.limits.Limits.{Limits}
 pub record HasModules (tree : Files) (modules : List ModuleData) (parsed : List ParsedData) : Type 0 where
   pub finds : Finds tree (Found modules)
   pub parses : AreParsed (project_files tree modules) parsed
+
+-- The modules of the tree are this program: all their files are well-formed, and each name in them has its meaning.
+pub record IsProgramOf (tree : Files) (modules : List ModuleData) (program : ProgramData) : Type 0 where
+  pub parsed : List ParsedData
+  pub reads : HasModules tree modules parsed
+  pub names : named modules parsed ≡ Ok program
 
 -- The tree is this program: it has modules, all their files are well-formed, and each name in them has its
 -- meaning.

@@ -12,9 +12,9 @@ ghost use Rattle.dscript_names.specs.Views.{parsed_data};
 ghost use Rattle.dscript_parse.specs.Reading.{IsFile};
 ghost use Rattle.dscript_names_workspace.specs.Finding.{fault_at as fault_with};
 ghost use Rattle.bx_engine_front.specs.FileFaults.{IsSameFault, RefusesFile, RefusesFiles};
-ghost use Rattle.bx_engine_front.specs.Names.{AreParsed, IsParsed, all_parsed};
-ghost use Rattle.bx_engine_front.specs.Projects.{IsShort, files_among, lent_files};
-ghost use Rattle.bx_engine_front.specs.Projects.{paths_of_modules, project_files as files_of_projects};
+ghost use Rattle.dscript_names.specs.ProjectFiles.{AreParsed, IsParsed, all_parsed, files_among};
+ghost use Rattle.dscript_names.specs.ProjectFiles.{paths_of_modules, project_files as files_of_projects};
+ghost use Rattle.bx_engine_front.specs.Projects.{IsShort, lent_files};
 
 use bx_tree::{MAX_FILE_BYTES, Path, Tree, TreeFile};
 use dscript_ast::{File, Form};

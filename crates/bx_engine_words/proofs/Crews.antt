@@ -9,7 +9,7 @@ use Rattle.bx_engine_words.specs.declared.order.Order.TheVariants.{Check, Gen, R
 use Rattle.bx_engine_words.specs.declared.order.TheConstants.{DEFAULT_WORKERS, MAX_WORKERS}
 use Rattle.bx_engine_words.specs.declared.setting.NumberOption.TheVariants as options
 use Rattle.bx_engine_words.specs.declared.setting.Setting.{Setting}
-use Rattle.bx_engine_words.specs.declared.setting.Setting.TheVariants.{Number, NoCache, Types}
+use Rattle.bx_engine_words.specs.declared.setting.Setting.TheVariants.{Number, Flag}
 use Rattle.bx_engine_words.specs.Commands.{order_of, trim_to, workload}
 use Rattle.bx_engine_words.specs.Settings.{AreSettings, IsValue, build_of, value_of}
 use Rattle.bx_engine_words.specs.Words.{HasCrew, IsBuild, Orders}
@@ -18,8 +18,7 @@ use Rattle.bx_engine_words.specs.Words.{HasCrew, IsBuild, Orders}
 workers_set : (words : List (List ℕ)) (settings : List Setting) → AreSettings words settings → (n : ℕ) → value_of options.Workers settings ≡ Some n
     → IsValue options.Workers n
 workers_set words [] are n e = absurd cc
-workers_set words (NoCache ∷ settings) are n e = workers_set are.0 settings are.2 n e
-workers_set words (Types ∷ settings) are n e = workers_set are.0 settings are.2 n e
+workers_set words (Flag flag ∷ settings) are n e = workers_set are.0 settings are.2 n e
 workers_set words (Number options.Workers m ∷ settings) are n e = subst (IsValue options.Workers) (same_Some m n e) are.1.0
 workers_set words (Number options.EvalBudget m ∷ settings) are n e = workers_set are.0 settings are.2 n e
 workers_set words (Number options.ToolBudget m ∷ settings) are n e = workers_set are.0 settings are.2 n e

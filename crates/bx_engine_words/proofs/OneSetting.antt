@@ -1,5 +1,5 @@
 -- Words are settings in one way at most.
-use Rattle.std.proofs.Common.{◌≡◌, ℕ, ◌<◌, ◌^◌, Bool, true, false, ◌==◌, inl, inr, List, [], ◌∷◌, ◌++◌, codes, get_or, length, refl, ap, sym, subst, ◌∙◌, arith}
+use Rattle.std.proofs.Common.{◌≡◌, ℕ, ◌<◌, ◌+◌, ◌*◌, ◌^◌, Bool, true, false, ◌==◌, inl, inr, List, [], ◌∷◌, ◌++◌, codes, get_or, length, refl, ap, sym, subst, ◌∙◌, arith}
 use Rattle.std.specs.Fmt.{decimal}
 use Rattle.std.specs.Prelude.{◌↔◌, IsTrue}
 use Rattle.std.specs.List.{after_first, before_first, list_any}
@@ -9,13 +9,15 @@ use Rattle.std.proofs.lemmas.Option.{same_Some}
 use Rattle.bx_engine_words.specs.declared.command.Command.{Command}
 use Rattle.bx_engine_words.specs.declared.command.Command.TheVariants as commands
 use Rattle.bx_engine_words.specs.declared.order.Order.{Order}
+use Rattle.bx_engine_words.specs.declared.setting.FlagOption.{FlagOption}
+use Rattle.bx_engine_words.specs.declared.setting.FlagOption.TheVariants as flags
 use Rattle.bx_engine_words.specs.declared.setting.NumberOption.{NumberOption}
 use Rattle.bx_engine_words.specs.declared.setting.NumberOption.TheVariants as options
 use Rattle.bx_engine_words.specs.declared.setting.Setting.{Setting}
-use Rattle.bx_engine_words.specs.declared.setting.Setting.TheVariants.{Number, NoCache, Types}
+use Rattle.bx_engine_words.specs.declared.setting.Setting.TheVariants.{Number, Flag}
 use Rattle.bx_engine_words.specs.Given.{IsNumber}
 use Rattle.bx_engine_words.specs.Commands.{command_text, order_of}
-use Rattle.bx_engine_words.specs.Settings.{AreSettings, BeginWith, IsValue, option_text}
+use Rattle.bx_engine_words.specs.Settings.{AreSettings, BeginWith, IsValue, flag_text, option_text}
 use Rattle.bx_engine_words.specs.Words.{AreOptions, Orders}
 
 -- ## Options
@@ -60,19 +62,19 @@ joined_or_alone : (a b : NumberOption) (v : List ℕ) → option_text a ++ codes
 joined_or_alone a b v e =
     both_ways (list_any is_equals (option_text b)) (lacks_equals b) (ap (list_any is_equals) (sym e) ∙ has_equals a v)
 
--- the byte in which all options differ
-abbrev third : List ℕ → ℕ
-third text = get_or text 2 0
+-- the two bytes in which all options differ
+abbrev mark : List ℕ → ℕ
+mark text = get_or text 2 0 * 256 + get_or text 3 0
 
 abbrev letter : NumberOption → ℕ
-letter options.Workers = 119
-letter options.EvalBudget = 101
-letter options.ToolBudget = 116
-letter options.Keep = 107
-letter options.Seed = 115
-letter options.Pips = 112
+letter options.Workers = 30575
+letter options.EvalBudget = 25974
+letter options.ToolBudget = 29807
+letter options.Keep = 27493
+letter options.Seed = 29541
+letter options.Pips = 28777
 
-letter_in : (option : NumberOption) (v : List ℕ) → third (option_text option ++ codes "=" ++ v) ≡ letter option
+letter_in : (option : NumberOption) (v : List ℕ) → mark (option_text option ++ codes "=" ++ v) ≡ letter option
 letter_in options.Workers v = refl
 letter_in options.EvalBudget v = refl
 letter_in options.ToolBudget v = refl
@@ -80,7 +82,7 @@ letter_in options.Keep v = refl
 letter_in options.Seed v = refl
 letter_in options.Pips v = refl
 
-letter_alone : (option : NumberOption) → third (option_text option) ≡ letter option
+letter_alone : (option : NumberOption) → mark (option_text option) ≡ letter option
 letter_alone options.Workers = refl
 letter_alone options.EvalBudget = refl
 letter_alone options.ToolBudget = refl
@@ -126,58 +128,60 @@ same_letters options.Pips options.Keep e = absurd (omega (arith, e))
 same_letters options.Pips options.Seed e = absurd (omega (arith, e))
 same_letters options.Pips options.Pips e = refl
 
-other_letter : (option : NumberOption) → 110 ≡ letter option → ⊥
-other_letter options.Workers e = omega (arith, e)
-other_letter options.EvalBudget e = omega (arith, e)
-other_letter options.ToolBudget e = omega (arith, e)
-other_letter options.Keep e = omega (arith, e)
-other_letter options.Seed e = omega (arith, e)
-other_letter options.Pips e = omega (arith, e)
-
 pub same_names : (a b : NumberOption) → option_text a ≡ option_text b → a ≡ b
-same_names a b e = same_letters a b (sym (letter_alone a) ∙ ap third e ∙ letter_alone b)
+same_names a b e = same_letters a b (sym (letter_alone a) ∙ ap mark e ∙ letter_alone b)
 
-no_cache_letter : third (codes "--no-cache") ≡ 110
-no_cache_letter = refl
+abbrev flag_letter : FlagOption → ℕ
+flag_letter flags.NoCache = 28271
+flag_letter flags.Types = 29817
+flag_letter flags.GraphCache = 26482
 
-no_cache_or_joined : (option : NumberOption) (v : List ℕ) → codes "--no-cache" ≡ option_text option ++ codes "=" ++ v → ⊥
-no_cache_or_joined option v e =
-    other_letter option (sym no_cache_letter ∙ ap third e ∙ letter_in option v)
+letter_of_flag : (flag : FlagOption) → mark (flag_text flag) ≡ flag_letter flag
+letter_of_flag flags.NoCache = refl
+letter_of_flag flags.Types = refl
+letter_of_flag flags.GraphCache = refl
 
-no_cache_or_alone : (option : NumberOption) → codes "--no-cache" ≡ option_text option → ⊥
-no_cache_or_alone option e = other_letter option (sym no_cache_letter ∙ ap third e ∙ letter_alone option)
+other_letter : (flag : FlagOption) (option : NumberOption) → flag_letter flag ≡ letter option → ⊥
+other_letter flags.NoCache options.Workers e = omega (arith, e)
+other_letter flags.NoCache options.EvalBudget e = omega (arith, e)
+other_letter flags.NoCache options.ToolBudget e = omega (arith, e)
+other_letter flags.NoCache options.Keep e = omega (arith, e)
+other_letter flags.NoCache options.Seed e = omega (arith, e)
+other_letter flags.NoCache options.Pips e = omega (arith, e)
+other_letter flags.Types options.Workers e = omega (arith, e)
+other_letter flags.Types options.EvalBudget e = omega (arith, e)
+other_letter flags.Types options.ToolBudget e = omega (arith, e)
+other_letter flags.Types options.Keep e = omega (arith, e)
+other_letter flags.Types options.Seed e = omega (arith, e)
+other_letter flags.Types options.Pips e = omega (arith, e)
+other_letter flags.GraphCache options.Workers e = omega (arith, e)
+other_letter flags.GraphCache options.EvalBudget e = omega (arith, e)
+other_letter flags.GraphCache options.ToolBudget e = omega (arith, e)
+other_letter flags.GraphCache options.Keep e = omega (arith, e)
+other_letter flags.GraphCache options.Seed e = omega (arith, e)
+other_letter flags.GraphCache options.Pips e = omega (arith, e)
 
--- the byte in which `--types` differs from all others
-abbrev fourth : List ℕ → ℕ
-fourth text = get_or text 3 0
+same_flags : (a b : FlagOption) → flag_letter a ≡ flag_letter b → a ≡ b
+same_flags flags.NoCache flags.NoCache e = refl
+same_flags flags.NoCache flags.Types e = absurd (omega (arith, e))
+same_flags flags.NoCache flags.GraphCache e = absurd (omega (arith, e))
+same_flags flags.Types flags.NoCache e = absurd (omega (arith, e))
+same_flags flags.Types flags.Types e = refl
+same_flags flags.Types flags.GraphCache e = absurd (omega (arith, e))
+same_flags flags.GraphCache flags.NoCache e = absurd (omega (arith, e))
+same_flags flags.GraphCache flags.Types e = absurd (omega (arith, e))
+same_flags flags.GraphCache flags.GraphCache e = refl
 
-fourth_in : (option : NumberOption) (v : List ℕ) → 121 ≡ fourth (option_text option ++ codes "=" ++ v) → ⊥
-fourth_in options.Workers v e = omega (arith, e)
-fourth_in options.EvalBudget v e = omega (arith, e)
-fourth_in options.ToolBudget v e = omega (arith, e)
-fourth_in options.Keep v e = omega (arith, e)
-fourth_in options.Seed v e = omega (arith, e)
-fourth_in options.Pips v e = omega (arith, e)
+-- flags with one text are one
+pub one_flag : (a b : FlagOption) → flag_text a ≡ flag_text b → a ≡ b
+one_flag a b e = same_flags a b (sym (letter_of_flag a) ∙ ap mark e ∙ letter_of_flag b)
 
-fourth_alone : (option : NumberOption) → 121 ≡ fourth (option_text option) → ⊥
-fourth_alone options.Workers e = omega (arith, e)
-fourth_alone options.EvalBudget e = omega (arith, e)
-fourth_alone options.ToolBudget e = omega (arith, e)
-fourth_alone options.Keep e = omega (arith, e)
-fourth_alone options.Seed e = omega (arith, e)
-fourth_alone options.Pips e = omega (arith, e)
+flag_or_joined : (flag : FlagOption) (option : NumberOption) (v : List ℕ) → flag_text flag ≡ option_text option ++ codes "=" ++ v → ⊥
+flag_or_joined flag option v e =
+    other_letter flag option (sym (letter_of_flag flag) ∙ ap mark e ∙ letter_in option v)
 
-types_letter : fourth (codes "--types") ≡ 121
-types_letter = refl
-
-types_or_joined : (option : NumberOption) (v : List ℕ) → codes "--types" ≡ option_text option ++ codes "=" ++ v → ⊥
-types_or_joined option v e = fourth_in option v (sym types_letter ∙ ap fourth e)
-
-types_or_alone : (option : NumberOption) → codes "--types" ≡ option_text option → ⊥
-types_or_alone option e = fourth_alone option (sym types_letter ∙ ap fourth e)
-
-types_or_no_cache : codes "--types" ≡ codes "--no-cache" → ⊥
-types_or_no_cache e = let differ : 121 ≡ 111 = ap fourth e in omega (arith, differ)
+flag_or_alone : (flag : FlagOption) (option : NumberOption) → flag_text flag ≡ option_text option → ⊥
+flag_or_alone flag option e = other_letter flag option (sym (letter_of_flag flag) ∙ ap mark e ∙ letter_alone option)
 
 pub small_value : (option : NumberOption) (n : ℕ) → IsValue option n → n < 2 ^ 64
 small_value options.Workers n h = omega (arith, h.most)
@@ -237,45 +241,32 @@ both_numbers words a b m n rest more h k = elim h.1 [
   ]
 ]
 
-no_cache_or_number : (words : List (List ℕ)) (option : NumberOption) (n : ℕ) (rest more : List (List ℕ))
-    → BeginWith words NoCache rest → BeginWith words (Number option n) more → ⊥
-no_cache_or_number words option n rest more h k = elim k.1 [
-  | inl y ↦ no_cache_or_joined option (decimal n) (first_same (sym h ∙ y))
-  | inr y ↦ no_cache_or_alone option (first_same (sym h ∙ y))
-]
-
-types_or_number : (words : List (List ℕ)) (option : NumberOption) (n : ℕ) (rest more : List (List ℕ))
-    → BeginWith words Types rest → BeginWith words (Number option n) more → ⊥
-types_or_number words option n rest more h k = elim k.1 [
-  | inl y ↦ types_or_joined option (decimal n) (first_same (sym h ∙ y))
-  | inr y ↦ types_or_alone option (first_same (sym h ∙ y))
+flag_or_number : (words : List (List ℕ)) (flag : FlagOption) (option : NumberOption) (n : ℕ) (rest more : List (List ℕ))
+    → BeginWith words (Flag flag) rest → BeginWith words (Number option n) more → ⊥
+flag_or_number words flag option n rest more h k = elim k.1 [
+  | inl y ↦ flag_or_joined flag option (decimal n) (first_same (sym h ∙ y))
+  | inr y ↦ flag_or_alone flag option (first_same (sym h ∙ y))
 ]
 
 pub one_beginning : (words : List (List ℕ)) (s t : Setting) (rest more : List (List ℕ)) → BeginWith words s rest
     → BeginWith words t more → SameStart s t rest more
-one_beginning words NoCache NoCache rest more h k = (refl, rest_same (sym h ∙ k))
-one_beginning words NoCache Types rest more h k = absurd (types_or_no_cache (first_same (sym k ∙ h)))
-one_beginning words NoCache (Number b n) rest more h k = absurd (no_cache_or_number words b n rest more h k)
-one_beginning words Types NoCache rest more h k = absurd (types_or_no_cache (first_same (sym h ∙ k)))
-one_beginning words Types Types rest more h k = (refl, rest_same (sym h ∙ k))
-one_beginning words Types (Number b n) rest more h k = absurd (types_or_number words b n rest more h k)
-one_beginning words (Number a m) NoCache rest more h k = absurd (no_cache_or_number words a m more rest k h)
-one_beginning words (Number a m) Types rest more h k = absurd (types_or_number words a m more rest k h)
+one_beginning words (Flag f) (Flag g) rest more h k =
+    (ap Flag (one_flag f g (first_same (sym h ∙ k))), rest_same (sym h ∙ k))
+one_beginning words (Flag f) (Number b n) rest more h k = absurd (flag_or_number words f b n rest more h k)
+one_beginning words (Number a m) (Flag g) rest more h k = absurd (flag_or_number words g a m more rest k h)
 one_beginning words (Number a m) (Number b n) rest more h k = both_numbers words a b m n rest more h k
 
 cons_or_none : {X : Type 0} {words : List X} {x : X} {xs : List X} → words ≡ [] → words ≡ x ∷ xs → ⊥
 cons_or_none e f = cc
 
 pub none_begin : (words : List (List ℕ)) (s : Setting) (rest : List (List ℕ)) → words ≡ [] → BeginWith words s rest → ⊥
-none_begin words NoCache rest e h = cons_or_none e h
-none_begin words Types rest e h = cons_or_none e h
+none_begin words (Flag flag) rest e h = cons_or_none e h
 none_begin words (Number option n) rest e h = elim h.1 [ inl x ↦ cons_or_none e x | inr x ↦ cons_or_none e x ]
 
 -- fewer words come after a setting
 pub fewer_after : (words : List (List ℕ)) (s : Setting) (rest : List (List ℕ)) → BeginWith words s rest
     → length rest < length words
-fewer_after words NoCache rest h = omega (arith, ap length h)
-fewer_after words Types rest h = omega (arith, ap length h)
+fewer_after words (Flag flag) rest h = omega (arith, ap length h)
 fewer_after words (Number option n) rest h = elim h.1 [
   | inl x ↦ omega (arith, ap length x)
   | inr x ↦ omega (arith, ap length x)

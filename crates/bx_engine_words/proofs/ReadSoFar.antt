@@ -9,13 +9,15 @@ use Rattle.bx_engine_words.specs.declared.command.Command.{Command}
 use Rattle.bx_engine_words.specs.declared.command.Command.TheVariants as commands
 use Rattle.bx_engine_words.specs.declared.given.Given.{Given}
 use Rattle.bx_engine_words.specs.declared.order.Order.{Order}
+use Rattle.bx_engine_words.specs.declared.setting.FlagOption.{FlagOption}
+use Rattle.bx_engine_words.specs.declared.setting.FlagOption.TheVariants as flags
 use Rattle.bx_engine_words.specs.declared.setting.NumberOption.{NumberOption}
 use Rattle.bx_engine_words.specs.declared.setting.NumberOption.TheVariants as options
 use Rattle.bx_engine_words.specs.declared.setting.Setting.{Setting}
-use Rattle.bx_engine_words.specs.declared.setting.Setting.TheVariants.{Number, NoCache, Types}
+use Rattle.bx_engine_words.specs.declared.setting.Setting.TheVariants.{Number, Flag}
 use Rattle.bx_engine_words.specs.Commands.{command_of, order_of}
 use Rattle.bx_engine_words.specs.Given.{given_of, is_given, order_with_given, with_setting}
-use Rattle.bx_engine_words.specs.Settings.{AreSettings, BeginWith, is_same, same_option, value_of}
+use Rattle.bx_engine_words.specs.Settings.{AreSettings, BeginWith, has_flag, is_same, same_flag, same_option, value_of}
 use Rattle.bx_engine_words.specs.Words.{AreOptions}
 use Rattle.bx_engine_words.proofs.OneSetting.{none_begin, one_beginning}
 
@@ -35,8 +37,7 @@ value_among option n [] = refl
 value_among option n (Number other m ∷ ss) =
     or_some (same_option other option) m (value_of option ss)
     ∙ ap (λ b. same_option other option || b) (value_among option n ss)
-value_among option n (NoCache ∷ ss) = value_among option n ss
-value_among option n (Types ∷ ss) = value_among option n ss
+value_among option n (Flag flag ∷ ss) = value_among option n ss
 
 given_among : (ss : List Setting) (s : Setting) → is_given (given_of ss) s ≡ is_among ss s
 given_among ss (Number options.Workers n) = value_among options.Workers n ss
@@ -45,8 +46,9 @@ given_among ss (Number options.ToolBudget n) = value_among options.ToolBudget n 
 given_among ss (Number options.Keep n) = value_among options.Keep n ss
 given_among ss (Number options.Seed n) = value_among options.Seed n ss
 given_among ss (Number options.Pips n) = value_among options.Pips n ss
-given_among ss NoCache = refl
-given_among ss Types = refl
+given_among ss (Flag flags.NoCache) = refl
+given_among ss (Flag flags.Types) = refl
+given_among ss (Flag flags.GraphCache) = refl
 
 last_after : (b : Bool) (m n : ℕ) (o p : Option ℕ) → is_some (cond b (Some m) o) ≡ false
     → (is_some o ≡ false → p ≡ Some n) → cond b (Some m) p ≡ Some n
@@ -60,8 +62,7 @@ set_last option n [] free same = ap (λ b. cond b (Some n) None) same
 set_last option n (Number other m ∷ ss) free same =
     last_after (same_option other option) m n (value_of option ss) (value_of option (ss ++ Number option n ∷ [])) free
     (λ free_before. set_last option n ss free_before same)
-set_last option n (NoCache ∷ ss) free same = set_last option n ss free same
-set_last option n (Types ∷ ss) free same = set_last option n ss free same
+set_last option n (Flag flag ∷ ss) free same = set_last option n ss free same
 
 -- other options are set as before
 set_other : (option other : NumberOption) (n : ℕ) (ss : List Setting) → same_option other option ≡ false
@@ -69,68 +70,64 @@ set_other : (option other : NumberOption) (n : ℕ) (ss : List Setting) → same
 set_other option other n [] differ = ap (λ b. cond b (Some n) None) differ
 set_other option other n (Number third m ∷ ss) differ =
     ap (λ o. cond (same_option third option) (Some m) o) (set_other option other n ss differ)
-set_other option other n (NoCache ∷ ss) differ = set_other option other n ss differ
-set_other option other n (Types ∷ ss) differ = set_other option other n ss differ
+set_other option other n (Flag flag ∷ ss) differ = set_other option other n ss differ
 
--- a setting without a number sets no number
-abbrev HasNoNumber : Setting → Type 0
-HasNoNumber (Number option n) = ⊥
-HasNoNumber NoCache = Unit {0}
-HasNoNumber Types = Unit {0}
+set_flag : (option : NumberOption) (last : FlagOption) (ss : List Setting)
+    → value_of option (ss ++ Flag last ∷ []) ≡ value_of option ss
+set_flag option last [] = refl
+set_flag option last (Number other m ∷ ss) =
+    ap (λ o. cond (same_option other option) (Some m) o) (set_flag option last ss)
+set_flag option last (Flag flag ∷ ss) = set_flag option last ss
 
-none_set : (option : NumberOption) (s : Setting) → HasNoNumber s → value_of option (s ∷ []) ≡ None
-none_set option (Number other n) h = absurd h
-none_set option NoCache h = refl
-none_set option Types h = refl
-
-set_none : (option : NumberOption) (s : Setting) (ss : List Setting) → HasNoNumber s
-    → value_of option (ss ++ s ∷ []) ≡ value_of option ss
-set_none option s [] h = none_set option s h
-set_none option s (Number other m ∷ ss) h =
-    ap (λ o. cond (same_option other option) (Some m) o) (set_none option s ss h)
-set_none option s (NoCache ∷ ss) h = set_none option s ss h
-set_none option s (Types ∷ ss) h = set_none option s ss h
-
--- whether a setting is among others is as before, where the last is another
-other_last : (s last : Setting) (ss : List Setting) → is_same last s ≡ false
-    → list_any (λ x. is_same x s) (ss ++ last ∷ []) ≡ list_any (λ x. is_same x s) ss
-other_last s last [] e = ap (λ b. b || false) e
-other_last s last (x ∷ ss) e = ap (λ b. is_same x s || b) (other_last s last ss e)
+number_flagged : (flag : FlagOption) (option : NumberOption) (n : ℕ) (ss : List Setting)
+    → has_flag flag (ss ++ Number option n ∷ []) ≡ has_flag flag ss
+number_flagged flag option n [] = refl
+number_flagged flag option n (s ∷ ss) = ap (λ b. is_same s (Flag flag) || b) (number_flagged flag option n ss)
 
 or_true : (b : Bool) → (b || true) ≡ true
 or_true true = refl
 or_true false = refl
 
-own_last : (s : Setting) (ss : List Setting) → is_same s s ≡ true → list_any (λ x. is_same x s) (ss ++ s ∷ []) ≡ true
-own_last s [] e = ap (λ b. b || false) e
-own_last s (x ∷ ss) e = ap (λ b. is_same x s || b) (own_last s ss e) ∙ or_true (is_same x s)
+flag_last : (flag : FlagOption) (ss : List Setting) → same_flag flag flag ≡ true → has_flag flag (ss ++ Flag flag ∷ []) ≡ true
+flag_last flag [] same = ap (λ b. b || false) same
+flag_last flag (s ∷ ss) same =
+    ap (λ b. is_same s (Flag flag) || b) (flag_last flag ss same) ∙ or_true (is_same s (Flag flag))
 
-abbrev all_given : (w e t k s p : Option ℕ) → Bool → Bool → Given
-all_given w e t k s p c y =
-    record { workers = w; eval_budget = e; tool_budget = t; keep = k; seed = s; pips = p; no_cache = c; types = y }
+other_flag_last : (flag last : FlagOption) (ss : List Setting) → same_flag last flag ≡ false
+    → has_flag flag (ss ++ Flag last ∷ []) ≡ has_flag flag ss
+other_flag_last flag last [] differ = ap (λ b. b || false) differ
+other_flag_last flag last (s ∷ ss) differ =
+    ap (λ b. is_same s (Flag flag) || b) (other_flag_last flag last ss differ)
 
-same_given : {w1 w2 e1 e2 t1 t2 k1 k2 s1 s2 p1 p2 : Option ℕ} {c d y z : Bool} → w1 ≡ w2 → e1 ≡ e2 → t1 ≡ t2 → k1 ≡ k2
-    → s1 ≡ s2 → p1 ≡ p2 → c ≡ d → y ≡ z → all_given w1 e1 t1 k1 s1 p1 c y ≡ all_given w2 e2 t2 k2 s2 p2 d z
-same_given a b c d e f g h = cc
+abbrev all_given : (w e t k s p : Option ℕ) → Bool → Bool → Bool → Given
+all_given w e t k s p c y g =
+    record { workers = w; eval_budget = e; tool_budget = t; keep = k; seed = s; pips = p; no_cache = c; types = y; graph_cache = g }
+
+same_given : {w1 w2 e1 e2 t1 t2 k1 k2 s1 s2 p1 p2 : Option ℕ} {c1 c2 y1 y2 g1 g2 : Bool} → w1 ≡ w2 → e1 ≡ e2 → t1 ≡ t2 → k1 ≡ k2
+    → s1 ≡ s2 → p1 ≡ p2 → c1 ≡ c2 → y1 ≡ y2 → g1 ≡ g2
+    → all_given w1 e1 t1 k1 s1 p1 c1 y1 g1 ≡ all_given w2 e2 t2 k2 s2 p2 c2 y2 g2
+same_given a b c d e f g h i = cc
 
 given_more : (ss : List Setting) (s : Setting) → is_given (given_of ss) s ≡ false
     → given_of (ss ++ s ∷ []) ≡ with_setting (given_of ss) s
 given_more ss (Number options.Workers n) free =
-    same_given (set_last options.Workers n ss free refl) (set_other options.EvalBudget options.Workers n ss refl) (set_other options.ToolBudget options.Workers n ss refl) (set_other options.Keep options.Workers n ss refl) (set_other options.Seed options.Workers n ss refl) (set_other options.Pips options.Workers n ss refl) (other_last NoCache (Number options.Workers n) ss refl) (other_last Types (Number options.Workers n) ss refl)
+    same_given (set_last options.Workers n ss free refl) (set_other options.EvalBudget options.Workers n ss refl) (set_other options.ToolBudget options.Workers n ss refl) (set_other options.Keep options.Workers n ss refl) (set_other options.Seed options.Workers n ss refl) (set_other options.Pips options.Workers n ss refl) (number_flagged flags.NoCache options.Workers n ss) (number_flagged flags.Types options.Workers n ss) (number_flagged flags.GraphCache options.Workers n ss)
 given_more ss (Number options.EvalBudget n) free =
-    same_given (set_other options.Workers options.EvalBudget n ss refl) (set_last options.EvalBudget n ss free refl) (set_other options.ToolBudget options.EvalBudget n ss refl) (set_other options.Keep options.EvalBudget n ss refl) (set_other options.Seed options.EvalBudget n ss refl) (set_other options.Pips options.EvalBudget n ss refl) (other_last NoCache (Number options.EvalBudget n) ss refl) (other_last Types (Number options.EvalBudget n) ss refl)
+    same_given (set_other options.Workers options.EvalBudget n ss refl) (set_last options.EvalBudget n ss free refl) (set_other options.ToolBudget options.EvalBudget n ss refl) (set_other options.Keep options.EvalBudget n ss refl) (set_other options.Seed options.EvalBudget n ss refl) (set_other options.Pips options.EvalBudget n ss refl) (number_flagged flags.NoCache options.EvalBudget n ss) (number_flagged flags.Types options.EvalBudget n ss) (number_flagged flags.GraphCache options.EvalBudget n ss)
 given_more ss (Number options.ToolBudget n) free =
-    same_given (set_other options.Workers options.ToolBudget n ss refl) (set_other options.EvalBudget options.ToolBudget n ss refl) (set_last options.ToolBudget n ss free refl) (set_other options.Keep options.ToolBudget n ss refl) (set_other options.Seed options.ToolBudget n ss refl) (set_other options.Pips options.ToolBudget n ss refl) (other_last NoCache (Number options.ToolBudget n) ss refl) (other_last Types (Number options.ToolBudget n) ss refl)
+    same_given (set_other options.Workers options.ToolBudget n ss refl) (set_other options.EvalBudget options.ToolBudget n ss refl) (set_last options.ToolBudget n ss free refl) (set_other options.Keep options.ToolBudget n ss refl) (set_other options.Seed options.ToolBudget n ss refl) (set_other options.Pips options.ToolBudget n ss refl) (number_flagged flags.NoCache options.ToolBudget n ss) (number_flagged flags.Types options.ToolBudget n ss) (number_flagged flags.GraphCache options.ToolBudget n ss)
 given_more ss (Number options.Keep n) free =
-    same_given (set_other options.Workers options.Keep n ss refl) (set_other options.EvalBudget options.Keep n ss refl) (set_other options.ToolBudget options.Keep n ss refl) (set_last options.Keep n ss free refl) (set_other options.Seed options.Keep n ss refl) (set_other options.Pips options.Keep n ss refl) (other_last NoCache (Number options.Keep n) ss refl) (other_last Types (Number options.Keep n) ss refl)
+    same_given (set_other options.Workers options.Keep n ss refl) (set_other options.EvalBudget options.Keep n ss refl) (set_other options.ToolBudget options.Keep n ss refl) (set_last options.Keep n ss free refl) (set_other options.Seed options.Keep n ss refl) (set_other options.Pips options.Keep n ss refl) (number_flagged flags.NoCache options.Keep n ss) (number_flagged flags.Types options.Keep n ss) (number_flagged flags.GraphCache options.Keep n ss)
 given_more ss (Number options.Seed n) free =
-    same_given (set_other options.Workers options.Seed n ss refl) (set_other options.EvalBudget options.Seed n ss refl) (set_other options.ToolBudget options.Seed n ss refl) (set_other options.Keep options.Seed n ss refl) (set_last options.Seed n ss free refl) (set_other options.Pips options.Seed n ss refl) (other_last NoCache (Number options.Seed n) ss refl) (other_last Types (Number options.Seed n) ss refl)
+    same_given (set_other options.Workers options.Seed n ss refl) (set_other options.EvalBudget options.Seed n ss refl) (set_other options.ToolBudget options.Seed n ss refl) (set_other options.Keep options.Seed n ss refl) (set_last options.Seed n ss free refl) (set_other options.Pips options.Seed n ss refl) (number_flagged flags.NoCache options.Seed n ss) (number_flagged flags.Types options.Seed n ss) (number_flagged flags.GraphCache options.Seed n ss)
 given_more ss (Number options.Pips n) free =
-    same_given (set_other options.Workers options.Pips n ss refl) (set_other options.EvalBudget options.Pips n ss refl) (set_other options.ToolBudget options.Pips n ss refl) (set_other options.Keep options.Pips n ss refl) (set_other options.Seed options.Pips n ss refl) (set_last options.Pips n ss free refl) (other_last NoCache (Number options.Pips n) ss refl) (other_last Types (Number options.Pips n) ss refl)
-given_more ss NoCache free =
-    same_given (set_none options.Workers NoCache ss tt) (set_none options.EvalBudget NoCache ss tt) (set_none options.ToolBudget NoCache ss tt) (set_none options.Keep NoCache ss tt) (set_none options.Seed NoCache ss tt) (set_none options.Pips NoCache ss tt) (own_last NoCache ss refl) (other_last Types NoCache ss refl)
-given_more ss Types free =
-    same_given (set_none options.Workers Types ss tt) (set_none options.EvalBudget Types ss tt) (set_none options.ToolBudget Types ss tt) (set_none options.Keep Types ss tt) (set_none options.Seed Types ss tt) (set_none options.Pips Types ss tt) (other_last NoCache Types ss refl) (own_last Types ss refl)
+    same_given (set_other options.Workers options.Pips n ss refl) (set_other options.EvalBudget options.Pips n ss refl) (set_other options.ToolBudget options.Pips n ss refl) (set_other options.Keep options.Pips n ss refl) (set_other options.Seed options.Pips n ss refl) (set_last options.Pips n ss free refl) (number_flagged flags.NoCache options.Pips n ss) (number_flagged flags.Types options.Pips n ss) (number_flagged flags.GraphCache options.Pips n ss)
+given_more ss (Flag flags.NoCache) free =
+    same_given (set_flag options.Workers flags.NoCache ss) (set_flag options.EvalBudget flags.NoCache ss) (set_flag options.ToolBudget flags.NoCache ss) (set_flag options.Keep flags.NoCache ss) (set_flag options.Seed flags.NoCache ss) (set_flag options.Pips flags.NoCache ss) (flag_last flags.NoCache ss refl) (other_flag_last flags.Types flags.NoCache ss refl) (other_flag_last flags.GraphCache flags.NoCache ss refl)
+given_more ss (Flag flags.Types) free =
+    same_given (set_flag options.Workers flags.Types ss) (set_flag options.EvalBudget flags.Types ss) (set_flag options.ToolBudget flags.Types ss) (set_flag options.Keep flags.Types ss) (set_flag options.Seed flags.Types ss) (set_flag options.Pips flags.Types ss) (other_flag_last flags.NoCache flags.Types ss refl) (flag_last flags.Types ss refl) (other_flag_last flags.GraphCache flags.Types ss refl)
+given_more ss (Flag flags.GraphCache) free =
+    same_given (set_flag options.Workers flags.GraphCache ss) (set_flag options.EvalBudget flags.GraphCache ss) (set_flag options.ToolBudget flags.GraphCache ss) (set_flag options.Keep flags.GraphCache ss) (set_flag options.Seed flags.GraphCache ss) (set_flag options.Pips flags.GraphCache ss) (other_flag_last flags.NoCache flags.GraphCache ss refl) (other_flag_last flags.Types flags.GraphCache ss refl) (flag_last flags.GraphCache ss refl)
 
 -- ## Each option once
 

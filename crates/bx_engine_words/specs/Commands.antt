@@ -7,7 +7,7 @@ use Rattle.bx_engine_words.specs.declared.order.Order.TheVariants as orders
 use Rattle.bx_engine_words.specs.declared.setting.NumberOption.{NumberOption}
 use Rattle.bx_engine_words.specs.declared.setting.NumberOption.TheVariants as options
 use Rattle.bx_engine_words.specs.declared.setting.Setting.{Setting}
-use Rattle.bx_engine_words.specs.declared.setting.Setting.TheVariants.{Number, NoCache, Types}
+use Rattle.bx_engine_words.specs.declared.setting.Setting.TheVariants.{Number, Flag}
 use Rattle.bx_engine_words.specs.Settings.{build_of, value_of}
 
 -- the word of a command
@@ -30,8 +30,7 @@ command_of_option options.Pips = commands.Gen
 -- the command that has the option of a setting
 abbrev pub command_of : Setting → Command
 command_of (Number option n) = command_of_option option
-command_of NoCache = commands.Build
-command_of Types = commands.Build
+command_of (Flag flag) = commands.Build
 
 -- the trim that leaves so many selectors, which have to be said
 abbrev pub trim_to : Option ℕ → Option Order

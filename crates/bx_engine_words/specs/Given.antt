@@ -10,12 +10,13 @@ use Rattle.bx_engine_words.specs.declared.command.Command.{Command}
 use Rattle.bx_engine_words.specs.declared.command.Command.TheVariants as commands
 use Rattle.bx_engine_words.specs.declared.order.TheConstants.{DEFAULT_EVAL_BUDGET, DEFAULT_TOOL_BUDGET}
 use Rattle.bx_engine_words.specs.declared.order.TheConstants.{DEFAULT_WORKERS}
+use Rattle.bx_engine_words.specs.declared.setting.FlagOption.TheVariants as flags
 use Rattle.bx_engine_words.specs.declared.setting.NumberOption.{NumberOption}
 use Rattle.bx_engine_words.specs.declared.setting.NumberOption.TheVariants as options
 use Rattle.bx_engine_words.specs.declared.setting.Setting.{Setting}
-use Rattle.bx_engine_words.specs.declared.setting.Setting.TheVariants.{Number, NoCache, Types}
+use Rattle.bx_engine_words.specs.declared.setting.Setting.TheVariants.{Number, Flag}
 use Rattle.bx_engine_words.specs.Commands.{trim_to, workload}
-use Rattle.bx_engine_words.specs.Settings.{IsValue, has_no_cache, has_types, option_text, value_of}
+use Rattle.bx_engine_words.specs.Settings.{IsValue, has_flag, option_text, value_of}
 
 -- what these settings say
 abbrev pub given_of : List Setting → Given
@@ -26,8 +27,9 @@ given_of settings = record {
   keep = value_of options.Keep settings;
   seed = value_of options.Seed settings;
   pips = value_of options.Pips settings;
-  no_cache = has_no_cache settings;
-  types = has_types settings;
+  no_cache = has_flag flags.NoCache settings;
+  types = has_flag flags.Types settings;
+  graph_cache = has_flag flags.GraphCache settings;
 }
 
 -- the option of the setting was given
@@ -38,8 +40,9 @@ is_given given (Number options.ToolBudget n) = is_some given.tool_budget
 is_given given (Number options.Keep n) = is_some given.keep
 is_given given (Number options.Seed n) = is_some given.seed
 is_given given (Number options.Pips n) = is_some given.pips
-is_given given NoCache = given.no_cache
-is_given given Types = given.types
+is_given given (Flag flags.NoCache) = given.no_cache
+is_given given (Flag flags.Types) = given.types
+is_given given (Flag flags.GraphCache) = given.graph_cache
 
 -- one setting more
 abbrev pub with_setting : Given → Setting → Given
@@ -49,8 +52,9 @@ with_setting given (Number options.ToolBudget n) = record given { tool_budget = 
 with_setting given (Number options.Keep n) = record given { keep = Some n }
 with_setting given (Number options.Seed n) = record given { seed = Some n }
 with_setting given (Number options.Pips n) = record given { pips = Some n }
-with_setting given NoCache = record given { no_cache = true }
-with_setting given Types = record given { types = true }
+with_setting given (Flag flags.NoCache) = record given { no_cache = true }
+with_setting given (Flag flags.Types) = record given { types = true }
+with_setting given (Flag flags.GraphCache) = record given { graph_cache = true }
 
 -- the two texts are an option and its value
 pub record IsNumber (name text : List ℕ) (option : NumberOption) (n : ℕ) : Type 0 where
@@ -61,20 +65,19 @@ pub record IsNumber (name text : List ℕ) (option : NumberOption) (n : ℕ) : T
 -- the setting is a number, which these two texts are
 abbrev pub IsNumberSetting : List ℕ → List ℕ → Setting → Type 0
 IsNumberSetting name text (Number option n) = IsNumber name text option n
-IsNumberSetting name text NoCache = ⊥
-IsNumberSetting name text Types = ⊥
+IsNumberSetting name text (Flag flag) = ⊥
 
 -- the number of a setting is a value of its option
 abbrev pub HasValue : Setting → Type 0
 HasValue (Number option n) = IsValue option n
-HasValue NoCache = ⊤
-HasValue Types = ⊤
+HasValue (Flag flag) = ⊤
 
 -- the build with these settings
 abbrev pub build_with_given : Given → Order
 build_with_given given =
     Build (unwrap_or given.workers DEFAULT_WORKERS) (not given.no_cache)
-    (unwrap_or given.eval_budget DEFAULT_EVAL_BUDGET) (unwrap_or given.tool_budget DEFAULT_TOOL_BUDGET) given.types
+    (unwrap_or given.eval_budget DEFAULT_EVAL_BUDGET) (unwrap_or given.tool_budget DEFAULT_TOOL_BUDGET)
+    given.types given.graph_cache
 
 -- the order of a command with these settings, if none that it needs is missing
 abbrev pub order_with_given : Command → Given → Option Order

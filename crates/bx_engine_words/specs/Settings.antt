@@ -10,10 +10,12 @@ use Rattle.bx_engine_words.specs.declared.order.Order.TheVariants.{Build}
 use Rattle.bx_engine_words.specs.declared.order.TheConstants.{DEFAULT_EVAL_BUDGET, DEFAULT_TOOL_BUDGET}
 use Rattle.bx_engine_words.specs.declared.order.TheConstants.{DEFAULT_WORKERS, MAX_EVAL_BUDGET, MAX_TOOL_BUDGET}
 use Rattle.bx_engine_words.specs.declared.order.TheConstants.{MAX_WORKERS}
+use Rattle.bx_engine_words.specs.declared.setting.FlagOption.{FlagOption}
+use Rattle.bx_engine_words.specs.declared.setting.FlagOption.TheVariants as flags
 use Rattle.bx_engine_words.specs.declared.setting.NumberOption.{NumberOption}
 use Rattle.bx_engine_words.specs.declared.setting.NumberOption.TheVariants as options
 use Rattle.bx_engine_words.specs.declared.setting.Setting.{Setting}
-use Rattle.bx_engine_words.specs.declared.setting.Setting.TheVariants.{Number, NoCache, Types}
+use Rattle.bx_engine_words.specs.declared.setting.Setting.TheVariants.{Number, Flag}
 
 -- ## Options
 
@@ -25,6 +27,12 @@ option_text options.ToolBudget = codes "--tool-budget"
 option_text options.Keep = codes "--keep"
 option_text options.Seed = codes "--seed"
 option_text options.Pips = codes "--pips"
+
+-- the text of an option without a value
+abbrev pub flag_text : FlagOption → List ℕ
+flag_text flags.NoCache = codes "--no-cache"
+flag_text flags.Types = codes "--types"
+flag_text flags.GraphCache = codes "--graph-cache"
 
 -- the least value of an option
 abbrev pub least : NumberOption → ℕ
@@ -53,6 +61,12 @@ same_option options.Seed options.Seed = true
 same_option options.Pips options.Pips = true
 same_option _ _ = false
 
+abbrev pub same_flag : FlagOption → FlagOption → Bool
+same_flag flags.NoCache flags.NoCache = true
+same_flag flags.Types flags.Types = true
+same_flag flags.GraphCache flags.GraphCache = true
+same_flag _ _ = false
+
 -- the text begins with a plus, or with a zero before something else
 abbrev pub odd_start : List ℕ → Bool
 odd_start [] = false
@@ -68,8 +82,7 @@ pub record IsValue (option : NumberOption) (n : ℕ) : Type 0 where
 -- The words begin with this setting, and these come after it. A number is written in decimal digits without
 -- a zero before them, in the word of its option after a `=`, or in the next word.
 abbrev pub BeginWith : List (List ℕ) → Setting → List (List ℕ) → Type 0
-BeginWith words NoCache rest = words ≡ codes "--no-cache" ∷ rest
-BeginWith words Types rest = words ≡ codes "--types" ∷ rest
+BeginWith words (Flag flag) rest = words ≡ flag_text flag ∷ rest
 BeginWith words (Number option n) rest =
     IsValue option n
     × ((words ≡ (option_text option ++ codes "=" ++ decimal n) ∷ rest)
@@ -86,8 +99,7 @@ AreSettings words (s ∷ settings) =
 -- two settings are of one option
 abbrev pub is_same : Setting → Setting → Bool
 is_same (Number a m) (Number b n) = same_option a b
-is_same NoCache NoCache = true
-is_same Types Types = true
+is_same (Flag a) (Flag b) = same_flag a b
 is_same _ _ = false
 
 -- the number that an option is set to
@@ -95,18 +107,16 @@ abbrev pub value_of : NumberOption → List Setting → Option ℕ
 value_of option [] = None
 value_of option (Number other n ∷ settings) =
     if same_option other option then Some n else value_of option settings
-value_of option (NoCache ∷ settings) = value_of option settings
-value_of option (Types ∷ settings) = value_of option settings
+value_of option (Flag flag ∷ settings) = value_of option settings
 
-abbrev pub has_no_cache : List Setting → Bool
-has_no_cache settings = list_any (λ s. is_same s NoCache) settings
-
-abbrev pub has_types : List Setting → Bool
-has_types settings = list_any (λ s. is_same s Types) settings
+-- the option is set
+abbrev pub has_flag : FlagOption → List Setting → Bool
+has_flag flag settings = list_any (λ s. is_same s (Flag flag)) settings
 
 -- the build with these settings, and with the default of each option that is not set
 abbrev pub build_of : List Setting → Order
 build_of settings =
-    Build (unwrap_or (value_of options.Workers settings) DEFAULT_WORKERS) (not (has_no_cache settings))
+    Build (unwrap_or (value_of options.Workers settings) DEFAULT_WORKERS) (not (has_flag flags.NoCache settings))
     (unwrap_or (value_of options.EvalBudget settings) DEFAULT_EVAL_BUDGET)
-    (unwrap_or (value_of options.ToolBudget settings) DEFAULT_TOOL_BUDGET) (has_types settings)
+    (unwrap_or (value_of options.ToolBudget settings) DEFAULT_TOOL_BUDGET) (has_flag flags.Types settings)
+    (has_flag flags.GraphCache settings)

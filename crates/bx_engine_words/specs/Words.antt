@@ -1,5 +1,5 @@
 -- Which words are a command.
-use Rattle.std.specs.Prelude.{◌≡◌, ◌<◌, ◌≤◌, ℕ, List, ◌∷◌, Some, ⊤}
+use Rattle.std.specs.Prelude.{◌≡◌, ◌<◌, ◌≤◌, ℕ, Bool, false, List, ◌∷◌, Some, ⊤}
 use Rattle.std.specs.List.{AllByRecursion, IsDistinct}
 use Rattle.bx_engine_words.specs.declared.command.Command.{Command}
 use Rattle.bx_engine_words.specs.declared.order.Order.{Order}
@@ -26,7 +26,7 @@ pub record Orders (words : List (List ℕ)) (order : Order) : Type 0 where
 
 -- the order is to build
 abbrev pub IsBuild : Order → Type 0
-IsBuild (orders.Build workers cached eval_budget tool_budget types) = ⊤
+IsBuild (orders.Build workers cached eval_budget tool_budget types graphs) = ⊤
 IsBuild orders.Check = ⊥
 IsBuild orders.Repair = ⊥
 IsBuild (orders.Trim keep) = ⊥
@@ -36,9 +36,25 @@ IsBuild (orders.Gen seed pips) = ⊥
 abbrev pub OrdersBuild : List (List ℕ) → Order → Type 0
 OrdersBuild words order = Orders words order × IsBuild order
 
+-- whether the order asks for the store of graphs
+abbrev pub asks_graphs : Order → Bool
+asks_graphs (orders.Build workers cached eval_budget tool_budget types graphs) = graphs
+asks_graphs orders.Check = false
+asks_graphs orders.Repair = false
+asks_graphs (orders.Trim keep) = false
+asks_graphs (orders.Gen seed pips) = false
+
+-- the words are this order, which asks for no store of graphs
+abbrev pub OrdersPlain : List (List ℕ) → Order → Type 0
+OrdersPlain words order = Orders words order × (asks_graphs order ≡ false)
+
+-- the words are this order, which is to build and asks for no store of graphs
+abbrev pub OrdersPlainBuild : List (List ℕ) → Order → Type 0
+OrdersPlainBuild words order = OrdersPlain words order × IsBuild order
+
 -- the order is to check, to repair or to trim the store
 abbrev pub IsCare : Order → Type 0
-IsCare (orders.Build workers cached eval_budget tool_budget types) = ⊥
+IsCare (orders.Build workers cached eval_budget tool_budget types graphs) = ⊥
 IsCare orders.Check = ⊤
 IsCare orders.Repair = ⊤
 IsCare (orders.Trim keep) = ⊤
@@ -46,7 +62,7 @@ IsCare (orders.Gen seed pips) = ⊥
 
 -- how many workers an order asks for
 abbrev pub workers_in : Order → ℕ
-workers_in (orders.Build workers cached eval_budget tool_budget types) = workers
+workers_in (orders.Build workers cached eval_budget tool_budget types graphs) = workers
 workers_in orders.Check = 0
 workers_in orders.Repair = 0
 workers_in (orders.Trim keep) = 0

@@ -3,7 +3,7 @@
 ghost use Rattle.std.specs.Prelude.{◌≡◌, [], MatchOption, false, true, ⊤};
 ghost use Rattle.bx_engine_words.specs.Given.{HasValue, given_of, is_given, with_setting};
 
-use crate::setting::{NumberOption, Setting};
+use crate::setting::{FlagOption, NumberOption, Setting};
 
 /// The value of each option that was given.
 #[derive(Clone, Copy)]
@@ -16,6 +16,7 @@ pub(crate) struct Given {
     pub pips: Option<u32>,
     pub no_cache: bool,
     pub types: bool,
+    pub graph_cache: bool,
 }
 
 impl Given {
@@ -32,6 +33,7 @@ impl Given {
             pips: None,
             no_cache: false,
             types: false,
+            graph_cache: false,
         }
     }
 
@@ -46,8 +48,9 @@ impl Given {
             Setting::Number(NumberOption::Keep, _) => self.keep.is_some(),
             Setting::Number(NumberOption::Seed, _) => self.seed.is_some(),
             Setting::Number(NumberOption::Pips, _) => self.pips.is_some(),
-            Setting::NoCache => self.no_cache,
-            Setting::Types => self.types,
+            Setting::Flag(FlagOption::NoCache) => self.no_cache,
+            Setting::Flag(FlagOption::Types) => self.types,
+            Setting::Flag(FlagOption::GraphCache) => self.graph_cache,
         }
     }
 
@@ -81,12 +84,16 @@ impl Given {
                 pips: Some(number as u32),
                 ..self
             },
-            Setting::NoCache => Given {
+            Setting::Flag(FlagOption::NoCache) => Given {
                 no_cache: true,
                 ..self
             },
-            Setting::Types => Given {
+            Setting::Flag(FlagOption::Types) => Given {
                 types: true,
+                ..self
+            },
+            Setting::Flag(FlagOption::GraphCache) => Given {
+                graph_cache: true,
                 ..self
             },
         }

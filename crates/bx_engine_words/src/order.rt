@@ -39,6 +39,8 @@ pub enum Order {
         tool_budget: u64,
         /// Whether the types of the specification are checked before it is evaluated.
         types: bool,
+        /// Whether pips are taken from and given to the store of graphs, where the cache is used.
+        graphs: bool,
     },
     /// Tells whether the store is honest, and what in it is not.
     Check,

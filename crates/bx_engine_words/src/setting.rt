@@ -4,8 +4,9 @@ ghost use Rattle.std.specs.Prelude.{◌≡◌, ◌<◌, ◌^◌, ◌∷◌, ◌�
 ghost use Rattle.std.specs.Fmt.{decimal};
 ghost use Rattle.bx_engine_words.specs.Commands.{command_of, command_of_option};
 ghost use Rattle.bx_engine_words.specs.Given.{IsNumber, IsNumberSetting};
-ghost use Rattle.bx_engine_words.specs.Settings.{BeginWith, IsValue, odd_start, option_text};
+ghost use Rattle.bx_engine_words.specs.Settings.{BeginWith, IsValue, flag_text, odd_start, option_text};
 ghost use Rattle.bx_engine_words.specs.Settings.{greatest as greatest_of, least as least_of};
+ghost use Rattle.bx_engine_words.specs.declared.setting.FlagOption.{FlagOption as AnyFlag};
 ghost use Rattle.bx_engine_words.specs.declared.setting.NumberOption.{NumberOption as AnyOption};
 ghost use Rattle.bx_engine_words.specs.declared.setting.Setting.{Setting as AnySetting};
 
@@ -23,12 +24,19 @@ pub(crate) enum NumberOption {
     Pips,
 }
 
+/// An option without a value.
+#[derive(Clone, Copy, Debug, PartialEq, Eq)]
+pub(crate) enum FlagOption {
+    NoCache,
+    Types,
+    GraphCache,
+}
+
 /// An option with its value, if it has one.
 #[derive(Clone, Copy, Debug, PartialEq, Eq)]
 pub(crate) enum Setting {
     Number(NumberOption, u64),
-    NoCache,
-    Types,
+    Flag(FlagOption),
 }
 
 impl NumberOption {
@@ -97,6 +105,22 @@ impl NumberOption {
     }
 }
 
+impl FlagOption {
+    /// The flag with this text.
+    fn named(text: &str) -> Option<FlagOption>
+        ensures { MatchOption result
+            ((flag : AnyFlag) → text.now ≡ flag_text flag → ⊥)
+            (λ flag. text.now ≡ flag_text flag) }
+    {
+        match text {
+            "--no-cache" => Some(FlagOption::NoCache),
+            "--types" => Some(FlagOption::Types),
+            "--graph-cache" => Some(FlagOption::GraphCache),
+            _ => None,
+        }
+    }
+}
+
 impl Setting {
     /// The command that has the option.
     pub(crate) fn command(self) -> Command
@@ -104,7 +128,7 @@ impl Setting {
     {
         match self {
             Setting::Number(option, _) => option.command(),
-            Setting::NoCache | Setting::Types => Command::Build,
+            Setting::Flag(_) => Command::Build,
         }
     }
 }
@@ -152,11 +176,8 @@ pub(crate) fn read_setting<'a>(first: &str, rest: &'a [String]) -> Option<(Setti
         → BeginWith (first.now ∷ map string_bytes rest.entry.now) setting after → ⊥)
         (λ x. BeginWith (first.now ∷ map string_bytes rest.entry.now) x.0 (map string_bytes x.1.now)) }
 {
-    if first == "--no-cache" {
-        return Some((Setting::NoCache, rest));
-    }
-    if first == "--types" {
-        return Some((Setting::Types, rest));
+    if let Some(flag) = FlagOption::named(first) {
+        return Some((Setting::Flag(flag), rest));
     }
     if let Some((name, text)) = first.split_once('=') {
         return Some((read_value(name, text)?, rest));

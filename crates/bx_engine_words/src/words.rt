@@ -27,6 +27,7 @@ fn build_with(given: Given) -> Order
         eval_budget: given.eval_budget.unwrap_or(DEFAULT_EVAL_BUDGET),
         tool_budget: given.tool_budget.unwrap_or(DEFAULT_TOOL_BUDGET),
         types: given.types,
+        graphs: given.graph_cache,
     }
 }
 
@@ -70,8 +71,8 @@ fn read_options(command: Command, words: &[String]) -> Option<Order>
 }
 
 /// The order that the words after the program's name are: the word of a command, and then its options, in any order and
-/// each once at most. `build` has `--workers`, `--eval-budget`, `--tool-budget`, `--no-cache` and `--types`; `trim` needs
-/// `--keep`, and `gen` needs `--seed` and `--pips`; `check` and `repair` have none. A number follows a `=` in the word of its
+/// each once at most. `build` has `--workers`, `--eval-budget`, `--tool-budget`, `--no-cache`, `--types` and `--graph-cache`;
+/// `trim` needs `--keep`, and `gen` needs `--seed` and `--pips`; `check` and `repair` have none. A number follows a `=` in the word of its
 /// option, or is the next word.
 pub fn read_words(words: &[String]) -> Result<Order, WordFault>
     ensures { MatchResult result

@@ -3,12 +3,11 @@ use Rattle.std.proofs.Common.{◌≡◌, ℕ, zero, suc, List, [], ◌∷◌, �
 use Rattle.std.specs.Str.{bytes_eq}
 use Rattle.std.proofs.lemmas.List.{take-append-drop}
 use Rattle.std.proofs.lemmas.Slice.Eq.{bytes_eq-Decides}
-use Rattle.bx_io_system.specs.Events.{keep_if, gave, gave_bytes, is_nil, left_next}
+use Rattle.bx_io_disk.specs.Events.{keep_if, gave, gave_bytes, is_nil, left_next, Event, given_of, ended_of}
 use Rattle.std.proofs.Math.Seq.{take-append_seam}
 use Rattle.std.proofs.lemmas.Grind.{common_steps}
-use Rattle.bx_io_system.proofs.Telling.{keep_if_some}
-use Rattle.bx_io_system.specs.declared.kind.Kind.TheVariants as kinds
-use Rattle.bx_io_system.specs.Events.{Event, given_of, ended_of}
+use Rattle.bx_io_disk.proofs.Events.{keep_if_some}
+use Rattle.bx_io_disk.specs.declared.kind.Kind.TheVariants as kinds
 use Rattle.std.proofs.Common.{true, false, append-nil, ◌<◌, ◌≤◌}
 use Rattle.std.proofs.lemmas.Option.{same_Some}
 

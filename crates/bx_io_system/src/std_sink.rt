@@ -3,12 +3,11 @@
 ghost use Rattle.std.specs.Prelude.{◌≡◌, [], ◌∷◌, length, take, MatchResult};
 ghost use Rattle.std.specs.Io.KnownBytes.{WriteAppends};
 ghost use Rattle.std.specs.Io.{WritesAtMost};
-ghost use Rattle.bx_io_system.specs.Events.{failures, took};
-ghost use Rattle.bx_io_system.specs.declared.kind.Kind.TheVariants as kinds;
+ghost use Rattle.bx_io_disk.specs.Events.{failures, took};
+ghost use Rattle.bx_io_disk.specs.declared.kind.Kind.TheVariants as kinds;
 
-use crate::kind::Kind;
-use crate::record::Record;
 use bx_io::{Failed, Sink};
+use bx_io_disk::{Kind, Record};
 use std::io::{self, Write};
 
 /// Any writer as a sink, with the record of what it said it took. Each error of the writer is a fault, as is a
@@ -54,7 +53,7 @@ fn hand<W: Write>(writer: &mut W, log: &mut Record, piece: &[u8]) -> io::Result<
 }
 
 impl<W: Write> Sink for StdSink<W> {
-    ghost use Rattle.bx_io_system.specs.Events.{taken_of};
+    ghost use Rattle.bx_io_disk.specs.Events.{taken_of};
 
     ghost taken = { λ s. taken_of s.log.events };
 

@@ -3,12 +3,11 @@
 ghost use Rattle.std.specs.Prelude.{◌≡◌, ℕ, [], ◌∷◌, List, Some, false, length, take, MatchResult};
 ghost use Rattle.std.specs.Io.KnownBytes.{ReadConsumes};
 ghost use Rattle.std.specs.Io.{ReadsAtMost};
-ghost use Rattle.bx_io_system.specs.Events.{failures, gave};
-ghost use Rattle.bx_io_system.specs.declared.kind.Kind.TheVariants as kinds;
+ghost use Rattle.bx_io_disk.specs.Events.{failures, gave};
+ghost use Rattle.bx_io_disk.specs.declared.kind.Kind.TheVariants as kinds;
 
-use crate::kind::Kind;
-use crate::record::Record;
 use bx_io::{Failed, Source};
+use bx_io_disk::{Kind, Record};
 use std::io::{self, Read};
 
 /// Any reader as a source, with the record of what it gave. It had any bytes at first, and tells what is left of
@@ -58,7 +57,7 @@ fn ask<R: Read>(reader: &mut R, log: &mut Record, into: &mut [u8]) -> io::Result
 }
 
 impl<R: Read> Source for StdSource<R> {
-    ghost use Rattle.bx_io_system.specs.Events.{ended_of, given_of, left_of};
+    ghost use Rattle.bx_io_disk.specs.Events.{ended_of, given_of, left_of};
 
     ghost given = { λ s. given_of s.log.events };
 

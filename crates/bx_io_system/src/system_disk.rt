@@ -6,13 +6,11 @@ ghost use Rattle.std.specs.Fs.{IsFile, file_type, metadata_len};
 ghost use Rattle.std.specs.IoError.{error_kind};
 ghost use Rattle.std.specs.declared.io.ErrorKind.TheVariants.{NotFound, WouldBlock};
 ghost use Rattle.bx_io.specs.Causes.{HasCause};
-ghost use Rattle.bx_io_system.specs.Events.{failures};
-ghost use Rattle.bx_io_system.specs.Files.{IsExcluded, IsFault, IsFaultBut, is_excluded, is_locked, lock_event, lock_fault};
-ghost use Rattle.bx_io_system.specs.declared.kind.Kind.TheVariants as kinds;
+ghost use Rattle.bx_io_disk.specs.Events.{failures};
+ghost use Rattle.bx_io_disk.specs.Files.{IsExcluded, IsFault, IsFaultBut, is_excluded, is_locked, lock_event, lock_fault};
+ghost use Rattle.bx_io_disk.specs.declared.kind.Kind.TheVariants as kinds;
 
-use crate::disk::{Disk, FILE_LIMIT};
-use crate::kind::Kind;
-use crate::record::Record;
+use bx_io_disk::{Disk, FILE_LIMIT, Kind, Record};
 use std::alloc::{AllocError, Global};
 use std::fs::{self, DirEntry, File, Metadata, OpenFile, OpenOptions, ReadDir, TryLockError};
 use std::io::{self, ErrorKind, Read, Write};

@@ -32,7 +32,7 @@ use Rattle.dscript_eval_meaning.specs.declared.fault.EvalKind.TheVariants as kin
 use Rattle.dscript_eval_meaning.specs.Acts.{Act, Acts, Call, Demand}
 use Rattle.dscript_eval_meaning.specs.Callbacks.{callbacks}
 use Rattle.dscript_eval_meaning.specs.Calls.{ambient, applied, call_of_function, items_of, method, plain_method, with_calls}
-use Rattle.dscript_eval_meaning.specs.Evaluating.{Fault, Gives, answered, fails, followed, gives, ◌>>=◌}
+use Rattle.dscript_eval_meaning.specs.Evaluating.{Fault, Gives, fails, followed, gives, ◌>>=◌}
 use Rattle.dscript_eval_meaning.specs.Expressions.{arguments, value}
 use Rattle.dscript_eval_meaning.specs.Frames.{function_frame, within}
 use Rattle.dscript_eval_meaning.specs.Lookups.{function_at, path_at}
@@ -44,7 +44,7 @@ use Rattle.dscript_eval_frames.specs.Forms.{acts_at, value_at}
 use Rattle.dscript_eval_frames.specs.Views.{View}
 use Rattle.dscript_eval_frames.specs.Frames.{frame_of}
 use Rattle.dscript_eval.specs.Bodies.{body_comes}
-use Rattle.dscript_eval_frames.specs.Works.{callee_in, comes, comes_by, comes_with, run, used}
+use Rattle.dscript_eval_frames.specs.Works.{Answer, callee_in, comes, comes_by, comes_with, run, used}
 use Rattle.dscript_eval_frames.specs.declared.frame.Frame.{Frame}
 use Rattle.dscript_eval_frames.specs.declared.work.CallWork.TheVariants as call
 use Rattle.dscript_eval_frames.specs.declared.work.ExprWork.TheVariants as expr
@@ -188,7 +188,7 @@ applied_none v _ args is = refl
 -- the call of a member function that calls no functions
 pub plain_method_move
     : (v : View) (x : Plain) (name : List ℕ) (args : List Plain) → is_callback_named name x ≡ false
-    → comes_by (method (acts_at v) x name args) v ≡ comes_by (answered (method_of v.state.calls x name args)) v
+    → comes_by (method (acts_at v) x name args) v ≡ comes_by (plain_method x name args) v
 unfolding method
 plain_method_move v x name args never =
     ap (λ b. comes_by (cond b (callbacks (acts_at v) (member_named name) (items_of x) args) (plain_method x name args)) v) never
@@ -236,6 +236,29 @@ ambient_stops stop v name args file fault file_is h is =
     let Q : Atoms → Type 0 = λ f. Refuses fault (call_of name f args v.state.calls) in
     subst P (sym is)
     (refused_call (call_of name (path_at v.program v.state.frame.file) args v.state.calls) fault v.state k (subst Q file_is h))
+
+-- a call of a member function that gives a value
+pub method_move
+    : (v u : View) (x y : Plain) (name : List ℕ) (args : List Plain) (after : Calls)
+    → is_callback_named name x ≡ false → method_of v.state.calls x name args ≡ Ok (y, after)
+    → u ≡ record v { state = record v.state { calls = after } }
+    → comes_by (method (acts_at v) x name args) v ≡ comes_by (gives y) u
+method_move v u x y name args after never is changed =
+    plain_method_move v x name args never
+    ∙ ap (λ r. followed (with_calls v.state r) (λ z later. run v.program v.work On v.openable z later)) is
+    ∙ ap (λ (w : View). comes_by (gives y) w) (sym changed)
+
+-- a call of a member function that is refused
+pub method_stops
+    : (stop : Stop) (v : View) (x : Plain) (name : List ℕ) (args : List Plain) (fault : SdkFault)
+    → is_callback_named name x ≡ false → Refuses fault (method_of v.state.calls x name args)
+    → stop ≡ stop_in v.state.frame.file fault → StopsWith stop (comes_by (method (acts_at v) x name args) v)
+method_stops stop v x name args fault never h is =
+    let k : Plain → Gives (Unit {0}) = λ y later. run v.program v.work On v.openable y later in
+    let P : Stop → Type 0 = λ e. StopsWith e (comes_by (method (acts_at v) x name args) v) in
+    let Q : Answer → Type 0 = λ a. StopsWith (stop_in v.state.frame.file fault) a in
+    subst P (sym is)
+    (subst Q (sym (plain_method_move v x name args never)) (refused_call (method_of v.state.calls x name args) fault v.state k h))
 
 -- ## Arguments
 

@@ -2,14 +2,15 @@
 use Rattle.std.proofs.Common.{◌≡◌, ℕ, ◌+◌, List, [], ◌∷◌, drop, Result, Ok, Err, refl, ap, sym, ◌∙◌}
 use Rattle.std.specs.Prelude.{slice_get}
 use Rattle.bx_tree.specs.Trees.{Files}
+use Rattle.dscript_sdk_calls.specs.Sources.{Answers, tree_answers}
 use Rattle.dscript_program.specs.ProgramData.{FileData, FunctionData, ProgramData}
 use Rattle.dscript_value.specs.Plain as plain
 use Rattle.dscript_eval_meaning.specs.Acts.{Acts}
 use Rattle.dscript_eval_meaning.specs.Answers.{Stops}
 use Rattle.dscript_eval_meaning.specs.Evaluating.{Stop, followed, gives, ◌>>◌}
 use Rattle.dscript_eval_meaning.specs.Lookups.{path_at}
-use Rattle.dscript_eval_meaning.specs.Meaning.{Refused, Unnumbered, acts, demand_decls, demand_files, evaluated, meaning}
-use Rattle.dscript_eval_meaning.specs.Meaning.{pips_or_refusal, start}
+use Rattle.dscript_eval_meaning.specs.Meaning.{Refused, Unnumbered, acts, answered_meaning, demand_decls, demand_files, evaluated, made_or_refusal}
+use Rattle.dscript_eval_meaning.specs.Meaning.{meaning, pips_or_refusal, start}
 use Rattle.dscript_sdk_pips.specs.States.{State as Calls, no_calls}
 use Rattle.dscript_value.specs.Plain.{Plain}
 use Rattle.dscript_eval_meaning.specs.Constants.{Table, all_waiting}
@@ -48,26 +49,34 @@ all_demands act (f ∷ fs) s =
     ∙ followed-same (demand_decls act 0 0 f.decls s) _ _ (λ x s1. followed-unit (demand_files act 1 fs s1))
 
 pub evaluated-comes
-    : (p : ProgramData) (sources : Files) (budget : ℕ)
-    → evaluated p sources budget ≡ comes (first_view p sources budget)
+    : (p : ProgramData) (answers : Answers) (budget : ℕ)
+    → evaluated p answers budget ≡ comes (first_view p answers budget)
 unfolding evaluated
-evaluated-comes p sources budget = sym (all_demands (acts p MAX_OPEN_CALLS) p.files (start p sources budget))
+evaluated-comes p answers budget = sym (all_demands (acts p MAX_OPEN_CALLS) p.files (start p answers budget))
 
 -- the pips at the end are those of the program
 pub built
     : (p : ProgramData) (sources : Files) (budget : ℕ) (end : State)
-    → comes (first_view p sources budget) ≡ Ok (tt, end) → meaning p sources budget ≡ Ok end.calls.pips
+    → comes (first_view p (tree_answers sources) budget) ≡ Ok (tt, end) → meaning p sources budget ≡ Ok end.calls.pips
 unfolding meaning
-built p sources budget end is = ap (pips_or_refusal p) (evaluated-comes p sources budget ∙ is)
+built p sources budget end is = ap (pips_or_refusal p) (evaluated-comes p (tree_answers sources) budget ∙ is)
+
+-- the pips and the asks at the end are those of the program
+pub asked
+    : (p : ProgramData) (answers : Answers) (budget : ℕ) (end : State)
+    → comes (first_view p answers budget) ≡ Ok (tt, end)
+    → answered_meaning p answers budget ≡ Ok (end.calls.pips, end.calls.asks)
+unfolding answered_meaning
+asked p answers budget end is = ap (made_or_refusal p) (evaluated-comes p answers budget ∙ is)
 
 -- why the machine stopped is why the program is refused
 pub answered_as
     : (p : ProgramData) (sources : Files) (budget : ℕ) (stop : MachineStop) (fault : EvalFault)
-    → StopsWith stop (comes (first_view p sources budget)) → IsAnsweredAs p stop fault → Stops p sources budget fault
+    → StopsWith stop (comes (first_view p (tree_answers sources) budget)) → IsAnsweredAs p stop fault → Stops p sources budget fault
 unfolding meaning
 answered_as p sources budget stop eval_faults.Memory is as' = tt
 answered_as p sources budget (stops.Fault kind file message) (eval_faults.Fault k path m) is as' =
-    ap (pips_or_refusal p) (evaluated-comes p sources budget ∙ is)
+    ap (pips_or_refusal p) (evaluated-comes p (tree_answers sources) budget ∙ is)
     ∙ ap (λ x. Err (Refused x (path_at p file) message)) (sym as'.0)
     ∙ ap (λ x. Err (Refused k x message)) (sym as'.1)
     ∙ ap (λ x. Err (Refused k path x)) (sym as'.2)
@@ -92,13 +101,13 @@ state_at budget frame table calls = record { left = budget; frame = frame; const
 
 -- the machine before the first step, part by part
 pub first_is
-    : (p : ProgramData) (functions : List FunctionData) (sources : Files) (budget : ℕ) (work : List Work) (given : Plain)
+    : (p : ProgramData) (functions : List FunctionData) (answers : Answers) (budget : ℕ) (work : List Work) (given : Plain)
     (frame : states.Frame) (table : Table) (calls : Calls) → functions ≡ p.functions
     → work ≡ works.Stmt (stmt.Demands 0 0) ∷ [] → given ≡ plain.Undefined
-    → frame ≡ constant_frame 0 → table ≡ all_waiting p → calls ≡ no_calls sources
+    → frame ≡ constant_frame 0 → table ≡ all_waiting p → calls ≡ no_calls answers
     → view_at (record { files = p.files; functions = functions }) work given (state_at budget frame table calls)
-    ≡ first_view p sources budget
-first_is p functions sources budget work given frame table calls functions_are work_is given_is frame_is table_is calls_is =
+    ≡ first_view p answers budget
+first_is p functions answers budget work given frame table calls functions_are work_is given_is frame_is table_is calls_is =
     let first : List Work = works.Stmt (stmt.Demands 0 0) ∷ [] in
     ap (λ fs. view_at (record { files = p.files; functions = fs }) work given (state_at budget frame table calls)) functions_are
     ∙ ap (λ w. view_at p w given (state_at budget frame table calls)) work_is

@@ -1,6 +1,6 @@
 -- Where the machine begins, and how it tells why it stopped.
 use Rattle.std.specs.Prelude.{◌≡◌, ℕ, [], ◌∷◌}
-use Rattle.bx_tree.specs.Trees.{Files}
+use Rattle.dscript_sdk_calls.specs.Sources.{Answers}
 use Rattle.dscript_program.specs.ProgramData.{ProgramData}
 use Rattle.dscript_value.specs.Plain as plain
 use Rattle.dscript_eval_meaning.specs.Lookups.{path_at}
@@ -15,13 +15,13 @@ use Rattle.dscript_eval_frames.specs.declared.work.StmtWork.TheVariants as stmt
 use Rattle.dscript_eval_frames.specs.declared.work.Work.TheVariants as works
 
 -- the machine before the first step
-abbrev pub first_view : ProgramData → Files → ℕ → View
-first_view p sources budget = record {
+abbrev pub first_view : ProgramData → Answers → ℕ → View
+first_view p answers budget = record {
   program = p;
   work = works.Stmt (stmt.Demands 0 0) ∷ [];
   given = plain.Undefined;
   openable = MAX_OPEN_CALLS;
-  state = start p sources budget;
+  state = start p answers budget;
 }
 
 -- a fault is answered with the path of its file; of want of memory nothing is said

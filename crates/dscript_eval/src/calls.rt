@@ -267,6 +267,8 @@ fn call_method(
     if is_callback(x, name) {
         return callbacks(machine, x, name, args);
     }
-    let outcome = method(machine.alloc, &machine.calls, x, name, args);
-    machine.finish(outcome)
+    match method(machine.alloc, &mut machine.calls, x, name, args) {
+        Ok(value) => machine.answer(value),
+        Err(fault) => Err(stop_of(fault, machine.frame.file)),
+    }
 }

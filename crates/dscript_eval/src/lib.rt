@@ -15,4 +15,5 @@ mod statements;
 mod statements_now;
 
 pub use dscript_eval_meaning::{EvalFault, EvalKind, MAX_OPEN_CALLS};
-pub use evaluation::evaluate;
+pub use dscript_sdk::TreeAsk;
+pub use evaluation::{Asked, evaluate, evaluate_asked};

@@ -3,6 +3,7 @@ use Rattle.std.specs.Prelude.{ℕ, List, map, reverse}
 use Rattle.dscript_program.specs.ProgramData.{ProgramData}
 use Rattle.dscript_program.specs.Views.{program_data}
 use Rattle.dscript_value.specs.Plain.{Plain, plain_of}
+use Rattle.dscript_sdk_pips.specs.States.{over_tree}
 use Rattle.dscript_eval_meaning.specs.States.{State}
 use Rattle.dscript_eval_frames.specs.Codes.{code_data}
 use Rattle.dscript_eval_frames.specs.Frames.{frame_of}
@@ -29,6 +30,6 @@ seen m = record {
     left = m.left;
     frame = frame_of m.frame;
     constants = statuses m.constants.items;
-    calls = m.calls;
+    calls = over_tree m.calls;
   };
 }

@@ -4,6 +4,7 @@ use Rattle.std.proofs.Common.{refl, sym, ap, ◌∙◌, subst}
 use Rattle.std.proofs.lemmas.Bool.{eq-eqb}
 use Rattle.bx_tree.specs.Trees.{Files}
 use Rattle.pip_model_types.specs.declared.pip.Pip.{Pip}
+use Rattle.dscript_sdk_calls.specs.Sources.{tree_answers}
 use Rattle.dscript_value.specs.declared.parts.Callee.TheVariants as callees
 use Rattle.dscript_value.specs.Plain.{Plain}
 use Rattle.dscript_program.specs.ProgramData as declared
@@ -102,11 +103,11 @@ pub all_calls_are_full
 unfolding meaning evaluated
 all_calls_are_full p otherwise sources budget nothing =
     let n = MAX_OPEN_CALLS in
-    let s = start p sources budget in
+    let s = start p (tree_answers sources) budget in
     let full = acts_or p marked n in
     let kept : Comes (IsFull p) (Unit {0}) (Whatever (Unit {0})) s (demand_files full 0 p.files s) =
     files_kept (IsFull p) p (all_hold p nothing) full (full_kept p nothing n) 0 p.files [] s (no_growth [])
-    (start_sound (IsFull p) p sources budget) in
+    (start_sound (IsFull p) p (tree_answers sources) budget) in
     let other : demand_files (acts_or p otherwise n) 0 p.files s ≡ demand_files full 0 p.files s =
     files_alike IsMark full (acts_or p otherwise n) (otherwise_alike p otherwise n) 0 p.files s
     (no_excuse p s (demand_files full 0 p.files s) kept) in

@@ -1,11 +1,15 @@
 pub mod Said
 pub mod SaidForms
 pub mod SaidPrograms
+pub mod HeardCalls
+pub mod Heard
+pub mod HeardForms
+pub mod HeardPrograms
 pub mod MadeValues
 pub mod MadeOutcomes
 pub mod MadeOperators
-pub mod MadeMembers
 pub mod MadeCalls
+pub mod MadeMembers
 pub mod MadeStates
 pub mod MadeForms
 pub mod MadePrograms

@@ -9,7 +9,6 @@ use Rattle.std.specs.declared.cmp.Ordering.{Ordering}
 use Rattle.std.proofs.lemmas.List.Elements.{All-from_recursion}
 use Rattle.bx_tree.specs.Paths.{Atoms}
 use Rattle.bx_tree.specs.FileInputs.{input_path}
-use Rattle.bx_tree.specs.Trees.{Files}
 use Rattle.bx_tree.specs.declared.file_input.FileInput.{FileInput}
 use Rattle.bx_tree.specs.declared.file_input.FileInput.TheVariants.{Made}
 use Rattle.bx_tree.proofs.Lists.{all_append}
@@ -53,8 +52,10 @@ use Rattle.dscript_sdk_calls.specs.CmdFlag.{cmd_flag, flagged}
 use Rattle.dscript_sdk_calls.specs.CmdOption.{cmd_option}
 use Rattle.dscript_sdk_calls.specs.ContractAssert.{contract_assert, unless_true}
 use Rattle.dscript_sdk_calls.specs.ContractFail.{contract_fail}
-use Rattle.dscript_sdk_calls.specs.Globs.{glob_files, pattern_in, source_values}
-use Rattle.dscript_sdk_calls.specs.Sources.{files_found}
+use Rattle.dscript_sdk_calls.specs.Globs.{asked_glob, found_files, glob_files, source_values}
+use Rattle.dscript_sdk_calls.specs.Sources.{Answers}
+use Rattle.dscript_sdk_calls.specs.declared.tree_ask.TreeAsk.{TreeAsk}
+use Rattle.dscript_sdk_calls.specs.declared.tree_ask.TreeAsk.TheVariants.{Below}
 use Rattle.dscript_sdk_execute.specs.declared.dependency.Dependency.{Dependency}
 use Rattle.dscript_sdk_execute.specs.declared.dependency.Dependency.TheVariants as dependencies
 use Rattle.dscript_sdk_execute.specs.Execute.{artifact_of, artifacts_of, asked_process, clashes_console, dir_input}
@@ -73,7 +74,7 @@ use Rattle.dscript_sdk_pips.specs.SealPartialDirectory as partial
 use Rattle.dscript_sdk_pips.specs.SealPartialDirectory.{seal_partial_directory}
 use Rattle.dscript_sdk_pips.specs.SealSourceDirectory.{form_of_rest, seal_source_directory, sealed_sources}
 use Rattle.dscript_sdk_pips.specs.Seals.{are_below, lists_sources, sealed_in, with_sealed}
-use Rattle.dscript_sdk_pips.specs.States.{Change, State, count_in, unchanged, with_pip}
+use Rattle.dscript_sdk_pips.specs.States.{Change, State, asking, count_in, unchanged, with_ask, with_pip}
 use Rattle.dscript_sdk_pips.specs.WriteAllLines.{write_all_lines, written_lines}
 use Rattle.dscript_sdk_pips.specs.WriteAllText.{with_write, write_all_text, written_text}
 use Rattle.dscript_sdk_pips.specs.declared.limits.TheConstants.{MAX_NUMBERED_PIPS}
@@ -119,9 +120,20 @@ module _ (F : ℕ → ℕ → Type 0) where
   abbrev pub Changes : State → Change → Type 0
   Changes s change = If (λ (r : Plain × State). IsChanged s r.0 r.1) change
 
-  none_changed : (outcome : Outcome Plain) (s : State) → AllFit s.pips → If (IsMade F s.pips) outcome → Changes s (unchanged outcome s)
+  pub none_changed : (outcome : Outcome Plain) (s : State) → AllFit s.pips → If (IsMade F s.pips) outcome → Changes s (unchanged outcome s)
   none_changed (Ok x) s fit h = record { grows = no_growth s.pips; fit = fit; made = h }
   none_changed (Err fault) s fit h = tt
+
+  asked_changed
+      : (outcome : Outcome (Plain × TreeAsk)) (s : State) → AllFit s.pips
+      → If (λ (r : Plain × TreeAsk). IsMade F s.pips r.0) outcome → Changes s (asking outcome s)
+  asked_changed (Ok r) s fit h = record { grows = no_growth s.pips; fit = fit; made = h }
+  asked_changed (Err fault) s fit h = tt
+
+  -- an ask before a call changes no pips
+  from_asked : (ask : TreeAsk) (s : State) (change : Change) → Changes (with_ask ask s) change → Changes s change
+  from_asked ask s (Ok r) h = record { grows = h.grows; fit = h.fit; made = h.made }
+  from_asked ask s (Err fault) h = tt
 
   new_pip
       : (spec : Atoms) (kind : PipKind) (value : ℕ → Plain) (s : State) → AllFit s.pips
@@ -167,11 +179,11 @@ module _ (F : ℕ → ℕ → Type 0) where
         (λ dir l. and_then (AllByRecursion (IsFileAmong pips)) P (list_in file_in two.1) _
         (list_made F pips (IsFileAmong pips) file_in (file_made F pips) two.1 k.1) (λ files m. m)))
 
-    full_made : (sources : Files) (args : List Plain) → AreMade F pips args → If IsSealMade (full.asked_seal sources args)
-    full_made sources args h =
+    full_made : (answers : Answers) (args : List Plain) → AreMade F pips args → If IsSealMade (full.asked_seal answers args)
+    full_made answers args h =
         and_then (λ (given : Atoms × List FileInput). AllByRecursion (IsFileAmong pips) given.1) IsSealMade
         (sealed_in args) _ (sealed args h)
-        (λ given k. chosen IsSealMade (are_below given.0 given.1 && lists_sources sources given.0 given.1)
+        (λ given k. chosen IsSealMade (are_below given.0 given.1 && lists_sources (answers (Below given.0)) given.1)
         (Ok (record { form = Full; root = given.0; files = files_by_path given.1 })) (Err BadArgument)
         (by_path_made (IsFileAmong pips) given.1 k) tt)
 
@@ -410,14 +422,24 @@ module _ (F : ℕ → ℕ → Type 0) where
     sources_made [] = tt
     sources_made (path ∷ paths) = (tt, sources_made paths)
 
-    glob_call : (deep : Bool) (args : List Plain) (sources : Files) → If (IsMade F pips) (glob_files deep args sources)
+    glob_call
+        : (deep : Bool) (args : List Plain) (answers : Answers)
+        → If (λ (r : Plain × TreeAsk). IsMade F pips r.0) (glob_files deep args answers)
     unfolding glob_files
-    glob_call deep args sources =
-        and_then (Any (Plain × Plain)) (IsMade F pips) (two_of args) _ (anything (two_of args))
-        (λ two k. and_then (Any Atoms) (IsMade F pips) (directory_in two.0) _ (anything (directory_in two.0))
-        (λ dir l. and_then (Any (List ℕ)) (IsMade F pips) (pattern_in two.1) _ (anything (pattern_in two.1))
-        (λ pattern m. list_answered F pips (source_values (files_found sources dir pattern deep))
-        (sources_made (files_found sources dir pattern deep)))))
+    glob_call deep args answers =
+        let P : Plain × TreeAsk → Type 0 = λ r. IsMade F pips r.0 in
+        and_then (Any TreeAsk) P (asked_glob deep args) _ (anything (asked_glob deep args))
+        (λ ask k. and_then (IsMade F pips) P (found_files (answers ask)) _
+        (list_answered F pips (source_values (answers ask)) (sources_made (answers ask))) (λ files m. m))
+
+  seal_added
+      : (spec : Atoms) (d : SealDesc) (s : State) → AllFit s.pips → AllByRecursion (IsFileAmong s.pips) d.files
+      → Changes s (with_sealed spec d s)
+  seal_added spec d s fit h =
+      new_pip spec (kinds.Seal d) (λ number. plain.Static (static_dirs.Seal number d.root)) s fit
+      (All-from_recursion (IsFileAmong s.pips) d.files h)
+      (λ pips e. and_at (λ (pip : Pip). IsSealAt d.root pip.kind) (slice_get pips (length s.pips))
+      (record { spec = spec; kind = kinds.Seal d }) e refl)
 
   -- ## All calls
 
@@ -433,13 +455,6 @@ module _ (F : ℕ → ℕ → Type 0) where
         new_pip spec (kinds.Copy d) (λ number. plain.File (Made d.to number)) s fit h
         (λ pips e. and_at (λ (pip : Pip). MakesFile d.to pip.kind) (slice_get pips (length s.pips))
         (record { spec = spec; kind = kinds.Copy d }) e refl)
-
-    new_seal : (d : SealDesc) → AllByRecursion (IsFileAmong s.pips) d.files → Changes s (with_sealed spec d s)
-    new_seal d h =
-        new_pip spec (kinds.Seal d) (λ number. plain.Static (static_dirs.Seal number d.root)) s fit
-        (All-from_recursion (IsFileAmong s.pips) d.files h)
-        (λ pips e. and_at (λ (pip : Pip). IsSealAt d.root pip.kind) (slice_get pips (length s.pips))
-        (record { spec = spec; kind = kinds.Seal d }) e refl)
 
     new_process : (d : ProcessDesc) → NamesAmong s.pips (kinds.Process d) → Changes s (with_pip spec (kinds.Process d) plain.Process s)
     new_process d h =
@@ -469,18 +484,21 @@ module _ (F : ℕ → ℕ → Type 0) where
     full_call : Changes s (seal_directory spec args s)
     unfolding seal_directory
     full_call =
-        and_then (IsSealMade s.pips) C (full.asked_seal s.sources args) _ (full_made s.pips s.sources args all)
-        (λ d k. new_seal d k)
+        and_then (IsSealMade s.pips) C (full.asked_seal s.answers args) _ (full_made s.pips s.answers args all)
+        (λ d k. from_asked (Below d.root) s (with_sealed spec d (with_ask (Below d.root) s))
+        (seal_added spec d (with_ask (Below d.root) s) fit k))
 
     partial_call : Changes s (seal_partial_directory spec args s)
     unfolding seal_partial_directory
     partial_call =
-        and_then (IsSealMade s.pips) C (partial.asked_seal args) _ (partial_made s.pips args all) (λ d k. new_seal d k)
+        and_then (IsSealMade s.pips) C (partial.asked_seal args) _ (partial_made s.pips args all)
+        (λ d k. seal_added spec d s fit k)
 
     source_call : Changes s (seal_source_directory spec args s)
     unfolding seal_source_directory
     source_call =
-        and_then (IsSealMade s.pips) C (sealed_sources args) _ (sources_sealed s.pips args) (λ d k. new_seal d k)
+        and_then (IsSealMade s.pips) C (sealed_sources args) _ (sources_sealed s.pips args)
+        (λ d k. seal_added spec d s fit k)
 
     execute_call : Changes s (execute spec args s)
     unfolding execute
@@ -519,5 +537,5 @@ module _ (F : ℕ → ℕ → Type 0) where
     call_made calls.Fail = none_changed (contract_fail args) s fit (fail_call s.pips args)
     call_made calls.Assert = none_changed (contract_assert args) s fit (assert_call s.pips args)
     call_made calls.Requires = none_changed (contract_assert args) s fit (assert_call s.pips args)
-    call_made calls.Glob = none_changed (glob_files false args s.sources) s fit (glob_call s.pips false args s.sources)
-    call_made calls.GlobRecursive = none_changed (glob_files true args s.sources) s fit (glob_call s.pips true args s.sources)
+    call_made calls.Glob = asked_changed (glob_files false args s.answers) s fit (glob_call s.pips false args s.answers)
+    call_made calls.GlobRecursive = asked_changed (glob_files true args s.answers) s fit (glob_call s.pips true args s.answers)

@@ -114,7 +114,7 @@ module _ (F : ℕ → ℕ → Type 0) where
       : (pips : List Pip) (x : Plain) (name : List ℕ) (args : List Plain) → IsMade F pips x → AreMade F pips args
       → Keeps F Plain (IsMade F) pips (plain_method x name args)
   plain_method_kept pips x name args h all =
-      answer_at F Plain (IsMade F) pips (λ s. method_of s.calls x name args)
+      changed F pips (λ s. method_of s.calls x name args)
       (λ s grows sound. method_made F s.calls sound.fit x name args (still_made F pips (pips_of s) grows x h)
       (all_still F pips (pips_of s) grows args all))
 

@@ -40,19 +40,23 @@ use Rattle.dscript_sdk_members.specs.PathMembers.{path_function, with_extension}
 use Rattle.dscript_sdk_members.specs.TextMembers.{pieces_after, split_by, text_function, text_property}
 use Rattle.dscript_sdk_members.specs.declared.member.Member.{Member}
 use Rattle.dscript_sdk_members.specs.declared.member.Member.TheVariants as members
-use Rattle.dscript_sdk_calls.specs.Sources.{files_below, files_directly_in}
-use Rattle.dscript_sdk.specs.Members.{call_of_member, function_at, function_named, is_function_of, member_answer}
-use Rattle.dscript_sdk.specs.Members.{member_of, method_of, or_else, own_member, property_at, property_or_missing}
+use Rattle.dscript_sdk_calls.specs.Sources.{directly_in}
+use Rattle.dscript_sdk_calls.specs.declared.tree_ask.TreeAsk.{TreeAsk}
+use Rattle.dscript_sdk_calls.specs.declared.tree_ask.TreeAsk.TheVariants.{Below}
+use Rattle.dscript_sdk.specs.Members.{answer_with, call_of_member, function_ask_named, function_at, function_named}
+use Rattle.dscript_sdk.specs.Members.{is_function_of, member_answer, member_of, method_answer, method_of, or_else, own_member}
+use Rattle.dscript_sdk.specs.Members.{property_at, property_or_missing}
 use Rattle.dscript_sdk.specs.ProcessMembers.{declared_by, directories_of_kind, files_of_kind, process_function}
 use Rattle.dscript_sdk.specs.SealMembers.{held_by, held_by_kind, held_by_pip, seal_members}
 use Rattle.dscript_sdk.specs.StaticMembers.{file_with, seal_function, static_function, static_property}
 use Rattle.dscript_sdk_pips.specs.States.{State}
+use Rattle.dscript_eval_laws.proofs.MadeCalls.{Changes, none_changed}
 use Rattle.dscript_eval_laws.proofs.MadeOutcomes.{Any, If, IfThere, and_then, anything, chosen, decided, either}
 use Rattle.dscript_eval_laws.proofs.MadeOutcomes.{files_made, function_answered, in_list, list_answered}
 use Rattle.dscript_eval_laws.proofs.MadeOutcomes.{number_answered, one_made, text_answered, texts_made, there_made}
 use Rattle.dscript_eval_laws.proofs.MadeOutcomes.{there_or, unless_there}
 use Rattle.dscript_eval_laws.proofs.MadeValues.{AllFit, AreMade, IsMade, front_grows, items_made}
-use Rattle.dscript_eval_laws.proofs.MadeValues.{members_made, still_file}
+use Rattle.dscript_eval_laws.proofs.MadeValues.{members_made, no_growth, still_file}
 
 -- ## What a process declares
 
@@ -110,15 +114,15 @@ module _ (F : ℕ → ℕ → Type 0) where
     by_form
         : (form : SealForm) (root : Atoms) (files : List FileInput)
         → AllByRecursion (IsFileAmong s.pips) files
-        → AllByRecursion (IsFileAmong s.pips) (held_by s.sources form root files)
+        → AllByRecursion (IsFileAmong s.pips) (held_by s.answers form root files)
     by_form forms.Full root files h = h
     by_form forms.Partial root files h = h
-    by_form forms.SourceTop root files h = sources_made (files_directly_in s.sources root)
-    by_form forms.SourceAll root files h = sources_made (files_below s.sources root)
+    by_form forms.SourceTop root files h = sources_made (directly_in root (s.answers (Below root)))
+    by_form forms.SourceAll root files h = sources_made (s.answers (Below root))
 
     by_kind
         : (number : ℕ) (kind : PipKind) → NamesAmong (take number s.pips) kind
-        → AllByRecursion (IsFileAmong s.pips) (held_by_kind s.sources kind)
+        → AllByRecursion (IsFileAmong s.pips) (held_by_kind s.answers kind)
     by_kind number (kinds.Seal d) h =
         by_form d.form d.root d.files
         (all_weaker (IsFileAmong (take number s.pips)) (IsFileAmong s.pips)
@@ -130,7 +134,7 @@ module _ (F : ℕ → ℕ → Type 0) where
 
     by_pip
         : (number : ℕ) (o : Option Pip) → slice_get s.pips number ≡ o
-        → AllByRecursion (IsFileAmong s.pips) (held_by_pip s.sources o)
+        → AllByRecursion (IsFileAmong s.pips) (held_by_pip s.answers o)
     by_pip number None e = tt
     by_pip number (Some pip) e = by_kind number pip.kind (fit number pip e)
 
@@ -365,9 +369,21 @@ module _ (F : ℕ → ℕ → Type 0) where
         and_then Good Good (member_of s x name) _ (member_made x name h) (λ y l. tt)
     called_made x name args h all (Some function) k = k args all
 
+    method_answered
+        : (x : Plain) (name : List ℕ) (args : List Plain) → Good x → AreMade F s.pips args
+        → If Good (method_answer s x name args)
+    unfolding method_answer
+    method_answered x name args h all =
+        called_made x name args h all (function_named s x (member_named name)) (named_made x (member_named name) h)
+
+    with_made : (ask : Option TreeAsk) (answer : Outcome Plain) → If Good answer → Changes F s (answer_with ask answer s)
+    with_made None answer h = none_changed F answer s fit h
+    with_made (Some ask) (Ok x) h = record { grows = no_growth s.pips; fit = fit; made = h }
+    with_made (Some ask) (Err fault) h = tt
+
     pub method_made
         : (x : Plain) (name : List ℕ) (args : List Plain) → Good x → AreMade F s.pips args
-        → If Good (method_of s x name args)
+        → Changes F s (method_of s x name args)
     unfolding method_of
     method_made x name args h all =
-        called_made x name args h all (function_named s x (member_named name)) (named_made x (member_named name) h)
+        with_made (function_ask_named s x (member_named name)) (method_answer s x name args) (method_answered x name args h all)

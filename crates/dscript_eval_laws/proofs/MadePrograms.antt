@@ -4,6 +4,7 @@ use Rattle.std.specs.List.{AllByRecursion}
 use Rattle.bx_tree.specs.Trees.{Files}
 use Rattle.pip_model_types.specs.Makers.{IsPipList}
 use Rattle.pip_model_types.specs.declared.pip.Pip.{Pip}
+use Rattle.dscript_sdk_calls.specs.Sources.{Answers, tree_answers}
 use Rattle.dscript_value.specs.declared.parts.Callee.TheVariants as callees
 use Rattle.dscript_value.specs.Plain.{Plain}
 use Rattle.dscript_program.specs.ProgramData as kinds
@@ -116,8 +117,8 @@ module _ (F : ℕ → ℕ → Type 0) where
   all_waiting_made pips [] = tt
   all_waiting_made pips (f ∷ fs) = (waiting_made pips f.decls, all_waiting_made pips fs)
 
-  pub start_sound : (p : ProgramData) (sources : Files) (budget : ℕ) → IsSound F (start p sources budget)
-  start_sound p sources budget = record {
+  pub start_sound : (p : ProgramData) (answers : Answers) (budget : ℕ) → IsSound F (start p answers budget)
+  start_sound p answers budget = record {
     fit = none_fit;
     frame = no_values [] 0;
     constants = all_waiting_made [] p.files;
@@ -158,8 +159,8 @@ pub gives_pip_list
     → IsPipList pips
 unfolding meaning evaluated
 gives_pip_list p sources budget pips is =
-    let s = start p sources budget in
+    let s = start p (tree_answers sources) budget in
     list_of p s (demand_files (acts p MAX_OPEN_CALLS) 0 p.files s)
     (files_kept AnyNumber p (any_holds p) (acts p MAX_OPEN_CALLS) (acts_kept p MAX_OPEN_CALLS) 0 p.files [] s (no_growth [])
-    (start_sound AnyNumber p sources budget))
+    (start_sound AnyNumber p (tree_answers sources) budget))
     pips is

@@ -4,6 +4,7 @@ use Rattle.std.proofs.Common.{Err, refl, sym, ◌∙◌}
 use Rattle.bx_tree.specs.Paths.{Atoms}
 use Rattle.dscript_eval_meaning.specs.declared.fault.EvalKind.{EvalKind}
 use Rattle.bx_tree.specs.Trees.{Files}
+use Rattle.dscript_sdk_calls.specs.Sources.{tree_answers}
 use Rattle.dscript_value.specs.declared.parts.Callee.TheVariants as callees
 use Rattle.dscript_value.specs.Plain.{Plain}
 use Rattle.dscript_program.specs.ProgramData as kinds
@@ -84,6 +85,6 @@ pub user_says
     → meaning p sources budget ≡ Err (Refused kind file (Some message)) → kind ≡ faults.User
 unfolding meaning evaluated
 user_says p sources budget kind file message is =
-    said_refusal p (demand_files (acts p MAX_OPEN_CALLS) 0 p.files (start p sources budget))
-    ((files_said p (acts p MAX_OPEN_CALLS) (acts_said p MAX_OPEN_CALLS) 0 p.files (start p sources budget)).says budget)
+    said_refusal p (demand_files (acts p MAX_OPEN_CALLS) 0 p.files (start p (tree_answers sources) budget))
+    ((files_said p (acts p MAX_OPEN_CALLS) (acts_said p MAX_OPEN_CALLS) 0 p.files (start p (tree_answers sources) budget)).says budget)
     kind file message is

@@ -2,6 +2,7 @@
 use Rattle.std.specs.Prelude.{◌≡◌, ℕ, zero, suc, ◌==◌, Bool, true, if◌then◌else◌, List, [], length, Option, Some, Result}
 use Rattle.bx_tree.specs.Trees.{Files}
 use Rattle.pip_model_types.specs.declared.pip.Pip.{Pip}
+use Rattle.dscript_sdk_calls.specs.Sources.{tree_answers}
 use Rattle.dscript_value.specs.declared.parts.Callee.TheVariants as callees
 use Rattle.dscript_program.specs.ProgramData as declared
 use Rattle.dscript_program.specs.ProgramData.{KindData, ProgramData}
@@ -30,7 +31,7 @@ acts_or p otherwise (suc more) a = if is_full p a then opened p (acts_or p other
 -- the meaning of a program in which calls that are not full are evaluated otherwise
 abbrev pub meaning_or : ProgramData → Acts → Files → ℕ → Result (List Pip) Refusal
 meaning_or p otherwise sources budget =
-    pips_or_refusal p (demand_files (acts_or p otherwise MAX_OPEN_CALLS) 0 p.files (start p sources budget))
+    pips_or_refusal p (demand_files (acts_or p otherwise MAX_OPEN_CALLS) 0 p.files (start p (tree_answers sources) budget))
 
 abbrev pub CapturesNothing : ProgramData → Option KindData → Type 0
 CapturesNothing p (Some (declared.Function ts t number)) = captured_of (function_at p number) ≡ []

@@ -1,5 +1,5 @@
-//! What faults of evaluation say; that what it gives is a list of pips; and that a frame has a value for each local, as
-//! functions are called with the values that they capture.
+//! What faults of evaluation say; what evaluation depends on; that what it gives is a list of pips; and that a frame has
+//! a value for each local, as functions are called with the values that they capture.
 ghost use Rattle.std.specs.Prelude.{◌≡◌, ◌<◌, ℕ, IsSome, List, Some, Ok, Err, length, unwrap_or};
 ghost use Rattle.std.specs.List.{AllByRecursion};
 ghost use Rattle.bx_tree.specs.Paths.{Atoms};
@@ -8,6 +8,8 @@ ghost use Rattle.pip_model_types.specs.Makers.{IsPipList};
 ghost use Rattle.pip_model_types.specs.declared.pip.Pip.{Pip as AnyPip};
 ghost use Rattle.dscript_program.specs.ProgramData.{FunctionData, ProgramData};
 ghost use Rattle.dscript_value.specs.Plain.{Plain, Undefined};
+ghost use Rattle.dscript_sdk_calls.specs.Sources.{AgreeOn, Answers};
+ghost use Rattle.dscript_sdk_calls.specs.declared.tree_ask.TreeAsk.{TreeAsk as AnyAsk};
 ghost use Rattle.dscript_eval_laws.specs.FoundLocals.{IsLocalOf, found_local};
 ghost use Rattle.dscript_eval_laws.specs.FullCalls.{DeclaredCaptureNothing, meaning_or};
 ghost use Rattle.dscript_eval_meaning.specs.Acts.{Acts as AnyActs};
@@ -15,12 +17,19 @@ ghost use Rattle.dscript_eval_meaning.specs.Frames.{captures, function_frame, lo
 ghost use Rattle.dscript_eval_meaning.specs.States.{Frame as AnyFrame, State as AnyState};
 ghost use Rattle.dscript_eval_meaning.specs.declared.fault.EvalKind.{EvalKind as AnyKind};
 ghost use Rattle.dscript_eval_meaning.specs.declared.fault.EvalKind.TheVariants.{User};
-ghost use Rattle.dscript_eval_meaning.specs.Meaning.{Refused, meaning};
+ghost use Rattle.dscript_eval_meaning.specs.Meaning.{Refused, answered_meaning, meaning};
 
 /// A fault of evaluation has a message only where the specification asked to be refused.
 pub fn messages_are_of_specifications()
     ensures { (program : ProgramData) (sources : Files) (budget : ℕ) (kind : AnyKind) (file : Atoms)
         (message : List ℕ) → meaning program sources budget ≡ Err (Refused kind file (Some message)) → kind ≡ User }
+{}
+
+/// A program makes the same wherever what it asked of the source tree is answered alike.
+pub fn asks_decide()
+    ensures { (program : ProgramData) (a b : Answers) (budget : ℕ) (pips : List AnyPip) (asks : List AnyAsk)
+        → answered_meaning program a budget ≡ Ok (pips, asks) → AgreeOn a b asks
+        → answered_meaning program b budget ≡ Ok (pips, asks) }
 {}
 
 /// What a program evaluates to is a list of pips: what each names as made, an earlier pip makes. So no pip is refused

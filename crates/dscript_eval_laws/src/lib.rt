@@ -6,6 +6,6 @@
 mod laws;
 
 pub use laws::{
-    calls_hold_what_is_captured, frames_have_their_locals, messages_are_of_specifications,
-    pips_are_a_list,
+    asks_decide, calls_hold_what_is_captured, frames_have_their_locals,
+    messages_are_of_specifications, pips_are_a_list,
 };

@@ -71,8 +71,7 @@ member_counted x name s =
 plain_method_counted
     : (x : Plain) (name : List ℕ) (args : List Plain) → Counted Plain (plain_method x name args)
 plain_method_counted x name args s =
-    same_runs Plain (answered (method_of s.calls x name args)) (plain_method x name args) s s (λ n. refl)
-    (answer Plain (method_of s.calls x name args) s)
+    changed (plain_method x name args) s (method_of s.calls x name args) (λ n. refl)
 
 pub whole_counted : (subject : Subject) → Counted Plain (whole subject)
 whole_counted (Whole x) = given Plain x

@@ -2,7 +2,7 @@
 use Rattle.std.proofs.Common.{◌≡◌, ℕ, zero, suc, ◌+◌, ◌-◌, List, [], ◌∷◌, Option, None, Some, Result, Ok}
 use Rattle.std.proofs.Common.{Err, refl}
 use Rattle.std.proofs.Common.{ap, ◌∙◌, subst}
-use Rattle.bx_tree.specs.Trees.{Files}
+use Rattle.dscript_sdk_calls.specs.Sources.{Answers}
 use Rattle.dscript_value.specs.declared.parts.Callee.TheVariants as callees
 use Rattle.dscript_value.specs.Plain.{Plain}
 use Rattle.dscript_program.specs.ProgramData as kinds
@@ -14,7 +14,7 @@ use Rattle.dscript_eval_meaning.specs.Constants.{mark, with_status}
 use Rattle.dscript_eval_meaning.specs.Evaluating.{Stop, Fault, TooMany}
 use Rattle.dscript_eval_meaning.specs.Lookups.{declared_at, function_at, path_at}
 use Rattle.dscript_eval_meaning.specs.Meaning.{acts, demand, demand_decls, demand_files, demanded, evaluated}
-use Rattle.dscript_eval_meaning.specs.Meaning.{function_call, meaning, opened, pips_or_refusal, start}
+use Rattle.dscript_eval_meaning.specs.Meaning.{function_call, answered_meaning, opened, made_or_refusal, start}
 use Rattle.dscript_eval_meaning.specs.States.{State, Status, Running, Done}
 use Rattle.dscript_eval_meaning.specs.Laws.{IsOutOfSteps, TakesSteps}
 use Rattle.dscript_eval_meaning.proofs.Counted.{Counted, IsOther, IsOtherKind, Runs, both, bound, failed, free, given}
@@ -71,35 +71,35 @@ acts_counted p (suc n) a = opened_counted p (acts p n) (acts_counted p n) a
 
 -- ## The law
 
-left_pips
+left_made
     : (p : ProgramData) (n : ℕ) (outcome : Result (Unit {0} × State) Stop)
-    → pips_or_refusal p (left_over n outcome) ≡ pips_or_refusal p outcome
-left_pips p n (Ok end) = refl
-left_pips p n (Err stop) = refl
+    → made_or_refusal p (left_over n outcome) ≡ made_or_refusal p outcome
+left_made p n (Ok end) = refl
+left_made p n (Err stop) = refl
 
 other_answer
     : (p : ProgramData) (outcome : Result (Unit {0} × State) Stop) → IsOther outcome
-    → IsOutOfSteps (pips_or_refusal p outcome) → ⊥
+    → IsOutOfSteps (made_or_refusal p outcome) → ⊥
 other_answer p (Ok end) other (file, is) = cc
 other_answer p (Err (Fault kind file message)) other (path, is) =
     let e : kind ≡ faults.Budget = cc in subst IsOtherKind e other
 other_answer p (Err TooMany) other (file, is) = cc
 
 by_run
-    : (p : ProgramData) (sources : Files)
-    → Runs (Unit {0}) (demand_files (acts p MAX_OPEN_CALLS) 0 p.files) (start p sources 0)
-    → TakesSteps p sources
-unfolding meaning evaluated
-by_run p sources r = record {
-  answer = pips_or_refusal p r.outcome;
+    : (p : ProgramData) (answers : Answers)
+    → Runs (Unit {0}) (demand_files (acts p MAX_OPEN_CALLS) 0 p.files) (start p answers 0)
+    → TakesSteps p answers
+unfolding answered_meaning evaluated
+by_run p answers r = record {
+  answer = made_or_refusal p r.outcome;
   steps = r.cost;
   other = other_answer p r.outcome r.other;
-  enough = λ budget le. ap (pips_or_refusal p) (r.enough budget le) ∙ left_pips p (budget - r.cost) r.outcome;
+  enough = λ budget le. ap (made_or_refusal p) (r.enough budget le) ∙ left_made p (budget - r.cost) r.outcome;
   short = λ budget less.
-      (path_at p (r.short budget less).0, ap (pips_or_refusal p) (r.short budget less).1);
+      (path_at p (r.short budget less).0, ap (made_or_refusal p) (r.short budget less).1);
 }
 
-pub steps_taken : (p : ProgramData) (sources : Files) → TakesSteps p sources
-steps_taken p sources =
-    by_run p sources
-    (files_counted p (acts p MAX_OPEN_CALLS) (acts_counted p MAX_OPEN_CALLS) 0 p.files (start p sources 0))
+pub steps_taken : (p : ProgramData) (answers : Answers) → TakesSteps p answers
+steps_taken p answers =
+    by_run p answers
+    (files_counted p (acts p MAX_OPEN_CALLS) (acts_counted p MAX_OPEN_CALLS) 0 p.files (start p answers 0))

@@ -14,3 +14,4 @@ pub mod AlikeForms
 pub mod AlikePrograms
 mod FilesOfFaults
 mod OpenCalls
+mod OverSources

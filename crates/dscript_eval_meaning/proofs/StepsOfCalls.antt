@@ -10,7 +10,7 @@ use Rattle.dscript_eval_operators.specs.PathLiterals.{path_literal}
 use Rattle.dscript_sdk_members.specs.Names.{member_named, written_name}
 use Rattle.dscript_sdk_members.specs.TextMembers.{text_function}
 use Rattle.dscript_sdk.specs.Calls.{call_of}
-use Rattle.dscript_sdk.specs.Members.{is_callback_named, is_function_named, method_of}
+use Rattle.dscript_sdk.specs.Members.{is_callback_named, is_function_named, method_answer, method_of}
 use Rattle.dscript_sdk_pips.specs.WriteAllText.{write_all_text}
 use Rattle.dscript_eval_meaning.specs.declared.fault.EvalKind.TheVariants as kinds
 use Rattle.dscript_eval_meaning.specs.Calls.{ambient as ambient_call, applied, subject_call, method}
@@ -30,7 +30,7 @@ ambient_value = (refl, refl)
 
 -- `"a".contains("a")`
 method_call : Takes (only (call_member (text (codes "a")) (codes "contains") (text (codes "a") ∷ []))) 4
-unfolding meaning evaluated acts a_constant value subject_call method method_of is_callback_named
+unfolding meaning evaluated acts a_constant value subject_call method method_of method_answer is_callback_named
     is_function_named member_named written_name text_function
 method_call = (refl, refl)
 

@@ -38,9 +38,9 @@ abbrev pub items_of : Plain → List Plain
 items_of (plain.Listed depth items) = item_list items
 items_of _ = []
 
--- the call of a member that calls no functions
+-- the call of a member that calls no functions, which changes nothing but the asks
 abbrev pub plain_method : Plain → List ℕ → List Plain → Gives Plain
-plain_method x name args s = answered (method_of s.calls x name args) s
+plain_method x name args s = with_calls s (method_of s.calls x name args)
 
 -- the call of a member function of a value
 unfoldable pub method : Acts → Plain → List ℕ → List Plain → Gives Plain

@@ -7,6 +7,8 @@ use Rattle.dscript_value.specs.declared.parts.Callee.TheVariants as callees
 use Rattle.dscript_value.specs.Plain.{Plain}
 use Rattle.dscript_program.specs.ProgramData as declared
 use Rattle.dscript_program.specs.ProgramData.{DeclData, FileData, FunctionData, KindData, ProgramData}
+use Rattle.dscript_sdk_calls.specs.Sources.{Answers, tree_answers}
+use Rattle.dscript_sdk_calls.specs.declared.tree_ask.TreeAsk.{TreeAsk}
 use Rattle.dscript_sdk_pips.specs.States.{no_calls}
 use Rattle.dscript_eval_meaning.specs.declared.fault.EvalKind.{EvalKind}
 use Rattle.dscript_eval_meaning.specs.declared.fault.EvalKind.TheVariants as kinds
@@ -61,18 +63,18 @@ demand_files act file [] = gives tt
 demand_files act file (f ∷ fs) = demand_decls act file 0 f.decls >> demand_files act (file + 1) fs
 
 -- before the first step
-abbrev pub start : ProgramData → Files → ℕ → State
-start p sources budget = record {
+abbrev pub start : ProgramData → Answers → ℕ → State
+start p answers budget = record {
   left = budget;
   frame = constant_frame 0;
   constants = all_waiting p;
-  calls = no_calls sources;
+  calls = no_calls answers;
 }
 
 -- All constants are demanded, by the path of their file, which is the order of the files of a program, and
 -- in a file in the order of the text.
-unfoldable pub evaluated : ProgramData → Files → ℕ → Result (Unit {0} × State) Stop
-evaluated p sources budget = demand_files (acts p MAX_OPEN_CALLS) 0 p.files (start p sources budget)
+unfoldable pub evaluated : ProgramData → Answers → ℕ → Result (Unit {0} × State) Stop
+evaluated p answers budget = demand_files (acts p MAX_OPEN_CALLS) 0 p.files (start p answers budget)
 
 -- why a program gives no pips: a fault with the path of its file, or more pips than can be numbered
 pub data Refusal : Type 0 where
@@ -83,10 +85,32 @@ abbrev pub refusal_of : ProgramData → Stop → Refusal
 refusal_of p (Fault kind file message) = Refused kind (path_at p file) message
 refusal_of p TooMany = Unnumbered
 
+-- ## The meaning over any answers
+
+-- the pips of a program, and its asks of the source tree in order
+abbrev pub Made : Type 0
+Made = List Pip × List TreeAsk
+
+abbrev pub made_or_refusal : ProgramData → Result (Unit {0} × State) Stop → Result Made Refusal
+made_or_refusal p (Ok end) = Ok (end.1.calls.pips, end.1.calls.asks)
+made_or_refusal p (Err stop) = Err (refusal_of p stop)
+
+-- The meaning of a program within a budget of steps, whose asks of the source tree are answered so, by any
+-- function from asks to paths: its pips and its asks, or the first fault.
+unfoldable pub answered_meaning : ProgramData → Answers → ℕ → Result Made Refusal
+answered_meaning p answers budget = made_or_refusal p (evaluated p answers budget)
+
+-- ## The meaning over source files
+
 abbrev pub pips_or_refusal : ProgramData → Result (Unit {0} × State) Stop → Result (List Pip) Refusal
 pips_or_refusal p (Ok end) = Ok end.1.calls.pips
 pips_or_refusal p (Err stop) = Err (refusal_of p stop)
 
 -- the meaning of a program over source files within a budget of steps
 unfoldable pub meaning : ProgramData → Files → ℕ → Result (List Pip) Refusal
-meaning p sources budget = pips_or_refusal p (evaluated p sources budget)
+meaning p sources budget = pips_or_refusal p (evaluated p (tree_answers sources) budget)
+
+-- the pips of an answer, without the asks
+abbrev pub pips_of : Result Made Refusal → Result (List Pip) Refusal
+pips_of (Ok made) = Ok made.0
+pips_of (Err refusal) = Err refusal

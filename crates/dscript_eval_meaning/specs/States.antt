@@ -20,7 +20,7 @@ pub record Frame : Type 0 where
   pub own : List Plain
 
 -- The steps that are left, the running body, the constants by file and declaration, and the state of ambient
--- calls: the pips, and how many output directories were asked for.
+-- calls: what answers asks of the source tree, the pips, how many output directories were made, and the asks.
 pub record State : Type 0 where
   pub left : ℕ
   pub frame : Frame

@@ -4,14 +4,21 @@ ghost use Rattle.std.specs.Prelude.{◌≡◌, ℕ, ◌+◌};
 ghost use Rattle.bx_tree.specs.Trees.{Files};
 ghost use Rattle.dscript_program.specs.ProgramData.{ProgramData};
 ghost use Rattle.dscript_eval_meaning.specs.Acts.{Act};
-ghost use Rattle.dscript_eval_meaning.specs.Meaning.{acts};
+ghost use Rattle.dscript_sdk_calls.specs.Sources.{Answers, tree_answers};
+ghost use Rattle.dscript_eval_meaning.specs.Meaning.{acts, answered_meaning, meaning, pips_of};
 ghost use Rattle.dscript_eval_meaning.specs.States.{State};
 ghost use Rattle.dscript_eval_meaning.specs.Laws.{IsTooDeep, TakesSteps};
 
-/// A program takes a number of steps over its source files. With each budget from that number on it has one
-/// answer, and with each smaller budget it runs out of steps.
+/// Whatever answers its asks of the source tree, a program takes a number of steps. With each budget from that
+/// number on it has one answer, and with each smaller budget it runs out of steps.
 pub fn steps_of_programs()
-    ensures { (p : ProgramData) (sources : Files) → TakesSteps p sources }
+    ensures { (p : ProgramData) (answers : Answers) → TakesSteps p answers }
+{}
+
+/// Where source files answer, the pips or the fault of a program are those of its meaning over these files.
+pub fn meaning_over_sources()
+    ensures { (p : ProgramData) (sources : Files) (budget : ℕ)
+        → pips_of (answered_meaning p (tree_answers sources) budget) ≡ meaning p sources budget }
 {}
 
 /// Where a call does not meet the limit on open calls, it comes to the same value and state, or fault, where

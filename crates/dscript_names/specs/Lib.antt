@@ -1,5 +1,6 @@
 pub mod Named
 pub mod Views
+pub mod ProjectFiles
 pub mod Singles
 pub mod Lent
 pub mod Gathered

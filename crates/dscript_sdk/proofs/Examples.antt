@@ -1,6 +1,5 @@
 -- Worked examples of calls by name, and of members.
 use Rattle.std.proofs.Common.{◌≡◌, ℕ, List, [], ◌∷◌, Ok, Err, codes, refl, true}
-use Rattle.std.specs.FinMap.{empty}
 use Rattle.bx_tree.specs.Paths.{Atoms}
 use Rattle.bx_tree.specs.Trees.{Files}
 use Rattle.bx_tree.specs.declared.file_input.FileInput.TheVariants.{Source}
@@ -11,12 +10,12 @@ use Rattle.dscript_value.specs.Plain as plain
 use Rattle.dscript_value.specs.Plain.{Plain, to_items}
 use Rattle.dscript_sdk_values.specs.declared.fault.SdkFault.TheVariants.{BadArgument, Kind, Missing}
 use Rattle.dscript_sdk_calls.specs.CmdArgument.{cmd_argument}
-use Rattle.dscript_sdk_calls.specs.Sources.{files_below}
+use Rattle.dscript_sdk_calls.specs.Sources.{files_below, tree_answers}
 use Rattle.dscript_sdk_members.specs.Names.{member_named, written_name}
 use Rattle.dscript_sdk_members.specs.TextMembers.{text_function, text_property}
-use Rattle.dscript_sdk_pips.specs.States.{State}
+use Rattle.dscript_sdk_pips.specs.States.{State, no_calls}
 use Rattle.dscript_sdk.specs.Calls.{call_of}
-use Rattle.dscript_sdk.specs.Members.{member_of, method_of}
+use Rattle.dscript_sdk.specs.Members.{member_of, method_answer, method_of}
 use Rattle.dscript_sdk.specs.ProcessMembers.{output_file}
 use Rattle.dscript_sdk.specs.SealMembers.{seal_members}
 use Rattle.dscript_sdk.specs.StaticMembers.{member_file}
@@ -39,7 +38,7 @@ abbrev sources : Files
 sources = (a, []) ∷ (b, []) ∷ (beside, []) ∷ []
 
 abbrev start : State
-start = record { sources = sources; pips = []; counts = empty }
+start = no_calls (tree_answers sources)
 
 abbrev text : List ℕ → Plain
 text bytes = plain.Text bytes
@@ -88,5 +87,5 @@ unfolding member_of member_named written_name
 a_flag_has_no_members = refl
 
 a_member_that_is_called_must_be_a_function : method_of start (text []) (codes "length") [] ≡ Err Kind
-unfolding method_of member_of member_named written_name text_function text_property
+unfolding method_of method_answer member_of member_named written_name text_function text_property
 a_member_that_is_called_must_be_a_function = refl

@@ -19,7 +19,7 @@ use Rattle.dscript_sdk_pips.specs.NewOutputDirectory.{new_output_directory}
 use Rattle.dscript_sdk_pips.specs.SealDirectory.{seal_directory}
 use Rattle.dscript_sdk_pips.specs.SealPartialDirectory.{seal_partial_directory}
 use Rattle.dscript_sdk_pips.specs.SealSourceDirectory.{seal_source_directory}
-use Rattle.dscript_sdk_pips.specs.States.{Change, State, unchanged}
+use Rattle.dscript_sdk_pips.specs.States.{Change, State, asking, unchanged}
 use Rattle.dscript_sdk_pips.specs.WriteAllLines.{write_all_lines}
 use Rattle.dscript_sdk_pips.specs.WriteAllText.{write_all_text}
 
@@ -42,5 +42,5 @@ call_of calls.NewOutputDirectory spec args s = new_output_directory spec args s
 call_of calls.Fail spec args s = unchanged (contract_fail args) s
 call_of calls.Assert spec args s = unchanged (contract_assert args) s
 call_of calls.Requires spec args s = unchanged (contract_assert args) s
-call_of calls.Glob spec args s = unchanged (glob_files false args s.sources) s
-call_of calls.GlobRecursive spec args s = unchanged (glob_files true args s.sources) s
+call_of calls.Glob spec args s = asking (glob_files false args s.answers) s
+call_of calls.GlobRecursive spec args s = asking (glob_files true args s.answers) s

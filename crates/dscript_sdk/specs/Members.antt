@@ -15,8 +15,9 @@ use Rattle.dscript_sdk_members.specs.PathMembers.{any_path_property, directory_f
 use Rattle.dscript_sdk_members.specs.TextMembers.{text_function, text_property}
 use Rattle.dscript_sdk_members.specs.declared.member.Member.{Member}
 use Rattle.dscript_sdk.specs.ProcessMembers.{process_function}
-use Rattle.dscript_sdk.specs.StaticMembers.{static_function, static_property}
-use Rattle.dscript_sdk_pips.specs.States.{State}
+use Rattle.dscript_sdk.specs.StaticMembers.{static_function, static_function_ask, static_property}
+use Rattle.dscript_sdk_calls.specs.declared.tree_ask.TreeAsk.{TreeAsk}
+use Rattle.dscript_sdk_pips.specs.States.{Change, State, unchanged, with_ask}
 use Rattle.bx_tree.specs.FileInputs.{input_path}
 
 -- the member function of a value, without those that call functions
@@ -99,6 +100,32 @@ abbrev pub call_of_member : State → Plain → List ℕ → List Plain → Opti
 call_of_member s v name args None = member_of s v name >>= λ _. Err Kind
 call_of_member s v name args (Some function) = function args
 
--- what the call of a member function comes to, where it does not call functions
-unfoldable pub method_of : State → Plain → List ℕ → List Plain → Outcome Plain
-method_of s v name args = call_of_member s v name args (function_named s v (member_named name))
+-- what the call of a member function answers, where it does not call functions
+unfoldable pub method_answer : State → Plain → List ℕ → List Plain → Outcome Plain
+method_answer s v name args = call_of_member s v name args (function_named s v (member_named name))
+
+-- ## What calls of members ask
+
+abbrev pub function_ask : State → Member → Plain → Option TreeAsk
+function_ask s m (plain.Static dir) = static_function_ask s m dir
+function_ask s m _ = None
+
+abbrev pub function_ask_named : State → Plain → Option Member → Option TreeAsk
+function_ask_named s v None = None
+function_ask_named s v (Some m) = function_ask s m v
+
+-- the state with what was asked, if anything was
+abbrev pub noted_if : Option TreeAsk → State → State
+noted_if None s = s
+noted_if (Some ask) s = with_ask ask s
+
+-- an answer, and the state with what was asked for it
+abbrev pub answer_with : Option TreeAsk → Outcome Plain → State → Change
+answer_with None answer s = unchanged answer s
+answer_with (Some ask) answer s = answer >>= λ value. Ok (value, with_ask ask s)
+
+-- What the call of a member function comes to, where it does not call functions. It changes nothing but the
+-- asks.
+unfoldable pub method_of : State → Plain → List ℕ → List Plain → Change
+method_of s v name args =
+    answer_with (function_ask_named s v (member_named name)) (method_answer s v name args) s

@@ -15,7 +15,8 @@ use Rattle.dscript_sdk_values.specs.Outcomes.{Outcome, ◌>>=◌, unless_none}
 use Rattle.dscript_sdk_members.specs.Functions.{MemberFunction}
 use Rattle.dscript_sdk_members.specs.declared.member.Member.{Member}
 use Rattle.dscript_sdk_members.specs.declared.member.Member.TheVariants as members
-use Rattle.dscript_sdk.specs.SealMembers.{seal_members}
+use Rattle.dscript_sdk_calls.specs.declared.tree_ask.TreeAsk.{TreeAsk}
+use Rattle.dscript_sdk.specs.SealMembers.{seal_ask, seal_members}
 use Rattle.dscript_sdk_pips.specs.States.{State}
 use Rattle.bx_tree.specs.FileInputs.{input_path}
 
@@ -38,6 +39,16 @@ abbrev pub seal_function : State → Member → ℕ → Option MemberFunction
 seal_function s members.GetFile number = Some (member_file s number)
 seal_function s members.GetContent number = Some (content s number)
 seal_function s _ number = None
+
+-- what the call of a member asks of the source tree: those of a seal's files alone ask
+abbrev pub seal_function_ask : State → Member → ℕ → Option TreeAsk
+seal_function_ask s members.GetFile number = seal_ask s number
+seal_function_ask s members.GetContent number = seal_ask s number
+seal_function_ask s _ number = None
+
+abbrev pub static_function_ask : State → Member → StaticDir → Option TreeAsk
+static_function_ask s member (Seal number path) = seal_function_ask s member number
+static_function_ask s member (Opaque number path) = None
 
 -- What an output directory will hold is not known when specifications are evaluated.
 unfoldable pub static_function : State → Member → StaticDir → Option MemberFunction

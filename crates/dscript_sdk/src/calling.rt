@@ -1,6 +1,8 @@
 //! The ambient calls by name.
 ghost use Rattle.std.specs.Prelude.{◌≡◌, Ok, map, IfOk, IfErr, OnErr};
 ghost use Rattle.dscript_sdk_values.specs.Outcomes.{Refuses};
+ghost use Rattle.dscript_sdk_calls.specs.Globs.{glob_files as files_of_glob};
+ghost use Rattle.dscript_sdk_pips.specs.States.{asking, over_tree};
 ghost use Rattle.dscript_sdk.specs.Calls.{call_of};
 ghost use Rattle.dscript_value.specs.Plain.{plain_of};
 
@@ -18,6 +20,21 @@ use dscript_sdk_values::SdkFault;
 use dscript_value::Value;
 use std::alloc::Global;
 
+// A glob, whose ask is noted.
+fn glob(alloc: Global, state: &mut SdkState, deep: bool, args: &[Value]) -> Result<Value, SdkFault>
+    ensures answer { IfOk result (λ value.
+        asking (files_of_glob deep (map plain_of args.now) (over_tree state.old).answers) (over_tree state.old)
+        ≡ Ok (plain_of value, over_tree state.new)) }
+    ensures fault { IfErr result (λ fault. Refuses fault
+        (asking (files_of_glob deep (map plain_of args.now) (over_tree state.old).answers) (over_tree state.old))) }
+    ensures unchanged { OnErr result (state.new ≡ state.old) }
+    ensures sources { state.new.sources ≡ state.old.sources }
+{
+    let (files, ask) = glob_files(alloc, state.tree(), deep, args)?;
+    state.note(ask)?;
+    Ok(files)
+}
+
 /// What an ambient call gives at its arguments, or its first fault. A fault leaves the state as it was.
 #[tactic(auto, using(crate::proofs::Unchanged::answered, crate::proofs::Unchanged::refused), unfolding(crate::specs::Calls::call_of))]
 pub fn call(
@@ -28,10 +45,12 @@ pub fn call(
     args: &[Value],
 ) -> Result<Value, SdkFault>
     ensures answer { IfOk result (λ value.
-        call_of name site.now.file (map plain_of args.now) state.old ≡ Ok (plain_of value, state.new)) }
+        call_of name site.now.file (map plain_of args.now) (over_tree state.old)
+        ≡ Ok (plain_of value, over_tree state.new)) }
     ensures fault { IfErr result (λ fault.
-        Refuses fault (call_of name site.now.file (map plain_of args.now) state.old)) }
+        Refuses fault (call_of name site.now.file (map plain_of args.now) (over_tree state.old))) }
     ensures unchanged { OnErr result (state.new ≡ state.old) }
+    ensures sources { state.new.sources ≡ state.old.sources }
 {
     match name {
         Ambient::WriteAllText => write_all_text(alloc, state, site, args),
@@ -51,7 +70,7 @@ pub fn call(
         Ambient::Fail => contract_fail(alloc, args),
         Ambient::Assert => contract_assert(alloc, args),
         Ambient::Requires => contract_assert(alloc, args),
-        Ambient::Glob => glob_files(alloc, state.tree(), false, args),
-        Ambient::GlobRecursive => glob_files(alloc, state.tree(), true, args),
+        Ambient::Glob => glob(alloc, state, false, args),
+        Ambient::GlobRecursive => glob(alloc, state, true, args),
     }
 }

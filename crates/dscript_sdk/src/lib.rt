@@ -14,6 +14,7 @@ mod static_members;
 
 pub use calling::call;
 pub use dscript_program::Ambient;
+pub use dscript_sdk_calls::{TreeAsk, ask_tree};
 pub use dscript_sdk_pips::{MAX_NUMBERED_PIPS, SdkState, Site};
 pub use dscript_sdk_values::SdkFault;
 pub use membership::{has_function, is_callback, member, method};

@@ -1,6 +1,6 @@
 //! Members of values.
 ghost use Rattle.std.specs.Prelude.{◌≡◌, ◌∷◌, ◌||◌, [], Ok, Some, IsTrue, List, ℕ, is_some, not, map};
-ghost use Rattle.std.specs.Prelude.{MatchResult};
+ghost use Rattle.std.specs.Prelude.{IfErr, IfOk, MatchResult, OnErr, OnOk};
 ghost use Rattle.bx_tree.specs.Paths.{Atoms};
 ghost use Rattle.dscript_value.specs.declared.parts.Callee.TheVariants as callees;
 ghost use Rattle.dscript_sdk_members.specs.ListMembers.{is_callback as callback, list_function};
@@ -15,14 +15,16 @@ ghost use Rattle.dscript_sdk_values.specs.Outcomes.{Refuses};
 ghost use Rattle.dscript_sdk.specs.Members.{call_of_member, function_at, function_named, is_callback_named};
 ghost use Rattle.dscript_sdk.specs.Members.{is_function_found};
 ghost use Rattle.dscript_sdk.specs.Members.{is_callback_of, is_function_named, is_function_of, member_answer};
-ghost use Rattle.dscript_sdk.specs.Members.{member_of, method_of, own_member, property_at};
+ghost use Rattle.dscript_sdk.specs.Members.{function_ask, function_ask_named, member_of, method_answer, method_of, noted_if};
+ghost use Rattle.dscript_sdk.specs.Members.{own_member, property_at};
 ghost use Rattle.dscript_sdk.specs.Members.{property_or_missing};
-ghost use Rattle.dscript_sdk_pips.specs.States.{State};
+ghost use Rattle.dscript_sdk_pips.specs.States.{State, over_tree};
 ghost use Rattle.dscript_value.specs.Plain.{Plain, plain_of};
 
 use crate::process_members::call_process;
-use crate::static_members::{call_static, member_of_static};
-use bx_tree::Text;
+use crate::static_members::{ask_of_static, call_static, member_of_static};
+use bx_tree::{Memory, Text};
+use dscript_sdk_calls::TreeAsk;
 use dscript_sdk_members::{
     Member, call_directory, call_list, call_path, call_text, member_of_file, member_of_list,
     member_of_path, member_of_text,
@@ -40,7 +42,7 @@ fn call_function(
     args: &[Value],
 ) -> Result<Option<Value>, SdkFault>
     ensures { Gives
-        (applied (function_at state.now member (plain_of value.now)) (map plain_of args.now)) result }
+        (applied (function_at (over_tree state.now) member (plain_of value.now)) (map plain_of args.now)) result }
 {
     match value {
         Value::Text(text) => call_text(alloc, text, member, args),
@@ -196,8 +198,8 @@ pub fn member(
     name: &Text,
 ) -> Result<Value, SdkFault>
     ensures { MatchResult result
-        (λ answer. member_of state.now (plain_of value.now) name.now ≡ Ok (plain_of answer))
-        (λ fault. Refuses fault (member_of state.now (plain_of value.now) name.now)) }
+        (λ answer. member_of (over_tree state.now) (plain_of value.now) name.now ≡ Ok (plain_of answer))
+        (λ fault. Refuses fault (member_of (over_tree state.now) (plain_of value.now) name.now)) }
 {
     if let Some(answer) = own(value, name)? {
         return Ok(answer);
@@ -217,7 +219,7 @@ fn call_named(
     args: &[Value],
 ) -> Result<Option<Value>, SdkFault>
     ensures { Gives
-        (applied (function_named state.now (plain_of value.now) (member_named name.now))
+        (applied (function_named (over_tree state.now) (plain_of value.now) (member_named name.now))
         (map plain_of args.now)) result }
 {
     match Member::named(name.bytes()) {
@@ -226,29 +228,95 @@ fn call_named(
     }
 }
 
-/// What the call of a member function gives at its arguments, or its first fault. Functions that call others
-/// are for evaluation: see [`is_callback`]. So is the call of what a field of an object holds, which is no
-/// member function and is refused here.
-#[tactic(auto, unfolding(crate::specs::Members::method_of))]
-pub fn method(
+// What the call of a member function answers.
+#[tactic(auto, unfolding(crate::specs::Members::method_answer))]
+fn answer_of(
     alloc: Global,
     state: &SdkState,
     value: &Value,
     name: &Text,
     args: &[Value],
 ) -> Result<Value, SdkFault>
-    requires { IsTrue (not (is_callback_named name.now (plain_of value.now))) }
     ensures { MatchResult result
-        (λ answer. method_of state.now (plain_of value.now) name.now (map plain_of args.now)
+        (λ answer. method_answer (over_tree state.now) (plain_of value.now) name.now (map plain_of args.now)
         ≡ Ok (plain_of answer))
         (λ fault. Refuses fault
-        (method_of state.now (plain_of value.now) name.now (map plain_of args.now))) }
+        (method_answer (over_tree state.now) (plain_of value.now) name.now (map plain_of args.now))) }
 {
     if let Some(answer) = call_named(alloc, state, value, name, args)? {
         return Ok(answer);
     }
     let _ = member(alloc, state, value, name)?;
     Err(SdkFault::Kind)
+}
+
+// What the call of a member function asks.
+fn ask_of_function(
+    state: &SdkState,
+    member: Member,
+    value: &Value,
+) -> Result<Option<TreeAsk>, Memory>
+    ensures { IfOk result (λ ask. ask ≡ function_ask (over_tree state.now) member (plain_of value.now)) }
+{
+    match value {
+        Value::Static(dir) => ask_of_static(state, dir, member),
+        Value::Undefined | Value::Flag(_) | Value::Number(_) | Value::Text(_) => Ok(None),
+        Value::List(_) | Value::Object(_) | Value::Function(_) | Value::Artifact(_) => Ok(None),
+        Value::Path(_) | Value::File(_) | Value::Directory(_) | Value::Relative(_) => Ok(None),
+        Value::Atom(_) | Value::Process(_) | Value::Argument(_) => Ok(None),
+    }
+}
+
+// What the call of a member function asks, by the function's name.
+fn ask_of(state: &SdkState, value: &Value, name: &Text) -> Result<Option<TreeAsk>, Memory>
+    ensures { IfOk result (λ ask.
+        ask ≡ function_ask_named (over_tree state.now) (plain_of value.now) (member_named name.now)) }
+{
+    match Member::named(name.bytes()) {
+        Some(member) => ask_of_function(state, member, value),
+        None => Ok(None),
+    }
+}
+
+// Notes what a call asks, if it asks anything.
+fn note_if(state: &mut SdkState, ask: Option<TreeAsk>) -> Result<(), Memory>
+    ensures noted { OnOk result (over_tree state.new ≡ noted_if ask (over_tree state.old)) }
+    ensures unchanged { OnErr result (state.new ≡ state.old) }
+    ensures sources { state.new.sources ≡ state.old.sources }
+{
+    match ask {
+        Some(ask) => {
+            state.note(ask)?;
+            Ok(())
+        }
+        None => Ok(()),
+    }
+}
+
+/// What the call of a member function gives at its arguments, or its first fault. It changes nothing but the
+/// asks, and a fault changes nothing at all. Functions that call others are for evaluation: see [`is_callback`].
+/// So is the call of what a field of an object holds, which is no member function and is refused here.
+#[tactic(auto, unfolding(crate::specs::Members::method_of))]
+pub fn method(
+    alloc: Global,
+    state: &mut SdkState,
+    value: &Value,
+    name: &Text,
+    args: &[Value],
+) -> Result<Value, SdkFault>
+    requires { IsTrue (not (is_callback_named name.now (plain_of value.now))) }
+    ensures answer { IfOk result (λ answer.
+        method_of (over_tree state.old) (plain_of value.now) name.now (map plain_of args.now)
+        ≡ Ok (plain_of answer, over_tree state.new)) }
+    ensures fault { IfErr result (λ fault. Refuses fault
+        (method_of (over_tree state.old) (plain_of value.now) name.now (map plain_of args.now))) }
+    ensures unchanged { OnErr result (state.new ≡ state.old) }
+    ensures sources { state.new.sources ≡ state.old.sources }
+{
+    let ask = ask_of(state, value, name)?;
+    let answer = answer_of(alloc, state, value, name, args)?;
+    note_if(state, ask)?;
+    Ok(answer)
 }
 
 /// Whether a member of a value is a function that calls functions.

@@ -10,6 +10,7 @@ ghost use Rattle.dscript_sdk_values.specs.Outcomes.{Refuses};
 ghost use Rattle.dscript_sdk.specs.ProcessMembers.{declared_by, directories_of_kind, files_of_kind};
 ghost use Rattle.dscript_sdk.specs.ProcessMembers.{output_directory};
 ghost use Rattle.dscript_sdk.specs.ProcessMembers.{output_file as declared_file, process_function};
+ghost use Rattle.dscript_sdk_pips.specs.States.{over_tree};
 ghost use Rattle.dscript_value.specs.Plain.{plain_of};
 
 use bx_tree::{FileInput, Path};
@@ -67,8 +68,8 @@ fn declares_directory(pips: &[Pip], number: u32, path: &Path) -> bool
 
 fn get_file(state: &SdkState, number: u32, args: &[Value]) -> Result<Value, SdkFault>
     ensures { MatchResult result
-        (λ value. declared_file state.now number (map plain_of args.now) ≡ Ok (plain_of value))
-        (λ fault. Refuses fault (declared_file state.now number (map plain_of args.now))) }
+        (λ value. declared_file (over_tree state.now) number (map plain_of args.now) ≡ Ok (plain_of value))
+        (λ fault. Refuses fault (declared_file (over_tree state.now) number (map plain_of args.now))) }
 {
     let path = read_path(first_argument(args)?)?;
     if !declares_file(state.pips(), number, path) {
@@ -79,8 +80,8 @@ fn get_file(state: &SdkState, number: u32, args: &[Value]) -> Result<Value, SdkF
 
 fn get_directory(state: &SdkState, number: u32, args: &[Value]) -> Result<Value, SdkFault>
     ensures { MatchResult result
-        (λ value. output_directory state.now number (map plain_of args.now) ≡ Ok (plain_of value))
-        (λ fault. Refuses fault (output_directory state.now number (map plain_of args.now))) }
+        (λ value. output_directory (over_tree state.now) number (map plain_of args.now) ≡ Ok (plain_of value))
+        (λ fault. Refuses fault (output_directory (over_tree state.now) number (map plain_of args.now))) }
 {
     let path = read_directory(first_argument(args)?)?;
     if !declares_directory(state.pips(), number, path) {
@@ -97,7 +98,7 @@ pub(crate) fn call_process(
     member: Member,
     args: &[Value],
 ) -> Result<Option<Value>, SdkFault>
-    ensures { Gives (applied (process_function state.now member number) (map plain_of args.now)) result }
+    ensures { Gives (applied (process_function (over_tree state.now) member number) (map plain_of args.now)) result }
 {
     match member {
         Member::GetOutputFile => Ok(Some(get_file(state, number, args)?)),

@@ -3,18 +3,22 @@ ghost use Rattle.std.specs.Prelude.{◌≡◌, ◌++◌, Ok, Some, None, find, m
 ghost use Rattle.std.specs.Prelude.{IfOk, MatchOption, MatchResult};
 ghost use Rattle.bx_tree.specs.Paths.{same_path};
 ghost use Rattle.bx_tree.specs.declared.file_input.FileInput.TheVariants as inputs;
+ghost use Rattle.dscript_sdk_calls.specs.Sources.{tree_answers};
 ghost use Rattle.dscript_sdk_members.specs.Gives.{Gives, applied};
+ghost use Rattle.dscript_sdk_pips.specs.States.{over_tree};
 ghost use Rattle.dscript_sdk_values.specs.Answers.{list_answer};
 ghost use Rattle.dscript_sdk_values.specs.Outcomes.{Refuses};
-ghost use Rattle.dscript_sdk.specs.SealMembers.{held_by, held_by_kind, held_by_pip, seal_members};
+ghost use Rattle.dscript_sdk.specs.SealMembers.{ask_of_form, ask_of_kind, held_by, held_by_kind, held_by_pip, seal_ask};
+ghost use Rattle.dscript_sdk.specs.SealMembers.{seal_members};
 ghost use Rattle.dscript_sdk.specs.StaticMembers.{file_with, member_file};
-ghost use Rattle.dscript_sdk.specs.StaticMembers.{seal_function, static_function, static_property};
+ghost use Rattle.dscript_sdk.specs.StaticMembers.{seal_function, seal_function_ask, static_function};
+ghost use Rattle.dscript_sdk.specs.StaticMembers.{static_function_ask, static_property};
 ghost use Rattle.dscript_value.specs.Plain as plain;
 ghost use Rattle.dscript_value.specs.Plain.{plain_of};
 ghost use Rattle.bx_tree.specs.FileInputs.{input_path};
 
 use bx_tree::{FileInput, Memory, Path, Tree};
-use dscript_sdk_calls::{find_below, find_directly_in};
+use dscript_sdk_calls::{TreeAsk, find_below, find_directly_in};
 use dscript_sdk_members::Member;
 use dscript_sdk_pips::SdkState;
 use dscript_sdk_values::{SdkFault, first_argument, list_value, read_path, share_file};
@@ -72,7 +76,7 @@ fn file_values(alloc: Global, files: &[FileInput]) -> Result<Vec<Value>, Memory>
 // The files that a seal holds: those that it lists, or source files below its root.
 fn files_held(alloc: Global, tree: &Tree, seal: &SealDesc) -> Result<Vec<FileInput>, Memory>
     ensures { IfOk result (λ files. files.items
-        ≡ held_by tree.now seal.now.form seal.now.root seal.now.files) }
+        ≡ held_by (tree_answers tree.now) seal.now.form seal.now.root seal.now.files) }
 {
     match seal.form {
         SealForm::Full | SealForm::Partial => share_files(alloc, seal.files.files()),
@@ -88,7 +92,7 @@ fn files_held(alloc: Global, tree: &Tree, seal: &SealDesc) -> Result<Vec<FileInp
 }
 
 fn files_of_kind(alloc: Global, tree: &Tree, kind: &PipKind) -> Result<Vec<FileInput>, Memory>
-    ensures { IfOk result (λ files. files.items ≡ held_by_kind tree.now kind.now) }
+    ensures { IfOk result (λ files. files.items ≡ held_by_kind (tree_answers tree.now) kind.now) }
 {
     match kind {
         PipKind::Seal(seal) => files_held(alloc, tree, seal),
@@ -98,7 +102,7 @@ fn files_of_kind(alloc: Global, tree: &Tree, kind: &PipKind) -> Result<Vec<FileI
 
 // The members of the seal with a number, by path.
 fn members_of_seal(alloc: Global, state: &SdkState, number: u32) -> Result<Vec<FileInput>, Memory>
-    ensures { IfOk result (λ files. files.items ≡ seal_members state.now number) }
+    ensures { IfOk result (λ files. files.items ≡ seal_members (over_tree state.now) number) }
 {
     match pip_at(state.pips(), number) {
         Some(pip) => files_of_kind(alloc, state.tree(), &pip.kind),
@@ -124,7 +128,7 @@ fn member_held(
     path: &Path,
 ) -> Result<Option<FileInput>, Memory>
     ensures { IfOk result (λ file. file ≡ file_with path.now
-        (held_by tree.now seal.now.form seal.now.root seal.now.files)) }
+        (held_by (tree_answers tree.now) seal.now.form seal.now.root seal.now.files)) }
 {
     match seal.form {
         SealForm::Full | SealForm::Partial => share_file_with(seal.files.files(), path),
@@ -141,7 +145,7 @@ fn member_of_kind(
     kind: &PipKind,
     path: &Path,
 ) -> Result<Option<FileInput>, Memory>
-    ensures { IfOk result (λ file. file ≡ file_with path.now (held_by_kind tree.now kind.now)) }
+    ensures { IfOk result (λ file. file ≡ file_with path.now (held_by_kind (tree_answers tree.now) kind.now)) }
 {
     match kind {
         PipKind::Seal(seal) => member_held(alloc, tree, seal, path),
@@ -155,7 +159,7 @@ fn find_member(
     number: u32,
     path: &Path,
 ) -> Result<Option<FileInput>, Memory>
-    ensures { IfOk result (λ file. file ≡ file_with path.now (seal_members state.now number)) }
+    ensures { IfOk result (λ file. file ≡ file_with path.now (seal_members (over_tree state.now) number)) }
 {
     match pip_at(state.pips(), number) {
         Some(pip) => member_of_kind(alloc, state.tree(), &pip.kind, path),
@@ -165,8 +169,8 @@ fn find_member(
 
 fn get_file(alloc: Global, state: &SdkState, number: u32, args: &[Value]) -> Result<Value, SdkFault>
     ensures { MatchResult result
-        (λ value. member_file state.now number (map plain_of args.now) ≡ Ok (plain_of value))
-        (λ fault. Refuses fault (member_file state.now number (map plain_of args.now))) }
+        (λ value. member_file (over_tree state.now) number (map plain_of args.now) ≡ Ok (plain_of value))
+        (λ fault. Refuses fault (member_file (over_tree state.now) number (map plain_of args.now))) }
 {
     let path = read_path(first_argument(args)?)?;
     match find_member(alloc, state, number, path)? {
@@ -177,8 +181,8 @@ fn get_file(alloc: Global, state: &SdkState, number: u32, args: &[Value]) -> Res
 
 fn get_content(alloc: Global, state: &SdkState, number: u32) -> Result<Value, SdkFault>
     ensures { MatchResult result
-        (λ value. list_answer (map plain.File (seal_members state.now number)) ≡ Ok (plain_of value))
-        (λ fault. Refuses fault (list_answer (map plain.File (seal_members state.now number)))) }
+        (λ value. list_answer (map plain.File (seal_members (over_tree state.now) number)) ≡ Ok (plain_of value))
+        (λ fault. Refuses fault (list_answer (map plain.File (seal_members (over_tree state.now) number)))) }
 {
     let members = members_of_seal(alloc, state, number)?;
     let values = file_values(alloc, members.as_slice())?;
@@ -192,7 +196,7 @@ fn call_seal(
     member: Member,
     args: &[Value],
 ) -> Result<Option<Value>, SdkFault>
-    ensures { Gives (applied (seal_function state.now member number) (map plain_of args.now)) result }
+    ensures { Gives (applied (seal_function (over_tree state.now) member number) (map plain_of args.now)) result }
 {
     match member {
         Member::GetFile => Ok(Some(get_file(alloc, state, number, args)?)),
@@ -210,7 +214,7 @@ pub(crate) fn call_static(
     member: Member,
     args: &[Value],
 ) -> Result<Option<Value>, SdkFault>
-    ensures { Gives (applied (static_function state.now member dir.now) (map plain_of args.now)) result }
+    ensures { Gives (applied (static_function (over_tree state.now) member dir.now) (map plain_of args.now)) result }
 {
     match dir {
         StaticDir::Seal(number, _) => call_seal(alloc, state, *number, member, args),
@@ -225,6 +229,60 @@ pub(crate) fn member_of_static(dir: &StaticDir, member: Member) -> Result<Option
 {
     match member {
         Member::Root => Ok(Some(Value::Directory(static_path(dir).share()?))),
+        _ => Ok(None),
+    }
+}
+
+// What is asked for the members of a seal.
+fn ask_of_seal(seal: &SealDesc) -> Result<Option<TreeAsk>, Memory>
+    ensures { IfOk result (λ ask. ask ≡ ask_of_form seal.now.form seal.now.root) }
+{
+    match seal.form {
+        SealForm::Full | SealForm::Partial => Ok(None),
+        SealForm::SourceTop | SealForm::SourceAll => Ok(Some(TreeAsk::Below(seal.root.share()?))),
+    }
+}
+
+fn ask_of_pip(kind: &PipKind) -> Result<Option<TreeAsk>, Memory>
+    ensures { IfOk result (λ ask. ask ≡ ask_of_kind kind.now) }
+{
+    match kind {
+        PipKind::Seal(seal) => ask_of_seal(seal),
+        PipKind::Process(_) | PipKind::Copy(_) | PipKind::Write(_) => Ok(None),
+    }
+}
+
+// What is asked for the members of the seal with a number.
+fn ask_for_members(state: &SdkState, number: u32) -> Result<Option<TreeAsk>, Memory>
+    ensures { IfOk result (λ ask. ask ≡ seal_ask (over_tree state.now) number) }
+{
+    match pip_at(state.pips(), number) {
+        Some(pip) => ask_of_pip(&pip.kind),
+        None => Ok(None),
+    }
+}
+
+// What the call of a member function of a seal asks.
+fn ask_of_member(state: &SdkState, number: u32, member: Member) -> Result<Option<TreeAsk>, Memory>
+    ensures { IfOk result (λ ask. ask ≡ seal_function_ask (over_tree state.now) member number) }
+{
+    match member {
+        Member::GetFile => ask_for_members(state, number),
+        Member::GetContent => ask_for_members(state, number),
+        _ => Ok(None),
+    }
+}
+
+/// What the call of a member function of a static directory asks.
+pub(crate) fn ask_of_static(
+    state: &SdkState,
+    dir: &StaticDir,
+    member: Member,
+) -> Result<Option<TreeAsk>, Memory>
+    ensures { IfOk result (λ ask. ask ≡ static_function_ask (over_tree state.now) member dir.now) }
+{
+    match dir {
+        StaticDir::Seal(number, _) => ask_of_member(state, *number, member),
         _ => Ok(None),
     }
 }

@@ -18,7 +18,8 @@ use Rattle.dscript_sdk_calls.specs.CmdOption.{cmd_option}
 use Rattle.dscript_sdk_calls.specs.ContractAssert.{contract_assert}
 use Rattle.dscript_sdk_calls.specs.ContractFail.{contract_fail}
 use Rattle.dscript_sdk_calls.specs.Globs.{glob_files}
-use Rattle.dscript_sdk_calls.specs.Sources.{files_below, files_found}
+use Rattle.dscript_sdk_calls.specs.Sources.{files_below, files_found, tree_answers}
+use Rattle.dscript_sdk_calls.specs.declared.tree_ask.TreeAsk.TheVariants.{Glob, GlobDeep}
 
 abbrev a : Atoms
 a = codes "s" ∷ codes "a" ∷ []
@@ -117,21 +118,22 @@ abbrev sources_of : List Plain → Plain
 sources_of files = plain.Listed 1 (to_items files)
 
 a_glob_is_of_its_directory
-    : glob_files false (plain.Directory [] ∷ text (codes "*") ∷ []) sources
-    ≡ Ok (sources_of (plain.File (Source (codes "t" ∷ [])) ∷ []))
+    : glob_files false (plain.Directory [] ∷ text (codes "*") ∷ []) (tree_answers sources)
+    ≡ Ok (sources_of (plain.File (Source (codes "t" ∷ [])) ∷ []), Glob [] (codes "*"))
 unfolding glob_files files_found
 a_glob_is_of_its_directory = refl
 
 a_deep_glob_goes_below
-    : glob_files true (plain.Directory [] ∷ text (codes "a") ∷ []) sources ≡ Ok (sources_of (plain.File (Source a) ∷ []))
+    : glob_files true (plain.Directory [] ∷ text (codes "a") ∷ []) (tree_answers sources)
+    ≡ Ok (sources_of (plain.File (Source a) ∷ []), GlobDeep [] (codes "a"))
 unfolding glob_files files_found
 a_deep_glob_goes_below = refl
 
-an_empty_pattern_is_refused : glob_files false (plain.Directory [] ∷ text [] ∷ []) sources ≡ Err BadArgument
+an_empty_pattern_is_refused : glob_files false (plain.Directory [] ∷ text [] ∷ []) (tree_answers sources) ≡ Err BadArgument
 unfolding glob_files
 an_empty_pattern_is_refused = refl
 
-the_directory_comes_before_the_pattern : glob_files false (plain.Path [] ∷ text [] ∷ []) sources ≡ Err Kind
+the_directory_comes_before_the_pattern : glob_files false (plain.Path [] ∷ text [] ∷ []) (tree_answers sources) ≡ Err Kind
 unfolding glob_files
 the_directory_comes_before_the_pattern = refl
 

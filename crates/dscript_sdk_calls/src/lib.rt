@@ -10,10 +10,12 @@ mod cmd;
 mod globs;
 mod paths;
 mod sources;
+mod tree_ask;
 
 pub use artifacts::{artifact_input, artifact_none, artifact_output};
 pub use assertions::{contract_assert, contract_fail};
 pub use cmd::{cmd_argument, cmd_flag, cmd_option};
 pub use globs::glob_files;
 pub use paths::{path_bytes, path_bytes_after};
-pub use sources::{find_below, find_directly_in, find_files};
+pub use sources::{ask_tree, find_below, find_directly_in};
+pub use tree_ask::TreeAsk;

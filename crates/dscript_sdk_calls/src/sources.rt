@@ -1,38 +1,32 @@
-//! What calls ask of the source tree: all that they know of it, they know from here.
-ghost use Rattle.std.specs.Prelude.{◌≡◌, ◌≢◌, ◌≤◌, true, false, length, IfOk, MatchResult};
+//! The source tree's answers: all that calls know of it, they know from here.
+ghost use Rattle.std.specs.Prelude.{◌≡◌, ◌≤◌, true, false, length, IfOk};
 ghost use Rattle.std.specs.List.Sorted.{IsPartitionPoint};
 ghost use Rattle.bx_tree.specs.Below.{is_below, is_directly_in};
 ghost use Rattle.bx_tree.specs.Trees.{IsTree, paths_of};
 ghost use Rattle.bx_tree.specs.Views.{files_of};
 ghost use Rattle.dscript_sdk_calls.specs.Ranges.{first_directly_in};
-ghost use Rattle.dscript_sdk_calls.specs.Sources.{files_below, files_directly_in, files_found};
-ghost use Rattle.bx_path.specs.Globbing.{is_pattern};
+ghost use Rattle.dscript_sdk_calls.specs.Sources.{files_below, files_directly_in, files_found, tree_answers};
 ghost use Rattle.bx_tree.specs.Ranges.{comes_before, first_below, prefix_below};
 
-use bx_path::{GlobFault, glob};
+use crate::tree_ask::TreeAsk;
+use bx_path::{Pattern, glob};
 use bx_tree::{Memory, Path, Tree, TreeFile, comes_before, prefix_of};
-use dscript_sdk_values::SdkFault;
-use std::alloc::Global;
+use std::alloc::{AllocError, Global};
 
-/// The source files that a pattern finds in a directory, or anywhere below it where the glob is deep.
+// The source files that a pattern finds in a directory, or anywhere below it where the glob is deep.
 #[tactic(auto, unfolding(crate::specs::Sources::files_found))]
-pub fn find_files(
+fn find_files(
     alloc: Global,
     tree: &Tree,
     dir: &Path,
-    pattern: &[u8],
+    pattern: &Pattern,
     deep: bool,
-) -> Result<Vec<Path>, SdkFault>
-    ensures { MatchResult result
-        (λ paths. (is_pattern pattern.now ≡ true)
-        × (paths.items ≡ files_found tree.now dir.now pattern.now deep))
-        (λ fault. fault ≢ SdkFault.Memory
-        → (fault ≡ SdkFault.BadArgument) × (is_pattern pattern.now ≡ false)) }
+) -> Result<Vec<Path>, Memory>
+    ensures { IfOk result (λ paths. paths.items ≡ files_found tree.now dir.now pattern.now deep) }
 {
-    match glob(alloc, tree, dir, pattern, deep) {
+    match glob(alloc, tree, dir, pattern.text(), deep) {
         Ok(paths) => Ok(paths),
-        Err(GlobFault::BadPattern) => Err(SdkFault::BadArgument),
-        Err(GlobFault::Memory) => Err(SdkFault::Memory),
+        Err(_) => Err(AllocError),
     }
 }
 
@@ -112,4 +106,15 @@ pub fn find_directly_in(alloc: Global, tree: &Tree, dir: &Path) -> Result<Vec<Pa
     let files = tree.files();
     let start = count_before(files, prefix.as_slice());
     share_first_directly_in(alloc, &files[start..], dir, prefix.as_slice())
+}
+
+/// What a source tree answers to an ask.
+pub fn ask_tree(alloc: Global, tree: &Tree, ask: &TreeAsk) -> Result<Vec<Path>, Memory>
+    ensures { IfOk result (λ paths. paths.items ≡ tree_answers tree.now ask.now) }
+{
+    match ask {
+        TreeAsk::Glob(dir, pattern) => find_files(alloc, tree, dir, pattern, false),
+        TreeAsk::GlobDeep(dir, pattern) => find_files(alloc, tree, dir, pattern, true),
+        TreeAsk::Below(dir) => find_below(alloc, tree, dir),
+    }
 }

@@ -1,12 +1,12 @@
 -- Worked examples: the order of faults, and what of inputs and outputs counts.
 use Rattle.std.proofs.Common.{◌≡◌, ℕ, List, [], ◌∷◌, None, Err, codes, refl}
-use Rattle.std.specs.FinMap.{empty}
 use Rattle.bx_tree.specs.Paths.{Atoms}
 use Rattle.bx_tree.specs.declared.file_input.FileInput.TheVariants.{Source, Made}
 use Rattle.dscript_value.specs.Plain as plain
 use Rattle.dscript_value.specs.Plain.{Plain, PlainField, to_items, to_members}
 use Rattle.dscript_sdk_values.specs.declared.fault.SdkFault.TheVariants.{BadArgument, Kind}
-use Rattle.dscript_sdk_pips.specs.States.{State, Change}
+use Rattle.dscript_sdk_calls.specs.Sources.{tree_answers}
+use Rattle.dscript_sdk_pips.specs.States.{State, Change, no_calls}
 use Rattle.dscript_sdk_execute.specs.Execute.{execute}
 use Rattle.dscript_sdk_execute.specs.ExecuteObject.{output_in, request_in, tool_in, variables_in}
 
@@ -22,7 +22,7 @@ abbrev s : Atoms
 s = codes "s" ∷ []
 
 abbrev start : State
-start = record { sources = []; pips = []; counts = empty }
+start = no_calls (tree_answers [])
 
 abbrev object : List PlainField → Plain
 object fields = plain.Object 1 (to_members fields)

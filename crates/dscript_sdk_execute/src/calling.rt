@@ -1,7 +1,7 @@
 //! The call itself.
 ghost use Rattle.std.specs.Prelude.{◌≡◌, Ok, map, IfOk, IfErr, OnErr, MatchResult};
 ghost use Rattle.dscript_sdk_values.specs.Outcomes.{Refuses};
-ghost use Rattle.dscript_sdk_pips.specs.States.{with_pip};
+ghost use Rattle.dscript_sdk_pips.specs.States.{over_tree, with_pip};
 ghost use Rattle.pip_model_types.specs.declared.pip.PipKind.TheVariants as kinds;
 ghost use Rattle.dscript_sdk_execute.specs.Execute as spec;
 ghost use Rattle.dscript_sdk_execute.specs.Execute.{asked_process};
@@ -37,11 +37,12 @@ fn read_process(
 // A process pip, and its process.
 fn add_process(state: &mut SdkState, site: &Site, process: ProcessDesc) -> Result<Value, SdkFault>
     ensures answer { IfOk result (λ value.
-        with_pip site.now.file (kinds.Process process) plain.Process state.old
-        ≡ Ok (plain_of value, state.new)) }
+        with_pip site.now.file (kinds.Process process) plain.Process (over_tree state.old)
+        ≡ Ok (plain_of value, over_tree state.new)) }
     ensures fault { IfErr result (λ fault.
-        Refuses fault (with_pip site.now.file (kinds.Process process) plain.Process state.old)) }
+        Refuses fault (with_pip site.now.file (kinds.Process process) plain.Process (over_tree state.old))) }
     ensures unchanged { OnErr result (state.new ≡ state.old) }
+    ensures sources { state.new.sources ≡ state.old.sources }
 {
     let number = state.add(site, PipKind::Process(process))?;
     Ok(Value::Process(number))
@@ -56,10 +57,11 @@ pub fn execute(
     args: &[Value],
 ) -> Result<Value, SdkFault>
     ensures answer { IfOk result (λ value.
-        spec.execute site.now.file (map plain_of args.now) state.old ≡ Ok (plain_of value, state.new)) }
+        spec.execute site.now.file (map plain_of args.now) (over_tree state.old) ≡ Ok (plain_of value, over_tree state.new)) }
     ensures fault { IfErr result (λ fault.
-        Refuses fault (spec.execute site.now.file (map plain_of args.now) state.old)) }
+        Refuses fault (spec.execute site.now.file (map plain_of args.now) (over_tree state.old))) }
     ensures unchanged { OnErr result (state.new ≡ state.old) }
+    ensures sources { state.new.sources ≡ state.old.sources }
 {
     let process = read_process(alloc, &site.file, state.pips(), args)?;
     add_process(state, site, process)

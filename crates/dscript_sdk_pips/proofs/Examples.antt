@@ -1,16 +1,16 @@
 -- Worked examples of calls that make pips and output directories, and of the order of their faults.
 use Rattle.std.proofs.Common.{◌≡◌, ℕ, List, [], ◌∷◌, Ok, Err, codes, refl}
-use Rattle.std.specs.FinMap.{empty}
 use Rattle.bx_tree.specs.Paths.{Atoms}
 use Rattle.bx_tree.specs.Trees.{Files}
 use Rattle.bx_tree.specs.declared.file_input.FileInput.TheVariants.{Source, Made}
 use Rattle.pip_model_types.specs.declared.pip.PipKind.TheVariants as kinds
-use Rattle.pip_model_types.specs.declared.dir_inputs.SealForm.TheVariants.{Partial, SourceAll, SourceTop}
+use Rattle.pip_model_types.specs.declared.dir_inputs.SealForm.TheVariants.{Full, Partial, SourceAll, SourceTop}
 use Rattle.dscript_value.specs.declared.parts.StaticDir.TheVariants as static_dirs
 use Rattle.dscript_value.specs.Plain as plain
 use Rattle.dscript_value.specs.Plain.{Plain, PlainField, to_items, to_members}
 use Rattle.dscript_sdk_values.specs.declared.fault.SdkFault.TheVariants.{BadArgument, Kind}
-use Rattle.dscript_sdk_calls.specs.Sources.{files_below}
+use Rattle.dscript_sdk_calls.specs.Sources.{files_below, tree_answers}
+use Rattle.dscript_sdk_calls.specs.declared.tree_ask.TreeAsk.TheVariants.{Below}
 use Rattle.dscript_sdk_pips.specs.declared.limits.TheConstants.{MAX_NUMBERED_PIPS}
 use Rattle.dscript_sdk_pips.specs.CopyFile.{copy_file}
 use Rattle.dscript_sdk_pips.specs.FileSets.{files_by_path}
@@ -18,7 +18,7 @@ use Rattle.dscript_sdk_pips.specs.NewOutputDirectory.{name_in_arguments, named_d
 use Rattle.dscript_sdk_pips.specs.SealDirectory.{seal_directory}
 use Rattle.dscript_sdk_pips.specs.SealPartialDirectory.{seal_partial_directory}
 use Rattle.dscript_sdk_pips.specs.SealSourceDirectory.{form_in, seal_source_directory}
-use Rattle.dscript_sdk_pips.specs.States.{State}
+use Rattle.dscript_sdk_pips.specs.States.{State, no_calls}
 use Rattle.dscript_sdk_pips.specs.WriteAllLines.{text_of_lines, written_lines}
 use Rattle.dscript_sdk_pips.specs.WriteAllText.{write_all_text}
 
@@ -43,7 +43,7 @@ abbrev sources : Files
 sources = (a, []) ∷ (b, []) ∷ (beside, []) ∷ []
 
 abbrev start : State
-start = record { sources = sources; pips = []; counts = empty }
+start = no_calls (tree_answers sources)
 
 abbrev object : List PlainField → Plain
 object fields = plain.Object 1 (to_members fields)
@@ -131,6 +131,19 @@ no_source_file_is_left_out
     : seal_directory spec (plain.Directory s ∷ listed (file a ∷ []) ∷ []) start ≡ Err BadArgument
 unfolding seal_directory files_below
 no_source_file_is_left_out = refl
+
+a_full_seal_asks_for_all_below_its_directory
+    : seal_directory spec (plain.Directory s ∷ listed (file a ∷ file b ∷ []) ∷ []) start
+    ≡ Ok (
+      plain.Static (static_dirs.Seal 0 s),
+      record start {
+        pips =
+            record { spec = spec; kind = kinds.Seal (record { form = Full; root = s; files = Source a ∷ Source b ∷ [] }) } ∷ [];
+        asks = Below s ∷ [];
+      },
+    )
+unfolding seal_directory files_below
+a_full_seal_asks_for_all_below_its_directory = refl
 
 a_partial_seal_may_leave_files_out
     : seal_partial_directory spec (plain.Directory s ∷ listed (file b ∷ file b ∷ []) ∷ []) start

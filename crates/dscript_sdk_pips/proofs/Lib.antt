@@ -1,6 +1,7 @@
 pub mod CountsKept
 pub mod FilesKept
 pub mod NewPips
+pub mod Asked
 pub mod ShortPaths
 pub mod Listed
 pub mod Counted

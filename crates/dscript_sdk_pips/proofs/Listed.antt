@@ -6,9 +6,7 @@ use Rattle.std.specs.List.{list_all}
 use Rattle.std.proofs.lemmas.Bool.{cases_Bool, false≢true}
 use Rattle.bx_tree.specs.Orders.{equal_paths, same_path_decides}
 use Rattle.bx_tree.specs.Paths.{Atoms, path_cmp, same_path}
-use Rattle.bx_tree.specs.Trees.{Files}
 use Rattle.bx_tree.specs.declared.file_input.FileInput.{FileInput}
-use Rattle.dscript_sdk_calls.specs.Sources.{files_below}
 use Rattle.dscript_sdk_pips.specs.FileSets.{FileMap, counted, file_for, files_by_path, put_file}
 use Rattle.dscript_sdk_pips.specs.Seals.{is_listed, lists_sources}
 use Rattle.dscript_sdk_pips.proofs.FilesKept.{keys, keys_put, own_from, own_paths}
@@ -101,6 +99,6 @@ all_listed_by_path files (p ∷ ps) =
     ap (λ b. b && list_all (is_listed (files_by_path files)) ps) (listed_by_path files p)
     ∙ ap (λ b. is_listed files p && b) (all_listed_by_path files ps)
 
-pub lists_by_path : (sources : Files) (dir : Atoms) (files : List FileInput)
-    → lists_sources sources dir (files_by_path files) ≡ lists_sources sources dir files
-lists_by_path sources dir files = all_listed_by_path files (files_below sources dir)
+pub lists_by_path : (sources : List Atoms) (files : List FileInput)
+    → lists_sources sources (files_by_path files) ≡ lists_sources sources files
+lists_by_path sources files = all_listed_by_path files sources

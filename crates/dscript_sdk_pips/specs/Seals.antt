@@ -3,7 +3,6 @@ use Rattle.std.specs.Prelude.{Bool, List, Ok}
 use Rattle.std.specs.List.{list_all, list_any}
 use Rattle.bx_tree.specs.Below.{is_below}
 use Rattle.bx_tree.specs.Paths.{Atoms, same_path}
-use Rattle.bx_tree.specs.Trees.{Files}
 use Rattle.bx_tree.specs.declared.file_input.FileInput.{FileInput}
 use Rattle.pip_model_types.specs.declared.pip.PipKind.TheVariants as kinds
 use Rattle.pip_model_types.specs.declared.pip.SealDesc.{SealDesc}
@@ -13,7 +12,6 @@ use Rattle.dscript_value.specs.Plain.{Plain}
 use Rattle.dscript_sdk_values.specs.Arguments.{two_of}
 use Rattle.dscript_sdk_values.specs.Kinds.{directory_in, file_in, list_in}
 use Rattle.dscript_sdk_values.specs.Outcomes.{Outcome, ◌>>=◌}
-use Rattle.dscript_sdk_calls.specs.Sources.{files_below}
 use Rattle.dscript_sdk_pips.specs.States.{Change, State, with_pip}
 use Rattle.bx_tree.specs.FileInputs.{input_path}
 
@@ -33,9 +31,9 @@ are_below dir files = list_all (λ file. is_below (input_path file) dir) files
 abbrev pub is_listed : List FileInput → Atoms → Bool
 is_listed files path = list_any (λ file. same_path (input_path file) path) files
 
--- whether each source file below the directory is listed
-abbrev pub lists_sources : Files → Atoms → List FileInput → Bool
-lists_sources sources dir files = list_all (is_listed files) (files_below sources dir)
+-- whether each of these source files, which are all below a directory, is listed
+abbrev pub lists_sources : List Atoms → List FileInput → Bool
+lists_sources sources files = list_all (is_listed files) sources
 
 -- a new seal, and its directory
 abbrev pub with_sealed : Atoms → SealDesc → State → Change

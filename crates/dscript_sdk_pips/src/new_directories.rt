@@ -5,6 +5,7 @@ ghost use Rattle.std.specs.Fmt.{decimal};
 ghost use Rattle.bx_path.specs.Joining.{if_short, join_of};
 ghost use Rattle.bx_tree.specs.Paths.{IsAtom};
 ghost use Rattle.dscript_sdk_values.specs.Outcomes.{Refuses};
+ghost use Rattle.dscript_sdk_pips.specs.States.{over_tree};
 ghost use Rattle.dscript_sdk_pips.specs.NewOutputDirectory as spec;
 ghost use Rattle.dscript_sdk_pips.specs.NewOutputDirectory.{name_in_arguments as read_name_of, named_directory};
 ghost use Rattle.dscript_value.specs.Plain.{plain_of};
@@ -98,11 +99,12 @@ pub fn new_output_directory(
     args: &[Value],
 ) -> Result<Value, SdkFault>
     ensures answer { IfOk result (λ value.
-        spec.new_output_directory site.now.file (map plain_of args.now) state.old
-        ≡ Ok (plain_of value, state.new)) }
+        spec.new_output_directory site.now.file (map plain_of args.now) (over_tree state.old)
+        ≡ Ok (plain_of value, over_tree state.new)) }
     ensures fault { IfErr result (λ fault.
-        Refuses fault (spec.new_output_directory site.now.file (map plain_of args.now) state.old)) }
+        Refuses fault (spec.new_output_directory site.now.file (map plain_of args.now) (over_tree state.old))) }
     ensures unchanged { OnErr result (state.new ≡ state.old) }
+    ensures sources { state.new.sources ≡ state.old.sources }
 {
     let name = read_name(args)?;
     let dir = directory_of(alloc, site, name)?;

@@ -12,14 +12,16 @@ ghost use Rattle.dscript_sdk_pips.specs.SealSourceDirectory as sources;
 ghost use Rattle.dscript_sdk_pips.specs.SealSourceDirectory.{form_in, form_named, form_of_rest};
 ghost use Rattle.dscript_sdk_pips.specs.Seals as seals;
 ghost use Rattle.dscript_sdk_pips.specs.Seals.{sealed_in, with_sealed};
-ghost use Rattle.dscript_sdk_calls.specs.Sources.{files_below};
+ghost use Rattle.dscript_sdk_calls.specs.Sources.{files_below, tree_answers};
+ghost use Rattle.dscript_sdk_calls.specs.declared.tree_ask.TreeAsk.TheVariants as asks;
+ghost use Rattle.dscript_sdk_pips.specs.States.{over_tree, with_ask};
 ghost use Rattle.dscript_value.specs.Plain.{plain_of};
 
 use crate::file_sets::files_by_path;
 use crate::site::Site;
 use crate::state::SdkState;
 use bx_tree::{FileInput, Memory, Path, Tree};
-use dscript_sdk_calls::find_below;
+use dscript_sdk_calls::{TreeAsk, find_below};
 use dscript_sdk_values::{SdkFault, read_directory, read_list, two_arguments};
 use dscript_value::{StaticDir, Value};
 use pip_model_types::{FileInputs, PipKind, SealDesc, SealForm};
@@ -28,12 +30,36 @@ use std::alloc::Global;
 // A seal, and its directory.
 fn add_seal(state: &mut SdkState, site: &Site, seal: SealDesc) -> Result<Value, SdkFault>
     ensures answer { IfOk result (λ value.
-        with_sealed site.now.file seal state.old ≡ Ok (plain_of value, state.new)) }
-    ensures fault { IfErr result (λ fault. Refuses fault (with_sealed site.now.file seal state.old)) }
+        with_sealed site.now.file seal (over_tree state.old) ≡ Ok (plain_of value, over_tree state.new)) }
+    ensures fault { IfErr result (λ fault. Refuses fault (with_sealed site.now.file seal (over_tree state.old))) }
     ensures unchanged { OnErr result (state.new ≡ state.old) }
+    ensures sources { state.new.sources ≡ state.old.sources }
 {
     let root = seal.root.share()?;
     let number = state.add(site, PipKind::Seal(seal))?;
+    Ok(Value::Static(StaticDir::Seal(number, root)))
+}
+
+// The ask for all source files below a directory.
+fn ask_below(dir: &Path) -> Result<TreeAsk, Memory>
+    ensures { IfOk result (λ ask. ask ≡ asks.Below dir.now) }
+{
+    Ok(TreeAsk::Below(dir.share()?))
+}
+
+// A seal, and its directory, of a call that asks for all source files below it.
+fn add_asked_seal(state: &mut SdkState, site: &Site, seal: SealDesc) -> Result<Value, SdkFault>
+    ensures answer { IfOk result (λ value.
+        with_sealed site.now.file seal (with_ask (asks.Below seal.root) (over_tree state.old))
+        ≡ Ok (plain_of value, over_tree state.new)) }
+    ensures fault { IfErr result (λ fault. Refuses fault
+        (with_sealed site.now.file seal (with_ask (asks.Below seal.root) (over_tree state.old)))) }
+    ensures unchanged { OnErr result (state.new ≡ state.old) }
+    ensures sources { state.new.sources ≡ state.old.sources }
+{
+    let root = seal.root.share()?;
+    let ask = ask_below(&seal.root)?;
+    let number = state.add_asked(site, PipKind::Seal(seal), ask)?;
     Ok(Value::Static(StaticDir::Seal(number, root)))
 }
 
@@ -109,11 +135,12 @@ pub fn seal_source_directory(
     args: &[Value],
 ) -> Result<Value, SdkFault>
     ensures answer { IfOk result (λ value.
-        sources.seal_source_directory site.now.file (map plain_of args.now) state.old
-        ≡ Ok (plain_of value, state.new)) }
+        sources.seal_source_directory site.now.file (map plain_of args.now) (over_tree state.old)
+        ≡ Ok (plain_of value, over_tree state.new)) }
     ensures fault { IfErr result (λ fault.
-        Refuses fault (sources.seal_source_directory site.now.file (map plain_of args.now) state.old)) }
+        Refuses fault (sources.seal_source_directory site.now.file (map plain_of args.now) (over_tree state.old))) }
     ensures unchanged { OnErr result (state.new ≡ state.old) }
+    ensures sources { state.new.sources ≡ state.old.sources }
 {
     let seal = read_source_seal(alloc, args)?;
     add_seal(state, site, seal)
@@ -163,7 +190,7 @@ fn are_listed(files: &FileInputs, paths: &[Path]) -> bool
 
 // Whether each source file below a directory is listed.
 fn lists_sources(alloc: Global, tree: &Tree, dir: &Path, files: &FileInputs) -> Result<bool, Memory>
-    ensures { IfOk result (λ whole. whole ≡ seals.lists_sources tree.now dir.now files.now) }
+    ensures { IfOk result (λ whole. whole ≡ seals.lists_sources (files_below tree.now dir.now) files.now) }
 {
     let paths = find_below(alloc, tree, dir)?;
     Ok(are_listed(files, paths.as_slice()))
@@ -178,8 +205,8 @@ fn full_seal(
     files: &[FileInput],
 ) -> Result<SealDesc, SdkFault>
     ensures { MatchResult result
-        (λ seal. full_seal_of tree.now root files.now ≡ Ok seal)
-        (λ fault. Refuses fault (full_seal_of tree.now root files.now)) }
+        (λ seal. full_seal_of (files_below tree.now root) root files.now ≡ Ok seal)
+        (λ fault. Refuses fault (full_seal_of (files_below tree.now root) root files.now)) }
 {
     if !are_below(&root, files) {
         return Err(SdkFault::BadArgument);
@@ -215,8 +242,8 @@ fn partial_seal(alloc: Global, root: Path, files: &[FileInput]) -> Result<SealDe
 // The full seal that arguments ask for.
 fn read_full_seal(alloc: Global, tree: &Tree, args: &[Value]) -> Result<SealDesc, SdkFault>
     ensures { MatchResult result
-        (λ seal. full.asked_seal tree.now (map plain_of args.now) ≡ Ok seal)
-        (λ fault. Refuses fault (full.asked_seal tree.now (map plain_of args.now))) }
+        (λ seal. full.asked_seal (tree_answers tree.now) (map plain_of args.now) ≡ Ok seal)
+        (λ fault. Refuses fault (full.asked_seal (tree_answers tree.now) (map plain_of args.now))) }
 {
     let (root, files) = read_sealed(alloc, args)?;
     full_seal(alloc, tree, root, files.as_slice())
@@ -241,14 +268,15 @@ pub fn seal_directory(
     args: &[Value],
 ) -> Result<Value, SdkFault>
     ensures answer { IfOk result (λ value.
-        full.seal_directory site.now.file (map plain_of args.now) state.old
-        ≡ Ok (plain_of value, state.new)) }
+        full.seal_directory site.now.file (map plain_of args.now) (over_tree state.old)
+        ≡ Ok (plain_of value, over_tree state.new)) }
     ensures fault { IfErr result (λ fault.
-        Refuses fault (full.seal_directory site.now.file (map plain_of args.now) state.old)) }
+        Refuses fault (full.seal_directory site.now.file (map plain_of args.now) (over_tree state.old))) }
     ensures unchanged { OnErr result (state.new ≡ state.old) }
+    ensures sources { state.new.sources ≡ state.old.sources }
 {
     let seal = read_full_seal(alloc, state.tree(), args)?;
-    add_seal(state, site, seal)
+    add_asked_seal(state, site, seal)
 }
 
 /// A seal of some files below its root.
@@ -260,11 +288,12 @@ pub fn seal_partial_directory(
     args: &[Value],
 ) -> Result<Value, SdkFault>
     ensures answer { IfOk result (λ value.
-        partial.seal_partial_directory site.now.file (map plain_of args.now) state.old
-        ≡ Ok (plain_of value, state.new)) }
+        partial.seal_partial_directory site.now.file (map plain_of args.now) (over_tree state.old)
+        ≡ Ok (plain_of value, over_tree state.new)) }
     ensures fault { IfErr result (λ fault.
-        Refuses fault (partial.seal_partial_directory site.now.file (map plain_of args.now) state.old)) }
+        Refuses fault (partial.seal_partial_directory site.now.file (map plain_of args.now) (over_tree state.old))) }
     ensures unchanged { OnErr result (state.new ≡ state.old) }
+    ensures sources { state.new.sources ≡ state.old.sources }
 {
     let seal = read_partial_seal(alloc, args)?;
     add_seal(state, site, seal)

@@ -1,6 +1,7 @@
 //! Calls that write and copy files.
 ghost use Rattle.std.specs.Prelude.{◌≡◌, Ok, map, IfOk, IfErr, OnErr, MatchResult};
 ghost use Rattle.dscript_sdk_values.specs.Outcomes.{Refuses};
+ghost use Rattle.dscript_sdk_pips.specs.States.{over_tree};
 ghost use Rattle.dscript_sdk_pips.specs.CopyFile as copies;
 ghost use Rattle.dscript_sdk_pips.specs.CopyFile.{copied_file, with_copy};
 ghost use Rattle.dscript_sdk_pips.specs.WriteAllLines as lines;
@@ -27,9 +28,10 @@ const TEXT_FIELDS: [&[u8]; 2] = [b"outputPath", b"text"];
 // A write pip, and its file.
 fn add_write(state: &mut SdkState, site: &Site, written: WriteDesc) -> Result<Value, SdkFault>
     ensures answer { IfOk result (λ value.
-        with_write site.now.file written state.old ≡ Ok (plain_of value, state.new)) }
-    ensures fault { IfErr result (λ fault. Refuses fault (with_write site.now.file written state.old)) }
+        with_write site.now.file written (over_tree state.old) ≡ Ok (plain_of value, over_tree state.new)) }
+    ensures fault { IfErr result (λ fault. Refuses fault (with_write site.now.file written (over_tree state.old))) }
     ensures unchanged { OnErr result (state.new ≡ state.old) }
+    ensures sources { state.new.sources ≡ state.old.sources }
 {
     let made = written.to.share()?;
     let number = state.add(site, PipKind::Write(written))?;
@@ -57,11 +59,12 @@ pub fn write_all_text(
     args: &[Value],
 ) -> Result<Value, SdkFault>
     ensures answer { IfOk result (λ value.
-        texts.write_all_text site.now.file (map plain_of args.now) state.old
-        ≡ Ok (plain_of value, state.new)) }
+        texts.write_all_text site.now.file (map plain_of args.now) (over_tree state.old)
+        ≡ Ok (plain_of value, over_tree state.new)) }
     ensures fault { IfErr result (λ fault.
-        Refuses fault (texts.write_all_text site.now.file (map plain_of args.now) state.old)) }
+        Refuses fault (texts.write_all_text site.now.file (map plain_of args.now) (over_tree state.old))) }
     ensures unchanged { OnErr result (state.new ≡ state.old) }
+    ensures sources { state.new.sources ≡ state.old.sources }
 {
     let written = read_text_file(alloc, args)?;
     add_write(state, site, written)
@@ -109,11 +112,12 @@ pub fn write_all_lines(
     args: &[Value],
 ) -> Result<Value, SdkFault>
     ensures answer { IfOk result (λ value.
-        lines.write_all_lines site.now.file (map plain_of args.now) state.old
-        ≡ Ok (plain_of value, state.new)) }
+        lines.write_all_lines site.now.file (map plain_of args.now) (over_tree state.old)
+        ≡ Ok (plain_of value, over_tree state.new)) }
     ensures fault { IfErr result (λ fault.
-        Refuses fault (lines.write_all_lines site.now.file (map plain_of args.now) state.old)) }
+        Refuses fault (lines.write_all_lines site.now.file (map plain_of args.now) (over_tree state.old))) }
     ensures unchanged { OnErr result (state.new ≡ state.old) }
+    ensures sources { state.new.sources ≡ state.old.sources }
 {
     let written = read_lines_file(alloc, args)?;
     add_write(state, site, written)
@@ -134,9 +138,10 @@ fn read_copy(alloc: Global, args: &[Value]) -> Result<CopyDesc, SdkFault>
 // A copy pip, and its file.
 fn add_copy(state: &mut SdkState, site: &Site, copied: CopyDesc) -> Result<Value, SdkFault>
     ensures answer { IfOk result (λ value.
-        with_copy site.now.file copied state.old ≡ Ok (plain_of value, state.new)) }
-    ensures fault { IfErr result (λ fault. Refuses fault (with_copy site.now.file copied state.old)) }
+        with_copy site.now.file copied (over_tree state.old) ≡ Ok (plain_of value, over_tree state.new)) }
+    ensures fault { IfErr result (λ fault. Refuses fault (with_copy site.now.file copied (over_tree state.old))) }
     ensures unchanged { OnErr result (state.new ≡ state.old) }
+    ensures sources { state.new.sources ≡ state.old.sources }
 {
     let made = copied.to.share()?;
     let number = state.add(site, PipKind::Copy(copied))?;
@@ -152,10 +157,11 @@ pub fn copy_file(
     args: &[Value],
 ) -> Result<Value, SdkFault>
     ensures answer { IfOk result (λ value.
-        copies.copy_file site.now.file (map plain_of args.now) state.old ≡ Ok (plain_of value, state.new)) }
+        copies.copy_file site.now.file (map plain_of args.now) (over_tree state.old) ≡ Ok (plain_of value, over_tree state.new)) }
     ensures fault { IfErr result (λ fault.
-        Refuses fault (copies.copy_file site.now.file (map plain_of args.now) state.old)) }
+        Refuses fault (copies.copy_file site.now.file (map plain_of args.now) (over_tree state.old))) }
     ensures unchanged { OnErr result (state.new ≡ state.old) }
+    ensures sources { state.new.sources ≡ state.old.sources }
 {
     let copied = read_copy(alloc, args)?;
     add_copy(state, site, copied)

@@ -35,18 +35,20 @@ use Rattle.dscript_sdk_calls.specs.CmdFlag.{cmd_flag, flagged}
 use Rattle.dscript_sdk_calls.specs.CmdOption.{cmd_option}
 use Rattle.dscript_sdk_calls.specs.ContractAssert.{contract_assert, unless_true}
 use Rattle.dscript_sdk_calls.specs.ContractFail.{contract_fail}
-use Rattle.dscript_sdk_calls.specs.Globs.{glob_files, pattern_in, source_values}
-use Rattle.dscript_sdk_calls.specs.Sources.{files_found}
+use Rattle.dscript_sdk_calls.specs.Globs.{asked_glob, found_files, glob_files, pattern_in, source_values}
+use Rattle.dscript_sdk_calls.specs.declared.tree_ask.TreeAsk.{TreeAsk}
+use Rattle.dscript_sdk_calls.specs.declared.tree_ask.TreeAsk.TheVariants.{Below}
 use Rattle.dscript_sdk_pips.specs.CopyFile.{copied_file, copy_file}
 use Rattle.dscript_sdk_pips.specs.NewOutputDirectory.{atom_in, name_in_arguments, new_output_directory}
 use Rattle.dscript_sdk_pips.specs.SealDirectory as full
 use Rattle.dscript_sdk_pips.specs.SealPartialDirectory as partial
 use Rattle.dscript_sdk_pips.specs.SealSourceDirectory.{form_in, form_of_rest, seal_source_directory, sealed_sources}
 use Rattle.dscript_sdk_pips.specs.Seals.{are_below, lists_sources, sealed_in}
-use Rattle.dscript_sdk_pips.specs.States.{Change, State as Calls, unchanged, with_pip}
+use Rattle.dscript_sdk_pips.specs.States.{Change, State as Calls, asking, unchanged, with_ask, with_pip}
 use Rattle.dscript_sdk_pips.specs.WriteAllLines as lines
 use Rattle.dscript_sdk_pips.specs.WriteAllText as texts
 use Rattle.dscript_sdk.specs.Calls.{call_of}
+use Rattle.dscript_sdk.specs.Members.{answer_with}
 use Rattle.dscript_sdk_execute.specs.Execute.{asked_process, execute}
 use Rattle.dscript_types_meaning.specs.declared.kind.Kind.{Kind}
 use Rattle.dscript_types_meaning.specs.declared.kind.Kind.TheVariants as kinds
@@ -81,6 +83,19 @@ ChangesTo t c = Answers (Plain × Calls) (λ r. HasType r.0 t) c
 left_alone : (t : TypeData) (o : Outcome Plain) (s : Calls) → AnswersOf t o → ChangesTo t (unchanged o s)
 left_alone t (Ok x) s h = h
 left_alone t (Err fault) s h = h
+
+-- what a call of a member answers and asks
+pub method_changes : (t : TypeData) (ask : Option TreeAsk) (o : Outcome Plain) (s : Calls) → AnswersOf t o → ChangesTo t (answer_with ask o s)
+method_changes t None o s h = left_alone t o s h
+method_changes t (Some ask) (Ok x) s h = h
+method_changes t (Some ask) (Err fault) s h = h
+
+-- what a call answers that asks the tree once
+ask_changes
+    : (t : TypeData) (o : Outcome (Plain × TreeAsk)) (s : Calls) → Answers (Plain × TreeAsk) (λ r. HasType r.0 t) o
+    → ChangesTo t (asking o s)
+ask_changes t (Ok r) s h = h
+ask_changes t (Err fault) s h = h
 
 pip_case
     : (t : TypeData) (value : Plain) (s : Calls) (b : Bool) → HasType value t
@@ -166,10 +181,10 @@ seal_asked args given fit zip =
 
 full_asked
     : (args : List Plain) (given : List TypeData) (s : Calls) → arguments_fit (directory_type ∷ list_type file_type ∷ []) given ≡ true
-    → AllZip HasType args given → Reads (full.asked_seal s.sources args)
+    → AllZip HasType args given → Reads (full.asked_seal s.answers args)
 full_asked args given s fit zip =
     then_reads (sealed_in args) _ (seal_asked args given fit zip)
-    (λ d. argument_reads _ (are_below d.0 d.1 && lists_sources s.sources d.0 d.1))
+    (λ d. argument_reads _ (are_below d.0 d.1 && lists_sources (s.answers (Below d.0)) d.1))
 
 partial_asked
     : (args : List Plain) (given : List TypeData) → arguments_fit (directory_type ∷ list_type file_type ∷ []) given ≡ true
@@ -359,17 +374,24 @@ source_files : (paths : List Atoms) → AllByRecursion (λ x. HasType x file_typ
 source_files [] = tt
 source_files (path ∷ paths) = (kind_has kinds.File (plain.File (Source path)) (Source path, refl), source_files paths)
 
+glob_asks
+    : (deep : Bool) (args : List Plain) (given : List TypeData) → arguments_fit (directory_type ∷ text_type ∷ []) given ≡ true
+    → AllZip HasType args given → Reads (asked_glob deep args)
+glob_asks deep args given fit zip =
+    two_answers TreeAsk (λ ask. Unit {0}) directory_type text_type args given _ fit zip
+    (λ x y h g. then_reads _ _ (directory_read x h) (λ dir. then_reads _ _ (pattern_read y g) (λ pattern. tt)))
+
 glob_answers
     : (deep : Bool) (args : List Plain) (given : List TypeData) (s : Calls)
     → arguments_fit (directory_type ∷ text_type ∷ []) given ≡ true → AllZip HasType args given
-    → AnswersOf (list_type file_type) (glob_files deep args s.sources)
+    → Answers (Plain × TreeAsk) (λ r. HasType r.0 (list_type file_type)) (glob_files deep args s.answers)
 unfolding glob_files
 glob_answers deep args given s fit zip =
-    two_answers Plain (λ x. HasType x (list_type file_type)) directory_type text_type args given _ fit zip
-    (λ x y h g. then_answers_of (list_type file_type) _ _ (directory_read x h)
-    (λ dir. then_answers_of (list_type file_type) _ _ (pattern_read y g)
-    (λ pattern. list_answered (source_values (files_found s.sources dir pattern deep)) file_type
-    (source_files (files_found s.sources dir pattern deep)))))
+    then_answers TreeAsk (Plain × TreeAsk) (λ ask. Unit {0}) (λ r. HasType r.0 (list_type file_type)) (asked_glob deep args) _
+    (glob_asks deep args given fit zip)
+    (λ ask any. then_answers Plain (Plain × TreeAsk) (λ x. HasType x (list_type file_type)) (λ r. HasType r.0 (list_type file_type))
+    (found_files (s.answers ask)) _ (list_answered (source_values (s.answers ask)) file_type (source_files (s.answers ask)))
+    (λ files h. h))
 
 -- ## Processes
 
@@ -405,8 +427,8 @@ call_answers calls.CopyFile given spec args s fit zip =
     then_changes file_type (copied_file args) _ (copy_asked args given fit zip)
     (λ d. pip_changes file_type spec (pips.Copy d) _ s (made_file d.to))
 call_answers calls.SealDirectory given spec args s fit zip =
-    then_changes (kind_type kinds.Seal) (full.asked_seal s.sources args) _ (full_asked args given s fit zip)
-    (λ d. pip_changes (kind_type kinds.Seal) spec (pips.Seal d) _ s (made_seal d.root))
+    then_changes (kind_type kinds.Seal) (full.asked_seal s.answers args) _ (full_asked args given s fit zip)
+    (λ d. pip_changes (kind_type kinds.Seal) spec (pips.Seal d) _ (with_ask (Below d.root) s) (made_seal d.root))
 call_answers calls.SealPartialDirectory given spec args s fit zip =
     then_changes (kind_type kinds.Seal) (partial.asked_seal args) _ (partial_asked args given fit zip)
     (λ d. pip_changes (kind_type kinds.Seal) spec (pips.Seal d) _ s (made_seal d.root))
@@ -450,9 +472,9 @@ call_answers calls.Assert given spec args s fit zip =
 call_answers calls.Requires given spec args s fit zip =
     left_alone undefined_type (contract_assert args) s (assert_answers args given fit zip)
 call_answers calls.Glob given spec args s fit zip =
-    left_alone (list_type file_type) (glob_files false args s.sources) s (glob_answers false args given s fit zip)
+    ask_changes (list_type file_type) (glob_files false args s.answers) s (glob_answers false args given s fit zip)
 call_answers calls.GlobRecursive given spec args s fit zip =
-    left_alone (list_type file_type) (glob_files true args s.sources) s (glob_answers true args given s fit zip)
+    ask_changes (list_type file_type) (glob_files true args s.answers) s (glob_answers true args given s fit zip)
 
 -- what an ambient call answers at arguments of types that it takes
 pub ambient_has

@@ -41,9 +41,10 @@ use Rattle.dscript_types_meaning.specs.Values.{HasType}
 use Rattle.dscript_types_values.proofs.Joining.{list_has}
 use Rattle.dscript_types_laws.specs.Invariants.{ComesTo, HasMember, HoldsConstants, IsSound, IsSoundAt}
 use Rattle.dscript_types_laws.specs.Invariants.{MayStand, OpensSoundly, Stands}
-use Rattle.dscript_types_laws.proofs.Ambients.{ChangesTo, ambient_has}
+use Rattle.dscript_types_laws.proofs.Ambients.{ChangesTo, ambient_has, method_changes}
 use Rattle.dscript_types_laws.proofs.Callbacks.{IsCalledBack, callbacks_sound}
 use Rattle.dscript_types_laws.proofs.ListMethods.{callback_function, callback_stands, functions_there, is_function_there, method_has, method_stands}
+use Rattle.dscript_types_laws.proofs.Operating.{AnswersOf}
 use Rattle.dscript_types_laws.proofs.Sound.{answer, both, bound, spent}
 use Rattle.dscript_types_laws.proofs.Typing.{AreChecked, checked_first, checked_more, in_turn, needs_is, only_is}
 
@@ -141,11 +142,25 @@ named_callback
 unfolding is_callback_named
 named_callback depth xs name m e is = found_callback depth xs (member_named name) m e is
 
+-- what a call of a member comes to, where it answers a value of a type
+method_changes_there
+    : (t : TypeData) (x : Plain) (name : List ℕ) (args : List Plain) (calls : Calls) → AnswersOf t (sdk.method_answer calls x name args)
+    → ChangesTo t (sdk.method_of calls x name args)
+unfolding sdk.method_of
+method_changes_there t x name args calls h =
+    method_changes t (sdk.function_ask_named calls x (member_named name)) (sdk.method_answer calls x name args) calls h
+
 module _ (p : ProgramData) (known : Known) (act : Acts) where
   from_none : (locals : List Local) (A : Type 0) (Is : A → Type 0) (m : Gives A) → IsSound A known [] Is m → IsSound A known locals Is m
   from_none locals A Is m sound s holds constants = sound s tt constants
 
   -- ## Members that call no functions
+
+  changed_sound
+      : (t : TypeData) (s : State) (o : Result (Plain × Calls) SdkFault) → ChangesTo t o → HoldsConstants known s
+      → ComesTo Plain known (λ x. HasType x t) s.frame (with_calls s o)
+  changed_sound t s (Ok r) h constants = record { is = h; frame = refl; constants = constants }
+  changed_sound t s (Err fault) h constants = answer known [] Plain (λ x. HasType x t) (Err fault) h s tt constants
 
   plain_sound
       : (locals : List Local) (t r : TypeData) (name : List ℕ) (given : List TypeData) (x : Plain) (args : List Plain)
@@ -155,8 +170,8 @@ module _ (p : ProgramData) (known : Known) (act : Acts) where
   plain_sound locals t r name given x args none e h zip =
       subst (λ b. IsSoundAt known locals r (cond b (callbacks act (member_named name) (applied.items_of x) args) (plain_method x name args)))
       (sym (no_callback x name none))
-      (λ s holds constants. answer known locals Plain (λ y. HasType y r) (sdk.method_of s.calls x name args)
-      (method_has t r name given args x s.calls e h zip) s holds constants)
+      (λ s holds constants. changed_sound r s (sdk.method_of s.calls x name args)
+      (method_changes_there r x name args s.calls (method_has t r name given args x s.calls e h zip)) constants)
 
   -- ## Members that call functions
 
@@ -221,12 +236,6 @@ module _ (p : ProgramData) (known : Known) (act : Acts) where
         subst (λ n. IsSoundAt known locals r (applied.subject_call p act args (applied.Named x n))) (sym h.0) (called_at_once x h.1)
 
   -- ## Ambient calls
-
-  changed_sound
-      : (t : TypeData) (s : State) (o : Result (Plain × Calls) SdkFault) → ChangesTo t o → HoldsConstants known s
-      → ComesTo Plain known (λ x. HasType x t) s.frame (with_calls s o)
-  changed_sound t s (Ok r) h constants = record { is = h; frame = refl; constants = constants }
-  changed_sound t s (Err fault) h constants = answer known [] Plain (λ x. HasType x t) (Err fault) h s tt constants
 
   ambient_sound
       : (locals : List Local) (t : TypeData) (call : AmbientCall) (given : List TypeData) (args : List Plain)

@@ -241,8 +241,8 @@ functions_there t r name given x calls e h =
 pub method_has
     : (t r : TypeData) (name : List ℕ) (given : List TypeData) (args : List Plain) (x : Plain) (calls : Calls)
     → method_type t name given ≡ Some r → HasType x t → AllZip HasType args given
-    → AnswersOf r (sdk.method_of calls x name args)
-unfolding sdk.method_of
+    → AnswersOf r (sdk.method_answer calls x name args)
+unfolding sdk.method_answer
 method_has t r name given args x calls e h zip =
     let f = functions_there t r name given x calls e h in
     subst (λ o. AnswersOf r (call_of_member calls x name args o)) (sym f.1) (f.2 args zip)

@@ -21,6 +21,7 @@ use Rattle.dscript_eval_meaning.specs.Constants.{by_status, constant, mark, stat
 use Rattle.dscript_eval_meaning.specs.Evaluating.{Fault, Stop, TooMany, followed, gives}
 use Rattle.dscript_eval_meaning.specs.Expressions.{value}
 use Rattle.dscript_eval_meaning.specs.Frames.{constant_frame, function_frame, within}
+use Rattle.dscript_sdk_calls.specs.Sources.{tree_answers}
 use Rattle.dscript_eval_meaning.specs.Meaning.{acts, demand, demand_decls, demand_files, demanded, evaluated, function_call, meaning, opened}
 use Rattle.dscript_eval_meaning.specs.Meaning.{pips_or_refusal, start}
 use Rattle.dscript_eval_meaning.specs.States.{Frame, State, Status, Waiting, Running, Done}
@@ -533,9 +534,9 @@ module _ (p : ProgramData) (known : Known) (stays : IsStable p known) (knows : K
     pub meaning_keeps : (sources : Files) (budget : ℕ) → KeepsToKinds (meaning p sources budget)
     unfolding meaning evaluated
     meaning_keeps sources budget =
-        refused (start p sources budget).frame (demand_files (acts p MAX_OPEN_CALLS) 0 p.files (start p sources budget))
+        refused (start p (tree_answers sources) budget).frame (demand_files (acts p MAX_OPEN_CALLS) 0 p.files (start p (tree_answers sources) budget))
         (files_sound (acts p MAX_OPEN_CALLS) (acts_open MAX_OPEN_CALLS) 0 p.files (λ i f is. ap (slice_get p.files) (none i) ∙ is)
-        (start p sources budget) tt
+        (start p (tree_answers sources) budget) tt
         (λ f k x t at is. absurd (let no : Waiting ≡ Done x = sym (files_wait p.files f k) ∙ at in cc)))
       where
         none : (i : ℕ) → 0 + i ≡ i

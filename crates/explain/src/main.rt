@@ -2,7 +2,8 @@
 //!
 //! `explain tool FILE` says what is wrong in a tool or what its lines do, `explain graph` shows the pips of a bundle, and
 //! `explain misses` says which processes the next build would run, and why. It depends on `explain_system` for its
-//! commands and texts, on `tool_faults`, `pip_graph` and `build_misses`, and on `bx_io_system` for its arguments and the cache.
+//! commands and texts, on `tool_faults`, `pip_graph` and `build_misses`, and on `bx_io_system` and `bx_io_folder` for its
+//! arguments and the cache.
 #![tactic(auto)]
 
 ghost use Rattle.std.specs.Prelude.{◌≡◌, IfOk, IsSome, Some, map};
@@ -15,7 +16,8 @@ use build_misses::{Miss, ReadFault, find_misses};
 use bx_engine_front::{FrontEnd, Limits};
 use bx_engine_words::{DEFAULT_EVAL_BUDGET, DEFAULT_TOOL_BUDGET};
 use bx_io::{Keeper, Listed, OpenGate};
-use bx_io_system::{FolderKeeper, SystemDisk, program_words};
+use bx_io_folder::FolderKeeper;
+use bx_io_system::{SystemDisk, program_words};
 use bx_tree::{MAX_BUNDLE_BYTES, MAX_FILE_BYTES, Memory};
 use explain_system::{
     Command, PipEnd, Refused, ends_of, fault_lines, graph_page, miss_lines, plan_of_text,

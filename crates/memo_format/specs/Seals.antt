@@ -7,7 +7,7 @@ use Rattle.sha2.specs.Sha256.{sha256}
 use Rattle.prints.specs.Parts.{digest_part}
 use Rattle.prints.specs.declared.fault.PrintFault.{PrintFault}
 use Rattle.prints.specs.declared.fault.PrintFault.TheVariants as faults
-use Rattle.memo_format.specs.declared.seal.TheConstants.{SEAL_BYTES}
+use Rattle.memo_format.specs.declared.sealing.TheConstants.{SEAL_BYTES}
 
 abbrev pub seal_line : List ℕ → List ℕ
 seal_line body = codes "seal " ++ digest_part 10 (sha256 body)

@@ -12,7 +12,7 @@ ghost use Rattle.memo_format.specs.Entries.{output_before, output_line, outputs_
 ghost use Rattle.memo_format.specs.StoredForms.{output_form};
 
 use crate::fault::FormatFault;
-use crate::seal::{SEAL_BYTES, seal, unseal};
+use crate::sealing::{SEAL_BYTES, seal, unseal};
 use bx_digest::{Digest, digest_of};
 use bx_tree::Path;
 use prints::{Cursor, Line, PrintFault, append_digest, append_lines, append_path, read_lines};

@@ -14,7 +14,7 @@ mod found;
 mod laws;
 mod outputs;
 mod read_paths;
-mod seal;
+mod sealing;
 mod selector;
 
 pub use answer_list::AnswerList;
@@ -25,4 +25,5 @@ pub use found::Found;
 pub use laws::{entry_texts, selector_texts};
 pub use outputs::{digest_of_outputs, outputs_of};
 pub use read_paths::ReadPaths;
+pub use sealing::{SEAL_BYTES, seal, unseal};
 pub use selector::{MAX_SELECTORS, Selector, read_selectors, write_selectors};

@@ -10,7 +10,7 @@ ghost use Rattle.memo_format.specs.Selectors.{select_at, select_line, selectors_
 ghost use Rattle.memo_format.specs.StoredForms.{select_form};
 
 use crate::fault::FormatFault;
-use crate::seal::{seal, unseal};
+use crate::sealing::{seal, unseal};
 use bx_digest::Digest;
 use prints::{Cursor, Line, PrintFault, append_digest, append_lines, read_lines};
 use std::alloc::{AllocError, Global};

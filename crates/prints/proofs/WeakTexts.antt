@@ -48,11 +48,11 @@ use Rattle.bx_tree.specs.FileInputs.{input_path}
 abbrev pub NoMore : List ℕ → List ℕ → Type 0
 NoMore word text = begins word text ≡ false
 
-args_form : IsForm (AllByRecursion IsCountable) (NoMore (codes "arg ")) (flat_map arg_line) args_at
+pub args_form : IsForm (AllByRecursion IsCountable) (NoMore (codes "arg ")) (flat_map arg_line) args_at
 unfolding args_at
 args_form = lines_form (begins (codes "arg ")) arg_form (λ x rest. refl) refl
 
-envs_form : IsForm (λ vs. AllByRecursion IsVariable vs × (rises not_after vs ≡ true)) (NoMore (codes "env ")) (flat_map env_line) envs_at
+pub envs_form : IsForm (λ vs. AllByRecursion IsVariable vs × (rises not_after vs ≡ true)) (NoMore (codes "env ")) (flat_map env_line) envs_at
 unfolding envs_at
 envs_form = only_form (rises not_after) (lines_form (begins (codes "env ")) env_form (λ x rest. refl) refl)
 
@@ -84,18 +84,18 @@ indirs_form =
     (λ ls g. ((subst (AllByRecursion IsDirLine) (sym (lines_of_dirs 0 ls)) g, ap (dirs_from 0) (lines_of_dirs 0 ls)), lines_of_dirs 0 ls))
     (λ dirs h. h) (lines_form (begins (codes "indir ")) indir_form (λ x rest. refl) refl))
 
-outs_form : IsForm (λ ps. AllByRecursion IsPath ps × (rises path_before ps ≡ true)) (NoMore (codes "out ")) (flat_map out_line) outs_at
+pub outs_form : IsForm (λ ps. AllByRecursion IsPath ps × (rises path_before ps ≡ true)) (NoMore (codes "out ")) (flat_map out_line) outs_at
 unfolding outs_at
 outs_form = only_form (rises path_before) (lines_form (begins (codes "out ")) out_form (λ x rest. refl) refl)
 
-outdirs_form : IsForm (λ ds. AllByRecursion IsOutDir ds × (rises outdir_before ds ≡ true)) (NoMore (codes "outdir ")) (flat_map outdir_line) outdirs_at
+pub outdirs_form : IsForm (λ ds. AllByRecursion IsOutDir ds × (rises outdir_before ds ≡ true)) (NoMore (codes "outdir ")) (flat_map outdir_line) outdirs_at
 unfolding outdirs_at
 outdirs_form = only_form (rises outdir_before) (lines_form (begins (codes "outdir ")) outdir_form (λ x rest. refl) refl)
 
 -- ## Which lines follow
 
 -- lines of another word are passed over
-passes : {X : Type 0} (word : List ℕ) (line : X → List ℕ) (xs : List X) (rest : List ℕ) → ((x : X) (t : List ℕ) → begins word (line x ++ t) ≡ false)
+pub passes : {X : Type 0} (word : List ℕ) (line : X → List ℕ) (xs : List X) (rest : List ℕ) → ((x : X) (t : List ℕ) → begins word (line x ++ t) ≡ false)
     → begins word rest ≡ false → begins word (flat_map line xs ++ rest) ≡ false
 passes word line [] rest other none = none
 passes word line (x ∷ xs) rest other none =

@@ -71,7 +71,7 @@ in_form =
     (λ f h. (h, refl))
     (after_form (codes "in ") (pair_form (path_form 32 space) (digest_form 10 newline)))
 
-form_sound : (text : List ℕ) (form : Option SealForm) → named_form text ≡ Some form
+pub form_sound : (text : List ℕ) (form : Option SealForm) → named_form text ≡ Some form
     → Unit {0} × (text ≡ form_word form)
 form_sound text form e = elim (if_word text (codes "full") (Some Full) _ form e) [
   | inl h ↦ (tt, h.0 ∙ ap form_word h.1)
@@ -90,14 +90,14 @@ form_sound text form e = elim (if_word text (codes "full") (Some Full) _ form e)
   ]
 ]
 
-form_again : (form : Option SealForm) → Unit {0} → named_form (form_word form) ≡ Some form
+pub form_again : (form : Option SealForm) → Unit {0} → named_form (form_word form) ≡ Some form
 form_again (Some Full) h = refl
 form_again (Some Partial) h = refl
 form_again (Some SourceTop) h = refl
 form_again (Some SourceAll) h = refl
 form_again None h = refl
 
-form_lacks : (form : Option SealForm) → Unit {0} → Lacks 32 (form_word form)
+pub form_lacks : (form : Option SealForm) → Unit {0} → Lacks 32 (form_word form)
 form_lacks (Some Full) h = word_lacks 32 (codes "full") refl
 form_lacks (Some Partial) h = word_lacks 32 (codes "partial") refl
 form_lacks (Some SourceTop) h = word_lacks 32 (codes "source-top") refl

@@ -21,8 +21,8 @@ pub(crate) fn are_files_rising(files: &[FileLine]) -> bool
     files.is_sorted_by(|a, b| a.path < b.path)
 }
 
-// Whether directories rise.
-pub(crate) fn are_dirs_rising(dirs: &[DirInput]) -> bool
+/// Whether directories rise.
+pub fn are_dirs_rising(dirs: &[DirInput]) -> bool
     ensures { result ≡ rises dir_before dirs.now }
 {
     dirs.is_sorted_by(|a, b| a < b)

@@ -34,8 +34,8 @@ pub(crate) struct DirLine {
     pub(crate) path: Path,
 }
 
-// The kind of line that says an argument.
-pub(crate) struct ArgKind;
+/// The kind of line that says an argument.
+pub struct ArgKind;
 
 impl Line<Text, Text> for ArgKind {
     ghost says = { λ t. t };
@@ -73,8 +73,8 @@ impl Line<Text, Text> for ArgKind {
     }
 }
 
-// The kind of line that says a variable.
-pub(crate) struct EnvKind;
+/// The kind of line that says a variable.
+pub struct EnvKind;
 
 impl Line<EnvPair, EnvPair> for EnvKind {
     ghost says = { λ v. v };
@@ -158,8 +158,8 @@ impl Line<MadeFile, FileLine> for InKind {
     }
 }
 
-// The word of the form of an input directory.
-fn word_of(form: Option<SealForm>) -> &'static str
+/// The word of the form of an input directory: of a seal, or of another process's output directory.
+pub fn word_of(form: Option<SealForm>) -> &'static str
     ensures { result.now ≡ form_word form }
 {
     match form {
@@ -171,8 +171,8 @@ fn word_of(form: Option<SealForm>) -> &'static str
     }
 }
 
-// The form that a word stands for.
-fn form_of(word: &[u8]) -> Result<Option<SealForm>, PrintFault>
+/// The form that a word stands for.
+pub fn form_of(word: &[u8]) -> Result<Option<SealForm>, PrintFault>
     ensures { Gives result (named_form word.now) }
 {
     if word == b"full".as_slice() {
@@ -261,8 +261,8 @@ impl Line<DirInput, DirLine> for IndirKind {
     }
 }
 
-// The kind of line that says an output file.
-pub(crate) struct OutKind;
+/// The kind of line that says an output file.
+pub struct OutKind;
 
 impl Line<Path, Path> for OutKind {
     ghost says = { λ p. p };
@@ -326,8 +326,8 @@ fn read_sharing(cursor: &mut Cursor) -> Result<bool, PrintFault>
     is_shared(word)
 }
 
-// The kind of line that says an output directory.
-pub(crate) struct OutdirKind;
+/// The kind of line that says an output directory.
+pub struct OutdirKind;
 
 impl Line<OutDir, OutDir> for OutdirKind {
     ghost says = { λ d. d };

@@ -91,16 +91,18 @@ fn read_head(alloc: Global, cursor: &mut Cursor) -> Result<Head, PrintFault>
     })
 }
 
+/// The arguments that come next.
 #[tactic(auto, unfolding(crate::specs::ReadWeak::args_at))]
-fn args(alloc: Global, cursor: &mut Cursor) -> Result<Arguments, PrintFault>
+pub fn read_args(alloc: Global, cursor: &mut Cursor) -> Result<Arguments, PrintFault>
     ensures { Takes result cursor.new (args_at cursor.old) }
 {
     let texts = read_lines::<Text, Text, ArgKind>(alloc, cursor)?;
     Ok(Arguments::of(texts))
 }
 
+/// The variables that come next, sorted by name.
 #[tactic(auto, unfolding(crate::specs::ReadWeak::envs_at))]
-fn env(alloc: Global, cursor: &mut Cursor) -> Result<Variables, PrintFault>
+pub fn read_variables(alloc: Global, cursor: &mut Cursor) -> Result<Variables, PrintFault>
     ensures { Takes result cursor.new (envs_at cursor.old) }
 {
     let pairs = read_lines::<EnvPair, EnvPair, EnvKind>(alloc, cursor)?;
@@ -178,7 +180,8 @@ fn numbered(alloc: Global, lines: &[DirLine]) -> Result<Vec<DirInput>, PrintFaul
     Ok(dirs)
 }
 
-fn dir_inputs(dirs: Vec<DirInput>) -> DirInputs
+/// Directories that rise already, as they are.
+pub fn dir_inputs(dirs: Vec<DirInput>) -> DirInputs
     requires { rises dir_before dirs.items ≡ true }
     ensures { result ≡ dirs.items }
 {
@@ -211,8 +214,9 @@ fn dirs(alloc: Global, cursor: &mut Cursor) -> Result<DirInputs, PrintFault>
     Ok(dir_inputs(dirs))
 }
 
+/// The output files that come next, which rise.
 #[tactic(auto, unfolding(crate::specs::ReadWeak::outs_at))]
-fn outs(alloc: Global, cursor: &mut Cursor) -> Result<Outputs, PrintFault>
+pub fn read_outs(alloc: Global, cursor: &mut Cursor) -> Result<Outputs, PrintFault>
     ensures { Takes result cursor.new (outs_at cursor.old) }
 {
     let paths = read_lines::<Path, Path, OutKind>(alloc, cursor)?;
@@ -222,8 +226,9 @@ fn outs(alloc: Global, cursor: &mut Cursor) -> Result<Outputs, PrintFault>
     Ok(outputs(paths))
 }
 
+/// The output directories that come next, which rise.
 #[tactic(auto, unfolding(crate::specs::ReadWeak::outdirs_at))]
-fn outdirs(alloc: Global, cursor: &mut Cursor) -> Result<OutDirs, PrintFault>
+pub fn read_outdirs(alloc: Global, cursor: &mut Cursor) -> Result<OutDirs, PrintFault>
     ensures { Takes result cursor.new (outdirs_at cursor.old) }
 {
     let dirs = read_lines::<OutDir, OutDir, OutdirKind>(alloc, cursor)?;
@@ -237,12 +242,12 @@ fn outdirs(alloc: Global, cursor: &mut Cursor) -> Result<OutDirs, PrintFault>
 fn read_lists_of(alloc: Global, cursor: &mut Cursor) -> Result<Lists, PrintFault>
     ensures { Takes result cursor.new (lists_from cursor.old) }
 {
-    let args = args(alloc, cursor)?;
-    let env = env(alloc, cursor)?;
+    let args = read_args(alloc, cursor)?;
+    let env = read_variables(alloc, cursor)?;
     let lines = files(alloc, cursor)?;
     let dirs = dirs(alloc, cursor)?;
-    let outs = outs(alloc, cursor)?;
-    let outdirs = outdirs(alloc, cursor)?;
+    let outs = read_outs(alloc, cursor)?;
+    let outdirs = read_outdirs(alloc, cursor)?;
     let digests = digests(alloc, lines.as_slice())?;
     Ok(Lists {
         args,

@@ -7,7 +7,7 @@
 ghost use Rattle.std.specs.Prelude.{◌≡◌, Some, map, string_bytes};
 ghost use Rattle.bx_engine.specs.Expected.{Answers};
 ghost use Rattle.bx_engine.specs.Statuses.{IsWhole};
-ghost use Rattle.bx_engine_words.specs.Words.{OrdersBuild};
+ghost use Rattle.bx_engine_words.specs.Words.{OrdersPlainBuild};
 ghost use Rattle.bx_engine_words.specs.declared.order.Order.{Order as TheOrder};
 ghost use Rattle.bx_io.specs.Holdings.{Holdings, held_in};
 ghost use Rattle.tests_engine_telling.specs.FairBuild.{IsFairBuild};
@@ -17,7 +17,8 @@ mod tests;
 
 use bx_engine::{Status, command};
 use bx_io::{Gate, Keeper, MemSink, MemSource};
-use bx_io_system::{FolderKeeper, MemDisk};
+use bx_io_disk::MemDisk;
+use bx_io_folder::FolderKeeper;
 use std::alloc::Global;
 use std::sync::Wait;
 use std::thread::Threads;
@@ -33,7 +34,7 @@ pub fn over_files<H: Threads + Wait + Sync, G: Gate>(
     keeper: &mut FolderKeeper<MemDisk>,
     gate: &G,
 ) -> Status
-    ensures { (order : TheOrder) (held : Holdings) → OrdersBuild (map string_bytes words.now) order
+    ensures { (order : TheOrder) (held : Holdings) → OrdersPlainBuild (map string_bytes words.now) order
         → held_in (⟦<FolderKeeper<MemDisk> as Keeper>⟧.known keeper.old) ≡ Some held
         → IsFairBuild order source.old.left held → IsWhole result
         → Answers order source.old.left result out.old.taken out.new.taken }

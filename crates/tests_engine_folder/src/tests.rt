@@ -1,6 +1,7 @@
 use crate::over_files;
 use bx_io::{MemSink, MemSource};
-use bx_io_system::{FolderKeeper, MemDisk};
+use bx_io_disk::MemDisk;
+use bx_io_folder::FolderKeeper;
 use std::alloc::Global;
 use std::process::Abort;
 use std::sync::Wait;

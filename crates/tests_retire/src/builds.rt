@@ -30,6 +30,7 @@ pub fn planned(alloc: Global, bundle: &str) -> Result<FrontEnd, Fail>
         eval_budget: 10_000_000,
         tool_budget: 100_000,
         types: false,
+        graphs: false,
     };
     match front(alloc, tree, &order) {
         Ok(end) => Ok(end),

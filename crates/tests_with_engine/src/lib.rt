@@ -5,7 +5,7 @@
 mod over_stores;
 mod watched;
 
-use bx_engine::command;
+use bx_engine::{command, command_graphs};
 use bx_io::{FailKeeper, Gate, Keeper, MemKeeper, MemSink, MemSource};
 pub use over_stores::{
     ALL_HIT, ALL_RAN, FIRST_CALLS, INPUT, TWO_RAN, are_built, is_built, is_built_without_cache,
@@ -213,4 +213,37 @@ pub fn add_build_without_cache<H: Threads + Wait + Sync, K: Keeper, G: Gate>(
         gate,
         seen,
     )
+}
+
+/// Adds what a command of these words comes to over this input, a store and a store of graphs: the output, `notes ` and
+/// the notes, and `status ` and the status.
+pub fn add_graph_command<H: Threads + Wait + Sync, K: Keeper, M: Keeper>(
+    rt: &H,
+    alloc: Global,
+    texts: &[&str],
+    input: &str,
+    keeper: &mut K,
+    graphs: &mut M,
+    seen: &mut Vec<u8>,
+) -> Result<(), AllocError> {
+    let mut words = Vec::new(alloc);
+    for text in texts {
+        words.push(String::from_str(alloc, text)?)?;
+    }
+    let mut source = source_of(alloc, input.as_bytes(), NO_FAULTS)?;
+    let mut out = sink_of(alloc, NO_FAULTS, 0)?;
+    let mut notes = sink_of(alloc, NO_FAULTS, 0)?;
+    let gate = CountGate::new();
+    let status = command_graphs(
+        rt,
+        alloc,
+        &words,
+        &mut source,
+        &mut out,
+        &mut notes,
+        keeper,
+        graphs,
+        &gate,
+    );
+    add_answer(seen, &out, &notes, status.code())
 }

@@ -58,7 +58,8 @@ impl SelectorList {
     }
 }
 
-fn content<R: KeepReader>(
+/// The content of a digest, if it is held.
+pub fn content<R: KeepReader>(
     alloc: Global,
     reader: &mut R,
     digest: &Digest,

@@ -19,10 +19,12 @@ mod recording;
 mod saving;
 mod store_fault;
 
+pub use fetching::content;
 pub use fitting::fits;
 pub use held::HeldContents;
 pub use laws::saves_stay_honest;
 pub use lookups::{LookupResult, lookup, lookup_by, lookup_with};
 pub use path_sets::PathSets;
 pub use rechecking::{Rechecked, recheck};
-pub use saving::{SaveResult, keep, keep_with};
+pub use saving::{SaveResult, keep, keep_with, put_content};
+pub use store_fault::StoreFault;

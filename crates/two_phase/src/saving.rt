@@ -127,8 +127,8 @@ fn put_text<K: Keeper>(
     Ok(())
 }
 
-// Puts a content under its digest, unless it is known to be held there.
-fn put_content<K: Keeper>(
+/// Puts a content under its digest, unless it is known to be held there.
+pub fn put_content<K: Keeper>(
     alloc: Global,
     keeper: &mut K,
     held: &mut HeldContents,

@@ -1,10 +1,12 @@
 //! Why a search in a store stops.
 use std::alloc::{AllocError, AllocFailed};
 
-// Why a search stops: the reader failed, or there was no memory.
+/// Why a search stops: the reader failed, or there was no memory.
 #[derive(Clone, Copy, Debug, PartialEq, Eq)]
-pub(crate) enum StoreFault {
+pub enum StoreFault {
+    /// The reader failed.
     Fault,
+    /// There was no memory.
     Memory,
 }
 

@@ -1,4 +1,4 @@
-use Rattle.bx_io_system.proofs.Telling.{none_named}
+use Rattle.bx_io_folder.proofs.Telling.{none_named}
 use Rattle.explain.proofs.misses_of.Goals as goal
 
 pub ask-requires : goal.ask-requires

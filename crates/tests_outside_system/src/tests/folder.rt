@@ -1,7 +1,8 @@
 //! A store in a folder. What its calls answer is said by a text, a word for each.
 
 use bx_io::{Got, Keeper, Listed, PutFault, is_name};
-use bx_io_system::{FolderKeeper, PLACES, SystemDisk};
+use bx_io_folder::{FolderKeeper, PLACES};
+use bx_io_system::SystemDisk;
 use std::alloc::{AllocError, Global};
 use std::fs;
 use std::rt::Files;

@@ -1,13 +1,14 @@
 use Rattle.std.proofs.Common.{◌≡◌, ◌⊎◌, ◌∙◌, ℕ, List, ap, arith, inl, inr, length, refl, subst, sym}
 use Rattle.bx_io.proofs.Changes.{keeps_all}
 use Rattle.std.specs.Prelude.{vec_len}
-use Rattle.bx_engine.specs.Calls.{Call, Given, call_of, change_of, given_of, written_of}
-use Rattle.bx_engine.specs.Ended.{Answered, Left, Unanswered}
+use Rattle.bx_engine.specs.Calls.{Call, Given, change_of, given_of, graph_call_of, written_of}
+use Rattle.bx_engine.specs.Ended.{Answered, LeftStores, Unanswered}
 use Rattle.bx_engine.specs.Expected.{limits_of}
 use Rattle.bx_engine.specs.Known.{IsInput, ReadOf}
 use Rattle.bx_engine.specs.Statuses.{HasNoNotes}
 use Rattle.bx_engine.specs.declared.status.Status.TheVariants as statuses
 use Rattle.bx_engine.proofs.CallsEnd.{left_read}
+use Rattle.bx_engine.proofs.GraphsOfCalls.{memory_is_no_tree, no_tree_status, same_keeps, same_kept, same_leaves}
 use Rattle.bx_engine.proofs.ReadingKeepsEnding.{left_slice, read_out, read_slice}
 use Rattle.bx_engine.proofs.StatusesDiffer.{answered_status, memory_is_no_refusal, not_begun, not_silent, quiet_refusal, refused_status}
 use Rattle.bx_engine.proofs.StoresLeft.{left_same, none_put}
@@ -26,11 +27,13 @@ returns-in-Err-Failed g c =
     given_of (g.S.Source.given c.args.source.now) (g.S.Source.given c.read_all.new.source) (g.S.Source.left c.args.source.now) (g.S.Source.left c.read_all.new.source)
     (g.S.Source.ended c.read_all.new.source) (g.S.Source.faults c.args.source.now) (g.S.Source.faults c.read_all.new.source) in
     let call : Call =
-    call_of statuses.SourceFailed source
+    graph_call_of statuses.SourceFailed source
     (written_of (g.O.Sink.taken c.args.out.now) (g.O.Sink.taken c.args.out.now) (g.O.Sink.faults c.args.out.now) (g.O.Sink.faults c.args.out.now))
     (written_of (g.N.Sink.taken c.args.notes.now) (g.N.Sink.taken c.args.notes.now) (g.N.Sink.faults c.args.notes.now) (g.N.Sink.faults c.args.notes.now))
     (change_of (g.K.Keeper.known c.args.keeper.now) (g.K.Keeper.known c.args.keeper.now) (g.K.Keeper.bound c.args.keeper.now) (g.K.Keeper.faults c.args.keeper.now)
-    (g.K.Keeper.faults c.args.keeper.now)) in
+    (g.K.Keeper.faults c.args.keeper.now))
+    (change_of (g.M.Keeper.known c.args.graphs.now) (g.M.Keeper.known c.args.graphs.now) (g.M.Keeper.bound c.args.graphs.now) (g.M.Keeper.faults c.args.graphs.now)
+    (g.M.Keeper.faults c.args.graphs.now)) in
     let gave = c.read_all.ensures.piece in
     let u : Unanswered call = record {
       silent = inr (inl refl);
@@ -40,16 +43,30 @@ returns-in-Err-Failed g c =
       source_no_fault = λ n. absurd (n refl);
       out_faults = refl;
       puts = none_put known known (keeps_all known);
+      graph_puts = same_kept (g.M.Keeper.known c.args.graphs.now) (g.M.Keeper.bound c.args.graphs.now) (g.M.Keeper.faults c.args.graphs.now);
       later = omega arith;
     } in
     record {
       begun = λ e. cc;
-      ended = inl (u, λ input asked held is honest fair. left_same (limits_of order) input held known known (keeps_all known) honest);
+      ended = inl (
+        u,
+        λ input asked. record {
+          results = λ held is honest fair. left_same (limits_of order) input held known known (keeps_all known) honest;
+          graphs = record {
+            only = same_keeps (g.M.Keeper.known c.args.graphs.now) (g.M.Keeper.bound c.args.graphs.now) (g.M.Keeper.faults c.args.graphs.now) (limits_of order)
+                input;
+            honest = λ fair. same_leaves (g.M.Keeper.known c.args.graphs.now);
+          };
+        },
+      );
       silent = λ s. refl;
       no_notes = λ s. refl;
       kept = λ s. refl;
       untouched = λ off. refl;
       bound = refl;
+      no_tree = λ n. refl;
+      no_graphs = λ off. refl;
+      graph_bound = refl;
     }
 
 pub returns-in-Err-Memory : goal.returns-in-Err-Memory
@@ -60,11 +77,13 @@ returns-in-Err-Memory g c =
     given_of (g.S.Source.given c.args.source.now) (g.S.Source.given c.read_all.new.source) (g.S.Source.left c.args.source.now) (g.S.Source.left c.read_all.new.source)
     (g.S.Source.ended c.read_all.new.source) (g.S.Source.faults c.args.source.now) (g.S.Source.faults c.read_all.new.source) in
     let call : Call =
-    call_of statuses.OutOfMemory source
+    graph_call_of statuses.OutOfMemory source
     (written_of (g.O.Sink.taken c.args.out.now) (g.O.Sink.taken c.args.out.now) (g.O.Sink.faults c.args.out.now) (g.O.Sink.faults c.args.out.now))
     (written_of (g.N.Sink.taken c.args.notes.now) (g.N.Sink.taken c.args.notes.now) (g.N.Sink.faults c.args.notes.now) (g.N.Sink.faults c.args.notes.now))
     (change_of (g.K.Keeper.known c.args.keeper.now) (g.K.Keeper.known c.args.keeper.now) (g.K.Keeper.bound c.args.keeper.now) (g.K.Keeper.faults c.args.keeper.now)
-    (g.K.Keeper.faults c.args.keeper.now)) in
+    (g.K.Keeper.faults c.args.keeper.now))
+    (change_of (g.M.Keeper.known c.args.graphs.now) (g.M.Keeper.known c.args.graphs.now) (g.M.Keeper.bound c.args.graphs.now) (g.M.Keeper.faults c.args.graphs.now)
+    (g.M.Keeper.faults c.args.graphs.now)) in
     let gave = c.read_all.ensures.piece in
     let u : Unanswered call = record {
       silent = inr (inr refl);
@@ -74,16 +93,30 @@ returns-in-Err-Memory g c =
       source_no_fault = λ n. c.in-Err-Memory.ensures.no_fault (λ e. cc);
       out_faults = refl;
       puts = none_put known known (keeps_all known);
+      graph_puts = same_kept (g.M.Keeper.known c.args.graphs.now) (g.M.Keeper.bound c.args.graphs.now) (g.M.Keeper.faults c.args.graphs.now);
       later = omega arith;
     } in
     record {
       begun = λ e. cc;
-      ended = inl (u, λ input asked held is honest fair. left_same (limits_of order) input held known known (keeps_all known) honest);
+      ended = inl (
+        u,
+        λ input asked. record {
+          results = λ held is honest fair. left_same (limits_of order) input held known known (keeps_all known) honest;
+          graphs = record {
+            only = same_keeps (g.M.Keeper.known c.args.graphs.now) (g.M.Keeper.bound c.args.graphs.now) (g.M.Keeper.faults c.args.graphs.now) (limits_of order)
+                input;
+            honest = λ fair. same_leaves (g.M.Keeper.known c.args.graphs.now);
+          };
+        },
+      );
       silent = λ s. refl;
       no_notes = λ s. refl;
       kept = λ s. refl;
       untouched = λ off. refl;
       bound = refl;
+      no_tree = λ n. refl;
+      no_graphs = λ off. refl;
+      graph_bound = refl;
     }
 
 -- ## Nothing was answered
@@ -95,11 +128,13 @@ returns-in-Err g c =
     given_of (g.S.Source.given c.args.source.now) (g.S.Source.given c.read_all.new.source) (g.S.Source.left c.args.source.now) (g.S.Source.left c.read_all.new.source)
     (g.S.Source.ended c.read_all.new.source) (g.S.Source.faults c.args.source.now) (g.S.Source.faults c.read_all.new.source) in
     let call : Call =
-    call_of statuses.OutOfMemory source
+    graph_call_of statuses.OutOfMemory source
     (written_of (g.O.Sink.taken c.args.out.now) (g.O.Sink.taken c.args.out.now) (g.O.Sink.faults c.args.out.now) (g.O.Sink.faults c.args.out.now))
     (written_of (g.N.Sink.taken c.args.notes.now) (g.N.Sink.taken c.args.notes.now) (g.N.Sink.faults c.args.notes.now) (g.N.Sink.faults c.args.notes.now))
     (change_of (g.K.Keeper.known c.args.keeper.now) (g.K.Keeper.known c.respond.new.keeper) (g.K.Keeper.bound c.args.keeper.now) (g.K.Keeper.faults c.args.keeper.now)
-    (g.K.Keeper.faults c.respond.new.keeper)) in
+    (g.K.Keeper.faults c.respond.new.keeper))
+    (change_of (g.M.Keeper.known c.args.graphs.now) (g.M.Keeper.known c.respond.new.graphs) (g.M.Keeper.bound c.args.graphs.now) (g.M.Keeper.faults c.args.graphs.now)
+    (g.M.Keeper.faults c.respond.new.graphs)) in
     let same = c.in-Ok.ensures.no_fault (λ e. cc) in
     let gave = c.read_all.ensures.piece in
     let u : Unanswered call = record {
@@ -110,11 +145,15 @@ returns-in-Err g c =
       source_no_fault = λ n. same;
       out_faults = refl;
       puts = c.respond.ensures.puts;
+      graph_puts = c.respond.ensures.graph_puts;
       later = c.respond.ensures.later;
     } in
     let read : (input : List ℕ) → IsInput source input → ReadOf input c.deref.result.now =
     λ input asked. read_slice source input _ _ _ c.deref.ensures.value c.deref.ensures.len asked c.in-Ok.ensures.gave c.in-Ok.ensures.moved c.in-Ok.ensures.bound c.in-Ok.ensures.none_left in
-    let left : Left call c.deref.result.now order = c.respond.ensures.left in
+    let left : LeftStores call c.deref.result.now order = record {
+      results = c.respond.ensures.left;
+      graphs = record { only = c.respond.ensures.graphs_kept; honest = c.respond.ensures.graphs_left };
+    } in
     record {
       begun = λ e. cc;
       ended = inl (u, λ input asked. left_read call input c.deref.result.now order (read input asked) left);
@@ -123,6 +162,9 @@ returns-in-Err g c =
       kept = λ none. absurd (memory_is_no_refusal none);
       untouched = c.respond.ensures.untouched;
       bound = c.respond.ensures.bound;
+      no_tree = λ none. absurd (memory_is_no_tree none);
+      no_graphs = c.respond.ensures.no_graphs;
+      graph_bound = c.respond.ensures.graph_bound;
     }
 
 -- ## An answer
@@ -134,11 +176,13 @@ returns g c =
     given_of (g.S.Source.given c.args.source.now) (g.S.Source.given c.read_all.new.source) (g.S.Source.left c.args.source.now) (g.S.Source.left c.read_all.new.source)
     (g.S.Source.ended c.read_all.new.source) (g.S.Source.faults c.args.source.now) (g.S.Source.faults c.read_all.new.source) in
     let call : Call =
-    call_of c.deliver.result source
+    graph_call_of c.deliver.result source
     (written_of (g.O.Sink.taken c.args.out.now) (g.O.Sink.taken c.deliver.new.out) (g.O.Sink.faults c.args.out.now) (g.O.Sink.faults c.deliver.new.out))
     (written_of (g.N.Sink.taken c.args.notes.now) (g.N.Sink.taken c.deliver.new.notes) (g.N.Sink.faults c.args.notes.now) (g.N.Sink.faults c.deliver.new.notes))
     (change_of (g.K.Keeper.known c.args.keeper.now) (g.K.Keeper.known c.respond.new.keeper) (g.K.Keeper.bound c.args.keeper.now) (g.K.Keeper.faults c.args.keeper.now)
-    (g.K.Keeper.faults c.respond.new.keeper)) in
+    (g.K.Keeper.faults c.respond.new.keeper))
+    (change_of (g.M.Keeper.known c.args.graphs.now) (g.M.Keeper.known c.respond.new.graphs) (g.M.Keeper.bound c.args.graphs.now) (g.M.Keeper.faults c.args.graphs.now)
+    (g.M.Keeper.faults c.respond.new.graphs)) in
     let given = c.in-Ok.ensures in
     let gave = c.read_all.ensures.piece in
     let same = given.no_fault (λ e. cc) in
@@ -157,11 +201,15 @@ returns g c =
       written = c.deliver.ensures.written;
       begun = c.deliver.ensures.begun;
       noted = c.deliver.ensures.noted;
-      left = c.respond.ensures.left;
+      left = record {
+        results = c.respond.ensures.left;
+        graphs = record { only = c.respond.ensures.graphs_kept; honest = c.respond.ensures.graphs_left };
+      };
       source = same;
       out_cause = c.deliver.ensures.cause;
       out_no_fault = c.deliver.ensures.no_fault;
       puts = c.respond.ensures.puts;
+      graph_puts = c.respond.ensures.graph_puts;
       later = c.respond.ensures.later;
     } in
     record {
@@ -176,6 +224,9 @@ returns g c =
           c.in-Ok-respond.ensures.kept (refused_status _ _ c.deliver.ensures.status (not_begun c.deliver.result (answered_or_memory came) none));
       untouched = c.respond.ensures.untouched;
       bound = c.respond.ensures.bound;
+      no_tree = λ none. c.in-Ok-respond.ensures.no_tree (no_tree_status _ _ c.deliver.ensures.status none);
+      no_graphs = c.respond.ensures.no_graphs;
+      graph_bound = c.respond.ensures.graph_bound;
     }
   where
     answered_or_memory : {A B C : Type 0} → A ⊎ B → A ⊎ B ⊎ C

@@ -31,8 +31,8 @@ returns-clause-response g c =
     let change : StoreChange =
     change_of (g.K.Keeper.known c.args.keeper.now) (g.K.Keeper.known c.collect-response.new.keeper) (g.K.Keeper.bound c.args.keeper.now)
     (g.K.Keeper.faults c.args.keeper.now) (g.K.Keeper.faults c.collect-response.new.keeper) in
-    subst (λ (p : PlanData). IfOk c.collect-response.result (IsBuildResponse p.pips c.args.sources p.tool_budget c.args.cached c.args.workers change)) plan
-    (subst (λ (t : Files). IfOk c.collect-response.result (IsBuildResponse c.deref.result.now.pips t c.deref.result.now.tool_budget c.args.cached c.args.workers change)) files
+    subst (λ (p : PlanData). IfOk c.collect-response.result (IsBuildResponse p.pips c.args.sources p.tool_budget c.args.cached c.args.workers change c.args.line)) plan
+    (subst (λ (t : Files). IfOk c.collect-response.result (IsBuildResponse c.deref.result.now.pips t c.deref.result.now.tool_budget c.args.cached c.args.workers change c.args.line)) files
     (c.collect-response.ensures.response c.args.workers c.in_ok-crewed.ensures.through))
 
 pub returns-clause-left : goal.returns-clause-left

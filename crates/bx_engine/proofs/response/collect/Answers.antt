@@ -11,7 +11,7 @@ returns-clause-response g c =
     (g.K.Keeper.faults c.args.keeper.now) (g.K.Keeper.faults c.retire.new.keeper) in
     both_ok c.show-response.result _ _ _
     (λ response shown paths.
-    build_response c.args.plan.now.pips c.args.sources.now c.args.plan.now.tool_budget c.args.cached workers change c.in_ok-retired.retired c.args.crewed.worked response
+    build_response c.args.plan.now.pips c.args.sources.now c.args.plan.now.tool_budget c.args.cached workers change c.in_ok-retired.retired c.args.crewed.worked c.args.line response
     (record {
       build = r.build;
       number = r.number;

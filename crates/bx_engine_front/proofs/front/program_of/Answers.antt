@@ -1,41 +1,15 @@
-use Rattle.std.proofs.Common.{List, ap, subst, ◌∙◌}
 use Rattle.std.proofs.lemmas.Result.{MatchResult-weaker, err_from_is_err_and}
-use Rattle.std.specs.Borrow.{Bor}
-use Rattle.bx_tree.specs.Trees.{Files}
-use Rattle.bx_tree.specs.declared.tree_file.TreeFile.{TreeFile}
 use Rattle.dscript_program.specs.Workspaces.{modules_of}
 use Rattle.dscript_program.specs.Views.{program_data}
-use Rattle.bx_engine_front.specs.FileFaults.{RefusesFiles}
-use Rattle.bx_engine_front.specs.Names.{AreParsed, all_parsed}
-use Rattle.bx_engine_front.specs.Projects.{lent_files}
-use Rattle.bx_engine_front.proofs.Passes.{program_found, refused_files, refused_modules, refused_names, short_projects}
+use Rattle.bx_engine_front.proofs.Passes.{some_program}
 use Rattle.bx_engine_front.proofs.front.program_of.Goals as goal
 
 pub returns-in_err-work : goal.returns-in_err-work
 returns-in_err-work c =
-    let p = err_from_is_err_and c.from_residual.result c.from_residual.ensures.1 in
-    rw (p.1, p.2) (refused_modules c.args.tree.now c.in_err-work.field-0.0 c.in_err-work.ensures)
-
-pub parse_projects-requires : goal.parse_projects-requires
-parse_projects-requires c =
-    short_projects c.args.tree.now (lent_files c.as_slice.result.now) (modules_of c.in_ok-work.work) c.requires
-    (ap (λ (files : List (Bor TreeFile)). lent_files files) c.as_slice.ensures.value ∙ c.in_ok-files.ensures)
-
-pub returns-in_err-parsed : goal.returns-in_err-parsed
-returns-in_err-parsed c =
-    let p = err_from_is_err_and c.from_residual-in_err-parsed.result c.from_residual-in_err-parsed.ensures.1 in
-    rw (p.1, p.2)
-    (refused_files c.args.tree.now (modules_of c.in_ok-work.work) c.in_err-parsed.field-0.0 c.in_ok-work.ensures
-    (subst (λ (projects : Files). RefusesFiles projects c.in_err-parsed.field-0.0)
-    (ap (λ (files : List (Bor TreeFile)). lent_files files) c.as_slice.ensures.value ∙ c.in_ok-files.ensures) c.in_err-parsed.ensures))
+    let p = err_from_is_err_and c.from_residual.result c.from_residual.ensures.1 in rw (p.1, p.2) c.in_err-work.ensures.found
 
 pub returns : goal.returns
 returns c =
-    let parses = subst (λ (projects : Files). AreParsed projects (all_parsed c.in_ok-parsed.parsed.items))
-    (ap (λ (files : List (Bor TreeFile)). lent_files files) c.as_slice.ensures.value ∙ c.in_ok-files.ensures) c.in_ok-parsed.ensures in
-    MatchResult-weaker c.resolve.result c.resolve.ensures
-    (λ program is.
-    program_found c.args.tree.now (modules_of c.in_ok-work.work) (all_parsed c.in_ok-parsed.parsed.items) (program_data program)
-    c.in_ok-work.ensures parses is)
-    (λ fault is.
-    refused_names c.args.tree.now (modules_of c.in_ok-work.work) (all_parsed c.in_ok-parsed.parsed.items) fault c.in_ok-work.ensures parses is)
+    MatchResult-weaker c.program_in.result c.program_in.ensures
+    (λ program is. some_program c.args.tree.now (modules_of c.in_ok-work.work) (program_data program) is)
+    (λ fault is. is)

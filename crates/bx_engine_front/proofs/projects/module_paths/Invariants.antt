@@ -1,6 +1,6 @@
 use Rattle.std.proofs.Common.{◌≡◌, ◌++◌, drop}
 use Rattle.dscript_program.specs.Workspaces.{modules_data}
-use Rattle.bx_engine_front.specs.Projects.{paths_of_modules}
+use Rattle.dscript_names.specs.ProjectFiles.{paths_of_modules}
 use Rattle.bx_engine_front.proofs.projects.module_paths.Given as goal
 
 abbrev pub invariant-modules : goal.invariant-modules

@@ -1,6 +1,6 @@
 use Rattle.std.proofs.Common.{ap}
 use Rattle.std.proofs.lemmas.Result.{err_from_is_err_and}
-use Rattle.bx_engine_front.specs.Names.{all_parsed}
+use Rattle.dscript_names.specs.ProjectFiles.{all_parsed}
 use Rattle.bx_engine_front.specs.Projects.{lent_files}
 use Rattle.bx_engine_front.proofs.ProjectFiles.{all_read, each_short, more_read, none_read, refused_here}
 use Rattle.bx_engine_front.proofs.projects.parse_projects.Goals as goal

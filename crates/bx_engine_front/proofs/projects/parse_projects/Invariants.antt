@@ -1,5 +1,5 @@
 use Rattle.std.proofs.Common.{drop}
-use Rattle.bx_engine_front.specs.Names.{all_parsed}
+use Rattle.dscript_names.specs.ProjectFiles.{all_parsed}
 use Rattle.bx_engine_front.specs.Projects.{lent_files}
 use Rattle.bx_engine_front.proofs.ProjectFiles.{ReadSoFar}
 use Rattle.bx_engine_front.proofs.projects.parse_projects.Given as goal

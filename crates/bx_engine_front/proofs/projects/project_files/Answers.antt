@@ -3,7 +3,8 @@ use Rattle.std.proofs.lemmas.Result.{IfOk-weaker}
 use Rattle.bx_tree.specs.Views.{files_of}
 use Rattle.dscript_program.specs.declared.workspace.ModuleText.{ModuleText}
 use Rattle.dscript_program.specs.Workspaces.{modules_data, modules_of}
-use Rattle.bx_engine_front.specs.Projects.{lent_files, paths_of_modules}
+use Rattle.dscript_names.specs.ProjectFiles.{paths_of_modules}
+use Rattle.bx_engine_front.specs.Projects.{lent_files}
 use Rattle.bx_engine_front.proofs.ProjectFiles.{found_projects}
 use Rattle.bx_engine_front.proofs.projects.project_files.Goals as goal
 

@@ -1,4 +1,4 @@
-use Rattle.bx_io_system.specs.Events.{left_of}
+use Rattle.bx_io_disk.specs.Events.{left_of}
 use Rattle.bx_io_system.proofs.Left.{left_on, end_on}
 use Rattle.bx_io_system.proofs.laws.source_tells_on.Goals as goal
 

@@ -1,4 +1,4 @@
-use Rattle.bx_io_system.proofs.Files.{failure_noted}
+use Rattle.bx_io_disk.proofs.Events.{failure_noted}
 use Rattle.bx_io_system.proofs.system_disk.note_fault.Goals as goal
 
 pub returns-then-ne-2 : goal.returns-then-ne-2

@@ -1,6 +1,6 @@
 use Rattle.std.proofs.Common.{length, take, arith}
 use Rattle.std.proofs.lemmas.Grind.{common_steps}
-use Rattle.bx_io_system.specs.Events.{left_of}
+use Rattle.bx_io_disk.specs.Events.{left_of}
 use Rattle.bx_io_system.proofs.Left.{ended_unasked, left_gave}
 use Rattle.bx_io_system.proofs.std_source.StdSourceSource.read.Goals as goal
 

@@ -2,7 +2,7 @@ use Rattle.std.proofs.Common.{◌≡◌, [], ◌∷◌, Some, false, rules, true
 use Rattle.std.proofs.lemmas.Result.{IfErr-at_err}
 use Rattle.std.specs.IoError.{error_kind}
 use Rattle.std.specs.declared.io.ErrorKind.TheVariants.{WouldBlock}
-use Rattle.bx_io_system.specs.Files.{lock_fault}
+use Rattle.bx_io_disk.specs.Files.{lock_fault}
 use Rattle.bx_io_system.proofs.Locking.{locked_before, refused_after}
 use Rattle.bx_io_system.proofs.system_disk.SystemDisk.lock_shared.Goals as goal
 

@@ -1,7 +1,7 @@
 use mathlib.Core.List.{not-mem-nil}
 use denote.Param.Send.{sendable}
 use Rattle.std.proofs.Common.{rules}
-use Rattle.bx_io_system.proofs.Telling.{none_named}
+use Rattle.bx_io_folder.proofs.Telling.{none_named}
 use Rattle.bx_io_system.proofs.system_disk.SystemDisk.TheSendSync.{the_send as disk}
 use Rattle.tests_outside_system.proofs.tests.folder.open_store.Goals as goal
 

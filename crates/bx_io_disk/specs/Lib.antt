@@ -1,0 +1,4 @@
+pub mod Events
+pub mod Telling
+pub mod Answers
+pub mod Files

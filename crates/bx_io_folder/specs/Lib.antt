@@ -1,0 +1,3 @@
+pub mod NamedFiles
+pub mod Order
+pub mod Named

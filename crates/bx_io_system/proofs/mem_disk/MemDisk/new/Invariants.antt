@@ -1,6 +1,0 @@
-use Rattle.std.proofs.Common.{[]}
-use Rattle.std.specs.FinMap.{empty}
-use Rattle.bx_io_system.proofs.mem_disk.MemDisk.new.Given as goal
-
-abbrev pub ghost-new : goal.ghost-new
-ghost-new a = ([], empty)

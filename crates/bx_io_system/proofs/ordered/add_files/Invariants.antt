@@ -1,9 +1,0 @@
-use Rattle.std.proofs.Common.{◌≡◌, ◌||◌, ℕ, List, take}
-use Rattle.bx_io.specs.Names.{IsName}
-use Rattle.bx_io_system.specs.Files.{AreAllNames, is_among, is_below}
-use Rattle.bx_io_system.proofs.ordered.add_files.Given as goal
-
-abbrev pub invariant-files : goal.invariant-files
-invariant-files l =
-    AreAllNames l.names.items
-    × ((q : List ℕ) → IsName q → is_among q l.names.items ≡ (is_among q l.initial.names.items || is_below l.fn.kind q (take l.file-index l.files)))

@@ -1,6 +1,0 @@
-use Rattle.std.proofs.Common.{◌≡◌, ◌<◌, ℕ}
-use Rattle.bx_io_system.specs.Files.{place_ending}
-use Rattle.bx_io_system.proofs.ordered.is_ending.Given as goal
-
-abbrev pub invariant-endings : goal.invariant-endings
-invariant-endings l = (k : ℕ) → k < l.place-counter → l.text ≡ place_ending k → ⊥

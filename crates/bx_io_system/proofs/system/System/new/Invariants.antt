@@ -1,5 +1,0 @@
-use Rattle.std.proofs.Common.{[]}
-use Rattle.bx_io_system.proofs.system.System.new.Given as goal
-
-abbrev pub ghost-new : goal.ghost-new
-ghost-new g a = ([], g.held)

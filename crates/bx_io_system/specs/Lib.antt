@@ -1,5 +1,0 @@
-pub mod Events
-pub mod Telling
-pub mod Answers
-pub mod Files
-pub mod Named

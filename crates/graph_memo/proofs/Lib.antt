@@ -1,0 +1,4 @@
+mod Decided
+mod Usable
+mod Kept
+mod Put

@@ -1,0 +1,4 @@
+pub mod SameFiles
+pub mod SameNames
+pub mod Found
+pub mod Kept

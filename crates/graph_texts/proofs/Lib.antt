@@ -1,0 +1,12 @@
+pub mod Digest
+pub mod OneText
+pub mod Linked
+pub mod Words
+pub mod PatternsTaken
+pub mod InputsInOrder
+pub mod ProcessLines
+pub mod PipTexts
+pub mod ListingTexts
+pub mod KeyTexts
+pub mod EntryTexts
+pub mod EntryRead

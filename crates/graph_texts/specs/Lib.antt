@@ -1,0 +1,12 @@
+pub mod Either
+pub mod Inputs
+pub mod Rows
+pub mod Pips
+pub mod Linking
+pub mod Listings
+pub mod Keys
+pub mod Asks
+pub mod Entries
+pub mod EitherForms
+pub mod PartForms
+pub mod RowForms
